@@ -1,0 +1,5 @@
+pub mod Ordering
+pub mod Merging
+pub mod Searching
+pub mod Putting
+pub mod Taking

@@ -1,0 +1,6 @@
+use Rattle.std.proofs.Common.{◌≡◌, take}
+use Rattle.frame_merge.specs.Merged.{merged, between}
+use Rattle.frame_merge.proofs.ready.ready_between.Given as goal
+
+abbrev pub invariant-loop-index : goal.invariant-loop-index
+invariant-loop-index l = l.ready.items ≡ between l.from l.to (merged (take l.index l.items))
