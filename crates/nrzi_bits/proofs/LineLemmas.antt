@@ -1,5 +1,5 @@
 -- Lists of bits and tones that are put together, cut and turned back.
-use Rattle.std.proofs.Common.{◌≡◌, ℕ, zero, suc, List, [], ◌∷◌, ◌++◌, Bool, true, false, length, take, refl, ap, ◌∙◌}
+use Rattle.std.proofs.Common.{◌≡◌, ℕ, zero, suc, List, [], ◌∷◌, ◌++◌, Bool, true, false, length, take, refl, sym, ap, ◌∙◌}
 use Rattle.tone_table.specs.declared.tone.Tone.{Tone}
 use Rattle.tone_table.specs.declared.tone.Tone.TheVariants.{Mark, Space}
 use Rattle.nrzi_bits.specs.Line.{sent_tone, line_from, line, same_tone, bits_from, bits_of, last_from, last_tone}
@@ -59,3 +59,21 @@ pub bits_from-take : (n : ℕ) (before : Tone) (tones : List Tone) → bits_from
 bits_from-take zero before tones = refl
 bits_from-take (suc n) before [] = refl
 bits_from-take (suc n) before (t ∷ tones) = ap (λ bits. same_tone before t ∷ bits) (bits_from-take n t tones)
+
+-- the bits of one tone more
+pub bits_of-push : (before : Tone) (tones : List Tone) (tone : Tone) (bit : Bool) → before ≡ last_tone tones
+    → bit ≡ same_tone before tone → bits_of (tones ++ tone ∷ []) ≡ bits_of tones ++ bit ∷ []
+bits_of-push before tones tone bit at is =
+    bits_from-append Mark tones (tone ∷ [])
+    ∙ ap (λ b. bits_of tones ++ b ∷ []) (ap (λ t. same_tone t tone) (sym at) ∙ sym is)
+
+-- the line of one bit more
+pub line-push : (before : Tone) (bits : List Bool) (bit : Bool) (tone : Tone) → before ≡ last_tone (line bits)
+    → tone ≡ sent_tone before bit → line (bits ++ bit ∷ []) ≡ line bits ++ tone ∷ []
+line-push before bits bit tone at is =
+    line_from-append Mark bits (bit ∷ [])
+    ∙ ap (λ t. line bits ++ t ∷ []) (ap (λ t. sent_tone t bit) (sym at) ∙ sym is)
+
+-- a line with one tone more stands at that tone
+pub last_tone-push : (tones : List Tone) (tone : Tone) → last_tone (tones ++ tone ∷ []) ≡ tone
+last_tone-push tones tone = last_from-append Mark tones (tone ∷ [])

@@ -7,5 +7,4 @@ ghost use Rattle.nrzi_bits.specs.Line.{bits_of, line};
 pub fn each_undoes_the_other()
     ensures heard { (bits : List Bool) → bits_of (line bits) ≡ bits }
     ensures sent { (tones : List Tone) → line (bits_of tones) ≡ tones }
-{
-}
+{}

@@ -11,3 +11,6 @@ mod send;
 pub use laws::each_undoes_the_other;
 pub use receive::NrziIn;
 pub use send::NrziOut;
+
+#[cfg(test)]
+mod tests;

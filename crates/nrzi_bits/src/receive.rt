@@ -25,9 +25,7 @@ impl NrziIn {
         ensures tone { result ≡ Mark }
         ensures stands_for { result ≡ last_tone [] }
     {
-        NrziIn {
-            before: Tone::Mark,
-        }
+        NrziIn { before: Tone::Mark }
     }
 
     /// Takes the next tone. The bit is 1 exactly where it equals the tone before.

@@ -24,9 +24,7 @@ impl NrziOut {
         ensures tone { result ≡ Mark }
         ensures stands_for { result ≡ last_tone (line []) }
     {
-        NrziOut {
-            before: Tone::Mark,
-        }
+        NrziOut { before: Tone::Mark }
     }
 
     /// The tone of the next bit: the line's tone for a 1, the other one for a 0.
@@ -38,12 +36,17 @@ impl NrziOut {
         ensures line { (bits : List Bool) → self.old ≡ last_tone (line bits)
             → line (bits ++ bit ∷ []) ≡ line bits ++ result ∷ [] }
     {
-        if !bit {
-            self.before = match self.before {
-                Tone::Mark => Tone::Space,
-                Tone::Space => Tone::Mark,
-            };
-        }
+        self.before = sent(self.before, bit);
         self.before
+    }
+}
+
+/// The tone of a bit behind a tone.
+fn sent(before: Tone, bit: bool) -> Tone
+    ensures { result ≡ sent_tone before bit }
+{
+    match (before, bit) {
+        (Tone::Mark, true) | (Tone::Space, false) => Tone::Mark,
+        (Tone::Mark, false) | (Tone::Space, true) => Tone::Space,
     }
 }

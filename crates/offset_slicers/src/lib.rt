@@ -1,13 +1,15 @@
-// A library with one function.
+//! Bits from samples, at one of the eight offsets that a bit's first sample can have in an audio of eight samples a bit
+//! (Bell 202, 1200 bits a second at 9600 samples a second). Each window of eight samples is compared with both tones
+//! and decided as the louder one, and the rule of inverted NRZ makes the bits. What is promised: the bits are exactly
+//! those of the definition over all samples so far, however these were cut, and no sum overflows on any samples.
 #![tactic(auto)]
 
-ghost use Rattle.std.specs.Prelude.{◌≡◌};
-ghost use Rattle.offset_slicers.specs.Echo.{echo_of};
+mod correlators;
+mod decision;
+mod laws;
+mod slicer;
 
-// The `ensures` clause is the contract: what `echo` returns is `echo_of` of its argument, a definition
-// in `specs/Echo.antt`, which a caller's clause can cite too.
-pub fn echo(x: usize) -> usize
-    ensures { result ≡ echo_of x }
-{
-    x
-}
+pub use correlators::correlate;
+pub use decision::{decide, energies};
+pub use laws::pure_windows;
+pub use slicer::Slicer;
