@@ -1,5 +1,5 @@
 -- What a slicer keeps of the samples that it stands for.
-use Rattle.std.specs.Prelude.{◌≡◌, ℕ, ◌+◌, ◌*◌, ℤ, List, length, drop}
+use Rattle.std.specs.Prelude.{◌≡◌, ℕ, ◌+◌, ◌-◌, ◌*◌, ◌%◌, ℤ, List, length, take, drop}
 use Rattle.tone_table.specs.declared.tone.Tone.{Tone}
 use Rattle.nrzi_bits.specs.Line.{last_tone}
 use Rattle.offset_slicers.specs.Windows.{windows_in, tones_at}
@@ -10,6 +10,11 @@ pub record Held : Type 0 where
   pub position : ℕ
   pub part : List ℤ
   pub before : Tone
+
+-- of the window's eight places those below the count of samples in it are kept, and the others hold older samples
+abbrev pub held_of : ℕ → ℕ → List ℤ → Tone → Held
+held_of offset position window before =
+    record { offset = offset; position = position; part = take ((position - offset) % 8) window; before = before }
 
 -- the samples behind the last whole window
 abbrev pub part_behind : ℕ → List ℤ → List ℤ

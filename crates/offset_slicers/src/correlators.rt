@@ -4,7 +4,7 @@
 //! the tone's energy, and the tone with more energy is the one that was sent. One cycle of the sine has 48 steps; a
 //! mark sample advances 6 of them, a space sample 11, and a cosine is the sine 12 steps on.
 
-ghost use Rattle.std.specs.Prelude.{◌≡◌, ◌≤◌, ◌*◌, [], ◌∷◌, All, unsigned_abs, pos, ◌*ℤ◌, slice_index_or};
+ghost use Rattle.std.specs.Prelude.{◌≡◌, ◌<◌, ◌≤◌, ◌*◌, ◌*ℤ◌, [], ◌∷◌, All, sum_by, unsigned_abs};
 ghost use Rattle.tone_table.specs.declared.tone.Tone.TheVariants.{Mark, Space};
 ghost use Rattle.offset_slicers.specs.Decision.{sum_below, product_of, sine_sum, cosine_sum};
 
@@ -35,21 +35,23 @@ pub fn correlate(window: &[i16; 8]) -> [i64; 4]
     ]
 }
 
-/// The sum of the products of samples and weights, place by place.
+/// The sum of the products of samples and weights, place by place. The sizes of the weights add up to so little that
+/// the sum fits into 32 bits, in which it is quick.
 fn sum_of_products(window: &[i16; 8], weights: &[i16; 8]) -> i64
-    ensures { result ≡ sum_below (product_of window.now weights.now) 8 }
+    requires { sum_by unsigned_abs weights.now < 65536 }
+    ensures sum { result ≡ sum_below (product_of window.now weights.now) 8 }
+    ensures bound { unsigned_abs result ≤ 32768 * sum_by unsigned_abs weights.now }
 {
     let mut sum = 0;
     for i in 0..8 {
         sum += product(window[i], weights[i]);
     }
-    sum
+    i64::from(sum)
 }
 
 /// The product of a sample and a weight.
-fn product(sample: i16, weight: i16) -> i64
-    ensures value { result ≡ sample *ℤ weight }
-    ensures bound { unsigned_abs result ≤ 1073741824 }
+fn product(sample: i16, weight: i16) -> i32
+    ensures { result ≡ sample *ℤ weight }
 {
-    i64::from(i32::from(sample) * i32::from(weight))
+    i32::from(sample) * i32::from(weight)
 }

@@ -6,6 +6,7 @@ use crate::correlators::correlate;
 use tone_table::Tone;
 
 /// The energies of mark and of space in a window, in this order. They fit for every window of samples.
+#[tactic(auto, unfolding(crate::specs::Decision::energy))]
 pub fn energies(window: &[i16; 8]) -> (u64, u64)
     ensures mark { result.0 ≡ energy Mark window.now }
     ensures space { result.1 ≡ energy Space window.now }
@@ -18,6 +19,7 @@ pub fn energies(window: &[i16; 8]) -> (u64, u64)
 }
 
 /// The tone of a window: mark exactly where the energy of mark is at least that of space, so also in silence.
+#[tactic(auto, unfolding(crate::specs::Decision::tone_of))]
 pub fn decide(window: &[i16; 8]) -> Tone
     ensures { result ≡ tone_of window.now }
 {

@@ -11,19 +11,19 @@ use std::marker::Model;
 /// gives one bit for each whole window.
 #[derive(Debug, Drop)]
 pub struct Slicer {
-    offset: u8,
+    offset: u64,
     position: u64,
     window: [i16; 8],
     line: NrziIn,
 }
 
 impl Model for Slicer {
-    ghost use Rattle.std.specs.Prelude.{◌-◌, ◌%◌, ◌<◌, take};
-    ghost use Rattle.offset_slicers.specs.Held.{Held};
+    ghost use Rattle.std.specs.Prelude.{◌<◌};
+    ghost use Rattle.offset_slicers.specs.Held.{Held, held_of};
 
     ghost Value = { Held };
 
-    ghost view = { λ s. record { offset = s.offset; position = s.position; part = take ((s.position - s.offset) % 8) s.window; before = s.line } };
+    ghost view = { λ s. held_of s.offset s.position s.window s.line };
 
     ghost invariant = { λ s. s.offset < 8 };
 }
@@ -36,7 +36,7 @@ impl Slicer {
         ensures offset { result.offset ≡ offset }
     {
         Slicer {
-            offset,
+            offset: u64::from(offset),
             position: 0,
             window: [0; 8],
             line: NrziIn::new(),
@@ -56,10 +56,10 @@ impl Slicer {
     {
         let at = self.position;
         self.position = at + 1;
-        if at < u64::from(self.offset) {
+        if at < self.offset {
             return None;
         }
-        let place = ((at - u64::from(self.offset)) % 8) as usize;
+        let place = ((at - self.offset) % 8) as usize;
         self.window[place] = sample;
         if place < 7 {
             return None;

@@ -9,7 +9,10 @@ quarter = 0 ∷ 1305 ∷ 2588 ∷ 3827 ∷ 5000 ∷ 6088 ∷ 7071 ∷ 7934 ∷ 8
 unfoldable pub half_wave : ℕ → ℕ
 half_wave k = if nat_le k 12 then slice_index quarter k else slice_index quarter (24 - k)
 
--- the sample at a phase: the second half is the first one negated, and each cycle is like the one before
+-- the whole cycle: the second half is the first one negated
+unfoldable pub cycle_sample : ℕ → ℤ
+cycle_sample k = if nat_lt k 24 then pos (half_wave k) else neg_ℤ (pos (half_wave (k - 24)))
+
+-- the sample at a phase: each cycle is like the one before
 unfoldable pub wave_sample : ℕ → ℤ
-wave_sample phase =
-    let k = phase % 48 in if nat_lt k 24 then pos (half_wave k) else neg_ℤ (pos (half_wave (k - 24)))
+wave_sample phase = cycle_sample (phase % 48)
