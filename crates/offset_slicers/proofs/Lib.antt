@@ -1,0 +1,4 @@
+pub mod DecisionLemmas
+pub mod PureWindows
+pub mod WindowLemmas
+pub mod SlicerLemmas
