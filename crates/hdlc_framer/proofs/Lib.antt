@@ -1,0 +1,5 @@
+pub mod StuffingLemmas
+pub mod Lines
+pub mod BitLemmas
+pub mod CheckSequenceLemmas
+pub mod FrameEnds

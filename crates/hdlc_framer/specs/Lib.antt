@@ -1,0 +1,9 @@
+pub mod BitOrder
+pub mod CheckSequence
+pub mod Stuffing
+pub mod Frames
+pub mod Held
+pub mod Events
+pub mod LineEvents
+pub mod Register
+pub mod Packed

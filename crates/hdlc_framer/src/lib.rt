@@ -1,0 +1,18 @@
+//! Frames between flags on a line of bits, as HDLC and AX.25 send them.
+//!
+//! The frame check sequence, the zeros inserted after five 1s, flags and aborts, after ISO/IEC 3309 and AX.25 2.2,
+//! section 3. A `Deframer` takes bits one by one and tells exactly where a flag, an abort or a whole frame of 15 to
+//! 1024 octets with a right check sequence ends, however the bits are split into calls.
+#![tactic(auto)]
+
+mod check_sequence;
+mod content;
+mod deframer;
+mod event;
+mod laws;
+mod line;
+
+pub use check_sequence::fcs;
+pub use deframer::Deframer;
+pub use event::Event;
+pub use laws::one_frame_ends;
