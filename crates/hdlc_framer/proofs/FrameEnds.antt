@@ -140,10 +140,16 @@ event_told bits false Flag told = (ends_flag bits told.0, λ octets ends. told.1
 event_told bits false Abort told = absurd told
 event_told bits false Frame told = (told.1.0, ends_frame bits told.1.0 told.0 told.1.1)
 
--- A frame that ends here is held by the line before its last bit.
-pub frame_told : (bits : List Bool) (bit : Bool) (octets : List ℕ) → EndsFrame (bits ++ bit ∷ []) octets → (bit ≡ false) × ClosesFrame (line_after bits) octets
+-- a frame ends with a flag
+frame_flag : (bits : List Bool) (octets : List ℕ) → EndsFrame bits octets → EndsFlag bits
+frame_flag bits octets ends =
+    (ends.0 ++ (flag ++ frame_bits octets),
+      ends.1 ∙ ap (λ xs. ends.0 ++ xs) (sym (append_assoc flag (frame_bits octets) flag)) ∙ sym (append_assoc ends.0 (flag ++ frame_bits octets) flag))
+
+-- A frame that ends here is held by the line before its last bit, which ends a flag.
+pub frame_told : (bits : List Bool) (bit : Bool) (octets : List ℕ) → EndsFrame (bits ++ bit ∷ []) octets → (bit ≡ false) × EndsOnZero (line_after bits) × ClosesFrame (line_after bits) octets
 frame_told bits true octets ends = absurd (no_frame_on_one bits octets ends)
-frame_told bits false octets ends = (refl, closes_frame bits octets ends)
+frame_told bits false octets ends = (refl, ends_on_zero bits (frame_flag (bits ++ false ∷ []) octets ends), closes_frame bits octets ends)
 
 -- A frame that ends here is one frame: equal octets, behind the same earlier flag.
 pub one_frame : (bits : List Bool) (octets others : List ℕ) → EndsFrame bits octets → EndsFrame bits others → octets ≡ others

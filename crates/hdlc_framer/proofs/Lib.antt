@@ -3,3 +3,5 @@ pub mod Lines
 pub mod BitLemmas
 pub mod CheckSequenceLemmas
 pub mod FrameEnds
+pub mod PackedLemmas
+pub mod DeframerLemmas

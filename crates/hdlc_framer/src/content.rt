@@ -86,7 +86,10 @@ impl Content {
         ensures { IsTrue result ↔ ((octets : List ℕ)
             × (self.now ≡ sent_bits (with_fcs octets) ++ flag_start) × IsFrame octets) }
     {
-        self.filled == FLAG_START_BITS && self.part == FLAG_START && ends_with_fcs(self.octets.as_slice())
+        if self.filled != FLAG_START_BITS || self.part != FLAG_START {
+            return false;
+        }
+        ends_with_fcs(self.octets.as_slice())
     }
 
     // The octets of that frame, without its check sequence.
@@ -119,6 +122,5 @@ fn ends_with_fcs(octets: &[u8]) -> bool
         return false;
     }
     let (frame, sent) = octets.split_at(octets.len() - 2);
-    let expected = fcs(frame);
-    sent[0] == (expected & 0xff) as u8 && sent[1] == (expected >> 8) as u8
+    u16::from_le_bytes([sent[0], sent[1]]) == fcs(frame)
 }

@@ -1,8 +1,8 @@
 // Frames out of a line of bits.
 
-ghost use Rattle.std.specs.Prelude.{◌≡◌, ℕ, ◌≤◌, Bool, List, [], ◌∷◌, ◌++◌, length};
+ghost use Rattle.std.specs.Prelude.{◌≡◌, ℕ, ◌≤◌, Bool, false, List, [], ◌∷◌, ◌++◌, length};
 ghost use Rattle.hdlc_framer.specs.Frames.{IsFrame, EndsFrame};
-ghost use Rattle.hdlc_framer.specs.Held.{StandsFor, HoldsFrame};
+ghost use Rattle.hdlc_framer.specs.Held.{StandsFor, HoldsFrame, line_of};
 
 use crate::event::Event;
 use crate::line::LineState;
@@ -53,10 +53,7 @@ impl Deframer {
         ensures frame { (b : List Bool) → (octets : List ℕ) → StandsFor self.old b
             → EndsFrame (b ++ bit ∷ []) octets → HoldsFrame self.new octets }
     {
-        if self.framed {
-            self.framed = false;
-            self.line.open();
-        }
+        self.settle();
         let event = self.line.event(bit);
         if event == Event::Frame {
             self.framed = true;
@@ -64,6 +61,16 @@ impl Deframer {
             self.line.next(bit);
         }
         event
+    }
+
+    // Goes on behind the flag that ended the frame, if one is held.
+    fn settle(&mut self)
+        ensures { self.new ≡ record { line = line_of self.old; framed = false } }
+    {
+        if self.framed {
+            self.framed = false;
+            self.line.open();
+        }
     }
 
     /// The octets of the frame that the last bit ended, without its check sequence: 15 to 1024 of them.

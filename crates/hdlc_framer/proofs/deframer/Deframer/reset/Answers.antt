@@ -1,0 +1,7 @@
+use Rattle.std.proofs.Common.{ap, refl}
+use Rattle.hdlc_framer.specs.Held.{line_after}
+use Rattle.hdlc_framer.proofs.deframer.Deframer.reset.Goals as goal
+
+pub returns : goal.returns
+unfolding line_after
+returns c = record { stands_for = record { line = c.new-self-inside.ensures } }
