@@ -6,8 +6,8 @@ ghost use Rattle.nrzi_bits.specs.Line.{bits_of, last_tone};
 use std::marker::Model;
 use tone_table::Tone;
 
-/// The receiving side of the rule. It stands for the tones heard so far and is seen as the last of them, or as mark
-/// before the first.
+/// The receiving side of the rule. It stands for the tones heard so far and is seen as the last of
+/// them, or as mark before the first.
 #[derive(Debug, Drop)]
 pub struct NrziIn {
     before: Tone,

@@ -6,7 +6,8 @@ ghost use Rattle.nrzi_bits.specs.Line.{line, last_tone, sent_tone};
 use std::marker::Model;
 use tone_table::Tone;
 
-/// The sending side of the rule. It stands for the bits sent so far and is seen as the tone at which the line stands.
+/// The sending side of the rule. It stands for the bits sent so far and is seen as the tone at
+/// which the line stands.
 #[derive(Debug, Drop)]
 pub struct NrziOut {
     before: Tone,

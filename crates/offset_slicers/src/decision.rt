@@ -5,7 +5,8 @@ ghost use Rattle.offset_slicers.specs.Decision.{energy, square, tone_of};
 use crate::correlators::correlate;
 use tone_table::Tone;
 
-/// The energies of mark and of space in a window, in this order. They fit for every window of samples.
+/// The energies of mark and of space in a window, in this order. They fit for every window of
+/// samples.
 #[tactic(auto, unfolding(crate::specs::Decision::energy))]
 pub fn energies(window: &[i16; 8]) -> (u64, u64)
     ensures mark { result.0 ≡ energy Mark window.now }
@@ -18,7 +19,8 @@ pub fn energies(window: &[i16; 8]) -> (u64, u64)
     )
 }
 
-/// The tone of a window: mark exactly where the energy of mark is at least that of space, so also in silence.
+/// The tone of a window: mark exactly where the energy of mark is at least that of space, so also
+/// in silence.
 #[tactic(auto, unfolding(crate::specs::Decision::tone_of))]
 pub fn decide(window: &[i16; 8]) -> Tone
     ensures { result ≡ tone_of window.now }

@@ -3,8 +3,8 @@ ghost use Rattle.tone_table.specs.declared.tone.Tone.{Tone};
 ghost use Rattle.tone_table.specs.Wave.{pure_window};
 ghost use Rattle.offset_slicers.specs.Decision.{tone_of};
 
-/// The law of clean windows, which needs no work: a window of one tone is decided as that tone at each of the six phases
-/// at which a bit of a transmission can begin, 0, 8, 16, 24, 32 and 40.
+/// The law of clean windows, which needs no work: a window of one tone is decided as that tone at
+/// each of the six phases at which a bit of a transmission can begin, 0, 8, 16, 24, 32 and 40.
 pub fn pure_windows()
     ensures { (k : ℕ) (tone : Tone) → k < 6 → tone_of (pure_window (8 * k) tone) ≡ tone }
 {}

@@ -7,8 +7,8 @@ use crate::decision::decide;
 use nrzi_bits::NrziIn;
 use std::marker::Model;
 
-/// The bits of one offset. It stands for all samples pushed so far, keeps those of the window under way alone, and
-/// gives one bit for each whole window.
+/// The bits of one offset. It stands for all samples pushed so far, keeps those of the window under
+/// way alone, and gives one bit for each whole window.
 #[derive(Debug, Drop)]
 pub struct Slicer {
     offset: u64,
@@ -34,6 +34,7 @@ impl Slicer {
         requires { offset < 8 }
         ensures stands_for { StandsFor result [] }
         ensures offset { result.offset ≡ offset }
+        ensures position { result.position ≡ 0 }
     {
         Slicer {
             offset: u64::from(offset),
@@ -43,7 +44,8 @@ impl Slicer {
         }
     }
 
-    /// Takes one sample and gives the bit of the window that ends with it, or none where no window of this offset does.
+    /// Takes one sample and gives the bit of the window that ends with it, or none where no window
+    /// of this offset does.
     pub fn push(&mut self, sample: i16) -> Option<bool>
         requires { self.old.position < 2 ^ 48 }
         ensures stands_for { (x : List ℤ) → StandsFor self.old x → StandsFor self.new (x ++ sample ∷ []) }

@@ -10,7 +10,8 @@ pub enum Tone {
     Space,
 }
 
-/// How far one sample of a tone advances the phase, in forty-eighths of a cycle: 6 for mark and 11 for space.
+/// How far one sample of a tone advances the phase, in forty-eighths of a cycle: 6 for mark and 11
+/// for space.
 pub fn step(tone: Tone) -> u8
     ensures { result ≡ phase_step tone }
 {

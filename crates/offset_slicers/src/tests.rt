@@ -1,0 +1,69 @@
+use super::*;
+use tone_table::Tone;
+
+/// A space from phase 0, which ends at phase 40.
+const SPACE: [i16; 8] = [0, 9914, 2588, -9239, -5000, 7934, 7071, -6088];
+/// The space that follows it, which ends at phase 32.
+const SPACE_ON: [i16; 8] = [-8660, 3827, 9659, -1305, -10000, -1305, 9659, 3827];
+/// The mark that follows that.
+const MARK_ON: [i16; 8] = [-8660, -9659, -5000, 2588, 8660, 9659, 5000, -2588];
+
+#[test]
+fn correlations_energies_and_tones_of_known_windows(rt: HostRuntime) {
+    let windows = [
+        (
+            SPACE,
+            [-53110141, 86281301, 365355402, 26603274],
+            (10265149979292482, 134192303958100680),
+            Tone::Space,
+        ),
+        (
+            MARK_ON,
+            [-199998082, -346397074, -48164608, 58163513],
+            (159990165679440200, 5702823708294833),
+            Tone::Mark,
+        ),
+        ([0; 8], [0; 4], (0, 0), Tone::Mark),
+        (
+            [-32768; 8],
+            [0, 0, -235274240, 79888384],
+            (0, 61736121905709056),
+            Tone::Space,
+        ),
+    ];
+    pure_windows();
+    for (window, sums, want, tone) in windows {
+        assert_eq!(rt; correlate(&window), sums);
+        assert_eq!(rt; energies(&window), want);
+        assert_eq!(rt; decide(&window), tone);
+    }
+}
+
+#[test]
+fn each_offset_gives_one_bit_at_the_end_of_each_of_its_windows(rt: HostRuntime) {
+    let windows = [
+        (SPACE, false),
+        (SPACE_ON, true),
+        (MARK_ON, false),
+        ([0; 8], true),
+        ([0; 8], true),
+    ];
+    for offset in 0..8 {
+        let mut slicer = Slicer::new(offset);
+        let mut taken = 0;
+        for _ in 0..offset {
+            assert!(rt; slicer.position() < 1000);
+            assert_eq!(rt; slicer.push(0), None);
+            taken += 1;
+        }
+        for (window, bit) in windows {
+            for (place, sample) in window.into_iter().enumerate() {
+                assert!(rt; slicer.position() < 1000);
+                let want = if place == 7 { Some(bit) } else { None };
+                assert_eq!(rt; slicer.push(sample), want, "offset {offset}, place {place}");
+                taken += 1;
+            }
+        }
+        assert_eq!(rt; slicer.position(), taken);
+    }
+}
