@@ -1,0 +1,85 @@
+//! A transmission in blocks of several lengths: the same candidates come, each with the block in which it ends.
+
+ghost use Rattle.std.specs.Prelude.{◌+◌, ◌<◌, ◌^◌, length};
+
+use super::Bank;
+use std::alloc::{AllocError, Global};
+use std::test::Fail;
+use tnc_base::OutOfMemory;
+
+/// The tones of a SABM from N7LEM to NJ7P between two flags and one, 162 bits in all, M for mark and S for space.
+const TONES: &[u8; 162] =
+    b"SSSSSSSMSSSSSSSMSMMMMSMMSMMSSMSSMMMMSSSMSMSMSSMMSMSMSMMSMSMSMSSMSMSMSSSSMSSSSMSSMMMMSSSMSMSSSMSSMMSSMSMMSSMMMSMMSMSMSMMSSMSMSSSMMMMMMSSMSMMMSSMSSSMSSSSSSMSSSSSSSM";
+
+/// A cycle of a sine wave of amplitude 10000 in 48 steps.
+const SINE: [i16; 48] = [
+    0, 1305, 2588, 3827, 5000, 6088, 7071, 7934, 8660, 9239, 9659, 9914, 10000, 9914, 9659, 9239,
+    8660, 7934, 7071, 6088, 5000, 3827, 2588, 1305, 0, -1305, -2588, -3827, -5000, -6088, -7071,
+    -7934, -8660, -9239, -9659, -9914, -10000, -9914, -9659, -9239, -8660, -7934, -7071, -6088,
+    -5000, -3827, -2588, -1305,
+];
+
+/// Eight samples a tone: mark is 6 steps a sample, space 11.
+fn transmission(alloc: Global) -> Result<Vec<i16>, AllocError> {
+    let mut samples = Vec::new(alloc);
+    let mut phase = 0usize;
+    for tone in TONES {
+        let step = if *tone == b'M' { 6 } else { 11 };
+        for _ in 0..8 {
+            samples.push(SINE[phase % 48])?;
+            phase = (phase % 48 + step) % 48;
+        }
+    }
+    Ok(samples)
+}
+
+/// True where two blocks give these candidates: the place where each ends, and its offset.
+fn gives(
+    alloc: Global,
+    first: &[i16],
+    second: &[i16],
+    ends: &[(u64, u8)],
+) -> Result<bool, OutOfMemory>
+    requires { length first.now + length second.now < 2 ^ 48 }
+{
+    let mut bank = Bank::new(alloc)?;
+    let mut found = bank.feed(first)?;
+    for item in bank.feed(second)? {
+        found.push(item)?;
+    }
+    Ok(
+        found.len() == ends.len()
+            && found
+                .iter()
+                .zip(ends)
+                .all(|(item, end)| (item.end, item.offset) == *end),
+    )
+}
+
+#[test]
+fn a_transmission_is_heard_alike_however_it_is_cut(rt: HostRuntime) -> Result<(), Fail> {
+    let samples = transmission(rt.alloc())?;
+    assert_eq!(rt; samples.len(), 1296);
+    for place in 0..=1296 {
+        let (first, second) = samples.split_at(place);
+        assert!(rt;
+            gives(
+                rt.alloc(),
+                first,
+                second,
+                &[(1294, 6), (1295, 7), (1296, 0)]
+            )?,
+            "cut at {place}"
+        );
+    }
+    Ok(())
+}
+
+#[test]
+fn what_is_cut_off_is_not_heard(rt: HostRuntime) -> Result<(), Fail> {
+    let samples = transmission(rt.alloc())?;
+    assert_eq!(rt; samples.len(), 1296);
+    assert!(rt; gives(rt.alloc(), &samples[..1280], &[], &[])?);
+    assert!(rt; gives(rt.alloc(), &samples[..1295], &[], &[(1294, 6), (1295, 7)])?);
+    Ok(())
+}
