@@ -79,7 +79,9 @@ fn a_transmission_is_heard_alike_however_it_is_cut(rt: HostRuntime) -> Result<()
 fn what_is_cut_off_is_not_heard(rt: HostRuntime) -> Result<(), Fail> {
     let samples = transmission(rt.alloc())?;
     assert_eq!(rt; samples.len(), 1296);
-    assert!(rt; gives(rt.alloc(), &samples[..1280], &[], &[])?);
-    assert!(rt; gives(rt.alloc(), &samples[..1295], &[], &[(1294, 6), (1295, 7)])?);
+    let (all_but_two_bits, _) = samples.split_at(1280);
+    assert!(rt; gives(rt.alloc(), all_but_two_bits, &[], &[])?);
+    let (all_but_one_sample, _) = samples.split_at(1295);
+    assert!(rt; gives(rt.alloc(), all_but_one_sample, &[], &[(1294, 6), (1295, 7)])?);
     Ok(())
 }
