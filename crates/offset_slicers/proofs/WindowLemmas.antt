@@ -93,11 +93,11 @@ tones_at-aligned offset q x y whole =
     let all : windows_in offset (length (x ++ y)) ≡ q + n = omega (arith, length-append x y) in
     let more : q ≤ windows_in offset (length (x ++ y)) = omega arith in
     let front : map tone (range_with_len 0 q) ≡ tones_at offset x
-        = sym (take-map-range_with_len tone 0 (windows_in offset (length (x ++ y))) q more)
-            ∙ ap (λ m. take m (tones_at offset (x ++ y))) (sym before) ∙ sym (tones_at-append offset x y) in
+    = sym (take-map-range_with_len tone 0 (windows_in offset (length (x ++ y))) q more)
+    ∙ ap (λ m. take m (tones_at offset (x ++ y))) (sym before) ∙ sym (tones_at-append offset x y) in
     let back : map (λ j. tone (q + j)) (range_with_len 0 n) ≡ tones_at 0 y
-        = map-agree (λ j. tone (q + j)) (λ j. tone_of (window_at 0 y j)) (range_with_len 0 n)
-            (λ j. ap tone_of (window_at-aligned offset q x y j whole)) in
+    = map-agree (λ j. tone (q + j)) (λ j. tone_of (window_at 0 y j)) (range_with_len 0 n)
+    (λ j. ap tone_of (window_at-aligned offset q x y j whole)) in
     ap (λ m. map tone (range_with_len 0 m)) all
     ∙ map_split tone q n
     ∙ ap (λ xs. xs ++ map (λ j. tone (q + j)) (range_with_len 0 n)) front

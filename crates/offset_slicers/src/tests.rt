@@ -50,20 +50,17 @@ fn each_offset_gives_one_bit_at_the_end_of_each_of_its_windows(rt: HostRuntime) 
     ];
     for offset in 0..8 {
         let mut slicer = Slicer::new(offset);
-        let mut taken = 0;
         for _ in 0..offset {
             assert!(rt; slicer.position() < 1000);
             assert_eq!(rt; slicer.push(0), None);
-            taken += 1;
         }
         for (window, bit) in windows {
             for (place, sample) in window.into_iter().enumerate() {
                 assert!(rt; slicer.position() < 1000);
                 let want = if place == 7 { Some(bit) } else { None };
                 assert_eq!(rt; slicer.push(sample), want, "offset {offset}, place {place}");
-                taken += 1;
             }
         }
-        assert_eq!(rt; slicer.position(), taken);
+        assert_eq!(rt; slicer.position(), u64::from(offset) + 40);
     }
 }
