@@ -40,7 +40,7 @@ flag_without_last bits before e =
 ends_on_zero : (bits : List Bool) → EndsFlag (bits ++ false ∷ []) → EndsOnZero (line_after bits)
 ends_on_zero bits ends =
     let known : line_after bits ≡ fold next_line (line_after ends.0) flag_front =
-        ap line_after (flag_without_last bits ends.0 ends.1) ∙ line_after-append ends.0 flag_front in
+    ap line_after (flag_without_last bits ends.0 ends.1) ∙ line_after-append ends.0 flag_front in
     record { six = ap (λ line. line.ones) known; after_zero = ap (λ line. line.after_zero) known }
 
 no_flag_on_one : (bits : List Bool) → ¬ EndsFlag (bits ++ true ∷ [])
@@ -58,7 +58,7 @@ with_fcs_fits octets fit =
     let low : fcs_of octets % 256 < 256 = omega arith in
     let high : fcs_of octets / 256 < 256 = omega (arith, fcs_of-lt octets) in
     All-append (λ x. x < 256) octets (fcs_of octets % 256 ∷ fcs_of octets / 256 ∷ []) fit
-      (All-cons (λ x. x < 256) (fcs_of octets % 256) (fcs_of octets / 256 ∷ []) low (All-cons (λ x. x < 256) (fcs_of octets / 256) [] high (All-nil (λ x. x < 256))))
+    (All-cons (λ x. x < 256) (fcs_of octets % 256) (fcs_of octets / 256 ∷ []) low (All-cons (λ x. x < 256) (fcs_of octets / 256) [] high (All-nil (λ x. x < 256))))
 
 pub length-with_fcs : (octets : List ℕ) → length (with_fcs octets) ≡ length octets + 2
 unfolding with_fcs
@@ -91,12 +91,13 @@ ends_frame bits octets ends closes =
     let told = told_after bits in
     let since = told.since_flag (sent_bits (with_fcs octets) ++ flag_start) closes.content in
     let body = stuffed (sent_bits (with_fcs octets)) in
-    let came = raw_closed (line_after bits).ones since.1 (sent_bits (with_fcs octets)) ends.six since.3 in
-    (since.0,
+    let came = raw_closed (line_after bits).ones since.1 (sent_bits (with_fcs octets)) ends.six since.3 in (
+      since.0,
       ap (λ xs. xs ++ false ∷ []) (since.2 ∙ ap (λ xs. (since.0 ++ flag) ++ xs) came)
-      ∙ append_assoc (since.0 ++ flag) (body ++ flag_front) (false ∷ []) ∙ append_assoc since.0 flag ((body ++ flag_front) ++ false ∷ [])
-      ∙ ap (λ xs. since.0 ++ (flag ++ xs)) (append_assoc body flag_front (false ∷ [])),
-      closes.frame)
+          ∙ append_assoc (since.0 ++ flag) (body ++ flag_front) (false ∷ []) ∙ append_assoc since.0 flag ((body ++ flag_front) ++ false ∷ [])
+          ∙ ap (λ xs. since.0 ++ (flag ++ xs)) (append_assoc body flag_front (false ∷ [])),
+      closes.frame,
+    )
 
 -- the bits of a frame between two flags, but for the last bit
 frame_front : List Bool → List ℕ → List Bool
@@ -142,9 +143,10 @@ event_told bits false Frame told = (told.1.0, ends_frame bits told.1.0 told.0 to
 
 -- a frame ends with a flag
 frame_flag : (bits : List Bool) (octets : List ℕ) → EndsFrame bits octets → EndsFlag bits
-frame_flag bits octets ends =
-    (ends.0 ++ (flag ++ frame_bits octets),
-      ends.1 ∙ ap (λ xs. ends.0 ++ xs) (sym (append_assoc flag (frame_bits octets) flag)) ∙ sym (append_assoc ends.0 (flag ++ frame_bits octets) flag))
+frame_flag bits octets ends = (
+  ends.0 ++ (flag ++ frame_bits octets),
+  ends.1 ∙ ap (λ xs. ends.0 ++ xs) (sym (append_assoc flag (frame_bits octets) flag)) ∙ sym (append_assoc ends.0 (flag ++ frame_bits octets) flag),
+)
 
 -- A frame that ends here is held by the line before its last bit, which ends a flag.
 pub frame_told : (bits : List Bool) (bit : Bool) (octets : List ℕ) → EndsFrame (bits ++ bit ∷ []) octets → (bit ≡ false) × EndsOnZero (line_after bits) × ClosesFrame (line_after bits) octets
