@@ -1,8 +1,8 @@
 -- The kept line tells exactly what a bit ends, and at most one frame ends with a bit.
-use Rattle.std.proofs.Common.{◌≡◌, ◌≢◌, ℕ, zero, suc, ◌+◌, ◌-◌, ◌*◌, ◌/◌, ◌%◌, ◌<◌, ◌≤◌, min, Bool, true, false, Some, List, [], ◌∷◌, ◌++◌, length, take, replicate, refl, ap, subst, ◌∙◌, sym, arith, length-append, append_assoc}
+use Rattle.std.proofs.Common.{◌≡◌, ℕ, ◌+◌, ◌-◌, ◌/◌, ◌%◌, ◌<◌, ◌≤◌, Bool, true, false, Some, List, [], ◌∷◌, ◌++◌, length, take, replicate, refl, ap, subst, ◌∙◌, sym, arith, length-append, append_assoc}
 use Rattle.std.specs.List.{All, fold}
-use Rattle.std.proofs.lemmas.Bool.{true≢false, false≢true}
-use Rattle.std.proofs.lemmas.List.{append_cancel_left, append_cancel_right, same_from_push, take_at}
+use Rattle.std.proofs.lemmas.Bool.{true≢false}
+use Rattle.std.proofs.lemmas.List.{same_from_push, take_at}
 use Rattle.std.proofs.lemmas.List.Elements.{All-append, All-cons, All-nil}
 use Rattle.std.proofs.lemmas.List.Sums.{fold-append}
 use Rattle.hdlc_framer.specs.declared.event.Event.{Event}
@@ -12,12 +12,12 @@ use Rattle.hdlc_framer.specs.CheckSequence.{fcs_of}
 use Rattle.hdlc_framer.specs.Stuffing.{flag, stuffed}
 use Rattle.hdlc_framer.specs.Frames.{IsFrame, with_fcs, frame_bits, EndsFrame, EndsFlag, EndsAbort, run_of_ones}
 use Rattle.hdlc_framer.specs.Events.{EventAt}
-use Rattle.hdlc_framer.specs.Held.{Line, next_line, new_line, line_after, flag_start}
+use Rattle.hdlc_framer.specs.Held.{next_line, new_line, line_after, flag_start}
 use Rattle.hdlc_framer.specs.LineEvents.{ClosesFrame, EndsOnZero, LineEvent}
 use Rattle.hdlc_framer.proofs.BitLemmas.{length-sent_bits, same_octets}
 use Rattle.hdlc_framer.proofs.CheckSequenceLemmas.{fcs_of-lt}
 use Rattle.hdlc_framer.proofs.StuffingLemmas.{stuffed_from}
-use Rattle.hdlc_framer.proofs.Lines.{flag_front, five_bits, stuffed_five, over_frame, Raw, few, five, six, Told, told_after, run-push_one, run-push_zero}
+use Rattle.hdlc_framer.proofs.Lines.{flag_front, five_bits, stuffed_five, over_frame, Raw, few, five, six, told_after, run-push_one, run-push_zero}
 
 pub line_after-append : (bits more : List Bool) → line_after (bits ++ more) ≡ fold next_line (line_after bits) more
 unfolding line_after

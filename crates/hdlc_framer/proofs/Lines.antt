@@ -1,14 +1,13 @@
 -- The line that a deframer keeps tells exactly where flags, aborts and frames end.
-use Rattle.std.proofs.Common.{◌≡◌, ℕ, zero, suc, ◌+◌, ◌-◌, ◌<◌, ◌≤◌, min, Bool, true, false, ◌&&◌, ltb, eqb, cond, Option, Some, None, List, [], ◌∷◌, ◌++◌, length, reverse, replicate, refl, ap, subst, ◌∙◌, sym, ◌⊎◌, inl, inr, arith, length-append, append_assoc, append-nil, fold}
+use Rattle.std.proofs.Common.{◌≡◌, ℕ, zero, suc, ◌+◌, ◌-◌, ◌<◌, ◌≤◌, min, Bool, true, false, ◌&&◌, ltb, eqb, Option, Some, None, List, [], ◌∷◌, ◌++◌, length, replicate, refl, ap, subst, ◌∙◌, sym, inl, inr, arith, length-append, append_assoc, append-nil, fold}
 use Rattle.std.specs.List.{prefix_len}
-use Rattle.std.proofs.lemmas.Bool.{cond-true, cond-false, lt-ltb, le-ltb, eq-eqb, ne_eqb, cases_lt, cases_eq, cases_Bool, and_parts, eqb-true, false≢true, true≢false}
+use Rattle.std.proofs.lemmas.Bool.{cond-true, cond-false, lt-ltb, le-ltb, eq-eqb, ne_eqb, cases_lt, cases_eq, cases_Bool, and_parts, eqb-true, false≢true}
 use Rattle.std.proofs.lemmas.List.Sums.{fold-append}
-use Rattle.std.proofs.lemmas.List.{append_cancel_left, append_cancel_right, same_from_push, length_push, reverse-append, replicate_more}
-use Rattle.hdlc_framer.specs.BitOrder.{sent_bits}
+use Rattle.std.proofs.lemmas.List.{length_push, reverse-append, replicate_more}
 use Rattle.hdlc_framer.specs.Stuffing.{flag, stuffed}
-use Rattle.hdlc_framer.specs.Frames.{IsFrame, with_fcs, frame_bits, EndsFrame, EndsFlag, EndsAbort, run_of_ones}
+use Rattle.hdlc_framer.specs.Frames.{run_of_ones}
 use Rattle.hdlc_framer.specs.Held.{Line, longer, next_line, new_line, open_line, line_after, flag_start, content_after_one, content_after_zero}
-use Rattle.hdlc_framer.proofs.StuffingLemmas.{stuffed_from, left_after, stuffed_is, stuffed_from-append, left_after-append, left_after-le}
+use Rattle.hdlc_framer.proofs.StuffingLemmas.{stuffed_from, left_after, stuffed_is, stuffed_from-append, left_after-append}
 
 -- ---- one bit more
 

@@ -1,5 +1,5 @@
 -- Octets and a part of an octet, as bits and as a frame.
-use Rattle.std.proofs.Common.{◌≡◌, ℕ, zero, suc, ◌+◌, ◌-◌, ◌*◌, ◌/◌, ◌%◌, ◌^◌, ◌<◌, ◌≤◌, Bool, true, false, not, eqb, ltb, List, [], ◌∷◌, ◌++◌, length, get_or, take, drop, refl, ap, subst, ◌∙◌, sym, inl, inr, arith, length-append, length-take, length-drop, take-append-drop}
+use Rattle.std.proofs.Common.{◌≡◌, ℕ, ◌+◌, ◌-◌, ◌*◌, ◌/◌, ◌%◌, ◌<◌, ◌≤◌, Bool, not, eqb, ltb, List, [], ◌∷◌, ◌++◌, length, get_or, take, drop, refl, ap, subst, ◌∙◌, sym, inl, inr, arith, length-append, length-take, length-drop, take-append-drop}
 use Rattle.std.specs.List.{All}
 use Rattle.std.proofs.lemmas.Bool.{lt-ltb, le-ltb, eq-eqb, ne_eqb, cases_eq}
 use Rattle.std.proofs.lemmas.List.{append_cancel_left, drop_at}
@@ -9,7 +9,7 @@ use Rattle.hdlc_framer.specs.CheckSequence.{fcs_of}
 use Rattle.hdlc_framer.specs.Frames.{IsFrame, with_fcs}
 use Rattle.hdlc_framer.specs.Held.{flag_start}
 use Rattle.hdlc_framer.specs.Packed.{IsPacked}
-use Rattle.hdlc_framer.proofs.BitLemmas.{length-low_bits, number_of-low_bits, length-sent_bits, length-packed, packed_octet, same_octets}
+use Rattle.hdlc_framer.proofs.BitLemmas.{length-low_bits, number_of-low_bits, packed_octet, same_octets}
 use Rattle.hdlc_framer.proofs.FrameEnds.{with_fcs_fits, length-with_fcs, without_fcs}
 
 pub packed_push : (octets : List ℕ) (filled part octet : ℕ) (bit : Bool) (bits : List Bool) → 7 ≡ filled → low_bits (filled + 1) octet ≡ low_bits filled part ++ bit ∷ []

@@ -1,4 +1,4 @@
-use Rattle.std.proofs.Common.{◌≡◌, sym, ◌∙◌}
+use Rattle.std.proofs.Common.{sym, ◌∙◌}
 use Rattle.std.proofs.lemmas.Bool.{false≢true}
 use Rattle.hdlc_framer.proofs.PackedLemmas.{frame_items, frame_part, frame_bits_from}
 use Rattle.hdlc_framer.proofs.content.Content.is_frame.Goals as goal
