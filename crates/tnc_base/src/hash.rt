@@ -6,8 +6,8 @@ const OFFSET_BASIS: u64 = 0xcbf2_9ce4_8422_2325;
 
 const PRIME: u64 = 0x0100_0000_01b3;
 
-#[tactic(auto, unfolding(crate::specs::Hash::fnv_1a, crate::specs::Hash::mixed))]
 /// The FNV-1a hash of `octets` in 64 bits (draft-eastlake-fnv): per octet an exclusive or, then a multiplication.
+#[tactic(auto, unfolding(crate::specs::Hash::fnv_1a, crate::specs::Hash::mixed))]
 pub fn fnv(octets: &[u8]) -> u64
     ensures { result ≡ fnv_1a octets.now }
 {

@@ -1,6 +1,7 @@
 //! A source and a sink over memory. They tell their octets, and fail at the calls that they are told to fail at.
-ghost use Rattle.std.specs.Prelude.{◌≡◌, ◌⊎◌, ◌↔◌, ◌<◌, ◌≤◌, ◌+◌, ◌++◌, [], List, ℕ, length, take, drop, min, Contains, IfOk, OnOk, OnErr, IsErr, is_ok, if◌then◌else◌, Some};
-ghost use Rattle.tnc_base.specs.Faults.{next_count, HasRisen};
+ghost use Rattle.std.specs.Prelude.{◌≡◌, ◌⊎◌, ◌↔◌, ◌<◌, ◌≤◌, ◌+◌, ◌++◌, length, take, drop, min, Contains};
+ghost use Rattle.std.specs.Prelude.{[], IfOk, OnErr, IsErr, is_ok, if◌then◌else◌, Some};
+ghost use Rattle.tnc_base.specs.Faults.{next_count};
 ghost use Rattle.tnc_base.specs.InMemory.{new_source, new_sink};
 
 use crate::{Failed, OutOfMemory, Sink, Source};
@@ -24,7 +25,13 @@ impl Model for MemSource {
 
     ghost Value = { SourceView };
 
-    ghost view = { λ s. record { left = drop s.at s.octets.items; piece = s.piece; failing = s.failing.items; calls = s.calls; faults = s.faults } };
+    ghost view = { λ s. record {
+      left = drop s.at s.octets.items;
+      piece = s.piece;
+      failing = s.failing.items;
+      calls = s.calls;
+      faults = s.faults;
+    } };
 
     ghost invariant = { λ s. (s.at ≤ length s.octets.items) × (0 < s.piece) };
 }
@@ -54,7 +61,8 @@ impl Source for MemSource {
 
     fn read(&mut self, buffer: &mut [u8]) -> Result<usize, Failed>
         ensures fails { IsErr result ↔ Contains self.old.failing self.old.calls }
-        ensures count { IfOk result (λ count. count ≡ min (length buffer.new) (min self.old.piece (length self.old.left))) }
+        ensures count { IfOk result (λ count. count
+            ≡ min (length buffer.new) (min self.old.piece (length self.old.left))) }
         ensures front { IfOk result (λ count. take count buffer.new ≡ take count self.old.left) }
         ensures rest { IfOk result (λ count. self.new.left ≡ drop count self.old.left) }
         ensures end { IfOk result (λ count. count ≡ 0 → 0 < length buffer.new → self.old.left ≡ []) }
@@ -63,7 +71,8 @@ impl Source for MemSource {
         ensures failing { self.new.failing ≡ self.old.failing }
         ensures calls { self.new.calls ≡ next_count self.old.calls }
         ensures later { self.old.faults ≤ self.new.faults }
-        ensures faults { self.new.faults ≡ (if is_ok result then self.old.faults else next_count self.old.faults) }
+        ensures faults { self.new.faults
+            ≡ (if is_ok result then self.old.faults else next_count self.old.faults) }
     {
         let fails = self.failing.contains(&self.calls);
         self.calls = self.calls.saturating_add(1);
@@ -95,7 +104,13 @@ impl Model for MemSink {
 
     ghost Value = { SinkView };
 
-    ghost view = { λ s. record { room = s.room; written = s.octets.items; failing = s.failing.items; calls = s.calls; faults = s.faults } };
+    ghost view = { λ s. record {
+      room = s.room;
+      written = s.octets.items;
+      failing = s.failing.items;
+      calls = s.calls;
+      faults = s.faults;
+    } };
 
     ghost invariant = { λ s. (length s.octets.items ≤ s.room) × (s.room ≤ vec_capacity s.octets) };
 }
@@ -129,13 +144,16 @@ impl Sink for MemSink {
     ghost faults = { λ s. s.faults };
 
     fn write(&mut self, octets: &[u8]) -> Result<(), Failed>
-        ensures fails { IsErr result ↔ (Contains self.old.failing self.old.calls ⊎ (self.old.room < length self.old.written + length octets.now)) }
-        ensures written { self.new.written ≡ (if is_ok result then self.old.written ++ octets.now else self.old.written) }
+        ensures fails { IsErr result ↔ (Contains self.old.failing self.old.calls
+            ⊎ (self.old.room < length self.old.written + length octets.now)) }
+        ensures written { self.new.written
+            ≡ (if is_ok result then self.old.written ++ octets.now else self.old.written) }
         ensures room { self.new.room ≡ self.old.room }
         ensures failing { self.new.failing ≡ self.old.failing }
         ensures calls { self.new.calls ≡ next_count self.old.calls }
         ensures later { self.old.faults ≤ self.new.faults }
-        ensures faults { self.new.faults ≡ (if is_ok result then self.old.faults else next_count self.old.faults) }
+        ensures faults { self.new.faults
+            ≡ (if is_ok result then self.old.faults else next_count self.old.faults) }
     {
         let fails = self.failing.contains(&self.calls)
             || self.room - self.octets.len() < octets.len();

@@ -19,7 +19,8 @@ pub trait Source {
     /// Puts the next octets at the front of `buffer` and answers how many. 0 with a nonempty buffer is the end of input.
     fn read(&mut self, buffer: &mut [u8]) -> Result<usize, Failed>
         ensures bound { IfOk result (λ count. count ≤ length buffer.new) }
-        ensures gives { (octets : List ℕ) → left self.old ≡ Some octets → IfOk result (Gives octets (left self.new) buffer.new) }
+        ensures gives { (octets : List ℕ) → left self.old ≡ Some octets
+            → IfOk result (Gives octets (left self.new) buffer.new) }
         ensures kept { OnErr result (left self.new ≡ left self.old) }
         ensures later { faults self.old ≤ faults self.new }
         ensures failed { OnErr result (HasRisen (faults self.old) (faults self.new)) };
@@ -35,8 +36,10 @@ pub trait Sink {
 
     /// Appends all octets, or on `Failed` a first part of them.
     fn write(&mut self, octets: &[u8]) -> Result<(), Failed>
-        ensures appends { (before : List ℕ) → written self.old ≡ Some before → OnOk result (written self.new ≡ Some (before ++ octets.now)) }
-        ensures partly { (before : List ℕ) → written self.old ≡ Some before → OnErr result (WrotePart before octets.now (written self.new)) }
+        ensures appends { (before : List ℕ) → written self.old ≡ Some before
+            → OnOk result (written self.new ≡ Some (before ++ octets.now)) }
+        ensures partly { (before : List ℕ) → written self.old ≡ Some before
+            → OnErr result (WrotePart before octets.now (written self.new)) }
         ensures later { faults self.old ≤ faults self.new }
         ensures failed { OnErr result (HasRisen (faults self.old) (faults self.new)) };
 }
