@@ -1,5 +1,5 @@
 -- Octets and numbers read back from their bits.
-use Rattle.std.proofs.Common.{◌≡◌, ℕ, zero, suc, ◌+◌, ◌-◌, ◌*◌, ◌/◌, ◌%◌, ◌^◌, ◌<◌, ◌≤◌, Bool, true, false, eqb, bit_or, List, [], ◌∷◌, ◌++◌, length, refl, ap, subst, ◌∙◌, sym, inl, inr, arith, length-append, append_assoc, append-nil, add-one}
+use Rattle.std.proofs.Common.{◌≡◌, ℕ, zero, suc, ◌+◌, ◌*◌, ◌/◌, ◌%◌, ◌^◌, ◌<◌, Bool, true, false, eqb, bit_or, List, [], ◌∷◌, ◌++◌, length, refl, ap, ◌∙◌, sym, inl, inr, arith, length-append, append_assoc, append-nil, add-one}
 use Rattle.std.proofs.Math.Nat.{pow-suc}
 use Rattle.std.specs.List.{All}
 use Rattle.std.proofs.lemmas.Bool.{cases_Bool, eq-eqb, ne_eqb, eqb-true, eqb-false}
@@ -16,11 +16,11 @@ length-low_bits (suc count) n = ap suc (length-low_bits count (n / 2))
 pub number_of-odd : (n : ℕ) (bits : List Bool) → number_of (eqb (n % 2) 1 ∷ bits) ≡ 2 * number_of bits + n % 2
 number_of-odd n bits =
     elim (cases_Bool (eqb (n % 2) 1)) [
-      inl odd ↦ ap (λ b. number_of (b ∷ bits)) odd ∙ omega (arith, eqb-true (n % 2) 1 odd)
-    | inr even ↦
-        let not_one : n % 2 ≡ 1 → ⊥ = eqb-false (n % 2) 1 even in
-        let none : n % 2 ≡ 0 = omega arith in
-        ap (λ b. number_of (b ∷ bits)) even ∙ omega arith
+      | inl odd ↦ ap (λ b. number_of (b ∷ bits)) odd ∙ omega (arith, eqb-true (n % 2) 1 odd)
+      | inr even ↦
+          let not_one : n % 2 ≡ 1 → ⊥ = eqb-false (n % 2) 1 even in
+          let none : n % 2 ≡ 0 = omega arith in
+          ap (λ b. number_of (b ∷ bits)) even ∙ omega arith
     ]
 
 pub number_of-low_bits : (count n : ℕ) → n < 2 ^ count → number_of (low_bits count n) ≡ n

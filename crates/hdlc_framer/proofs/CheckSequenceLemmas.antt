@@ -1,10 +1,10 @@
 -- The frame check sequence as a register of 16 bits that takes one bit, or one octet, at a time.
-use Rattle.std.proofs.Common.{◌≡◌, ℕ, zero, suc, ◌+◌, ◌-◌, ◌*◌, ◌/◌, ◌%◌, ◌^◌, ◌<◌, ◌≤◌, min, Bool, true, false, not, cond, eqb, bit_xor, List, [], ◌∷◌, ◌++◌, map, length, take, drop, replicate, refl, ap, subst, ◌∙◌, sym, inl, inr, arith, length-append, append_assoc}
+use Rattle.std.proofs.Common.{◌≡◌, ℕ, zero, suc, ◌+◌, ◌-◌, ◌*◌, ◌/◌, ◌%◌, ◌^◌, ◌<◌, ◌≤◌, Bool, true, false, not, cond, eqb, bit_xor, List, [], ◌∷◌, ◌++◌, map, length, take, drop, replicate, refl, ap, subst, ◌∙◌, sym, inl, inr, arith, length-append}
 use Rattle.std.specs.List.{fold}
 use Rattle.std.specs.Int.Bits.{xor_zero_l, xor_zero_r}
 use Rattle.std.proofs.Math.Nat.{pow-suc}
 use Rattle.std.proofs.lemmas.Bool.{cases_Bool, eq-eqb, ne_eqb, eqb-true, eqb-false}
-use Rattle.std.proofs.lemmas.List.{length-map, length-take, length-drop, length-replicate}
+use Rattle.std.proofs.lemmas.List.{length-map, length-take, length-drop}
 use Rattle.std.proofs.lemmas.List.Sums.{fold-append}
 use Rattle.std.proofs.lemmas.Nat.{xor_block, xor_comm, xor_mod, xor_shr}
 use lib.Bits.{xor_assoc}
@@ -186,10 +186,10 @@ number_of-shift_in [] bit size = absurd (omega arith)
 number_of-shift_in (a ∷ rest) bit size =
     let alone : bit_number bit ≡ 0 * 2 ^ 1 + bit_number bit = omega arith in
     let taken : bit_xor (number_of (a ∷ rest)) (bit_number bit) ≡ number_of rest * 2 + bit_number (plus a bit) =
-        ap (λ n. bit_xor n (bit_number bit)) (number_of-cons a rest) ∙ ap (bit_xor (number_of rest * 2 ^ 1 + bit_number a)) alone
-        ∙ xor_block 1 (number_of rest) 0 (bit_number a) (bit_number bit) (bit_number-lt a) (bit_number-lt bit)
-        ∙ ap (λ n. n * 2 + bit_xor (bit_number a) (bit_number bit)) (xor_zero_r (number_of rest))
-        ∙ ap (λ n. number_of rest * 2 + n) (sym (bit_number-plus a bit)) in
+    ap (λ n. bit_xor n (bit_number bit)) (number_of-cons a rest) ∙ ap (bit_xor (number_of rest * 2 ^ 1 + bit_number a)) alone
+    ∙ xor_block 1 (number_of rest) 0 (bit_number a) (bit_number bit) (bit_number-lt a) (bit_number-lt bit)
+    ∙ ap (λ n. n * 2 + bit_xor (bit_number a) (bit_number bit)) (xor_zero_r (number_of rest))
+    ∙ ap (λ n. number_of rest * 2 + n) (sym (bit_number-plus a bit)) in
     number_of-shift_by (plus a bit) rest (omega arith) ∙ sym (shifted-bit (plus a bit) (number_of rest)) ∙ ap shifted (sym taken)
 
 length-shift_in : (r : List Bool) (bit : Bool) → length r ≡ 16 → length (shift_in r bit) ≡ 16
@@ -218,7 +218,7 @@ unfolding fcs_of
 fcs_of-register octets =
     let r = fold shift_in (replicate 16 true) (sent_bits octets) in
     let inverted : number_of (map not r) ≡ 65535 - number_of r =
-        omega (arith, number_of-not r, ap (λ n. 2 ^ n) (length-register (sent_bits octets) (replicate 16 true) refl)) in
+    omega (arith, number_of-not r, ap (λ n. 2 ^ n) (length-register (sent_bits octets) (replicate 16 true) refl)) in
     ap (λ xs. number_of (map not xs)) (remainder-register (sent_bits octets)) ∙ inverted
     ∙ ap (λ n. 65535 - n) (number_of-register (sent_bits octets) (replicate 16 true) refl ∙ after_octets octets 65535)
 
@@ -245,11 +245,11 @@ shifted-xor c o =
 odd_number : (n : ℕ) → bit_number (eqb (n % 2) 1) ≡ n % 2
 odd_number n =
     elim (cases_Bool (eqb (n % 2) 1)) [
-      inl odd ↦ ap bit_number odd ∙ sym (eqb-true (n % 2) 1 odd)
-    | inr even ↦
-        let not_one : n % 2 ≡ 1 → ⊥ = eqb-false (n % 2) 1 even in
-        let none : 0 ≡ n % 2 = omega arith in
-        ap bit_number even ∙ none
+      | inl odd ↦ ap bit_number odd ∙ sym (eqb-true (n % 2) 1 odd)
+      | inr even ↦
+          let not_one : n % 2 ≡ 1 → ⊥ = eqb-false (n % 2) 1 even in
+          let none : 0 ≡ n % 2 = omega arith in
+          ap bit_number even ∙ none
     ]
 
 -- bits taken one at a time are taken at once
@@ -282,9 +282,9 @@ after_octet-is check octet below =
     let high : d / 256 ≡ check / 256 = xor_shr check octet 8 ∙ ap (bit_xor (check / 256)) none ∙ xor_zero_r (check / 256) in
     let low : d % 256 ≡ bit_xor (check % 256) octet = xor_mod check octet 8 ∙ ap (bit_xor (check % 256)) all in
     let parts : bit_xor (d % 256) (d / 256 * 2 ^ 8) ≡ d =
-        ap (λ n. bit_xor n (d / 256 * 2 ^ 8)) (omega arith) ∙ ap (bit_xor (0 * 2 ^ 8 + d % 256)) (omega arith)
-        ∙ xor_block 8 0 (d / 256) (d % 256) 0 (omega arith) (omega arith) ∙ ap (λ n. n * 2 ^ 8 + bit_xor (d % 256) 0) (xor_zero_l (d / 256))
-        ∙ ap (λ n. d / 256 * 2 ^ 8 + n) (xor_zero_r (d % 256)) ∙ omega arith in
+    ap (λ n. bit_xor n (d / 256 * 2 ^ 8)) (omega arith) ∙ ap (bit_xor (0 * 2 ^ 8 + d % 256)) (omega arith)
+    ∙ xor_block 8 0 (d / 256) (d % 256) 0 (omega arith) (omega arith) ∙ ap (λ n. n * 2 ^ 8 + bit_xor (d % 256) 0) (xor_zero_l (d / 256))
+    ∙ ap (λ n. d / 256 * 2 ^ 8 + n) (xor_zero_r (d % 256)) ∙ omega arith in
     taken_at_once 8 check octet below ∙ ap (shifts 8) (sym parts) ∙ shifts-high 8 (d % 256) (d / 256)
     ∙ ap (λ n. bit_xor (shifts 8 n) (d / 256)) low ∙ ap (bit_xor (shifts 8 (bit_xor (check % 256) octet))) high
     ∙ xor_comm (shifts 8 (bit_xor (check % 256) octet)) (check / 256)

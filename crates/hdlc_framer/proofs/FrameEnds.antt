@@ -1,8 +1,8 @@
 -- The kept line tells exactly what a bit ends, and at most one frame ends with a bit.
-use Rattle.std.proofs.Common.{◌≡◌, ◌≢◌, ℕ, zero, suc, ◌+◌, ◌-◌, ◌*◌, ◌/◌, ◌%◌, ◌<◌, ◌≤◌, min, Bool, true, false, Some, List, [], ◌∷◌, ◌++◌, length, take, replicate, refl, ap, subst, ◌∙◌, sym, arith, length-append, append_assoc}
+use Rattle.std.proofs.Common.{◌≡◌, ℕ, ◌+◌, ◌-◌, ◌/◌, ◌%◌, ◌<◌, ◌≤◌, Bool, true, false, Some, List, [], ◌∷◌, ◌++◌, length, take, replicate, refl, ap, subst, ◌∙◌, sym, arith, length-append, append_assoc}
 use Rattle.std.specs.List.{All, fold}
-use Rattle.std.proofs.lemmas.Bool.{true≢false, false≢true}
-use Rattle.std.proofs.lemmas.List.{append_cancel_left, append_cancel_right, same_from_push, take_at}
+use Rattle.std.proofs.lemmas.Bool.{true≢false}
+use Rattle.std.proofs.lemmas.List.{same_from_push, take_at}
 use Rattle.std.proofs.lemmas.List.Elements.{All-append, All-cons, All-nil}
 use Rattle.std.proofs.lemmas.List.Sums.{fold-append}
 use Rattle.hdlc_framer.specs.declared.event.Event.{Event}
@@ -12,12 +12,12 @@ use Rattle.hdlc_framer.specs.CheckSequence.{fcs_of}
 use Rattle.hdlc_framer.specs.Stuffing.{flag, stuffed}
 use Rattle.hdlc_framer.specs.Frames.{IsFrame, with_fcs, frame_bits, EndsFrame, EndsFlag, EndsAbort, run_of_ones}
 use Rattle.hdlc_framer.specs.Events.{EventAt}
-use Rattle.hdlc_framer.specs.Held.{Line, next_line, new_line, line_after, flag_start}
+use Rattle.hdlc_framer.specs.Held.{next_line, new_line, line_after, flag_start}
 use Rattle.hdlc_framer.specs.LineEvents.{ClosesFrame, EndsOnZero, LineEvent}
 use Rattle.hdlc_framer.proofs.BitLemmas.{length-sent_bits, same_octets}
 use Rattle.hdlc_framer.proofs.CheckSequenceLemmas.{fcs_of-lt}
 use Rattle.hdlc_framer.proofs.StuffingLemmas.{stuffed_from}
-use Rattle.hdlc_framer.proofs.Lines.{flag_front, five_bits, stuffed_five, over_frame, Raw, few, five, six, Told, told_after, run-push_one, run-push_zero}
+use Rattle.hdlc_framer.proofs.Lines.{flag_front, five_bits, stuffed_five, over_frame, Raw, few, five, six, told_after, run-push_one, run-push_zero}
 
 pub line_after-append : (bits more : List Bool) → line_after (bits ++ more) ≡ fold next_line (line_after bits) more
 unfolding line_after
@@ -40,7 +40,7 @@ flag_without_last bits before e =
 ends_on_zero : (bits : List Bool) → EndsFlag (bits ++ false ∷ []) → EndsOnZero (line_after bits)
 ends_on_zero bits ends =
     let known : line_after bits ≡ fold next_line (line_after ends.0) flag_front =
-        ap line_after (flag_without_last bits ends.0 ends.1) ∙ line_after-append ends.0 flag_front in
+    ap line_after (flag_without_last bits ends.0 ends.1) ∙ line_after-append ends.0 flag_front in
     record { six = ap (λ line. line.ones) known; after_zero = ap (λ line. line.after_zero) known }
 
 no_flag_on_one : (bits : List Bool) → ¬ EndsFlag (bits ++ true ∷ [])
@@ -58,7 +58,7 @@ with_fcs_fits octets fit =
     let low : fcs_of octets % 256 < 256 = omega arith in
     let high : fcs_of octets / 256 < 256 = omega (arith, fcs_of-lt octets) in
     All-append (λ x. x < 256) octets (fcs_of octets % 256 ∷ fcs_of octets / 256 ∷ []) fit
-      (All-cons (λ x. x < 256) (fcs_of octets % 256) (fcs_of octets / 256 ∷ []) low (All-cons (λ x. x < 256) (fcs_of octets / 256) [] high (All-nil (λ x. x < 256))))
+    (All-cons (λ x. x < 256) (fcs_of octets % 256) (fcs_of octets / 256 ∷ []) low (All-cons (λ x. x < 256) (fcs_of octets / 256) [] high (All-nil (λ x. x < 256))))
 
 pub length-with_fcs : (octets : List ℕ) → length (with_fcs octets) ≡ length octets + 2
 unfolding with_fcs
@@ -91,12 +91,13 @@ ends_frame bits octets ends closes =
     let told = told_after bits in
     let since = told.since_flag (sent_bits (with_fcs octets) ++ flag_start) closes.content in
     let body = stuffed (sent_bits (with_fcs octets)) in
-    let came = raw_closed (line_after bits).ones since.1 (sent_bits (with_fcs octets)) ends.six since.3 in
-    (since.0,
+    let came = raw_closed (line_after bits).ones since.1 (sent_bits (with_fcs octets)) ends.six since.3 in (
+      since.0,
       ap (λ xs. xs ++ false ∷ []) (since.2 ∙ ap (λ xs. (since.0 ++ flag) ++ xs) came)
-      ∙ append_assoc (since.0 ++ flag) (body ++ flag_front) (false ∷ []) ∙ append_assoc since.0 flag ((body ++ flag_front) ++ false ∷ [])
-      ∙ ap (λ xs. since.0 ++ (flag ++ xs)) (append_assoc body flag_front (false ∷ [])),
-      closes.frame)
+          ∙ append_assoc (since.0 ++ flag) (body ++ flag_front) (false ∷ []) ∙ append_assoc since.0 flag ((body ++ flag_front) ++ false ∷ [])
+          ∙ ap (λ xs. since.0 ++ (flag ++ xs)) (append_assoc body flag_front (false ∷ [])),
+      closes.frame,
+    )
 
 -- the bits of a frame between two flags, but for the last bit
 frame_front : List Bool → List ℕ → List Bool
@@ -142,9 +143,10 @@ event_told bits false Frame told = (told.1.0, ends_frame bits told.1.0 told.0 to
 
 -- a frame ends with a flag
 frame_flag : (bits : List Bool) (octets : List ℕ) → EndsFrame bits octets → EndsFlag bits
-frame_flag bits octets ends =
-    (ends.0 ++ (flag ++ frame_bits octets),
-      ends.1 ∙ ap (λ xs. ends.0 ++ xs) (sym (append_assoc flag (frame_bits octets) flag)) ∙ sym (append_assoc ends.0 (flag ++ frame_bits octets) flag))
+frame_flag bits octets ends = (
+  ends.0 ++ (flag ++ frame_bits octets),
+  ends.1 ∙ ap (λ xs. ends.0 ++ xs) (sym (append_assoc flag (frame_bits octets) flag)) ∙ sym (append_assoc ends.0 (flag ++ frame_bits octets) flag),
+)
 
 -- A frame that ends here is held by the line before its last bit, which ends a flag.
 pub frame_told : (bits : List Bool) (bit : Bool) (octets : List ℕ) → EndsFrame (bits ++ bit ∷ []) octets → (bit ≡ false) × EndsOnZero (line_after bits) × ClosesFrame (line_after bits) octets

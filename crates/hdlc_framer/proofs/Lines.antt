@@ -1,14 +1,13 @@
 -- The line that a deframer keeps tells exactly where flags, aborts and frames end.
-use Rattle.std.proofs.Common.{◌≡◌, ℕ, zero, suc, ◌+◌, ◌-◌, ◌<◌, ◌≤◌, min, Bool, true, false, ◌&&◌, ltb, eqb, cond, Option, Some, None, List, [], ◌∷◌, ◌++◌, length, reverse, replicate, refl, ap, subst, ◌∙◌, sym, ◌⊎◌, inl, inr, arith, length-append, append_assoc, append-nil, fold}
+use Rattle.std.proofs.Common.{◌≡◌, ℕ, zero, suc, ◌+◌, ◌-◌, ◌<◌, ◌≤◌, min, Bool, true, false, ◌&&◌, ltb, eqb, Option, Some, None, List, [], ◌∷◌, ◌++◌, length, replicate, refl, ap, subst, ◌∙◌, sym, inl, inr, arith, length-append, append_assoc, append-nil, fold}
 use Rattle.std.specs.List.{prefix_len}
-use Rattle.std.proofs.lemmas.Bool.{cond-true, cond-false, lt-ltb, le-ltb, eq-eqb, ne_eqb, cases_lt, cases_eq, cases_Bool, and_parts, eqb-true, false≢true, true≢false}
+use Rattle.std.proofs.lemmas.Bool.{cond-true, cond-false, lt-ltb, le-ltb, eq-eqb, ne_eqb, cases_lt, cases_eq, cases_Bool, and_parts, eqb-true, false≢true}
 use Rattle.std.proofs.lemmas.List.Sums.{fold-append}
-use Rattle.std.proofs.lemmas.List.{append_cancel_left, append_cancel_right, same_from_push, length_push, reverse-append, replicate_more}
-use Rattle.hdlc_framer.specs.BitOrder.{sent_bits}
+use Rattle.std.proofs.lemmas.List.{length_push, reverse-append, replicate_more}
 use Rattle.hdlc_framer.specs.Stuffing.{flag, stuffed}
-use Rattle.hdlc_framer.specs.Frames.{IsFrame, with_fcs, frame_bits, EndsFrame, EndsFlag, EndsAbort, run_of_ones}
+use Rattle.hdlc_framer.specs.Frames.{run_of_ones}
 use Rattle.hdlc_framer.specs.Held.{Line, longer, next_line, new_line, open_line, line_after, flag_start, content_after_one, content_after_zero}
-use Rattle.hdlc_framer.proofs.StuffingLemmas.{stuffed_from, left_after, stuffed_is, stuffed_from-append, left_after-append, left_after-le}
+use Rattle.hdlc_framer.proofs.StuffingLemmas.{stuffed_from, left_after, stuffed_is, stuffed_from-append, left_after-append}
 
 -- ---- one bit more
 
@@ -85,10 +84,10 @@ left_after_five bits = left_after-append bits five_bits 4
 pub over_frame : (line : Line) (bits : List Bool) → length bits ≤ 8208 → fold next_line line (flag ++ (stuffed bits ++ flag_front)) ≡ at 6 (Some (bits ++ flag_start))
 over_frame line bits few =
     let regroup : stuffed bits ++ flag_front ≡ stuffed_from (bits ++ five_bits) 4 ++ true ∷ true ∷ [] =
-        sym (append_assoc (stuffed bits) five_bits (true ∷ true ∷ [])) ∙ ap (λ xs. xs ++ true ∷ true ∷ []) (sym (stuffed_five bits)) in
+    sym (append_assoc (stuffed bits) five_bits (true ∷ true ∷ [])) ∙ ap (λ xs. xs ++ true ∷ true ∷ []) (sym (stuffed_five bits)) in
     let fits : length (bits ++ five_bits) ≤ 8213 = omega (arith, length-append bits five_bits) in
     let inside : fold next_line open_line (stuffed_from (bits ++ five_bits) 4) ≡ at 4 (Some (bits ++ five_bits)) =
-        over_stuffed (bits ++ five_bits) 0 4 [] refl (omega arith) ∙ ap (λ n. at (4 - n) (Some (bits ++ five_bits))) (left_after_five bits) in
+    over_stuffed (bits ++ five_bits) 0 4 [] refl (omega arith) ∙ ap (λ n. at (4 - n) (Some (bits ++ five_bits))) (left_after_five bits) in
     ap (fold next_line open_line) regroup
     ∙ fold-append next_line open_line (stuffed_from (bits ++ five_bits) 4) (true ∷ true ∷ [])
     ∙ ap (λ l. fold next_line l (true ∷ true ∷ [])) inside
@@ -121,10 +120,10 @@ longer_some : (was : Option (List Bool)) (bit : Bool) (content : List Bool) → 
 longer_some None bit content e = none_is_some content e
 longer_some (Some front) bit content e =
     elim (cases_Bool (ltb (length front) 8215)) [
-      inl fits ↦
-        let both : Some (front ++ bit ∷ []) ≡ Some content = sym (cond-true _ _ _ fits) ∙ e in
-        (front, refl, cc)
-    | inr past ↦ let both : None ≡ Some content = sym (cond-false _ _ _ past) ∙ e in none_is_some content both
+      | inl fits ↦
+          let both : Some (front ++ bit ∷ []) ≡ Some content = sym (cond-true _ _ _ fits) ∙ e in
+          (front, refl, cc)
+      | inr past ↦ let both : None ≡ Some content = sym (cond-false _ _ _ past) ∙ e in none_is_some content both
     ]
 
 one_left : (left : ℕ) → 0 < left → (left_after (true ∷ []) left + 1 ≡ left) × (stuffed_from (true ∷ []) left ≡ true ∷ [])
@@ -134,10 +133,10 @@ one_left (suc left) h = (omega arith, refl)
 raw_one : (n : ℕ) (raw content : List Bool) → n < 5 → Raw n raw content → Raw (min 7 (n + 1)) (raw ++ true ∷ []) (content ++ true ∷ [])
 raw_one n raw content below (few count same) =
     elim (cases_eq n 4) [
-      inl four ↦ five content (omega arith) refl (omega arith) (ap (λ xs. xs ++ true ∷ []) same)
-    | inr other ↦
-        let one = one_left (left_after content 4) (omega arith) in
-        few (omega (arith, left_after-append content (true ∷ []) 4, one.0))
+      | inl four ↦ five content (omega arith) refl (omega arith) (ap (λ xs. xs ++ true ∷ []) same)
+      | inr other ↦
+          let one = one_left (left_after content 4) (omega arith) in
+          few (omega (arith, left_after-append content (true ∷ []) 4, one.0))
           (ap (λ xs. xs ++ true ∷ []) same ∙ ap (λ xs. stuffed_from content 4 ++ xs) (sym one.1) ∙ sym (stuffed_from-append content (true ∷ []) 4))
     ]
 raw_one n raw content below (five front is e l same) = absurd (omega arith)
@@ -152,7 +151,7 @@ raw_sixth n raw content at_five (six front is e l same) = absurd (omega arith)
 raw_zero : (n : ℕ) (raw content : List Bool) → n < 5 → Raw n raw content → Raw 0 (raw ++ false ∷ []) (content ++ false ∷ [])
 raw_zero n raw content below (few count same) =
     few (omega (arith, left_after-append content (false ∷ []) 4))
-      (ap (λ xs. xs ++ false ∷ []) same ∙ sym (stuffed_from-append content (false ∷ []) 4))
+    (ap (λ xs. xs ++ false ∷ []) same ∙ sym (stuffed_from-append content (false ∷ []) 4))
 raw_zero n raw content below (five front is e l same) = absurd (omega arith)
 raw_zero n raw content below (six front is e l same) = absurd (omega arith)
 
@@ -162,8 +161,8 @@ raw_inserted n raw content at_five (five front is e l same) =
     let at_last : stuffed_from (true ∷ []) (left_after front 4) ≡ true ∷ false ∷ [] = ap (stuffed_from (true ∷ [])) l in
     let none_left : left_after (true ∷ []) (left_after front 4) ≡ 4 = ap (left_after (true ∷ [])) l in
     few (ap (λ xs. 0 + left_after xs 4) e ∙ omega (arith, left_after-append front (true ∷ []) 4))
-      (ap (λ xs. xs ++ false ∷ []) same ∙ append_assoc (stuffed_from front 4) (true ∷ []) (false ∷ [])
-      ∙ ap (λ xs. stuffed_from front 4 ++ xs) (sym at_last) ∙ sym (stuffed_from-append front (true ∷ []) 4) ∙ ap (λ xs. stuffed_from xs 4) (sym e))
+    (ap (λ xs. xs ++ false ∷ []) same ∙ append_assoc (stuffed_from front 4) (true ∷ []) (false ∷ [])
+    ∙ ap (λ xs. stuffed_from front 4 ++ xs) (sym at_last) ∙ sym (stuffed_from-append front (true ∷ []) 4) ∙ ap (λ xs. stuffed_from xs 4) (sym e))
 raw_inserted n raw content at_five (six front is e l same) = absurd (omega arith)
 
 -- the content of a new flag is empty
@@ -177,10 +176,12 @@ further bits before raw bit e = ap (λ xs. xs ++ bit ∷ []) e ∙ append_assoc 
 told_one : (line : Line) (bits : List Bool) → Told line bits → Told (next_line line true) (bits ++ true ∷ [])
 told_one line bits told = record {
   ones = omega (arith, told.ones, run-push_one bits);
-  zero_before = λ seen. let was = told.zero_before seen in
-    (was.0, ap (λ xs. xs ++ true ∷ []) was.1 ∙ append_assoc was.0 (false ∷ replicate (run_of_ones bits) true) (true ∷ [])
-      ∙ ap (λ xs. was.0 ++ false ∷ xs) (replicate_more (run_of_ones bits) true ∙ ap (λ n. replicate n true) (omega (arith, run-push_one bits))));
-  since_flag = λ content e. since content e
+  zero_before = λ seen. let was = told.zero_before seen in (
+    was.0,
+    ap (λ xs. xs ++ true ∷ []) was.1 ∙ append_assoc was.0 (false ∷ replicate (run_of_ones bits) true) (true ∷ [])
+        ∙ ap (λ xs. was.0 ++ false ∷ xs) (replicate_more (run_of_ones bits) true ∙ ap (λ n. replicate n true) (omega (arith, run-push_one bits))),
+  );
+  since_flag = λ content e. since content e;
 }
   where
     Since : List Bool → Type 0
@@ -189,9 +190,12 @@ told_one line bits told = record {
     fewer : line.ones < 5 → (content : List Bool) → content_after_one line.ones line.content ≡ Some content → Since content
     fewer below content e =
         let last = longer_some line.content true content (sym (cond-true _ _ _ (lt-ltb line.ones 5 below)) ∙ e) in
-        let was = told.since_flag last.0 last.1 in
-        (was.0, was.1 ++ true ∷ [], further bits was.0 was.1 true was.2,
-          subst (Raw (min 7 (line.ones + 1)) (was.1 ++ true ∷ [])) (sym last.2) (raw_one line.ones was.1 last.0 below was.3))
+        let was = told.since_flag last.0 last.1 in (
+          was.0,
+          was.1 ++ true ∷ [],
+          further bits was.0 was.1 true was.2,
+          subst (Raw (min 7 (line.ones + 1)) (was.1 ++ true ∷ [])) (sym last.2) (raw_one line.ones was.1 last.0 below was.3),
+        )
 
     sixth : line.ones ≡ 5 → (content : List Bool) → content_after_one line.ones line.content ≡ Some content → Since content
     sixth at_five content e =
@@ -206,15 +210,15 @@ told_one line bits told = record {
     since : (content : List Bool) → content_after_one line.ones line.content ≡ Some content → Since content
     since content e =
         elim (cases_lt line.ones 5) [
-          inl below ↦ fewer below content e
-        | inr least ↦ elim (cases_eq line.ones 5) [ inl at_five ↦ sixth at_five content e | inr other ↦ more least other content e ]
+          | inl below ↦ fewer below content e
+          | inr least ↦ elim (cases_eq line.ones 5) [ inl at_five ↦ sixth at_five content e | inr other ↦ more least other content e ]
         ]
 
 told_zero : (line : Line) (bits : List Bool) → Told line bits → Told (next_line line false) (bits ++ false ∷ [])
 told_zero line bits told = record {
   ones = omega (arith, run-push_zero bits);
   zero_before = λ seen. (bits, ap (λ n. bits ++ false ∷ replicate n true) (sym (run-push_zero bits)));
-  since_flag = λ content e. since content e
+  since_flag = λ content e. since content e;
 }
   where
     Since : List Bool → Type 0
@@ -226,9 +230,12 @@ told_zero line bits told = record {
     fewer : line.ones < 5 → (content : List Bool) → After content → Since content
     fewer below content e =
         let last = longer_some line.content false content (sym (cond-true _ _ _ (lt-ltb line.ones 5 below)) ∙ e) in
-        let was = told.since_flag last.0 last.1 in
-        (was.0, was.1 ++ false ∷ [], further bits was.0 was.1 false was.2,
-          subst (Raw 0 (was.1 ++ false ∷ [])) (sym last.2) (raw_zero line.ones was.1 last.0 below was.3))
+        let was = told.since_flag last.0 last.1 in (
+          was.0,
+          was.1 ++ false ∷ [],
+          further bits was.0 was.1 false was.2,
+          subst (Raw 0 (was.1 ++ false ∷ [])) (sym last.2) (raw_zero line.ones was.1 last.0 below was.3),
+        )
 
     inserted : line.ones ≡ 5 → (content : List Bool) → After content → Since content
     inserted at_five content e =
@@ -241,25 +248,28 @@ told_zero line bits told = record {
         let was = told.zero_before seen in
         let run : run_of_ones bits ≡ 6 = omega (arith, told.ones) in
         let ends : bits ≡ was.0 ++ flag_front = was.1 ∙ ap (λ n. was.0 ++ false ∷ replicate n true) run in
-        let none : [] ≡ content = cc in
-        (was.0, [], ap (λ xs. xs ++ false ∷ []) ends ∙ append_assoc was.0 flag_front (false ∷ []) ∙ sym (append-nil (was.0 ++ flag)),
-          subst (Raw 0 []) none raw_opened)
+        let none : [] ≡ content = cc in (
+          was.0,
+          [],
+          ap (λ xs. xs ++ false ∷ []) ends ∙ append_assoc was.0 flag_front (false ∷ []) ∙ sym (append-nil (was.0 ++ flag)),
+          subst (Raw 0 []) none raw_opened,
+        )
 
     more : 5 ≤ line.ones → (line.ones ≡ 5 → ⊥) → (content : List Bool) → After content → Since content
     more least other content e =
         let rest = sym (cond-false _ _ _ (le-ltb line.ones 5 least) ∙ cond-false _ _ _ (ne_eqb line.ones 5 other)) ∙ e in
         elim (cases_Bool (eqb line.ones 6 && line.after_zero)) [
-          inl both ↦
-            let parts = and_parts (eqb line.ones 6) line.after_zero both in
-            opened content (eqb-true line.ones 6 parts.0) parts.1 (sym (cond-true _ _ _ both) ∙ rest)
-        | inr either ↦ none_is_some content (sym (cond-false _ _ _ either) ∙ rest)
+          | inl both ↦
+              let parts = and_parts (eqb line.ones 6) line.after_zero both in
+              opened content (eqb-true line.ones 6 parts.0) parts.1 (sym (cond-true _ _ _ both) ∙ rest)
+          | inr either ↦ none_is_some content (sym (cond-false _ _ _ either) ∙ rest)
         ]
 
     since : (content : List Bool) → After content → Since content
     since content e =
         elim (cases_lt line.ones 5) [
-          inl below ↦ fewer below content e
-        | inr least ↦ elim (cases_eq line.ones 5) [ inl at_five ↦ inserted at_five content e | inr other ↦ more least other content e ]
+          | inl below ↦ fewer below content e
+          | inr least ↦ elim (cases_eq line.ones 5) [ inl at_five ↦ inserted at_five content e | inr other ↦ more least other content e ]
         ]
 
 told_next : (line : Line) (bits : List Bool) (bit : Bool) → Told line bits → Told (next_line line bit) (bits ++ bit ∷ [])
@@ -270,14 +280,14 @@ told_new : Told new_line []
 told_new = record {
   ones = refl;
   zero_before = λ seen. absurd (false≢true seen);
-  since_flag = λ content e. none_is_some content e
+  since_flag = λ content e. none_is_some content e;
 }
 
 told_fold : (more : List Bool) (line : Line) (bits : List Bool) → Told line bits → Told (fold next_line line more) (bits ++ more)
 told_fold [] line bits told = subst (Told line) (sym (append-nil bits)) told
 told_fold (bit ∷ more) line bits told =
     subst (Told (fold next_line (next_line line bit) more)) (append_assoc bits (bit ∷ []) more)
-      (told_fold more (next_line line bit) (bits ++ bit ∷ []) (told_next line bits bit told))
+    (told_fold more (next_line line bit) (bits ++ bit ∷ []) (told_next line bits bit told))
 
 -- The line after bits tells their run of 1s, whether a 0 stands before it, and what came since the last flag.
 pub told_after : (bits : List Bool) → Told (line_after bits) bits

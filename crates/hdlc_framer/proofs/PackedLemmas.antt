@@ -1,5 +1,5 @@
 -- Octets and a part of an octet, as bits and as a frame.
-use Rattle.std.proofs.Common.{◌≡◌, ℕ, zero, suc, ◌+◌, ◌-◌, ◌*◌, ◌/◌, ◌%◌, ◌^◌, ◌<◌, ◌≤◌, Bool, true, false, not, eqb, ltb, List, [], ◌∷◌, ◌++◌, length, get_or, take, drop, refl, ap, subst, ◌∙◌, sym, inl, inr, arith, length-append, length-take, length-drop, take-append-drop}
+use Rattle.std.proofs.Common.{◌≡◌, ℕ, ◌+◌, ◌-◌, ◌*◌, ◌/◌, ◌%◌, ◌<◌, ◌≤◌, Bool, not, eqb, ltb, List, [], ◌∷◌, ◌++◌, length, get_or, take, drop, refl, ap, subst, ◌∙◌, sym, inl, inr, arith, length-append, length-take, length-drop, take-append-drop}
 use Rattle.std.specs.List.{All}
 use Rattle.std.proofs.lemmas.Bool.{lt-ltb, le-ltb, eq-eqb, ne_eqb, cases_eq}
 use Rattle.std.proofs.lemmas.List.{append_cancel_left, drop_at}
@@ -9,7 +9,7 @@ use Rattle.hdlc_framer.specs.CheckSequence.{fcs_of}
 use Rattle.hdlc_framer.specs.Frames.{IsFrame, with_fcs}
 use Rattle.hdlc_framer.specs.Held.{flag_start}
 use Rattle.hdlc_framer.specs.Packed.{IsPacked}
-use Rattle.hdlc_framer.proofs.BitLemmas.{length-low_bits, number_of-low_bits, length-sent_bits, length-packed, packed_octet, same_octets}
+use Rattle.hdlc_framer.proofs.BitLemmas.{length-low_bits, number_of-low_bits, packed_octet, same_octets}
 use Rattle.hdlc_framer.proofs.FrameEnds.{with_fcs_fits, length-with_fcs, without_fcs}
 
 pub packed_push : (octets : List ℕ) (filled part octet : ℕ) (bit : Bool) (bits : List Bool) → 7 ≡ filled → low_bits (filled + 1) octet ≡ low_bits filled part ++ bit ∷ []
@@ -26,8 +26,8 @@ room_in_part count filled size fits part e = lt-ltb filled 7 part ∙ sym (lt-lt
 pub room_in_octets : (count filled size : ℕ) (full : Bool) → count ≤ 1026 → filled ≡ 7 → size ≡ 8 * count + filled → full ≡ eqb count 1026 → not full ≡ ltb size 8215
 room_in_octets count filled size full fits seven e is_full =
     elim (cases_eq count 1026) [
-      inl equal ↦ ap not (is_full ∙ eq-eqb count 1026 equal) ∙ sym (le-ltb size 8215 (omega arith))
-    | inr other ↦ ap not (is_full ∙ ne_eqb count 1026 other) ∙ sym (lt-ltb size 8215 (omega arith))
+      | inl equal ↦ ap not (is_full ∙ eq-eqb count 1026 equal) ∙ sym (le-ltb size 8215 (omega arith))
+      | inr other ↦ ap not (is_full ∙ ne_eqb count 1026 other) ∙ sym (lt-ltb size 8215 (omega arith))
     ]
 
 -- ---- the frame in packed bits
@@ -42,7 +42,7 @@ module _ (items : List ℕ) (filled part : ℕ) (bits : List Bool) (octets : Lis
   frame_part packed same closes is_frame =
       let whole = frame_items packed same closes is_frame in
       let rest : low_bits filled part ≡ flag_start =
-          append_cancel_left (sent_bits (with_fcs octets)) (low_bits filled part) flag_start (ap (λ xs. sent_bits xs ++ low_bits filled part) (sym whole) ∙ same ∙ closes) in
+      append_cancel_left (sent_bits (with_fcs octets)) (low_bits filled part) flag_start (ap (λ xs. sent_bits xs ++ low_bits filled part) (sym whole) ∙ same ∙ closes) in
       (sym (length-low_bits filled part) ∙ ap length rest, sym (number_of-low_bits filled part packed.part_fits) ∙ ap number_of rest)
 
   pub frame_bits_from : sent_bits items ++ low_bits filled part ≡ bits → items ≡ with_fcs octets → filled ≡ 6 → part ≡ 62 → bits ≡ sent_bits (with_fcs octets) ++ flag_start
@@ -76,20 +76,21 @@ module _ (octets frame sent : List ℕ) where
       let low_fits : get_or sent 0 0 < 256 = All-get_or (λ octet. octet < 256) sent 0 0 (omega arith) sent_fit in
       let high_fits : get_or sent 1 0 < 256 = All-get_or (λ octet. octet < 256) sent 1 0 (omega arith) sent_fit in
       let low : get_or sent 0 0 ≡ fcs_of frame % 256 = omega arith in
-      let high : get_or sent 1 0 ≡ fcs_of frame / 256 = omega arith in
-      (sym (take-append-drop (length octets - 2) octets) ∙ ap (λ xs. xs ++ drop (length octets - 2) octets) (sym front) ∙ ap (λ xs. frame ++ xs) (sym back ∙ pair_of sent two)
-        ∙ ap (λ n. frame ++ n ∷ get_or sent 1 0 ∷ []) low ∙ ap (λ n. frame ++ (fcs_of frame % 256) ∷ n ∷ []) high,
+      let high : get_or sent 1 0 ≡ fcs_of frame / 256 = omega arith in (
+        sym (take-append-drop (length octets - 2) octets) ∙ ap (λ xs. xs ++ drop (length octets - 2) octets) (sym front) ∙ ap (λ xs. frame ++ xs) (sym back ∙ pair_of sent two)
+            ∙ ap (λ n. frame ++ n ∷ get_or sent 1 0 ∷ []) low ∙ ap (λ n. frame ++ (fcs_of frame % 256) ∷ n ∷ []) high,
         record {
           octets_fit = subst (All (λ octet. octet < 256)) (sym front) (All-take (λ octet. octet < 256) (length octets - 2) octets fit);
           least = omega arith;
-          most = omega arith
-        })
+          most = omega arith;
+        },
+      )
 
   pub ends_fcs : (others : List ℕ) → frame ≡ take (length octets - 2) octets → sent ≡ drop (length octets - 2) octets → octets ≡ with_fcs others → get_or sent 0 0 + get_or sent 1 0 * 256 ≡ fcs_of frame
   unfolding with_fcs
   ends_fcs others front back whole =
       let same : frame ≡ others = front ∙ ap (λ xs. take (length xs - 2) xs) whole ∙ without_fcs others in
       let last : sent ≡ (fcs_of others % 256) ∷ (fcs_of others / 256) ∷ [] =
-          back ∙ ap (λ xs. drop (length xs - 2) xs) whole
-          ∙ drop_at others ((fcs_of others % 256) ∷ (fcs_of others / 256) ∷ []) _ (omega (arith, length-append others ((fcs_of others % 256) ∷ (fcs_of others / 256) ∷ []))) in
+      back ∙ ap (λ xs. drop (length xs - 2) xs) whole
+      ∙ drop_at others ((fcs_of others % 256) ∷ (fcs_of others / 256) ∷ []) _ (omega (arith, length-append others ((fcs_of others % 256) ∷ (fcs_of others / 256) ∷ []))) in
       ap (λ xs. get_or xs 0 0 + get_or xs 1 0 * 256) last ∙ omega arith ∙ ap fcs_of (sym same)

@@ -5,8 +5,8 @@ ghost use Rattle.hdlc_framer.specs.BitOrder.{sent_bits, low_bits};
 ghost use Rattle.hdlc_framer.specs.Frames.{IsFrame, with_fcs};
 ghost use Rattle.hdlc_framer.specs.Held.{flag_start};
 
-use arrayvec::ArrayVec;
 use crate::check_sequence::fcs;
+use arrayvec::ArrayVec;
 use std::marker::Model;
 
 // The most octets of a frame with its check sequence.

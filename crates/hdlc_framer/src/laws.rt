@@ -7,5 +7,4 @@ ghost use Rattle.hdlc_framer.specs.Frames.{EndsFrame};
 pub fn one_frame_ends()
     ensures { (bits : List Bool) → (octets : List ℕ) → (others : List ℕ)
         → EndsFrame bits octets → EndsFrame bits others → octets ≡ others }
-{
-}
+{}

@@ -16,3 +16,6 @@ pub use check_sequence::fcs;
 pub use deframer::Deframer;
 pub use event::Event;
 pub use laws::one_frame_ends;
+
+#[cfg(test)]
+mod tests;

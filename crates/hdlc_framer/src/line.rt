@@ -57,7 +57,11 @@ impl LineState {
         ensures { LineEvent self.now bit result }
     {
         if bit {
-            return if self.ones == 6 { Event::Abort } else { Event::None };
+            return if self.ones == 6 {
+                Event::Abort
+            } else {
+                Event::None
+            };
         }
         if self.ones != 6 || !self.after_zero {
             return Event::None;
@@ -94,14 +98,11 @@ impl LineState {
     fn zero(&mut self)
         ensures { self.new ≡ next_line self.old false }
     {
-        if self.ones == 6 && self.after_zero {
-            self.open();
-            return;
-        }
-        if self.ones > 5 {
-            self.active = false;
-        } else if self.ones < 5 {
-            self.take(false);
+        match self.ones {
+            0..=4 => self.take(false),
+            5 => {}
+            6 if self.after_zero => self.open(),
+            _ => self.active = false,
         }
         self.ones = 0;
         self.after_zero = true;

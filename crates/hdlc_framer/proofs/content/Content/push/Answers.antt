@@ -1,4 +1,4 @@
-use Rattle.std.proofs.Common.{◌≡◌, ◌+◌, ◌*◌, ◌<◌, ◌≤◌, List, ℕ, [], ◌∷◌, ◌++◌, length, ap, subst, sym, ◌∙◌, arith}
+use Rattle.std.proofs.Common.{◌≡◌, ◌+◌, ◌*◌, ◌<◌, [], ◌++◌, length, ap, subst, sym, ◌∙◌, arith}
 use Rattle.std.specs.List.{All}
 use Rattle.std.proofs.lemmas.List.{length_push}
 use Rattle.std.proofs.lemmas.List.Elements.{All-push}
@@ -21,10 +21,10 @@ invariant_of-self-else-self-lt7 c =
     let one_more : length c.push.new.self.items ≡ length s.octets.items + 1 = ap length c.push.ensures.items ∙ length_push s.octets.items c.with_bit-part.result in
     record {
       octets_fit = subst (All (λ octet. octet < 256)) (sym c.push.ensures.items)
-        (All-push (λ octet. octet < 256) s.octets.items c.with_bit-part.result c.self.invariant.octets_fit c.with_bit-part.type_inv);
+          (All-push (λ octet. octet < 256) s.octets.items c.with_bit-part.result c.self.invariant.octets_fit c.with_bit-part.type_inv);
       room = omega arith;
       below_octet = omega arith;
-      part_fits = omega arith
+      part_fits = omega arith;
     }
 
 pub returns-else-self-lt7 : goal.returns-else-self-lt7

@@ -10,7 +10,7 @@ returns-then-eq-clause-stands_for c = λ b stands.
     let line : c.self.inside.line ≡ line_of c.args.self.now = ap (λ (held : Held). held.line) (c.self.view_is ∙ c.settle.ensures) in
     let told : LineEvent (line_of c.args.self.now) c.args.bit c.event-event.result = subst (λ l. LineEvent l c.args.bit c.event-event.result) line c.event-event.ensures in
     subst (λ l. StandsFor (record { line = l; framed = true }) (b ++ c.args.bit ∷ [])) (sym line)
-      (stands_framed c.args.self.now b c.args.bit c.event-event.result (frame_by_test c.event-event.result (sym c.eq.ensures ∙ c.if-eq.true)) stands told)
+    (stands_framed c.args.self.now b c.args.bit c.event-event.result (frame_by_test c.event-event.result (sym c.eq.ensures ∙ c.if-eq.true)) stands told)
 
 pub returns-else-eq-clause-stands_for : goal.returns-else-eq-clause-stands_for
 returns-else-eq-clause-stands_for c = λ b stands.
@@ -19,8 +19,8 @@ returns-else-eq-clause-stands_for c = λ b stands.
     let framed : c.self.inside.framed ≡ false = ap (λ (held : Held). held.framed) same in
     let next = ap (λ l. next_line l c.args.bit) line in
     subst (λ l. StandsFor (record { line = l; framed = c.self.inside.framed }) (b ++ c.args.bit ∷ [])) (sym (c.next.ensures ∙ next))
-      (subst (λ f. StandsFor (record { line = next_line (line_of c.args.self.now) c.args.bit; framed = f }) (b ++ c.args.bit ∷ [])) (sym framed)
-        (stands_next c.args.self.now b c.args.bit stands))
+    (subst (λ f. StandsFor (record { line = next_line (line_of c.args.self.now) c.args.bit; framed = f }) (b ++ c.args.bit ∷ [])) (sym framed)
+    (stands_next c.args.self.now b c.args.bit stands))
 
 pub returns-then-eq-clause-event : goal.returns-then-eq-clause-event
 returns-then-eq-clause-event c = λ b stands.

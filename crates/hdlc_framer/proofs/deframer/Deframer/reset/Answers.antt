@@ -1,4 +1,3 @@
-use Rattle.std.proofs.Common.{ap, refl}
 use Rattle.hdlc_framer.specs.Held.{line_after}
 use Rattle.hdlc_framer.proofs.deframer.Deframer.reset.Goals as goal
 
