@@ -20,9 +20,12 @@ pub(crate) fn decode<I: Source, O: Sink>(
     output: &mut O,
 ) -> Result<(), Fault>
     // what is read, and what is written of it
-    ensures end { (octets : List ℕ) → I.left input.old ≡ Some octets → OnOk result (I.left input.new ≡ Some []) }
-    ensures limit { (octets : List ℕ) → I.left input.old ≡ Some octets → OnOk result (length octets ≤ input_limit) }
-    ensures decoded { (octets before : List ℕ) → I.left input.old ≡ Some octets → O.written output.old ≡ Some before
+    ensures end { (octets : List ℕ) → I.left input.old ≡ Some octets
+        → OnOk result (I.left input.new ≡ Some []) }
+    ensures limit { (octets : List ℕ) → I.left input.old ≡ Some octets
+        → OnOk result (length octets ≤ input_limit) }
+    ensures decoded { (octets before : List ℕ) → I.left input.old ≡ Some octets
+        → O.written output.old ≡ Some before
         → OnOk result (O.written output.new ≡ Some (before ++ decoded octets)) }
 
     // each fault, and what stands after it
@@ -32,7 +35,8 @@ pub(crate) fn decode<I: Source, O: Sink>(
         → IsErrOf result Fault.TooLong → I.left input.new ≡ Some (drop (input_limit + 1) octets) }
     ensures read { IsErrOf result Fault.Read → HasRisen (I.faults input.old) (I.faults input.new) }
     ensures write { IsErrOf result Fault.Write → HasRisen (O.faults output.old) (O.faults output.new) }
-    ensures cut { (octets before : List ℕ) → I.left input.old ≡ Some octets → O.written output.old ≡ Some before
+    ensures cut { (octets before : List ℕ) → I.left input.old ≡ Some octets
+        → O.written output.old ≡ Some before
         → IsErrOf result Fault.Write → WrotePart before (decoded octets) (O.written output.new) }
     ensures unwritten { IfErr result (λ fault. fault ≢ Fault.Write → output.new ≡ output.old) }
 {

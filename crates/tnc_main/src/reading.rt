@@ -17,7 +17,8 @@ const PIECE: usize = 4096;
 pub(crate) fn read_all<I: Source>(alloc: Global, input: &mut I) -> Result<Vec<u8>, Fault>
     ensures whole { (octets : List ℕ) → I.left input.old ≡ Some octets
         → IfOk result (λ all. all.items ≡ octets) }
-    ensures end { (octets : List ℕ) → I.left input.old ≡ Some octets → OnOk result (I.left input.new ≡ Some []) }
+    ensures end { (octets : List ℕ) → I.left input.old ≡ Some octets
+        → OnOk result (I.left input.new ≡ Some []) }
     ensures limit { IfOk result (λ all. length all.items ≤ input_limit) }
     ensures too_long { (octets : List ℕ) → I.left input.old ≡ Some octets
         → IsErrOf result Fault.TooLong → input_limit < length octets }

@@ -1,4 +1,4 @@
-use Rattle.std.proofs.Common.{rules, ◌≡◌, ◌++◌, sym, arith}
+use Rattle.std.proofs.Common.{arith}
 use Rattle.std.proofs.lemmas.Grind.{common_steps}
 use Rattle.tnc_main.proofs.PrintingLemmas.{print_next, print_end}
 use Rattle.tnc_main.proofs.printing.print.Goals as goal

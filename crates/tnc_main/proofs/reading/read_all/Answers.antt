@@ -1,7 +1,5 @@
-use Rattle.std.proofs.Common.{◌≡◌, ◌≤◌, ◌<◌, List, ℕ, Some, drop, length, ◌∙◌, ap, sym, subst, arith, vec_len, ◌+◌, ◌^◌}
+use Rattle.std.proofs.Common.{◌≡◌, ◌<◌, Some, drop, length, ◌∙◌, ap, sym, arith, ◌+◌, ◌^◌}
 use Rattle.std.proofs.lemmas.Grind.{common_steps}
-use Rattle.tnc_base.specs.Streams.{Gives}
-use Rattle.tnc_main.specs.Reading.{HasRead}
 use Rattle.tnc_main.proofs.Lists.{drop-parts}
 use Rattle.tnc_main.proofs.ReadingLemmas.{read_on}
 use Rattle.tnc_main.proofs.reading.read_all.Goals as goal
@@ -24,8 +22,7 @@ reading-preserved g c = record {
   so_far = λ whole is.
       let so_far = c.reading.invariant.so_far whole is in
       let gives = c.in-Ok.ensures.gives so_far.0 so_far.2 in
-      let HasReadThat : List ℕ → Type 0 = λ items. HasRead whole items (g.I.Source.left c.read.new.self) in
-      subst HasReadThat (sym c.in_ok-extend_from_slice.ensures.items) (read_on _ _ _ _ _ _ _ so_far.1 c.in-Ok.ensures.bound gives);
+      read_on _ _ _ _ _ _ _ _ so_far.1 c.in-Ok.ensures.bound gives c.in_ok-extend_from_slice.ensures.items;
   bound = let a = c.in_ok-extend_from_slice.ensures.len in
       let b = c.min-room.ensures in
       let d = c.in-Ok.ensures.bound in

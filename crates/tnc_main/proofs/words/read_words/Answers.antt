@@ -1,4 +1,4 @@
-use Rattle.std.proofs.Common.{◌≡◌, map, string_bytes, [], ◌∷◌, sym, ap, ◌∙◌}
+use Rattle.std.proofs.Common.{map, string_bytes, [], ◌∷◌, sym, ap, ◌∙◌}
 use Rattle.std.proofs.lemmas.Slice.Eq.{bytes_eq-Decides}
 use Rattle.tnc_main.proofs.Lists.{one_item}
 use Rattle.tnc_main.proofs.words.read_words.Goals as goal
