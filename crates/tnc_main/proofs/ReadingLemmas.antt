@@ -1,0 +1,15 @@
+-- An input that is read in pieces.
+use Rattle.std.proofs.Common.{◌≡◌, ℕ, ◌≤◌, List, ◌++◌, length, take, drop, sym, ap, ◌∙◌, append_assoc}
+use Rattle.std.specs.declared.option.Option.{Option}
+use Rattle.std.proofs.lemmas.List.{take-append-drop, take-append-le}
+use Rattle.tnc_base.specs.Streams.{Gives}
+use Rattle.tnc_main.specs.Reading.{HasRead}
+
+-- one more piece, which stands at the front of the buffer
+pub read_on : (whole octets rest buffer tail items : List ℕ) (left : Option (List ℕ)) (count : ℕ) → whole ≡ octets ++ rest → count ≤ length buffer → Gives rest left buffer count → items ≡ octets ++ take count (buffer ++ tail) → HasRead whole items left
+read_on whole octets rest buffer tail items left count is bound gives longer =
+    let piece : take count (buffer ++ tail) ≡ take count rest = take-append-le count buffer tail bound ∙ gives.front in
+    let parts : whole ≡ (octets ++ take count rest) ++ drop count rest =
+    is ∙ ap (λ r. octets ++ r) (sym (take-append-drop count rest)) ∙ sym (append_assoc octets (take count rest) (drop count rest)) in
+    let whole_items : octets ++ take count rest ≡ items = ap (λ p. octets ++ p) (sym piece) ∙ sym longer in
+    (drop count rest, parts ∙ ap (λ p. p ++ drop count rest) whole_items, gives.rest)

@@ -1,0 +1,44 @@
+//! The program of the modem: it takes the words of a command line and works from one stream of octets to another. All
+//! that it does is one call over streams that are handed in, whose contract says what each exit status stands for and
+//! which octets are written.
+#![tactic(auto)]
+
+mod decoding;
+mod fault;
+mod hearing;
+mod printing;
+mod program;
+mod reading;
+mod report;
+mod samples;
+mod status;
+mod words;
+
+use crate::program::run;
+use crate::status::Status;
+use std::env;
+use std::io::{self, ErrorKind};
+use std::process::ExitCode;
+use tnc_base::{RealSink, RealSource};
+
+/// The words after the program's name. Where one is no text they are none at all, which is no command either.
+fn given_words(rt: &HostRuntime) -> io::Result<Vec<String>> {
+    match env::args(rt) {
+        Ok(words) => Ok(words.skip(1).collect(rt.alloc())?),
+        Err(error) if error.kind() == ErrorKind::OutOfMemory => Err(error),
+        Err(_) => Ok(Vec::new(rt.alloc())),
+    }
+}
+
+fn main(rt: HostRuntime) -> ExitCode {
+    let Ok(words) = given_words(&rt) else {
+        return ExitCode::from(Status::Memory.code());
+    };
+    let mut input = RealSource::new(rt.stdin());
+    let mut output = RealSink::new(rt.stdout());
+    let mut report = RealSink::new(rt.stderr());
+    ExitCode::from(run(rt.alloc(), &words, &mut input, &mut output, &mut report))
+}
+
+#[cfg(test)]
+mod tests;

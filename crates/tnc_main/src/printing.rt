@@ -1,0 +1,18 @@
+//! Received frames as text.
+ghost use Rattle.std.specs.Prelude.{◌≡◌, IfOk};
+ghost use Rattle.tnc_main.specs.Printing.{print};
+
+use std::alloc::Global;
+use tnc_base::{Octets, OutOfMemory};
+
+/// A line per frame: its octets in lower-case hexadecimal, and a line feed.
+pub(crate) fn print(alloc: Global, frames: &[Octets]) -> Result<Vec<u8>, OutOfMemory>
+    ensures { IfOk result (λ text. text.items ≡ print frames.now) }
+{
+    let mut text = Vec::new(alloc);
+    for frame in frames {
+        text.extend_from_slice(hex::encode(alloc, frame.as_slice())?.as_bytes())?;
+        text.push(b'\n')?;
+    }
+    Ok(text)
+}

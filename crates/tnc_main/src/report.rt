@@ -1,0 +1,29 @@
+//! The lines that tell an operator why a run was refused.
+ghost use Rattle.std.specs.Prelude.{◌≡◌, ◌≢◌, ◌⊎◌, ◌++◌, List, ℕ, Some};
+ghost use Rattle.tnc_base.specs.Faults.{HasRisen};
+ghost use Rattle.tnc_base.specs.Streams.{WrotePart};
+
+use crate::status::Status;
+use tnc_base::Sink;
+
+/// The words are no command.
+pub(crate) const BAD_WORDS: &[u8] = b"tnc: bad words\n";
+
+/// The input passes 2^40 octets.
+pub(crate) const TOO_LONG: &[u8] = b"tnc: bad input: too long at 1099511627776\n";
+
+/// Reports the line, and answers the status that it explains, or a write fault where the report can't be written.
+pub(crate) fn told<E: Sink>(report: &mut E, line: &[u8], status: Status) -> Status
+    requires { status ≢ Status.WriteFault }
+    ensures status { (result ≡ status) ⊎ (result ≡ Status.WriteFault) }
+    ensures line { (before : List ℕ) → E.written report.old ≡ Some before
+        → (E.written report.new ≡ Some (before ++ line.now)) ⊎ (result ≡ Status.WriteFault) }
+    ensures cut { (before : List ℕ) → E.written report.old ≡ Some before
+        → result ≡ Status.WriteFault → WrotePart before line.now (E.written report.new) }
+    ensures fault { result ≡ Status.WriteFault → HasRisen (E.faults report.old) (E.faults report.new) }
+{
+    match report.write(line) {
+        Ok(()) => status,
+        Err(_) => Status::WriteFault,
+    }
+}

@@ -1,0 +1,37 @@
+//! The exit statuses of the program.
+ghost use Rattle.std.specs.Prelude.{◌≡◌};
+
+/// How a run ended.
+#[derive(Clone, Copy, Debug, PartialEq, Eq)]
+pub(crate) enum Status {
+    /// The input was read to its end and all was written.
+    Done,
+    /// The words are no command.
+    BadWords,
+    /// The input breaks the rules of its form.
+    BadInput,
+    /// Memory was wanted and not given.
+    Memory,
+    /// The input failed.
+    ReadFault,
+    /// The output or the report failed.
+    WriteFault,
+}
+
+impl Status {
+    ghost use Rattle.tnc_main.specs.Status.{code_of};
+
+    /// The number that the process ends with.
+    pub(crate) fn code(self) -> u8
+        ensures { result ≡ code_of self }
+    {
+        match self {
+            Status::Done => 0,
+            Status::BadWords => 1,
+            Status::BadInput => 2,
+            Status::Memory => 3,
+            Status::ReadFault => 4,
+            Status::WriteFault => 5,
+        }
+    }
+}
