@@ -1,15 +1,3 @@
-<<<<<<< HEAD
-//! What every part of the modem stands on at its outer edge: octet lists, the checksum that summaries print, and the
-//! streams that octets come from and go to. A stream counts its faults, and where it tells its content, each read
-//! and write says exactly which octets it took.
-#![tactic(auto)]
-
-mod fault;
-mod octet_list;
-
-pub use fault::{Failed, OutOfMemory};
-pub use octet_list::Octets;
-=======
 //! What every part of the modem stands on at its outer edge: octet lists, the hash that summaries print, and the
 //! streams that octets come from and go to. A stream counts its faults, and where it tells its octets, each read and
 //! write says exactly which of them it moved.
@@ -31,4 +19,3 @@ pub use stream::{Sink, Source};
 
 #[cfg(test)]
 mod tests;
->>>>>>> d1a3df816d275c99931ec1aedf9a25a2589895b0
