@@ -1,3 +1,5 @@
 pub mod Lists
 pub mod PrintingLemmas
 pub mod ReadingLemmas
+pub mod MergingLemmas
+pub mod DecodedLemmas

@@ -1,9 +1,12 @@
 -- An input that is read in pieces.
-use Rattle.std.proofs.Common.{◌≡◌, ℕ, ◌≤◌, List, ◌++◌, length, take, drop, sym, ap, ◌∙◌, append_assoc}
+use Rattle.std.proofs.Common.{◌≡◌, ℕ, Some, ◌≤◌, List, ◌++◌, length, take, drop, sym, ap, ◌∙◌, append_assoc}
 use Rattle.std.specs.declared.option.Option.{Option}
 use Rattle.std.proofs.lemmas.List.{take-append-drop, take-append-le}
 use Rattle.tnc_base.specs.Streams.{Gives}
-use Rattle.tnc_main.specs.Reading.{HasRead}
+
+-- of the whole input these octets were read, and the source has the rest
+abbrev pub HasRead : List ℕ → List ℕ → Option (List ℕ) → Type 0
+HasRead whole octets left = (rest : List ℕ) × (whole ≡ octets ++ rest) × (left ≡ Some rest)
 
 -- one more piece, which stands at the front of the buffer
 pub read_on : (whole octets rest buffer tail items : List ℕ) (left : Option (List ℕ)) (count : ℕ) → whole ≡ octets ++ rest → count ≤ length buffer → Gives rest left buffer count → items ≡ octets ++ take count (buffer ++ tail) → HasRead whole items left

@@ -1,5 +1,5 @@
 pub mod Decoded
-pub mod Hearing
+pub mod Merging
 pub mod Printing
 pub mod Reading
 pub mod Report

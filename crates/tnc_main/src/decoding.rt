@@ -2,7 +2,7 @@
 ghost use Rattle.std.specs.Prelude.{◌≡◌, ◌≤◌, ◌<◌, ◌+◌, ◌++◌, List, ℕ, Some, [], length, drop, OnOk, IfOk, IfErr, IsErrOf, ◌≢◌};
 ghost use Rattle.tnc_base.specs.Faults.{HasRisen};
 ghost use Rattle.tnc_base.specs.Streams.{WrotePart};
-ghost use Rattle.tnc_main.specs.Decoded.{decoded};
+ghost use Rattle.tnc_main.specs.Decoded.{IsDecoded};
 ghost use Rattle.tnc_main.specs.Reading.{input_limit};
 
 use crate::fault::Fault;
@@ -26,7 +26,7 @@ pub(crate) fn decode<I: Source, O: Sink>(
         → OnOk result (length octets ≤ input_limit) }
     ensures decoded { (octets before : List ℕ) → I.left input.old ≡ Some octets
         → O.written output.old ≡ Some before
-        → OnOk result (O.written output.new ≡ Some (before ++ decoded octets)) }
+        → OnOk result ((text : List ℕ) × IsDecoded octets text × (O.written output.new ≡ Some (before ++ text))) }
 
     // each fault, and what stands after it
     ensures too_long { (octets : List ℕ) → I.left input.old ≡ Some octets
@@ -35,9 +35,9 @@ pub(crate) fn decode<I: Source, O: Sink>(
         → IsErrOf result Fault.TooLong → I.left input.new ≡ Some (drop (input_limit + 1) octets) }
     ensures read { IsErrOf result Fault.Read → HasRisen (I.faults input.old) (I.faults input.new) }
     ensures write { IsErrOf result Fault.Write → HasRisen (O.faults output.old) (O.faults output.new) }
-    ensures cut { (octets before : List ℕ) → I.left input.old ≡ Some octets
-        → O.written output.old ≡ Some before
-        → IsErrOf result Fault.Write → WrotePart before (decoded octets) (O.written output.new) }
+    ensures cut { (octets before text : List ℕ) → I.left input.old ≡ Some octets
+        → O.written output.old ≡ Some before → IsDecoded octets text
+        → IsErrOf result Fault.Write → WrotePart before text (O.written output.new) }
     ensures unwritten { IfErr result (λ fault. fault ≢ Fault.Write → output.new ≡ output.old) }
 {
     let octets = read_all(alloc, input)?;
@@ -50,9 +50,10 @@ pub(crate) fn decode<I: Source, O: Sink>(
 
 /// The lines of the frames that are heard in raw PCM.
 fn decoded_text(alloc: Global, octets: &[u8]) -> Result<Vec<u8>, OutOfMemory>
-    ensures { IfOk result (λ text. text.items ≡ decoded octets.now) }
+    requires { length octets.now ≤ input_limit }
+    ensures { IfOk result (λ text. IsDecoded octets.now text.items) }
 {
     let samples = read_samples(alloc, octets)?;
-    let frames = hear(alloc, &samples)?;
-    print(alloc, &frames)
+    let items = hear(alloc, &samples)?;
+    print(alloc, &items)
 }

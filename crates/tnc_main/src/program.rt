@@ -2,7 +2,7 @@
 ghost use Rattle.std.specs.Prelude.{◌≡◌, ◌⊎◌, ◌≤◌, ◌<◌, ◌+◌, ◌++◌, ℕ, List, [], Some, length, drop};
 ghost use Rattle.tnc_base.specs.Faults.{HasRisen};
 ghost use Rattle.tnc_base.specs.Streams.{WrotePart};
-ghost use Rattle.tnc_main.specs.Decoded.{decoded};
+ghost use Rattle.tnc_main.specs.Decoded.{IsDecoded};
 ghost use Rattle.tnc_main.specs.Reading.{input_limit};
 ghost use Rattle.tnc_main.specs.Report.{bad_words_line, too_long_line};
 ghost use Rattle.tnc_main.specs.Words.{IsDecode};
@@ -44,10 +44,10 @@ pub fn run<I: Source, O: Sink, E: Sink>(
         → result ≡ 2 → I.left input.new ≡ Some (drop (input_limit + 1) octets) }
     ensures decoded { (octets before : List ℕ) → I.left input.old ≡ Some octets
         → O.written output.old ≡ Some before
-        → result ≡ 0 → O.written output.new ≡ Some (before ++ decoded octets) }
-    ensures cut { (octets before : List ℕ) → I.left input.old ≡ Some octets
-        → O.written output.old ≡ Some before
-        → result ≡ 5 → WrotePart before (decoded octets) (O.written output.new) }
+        → result ≡ 0 → (text : List ℕ) × IsDecoded octets text × (O.written output.new ≡ Some (before ++ text)) }
+    ensures cut { (octets before text : List ℕ) → I.left input.old ≡ Some octets
+        → O.written output.old ≡ Some before → IsDecoded octets text
+        → result ≡ 5 → WrotePart before text (O.written output.new) }
     ensures unwritten { 1 ≤ result → result ≤ 4 → output.new ≡ output.old }
 
     // the lines that are reported

@@ -1,6 +1,7 @@
 use crate::printing::print;
 use crate::program::run;
 use crate::samples::read_samples;
+use frame_merge::Candidate;
 use std::alloc::Global;
 use std::test::Fail;
 use tnc_base::{MemSink, MemSource, Octets};
@@ -82,8 +83,13 @@ fn samples_are_little_endian_and_an_odd_octet_is_none(rt: HostRuntime) -> Result
 fn a_frame_is_a_line_of_small_hexadecimal(rt: HostRuntime) -> Result<(), Fail> {
     let alloc = rt.alloc();
     let mut frames = Vec::new(alloc);
-    frames.push(Octets::from_slice(alloc, &[0x9c, 0x94, 0x0e])?)?;
-    frames.push(Octets::from_slice(alloc, &[0xff])?)?;
+    for octets in [[0x9c, 0x94, 0x0e].as_slice(), &[0xff]] {
+        frames.push(Candidate {
+            end: 1296,
+            offset: 0,
+            octets: Octets::from_slice(alloc, octets)?,
+        })?;
+    }
     assert_eq!(rt;
         print(alloc, &frames)?.as_slice(),
         b"9c940e\nff\n".as_slice()

@@ -1,5 +1,6 @@
 use Rattle.std.proofs.Common.{◌≡◌, ◌≤◌, ◌+◌, ◌-◌, List, ℕ, Some, vec_len}
-use Rattle.tnc_main.specs.Reading.{input_limit, HasRead}
+use Rattle.tnc_main.specs.Reading.{input_limit}
+use Rattle.tnc_main.proofs.ReadingLemmas.{HasRead}
 use Rattle.tnc_main.proofs.reading.read_all.Given as goal
 
 abbrev pub invariant-reading : goal.invariant-reading
