@@ -6,6 +6,8 @@ use std::alloc::Global;
 use std::test::Fail;
 use tnc_base::{MemSink, MemSource, Octets};
 
+mod signal;
+
 /// What came of a run.
 #[derive(Drop)]
 struct Outcome {
