@@ -20,6 +20,7 @@ held_of offset position window before =
 abbrev pub part_behind : ℕ → List ℤ → List ℤ
 part_behind offset x = drop (offset + 8 * windows_in offset (length x)) x
 
+-- what is kept is that of these samples: their count, those behind the last whole window, and the last window's tone
 pub record StandsFor (held : Held) (x : List ℤ) : Type 0 where
   pub count : held.position ≡ length x
   pub part : held.part ≡ part_behind held.offset x
