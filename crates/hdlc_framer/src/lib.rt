@@ -11,11 +11,13 @@ mod deframer;
 mod event;
 mod laws;
 mod line;
+mod stuffing;
 
 pub use check_sequence::fcs;
 pub use deframer::Deframer;
 pub use event::Event;
 pub use laws::one_frame_ends;
+pub use stuffing::stuff;
 
 #[cfg(test)]
 mod tests;
