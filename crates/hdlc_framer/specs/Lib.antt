@@ -9,3 +9,4 @@ pub mod Register
 pub mod Packed
 pub mod Counted
 pub mod Body
+pub mod Division
