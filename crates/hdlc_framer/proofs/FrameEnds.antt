@@ -153,6 +153,31 @@ pub frame_told : (bits : List Bool) (bit : Bool) (octets : List ℕ) → EndsFra
 frame_told bits true octets ends = absurd (no_frame_on_one bits octets ends)
 frame_told bits false octets ends = (refl, ends_on_zero bits (frame_flag (bits ++ false ∷ []) octets ends), closes_frame bits octets ends)
 
+-- a flag ends with a 0, and an abort with a 1
+flag_no_abort : (bits : List Bool) → EndsFlag bits → ¬ EndsAbort bits
+flag_no_abort bits ends abort =
+    let here : bits ≡ (ends.0 ++ flag_front) ++ false ∷ [] = ends.1 ∙ sym (append_assoc ends.0 flag_front (false ∷ [])) in
+    omega (arith, run-push_zero (ends.0 ++ flag_front), ap run_of_ones here, abort)
+
+-- One event comes with a bit.
+pub one_event : (bits : List Bool) (event other : Event) → EventAt bits event → EventAt bits other → event ≡ other
+one_event bits NoEvent NoEvent e f = refl
+one_event bits NoEvent Flag e f = absurd (e.0 f.0)
+one_event bits NoEvent Abort e f = absurd (e.1 f)
+one_event bits NoEvent Frame e f = absurd (e.0 (frame_flag bits f.0 f.1))
+one_event bits Flag NoEvent e f = absurd (f.0 e.0)
+one_event bits Flag Flag e f = refl
+one_event bits Flag Abort e f = absurd (flag_no_abort bits e.0 f)
+one_event bits Flag Frame e f = absurd (e.1 f.0 f.1)
+one_event bits Abort NoEvent e f = absurd (f.1 e)
+one_event bits Abort Flag e f = absurd (flag_no_abort bits f.0 e)
+one_event bits Abort Abort e f = refl
+one_event bits Abort Frame e f = absurd (flag_no_abort bits (frame_flag bits f.0 f.1) e)
+one_event bits Frame NoEvent e f = absurd (f.0 (frame_flag bits e.0 e.1))
+one_event bits Frame Flag e f = absurd (f.1 e.0 e.1)
+one_event bits Frame Abort e f = absurd (flag_no_abort bits (frame_flag bits e.0 e.1) f)
+one_event bits Frame Frame e f = refl
+
 -- A frame that ends here is one frame: equal octets, behind the same earlier flag.
 pub one_frame : (bits : List Bool) (octets others : List ℕ) → EndsFrame bits octets → EndsFrame bits others → octets ≡ others
 one_frame bits octets others ends others_end =

@@ -3,12 +3,21 @@
 ghost use Rattle.std.specs.Prelude.{◌≡◌, ◌≤◌, ◌↔◌, ℕ, Bool, List, length};
 ghost use Rattle.hdlc_framer.specs.CheckSequence.{remainder};
 ghost use Rattle.hdlc_framer.specs.Division.{IsRemainder};
+ghost use Rattle.hdlc_framer.specs.Events.{EventAt};
 ghost use Rattle.hdlc_framer.specs.Frames.{EndsFrame};
+
+use crate::event::Event;
 
 /// A frame that ends with a bit is one frame: no other octets end there, whatever earlier flag is taken.
 pub fn one_frame_ends()
     ensures { (bits : List Bool) → (octets : List ℕ) → (others : List ℕ)
         → EndsFrame bits octets → EndsFrame bits others → octets ≡ others }
+{}
+
+/// One event comes with a bit: so each of the four comes exactly where its own definition holds.
+pub fn one_event_comes()
+    ensures { (bits : List Bool) → (event : Event) → (other : Event)
+        → EventAt bits event → EventAt bits other → event ≡ other }
 {}
 
 /// The remainder of the check sequence is the one remainder of a division by x^16 + x^12 + x^5 + 1: a quotient exists

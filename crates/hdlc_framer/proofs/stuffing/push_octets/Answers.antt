@@ -1,4 +1,4 @@
-use Rattle.std.proofs.Common.{◌≡◌, ◌++◌, ◌+◌, ◌∷◌, [], get_or, take, ap, sym, ◌∙◌, arith}
+use Rattle.std.proofs.Common.{◌++◌, get_or, take, ap, sym, ◌∙◌, arith}
 use Rattle.std.proofs.lemmas.List.{take_more}
 use Rattle.hdlc_framer.specs.BitOrder.{octet_bits, sent_bits}
 use Rattle.hdlc_framer.specs.Counted.{stuffed_from, left_after}
