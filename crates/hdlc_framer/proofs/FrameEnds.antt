@@ -2,7 +2,7 @@
 use Rattle.std.proofs.Common.{◌≡◌, ℕ, ◌+◌, ◌-◌, ◌/◌, ◌%◌, ◌<◌, ◌≤◌, Bool, true, false, Some, List, [], ◌∷◌, ◌++◌, length, take, replicate, refl, ap, subst, ◌∙◌, sym, arith, length-append, append_assoc}
 use Rattle.std.specs.List.{All, fold}
 use Rattle.std.proofs.lemmas.Bool.{true≢false}
-use Rattle.std.proofs.lemmas.List.{same_from_push, take_at}
+use Rattle.std.proofs.lemmas.List.{append_cancel_right, same_from_push, take_at}
 use Rattle.std.proofs.lemmas.List.Elements.{All-append, All-cons, All-nil}
 use Rattle.std.proofs.lemmas.List.Sums.{fold-append}
 use Rattle.hdlc_framer.specs.Counted.{stuffed_from}
@@ -178,12 +178,16 @@ one_event bits Frame Flag e f = absurd (f.1 e.0 e.1)
 one_event bits Frame Abort e f = absurd (flag_no_abort bits (frame_flag bits e.0 e.1) f)
 one_event bits Frame Frame e f = refl
 
--- A frame that ends here is one frame: equal octets, behind the same earlier flag.
-pub one_frame : (bits : List Bool) (octets others : List ℕ) → EndsFrame bits octets → EndsFrame bits others → octets ≡ others
+-- A frame that ends here is one frame: equal octets, behind one earlier flag.
+pub one_frame : (bits : List Bool) (octets others : List ℕ) (ends : EndsFrame bits octets) (others_end : EndsFrame bits others) → (octets ≡ others) × (ends.0 ≡ others_end.0)
 one_frame bits octets others ends others_end =
     let front = frame_front ends.0 octets in
     let here : bits ≡ front ++ false ∷ [] = ends.1 ∙ sym (frame_front-push ends.0 octets) in
     let first = closes_frame front octets (subst (λ xs. EndsFrame xs octets) here ends) in
     let second = closes_frame front others (subst (λ xs. EndsFrame xs others) here others_end) in
     let both : Some (sent_bits (with_fcs octets) ++ flag_start) ≡ Some (sent_bits (with_fcs others) ++ flag_start) = sym first.content ∙ second.content in
-    same_frame octets others ends.2 others_end.2 cc
+    let same : octets ≡ others = same_frame octets others ends.2 others_end.2 cc in (
+      same,
+      append_cancel_right ends.0 others_end.0 (flag ++ (frame_bits octets ++ flag))
+          (sym ends.1 ∙ others_end.1 ∙ ap (λ xs. others_end.0 ++ (flag ++ (frame_bits xs ++ flag))) (sym same)),
+    )

@@ -8,10 +8,12 @@ ghost use Rattle.hdlc_framer.specs.Frames.{EndsFrame};
 
 use crate::event::Event;
 
-/// A frame that ends with a bit is one frame: no other octets end there, whatever earlier flag is taken.
+/// A frame that ends with a bit is one frame: whatever earlier flag is taken, the octets are the same, and so is the
+/// flag.
 pub fn one_frame_ends()
     ensures { (bits : List Bool) → (octets : List ℕ) → (others : List ℕ)
-        → EndsFrame bits octets → EndsFrame bits others → octets ≡ others }
+        → (ends : EndsFrame bits octets) → (others_end : EndsFrame bits others)
+        → (octets ≡ others) × (ends.0 ≡ others_end.0) }
 {}
 
 /// One event comes with a bit: so each of the four comes exactly where its own definition holds.
