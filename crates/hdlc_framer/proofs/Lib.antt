@@ -6,3 +6,4 @@ pub mod FrameEnds
 pub mod PackedLemmas
 pub mod DeframerLemmas
 pub mod StuffLemmas
+mod Examples
