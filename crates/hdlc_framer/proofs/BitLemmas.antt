@@ -1,10 +1,10 @@
 -- Octets and numbers read back from their bits.
-use Rattle.std.proofs.Common.{◌≡◌, ℕ, zero, suc, ◌+◌, ◌*◌, ◌/◌, ◌%◌, ◌^◌, ◌<◌, Bool, true, false, eqb, bit_or, List, [], ◌∷◌, ◌++◌, length, refl, ap, ◌∙◌, sym, inl, inr, arith, length-append, append_assoc, append-nil, add-one}
+use Rattle.std.proofs.Common.{◌≡◌, ℕ, zero, suc, ◌+◌, ◌*◌, ◌/◌, ◌%◌, ◌^◌, ◌<◌, Bool, true, false, eqb, bit_and, bit_or, List, [], ◌∷◌, ◌++◌, length, refl, ap, ◌∙◌, sym, inl, inr, arith, length-append, append_assoc, append-nil, add-one}
 use Rattle.std.proofs.Math.Nat.{pow-suc}
 use Rattle.std.specs.List.{All}
 use Rattle.std.proofs.lemmas.Bool.{cases_Bool, eq-eqb, ne_eqb, eqb-true, eqb-false}
 use Rattle.std.proofs.lemmas.List.Concat.{flat_map-append}
-use Rattle.std.proofs.lemmas.Nat.{one_shl, or_comm, or_shifted}
+use Rattle.std.proofs.lemmas.Nat.{and_mask, one_shl, or_comm, or_shifted, shr-shr}
 use Rattle.std.proofs.lemmas.List.Elements.{All-head, All-tail}
 use Rattle.hdlc_framer.specs.BitOrder.{low_bits, octet_bits, sent_bits, number_of}
 
@@ -121,3 +121,17 @@ unfolding octet_bits
 packed_octet octets part octet bit whole =
     append-nil (sent_bits (octets ++ octet ∷ [])) ∙ flat_map-append octet_bits octets (octet ∷ []) ∙ ap (λ xs. sent_bits octets ++ xs) (append-nil (low_bits 8 octet) ∙ whole)
     ∙ sym (append_assoc (sent_bits octets) (low_bits 7 part) (bit ∷ []))
+
+-- one bit more of a number
+pub low_bits-more : (count n : ℕ) → low_bits (count + 1) n ≡ low_bits count n ++ eqb (bit_and (n / 2 ^ count) 1) 1 ∷ []
+low_bits-more count n = ap (λ m. low_bits m n) (add-one count) ∙ more count n
+  where
+    more : (count n : ℕ) → low_bits (suc count) n ≡ low_bits count n ++ eqb (bit_and (n / 2 ^ count) 1) 1 ∷ []
+    more zero n = ap (λ m. eqb m 1 ∷ []) (omega arith ∙ sym (and_mask (n / 2 ^ 0) 1))
+    more (suc count) n =
+        let same : n / 2 / 2 ^ count ≡ n / 2 ^ suc count = shr-shr n 1 count ∙ ap (λ m. n / 2 ^ m) (omega arith) in
+        ap (λ xs. eqb (n % 2) 1 ∷ xs) (more count (n / 2)) ∙ ap (λ m. eqb (n % 2) 1 ∷ (low_bits count (n / 2) ++ eqb (bit_and m 1) 1 ∷ [])) same
+
+-- one octet more
+pub sent_bits-push : (octets : List ℕ) (octet : ℕ) → sent_bits (octets ++ octet ∷ []) ≡ sent_bits octets ++ octet_bits octet
+sent_bits-push octets octet = flat_map-append octet_bits octets (octet ∷ []) ∙ ap (λ xs. sent_bits octets ++ xs) (append-nil (octet_bits octet))

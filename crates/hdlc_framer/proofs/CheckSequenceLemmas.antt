@@ -1,5 +1,5 @@
 -- The frame check sequence as a register of 16 bits that takes one bit, or one octet, at a time.
-use Rattle.std.proofs.Common.{◌≡◌, ℕ, zero, suc, ◌+◌, ◌-◌, ◌*◌, ◌/◌, ◌%◌, ◌^◌, ◌<◌, ◌≤◌, Bool, true, false, not, cond, eqb, bit_xor, List, [], ◌∷◌, ◌++◌, map, length, take, drop, replicate, refl, ap, subst, ◌∙◌, sym, inl, inr, arith, length-append}
+use Rattle.std.proofs.Common.{◌≡◌, ◌↔◌, ℕ, zero, suc, ◌+◌, ◌-◌, ◌*◌, ◌/◌, ◌%◌, ◌^◌, ◌<◌, ◌≤◌, Bool, true, false, not, cond, eqb, bit_xor, List, [], ◌∷◌, ◌++◌, map, length, take, drop, replicate, refl, ap, subst, ◌∙◌, sym, inl, inr, arith, length-append}
 use Rattle.std.specs.List.{fold}
 use Rattle.std.specs.Int.Bits.{xor_zero_l, xor_zero_r}
 use Rattle.std.proofs.Math.Nat.{pow-suc}
@@ -10,6 +10,7 @@ use Rattle.std.proofs.lemmas.Nat.{xor_block, xor_comm, xor_mod, xor_shr}
 use lib.Bits.{xor_assoc}
 use Rattle.hdlc_framer.specs.BitOrder.{low_bits, octet_bits, sent_bits, number_of}
 use Rattle.hdlc_framer.specs.CheckSequence.{plus, add_front, generator_rest, divide, remainder, invert_front, fcs_of}
+use Rattle.hdlc_framer.specs.Division.{times_generator, IsRemainder}
 use Rattle.hdlc_framer.specs.Register.{generator_number, shifted, step_of, bit_number, after_bit, after_octet}
 use Rattle.hdlc_framer.proofs.BitLemmas.{number_of-lt}
 
@@ -83,9 +84,8 @@ add_front-push [] (b ∷ p) short = refl
 add_front-push (a ∷ r) [] short = refl
 add_front-push (a ∷ r) (b ∷ p) short = ap (λ xs. plus a b ∷ xs) (add_front-push r p (omega arith))
 
-add_front-add_front : (q r p : List Bool) → length q ≡ length r → add_front q (add_front r p) ≡ add_front (add_front q r) p
-add_front-add_front [] [] p size = refl
-add_front-add_front [] (b ∷ r) p size = absurd (omega arith)
+add_front-add_front : (q r p : List Bool) → length q ≤ length r → add_front q (add_front r p) ≡ add_front (add_front q r) p
+add_front-add_front [] r p size = refl
 add_front-add_front (a ∷ q) [] p size = absurd (omega arith)
 add_front-add_front (a ∷ q) (b ∷ r) [] size = refl
 add_front-add_front (a ∷ q) (b ∷ r) (c ∷ p) size =
@@ -123,6 +123,73 @@ remainder-register bits =
     let size : length p ≡ length bits + 16 = length-append bits (replicate 16 false) in
     let steps : length (invert_front p) - 16 ≡ length bits = omega (arith, length-invert_front p) in
     ap (λ n. divide n (invert_front p)) steps ∙ ap (divide (length bits)) (invert_front-is 16 p (omega arith)) ∙ divide-register bits (replicate 16 true) refl
+
+-- ---- the remainder is that of a division
+
+plus-twice : (a b : Bool) → plus a (plus a b) ≡ b
+plus-twice false b = refl
+plus-twice true false = refl
+plus-twice true true = refl
+
+add_front-twice : (q p : List Bool) → add_front q (add_front q p) ≡ p
+add_front-twice [] p = refl
+add_front-twice (a ∷ q) [] = refl
+add_front-twice (a ∷ q) (b ∷ p) = ap (λ x. x ∷ add_front q (add_front q p)) (plus-twice a b) ∙ ap (λ xs. b ∷ xs) (add_front-twice q p)
+
+zeros-add_front : (n : ℕ) (p : List Bool) → add_front (replicate n false) p ≡ p
+zeros-add_front zero p = refl
+zeros-add_front (suc n) [] = refl
+zeros-add_front (suc n) (b ∷ p) = ap (λ xs. b ∷ xs) (zeros-add_front n p)
+
+length-times_generator : (q : List Bool) → length (times_generator q) ≡ length q + 16
+length-times_generator [] = refl
+length-times_generator (false ∷ q) = omega (arith, length-times_generator q)
+length-times_generator (true ∷ q) = omega (arith, length-times_generator q, length-add_front generator_rest (times_generator q))
+
+-- a quotient times the generator, and a remainder
+abbrev with_remainder : List Bool → List Bool → List Bool
+with_remainder q r = add_front (times_generator q) (replicate (length q) false ++ r)
+
+-- the generator added once more where the quotient begins with 1
+with_generator : (q r : List Bool) → add_front generator_rest (with_remainder q r) ≡ add_front (add_front generator_rest (times_generator q)) (replicate (length q) false ++ r)
+with_generator q r = add_front-add_front generator_rest (times_generator q) (replicate (length q) false ++ r) (omega (arith, length-times_generator q))
+
+divide-quotient : (steps : ℕ) (p : List Bool) → length p ≡ steps + 16 → (q : List Bool) × (length q ≡ steps) × (p ≡ with_remainder q (divide steps p))
+divide-quotient zero p size = ([], refl, sym (zeros-add_front 16 p))
+divide-quotient (suc steps) [] size = absurd (omega arith)
+divide-quotient (suc steps) (false ∷ p) size =
+    let rest = divide-quotient steps p (omega arith) in
+    (false ∷ rest.0, ap suc rest.1, ap (λ xs. false ∷ xs) rest.2)
+divide-quotient (suc steps) (true ∷ p) size =
+    let rest = divide-quotient steps (add_front generator_rest p) (omega (arith, length-add_front generator_rest p)) in (
+      true ∷ rest.0,
+      ap suc rest.1,
+      ap (λ xs. true ∷ xs) (sym (add_front-twice generator_rest p) ∙ ap (add_front generator_rest) rest.2 ∙ with_generator rest.0 (divide steps (add_front generator_rest p))),
+    )
+
+divide-with_remainder : (q r : List Bool) → length r ≡ 16 → divide (length q) (with_remainder q r) ≡ r
+divide-with_remainder [] r size = zeros-add_front 16 r
+divide-with_remainder (false ∷ q) r size = divide-with_remainder q r size
+divide-with_remainder (true ∷ q) r size =
+    ap (divide (length q)) (ap (add_front generator_rest) (sym (with_generator q r)) ∙ add_front-twice generator_rest (with_remainder q r)) ∙ divide-with_remainder q r size
+
+-- There is one remainder, and the definition computes it.
+pub remainder-is : (p r : List Bool) → 16 ≤ length p → IsRemainder p r ↔ (r ≡ remainder p)
+remainder-is p r least = (one, found)
+  where
+    one : IsRemainder p r → r ≡ remainder p
+    one is =
+        let q = is.quotient.0 in
+        let steps : length q ≡ length p - 16 = omega (arith, is.quotient.1) in
+        sym (divide-with_remainder q r is.size) ∙ ap (divide (length q)) (sym is.quotient.2) ∙ ap (λ n. divide n p) steps
+
+    found : r ≡ remainder p → IsRemainder p r
+    found same =
+        let rest = divide-quotient (length p - 16) p (omega arith) in
+        record {
+          size = ap length same ∙ length-divide (length p - 16) p ∙ omega arith;
+          quotient = (rest.0, omega (arith, rest.1), rest.2 ∙ ap (with_remainder rest.0) (sym same));
+        }
 
 -- ---- on numbers
 

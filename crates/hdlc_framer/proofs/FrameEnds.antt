@@ -2,9 +2,10 @@
 use Rattle.std.proofs.Common.{◌≡◌, ℕ, ◌+◌, ◌-◌, ◌/◌, ◌%◌, ◌<◌, ◌≤◌, Bool, true, false, Some, List, [], ◌∷◌, ◌++◌, length, take, replicate, refl, ap, subst, ◌∙◌, sym, arith, length-append, append_assoc}
 use Rattle.std.specs.List.{All, fold}
 use Rattle.std.proofs.lemmas.Bool.{true≢false}
-use Rattle.std.proofs.lemmas.List.{same_from_push, take_at}
+use Rattle.std.proofs.lemmas.List.{append_cancel_right, same_from_push, take_at}
 use Rattle.std.proofs.lemmas.List.Elements.{All-append, All-cons, All-nil}
 use Rattle.std.proofs.lemmas.List.Sums.{fold-append}
+use Rattle.hdlc_framer.specs.Counted.{stuffed_from}
 use Rattle.hdlc_framer.specs.declared.event.Event.{Event}
 use Rattle.hdlc_framer.specs.declared.event.Event.TheVariants.{None as NoEvent, Flag, Abort, Frame}
 use Rattle.hdlc_framer.specs.BitOrder.{sent_bits}
@@ -16,7 +17,6 @@ use Rattle.hdlc_framer.specs.Held.{next_line, new_line, line_after, flag_start}
 use Rattle.hdlc_framer.specs.LineEvents.{ClosesFrame, EndsOnZero, LineEvent}
 use Rattle.hdlc_framer.proofs.BitLemmas.{length-sent_bits, same_octets}
 use Rattle.hdlc_framer.proofs.CheckSequenceLemmas.{fcs_of-lt}
-use Rattle.hdlc_framer.proofs.StuffingLemmas.{stuffed_from}
 use Rattle.hdlc_framer.proofs.Lines.{flag_front, five_bits, stuffed_five, over_frame, Raw, few, five, six, told_after, run-push_one, run-push_zero}
 
 pub line_after-append : (bits more : List Bool) → line_after (bits ++ more) ≡ fold next_line (line_after bits) more
@@ -153,12 +153,41 @@ pub frame_told : (bits : List Bool) (bit : Bool) (octets : List ℕ) → EndsFra
 frame_told bits true octets ends = absurd (no_frame_on_one bits octets ends)
 frame_told bits false octets ends = (refl, ends_on_zero bits (frame_flag (bits ++ false ∷ []) octets ends), closes_frame bits octets ends)
 
--- A frame that ends here is one frame: equal octets, behind the same earlier flag.
-pub one_frame : (bits : List Bool) (octets others : List ℕ) → EndsFrame bits octets → EndsFrame bits others → octets ≡ others
+-- a flag ends with a 0, and an abort with a 1
+flag_no_abort : (bits : List Bool) → EndsFlag bits → ¬ EndsAbort bits
+flag_no_abort bits ends abort =
+    let here : bits ≡ (ends.0 ++ flag_front) ++ false ∷ [] = ends.1 ∙ sym (append_assoc ends.0 flag_front (false ∷ [])) in
+    omega (arith, run-push_zero (ends.0 ++ flag_front), ap run_of_ones here, abort)
+
+-- One event comes with a bit.
+pub one_event : (bits : List Bool) (event other : Event) → EventAt bits event → EventAt bits other → event ≡ other
+one_event bits NoEvent NoEvent e f = refl
+one_event bits NoEvent Flag e f = absurd (e.0 f.0)
+one_event bits NoEvent Abort e f = absurd (e.1 f)
+one_event bits NoEvent Frame e f = absurd (e.0 (frame_flag bits f.0 f.1))
+one_event bits Flag NoEvent e f = absurd (f.0 e.0)
+one_event bits Flag Flag e f = refl
+one_event bits Flag Abort e f = absurd (flag_no_abort bits e.0 f)
+one_event bits Flag Frame e f = absurd (e.1 f.0 f.1)
+one_event bits Abort NoEvent e f = absurd (f.1 e)
+one_event bits Abort Flag e f = absurd (flag_no_abort bits f.0 e)
+one_event bits Abort Abort e f = refl
+one_event bits Abort Frame e f = absurd (flag_no_abort bits (frame_flag bits f.0 f.1) e)
+one_event bits Frame NoEvent e f = absurd (f.0 (frame_flag bits e.0 e.1))
+one_event bits Frame Flag e f = absurd (f.1 e.0 e.1)
+one_event bits Frame Abort e f = absurd (flag_no_abort bits (frame_flag bits e.0 e.1) f)
+one_event bits Frame Frame e f = refl
+
+-- A frame that ends here is one frame: equal octets, behind one earlier flag.
+pub one_frame : (bits : List Bool) (octets others : List ℕ) (ends : EndsFrame bits octets) (others_end : EndsFrame bits others) → (octets ≡ others) × (ends.0 ≡ others_end.0)
 one_frame bits octets others ends others_end =
     let front = frame_front ends.0 octets in
     let here : bits ≡ front ++ false ∷ [] = ends.1 ∙ sym (frame_front-push ends.0 octets) in
     let first = closes_frame front octets (subst (λ xs. EndsFrame xs octets) here ends) in
     let second = closes_frame front others (subst (λ xs. EndsFrame xs others) here others_end) in
     let both : Some (sent_bits (with_fcs octets) ++ flag_start) ≡ Some (sent_bits (with_fcs others) ++ flag_start) = sym first.content ∙ second.content in
-    same_frame octets others ends.2 others_end.2 cc
+    let same : octets ≡ others = same_frame octets others ends.2 others_end.2 cc in (
+      same,
+      append_cancel_right ends.0 others_end.0 (flag ++ (frame_bits octets ++ flag))
+          (sym ends.1 ∙ others_end.1 ∙ ap (λ xs. others_end.0 ++ (flag ++ (frame_bits xs ++ flag))) (sym same)),
+    )

@@ -5,3 +5,5 @@ pub mod CheckSequenceLemmas
 pub mod FrameEnds
 pub mod PackedLemmas
 pub mod DeframerLemmas
+pub mod StuffLemmas
+mod Examples

@@ -4,10 +4,11 @@ use Rattle.std.specs.List.{prefix_len}
 use Rattle.std.proofs.lemmas.Bool.{cond-true, cond-false, lt-ltb, le-ltb, eq-eqb, ne_eqb, cases_lt, cases_eq, cases_Bool, and_parts, eqb-true, false≢true}
 use Rattle.std.proofs.lemmas.List.Sums.{fold-append}
 use Rattle.std.proofs.lemmas.List.{length_push, reverse-append, replicate_more}
+use Rattle.hdlc_framer.specs.Counted.{stuffed_from, left_after}
 use Rattle.hdlc_framer.specs.Stuffing.{flag, stuffed}
 use Rattle.hdlc_framer.specs.Frames.{run_of_ones}
 use Rattle.hdlc_framer.specs.Held.{Line, longer, next_line, new_line, open_line, line_after, flag_start, content_after_one, content_after_zero}
-use Rattle.hdlc_framer.proofs.StuffingLemmas.{stuffed_from, left_after, stuffed_is, stuffed_from-append, left_after-append}
+use Rattle.hdlc_framer.proofs.StuffingLemmas.{stuffed_is, stuffed_from-append, left_after-append}
 
 -- ---- one bit more
 

@@ -1,20 +1,7 @@
--- Inserted zeros, counted: how many more 1s may come before the next one.
+-- Inserted zeros, counted, are those of the definition.
 use Rattle.std.proofs.Common.{◌≡◌, ℕ, zero, suc, ◌+◌, ◌≤◌, Bool, true, false, List, [], ◌∷◌, ◌++◌, refl, ap, subst, ◌∙◌, sym, arith}
+use Rattle.hdlc_framer.specs.Counted.{stuffed_from, left_after}
 use Rattle.hdlc_framer.specs.Stuffing.{stuffed}
-
--- bits with inserted zeros where so many more 1s may come before the fifth of a run
-abbrev pub stuffed_from : List Bool → ℕ → List Bool
-stuffed_from [] left = []
-stuffed_from (false ∷ bits) left = false ∷ stuffed_from bits 4
-stuffed_from (true ∷ bits) zero = true ∷ false ∷ stuffed_from bits 4
-stuffed_from (true ∷ bits) (suc left) = true ∷ stuffed_from bits left
-
--- how many may come afterwards
-abbrev pub left_after : List Bool → ℕ → ℕ
-left_after [] left = left
-left_after (false ∷ bits) left = left_after bits 4
-left_after (true ∷ bits) zero = left_after bits 4
-left_after (true ∷ bits) (suc left) = left_after bits left
 
 -- so many 1s and then the bits
 abbrev ones_before : ℕ → List Bool → List Bool

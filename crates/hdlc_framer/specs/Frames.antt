@@ -20,8 +20,7 @@ unfoldable pub frame_bits : List ℕ → List Bool
 frame_bits octets = stuffed (sent_bits (with_fcs octets))
 
 -- A frame ends with the last bit: the last eight bits are a flag, an earlier flag ends before the first of them, and
--- the bits between the two are those of the frame. No flag stands inside a frame's bits, so the earlier flag is the
--- last one before, and at most one frame ends with a bit.
+-- the bits between the two are those of the frame. Any earlier flag will do: it is a law of this crate that no two fit.
 abbrev pub EndsFrame : List Bool → List ℕ → Type 0
 EndsFrame bits octets =
     (before : List Bool) × (bits ≡ before ++ (flag ++ (frame_bits octets ++ flag))) × IsFrame octets

@@ -12,7 +12,7 @@ pub record Line : Type 0 where
   pub after_zero : Bool
   pub content : Option (List Bool)
 
--- content and one bit; a longest frame, the six bits of a flag and one bit are too many
+-- content and one bit more; 1026 octets, the first six bits of a flag and one bit are the most that is kept
 abbrev pub longer : Option (List Bool) → Bool → Option (List Bool)
 longer None bit = None
 longer (Some content) bit = if nat_lt (length content) 8215 then Some (content ++ bit ∷ []) else None

@@ -7,3 +7,6 @@ pub mod Events
 pub mod LineEvents
 pub mod Register
 pub mod Packed
+pub mod Counted
+pub mod Body
+pub mod Division

@@ -1,10 +1,30 @@
 // Laws on the definitions. A law is the contract of a function that does nothing.
 
-ghost use Rattle.std.specs.Prelude.{◌≡◌, ℕ, Bool, List};
+ghost use Rattle.std.specs.Prelude.{◌≡◌, ◌≤◌, ◌↔◌, ℕ, Bool, List, length};
+ghost use Rattle.hdlc_framer.specs.CheckSequence.{remainder};
+ghost use Rattle.hdlc_framer.specs.Division.{IsRemainder};
+ghost use Rattle.hdlc_framer.specs.Events.{EventAt};
 ghost use Rattle.hdlc_framer.specs.Frames.{EndsFrame};
 
-/// A frame that ends with a bit is one frame: no other octets end there, whatever earlier flag is taken.
+use crate::event::Event;
+
+/// A frame that ends with a bit is one frame: whatever earlier flag is taken, the octets are the same, and so is the
+/// flag.
 pub fn one_frame_ends()
     ensures { (bits : List Bool) → (octets : List ℕ) → (others : List ℕ)
-        → EndsFrame bits octets → EndsFrame bits others → octets ≡ others }
+        → (ends : EndsFrame bits octets) → (others_end : EndsFrame bits others)
+        → (octets ≡ others) × (ends.0 ≡ others_end.0) }
+{}
+
+/// One event comes with a bit: so each of the four comes exactly where its own definition holds.
+pub fn one_event_comes()
+    ensures { (bits : List Bool) → (event : Event) → (other : Event)
+        → EventAt bits event → EventAt bits other → event ≡ other }
+{}
+
+/// The remainder of the check sequence is the one remainder of a division by x^16 + x^12 + x^5 + 1: a quotient exists
+/// for it, and for no other.
+pub fn remainder_is_of_division()
+    ensures { (p : List Bool) → (r : List Bool) → 16 ≤ length p
+        → (IsRemainder p r ↔ (r ≡ remainder p)) }
 {}

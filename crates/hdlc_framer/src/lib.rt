@@ -1,8 +1,8 @@
-//! Frames between flags on a line of bits, as HDLC and AX.25 send them.
+//! Frames between flags on a line of bits, as HDLC and AX.25 send them (ISO/IEC 3309, AX.25 2.2 section 3).
 //!
-//! The frame check sequence, the zeros inserted after five 1s, flags and aborts, after ISO/IEC 3309 and AX.25 2.2,
-//! section 3. A `Deframer` takes bits one by one and tells exactly where a flag, an abort or a whole frame of 15 to
-//! 1024 octets with a right check sequence ends, however the bits are split into calls.
+//! The frame check sequence is a division of polynomials; a 0 follows every five 1s of a frame, so that no flag stands
+//! inside it. `stuff` gives the bits of a transmission. A `Deframer` takes bits one by one and tells exactly where a
+//! flag, an abort or a frame of 15 to 1024 octets with a right check sequence ends, however the bits are cut up.
 #![tactic(auto)]
 
 mod check_sequence;
@@ -11,11 +11,13 @@ mod deframer;
 mod event;
 mod laws;
 mod line;
+mod stuffing;
 
 pub use check_sequence::fcs;
 pub use deframer::Deframer;
 pub use event::Event;
-pub use laws::one_frame_ends;
+pub use laws::{one_event_comes, one_frame_ends, remainder_is_of_division};
+pub use stuffing::stuff;
 
 #[cfg(test)]
 mod tests;

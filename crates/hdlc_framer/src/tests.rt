@@ -1,9 +1,10 @@
 // Values from outside, and a slow program that reads the definitions on whole lists of bits.
 
-use super::{Deframer, Event, fcs};
+use super::{Deframer, Event, fcs, stuff};
 use std::alloc::{AllocError, Global};
 use std::process::Abort;
 use std::test::Fail;
+use tnc_base::Octets;
 
 const FLAG: [bool; 8] = [false, true, true, true, true, true, true, false];
 
@@ -337,5 +338,25 @@ fn one_bit_changed(rt: HostRuntime) -> Result<(), Fail> {
             "bit {at}"
         );
     }
+    Ok(())
+}
+
+#[test]
+fn transmissions(rt: HostRuntime) -> Result<(), Fail> {
+    let longer = frame_of(rt.alloc(), 99, 4)?;
+    let mut frames = Vec::new(rt.alloc());
+    assert_eq!(rt; stuff(rt.alloc(), frames.as_slice(), 3, 2)?.len(), 40);
+    frames.push(Octets::from_slice(rt.alloc(), &SHORTEST)?)?;
+    let one = stuff(rt.alloc(), frames.as_slice(), 2, 1)?;
+    assert_eq!(rt; one.len(), 162);
+    assert_eq!(rt;
+        one.as_slice(),
+        sent(rt.alloc(), &[&SHORTEST], 2, 1)?.as_slice()
+    );
+    frames.push(Octets::from_slice(rt.alloc(), longer.as_slice())?)?;
+    frames.push(Octets::from_slice(rt.alloc(), &SHORTEST)?)?;
+    let all = stuff(rt.alloc(), frames.as_slice(), 1, 4)?;
+    let want = sent(rt.alloc(), &[&SHORTEST, longer.as_slice(), &SHORTEST], 1, 4)?;
+    assert_eq!(rt; all.as_slice(), want.as_slice());
     Ok(())
 }

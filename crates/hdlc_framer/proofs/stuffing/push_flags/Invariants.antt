@@ -1,0 +1,6 @@
+use Rattle.std.proofs.Common.{◌≡◌, ◌++◌}
+use Rattle.hdlc_framer.specs.Body.{flags}
+use Rattle.hdlc_framer.proofs.stuffing.push_flags.Given as goal
+
+abbrev pub invariant-loop : goal.invariant-loop
+invariant-loop l = l.bits.items ≡ l.initial.bits.items ++ flags l.counter
