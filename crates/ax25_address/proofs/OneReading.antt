@@ -4,6 +4,7 @@ use Rattle.std.proofs.lemmas.List.{ext_get_or, same_lists, length-take-le}
 use Rattle.std.proofs.lemmas.Bool.{cases_lt}
 use Rattle.std.proofs.lemmas.Bool.Decides.{nat_tests}
 use Rattle.ax25_address.specs.Callsign.{Callsign}
+use Rattle.ax25_address.specs.SameCall.{call_same}
 use Rattle.ax25_address.specs.AddressField.{bit, ssid_octet, IsField}
 use Rattle.ax25_address.specs.FramePath.{field_at, IsPath, BeginsWithPath, repeater_count, destination_bit, source_bit}
 use Rattle.ax25_address.specs.PathFault.{GoesOn, GoesOnFor, ShowsFault}
@@ -22,11 +23,6 @@ bit_same true true e = refl
 bit_same false false e = refl
 bit_same true false e = absurd (omega arith)
 bit_same false true e = absurd (omega arith)
-
-call_same : (a b : Callsign) → a.name ≡ b.name → a.ssid ≡ b.ssid → a ≡ b
-call_same a b name ssid =
-    let call : List ℕ → ℕ → Callsign = λ n s. record { name = n; ssid = s } in
-    ap (λ n. call n a.ssid) name ∙ ap (λ s. call b.name s) ssid
 
 -- a name that ends earlier has a space where the other has a character
 not_shorter : (a b : Callsign) (ta la tb lb : Bool) (octets : List ℕ) → IsField a ta la octets → IsField b tb lb octets → length a.name < length b.name → ⊥

@@ -2,6 +2,7 @@ pub mod Callsign
 pub mod Held
 pub mod Kept
 pub mod CallText
+pub mod SameCall
 pub mod AddressField
 pub mod FramePath
 pub mod PathFault
