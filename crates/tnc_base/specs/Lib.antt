@@ -1,0 +1,4 @@
+pub mod Faults
+pub mod Hash
+pub mod InMemory
+pub mod Streams

@@ -1,0 +1,15 @@
+-- What a read takes out of a source and what a write adds to a sink, where these tell their octets.
+use Rattle.std.specs.Prelude.{◌≡◌, ℕ, ◌<◌, ◌≤◌, List, [], ◌++◌, length, take, drop, Some}
+use Rattle.std.specs.declared.option.Option.{Option}
+
+-- A read answered count: so many octets moved from the front of the octets to the front of the buffer.
+pub record Gives (octets : List ℕ) (left : Option (List ℕ)) (buffer : List ℕ) (count : ℕ) : Type 0 where
+  pub enough : count ≤ length octets
+  pub front : take count buffer ≡ take count octets
+  pub rest : left ≡ Some (drop count octets)
+  -- no octet for a buffer with room: the end of input
+  pub end : count ≡ 0 → 0 < length buffer → octets ≡ []
+
+-- The sink had these octets before, and now a first part of the text behind them.
+abbrev pub WrotePart : List ℕ → List ℕ → Option (List ℕ) → Type 0
+WrotePart before text now = (part : List ℕ) × (rest : List ℕ) × (text ≡ part ++ rest) × (now ≡ Some (before ++ part))
