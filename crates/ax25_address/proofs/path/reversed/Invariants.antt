@@ -1,0 +1,6 @@
+use Rattle.std.proofs.Common.{◌≡◌, map, take, reverse}
+use Rattle.ax25_address.specs.FramePath.{undone}
+use Rattle.ax25_address.proofs.path.reversed.Given as goal
+
+abbrev pub invariant-loop-k : goal.invariant-loop-k
+invariant-loop-k l = l.repeaters.items ≡ map undone (take l.k (reverse l.hops))

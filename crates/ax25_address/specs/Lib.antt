@@ -1,0 +1,10 @@
+pub mod Callsign
+pub mod Held
+pub mod Kept
+pub mod CallText
+pub mod SameCall
+pub mod AddressField
+pub mod FramePath
+pub mod PathFault
+pub mod FieldFault
+pub mod Repeaters
