@@ -1,6 +1,6 @@
 -- What merging leaves out, along a list in order, and which part of it ends below a position.
-use Rattle.std.proofs.Common.{◌≡◌, ℕ, ◌+◌, ◌*◌, ◌<◌, ◌≤◌, List, [], ◌∷◌, ◌++◌, Bool, true, false, not, ltb, leb, cond, length, get_or, refl, ap, sym, ◌∙◌, arith, take, drop, zero, suc, inl, inr, ◌&&◌, le_refl}
-use Rattle.std.specs.Prelude.{nat_lt, nat_le, if◌then◌else◌, filter}
+use Rattle.std.proofs.Common.{◌≡◌, ℕ, ◌*◌, ◌<◌, ◌≤◌, List, [], ◌∷◌, ◌++◌, true, false, cond, refl, ap, sym, ◌∙◌, arith, inl, inr, ◌&&◌}
+use Rattle.std.specs.Prelude.{nat_lt, nat_le, if◌then◌else◌}
 use Rattle.std.specs.List.{All, list_any}
 use Rattle.std.specs.List.Sorted.{IsNonDecreasingBy}
 use Rattle.std.proofs.Math.Seq.{append_snoc}
@@ -8,8 +8,8 @@ use Rattle.std.proofs.lemmas.Bool.{cases_lt, lt-ltb, le-ltb, le-leb, lt-leb}
 use Rattle.std.proofs.lemmas.List.{append-nil}
 use Rattle.std.proofs.lemmas.List.Elements.{All-cons, All-head, All-tail, All-nil, All-weaker}
 use Rattle.frame_merge.specs.declared.candidate.Candidate.{Candidate}
-use Rattle.frame_merge.specs.Order.{standing, place, in_order, IsInOrder}
-use Rattle.frame_merge.specs.Merged.{repeats, merged_after, merged, below, between}
+use Rattle.frame_merge.specs.Order.{standing, place}
+use Rattle.frame_merge.specs.Merged.{repeats, merged_after, below, between}
 use Rattle.frame_merge.proofs.Ordering.{place_here, place_behind, rising_tail, rising_head, rising_cons}
 
 -- merging goes along a list: what comes later is compared with all that came before

@@ -1,5 +1,5 @@
 -- What is taken from a merger: the merged candidates up to the least mark.
-use Rattle.std.proofs.Common.{◌≡◌, ℕ, ◌+◌, ◌-◌, ◌^◌, ◌<◌, ◌≤◌, List, [], ◌∷◌, ◌++◌, Bool, true, false, ◌&&◌, not, cond, ap, sym, ◌∙◌, arith, length, get_or, take, min, refl, zero, suc, replicate}
+use Rattle.std.proofs.Common.{◌≡◌, ℕ, ◌+◌, ◌-◌, ◌^◌, ◌<◌, ◌≤◌, List, [], ◌∷◌, ◌++◌, true, false, ◌&&◌, not, cond, ap, sym, ◌∙◌, arith, length, get_or, take, min, refl, zero, suc, replicate}
 use Rattle.std.specs.Prelude.{fold, nat_lt, nat_le, if◌then◌else◌}
 use Rattle.std.specs.List.{All, list_any}
 use Rattle.std.proofs.lemmas.Bool.{lt-ltb}

@@ -1,15 +1,15 @@
 -- The candidates of samples, with one sample more.
-use Rattle.std.proofs.Common.{◌≡◌, ℕ, ◌+◌, ◌*◌, ◌-◌, ◌/◌, ◌<◌, ◌≤◌, ℤ, Bool, List, [], ◌∷◌, ◌++◌, length, get_or, take, ap, sym, ◌∙◌, arith, refl, subst, length-append, inl, inr}
-use Rattle.std.specs.List.{All, AllPairs, Contains}
+use Rattle.std.proofs.Common.{◌≡◌, ℕ, ◌+◌, ◌-◌, ◌<◌, ◌≤◌, ℤ, List, [], ◌∷◌, ◌++◌, length, get_or, take, ap, sym, ◌∙◌, arith, subst, length-append, inl, inr}
+use Rattle.std.specs.List.{AllPairs, Contains}
 use Rattle.std.proofs.lemmas.Bool.{cases_lt}
 use Rattle.std.proofs.lemmas.List.{length_push, take-take, take_all, get_or_append_left, get_or-append-add}
 use Rattle.std.proofs.lemmas.List.Elements.{All-append, All-nil, Contains-append_left, Contains-append_right}
-use Rattle.offset_slicers.specs.Windows.{bits, windows_in, EndsWindow}
+use Rattle.offset_slicers.specs.Windows.{bits, windows_in}
 use Rattle.offset_slicers.proofs.WindowLemmas.{length-bits, bits-append}
 use Rattle.hdlc_framer.specs.Frames.{EndsFrame}
 use Rattle.frame_merge.specs.declared.candidate.Candidate.{Candidate}
 use Rattle.frame_merge.specs.Order.{standing}
-use Rattle.slicer_bank.specs.Candidates.{EndsAtBit, IsCandidate, AreCandidatesBehind, EndsWith}
+use Rattle.slicer_bank.specs.Candidates.{IsCandidate, AreCandidatesBehind, EndsWith}
 use Rattle.slicer_bank.specs.Heard.{candidate_at, AreHeard}
 
 -- a candidate ends within the samples

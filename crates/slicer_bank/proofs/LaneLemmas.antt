@@ -1,5 +1,5 @@
 -- What one sample gives a lane: no bit, or one bit and what that bit ends.
-use Rattle.std.proofs.Common.{◌≡◌, ℕ, ◌+◌, ◌*◌, ℤ, Bool, true, false, List, [], ◌∷◌, ◌++◌, length, ap, sym, ◌∙◌, arith, append_assoc, refl, subst}
+use Rattle.std.proofs.Common.{◌≡◌, ℕ, ℤ, Bool, true, false, List, [], ◌∷◌, ◌++◌, length, ap, sym, ◌∙◌, arith, append_assoc, refl, subst}
 use denote.Enum.Bare.{sameb}
 use Rattle.hdlc_framer.specs.contracts.event.Event.{the_type}
 use Rattle.offset_slicers.specs.Windows.{bits, EndsWindow}
@@ -9,7 +9,7 @@ use Rattle.hdlc_framer.proofs.DeframerLemmas.{test_by_frame}
 use Rattle.hdlc_framer.specs.declared.event.Event.{Event}
 use Rattle.hdlc_framer.specs.declared.event.Event.TheVariants.{None as NoEvent, Flag, Abort, Frame}
 use Rattle.hdlc_framer.specs.Stuffing.{flag}
-use Rattle.hdlc_framer.specs.Frames.{EndsFrame, EndsFlag, run_of_ones, frame_bits}
+use Rattle.hdlc_framer.specs.Frames.{EndsFrame, run_of_ones, frame_bits}
 use Rattle.hdlc_framer.specs.Events.{EventAt}
 use Rattle.hdlc_framer.proofs.Lines.{run-push_zero}
 use Rattle.hdlc_framer.proofs.FrameEnds.{frame_told}

@@ -1,9 +1,9 @@
 -- Two lists that strictly rise and have the same elements are the same.
-use Rattle.std.proofs.Common.{◌≡◌, ℕ, ◌+◌, ◌<◌, ◌≤◌, ℤ, List, [], ◌∷◌, length, get_or, ap, sym, ◌∙◌, arith, refl, subst, zero, suc}
-use Rattle.std.specs.List.{All, AllPairs, Contains}
+use Rattle.std.proofs.Common.{◌≡◌, ℕ, ◌<◌, ℤ, List, [], ◌∷◌, length, get_or, ap, sym, ◌∙◌, arith, refl, subst, zero, suc}
+use Rattle.std.specs.List.{AllPairs, Contains}
 use Rattle.frame_merge.specs.declared.candidate.Candidate.{Candidate}
 use Rattle.frame_merge.specs.Order.{standing}
-use Rattle.slicer_bank.specs.Candidates.{IsCandidate, AreCandidates}
+use Rattle.slicer_bank.specs.Candidates.{AreCandidates}
 
 abbrev Rises : List Candidate → Type 0
 Rises = AllPairs (λ item later. standing item < standing later)

@@ -1,5 +1,5 @@
 -- The text of an input is one text, and an input has no more samples than octets.
-use Rattle.std.proofs.Common.{◌≡◌, ℕ, ◌+◌, ◌≤◌, List, [], ◌∷◌, length, ap, sym, ◌∙◌, arith}
+use Rattle.std.proofs.Common.{◌≡◌, ℕ, ◌≤◌, List, [], ◌∷◌, length, ap, sym, ◌∙◌, arith}
 use Rattle.frame_merge.specs.Merged.{merged}
 use Rattle.slicer_bank.proofs.OneList.{one_list}
 use Rattle.tnc_main.specs.Decoded.{IsDecoded}

@@ -1,15 +1,13 @@
 -- Candidates put into a merger, one after another.
-use Rattle.std.proofs.Common.{◌≡◌, ℕ, ◌+◌, ◌-◌, ◌^◌, ◌<◌, ◌≤◌, List, [], ◌∷◌, ◌++◌, length, get_or, append_assoc, sym, subst, ◌∙◌, ap, arith, inl, inr, refl, length-append, ℤ}
+use Rattle.std.proofs.Common.{◌≡◌, ℕ, ◌+◌, ◌^◌, ◌<◌, List, [], ◌∷◌, ◌++◌, length, get_or, append_assoc, sym, subst, ◌∙◌, ap, arith, inl, inr, refl, length-append, ℤ}
 use Rattle.std.specs.List.{All, AllPairs}
-use Rattle.std.specs.List.Sorted.{IsNonDecreasingBy}
-use Rattle.std.proofs.lemmas.Bool.{cases_lt, cases_eq}
+use Rattle.std.proofs.lemmas.Bool.{cases_eq}
 use Rattle.std.proofs.lemmas.List.{append-nil, nil_from_length}
 use Rattle.std.proofs.Math.Seq.{get_or-append_seam}
 use Rattle.tnc_main.specs.Merging.{CanBePut}
 use Rattle.frame_merge.specs.declared.candidate.Candidate.{Candidate}
 use Rattle.frame_merge.specs.Held.{Held, StandsFor}
 use Rattle.frame_merge.specs.Order.{standing, in_order}
-use Rattle.frame_merge.specs.Merged.{merged}
 use Rattle.frame_merge.proofs.Ordering.{in_order-rising}
 use Rattle.slicer_bank.specs.Candidates.{AreCandidates}
 use Rattle.slicer_bank.proofs.CandidateLemmas.{end_within}

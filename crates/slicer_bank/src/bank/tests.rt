@@ -1,6 +1,6 @@
 //! A transmission in blocks of several lengths: the same candidates come, each with the block in which it ends.
 
-ghost use Rattle.std.specs.Prelude.{◌+◌, ◌<◌, ◌^◌, length};
+ghost use Rattle.std.specs.Prelude.{◌+◌, ◌<◌, ◌^◌, length as count};
 
 use super::Bank;
 use std::alloc::{AllocError, Global};
@@ -40,7 +40,7 @@ fn gives(
     second: &[i16],
     ends: &[(u64, u8)],
 ) -> Result<bool, OutOfMemory>
-    requires { length first.now + length second.now < 2 ^ 48 }
+    requires { count first.now + count second.now < 2 ^ 48 }
 {
     let mut bank = Bank::new(alloc)?;
     let mut found = bank.feed(first)?;
@@ -70,6 +70,38 @@ fn a_transmission_is_heard_alike_however_it_is_cut(rt: HostRuntime) -> Result<()
                 &[(1294, 6), (1295, 7), (1296, 0)]
             )?,
             "cut at {place}"
+        );
+    }
+    Ok(())
+}
+
+/// How many candidates come, where the samples come in blocks of one length.
+fn count_in_blocks(alloc: Global, samples: &[i16], length: usize) -> Result<usize, OutOfMemory>
+    requires some { 0 < length }
+    requires few { count samples.now < 2 ^ 32 }
+{
+    let mut bank = Bank::new(alloc)?;
+    let mut found = Vec::new(alloc);
+    let mut rest = samples;
+    while !rest.is_empty() {
+        let (block, after) = rest.split_at(length.min(rest.len()));
+        for item in bank.feed(block)? {
+            found.push(item)?;
+        }
+        rest = after;
+    }
+    Ok(found.len())
+}
+
+#[test]
+fn blocks_of_one_length_give_the_same_candidates(rt: HostRuntime) -> Result<(), Fail> {
+    let samples = transmission(rt.alloc())?;
+    assert_eq!(rt; samples.len(), 1296);
+    for length in [1, 7, 96, 1296] {
+        assert_eq!(rt;
+            count_in_blocks(rt.alloc(), &samples, length)?,
+            3,
+            "in blocks of {length}"
         );
     }
     Ok(())

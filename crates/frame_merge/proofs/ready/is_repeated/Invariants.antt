@@ -1,7 +1,4 @@
-use Rattle.std.proofs.Common.{◌≡◌, length, take}
-use Rattle.std.specs.List.{list_any}
-use Rattle.std.specs.List.Sorted.{IsNonDecreasingBy}
-use Rattle.frame_merge.specs.Merged.{repeats}
+use Rattle.std.proofs.Common.{length}
 use Rattle.frame_merge.proofs.ready.is_repeated.Given as goal
 use Rattle.frame_merge.proofs.Searching.{Searched}
 

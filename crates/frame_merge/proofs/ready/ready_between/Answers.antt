@@ -1,7 +1,4 @@
-use Rattle.std.proofs.Common.{◌≡◌, ◌+◌, List, [], ◌∷◌, ◌++◌, Bool, true, false, ap, sym, ◌∙◌, get_or, take, subst}
-use Rattle.std.proofs.lemmas.List.{append-nil}
-use Rattle.frame_merge.specs.declared.candidate.Candidate.{Candidate}
-use Rattle.frame_merge.specs.Merged.{merged, between, is_ready_after}
+use Rattle.std.proofs.Common.{[], ◌∷◌, ◌++◌, ap, sym, ◌∙◌}
 use Rattle.frame_merge.proofs.Taking.{ready_more, ready_same}
 use Rattle.frame_merge.proofs.ready.ready_between.Goals as goal
 use Rattle.frame_merge.proofs.ready.ready_between.Goals.{then-is_ready+in_ok-copy+in_ok-push, else-is_ready}

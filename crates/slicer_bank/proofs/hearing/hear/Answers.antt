@@ -1,10 +1,8 @@
-use Rattle.std.proofs.Common.{◌≡◌, ℕ, ℤ, List, [], ◌∷◌, ◌++◌, true, false, ◌∙◌, sym, ap, subst}
+use Rattle.std.proofs.Common.{◌≡◌, ℕ, ℤ, List, [], ◌∷◌, ◌++◌, true, ◌∙◌, sym, subst}
 use Rattle.std.proofs.lemmas.Bool.{true≢false}
 use Rattle.std.proofs.lemmas.Int.{to_z-of_z}
 use mir.Syntax.{w16}
-use Rattle.hdlc_framer.specs.Held.{HoldsFrame}
 use Rattle.slicer_bank.specs.Candidates.{EndsWith}
-use Rattle.slicer_bank.specs.Heard.{candidate_at, Adds}
 use Rattle.slicer_bank.proofs.HeardLemmas.{adds_nothing, adds_one}
 use Rattle.slicer_bank.proofs.hearing.hear.Goals as goal
 

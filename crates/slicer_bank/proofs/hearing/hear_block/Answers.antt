@@ -1,10 +1,10 @@
-use Rattle.std.proofs.Common.{◌≡◌, ◌+◌, ℤ, List, [], ◌∷◌, ◌++◌, ap, sym, subst, to_z, of_z, arith, length, get_or, pos, SFits, rules}
+use Rattle.std.proofs.Common.{◌+◌, ℤ, List, [], ◌∷◌, ◌++◌, subst, arith, get_or, pos, SFits, rules}
 use Rattle.std.proofs.lemmas.List.{get_or_default}
 use Rattle.std.proofs.lemmas.Int.{to_z-of_z}
 use mir.Syntax.{w16}
-use Rattle.slicer_bank.specs.Held.{HeldLane, AreLanesAt, LanesStandFor}
+use Rattle.slicer_bank.specs.Held.{LanesStandFor}
 use Rattle.slicer_bank.specs.Heard.{AreHeardMore}
-use Rattle.slicer_bank.proofs.BlockLemmas.{BlockHeard, block_none, block_more, block_all, whole_heard}
+use Rattle.slicer_bank.proofs.BlockLemmas.{block_none, block_more, block_all, whole_heard}
 use Rattle.slicer_bank.proofs.hearing.hear_block.Goals as goal
 
 pub loop-index-init : goal.loop-index-init

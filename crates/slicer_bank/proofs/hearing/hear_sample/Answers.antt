@@ -1,9 +1,9 @@
-use Rattle.std.proofs.Common.{◌≡◌, ◌+◌, ◌≤◌, ◌∙◌, ℤ, List, [], ◌∷◌, ◌++◌, ap, sym, subst, to_z, of_z, arith, length}
+use Rattle.std.proofs.Common.{◌+◌, ◌∙◌, ℤ, [], ◌∷◌, ◌++◌, ap, subst, arith}
 use Rattle.std.proofs.lemmas.Int.{to_z-of_z}
 use mir.Syntax.{w16}
-use Rattle.slicer_bank.specs.Held.{HeldLane, LaneStandsFor, LanesStandFor}
-use Rattle.slicer_bank.specs.Heard.{Adds, AreHeardMore}
-use Rattle.slicer_bank.proofs.HeardLemmas.{Hearing, hearing_none, hearing_more, lanes_heard, found_heard}
+use Rattle.slicer_bank.specs.Held.{LanesStandFor}
+use Rattle.slicer_bank.specs.Heard.{AreHeardMore}
+use Rattle.slicer_bank.proofs.HeardLemmas.{hearing_none, hearing_more, lanes_heard, found_heard}
 use Rattle.slicer_bank.proofs.hearing.hear_sample.Goals as goal
 
 pub loop-offset-init : goal.loop-offset-init

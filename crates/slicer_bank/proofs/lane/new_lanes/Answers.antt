@@ -1,5 +1,4 @@
-use Rattle.std.proofs.Common.{◌≡◌, List, subst, sym, ◌∷◌, ◌++◌, [], arith}
-use Rattle.slicer_bank.specs.Held.{HeldLane}
+use Rattle.std.proofs.Common.{subst, sym, arith}
 use Rattle.slicer_bank.proofs.FreshLanes.{AreFresh, fresh_none, fresh_more, lanes_fresh, stand_fresh}
 use Rattle.slicer_bank.proofs.lane.new_lanes.Goals as goal
 

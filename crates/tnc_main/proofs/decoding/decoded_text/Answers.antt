@@ -1,4 +1,4 @@
-use Rattle.std.proofs.Common.{◌≡◌, ◌≤◌, ◌∙◌, ap, arith, length}
+use Rattle.std.proofs.Common.{◌≡◌, ◌∙◌, ap, arith, length}
 use Rattle.tnc_main.specs.Samples.{samples}
 use Rattle.tnc_main.proofs.DecodedLemmas.{length-samples}
 use Rattle.tnc_main.proofs.decoding.decoded_text.Goals as goal

@@ -1,5 +1,4 @@
-use Rattle.std.proofs.Common.{ap, sym, subst, List, ◌++◌}
-use Rattle.frame_merge.specs.declared.candidate.Candidate.{Candidate}
+use Rattle.std.proofs.Common.{subst, ◌++◌}
 use Rattle.frame_merge.specs.Held.{StandsFor}
 use Rattle.tnc_main.proofs.MergingLemmas.{has_put_more, has_put_all}
 use Rattle.tnc_main.proofs.hearing.put_all.Goals as goal

@@ -1,7 +1,7 @@
 use Rattle.std.proofs.Common.{◌≡◌, ◌+◌, ℤ, List, ◌++◌, ap, sym, ◌∙◌, subst, length, length-append, take, drop}
 use Rattle.std.proofs.Math.Seq.{take-append_seam}
 use Rattle.slicer_bank.specs.Candidates.{AreCandidatesBehind}
-use Rattle.slicer_bank.specs.Held.{HeldBank, HeldLane, StandsFor, LanesStandFor, AreLanesAt}
+use Rattle.slicer_bank.specs.Held.{HeldBank, HeldLane, StandsFor, LanesStandFor}
 use Rattle.slicer_bank.proofs.bank.Bank.feed.Goals as goal
 
 -- the lanes that were lent come back as they were left

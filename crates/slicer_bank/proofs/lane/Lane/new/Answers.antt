@@ -1,4 +1,4 @@
-use Rattle.std.proofs.Common.{List, Bool, sym, subst}
+use Rattle.std.proofs.Common.{sym, subst}
 use Rattle.hdlc_framer.specs.Held.{StandsFor}
 use Rattle.slicer_bank.proofs.LaneLemmas.{bits_of_none}
 use Rattle.slicer_bank.proofs.lane.Lane.new.Goals as goal
