@@ -1,5 +1,5 @@
 -- Control fields octet by octet.
-use Rattle.std.proofs.Common.{◌≡◌, ◌≢◌, ℕ, zero, suc, ◌+◌, ◌-◌, ◌*◌, ◌/◌, ◌%◌, ◌<◌, ◌≤◌, ◌⊎◌, ◌++◌, ◌==◌, if◌then◌else◌, List, [], ◌∷◌, length, get_or, refl, sym, ap, subst, arith, inl, inr, ◌∙◌, Bool, true, false}
+use Rattle.std.proofs.Common.{◌≡◌, ◌≢◌, ℕ, zero, suc, ◌+◌, ◌*◌, ◌/◌, ◌%◌, ◌<◌, ◌≤◌, ◌⊎◌, ◌++◌, ◌==◌, if◌then◌else◌, List, [], ◌∷◌, refl, sym, ap, arith, inl, inr, ◌∙◌, Bool, false}
 use Rattle.ax25_address.specs.AddressField.{bit}
 use Rattle.ax25_address.proofs.FieldLemmas.{bit_small, bit_same}
 use Rattle.ax25_frames.specs.FrameFault.{LacksControl}

@@ -1,5 +1,5 @@
 -- Frames and their faults as wholes.
-use Rattle.std.proofs.Common.{◌≡◌, ℕ, ◌+◌, ◌≤◌, ◌⊎◌, ◌++◌, List, [], ◌∷◌, length, drop, refl, sym, ap, subst, arith, inl, inr, ◌∙◌, Result, Ok, Err, IfOk, IfErr}
+use Rattle.std.proofs.Common.{◌≡◌, ℕ, ◌⊎◌, List, length, drop, refl, sym, ap, subst, inl, inr, ◌∙◌, Result, Ok, Err, IfOk, IfErr}
 use Rattle.std.proofs.lemmas.List.{drop_at}
 use Rattle.ax25_address.specs.FramePath.{BeginsWithPath}
 use Rattle.ax25_address.specs.PathFault.{ShowsFault}

@@ -1,10 +1,10 @@
 -- What stands behind an address is one kind of frame or shows one fault.
-use Rattle.std.proofs.Common.{◌≡◌, ◌≢◌, ℕ, ◌+◌, ◌-◌, ◌*◌, ◌<◌, ◌≤◌, ◌⊎◌, ◌++◌, if◌then◌else◌, List, [], ◌∷◌, length, refl, sym, ap, subst, arith, inl, inr, ◌∙◌, Bool, true, false, leb, cond, Result, Ok, Err, append_assoc, append-nil, length-append, IfOk, IfErr, IsOk}
+use Rattle.std.proofs.Common.{◌≡◌, ℕ, ◌+◌, ◌<◌, ◌⊎◌, ◌++◌, if◌then◌else◌, List, [], ◌∷◌, length, refl, sym, ap, subst, arith, inl, inr, ◌∙◌, Bool, true, false, leb, Ok, Err, append_assoc, append-nil, length-append, IsOk}
 use Rattle.std.proofs.lemmas.Bool.{cases_lt, false≢true}
 use Rattle.std.proofs.lemmas.Bool.Decides.{nat_tests}
 use Rattle.ax25_frames.specs.ControlField.{control_octets, IsNumbered}
-use Rattle.ax25_frames.specs.FrameOctets.{control_of, contents_of, body_octets, IsKind, FitsN1}
-use Rattle.ax25_frames.specs.FrameFault.{BodyFault, LacksControl, LacksPid, BeginsUnknown, IsTooLong, HasStray, HasPid, EndsFrame}
+use Rattle.ax25_frames.specs.FrameOctets.{body_octets, IsKind}
+use Rattle.ax25_frames.specs.FrameFault.{BodyFault, LacksControl, BeginsUnknown, IsTooLong, HasPid, EndsFrame}
 use Rattle.ax25_frames.specs.declared.frame.Modulus.{Modulus}
 use Rattle.ax25_frames.specs.declared.frame.Kind.{Kind}
 use Rattle.ax25_frames.specs.declared.frame.Kind.TheVariants.{Info, Super, Setup, Ui, Other}
@@ -14,7 +14,7 @@ use Rattle.ax25_frames.specs.declared.control.Control.{Control}
 use Rattle.ax25_frames.specs.declared.control.Control.TheVariants.{Info as InfoControl, Super as SuperControl, Unnumbered}
 use Rattle.ax25_frames.specs.declared.control.Unnumbered.TheVariants.{Setup as SetupFrame, Ui as UiFrame, Other as OtherFrame}
 use Rattle.ax25_frames.specs.Verdict.{Outcome, IsVerdict, verdict, IsOneKind}
-use Rattle.ax25_frames.proofs.ControlLemmas.{control_same, HasFirst, HasFirst-control}
+use Rattle.ax25_frames.proofs.ControlLemmas.{control_same, HasFirst-control}
 
 -- the outcome is right
 abbrev pub IsOutcome : Modulus → List ℕ → ℕ → Outcome → Type 0

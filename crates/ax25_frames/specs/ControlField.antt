@@ -1,13 +1,11 @@
 -- The control field of a frame, after AX.25 2.2 section 4.2: one octet modulo 8, and modulo 128 two octets in I and S frames.
-use Rattle.std.specs.Prelude.{◌≡◌, ℕ, ◌+◌, ◌*◌, ◌<◌, Bool, List, [], ◌∷◌}
+use Rattle.std.specs.Prelude.{ℕ, ◌+◌, ◌*◌, ◌<◌, List, [], ◌∷◌}
 use Rattle.ax25_address.specs.AddressField.{bit}
 use Rattle.ax25_frames.specs.declared.frame.Modulus.{Modulus}
 use Rattle.ax25_frames.specs.declared.frame.Modulus.TheVariants.{Eight, OneTwentyEight}
 use Rattle.ax25_frames.specs.declared.frame.S.{S}
 use Rattle.ax25_frames.specs.declared.frame.S.TheVariants.{Rr, Rnr, Rej, Srej}
-use Rattle.ax25_frames.specs.declared.frame.U.{U}
 use Rattle.ax25_frames.specs.declared.frame.U.TheVariants.{Sabm, Sabme, Disc, Dm, Ua}
-use Rattle.ax25_frames.specs.declared.frame.W.{W}
 use Rattle.ax25_frames.specs.declared.frame.W.TheVariants.{Frmr, Xid, Test}
 use Rattle.ax25_frames.specs.declared.control.Control.{Control}
 use Rattle.ax25_frames.specs.declared.control.Control.TheVariants.{Info, Super, Unnumbered}

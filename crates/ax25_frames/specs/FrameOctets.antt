@@ -1,6 +1,6 @@
 -- A frame in octets, after AX.25 2.2 section 3.1: its path, its control field, a PID in I and UI frames alone, and
 -- information, which RR, RNR, REJ, SREJ, SABM, SABME, DISC, DM and UA do not have. An I frame has at most 256 octets of it.
-use Rattle.std.specs.Prelude.{◌≡◌, ℕ, ◌<◌, ◌≤◌, Bool, List, [], ◌∷◌, ◌++◌, length, drop}
+use Rattle.std.specs.Prelude.{◌≡◌, ℕ, ◌≤◌, List, [], ◌∷◌, ◌++◌, length, drop}
 use Rattle.ax25_address.specs.FramePath.{BeginsWithPath, IsWrittenPath}
 use Rattle.ax25_frames.specs.ControlField.{control_octets, IsNumbered}
 use Rattle.ax25_frames.specs.declared.frame.Modulus.{Modulus}

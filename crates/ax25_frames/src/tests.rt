@@ -121,6 +121,7 @@ fn information_of_256_octets_at_most(rt: HostRuntime) -> Result<(), Fail> {
 #[test]
 fn frames_of_recordings(rt: HostRuntime) -> Result<(), Fail> {
     let alloc = rt.alloc();
+    let mut written = 0u8;
     for (digits, line) in [
         (
             "ae84649ea6b4fe98aa72b4b4b4e29c648e9040406103f030303037207365636f6e642e0a",
@@ -141,12 +142,28 @@ fn frames_of_recordings(rt: HostRuntime) -> Result<(), Fail> {
     ] {
         assert_eq!(rt; shown(alloc, digits, Modulus::Eight)?.as_str(), line);
         let octets = hex::decode(alloc, digits)?;
-        let frame = read_frame(alloc, &octets, Modulus::Eight)?;
-        assert_eq!(rt; is_command(&frame), true);
-        assert_eq!(rt;
-            write_frame(alloc, &frame, Modulus::Eight)?.as_slice(),
-            octets.as_slice()
-        );
+        let Frame { path, kind } = read_frame(alloc, &octets, Modulus::Eight)?;
+        if let Kind::Ui {
+            flag,
+            pid,
+            octets: information,
+        } = kind
+        {
+            assert!(rt; information.len() <= 937);
+            let kind = Kind::Ui {
+                flag,
+                pid,
+                octets: information,
+            };
+            let frame = Frame { path, kind };
+            assert!(rt; is_command(&frame));
+            assert_eq!(rt;
+                write_frame(alloc, &frame, Modulus::Eight)?.as_slice(),
+                octets.as_slice()
+            );
+            written = written.saturating_add(1);
+        }
     }
+    assert_eq!(rt; written, 4);
     Ok(())
 }

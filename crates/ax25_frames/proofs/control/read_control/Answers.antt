@@ -1,4 +1,4 @@
-use Rattle.std.proofs.Common.{◌≡◌, ℕ, ◌<◌, List, get_or, ap, arith, ◌∙◌, sym, subst, length, [], ◌∷◌}
+use Rattle.std.proofs.Common.{◌≡◌, ℕ, ◌<◌, List, get_or, ap, arith, ◌∙◌, sym, subst, [], ◌∷◌}
 use Rattle.std.proofs.lemmas.List.{nil_from_length}
 use Rattle.ax25_frames.specs.FrameFault.{LacksControl}
 use Rattle.ax25_frames.specs.declared.frame.Modulus.{Modulus}

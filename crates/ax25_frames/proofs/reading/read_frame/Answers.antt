@@ -1,7 +1,7 @@
-use Rattle.std.proofs.Common.{◌≡◌, ℕ, List, subst, sym, drop, arith, Ok, Err}
+use Rattle.std.proofs.Common.{ℕ, List, subst, Ok, Err}
 use Rattle.std.proofs.lemmas.List.{take_rest}
 use Rattle.std.proofs.lemmas.Result.{err_from_is_err_and}
-use Rattle.ax25_frames.specs.Verdict.{IsOneKind, Outcome}
+use Rattle.ax25_frames.specs.Verdict.{IsOneKind}
 use Rattle.ax25_frames.proofs.FrameLemmas.{IsOneFrame, IsOneFrame-address, IsOneFrame-kind, IsOneFrame-fault}
 use Rattle.ax25_frames.proofs.reading.read_frame.Goals as goal
 
