@@ -160,6 +160,13 @@ pub bit_small : (b : Bool) → bit b ≤ 1
 bit_small true = omega arith
 bit_small false = omega arith
 
+-- one bit stands for one truth value
+pub bit_same : (b d : Bool) → bit b ≡ bit d → b ≡ d
+bit_same true true e = refl
+bit_same false false e = refl
+bit_same true false e = absurd (omega arith)
+bit_same false true e = absurd (omega arith)
+
 -- bit 7 of an octet
 top_bit : (o : ℕ) → o < 256 → bit (leb 128 o) ≡ o / 128
 top_bit o h = elim (cases_lt o 128) [

@@ -1,5 +1,6 @@
 pub mod CallLemmas
 pub mod SsidLemmas
+pub mod TextLemmas
 pub mod FieldLemmas
 pub mod PathLemmas
 pub mod OneReading

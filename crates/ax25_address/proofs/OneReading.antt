@@ -14,15 +14,8 @@ use Rattle.ax25_address.specs.declared.path.Role.{Role}
 use Rattle.ax25_address.specs.declared.path.Role.TheVariants.{Command, Response, Old}
 use Rattle.ax25_address.specs.declared.fault.AddrFault.{AddrFault}
 use Rattle.ax25_address.specs.declared.fault.AddrFault.TheVariants.{Short, BadChar, OneAddress, NoEnd}
-use Rattle.ax25_address.proofs.FieldLemmas.{bit_small, field_octet, last_octet, padded-name, padded-space, HasNameUpTo-field, field_end}
+use Rattle.ax25_address.proofs.FieldLemmas.{bit_small, bit_same, field_octet, last_octet, padded-name, padded-space, HasNameUpTo-field, field_end}
 use Rattle.ax25_address.proofs.PathLemmas.{field_at-take}
-
--- one bit stands for one truth value
-bit_same : (b d : Bool) → bit b ≡ bit d → b ≡ d
-bit_same true true e = refl
-bit_same false false e = refl
-bit_same true false e = absurd (omega arith)
-bit_same false true e = absurd (omega arith)
 
 -- a name that ends earlier has a space where the other has a character
 not_shorter : (a b : Callsign) (ta la tb lb : Bool) (octets : List ℕ) → IsField a ta la octets → IsField b tb lb octets → length a.name < length b.name → ⊥

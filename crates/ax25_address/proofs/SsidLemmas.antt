@@ -1,34 +1,16 @@
 -- What tells an SSID, octet by octet.
-use Rattle.std.proofs.Common.{◌≡◌, ℕ, zero, suc, ◌+◌, ◌-◌, ◌<◌, ◌≤◌, ◌⊎◌, List, [], ◌∷◌, length, get_or, refl, sym, ap, arith, inl, inr, ◌∙◌}
-use Rattle.std.specs.Fmt.{decimal, digits}
+use Rattle.std.proofs.Common.{◌≡◌, ℕ, ◌+◌, ◌-◌, ◌/◌, ◌%◌, ◌++◌, ◌<◌, ◌≤◌, ◌⊎◌, List, [], ◌∷◌, length, get_or, sym, ap, arith, inl, inr, ◌∙◌}
+use Rattle.std.specs.Fmt.{decimal}
+use Rattle.std.proofs.lemmas.Fmt.{decimal_digit, decimal_step}
 use Rattle.std.proofs.lemmas.Bool.{cases_lt}
 use Rattle.ax25_address.specs.CallText.{TellsSsid, ssid_suffix}
 
--- a number below ten has one digit
-pub decimal_below_ten : (n : ℕ) → n < 10 → decimal n ≡ (48 + n) ∷ []
-unfolding digits
-decimal_below_ten zero h = refl
-decimal_below_ten (suc zero) h = refl
-decimal_below_ten (suc (suc zero)) h = refl
-decimal_below_ten (suc (suc (suc zero))) h = refl
-decimal_below_ten (suc (suc (suc (suc zero)))) h = refl
-decimal_below_ten (suc (suc (suc (suc (suc zero))))) h = refl
-decimal_below_ten (suc (suc (suc (suc (suc (suc zero)))))) h = refl
-decimal_below_ten (suc (suc (suc (suc (suc (suc (suc zero))))))) h = refl
-decimal_below_ten (suc (suc (suc (suc (suc (suc (suc (suc zero)))))))) h = refl
-decimal_below_ten (suc (suc (suc (suc (suc (suc (suc (suc (suc zero))))))))) h = refl
-decimal_below_ten (suc (suc (suc (suc (suc (suc (suc (suc (suc (suc n)))))))))) h = absurd (omega arith)
-
 -- a number from 10 to 15 has a 1 and one more digit
-pub decimal_from_ten : (k : ℕ) → k < 6 → decimal (10 + k) ≡ 49 ∷ (48 + k) ∷ []
-unfolding digits
-decimal_from_ten zero h = refl
-decimal_from_ten (suc zero) h = refl
-decimal_from_ten (suc (suc zero)) h = refl
-decimal_from_ten (suc (suc (suc zero))) h = refl
-decimal_from_ten (suc (suc (suc (suc zero)))) h = refl
-decimal_from_ten (suc (suc (suc (suc (suc zero))))) h = refl
-decimal_from_ten (suc (suc (suc (suc (suc (suc k)))))) h = absurd (omega arith)
+pub decimal_two_digits : (n : ℕ) → 10 ≤ n → n < 16 → decimal n ≡ 49 ∷ (48 + (n - 10)) ∷ []
+decimal_two_digits n large small =
+    let tens : n / 10 ≡ 1 = omega arith in
+    let ones : n % 10 ≡ n - 10 = omega arith in
+    decimal_step n large (omega arith) ∙ ap (λ t. decimal t ++ (48 + n % 10) ∷ []) tens ∙ ap (λ x. x ++ (48 + n % 10) ∷ []) (decimal_digit 1 (omega arith)) ∙ ap (λ o. 49 ∷ (48 + o) ∷ []) ones
 
 -- a dash and one digit
 pub record IsOneDigit (tail : List ℕ) (n : ℕ) : Type 0 where
@@ -59,9 +41,9 @@ two_digits k n same tail e =
 suffix_octets : (tail : List ℕ) (n : ℕ) → n < 16 → tail ≡ ssid_suffix n → IsOneDigit tail n ⊎ IsTwoDigits tail n
 suffix_octets tail n h e =
     elim (cases_lt n 10) [
-      | inl small ↦ inl (one_digit n small tail (e ∙ ap (λ xs. 45 ∷ xs) (decimal_below_ten n small)))
+      | inl small ↦ inl (one_digit n small tail (e ∙ ap (λ xs. 45 ∷ xs) (decimal_digit n small)))
       | inr large ↦ inr (let same : n ≡ 10 + (n - 10) = omega arith in
-          two_digits (n - 10) n same tail (e ∙ ap (λ m. ssid_suffix m) same ∙ ap (λ xs. 45 ∷ xs) (decimal_from_ten (n - 10) (omega arith))))
+          two_digits (n - 10) n same tail (e ∙ ap (λ xs. 45 ∷ xs) (decimal_two_digits n large h)))
     ]
 
 -- what tells an SSID, read octet by octet
@@ -83,14 +65,8 @@ same_triple (x ∷ y ∷ z ∷ w ∷ v) a b d l p q r = absurd (omega arith)
 
 -- and back
 pub tells_one_digit : (tail : List ℕ) (n : ℕ) → IsOneDigit tail n → TellsSsid tail n
-tells_one_digit tail n h = inr (same_pair tail 45 (48 + n) h.len h.dash h.digit ∙ ap (λ xs. 45 ∷ xs) (sym (decimal_below_ten n h.small)))
+tells_one_digit tail n h = inr (same_pair tail 45 (48 + n) h.len h.dash h.digit ∙ ap (λ xs. 45 ∷ xs) (sym (decimal_digit n h.small)))
 
 pub tells_two_digits : (tail : List ℕ) (n : ℕ) → n < 16 → IsTwoDigits tail n → TellsSsid tail n
 tells_two_digits tail n lt h =
-    let same : n ≡ 10 + (n - 10) = omega (arith, h.large) in
-    inr (same_triple tail 45 49 (48 + (n - 10)) h.len h.dash h.ten (omega (arith, h.digit, h.large)) ∙ ap (λ xs. 45 ∷ xs) (sym (decimal_from_ten (n - 10) (omega (arith, lt, h.large)))) ∙ ap (λ m. ssid_suffix m) (sym same))
-
--- the same for the number itself
-pub decimal_two_digits : (n : ℕ) → 10 ≤ n → n < 16 → decimal n ≡ 49 ∷ (48 + (n - 10)) ∷ []
-decimal_two_digits n large small =
-    let same : n ≡ 10 + (n - 10) = omega arith in ap decimal same ∙ decimal_from_ten (n - 10) (omega arith)
+    inr (same_triple tail 45 49 (48 + (n - 10)) h.len h.dash h.ten (omega (arith, h.digit, h.large)) ∙ ap (λ xs. 45 ∷ xs) (sym (decimal_two_digits n h.large lt)))

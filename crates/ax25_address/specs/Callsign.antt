@@ -1,4 +1,4 @@
--- A station's call, after AX.25 2.2 section 3.12.2: one to six characters of A to Z and 0 to 9, and an SSID of 0 to 15.
+-- A station's call, after AX.25 2.2 section 3.12: one to six characters of A to Z and 0 to 9, and an SSID of 0 to 15.
 use Rattle.std.specs.Prelude.{ℕ, ◌-◌, ◌<◌, ◌≤◌, ◌⊎◌, List, ◌++◌, length, replicate, All}
 
 -- the characters of a call, without padding, and its SSID

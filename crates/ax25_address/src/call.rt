@@ -29,7 +29,7 @@ pub enum CallFault {
 }
 
 /// A station's call: one to six characters of A to Z and 0 to 9, and an SSID of 0 to 15
-/// (AX.25 2.2 section 3.12.2).
+/// (AX.25 2.2 section 3.12).
 #[derive(Clone, Copy, Debug, PartialEq, Eq)]
 pub struct Call {
     characters: [u8; 6],
@@ -94,7 +94,8 @@ impl Call {
 
     /// The text of the call: `CALL`, or `CALL-n` where the SSID is not 0.
     pub fn text(&self) -> ArrayString<9>
-        ensures { result.bytes ≡ text_of_call self.now }
+        ensures text { result.bytes ≡ text_of_call self.now }
+        ensures parsed_again { IsCallText result.bytes self.now }
     {
         let mut text = ArrayString::new();
         for index in 0..self.len {

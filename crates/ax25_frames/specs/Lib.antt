@@ -1,0 +1,5 @@
+pub mod ControlField
+pub mod FrameOctets
+pub mod FrameFault
+pub mod FrameText
+pub mod Verdict

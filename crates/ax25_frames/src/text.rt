@@ -1,0 +1,183 @@
+//! A frame or a fault as one line of text.
+ghost use Rattle.std.specs.Prelude.{◌≡◌, ℕ, ◌++◌, [], ◌∷◌, codes, decimal, flat_map, string_bytes, IfOk, OnOk, if◌then◌else◌};
+ghost use Rattle.ax25_address.specs.AddressField.{bit};
+ghost use Rattle.ax25_frames.specs.FrameText.{text_of_frame, text_of_frame_fault, address_fault_text, path_text, hop_text, kind_text, is_command_of, has_command_bits, sets_up_or_ends, exchanges_or_tests, role_word, information_text, supervisory_name, setup_name, other_name};
+ghost use Rattle.hex.specs.Hex.{encode_lower};
+
+use crate::fault::FrameFault;
+use crate::frame::{Frame, Kind, S, U, W};
+use ax25_address::{AddrFault, Hop, Path, Role};
+use std::alloc::{AllocError, Global};
+use tnc_base::{Octets, OutOfMemory};
+
+/// Whether the frame is read as a command. I, UI, SABM, SABME, DISC, XID and TEST are commands and UA, DM
+/// and FRMR responses, whatever the C bits; an S frame is a command where its path's role is.
+pub fn is_command(frame: &Frame) -> bool
+    ensures { result ≡ is_command_of frame.now.path.role frame.now.kind }
+{
+    match &frame.kind {
+        Kind::Info { .. } | Kind::Ui { .. } => true,
+        Kind::Super { .. } => matches!(frame.path.role, Role::Command),
+        Kind::Setup { which, .. } => matches!(which, U::Sabm | U::Sabme | U::Disc),
+        Kind::Other { which, .. } => matches!(which, W::Xid | W::Test),
+    }
+}
+
+/// The line of a frame: its path, its kind, `cmd` or `rsp`, its fields and its information in lower-case
+/// hexadecimal, as in `N7LEM>NJ7P,RELAY* I cmd ns=2 nr=3 p=1 pid=f0 len=2 6869`.
+pub fn text_of(alloc: Global, frame: &Frame) -> Result<String, OutOfMemory>
+    ensures { IfOk result (λ text. string_bytes text ≡ text_of_frame frame.now) }
+{
+    let path = path_line(alloc, &frame.path)?;
+    let kind = kind_line(alloc, &frame.kind, is_command(frame))?;
+    Ok(format!(in alloc; "{path} {kind}")?)
+}
+
+/// The line of a fault, as in `! short at 13`.
+pub fn text_of_fault(alloc: Global, fault: FrameFault) -> Result<String, OutOfMemory>
+    ensures { IfOk result (λ text. string_bytes text ≡ text_of_frame_fault fault) }
+{
+    Ok(match fault {
+        FrameFault::Address(AddrFault::Short { at }) => format!(in alloc; "! short at {at}")?,
+        FrameFault::Address(AddrFault::BadChar { at }) => format!(in alloc;
+            "! bad character at {at}"
+        )?,
+        FrameFault::Address(AddrFault::OneAddress) => String::from_str(alloc, "! one address")?,
+        FrameFault::Address(AddrFault::NoEnd) => String::from_str(alloc, "! no end")?,
+        FrameFault::NoControl { at } => format!(in alloc; "! no control at {at}")?,
+        FrameFault::NoPid { at } => format!(in alloc; "! no pid at {at}")?,
+        FrameFault::UnknownControl { octet } => {
+            let octet = hex::encode(alloc, [octet])?;
+            format!(in alloc; "! unknown control {octet}")?
+        }
+        FrameFault::InfoTooLong { len } => format!(in alloc; "! info too long {len}")?,
+        FrameFault::StrayInfo { at } => format!(in alloc; "! stray info at {at}")?,
+        FrameFault::Memory => String::from_str(alloc, "! out of memory")?,
+    })
+}
+
+/// A path: `SOURCE>DEST`, and each repeater behind a comma.
+fn path_line(alloc: Global, path: &Path) -> Result<String, OutOfMemory>
+    ensures { IfOk result (λ line. string_bytes line ≡ path_text path.now) }
+{
+    let source = path.source.text();
+    let dest = path.dest.text();
+    let mut line = format!(in alloc; "{source}>{dest}")?;
+    for hop in path.repeaters.as_slice() {
+        push_hop(&mut line, hop)?;
+    }
+    Ok(line)
+}
+
+/// Appends a repeater, with an asterisk where it has repeated the frame.
+fn push_hop(line: &mut String, hop: &Hop) -> Result<(), OutOfMemory>
+    ensures { OnOk result (string_bytes line.new ≡ string_bytes line.old ++ hop_text hop.now) }
+{
+    line.push_str(",")?;
+    line.push_str(hop.call.text().as_str())?;
+    line.push_str(if hop.done { "*" } else { "" })?;
+    Ok(())
+}
+
+/// What a frame says, as a command or as a response.
+fn kind_line(alloc: Global, kind: &Kind, command: bool) -> Result<String, OutOfMemory>
+    ensures { IfOk result (λ line. string_bytes line ≡ kind_text command kind.now) }
+{
+    let role = word_of(command);
+    let line = match kind {
+        Kind::Info {
+            ns,
+            nr,
+            poll,
+            pid,
+            octets,
+        } => {
+            let poll = u8::from(*poll);
+            let pid = hex::encode(alloc, [*pid])?;
+            let information = information_line(alloc, octets)?;
+            format!(in alloc; "I {role} ns={ns} nr={nr} p={poll} pid={pid}{information}")?
+        }
+        Kind::Super { which, nr, flag } => {
+            let name = supervisory_word(*which);
+            let flag = u8::from(*flag);
+            format!(in alloc; "{name} {role} nr={nr} f={flag}")?
+        }
+        Kind::Setup { which, flag } => {
+            let name = setup_word(*which);
+            let flag = u8::from(*flag);
+            format!(in alloc; "{name} {role} f={flag}")?
+        }
+        Kind::Ui { flag, pid, octets } => {
+            let flag = u8::from(*flag);
+            let pid = hex::encode(alloc, [*pid])?;
+            let information = information_line(alloc, octets)?;
+            format!(in alloc; "UI {role} f={flag} pid={pid}{information}")?
+        }
+        Kind::Other {
+            which,
+            flag,
+            octets,
+        } => {
+            let name = other_word(*which);
+            let flag = u8::from(*flag);
+            let information = information_line(alloc, octets)?;
+            format!(in alloc; "{name} {role} f={flag}{information}")?
+        }
+    };
+    Ok(line)
+}
+
+/// The count of octets, and the octets where there are some.
+fn information_line(alloc: Global, octets: &Octets) -> Result<String, OutOfMemory>
+    ensures { IfOk result (λ line. string_bytes line ≡ information_text octets.now) }
+{
+    let len = octets.len();
+    if len == 0 {
+        return Ok(format!(in alloc; " len={len}")?);
+    }
+    let digits = hex::encode(alloc, octets.as_slice())?;
+    Ok(format!(in alloc; " len={len} {digits}")?)
+}
+
+/// The word for a command or a response.
+fn word_of(command: bool) -> &'static str
+    ensures { result.now ≡ role_word command }
+{
+    if command { "cmd" } else { "rsp" }
+}
+
+/// The name of a supervisory frame.
+fn supervisory_word(which: S) -> &'static str
+    ensures { result.now ≡ supervisory_name which }
+{
+    match which {
+        S::Rr => "RR",
+        S::Rnr => "RNR",
+        S::Rej => "REJ",
+        S::Srej => "SREJ",
+    }
+}
+
+/// The name of a frame that sets up or ends a link.
+fn setup_word(which: U) -> &'static str
+    ensures { result.now ≡ setup_name which }
+{
+    match which {
+        U::Sabm => "SABM",
+        U::Sabme => "SABME",
+        U::Disc => "DISC",
+        U::Dm => "DM",
+        U::Ua => "UA",
+    }
+}
+
+/// The name of another unnumbered frame.
+fn other_word(which: W) -> &'static str
+    ensures { result.now ≡ other_name which }
+{
+    match which {
+        W::Frmr => "FRMR",
+        W::Xid => "XID",
+        W::Test => "TEST",
+    }
+}
