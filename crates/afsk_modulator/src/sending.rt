@@ -1,0 +1,77 @@
+//! Frames as the samples of one transmission.
+ghost use Rattle.std.specs.Prelude.{◌≡◌, ℕ, ◌↔◌, All, IfOk, OnOk, IsErrOf, IfSome, IsNone};
+ghost use Rattle.nrzi_bits.specs.Line.{line};
+ghost use Rattle.tone_table.specs.Wave.{wave};
+ghost use Rattle.afsk_modulator.specs.Transmission.{transmission, AreFewFlags, IsBadLength, IsFirstBadLength};
+
+use crate::fault::ModFault;
+use crate::modulator::Modulator;
+use hdlc_framer::stuff;
+use nrzi_bits::NrziOut;
+use std::alloc::Global;
+use tnc_base::{Octets, OutOfMemory};
+
+/// The fewest flags that open a transmission.
+const LEAST_OPENING: u16 = 2;
+
+/// The fewest flags that close one.
+const LEAST_CLOSING: u16 = 1;
+
+/// The fewest octets of a frame: two addresses and a control octet.
+const LEAST_LENGTH: usize = 15;
+
+/// The most octets of a frame.
+const GREATEST_LENGTH: usize = 1024;
+
+/// The samples of one transmission: `opening` flags, the frames with one flag between neighbours, and
+/// `closing` flags, on a line that stands at mark, from phase 0 on. A frame is its octets without the
+/// check sequence, which is added (AX.25 2.2 sections 3.1, 3.6 and 3.7). The first rule that is broken
+/// is told: the flags come before the frames, and want of memory comes last.
+pub fn transmission(
+    alloc: Global,
+    frames: &[Octets],
+    opening: u16,
+    closing: u16,
+) -> Result<Vec<i16>, ModFault>
+    ensures sent { IfOk result (λ samples. samples.items ≡ transmission frames.now opening closing) }
+    ensures lengths { OnOk result (All (λ octets. ¬ IsBadLength octets) frames.now) }
+    ensures few_flags { IsErrOf result ModFault.FewFlags ↔ AreFewFlags opening closing }
+    ensures bad_length { (index : ℕ) → IsErrOf result (ModFault.BadLength index)
+        ↔ ((¬ AreFewFlags opening closing) × IsFirstBadLength frames.now index) }
+{
+    if opening < LEAST_OPENING || closing < LEAST_CLOSING {
+        return Err(ModFault::FewFlags);
+    }
+    if let Some(index) = first_bad_length(frames) {
+        return Err(ModFault::BadLength { index });
+    }
+    let bits = stuff(alloc, frames, opening, closing)?;
+    Ok(modulated(alloc, &bits)?)
+}
+
+/// The place of the first frame with fewer than 15 or more than 1024 octets.
+fn first_bad_length(frames: &[Octets]) -> Option<usize>
+    ensures found { IfSome result (IsFirstBadLength frames.now) }
+    ensures none { IsNone result → All (λ octets. ¬ IsBadLength octets) frames.now }
+{
+    for (index, frame) in frames.iter().enumerate() {
+        let length = frame.len();
+        if length < LEAST_LENGTH || length > GREATEST_LENGTH {
+            return Some(index);
+        }
+    }
+    None
+}
+
+/// The wave of bits on a line that stands at mark, from phase 0 on.
+fn modulated(alloc: Global, bits: &[bool]) -> Result<Vec<i16>, OutOfMemory>
+    ensures { IfOk result (λ samples. samples.items ≡ wave (line bits.now)) }
+{
+    let mut line = NrziOut::new();
+    let mut modulator = Modulator::new();
+    let mut samples = Vec::new(alloc);
+    for bit in bits {
+        samples.extend_from_slice(modulator.next(line.step(*bit)).as_slice())?;
+    }
+    Ok(samples)
+}

@@ -1,0 +1,95 @@
+use super::{ModFault, Modulator, transmission};
+use std::alloc::Global;
+use std::test::Fail;
+use tnc_base::Octets;
+use tone_table::Tone;
+
+// SABM with P from N7LEM to NJ7P, the shortest frame.
+const SHORTEST: [u8; 15] = [
+    0x9c, 0x94, 0x6e, 0xa0, 0x40, 0x40, 0xe0, 0x9c, 0x6e, 0x98, 0x8a, 0x9a, 0x40, 0x61, 0x3f,
+];
+
+// Frames of these lengths, of the shortest frame's octets and then zeros.
+fn frames(alloc: Global, lengths: &[usize]) -> Result<Vec<Octets>, Fail> {
+    let mut frames = Vec::new(alloc);
+    for length in lengths {
+        let mut octets = SHORTEST.to_vec(alloc)?;
+        octets.resize(*length, 0)?;
+        frames.push(Octets::from_slice(alloc, &octets)?)?;
+    }
+    Ok(frames)
+}
+
+#[test]
+fn windows_follow_each_other_at_the_phase(rt: HostRuntime) {
+    let mut modulator = Modulator::new();
+    let windows = [
+        (
+            Tone::Space,
+            [0, 9914, 2588, -9239, -5000, 7934, 7071, -6088],
+        ),
+        (
+            Tone::Space,
+            [-8660, 3827, 9659, -1305, -10000, -1305, 9659, 3827],
+        ),
+        (
+            Tone::Mark,
+            [-8660, -9659, -5000, 2588, 8660, 9659, 5000, -2588],
+        ),
+    ];
+    for (tone, window) in windows {
+        assert_eq!(rt; modulator.next(tone), window);
+    }
+}
+
+#[test]
+fn the_shortest_frame_is_sent_as_bell_202_does(rt: HostRuntime) -> Result<(), Fail> {
+    let alloc = rt.alloc();
+    let samples = transmission(alloc, &frames(alloc, &[15])?, 2, 1)?;
+    assert_eq!(rt; samples.len(), 1296);
+    let begins = [0, 9914, 2588, -9239, -5000, 7934, 7071, -6088, -8660, 3827];
+    assert!(rt; samples.starts_with(&begins));
+    Ok(())
+}
+
+// Eight samples a bit: a frame of 138 bits with its flags, two with one flag between them, and none.
+#[test]
+fn a_transmission_has_eight_samples_a_bit(rt: HostRuntime) -> Result<(), Fail> {
+    let table: [(&[usize], u16, u16, usize); 4] = [
+        (&[15], 2, 1, 162),
+        (&[15, 15], 2, 1, 308),
+        (&[15], 75, 2, 754),
+        (&[], 2, 1, 24),
+    ];
+    for (lengths, opening, closing, bits) in table {
+        let samples = transmission(rt.alloc(), &frames(rt.alloc(), lengths)?, opening, closing)?;
+        assert_eq!(rt; samples.len(), 8 * bits, "of {lengths:?}");
+    }
+    Ok(())
+}
+
+#[test]
+fn the_first_rule_that_is_broken_is_told(rt: HostRuntime) -> Result<(), Fail> {
+    let table: [(&[usize], u16, u16, Option<ModFault>); 9] = [
+        (&[15], 1, 1, Some(ModFault::FewFlags)),
+        (&[15], 2, 0, Some(ModFault::FewFlags)),
+        (&[14], 0, 0, Some(ModFault::FewFlags)),
+        (&[15, 14], 2, 1, Some(ModFault::BadLength { index: 1 })),
+        (
+            &[15, 0, 15, 14],
+            2,
+            1,
+            Some(ModFault::BadLength { index: 1 }),
+        ),
+        (&[1025], 2, 1, Some(ModFault::BadLength { index: 0 })),
+        (&[1024, 1025], 2, 1, Some(ModFault::BadLength { index: 1 })),
+        (&[1024], 2, 1, None),
+        (&[15], 2, 1, None),
+    ];
+    for (lengths, opening, closing, fault) in table {
+        let frames = frames(rt.alloc(), lengths)?;
+        let got = transmission(rt.alloc(), &frames, opening, closing).err();
+        assert_eq!(rt; got, fault, "of {lengths:?} with {opening} and {closing}");
+    }
+    Ok(())
+}
