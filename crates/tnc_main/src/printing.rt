@@ -1,5 +1,6 @@
 //! Received frames as text.
-ghost use Rattle.std.specs.Prelude.{◌≡◌, IfOk};
+ghost use Rattle.std.specs.Prelude.{◌≡◌, IfOk, string_bytes};
+ghost use Rattle.hex.specs.Hex.{encode_lower};
 ghost use Rattle.tnc_main.specs.Printing.{print};
 
 use std::alloc::Global;
@@ -11,8 +12,15 @@ pub(crate) fn print(alloc: Global, frames: &[Octets]) -> Result<Vec<u8>, OutOfMe
 {
     let mut text = Vec::new(alloc);
     for frame in frames {
-        text.extend_from_slice(hex::encode(alloc, frame.as_slice())?.as_bytes())?;
+        text.extend_from_slice(hexadecimal(alloc, frame.as_slice())?.as_bytes())?;
         text.push(b'\n')?;
     }
     Ok(text)
+}
+
+/// Octets as lower-case hexadecimal digits.
+fn hexadecimal(alloc: Global, octets: &[u8]) -> Result<String, OutOfMemory>
+    ensures { IfOk result (λ text. string_bytes text ≡ encode_lower octets.now) }
+{
+    Ok(hex::encode(alloc, octets)?)
 }
