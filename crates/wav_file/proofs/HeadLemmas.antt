@@ -1,16 +1,15 @@
 -- What stands behind a written head are samples.
-use Rattle.std.proofs.Common.{◌≡◌, ℕ, ◌+◌, ◌*◌, ◌<◌, ◌≤◌, ◌^◌, leb, ltb, cond, Bool, true, false, List, [], ◌∷◌, ◌++◌, length, take, drop, refl, ap, ◌∙◌, sym, arith, Option, Some, None, Ok}
+use Rattle.std.proofs.Common.{◌≡◌, ℕ, ◌+◌, ◌<◌, ◌≤◌, ◌^◌, leb, ltb, cond, Bool, true, false, List, [], ◌∷◌, ◌++◌, length, take, drop, refl, ap, ◌∙◌, arith, None, Ok}
 use Rattle.std.proofs.lemmas.Bool.{le-leb}
 use Rattle.std.proofs.lemmas.List.{take_all}
-use Rattle.byteorder.specs.Endian.{little_number, little_bytes}
+use Rattle.byteorder.specs.Endian.{little_bytes}
 use Rattle.byteorder.specs.Numbers.{little_number-reads_back}
-use Rattle.wav_file.specs.declared.fault.WavFault.{WavFault}
 use Rattle.wav_file.specs.declared.field.Field.TheVariants.{Format, Channels, Rate, ByteRate, Align, Bits}
 use Rattle.wav_file.specs.Place.{told_place}
 use Rattle.wav_file.specs.Chunks.{Chunk, chunk_at, chunks, padded}
 use Rattle.wav_file.specs.Format.{fields, field_fault}
 use Rattle.wav_file.specs.Samples.{samples}
-use Rattle.wav_file.specs.Reading.{Reading, unless, formatted, unformatted, of_data, reading, verdict_on, verdict_of}
+use Rattle.wav_file.specs.Reading.{Reading, unless, unformatted, of_data, reading, verdict_on, verdict_of}
 use Rattle.wav_file.specs.Head.{format_octets, head_before}
 use Rattle.wav_file.proofs.ChunkLemmas.{chunks_whole}
 use Rattle.wav_file.proofs.StepLemmas.{field_whole}

@@ -1,5 +1,5 @@
 -- What is kept stands for all octets so far.
-use Rattle.std.proofs.Common.{◌≡◌, ℕ, zero, suc, ◌+◌, ◌-◌, ◌<◌, ◌≤◌, ltb, leb, eqb, cond, Bool, true, false, List, [], ◌∷◌, ◌++◌, length, take, drop, codes, refl, ap, subst, ◌∙◌, sym, inl, inr, arith, append_assoc, append-nil, length-append, Option, Some, None, Err, ℤ}
+use Rattle.std.proofs.Common.{◌≡◌, ℕ, zero, suc, ◌+◌, ◌-◌, ◌<◌, ◌≤◌, ltb, leb, eqb, cond, Bool, true, false, List, [], ◌∷◌, ◌++◌, length, take, drop, codes, refl, ap, subst, ◌∙◌, sym, arith, append_assoc, append-nil, length-append, Option, Some, None, Err, ℤ}
 use Rattle.std.specs.Option.{option_to_list}
 use Rattle.std.specs.Result.{result_err}
 use Rattle.std.proofs.lemmas.Bool.{cond-true, lt-ltb, lt-leb, ne_eqb}
@@ -16,7 +16,7 @@ use Rattle.wav_file.specs.Chunks.{chunks}
 use Rattle.wav_file.specs.Format.{width_of, field_fault}
 use Rattle.wav_file.specs.Samples.{samples}
 use Rattle.wav_file.specs.Reading.{Reading, unless, unfinished, formatted, unformatted, difference, reading, given, verdict_on, verdict_of}
-use Rattle.wav_file.specs.Held.{Held, Fits, Step, made, to_part, step_of, after_head, after_chunk_head, after_field, after_data, after_data_octet, fault_of_part, whole_of_part, answer_of, fields_from, widths_from, chunks_reading, head_reading, rest_reading, behind, StandsFor}
+use Rattle.wav_file.specs.Held.{Held, Fits, Step, made, to_part, step_of, after_head, after_chunk_head, after_field, after_data_octet, fault_of_part, whole_of_part, answer_of, fields_from, widths_from, chunks_reading, head_reading, rest_reading, behind, StandsFor}
 use Rattle.wav_file.proofs.ChunkLemmas.{chunks_short}
 use Rattle.wav_file.proofs.StepLemmas.{step_keeps, unit_grows}
 

@@ -1,8 +1,8 @@
 -- What an octet does to the reading of the rest.
-use Rattle.std.proofs.Common.{◌≡◌, ℕ, zero, suc, ◌+◌, ◌-◌, ◌*◌, ◌<◌, ◌≤◌, ltb, leb, eqb, cond, Bool, true, false, ◌&&◌, not, List, [], ◌∷◌, ◌++◌, length, take, drop, get_or, refl, ap, subst, ◌∙◌, sym, inl, inr, arith, zero-add, append_assoc, length-append, Option, Some, None, ℤ}
+use Rattle.std.proofs.Common.{◌≡◌, ℕ, zero, suc, ◌+◌, ◌-◌, ◌<◌, ◌≤◌, ltb, leb, eqb, cond, Bool, true, false, ◌&&◌, not, List, [], ◌∷◌, ◌++◌, length, take, drop, refl, ap, subst, ◌∙◌, sym, inl, inr, arith, zero-add, append_assoc, length-append, Option, Some, None, ℤ}
 use Rattle.std.specs.Option.{option_to_list}
-use Rattle.std.proofs.lemmas.Bool.{cond-true, cond-false, lt-ltb, le-ltb, le-leb, lt-leb, cases_lt, cases_eq, cases_Bool, eq-eqb, ne_eqb, eqb-true, ltb-false}
-use Rattle.std.proofs.lemmas.List.{length_push, get_or_append_left, drop_at, nil_from_length}
+use Rattle.std.proofs.lemmas.Bool.{cond-true, cond-false, lt-ltb, le-ltb, le-leb, lt-leb, cases_lt, cases_eq, eq-eqb, ne_eqb, ltb-false}
+use Rattle.std.proofs.lemmas.List.{length_push, drop_at, nil_from_length}
 use Rattle.byteorder.specs.Endian.{little_number}
 use Rattle.byteorder.specs.Numbers.{little_from-append}
 use Rattle.wav_file.specs.declared.fault.WavFault.{WavFault}

@@ -1,6 +1,6 @@
 -- The head of a WAV file of this project's format, up to its samples (Multimedia Programming Interface and Data
 -- Specifications 1.0).
-use Rattle.std.specs.Prelude.{ℕ, ◌+◌, ◌*◌, List, [], ◌∷◌, ◌++◌, codes}
+use Rattle.std.specs.Prelude.{ℕ, ◌+◌, ◌*◌, List, ◌++◌, codes}
 use Rattle.byteorder.specs.Endian.{little_bytes}
 
 -- the format: PCM, one channel, 9600 samples and 19200 octets a second, two octets a sample, 16 bits

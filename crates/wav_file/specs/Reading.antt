@@ -1,6 +1,6 @@
 -- What the octets of a WAV file are read as (Multimedia Programming Interface and Data Specifications 1.0): "RIFF", a
 -- size that is not looked at, "WAVE", and chunks, of which a "fmt " comes before the first "data".
-use Rattle.std.specs.Prelude.{ℕ, ◌+◌, ◌==◌, ◌||◌, nat_lt, nat_le, if◌then◌else◌, Bool, true, false, List, [], ◌∷◌, length, take, drop, codes, ℤ, Option, Some, None, Result, Ok, Err}
+use Rattle.std.specs.Prelude.{ℕ, ◌+◌, ◌==◌, nat_lt, nat_le, if◌then◌else◌, Bool, true, false, List, [], ◌∷◌, length, take, drop, codes, ℤ, Option, Some, None, Result, Ok, Err}
 use Rattle.std.specs.Option.{option_to_list}
 use Rattle.std.specs.Str.{bytes_eq}
 use Rattle.wav_file.specs.declared.fault.WavFault.{WavFault}

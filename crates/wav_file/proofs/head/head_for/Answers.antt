@@ -1,4 +1,3 @@
-use Rattle.std.proofs.Common.{refl}
 use Rattle.wav_file.specs.Head.{head_before}
 use Rattle.wav_file.proofs.head.head_for.Goals as goal
 

@@ -1,4 +1,4 @@
-use Rattle.std.proofs.Common.{List, ℕ, ◌*◌, ◌++◌, ap, arith, ◌∙◌}
+use Rattle.std.proofs.Common.{◌*◌, ◌++◌, ap, arith, ◌∙◌}
 use Rattle.wav_file.specs.Reading.{Reading, samples_in, fault_in, verdict_of}
 use Rattle.wav_file.proofs.HeadLemmas.{head_reads, head_whole}
 use Rattle.wav_file.proofs.head.wav_head.Goals as goal
