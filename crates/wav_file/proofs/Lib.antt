@@ -1,0 +1,4 @@
+pub mod ChunkLemmas
+pub mod StepLemmas
+pub mod RestLemmas
+pub mod HeadLemmas

@@ -1,0 +1,18 @@
+//! WAV files of 16-bit PCM at 9600 samples a second, one channel, as octets that come one by one (Multimedia
+//! Programming Interface and Data Specifications 1.0). Whatever octets come, what they give is the definition's reading
+//! of all octets so far: each sample of the first data chunk as its last octet comes, and the first fault exactly at the
+//! octet at which it shows. The head of a file of so many samples is written by `wav_head`.
+#![tactic(auto)]
+
+mod fault;
+mod field;
+mod head;
+mod part;
+mod reader;
+
+pub use fault::{TooLong, WavFault};
+pub use head::wav_head;
+pub use reader::WavIn;
+
+#[cfg(test)]
+mod tests;

@@ -1,0 +1,189 @@
+// The parts of a file, and which one is under way behind an octet.
+
+ghost use Rattle.std.specs.Prelude.{◌≡◌, ◌<◌, ◌≢◌, ◌≤◌, length, take, drop, Some};
+ghost use Rattle.byteorder.specs.Endian.{little_number};
+ghost use Rattle.wav_file.specs.Chunks.{padded};
+ghost use Rattle.wav_file.specs.Samples.{sample_of};
+
+use crate::fault::WavFault;
+use crate::field::Field;
+use byteorder::{ByteOrder, LittleEndian};
+
+// The first letters of a RIFF file, and the word behind its size.
+const RIFF: [u8; 4] = *b"RIFF";
+
+const WAVE: [u8; 4] = *b"WAVE";
+
+// A data size from here on stands for data to the end of input.
+const ENDLESS_SIZE: u32 = 0x7fff_0000;
+
+// The least size of a format.
+const FORMAT_SIZE: u32 = 16;
+
+#[derive(Clone, Copy, Debug)]
+pub enum Part {
+    // The twelve octets before the first chunk.
+    Head,
+    // So many octets to be skipped, and then a chunk's head, which its own octets have not ended yet.
+    Chunk { formatted: bool, skip: u64 },
+    // A field of the format; so many octets of its chunk stand behind the last field.
+    Format { field: Field, skip: u64 },
+    // The first data chunk, with so many octets left, or none for data to the end of input, and the octet that begins a
+    // sample.
+    Data { left: Option<u32>, low: Option<u8> },
+    // A fault has shown.
+    Failed { fault: WavFault },
+}
+
+impl Part {
+    ghost use Rattle.wav_file.specs.Held.{after_head, after_chunk_head, after_field, after_data, data_begun, format_begun, answer_of, fault_of_part, whole_of_part};
+    ghost use Rattle.wav_file.specs.Reading.{verdict_on};
+
+    // Behind an octet of the first twelve.
+    pub fn after_head(at: u64, octet: u8) -> Part
+        requires { at < 12 }
+        ensures { result ≡ after_head at octet }
+    {
+        let place = at as usize;
+        match place {
+            0..4 if RIFF[place] != octet => Part::Failed {
+                fault: WavFault::NotRiff { at },
+            },
+            8..12 if WAVE[place - 8] != octet => Part::Failed {
+                fault: WavFault::NotWave { at },
+            },
+            11 => Part::Chunk {
+                formatted: false,
+                skip: 0,
+            },
+            _ => Part::Head,
+        }
+    }
+
+    // Behind a chunk's head, whose last octet is at `at`.
+    pub fn after_chunk_head(at: u64, formatted: bool, head: &[u8]) -> Part
+        requires { length head.now ≡ 8 }
+        ensures { result ≡ after_chunk_head at formatted (take 4 head.now) (little_number 4 (drop 4 head.now)) }
+    {
+        let (name, size) = head.split_at(4);
+        let size = LittleEndian::read_u32(size);
+        if name == b"data".as_slice() {
+            return Part::of_data(at, formatted, size);
+        }
+        if name == b"fmt ".as_slice() && !formatted {
+            return Part::of_format(at, size);
+        }
+        Part::Chunk {
+            formatted,
+            skip: padded(size),
+        }
+    }
+
+    // Behind an octet of the data, and the sample that ends with it.
+    pub fn after_data(left: Option<u32>, low: Option<u8>, octet: u8) -> (Part, Option<i16>)
+        ensures { result ≡ after_data left low octet }
+    {
+        if left == Some(0) {
+            return (Part::Data { left, low }, None);
+        }
+        let left = left.map(|left| left - 1);
+        match low {
+            None => {
+                let low = Some(octet);
+                (Part::Data { left, low }, None)
+            }
+            Some(low) => {
+                let sample = sample(low, octet);
+                (Part::Data { left, low: None }, Some(sample))
+            }
+        }
+    }
+
+    // The answer to the octet that led here, with the sample that ended with it.
+    pub fn answer(self, sample: Option<i16>) -> Result<Option<i16>, WavFault>
+        ensures { result ≡ answer_of (fault_of_part self) sample }
+    {
+        match self {
+            Part::Failed { fault } => Err(fault),
+            _ => Ok(sample),
+        }
+    }
+
+    // What a file is worth that ends before the octet at `at`.
+    pub fn verdict(self, at: u64) -> Result<(), WavFault>
+        ensures { result ≡ verdict_on at (fault_of_part self) (whole_of_part self) }
+    {
+        match self {
+            Part::Failed { fault } => Err(fault),
+            Part::Data {
+                left: None | Some(0),
+                ..
+            } => Ok(()),
+            _ => Err(WavFault::Truncated { at }),
+        }
+    }
+
+    fn of_data(at: u64, formatted: bool, size: u32) -> Part
+        ensures { result ≡ data_begun at formatted size }
+    {
+        if !formatted {
+            return Part::Failed {
+                fault: WavFault::NoFormat { at },
+            };
+        }
+        Part::Data {
+            left: (size < ENDLESS_SIZE).then_some(size),
+            low: None,
+        }
+    }
+
+    fn of_format(at: u64, size: u32) -> Part
+        ensures { result ≡ format_begun at size }
+    {
+        if size < FORMAT_SIZE {
+            return Part::Failed {
+                fault: WavFault::NoFormat { at },
+            };
+        }
+        Part::Format {
+            field: Field::Format,
+            skip: padded(size) - u64::from(FORMAT_SIZE),
+        }
+    }
+
+    // Behind a field of this value, whose last octet is at `at`.
+    pub fn after_field(at: u64, field: Field, skip: u64, value: u32) -> Part
+        ensures { result ≡ after_field at field skip value }
+    {
+        if !field.accepts(value) {
+            let fault = WavFault::BadFormat {
+                at,
+                field: field.number(),
+                value,
+            };
+            return Part::Failed { fault };
+        }
+        match field.next() {
+            Some(field) => Part::Format { field, skip },
+            None => Part::Chunk {
+                formatted: true,
+                skip,
+            },
+        }
+    }
+}
+
+// How many octets contents of this size have with their padding.
+fn padded(size: u32) -> u64
+    ensures { result ≡ padded size }
+{
+    u64::from(size) + u64::from(size % 2)
+}
+
+// The sample of two octets.
+#[tactic(auto, unfolding(crate::specs::Samples::sample_of))]
+fn sample(low: u8, high: u8) -> i16
+    ensures { result ≡ sample_of low high }
+{
+    i16::from_le_bytes([low, high])
+}

@@ -1,0 +1,211 @@
+// Files and heads from outside.
+
+use super::{TooLong, WavFault, WavIn, wav_head};
+use std::alloc::{AllocError, Global};
+use std::test::Fail;
+
+// What Python's module `wave` writes for one channel, two octets a sample, 9600 samples a second and the samples below.
+const FROM_PYTHON: [u8; 58] = [
+    0x52, 0x49, 0x46, 0x46, 0x32, 0x00, 0x00, 0x00, 0x57, 0x41, 0x56, 0x45, 0x66, 0x6d, 0x74, 0x20,
+    0x10, 0x00, 0x00, 0x00, 0x01, 0x00, 0x01, 0x00, 0x80, 0x25, 0x00, 0x00, 0x00, 0x4b, 0x00, 0x00,
+    0x02, 0x00, 0x10, 0x00, 0x64, 0x61, 0x74, 0x61, 0x0e, 0x00, 0x00, 0x00, 0x00, 0x00, 0xba, 0x26,
+    0x1c, 0x0a, 0xe9, 0xdb, 0x00, 0x80, 0xff, 0x7f, 0xff, 0xff,
+];
+
+const SAMPLES: [i16; 7] = [0, 9914, 2588, -9239, -32768, 32767, -1];
+
+// The head of 1296 samples.
+const HEAD: [u8; 44] = [
+    0x52, 0x49, 0x46, 0x46, 0x44, 0x0a, 0x00, 0x00, 0x57, 0x41, 0x56, 0x45, 0x66, 0x6d, 0x74, 0x20,
+    0x10, 0x00, 0x00, 0x00, 0x01, 0x00, 0x01, 0x00, 0x80, 0x25, 0x00, 0x00, 0x00, 0x4b, 0x00, 0x00,
+    0x02, 0x00, 0x10, 0x00, 0x64, 0x61, 0x74, 0x61, 0x20, 0x0a, 0x00, 0x00,
+];
+
+// RIFF, a size and WAVE.
+const FRONT: &[u8] = b"RIFF\xff\xff\xff\xffWAVE";
+
+// A format that is read.
+const FORMAT: &[u8] = b"fmt \x10\0\0\0\x01\0\x01\0\x80\x25\0\0\0\0\0\0\x02\0\x10\0";
+
+// What a reader made of octets: the samples, the first fault with the place of the octet that brought it, and what it
+// thinks of a file that ends there.
+#[derive(Drop)]
+struct Read {
+    samples: Vec<i16>,
+    shown: Option<(usize, WavFault)>,
+    end: Result<(), WavFault>,
+}
+
+fn read_all(alloc: Global, octets: &[u8]) -> Result<Read, AllocError> {
+    let mut reader = WavIn::new();
+    let mut samples = Vec::new(alloc);
+    let mut shown = None;
+    for (place, octet) in octets.iter().enumerate() {
+        match reader.push(*octet) {
+            Ok(Some(sample)) => samples.push(sample)?,
+            Ok(None) => {}
+            Err(fault) => shown = shown.or(Some((place, fault))),
+        }
+    }
+    Ok(Read {
+        samples,
+        shown,
+        end: reader.finish(),
+    })
+}
+
+fn joined(alloc: Global, parts: &[&[u8]]) -> Result<Vec<u8>, AllocError> {
+    let mut octets = Vec::new(alloc);
+    for part in parts {
+        octets.extend_from_slice(part)?;
+    }
+    Ok(octets)
+}
+
+#[test]
+fn a_head_counts_its_samples(rt: HostRuntime) {
+    assert_eq!(rt; wav_head(1296), Ok(HEAD));
+    let most = wav_head(2_147_483_629)
+        .ok()
+        .map(|head| (head[4], head[7], head[40], head[43]));
+    assert_eq!(rt; most, Some((0xfe, 0xff, 0xda, 0xff)));
+    for count in [2_147_483_630, u64::MAX] {
+        assert_eq!(rt; wav_head(count), Err(TooLong { count }));
+    }
+}
+
+#[test]
+fn a_file_of_another_program_is_read(rt: HostRuntime) -> Result<(), Fail> {
+    let found = read_all(rt.alloc(), &FROM_PYTHON)?;
+    assert_eq!(rt; found.samples.as_slice(), SAMPLES.as_slice());
+    assert_eq!(rt; (found.shown, found.end), (None, Ok(())));
+    Ok(())
+}
+
+#[test]
+fn a_file_cut_anywhere_is_truncated_there(rt: HostRuntime) -> Result<(), Fail> {
+    for length in 0..FROM_PYTHON.len() {
+        let found = read_all(rt.alloc(), &FROM_PYTHON[..length])?;
+        let at = length as u64;
+        assert_eq!(rt; found.shown, None, "cut at {length}");
+        assert_eq!(rt;
+            found.end,
+            Err(WavFault::Truncated { at }),
+            "cut at {length}"
+        );
+        assert_eq!(rt;
+            found.samples.len(),
+            length.saturating_sub(44) / 2,
+            "cut at {length}"
+        );
+    }
+    Ok(())
+}
+
+#[test]
+fn a_fault_comes_at_the_octet_that_shows_it(rt: HostRuntime) -> Result<(), Fail> {
+    let bad = |at: u64, field: u8, value: u32| WavFault::BadFormat { at, field, value };
+    let table: [(usize, u8, Option<WavFault>); 16] = [
+        (3, 0x58, Some(WavFault::NotRiff { at: 3 })),
+        (0, 0x72, Some(WavFault::NotRiff { at: 0 })),
+        (6, 0x58, None),
+        (11, 0x58, Some(WavFault::NotWave { at: 11 })),
+        (8, 0x77, Some(WavFault::NotWave { at: 8 })),
+        (16, 0x0e, Some(WavFault::NoFormat { at: 19 })),
+        (20, 0x03, Some(bad(21, 1, 3))),
+        (21, 0x01, Some(bad(21, 1, 257))),
+        (22, 0x02, Some(bad(23, 2, 2))),
+        (24, 0x81, Some(bad(27, 3, 9601))),
+        (27, 0x01, Some(bad(27, 3, 0x0100_2580))),
+        (28, 0x01, None),
+        (31, 0x01, None),
+        (32, 0x04, Some(bad(33, 5, 4))),
+        (34, 0x18, Some(bad(35, 6, 24))),
+        (35, 0x01, Some(bad(35, 6, 272))),
+    ];
+    for (place, octet, want) in table {
+        let mut file = FROM_PYTHON;
+        assert!(rt; place < file.len());
+        file[place] = octet;
+        let found = read_all(rt.alloc(), &file)?;
+        let at = found.shown.map(|(at, _)| at as u64);
+        let fault = found.shown.map(|(_, fault)| fault);
+        assert_eq!(rt; fault, want, "octet {octet} at {place}");
+        assert_eq!(rt; at, want.map(place_of), "octet {octet} at {place}");
+        assert_eq!(rt;
+            found.end,
+            want.map_or(Ok(()), Err),
+            "octet {octet} at {place}"
+        );
+    }
+    Ok(())
+}
+
+fn place_of(fault: WavFault) -> u64 {
+    match fault {
+        WavFault::NotRiff { at } => at,
+        WavFault::NotWave { at } => at,
+        WavFault::NoFormat { at } => at,
+        WavFault::BadFormat { at, .. } => at,
+        WavFault::Truncated { at } => at,
+    }
+}
+
+#[test]
+fn a_rate_of_44100_is_named(rt: HostRuntime) {
+    let mut file = HEAD;
+    file[24] = 0x44;
+    file[25] = 0xac;
+    let mut reader = WavIn::new();
+    let fault = WavFault::BadFormat {
+        at: 27,
+        field: 3,
+        value: 44100,
+    };
+    for (place, octet) in file.iter().enumerate() {
+        let want = if place < 27 { Ok(None) } else { Err(fault) };
+        assert_eq!(rt; reader.push(*octet), want, "at {place}");
+    }
+    assert_eq!(rt; reader.finish(), Err(fault));
+}
+
+#[test]
+fn chunks_in_any_order_are_read(rt: HostRuntime) -> Result<(), Fail> {
+    let alloc = rt.alloc();
+    let wide = b"fmt \x12\0\0\0\x01\0\x01\0\x80\x25\0\0\0\0\0\0\x02\0\x10\0\x07\x07".as_slice();
+    let other_format = b"fmt \x10\0\0\0\x03\0\x02\0\x44\xac\0\0\0\0\0\0\x08\0\x20\0".as_slice();
+    let list = b"LIST\x03\0\0\0abc\0".as_slice();
+    let data = b"data\x05\0\0\0\x01\0\x02\0\x03\0".as_slice();
+    let endless = b"data\0\xf0\xff\x7f\x01\0\x02\0\x03".as_slice();
+    let none = b"data\0\0\0\0".as_slice();
+    let two = [1, 2].as_slice();
+    let cut = |at: u64| Err(WavFault::Truncated { at });
+    let early = WavFault::NoFormat { at: 19 };
+    let table: [(&[&[u8]], &[i16], Result<(), WavFault>); 11] = [
+        (&[FRONT, FORMAT, data], two, Ok(())),
+        (&[FRONT, list, FORMAT, list, data, list, data], two, Ok(())),
+        (&[FRONT, wide, data], two, Ok(())),
+        (&[FRONT, FORMAT, other_format, data, b"x"], two, Ok(())),
+        (&[FRONT, FORMAT, endless], two, Ok(())),
+        (
+            &[FRONT, FORMAT, endless, b"\0data"],
+            &[1, 2, 3, 24932, 24948],
+            Ok(()),
+        ),
+        (&[FRONT, FORMAT, none], &[], Ok(())),
+        (&[FRONT, FORMAT, none, data], &[], Ok(())),
+        (&[FRONT, FORMAT, list], &[], cut(48)),
+        (&[FRONT, b"data\x08\0\0\0", FORMAT, data], &[], Err(early)),
+        (
+            &[FRONT, FORMAT, b"data\x06\0\0\0\x01\0\x02\0\x03"],
+            two,
+            cut(49),
+        ),
+    ];
+    for (number, (parts, samples, end)) in table.into_iter().enumerate() {
+        let found = read_all(alloc, &joined(alloc, parts)?)?;
+        assert_eq!(rt; found.samples.as_slice(), samples, "file {number}");
+        assert_eq!(rt; found.end, end, "file {number}");
+    }
+    Ok(())
+}
