@@ -1,6 +1,6 @@
 -- Address fields octet by octet.
-use Rattle.std.proofs.Common.{◌≡◌, ◌≢◌, ℕ, ◌+◌, ◌-◌, ◌*◌, ◌/◌, ◌%◌, ◌<◌, ◌≤◌, ◌++◌, List, [], ◌∷◌, length, get_or, take, drop, map, replicate, set, refl, sym, ap, subst, arith, inl, inr, ◌∙◌, Bool, true, false, leb, eqb}
-use Rattle.std.proofs.lemmas.List.{length-append, length-map, length-replicate, get_or-replicate, get_or_append_left, get_or-append_right, get_or-map, get_or-take, get_or-drop, length-take, length-drop, length-take-le, get_or-set_same, get_or-set_other, length-set, ext_get_or, get_or_default, take_more, take-take, take_at, get_or_at}
+use Rattle.std.proofs.Common.{◌≡◌, ℕ, ◌+◌, ◌-◌, ◌*◌, ◌/◌, ◌%◌, ◌<◌, ◌≤◌, ◌++◌, List, [], ◌∷◌, length, get_or, take, drop, map, replicate, refl, sym, ap, subst, arith, inl, inr, ◌∙◌, Bool, true, false, leb, eqb}
+use Rattle.std.proofs.lemmas.List.{length-append, length-map, length-replicate, get_or-replicate, get_or_append_left, get_or-append_right, get_or-map, get_or-take, get_or-drop, length-take, length-drop, length-take-le, ext_get_or, get_or_default, take_more, take-take, take_at, get_or_at}
 use Rattle.std.proofs.lemmas.Bool.{cases_lt}
 use Rattle.std.proofs.lemmas.Bool.Decides.{nat_tests}
 use Rattle.ax25_address.specs.AddressField.{bit, ssid_octet, IsField}
@@ -57,55 +57,6 @@ bad_place octets start characters len i aligned six h no_space no_letter place =
       ]
       | inr sp ↦ no_space sp.shifted (omega (arith, sp.padding))
     ]
-
--- a space more
-pub IsNameSoFar-space : (octets : List ℕ) (start : ℕ) (characters : List ℕ) (len i : ℕ) → i < 6 → 0 < i → start + i < length octets → get_or octets (start + i) 0 ≡ 64 → IsNameSoFar octets start characters len i → IsNameSoFar octets start characters len (i + 1)
-IsNameSoFar-space octets start characters len i six later there space h = record {
-  size = h.size;
-  below = omega (arith, h.below);
-  within = omega arith;
-  begun = λ _. h.begun later;
-  letters = h.letters;
-  spaces = h.spaces;
-  same = λ k below. elim (cases_lt k i) [
-    | inl earlier ↦ h.same k earlier
-    | inr here ↦ (let e : k ≡ i = omega arith in
-        let blank : get_or characters k 0 ≡ 32 = h.spaces k (omega (arith, h.below)) (omega arith) in
-        let now : get_or octets (start + k) 0 ≡ 64 = ap (λ n. get_or octets (start + n) 0) e ∙ space in
-        omega arith)
-  ];
-  there = omega arith;
-}
-
--- a character more
-pub IsNameSoFar-letter : (octets : List ℕ) (start : ℕ) (characters : List ℕ) (len i : ℕ) → i < 6 → i ≤ len → start + i < length octets → IsShiftedCharacter (get_or octets (start + i) 0) → IsNameSoFar octets start characters len i → IsNameSoFar octets start (set characters i (get_or octets (start + i) 0 / 2)) (i + 1) (i + 1)
-IsNameSoFar-letter octets start characters len i six full there letter h =
-    let value : ℕ = get_or octets (start + i) 0 / 2 in
-    let half : value ≡ letter.0 = omega (arith, letter.2) in
-    let double : get_or octets (start + i) 0 ≡ 2 * value = omega (arith, letter.2) in
-    let size : i < length characters = omega (arith, h.size) in
-    let new : get_or (set characters i value) i 0 ≡ value = get_or-set_same characters i value 0 size in
-    record {
-      size = length-set characters i value ∙ h.size;
-      below = omega arith;
-      within = omega arith;
-      begun = λ _. omega arith;
-      letters = λ k below. elim (cases_lt k i) [
-        | inl earlier ↦ (let other : k ≢ i = omega arith in
-            subst (λ (c : ℕ). IsCallCharacter c) (sym (get_or-set_other characters i k value 0 other)) (h.letters k (omega arith)))
-        | inr here ↦ (let e : k ≡ i = omega arith in
-            subst (λ (c : ℕ). IsCallCharacter c) (sym (ap (λ n. get_or (set characters i value) n 0) e ∙ new ∙ half)) letter.1)
-      ];
-      spaces = λ k from below. let other : k ≢ i = omega arith in
-          get_or-set_other characters i k value 0 other ∙ h.spaces k (omega (arith, h.below)) below;
-      same = λ k below. elim (cases_lt k i) [
-        | inl earlier ↦ (let other : k ≢ i = omega arith in
-            h.same k earlier ∙ ap (λ c. 2 * c) (sym (get_or-set_other characters i k value 0 other)))
-        | inr here ↦ (let e : k ≡ i = omega arith in
-            ap (λ n. get_or octets (start + n) 0) e ∙ double ∙ ap (λ c. 2 * c) (sym (ap (λ n. get_or (set characters i value) n 0) e ∙ new)))
-      ];
-      there = omega arith;
-    }
 
 -- a padded name has six characters
 pub length-padded : (name : List ℕ) → length name ≤ 6 → length (padded name) ≡ 6

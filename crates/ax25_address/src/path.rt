@@ -26,7 +26,7 @@ pub enum Role {
 }
 
 /// From which station a frame comes, to which it goes, and by which repeaters.
-#[derive(Debug, PartialEq, Eq, Drop)]
+#[derive(Clone, Debug, PartialEq, Eq, Drop)]
 pub struct Path {
     /// The station that the frame is for.
     pub dest: Call,
@@ -36,6 +36,24 @@ pub struct Path {
     pub repeaters: ArrayVec<Hop, 8>,
     /// Whether it is a command or a response.
     pub role: Role,
+}
+
+impl Path {
+    /// The same path in another role.
+    pub fn with_role(&self, role: Role) -> Path
+        ensures { result ≡ record self.now { role = role } }
+    {
+        let mut repeaters = ArrayVec::new();
+        for hop in self.repeaters.as_slice() {
+            repeaters.push(*hop);
+        }
+        Path {
+            dest: self.dest,
+            source: self.source,
+            repeaters,
+            role,
+        }
+    }
 }
 
 /// The path back to the frame's source: its ends swapped, its repeaters in reverse order with their H

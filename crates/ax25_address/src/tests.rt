@@ -79,6 +79,7 @@ fn a_path_there_and_back(rt: HostRuntime) -> Result<(), Fail> {
     assert_eq!(rt; back.dest, path.source);
     assert_eq!(rt; back.source, path.dest);
     assert_eq!(rt; back.repeaters.as_slice(), [relay].as_slice());
+    assert_eq!(rt; back.with_role(Role::Command).role, Role::Command);
     assert_eq!(rt; write_path(&back)[6], 0x60);
     assert_eq!(rt; write_path(&back)[13], 0xe0);
     Ok(())

@@ -1,5 +1,5 @@
 -- Frames and their faults as wholes.
-use Rattle.std.proofs.Common.{◌≡◌, ℕ, ◌⊎◌, List, length, drop, refl, sym, ap, subst, inl, inr, ◌∙◌, Result, Ok, Err, IfOk, IfErr}
+use Rattle.std.proofs.Common.{◌≡◌, ℕ, ◌+◌, ◌≤◌, ◌⊎◌, List, length, drop, refl, sym, ap, subst, inl, inr, ◌∙◌, Result, Ok, Err, IfOk, IfErr, length-append, append_assoc, arith, [], ◌++◌}
 use Rattle.std.proofs.lemmas.List.{drop_at}
 use Rattle.ax25_address.specs.FramePath.{BeginsWithPath}
 use Rattle.ax25_address.specs.PathFault.{ShowsFault}
@@ -7,7 +7,12 @@ use Rattle.ax25_address.specs.declared.path.Path.{Path}
 use Rattle.ax25_address.specs.declared.fault.AddrFault.{AddrFault}
 use Rattle.ax25_address.proofs.OneReading.{no_fault, ShowsFault-same, BeginsWithPath-same}
 use Rattle.ax25_address.proofs.Written.{BeginsWithPath-written}
-use Rattle.ax25_frames.specs.FrameOctets.{IsFrame, IsWrittenFrame, IsKind, body_octets}
+use Rattle.ax25_frames.specs.FrameOctets.{IsFrame, IsWrittenFrame, IsKind, CanWrite, body_octets, control_of, contents_of, information_of}
+use Rattle.ax25_frames.specs.ControlField.{control_octets}
+use Rattle.ax25_frames.specs.declared.frame.Modulus.TheVariants.{Eight, OneTwentyEight}
+use Rattle.ax25_frames.specs.declared.frame.Kind.TheVariants.{Info, Super, Setup, Ui, Other}
+use Rattle.ax25_frames.specs.declared.control.Control.{Control}
+use Rattle.ax25_frames.specs.declared.control.Control.TheVariants.{Info as InfoControl, Super as SuperControl, Unnumbered}
 use Rattle.ax25_frames.specs.FrameFault.{BodyFault, FollowsPath, ShowsFrameFault}
 use Rattle.ax25_frames.specs.Verdict.{Outcome, IsOneKind}
 use Rattle.ax25_frames.specs.declared.frame.Modulus.{Modulus}
@@ -123,3 +128,33 @@ IsFrame-written frame modulus octets valid h = record {
   kind = valid;
   body = ap (λ xs. drop (length h.address) xs) h.spelling ∙ drop_at h.address (body_octets modulus frame.kind) (length h.address) refl;
 }
+
+length-control : (modulus : Modulus) (control : Control) → (1 ≤ length (control_octets modulus control)) × (length (control_octets modulus control) ≤ 2)
+length-control Eight (InfoControl ns nr poll) = (omega arith, omega arith)
+length-control Eight (SuperControl which nr flag) = (omega arith, omega arith)
+length-control Eight (Unnumbered which flag) = (omega arith, omega arith)
+length-control OneTwentyEight (InfoControl ns nr poll) = (omega arith, omega arith)
+length-control OneTwentyEight (SuperControl which nr flag) = (omega arith, omega arith)
+length-control OneTwentyEight (Unnumbered which flag) = (omega arith, omega arith)
+
+length-contents : (kind : Kind) → length (contents_of kind) ≤ length (information_of kind) + 1
+length-contents (Info ns nr poll pid octets) = omega arith
+length-contents (Super which nr flag) = omega arith
+length-contents (Setup which flag) = omega arith
+length-contents (Ui flag pid octets) = omega arith
+length-contents (Other which flag octets) = omega arith
+
+-- what is written has 15 to 1010 octets
+pub length-written : (frame : Frame) (modulus : Modulus) (octets : List ℕ) → CanWrite modulus frame → IsWrittenFrame frame modulus octets → (15 ≤ length octets) × (length octets ≤ 1010)
+length-written frame modulus octets can h =
+    let control = length-control modulus (control_of frame.kind) in
+    let contents = length-contents frame.kind in
+    let body : length (body_octets modulus frame.kind) ≡ length (control_octets modulus (control_of frame.kind)) + length (contents_of frame.kind) =
+    length-append (control_octets modulus (control_of frame.kind)) (contents_of frame.kind) in
+    let whole : length octets ≡ length h.address + length (body_octets modulus frame.kind) = ap length h.spelling ∙ length-append h.address (body_octets modulus frame.kind) in
+    (omega (arith, h.path.size, body, whole, control.0), omega (arith, h.path.size, h.path.count, body, whole, control.1, contents, can.room))
+
+-- three parts, one appended after the other
+pub three_parts : (empty first second whole a b d : List ℕ) → empty ≡ [] → first ≡ empty ++ a → second ≡ first ++ b → whole ≡ second ++ d → whole ≡ a ++ (b ++ d)
+three_parts empty first second whole a b d none one two three =
+    three ∙ ap (λ xs. xs ++ d) (two ∙ ap (λ xs. xs ++ b) (one ∙ ap (λ xs. xs ++ a) none)) ∙ append_assoc a b d

@@ -51,7 +51,7 @@ pub enum W {
 }
 
 /// What a frame says, apart from its path.
-#[derive(Debug, Drop)]
+#[derive(Clone, Debug, Drop)]
 pub enum Kind {
     /// An I frame.
     Info {
@@ -103,7 +103,7 @@ pub enum Kind {
 }
 
 /// A frame without its check sequence.
-#[derive(Debug, Drop)]
+#[derive(Clone, Debug, Drop)]
 pub struct Frame {
     /// From whom it comes, to whom it goes, and by which repeaters.
     pub path: Path,

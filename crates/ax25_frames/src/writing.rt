@@ -1,5 +1,5 @@
 //! A frame written as octets.
-ghost use Rattle.std.specs.Prelude.{◌≡◌, ℕ, ◌++◌, [], ◌∷◌, IfOk, OnOk};
+ghost use Rattle.std.specs.Prelude.{◌≡◌, ℕ, ◌++◌, [], ◌∷◌, ◌≤◌, length, IfOk, OnOk};
 ghost use Rattle.ax25_frames.specs.FrameOctets.{IsFrame, IsWrittenFrame, CanWrite, control_of, contents_of};
 ghost use Rattle.ax25_frames.specs.ControlField.{control_octets, IsNumbered};
 
@@ -16,6 +16,7 @@ pub fn write_frame(alloc: Global, frame: &Frame, modulus: Modulus) -> Result<Oct
     requires { CanWrite modulus frame.now }
     ensures written { IfOk result (IsWrittenFrame frame.now modulus) }
     ensures read_again { IfOk result (IsFrame frame.now modulus) }
+    ensures size { IfOk result (λ octets. (15 ≤ length octets) × (length octets ≤ 1010)) }
 {
     let mut octets = Vec::new(alloc);
     octets.extend_from_slice(write_path(&frame.path).as_slice())?;
