@@ -1,0 +1,6 @@
+pub mod Laps
+pub mod Growing
+pub mod Standing
+pub mod Stepping
+pub mod Making
+pub mod Closing

@@ -1,0 +1,15 @@
+-- Making the readers of a new ring, one by one.
+use Rattle.std.proofs.Common.{◌≡◌, ℕ, ◌+◌, List, [], ◌∷◌, ◌++◌, length, ap, ◌∙◌, sym, subst}
+use Rattle.std.specs.List.{All}
+use Rattle.std.proofs.lemmas.List.Elements.{All-push, All-nil}
+use Rattle.atomic_table.specs.Seated.{TableId}
+use Rattle.sample_ring.specs.declared.reader.Reader.{Reader}
+use Rattle.sample_ring.specs.declared.writer.Writer.{Writer}
+use Rattle.sample_ring.specs.Ends.{writer_ring, reader_ring, published_by, IsNew}
+
+-- so many readers were made, each new and of the ring
+pub record HasMade (ring : TableId) (writer : Writer) (ends : List Reader) (count : ℕ) : Type 0 where
+  pub same_ring : writer_ring writer ≡ ring
+  pub nothing : published_by writer ≡ []
+  pub many : length ends ≡ count
+  pub all_new : All (λ reader. (reader_ring reader ≡ ring) × IsNew reader) ends

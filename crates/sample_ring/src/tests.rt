@@ -1,0 +1,254 @@
+//! A worked ring of 8 cells, the refusals, and a race of two threads.
+ghost use Rattle.std.specs.Prelude.{◌≡◌, ◌<◌, IfOk};
+ghost use Rattle.sample_ring.specs.Ends.{ring_id, writer_ring, reader_ring, done_ring};
+
+use crate::cell::{lap_in, sample_in, word_at};
+use crate::{Got, Reader, Ring, RingEnd, RingFault, Writer, WriterDone};
+use std::alloc::{AllocError, Global};
+use std::test::Fail;
+use std::thread::{Threads, join, yield_now};
+
+/// The sample that these tests publish at a position. Positions of one cell have different samples.
+fn sample_at(position: u64) -> i16 {
+    ((position.wrapping_mul(40503) % 65536) as u16).cast_signed()
+}
+
+fn item(at: u64) -> Got {
+    Got::Item {
+        at,
+        sample: sample_at(at),
+    }
+}
+
+fn with_one_reader(alloc: Global, len: u32) -> Result<(Ring, Writer, Reader), RingFault>
+    ensures { IfOk result (λ made. (writer_ring made.1 ≡ ring_id made.0) × (reader_ring made.2 ≡ ring_id made.0)) }
+{
+    let (ring, writer, mut readers) = Ring::new(alloc, len, 1)?;
+    let Some(reader) = readers.pop() else {
+        return Err(RingFault::Memory);
+    };
+    Ok((ring, writer, reader))
+}
+
+fn with_two_readers(alloc: Global, len: u32) -> Result<(Ring, Writer, Reader, Reader), RingFault>
+    ensures { IfOk result (λ made. (writer_ring made.1 ≡ ring_id made.0) × (reader_ring made.2 ≡ ring_id made.0) × (reader_ring made.3 ≡ ring_id made.0)) }
+{
+    let (ring, writer, mut readers) = Ring::new(alloc, len, 2)?;
+    let Some(second) = readers.pop() else {
+        return Err(RingFault::Memory);
+    };
+    let Some(first) = readers.pop() else {
+        return Err(RingFault::Memory);
+    };
+    Ok((ring, writer, first, second))
+}
+
+/// Publishes up to a position.
+fn publish_to(ring: &Ring, writer: &mut Writer, to: u64) -> Result<(), RingEnd>
+    requires { writer_ring writer.old ≡ ring_id ring.now }
+    ensures { writer_ring writer.new ≡ writer_ring writer.old }
+{
+    for position in writer.published()..to {
+        writer.publish(ring, sample_at(position))?;
+    }
+    Ok(())
+}
+
+/// Whether the next reads give the items from one position to below another.
+fn reads_items(ring: &Ring, reader: &mut Reader, from: u64, to: u64) -> bool
+    requires { reader_ring reader.old ≡ ring_id ring.now }
+    ensures { reader_ring reader.new ≡ reader_ring reader.old }
+{
+    for at in from..to {
+        if reader.read(ring) != item(at) {
+            return false;
+        }
+    }
+    true
+}
+
+#[test]
+fn a_ring_of_eight_cells_gives_items_gaps_and_the_end(rt: HostRuntime) -> Result<(), Fail> {
+    let (ring, mut writer, mut reader) = with_one_reader(rt.alloc(), 8)?;
+    assert_eq!(rt; reader.read(&ring), Got::Empty { at: 0 });
+    assert!(rt; publish_to(&ring, &mut writer, 3).is_ok());
+    assert!(rt; reads_items(&ring, &mut reader, 0, 3));
+    assert_eq!(rt; reader.read(&ring), Got::Empty { at: 3 });
+    assert!(rt; publish_to(&ring, &mut writer, 20).is_ok());
+    assert_eq!(rt; reader.read(&ring), Got::Gap { from: 3, to: 12 });
+    let note = writer.note(&ring);
+    assert!(rt; note.count() == 20 && writer.published() == 20);
+    reader.learn(&ring, note);
+    assert_eq!(rt; reader.at(), 12);
+    assert!(rt; reads_items(&ring, &mut reader, 12, 20));
+    assert_eq!(rt; reader.read(&ring), Got::Empty { at: 20 });
+    let done = writer.end(&ring);
+    assert_eq!(rt; reader.read(&ring), Got::End { total: 20 });
+    assert_eq!(rt; reader.read(&ring), Got::End { total: 20 });
+    let mut readers = Vec::new(rt.alloc());
+    readers.push(reader)?;
+    assert_eq!(rt; ring.close(done, readers).total(), 20);
+    Ok(())
+}
+
+#[test]
+fn a_word_has_the_lap_above_the_sample(rt: HostRuntime) {
+    assert_eq!(rt; word_at(19, -1), 1376255);
+    assert_eq!(rt; word_at(0, -32768), 98304);
+    assert!(rt; lap_in(1376255) == 20 && sample_in(1376255) == -1);
+}
+
+#[test]
+fn lengths_and_numbers_of_readers_have_bounds(rt: HostRuntime) -> Result<(), Fail> {
+    let cases = [
+        (0, 1, "a ring of 0 cells"),
+        (1_048_577, 1, "a ring of 1048577 cells"),
+        (0, 65, "a ring of 0 cells"),
+        (8, 0, "a ring of 0 readers"),
+        (8, 65, "a ring of 65 readers"),
+    ];
+    for (len, readers, text) in cases {
+        let Err(fault) = Ring::new(rt.alloc(), len, readers) else {
+            panic!(rt; "a ring was made, not: {text}")
+        };
+        assert_eq!(rt; format!(in rt.alloc(); "{fault}")?.as_str(), text);
+    }
+    assert!(rt; Ring::new(rt.alloc(), 1_048_576, 64).is_ok());
+    Ok(())
+}
+
+/// A reader, and what it was answered but for `Empty`.
+#[derive(Drop)]
+struct Watch {
+    reader: Reader,
+    seen: Vec<Got>,
+    over: bool,
+}
+
+impl Watch {
+    fn step(&mut self, ring: &Ring) -> Result<(), AllocError>
+        requires { reader_ring self.old.reader ≡ ring_id ring.now }
+        ensures { reader_ring self.new.reader ≡ reader_ring self.old.reader }
+    {
+        if self.over {
+            return Ok(());
+        }
+        let got = self.reader.read(ring);
+        self.over = matches!(got, Got::End { .. });
+        if matches!(got, Got::Empty { .. }) {
+            yield_now();
+            return Ok(());
+        }
+        self.seen.push(got)?;
+        Ok(())
+    }
+}
+
+/// Gives both readers so many reads each, or as many as they need to reach the end.
+fn read_both(
+    ring: &Ring,
+    mut first: Watch,
+    mut second: Watch,
+    reads: u32,
+) -> Result<(Watch, Watch), AllocError>
+    requires first { reader_ring first.reader ≡ ring_id ring.now }
+    requires second { reader_ring second.reader ≡ ring_id ring.now }
+    ensures { IfOk result (λ both. (reader_ring both.0.reader ≡ ring_id ring.now) × (reader_ring both.1.reader ≡ ring_id ring.now)) }
+{
+    for _ in 0..reads {
+        if first.over && second.over {
+            break;
+        }
+        first.step(ring)?;
+        second.step(ring)?;
+    }
+    Ok((first, second))
+}
+
+fn publish_all(ring: &Ring, mut writer: Writer, total: u64) -> Result<WriterDone, RingEnd>
+    requires { writer_ring writer ≡ ring_id ring.now }
+    ensures { IfOk result (λ done. done_ring done ≡ ring_id ring.now) }
+{
+    publish_to(ring, &mut writer, total)?;
+    Ok(writer.end(ring))
+}
+
+/// Whether answers are the published list, with its gaps, up to the total.
+fn is_published_list(seen: &[Got], len: u64, total: u64) -> bool
+    requires { 0 < len }
+{
+    let mut next = 0;
+    for got in seen {
+        match *got {
+            Got::Item { at, sample } if at == next && sample == sample_at(at) => {
+                next = at.wrapping_add(1);
+            }
+            Got::Gap { from, to } if from == next && to.wrapping_sub(from) % len == 1 % len => {
+                next = to;
+            }
+            Got::End { total: told } if told == next => {}
+            _ => return false,
+        }
+    }
+    next == total
+}
+
+const TOTAL: u64 = 200_000;
+
+/// One thread publishes, and another reads by two readers. When both have returned, each reader takes what is left.
+fn race<R: Threads + Sync>(
+    rt: &R,
+    alloc: Global,
+) -> Result<Option<(Vec<Got>, Vec<Got>, u64)>, RingFault> {
+    let (ring, writer, first, second) = with_two_readers(alloc, 64)?;
+    let first = Watch {
+        reader: first,
+        seen: Vec::new(alloc),
+        over: false,
+    };
+    let second = Watch {
+        reader: second,
+        seen: Vec::new(alloc),
+        over: false,
+    };
+    let (done, both) = join(
+        rt,
+        || -> Result<WriterDone, RingEnd>
+            requires { writer_ring writer ≡ ring_id ring }
+            ensures { IfOk result (λ done. done_ring done ≡ ring_id ring) }
+        { publish_all(&ring, writer, TOTAL) },
+        || -> Result<(Watch, Watch), AllocError>
+            requires { (reader_ring first.reader ≡ ring_id ring) × (reader_ring second.reader ≡ ring_id ring) }
+            ensures { IfOk result (λ both. (reader_ring both.0.reader ≡ ring_id ring) × (reader_ring both.1.reader ≡ ring_id ring)) }
+        { read_both(&ring, first, second, 1_000_000) },
+    );
+    let (Ok(done), Ok((first, second))) = (done, both) else {
+        return Ok(None);
+    };
+    let Ok((first, second)) = read_both(&ring, first, second, 1000) else {
+        return Ok(None);
+    };
+    let mut readers = Vec::new(alloc);
+    if readers.push(first.reader).is_err() || readers.push(second.reader).is_err() {
+        return Ok(None);
+    }
+    let total = ring.close(done, readers).total();
+    Ok(Some((first.seen, second.seen, total)))
+}
+
+#[test]
+fn two_threads_agree_on_each_sample_and_gap(rt: HostRuntime) -> Result<(), Fail> {
+    let Some((first, second, total)) = race(&rt, rt.alloc())? else {
+        panic!(rt; "want of memory")
+    };
+    assert_eq!(rt; total, TOTAL);
+    assert!(rt;
+        is_published_list(first.as_slice(), 64, TOTAL),
+        "first reader"
+    );
+    assert!(rt;
+        is_published_list(second.as_slice(), 64, TOTAL),
+        "second reader"
+    );
+    Ok(())
+}

@@ -1,0 +1,14 @@
+-- The number of an option: one or more decimal digits, of a number within bounds.
+use Rattle.std.specs.Prelude.{◌≡◌, ◌≤◌, ℕ, Option, Some, None}
+use Rattle.std.specs.Str.Parse.{IsNumeral, digits_value}
+use Rattle.clap.specs.Words.{Text}
+
+-- a text of digits for this number
+pub record IsNumber (text : Text) (number : ℕ) : Type 0 where
+  pub digits : IsNumeral 10 text
+  pub value : digits_value 10 text ≡ number
+
+-- an option's number: that of its text, between the least and the greatest, or the default where it was not given
+abbrev pub HasNumber : Option Text → ℕ → ℕ → ℕ → ℕ → Type 0
+HasNumber None default least greatest number = number ≡ default
+HasNumber (Some text) default least greatest number = IsNumber text number × (least ≤ number) × (number ≤ greatest)

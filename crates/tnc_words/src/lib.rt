@@ -1,0 +1,22 @@
+//! The command line of the program: the words after its name, read once as a value with a type for each
+//! command, so that no other part looks at strings. Each command is a command of `clap`, an option is
+//! `--name value` or `--name=value`, and a number is decimal digits. What is promised: the command is
+//! exactly the one that the words ask for by the function of words that `clap` stands for, and words are
+//! refused exactly where they ask for none.
+#![tactic(auto)]
+
+mod command;
+mod fault;
+mod laws;
+mod number;
+mod options;
+mod parsing;
+mod reading;
+
+pub use command::{Command, EncodeWords};
+pub use fault::WordsFault;
+pub use laws::one_command;
+pub use reading::read_words;
+
+#[cfg(test)]
+mod tests;
