@@ -1,6 +1,6 @@
 -- What escapes stand for.
-use Rattle.std.proofs.Common.{◌≡◌, ◌≢◌, ℕ, eqb, cond, List, [], ◌∷◌, ◌++◌, refl, ap, subst, ◌∙◌, sym, inl, inr, arith, append_assoc}
-use Rattle.std.proofs.lemmas.Bool.{cond-true, cond-false, eq-eqb, ne_eqb, cases_eq}
+use Rattle.std.proofs.Common.{◌≡◌, ◌≢◌, ℕ, List, [], ◌∷◌, ◌++◌, refl, ap, subst, ◌∙◌, sym, inl, inr, arith}
+use Rattle.std.proofs.lemmas.Bool.{cond-false, ne_eqb, cases_eq}
 use Rattle.kiss_port.specs.Escapes.{fend, fesc, tfend, tfesc, unescaped, escape_of, spelled}
 use Rattle.kiss_port.specs.Pieces.{pieces}
 use Rattle.kiss_port.proofs.PieceLemmas.{IsInside, inside-append, pieces_end}

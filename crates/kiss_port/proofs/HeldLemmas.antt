@@ -1,17 +1,15 @@
 -- What is kept stands for all octets so far.
-use Rattle.std.proofs.Common.{◌≡◌, ◌≢◌, ℕ, suc, ◌+◌, ◌/◌, ◌%◌, ◌<◌, ◌≤◌, eqb, ltb, cond, Bool, true, false, List, [], ◌∷◌, ◌++◌, length, take, min, refl, ap, subst, ◌∙◌, sym, inl, inr, arith, append_assoc, append-nil, length-take, Option, Some, None}
+use Rattle.std.proofs.Common.{◌≡◌, ◌≢◌, ℕ, suc, ◌+◌, eqb, ltb, cond, Bool, true, false, List, [], ◌∷◌, ◌++◌, length, take, min, refl, ap, subst, ◌∙◌, sym, inl, inr, arith, append_assoc, append-nil, length-take, Some}
 use Rattle.std.specs.Option.{option_to_list}
 use Rattle.std.specs.List.{flat_map}
 use Rattle.std.proofs.lemmas.Bool.{cond-true, cond-false, eq-eqb, ne_eqb, lt-ltb, le-ltb, cases_eq, cases_lt}
 use Rattle.std.proofs.lemmas.List.{length_push, take_all, take-append-le}
 use Rattle.std.proofs.lemmas.List.Concat.{flat_map-append}
-use Rattle.kiss_port.specs.declared.item.KissItem.{KissItem}
-use Rattle.kiss_port.specs.declared.item.KissItem.TheVariants.{Return, TooLong}
 use Rattle.kiss_port.specs.Escapes.{fend, fesc, tfend, tfesc, meant, unescaped, spelled}
 use Rattle.kiss_port.specs.Pieces.{pieces}
-use Rattle.kiss_port.specs.Items.{by_command, item_of, items_in}
+use Rattle.kiss_port.specs.Items.{item_of, items_in}
 use Rattle.kiss_port.specs.Held.{Held, StandsForPiece, StandsFor, rest_of_piece, new_held, kept_item, held_item, keeping, unmarked, behind_escape, with_octet}
-use Rattle.kiss_port.proofs.PieceLemmas.{IsInside, inside-append, pieces_inside, pieces_end}
+use Rattle.kiss_port.proofs.PieceLemmas.{inside-append, pieces_inside, pieces_end}
 use Rattle.kiss_port.proofs.EscapeLemmas.{unescaped_plain, spelled_back, spelled_piece}
 
 -- ---- what is kept of a meaning

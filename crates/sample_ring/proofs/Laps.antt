@@ -1,9 +1,8 @@
 -- What a reader finds in the cell of its position, and what `answer` then computes to.
-use Rattle.std.proofs.Common.{◌≡◌, ◌≢◌, ◌⊎◌, ℕ, zero, suc, ◌+◌, ◌-◌, ◌*◌, ◌/◌, ◌%◌, ◌<◌, ◌≤◌, List, [], ◌∷◌, ◌++◌, length, Some, Bool, true, false, refl, sym, ap, ◌∙◌, subst, inl, inr, ⊎_elim, arith, lt_of_not-le, eqb, eq-eqb, ne_eqb, if◌then◌else◌}
+use Rattle.std.proofs.Common.{◌≡◌, ◌≢◌, ℕ, ◌+◌, ◌-◌, ◌*◌, ◌%◌, ◌<◌, ◌≤◌, List, length, Some, Bool, false, sym, ap, ◌∙◌, subst, inl, inr, arith, lt_of_not-le, eq-eqb, ne_eqb, if◌then◌else◌}
 use Rattle.std.specs.Prelude.{ℤ, slice_get, nat_lt, ◌==◌}
-use Rattle.std.specs.Int.{w16, cast_signed, cast_unsigned}
-use Rattle.std.proofs.Math.Nat.{mod-le, mod-lt, add-mod, add-mod_right}
-use Rattle.std.proofs.lemmas.Nat.{div-mul-add, mod-mul-add}
+use Rattle.std.proofs.Math.Nat.{mod-le, add-mod, add-mod_right}
+use Rattle.std.proofs.lemmas.Nat.{div-mul-add}
 use Rattle.std.proofs.lemmas.Bool.{lt-ltb, le-ltb}
 use mathlib.Core.Logic.{dite}
 use native.Mathlib.Decide.{dec_le}
@@ -11,7 +10,7 @@ use Rattle.atomic_table.proofs.Lists.{one_turn}
 use Rattle.sample_ring.specs.declared.got.Got.{Got}
 use Rattle.sample_ring.specs.declared.got.Got.TheVariants.{Item, Gap, Empty, End}
 use Rattle.sample_ring.specs.declared.view.Entry.{Entry}
-use Rattle.sample_ring.specs.Cells.{lap_of, sample_of, word_of, TellsCell}
+use Rattle.sample_ring.specs.Cells.{lap_of, sample_of, TellsCell}
 use Rattle.sample_ring.specs.Record.{answer}
 
 -- what the word of a position's cell says to a reader that stands there

@@ -1,7 +1,6 @@
 -- Making the readers of a new ring, one by one.
-use Rattle.std.proofs.Common.{◌≡◌, ℕ, ◌+◌, List, [], ◌∷◌, ◌++◌, length, ap, ◌∙◌, sym, subst}
+use Rattle.std.proofs.Common.{◌≡◌, ℕ, List, [], length}
 use Rattle.std.specs.List.{All}
-use Rattle.std.proofs.lemmas.List.Elements.{All-push, All-nil}
 use Rattle.atomic_table.specs.Seated.{TableId}
 use Rattle.sample_ring.specs.declared.reader.Reader.{Reader}
 use Rattle.sample_ring.specs.declared.writer.Writer.{Writer}

@@ -1,6 +1,6 @@
 -- Each kind of step keeps the rule of the table, and tells its caller what `specs/Steps.antt` says.
-use Rattle.std.proofs.Common.{◌≡◌, ◌≢◌, ◌⊎◌, ℕ, zero, suc, ◌+◌, ◌-◌, ◌*◌, ◌^◌, ◌%◌, ◌<◌, ◌≤◌, max, List, [], ◌∷◌, ◌++◌, length, replicate, set, get_or, Some, Bool, true, false, true≢false, refl, sym, ap, ◌∙◌, subst, ⊎_elim, inl, inr, zero-le, le_refl, arith, length-append, if◌then◌else◌}
-use Rattle.std.specs.Prelude.{ℤ, slice_index, slice_get, slice_set}
+use Rattle.std.proofs.Common.{◌≡◌, ◌≢◌, ◌⊎◌, ℕ, zero, suc, ◌+◌, ◌-◌, ◌^◌, ◌%◌, ◌<◌, ◌≤◌, List, [], ◌∷◌, ◌++◌, length, replicate, set, Some, Bool, true, false, refl, sym, ap, ◌∙◌, subst, ⊎_elim, inl, inr, zero-le, le_refl, arith, length-append, if◌then◌else◌}
+use Rattle.std.specs.Prelude.{ℤ, slice_index}
 use Rattle.std.specs.List.{All}
 use Rattle.std.proofs.Math.Nat.{mod-lt, mod-eq_of_lt, add-mod_right}
 use Rattle.std.proofs.lemmas.Bool.{le-leb}
@@ -17,7 +17,7 @@ use Rattle.sample_ring.specs.Cells.{lap_of, sample_of, TellsCell, TellsEnd}
 use Rattle.sample_ring.specs.Record.{StandsIn, with_read}
 use Rattle.sample_ring.specs.Views.{spent_view, first_view, note_of, noted, keeping, entry_of, looked_view, looked_last_view}
 use Rattle.sample_ring.specs.Rule.{Holds, IsSo}
-use Rattle.sample_ring.specs.Steps.{published, ended, looked, looked_last, settled, Tells}
+use Rattle.sample_ring.specs.Steps.{published, ended, looked, looked_last, settled}
 use Rattle.sample_ring.proofs.Laps.{Finds, finds}
 use Rattle.sample_ring.proofs.Growing.{slice_get-front, slice_get-last, stands_new, GoesOn, stands_later, all_later}
 use Rattle.sample_ring.proofs.Standing.{AllSo, all_but_one, so_set, so_later, so_spent, so_note, so_noted, so_keeping, so_looked, so_looked_last, off}

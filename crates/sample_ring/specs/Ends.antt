@@ -10,7 +10,7 @@ use Rattle.sample_ring.specs.declared.writer.WriterDone.{WriterDone}
 use Rattle.sample_ring.specs.declared.note.Note.{Note}
 use Rattle.sample_ring.specs.declared.reader.Reader.{Reader}
 use Rattle.sample_ring.specs.declared.history.History.{History}
-use Rattle.sample_ring.specs.Record.{answer, next}
+use Rattle.sample_ring.specs.Record.{answer}
 
 -- which ring it is
 abbrev pub ring_id : Ring → TableId

@@ -1,5 +1,5 @@
 -- The views of a ring's ends, and what a step makes of each.
-use Rattle.std.specs.Prelude.{ℕ, List, [], ◌∷◌, ◌++◌, length, Bool, true, false, max, nat_le, if◌then◌else◌}
+use Rattle.std.specs.Prelude.{ℕ, [], ◌∷◌, ◌++◌, length, true, false, max, nat_le, if◌then◌else◌}
 use Rattle.sample_ring.specs.declared.view.Entry.{Entry}
 use Rattle.sample_ring.specs.declared.view.View.{View}
 use Rattle.sample_ring.specs.Cells.{lap_of}

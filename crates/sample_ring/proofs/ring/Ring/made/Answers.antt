@@ -1,4 +1,4 @@
-use Rattle.std.proofs.Common.{◌≡◌, ap, sym, ◌∙◌, subst, List, [], ℕ, replicate, ◌+◌, rules}
+use Rattle.std.proofs.Common.{◌≡◌, sym, ◌∙◌, subst, [], replicate, ◌+◌, rules}
 use Rattle.atomic_table.specs.Table.{opening}
 use Rattle.sample_ring.specs.Rule.{Holds}
 use Rattle.sample_ring.specs.Views.{first_view}

@@ -1,4 +1,4 @@
-use Rattle.std.proofs.Common.{◌≡◌, ◌≢◌, ◌+◌, ◌-◌, ◌*◌, ◌^◌, ◌%◌, ◌<◌, sym, ap, ◌∙◌, length, arith}
+use Rattle.std.proofs.Common.{◌≡◌, ◌+◌, ◌-◌, ◌^◌, ◌%◌, ◌<◌, sym, ap, ◌∙◌, length, arith}
 use Rattle.std.proofs.Math.Nat.{mod-lt}
 use Rattle.sample_ring.specs.Cells.{lap_of}
 use Rattle.sample_ring.proofs.Stepping.{publish}

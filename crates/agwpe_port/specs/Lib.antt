@@ -1,0 +1,4 @@
+pub mod CallField
+pub mod Messages
+pub mod Held
+pub mod Answer

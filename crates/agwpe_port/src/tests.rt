@@ -1,0 +1,154 @@
+// Streams and messages from outside.
+
+use super::{AgwFault, AgwIn, AgwMessage, call_text, write_agw};
+use ax25_address::Call;
+use std::alloc::{AllocError, Global};
+use std::test::Fail;
+use tnc_base::Octets;
+
+// A header of kind R, with the four octets of its length.
+fn header(alloc: Global, length: &[u8]) -> Result<Vec<u8>, AllocError> {
+    let mut octets = Vec::new(alloc);
+    octets.extend_from_slice(b"\0\0\0\0R\0\0\0")?;
+    octets.extend_from_slice([0; 20].as_slice())?;
+    octets.extend_from_slice(length)?;
+    octets.extend_from_slice([0; 4].as_slice())?;
+    Ok(octets)
+}
+
+// The messages of a stream, each with the place of its last octet, up to the first fault, with its place.
+#[derive(Drop)]
+struct Found {
+    messages: Vec<(usize, AgwMessage)>,
+    fault: Option<(usize, AgwFault)>,
+}
+
+fn found_in(alloc: Global, stream: &[u8]) -> Result<Found, AllocError> {
+    let mut reader = AgwIn::new(alloc);
+    let mut messages = Vec::new(alloc);
+    for (place, octet) in stream.iter().enumerate() {
+        match reader.push(*octet) {
+            Ok(Some(message)) => messages.push((place, message))?,
+            Ok(None) => {}
+            Err(fault) => {
+                let fault = Some((place, fault));
+                return Ok(Found { messages, fault });
+            }
+        }
+    }
+    Ok(Found {
+        messages,
+        fault: None,
+    })
+}
+
+// A message of kind D from N7LEM to NJ7P-2, with its header as it is written.
+const DATA: &[u8] = b"\x01\0\0\0D\0\xf0\0N7LEM\0\0\0\0\0NJ7P-2\0\0\0\0\x03\0\0\0\0\0\0\0hi\r";
+
+#[test]
+fn a_stream_is_cut_into_messages(rt: HostRuntime) -> Result<(), Fail> {
+    let alloc = rt.alloc();
+    let mut stream = DATA.to_vec(alloc)?;
+    stream.extend_from_slice(&header(alloc, b"\0\0\0\0")?)?;
+    stream.extend_from_slice(DATA)?;
+    stream.extend_from_slice(b"\0\0\0\0R")?;
+    let found = found_in(alloc, &stream)?;
+    assert_eq!(rt; found.fault, None);
+    assert_eq!(rt; found.messages.len(), 3);
+    for (number, end) in [(0, 38), (2, 113)] {
+        let (place, message) = &found.messages[number];
+        assert_eq!(rt; *place, end);
+        assert_eq!(rt; (message.port, message.kind, message.pid), (1, b'D', 0xf0));
+        assert_eq!(rt;
+            (message.from, message.to),
+            (*b"N7LEM\0\0\0\0\0", *b"NJ7P-2\0\0\0\0")
+        );
+        assert_eq!(rt; message.body.as_slice(), b"hi\r".as_slice());
+    }
+    let (place, message) = &found.messages[1];
+    assert_eq!(rt;
+        (*place, message.port, message.kind, message.pid),
+        (74, 0, b'R', 0)
+    );
+    assert!(rt; message.body.is_empty());
+    Ok(())
+}
+
+#[test]
+fn a_length_over_4096_ends_the_messages(rt: HostRuntime) -> Result<(), Fail> {
+    let alloc = rt.alloc();
+    let table: [(&[u8], Option<u32>); 6] = [
+        (b"\x01\x10\0\0", Some(4097)),
+        (b"\0\x10\0\0", None),
+        (b"\xff\x0f\0\0", None),
+        (b"\0\0\x01\0", Some(65536)),
+        (b"\0\0\0\x01", Some(16_777_216)),
+        (b"\xff\xff\xff\xff", Some(u32::MAX)),
+    ];
+    for (length, want) in table {
+        let fault = found_in(alloc, &header(alloc, length)?)?.fault;
+        let wanted = want.map(|len| (35, AgwFault::BadLength { len }));
+        assert_eq!(rt; fault, wanted, "length {length:?}");
+    }
+    Ok(())
+}
+
+#[test]
+fn a_stream_that_failed_stays_so(rt: HostRuntime) -> Result<(), Fail> {
+    let alloc = rt.alloc();
+    let mut reader = AgwIn::new(alloc);
+    for octet in &header(alloc, b"\x01\x10\0\0")? {
+        let _ = reader.push(*octet);
+    }
+    for octet in DATA {
+        let answer = reader.push(*octet).err();
+        assert_eq!(rt; answer, Some(AgwFault::Failed { len: 4097 }));
+    }
+    Ok(())
+}
+
+#[test]
+fn the_longest_body_is_read(rt: HostRuntime) -> Result<(), Fail> {
+    let alloc = rt.alloc();
+    let mut stream = header(alloc, b"\0\x10\0\0")?;
+    stream.extend_from_slice([0x55; 4096].as_slice())?;
+    stream.extend_from_slice(DATA)?;
+    let found = found_in(alloc, &stream)?;
+    assert_eq!(rt; found.messages.len(), 2);
+    assert_eq!(rt; found.messages[0].0, 4131);
+    assert_eq!(rt;
+        found.messages[0].1.body.as_slice(),
+        [0x55; 4096].as_slice()
+    );
+    Ok(())
+}
+
+#[test]
+fn a_message_is_written_with_zeros_where_it_is_reserved(rt: HostRuntime) -> Result<(), Fail> {
+    let alloc = rt.alloc();
+    let message = AgwMessage {
+        port: 1,
+        kind: b'D',
+        pid: 0xf0,
+        from: *b"N7LEM\0\0\0\0\0",
+        to: *b"NJ7P-2\0\0\0\0",
+        body: Octets::from_slice(alloc, b"hi\r")?,
+    };
+    assert!(rt; message.body.len() <= 4096);
+    assert_eq!(rt; write_agw(alloc, &message)?.as_slice(), DATA);
+    Ok(())
+}
+
+#[test]
+fn a_call_is_filled_up_with_nuls(rt: HostRuntime) -> Result<(), Fail> {
+    let table = [
+        ("N7LEM", 0, *b"N7LEM\0\0\0\0\0"),
+        ("NJ7P", 2, *b"NJ7P-2\0\0\0\0"),
+        ("ABC123", 15, *b"ABC123-15\0"),
+        ("A", 0, *b"A\0\0\0\0\0\0\0\0\0"),
+    ];
+    for (name, ssid, want) in table {
+        assert_eq!(rt; call_text(&Call::new(name, ssid)?), want, "{name}-{ssid}");
+    }
+    Ok(())
+}
