@@ -4,8 +4,9 @@ use super::{TooLong, WavFault, WavIn, wav_head};
 use std::alloc::{AllocError, Global};
 use std::test::Fail;
 
-// What Python's module `wave` writes for one channel, two octets a sample, 9600 samples a second and the samples below.
-const FROM_PYTHON: [u8; 58] = [
+// What Python's module `wave` and sox write for one channel, two octets a sample, 9600 samples a second and the samples
+// below.
+const WRITTEN: [u8; 58] = [
     0x52, 0x49, 0x46, 0x46, 0x32, 0x00, 0x00, 0x00, 0x57, 0x41, 0x56, 0x45, 0x66, 0x6d, 0x74, 0x20,
     0x10, 0x00, 0x00, 0x00, 0x01, 0x00, 0x01, 0x00, 0x80, 0x25, 0x00, 0x00, 0x00, 0x4b, 0x00, 0x00,
     0x02, 0x00, 0x10, 0x00, 0x64, 0x61, 0x74, 0x61, 0x0e, 0x00, 0x00, 0x00, 0x00, 0x00, 0xba, 0x26,
@@ -76,16 +77,22 @@ fn a_head_counts_its_samples(rt: HostRuntime) {
 
 #[test]
 fn a_file_of_another_program_is_read(rt: HostRuntime) -> Result<(), Fail> {
-    let found = read_all(rt.alloc(), &FROM_PYTHON)?;
-    assert_eq!(rt; found.samples.as_slice(), SAMPLES.as_slice());
-    assert_eq!(rt; (found.shown, found.end), (None, Ok(())));
+    // Into a pipe sox writes sizes that stand for no end.
+    let mut piped = WRITTEN;
+    piped[4..8].copy_from_slice(b"\x24\xf0\xff\x7f");
+    piped[40..44].copy_from_slice(b"\0\xf0\xff\x7f");
+    for octets in [WRITTEN, piped] {
+        let found = read_all(rt.alloc(), &octets)?;
+        assert_eq!(rt; found.samples.as_slice(), SAMPLES.as_slice());
+        assert_eq!(rt; (found.shown, found.end), (None, Ok(())));
+    }
     Ok(())
 }
 
 #[test]
 fn a_file_cut_anywhere_is_truncated_there(rt: HostRuntime) -> Result<(), Fail> {
-    for length in 0..FROM_PYTHON.len() {
-        let found = read_all(rt.alloc(), &FROM_PYTHON[..length])?;
+    for length in 0..WRITTEN.len() {
+        let found = read_all(rt.alloc(), &WRITTEN[..length])?;
         let at = length as u64;
         assert_eq!(rt; found.shown, None, "cut at {length}");
         assert_eq!(rt;
@@ -124,7 +131,7 @@ fn a_fault_comes_at_the_octet_that_shows_it(rt: HostRuntime) -> Result<(), Fail>
         (35, 0x01, Some(bad(35, 6, 272))),
     ];
     for (place, octet, want) in table {
-        let mut file = FROM_PYTHON;
+        let mut file = WRITTEN;
         assert!(rt; place < file.len());
         file[place] = octet;
         let found = read_all(rt.alloc(), &file)?;
