@@ -4,6 +4,7 @@ ghost use Rattle.std.specs.Prelude.{◌≡◌, ◌≤◌, ℕ, List, ◌∷◌, 
 ghost use Rattle.agwpe_port.specs.Messages.{spelling, messages_in, bad_length_in};
 
 use crate::message::AgwMessage;
+use byteorder::{ByteOrder, LittleEndian};
 use std::alloc::Global;
 use tnc_base::{Octets, OutOfMemory};
 
@@ -27,12 +28,13 @@ fn spell(alloc: Global, message: &AgwMessage) -> Result<Vec<u8>, OutOfMemory>
     ensures to { length message.now.to ≡ 10 }
 {
     let body = message.body.as_slice();
-    let len = body.len() as u32;
+    let mut len = [0; 4];
+    LittleEndian::write_u32(&mut len, body.len() as u32);
     let mut octets = Vec::new(alloc);
     octets.extend_from_slice(&[message.port, 0, 0, 0, message.kind, 0, message.pid, 0])?;
     octets.extend_from_slice(&message.from)?;
     octets.extend_from_slice(&message.to)?;
-    octets.extend_from_slice(&len.to_le_bytes())?;
+    octets.extend_from_slice(&len)?;
     octets.extend_from_slice(&[0; 4])?;
     octets.extend_from_slice(body)?;
     Ok(octets)
