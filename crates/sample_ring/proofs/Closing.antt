@@ -31,8 +31,3 @@ has_kept_more ring len list all before after left rest fewer less reader h is co
       belong = λ k d lt. subst (All (λ r. reader_ring r ≡ ring)) is h.belong (suc k) d (omega arith);
       stand = subst (λ l. All (StandsIn len l true) (records_of after)) (same_list ∙ h.same_list) stand;
     }
-
--- the next reader belongs to the ring
-pub next_belongs : (ring : TableId) (len : ℕ) (list : List ℤ) (all : List Reader) (history : History) (left rest : List Reader) (fewer : ℕ) (reader : Reader) → HasKept ring len list all history left fewer → left ≡ reader ∷ rest
-    → reader_ring reader ≡ ring
-next_belongs ring len list all history left rest fewer reader h is = subst (All (λ r. reader_ring r ≡ ring)) is h.belong 0 reader (omega arith)

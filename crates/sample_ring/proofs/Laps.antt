@@ -1,8 +1,7 @@
 -- What a reader finds in the cell of its position, and what `answer` then computes to.
-use Rattle.std.proofs.Common.{◌≡◌, ◌≢◌, ℕ, ◌+◌, ◌-◌, ◌*◌, ◌%◌, ◌<◌, ◌≤◌, List, length, Some, Bool, false, sym, ap, ◌∙◌, subst, inl, inr, arith, lt_of_not-le, eq-eqb, ne_eqb, if◌then◌else◌}
+use Rattle.std.proofs.Common.{◌≡◌, ◌≢◌, ℕ, ◌+◌, ◌-◌, ◌%◌, ◌<◌, ◌≤◌, List, length, Some, Bool, false, sym, ap, ◌∙◌, subst, inl, inr, arith, lt_of_not-le, eq-eqb, ne_eqb, if◌then◌else◌}
 use Rattle.std.specs.Prelude.{ℤ, slice_get, nat_lt, ◌==◌}
 use Rattle.std.proofs.Math.Nat.{mod-le, add-mod, add-mod_right}
-use Rattle.std.proofs.lemmas.Nat.{div-mul-add}
 use Rattle.std.proofs.lemmas.Bool.{lt-ltb, le-ltb}
 use mathlib.Core.Logic.{dite}
 use native.Mathlib.Decide.{dec_le}
@@ -72,7 +71,3 @@ answer_end n e h last = nothing_there n e h ∙ ap (λ over. tested false false 
 
 pub answer_empty : (n : ℕ) (e : Entry) → lap_of e.cell ≤ e.at → e.last ≢ e.at + 1 → answer n e ≡ Empty e.at
 answer_empty n e h last = nothing_there n e h ∙ ap (λ over. tested false false over n e) (ne_eqb e.last (e.at + 1) last)
-
--- a word tells what it was made of
-pub lap_of-word : (position bits : ℕ) → bits < 65536 → lap_of ((position + 1) * 65536 + bits) ≡ position + 1
-lap_of-word position bits fits = div-mul-add (position + 1) 65536 bits fits

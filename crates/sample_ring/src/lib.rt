@@ -9,9 +9,8 @@
 //! A publish is one store. A reader that stands at position p loads the cell of p and compares laps:
 //!
 //! - p's own lap: the sample, and the reader goes on to p + 1;
-//! - a later lap: the writer has been here again, by one turn of the ring or more, and the sample is gone. The position
-//!   that the cell tells is the newest of its cell, so the oldest that the ring still has is one behind it and a turn
-//!   earlier. The reader is told that gap, and goes on from there;
+//! - a later lap, of a position q: the writer has passed here again, so of a ring of n cells all positions up to q - n
+//!   are overwritten. The reader is told that gap, from p to q - n + 1, and goes on from there;
 //! - an earlier lap or 0: position p was not published when the cell was loaded, and since the reader has passed all below
 //!   p, exactly p samples were. The end word, loaded next, tells whether that is the total.
 //!

@@ -67,6 +67,10 @@ fn reads_items(ring: &Ring, reader: &mut Reader, from: u64, to: u64) -> bool
     true
 }
 
+fn may_cross_threads<T: Send>(_end: &T) {}
+
+fn may_be_shared<T: Sync>(_ring: &T) {}
+
 #[test]
 fn a_ring_of_eight_cells_gives_items_gaps_and_the_end(rt: HostRuntime) -> Result<(), Fail> {
     let (ring, mut writer, mut reader) = with_one_reader(rt.alloc(), 8)?;
@@ -78,11 +82,17 @@ fn a_ring_of_eight_cells_gives_items_gaps_and_the_end(rt: HostRuntime) -> Result
     assert_eq!(rt; reader.read(&ring), Got::Gap { from: 3, to: 12 });
     let note = writer.note(&ring);
     assert!(rt; note.count() == 20 && writer.published() == 20);
+    may_cross_threads(&note);
     reader.learn(&ring, note);
     assert_eq!(rt; reader.at(), 12);
     assert!(rt; reads_items(&ring, &mut reader, 12, 20));
     assert_eq!(rt; reader.read(&ring), Got::Empty { at: 20 });
+    may_cross_threads(&writer);
     let done = writer.end(&ring);
+    may_cross_threads(&done);
+    may_cross_threads(&reader);
+    may_cross_threads(&ring);
+    may_be_shared(&ring);
     assert_eq!(rt; reader.read(&ring), Got::End { total: 20 });
     assert_eq!(rt; reader.read(&ring), Got::End { total: 20 });
     let mut readers = Vec::new(rt.alloc());

@@ -10,8 +10,9 @@ use crate::rule::{Finish, NoteCut, Publish};
 use crate::view::View;
 use atomic_table::Seat;
 use std::alloc::{AllocError, Global};
+use thiserror::Error;
 
-/// The most samples that a ring can be given. The lap of one more would not fit its word.
+/// The most samples that a ring takes: a lap has the upper 48 bits of a word.
 const MOST_SAMPLES: u64 = 0xffff_ffff_fffe;
 
 /// Publishes the samples of one ring.
@@ -43,8 +44,9 @@ pub struct WriterDone {
     ghost sized: { seat.table_id.words ≡ seat.me.0.len + 1 },
 }
 
-/// 2^48 - 2 samples are published, which is as many as a ring can number.
-#[derive(Clone, Copy, Debug, PartialEq, Eq)]
+/// 2^48 - 2 samples are published, which is as many as a ring takes.
+#[derive(Clone, Copy, Debug, PartialEq, Eq, Error)]
+#[error("the ring can number no more samples")]
 pub struct RingEnd;
 
 impl Writer {
