@@ -1,2 +1,3 @@
 pub mod Phase
 pub mod Transmission
+pub mod Signal

@@ -1,4 +1,8 @@
 pub mod Lists
+pub mod LineLemmas
+pub mod FrameLineLemmas
+pub mod SendingLemmas
+pub mod Ends
 pub mod PrintingLemmas
 pub mod ReadingLemmas
 pub mod MergingLemmas

@@ -2,6 +2,7 @@
 ghost use Rattle.std.specs.Prelude.{◌≡◌, ◌≤◌, ◌<◌, ◌+◌, ◌++◌, List, ℕ, Some, [], length, drop, OnOk, IfOk, IfErr, IsErrOf, ◌≢◌};
 ghost use Rattle.tnc_base.specs.Faults.{HasRisen};
 ghost use Rattle.tnc_base.specs.Streams.{WrotePart};
+ghost use Rattle.tnc_main.specs.declared.bad_line.LineFault.{LineFault};
 ghost use Rattle.tnc_main.specs.Decoded.{IsDecoded};
 ghost use Rattle.tnc_main.specs.Reading.{input_limit};
 
@@ -33,6 +34,7 @@ pub(crate) fn decode<I: Source, O: Sink>(
         → IsErrOf result Fault.TooLong → input_limit < length octets }
     ensures stops { (octets : List ℕ) → I.left input.old ≡ Some octets
         → IsErrOf result Fault.TooLong → I.left input.new ≡ Some (drop (input_limit + 1) octets) }
+    ensures bad_line { (fault : LineFault) → ¬ IsErrOf result (Fault.BadLine fault) }
     ensures read { IsErrOf result Fault.Read → HasRisen (I.faults input.old) (I.faults input.new) }
     ensures write { IsErrOf result Fault.Write → HasRisen (O.faults output.old) (O.faults output.new) }
     ensures cut { (octets before text : List ℕ) → I.left input.old ≡ Some octets

@@ -2,6 +2,7 @@
 ghost use Rattle.std.specs.Prelude.{◌≡◌};
 ghost use Rattle.tnc_main.specs.declared.fault.Fault.TheVariants.{Memory};
 
+use crate::bad_line::LineFault;
 use std::alloc::AllocError;
 use thiserror::Error;
 use tnc_base::OutOfMemory;
@@ -11,6 +12,8 @@ use tnc_base::OutOfMemory;
 pub(crate) enum Fault {
     #[error("the input is too long")]
     TooLong,
+    #[error("a line is no frame")]
+    BadLine(LineFault),
     #[error("out of memory")]
     Memory,
     #[error("the input failed")]

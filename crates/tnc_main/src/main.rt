@@ -3,16 +3,20 @@
 //! which octets are written.
 #![tactic(auto)]
 
+mod bad_line;
 mod decoding;
+mod encoding;
 mod fault;
+mod frame_line;
+mod frame_lines;
 mod hearing;
 mod printing;
 mod program;
 mod reading;
 mod report;
 mod samples;
+mod sending;
 mod status;
-mod words;
 
 use crate::program::run;
 use crate::status::Status;

@@ -1,6 +1,7 @@
 //! An input read whole.
 ghost use Rattle.std.specs.Prelude.{◌≡◌, ◌≤◌, ◌+◌, ◌<◌, List, ℕ, Some, [], length, drop, IfOk, OnOk, IsErrOf};
 ghost use Rattle.tnc_base.specs.Faults.{HasRisen};
+ghost use Rattle.tnc_main.specs.declared.bad_line.LineFault.{LineFault};
 ghost use Rattle.tnc_main.specs.Reading.{input_limit};
 
 use crate::fault::Fault;
@@ -27,6 +28,7 @@ pub(crate) fn read_all<I: Source>(alloc: Global, input: &mut I) -> Result<Vec<u8
     ensures later { I.faults input.old ≤ I.faults input.new }
     ensures read { IsErrOf result Fault.Read → HasRisen (I.faults input.old) (I.faults input.new) }
     ensures write { ¬ IsErrOf result Fault.Write }
+    ensures bad_line { (fault : LineFault) → ¬ IsErrOf result (Fault.BadLine fault) }
 {
     let mut octets = Vec::new(alloc);
     let mut buffer = [0; PIECE];

@@ -2,6 +2,7 @@
 ghost use Rattle.std.specs.Prelude.{◌≡◌, IfOk};
 ghost use Rattle.tnc_main.specs.Samples.{samples};
 
+use byteorder::{ByteOrder, LittleEndian};
 use std::alloc::Global;
 use tnc_base::OutOfMemory;
 
@@ -13,7 +14,7 @@ pub(crate) fn read_samples(alloc: Global, octets: &[u8]) -> Result<Vec<i16>, Out
     let mut found = Vec::with_capacity(alloc, octets.len() / 2)?;
     let mut rest = octets;
     while let [low, high, after @ ..] = rest {
-        found.push(i16::from_le_bytes([*low, *high]))?;
+        found.push(LittleEndian::read_i16(&[*low, *high]))?;
         rest = after;
     }
     Ok(found)

@@ -6,6 +6,7 @@ use std::alloc::Global;
 use std::test::Fail;
 use tnc_base::{MemSink, MemSource, Octets};
 
+mod encode;
 mod signal;
 
 /// What came of a run.
