@@ -1,0 +1,14 @@
+use Rattle.std.proofs.Common.{◌≡◌, ◌≤◌, ◌+◌, ◌-◌, List, ℕ, Some, vec_len}
+use Rattle.tnc_forms.specs.Reading.{input_limit}
+use Rattle.tnc_forms.proofs.ReadingLemmas.{HasRead}
+use Rattle.tnc_forms.proofs.reading.read_all.Given as goal
+
+abbrev pub invariant-reading : goal.invariant-reading
+invariant-reading g l = record {
+  so_far : (whole : List ℕ) → g.I.Source.left l.initial.input ≡ Some whole → HasRead whole l.octets.items (g.I.Source.left l.input);
+  bound : vec_len l.octets ≤ input_limit + 1;
+  later : g.I.Source.faults l.initial.input ≤ g.I.Source.faults l.input;
+}
+
+abbrev pub decreases-reading : goal.decreases-reading
+decreases-reading g l = input_limit + 1 - vec_len l.octets

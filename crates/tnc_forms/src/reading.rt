@@ -1,0 +1,46 @@
+//! An input read whole.
+ghost use Rattle.std.specs.Prelude.{◌≡◌, ◌≤◌, ◌+◌, ◌<◌, List, ℕ, Some, [], length, drop, IfOk, OnOk, IsErrOf};
+ghost use Rattle.tnc_base.specs.Faults.{HasRisen};
+ghost use Rattle.tnc_forms.specs.declared.fault.InputFault.{InputFault};
+ghost use Rattle.tnc_forms.specs.Reading.{input_limit};
+
+use crate::fault::{Fault, InputFault};
+use std::alloc::Global;
+use tnc_base::Source;
+
+/// The most octets of an input.
+const INPUT_LIMIT: usize = 1 << 40;
+
+/// The most octets of one read.
+const PIECE: usize = 4096;
+
+/// All octets of the input, read to its end. Where there are more than 2^40, no octet behind the next one is read.
+pub fn read_all<I: Source>(alloc: Global, input: &mut I) -> Result<Vec<u8>, Fault>
+    ensures whole { (octets : List ℕ) → I.left input.old ≡ Some octets
+        → IfOk result (λ all. all.items ≡ octets) }
+    ensures end { (octets : List ℕ) → I.left input.old ≡ Some octets
+        → OnOk result (I.left input.new ≡ Some []) }
+    ensures limit { IfOk result (λ all. length all.items ≤ input_limit) }
+    ensures too_long { (octets : List ℕ) → I.left input.old ≡ Some octets
+        → IsErrOf result (Fault.Input InputFault.TooLong) → input_limit < length octets }
+    ensures stops { (octets : List ℕ) → I.left input.old ≡ Some octets
+        → IsErrOf result (Fault.Input InputFault.TooLong) → I.left input.new ≡ Some (drop (input_limit + 1) octets) }
+    ensures later { I.faults input.old ≤ I.faults input.new }
+    ensures read { IsErrOf result Fault.Read → HasRisen (I.faults input.old) (I.faults input.new) }
+    ensures write { ¬ IsErrOf result Fault.Write }
+    ensures only { (fault : InputFault) → IsErrOf result (Fault.Input fault) → fault ≡ InputFault.TooLong }
+{
+    let mut octets = Vec::new(alloc);
+    let mut buffer = [0; PIECE];
+    'reading: while octets.len() <= INPUT_LIMIT {
+        let room = PIECE.min(INPUT_LIMIT + 1 - octets.len());
+        let Ok(count) = input.read(&mut buffer[..room]) else {
+            return Err(Fault::Read);
+        };
+        if count == 0 {
+            return Ok(octets);
+        }
+        octets.extend_from_slice(&buffer[..count])?;
+    }
+    Err(Fault::Input(InputFault::TooLong))
+}
