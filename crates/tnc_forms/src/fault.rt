@@ -18,7 +18,7 @@ pub enum InputFault {
     /// It is no WAV file of a known format, or is cut short.
     Wav(WavFault),
     /// What comes of it has this count of samples, too many for a WAV file.
-    LongWav { count: u64 },
+    LongWav { count: u128 },
 }
 
 /// The faults of a command that runs. Refused words are none of them, since then nothing runs.

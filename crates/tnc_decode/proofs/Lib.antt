@@ -1,0 +1,2 @@
+pub mod MergingLemmas
+pub mod DecodedLemmas

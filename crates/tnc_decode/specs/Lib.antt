@@ -1,0 +1,4 @@
+pub mod Audio
+pub mod Printing
+pub mod Decoded
+pub mod Merging

@@ -1,0 +1,17 @@
+//! The command `decode`: from audio to the frames that are heard in it. Samples come as raw PCM or as a WAV file, and
+//! frames go out as lines of hexadecimal digits or as KISS. What is promised: what is written is the print of the
+//! merged candidates of the input's samples, for every input, however its source cuts it.
+#![tactic(auto)]
+
+mod audio;
+mod decoding;
+mod hearing;
+mod printing;
+
+pub use audio::{Audio, read_audio};
+pub use decoding::decode;
+pub use hearing::{hear, merge};
+pub use printing::print;
+
+#[cfg(test)]
+mod tests;

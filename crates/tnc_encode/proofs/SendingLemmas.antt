@@ -1,0 +1,114 @@
+-- Signals as octets, one piece behind another.
+use Rattle.std.proofs.Common.{◌≡◌, ℕ, ◌+◌, ◌<◌, ℤ, pos, List, [], ◌∷◌, ◌++◌, zero, suc, true, false, true≢false, eqb, cond, length, map, take, drop, get_or, Option, Some, append_assoc, to_z, of_z, refl, sym, ap, ◌∙◌, arith}
+use Rattle.std.proofs.lemmas.Int.{to_z-of_z}
+use Rattle.std.proofs.lemmas.Grind.{flat_map-append}
+use Rattle.std.proofs.lemmas.List.{append-nil, map-append, take_more, take-append-drop}
+use mir.Syntax.{w16}
+use mir.Val.{SFits}
+use Rattle.tnc_base.specs.Streams.{WrotePart}
+use Rattle.tnc_words.specs.declared.command.EncodeWords.{EncodeWords}
+use Rattle.afsk_modulator.specs.Signal.{Transmission, samples_of, signal}
+use Rattle.tnc_encode.specs.Encoded.{sent_at_once, joined, transmissions, encoded}
+use Rattle.tnc_encode.specs.FrameLines.{frames_of}
+use Rattle.tnc_encode.specs.Pcm.{pcm, sample_octets}
+
+-- the octets of transmissions
+unfoldable pub octets_of : List Transmission → List ℕ
+octets_of transmissions = pcm (signal transmissions)
+
+octets_of-append : (ts us : List Transmission) → octets_of (ts ++ us) ≡ octets_of ts ++ octets_of us
+unfolding octets_of signal
+octets_of-append ts us = ap pcm (flat_map-append samples_of ts us) ∙ pcm-append (signal ts) (signal us)
+
+octets_of-one : (t : Transmission) → octets_of (t ∷ []) ≡ pcm (samples_of t)
+unfolding octets_of signal
+octets_of-one t = ap pcm (append-nil (samples_of t))
+
+-- no transmission
+pub nothing_sent : pcm (signal []) ≡ []
+unfolding pcm signal
+nothing_sent = refl
+
+pub some_of : (n : ℕ) → eqb n 0 ≡ false → 0 < n
+some_of zero none = absurd (true≢false none)
+some_of (suc n) none = omega arith
+
+-- all frames in one transmission
+pub joined_sent : (words : EncodeWords) (frames : List (List ℕ)) → words.join ≡ true → 0 < length frames
+    → pcm (samples_of (sent_at_once words frames)) ≡ pcm (signal (transmissions words frames))
+unfolding octets_of
+joined_sent words [] join some = absurd (omega arith)
+joined_sent words (first ∷ frames) join some =
+    sym (octets_of-one (sent_at_once words (first ∷ frames)))
+    ∙ ap (λ b. octets_of (cond b (joined words (first ∷ frames)) (map (λ frame. sent_at_once words (frame ∷ [])) (first ∷ frames)))) (sym join)
+
+pub none_joined : (words : EncodeWords) (frames : List (List ℕ)) → words.join ≡ true → length frames ≡ 0
+    → pcm (signal (transmissions words frames)) ≡ []
+none_joined words [] join none =
+    ap (λ b. pcm (signal (cond b (joined words []) (map (λ frame. sent_at_once words (frame ∷ [])) [])))) join ∙ nothing_sent
+none_joined words (first ∷ frames) join none = absurd (omega arith)
+
+module _ (words : EncodeWords) where
+  -- each frame its own transmission
+  abbrev own : List ℕ → Transmission
+  own frame = sent_at_once words (frame ∷ [])
+
+  unfoldable pub own_octets : List (List ℕ) → List ℕ
+  own_octets frames = octets_of (map own frames)
+
+  pub own_octets-all : (frames : List (List ℕ)) → words.join ≡ false → own_octets frames ≡ pcm (signal (transmissions words frames))
+  unfolding own_octets octets_of
+  own_octets-all frames apart = ap (λ b. octets_of (cond b (joined words frames) (map own frames))) (sym apart)
+
+  pub own_octets-none : own_octets [] ≡ []
+  unfolding own_octets octets_of
+  own_octets-none = nothing_sent
+
+  own_octets-append : (fs gs : List (List ℕ)) → own_octets (fs ++ gs) ≡ own_octets fs ++ own_octets gs
+  unfolding own_octets
+  own_octets-append fs gs = ap octets_of (map-append own fs gs) ∙ octets_of-append (map own fs) (map own gs)
+
+  own_octets-one : (frame : List ℕ) → own_octets (frame ∷ []) ≡ pcm (samples_of (own frame))
+  unfolding own_octets
+  own_octets-one frame = octets_of-one (own frame)
+
+  module _ (frames : List (List ℕ)) (index : ℕ) (frame : List ℕ) (below : index < length frames) (is : frame ≡ get_or frames index frame) where
+    -- one frame more
+    pub own_octets-more : own_octets (take (index + 1) frames) ≡ own_octets (take index frames) ++ pcm (samples_of (own frame))
+    own_octets-more =
+        ap own_octets (take_more frames index frame below)
+        ∙ own_octets-append (take index frames) (get_or frames index frame ∷ [])
+        ∙ ap (λ f. own_octets (take index frames) ++ own_octets (f ∷ [])) (sym is)
+        ∙ ap (λ xs. own_octets (take index frames) ++ xs) (own_octets-one frame)
+
+    -- a first part of that frame's octets behind those of the frames before it is a first part of all
+    pub cut_within : (before : List ℕ) (now : Option (List ℕ)) → WrotePart (before ++ own_octets (take index frames)) (pcm (samples_of (own frame))) now
+        → WrotePart before (own_octets frames) now
+    cut_within before now (part, rest, parts, written) =
+        let done : List ℕ = own_octets (take index frames) in
+        let left : List ℕ = own_octets (drop (index + 1) frames) in
+        let whole : own_octets frames ≡ (done ++ pcm (samples_of (own frame))) ++ left =
+        ap own_octets (sym (take-append-drop (index + 1) frames)) ∙ own_octets-append (take (index + 1) frames) (drop (index + 1) frames)
+        ∙ ap (λ xs. xs ++ left) own_octets-more in (
+          done ++ part,
+          rest ++ left,
+          whole ∙ ap (λ xs. (done ++ xs) ++ left) parts ∙ regrouped done part rest left,
+          written ∙ ap Some (append_assoc before done part),
+        )
+      where
+        regrouped : (a b c d : List ℕ) → (a ++ (b ++ c)) ++ d ≡ (a ++ b) ++ (c ++ d)
+        regrouped a b c d = simp append_assoc
+
+-- nothing is a first part of any text
+pub wrote_nothing : (before text : List ℕ) (now : Option (List ℕ)) → now ≡ Some before → WrotePart before text now
+wrote_nothing before text now is = ([], text, refl, is ∙ ap Some (sym (append-nil before)))
+
+-- and all of it is one
+pub wrote_all : (before text : List ℕ) (now : Option (List ℕ)) → now ≡ Some (before ++ text) → WrotePart before text now
+wrote_all before text now is = (text, [], sym (append-nil text), is)
+
+-- what encode writes of the frames that it read
+pub encoded_of : (words : EncodeWords) (input : List ℕ) (frames : List (List ℕ)) → frames ≡ frames_of input
+    → pcm (signal (transmissions words frames)) ≡ encoded words input
+unfolding encoded
+encoded_of words input frames is = ap (λ fs. pcm (signal (transmissions words fs))) is

@@ -1,0 +1,41 @@
+-- The frames of an input in its two forms: lines of hexadecimal digits, or a KISS stream, of which the data frames on
+-- port 0 that have a frame's length are taken.
+use Rattle.std.specs.Prelude.{ℕ, ◌==◌, ◌&&◌, nat_le, if◌then◌else◌, List, length, Option, Some, None}
+use Rattle.std.specs.List.{filter_map}
+use Rattle.kiss_port.specs.declared.item.KissItem.{KissItem}
+use Rattle.kiss_port.specs.declared.item.KissItem.TheVariants.{Frame}
+use Rattle.kiss_port.specs.Items.{items_in}
+use Rattle.tnc_forms.specs.declared.fault.InputFault.{InputFault}
+use Rattle.tnc_forms.specs.declared.fault.InputFault.TheVariants.{Line}
+use Rattle.tnc_forms.specs.declared.line_fault.LineFault.{LineFault}
+use Rattle.tnc_forms.specs.HexFrames.{line_fault, frames_of as frames_of_lines}
+use Rattle.tnc_words.specs.declared.command.FrameForm.{FrameForm}
+use Rattle.tnc_words.specs.declared.command.FrameForm.TheVariants.{Hex, Kiss}
+
+-- the fewest octets of a frame
+abbrev pub least_frame : ℕ
+least_frame = 15
+
+-- the frame of an item, where it is data on port 0 of 15 to 1024 octets
+abbrev pub frame_of : KissItem → Option (List ℕ)
+frame_of (Frame port octets) =
+    if (port == 0) && (nat_le least_frame (length octets) && nat_le (length octets) 1024) then Some octets else None
+frame_of other = None
+
+-- the frames of a KISS stream
+unfoldable pub kiss_frames : List ℕ → List (List ℕ)
+kiss_frames stream = filter_map frame_of (items_in stream)
+
+-- the frames of an input, those before its first bad line where there is one
+abbrev pub frames_of : FrameForm → List ℕ → List (List ℕ)
+frames_of Hex octets = frames_of_lines least_frame octets
+frames_of Kiss octets = kiss_frames octets
+
+abbrev pub fault_in_line : Option LineFault → Option InputFault
+fault_in_line (Some fault) = Some (Line fault)
+fault_in_line None = None
+
+-- what is wrong with an input's form: any octets are a KISS stream
+abbrev pub form_fault : FrameForm → List ℕ → Option InputFault
+form_fault Hex octets = fault_in_line (line_fault least_frame octets)
+form_fault Kiss octets = None

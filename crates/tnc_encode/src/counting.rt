@@ -1,0 +1,71 @@
+//! How many samples a signal has, and the head of its WAV file.
+ghost use Rattle.std.specs.Prelude.{◌≡◌, ◌≤◌, ◌<◌, ◌+◌, ◌*◌, ◌^◌, All, IfOk, IfErr, OnOk, length, true};
+ghost use Rattle.afsk_modulator.specs.Signal.{signal};
+ghost use Rattle.afsk_modulator.specs.Transmission.{IsBadLength};
+ghost use Rattle.wav_file.specs.Head.{head_of};
+ghost use Rattle.tnc_forms.specs.declared.fault.InputFault.{InputFault};
+ghost use Rattle.tnc_encode.specs.Encoded.{most_samples, transmissions};
+
+use crate::sending::samples_at_once;
+use std::alloc::Global;
+use std::slice;
+use tnc_base::{Octets, OutOfMemory};
+use tnc_forms::InputFault;
+use tnc_words::EncodeWords;
+use wav_file::wav_head;
+
+/// The count of the samples of all transmissions, which are made one at a time.
+pub(crate) fn count_samples(
+    alloc: Global,
+    words: EncodeWords,
+    frames: &[Octets],
+) -> Result<u128, OutOfMemory>
+    requires opening { 2 ≤ words.opening }
+    requires closing { 1 ≤ words.closing }
+    requires lengths { All (λ octets. ¬ IsBadLength octets) frames.now }
+    ensures { IfOk result (λ count. count ≡ length (signal (transmissions words frames.now))) }
+{
+    if words.join {
+        return count_joined(alloc, words, frames);
+    }
+    // No sum of so few lengths passes 128 bits.
+    let mut count = 0;
+    for frame in frames {
+        count += samples_at_once(alloc, words, slice::from_ref(frame))?.len() as u128;
+    }
+    Ok(count)
+}
+
+/// The count of samples where all frames are one transmission.
+fn count_joined(
+    alloc: Global,
+    words: EncodeWords,
+    frames: &[Octets],
+) -> Result<u128, OutOfMemory>
+    requires opening { 2 ≤ words.opening }
+    requires closing { 1 ≤ words.closing }
+    requires lengths { All (λ octets. ¬ IsBadLength octets) frames.now }
+    requires join { words.join ≡ true }
+    ensures { IfOk result (λ count. count ≡ length (signal (transmissions words frames.now))) }
+{
+    if frames.is_empty() {
+        return Ok(0);
+    }
+    Ok(samples_at_once(alloc, words, frames)?.len() as u128)
+}
+
+/// The head of a WAV file of so many samples.
+pub(crate) fn head(count: u128) -> Result<[u8; 44], InputFault>
+    ensures head { IfOk result (λ head. head ≡ head_of count) }
+    ensures fits { OnOk result (count ≤ most_samples) }
+    ensures long { IfErr result (λ fault. (fault ≡ InputFault.LongWav count) × (most_samples < count)) }
+{
+    let long = InputFault::LongWav { count };
+    let Ok(count) = u64::try_from(count) else {
+        return Err(long);
+    };
+    match wav_head(count) {
+        Ok(head) => Ok(head),
+        Err(_) => Err(long),
+    }
+}

@@ -1,0 +1,160 @@
+//! The word encode: from frames to audio.
+ghost use Rattle.std.specs.Prelude.{◌≡◌, ◌≢◌, ◌≤◌, ◌<◌, ◌+◌, ◌++◌, ◌⊎◌, All, List, ℕ, Some, None, [], length, drop, OnOk, OnErr, IfErr, IsErrOf};
+ghost use Rattle.tnc_base.specs.Faults.{HasRisen};
+ghost use Rattle.tnc_base.specs.Streams.{WrotePart};
+ghost use Rattle.afsk_modulator.specs.Signal.{signal, samples_of};
+ghost use Rattle.afsk_modulator.specs.Transmission.{IsBadLength};
+ghost use Rattle.wav_file.specs.Head.{head_of};
+ghost use Rattle.tnc_forms.specs.declared.fault.InputFault.{InputFault};
+ghost use Rattle.tnc_forms.specs.Pcm.{pcm};
+ghost use Rattle.tnc_forms.specs.Reading.{input_limit};
+ghost use Rattle.tnc_encode.specs.Encoded.{encoded, encoded_before, encode_fault, length_fault, sent_at_once, transmissions, written_as};
+
+use crate::counting::{count_samples, head};
+use crate::frames::read_frames;
+use crate::sending::samples_at_once;
+use std::alloc::Global;
+use std::slice;
+use tnc_base::{Octets, Sink, Source};
+use tnc_forms::{Fault, InputFault, read_all, write_pcm};
+use tnc_words::{AudioForm, EncodeWords};
+
+/// Reads the input to its end, and then writes the signal of its frames. Where a line is bad, the frames before it are
+/// sent as raw PCM, or no WAV file is written.
+pub fn encode<I: Source, O: Sink>(
+    alloc: Global,
+    words: EncodeWords,
+    input: &mut I,
+    output: &mut O,
+) -> Result<(), Fault>
+    requires opening { 2 ≤ words.opening }
+    requires closing { 1 ≤ words.closing }
+
+    // what is read, and what is written of it
+    ensures end { (octets : List ℕ) → I.left input.old ≡ Some octets
+        → OnOk result (I.left input.new ≡ Some []) }
+    ensures good { (octets : List ℕ) → I.left input.old ≡ Some octets
+        → OnOk result (encode_fault words octets ≡ None) }
+    ensures encoded { (octets before : List ℕ) → I.left input.old ≡ Some octets
+        → O.written output.old ≡ Some before
+        → OnOk result (O.written output.new ≡ Some (before ++ encoded words octets)) }
+
+    // what is wrong with the input, and what was written before that is told
+    ensures bad { (octets : List ℕ) → (fault : InputFault) → I.left input.old ≡ Some octets
+        → IsErrOf result (Fault.Input fault) → encode_fault words octets ≡ Some fault }
+    ensures encoded_before { (octets before : List ℕ) → (fault : InputFault) → I.left input.old ≡ Some octets
+        → O.written output.old ≡ Some before → length octets ≤ input_limit
+        → IsErrOf result (Fault.Input fault) → O.written output.new ≡ Some (before ++ encoded_before words octets) }
+    ensures stops { (octets : List ℕ) → I.left input.old ≡ Some octets
+        → IsErrOf result (Fault.Input InputFault.TooLong) → I.left input.new ≡ Some (drop (input_limit + 1) octets) }
+
+    // each other fault, and what stands after it
+    ensures read { IsErrOf result Fault.Read → HasRisen (I.faults input.old) (I.faults input.new) }
+    ensures write { IsErrOf result Fault.Write → HasRisen (O.faults output.old) (O.faults output.new) }
+    ensures cut { (octets before : List ℕ) → I.left input.old ≡ Some octets
+        → O.written output.old ≡ Some before
+        → OnErr result (WrotePart before (encoded words octets) (O.written output.new)) }
+    ensures unwritten { (result ≡ Err (Fault.Input InputFault.TooLong)) ⊎ (result ≡ Err Fault.Read) → output.new ≡ output.old }
+{
+    let octets = read_all(alloc, input)?;
+    let read = read_frames(alloc, words.frames, &octets)?;
+    match (words.audio, read.fault) {
+        (AudioForm::Raw, None) => send_all(alloc, words, &read.frames, output),
+        (AudioForm::Raw, Some(fault)) => {
+            send_all(alloc, words, &read.frames, output)?;
+            Err(Fault::Input(fault))
+        }
+        (AudioForm::Wav, None) => send_wav(alloc, words, &read.frames, output),
+        (AudioForm::Wav, Some(fault)) => Err(Fault::Input(fault)),
+    }
+}
+
+/// Writes a WAV file of the signal of frames.
+fn send_wav<O: Sink>(
+    alloc: Global,
+    words: EncodeWords,
+    frames: &[Octets],
+    output: &mut O,
+) -> Result<(), Fault>
+    requires opening { 2 ≤ words.opening }
+    requires closing { 1 ≤ words.closing }
+    requires lengths { All (λ octets. ¬ IsBadLength octets) frames.now }
+    ensures sent { (before : List ℕ) → O.written output.old ≡ Some before
+        → OnOk result (O.written output.new
+            ≡ Some (before ++ written_as AudioForm.Wav (signal (transmissions words frames.now)))) }
+    ensures fits { OnOk result (length_fault AudioForm.Wav (length (signal (transmissions words frames.now))) ≡ None) }
+    ensures long { (fault : InputFault) → IsErrOf result (Fault.Input fault)
+        → (length_fault AudioForm.Wav (length (signal (transmissions words frames.now))) ≡ Some fault)
+        × (fault ≢ InputFault.TooLong) × (output.new ≡ output.old) }
+    ensures cut { (before : List ℕ) → O.written output.old ≡ Some before
+        → OnErr result (WrotePart before (written_as AudioForm.Wav (signal (transmissions words frames.now)))
+            (O.written output.new)) }
+    ensures write { IsErrOf result Fault.Write → HasRisen (O.faults output.old) (O.faults output.new) }
+    ensures read { ¬ IsErrOf result Fault.Read }
+{
+    let count = count_samples(alloc, words, frames)?;
+    let head = match head(count) {
+        Ok(head) => head,
+        Err(fault) => return Err(Fault::Input(fault)),
+    };
+    let Ok(()) = output.write(&head) else {
+        return Err(Fault::Write);
+    };
+    send_all(alloc, words, frames, output)
+}
+
+/// Writes the signal of frames, a transmission at a time.
+fn send_all<O: Sink>(
+    alloc: Global,
+    words: EncodeWords,
+    frames: &[Octets],
+    output: &mut O,
+) -> Result<(), Fault>
+    requires opening { 2 ≤ words.opening }
+    requires closing { 1 ≤ words.closing }
+    requires lengths { All (λ octets. ¬ IsBadLength octets) frames.now }
+    ensures sent { (before : List ℕ) → O.written output.old ≡ Some before
+        → OnOk result (O.written output.new ≡ Some (before ++ pcm (signal (transmissions words frames.now)))) }
+    ensures cut { (before : List ℕ) → O.written output.old ≡ Some before
+        → OnErr result (WrotePart before (pcm (signal (transmissions words frames.now))) (O.written output.new)) }
+    ensures write { IsErrOf result Fault.Write → HasRisen (O.faults output.old) (O.faults output.new) }
+    ensures faults { IfErr result (λ fault. (fault ≡ Fault.Memory) ⊎ (fault ≡ Fault.Write)) }
+{
+    if words.join {
+        return if frames.is_empty() {
+            Ok(())
+        } else {
+            send(alloc, words, frames, output)
+        };
+    }
+    for frame in frames {
+        send(alloc, words, slice::from_ref(frame), output)?;
+    }
+    Ok(())
+}
+
+/// Writes the frames of one transmission.
+fn send<O: Sink>(
+    alloc: Global,
+    words: EncodeWords,
+    frames: &[Octets],
+    output: &mut O,
+) -> Result<(), Fault>
+    requires opening { 2 ≤ words.opening }
+    requires closing { 1 ≤ words.closing }
+    requires lengths { All (λ octets. ¬ IsBadLength octets) frames.now }
+    ensures sent { (before : List ℕ) → O.written output.old ≡ Some before
+        → OnOk result (O.written output.new ≡ Some (before ++ pcm (samples_of (sent_at_once words frames.now)))) }
+    ensures cut { (before : List ℕ) → O.written output.old ≡ Some before
+        → OnErr result (WrotePart before (pcm (samples_of (sent_at_once words frames.now))) (O.written output.new)) }
+    ensures later { O.faults output.old ≤ O.faults output.new }
+    ensures write { IsErrOf result Fault.Write → HasRisen (O.faults output.old) (O.faults output.new) }
+    ensures faults { IfErr result (λ fault. (fault ≡ Fault.Memory) ⊎ (fault ≡ Fault.Write)) }
+{
+    let samples = samples_at_once(alloc, words, frames)?;
+    let octets = write_pcm(alloc, &samples)?;
+    match output.write(&octets) {
+        Ok(()) => Ok(()),
+        Err(_) => Err(Fault::Write),
+    }
+}
