@@ -1,5 +1,5 @@
 //! Audio in its two forms.
-ghost use Rattle.std.specs.Prelude.{◌≡◌, IfOk};
+ghost use Rattle.std.specs.Prelude.{◌≡◌, ◌≤◌, IfOk, length};
 ghost use Rattle.wav_file.specs.Reading.{samples_in, verdict_of};
 ghost use Rattle.tnc_decode.specs.Audio.{fault_in_verdict, form_fault, samples_of};
 
@@ -21,6 +21,7 @@ pub struct Audio {
 /// The samples of octets in a form, and what is wrong with them: of raw PCM nothing ever is.
 pub fn read_audio(alloc: Global, form: AudioForm, octets: &[u8]) -> Result<Audio, OutOfMemory>
     ensures samples { IfOk result (λ audio. audio.samples.items ≡ samples_of form octets.now) }
+    ensures count { IfOk result (λ audio. length audio.samples.items ≤ length octets.now) }
     ensures fault { IfOk result (λ audio. audio.fault ≡ form_fault form octets.now) }
 {
     match form {
@@ -44,6 +45,7 @@ fn read_wav(
     octets: &[u8],
 ) -> Result<(Vec<i16>, Result<(), WavFault>), OutOfMemory>
     ensures samples { IfOk result (λ read. read.0.items ≡ samples_in octets.now) }
+    ensures count { IfOk result (λ read. length read.0.items ≤ length octets.now) }
     ensures verdict { IfOk result (λ read. read.1 ≡ verdict_of octets.now) }
 {
     let mut file = WavIn::new();

@@ -13,5 +13,3 @@ pub use decoding::decode;
 pub use hearing::{hear, merge};
 pub use printing::print;
 
-#[cfg(test)]
-mod tests;

@@ -10,5 +10,3 @@ mod sending;
 
 pub use encoding::encode;
 
-#[cfg(test)]
-mod tests;

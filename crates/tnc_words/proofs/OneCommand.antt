@@ -1,40 +1,124 @@
 -- Words ask for one command.
-use Rattle.std.proofs.Common.{◌≡◌, ℕ, Option, Some, None, List, ◌∷◌, codes, refl, sym, ap, ◌∙◌, arith}
+use Rattle.std.proofs.Common.{◌≡◌, ◌<◌, ◌≤◌, ℕ, Bool, false, Option, Some, None, List, ◌∷◌, codes, refl, sym, ap, ◌∙◌, eqb-false, arith}
+use Rattle.std.proofs.Math.Dec.{eqb}
 use Rattle.clap.specs.Words.{Row, Text}
+use Rattle.ax25_frames.specs.ControlField.{numbers}
+use Rattle.ax25_frames.specs.declared.frame.Modulus.{Modulus}
+use Rattle.ax25_frames.specs.declared.frame.Modulus.TheVariants.{Eight, OneTwentyEight}
 use Rattle.tnc_words.specs.declared.command.Command.{Command}
-use Rattle.tnc_words.specs.declared.command.Command.TheVariants.{Decode, Encode}
+use Rattle.tnc_words.specs.declared.command.Command.TheVariants.{Decode, Encode, Show, Loop}
+use Rattle.tnc_words.specs.declared.command.DecodeWords.{DecodeWords}
 use Rattle.tnc_words.specs.declared.command.EncodeWords.{EncodeWords}
-use Rattle.tnc_words.specs.Commands.{Asks, HasOptions, IsDecode, IsEncode}
-use Rattle.tnc_words.specs.Numbers.{HasNumber}
+use Rattle.tnc_words.specs.declared.command.ShowWords.{ShowWords}
+use Rattle.tnc_words.specs.declared.command.LoopWords.{LoopWords}
+use Rattle.tnc_words.specs.Commands.{Asks, IsDecode, IsEncode, IsShow, IsLoop, first_word}
+use Rattle.tnc_words.specs.Commands.{HasDecodeOptions, HasEncodeOptions, HasShowOptions, HasLoopOptions}
+use Rattle.tnc_words.specs.Numbers.{GivesNumber, HasNumber}
+
+-- ---- an option has one value
+
+-- an option that was given has one number
+given_number : (text : Option Text) (least greatest number other : ℕ) → GivesNumber text least greatest number
+    → GivesNumber text least greatest other → number ≡ other
+given_number None least greatest number other h k = absurd h
+given_number (Some text) least greatest number other h k = sym h.0.value ∙ k.0.value
 
 -- an option has one number
-one_number : (text : Option Text) (default least greatest number other : ℕ) → HasNumber text default least greatest number
+pub one_number : (text : Option Text) (default least greatest number other : ℕ) → HasNumber text default least greatest number
     → HasNumber text default least greatest other → number ≡ other
 one_number None default least greatest number other h k = h ∙ sym k
 one_number (Some text) default least greatest number other h k = sym h.0.value ∙ k.0.value
 
--- what was found gives one set of options
-pub one_options : (found : List Row) (encode other : EncodeWords) → HasOptions found encode → HasOptions found other → encode ≡ other
-one_options found encode other h k =
-    ap (λ v. record { join = v; opening = encode.opening; closing = encode.closing; silence = encode.silence }) (h.join ∙ sym k.join)
-    ∙ ap (λ v. record { join = other.join; opening = v; closing = encode.closing; silence = encode.silence }) (one_number _ _ _ _ _ _ h.opening k.opening)
-    ∙ ap (λ v. record { join = other.join; opening = other.opening; closing = v; silence = encode.silence }) (one_number _ _ _ _ _ _ h.closing k.closing)
-    ∙ ap (λ v. record { join = other.join; opening = other.opening; closing = other.closing; silence = v }) (one_number _ _ _ _ _ _ h.silence k.silence)
+-- a modulus is known by its number
+one_modulus : (modulus other : Modulus) → numbers modulus ≡ numbers other → modulus ≡ other
+one_modulus Eight Eight h = refl
+one_modulus Eight OneTwentyEight h = omega arith
+one_modulus OneTwentyEight Eight h = omega arith
+one_modulus OneTwentyEight OneTwentyEight h = refl
+
+-- ---- what was found gives one set of options
+
+one_decode_options : (found : List Row) (decode other : DecodeWords) → HasDecodeOptions found decode → HasDecodeOptions found other
+    → decode ≡ other
+one_decode_options found decode other h k =
+    ap (λ v. record { audio = v; frames = decode.frames }) (h.audio ∙ sym k.audio)
+    ∙ ap (λ v. record { audio = other.audio; frames = v }) (h.frames ∙ sym k.frames)
+
+one_encode_options : (found : List Row) (encode other : EncodeWords) → HasEncodeOptions found encode → HasEncodeOptions found other
+    → encode ≡ other
+one_encode_options found encode other h k =
+    ap (λ v. record { frames = v; audio = encode.audio; join = encode.join; opening = encode.opening; closing = encode.closing; silence = encode.silence }) (h.frames ∙ sym k.frames)
+    ∙ ap (λ v. record { frames = other.frames; audio = v; join = encode.join; opening = encode.opening; closing = encode.closing; silence = encode.silence }) (h.audio ∙ sym k.audio)
+    ∙ ap (λ v. record { frames = other.frames; audio = other.audio; join = v; opening = encode.opening; closing = encode.closing; silence = encode.silence }) (h.join ∙ sym k.join)
+    ∙ ap (λ v. record { frames = other.frames; audio = other.audio; join = other.join; opening = v; closing = encode.closing; silence = encode.silence }) (one_number _ _ _ _ _ _ h.opening k.opening)
+    ∙ ap (λ v. record { frames = other.frames; audio = other.audio; join = other.join; opening = other.opening; closing = v; silence = encode.silence }) (one_number _ _ _ _ _ _ h.closing k.closing)
+    ∙ ap (λ v. record { frames = other.frames; audio = other.audio; join = other.join; opening = other.opening; closing = other.closing; silence = v }) (one_number _ _ _ _ _ _ h.silence k.silence)
+
+one_show_options : (found : List Row) (show other : ShowWords) → HasShowOptions found show → HasShowOptions found other → show ≡ other
+one_show_options found show other h k =
+    ap (λ v. record { modulus = v }) (one_modulus show.modulus other.modulus (one_number _ _ _ _ _ _ h.modulus k.modulus))
+
+one_loop_options : (found : List Row) (run other : LoopWords) → HasLoopOptions found run → HasLoopOptions found other → run ≡ other
+one_loop_options found run other h k =
+    ap (λ v. record { seed = v; frames = run.frames }) (given_number _ _ _ _ _ h.seed k.seed)
+    ∙ ap (λ v. record { seed = other.seed; frames = v }) (given_number _ _ _ _ _ h.frames k.frames)
+
+-- ---- words give one set of options
+
+pub one_decode : (words : List Text) (decode other : DecodeWords) → IsDecode words decode → IsDecode words other → decode ≡ other
+one_decode words decode other h k = one_decode_options _ decode other h.options k.options
+
+pub one_encode : (words : List Text) (encode other : EncodeWords) → IsEncode words encode → IsEncode words other → encode ≡ other
+one_encode words encode other h k = one_encode_options _ encode other h.options k.options
+
+pub one_show : (words : List Text) (show other : ShowWords) → IsShow words show → IsShow words other → show ≡ other
+one_show words show other h k = one_show_options _ show other h.options k.options
+
+pub one_loop : (words : List Text) (run other : LoopWords) → IsLoop words run → IsLoop words other → run ≡ other
+one_loop words run other h k = one_loop_options _ run other h.options k.options
+
+-- ---- words ask for one command
 
 abbrev first_code : Option Text → ℕ
 first_code (Some (code ∷ codes)) = code
 first_code _ = 0
 
-apart : (n : ℕ) → n ≡ 100 → n ≡ 101 → ⊥
-apart n same other = omega arith
+-- the command's word is the first one
+abbrev word_of : Command → Text
+word_of (Decode decode) = codes "decode"
+word_of (Encode encode) = codes "encode"
+word_of (Show show) = codes "show"
+word_of (Loop run) = codes "loop"
 
--- words that are decode are not encode
-pub decode_is_not_encode : (words : List Text) (encode : EncodeWords) → IsDecode words → IsEncode words encode → ⊥
-decode_is_not_encode words encode h k =
-    let same : Some (codes "decode") ≡ Some (codes "encode") = sym h.named ∙ k.named in apart 100 refl (ap first_code same)
+named : (words : List Text) (command : Command) → Asks words command → first_word words ≡ Some (word_of command)
+named words (Decode decode) h = h.named
+named words (Encode encode) h = h.named
+named words (Show show) h = h.named
+named words (Loop run) h = h.named
+
+-- and already its first letter says which it is
+same_letter : (words : List Text) (command other : Command) → Asks words command → Asks words other
+    → first_code (Some (word_of command)) ≡ first_code (Some (word_of other))
+same_letter words command other h k = ap first_code (sym (named words command h) ∙ named words other k)
+
+apart : (words : List Text) (command other : Command) → Asks words command → Asks words other
+    → eqb (first_code (Some (word_of command))) (first_code (Some (word_of other))) ≡ false → ⊥
+apart words command other h k differ = eqb-false _ _ differ (same_letter words command other h k)
 
 pub one_command : (words : List Text) (command other : Command) → Asks words command → Asks words other → command ≡ other
-one_command words Decode Decode h k = refl
-one_command words Decode (Encode encode) h k = absurd (decode_is_not_encode words encode h k)
-one_command words (Encode encode) Decode h k = absurd (decode_is_not_encode words encode k h)
-one_command words (Encode encode) (Encode other) h k = ap Encode (one_options _ encode other h.options k.options)
+one_command words (Decode decode) (Decode other) h k = ap Decode (one_decode words decode other h k)
+one_command words (Decode decode) (Encode encode) h k = absurd (apart words _ _ h k refl)
+one_command words (Decode decode) (Show show) h k = absurd (apart words _ _ h k refl)
+one_command words (Decode decode) (Loop run) h k = absurd (apart words _ _ h k refl)
+one_command words (Encode encode) (Decode decode) h k = absurd (apart words _ _ h k refl)
+one_command words (Encode encode) (Encode other) h k = ap Encode (one_encode words encode other h k)
+one_command words (Encode encode) (Show show) h k = absurd (apart words _ _ h k refl)
+one_command words (Encode encode) (Loop run) h k = absurd (apart words _ _ h k refl)
+one_command words (Show show) (Decode decode) h k = absurd (apart words _ _ h k refl)
+one_command words (Show show) (Encode encode) h k = absurd (apart words _ _ h k refl)
+one_command words (Show show) (Show other) h k = ap Show (one_show words show other h k)
+one_command words (Show show) (Loop run) h k = absurd (apart words _ _ h k refl)
+one_command words (Loop run) (Decode decode) h k = absurd (apart words _ _ h k refl)
+one_command words (Loop run) (Encode encode) h k = absurd (apart words _ _ h k refl)
+one_command words (Loop run) (Show show) h k = absurd (apart words _ _ h k refl)
+one_command words (Loop run) (Loop other) h k = ap Loop (one_loop words run other h k)

@@ -1,23 +1,36 @@
 -- The command that the words after the program's name ask for. The first word names it, and clap reads the rest.
-use Rattle.std.specs.Prelude.{◌≡◌, List, [], Option, Some, codes, slice_get}
+use Rattle.std.specs.Prelude.{◌≡◌, ◌^◌, ◌-◌, List, [], Option, Some, codes, slice_get}
 use Rattle.clap.specs.Words.{Row, Text, first_of}
+use Rattle.ax25_frames.specs.ControlField.{numbers}
 use Rattle.tnc_words.specs.declared.command.Command.{Command}
-use Rattle.tnc_words.specs.declared.command.Command.TheVariants.{Decode, Encode}
+use Rattle.tnc_words.specs.declared.command.Command.TheVariants.{Decode, Encode, Show, Loop}
+use Rattle.tnc_words.specs.declared.command.DecodeWords.{DecodeWords}
 use Rattle.tnc_words.specs.declared.command.EncodeWords.{EncodeWords}
-use Rattle.tnc_words.specs.Options.{decode_faults, encode_faults, encode_rows, is_used}
-use Rattle.tnc_words.specs.Numbers.{HasNumber}
+use Rattle.tnc_words.specs.declared.command.ShowWords.{ShowWords}
+use Rattle.tnc_words.specs.declared.command.LoopWords.{LoopWords}
+use Rattle.tnc_words.specs.Options.{decode_faults, decode_rows, encode_faults, encode_rows, show_faults, show_rows, loop_faults, loop_rows, is_used}
+use Rattle.tnc_words.specs.Forms.{audio_form, frame_form}
+use Rattle.tnc_words.specs.Numbers.{GivesNumber, HasNumber}
 
 abbrev pub first_word : List Text → Option Text
 first_word words = slice_get words 0
 
--- decode
-pub record IsDecode (words : List Text) : Type 0 where
+-- The options of decode.
+pub record HasDecodeOptions (found : List Row) (decode : DecodeWords) : Type 0 where
+  pub audio : decode.audio ≡ audio_form found
+  pub frames : decode.frames ≡ frame_form found
+
+-- decode with these options
+pub record IsDecode (words : List Text) (decode : DecodeWords) : Type 0 where
   pub named : first_word words ≡ Some (codes "decode")
   pub taken : decode_faults words ≡ []
+  pub options : HasDecodeOptions (decode_rows words) decode
 
 -- The options of encode: 75 flags open a transmission, 2 close it and no silence stands before it, where no other number
 -- was given.
-pub record HasOptions (found : List Row) (encode : EncodeWords) : Type 0 where
+pub record HasEncodeOptions (found : List Row) (encode : EncodeWords) : Type 0 where
+  pub frames : encode.frames ≡ frame_form found
+  pub audio : encode.audio ≡ audio_form found
   pub join : encode.join ≡ is_used (codes "join") found
   pub opening : HasNumber (first_of (codes "opening") found) 75 2 10000 encode.opening
   pub closing : HasNumber (first_of (codes "closing") found) 2 1 10000 encode.closing
@@ -27,9 +40,32 @@ pub record HasOptions (found : List Row) (encode : EncodeWords) : Type 0 where
 pub record IsEncode (words : List Text) (encode : EncodeWords) : Type 0 where
   pub named : first_word words ≡ Some (codes "encode")
   pub taken : encode_faults words ≡ []
-  pub options : HasOptions (encode_rows words) encode
+  pub options : HasEncodeOptions (encode_rows words) encode
+
+-- The option of show: a modulus by how many sequence numbers it has, and 8 where none was given.
+pub record HasShowOptions (found : List Row) (show : ShowWords) : Type 0 where
+  pub modulus : HasNumber (first_of (codes "modulo") found) 8 8 128 (numbers show.modulus)
+
+-- show with this option
+pub record IsShow (words : List Text) (show : ShowWords) : Type 0 where
+  pub named : first_word words ≡ Some (codes "show")
+  pub taken : show_faults words ≡ []
+  pub options : HasShowOptions (show_rows words) show
+
+-- The options of loop, which have no default.
+pub record HasLoopOptions (found : List Row) (loop : LoopWords) : Type 0 where
+  pub seed : GivesNumber (first_of (codes "seed") found) 0 (2 ^ 64 - 1) loop.seed
+  pub frames : GivesNumber (first_of (codes "frames") found) 0 1000 loop.frames
+
+-- loop with these options
+pub record IsLoop (words : List Text) (loop : LoopWords) : Type 0 where
+  pub named : first_word words ≡ Some (codes "loop")
+  pub taken : loop_faults words ≡ []
+  pub options : HasLoopOptions (loop_rows words) loop
 
 -- what the words ask for
 abbrev pub Asks : List Text → Command → Type 0
-Asks words Decode = IsDecode words
+Asks words (Decode decode) = IsDecode words decode
 Asks words (Encode encode) = IsEncode words encode
+Asks words (Show show) = IsShow words show
+Asks words (Loop loop) = IsLoop words loop

@@ -8,7 +8,12 @@ pub record IsNumber (text : Text) (number : ℕ) : Type 0 where
   pub digits : IsNumeral 10 text
   pub value : digits_value 10 text ≡ number
 
--- an option's number: that of its text, between the least and the greatest, or the default where it was not given
+-- the number of an option that was given: that of its text, between the least and the greatest
+abbrev pub GivesNumber : Option Text → ℕ → ℕ → ℕ → Type 0
+GivesNumber None least greatest number = ⊥
+GivesNumber (Some text) least greatest number = IsNumber text number × (least ≤ number) × (number ≤ greatest)
+
+-- an option's number, or the default where it was not given
 abbrev pub HasNumber : Option Text → ℕ → ℕ → ℕ → ℕ → Type 0
 HasNumber None default least greatest number = number ≡ default
-HasNumber (Some text) default least greatest number = IsNumber text number × (least ≤ number) × (number ≤ greatest)
+HasNumber (Some text) default least greatest number = GivesNumber (Some text) least greatest number

@@ -14,14 +14,27 @@ option_rule name = record (new_rule name) { long = Some name; action = Some Set 
 abbrev pub flag_rule : Text → Rule
 flag_rule name = record (new_rule name) { long = Some name; action = Some SetTrue }
 
--- decode, without options
-abbrev pub decode_app : App
-decode_app = new_app (codes "decode")
+-- an option with a value, which has to be given
+abbrev pub needed_rule : Text → Rule
+needed_rule name = record (option_rule name) { required = true }
 
--- encode [--join] [--opening n] [--closing n] [--silence n]
+-- decode [--wav] [--kiss]
+abbrev pub decode_app : App
+decode_app = with_rule (with_rule (new_app (codes "decode")) (flag_rule (codes "wav"))) (flag_rule (codes "kiss"))
+
+-- encode [--kiss] [--wav] [--join] [--opening n] [--closing n] [--silence n]
 abbrev pub encode_app : App
-encode_app = with_rule (with_rule (with_rule (with_rule (new_app (codes "encode")) (flag_rule (codes "join")))
+encode_app = with_rule (with_rule (with_rule (with_rule (with_rule (with_rule (new_app (codes "encode"))
+    (flag_rule (codes "kiss"))) (flag_rule (codes "wav"))) (flag_rule (codes "join")))
     (option_rule (codes "opening"))) (option_rule (codes "closing"))) (option_rule (codes "silence"))
+
+-- show [--modulo n]
+abbrev pub show_app : App
+show_app = with_rule (new_app (codes "show")) (option_rule (codes "modulo"))
+
+-- loop --seed n --frames n
+abbrev pub loop_app : App
+loop_app = with_rule (with_rule (new_app (codes "loop")) (needed_rule (codes "seed"))) (needed_rule (codes "frames"))
 
 -- Why clap refuses words, of which the first is the command's own: nothing where it takes them.
 unfoldable pub decode_faults : List Text → Kinds
@@ -30,10 +43,26 @@ decode_faults words = fault_of decode_app words
 unfoldable pub encode_faults : List Text → Kinds
 encode_faults words = fault_of encode_app words
 
--- what clap finds in words for the options of encode
+unfoldable pub show_faults : List Text → Kinds
+show_faults words = fault_of show_app words
+
+unfoldable pub loop_faults : List Text → Kinds
+loop_faults words = fault_of loop_app words
+
+-- What clap finds in words for a command's options.
+unfoldable pub decode_rows : List Text → List Row
+decode_rows words = matches_of decode_app words
+
 unfoldable pub encode_rows : List Text → List Row
 encode_rows words = matches_of encode_app words
 
+unfoldable pub show_rows : List Text → List Row
+show_rows words = matches_of show_app words
+
+unfoldable pub loop_rows : List Text → List Row
+loop_rows words = matches_of loop_app words
+
+-- whether a value was given by the words, and not by default
 abbrev pub is_from_words : Option ValueSource → Bool
 is_from_words (Some CommandLine) = true
 is_from_words _ = false

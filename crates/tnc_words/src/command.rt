@@ -1,17 +1,53 @@
 //! What words can ask for.
+use ax25_frames::Modulus;
+
+/// How samples come and go: raw PCM, or a WAV file.
+#[derive(Clone, Copy, Debug, PartialEq, Eq)]
+pub enum AudioForm {
+    /// Samples of 16 bits, little-endian, and nothing else.
+    Raw,
+    /// A WAV file.
+    Wav,
+}
+
+/// How frames come and go: lines of hexadecimal digits, or KISS.
+#[derive(Clone, Copy, Debug, PartialEq, Eq)]
+pub enum FrameForm {
+    /// A line per frame.
+    Hex,
+    /// KISS frames.
+    Kiss,
+}
 
 /// A command with its options.
 #[derive(Clone, Copy, Debug, PartialEq, Eq)]
 pub enum Command {
-    /// Samples in, a line per frame out.
-    Decode,
-    /// A line per frame in, samples out.
+    /// Samples in, frames out.
+    Decode(DecodeWords),
+    /// Frames in, samples out.
     Encode(EncodeWords),
+    /// Frames in, a line of text for each out.
+    Show(ShowWords),
+    /// Frames that are drawn, sent and received again.
+    Loop(LoopWords),
+}
+
+/// The options of `decode`.
+#[derive(Clone, Copy, Debug, PartialEq, Eq)]
+pub struct DecodeWords {
+    /// The form of the samples that come in.
+    pub audio: AudioForm,
+    /// The form of the frames that go out.
+    pub frames: FrameForm,
 }
 
 /// The options of `encode`.
 #[derive(Clone, Copy, Debug, PartialEq, Eq)]
 pub struct EncodeWords {
+    /// The form of the frames that come in.
+    pub frames: FrameForm,
+    /// The form of the samples that go out.
+    pub audio: AudioForm,
     /// All frames are one transmission, and not each frame its own.
     pub join: bool,
     /// The flags that open a transmission, 2 to 10,000.
@@ -20,4 +56,20 @@ pub struct EncodeWords {
     pub closing: u16,
     /// The silent samples before it, at most 1,000,000.
     pub silence: u32,
+}
+
+/// The option of `show`.
+#[derive(Clone, Copy, Debug, PartialEq, Eq)]
+pub struct ShowWords {
+    /// How the frames' control fields are read.
+    pub modulus: Modulus,
+}
+
+/// The options of `loop`.
+#[derive(Clone, Copy, Debug, PartialEq, Eq)]
+pub struct LoopWords {
+    /// What the frames are drawn from.
+    pub seed: u64,
+    /// How many frames there are, at most 1000.
+    pub frames: u16,
 }

@@ -6,14 +6,21 @@
 #![tactic(auto)]
 
 mod command;
+mod decode_words;
+mod encode_words;
 mod fault;
+mod forms;
 mod laws;
+mod loop_words;
 mod number;
 mod options;
 mod parsing;
 mod reading;
+mod show_words;
 
-pub use command::{Command, EncodeWords};
+pub use command::{
+    AudioForm, Command, DecodeWords, EncodeWords, FrameForm, LoopWords, ShowWords,
+};
 pub use fault::WordsFault;
 pub use laws::one_command;
 pub use reading::read_words;

@@ -1,23 +1,31 @@
 //! Numbers among the words.
-ghost use Rattle.std.specs.Prelude.{◌≡◌, ◌<◌, ◌^◌, ℕ, IfSome, IsNone, option_map};
-ghost use Rattle.tnc_words.specs.Numbers.{HasNumber, IsNumber};
+ghost use Rattle.std.specs.Prelude.{◌≡◌, ◌<◌, ◌^◌, ℕ, IfSome, IsNone, Some, option_map};
+ghost use Rattle.tnc_words.specs.Numbers.{GivesNumber, HasNumber, IsNumber};
 
-/// The numbers that an option takes, and the one that it has where it is not given.
+/// The numbers that an option takes.
 #[derive(Clone, Copy)]
 pub(crate) struct Bounds {
-    pub default: u32,
-    pub least: u32,
-    pub greatest: u32,
+    pub least: u64,
+    pub greatest: u64,
 }
 
 /// The number of an option: that of its text, or the default where it has none.
-pub(crate) fn number_or_default(text: Option<&str>, bounds: Bounds) -> Option<u32>
-    ensures number { IfSome result (HasNumber (option_map (λ t. t.now) text.entry) bounds.default bounds.least bounds.greatest) }
-    ensures none { IsNone result → (number : ℕ) → ¬ HasNumber (option_map (λ t. t.now) text.entry) bounds.default bounds.least bounds.greatest number }
+pub(crate) fn number_or_default(text: Option<&str>, default: u64, bounds: Bounds) -> Option<u64>
+    ensures number { IfSome result (HasNumber (option_map (λ t. t.now) text.entry) default bounds.least bounds.greatest) }
+    ensures none { IsNone result → (number : ℕ)
+        → ¬ HasNumber (option_map (λ t. t.now) text.entry) default bounds.least bounds.greatest number }
 {
     let Some(text) = text else {
-        return Some(bounds.default);
+        return Some(default);
     };
+    number_within(text, bounds)
+}
+
+/// The number of a text, where it is one within bounds.
+pub(crate) fn number_within(text: &str, bounds: Bounds) -> Option<u64>
+    ensures number { IfSome result (GivesNumber (Some text.now) bounds.least bounds.greatest) }
+    ensures none { IsNone result → (number : ℕ) → ¬ GivesNumber (Some text.now) bounds.least bounds.greatest number }
+{
     let number = number_of(text)?;
     if number < bounds.least || bounds.greatest < number {
         return None;
@@ -25,10 +33,10 @@ pub(crate) fn number_or_default(text: Option<&str>, bounds: Bounds) -> Option<u3
     Some(number)
 }
 
-/// The number of one or more decimal digits. `None` where a text is none, or a number of 2^32 or more.
-fn number_of(text: &str) -> Option<u32>
+/// The number of one or more decimal digits. `None` where a text is none, or a number of 2^64 or more.
+fn number_of(text: &str) -> Option<u64>
     ensures number { IfSome result (IsNumber text.now) }
-    ensures none { IsNone result → (number : ℕ) → number < 2 ^ 32 → ¬ IsNumber text.now number }
+    ensures none { IsNone result → (number : ℕ) → number < 2 ^ 64 → ¬ IsNumber text.now number }
 {
     if text.as_bytes().first() == Some(&b'+') {
         return None;

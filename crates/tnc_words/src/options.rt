@@ -1,27 +1,48 @@
 //! The commands as `clap` is told of them.
 ghost use Rattle.std.specs.Prelude.{◌≡◌, IfOk, false};
 ghost use Rattle.clap.specs.Words.{app_of, rule_of, with_rule};
-ghost use Rattle.tnc_words.specs.Options.{decode_app, encode_app, flag_rule, option_rule};
+ghost use Rattle.tnc_words.specs.Options.{decode_app, encode_app, show_app, loop_app};
+ghost use Rattle.tnc_words.specs.Options.{flag_rule, needed_rule, option_rule};
 
 use clap::{Arg, ArgAction, Command};
 use std::alloc::{AllocError, Global};
 
-/// `decode`, which takes no option yet.
-pub(crate) fn decode_command<'a>(alloc: Global) -> Command<'a>
-    ensures { app_of result ≡ decode_app }
+/// `decode` with its two flags.
+pub(crate) fn decode_command<'a>(alloc: Global) -> Result<Command<'a>, AllocError>
+    ensures { IfOk result (λ command. app_of command ≡ decode_app) }
 {
-    Command::new(alloc, "decode")
+    let command = Command::new(alloc, "decode");
+    let command = with(command, flag(alloc, "wav"))?;
+    with(command, flag(alloc, "kiss"))
 }
 
-/// `encode` with its flag and its three numbers.
+/// `encode` with its three flags and its three numbers.
 pub(crate) fn encode_command<'a>(alloc: Global) -> Result<Command<'a>, AllocError>
     ensures { IfOk result (λ command. app_of command ≡ encode_app) }
 {
     let command = Command::new(alloc, "encode");
+    let command = with(command, flag(alloc, "kiss"))?;
+    let command = with(command, flag(alloc, "wav"))?;
     let command = with(command, flag(alloc, "join"))?;
     let command = with(command, option(alloc, "opening"))?;
     let command = with(command, option(alloc, "closing"))?;
     with(command, option(alloc, "silence"))
+}
+
+/// `show` with its number.
+pub(crate) fn show_command<'a>(alloc: Global) -> Result<Command<'a>, AllocError>
+    ensures { IfOk result (λ command. app_of command ≡ show_app) }
+{
+    with(Command::new(alloc, "show"), option(alloc, "modulo"))
+}
+
+/// `loop` with its two numbers, both of which it needs.
+pub(crate) fn loop_command<'a>(alloc: Global) -> Result<Command<'a>, AllocError>
+    ensures { IfOk result (λ command. app_of command ≡ loop_app) }
+{
+    let command = Command::new(alloc, "loop");
+    let command = with(command, needed(alloc, "seed"))?;
+    with(command, needed(alloc, "frames"))
 }
 
 /// An option with a value.
@@ -30,6 +51,14 @@ fn option<'a>(alloc: Global, name: &'a str) -> Arg<'a>
     ensures local { result.global ≡ false }
 {
     Arg::new(alloc, name).long(name).action(ArgAction::Set)
+}
+
+/// An option with a value, which has to be given.
+fn needed<'a>(alloc: Global, name: &'a str) -> Arg<'a>
+    ensures rule { rule_of result ≡ needed_rule name.entry.now }
+    ensures local { result.global ≡ false }
+{
+    option(alloc, name).required(true)
 }
 
 /// An option that is there or not.

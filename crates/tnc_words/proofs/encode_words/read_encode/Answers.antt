@@ -1,9 +1,9 @@
 use Rattle.std.proofs.Common.{◌≡◌, Err, List, map, string_bytes, subst, ap, ◌∙◌, sym}
 use Rattle.clap.specs.Words.{Row, fault_of, matches_of, rows_of, found_of}
-use Rattle.tnc_words.specs.Commands.{HasOptions, IsEncode}
+use Rattle.tnc_words.specs.Commands.{HasEncodeOptions, IsEncode}
 use Rattle.tnc_words.specs.Options.{encode_faults, encode_rows}
 use Rattle.tnc_words.proofs.Found.{passed_on, chosen, not_chosen}
-use Rattle.tnc_words.proofs.reading.read_encode.Goals as goal
+use Rattle.tnc_words.proofs.encode_words.read_encode.Goals as goal
 
 pub returns-in_err-found-clause-refused : goal.returns-in_err-found-clause-refused
 unfolding encode_faults
@@ -21,7 +21,7 @@ returns-clause-taken c =
     (λ encode options. record {
       named = c.requires;
       taken = ap (λ app. fault_of app words) (sym c.in_ok-encode_command.ensures) ∙ c.in_ok-found.ensures.taken;
-      options = subst (λ (rows : List Row). HasOptions rows encode) found options;
+      options = subst (λ (rows : List Row). HasEncodeOptions rows encode) found options;
     })
     c.encode_options.ensures.options
 
@@ -32,4 +32,4 @@ returns-clause-refused c = λ refused encode asks.
     let found : rows_of (found_of c.in_ok-found.found) ≡ encode_rows words =
     c.in_ok-found.ensures.rows ∙ ap (λ app. matches_of app words) c.in_ok-encode_command.ensures in
     c.encode_options.ensures.none (not_chosen c.encode_options.result c.ok_or.result _ _ c.ok_or.ensures.value refused) encode
-    (subst (λ (rows : List Row). HasOptions rows encode) (sym found) asks.options)
+    (subst (λ (rows : List Row). HasEncodeOptions rows encode) (sym found) asks.options)
