@@ -1,2 +1,4 @@
 pub mod MergingLemmas
 pub mod DecodedLemmas
+pub mod PrintingLemmas
+pub mod WavLemmas

@@ -1,6 +1,6 @@
 //! Audio in its two forms.
-ghost use Rattle.std.specs.Prelude.{◌≡◌, ◌≤◌, IfOk, length};
-ghost use Rattle.wav_file.specs.Reading.{samples_in, verdict_of};
+ghost use Rattle.std.specs.Prelude.{◌≡◌, ◌≤◌, ◌+◌, ◌++◌, IfOk, OnOk, length};
+ghost use Rattle.wav_file.specs.Reading.{given, samples_in, verdict_of};
 ghost use Rattle.tnc_decode.specs.Audio.{fault_in_verdict, form_fault, samples_of};
 
 use std::alloc::Global;
@@ -51,12 +51,24 @@ fn read_wav(
     let mut file = WavIn::new();
     let mut samples = Vec::new(alloc);
     for octet in octets {
-        // A fault comes again at each octet behind it, and no sample does.
-        if let Ok(Some(sample)) = file.push(*octet) {
-            samples.push(sample)?;
-        }
+        let answer = file.push(*octet);
+        take_sample(&mut samples, answer)?;
     }
     Ok((samples, file.finish()))
+}
+
+/// Appends the sample that an octet gave. A fault comes again at each octet behind it, and no sample does.
+fn take_sample(
+    samples: &mut Vec<i16>,
+    answer: Result<Option<i16>, WavFault>,
+) -> Result<(), OutOfMemory>
+    ensures taken { OnOk result (samples.new.items ≡ samples.old.items ++ given answer) }
+    ensures count { OnOk result (length samples.new.items ≤ length samples.old.items + 1) }
+{
+    if let Ok(Some(sample)) = answer {
+        samples.push(sample)?;
+    }
+    Ok(())
 }
 
 /// What is wrong with a file.

@@ -53,12 +53,10 @@ pub fn decode<I: Source, O: Sink>(
 {
     let octets = read_all(alloc, input)?;
     let (text, fault) = decoded_text(alloc, words, &octets)?;
-    let Ok(()) = output.write(&text) else {
-        return Err(Fault::Write);
-    };
-    match fault {
-        None => Ok(()),
-        Some(fault) => Err(Fault::Input(fault)),
+    match (output.write(&text), fault) {
+        (Err(_), _) => Err(Fault::Write),
+        (Ok(()), None) => Ok(()),
+        (Ok(()), Some(fault)) => Err(Fault::Input(fault)),
     }
 }
 
