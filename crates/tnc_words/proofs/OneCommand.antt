@@ -1,5 +1,6 @@
 -- Words ask for one command.
-use Rattle.std.proofs.Common.{◌≡◌, ◌<◌, ◌≤◌, ℕ, Bool, false, Option, Some, None, List, ◌∷◌, codes, refl, sym, ap, ◌∙◌, eqb-false, arith}
+use Rattle.std.proofs.Common.{◌≡◌, ◌<◌, ◌≤◌, ℕ, Bool, false, Option, Some, None, List, ◌∷◌, codes, refl, sym, ap, ◌∙◌, arith}
+use Rattle.std.proofs.lemmas.Bool.{eqb-false}
 use Rattle.std.proofs.Math.Dec.{eqb}
 use Rattle.clap.specs.Words.{Row, Text}
 use Rattle.ax25_frames.specs.ControlField.{numbers}
@@ -29,11 +30,14 @@ pub one_number : (text : Option Text) (default least greatest number other : ℕ
 one_number None default least greatest number other h k = h ∙ sym k
 one_number (Some text) default least greatest number other h k = sym h.0.value ∙ k.0.value
 
+eight_is_not : (n : ℕ) → n ≡ 128 → 8 ≡ n → ⊥
+eight_is_not n is same = omega arith
+
 -- a modulus is known by its number
 one_modulus : (modulus other : Modulus) → numbers modulus ≡ numbers other → modulus ≡ other
 one_modulus Eight Eight h = refl
-one_modulus Eight OneTwentyEight h = omega arith
-one_modulus OneTwentyEight Eight h = omega arith
+one_modulus Eight OneTwentyEight h = absurd (eight_is_not 128 refl h)
+one_modulus OneTwentyEight Eight h = absurd (eight_is_not 128 refl (sym h))
 one_modulus OneTwentyEight OneTwentyEight h = refl
 
 -- ---- what was found gives one set of options
@@ -83,42 +87,55 @@ abbrev first_code : Option Text → ℕ
 first_code (Some (code ∷ codes)) = code
 first_code _ = 0
 
--- the command's word is the first one
-abbrev word_of : Command → Text
-word_of (Decode decode) = codes "decode"
-word_of (Encode encode) = codes "encode"
-word_of (Show show) = codes "show"
-word_of (Loop run) = codes "loop"
+-- words that begin with one name do not begin with another: already the first letters differ
+apart : (words : List Text) (name other : Text) → first_word words ≡ Some name → first_word words ≡ Some other
+    → eqb (first_code (Some name)) (first_code (Some other)) ≡ false → ⊥
+apart words name other h k differ = eqb-false _ _ differ (ap first_code (sym h ∙ k))
 
-named : (words : List Text) (command : Command) → Asks words command → first_word words ≡ Some (word_of command)
-named words (Decode decode) h = h.named
-named words (Encode encode) h = h.named
-named words (Show show) h = h.named
-named words (Loop run) h = h.named
+-- words that name decode, and are no decode, ask for nothing
+pub no_decode : (words : List Text) → first_word words ≡ Some (codes "decode") → ((decode : DecodeWords) → IsDecode words decode → ⊥)
+    → (command : Command) → Asks words command → ⊥
+no_decode words is h (Decode decode) k = h decode k
+no_decode words is h (Encode encode) k = apart words _ _ is k.named refl
+no_decode words is h (Show show) k = apart words _ _ is k.named refl
+no_decode words is h (Loop run) k = apart words _ _ is k.named refl
 
--- and already its first letter says which it is
-same_letter : (words : List Text) (command other : Command) → Asks words command → Asks words other
-    → first_code (Some (word_of command)) ≡ first_code (Some (word_of other))
-same_letter words command other h k = ap first_code (sym (named words command h) ∙ named words other k)
+pub no_encode : (words : List Text) → first_word words ≡ Some (codes "encode") → ((encode : EncodeWords) → IsEncode words encode → ⊥)
+    → (command : Command) → Asks words command → ⊥
+no_encode words is h (Decode decode) k = apart words _ _ is k.named refl
+no_encode words is h (Encode encode) k = h encode k
+no_encode words is h (Show show) k = apart words _ _ is k.named refl
+no_encode words is h (Loop run) k = apart words _ _ is k.named refl
 
-apart : (words : List Text) (command other : Command) → Asks words command → Asks words other
-    → eqb (first_code (Some (word_of command))) (first_code (Some (word_of other))) ≡ false → ⊥
-apart words command other h k differ = eqb-false _ _ differ (same_letter words command other h k)
+pub no_show : (words : List Text) → first_word words ≡ Some (codes "show") → ((show : ShowWords) → IsShow words show → ⊥)
+    → (command : Command) → Asks words command → ⊥
+no_show words is h (Decode decode) k = apart words _ _ is k.named refl
+no_show words is h (Encode encode) k = apart words _ _ is k.named refl
+no_show words is h (Show show) k = h show k
+no_show words is h (Loop run) k = apart words _ _ is k.named refl
 
+pub no_loop : (words : List Text) → first_word words ≡ Some (codes "loop") → ((run : LoopWords) → IsLoop words run → ⊥)
+    → (command : Command) → Asks words command → ⊥
+no_loop words is h (Decode decode) k = apart words _ _ is k.named refl
+no_loop words is h (Encode encode) k = apart words _ _ is k.named refl
+no_loop words is h (Show show) k = apart words _ _ is k.named refl
+no_loop words is h (Loop run) k = h run k
+
+-- words ask for one command
 pub one_command : (words : List Text) (command other : Command) → Asks words command → Asks words other → command ≡ other
 one_command words (Decode decode) (Decode other) h k = ap Decode (one_decode words decode other h k)
-one_command words (Decode decode) (Encode encode) h k = absurd (apart words _ _ h k refl)
-one_command words (Decode decode) (Show show) h k = absurd (apart words _ _ h k refl)
-one_command words (Decode decode) (Loop run) h k = absurd (apart words _ _ h k refl)
-one_command words (Encode encode) (Decode decode) h k = absurd (apart words _ _ h k refl)
+one_command words (Decode decode) (Encode encode) h k = absurd (apart words _ _ h.named k.named refl)
+one_command words (Decode decode) (Show show) h k = absurd (apart words _ _ h.named k.named refl)
+one_command words (Decode decode) (Loop run) h k = absurd (apart words _ _ h.named k.named refl)
+one_command words (Encode encode) (Decode decode) h k = absurd (apart words _ _ h.named k.named refl)
 one_command words (Encode encode) (Encode other) h k = ap Encode (one_encode words encode other h k)
-one_command words (Encode encode) (Show show) h k = absurd (apart words _ _ h k refl)
-one_command words (Encode encode) (Loop run) h k = absurd (apart words _ _ h k refl)
-one_command words (Show show) (Decode decode) h k = absurd (apart words _ _ h k refl)
-one_command words (Show show) (Encode encode) h k = absurd (apart words _ _ h k refl)
+one_command words (Encode encode) (Show show) h k = absurd (apart words _ _ h.named k.named refl)
+one_command words (Encode encode) (Loop run) h k = absurd (apart words _ _ h.named k.named refl)
+one_command words (Show show) (Decode decode) h k = absurd (apart words _ _ h.named k.named refl)
+one_command words (Show show) (Encode encode) h k = absurd (apart words _ _ h.named k.named refl)
 one_command words (Show show) (Show other) h k = ap Show (one_show words show other h k)
-one_command words (Show show) (Loop run) h k = absurd (apart words _ _ h k refl)
-one_command words (Loop run) (Decode decode) h k = absurd (apart words _ _ h k refl)
-one_command words (Loop run) (Encode encode) h k = absurd (apart words _ _ h k refl)
-one_command words (Loop run) (Show show) h k = absurd (apart words _ _ h k refl)
+one_command words (Show show) (Loop run) h k = absurd (apart words _ _ h.named k.named refl)
+one_command words (Loop run) (Decode decode) h k = absurd (apart words _ _ h.named k.named refl)
+one_command words (Loop run) (Encode encode) h k = absurd (apart words _ _ h.named k.named refl)
+one_command words (Loop run) (Show show) h k = absurd (apart words _ _ h.named k.named refl)
 one_command words (Loop run) (Loop other) h k = ap Loop (one_loop words run other h k)

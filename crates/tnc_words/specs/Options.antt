@@ -18,14 +18,17 @@ flag_rule name = record (new_rule name) { long = Some name; action = Some SetTru
 abbrev pub needed_rule : Text → Rule
 needed_rule name = record (option_rule name) { required = true }
 
+-- [--wav] [--kiss]
+abbrev pub with_forms : App → App
+with_forms app = with_rule (with_rule app (flag_rule (codes "wav"))) (flag_rule (codes "kiss"))
+
 -- decode [--wav] [--kiss]
 abbrev pub decode_app : App
-decode_app = with_rule (with_rule (new_app (codes "decode")) (flag_rule (codes "wav"))) (flag_rule (codes "kiss"))
+decode_app = with_forms (new_app (codes "decode"))
 
--- encode [--kiss] [--wav] [--join] [--opening n] [--closing n] [--silence n]
+-- encode [--wav] [--kiss] [--join] [--opening n] [--closing n] [--silence n]
 abbrev pub encode_app : App
-encode_app = with_rule (with_rule (with_rule (with_rule (with_rule (with_rule (new_app (codes "encode"))
-    (flag_rule (codes "kiss"))) (flag_rule (codes "wav"))) (flag_rule (codes "join")))
+encode_app = with_rule (with_rule (with_rule (with_rule (with_forms (new_app (codes "encode"))) (flag_rule (codes "join")))
     (option_rule (codes "opening"))) (option_rule (codes "closing"))) (option_rule (codes "silence"))
 
 -- show [--modulo n]

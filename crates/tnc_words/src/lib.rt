@@ -18,9 +18,7 @@ mod parsing;
 mod reading;
 mod show_words;
 
-pub use command::{
-    AudioForm, Command, DecodeWords, EncodeWords, FrameForm, LoopWords, ShowWords,
-};
+pub use command::{AudioForm, Command, DecodeWords, EncodeWords, FrameForm, LoopWords, ShowWords};
 pub use fault::WordsFault;
 pub use laws::one_command;
 pub use reading::read_words;

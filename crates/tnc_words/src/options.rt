@@ -2,7 +2,7 @@
 ghost use Rattle.std.specs.Prelude.{◌≡◌, IfOk, false};
 ghost use Rattle.clap.specs.Words.{app_of, rule_of, with_rule};
 ghost use Rattle.tnc_words.specs.Options.{decode_app, encode_app, show_app, loop_app};
-ghost use Rattle.tnc_words.specs.Options.{flag_rule, needed_rule, option_rule};
+ghost use Rattle.tnc_words.specs.Options.{flag_rule, needed_rule, option_rule, with_forms};
 
 use clap::{Arg, ArgAction, Command};
 use std::alloc::{AllocError, Global};
@@ -11,18 +11,14 @@ use std::alloc::{AllocError, Global};
 pub(crate) fn decode_command<'a>(alloc: Global) -> Result<Command<'a>, AllocError>
     ensures { IfOk result (λ command. app_of command ≡ decode_app) }
 {
-    let command = Command::new(alloc, "decode");
-    let command = with(command, flag(alloc, "wav"))?;
-    with(command, flag(alloc, "kiss"))
+    forms(alloc, Command::new(alloc, "decode"))
 }
 
 /// `encode` with its three flags and its three numbers.
 pub(crate) fn encode_command<'a>(alloc: Global) -> Result<Command<'a>, AllocError>
     ensures { IfOk result (λ command. app_of command ≡ encode_app) }
 {
-    let command = Command::new(alloc, "encode");
-    let command = with(command, flag(alloc, "kiss"))?;
-    let command = with(command, flag(alloc, "wav"))?;
+    let command = forms(alloc, Command::new(alloc, "encode"))?;
     let command = with(command, flag(alloc, "join"))?;
     let command = with(command, option(alloc, "opening"))?;
     let command = with(command, option(alloc, "closing"))?;
@@ -43,6 +39,14 @@ pub(crate) fn loop_command<'a>(alloc: Global) -> Result<Command<'a>, AllocError>
     let command = Command::new(alloc, "loop");
     let command = with(command, needed(alloc, "seed"))?;
     with(command, needed(alloc, "frames"))
+}
+
+/// A command with the flags for the forms of samples and frames.
+fn forms<'a>(alloc: Global, command: Command<'a>) -> Result<Command<'a>, AllocError>
+    ensures { IfOk result (λ longer. app_of longer ≡ with_forms (app_of command.entry)) }
+{
+    let command = with(command, flag(alloc, "wav"))?;
+    with(command, flag(alloc, "kiss"))
 }
 
 /// An option with a value.

@@ -1,4 +1,8 @@
-use super::{Command, EncodeWords, WordsFault, one_command, read_words};
+use super::{
+    AudioForm, Command, DecodeWords, EncodeWords, FrameForm, LoopWords, ShowWords, WordsFault,
+    one_command, read_words,
+};
+use ax25_frames::Modulus;
 use std::alloc::Global;
 use std::test::Fail;
 
@@ -11,8 +15,15 @@ fn asked(alloc: Global, words: &[&str]) -> Result<Result<Command, WordsFault>, F
     Ok(read_words(alloc, &given))
 }
 
+fn decode(audio: AudioForm, frames: FrameForm) -> Command {
+    Command::Decode(DecodeWords { audio, frames })
+}
+
+// From lines to raw samples.
 fn encode(join: bool, opening: u16, closing: u16, silence: u32) -> Command {
     Command::Encode(EncodeWords {
+        frames: FrameForm::Hex,
+        audio: AudioForm::Raw,
         join,
         opening,
         closing,
@@ -20,12 +31,53 @@ fn encode(join: bool, opening: u16, closing: u16, silence: u32) -> Command {
     })
 }
 
+// With no other option.
+fn encode_forms(frames: FrameForm, audio: AudioForm) -> Command {
+    Command::Encode(EncodeWords {
+        frames,
+        audio,
+        join: false,
+        opening: 75,
+        closing: 2,
+        silence: 0,
+    })
+}
+
+fn show(modulus: Modulus) -> Command {
+    Command::Show(ShowWords { modulus })
+}
+
+fn loop_of(seed: u64, frames: u16) -> Command {
+    Command::Loop(LoopWords { seed, frames })
+}
+
 #[test]
 fn good_words_ask_for_a_command(rt: HostRuntime) -> Result<(), Fail> {
-    let table: [(&[&str], Command); 11] = [
-        (&["decode"], Command::Decode),
-        (&["decode", "--"], Command::Decode),
+    let table: [(&[&str], Command); 27] = [
+        (&["decode"], decode(AudioForm::Raw, FrameForm::Hex)),
+        (&["decode", "--"], decode(AudioForm::Raw, FrameForm::Hex)),
+        (&["decode", "--wav"], decode(AudioForm::Wav, FrameForm::Hex)),
+        (
+            &["decode", "--kiss"],
+            decode(AudioForm::Raw, FrameForm::Kiss),
+        ),
+        (
+            &["decode", "--kiss", "--wav"],
+            decode(AudioForm::Wav, FrameForm::Kiss),
+        ),
         (&["encode"], encode(false, 75, 2, 0)),
+        (
+            &["encode", "--kiss"],
+            encode_forms(FrameForm::Kiss, AudioForm::Raw),
+        ),
+        (
+            &["encode", "--wav"],
+            encode_forms(FrameForm::Hex, AudioForm::Wav),
+        ),
+        (
+            &["encode", "--wav", "--kiss"],
+            encode_forms(FrameForm::Kiss, AudioForm::Wav),
+        ),
         (&["encode", "--join"], encode(true, 75, 2, 0)),
         (&["encode", "--opening", "2"], encode(false, 2, 2, 0)),
         (&["encode", "--opening=10000"], encode(false, 10_000, 2, 0)),
@@ -47,6 +99,28 @@ fn good_words_ask_for_a_command(rt: HostRuntime) -> Result<(), Fail> {
             &["encode", "--closing", "00000000000000000000000000007"],
             encode(false, 75, 7, 0),
         ),
+        (&["show"], show(Modulus::Eight)),
+        (&["show", "--modulo", "8"], show(Modulus::Eight)),
+        (&["show", "--modulo=008"], show(Modulus::Eight)),
+        (&["show", "--modulo", "128"], show(Modulus::OneTwentyEight)),
+        (&["show", "--modulo=0128"], show(Modulus::OneTwentyEight)),
+        (&["loop", "--seed", "7", "--frames", "20"], loop_of(7, 20)),
+        (&["loop", "--frames=20", "--seed=7"], loop_of(7, 20)),
+        (&["loop", "--seed", "0", "--frames", "0"], loop_of(0, 0)),
+        (
+            &["loop", "--seed", "18446744073709551615", "--frames", "1000"],
+            loop_of(18_446_744_073_709_551_615, 1000),
+        ),
+        (
+            &[
+                "loop",
+                "--seed",
+                "0018446744073709551615",
+                "--frames",
+                "001",
+            ],
+            loop_of(18_446_744_073_709_551_615, 1),
+        ),
     ];
     one_command();
     for (words, want) in table {
@@ -57,15 +131,21 @@ fn good_words_ask_for_a_command(rt: HostRuntime) -> Result<(), Fail> {
 
 #[test]
 fn other_words_are_refused(rt: HostRuntime) -> Result<(), Fail> {
-    let table: [&[&str]; 33] = [
+    let table: [&[&str]; 69] = [
         &[],
         &[""],
         &["decod"],
         &["Decode"],
         &["decodee"],
         &["--join", "encode"],
+        &["bench"],
         &["decode", "x"],
         &["decode", "--join"],
+        &["decode", "--rate", "48000"],
+        &["decode", "--wav", "--wav"],
+        &["decode", "--kiss", "--kiss"],
+        &["decode", "--wav=true"],
+        &["decode", "--wa"],
         &["decode", "--help"],
         &["decode", "--version"],
         &["encode", "x"],
@@ -76,6 +156,7 @@ fn other_words_are_refused(rt: HostRuntime) -> Result<(), Fail> {
         &["encode", "--Join"],
         &["encode", "--join=true"],
         &["encode", "--join", "--join"],
+        &["encode", "--modulo", "8"],
         &["encode", "--opening"],
         &["encode", "--opening="],
         &["encode", "--opening", "1"],
@@ -91,6 +172,35 @@ fn other_words_are_refused(rt: HostRuntime) -> Result<(), Fail> {
         &["encode", "--closing", "10001"],
         &["encode", "--silence", "1000001"],
         &["encode", "--silence", "4294967296"],
+        &["show", "x"],
+        &["show", "--wav"],
+        &["show", "--modulo"],
+        &["show", "--modulo="],
+        &["show", "--modulo", "7"],
+        &["show", "--modulo", "9"],
+        &["show", "--modulo", "16"],
+        &["show", "--modulo", "127"],
+        &["show", "--modulo", "129"],
+        &["show", "--modulo", "8x"],
+        &["show", "--modulo", "+8"],
+        &["show", "--modulo", "8", "--modulo", "8"],
+        &["show", "--help"],
+        &["loop"],
+        &["loop", "--seed", "7"],
+        &["loop", "--frames", "1"],
+        &["loop", "7", "1"],
+        &["loop", "--seed", "--frames", "1"],
+        &["loop", "--seed", "7", "--frames"],
+        &["loop", "--seed=", "--frames=1"],
+        &["loop", "--seed", "7", "--frames", "1001"],
+        &["loop", "--seed", "18446744073709551616", "--frames", "1"],
+        &["loop", "--seed", "-1", "--frames", "1"],
+        &["loop", "--seed=-1", "--frames=1"],
+        &["loop", "--seed", "+1", "--frames", "1"],
+        &["loop", "--seed", "0x7", "--frames", "1"],
+        &["loop", "--seed", "7", "--seed", "7", "--frames", "1"],
+        &["loop", "--seed", "7", "--frames", "1", "--join"],
+        &["loop", "--help"],
     ];
     for words in table {
         assert_eq!(rt;
