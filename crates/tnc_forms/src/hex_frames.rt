@@ -2,10 +2,12 @@
 ghost use Rattle.std.specs.Prelude.{◌≡◌, ◌≤◌, ◌<◌, ◌+◌, ◌∷◌, [], length, position, IfOk, IfSome};
 ghost use Rattle.std.specs.Str.Lines.{strip_carriage_return};
 ghost use Rattle.tnc_forms.specs.HexLines.{is_line_feed, lines_at, lines_behind};
-ghost use Rattle.tnc_forms.specs.HexFrames.{frames_of, line_fault};
+ghost use Rattle.tnc_forms.specs.Faults.{hex_fault};
+ghost use Rattle.tnc_forms.specs.HexFrames.{frames_of};
 
-use crate::line_fault::LineFault;
+use crate::fault::InputFault;
 use crate::hex_line::{LineText, read_line};
+use crate::line_fault::LineFault;
 use std::alloc::Global;
 use tnc_base::{Octets, OutOfMemory};
 
@@ -13,19 +15,15 @@ use tnc_base::{Octets, OutOfMemory};
 #[derive(Drop)]
 pub struct HexFrames {
     pub frames: Vec<Octets>,
-    pub fault: Option<LineFault>,
+    pub fault: Option<InputFault>,
 }
 
 /// Reads an input to its end or to its first bad line. A line ends at a line feed or at the end of the input, and a
 /// carriage return right before the line feed is none of it; an empty line is passed over. `least` is the fewest octets
 /// of a frame.
-pub fn read_hex_frames(
-    alloc: Global,
-    least: usize,
-    input: &[u8],
-) -> Result<HexFrames, OutOfMemory>
+pub fn read_hex_frames(alloc: Global, least: usize, input: &[u8]) -> Result<HexFrames, OutOfMemory>
     ensures frames { IfOk result (λ read. read.frames.items ≡ frames_of least input.now) }
-    ensures fault { IfOk result (λ read. read.fault ≡ line_fault least input.now) }
+    ensures fault { IfOk result (λ read. read.fault ≡ hex_fault least input.now) }
 {
     let mut frames = Vec::new(alloc);
     let mut place = Some(0);
@@ -38,7 +36,7 @@ pub fn read_hex_frames(
                 let place = at + offset;
                 return Ok(HexFrames {
                     frames,
-                    fault: Some(LineFault { flaw, place }),
+                    fault: Some(InputFault::Line(LineFault { flaw, place })),
                 });
             }
         }

@@ -18,4 +18,3 @@ pub use hex_print::print_hex_line;
 pub use line_fault::{LineFault, LineFlaw};
 pub use pcm::{read_pcm, write_pcm};
 pub use reading::read_all;
-
