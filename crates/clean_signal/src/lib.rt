@@ -6,7 +6,8 @@
 //! definitions, for every list of transmissions. [`is_sent`] decides of a candidate whether it is stray.
 #![tactic(auto)]
 
+mod laws;
 mod true_end;
 
+pub use laws::{carried_frames, clean_frames, none_stray, samples_by_place};
 pub use true_end::{TrueEnd, is_sent};
-
