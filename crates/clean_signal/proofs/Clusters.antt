@@ -1,0 +1,211 @@
+-- Merging where candidates lie in clusters: equal octets and ends at most 15 apart, each cluster more than 15 behind the
+-- one before. One candidate of each cluster remains.
+use Rattle.std.proofs.Common.{◌≡◌, ℕ, ◌+◌, ◌<◌, ◌≤◌, Bool, true, false, List, [], ◌∷◌, ◌++◌, map, refl, ap, sym, ◌∙◌, arith, inl, inr}
+use Rattle.std.specs.Prelude.{◌⊎◌, nat_le, ◌||◌, ◌&&◌}
+use Rattle.std.specs.List.{AllByRecursion, list_any}
+use Rattle.std.specs.Str.{bytes_eq}
+use Rattle.std.proofs.lemmas.Bool.{cond-true, cond-false, le-leb, lt-leb}
+use Rattle.std.proofs.lemmas.List.Folds.{list_any-append}
+use Rattle.std.proofs.lemmas.Slice.Eq.{bytes_eq-Decides}
+use Rattle.frame_merge.specs.declared.candidate.Candidate.{Candidate}
+use Rattle.frame_merge.specs.Merged.{repeats, merged_after}
+
+-- the octets of a frame, and the least and the greatest end at which it is heard
+pub record Cluster : Type 0 where
+  pub low : ℕ
+  pub high : ℕ
+  pub octets : List ℕ
+
+pub record IsIn (c : Cluster) (item : Candidate) : Type 0 where
+  pub octets : item.octets ≡ c.octets
+  pub low : c.low ≤ item.end
+  pub high : item.end ≤ c.high
+
+-- a cluster is at most 15 wide, and more than 15 behind a place
+pub record IsBehind (place : ℕ) (c : Cluster) : Type 0 where
+  pub far : place + 15 < c.low
+  pub rising : c.low ≤ c.high
+  pub narrow : c.high ≤ c.low + 15
+
+-- each cluster is behind the one before
+abbrev pub AreApart : ℕ → List Cluster → Type 0
+AreApart place [] = Unit {0}
+AreApart place (c ∷ cs) = IsBehind place c × AreApart c.high cs
+
+abbrev pub IsInOne : List Cluster → Candidate → Type 0
+IsInOne [] item = ⊥
+IsInOne (c ∷ cs) item = IsIn c item ⊎ IsInOne cs item
+
+abbrev pub HasOne : List Candidate → Cluster → Type 0
+HasOne [] c = ⊥
+HasOne (item ∷ items) c = IsIn c item ⊎ HasOne items c
+
+abbrev pub Rising : ℕ → List Candidate → Type 0
+Rising from [] = Unit {0}
+Rising from (item ∷ items) = (from ≤ item.end) × Rising item.end items
+
+abbrev pub Below : ℕ → List Candidate → Type 0
+Below place items = AllByRecursion (λ item. item.end ≤ place) items
+
+-- an item of the cluster under way, which ends at a place, repeats one before it; each other item is in a cluster to come
+abbrev pub IsKnown : List Candidate → ℕ → List Cluster → Candidate → Type 0
+IsKnown before place cs item = ((item.end ≤ place) × (list_any (repeats item) before ≡ true)) ⊎ IsInOne cs item
+
+abbrev pub Known : List Candidate → ℕ → List Cluster → List Candidate → Type 0
+Known before place cs items = AllByRecursion (IsKnown before place cs) items
+
+-- ---- tests
+
+-- what repeats an item of a list repeats one of a longer list
+repeats_more : (item : Candidate) (before more : List Candidate) → list_any (repeats item) before ≡ true
+    → list_any (repeats item) (before ++ more) ≡ true
+repeats_more item before more h =
+    list_any-append (repeats item) before more ∙ ap (λ b. b || list_any (repeats item) more) h
+
+or_true : (b : Bool) → (b || true) ≡ true
+or_true true = refl
+or_true false = refl
+
+-- two items of one cluster: the later one repeats the earlier
+repeats_last : (c : Cluster) (item earlier : Candidate) (before : List Candidate) → c.high ≤ c.low + 15 → IsIn c earlier → IsIn c item
+    → list_any (repeats item) (before ++ earlier ∷ []) ≡ true
+repeats_last c item earlier before narrow first second =
+    let low = first.low in
+    let high = second.high in
+    let octets : bytes_eq earlier.octets item.octets ≡ true = (bytes_eq-Decides earlier.octets item.octets).1 (first.octets ∙ sym second.octets) in
+    let near : nat_le item.end (earlier.end + 15) ≡ true = le-leb item.end (earlier.end + 15) (omega arith) in
+    let one : list_any (repeats item) (earlier ∷ []) ≡ true = rw (octets, near) refl in
+    list_any-append (repeats item) before (earlier ∷ [])
+    ∙ ap (λ b. list_any (repeats item) before || b) one ∙ or_true (list_any (repeats item) before)
+
+and_false : (b : Bool) → (b && false) ≡ false
+and_false true = refl
+and_false false = refl
+
+-- an item that is far behind repeats none
+repeats_none : (item : Candidate) (place : ℕ) (before : List Candidate) → Below place before → place + 15 < item.end
+    → list_any (repeats item) before ≡ false
+repeats_none item place [] below far = refl
+repeats_none item place (earlier ∷ before) below far =
+    let end : earlier.end ≤ place = below.0 in
+    let late : nat_le item.end (earlier.end + 15) ≡ false = lt-leb item.end (earlier.end + 15) (omega arith) in
+    let not : repeats item earlier ≡ false = ap (λ b. bytes_eq earlier.octets item.octets && b) late ∙ and_false (bytes_eq earlier.octets item.octets) in
+    ap (λ b. b || list_any (repeats item) before) not ∙ repeats_none item place before below.1 far
+
+-- ---- places
+
+below_more : (place more : ℕ) (before : List Candidate) (item : Candidate) → place ≤ more → Below place before → item.end ≤ more
+    → Below more (before ++ item ∷ [])
+below_more place more [] item le below end = (end, tt)
+below_more place more (earlier ∷ before) item le below end =
+    let first = below.0 in (omega arith, below_more place more before item le below.1 end)
+
+-- an item of a cluster to come ends far behind the place
+later_end : (place : ℕ) (cs : List Cluster) (item : Candidate) → AreApart place cs → IsInOne cs item → place + 15 < item.end
+later_end place [] item apart is = absurd is
+later_end place (c ∷ cs) item apart (inl is) = omega (arith, apart.0.far, is.low)
+later_end place (c ∷ cs) item apart (inr is) = omega (arith, apart.0.far, apart.0.rising, later_end c.high cs item apart.1 is)
+
+-- an item that ends early is in no cluster to come
+has_one_later : (item : Candidate) (items : List Candidate) (c : Cluster) → item.end < c.low → HasOne (item ∷ items) c → HasOne items c
+has_one_later item items c early (inl is) = absurd (omega (arith, is.low))
+has_one_later item items c early (inr has) = has
+
+have_one_later : (item : Candidate) (items : List Candidate) (place : ℕ) (cs : List Cluster) → item.end ≤ place → AreApart place cs
+    → AllByRecursion (HasOne (item ∷ items)) cs → AllByRecursion (HasOne items) cs
+have_one_later item items place [] early apart has = tt
+have_one_later item items place (c ∷ cs) early apart has =
+    let first = apart.0 in (
+      has_one_later item items c (omega (arith, first.far)) has.0,
+      have_one_later item items c.high cs (omega (arith, first.far, first.rising)) apart.1 has.1,
+    )
+
+-- no item that ends behind a cluster is in it, nor any that follows
+none_behind : (items : List Candidate) (from : ℕ) (c : Cluster) → c.high < from → Rising from items → ¬ HasOne items c
+none_behind [] from c late rising has = has
+none_behind (item ∷ items) from c late rising (inl is) = omega (arith, rising.0, is.high)
+none_behind (item ∷ items) from c late rising (inr has) = none_behind items item.end c (omega (arith, rising.0)) rising.1 has
+
+-- ---- what is known of the items that are left
+
+known_kept : (before : List Candidate) (place : ℕ) (cs : List Cluster) (item : Candidate) (items : List Candidate)
+    → Known before place cs items → Known (before ++ item ∷ []) place cs items
+known_kept before place cs item [] known = tt
+known_kept before place cs item (next ∷ items) known = (kept known.0, known_kept before place cs item items known.1)
+  where
+    kept : IsKnown before place cs next → IsKnown (before ++ item ∷ []) place cs next
+    kept (inl old) = inl (old.0, repeats_more next before (item ∷ []) old.1)
+    kept (inr is) = inr is
+
+-- the first cluster to come becomes the one under way with its first item
+known_next : (before : List Candidate) (place : ℕ) (c : Cluster) (cs : List Cluster) (item : Candidate) (items : List Candidate)
+    → IsBehind place c → IsIn c item → Known before place (c ∷ cs) items → Known (before ++ item ∷ []) c.high cs items
+known_next before place c cs item [] behind is known = tt
+known_next before place c cs item (next ∷ items) behind is known =
+    (now known.0, known_next before place c cs item items behind is known.1)
+  where
+    now : IsKnown before place (c ∷ cs) next → IsKnown (before ++ item ∷ []) c.high cs next
+    now (inl old) = inl (omega (arith, old.0, behind.far, behind.rising), repeats_more next before (item ∷ []) old.1)
+    now (inr (inl in_it)) = inl (in_it.high, repeats_last c next item before behind.narrow is in_it)
+    now (inr (inr later)) = inr later
+
+-- ---- the theorem
+
+-- an item that repeats one before it is left out
+left_out : (item : Candidate) (items before : List Candidate) (frames : List (List ℕ)) → list_any (repeats item) before ≡ true
+    → map (λ x. x.octets) (merged_after (before ++ item ∷ []) items) ≡ frames
+    → map (λ x. x.octets) (merged_after before (item ∷ items)) ≡ frames
+left_out item items before frames is rest =
+    let after : List Candidate = merged_after (before ++ item ∷ []) items in
+    ap (λ xs. map (λ x. x.octets) xs) (cond-true (list_any (repeats item) before) after (item ∷ after) is) ∙ rest
+
+-- an item that repeats none remains
+kept : (item : Candidate) (items before : List Candidate) (octets : List ℕ) (frames : List (List ℕ)) → list_any (repeats item) before ≡ false
+    → item.octets ≡ octets → map (λ x. x.octets) (merged_after (before ++ item ∷ []) items) ≡ frames
+    → map (λ x. x.octets) (merged_after before (item ∷ items)) ≡ octets ∷ frames
+kept item items before octets frames is_none is rest =
+    let after : List Candidate = merged_after (before ++ item ∷ []) items in
+    ap (λ xs. map (λ x. x.octets) xs) (cond-false (list_any (repeats item) before) after (item ∷ after) is_none)
+    ∙ ap (λ o. o ∷ map (λ x. x.octets) after) is ∙ ap (λ os. octets ∷ os) rest
+
+-- what is merged of the items that are left has the octets of the clusters to come
+abbrev pub Keeps : List Candidate → Type 0
+Keeps items =
+    (before : List Candidate) (place from : ℕ) (cs : List Cluster)
+    → Below place before → Rising from items → Known before place cs items → AreApart place cs → AllByRecursion (HasOne items) cs
+    → map (λ item. item.octets) (merged_after before items) ≡ map (λ c. c.octets) cs
+
+keeps_nil : Keeps []
+keeps_nil before place from [] below rising known apart has = refl
+keeps_nil before place from (c ∷ cs) below rising known apart has = absurd has.0
+
+keeps_cons : (item : Candidate) (items : List Candidate) → Keeps items → Keeps (item ∷ items)
+keeps_cons item items rest before place from [] below rising known apart has = by_first known.0
+  where
+    by_first : IsKnown before place [] item → map (λ x. x.octets) (merged_after before (item ∷ items)) ≡ []
+    by_first (inl old) =
+        left_out item items before [] old.1
+        (rest (before ++ item ∷ []) place item.end [] (below_more place place before item (omega arith) below old.0)
+        rising.1 (known_kept before place [] item items known.1) apart tt)
+    by_first (inr is) = absurd is
+keeps_cons item items rest before place from (c ∷ cs) below rising known apart has = by_first known.0
+  where
+    by_first : IsKnown before place (c ∷ cs) item
+        → map (λ x. x.octets) (merged_after before (item ∷ items)) ≡ c.octets ∷ map (λ c. c.octets) cs
+    by_first (inl old) =
+        left_out item items before (c.octets ∷ map (λ c. c.octets) cs) old.1
+        (rest (before ++ item ∷ []) place item.end (c ∷ cs) (below_more place place before item (omega arith) below old.0)
+        rising.1 (known_kept before place (c ∷ cs) item items known.1) apart (have_one_later item items place (c ∷ cs) old.0 apart has))
+    by_first (inr (inl is)) =
+        kept item items before c.octets (map (λ c. c.octets) cs)
+        (repeats_none item place before below (omega (arith, apart.0.far, is.low))) is.octets
+        (rest (before ++ item ∷ []) c.high item.end cs
+        (below_more place c.high before item (omega (arith, apart.0.far, apart.0.rising)) below is.high)
+        rising.1 (known_next before place c cs item items apart.0 is known.1) apart.1
+        (have_one_later item items c.high cs is.high apart.1 has.1))
+    by_first (inr (inr later)) =
+        absurd (none_behind (item ∷ items) item.end c (omega (arith, later_end c.high cs item apart.1 later)) (omega arith, rising.1) has.0)
+
+pub merge_keeps : (items : List Candidate) → Keeps items
+merge_keeps [] = keeps_nil
+merge_keeps (item ∷ items) = keeps_cons item items (merge_keeps items)

@@ -1,0 +1,5 @@
+pub mod Clusters
+pub mod CarriedFrames
+pub mod WaveLemmas
+pub mod EndLemmas
+pub mod Law

@@ -1,0 +1,6 @@
+pub mod GoodTransmission
+pub mod TrueEnds
+pub mod Stray
+pub mod Carried
+pub mod MergedFrames
+pub mod WavePlace

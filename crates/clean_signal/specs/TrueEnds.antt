@@ -1,0 +1,29 @@
+-- Where the frames of transmissions end: the true end of a frame is the first sample after the last window of the flag
+-- that follows it.
+use Rattle.std.specs.Prelude.{ℕ, ◌+◌, ◌*◌, List, [], ◌∷◌, ◌++◌, length}
+use Rattle.hdlc_framer.specs.Frames.{frame_bits}
+use Rattle.hdlc_framer.specs.Stuffing.{flag}
+use Rattle.afsk_modulator.specs.Signal.{Transmission}
+use Rattle.clean_signal.specs.declared.true_end.TrueEnd.{TrueEnd}
+use Rattle.clean_signal.specs.GoodTransmission.{sample_count}
+
+-- the end of a frame whose first window begins at a sample: its bits and a flag take eight samples a bit
+abbrev pub end_of : ℕ → List ℕ → ℕ
+end_of begin octets = begin + 8 * length (frame_bits octets ++ flag)
+
+-- the ends of frames with one flag between neighbours, so that each begins where the one before ends
+abbrev pub ends_from : ℕ → List (List ℕ) → List TrueEnd
+ends_from begin [] = []
+ends_from begin (octets ∷ frames) = record { end = end_of begin octets; octets = octets } ∷ ends_from (end_of begin octets) frames
+
+-- the ends of a transmission that begins at a sample: silence and opening flags, 64 samples each, stand before its frames
+abbrev pub ends_of : ℕ → Transmission → List TrueEnd
+ends_of begin t = ends_from (begin + t.silence + 64 * t.opening) t.frames
+
+-- the ends of transmissions, one behind the other, from a sample on
+abbrev pub true_ends_from : ℕ → List Transmission → List TrueEnd
+true_ends_from begin [] = []
+true_ends_from begin (t ∷ transmissions) = ends_of begin t ++ true_ends_from (begin + sample_count t) transmissions
+
+abbrev pub true_ends : List Transmission → List TrueEnd
+true_ends transmissions = true_ends_from 0 transmissions
