@@ -6,11 +6,11 @@ use Rattle.std.proofs.lemmas.List.{append-nil, map-append, take_more, take-appen
 use mir.Syntax.{w16}
 use mir.Val.{SFits}
 use Rattle.tnc_base.specs.Streams.{WrotePart}
+use Rattle.tnc_forms.proofs.PcmLemmas.{pcm-append}
 use Rattle.tnc_words.specs.declared.command.EncodeWords.{EncodeWords}
 use Rattle.afsk_modulator.specs.Signal.{Transmission, samples_of, signal}
-use Rattle.tnc_encode.specs.Encoded.{sent_at_once, joined, transmissions, encoded}
-use Rattle.tnc_encode.specs.FrameLines.{frames_of}
-use Rattle.tnc_encode.specs.Pcm.{pcm, sample_octets}
+use Rattle.tnc_encode.specs.Encoded.{sent_at_once, joined, transmissions}
+use Rattle.tnc_forms.specs.Pcm.{pcm}
 
 -- the octets of transmissions
 unfoldable pub octets_of : List Transmission → List ℕ
@@ -28,10 +28,6 @@ octets_of-one t = ap pcm (append-nil (samples_of t))
 pub nothing_sent : pcm (signal []) ≡ []
 unfolding pcm signal
 nothing_sent = refl
-
-pub some_of : (n : ℕ) → eqb n 0 ≡ false → 0 < n
-some_of zero none = absurd (true≢false none)
-some_of (suc n) none = omega arith
 
 -- all frames in one transmission
 pub joined_sent : (words : EncodeWords) (frames : List (List ℕ)) → words.join ≡ true → 0 < length frames
@@ -98,17 +94,3 @@ module _ (words : EncodeWords) where
       where
         regrouped : (a b c d : List ℕ) → (a ++ (b ++ c)) ++ d ≡ (a ++ b) ++ (c ++ d)
         regrouped a b c d = simp append_assoc
-
--- nothing is a first part of any text
-pub wrote_nothing : (before text : List ℕ) (now : Option (List ℕ)) → now ≡ Some before → WrotePart before text now
-wrote_nothing before text now is = ([], text, refl, is ∙ ap Some (sym (append-nil before)))
-
--- and all of it is one
-pub wrote_all : (before text : List ℕ) (now : Option (List ℕ)) → now ≡ Some (before ++ text) → WrotePart before text now
-wrote_all before text now is = (text, [], sym (append-nil text), is)
-
--- what encode writes of the frames that it read
-pub encoded_of : (words : EncodeWords) (input : List ℕ) (frames : List (List ℕ)) → frames ≡ frames_of input
-    → pcm (signal (transmissions words frames)) ≡ encoded words input
-unfolding encoded
-encoded_of words input frames is = ap (λ fs. pcm (signal (transmissions words fs))) is

@@ -6,9 +6,8 @@ use Rattle.kiss_port.specs.declared.item.KissItem.{KissItem}
 use Rattle.kiss_port.specs.declared.item.KissItem.TheVariants.{Frame}
 use Rattle.kiss_port.specs.Items.{items_in}
 use Rattle.tnc_forms.specs.declared.fault.InputFault.{InputFault}
-use Rattle.tnc_forms.specs.declared.fault.InputFault.TheVariants.{Line}
-use Rattle.tnc_forms.specs.declared.line_fault.LineFault.{LineFault}
-use Rattle.tnc_forms.specs.HexFrames.{line_fault, frames_of as frames_of_lines}
+use Rattle.tnc_forms.specs.Faults.{hex_fault}
+use Rattle.tnc_forms.specs.HexFrames.{frames_of as frames_of_lines}
 use Rattle.tnc_words.specs.declared.command.FrameForm.{FrameForm}
 use Rattle.tnc_words.specs.declared.command.FrameForm.TheVariants.{Hex, Kiss}
 
@@ -31,11 +30,7 @@ abbrev pub frames_of : FrameForm → List ℕ → List (List ℕ)
 frames_of Hex octets = frames_of_lines least_frame octets
 frames_of Kiss octets = kiss_frames octets
 
-abbrev pub fault_in_line : Option LineFault → Option InputFault
-fault_in_line (Some fault) = Some (Line fault)
-fault_in_line None = None
-
 -- what is wrong with an input's form: any octets are a KISS stream
 abbrev pub form_fault : FrameForm → List ℕ → Option InputFault
-form_fault Hex octets = fault_in_line (line_fault least_frame octets)
+form_fault Hex octets = hex_fault least_frame octets
 form_fault Kiss octets = None

@@ -8,7 +8,7 @@ ghost use Rattle.wav_file.specs.Head.{head_of};
 ghost use Rattle.tnc_forms.specs.declared.fault.InputFault.{InputFault};
 ghost use Rattle.tnc_forms.specs.Pcm.{pcm};
 ghost use Rattle.tnc_forms.specs.Reading.{input_limit};
-ghost use Rattle.tnc_encode.specs.Encoded.{encoded, encoded_before, encode_fault, length_fault, sent_at_once, transmissions, written_as};
+ghost use Rattle.tnc_encode.specs.Encoded.{encoded, encoded_before, encode_fault, length_fault, sent_at_once, transmissions, written_as, written_before};
 
 use crate::counting::{count_samples, head};
 use crate::frames::read_frames;
@@ -21,6 +21,7 @@ use tnc_words::{AudioForm, EncodeWords};
 
 /// Reads the input to its end, and then writes the signal of its frames. Where a line is bad, the frames before it are
 /// sent as raw PCM, or no WAV file is written.
+#[tactic(auto, unfolding(crate::specs::Encoded::encode_fault))]
 pub fn encode<I: Source, O: Sink>(
     alloc: Global,
     words: EncodeWords,
@@ -57,15 +58,92 @@ pub fn encode<I: Source, O: Sink>(
     ensures unwritten { (result ≡ Err (Fault.Input InputFault.TooLong)) ⊎ (result ≡ Err Fault.Read) → output.new ≡ output.old }
 {
     let octets = read_all(alloc, input)?;
-    let read = read_frames(alloc, words.frames, &octets)?;
-    match (words.audio, read.fault) {
-        (AudioForm::Raw, None) => send_all(alloc, words, &read.frames, output),
-        (AudioForm::Raw, Some(fault)) => {
-            send_all(alloc, words, &read.frames, output)?;
+    encode_octets(alloc, words, &octets, output)
+}
+
+/// Writes the signal of the frames of an input.
+fn encode_octets<O: Sink>(
+    alloc: Global,
+    words: EncodeWords,
+    octets: &[u8],
+    output: &mut O,
+) -> Result<(), Fault>
+    requires opening { 2 ≤ words.opening }
+    requires closing { 1 ≤ words.closing }
+    requires limit { length octets.now ≤ input_limit }
+    ensures good { OnOk result (encode_fault words octets.now ≡ None) }
+    ensures encoded { (before : List ℕ) → O.written output.old ≡ Some before
+        → OnOk result (O.written output.new ≡ Some (before ++ encoded words octets.now)) }
+    ensures bad { (fault : InputFault) → IsErrOf result (Fault.Input fault)
+        → (encode_fault words octets.now ≡ Some fault) × (fault ≢ InputFault.TooLong) }
+    ensures encoded_before { (before : List ℕ) → (fault : InputFault) → O.written output.old ≡ Some before
+        → IsErrOf result (Fault.Input fault) → O.written output.new ≡ Some (before ++ encoded_before words octets.now) }
+    ensures cut { (before : List ℕ) → O.written output.old ≡ Some before
+        → OnErr result (WrotePart before (encoded words octets.now) (O.written output.new)) }
+    ensures read { ¬ IsErrOf result Fault.Read }
+    ensures write { IsErrOf result Fault.Write → HasRisen (O.faults output.old) (O.faults output.new) }
+{
+    let read = read_frames(alloc, words.frames, octets)?;
+    match read.fault {
+        None => send_as_told(alloc, words, &read.frames, output),
+        Some(fault) => {
+            send_before_fault(alloc, words, &read.frames, output)?;
             Err(Fault::Input(fault))
         }
-        (AudioForm::Wav, None) => send_wav(alloc, words, &read.frames, output),
-        (AudioForm::Wav, Some(fault)) => Err(Fault::Input(fault)),
+    }
+}
+
+/// Writes the signal of all frames of a good input.
+fn send_as_told<O: Sink>(
+    alloc: Global,
+    words: EncodeWords,
+    frames: &[Octets],
+    output: &mut O,
+) -> Result<(), Fault>
+    requires opening { 2 ≤ words.opening }
+    requires closing { 1 ≤ words.closing }
+    requires lengths { All (λ octets. ¬ IsBadLength octets) frames.now }
+    ensures sent { (before : List ℕ) → O.written output.old ≡ Some before
+        → OnOk result (O.written output.new
+            ≡ Some (before ++ written_as words.audio (signal (transmissions words frames.now)))) }
+    ensures fits { OnOk result (length_fault words.audio (length (signal (transmissions words frames.now))) ≡ None) }
+    ensures long { (fault : InputFault) → IsErrOf result (Fault.Input fault)
+        → (length_fault words.audio (length (signal (transmissions words frames.now))) ≡ Some fault)
+        × (fault ≢ InputFault.TooLong) × (words.audio ≡ AudioForm.Wav) × (output.new ≡ output.old) }
+    ensures cut { (before : List ℕ) → O.written output.old ≡ Some before
+        → OnErr result (WrotePart before (written_as words.audio (signal (transmissions words frames.now)))
+            (O.written output.new)) }
+    ensures read { ¬ IsErrOf result Fault.Read }
+    ensures write { IsErrOf result Fault.Write → HasRisen (O.faults output.old) (O.faults output.new) }
+{
+    match words.audio {
+        AudioForm::Raw => send_all(alloc, words, frames, output),
+        AudioForm::Wav => send_wav(alloc, words, frames, output),
+    }
+}
+
+/// Writes the signal of the frames before a bad line: a WAV file is not begun.
+fn send_before_fault<O: Sink>(
+    alloc: Global,
+    words: EncodeWords,
+    frames: &[Octets],
+    output: &mut O,
+) -> Result<(), Fault>
+    requires opening { 2 ≤ words.opening }
+    requires closing { 1 ≤ words.closing }
+    requires lengths { All (λ octets. ¬ IsBadLength octets) frames.now }
+    ensures sent { (before : List ℕ) → O.written output.old ≡ Some before
+        → OnOk result (O.written output.new
+            ≡ Some (before ++ written_before words.audio (signal (transmissions words frames.now)))) }
+    ensures cut { (before : List ℕ) → O.written output.old ≡ Some before
+        → OnErr result (WrotePart before (written_before words.audio (signal (transmissions words frames.now)))
+            (O.written output.new)) }
+    ensures write { IsErrOf result Fault.Write → HasRisen (O.faults output.old) (O.faults output.new) }
+    ensures faults { IfErr result (λ fault. (fault ≡ Fault.Memory) ⊎ (fault ≡ Fault.Write)) }
+{
+    match words.audio {
+        AudioForm::Raw => send_all(alloc, words, frames, output),
+        AudioForm::Wav => Ok(()),
     }
 }
 
@@ -97,10 +175,10 @@ fn send_wav<O: Sink>(
         Ok(head) => head,
         Err(fault) => return Err(Fault::Input(fault)),
     };
-    let Ok(()) = output.write(&head) else {
-        return Err(Fault::Write);
-    };
-    send_all(alloc, words, frames, output)
+    match output.write(&head) {
+        Ok(()) => send_all(alloc, words, frames, output),
+        Err(_) => Err(Fault::Write),
+    }
 }
 
 /// Writes the signal of frames, a transmission at a time.

@@ -1,11 +1,14 @@
 //! Frames in their two forms.
-ghost use Rattle.std.specs.Prelude.{◌≡◌, IfOk};
-ghost use Rattle.tnc_encode.specs.Frames.{fault_in_line, form_fault, frame_of, frames_of, kiss_frames};
+ghost use Rattle.std.specs.Prelude.{◌≡◌, ◌++◌, All, IfOk, OnOk};
+ghost use Rattle.std.specs.List.{filter_map};
+ghost use Rattle.std.specs.Option.{option_to_list};
+ghost use Rattle.afsk_modulator.specs.Transmission.{IsBadLength};
+ghost use Rattle.tnc_encode.specs.Frames.{form_fault, frame_of, frames_of, kiss_frames};
 
 use kiss_port::{KissIn, KissItem};
 use std::alloc::Global;
 use tnc_base::{Octets, OutOfMemory};
-use tnc_forms::{InputFault, LineFault, read_hex_frames};
+use tnc_forms::{InputFault, read_hex_frames};
 use tnc_words::FrameForm;
 
 /// The fewest octets of a frame.
@@ -27,13 +30,14 @@ pub(crate) struct Frames {
 pub(crate) fn read_frames(alloc: Global, form: FrameForm, octets: &[u8]) -> Result<Frames, OutOfMemory>
     ensures frames { IfOk result (λ read. read.frames.items ≡ frames_of form octets.now) }
     ensures fault { IfOk result (λ read. read.fault ≡ form_fault form octets.now) }
+    ensures lengths { IfOk result (λ read. All (λ octets. ¬ IsBadLength octets) read.frames.items) }
 {
     match form {
         FrameForm::Hex => {
             let lines = read_hex_frames(alloc, LEAST, octets)?;
             Ok(Frames {
                 frames: lines.frames,
-                fault: fault_of(lines.fault),
+                fault: lines.fault,
             })
         }
         FrameForm::Kiss => Ok(Frames {
@@ -50,28 +54,29 @@ fn read_kiss_frames(alloc: Global, octets: &[u8]) -> Result<Vec<Octets>, OutOfMe
     let mut stream = KissIn::new(alloc);
     let mut frames = Vec::new(alloc);
     for octet in octets {
-        if let Some(item) = stream.push(*octet)? && let Some(frame) = frame_to_send(item) {
-            frames.push(frame)?;
-        }
+        let item = stream.push(*octet)?;
+        take_frame(&mut frames, item)?;
     }
     Ok(frames)
 }
 
-/// The frame of an item, where it is data on port 0 and has the length of a frame.
-fn frame_to_send(item: KissItem) -> Option<Octets>
-    ensures { result ≡ frame_of item.entry }
+/// Appends the frame of an item, where one is to be sent.
+fn take_frame(frames: &mut Vec<Octets>, item: Option<KissItem>) -> Result<(), OutOfMemory>
+    ensures { OnOk result (frames.new.items ≡ frames.old.items ++ filter_map frame_of (option_to_list item)) }
 {
-    match item {
-        KissItem::Frame { port: 0, octets } if LEAST <= octets.len() && octets.len() <= MOST => {
-            Some(octets)
-        }
-        _ => None,
+    if let Some(frame) = item.and_then(frame_to_send) {
+        frames.push(frame)?;
     }
+    Ok(())
 }
 
-/// A bad line as a fault of the input.
-fn fault_of(line: Option<LineFault>) -> Option<InputFault>
-    ensures { result ≡ fault_in_line line }
+/// The frame of an item, where it is data on port 0 and has the length of a frame.
+fn frame_to_send(item: KissItem) -> Option<Octets>
+    ensures { result ≡ frame_of item }
 {
-    line.map(InputFault::Line)
+    let KissItem::Frame { port: 0, octets } = item else {
+        return None;
+    };
+    let has_good_length = LEAST <= octets.len() && octets.len() <= MOST;
+    has_good_length.then_some(octets)
 }

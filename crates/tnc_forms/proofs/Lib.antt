@@ -1,4 +1,6 @@
 pub mod Lists
+pub mod Ends
+pub mod WrittenParts
 pub mod LineLemmas
 pub mod LineTextLemmas
 pub mod HexFrameLemmas

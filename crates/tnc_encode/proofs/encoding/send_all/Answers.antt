@@ -4,9 +4,10 @@ use Rattle.std.proofs.lemmas.List.{append-nil, take_all}
 use Rattle.tnc_base.specs.Streams.{WrotePart}
 use Rattle.afsk_modulator.specs.Signal.{samples_of}
 use Rattle.tnc_encode.specs.Encoded.{sent_at_once}
-use Rattle.tnc_encode.specs.Pcm.{pcm}
-use Rattle.tnc_encode.proofs.Ends.{map_ok, map_err, on_err}
-use Rattle.tnc_encode.proofs.SendingLemmas.{none_joined, joined_sent, some_of, own_octets, own_octets-none, own_octets-more, own_octets-all, cut_within}
+use Rattle.tnc_forms.specs.Pcm.{pcm}
+use Rattle.tnc_forms.proofs.Ends.{map_ok, map_err, on_err}
+use Rattle.tnc_encode.proofs.SendingLemmas.{none_joined, joined_sent, own_octets, own_octets-none, own_octets-more, own_octets-all, cut_within}
+use Rattle.tnc_encode.proofs.CountingLemmas.{some_of}
 use Rattle.tnc_encode.proofs.encoding.send_all.Goals as goal
 
 pub returns-then-is_empty-clause-sent : goal.returns-then-is_empty-clause-sent

@@ -1,0 +1,67 @@
+-- Frames of an input have the length of a frame.
+use Rattle.std.proofs.Common.{◌≡◌, ℕ, ◌+◌, ◌<◌, ◌≤◌, ◌==◌, nat_le, ◌&&◌, Bool, true, false, List, [], ◌∷◌, ◌++◌, length, take, get_or, ap, ◌∙◌, All, IfSome, Option, Some, None, inl, inr, refl, sym, subst, arith}
+use Rattle.std.specs.Prelude.{if◌then◌else◌}
+use Rattle.std.specs.List.{cons_option, filter_map}
+use Rattle.std.proofs.lemmas.Bool.{and_parts, leb-true}
+use Rattle.std.proofs.lemmas.List.{take_more}
+use Rattle.std.proofs.lemmas.List.Elements.{All-cons, All-nil, filter_map-append}
+use Rattle.kiss_port.specs.declared.item.KissItem.{KissItem}
+use Rattle.kiss_port.specs.declared.item.KissItem.TheVariants.{Frame, Set, Hardware, Return, TooLong, Other}
+use Rattle.kiss_port.specs.Items.{items_in}
+use Rattle.afsk_modulator.specs.Transmission.{IsBadLength}
+use Rattle.tnc_forms.proofs.HexFrameLemmas.{IsGood, frames_of-good}
+use Rattle.tnc_words.specs.declared.command.FrameForm.{FrameForm}
+use Rattle.tnc_words.specs.declared.command.FrameForm.TheVariants.{Hex, Kiss}
+use Rattle.tnc_encode.specs.Frames.{frame_of, frames_of, kiss_frames}
+
+abbrev pub IsSendable : List ℕ → Type 0
+IsSendable octets = ¬ IsBadLength octets
+
+sendable : (octets : List ℕ) → 15 ≤ length octets → length octets ≤ 1024 → IsSendable octets
+sendable octets enough most = λ bad. elim bad [ inl few ↦ absurd (omega arith) | inr more ↦ absurd (omega arith) ]
+
+-- the frame of an item has the length of one
+item_sendable : (item : KissItem) → IfSome (frame_of item) IsSendable
+item_sendable (Frame port octets) = go ((port == 0) && (nat_le 15 (length octets) && nat_le (length octets) 1024)) refl
+  where
+    go : (test : Bool) → (port == 0) && (nat_le 15 (length octets) && nat_le (length octets) 1024) ≡ test
+        → IfSome (if test then Some octets else None) IsSendable
+    go true is =
+        let outer = and_parts (port == 0) (nat_le 15 (length octets) && nat_le (length octets) 1024) is in
+        let sizes = and_parts (nat_le 15 (length octets)) (nat_le (length octets) 1024) outer.1 in
+        sendable octets (leb-true _ _ sizes.0) (leb-true _ _ sizes.1)
+    go false is = tt
+item_sendable (Set port command value) = tt
+item_sendable (Hardware port octets) = tt
+item_sendable Return = tt
+item_sendable (TooLong port) = tt
+item_sendable (Other port command) = tt
+
+with_option : (frame : Option (List ℕ)) (frames : List (List ℕ)) → IfSome frame IsSendable → All IsSendable frames → All IsSendable (cons_option frame frames)
+with_option None frames h each = each
+with_option (Some octets) frames h each = All-cons IsSendable octets frames h each
+
+items_sendable : (items : List KissItem) → All IsSendable (filter_map frame_of items)
+items_sendable [] = All-nil IsSendable
+items_sendable (item ∷ items) = with_option (frame_of item) (filter_map frame_of items) (item_sendable item) (items_sendable items)
+
+-- each frame of an input can be sent
+pub frames_of-sendable : (form : FrameForm) (octets : List ℕ) → All IsSendable (frames_of form octets)
+unfolding kiss_frames
+frames_of-sendable Hex octets = λ k d below. let good = frames_of-good 15 octets k d below in sendable _ good.0.enough good.0.most
+frames_of-sendable Kiss octets = items_sendable (items_in octets)
+
+module _ (octets : List ℕ) (index : ℕ) (below : index < length octets) (frames : List (List ℕ)) where
+  -- one octet more, which ended these items
+  pub kiss_frames-more : (items : List KissItem) → frames ≡ kiss_frames (take index octets)
+      → items_in (take index octets ++ get_or octets index 0 ∷ []) ≡ items_in (take index octets) ++ items
+      → frames ++ filter_map frame_of items ≡ kiss_frames (take (index + 1) octets)
+  unfolding kiss_frames
+  kiss_frames-more items is more =
+      ap (λ fs. fs ++ filter_map frame_of items) is
+      ∙ sym (filter_map-append frame_of (items_in (take index octets)) items)
+      ∙ ap (filter_map frame_of) (sym more ∙ ap items_in (sym (take_more octets index 0 below)))
+
+pub kiss_frames-none : kiss_frames [] ≡ []
+unfolding kiss_frames items_in
+kiss_frames-none = refl

@@ -1,0 +1,4 @@
+pub mod FrameLemmas
+pub mod CountingLemmas
+pub mod SendingLemmas
+pub mod EncodedLemmas

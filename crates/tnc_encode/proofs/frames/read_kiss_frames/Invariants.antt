@@ -1,0 +1,13 @@
+-- The octets so far.
+use Rattle.std.proofs.Common.{◌≡◌, take}
+use Rattle.std.specs.List.{filter_map}
+use Rattle.kiss_port.specs.Held.{StandsFor}
+use Rattle.kiss_port.specs.Items.{items_in}
+use Rattle.tnc_encode.specs.Frames.{kiss_frames}
+use Rattle.tnc_encode.proofs.frames.read_kiss_frames.Given as goal
+
+abbrev pub invariant-loop-octet : goal.invariant-loop-octet
+invariant-loop-octet l = record {
+  stands_for : StandsFor l.stream (take l.octet-index l.octets);
+  frames_so_far : l.frames.items ≡ kiss_frames (take l.octet-index l.octets);
+}

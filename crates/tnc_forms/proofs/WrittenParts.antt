@@ -1,0 +1,32 @@
+-- First parts of a text that were written.
+use Rattle.std.proofs.Common.{◌≡◌, ℕ, List, [], ◌++◌, Option, Some, Result, Ok, Err, append_assoc, refl, sym, ap, ◌∙◌}
+use Rattle.std.specs.Prelude.{OnOk, OnErr}
+use Rattle.std.proofs.lemmas.List.{append-nil}
+use Rattle.tnc_base.specs.Streams.{WrotePart}
+
+-- nothing is a first part of any text
+pub wrote_nothing : (before text : List ℕ) (now : Option (List ℕ)) → now ≡ Some before → WrotePart before text now
+wrote_nothing before text now is = ([], text, refl, is ∙ ap Some (sym (append-nil before)))
+
+-- and all of it is one
+pub wrote_all : (before text : List ℕ) (now : Option (List ℕ)) → now ≡ Some (before ++ text) → WrotePart before text now
+wrote_all before text now is = (text, [], sym (append-nil text), is)
+
+-- so is a first part of its front
+pub wrote_front : (before front text : List ℕ) (now : Option (List ℕ)) → WrotePart before front now → WrotePart before (front ++ text) now
+wrote_front before front text now (part, rest, parts, is) = (part, rest ++ text, ap (λ xs. xs ++ text) parts ∙ append_assoc part rest text, is)
+
+-- and the front with a first part of what follows
+pub wrote_behind : (before front text : List ℕ) (now : Option (List ℕ)) → WrotePart (before ++ front) text now → WrotePart before (front ++ text) now
+wrote_behind before front text now (part, rest, parts, is) = (
+  front ++ part,
+  rest,
+  ap (λ xs. front ++ xs) parts ∙ sym (append_assoc front part rest),
+  is ∙ ap Some (append_assoc before front part),
+)
+
+-- all of a text or a first part of it was written
+pub wrote_part : {T E : Type 0} (r : Result T E) (before text : List ℕ) (now : Option (List ℕ)) → OnOk r (now ≡ Some (before ++ text))
+    → OnErr r (WrotePart before text now) → WrotePart before text now
+wrote_part (Ok x) before text now whole part = wrote_all before text now whole
+wrote_part (Err e) before text now whole part = part
