@@ -183,6 +183,13 @@ fn publish_all(ring: &Ring, mut writer: Writer, total: u64) -> Result<WriterDone
     Ok(writer.end(ring))
 }
 
+/// Whether a gap goes forward to the oldest position of a ring that was full, all of whose samples are published.
+fn is_gap(from: u64, to: u64, len: u64, total: u64) -> bool
+    requires { 0 < len }
+{
+    from < to && to % len == from.wrapping_add(1) % len && to.saturating_add(len) <= total
+}
+
 /// Whether answers are the published list, with its gaps, up to the total.
 fn is_published_list(seen: &[Got], len: u64, total: u64) -> bool
     requires { 0 < len }
@@ -193,9 +200,7 @@ fn is_published_list(seen: &[Got], len: u64, total: u64) -> bool
             Got::Item { at, sample } if at == next && sample == sample_at(at) => {
                 next = at.wrapping_add(1);
             }
-            Got::Gap { from, to } if from == next && to.wrapping_sub(from) % len == 1 % len => {
-                next = to;
-            }
+            Got::Gap { from, to } if from == next && is_gap(from, to, len, total) => next = to,
             Got::End { total: told } if told == next => {}
             _ => return false,
         }
