@@ -1,64 +1,79 @@
--- How a command can end, and what follows of it.
-use Rattle.std.proofs.Common.{◌≡◌, ℕ, List, ◌++◌, Option, Some, Result, Ok, Err, true≢false, inl, inr, refl, sym, subst}
-use Rattle.std.specs.Prelude.{◌⊎◌, OnOk, OnErr, IfErr, IsErrAnd, IsOk}
-use Rattle.tnc_base.specs.Streams.{WrotePart}
-use Rattle.tnc_main.proofs.SendingLemmas.{wrote_all}
-use Rattle.tnc_main.specs.declared.bad_line.LineFault.{LineFault}
-use Rattle.tnc_main.specs.declared.fault.Fault.{Fault}
-use Rattle.tnc_main.specs.declared.fault.Fault.TheVariants.{TooLong, BadLine, Memory, Read, Write}
-use Rattle.tnc_main.specs.Faults.{IsOfInput}
+-- What the ends of commands say of the program's.
+use Rattle.std.proofs.Common.{◌≡◌, Result, Ok, Err, sym, subst, ◌∙◌}
+use Rattle.std.specs.Prelude.{OnOk, OnErr, List, ℕ}
+use Rattle.tnc_forms.specs.declared.fault.Fault.{Fault}
+use Rattle.tnc_forms.specs.declared.fault.Fault.TheVariants.{Input as OfInput, Memory as OfMemory, Read as OfRead, Write as OfWrite}
+use Rattle.tnc_forms.specs.declared.fault.InputFault.{InputFault}
+use Rattle.tnc_loop.specs.declared.fault.LoopFault.{LoopFault}
+use Rattle.tnc_loop.specs.declared.fault.LoopFault.TheVariants.{Stray as LoopStray, Memory as LoopMemory, Write as LoopWrite}
+use Rattle.tnc_main.specs.declared.stop.Stop.{Stop}
+use Rattle.tnc_main.specs.declared.stop.Stop.TheVariants.{Input, Stray, Memory, Read, Write}
+use Rattle.tnc_main.specs.Stops.{end_of, end_of_loop}
 
-module _ {T E : Type 0} where
-  pub at_ok : (r : Result T E) {P : Type 0} → OnOk r P → IsOk r → P
-  at_ok (Ok x) h ok = h
-  at_ok (Err e) h ok = absurd (true≢false (sym ok))
+module _ (r : Result (Unit {0}) Stop) (end : Result (Unit {0}) Fault) (is : r ≡ end_of end) where
+  pub if_ok : {P Q : Type 0} → (P → Q) → OnOk end P → OnOk r Q
+  if_ok {P} {Q} f h = subst (λ e. OnOk e Q) (sym is) (go end h)
+    where
+      go : (e : Result (Unit {0}) Fault) → OnOk e P → OnOk (end_of e) Q
+      go (Ok x) p = f p
+      go (Err fault) p = tt
 
-  pub at_err : (r : Result T E) {P Q : E → Type 0} {R : Type 0} → IfErr r P → IsErrAnd r Q → ((e : E) → P e → Q e → R) → R
-  at_err (Ok x) h k f = absurd k
-  at_err (Err e) h k f = f e h k
+  pub if_err : {P Q : Type 0} → (P → Q) → OnErr end P → OnErr r Q
+  if_err {P} {Q} f h = subst (λ e. OnErr e Q) (sym is) (go end h)
+    where
+      go : (e : Result (Unit {0}) Fault) → OnErr e P → OnErr (end_of e) Q
+      go (Ok x) p = tt
+      go (Err fault) p = f p
 
-  pub at_fault : (r : Result T E) (P : E → Type 0) (e : E) → IfErr r P → r ≡ Err e → P e
-  at_fault r P e h is = subst (λ q. IfErr q P) is h
+  pub if_input : (fault : InputFault) → r ≡ Err (Input fault) → end ≡ Err (OfInput fault)
+  if_input fault e = go end (sym is ∙ e)
+    where
+      go : (x : Result (Unit {0}) Fault) → end_of x ≡ Err (Input fault) → x ≡ Err (OfInput fault)
+      go (Ok x) h = cc h
+      go (Err (OfInput other)) h = cc h
+      go (Err OfMemory) h = cc h
+      go (Err OfRead) h = cc h
+      go (Err OfWrite) h = cc h
 
-  pub on_err : (r : Result T E) {P : Type 0} → P → OnErr r P
-  on_err (Ok x) p = tt
-  on_err (Err e) p = p
+  pub no_stray : (frame : List ℕ) → r ≡ Err (Stray frame) → ⊥
+  no_stray frame e = go end (sym is ∙ e)
+    where
+      go : (x : Result (Unit {0}) Fault) → end_of x ≡ Err (Stray frame) → ⊥
+      go (Ok x) h = cc h
+      go (Err (OfInput other)) h = cc h
+      go (Err OfMemory) h = cc h
+      go (Err OfRead) h = cc h
+      go (Err OfWrite) h = cc h
 
-  pub map_ok : (r : Result T E) {P Q : Type 0} → (P → Q) → OnOk r P → OnOk r Q
-  map_ok (Ok x) f h = f h
-  map_ok (Err e) f h = tt
+module _ (r : Result (Unit {0}) Stop) (end : Result (Unit {0}) LoopFault) (is : r ≡ end_of_loop end) where
+  pub loop_ok : {P Q : Type 0} → (P → Q) → OnOk end P → OnOk r Q
+  loop_ok {P} {Q} f h = subst (λ e. OnOk e Q) (sym is) (go end h)
+    where
+      go : (e : Result (Unit {0}) LoopFault) → OnOk e P → OnOk (end_of_loop e) Q
+      go (Ok x) p = f p
+      go (Err fault) p = tt
 
-  pub map_err : (r : Result T E) {P Q : Type 0} → (P → Q) → OnErr r P → OnErr r Q
-  map_err (Ok x) f h = tt
-  map_err (Err e) f h = f h
+  pub loop_err : {P Q : Type 0} → (P → Q) → OnErr end P → OnErr r Q
+  loop_err {P} {Q} f h = subst (λ e. OnErr e Q) (sym is) (go end h)
+    where
+      go : (e : Result (Unit {0}) LoopFault) → OnErr e P → OnErr (end_of_loop e) Q
+      go (Ok x) p = tt
+      go (Err fault) p = f p
 
-  -- all of a text or a first part of it was written
-  pub wrote_part : (r : Result T E) (before text : List ℕ) (now : Option (List ℕ)) → OnOk r (now ≡ Some (before ++ text)) → OnErr r (WrotePart before text now)
-      → WrotePart before text now
-  wrote_part (Ok x) before text now whole part = wrote_all before text now whole
-  wrote_part (Err e) before text now whole part = part
+  pub loop_stray : (frame : List ℕ) → r ≡ Err (Stray frame) → end ≡ Err (LoopStray frame)
+  loop_stray frame e = go end (sym is ∙ e)
+    where
+      go : (x : Result (Unit {0}) LoopFault) → end_of_loop x ≡ Err (Stray frame) → x ≡ Err (LoopStray frame)
+      go (Ok x) h = cc h
+      go (Err (LoopStray other)) h = cc h
+      go (Err LoopMemory) h = cc h
+      go (Err LoopWrite) h = cc h
 
--- a fault of the input is none of the output
-pub not_write : (fault : Fault) → IsOfInput fault → fault ≡ Write → ⊥
-not_write fault h is = subst IsOfInput is h
-
-module _ {T : Type 0} where
-  -- the input broke the rules of its form
-  pub of_input : (r : Result T Fault) → IsErrAnd r IsOfInput → (r ≡ Err TooLong) ⊎ ((fault : LineFault) × (r ≡ Err (BadLine fault)))
-  of_input (Ok x) h = absurd h
-  of_input (Err TooLong) h = inl refl
-  of_input (Err (BadLine fault)) h = inr (fault, refl)
-  of_input (Err Memory) h = absurd h
-  of_input (Err Read) h = absurd h
-  of_input (Err Write) h = absurd h
-
-  -- with no fault but want of memory a command ends well or for that
-  pub ends_well : (r : Result T Fault) (status : ℕ) → OnOk r (status ≡ 0) → (r ≡ Err Memory → status ≡ 3)
-      → (r ≡ Err TooLong → ⊥) → ((fault : LineFault) → r ≡ Err (BadLine fault) → ⊥) → (r ≡ Err Read → ⊥) → (r ≡ Err Write → ⊥)
-      → (status ≡ 0) ⊎ (status ≡ 3)
-  ends_well (Ok x) status ok memory long bad read write = inl ok
-  ends_well (Err TooLong) status ok memory long bad read write = absurd (long refl)
-  ends_well (Err (BadLine fault)) status ok memory long bad read write = absurd (bad fault refl)
-  ends_well (Err Memory) status ok memory long bad read write = inr (memory refl)
-  ends_well (Err Read) status ok memory long bad read write = absurd (read refl)
-  ends_well (Err Write) status ok memory long bad read write = absurd (write refl)
+  pub loop_no_input : (fault : InputFault) → r ≡ Err (Input fault) → ⊥
+  loop_no_input fault e = go end (sym is ∙ e)
+    where
+      go : (x : Result (Unit {0}) LoopFault) → end_of_loop x ≡ Err (Input fault) → ⊥
+      go (Ok x) h = cc h
+      go (Err (LoopStray other)) h = cc h
+      go (Err LoopMemory) h = cc h
+      go (Err LoopWrite) h = cc h

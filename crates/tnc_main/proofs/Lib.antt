@@ -1,9 +1,2 @@
-pub mod Lists
-pub mod LineLemmas
-pub mod FrameLineLemmas
-pub mod SendingLemmas
 pub mod Ends
-pub mod PrintingLemmas
-pub mod ReadingLemmas
-pub mod MergingLemmas
-pub mod DecodedLemmas
+pub mod CommandLemmas

@@ -1,12 +1,4 @@
-pub mod Decoded
-pub mod Encoded
-pub mod Faults
-pub mod FrameLines
-pub mod HexLines
-pub mod Merging
-pub mod Pcm
-pub mod Printing
-pub mod Reading
+pub mod Commands
 pub mod Report
-pub mod Samples
 pub mod Status
+pub mod Stops

@@ -1,30 +1,54 @@
 -- The lines that tell an operator why a run was refused.
 use Rattle.std.specs.Prelude.{ℕ, List, [], ◌∷◌, ◌++◌, codes, decimal}
-use Rattle.tnc_main.specs.declared.bad_line.LineFlaw.{LineFlaw}
-use Rattle.tnc_main.specs.declared.bad_line.LineFlaw.TheVariants.{LongLine, OddLine, BadDigit, ShortLine}
-use Rattle.tnc_main.specs.declared.bad_line.LineFault.{LineFault}
-use Rattle.tnc_main.specs.declared.fault.Fault.{Fault}
-use Rattle.tnc_main.specs.declared.fault.Fault.TheVariants.{TooLong, BadLine}
+use Rattle.hex.specs.Hex.{encode_lower}
+use Rattle.wav_file.specs.declared.fault.WavFault.{WavFault}
+use Rattle.wav_file.specs.declared.fault.WavFault.TheVariants.{NotRiff, NotWave, NoFormat, BadFormat, Truncated}
+use Rattle.tnc_forms.specs.declared.fault.InputFault.{InputFault}
+use Rattle.tnc_forms.specs.declared.fault.InputFault.TheVariants.{TooLong, Line, Wav, LongWav}
+use Rattle.tnc_forms.specs.declared.line_fault.LineFlaw.{LineFlaw}
+use Rattle.tnc_forms.specs.declared.line_fault.LineFlaw.TheVariants.{LongLine, OddLine, BadDigit, ShortLine}
+use Rattle.tnc_main.specs.declared.stop.Stop.{Stop}
+use Rattle.tnc_main.specs.declared.stop.Stop.TheVariants.{Input, Stray}
 
 abbrev pub bad_words_line : List ℕ
 bad_words_line = codes "tnc: bad words" ++ 10 ∷ []
 
-abbrev pub too_long_line : List ℕ
-too_long_line = codes "tnc: bad input: too long at 1099511627776" ++ 10 ∷ []
-
 -- what is wrong with a line
-abbrev pub name_of : LineFlaw → List ℕ
-name_of LongLine = codes "long line"
-name_of OddLine = codes "odd line"
-name_of BadDigit = codes "bad digit"
-name_of ShortLine = codes "short line"
+abbrev pub name_of_flaw : LineFlaw → List ℕ
+name_of_flaw LongLine = codes "long line"
+name_of_flaw OddLine = codes "odd line"
+name_of_flaw BadDigit = codes "bad digit"
+name_of_flaw ShortLine = codes "short line"
 
--- a bad line, with the place at which it shows
-abbrev pub bad_line_line : LineFault → List ℕ
-bad_line_line fault = codes "tnc: bad input: " ++ (name_of fault.flaw ++ (codes " at " ++ (decimal fault.place ++ 10 ∷ [])))
+-- the place at which a fault shows, and the end of the line
+abbrev pub at_place : ℕ → List ℕ
+at_place place = codes " at " ++ (decimal place ++ 10 ∷ [])
 
--- the line for a fault, where there is one
-abbrev pub line_of : Fault → List ℕ
-line_of TooLong = too_long_line
-line_of (BadLine fault) = bad_line_line fault
+-- what is wrong with a WAV file
+abbrev pub wav_text : WavFault → List ℕ
+wav_text (NotRiff place) = codes "not riff" ++ at_place place
+wav_text (NotWave place) = codes "not wave" ++ at_place place
+wav_text (NoFormat place) = codes "no format" ++ at_place place
+wav_text (BadFormat place field value) = codes "bad format " ++ (decimal field ++ (codes " value " ++ (decimal value ++ at_place place)))
+wav_text (Truncated place) = codes "truncated" ++ at_place place
+
+-- what is wrong with an input: one that is too long shows at the octet behind the 2^40th, and a WAV file to be written
+-- that is too long at its count of samples
+abbrev pub input_text : InputFault → List ℕ
+input_text TooLong = codes "too long at 1099511627776" ++ 10 ∷ []
+input_text (Line fault) = name_of_flaw fault.flaw ++ at_place fault.place
+input_text (Wav fault) = wav_text fault
+input_text (LongWav count) = codes "too long" ++ at_place count
+
+abbrev pub input_line : InputFault → List ℕ
+input_line fault = codes "tnc: bad input: " ++ input_text fault
+
+-- a stray candidate's octets
+abbrev pub stray_line : List ℕ → List ℕ
+stray_line octets = codes "tnc: stray " ++ (encode_lower octets ++ 10 ∷ [])
+
+-- the line for what stopped a command, where there is one
+abbrev pub line_of : Stop → List ℕ
+line_of (Input fault) = input_line fault
+line_of (Stray octets) = stray_line octets
 line_of other = []

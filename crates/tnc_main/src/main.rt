@@ -3,20 +3,11 @@
 //! which octets are written.
 #![tactic(auto)]
 
-mod bad_line;
-mod decoding;
-mod encoding;
-mod fault;
-mod frame_line;
-mod frame_lines;
-mod hearing;
-mod printing;
+mod performing;
 mod program;
-mod reading;
 mod report;
-mod samples;
-mod sending;
 mod status;
+mod stop;
 
 use crate::program::run;
 use crate::status::Status;
@@ -43,6 +34,3 @@ fn main(rt: HostRuntime) -> ExitCode {
     let mut report = RealSink::new(rt.stderr());
     ExitCode::from(run(rt.alloc(), &words, &mut input, &mut output, &mut report))
 }
-
-#[cfg(test)]
-mod tests;

@@ -1,27 +1,71 @@
 //! The lines that tell an operator why a run was refused.
 ghost use Rattle.std.specs.Prelude.{◌≡◌, ◌≢◌, ◌⊎◌, ◌++◌, List, ℕ, Some, IfOk, string_bytes};
-ghost use Rattle.tnc_main.specs.Report.{bad_line_line};
 ghost use Rattle.tnc_base.specs.Faults.{HasRisen};
 ghost use Rattle.tnc_base.specs.Streams.{WrotePart};
+ghost use Rattle.tnc_forms.specs.declared.fault.InputFault.{InputFault};
+ghost use Rattle.tnc_main.specs.Report.{input_line, name_of_flaw, stray_line};
 
-use crate::bad_line::LineFault;
 use crate::status::Status;
 use std::alloc::Global;
 use tnc_base::{OutOfMemory, Sink};
+use tnc_forms::{InputFault, LineFault, LineFlaw};
+use wav_file::WavFault;
 
 /// The words are no command.
 pub(crate) const BAD_WORDS: &[u8] = b"tnc: bad words\n";
 
-/// The input passes 2^40 octets.
-pub(crate) const TOO_LONG: &[u8] = b"tnc: bad input: too long at 1099511627776\n";
-
-/// The line for a bad line of the input.
-pub(crate) fn bad_line(alloc: Global, fault: LineFault) -> Result<String, OutOfMemory>
-    ensures { IfOk result (λ line. string_bytes line ≡ bad_line_line fault) }
+/// The line for an input that breaks the rules of its form.
+pub(crate) fn of_input(alloc: Global, fault: InputFault) -> Result<String, OutOfMemory>
+    ensures { IfOk result (λ line. string_bytes line ≡ input_line fault) }
 {
-    let name = fault.flaw.name();
-    let place = fault.place;
-    Ok(format!(in alloc; "tnc: bad input: {name} at {place}\n")?)
+    match fault {
+        InputFault::TooLong => {
+            Ok(format!(in alloc; "tnc: bad input: too long at 1099511627776\n")?)
+        }
+        InputFault::Line(LineFault { flaw, place }) => {
+            let name = name_of(flaw);
+            Ok(format!(in alloc; "tnc: bad input: {name} at {place}\n")?)
+        }
+        InputFault::Wav(fault) => of_wav(alloc, fault),
+        InputFault::LongWav { count } => {
+            Ok(format!(in alloc; "tnc: bad input: too long at {count}\n")?)
+        }
+    }
+}
+
+/// What a bad line is called.
+fn name_of(flaw: LineFlaw) -> &'static str
+    ensures { result.now ≡ name_of_flaw flaw }
+{
+    match flaw {
+        LineFlaw::LongLine => "long line",
+        LineFlaw::OddLine => "odd line",
+        LineFlaw::BadDigit => "bad digit",
+        LineFlaw::ShortLine => "short line",
+    }
+}
+
+/// The line for a WAV file with a fault.
+fn of_wav(alloc: Global, fault: WavFault) -> Result<String, OutOfMemory>
+    ensures { IfOk result (λ line. string_bytes line ≡ input_line (InputFault.Wav fault)) }
+{
+    match fault {
+        WavFault::NotRiff { at } => Ok(format!(in alloc; "tnc: bad input: not riff at {at}\n")?),
+        WavFault::NotWave { at } => Ok(format!(in alloc; "tnc: bad input: not wave at {at}\n")?),
+        WavFault::NoFormat { at } => Ok(format!(in alloc; "tnc: bad input: no format at {at}\n")?),
+        WavFault::BadFormat { at, field, value } => {
+            Ok(format!(in alloc; "tnc: bad input: bad format {field} value {value} at {at}\n")?)
+        }
+        WavFault::Truncated { at } => Ok(format!(in alloc; "tnc: bad input: truncated at {at}\n")?),
+    }
+}
+
+/// The line for a stray candidate with these octets.
+pub(crate) fn of_stray(alloc: Global, octets: &[u8]) -> Result<String, OutOfMemory>
+    ensures { IfOk result (λ line. string_bytes line ≡ stray_line octets.now) }
+{
+    let digits = hex::encode(alloc, octets)?;
+    Ok(format!(in alloc; "tnc: stray {digits}\n")?)
 }
 
 /// Reports the line, and answers the status that it explains, or a write fault where the report can't be written.

@@ -16,6 +16,8 @@ pub(crate) enum Status {
     ReadFault,
     /// The output or the report failed.
     WriteFault,
+    /// The loop heard a frame that it did not send.
+    Stray,
 }
 
 impl Status {
@@ -32,6 +34,7 @@ impl Status {
             Status::Memory => 3,
             Status::ReadFault => 4,
             Status::WriteFault => 5,
+            Status::Stray => 6,
         }
     }
 }

@@ -1,0 +1,48 @@
+-- What can stop a command.
+use Rattle.std.specs.Prelude.{◌≡◌, ℕ, ⊤, ◌≤◌, List, Some, Result, Ok, Err}
+use Rattle.tnc_forms.specs.declared.fault.Fault.{Fault}
+use Rattle.tnc_forms.specs.declared.fault.Fault.TheVariants.{Input as OfInput, Memory as OfMemory, Read as OfRead, Write as OfWrite}
+use Rattle.tnc_loop.specs.declared.fault.LoopFault.{LoopFault}
+use Rattle.tnc_loop.specs.declared.fault.LoopFault.TheVariants.{Stray as LoopStray, Memory as LoopMemory, Write as LoopWrite}
+use Rattle.tnc_words.specs.declared.command.Command.{Command}
+use Rattle.tnc_words.specs.declared.command.Command.TheVariants.{Encode}
+use Rattle.tnc_main.specs.declared.stop.Stop.{Stop}
+use Rattle.tnc_main.specs.declared.stop.Stop.TheVariants.{Input, Stray, Memory, Read, Write}
+use Rattle.tnc_main.specs.Commands.{Strays, fault_of}
+
+-- what is named of the octets, or of what loop sent to itself, is there
+abbrev pub IsStopOf : Command → List ℕ → Stop → Type 0
+IsStopOf command octets (Input fault) = fault_of command octets ≡ Some fault
+IsStopOf command octets (Stray frame) = Strays command frame
+IsStopOf command octets other = ⊤
+
+-- it is told in a line
+abbrev pub IsTold : Stop → Type 0
+IsTold (Input fault) = ⊤
+IsTold (Stray frame) = ⊤
+IsTold other = ⊥
+
+-- how the ends of commands are told to the program
+abbrev pub stop_of : Fault → Stop
+stop_of (OfInput fault) = Input fault
+stop_of OfMemory = Memory
+stop_of OfRead = Read
+stop_of OfWrite = Write
+
+abbrev pub end_of : Result (Unit {0}) Fault → Result (Unit {0}) Stop
+end_of (Ok nothing) = Ok nothing
+end_of (Err fault) = Err (stop_of fault)
+
+abbrev pub stop_of_loop : LoopFault → Stop
+stop_of_loop (LoopStray octets) = Stray octets
+stop_of_loop LoopMemory = Memory
+stop_of_loop LoopWrite = Write
+
+abbrev pub end_of_loop : Result (Unit {0}) LoopFault → Result (Unit {0}) Stop
+end_of_loop (Ok nothing) = Ok nothing
+end_of_loop (Err fault) = Err (stop_of_loop fault)
+
+-- the flags of encode can be sent
+abbrev pub CanRun : Command → Type 0
+CanRun (Encode words) = (2 ≤ words.opening) × (1 ≤ words.closing)
+CanRun other = ⊤

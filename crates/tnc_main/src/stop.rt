@@ -1,0 +1,47 @@
+//! What stops a command before its end.
+ghost use Rattle.std.specs.Prelude.{◌≡◌};
+ghost use Rattle.tnc_main.specs.Stops.{end_of, end_of_loop};
+
+use tnc_base::Octets;
+use tnc_forms::{Fault, InputFault};
+use tnc_loop::LoopFault;
+
+/// Why a command that runs does not end well. Refused words are none of these, since then nothing runs.
+#[derive(Debug, Drop)]
+pub(crate) enum Stop {
+    /// The input breaks the rules of its form.
+    Input(InputFault),
+    /// The loop heard a frame with these octets that it did not send.
+    Stray(Octets),
+    /// Memory was wanted and not given.
+    Memory,
+    /// The input failed.
+    Read,
+    /// The output failed.
+    Write,
+}
+
+/// The end of a command that reads and writes.
+pub(crate) fn ended(end: Result<(), Fault>) -> Result<(), Stop>
+    ensures { result ≡ end_of end }
+{
+    match end {
+        Ok(()) => Ok(()),
+        Err(Fault::Input(fault)) => Err(Stop::Input(fault)),
+        Err(Fault::Memory) => Err(Stop::Memory),
+        Err(Fault::Read) => Err(Stop::Read),
+        Err(Fault::Write) => Err(Stop::Write),
+    }
+}
+
+/// The end of `loop`.
+pub(crate) fn ended_loop(end: Result<(), LoopFault>) -> Result<(), Stop>
+    ensures { result ≡ end_of_loop end }
+{
+    match end {
+        Ok(()) => Ok(()),
+        Err(LoopFault::Stray { octets }) => Err(Stop::Stray(octets)),
+        Err(LoopFault::Memory) => Err(Stop::Memory),
+        Err(LoopFault::Write) => Err(Stop::Write),
+    }
+}
