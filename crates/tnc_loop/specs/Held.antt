@@ -1,9 +1,13 @@
 -- What the code keeps of what it draws and sends, and what that stands for. No public clause cites it.
-use Rattle.std.specs.Prelude.{◌≡◌, ◌≤◌, List, [], ◌∷◌, length}
+use Rattle.std.specs.Prelude.{◌≡◌, ℕ, ◌≤◌, List, [], ◌∷◌, length, Option, Some, None}
 use Rattle.afsk_modulator.specs.Signal.{Transmission, signal}
 use Rattle.clean_signal.specs.TrueEnds.{true_ends}
+use Rattle.clean_signal.specs.Stray.{NoStray}
+use Rattle.tnc_words.specs.declared.command.LoopWords.{LoopWords}
 use Rattle.tnc_loop.specs.declared.drawing.Drawn.{Drawn}
 use Rattle.tnc_loop.specs.declared.sending.Sent.{Sent}
+use Rattle.tnc_loop.specs.Drawn.{drawn}
+use Rattle.tnc_loop.specs.Summary.{IsFirstStray}
 
 -- the transmission that was drawn
 abbrev pub drawn_as : Drawn → Transmission
@@ -21,3 +25,8 @@ pub record IsGood (drawn : Drawn) : Type 0 where
 pub record HasSent (sent : Sent) (transmissions : List Transmission) : Type 0 where
   pub samples : sent.samples.items ≡ signal transmissions
   pub ends : sent.ends.items ≡ true_ends transmissions
+
+-- what was found among the candidates: the first stray one, or that none is stray
+abbrev pub HasFound : LoopWords → Option (List ℕ) → Type 0
+HasFound words (Some octets) = IsFirstStray words octets
+HasFound words None = NoStray (drawn words) (signal (drawn words))

@@ -10,13 +10,9 @@ ghost use Rattle.tnc_loop.specs.Drawn.{drawn};
 ghost use Rattle.tnc_loop.specs.Summary.{IsSummary, IsFirstStray};
 
 use crate::fault::LoopFault;
-use crate::sending::send_drawn;
-use crate::straying::{count_strays, first_stray};
-use crate::summing::summary;
-use slicer_bank::Bank;
+use crate::hearing::hear_drawn;
 use std::alloc::Global;
 use tnc_base::Sink;
-use tnc_decode::merge;
 use tnc_words::LoopWords;
 
 /// Draws frames from the seed, sends each as a transmission of its own, hears the signal, and writes the summary. Where a
@@ -44,14 +40,8 @@ pub fn loop_back<O: Sink>(
         → OnErr result (WrotePart before text (O.written output.new)) }
     ensures unwritten { result ≡ Err LoopFault.Memory → output.new ≡ output.old }
 {
-    let sent = send_drawn(alloc, words)?;
-    let mut bank = Bank::new(alloc)?;
-    let candidates = bank.feed(&sent.samples)?;
-    let stray = first_stray(alloc, &sent.ends, &candidates)?;
-    let stray_count = count_strays(&sent.ends, &candidates);
-    let heard = merge(alloc, candidates)?;
-    let text = summary(alloc, words.frames, &heard, stray_count)?;
-    match (output.write(text.as_bytes()), stray) {
+    let told = hear_drawn(alloc, words)?;
+    match (output.write(told.summary.as_bytes()), told.stray) {
         (Err(_), _) => Err(LoopFault::Write),
         (Ok(()), None) => Ok(()),
         (Ok(()), Some(octets)) => Err(LoopFault::Stray { octets }),

@@ -7,6 +7,7 @@
 mod command;
 mod drawing;
 mod fault;
+mod hearing;
 mod sending;
 mod straying;
 mod summing;
@@ -14,3 +15,5 @@ mod summing;
 pub use command::loop_back;
 pub use fault::LoopFault;
 
+#[cfg(test)]
+mod tests;

@@ -1,6 +1,6 @@
 //! The signal of the transmissions that are drawn, and where their frames end.
 ghost use Rattle.std.specs.Prelude.{◌≡◌, ◌<◌, ◌^◌, ◌∷◌, [], ◌++◌, List, length, IfOk, OnOk};
-ghost use Rattle.afsk_modulator.specs.Signal.{Transmission};
+ghost use Rattle.afsk_modulator.specs.Signal.{Transmission, samples_of};
 ghost use Rattle.tnc_loop.specs.Drawn.{drawn};
 ghost use Rattle.tnc_loop.specs.Held.{drawn_as, HasSent, IsGood};
 
@@ -47,19 +47,8 @@ fn send(alloc: Global, drawn: Drawn, sent: &mut Sent) -> Result<(), OutOfMemory>
     ensures { OnOk result ((before : List Transmission) → HasSent sent.old before
         → HasSent sent.new (before ++ drawn_as drawn ∷ [])) }
 {
-    sent.samples
-        .resize(sent.samples.len() + drawn.silence as usize, 0)?;
-    match transmission(
-        alloc,
-        slice::from_ref(&drawn.octets),
-        drawn.opening,
-        drawn.closing,
-    ) {
-        Ok(samples) => sent.samples.extend_from_slice(&samples)?,
-        Err(ModFault::Memory) => return Err(OutOfMemory),
-        Err(ModFault::FewFlags) => unreachable!(),
-        Err(ModFault::BadLength { .. }) => unreachable!(),
-    }
+    let samples = samples_of(alloc, &drawn)?;
+    sent.samples.extend_from_slice(&samples)?;
     // The frame ends with the first of the flags that close it.
     let end = sent.samples.len() as u64 - FLAG * u64::from(drawn.closing - 1);
     sent.ends.push(TrueEnd {
@@ -67,4 +56,21 @@ fn send(alloc: Global, drawn: Drawn, sent: &mut Sent) -> Result<(), OutOfMemory>
         octets: drawn.octets,
     })?;
     Ok(())
+}
+
+/// The samples of one transmission, with the silence before it.
+fn samples_of(alloc: Global, drawn: &Drawn) -> Result<Vec<i16>, OutOfMemory>
+    requires { IsGood drawn.now }
+    ensures { IfOk result (λ samples. samples.items ≡ samples_of (drawn_as drawn.now)) }
+{
+    let mut samples = Vec::new(alloc);
+    samples.resize(drawn.silence as usize, 0)?;
+    let frames = slice::from_ref(&drawn.octets);
+    match transmission(alloc, frames, drawn.opening, drawn.closing) {
+        Ok(behind) => samples.extend_from_slice(&behind)?,
+        Err(ModFault::Memory) => return Err(OutOfMemory),
+        Err(ModFault::FewFlags) => unreachable!(),
+        Err(ModFault::BadLength { .. }) => unreachable!(),
+    }
+    Ok(samples)
 }
