@@ -58,8 +58,8 @@ transmissions-most zero g = omega arith
 transmissions-most (suc count) g =
     let all : length (signal (transmissions_drawn (suc count) g)) ≡ sample_count (transmission_drawn g) + length (signal (transmissions_drawn count (behind_transmission g)))
     = ap length (flat_map-cons samples_of (transmission_drawn g) (transmissions_drawn count (behind_transmission g)))
-      ∙ length-append (samples_of (transmission_drawn g)) (signal (transmissions_drawn count (behind_transmission g)))
-      ∙ ap (λ n. n + length (signal (transmissions_drawn count (behind_transmission g)))) (length-samples_of (transmission_drawn g)) in
+    ∙ length-append (samples_of (transmission_drawn g)) (signal (transmissions_drawn count (behind_transmission g)))
+    ∙ ap (λ n. n + length (signal (transmissions_drawn count (behind_transmission g)))) (length-samples_of (transmission_drawn g)) in
     let first = transmission-most g in
     let rest = transmissions-most count (behind_transmission g) in
     omega arith

@@ -61,11 +61,7 @@ fn below(generator: &mut Lcg64Xsh32, bound: u16) -> u16
 }
 
 /// So many octets, each from a word.
-fn draw_octets(
-    alloc: Global,
-    generator: &mut Lcg64Xsh32,
-    count: u16,
-) -> Result<Octets, OutOfMemory>
+fn draw_octets(alloc: Global, generator: &mut Lcg64Xsh32, count: u16) -> Result<Octets, OutOfMemory>
     ensures octets { IfOk result (λ octets. octets ≡ map (λ word. word % 256) (words count generator.old)) }
     ensures count { IfOk result (λ octets. length octets ≡ count) }
     ensures behind { OnOk result (generator.new ≡ behind count generator.old) }

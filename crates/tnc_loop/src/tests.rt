@@ -69,7 +69,11 @@ fn a_candidate_with_other_octets_or_eight_samples_off_is_stray(
         (&[(92, b"one"), (100, b"one")], 1, Some(b"one")),
         (&[(108, b"one"), (200, b"two")], 1, Some(b"one")),
         (&[(100, b"two"), (200, b"one")], 2, Some(b"two")),
-        (&[(100, b"one"), (150, b"not"), (160, b"no")], 2, Some(b"not")),
+        (
+            &[(100, b"one"), (150, b"not"), (160, b"no")],
+            2,
+            Some(b"not"),
+        ),
     ];
     let mut ends = Vec::new(alloc);
     ends.push(end_of(alloc, 100, b"one")?)?;
@@ -81,7 +85,11 @@ fn a_candidate_with_other_octets_or_eight_samples_off_is_stray(
         }
         assert_eq!(rt; count_strays(&ends, &items), count, "of {heard:?}");
         let stray = first_stray(alloc, &ends, &items)?;
-        assert_eq!(rt; stray.as_ref().map(|octets| octets.as_slice()), first, "of {heard:?}");
+        assert_eq!(rt;
+            stray.as_ref().map(|octets| octets.as_slice()),
+            first,
+            "of {heard:?}"
+        );
     }
     Ok(())
 }
