@@ -1,0 +1,135 @@
+-- Octets and transmissions, one draw after another.
+use Rattle.std.proofs.Common.{◌≡◌, ℕ, zero, suc, ◌+◌, ◌-◌, ◌%◌, ◌<◌, ◌≤◌, List, [], ◌∷◌, ◌++◌, length, map, refl, ap, sym, subst, ◌∙◌, arith, append_assoc, append-nil, length-append}
+use Rattle.rand_pcg.specs.Lcg.{Lcg}
+use Rattle.rand_pcg.specs.Pcg.{pcg32}
+use Rattle.std.proofs.Math.Nat.{mod-lt}
+use Rattle.std.specs.List.{All}
+use Rattle.hdlc_framer.specs.Frames.{IsFrame}
+use Rattle.afsk_modulator.specs.Signal.{Transmission}
+use Rattle.clean_signal.specs.GoodTransmission.{IsTransmission}
+use Rattle.tnc_words.specs.declared.command.LoopWords.{LoopWords}
+use Rattle.tnc_loop.specs.Words.{generator_of, behind, word_at, words}
+use Rattle.tnc_loop.specs.Drawn.{length_drawn, octets_drawn, transmission_drawn, behind_transmission, transmissions_drawn, drawn}
+
+abbrev octet_of : ℕ → ℕ
+octet_of word = word % 256
+
+-- these octets were drawn of so many, and what is left to draw completes them
+pub record HasDrawn (initial now : Lcg) (count place : ℕ) (octets : List ℕ) : Type 0 where
+  pub parts : octets ++ map (λ word. word % 256) (words (count - place) now) ≡ map (λ word. word % 256) (words count initial)
+  pub behind : behind (count - place) now ≡ behind count initial
+  pub counted : length octets ≡ place
+
+pub has_drawn_none : (initial : Lcg) (count : ℕ) (octets : List ℕ) → octets ≡ [] → HasDrawn initial initial count 0 octets
+has_drawn_none initial count octets none =
+    let all : count - 0 ≡ count = omega arith in
+    record {
+      parts = ap (λ os. os ++ map octet_of (words (count - 0) initial)) none ∙ ap (λ n. map octet_of (words n initial)) all;
+      behind = ap (λ n. behind n initial) all;
+      counted = ap length none;
+    }
+
+pub has_drawn_more : (initial was now : Lcg) (count place word : ℕ) (octets more : List ℕ) → HasDrawn initial was count place octets → place < count
+    → (word, now) ≡ pcg32 was → more ≡ octets ++ word % 256 ∷ [] → HasDrawn initial now count (place + 1) more
+has_drawn_more initial was now count place word octets more h below drawn what =
+    let left : ℕ = count - (place + 1) in
+    let fewer : count - place ≡ suc left = omega arith in
+    record {
+      parts = ap (λ os. os ++ map octet_of (words left now)) what
+          ∙ append_assoc octets (word % 256 ∷ []) (map octet_of (words left now))
+          ∙ ap (λ (p : ℕ × Lcg). octets ++ (octet_of p.0 ∷ map octet_of (words left p.1))) drawn
+          ∙ ap (λ n. octets ++ map octet_of (words n was)) (sym fewer)
+          ∙ h.parts;
+      behind = ap (λ (p : ℕ × Lcg). behind left p.1) drawn ∙ ap (λ n. behind n was) (sym fewer) ∙ h.behind;
+      counted = (let l : length more ≡ length (octets ++ word % 256 ∷ []) = ap length what in let m = length-append octets (word % 256 ∷ []) in let c = h.counted in omega arith);
+    }
+
+-- all are drawn
+pub has_drawn_all : (initial now : Lcg) (count place : ℕ) (octets : List ℕ) → HasDrawn initial now count place octets → place ≡ count
+    → (octets ≡ map (λ word. word % 256) (words count initial)) × (length octets ≡ count) × (now ≡ behind count initial)
+has_drawn_all initial now count place octets h end =
+    let none : count - place ≡ 0 = omega arith in (
+      sym (append-nil octets) ∙ ap (λ n. octets ++ map octet_of (words n now)) (sym none) ∙ h.parts,
+      h.counted ∙ end,
+      ap (λ n. behind n now) (sym none) ∙ h.behind,
+    )
+
+-- ---- a transmission
+
+abbrev made : ℕ → ℕ → ℕ → List ℕ → Transmission
+made silence opening closing octets = record { silence = silence; opening = 2 + opening; closing = 1 + closing; frames = octets ∷ [] }
+
+module _ (g0 g1 g2 g3 g4 : Lcg) (length : ℕ) (first : g1 ≡ behind 1 g0) (second : g2 ≡ behind 1 g1) (third : g3 ≡ behind 1 g2) (fourth : g4 ≡ behind 1 g3)
+    (count : length ≡ word_at 0 g3 % 986) where
+  at2 : g2 ≡ behind 2 g0
+  at2 = second ∙ ap (λ g. (pcg32 g).1) first
+
+  at3 : g3 ≡ behind 3 g0
+  at3 = third ∙ ap (λ g. (pcg32 g).1) at2
+
+  at4 : g4 ≡ behind 4 g0
+  at4 = fourth ∙ ap (λ g. (pcg32 g).1) at3
+
+  long : 15 + length ≡ length_drawn g0
+  long = ap (λ n. 15 + n) (count ∙ ap (λ g. (pcg32 g).0 % 986) at3)
+
+  -- four numbers and octets are a transmission
+  pub transmission_is : (silence opening closing : ℕ) (octets : List ℕ) → silence ≡ word_at 0 g0 % 64 → opening ≡ word_at 0 g1 % 4 → closing ≡ word_at 0 g2 % 3
+      → octets ≡ map (λ word. word % 256) (words (15 + length) g4)
+      → record { silence = silence; opening = 2 + opening; closing = 1 + closing; frames = octets ∷ [] } ≡ transmission_drawn g0
+  unfolding transmission_drawn
+  transmission_is silence opening closing octets s o c os =
+      ap (λ n. made n opening closing octets) s
+      ∙ ap (λ n. made (word_at 0 g0 % 64) n closing octets) (o ∙ ap (λ g. (pcg32 g).0 % 4) first)
+      ∙ ap (λ n. made (word_at 0 g0 % 64) (word_at 1 g0 % 4) n octets) (c ∙ ap (λ g. (pcg32 g).0 % 3) at2)
+      ∙ ap (λ f. made (word_at 0 g0 % 64) (word_at 1 g0 % 4) (word_at 2 g0 % 3) f)
+      (os ∙ ap (λ n. map octet_of (words n g4)) long ∙ ap (λ g. map octet_of (words (length_drawn g0) g)) at4)
+
+  -- and the generator is behind it
+  pub behind_is : (now : Lcg) → now ≡ behind (15 + length) g4 → now ≡ behind_transmission g0
+  unfolding behind_transmission
+  behind_is now is = is ∙ ap (λ n. behind n g4) long ∙ ap (λ g. behind (length_drawn g0) g) at4
+
+-- ---- all that is drawn can be sent
+
+length-words : (count : ℕ) (g : Lcg) → length (words count g) ≡ count
+length-words zero g = refl
+length-words (suc count) g = ap suc (length-words count (pcg32 g).1)
+
+length-octets : (words : List ℕ) → length (map octet_of words) ≡ length words
+length-octets [] = refl
+length-octets (word ∷ words) = ap suc (length-octets words)
+
+octets_fit : (words : List ℕ) → All (λ octet. octet < 256) (map octet_of words)
+octets_fit [] k d l = absurd (omega arith)
+octets_fit (word ∷ words) zero d l = mod-lt word (omega arith)
+octets_fit (word ∷ words) (suc k) d l = octets_fit words k d (omega arith)
+
+pub length-octets_drawn : (g : Lcg) → length (octets_drawn g) ≡ length_drawn g
+length-octets_drawn g = length-octets (words (length_drawn g) (behind 4 g)) ∙ length-words (length_drawn g) (behind 4 g)
+
+pub length_drawn-most : (g : Lcg) → length_drawn g ≤ 1000
+length_drawn-most g = let below : word_at 3 g % 986 < 986 = mod-lt (word_at 3 g) (omega arith) in omega arith
+
+frame_drawn : (g : Lcg) → IsFrame (octets_drawn g)
+frame_drawn g =
+    let size : length (octets_drawn g) ≡ length_drawn g = length-octets_drawn g in
+    let most : length_drawn g ≤ 1000 = length_drawn-most g in
+    record { octets_fit = octets_fit (words (length_drawn g) (behind 4 g)); least = omega arith; most = omega arith }
+
+one_frame : (octets : List ℕ) → IsFrame octets → All IsFrame (octets ∷ [])
+one_frame octets is zero d l = is
+one_frame octets is (suc k) d l = absurd (omega arith)
+
+is_transmission : (g : Lcg) → IsTransmission (transmission_drawn g)
+unfolding transmission_drawn
+is_transmission g = record { frames = one_frame (octets_drawn g) (frame_drawn g); opening = omega arith; closing = omega arith }
+
+transmissions_good : (count : ℕ) (g : Lcg) → All IsTransmission (transmissions_drawn count g)
+transmissions_good zero g k d l = absurd (omega arith)
+transmissions_good (suc count) g zero d l = is_transmission g
+transmissions_good (suc count) g (suc k) d l = transmissions_good count (behind_transmission g) k d (omega arith)
+
+pub drawn_good : (words : LoopWords) → All IsTransmission (drawn words)
+unfolding drawn
+drawn_good words = transmissions_good words.frames (generator_of words.seed)

@@ -1,0 +1,5 @@
+pub mod DrawingLemmas
+pub mod SendingLemmas
+pub mod LengthLemmas
+pub mod SummaryLemmas
+pub mod HearingLemmas

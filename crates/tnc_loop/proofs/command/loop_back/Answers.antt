@@ -1,0 +1,25 @@
+use Rattle.std.proofs.Common.{◌≡◌, ◌++◌, List, ℕ, Some, string_bytes, subst, ap, ◌∙◌}
+use Rattle.tnc_base.specs.Streams.{WrotePart}
+use Rattle.afsk_modulator.specs.Signal.{signal}
+use Rattle.clean_signal.specs.Stray.{NoStray}
+use Rattle.clean_signal.proofs.Law.{clean_law}
+use Rattle.tnc_loop.specs.Drawn.{drawn}
+use Rattle.tnc_loop.specs.Held.{HasFound}
+use Rattle.tnc_loop.proofs.DrawingLemmas.{drawn_good}
+use Rattle.tnc_loop.proofs.SummaryLemmas.{one_summary, wrote_all}
+use Rattle.tnc_loop.proofs.command.loop_back.Goals as goal
+
+pub returns-in-Err-default-clause-cut : goal.returns-in-Err-default-clause-cut
+returns-in-Err-default-clause-cut g c = λ before text was is.
+    let same : c.as_bytes.result.now ≡ text = c.as_bytes.ensures.value ∙ one_summary c.args.words (string_bytes c.in_ok-told.told.summary) text c.in_ok-told.ensures.summary is in
+    subst (λ (t : List ℕ). WrotePart before t (g.O.Sink.written c.write.new.self)) same (c.in-Err-default.ensures.partly before was)
+
+pub returns-in-Ok-None-clause-clean : goal.returns-in-Ok-None-clause-clean
+returns-in-Ok-None-clause-clean g c =
+    let clear : NoStray (drawn c.args.words) (signal (drawn c.args.words)) = subst (HasFound c.args.words) c.in-Ok-None.is-1 c.in_ok-told.ensures.stray in
+    clean_law (drawn c.args.words) (drawn_good c.args.words) clear
+
+pub returns-clause-cut : goal.returns-clause-cut
+returns-clause-cut g c = λ before text was is.
+    let same : c.as_bytes.result.now ≡ text = c.as_bytes.ensures.value ∙ one_summary c.args.words (string_bytes c.in_ok-told.told.summary) text c.in_ok-told.ensures.summary is in
+    wrote_all before text _ (c.in-Ok-Some.ensures.appends before was ∙ ap (λ t. Some (before ++ t)) same)

@@ -1,0 +1,40 @@
+use Rattle.std.proofs.Common.{◌≡◌, ◌<◌, ◌^◌, [], length, ap, ◌∙◌, string_bytes, arith}
+use Rattle.frame_merge.specs.Merged.{merged}
+use Rattle.slicer_bank.specs.Candidates.{AreCandidates}
+use Rattle.clean_signal.specs.TrueEnds.{true_ends}
+use Rattle.afsk_modulator.specs.Signal.{signal}
+use Rattle.tnc_decode.proofs.MergingLemmas.{all_can_be_put}
+use Rattle.tnc_loop.specs.Drawn.{drawn}
+use Rattle.tnc_loop.specs.Strays.{strays, first_stray}
+use Rattle.tnc_loop.specs.Summary.{summary}
+use Rattle.tnc_loop.proofs.HearingLemmas.{are_of, has_found, is_summary}
+use Rattle.tnc_loop.proofs.hearing.hear_drawn.Goals as goal
+
+pub merge-requires-clause-items : goal.merge-requires-clause-items
+merge-requires-clause-items c =
+    let few : length c.deref.result.now < 2 ^ 48 =
+    (let same : length c.deref.result.now ≡ length c.in_ok-sent.sent.samples.items = ap length c.deref.ensures.value in let fits = c.in_ok-sent.ensures.count in omega arith) in
+    all_can_be_put c.deref.result.now c.in_ok-candidates.candidates.items few (c.in_ok-candidates.ensures.found [] c.in_ok-bank.ensures.stands_for).1
+
+pub merge-requires-clause-order : goal.merge-requires-clause-order
+merge-requires-clause-order c = (c.in_ok-candidates.ensures.found [] c.in_ok-bank.ensures.stands_for).1.order
+
+pub returns-clause-summary : goal.returns-clause-summary
+returns-clause-summary c =
+    let are : AreCandidates (signal (drawn c.args.words)) c.in_ok-candidates.candidates.items =
+    are_of c.args.words c.in_ok-sent.sent c.deref.result.now c.in_ok-candidates.candidates.items c.in_ok-sent.ensures.sent c.deref.ensures.value
+    (c.in_ok-candidates.ensures.found [] c.in_ok-bank.ensures.stands_for).1 in
+    is_summary c.args.words c.deref-4.result.now c.in_ok-candidates.candidates.items c.deref-6.result.now (string_bytes c.in_ok-summary.field-0) c.count_strays-stray_count.result
+    (c.deref-4.ensures.value ∙ c.in_ok-sent.ensures.sent.ends) are
+    (c.deref-6.ensures.value ∙ c.in_ok-heard.ensures)
+    (c.count_strays-stray_count.ensures ∙ ap (λ items. length (strays c.deref-4.result.now items)) c.deref-5.ensures.value)
+    c.in_ok-summary.ensures
+
+pub returns-clause-stray : goal.returns-clause-stray
+returns-clause-stray c =
+    let are : AreCandidates (signal (drawn c.args.words)) c.in_ok-candidates.candidates.items =
+    are_of c.args.words c.in_ok-sent.sent c.deref.result.now c.in_ok-candidates.candidates.items c.in_ok-sent.ensures.sent c.deref.ensures.value
+    (c.in_ok-candidates.ensures.found [] c.in_ok-bank.ensures.stands_for).1 in
+    has_found c.args.words c.deref-2.result.now c.in_ok-candidates.candidates.items c.in_ok-stray.stray
+    (c.deref-2.ensures.value ∙ c.in_ok-sent.ensures.sent.ends) are
+    (c.in_ok-stray.ensures ∙ ap (λ items. first_stray c.deref-2.result.now items) c.deref-3.ensures.value)

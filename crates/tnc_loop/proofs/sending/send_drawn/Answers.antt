@@ -1,0 +1,19 @@
+use Rattle.std.proofs.Common.{rules}
+use Rattle.tnc_loop.proofs.SendingLemmas.{sent_none, sent_next, sent_all, sent_fits}
+use Rattle.tnc_loop.proofs.sending.send_drawn.Goals as goal
+
+pub loop-init : goal.loop-init
+loop-init c =
+    sent_none c.args.words c.generator-generator.result (record { samples = c.new.result; ends = c.new-2.result }) c.generator-generator.ensures c.new.ensures.items c.new-2.ensures.items
+
+pub loop-preserved : goal.loop-preserved
+loop-preserved c =
+    sent_next c.args.words c.loop.counter c.loop.generator c.draw.new.generator c.loop.sent c.send.new.sent c.in_ok-drawn.drawn c.loop.invariant c.loop-test.true
+    c.in_ok-drawn.ensures.drawn c.in_ok-drawn.ensures.behind c.in_ok-send.ensures
+
+pub returns-clause-sent : goal.returns-clause-sent
+returns-clause-sent c = sent_all c.args.words c.loop.counter c.loop.generator c.loop.sent c.loop.invariant c.loop-test.false
+
+pub returns-clause-count : goal.returns-clause-count
+returns-clause-count c =
+    sent_fits c.args.words c.loop.sent (sent_all c.args.words c.loop.counter c.loop.generator c.loop.sent c.loop.invariant c.loop-test.false) (search rules)

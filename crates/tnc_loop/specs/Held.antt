@@ -1,0 +1,32 @@
+-- What the code keeps of what it draws and sends, and what that stands for. No public clause cites it.
+use Rattle.std.specs.Prelude.{◌≡◌, ℕ, ◌≤◌, List, [], ◌∷◌, length, Option, Some, None}
+use Rattle.afsk_modulator.specs.Signal.{Transmission, signal}
+use Rattle.clean_signal.specs.TrueEnds.{true_ends}
+use Rattle.clean_signal.specs.Stray.{NoStray}
+use Rattle.tnc_words.specs.declared.command.LoopWords.{LoopWords}
+use Rattle.tnc_loop.specs.declared.drawing.Drawn.{Drawn}
+use Rattle.tnc_loop.specs.declared.sending.Sent.{Sent}
+use Rattle.tnc_loop.specs.Drawn.{drawn}
+use Rattle.tnc_loop.specs.Summary.{IsFirstStray}
+
+-- the transmission that was drawn
+abbrev pub drawn_as : Drawn → Transmission
+drawn_as drawn =
+    record { silence = drawn.silence; opening = drawn.opening; closing = drawn.closing; frames = drawn.octets ∷ [] }
+
+-- it can be sent
+pub record IsGood (drawn : Drawn) : Type 0 where
+  pub opening : 2 ≤ drawn.opening
+  pub closing : 1 ≤ drawn.closing
+  pub least : 15 ≤ length drawn.octets
+  pub most : length drawn.octets ≤ 1000
+
+-- these transmissions were sent
+pub record HasSent (sent : Sent) (transmissions : List Transmission) : Type 0 where
+  pub samples : sent.samples.items ≡ signal transmissions
+  pub ends : sent.ends.items ≡ true_ends transmissions
+
+-- what was found among the candidates: the first stray one, or that none is stray
+abbrev pub HasFound : LoopWords → Option (List ℕ) → Type 0
+HasFound words (Some octets) = IsFirstStray words octets
+HasFound words None = NoStray (drawn words) (signal (drawn words))

@@ -1,0 +1,5 @@
+pub mod Words
+pub mod Drawn
+pub mod Strays
+pub mod Summary
+pub mod Held

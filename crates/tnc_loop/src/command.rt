@@ -1,0 +1,45 @@
+//! The word loop: from a seed to a signal, and back to the frames that are heard in it.
+ghost use Rattle.std.specs.Prelude.{◌≡◌, ◌++◌, List, ℕ, Some, Err, OnOk, OnErr, IsErrOf};
+ghost use Rattle.tnc_base.specs.Faults.{HasRisen};
+ghost use Rattle.tnc_base.specs.Streams.{WrotePart};
+ghost use Rattle.afsk_modulator.specs.Signal.{signal};
+ghost use Rattle.clean_signal.specs.GoodTransmission.{frames_of};
+ghost use Rattle.clean_signal.specs.MergedFrames.{MergesTo};
+ghost use Rattle.clean_signal.specs.Stray.{NoStray};
+ghost use Rattle.tnc_loop.specs.Drawn.{drawn};
+ghost use Rattle.tnc_loop.specs.Summary.{IsSummary, IsFirstStray};
+
+use crate::fault::LoopFault;
+use crate::hearing::hear_drawn;
+use std::alloc::Global;
+use tnc_base::Sink;
+use tnc_words::LoopWords;
+
+/// Draws frames from the seed, sends each as a transmission of its own, hears the signal, and writes the summary. Where a
+/// candidate of the signal is no frame that was made, the first such is told behind the summary.
+pub fn loop_back<O: Sink>(alloc: Global, words: LoopWords, output: &mut O) -> Result<(), LoopFault>
+    // what is written, and what then holds of the signal
+    ensures done { (before : List ℕ) → O.written output.old ≡ Some before
+        → OnOk result ((text : List ℕ) × IsSummary words text × (O.written output.new ≡ Some (before ++ text))) }
+    ensures no_stray { OnOk result (NoStray (drawn words) (signal (drawn words))) }
+    ensures clean { OnOk result (MergesTo (frames_of (drawn words)) (signal (drawn words))) }
+
+    // the stray candidate that is told, and what was written before
+    ensures stray { (octets : List ℕ) → IsErrOf result (LoopFault.Stray octets) → IsFirstStray words octets }
+    ensures done_before { (octets before : List ℕ) → O.written output.old ≡ Some before
+        → IsErrOf result (LoopFault.Stray octets)
+        → (text : List ℕ) × IsSummary words text × (O.written output.new ≡ Some (before ++ text)) }
+
+    // each other fault, and what stands after it
+    ensures write { IsErrOf result LoopFault.Write → HasRisen (O.faults output.old) (O.faults output.new) }
+    ensures cut { (before text : List ℕ) → O.written output.old ≡ Some before → IsSummary words text
+        → OnErr result (WrotePart before text (O.written output.new)) }
+    ensures unwritten { result ≡ Err LoopFault.Memory → output.new ≡ output.old }
+{
+    let told = hear_drawn(alloc, words)?;
+    match (output.write(told.summary.as_bytes()), told.stray) {
+        (Err(_), _) => Err(LoopFault::Write),
+        (Ok(()), None) => Ok(()),
+        (Ok(()), Some(octets)) => Err(LoopFault::Stray { octets }),
+    }
+}
