@@ -1,4 +1,18 @@
+use Rattle.std.proofs.Common.{◌≡◌, ◌++◌, Some, IfErr, inl, inr, sym, subst, ap, ◌∙◌, arith}
+use Rattle.std.specs.Prelude.{Result}
+use Rattle.tnc_main.specs.declared.stop.Stop.{Stop}
+use Rattle.tnc_main.specs.Report.{line_of, stray_line}
+use Rattle.tnc_main.specs.Status.{code_of}
 use Rattle.tnc_main.proofs.program.explained.Goals as goal
 
 pub returns-in-Ok-of_stray-clause-told : goal.returns-in-Ok-of_stray-clause-told
-returns-in-Ok-of_stray-clause-told g c = ?
+returns-in-Ok-of_stray-clause-told g c = λ before was which.
+    let written : g.E.Sink.written c.told-in-Ok-of_stray.new.report ≡ Some (before ++ stray_line c.in-Err-Stray.octets) =
+    elim (c.told-in-Ok-of_stray.ensures.line before was) [
+      | inl whole ↦ whole ∙ ap (λ line. Some (before ++ line)) (c.as_bytes-in-Ok-of_stray.ensures.value ∙ c.in-Ok-of_stray.ensures ∙ ap stray_line c.as_slice.ensures.list)
+      | inr fault ↦
+          let code : c.code-in-Ok-of_stray.result ≡ 5 = c.code-in-Ok-of_stray.ensures ∙ ap code_of fault in
+          elim which [ inl two ↦ absurd (omega arith) | inr six ↦ absurd (omega arith) ]
+    ] in
+    subst (λ (end : Result (Unit {0}) Stop). IfErr end (λ stop. g.E.Sink.written c.told-in-Ok-of_stray.new.report ≡ Some (before ++ line_of stop))) (sym c.in-Err-Stray.is)
+    (written ∙ ap (λ stop. Some (before ++ line_of stop)) (sym c.in-Err-Stray.field-0-is))
