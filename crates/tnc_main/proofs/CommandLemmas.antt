@@ -42,7 +42,7 @@ pub decode_part : (end : Result (Unit {0}) Fault) (words : DecodeWords) (octets 
     → ((end ≡ Err (OfInput TooLong)) ⊎ ((end ≡ Err OfMemory) ⊎ (end ≡ Err OfRead)) → now ≡ Some before)
     → ((fault : InputFault) → end ≡ Err (OfInput fault) → audio_fault words.audio octets ≡ Some fault)
     → ((fault : InputFault) → length octets ≤ input_limit → end ≡ Err (OfInput fault)
-        → (t : List ℕ) × IsDecoded words octets t × (now ≡ Some (before ++ t)))
+    → (t : List ℕ) × IsDecoded words octets t × (now ≡ Some (before ++ t)))
     → IsDecoded words octets text → OnErr end (WrotePart before text now)
 decode_part (Ok x) words octets before text now write kept bad told is = tt
 decode_part (Err OfMemory) words octets before text now write kept bad told is = wrote_nothing before text now (kept (inr (inl refl)))
@@ -51,7 +51,7 @@ decode_part (Err OfWrite) words octets before text now write kept bad told is = 
 decode_part (Err (OfInput fault)) words octets before text now write kept bad told is = elim (cases_lt input_limit (length octets)) [
   | inl long ↦
       let both : Some fault ≡ Some TooLong = sym (bad fault refl)
-          ∙ ap (λ b. if b then Some TooLong else form_fault words.audio octets) (lt-ltb input_limit (length octets) long) in
+      ∙ ap (λ b. if b then Some TooLong else form_fault words.audio octets) (lt-ltb input_limit (length octets) long) in
       let same : fault ≡ TooLong = cc both in
       wrote_nothing before text now (kept (inl (ap (λ f. Err (OfInput f)) same)))
   | inr short ↦

@@ -34,3 +34,6 @@ fn main(rt: HostRuntime) -> ExitCode {
     let mut report = RealSink::new(rt.stderr());
     ExitCode::from(run(rt.alloc(), &words, &mut input, &mut output, &mut report))
 }
+
+#[cfg(test)]
+mod tests;

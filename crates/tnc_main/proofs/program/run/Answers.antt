@@ -93,7 +93,7 @@ returns-in-Ok-clause-stray_told g c = λ command before asks was six.
       h.0,
       strays command c.in-Ok.command (one_command (map string_bytes c.args.words.now) command c.in-Ok.command asks c.in-Ok.ensures.asks) h.0 (c.perform-end.ensures.stray h.0 h.1),
       at_fault c.perform-end.result (λ stop. g.E.Sink.written c.explained.new.report ≡ Some (before ++ line_of stop)) (Stray h.0)
-      (c.explained.ensures.told before was (inr six)) h.1,
+          (c.explained.ensures.told before was (inr six)) h.1,
     )
 
 pub returns-in-Ok-clause-report_cut : goal.returns-in-Ok-clause-report_cut
@@ -109,8 +109,8 @@ pub returns-in-Ok-clause-complete : goal.returns-in-Ok-clause-complete
 returns-in-Ok-clause-complete g c = λ command octets asks read good no_stray no_input no_output no_report.
     ends_well c.perform-end.result c.explained.result c.explained.ensures.ok c.explained.ensures.memory
     (λ fault is.
-      let none : Some fault ≡ None = sym (same_fault command c.in-Ok.command (one_command (map string_bytes c.args.words.now) command c.in-Ok.command asks c.in-Ok.ensures.asks) octets ∙ c.perform-end.ensures.bad octets fault (reads command c.in-Ok.command (one_command (map string_bytes c.args.words.now) command c.in-Ok.command asks c.in-Ok.ensures.asks) _ octets read) is) ∙ good in
-      true≢false (ap is_some none))
+    let none : Some fault ≡ None = sym (same_fault command c.in-Ok.command (one_command (map string_bytes c.args.words.now) command c.in-Ok.command asks c.in-Ok.ensures.asks) octets ∙ c.perform-end.ensures.bad octets fault (reads command c.in-Ok.command (one_command (map string_bytes c.args.words.now) command c.in-Ok.command asks c.in-Ok.ensures.asks) _ octets read) is) ∙ good in
+    true≢false (ap is_some none))
     (λ frame is. no_stray frame (strays command c.in-Ok.command (one_command (map string_bytes c.args.words.now) command c.in-Ok.command asks c.in-Ok.ensures.asks) frame (c.perform-end.ensures.stray frame is)))
     (λ is. no_input (c.perform-end.ensures.read is))
     (λ is. no_output (c.perform-end.ensures.write is))
