@@ -39,9 +39,11 @@ one_summary words text other h k =
     ∙ sym k.is
 
 -- and at most one first stray
-pub one_stray : (words : LoopWords) (octets other : List ℕ) → IsFirstStray words octets → IsFirstStray words other → Some octets ≡ Some other
+pub one_stray : (words : LoopWords) (octets other : List ℕ) → IsFirstStray words octets → IsFirstStray words other → octets ≡ other
 one_stray words octets other h k =
-    sym h.is ∙ ap (first_stray (true_ends (drawn words))) (one_list (signal (drawn words)) h.candidates k.candidates h.are k.are) ∙ k.is
+    let same : Some octets ≡ Some other =
+    sym h.is ∙ ap (first_stray (true_ends (drawn words))) (one_list (signal (drawn words)) h.candidates k.candidates h.are k.are) ∙ k.is in
+    cc
 
 -- ---- where nothing is stray
 
