@@ -8,12 +8,14 @@ mod command;
 mod drawing;
 mod fault;
 mod hearing;
+mod laws;
 mod sending;
 mod straying;
 mod summing;
 
 pub use command::loop_back;
 pub use fault::LoopFault;
+pub use laws::{good_transmissions, one_summary};
 
 #[cfg(test)]
 mod tests;
