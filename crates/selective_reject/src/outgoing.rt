@@ -185,9 +185,9 @@ impl OutStore {
     pub fn clear(&mut self)
         ensures { self.new ≡ empty_outgoing }
     {
+        self.go_back();
         self.packets.clear();
         self.va = 0;
-        self.sent = 0;
         self.most_sent = 0;
     }
 }

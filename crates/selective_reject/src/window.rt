@@ -2,7 +2,7 @@
 
 ghost use Rattle.std.specs.Prelude.{◌≡◌, ◌↔◌, IsOk, IfErr};
 ghost use Rattle.selective_reject.specs.Numbers.{IsModulus};
-ghost use Rattle.selective_reject.specs.Window.{IsWindow, largest_window};
+ghost use Rattle.selective_reject.specs.Window.{IsWindow, IsBadWindow, largest_window};
 
 use thiserror::Error;
 
@@ -28,7 +28,7 @@ pub struct BadWindow {
 pub fn check_window(modulus: u8, window: u8, mode: Mode) -> Result<(), BadWindow>
     requires { IsModulus modulus }
     ensures ok { IsOk result ↔ IsWindow modulus window mode }
-    ensures bad { IfErr result (λ bad. bad.window ≡ window) }
+    ensures bad { IfErr result (λ bad. (bad.window ≡ window) × IsBadWindow modulus window mode) }
 {
     if window == 0 || largest_window(modulus, mode) < window {
         return Err(BadWindow { window });
