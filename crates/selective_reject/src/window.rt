@@ -24,7 +24,7 @@ pub struct BadWindow {
 }
 
 /// Refuses a window of 0, and one that is over `modulus - 1` with [`Mode::Rej`] or over half the modulus with
-/// [`Mode::Srej`] (AX.25 2.2 sections 4.2.2.1 and 6.4.4.3).
+/// [`Mode::Srej`] (AX.25 2.2 sections 4.2 and 6.4).
 pub fn check_window(modulus: u8, window: u8, mode: Mode) -> Result<(), BadWindow>
     requires { IsModulus modulus }
     ensures ok { IsOk result ↔ IsWindow modulus window mode }
