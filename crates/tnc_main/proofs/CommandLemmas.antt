@@ -14,7 +14,7 @@ use Rattle.tnc_forms.proofs.WrittenParts.{wrote_nothing, wrote_all}
 use Rattle.tnc_decode.specs.Audio.{audio_fault, form_fault}
 use Rattle.tnc_decode.specs.Decoded.{IsDecoded}
 use Rattle.tnc_decode.proofs.DecodedLemmas.{one_text}
-use Rattle.tnc_main.specs.Commands.{Makes, MakesBefore, Reads, Strays, fault_of}
+use Rattle.tnc_main.specs.Commands.{HeardAsMade, Makes, MakesBefore, Reads, Strays, fault_of}
 
 -- a command is another one, of which all that is said can be said of it
 module _ (command other : Command) (is : command ≡ other) where
@@ -32,6 +32,9 @@ module _ (command other : Command) (is : command ≡ other) where
 
   pub same_fault : (octets : List ℕ) → fault_of command octets ≡ fault_of other octets
   same_fault octets = ap (λ c. fault_of c octets) is
+
+  pub heard_as_made : HeardAsMade other → HeardAsMade command
+  heard_as_made = subst (λ c. HeardAsMade c) (sym is)
 
   pub strays : (frame : List ℕ) → Strays other frame → Strays command frame
   strays frame = subst (λ c. Strays c frame) (sym is)

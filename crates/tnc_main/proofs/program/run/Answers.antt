@@ -12,7 +12,7 @@ use Rattle.tnc_main.specs.Commands.{fault_of, left_by}
 use Rattle.tnc_main.specs.Report.{line_of}
 use Rattle.tnc_main.specs.Status.{code_of}
 use Rattle.tnc_main.proofs.Ends.{told_of, ends_well}
-use Rattle.tnc_main.proofs.CommandLemmas.{reads, made, makes, made_before, same_fault, strays}
+use Rattle.tnc_main.proofs.CommandLemmas.{reads, made, makes, made_before, same_fault, heard_as_made, strays}
 use Rattle.tnc_main.proofs.TextLemmas.{one_text_of, long_fault, clean_text}
 use Rattle.tnc_main.proofs.program.run.Goals as goal
 
@@ -114,6 +114,11 @@ returns-in-Ok-clause-complete g c = λ command octets asks read good no_stray no
     (λ frame is. no_stray frame (strays command c.in-Ok.command (one_command (map string_bytes c.args.words.now) command c.in-Ok.command asks c.in-Ok.ensures.asks) frame (c.perform-end.ensures.stray frame is)))
     (λ is. no_input (c.perform-end.ensures.read is))
     (λ is. no_output (c.perform-end.ensures.write is))
+
+pub returns-in-Ok-clause-heard_as_made : goal.returns-in-Ok-clause-heard_as_made
+returns-in-Ok-clause-heard_as_made g c = λ command asks zero.
+    heard_as_made command c.in-Ok.command (one_command (map string_bytes c.args.words.now) command c.in-Ok.command asks c.in-Ok.ensures.asks)
+    (at_ok c.perform-end.result c.perform-end.ensures.heard_as_made (c.explained.ensures.done zero))
 
 -- ---- no command
 
