@@ -3,6 +3,7 @@
 //! which octets are written.
 #![tactic(auto)]
 
+mod laws;
 mod performing;
 mod program;
 mod report;
