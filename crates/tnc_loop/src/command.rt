@@ -15,8 +15,8 @@ use std::alloc::Global;
 use tnc_base::Sink;
 use tnc_words::LoopWords;
 
-/// Draws frames from the seed, sends each as a transmission of its own, hears the signal, and writes the summary. Where a
-/// candidate of the signal is no frame that was made, the first such is told behind the summary.
+/// Draws frames from the seed, sends each as a transmission of its own, hears the signal, and writes the summary. Where
+/// a candidate of the signal is no frame that was made, the first such is told behind the summary.
 pub fn loop_back<O: Sink>(alloc: Global, words: LoopWords, output: &mut O) -> Result<(), LoopFault>
     // what is written, and what then holds of the signal
     ensures done { (before : List ℕ) → O.written output.old ≡ Some before

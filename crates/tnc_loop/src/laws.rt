@@ -5,7 +5,8 @@ ghost use Rattle.tnc_words.specs.declared.command.LoopWords.{LoopWords};
 ghost use Rattle.tnc_loop.specs.Drawn.{drawn};
 ghost use Rattle.tnc_loop.specs.Summary.{IsSummary, IsFirstStray};
 
-/// All transmissions that are drawn are good: frames of 15 to 1024 octets, at least two opening flags and one closing flag.
+/// All transmissions that are drawn are good: frames of 15 to 1024 octets, at least two opening flags and one closing
+/// flag.
 pub fn good_transmissions()
     ensures { (words : LoopWords) → All IsTransmission (drawn words) }
 {}
