@@ -117,13 +117,7 @@ impl OutStore {
             → (result ≡ Ok (number - store.va)) × StandsForOutgoing self.new (acknowledged number store) }
         ensures formed { IsOutgoing self.new }
     {
-        let count = ahead(modulus, self.va, nr);
-        if count > self.most_sent {
-            return Err(BadNr {
-                va: self.va % modulus,
-                top: (self.va + self.most_sent) % modulus,
-            });
-        }
+        let count = self.acknowledgement(modulus, nr)?;
         let rest = self.packets.len() - usize::from(count);
         self.packets.truncate_front(rest);
         self.va = (self.va + count) % 128;
@@ -224,8 +218,8 @@ impl OutStore {
         ensures store { self.new ≡ restarted self.old }
         ensures formed { IsOutgoing self.new }
     {
+        self.go_back();
         self.va = 0;
-        self.sent = 0;
         self.most_sent = 0;
     }
 
@@ -233,9 +227,7 @@ impl OutStore {
     pub fn clear(&mut self)
         ensures { self.new ≡ empty_outgoing }
     {
-        self.go_back();
+        self.restart();
         self.packets.clear();
-        self.va = 0;
-        self.most_sent = 0;
     }
 }

@@ -192,3 +192,20 @@ fn what_is_acknowledged_goes(rt: HostRuntime) -> Result<(), Fail> {
     assert_eq!(rt; store.acknowledge(8, 3), Err(BadNr { va: 2, top: 2 }));
     Ok(())
 }
+
+#[test]
+fn a_store_is_read_and_counted_from_0_again(rt: HostRuntime) -> Result<(), Fail> {
+    let mut store = OutStore::new(rt.alloc())?;
+    for name in 0..3 {
+        assert!(rt; store.push(packet(&rt, name)?).is_ok());
+    }
+    assert_eq!(rt; store.next(8, 2), Some(0));
+    assert_eq!(rt; store.sent(), 1);
+    assert_eq!(rt; store.acknowledgement(8, 1), Ok(1));
+    assert_eq!(rt; store.acknowledgement(8, 2), Err(BadNr { va: 0, top: 1 }));
+    assert!(rt; is_named(store.packet(2), 2));
+    store.restart();
+    assert_eq!(rt; store.sent(), 0);
+    assert_eq!(rt; store.len(), 3);
+    Ok(())
+}
