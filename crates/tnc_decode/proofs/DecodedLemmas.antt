@@ -1,6 +1,6 @@
 -- The text of an input is one text, and an input has no more samples than octets.
 use Rattle.std.proofs.Common.{◌≡◌, ℕ, ◌≤◌, List, [], ◌∷◌, length, true≢false, subst, ap, sym, ◌∙◌, arith}
-use Rattle.std.specs.Prelude.{Option, Result, Some, None, Ok, Err, is_some}
+use Rattle.std.specs.Prelude.{Result, Some, None, Ok, Err, is_some}
 use Rattle.frame_merge.specs.Merged.{merged}
 use Rattle.slicer_bank.proofs.OneList.{one_list}
 use Rattle.tnc_words.specs.declared.command.DecodeWords.{DecodeWords}

@@ -40,10 +40,7 @@ pub fn read_audio(alloc: Global, form: AudioForm, octets: &[u8]) -> Result<Audio
 }
 
 /// The samples of a WAV file, and what the file is worth.
-fn read_wav(
-    alloc: Global,
-    octets: &[u8],
-) -> Result<(Vec<i16>, Result<(), WavFault>), OutOfMemory>
+fn read_wav(alloc: Global, octets: &[u8]) -> Result<(Vec<i16>, Result<(), WavFault>), OutOfMemory>
     ensures samples { IfOk result (λ read. read.0.items ≡ samples_in octets.now) }
     ensures count { IfOk result (λ read. length read.0.items ≤ length octets.now) }
     ensures verdict { IfOk result (λ read. read.1 ≡ verdict_of octets.now) }

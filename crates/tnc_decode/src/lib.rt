@@ -12,4 +12,3 @@ pub use audio::{Audio, read_audio};
 pub use decoding::decode;
 pub use hearing::{hear, merge};
 pub use printing::print;
-

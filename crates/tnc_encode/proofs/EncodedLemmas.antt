@@ -1,9 +1,8 @@
 -- What encode makes of an input, and what is wrong with it.
-use Rattle.std.proofs.Common.{◌≡◌, ℕ, ◌<◌, ◌≤◌, ℤ, List, [], ◌∷◌, ◌++◌, length, Option, Some, None, true≢false, nat_lt, refl, sym, subst, ap, ◌∙◌, lt-ltb, le-ltb, arith}
+use Rattle.std.proofs.Common.{◌≡◌, ℕ, ◌≤◌, ℤ, List, [], ◌∷◌, ◌++◌, length, Option, Some, None, true≢false, refl, sym, subst, ap, ◌∙◌, le-ltb, arith}
 use Rattle.std.proofs.lemmas.List.{append-nil}
 use Rattle.std.specs.Prelude.{is_some, if◌then◌else◌}
 use Rattle.tnc_base.specs.Streams.{WrotePart}
-use Rattle.afsk_modulator.specs.Signal.{signal}
 use Rattle.tnc_forms.specs.declared.fault.InputFault.{InputFault}
 use Rattle.tnc_forms.specs.declared.fault.InputFault.TheVariants.{TooLong, Line}
 use Rattle.tnc_forms.specs.declared.line_fault.LineFault.{LineFault}

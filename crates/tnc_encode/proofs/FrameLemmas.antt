@@ -1,5 +1,5 @@
 -- Frames of an input have the length of a frame.
-use Rattle.std.proofs.Common.{◌≡◌, ℕ, ◌+◌, ◌<◌, ◌≤◌, ◌==◌, nat_le, ◌&&◌, Bool, true, false, List, [], ◌∷◌, ◌++◌, length, take, get_or, ap, ◌∙◌, All, IfSome, Option, Some, None, inl, inr, refl, sym, subst, arith}
+use Rattle.std.proofs.Common.{◌≡◌, ℕ, ◌+◌, ◌<◌, ◌≤◌, ◌==◌, nat_le, ◌&&◌, Bool, true, false, List, [], ◌∷◌, ◌++◌, length, take, get_or, ap, ◌∙◌, All, IfSome, Option, Some, None, inl, inr, refl, sym, arith}
 use Rattle.std.specs.Prelude.{if◌then◌else◌}
 use Rattle.std.specs.List.{cons_option, filter_map}
 use Rattle.std.proofs.lemmas.Bool.{and_parts, leb-true}
@@ -9,7 +9,7 @@ use Rattle.kiss_port.specs.declared.item.KissItem.{KissItem}
 use Rattle.kiss_port.specs.declared.item.KissItem.TheVariants.{Frame, Set, Hardware, Return, TooLong, Other}
 use Rattle.kiss_port.specs.Items.{items_in}
 use Rattle.afsk_modulator.specs.Transmission.{IsBadLength}
-use Rattle.tnc_forms.proofs.HexFrameLemmas.{IsGood, frames_of-good}
+use Rattle.tnc_forms.proofs.HexFrameLemmas.{frames_of-good}
 use Rattle.tnc_words.specs.declared.command.FrameForm.{FrameForm}
 use Rattle.tnc_words.specs.declared.command.FrameForm.TheVariants.{Hex, Kiss}
 use Rattle.tnc_encode.specs.Frames.{frame_of, frames_of, kiss_frames}

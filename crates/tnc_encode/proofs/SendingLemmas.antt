@@ -1,10 +1,7 @@
 -- Signals as octets, one piece behind another.
-use Rattle.std.proofs.Common.{◌≡◌, ℕ, ◌+◌, ◌<◌, ℤ, pos, List, [], ◌∷◌, ◌++◌, zero, suc, true, false, true≢false, eqb, cond, length, map, take, drop, get_or, Option, Some, append_assoc, to_z, of_z, refl, sym, ap, ◌∙◌, arith}
-use Rattle.std.proofs.lemmas.Int.{to_z-of_z}
+use Rattle.std.proofs.Common.{◌≡◌, ℕ, ◌+◌, ◌<◌, List, [], ◌∷◌, ◌++◌, true, false, cond, length, map, take, drop, get_or, Option, Some, append_assoc, refl, sym, ap, ◌∙◌, arith}
 use Rattle.std.proofs.lemmas.Grind.{flat_map-append}
 use Rattle.std.proofs.lemmas.List.{append-nil, map-append, take_more, take-append-drop}
-use mir.Syntax.{w16}
-use mir.Val.{SFits}
 use Rattle.tnc_base.specs.Streams.{WrotePart}
 use Rattle.tnc_forms.proofs.PcmLemmas.{pcm-append}
 use Rattle.tnc_words.specs.declared.command.EncodeWords.{EncodeWords}

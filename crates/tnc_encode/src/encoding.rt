@@ -105,14 +105,14 @@ fn send_as_told<O: Sink>(
     requires lengths { All (λ octets. ¬ IsBadLength octets) frames.now }
     ensures sent { (before : List ℕ) → O.written output.old ≡ Some before
         → OnOk result (O.written output.new
-            ≡ Some (before ++ written_as words.audio (signal (transmissions words frames.now)))) }
+        ≡ Some (before ++ written_as words.audio (signal (transmissions words frames.now)))) }
     ensures fits { OnOk result (length_fault words.audio (length (signal (transmissions words frames.now))) ≡ None) }
     ensures long { (fault : InputFault) → IsErrOf result (Fault.Input fault)
         → (length_fault words.audio (length (signal (transmissions words frames.now))) ≡ Some fault)
         × (fault ≢ InputFault.TooLong) × (words.audio ≡ AudioForm.Wav) × (output.new ≡ output.old) }
     ensures cut { (before : List ℕ) → O.written output.old ≡ Some before
         → OnErr result (WrotePart before (written_as words.audio (signal (transmissions words frames.now)))
-            (O.written output.new)) }
+        (O.written output.new)) }
     ensures read { ¬ IsErrOf result Fault.Read }
     ensures write { IsErrOf result Fault.Write → HasRisen (O.faults output.old) (O.faults output.new) }
 {
@@ -134,10 +134,10 @@ fn send_before_fault<O: Sink>(
     requires lengths { All (λ octets. ¬ IsBadLength octets) frames.now }
     ensures sent { (before : List ℕ) → O.written output.old ≡ Some before
         → OnOk result (O.written output.new
-            ≡ Some (before ++ written_before words.audio (signal (transmissions words frames.now)))) }
+        ≡ Some (before ++ written_before words.audio (signal (transmissions words frames.now)))) }
     ensures cut { (before : List ℕ) → O.written output.old ≡ Some before
         → OnErr result (WrotePart before (written_before words.audio (signal (transmissions words frames.now)))
-            (O.written output.new)) }
+        (O.written output.new)) }
     ensures write { IsErrOf result Fault.Write → HasRisen (O.faults output.old) (O.faults output.new) }
     ensures faults { IfErr result (λ fault. (fault ≡ Fault.Memory) ⊎ (fault ≡ Fault.Write)) }
 {
@@ -159,14 +159,14 @@ fn send_wav<O: Sink>(
     requires lengths { All (λ octets. ¬ IsBadLength octets) frames.now }
     ensures sent { (before : List ℕ) → O.written output.old ≡ Some before
         → OnOk result (O.written output.new
-            ≡ Some (before ++ written_as AudioForm.Wav (signal (transmissions words frames.now)))) }
+        ≡ Some (before ++ written_as AudioForm.Wav (signal (transmissions words frames.now)))) }
     ensures fits { OnOk result (length_fault AudioForm.Wav (length (signal (transmissions words frames.now))) ≡ None) }
     ensures long { (fault : InputFault) → IsErrOf result (Fault.Input fault)
         → (length_fault AudioForm.Wav (length (signal (transmissions words frames.now))) ≡ Some fault)
         × (fault ≢ InputFault.TooLong) × (output.new ≡ output.old) }
     ensures cut { (before : List ℕ) → O.written output.old ≡ Some before
         → OnErr result (WrotePart before (written_as AudioForm.Wav (signal (transmissions words frames.now)))
-            (O.written output.new)) }
+        (O.written output.new)) }
     ensures write { IsErrOf result Fault.Write → HasRisen (O.faults output.old) (O.faults output.new) }
     ensures read { ¬ IsErrOf result Fault.Read }
 {

@@ -27,7 +27,11 @@ pub(crate) struct Frames {
 }
 
 /// The frames of octets in a form, and what is wrong with these: with a KISS stream nothing ever is.
-pub(crate) fn read_frames(alloc: Global, form: FrameForm, octets: &[u8]) -> Result<Frames, OutOfMemory>
+pub(crate) fn read_frames(
+    alloc: Global,
+    form: FrameForm,
+    octets: &[u8],
+) -> Result<Frames, OutOfMemory>
     ensures frames { IfOk result (λ read. read.frames.items ≡ frames_of form octets.now) }
     ensures fault { IfOk result (λ read. read.fault ≡ form_fault form octets.now) }
     ensures lengths { IfOk result (λ read. All (λ octets. ¬ IsBadLength octets) read.frames.items) }

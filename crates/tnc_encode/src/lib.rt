@@ -9,4 +9,3 @@ mod frames;
 mod sending;
 
 pub use encoding::encode;
-

@@ -1,5 +1,5 @@
 -- How large that is which a line holds.
-use Rattle.std.proofs.Common.{◌≡◌, ℕ, ◌+◌, ◌*◌, ◌<◌, ◌≤◌, ◌==◌, nat_lt, Bool, true, false, List, length, Result, Ok, Err, inl, inr, refl, sym, subst, arith, lt-ltb, le-ltb}
+use Rattle.std.proofs.Common.{◌≡◌, ℕ, ◌+◌, ◌*◌, ◌≤◌, ◌==◌, nat_lt, Bool, true, false, List, length, Result, Ok, Err, inl, inr, refl, sym, subst, arith, lt-ltb, le-ltb}
 use Rattle.std.specs.Prelude.{⊤, if◌then◌else◌}
 use Rattle.std.proofs.lemmas.Bool.{cases_lt, ltb-false}
 use Rattle.hex.specs.Hex.{IsBytes, decode_of}

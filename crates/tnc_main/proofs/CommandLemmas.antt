@@ -1,5 +1,5 @@
 -- What each command makes, by its case.
-use Rattle.std.proofs.Common.{◌≡◌, ℕ, ◌<◌, ◌≤◌, List, [], ◌++◌, length, Option, Some, Result, Ok, Err, nat_lt, inl, inr, refl, sym, subst, ap, ◌∙◌, lt-ltb}
+use Rattle.std.proofs.Common.{◌≡◌, ℕ, ◌≤◌, List, ◌++◌, length, Option, Some, Result, Ok, Err, inl, inr, refl, sym, subst, ap, ◌∙◌, lt-ltb}
 use Rattle.std.specs.Prelude.{OnErr, ◌⊎◌, if◌then◌else◌}
 use Rattle.std.proofs.lemmas.Bool.{cases_lt}
 use Rattle.tnc_base.specs.Streams.{WrotePart}

@@ -1,5 +1,5 @@
 -- The text of a command is one text, and that of a clean signal is its frames.
-use Rattle.std.proofs.Common.{◌≡◌, ℕ, ◌<◌, List, All, length, Option, Some, nat_lt, sym, subst, ap, ◌∙◌, arith, lt-ltb}
+use Rattle.std.proofs.Common.{◌≡◌, ℕ, ◌<◌, List, All, length, Option, Some, sym, subst, ap, ◌∙◌, arith, lt-ltb}
 use Rattle.std.specs.Prelude.{if◌then◌else◌}
 use Rattle.afsk_modulator.specs.Signal.{Transmission, signal}
 use Rattle.slicer_bank.specs.Candidates.{AreCandidates}

@@ -1,4 +1,4 @@
-use Rattle.std.proofs.Common.{◌≤◌, length, sym, subst, ap, ◌∙◌}
+use Rattle.std.proofs.Common.{◌≤◌, length, sym, subst, ap}
 use Rattle.tnc_decode.proofs.DecodedLemmas.{length-samples}
 use Rattle.tnc_decode.proofs.audio.read_audio.Goals as goal
 

@@ -1,4 +1,4 @@
-use Rattle.std.proofs.Common.{◌≡◌, List, [], ◌++◌}
+use Rattle.std.proofs.Common.{◌≡◌, List, []}
 use Rattle.std.proofs.lemmas.Result.{IfOk-weaker}
 use Rattle.frame_merge.specs.declared.candidate.Candidate.{Candidate}
 use Rattle.frame_merge.specs.Merged.{merged}

@@ -1,4 +1,4 @@
-use Rattle.std.proofs.Common.{◌≡◌, ◌<◌, ◌^◌, [], ◌∷◌, length, take, sym, ap, ◌∙◌, arith}
+use Rattle.std.proofs.Common.{◌≡◌, ◌<◌, ◌^◌, [], ◌∷◌, length, sym, ap, ◌∙◌, arith}
 use Rattle.afsk_modulator.specs.Signal.{samples_of}
 use Rattle.tnc_encode.specs.Encoded.{sent_at_once}
 use Rattle.std.proofs.lemmas.List.{take_all}
@@ -6,7 +6,7 @@ use Rattle.tnc_encode.proofs.CountingLemmas.{own_samples, own_samples-none, own_
 use Rattle.tnc_encode.proofs.counting.count_samples.Goals as goal
 
 pub loop-frame-init : goal.loop-frame-init
-loop-frame-init c = record { counted = sym (own_samples-none c.args.words); bound = omega arith; }
+loop-frame-init c = record { counted = sym (own_samples-none c.args.words); bound = omega arith }
 
 pub returns : goal.returns
 returns c =
@@ -23,4 +23,4 @@ loop-frame-preserved c =
     let counted = c.loop-frame.invariant.counted in
     let bound = c.loop-frame.invariant.bound in
     let small : c.len.result < 2 ^ 64 = omega (arith, c.in_ok-samples_at_once.field-0.ok.0) in
-    record { counted = omega arith; bound = omega arith; }
+    record { counted = omega arith; bound = omega arith }

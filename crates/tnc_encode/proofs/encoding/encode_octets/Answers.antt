@@ -1,10 +1,10 @@
-use Rattle.std.proofs.Common.{◌≡◌, ◌++◌, List, ℕ, Some, None, length, sym, subst, ap, ◌∙◌}
+use Rattle.std.proofs.Common.{◌≡◌, ◌++◌, List, ℕ, Some, length, sym, subst, ap, ◌∙◌}
 use Rattle.std.proofs.lemmas.List.{append-nil}
 use Rattle.tnc_base.specs.Streams.{WrotePart}
 use Rattle.afsk_modulator.specs.Signal.{signal}
 use Rattle.tnc_forms.proofs.Ends.{map_ok, map_err, on_err}
 use Rattle.tnc_forms.proofs.WrittenParts.{wrote_all}
-use Rattle.tnc_encode.specs.Encoded.{length_fault, samples_sent, transmissions, written_as, written_before, encoded_before, encode_fault}
+use Rattle.tnc_encode.specs.Encoded.{length_fault, samples_sent, transmissions, written_as, written_before, encoded_before}
 use Rattle.tnc_encode.specs.Frames.{form_fault}
 use Rattle.tnc_encode.proofs.EncodedLemmas.{form_not_long, fault_of_length, fault_of_form, encoded_is, encoded_before_is, no_file_before, part_before}
 use Rattle.tnc_encode.proofs.encoding.encode_octets.Goals as goal

@@ -1,4 +1,4 @@
-use Rattle.std.proofs.Common.{take, sym, subst, ap, ◌∙◌}
+use Rattle.std.proofs.Common.{take, sym, subst, ◌∙◌}
 use Rattle.std.specs.Option.{option_to_list}
 use Rattle.std.proofs.lemmas.List.{take_more}
 use Rattle.kiss_port.specs.Held.{StandsFor}
@@ -6,7 +6,7 @@ use Rattle.tnc_encode.proofs.FrameLemmas.{kiss_frames-none, kiss_frames-more}
 use Rattle.tnc_encode.proofs.frames.read_kiss_frames.Goals as goal
 
 pub loop-octet-init : goal.loop-octet-init
-loop-octet-init c = record { stands_for = c.new-stream.ensures.stands_for; frames_so_far = c.new-frames.ensures.items ∙ sym kiss_frames-none; }
+loop-octet-init c = record { stands_for = c.new-stream.ensures.stands_for; frames_so_far = c.new-frames.ensures.items ∙ sym kiss_frames-none }
 
 pub loop-octet-preserved : goal.loop-octet-preserved
 loop-octet-preserved c = record {

@@ -1,8 +1,6 @@
 -- The octets so far.
 use Rattle.std.proofs.Common.{◌≡◌, take}
-use Rattle.std.specs.List.{filter_map}
 use Rattle.kiss_port.specs.Held.{StandsFor}
-use Rattle.kiss_port.specs.Items.{items_in}
 use Rattle.tnc_encode.specs.Frames.{kiss_frames}
 use Rattle.tnc_encode.proofs.frames.read_kiss_frames.Given as goal
 

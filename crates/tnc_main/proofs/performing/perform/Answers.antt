@@ -1,4 +1,4 @@
-use Rattle.std.proofs.Common.{◌≡◌, ◌++◌, List, ℕ, Some, [], refl, sym, subst, ap, ◌∙◌}
+use Rattle.std.proofs.Common.{List, ℕ, refl, sym, subst, ap, ◌∙◌}
 use Rattle.tnc_base.specs.Streams.{WrotePart}
 use Rattle.tnc_words.specs.declared.command.Command.TheVariants.{Decode, Encode, Show, Loop}
 use Rattle.tnc_forms.specs.declared.fault.InputFault.TheVariants.{TooLong}

@@ -1,14 +1,13 @@
-use Rattle.std.proofs.Common.{◌≡◌, ◌++◌, List, ℕ, Some, None, Err, map, string_bytes, inl, inr, refl, sym, subst, ap, ◌∙◌, arith, true≢false}
+use Rattle.std.proofs.Common.{◌≡◌, ◌++◌, Some, None, Err, map, string_bytes, inl, inr, sym, ap, ◌∙◌, arith, true≢false}
 use Rattle.std.specs.Prelude.{is_some}
 use Rattle.tnc_base.specs.Streams.{WrotePart}
 use Rattle.tnc_words.specs.declared.command.Command.TheVariants.{Decode}
 use Rattle.tnc_words.proofs.OneCommand.{one_command}
-use Rattle.tnc_forms.specs.declared.fault.InputFault.{InputFault}
 use Rattle.tnc_forms.specs.declared.fault.InputFault.TheVariants.{TooLong}
 use Rattle.tnc_forms.proofs.Ends.{at_ok, at_fault, map_ok}
-use Rattle.tnc_forms.proofs.WrittenParts.{wrote_part, wrote_nothing}
+use Rattle.tnc_forms.proofs.WrittenParts.{wrote_part}
 use Rattle.tnc_main.specs.declared.stop.Stop.TheVariants.{Input, Stray, Write}
-use Rattle.tnc_main.specs.Commands.{fault_of, left_by}
+use Rattle.tnc_main.specs.Commands.{left_by}
 use Rattle.tnc_main.specs.Report.{line_of}
 use Rattle.tnc_main.specs.Status.{code_of}
 use Rattle.tnc_main.proofs.Ends.{told_of, ends_well}
