@@ -19,7 +19,7 @@ use Rattle.slicer_bank.specs.Heard.{candidate_at}
 use Rattle.slicer_bank.proofs.CandidateLemmas.{candidate_more}
 use Rattle.afsk_modulator.specs.Signal.{Transmission}
 use Rattle.clean_signal.specs.declared.true_end.TrueEnd.{TrueEnd}
-use Rattle.clean_signal.specs.GoodTransmission.{IsTransmission, sent_bits_of, sample_count}
+use Rattle.clean_signal.specs.GoodTransmission.{IsTransmission, body_of, sample_count}
 use Rattle.clean_signal.specs.TrueEnds.{end_of, ends_from, ends_of, true_ends_from}
 use Rattle.clean_signal.specs.Carried.{Carries, CarriesAll}
 
@@ -184,7 +184,7 @@ all_found (t ∷ transmissions) p x begin fits (gap, part, rest, parts, silence,
     let good : IsTransmission t = fits.0 in
     let before : List ℤ = p ++ gap in
     let size : length before ≡ length p + length gap = length-append p gap in
-    let bits : length part ≡ 8 * length (sent_bits_of t) = carries.size ∙ ap (λ n. 8 * n) (length-line_from Mark (sent_bits_of t)) in
+    let bits : length part ≡ 8 * length (body_of t) = carries.size ∙ ap (λ n. 8 * n) (length-line_from Mark (body_of t)) in
     let behind : begin + sample_count t ≡ length (before ++ part) = omega (arith, length-append before part) in
     let first : before ++ (part ++ rest) ≡ p ++ x = append_assoc p gap (part ++ rest) ∙ ap (λ y. p ++ y) (sym parts) in
     let second : (before ++ part) ++ rest ≡ p ++ x = append_assoc before part rest ∙ first in

@@ -1,3 +1,4 @@
+pub mod Examples
 pub mod Clusters
 pub mod CarriedFrames
 pub mod WaveLemmas

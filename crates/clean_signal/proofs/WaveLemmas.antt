@@ -14,7 +14,7 @@ use Rattle.nrzi_bits.proofs.LineLemmas.{length-line_from}
 use Rattle.offset_slicers.proofs.WaveLemmas.{length-pure_window, tones_at-wave_from}
 use Rattle.afsk_modulator.specs.Transmission.{transmission}
 use Rattle.afsk_modulator.specs.Signal.{Transmission, samples_of, signal}
-use Rattle.clean_signal.specs.GoodTransmission.{sent_bits_of, sample_count}
+use Rattle.clean_signal.specs.GoodTransmission.{body_of, sample_count}
 use Rattle.clean_signal.specs.Carried.{Carries, CarriesAll}
 use Rattle.clean_signal.specs.WavePlace.{phase_at}
 
@@ -63,9 +63,9 @@ wave_place tones j i within below = wave_from-place tones 0 j i within below ∙
 wave_carries : (tones : List Tone) → Carries tones (wave tones)
 wave_carries tones = record { size = length-wave_from 0 tones; decided = tones_at-wave_from tones 0 (omega arith) }
 
-transmission_carries : (t : Transmission) → Carries (line (sent_bits_of t)) (transmission t.frames t.opening t.closing)
+transmission_carries : (t : Transmission) → Carries (line (body_of t)) (transmission t.frames t.opening t.closing)
 unfolding transmission
-transmission_carries t = wave_carries (line (sent_bits_of t))
+transmission_carries t = wave_carries (line (body_of t))
 
 -- a clean signal carries its transmissions
 pub signal_carries : (transmissions : List Transmission) → CarriesAll transmissions (signal transmissions)
@@ -87,7 +87,7 @@ signal_carries (t ∷ transmissions) = (
 pub length-samples_of : (t : Transmission) → length (samples_of t) ≡ sample_count t
 unfolding transmission
 length-samples_of t =
-    omega (arith, length-append (replicate t.silence (pos 0)) (wave (line (sent_bits_of t))), length-replicate t.silence (pos 0), length-wave_from 0 (line (sent_bits_of t)), length-line_from Mark (sent_bits_of t))
+    omega (arith, length-append (replicate t.silence (pos 0)) (wave (line (body_of t))), length-replicate t.silence (pos 0), length-wave_from 0 (line (body_of t)), length-line_from Mark (body_of t))
 
 -- one transmission more
 pub signal-push : (transmissions : List Transmission) (t : Transmission) → signal (transmissions ++ t ∷ []) ≡ signal transmissions ++ samples_of t

@@ -4,7 +4,7 @@ use Rattle.tone_table.specs.declared.tone.Tone.{Tone}
 use Rattle.nrzi_bits.specs.Line.{line}
 use Rattle.offset_slicers.specs.Windows.{tones_at}
 use Rattle.afsk_modulator.specs.Signal.{Transmission}
-use Rattle.clean_signal.specs.GoodTransmission.{sent_bits_of}
+use Rattle.clean_signal.specs.GoodTransmission.{body_of}
 
 -- as many windows as tones, from the first sample to the last, each decided as its tone
 pub record Carries (tones : List Tone) (x : List ℤ) : Type 0 where
@@ -16,4 +16,4 @@ abbrev pub CarriesAll : List Transmission → List ℤ → Type 0
 CarriesAll [] x = Unit {0}
 CarriesAll (t ∷ transmissions) x =
     (gap : List ℤ) × (part : List ℤ) × (rest : List ℤ) × (x ≡ gap ++ (part ++ rest)) × (length gap ≡ t.silence)
-    × Carries (line (sent_bits_of t)) part × CarriesAll transmissions rest
+    × Carries (line (body_of t)) part × CarriesAll transmissions rest

@@ -12,13 +12,13 @@ pub record IsTransmission (t : Transmission) : Type 0 where
   pub opening : 2 ≤ t.opening
   pub closing : 1 ≤ t.closing
 
--- the bits that are sent: flags and frames
-abbrev pub sent_bits_of : Transmission → List Bool
-sent_bits_of t = body t.frames t.opening t.closing
+-- the bits of a transmission: flags and frames
+abbrev pub body_of : Transmission → List Bool
+body_of t = body t.frames t.opening t.closing
 
 -- how many samples a transmission takes: its silence, and eight a bit
 abbrev pub sample_count : Transmission → ℕ
-sample_count t = t.silence + 8 * length (sent_bits_of t)
+sample_count t = t.silence + 8 * length (body_of t)
 
 -- the frames of all transmissions, in order
 abbrev pub frames_of : List Transmission → List (List ℕ)

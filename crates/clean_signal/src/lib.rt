@@ -11,3 +11,6 @@ mod true_end;
 
 pub use laws::{carried_frames, clean_frames, none_stray, samples_by_place};
 pub use true_end::{TrueEnd, is_sent};
+
+#[cfg(test)]
+mod tests;

@@ -1,5 +1,5 @@
 -- What is found among the candidates of the signal that is drawn.
-use Rattle.std.proofs.Common.{◌≡◌, ℕ, zero, suc, ◌+◌, ◌<◌, ℤ, Bool, true, false, true≢false, List, [], ◌∷◌, length, get_or, refl, ap, sym, subst, ◌∙◌, arith, cond}
+use Rattle.std.proofs.Common.{◌≡◌, ℕ, zero, suc, ℤ, Bool, true, false, true≢false, List, [], ◌∷◌, length, refl, ap, sym, subst, ◌∙◌, arith, cond}
 use Rattle.std.specs.Prelude.{Option, Some, None, is_some, option_map, find, not}
 use Rattle.std.specs.List.{All}
 use Rattle.frame_merge.specs.declared.candidate.Candidate.{Candidate}
@@ -10,6 +10,7 @@ use Rattle.clean_signal.specs.declared.true_end.TrueEnd.{TrueEnd}
 use Rattle.clean_signal.specs.TrueEnds.{true_ends}
 use Rattle.clean_signal.specs.Stray.{is_sent}
 use Rattle.clean_signal.proofs.Law.{no_stray_of}
+use Rattle.tnc_decode.specs.Decoded.{frames_of as frames_heard}
 use Rattle.tnc_words.specs.declared.command.LoopWords.{LoopWords}
 use Rattle.tnc_loop.specs.declared.sending.Sent.{Sent}
 use Rattle.tnc_loop.specs.Drawn.{drawn}
@@ -42,10 +43,10 @@ has_found words ends items None are_ends are is =
     (all_sent (true_ends (drawn words)) items (ap (λ es. first_stray es items) (sym are_ends) ∙ sym is))
 
 pub is_summary : (words : LoopWords) (ends : List TrueEnd) (items heard : List Candidate) (text : List ℕ) (count : ℕ) → ends ≡ true_ends (drawn words)
-    → AreCandidates (signal (drawn words)) items → heard ≡ merged items → count ≡ length (strays ends items) → text ≡ summary words.frames heard count
+    → AreCandidates (signal (drawn words)) items → heard ≡ merged items → count ≡ length (strays ends items) → text ≡ summary words.frames (frames_heard heard) count
     → IsSummary words text
 is_summary words ends items heard text count are_ends are is counted what = record {
   candidates = items;
   are = are;
-  is = what ∙ ap (λ h. summary words.frames h count) is ∙ ap (summary words.frames (merged items)) (counted ∙ ap (λ es. length (strays es items)) are_ends);
+  is = what ∙ ap (λ h. summary words.frames (frames_heard h) count) is ∙ ap (summary words.frames (frames_heard (merged items))) (counted ∙ ap (λ es. length (strays es items)) are_ends);
 }

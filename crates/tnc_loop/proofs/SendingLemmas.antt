@@ -1,5 +1,5 @@
 -- Transmissions that are sent, one more at a time.
-use Rattle.std.proofs.Common.{◌≡◌, ℕ, suc, ◌+◌, ◌-◌, ◌*◌, ◌<◌, ◌≤◌, ◌^◌, List, [], ◌∷◌, ◌++◌, length, inl, inr, zero, refl, ap, sym, subst, ◌∙◌, arith, append_assoc, append-nil, length-append}
+use Rattle.std.proofs.Common.{◌≡◌, ℕ, suc, ◌+◌, ◌-◌, ◌*◌, ◌<◌, ◌≤◌, ◌^◌, List, [], ◌∷◌, ◌++◌, length, inl, inr, zero, ap, sym, subst, ◌∙◌, arith, append_assoc, append-nil, length-append}
 use Rattle.rand_pcg.specs.Lcg.{Lcg}
 use Rattle.afsk_modulator.specs.Signal.{Transmission, samples_of, signal}
 use Rattle.afsk_modulator.specs.Transmission.{IsFirstBadLength}

@@ -1,41 +1,67 @@
 -- The octets of what was heard, one frame more at a time, and the one summary of words.
-use Rattle.std.proofs.Common.{◌≡◌, ℕ, ◌+◌, ◌<◌, ◌≤◌, List, [], ◌∷◌, ◌++◌, length, get_or, drop, Option, Some, append-nil, sym, ◌∙◌, ap}
-use Rattle.std.specs.List.{flat_map}
+use Rattle.std.proofs.Common.{◌≡◌, ℕ, ◌+◌, ◌<◌, ◌≤◌, true, cond, refl, List, [], ◌∷◌, ◌++◌, length, get_or, drop, Option, Some, append-nil, sym, ◌∙◌, ap}
+use Rattle.std.specs.List.{All, concat}
 use Rattle.tnc_base.specs.Streams.{WrotePart}
+use Rattle.std.specs.Prelude.{not}
 use Rattle.std.proofs.lemmas.List.{drop_more, drop_all}
+use Rattle.std.proofs.lemmas.List.Elements.{All-head, All-tail}
 use Rattle.frame_merge.specs.declared.candidate.Candidate.{Candidate}
 use Rattle.frame_merge.specs.Merged.{merged}
 use Rattle.afsk_modulator.specs.Signal.{signal}
 use Rattle.slicer_bank.proofs.OneList.{one_list}
+use Rattle.clean_signal.specs.declared.true_end.TrueEnd.{TrueEnd}
+use Rattle.clean_signal.specs.GoodTransmission.{frames_of}
+use Rattle.clean_signal.specs.Stray.{is_sent, NoStray}
 use Rattle.clean_signal.specs.TrueEnds.{true_ends}
+use Rattle.clean_signal.proofs.Law.{clean_law}
+use Rattle.tnc_decode.specs.Decoded.{frames_of as frames_heard}
 use Rattle.tnc_words.specs.declared.command.LoopWords.{LoopWords}
 use Rattle.tnc_loop.specs.Drawn.{drawn}
 use Rattle.tnc_loop.specs.Strays.{strays, first_stray}
-use Rattle.tnc_loop.specs.Summary.{octets_of, summary, IsSummary, IsFirstStray}
+use Rattle.tnc_loop.specs.Summary.{summary, clean_summary, IsSummary, IsFirstStray}
+use Rattle.tnc_loop.proofs.DrawingLemmas.{drawn_good}
 
 -- past the last item no octet is left
-pub octets_end : (items : List Candidate) (i : ℕ) → length items ≤ i → octets_of (drop i items) ≡ []
-unfolding octets_of
-octets_end items i past = ap (λ t. flat_map (λ item. item.octets) t) (drop_all i items past)
+pub octets_end : (items : List Candidate) (i : ℕ) → length items ≤ i → concat (frames_heard (drop i items)) ≡ []
+octets_end items i past = ap (λ t. concat (frames_heard t)) (drop_all i items past)
 
 -- what is left begins with the next frame
 pub octets_next : (items : List Candidate) (i : ℕ) (item : Candidate) → i < length items → item ≡ get_or items i item
-    → octets_of (drop i items) ≡ item.octets ++ octets_of (drop (i + 1) items)
-unfolding octets_of
+    → concat (frames_heard (drop i items)) ≡ item.octets ++ concat (frames_heard (drop (i + 1) items))
 octets_next items i item below is =
-    ap (λ t. flat_map (λ item. item.octets) t) (drop_more items i item below ∙ ap (λ f. f ∷ drop (i + 1) items) (sym is))
+    ap (λ t. concat (frames_heard t)) (drop_more items i item below ∙ ap (λ f. f ∷ drop (i + 1) items) (sym is))
 
 -- words have one summary
 pub one_summary : (words : LoopWords) (text other : List ℕ) → IsSummary words text → IsSummary words other → text ≡ other
 one_summary words text other h k =
     h.is
-    ∙ ap (λ items. summary words.frames (merged items) (length (strays (true_ends (drawn words)) items))) (one_list (signal (drawn words)) h.candidates k.candidates h.are k.are)
+    ∙ ap (λ items. summary words.frames (frames_heard (merged items)) (length (strays (true_ends (drawn words)) items))) (one_list (signal (drawn words)) h.candidates k.candidates h.are k.are)
     ∙ sym k.is
 
 -- and at most one first stray
-pub one_stray : (words : LoopWords) (octets other : List ℕ) → IsFirstStray words octets → IsFirstStray words other → Some octets ≡ Some other
+pub one_stray : (words : LoopWords) (octets other : List ℕ) → IsFirstStray words octets → IsFirstStray words other → octets ≡ other
 one_stray words octets other h k =
-    sym h.is ∙ ap (first_stray (true_ends (drawn words))) (one_list (signal (drawn words)) h.candidates k.candidates h.are k.are) ∙ k.is
+    let same : Some octets ≡ Some other =
+    sym h.is ∙ ap (first_stray (true_ends (drawn words))) (one_list (signal (drawn words)) h.candidates k.candidates h.are k.are) ∙ k.is in
+    cc
+
+-- ---- where nothing is stray
+
+no_strays : (ends : List TrueEnd) (items : List Candidate) → All (λ item. is_sent ends item ≡ true) items → strays ends items ≡ []
+no_strays ends [] all = refl
+no_strays ends (item ∷ items) all =
+    ap (λ b. cond (not b) (item ∷ strays ends items) (strays ends items)) (All-head (λ i. is_sent ends i ≡ true) item items all)
+    ∙ no_strays ends items (All-tail (λ i. is_sent ends i ≡ true) item items all)
+
+-- the summary is that of the frames that were made
+pub clean_text : (words : LoopWords) (text : List ℕ) → IsSummary words text → NoStray (drawn words) (signal (drawn words)) → text ≡ clean_summary words
+clean_text words text h clear =
+    let all : All (λ item. is_sent (true_ends (drawn words)) item ≡ true) h.candidates = λ k d l. clear (get_or h.candidates k d) (h.are.each k d l).0 in
+    h.is
+    ∙ ap (λ heard. summary words.frames heard (length (strays (true_ends (drawn words)) h.candidates))) (clean_law (drawn words) (drawn_good words) clear h.candidates h.are)
+    ∙ ap (λ items. summary words.frames (frames_of (drawn words)) (length items)) (no_strays (true_ends (drawn words)) h.candidates all)
+
+-- ---- what is written
 
 -- all of a text is a first part of it
 pub wrote_all : (before text : List ℕ) (now : Option (List ℕ)) → now ≡ Some (before ++ text) → WrotePart before text now

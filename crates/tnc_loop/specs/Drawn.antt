@@ -1,5 +1,5 @@
--- The transmissions that loop draws: each has one frame of 15 to 1000 octets, after at most 63 silent samples, between 2
--- to 5 flags and 1 to 3.
+-- The transmissions that loop draws: each has one frame of 15 to 1000 octets, after at most 63 silent samples, between
+-- 2 to 5 flags and 1 to 3.
 use Rattle.std.specs.Prelude.{ℕ, zero, suc, ◌+◌, ◌%◌, List, [], ◌∷◌, map}
 use Rattle.rand_pcg.specs.Lcg.{Lcg}
 use Rattle.afsk_modulator.specs.Signal.{Transmission}

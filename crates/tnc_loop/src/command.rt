@@ -7,7 +7,7 @@ ghost use Rattle.clean_signal.specs.GoodTransmission.{frames_of};
 ghost use Rattle.clean_signal.specs.MergedFrames.{MergesTo};
 ghost use Rattle.clean_signal.specs.Stray.{NoStray};
 ghost use Rattle.tnc_loop.specs.Drawn.{drawn};
-ghost use Rattle.tnc_loop.specs.Summary.{IsSummary, IsFirstStray};
+ghost use Rattle.tnc_loop.specs.Summary.{IsSummary, IsFirstStray, clean_summary};
 
 use crate::fault::LoopFault;
 use crate::hearing::hear_drawn;
@@ -15,12 +15,14 @@ use std::alloc::Global;
 use tnc_base::Sink;
 use tnc_words::LoopWords;
 
-/// Draws frames from the seed, sends each as a transmission of its own, hears the signal, and writes the summary. Where a
-/// candidate of the signal is no frame that was made, the first such is told behind the summary.
+/// Draws frames from the seed, sends each as a transmission of its own, hears the signal, and writes the summary. Where
+/// a candidate of the signal is no frame that was made, the first such is told behind the summary.
 pub fn loop_back<O: Sink>(alloc: Global, words: LoopWords, output: &mut O) -> Result<(), LoopFault>
     // what is written, and what then holds of the signal
     ensures done { (before : List ℕ) → O.written output.old ≡ Some before
         → OnOk result ((text : List ℕ) × IsSummary words text × (O.written output.new ≡ Some (before ++ text))) }
+    ensures same { (before : List ℕ) → O.written output.old ≡ Some before
+        → OnOk result (O.written output.new ≡ Some (before ++ clean_summary words)) }
     ensures no_stray { OnOk result (NoStray (drawn words) (signal (drawn words))) }
     ensures clean { OnOk result (MergesTo (frames_of (drawn words)) (signal (drawn words))) }
 

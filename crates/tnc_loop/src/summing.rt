@@ -1,6 +1,8 @@
 //! The summary of what was heard.
 ghost use Rattle.std.specs.Prelude.{◌≡◌, IfOk, string_bytes};
-ghost use Rattle.tnc_loop.specs.Summary.{octets_of, summary};
+ghost use Rattle.std.specs.List.{concat};
+ghost use Rattle.tnc_decode.specs.Decoded.{frames_of};
+ghost use Rattle.tnc_loop.specs.Summary.{summary};
 
 use frame_merge::Candidate;
 use std::alloc::Global;
@@ -14,7 +16,7 @@ pub(crate) fn summary(
     heard: &[Candidate],
     stray: usize,
 ) -> Result<String, OutOfMemory>
-    ensures { IfOk result (λ text. string_bytes text ≡ summary made heard.now stray) }
+    ensures { IfOk result (λ text. string_bytes text ≡ summary made (frames_of heard.now) stray) }
 {
     let hash = hex::encode(alloc, fnv(&octets_of(alloc, heard)?).to_be_bytes())?;
     let heard = heard.len();
@@ -22,9 +24,8 @@ pub(crate) fn summary(
 }
 
 /// The octets of all that was heard.
-#[tactic(auto, unfolding(crate::specs::Summary::octets_of))]
 fn octets_of(alloc: Global, heard: &[Candidate]) -> Result<Vec<u8>, OutOfMemory>
-    ensures { IfOk result (λ octets. octets.items ≡ octets_of heard.now) }
+    ensures { IfOk result (λ octets. octets.items ≡ concat (frames_of heard.now)) }
 {
     let mut octets = Vec::new(alloc);
     for item in heard {

@@ -14,7 +14,7 @@ use Rattle.tnc_forms.proofs.WrittenParts.{wrote_nothing, wrote_all}
 use Rattle.tnc_decode.specs.Audio.{audio_fault, form_fault}
 use Rattle.tnc_decode.specs.Decoded.{IsDecoded}
 use Rattle.tnc_decode.proofs.DecodedLemmas.{one_text}
-use Rattle.tnc_main.specs.Commands.{Makes, MakesBefore, Reads, Strays, fault_of}
+use Rattle.tnc_main.specs.Commands.{HeardAsMade, Makes, MakesBefore, Reads, Strays, fault_of}
 
 -- a command is another one, of which all that is said can be said of it
 module _ (command other : Command) (is : command ≡ other) where
@@ -33,6 +33,9 @@ module _ (command other : Command) (is : command ≡ other) where
   pub same_fault : (octets : List ℕ) → fault_of command octets ≡ fault_of other octets
   same_fault octets = ap (λ c. fault_of c octets) is
 
+  pub heard_as_made : HeardAsMade other → HeardAsMade command
+  heard_as_made = subst (λ c. HeardAsMade c) (sym is)
+
   pub strays : (frame : List ℕ) → Strays other frame → Strays command frame
   strays frame = subst (λ c. Strays c frame) (sym is)
 
@@ -42,7 +45,7 @@ pub decode_part : (end : Result (Unit {0}) Fault) (words : DecodeWords) (octets 
     → ((end ≡ Err (OfInput TooLong)) ⊎ ((end ≡ Err OfMemory) ⊎ (end ≡ Err OfRead)) → now ≡ Some before)
     → ((fault : InputFault) → end ≡ Err (OfInput fault) → audio_fault words.audio octets ≡ Some fault)
     → ((fault : InputFault) → length octets ≤ input_limit → end ≡ Err (OfInput fault)
-        → (t : List ℕ) × IsDecoded words octets t × (now ≡ Some (before ++ t)))
+    → (t : List ℕ) × IsDecoded words octets t × (now ≡ Some (before ++ t)))
     → IsDecoded words octets text → OnErr end (WrotePart before text now)
 decode_part (Ok x) words octets before text now write kept bad told is = tt
 decode_part (Err OfMemory) words octets before text now write kept bad told is = wrote_nothing before text now (kept (inr (inl refl)))
@@ -51,7 +54,7 @@ decode_part (Err OfWrite) words octets before text now write kept bad told is = 
 decode_part (Err (OfInput fault)) words octets before text now write kept bad told is = elim (cases_lt input_limit (length octets)) [
   | inl long ↦
       let both : Some fault ≡ Some TooLong = sym (bad fault refl)
-          ∙ ap (λ b. if b then Some TooLong else form_fault words.audio octets) (lt-ltb input_limit (length octets) long) in
+      ∙ ap (λ b. if b then Some TooLong else form_fault words.audio octets) (lt-ltb input_limit (length octets) long) in
       let same : fault ≡ TooLong = cc both in
       wrote_nothing before text now (kept (inl (ap (λ f. Err (OfInput f)) same)))
   | inr short ↦

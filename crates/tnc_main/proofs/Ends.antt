@@ -98,3 +98,12 @@ ends_well (Err (Stray frame)) status ok memory bad stray read write = absurd (st
 ends_well (Err Memory) status ok memory bad stray read write = inr (memory refl)
 ends_well (Err Read) status ok memory bad stray read write = absurd (read refl)
 ends_well (Err Write) status ok memory bad stray read write = absurd (write refl)
+
+-- what holds however a call ended holds where it ended well
+pub on_ok : {T E : Type 0} (r : Result T E) {P : Type 0} → P → OnOk r P
+on_ok (Ok x) p = p
+on_ok (Err e) p = tt
+
+pub both_ok : {T E : Type 0} (r : Result T E) (P Q : Type 0) → OnOk r P → OnOk r Q → OnOk r (P × Q)
+both_ok (Ok x) P Q p q = (p, q)
+both_ok (Err e) P Q p q = tt

@@ -1,5 +1,5 @@
 -- What each command makes of its input.
-use Rattle.std.specs.Prelude.{◌≡◌, ℕ, List, [], Option, Some, None}
+use Rattle.std.specs.Prelude.{◌≡◌, ℕ, ⊤, List, [], Option, Some, None}
 use Rattle.tnc_forms.specs.declared.fault.InputFault.{InputFault}
 use Rattle.tnc_words.specs.declared.command.Command.{Command}
 use Rattle.tnc_words.specs.declared.command.Command.TheVariants.{Decode, Encode, Show, Loop}
@@ -7,6 +7,11 @@ use Rattle.tnc_decode.specs.Audio.{audio_fault}
 use Rattle.tnc_decode.specs.Decoded.{IsDecoded}
 use Rattle.tnc_encode.specs.Encoded.{encoded, encoded_before, encode_fault}
 use Rattle.tnc_show.specs.Shown.{IsShown, show_fault}
+use Rattle.afsk_modulator.specs.Signal.{signal}
+use Rattle.clean_signal.specs.GoodTransmission.{frames_of}
+use Rattle.clean_signal.specs.MergedFrames.{MergesTo}
+use Rattle.clean_signal.specs.Stray.{NoStray}
+use Rattle.tnc_loop.specs.Drawn.{drawn}
 use Rattle.tnc_loop.specs.Summary.{IsSummary, IsFirstStray}
 
 -- the octets that a command has to read, of those that its input has left: loop reads none
@@ -44,3 +49,8 @@ MakesBefore (Loop words) octets text = ⊥
 abbrev pub Strays : Command → List ℕ → Type 0
 Strays (Loop words) octets = IsFirstStray words octets
 Strays other octets = ⊥
+
+-- of a loop: no candidate of what it sent to itself is stray, and what it heard is what it made, in order
+abbrev pub HeardAsMade : Command → Type 0
+HeardAsMade (Loop words) = NoStray (drawn words) (signal (drawn words)) × MergesTo (frames_of (drawn words)) (signal (drawn words))
+HeardAsMade other = ⊤

@@ -3,6 +3,7 @@
 //! which octets are written.
 #![tactic(auto)]
 
+mod laws;
 mod performing;
 mod program;
 mod report;
@@ -34,3 +35,6 @@ fn main(rt: HostRuntime) -> ExitCode {
     let mut report = RealSink::new(rt.stderr());
     ExitCode::from(run(rt.alloc(), &words, &mut input, &mut output, &mut report))
 }
+
+#[cfg(test)]
+mod tests;

@@ -4,7 +4,7 @@ ghost use Rattle.tnc_base.specs.Faults.{HasRisen};
 ghost use Rattle.tnc_base.specs.Streams.{WrotePart};
 ghost use Rattle.tnc_forms.specs.declared.fault.InputFault.{InputFault};
 ghost use Rattle.tnc_forms.specs.Reading.{input_limit};
-ghost use Rattle.tnc_main.specs.Commands.{Makes, MakesBefore, Reads, Strays, fault_of, left_by};
+ghost use Rattle.tnc_main.specs.Commands.{HeardAsMade, Makes, MakesBefore, Reads, Strays, fault_of, left_by};
 ghost use Rattle.tnc_main.specs.Stops.{CanRun};
 
 use crate::stop::{Stop, ended, ended_loop};
@@ -34,6 +34,8 @@ pub(crate) fn perform<I: Source, O: Sink>(
     ensures made { (octets before : List ℕ) → Reads command (I.left input.old) octets
         → O.written output.old ≡ Some before
         → OnOk result ((text : List ℕ) × Makes command octets text × (O.written output.new ≡ Some (before ++ text))) }
+
+    ensures heard_as_made { OnOk result (HeardAsMade command) }
 
     // what is wrong with the input, and what was written before that is told
     ensures bad { (octets : List ℕ) → (fault : InputFault) → Reads command (I.left input.old) octets

@@ -14,7 +14,7 @@ ghost use Rattle.tnc_forms.specs.Reading.{input_limit};
 ghost use Rattle.tnc_decode.specs.Audio.{samples_of};
 ghost use Rattle.tnc_decode.specs.Printing.{print};
 ghost use Rattle.tnc_main.specs.declared.stop.Stop.{Stop};
-ghost use Rattle.tnc_main.specs.Commands.{Makes, MakesBefore, Reads, Strays, fault_of, left_by};
+ghost use Rattle.tnc_main.specs.Commands.{HeardAsMade, Makes, MakesBefore, Reads, Strays, fault_of, left_by};
 ghost use Rattle.tnc_main.specs.Report.{bad_words_line, input_line, line_of, stray_line};
 ghost use Rattle.tnc_main.specs.Stops.{IsStopOf, IsTold};
 
@@ -41,6 +41,10 @@ pub fn run<I: Source, O: Sink, E: Sink>(
         → O.written output.old ≡ Some before
         → samples_of decode.audio octets ≡ signal sent → All IsTransmission sent → NoStray sent (signal sent)
         → result ≡ 0 → O.written output.new ≡ Some (before ++ print decode.frames (frames_of sent)) }
+
+    // what a loop that ends well has shown: it heard the frames that it made, and nothing stray
+    ensures heard_as_made { (command : Command) → Asks (map string_bytes words.now) command
+        → result ≡ 0 → HeardAsMade command }
 
     // each status and its cause
     ensures known { result ≤ 6 }

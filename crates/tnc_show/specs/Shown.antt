@@ -18,7 +18,8 @@ IsLineOfFrame modulus octets line = (frame : Frame) × IsFrame frame modulus oct
 
 -- the line is the text of the fault that the octets show
 abbrev pub IsLineOfFault : Modulus → List ℕ → List ℕ → Type 0
-IsLineOfFault modulus octets line = (fault : FrameFault) × ShowsFrameFault modulus octets fault × (line ≡ text_of_frame_fault fault)
+IsLineOfFault modulus octets line =
+    (fault : FrameFault) × ShowsFrameFault modulus octets fault × (line ≡ text_of_frame_fault fault)
 
 -- The line of octets: of their frame, or of their fault where they are none.
 abbrev pub IsLineOf : Modulus → List ℕ → List ℕ → Type 0

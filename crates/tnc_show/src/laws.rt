@@ -5,5 +5,6 @@ ghost use Rattle.tnc_show.specs.Shown.{IsShown};
 
 /// An input is shown by one text.
 pub fn one_text()
-    ensures { (words : ShowWords) (octets text other : List ℕ) → IsShown words octets text → IsShown words octets other → text ≡ other }
+    ensures { (words : ShowWords) (octets text other : List ℕ) → IsShown words octets text
+        → IsShown words octets other → text ≡ other }
 {}

@@ -1,5 +1,5 @@
 -- The numbers of commands are within their bounds.
-use Rattle.std.proofs.Common.{◌≡◌, ◌≤◌, ℕ, Option, Some, None, List, arith}
+use Rattle.std.proofs.Common.{◌≤◌, ℕ, Option, Some, None, List, arith}
 use Rattle.clap.specs.Words.{Text}
 use Rattle.tnc_words.specs.declared.command.EncodeWords.{EncodeWords}
 use Rattle.tnc_words.specs.declared.command.LoopWords.{LoopWords}
@@ -7,17 +7,18 @@ use Rattle.tnc_words.specs.Commands.{IsEncode, IsLoop}
 use Rattle.tnc_words.specs.Numbers.{GivesNumber, HasNumber}
 
 -- a number is within bounds where the default is
-at_least : (text : Option Text) (default least greatest number : ℕ) → HasNumber text default least greatest number → least ≤ default
-    → least ≤ number
+at_least : (text : Option Text) (default least greatest number : ℕ) → HasNumber text default least greatest number
+    → least ≤ default → least ≤ number
 at_least None default least greatest number h low = omega arith
 at_least (Some text) default least greatest number h low = h.1
 
-at_most : (text : Option Text) (default least greatest number : ℕ) → HasNumber text default least greatest number → default ≤ greatest
-    → number ≤ greatest
+at_most : (text : Option Text) (default least greatest number : ℕ) → HasNumber text default least greatest number
+    → default ≤ greatest → number ≤ greatest
 at_most None default least greatest number h high = omega arith
 at_most (Some text) default least greatest number h high = h.2
 
-given_at_most : (text : Option Text) (least greatest number : ℕ) → GivesNumber text least greatest number → number ≤ greatest
+given_at_most : (text : Option Text) (least greatest number : ℕ) → GivesNumber text least greatest number
+    → number ≤ greatest
 given_at_most None least greatest number h = absurd h
 given_at_most (Some text) least greatest number h = h.2
 

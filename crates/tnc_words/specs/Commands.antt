@@ -8,7 +8,8 @@ use Rattle.tnc_words.specs.declared.command.DecodeWords.{DecodeWords}
 use Rattle.tnc_words.specs.declared.command.EncodeWords.{EncodeWords}
 use Rattle.tnc_words.specs.declared.command.ShowWords.{ShowWords}
 use Rattle.tnc_words.specs.declared.command.LoopWords.{LoopWords}
-use Rattle.tnc_words.specs.Options.{decode_faults, decode_rows, encode_faults, encode_rows, show_faults, show_rows, loop_faults, loop_rows, is_used}
+use Rattle.tnc_words.specs.Options.{decode_faults, encode_faults, show_faults, loop_faults}
+use Rattle.tnc_words.specs.Options.{decode_rows, encode_rows, show_rows, loop_rows, is_used}
 use Rattle.tnc_words.specs.Forms.{audio_form, frame_form}
 use Rattle.tnc_words.specs.Numbers.{GivesNumber, HasNumber}
 
@@ -26,8 +27,8 @@ pub record IsDecode (words : List Text) (decode : DecodeWords) : Type 0 where
   pub taken : decode_faults words ≡ []
   pub options : HasDecodeOptions (decode_rows words) decode
 
--- The options of encode: 75 flags open a transmission, 2 close it and no silence stands before it, where no other number
--- was given.
+-- The options of encode: 75 flags open a transmission, 2 close it and no silence stands before it, where no other
+-- number was given.
 pub record HasEncodeOptions (found : List Row) (encode : EncodeWords) : Type 0 where
   pub frames : encode.frames ≡ frame_form found
   pub audio : encode.audio ≡ audio_form found

@@ -28,8 +28,9 @@ decode_app = with_forms (new_app (codes "decode"))
 
 -- encode [--wav] [--kiss] [--join] [--opening n] [--closing n] [--silence n]
 abbrev pub encode_app : App
-encode_app = with_rule (with_rule (with_rule (with_rule (with_forms (new_app (codes "encode"))) (flag_rule (codes "join")))
-    (option_rule (codes "opening"))) (option_rule (codes "closing"))) (option_rule (codes "silence"))
+encode_app = with_rule (with_rule (with_rule (with_rule (with_forms (new_app (codes "encode")))
+    (flag_rule (codes "join"))) (option_rule (codes "opening"))) (option_rule (codes "closing")))
+    (option_rule (codes "silence"))
 
 -- show [--modulo n]
 abbrev pub show_app : App

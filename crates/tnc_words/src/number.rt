@@ -11,7 +11,8 @@ pub(crate) struct Bounds {
 
 /// The number of an option: that of its text, or the default where it has none.
 pub(crate) fn number_or_default(text: Option<&str>, default: u64, bounds: Bounds) -> Option<u64>
-    ensures number { IfSome result (HasNumber (option_map (λ t. t.now) text.entry) default bounds.least bounds.greatest) }
+    ensures number { IfSome result
+        (HasNumber (option_map (λ t. t.now) text.entry) default bounds.least bounds.greatest) }
     ensures none { IsNone result → (number : ℕ)
         → ¬ HasNumber (option_map (λ t. t.now) text.entry) default bounds.least bounds.greatest number }
 {

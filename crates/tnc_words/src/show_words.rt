@@ -45,7 +45,8 @@ fn show_options(found: &ArgMatches) -> Option<ShowWords>
 
 /// The modulus with the number of a text, or 8 where there is no text.
 fn modulus(text: Option<&str>) -> Option<Modulus>
-    ensures modulus { IfSome result (λ modulus. HasNumber (option_map (λ t. t.now) text.entry) 8 8 128 (numbers modulus)) }
+    ensures modulus { IfSome result (λ modulus.
+        HasNumber (option_map (λ t. t.now) text.entry) 8 8 128 (numbers modulus)) }
     ensures none { IsNone result → (modulus : Modulus)
         → ¬ HasNumber (option_map (λ t. t.now) text.entry) 8 8 128 (numbers modulus) }
 {

@@ -1,12 +1,9 @@
 use Rattle.std.proofs.Common.{◌≡◌, ◌<◌, ◌^◌, [], length, ap, ◌∙◌, string_bytes, arith}
-use Rattle.frame_merge.specs.Merged.{merged}
 use Rattle.slicer_bank.specs.Candidates.{AreCandidates}
-use Rattle.clean_signal.specs.TrueEnds.{true_ends}
 use Rattle.afsk_modulator.specs.Signal.{signal}
 use Rattle.tnc_decode.proofs.MergingLemmas.{all_can_be_put}
 use Rattle.tnc_loop.specs.Drawn.{drawn}
 use Rattle.tnc_loop.specs.Strays.{strays, first_stray}
-use Rattle.tnc_loop.specs.Summary.{summary}
 use Rattle.tnc_loop.proofs.HearingLemmas.{are_of, has_found, is_summary}
 use Rattle.tnc_loop.proofs.hearing.hear_drawn.Goals as goal
 

@@ -3,8 +3,8 @@ use Rattle.tnc_base.specs.Streams.{WrotePart}
 use Rattle.tnc_words.specs.declared.command.Command.TheVariants.{Decode, Encode, Show, Loop}
 use Rattle.tnc_forms.specs.declared.fault.InputFault.TheVariants.{TooLong}
 use Rattle.tnc_encode.specs.Encoded.{encoded, encoded_before}
-use Rattle.tnc_main.proofs.Ends.{if_ok, if_err, if_input, loop_ok, loop_err, loop_stray, loop_no_input}
-use Rattle.tnc_main.proofs.CommandLemmas.{reads, made, makes, made_before, same_fault, decode_part}
+use Rattle.tnc_main.proofs.Ends.{if_ok, if_err, if_input, loop_ok, loop_err, loop_stray, loop_no_input, on_ok, both_ok}
+use Rattle.tnc_main.proofs.CommandLemmas.{reads, made, makes, made_before, same_fault, heard_as_made, decode_part}
 use Rattle.tnc_main.proofs.performing.perform.Goals as goal
 
 -- ---- decode
@@ -117,3 +117,17 @@ returns-in-Loop-clause-made_all g c = λ frame octets before read was is.
 pub returns-in-Loop-clause-part : goal.returns-in-Loop-clause-part
 returns-in-Loop-clause-part g c = λ octets before text read was is.
     loop_err c.ended_loop.result c.loop_back.result c.ended_loop.ensures (λ part. part) (c.loop_back.ensures.cut before text was (makes c.args.command (Loop c.in-Loop.words) c.in-Loop.is octets text is))
+
+pub returns-in-Decode-clause-heard_as_made : goal.returns-in-Decode-clause-heard_as_made
+returns-in-Decode-clause-heard_as_made g c = on_ok c.ended.result (heard_as_made c.args.command (Decode c.in-Decode.words) c.in-Decode.is tt)
+
+pub returns-in-Encode-clause-heard_as_made : goal.returns-in-Encode-clause-heard_as_made
+returns-in-Encode-clause-heard_as_made g c = on_ok c.ended-in-Encode.result (heard_as_made c.args.command (Encode c.in-Encode.words) c.in-Encode.is tt)
+
+pub returns-in-Show-clause-heard_as_made : goal.returns-in-Show-clause-heard_as_made
+returns-in-Show-clause-heard_as_made g c = on_ok c.ended-in-Show.result (heard_as_made c.args.command (Show c.in-Show.words) c.in-Show.is tt)
+
+pub returns-in-Loop-clause-heard_as_made : goal.returns-in-Loop-clause-heard_as_made
+returns-in-Loop-clause-heard_as_made g c =
+    loop_ok c.ended_loop.result c.loop_back.result c.ended_loop.ensures (heard_as_made c.args.command (Loop c.in-Loop.words) c.in-Loop.is)
+    (both_ok c.loop_back.result _ _ c.loop_back.ensures.no_stray c.loop_back.ensures.clean)

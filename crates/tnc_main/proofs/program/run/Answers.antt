@@ -12,7 +12,7 @@ use Rattle.tnc_main.specs.Commands.{fault_of, left_by}
 use Rattle.tnc_main.specs.Report.{line_of}
 use Rattle.tnc_main.specs.Status.{code_of}
 use Rattle.tnc_main.proofs.Ends.{told_of, ends_well}
-use Rattle.tnc_main.proofs.CommandLemmas.{reads, made, makes, made_before, same_fault, strays}
+use Rattle.tnc_main.proofs.CommandLemmas.{reads, made, makes, made_before, same_fault, heard_as_made, strays}
 use Rattle.tnc_main.proofs.TextLemmas.{one_text_of, long_fault, clean_text}
 use Rattle.tnc_main.proofs.program.run.Goals as goal
 
@@ -93,7 +93,7 @@ returns-in-Ok-clause-stray_told g c = λ command before asks was six.
       h.0,
       strays command c.in-Ok.command (one_command (map string_bytes c.args.words.now) command c.in-Ok.command asks c.in-Ok.ensures.asks) h.0 (c.perform-end.ensures.stray h.0 h.1),
       at_fault c.perform-end.result (λ stop. g.E.Sink.written c.explained.new.report ≡ Some (before ++ line_of stop)) (Stray h.0)
-      (c.explained.ensures.told before was (inr six)) h.1,
+          (c.explained.ensures.told before was (inr six)) h.1,
     )
 
 pub returns-in-Ok-clause-report_cut : goal.returns-in-Ok-clause-report_cut
@@ -109,11 +109,16 @@ pub returns-in-Ok-clause-complete : goal.returns-in-Ok-clause-complete
 returns-in-Ok-clause-complete g c = λ command octets asks read good no_stray no_input no_output no_report.
     ends_well c.perform-end.result c.explained.result c.explained.ensures.ok c.explained.ensures.memory
     (λ fault is.
-      let none : Some fault ≡ None = sym (same_fault command c.in-Ok.command (one_command (map string_bytes c.args.words.now) command c.in-Ok.command asks c.in-Ok.ensures.asks) octets ∙ c.perform-end.ensures.bad octets fault (reads command c.in-Ok.command (one_command (map string_bytes c.args.words.now) command c.in-Ok.command asks c.in-Ok.ensures.asks) _ octets read) is) ∙ good in
-      true≢false (ap is_some none))
+    let none : Some fault ≡ None = sym (same_fault command c.in-Ok.command (one_command (map string_bytes c.args.words.now) command c.in-Ok.command asks c.in-Ok.ensures.asks) octets ∙ c.perform-end.ensures.bad octets fault (reads command c.in-Ok.command (one_command (map string_bytes c.args.words.now) command c.in-Ok.command asks c.in-Ok.ensures.asks) _ octets read) is) ∙ good in
+    true≢false (ap is_some none))
     (λ frame is. no_stray frame (strays command c.in-Ok.command (one_command (map string_bytes c.args.words.now) command c.in-Ok.command asks c.in-Ok.ensures.asks) frame (c.perform-end.ensures.stray frame is)))
     (λ is. no_input (c.perform-end.ensures.read is))
     (λ is. no_output (c.perform-end.ensures.write is))
+
+pub returns-in-Ok-clause-heard_as_made : goal.returns-in-Ok-clause-heard_as_made
+returns-in-Ok-clause-heard_as_made g c = λ command asks zero.
+    heard_as_made command c.in-Ok.command (one_command (map string_bytes c.args.words.now) command c.in-Ok.command asks c.in-Ok.ensures.asks)
+    (at_ok c.perform-end.result c.perform-end.ensures.heard_as_made (c.explained.ensures.done zero))
 
 -- ---- no command
 

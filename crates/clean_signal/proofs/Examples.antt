@@ -1,0 +1,59 @@
+-- Worked examples, computed on the definitions.
+use Rattle.std.proofs.Common.{◌≡◌, ℕ, ◌*◌, List, [], ◌∷◌, Bool, true, false, length, refl}
+use Rattle.hdlc_framer.specs.BitOrder.{octet_bits}
+use Rattle.hdlc_framer.specs.Body.{body}
+use Rattle.hdlc_framer.specs.CheckSequence.{fcs_of}
+use Rattle.hdlc_framer.specs.Frames.{with_fcs, frame_bits}
+use Rattle.frame_merge.specs.declared.candidate.Candidate.{Candidate}
+use Rattle.tone_table.specs.Wave.{pure_window}
+use Rattle.afsk_modulator.specs.Transmission.{transmission}
+use Rattle.afsk_modulator.specs.Signal.{Transmission, signal}
+use Rattle.clean_signal.specs.declared.true_end.TrueEnd.{TrueEnd}
+use Rattle.clean_signal.specs.GoodTransmission.{body_of, sample_count, frames_of}
+use Rattle.clean_signal.specs.TrueEnds.{true_ends}
+use Rattle.clean_signal.specs.Stray.{is_sent}
+
+-- SABM with P from N7LEM to NJ7P
+abbrev shortest : List ℕ
+shortest = 0x9C ∷ 0x94 ∷ 0x6E ∷ 0xA0 ∷ 0x40 ∷ 0x40 ∷ 0xE0 ∷ 0x9C ∷ 0x6E ∷ 0x98 ∷ 0x8A ∷ 0x9A ∷ 0x40 ∷ 0x61 ∷ 0x3F ∷ []
+
+abbrev sent : ℕ → List (List ℕ) → ℕ → ℕ → Transmission
+sent silence frames opening closing = record { silence = silence; frames = frames; opening = opening; closing = closing }
+
+abbrev ends_at : ℕ → TrueEnd
+ends_at end = record { end = end; octets = shortest }
+
+abbrev heard : ℕ → ℕ → Candidate
+heard end offset = record { end = end; offset = offset; octets = shortest }
+
+-- between two flags and one it is 162 bits, of eight samples each, and its flag ends with the last of them
+shortest_bits : length (body_of (sent 0 (shortest ∷ []) 2 1)) ≡ 162
+unfolding fcs_of octet_bits with_fcs frame_bits body
+shortest_bits = refl
+
+shortest_signal : length (signal (sent 0 (shortest ∷ []) 2 1 ∷ [])) ≡ 1296
+unfolding fcs_of octet_bits with_fcs frame_bits body transmission signal pure_window
+shortest_signal = refl
+
+shortest_end : true_ends (sent 0 (shortest ∷ []) 2 1 ∷ []) ≡ ends_at 1296 ∷ []
+unfolding fcs_of octet_bits with_fcs frame_bits body
+shortest_end = refl
+
+-- After 100 silent samples one frame with three closing flags, 178 bits, and right behind it, with three opening flags,
+-- two frames with one flag between them: a frame and its flag take 146 bits.
+three_ends : true_ends (sent 100 (shortest ∷ []) 2 3 ∷ sent 0 (shortest ∷ shortest ∷ []) 3 1 ∷ []) ≡ ends_at 1396 ∷ ends_at 2884 ∷ ends_at 4052 ∷ []
+unfolding fcs_of octet_bits with_fcs frame_bits body
+three_ends = refl
+
+-- what the first slicer to hear it gives, at offset 6, is the frame; one bit and more away it would be stray
+first_is_sent : is_sent (ends_at 1296 ∷ []) (heard 1294 6) ≡ true
+first_is_sent = refl
+
+one_bit_early : is_sent (ends_at 1296 ∷ []) (heard 1288 0) ≡ false
+one_bit_early = refl
+
+one_bit_late : is_sent (ends_at 1296 ∷ []) (heard 1304 0) ≡ false
+one_bit_late = refl
+
+none_sent : is_sent [] (heard 1294 6) ≡ false
+none_sent = refl

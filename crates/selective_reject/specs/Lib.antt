@@ -1,0 +1,6 @@
+pub mod Numbers
+pub mod Window
+pub mod Places
+pub mod Incoming
+pub mod TrueNumbers
+pub mod Outgoing

@@ -1,0 +1,154 @@
+//! The places of the numbers that may come next.
+
+ghost use Rattle.std.specs.Prelude.{◌≡◌, ◌+◌, ◌%◌, ◌<◌, ◌≤◌, true, [], ◌∷◌, ◌++◌, length, map, drop, replicate, IfOk};
+ghost use Rattle.selective_reject.specs.Numbers.{IsModulus};
+ghost use Rattle.selective_reject.specs.Places.{empty_place, filled_place, asked_place, misses, is_full, is_missing, packet_at, with_packet, with_asked, missing, asked};
+
+use crate::packet::Packet;
+use arrayvec::ArrayVec;
+use circular_buffer::HeapCircularBuffer;
+use std::alloc::Global;
+use std::marker::Model;
+use tnc_base::OutOfMemory;
+
+/// The place of one number.
+#[derive(Drop)]
+pub struct Place {
+    /// The packet, where it has come and was not taken.
+    pub packet: Option<Packet>,
+    /// The number was asked for.
+    pub asked: bool,
+}
+
+impl Place {
+    fn empty() -> Place
+        ensures { result ≡ empty_place }
+    {
+        Place {
+            packet: None,
+            asked: false,
+        }
+    }
+
+    fn put(&mut self, packet: Packet)
+        ensures { self.new ≡ filled_place packet self.old }
+    {
+        self.packet = Some(packet);
+    }
+
+    /// Notes that the number is asked for, where its packet is not there and it was not asked for before, and tells
+    /// whether that is so.
+    fn ask(&mut self) -> bool
+        ensures asked { result ≡ misses self.old }
+        ensures place { self.new ≡ asked_place self.old }
+    {
+        let misses = !self.asked && self.packet.is_none();
+        self.asked |= misses;
+        misses
+    }
+}
+
+/// The places of as many numbers as the window has, from the next one to be taken on.
+#[derive(Drop)]
+pub(crate) struct Places {
+    places: HeapCircularBuffer<Place>,
+}
+
+impl Model for Places {
+    ghost use Rattle.std.specs.Prelude.{◌≡◌, List, length};
+    ghost use Rattle.selective_reject.specs.declared.place.Place.{Place};
+
+    ghost Value = { List Place };
+
+    ghost view = { λ s. s.places.items };
+
+    ghost invariant = { λ s. length s.places.items ≡ s.places.capacity };
+}
+
+impl Places {
+    pub(crate) fn new(alloc: Global, window: u8) -> Result<Places, OutOfMemory>
+        ensures { IfOk result (λ places. places ≡ replicate window empty_place) }
+    {
+        let mut places = HeapCircularBuffer::with_capacity(alloc, usize::from(window))?;
+        fill(&mut places, window);
+        Ok(Places { places })
+    }
+
+    pub(crate) fn clear(&mut self, window: u8)
+        requires { length self.old ≡ window }
+        ensures { self.new ≡ replicate window empty_place }
+    {
+        self.places.clear();
+        fill(&mut self.places, window);
+    }
+
+    pub(crate) fn is_full(&self, place: u8) -> bool
+        ensures { result ≡ is_full self.now place }
+    {
+        match self.places.get(usize::from(place)) {
+            Some(place) => place.packet.is_some(),
+            None => false,
+        }
+    }
+
+    pub(crate) fn put(&mut self, place: u8, packet: Packet)
+        requires { place < length self.old }
+        ensures { self.new ≡ with_packet self.old place packet }
+    {
+        if let Some(place) = self.places.get_mut(usize::from(place)) {
+            place.put(packet);
+        }
+    }
+
+    /// The packet of the first place, which goes; an empty place comes behind the last.
+    pub(crate) fn take(&mut self) -> Option<Packet>
+        requires { is_full self.old 0 ≡ true }
+        ensures packet { result ≡ packet_at self.old 0 }
+        ensures places { self.new ≡ drop 1 self.old ++ empty_place ∷ [] }
+    {
+        let first = self.places.pop_front()?;
+        self.places.push_back(Place::empty());
+        first.packet
+    }
+
+    /// Asks for those of the first `count` places that miss their packets, and gives their numbers, where the first
+    /// place is that of number `vr`.
+    pub(crate) fn ask_first(&mut self, count: u8, vr: u8, modulus: u8) -> ArrayVec<u8, 64>
+        requires modulus { IsModulus modulus }
+        requires vr { vr < modulus }
+        requires within { count ≤ length self.old }
+        requires at_most_64 { count ≤ 64 }
+        ensures numbers { result.items ≡ map (λ k. (vr + k) % modulus) (missing self.old count) }
+        ensures places { self.new ≡ asked self.old count }
+    {
+        let mut numbers = ArrayVec::new();
+        for place in 0..count {
+            if self.ask(place) {
+                numbers.push((vr + place) % modulus);
+            }
+        }
+        numbers
+    }
+
+    fn ask(&mut self, place: u8) -> bool
+        requires { place < length self.old }
+        ensures asked { result ≡ is_missing self.old place }
+        ensures places { self.new ≡ with_asked self.old place }
+    {
+        match self.places.get_mut(usize::from(place)) {
+            Some(place) => place.ask(),
+            None => false,
+        }
+    }
+}
+
+fn fill(places: &mut HeapCircularBuffer<Place>, window: u8)
+    requires empty { places.old.items ≡ [] }
+    requires capacity { places.old.capacity ≡ window }
+    ensures items { places.new.items ≡ replicate window empty_place }
+    ensures capacity { places.new.capacity ≡ window }
+{
+    for _place in 0..window {
+        places.push_back(Place::empty());
+    }
+}

@@ -1,0 +1,31 @@
+//! A law between two commands. A law is the contract of a function that does nothing.
+
+ghost use Rattle.std.specs.Prelude.{◌≡◌, ◌<◌, ◌≤◌, ℕ, List, None, length};
+ghost use Rattle.std.specs.List.{All};
+ghost use Rattle.afsk_modulator.specs.Signal.{signal};
+ghost use Rattle.clean_signal.specs.Stray.{NoStray};
+ghost use Rattle.tnc_words.specs.declared.command.DecodeWords.{DecodeWords};
+ghost use Rattle.tnc_words.specs.declared.command.EncodeWords.{EncodeWords};
+ghost use Rattle.tnc_forms.specs.Reading.{input_limit};
+ghost use Rattle.tnc_decode.specs.Audio.{audio_fault};
+ghost use Rattle.tnc_decode.specs.Decoded.{IsDecoded};
+ghost use Rattle.tnc_decode.specs.Printing.{print};
+ghost use Rattle.tnc_encode.specs.Encoded.{encode_fault, encoded, transmissions};
+ghost use Rattle.tnc_encode.specs.Frames.{frames_of};
+
+/// What `encode` writes is heard by `decode`. Of an input without a fault, `decode` in the same form of audio takes
+/// what was written, and where no candidate of the signal is stray it prints exactly the frames of the input, in order:
+/// as raw PCM or a WAV file, of lines or KISS, in one transmission or in one for each frame.
+pub fn decode_of_encode()
+    ensures heard { (encode : EncodeWords) → (decode : DecodeWords) → (octets text : List ℕ)
+        → All (λ octet. octet < 256) octets → 2 ≤ encode.opening → 1 ≤ encode.closing
+        → encode_fault encode octets ≡ None → decode.audio ≡ encode.audio
+        → NoStray (transmissions encode (frames_of encode.frames octets))
+        (signal (transmissions encode (frames_of encode.frames octets)))
+        → IsDecoded decode (encoded encode octets) text
+        → text ≡ print decode.frames (frames_of encode.frames octets) }
+    ensures taken { (encode : EncodeWords) → (decode : DecodeWords) → (octets : List ℕ)
+        → encode_fault encode octets ≡ None → decode.audio ≡ encode.audio
+        → length (encoded encode octets) ≤ input_limit
+        → audio_fault decode.audio (encoded encode octets) ≡ None }
+{}
