@@ -3,18 +3,14 @@
 
   bench/decode.py        after scripts/build.sh
 
-The audio is the shipped recordings, one after another. Each program runs five times on it, and the best run counts.
-Printed are seconds of audio a second of processor time, the peak memory, and the time against that of tnc. A peer that
-is not installed is left out, and said so. The plain decoder is bench/plain_decoder.c, built here with cc -O2."""
-import os
-import resource
-import shutil
+The audio is the shipped recordings without noise, one after another. Each program runs five times on it, and the best
+run counts. Printed are seconds of audio a second of processor time, the peak memory, and the time against that of tnc.
+A peer that is not installed is left out, and said so. The plain decoder is bench/plain_decoder.c, built here with
+cc -O2; it works on the whole input, as tnc does. The audio of multimon-ng is resampled for it beforehand."""
 import subprocess
-import sys
 import tempfile
 
-TOP = os.path.dirname(os.path.dirname(os.path.abspath(__file__)))
-RATE = 9600
+from measuring import PCM, RATE, TOP, best, compiled, installed, tell, tnc
 
 
 def audio(seconds):
@@ -24,70 +20,29 @@ def audio(seconds):
     return (whole * (wanted // len(whole) + 1))[:wanted]
 
 
-def run(words, standard_input):
-    """The processor seconds, the peak memory in KiB and the lines of one run, measured in a process of its own."""
-    reader, writer = os.pipe()
-    child = os.fork()
-    if child == 0:
-        os.close(reader)
-        with open(standard_input, "rb") as given, tempfile.TemporaryFile() as taken:
-            subprocess.run(words, stdin=given, stdout=taken, stderr=subprocess.DEVNULL)
-            used = resource.getrusage(resource.RUSAGE_CHILDREN)
-            taken.seek(0)
-            lines = taken.read().count(b"\n")
-        os.write(writer, f"{used.ru_utime + used.ru_stime} {used.ru_maxrss} {lines}".encode())
-        os._exit(0)
-    os.close(writer)
-    with os.fdopen(reader) as told:
-        seconds, peak, lines = told.read().split()
-    os.waitpid(child, 0)
-    return float(seconds), int(peak), int(lines)
-
-
-def best(words, standard_input):
-    return min((run(words, standard_input) for _ in range(5)), key=lambda it: it[0])
-
-
 def main():
-    tnc = f"{TOP}/bin/tnc"
-    if not os.path.exists(tnc):
-        sys.exit("bench/decode.py: there is no bin/tnc: run scripts/build.sh first")
     with tempfile.TemporaryDirectory() as room:
-        programs = [("tnc decode", [tnc, "decode"], "raw")]
-        if shutil.which("cc"):
-            subprocess.run(["cc", "-O2", "-o", f"{room}/plain", f"{TOP}/bench/plain_decoder.c"], check=True)
-            programs.append(("plain C decoder", [f"{room}/plain"], "raw"))
-        else:
-            print("left out: plain C decoder (no cc)")
-        peers = [
-            ("atest (Dire Wolf)", ["atest", "-B", "1200"], "wav"),
-            ("multimon-ng", ["multimon-ng", "-q", "-t", "raw", "-a", "AFSK1200", "-"], "22050"),
-        ]
-        for name, words, kind in peers:
-            if shutil.which(words[0]) and shutil.which("sox"):
-                programs.append((name, words, kind))
-            else:
-                print(f"left out: {name} ({words[0]} or sox is not installed)")
+        measure = compiled("measure", room)
+        raw, wav, other = f"{room}/audio.raw", f"{room}/audio.wav", f"{room}/audio.22050"
+        programs = [("tnc decode", [tnc(), "decode"], raw), ("tnc decode --wav", [tnc(), "decode", "--wav"], wav)]
+        programs.append(("plain C decoder", [compiled("plain_decoder", room)], raw))
+        if installed("atest", "atest", "sox"):
+            programs.append(("atest (Dire Wolf)", ["atest", "-B", "1200", wav], raw))
+        if installed("multimon-ng", "multimon-ng", "sox"):
+            programs.append(("multimon-ng", ["multimon-ng", "-q", "-t", "raw", "-a", "AFSK1200", "-"], other))
         for minutes in (10, 40):
-            raw = f"{room}/audio.raw"
             with open(raw, "wb") as it:
                 it.write(audio(60 * minutes))
+            if installed("WAV and other rates", "sox"):
+                subprocess.run(["sox", "-q", *PCM, raw, wav], check=True)
+                subprocess.run(["sox", "-q", *PCM, raw, "-t", "raw", "-r", "22050", other], check=True)
+            else:
+                programs = [it for it in programs if it[2] == raw]
             base = None
-            for name, words, kind in programs:
-                given = raw
-                sox = ["sox", "-q", "-t", "raw", "-r", str(RATE), "-e", "signed", "-b", "16", "-c", "1", raw]
-                if kind == "wav":
-                    subprocess.run([*sox, f"{room}/audio.wav"], check=True)
-                    words = [*words, f"{room}/audio.wav"]
-                elif kind == "22050":
-                    given = f"{room}/audio.22050"
-                    subprocess.run([*sox, "-t", "raw", "-r", "22050", given], check=True)
-                seconds, peak, lines = best(words, given)
-                base = base or seconds
-                print(
-                    f"{minutes:3} min  {name:18} {60 * minutes / seconds:9.0f} s of audio a second"
-                    f"  {peak / 1024:7.1f} MiB  {seconds / base:6.2f} times tnc's time  {lines} lines"
-                )
+            for name, words, given in programs:
+                run = best(measure, words, given)
+                rate = tell(minutes, name, 60 * minutes, run, base, f"{run.lines} lines")
+                base = base or rate
 
 
 main()

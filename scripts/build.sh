@@ -1,10 +1,28 @@
 #!/usr/bin/env bash
-# Proves and builds the program, and puts it at bin/tnc. Where a folder is named, it is installed there as tnc.
+# Proves and builds the program, and puts it at bin/tnc. Where a folder is named, it is installed there as tnc; where a
+# prefix is named, at DIR/bin/tnc, with the manual page at DIR/share/man/man1/tnc.1.
 #   scripts/build.sh [FOLDER]
+#   scripts/build.sh --prefix DIR
 set -euo pipefail
 cd "$(dirname "$0")/.."
-target=${1:-bin}
+page=
+case "${1:-}" in
+    --prefix)
+        [ $# = 2 ] || { echo "build.sh: --prefix wants one folder" >&2; exit 1; }
+        target=$2/bin page=$2/share/man/man1/tnc.1
+        ;;
+    -*)
+        echo "build.sh: there is no option $1" >&2
+        exit 1
+        ;;
+    *)
+        target=${1:-bin}
+        ;;
+esac
 command -v rt >/dev/null || { echo "build.sh: there is no rt: Rattle's kit is wanted" >&2; exit 1; }
 (cd crates/tnc_main && rt run -- decode </dev/null >&2)
 install -D -m 755 crates/tnc_main/out/tnc_main "$target/tnc"
+if [ -n "$page" ]; then
+    install -D -m 644 man/tnc.1 "$page"
+fi
 echo "$target/tnc"

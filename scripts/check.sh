@@ -1,9 +1,13 @@
 #!/usr/bin/env bash
-# The end-to-end checks: the built program on recordings that other people's programs made. They run after the proofs.
+# The end-to-end checks: the built program on recordings that other people's programs made, and other people's programs
+# on what it makes. They run after the proofs, in less than two minutes.
+#   scripts/check.sh [PROGRAM]       builds the program and checks it, or checks the one that is named
 set -euo pipefail
 cd "$(dirname "$0")/.."
-tnc=$(scripts/build.sh | tail -n 1)
+tnc=$(realpath "${1:-$(scripts/build.sh | tail -n 1)}")
 passed=0 failed=0 skipped=0
+room=$(mktemp -d)
+trap 'rm -rf "$room"' EXIT
 
 # Says how one check went: NAME, and whether the command behind it holds.
 check() {
@@ -15,53 +19,281 @@ check() {
     fi
 }
 
-# The frames of a recording, in order and no others, with status 0.
+# Says that a check was left out: NAME, and the program that is not installed.
+skip() {
+    skipped=$((skipped + 1))
+    echo "skipped: $1 ($2 is not installed)"
+}
+
+# Whether programs are installed.
+has() {
+    local program
+    for program in "$@"; do
+        command -v "$program" >/dev/null || return
+    done
+}
+
+# STATUS REPORT WORDS..: the program answers this status, and its report is this one line, or nothing. What it writes is
+# kept in $room/output.
+answers() {
+    local status=0
+    "$tnc" "${@:3}" >"$room/output" 2>"$room/report" || status=$?
+    [ "$status" = "$1" ] && cmp -s "$room/report" <(printf '%s' "${2:+$2$'\n'}")
+}
+
+# STATUS REPORT OUTPUT TEXT WORDS..: the same of an input, written as printf has it, and with this output.
+answers_to() {
+    printf "$4" | answers "$1" "$2" "${@:5}" && cmp -s "$room/output" <(printf "$3")
+}
+
+# WORDS..: refused, with nothing written.
+is_refused() {
+    answers 1 "tnc: bad words" "$@" </dev/null && [ ! -s "$room/output" ]
+}
+
+# WORDS..: an output that takes nothing.
+cannot_write() {
+    local status=0
+    "$tnc" "$@" >/dev/full 2>"$room/report" || status=$?
+    [ "$status" = 5 ] && [ ! -s "$room/report" ]
+}
+
+# WORDS..: an input that is no file to read.
+cannot_read() {
+    answers 4 "" "$@" </ && [ ! -s "$room/output" ]
+}
+
+# The raw PCM in a file, as sox is told of it.
+pcm=(-t raw -r 9600 -e signed -b 16 -c 1)
+
+# RECORDING: the frames of a recording, in order and no others.
 decodes() {
     "$tnc" decode <"$1.raw" | cmp -s - "$1.frames"
 }
 
-# A command line that is refused, with its status and its line.
-is_refused() {
-    local line status=0
-    line=$("$tnc" "$@" </dev/null 2>&1) || status=$?
-    [ "$status" = 1 ] && [ "$line" = "tnc: bad words" ]
+# RECORDING: the same of a WAV file that sox made of it.
+decodes_wav() {
+    sox -q "${pcm[@]}" "$1.raw" "$room/recording.wav" && "$tnc" decode --wav <"$room/recording.wav" | cmp -s - "$1.frames"
 }
 
-# An output that takes nothing.
-cannot_write() {
-    local status=0
-    "$tnc" decode <samples/direwolf-clean.raw >/dev/full || status=$?
-    [ "$status" = 5 ]
+# RECORDING: the same of a WAV file that sox writes into a pipe, whose head does not tell its length.
+decodes_piped_wav() {
+    sox -q "${pcm[@]}" "$1.raw" -t wav - 2>/dev/null | "$tnc" decode --wav | cmp -s - "$1.frames"
 }
 
-# An input that is no file to read.
-cannot_read() {
-    local status=0
-    "$tnc" decode </ || status=$?
-    [ "$status" = 4 ]
+# RECORDING: the same of a WAV file of another rate, brought back to 9600 as the README shows it.
+decodes_resampled() {
+    sox -q "${pcm[@]}" "$1.raw" -r 48000 "$room/48000.wav" \
+        && sox -q "$room/48000.wav" "${pcm[@]}" - | "$tnc" decode | cmp -s - "$1.frames"
 }
 
+# RECORDING: the same by way of a KISS file, back to sound and to lines.
+decodes_through_kiss() {
+    "$tnc" decode --kiss <"$1.raw" | "$tnc" encode --kiss | "$tnc" decode | cmp -s - "$1.frames"
+}
+
+# FRAMES WORDS..: lines of frames come back from the sound that encode makes of them.
+comes_back() {
+    "$tnc" encode "${@:2}" <"$1" | "$tnc" decode | cmp -s - "$1"
+}
+
+# FRAMES WORDS..: the same through a WAV file.
+comes_back_from_wav() {
+    "$tnc" encode --wav "${@:2}" <"$1" | "$tnc" decode --wav | cmp -s - "$1"
+}
+
+# FRAMES WORDS..: the octets that encode makes of lines.
+octets_of() {
+    "$tnc" encode "${@:2}" <"$1" | wc -c
+}
+
+# FRAMES: a flag is 128 octets of sound, a joined transmission lacks the flags between its frames but one, and silence
+# stands in front.
+has_lengths() {
+    local count plain
+    count=$(wc -l <"$1") plain=$(octets_of "$1")
+    [ "$((plain - $(octets_of "$1" --join)))" = "$(((count - 1) * 76 * 128))" ] \
+        && [ "$(($(octets_of "$1" --opening 80 --closing 7) - plain))" = "$((count * 10 * 128))" ] \
+        && [ "$(($(octets_of "$1" --silence 5) - plain))" = "$((count * 10))" ] \
+        && [ "$(($(octets_of "$1" --join --silence 5) - $(octets_of "$1" --join)))" = 10 ] \
+        && [ "$(($(octets_of "$1" --wav) - plain))" = 44 ] \
+        && cmp -s <("$tnc" encode --silence 5 <"$1" | head -c 14) <(printf '\0\0\0\0\0\0\0\0\0\0'; "$tnc" encode <"$1" | head -c 4)
+}
+
+# A frame with both octets that KISS writes as two.
+escapes() {
+    local line=c0dbdcdd0102030405060708090a0b
+    printf '%s\n' "$line" | "$tnc" encode | "$tnc" decode --kiss >"$room/frames.kiss" \
+        && cmp -s "$room/frames.kiss" <(printf '\xc0\0\xdb\xdc\xdb\xdd\xdc\xdd\x01\x02\x03\x04\x05\x06\x07\x08\x09\x0a\x0b\xc0') \
+        && [ "$("$tnc" encode --kiss <"$room/frames.kiss" | "$tnc" decode)" = "$line" ]
+}
+
+# FRAMES: sox reads the WAV file of encode as its raw samples.
+is_wav_for_sox() {
+    "$tnc" encode --wav <"$1" >"$room/made.wav" && sox -q "$room/made.wav" "${pcm[@]}" - | cmp -s - <("$tnc" encode <"$1")
+}
+
+# A stored text of decode and show. It was made by the program once; then each of its lines was compared with what
+# Dire Wolf's atest prints of the recording (addresses, their SSIDs, kind, p/f, length and every octet), and with the
+# rules of a line of `show` by a reading of the octets that shares nothing with the program.
+shows_stored_text() {
+    "$tnc" decode <samples/direwolf-clean.raw | "$tnc" show | cmp -s - samples/direwolf-clean.text
+}
+
+# A WAV file that ends an octet early: told, and the frames before are given.
+is_cut_short() {
+    "$tnc" encode --wav --closing 20 <samples/direwolf-clean.frames >"$room/whole.wav"
+    local size
+    size=$(stat -c %s "$room/whole.wav")
+    head -c -1 "$room/whole.wav" | answers 2 "tnc: bad input: truncated at $((size - 1))" decode --wav \
+        && cmp -s "$room/output" samples/direwolf-clean.frames
+}
+
+# A WAV file of 44100 samples a second: told, at the last octet of the rate.
+is_other_rate() {
+    "$tnc" encode --wav <samples/direwolf-clean.frames >"$room/whole.wav"
+    { head -c 24 "$room/whole.wav"; printf '\x44\xac\0\0'; tail -c +29 "$room/whole.wav"; } \
+        | answers 2 "tnc: bad input: bad format 3 value 44100 at 27" decode --wav && [ ! -s "$room/output" ]
+}
+
+# A bad line behind a good one: told, at its place, and the frame before it is sent.
+is_bad_line() {
+    local line=9c6e988a9a40e0ac9664848484e103f0
+    printf '%s\n' "$line" | "$tnc" encode >"$room/sent.raw"
+    printf '%s\n%s' "$line" "$3" | answers 2 "tnc: bad input: $2 at $((33 + $1))" encode && cmp -s "$room/output" "$room/sent.raw"
+}
+
+# A loop on a signal that it makes itself.
+loops() {
+    answers 0 "" loop --seed 7 --frames 20 </dev/null \
+        && cmp -s "$room/output" <(printf 'frames 20\nheard 20\nstray 0\nhash 3c053d315c843125\n')
+}
+
+# The frames that Dire Wolf's atest hears in a WAV file, as lines of hexadecimal digits.
+heard_by_atest() {
+    atest -B 1200 -h "$1" | sed 's/\x1b\[[0-9;]*[A-Za-z]//g' | awk '
+        /^  [0-9a-f][0-9a-f][0-9a-f]:  / { octets = substr($0, 9, 48); gsub(/ /, "", octets); line = line octets; next }
+        line != "" { print line; line = "" }
+        END { if (line != "") print line }'
+}
+
+# The UI frames that multimon-ng hears in raw samples of 22050 a second, as show writes them; it prints no H bits.
+heard_by_multimon() {
+    multimon-ng -q -t raw -a AFSK1200 - | LC_ALL=C awk '
+        BEGIN { for (i = 32; i < 127; i++) code[sprintf("%c", i)] = sprintf("%02x", i) }
+        function call(text) { sub(/-0$/, "", text); return text }
+        /^AFSK1200: fm / {
+            line = call($3) ">" call($5)
+            rest = 6
+            if ($6 == "via") {
+                n = split($7, repeaters, ",")
+                for (i = 1; i <= n; i++) line = line "," call(repeaters[i])
+                rest = 8
+            }
+            pid = $NF
+            sub(/^pid=/, "", pid)
+            line = line " " $rest " cmd f=0 pid=" tolower(pid)
+            next
+        }
+        {
+            text = ""
+            for (i = 1; i <= length($0); i++) text = text code[substr($0, i, 1)]
+            print line " len=" length($0) " " text
+        }'
+}
+
+# FRAMES WORDS..: atest hears what encode sends, each octet of it.
+is_heard_by_atest() {
+    "$tnc" encode "${@:2}" <"$1" | sox -q "${pcm[@]}" - -r 48000 "$room/sent.wav" \
+        && heard_by_atest "$room/sent.wav" | cmp -s - "$1"
+}
+
+# FRAMES: multimon-ng hears what encode sends. The line feed at the end of each text is left out, as multimon-ng shows
+# it as a dot; all that is left of an information field can be read.
+is_heard_by_multimon() {
+    sed 's/0a$//' "$1" >"$room/readable.frames"
+    "$tnc" show <"$room/readable.frames" >"$room/readable.text"
+    "$tnc" encode --silence 960 <"$room/readable.frames" | sox -q "${pcm[@]}" - -t raw -r 22050 -e signed -b 16 -c 1 - \
+        | heard_by_multimon | cmp -s - "$room/readable.text"
+}
+
+# Recordings, and back from their frames.
 for raw in samples/*.raw; do
-    check "decode of $raw" decodes "${raw%.raw}"
+    of=${raw%.raw}
+    check "decode of $raw" decodes "$of"
+    check "decode --kiss of $raw, and back" decodes_through_kiss "$of"
+    if has sox; then
+        check "decode --wav of $raw" decodes_wav "$of"
+        check "decode --wav of $raw out of a pipe" decodes_piped_wav "$of"
+        check "decode of $raw by way of 48000 samples a second" decodes_resampled "$of"
+        check "encode --wav of $of.frames, read by sox" is_wav_for_sox "$of.frames"
+    else
+        skip "WAV files of $raw" sox
+    fi
+    for words in "" --join "--silence 5" "--opening 2 --closing 1" "--join --silence 1001 --closing 9"; do
+        check "encode $words of $of.frames, and back" comes_back "$of.frames" $words
+        check "encode --wav $words of $of.frames, and back" comes_back_from_wav "$of.frames" $words
+    done
+    check "the lengths of what encode makes of $of.frames" has_lengths "$of.frames"
 done
-check "decode of nothing" test -z "$("$tnc" decode </dev/null)"
+check "C0 and DB in KISS" escapes
+check "decode and show of samples/direwolf-clean.raw" shows_stored_text
+
+# Other people's programs on what encode sends.
+for frames in samples/*.frames; do
+    if has sox atest; then
+        check "encode of $frames, heard by atest" is_heard_by_atest "$frames"
+        check "encode --join of $frames, heard by atest" is_heard_by_atest "$frames" --join
+    else
+        skip "encode of $frames, heard by atest" "sox or atest"
+    fi
+done
+if has sox multimon-ng; then
+    check "encode of samples/direwolf-clean.frames, heard by multimon-ng" is_heard_by_multimon samples/direwolf-clean.frames
+else
+    skip "encode of samples/direwolf-clean.frames, heard by multimon-ng" "sox or multimon-ng"
+fi
+
+# Inputs with nothing in them, and inputs that are not what they should be.
+head_of_nothing='RIFF\x24\0\0\0WAVEfmt \x10\0\0\0\x01\0\x01\0\x80\x25\0\0\0\x4b\0\0\x02\0\x10\0data\0\0\0\0'
+check "decode of nothing" answers_to 0 "" "" "" decode
+check "decode --wav of no sample" answers_to 0 "" "" "$head_of_nothing" decode --wav
+check "decode --wav of nothing" answers_to 2 "tnc: bad input: truncated at 0" "" "" decode --wav
+check "decode --wav of what is no WAV file" answers_to 2 "tnc: bad input: not riff at 0" "" "riff" decode --wav
+check "encode of nothing" answers_to 0 "" "" "" encode
+check "encode --wav of nothing" answers_to 0 "" "$head_of_nothing" "" encode --wav
+check "encode --kiss of a frame that has not ended" answers_to 0 "" "" '\xc0\0\x41' encode --kiss
+check "show of nothing" answers_to 0 "" "" "" show
+check "show of octets that are no frame" answers_to 0 "" "! short at 2\n! bad character at 0\n" "8282\n\n010203\n" show
+check "a WAV file that ends an octet early" is_cut_short
+check "a WAV file of 44100 samples a second" is_other_rate
+check "a line with a bad digit" is_bad_line 3 "bad digit" 9c6x
+check "a line with an odd digit" is_bad_line 0 "odd line" 9c6
+check "a line of 14 octets" is_bad_line 0 "short line" 9c6e988a9a40e0ac9664848484e1
+check "a line of 1025 octets" is_bad_line 0 "long line" "$(printf '%02050d' 0)"
+check "a loop" loops
+
+# Words that are refused, and streams that fail.
 check "a word that is no command" is_refused decod
 check "no word" is_refused
-check "an output that is full" cannot_write
-check "an input that is a folder" cannot_read
+for words in "decode --rate 48000" "decode --wav=yes" "encode --opening 1" "encode --silence 1000001" "show --modulo 16" \
+    "loop --seed 7" "loop --seed 7 --frames 1001" "decode recording.raw" "decode --help" "--version"; do
+    check "$words" is_refused $words
+done
+check "decode to a full disk" cannot_write decode <samples/direwolf-clean.raw
+check "encode to a full disk" cannot_write encode <samples/direwolf-clean.frames
+check "show to a full disk" cannot_write show <samples/direwolf-clean.frames
+check "loop to a full disk" cannot_write loop --seed 7 --frames 2
+for command in decode encode show; do
+    check "$command of a folder" cannot_read $command
+done
 
-# A WAV of another rate, by way of sox, as the README shows it.
-if command -v sox >/dev/null; then
-    wav=$(mktemp --suffix=.wav)
-    trap 'rm -f "$wav"' EXIT
-    sox -q -t raw -r 9600 -e signed -b 16 -c 1 samples/direwolf-clean.raw -r 48000 "$wav"
-    through_sox() {
-        sox -q "$wav" -t raw -r 9600 -e signed -b 16 -c 1 - | "$tnc" decode | cmp -s - samples/direwolf-clean.frames
-    }
-    check "a WAV of 48000 samples a second through sox" through_sox
+# The manual page, and the scores of sound that is not clean.
+check "the manual page and the program agree" scripts/check_manual.sh "$tnc"
+if has python3; then
+    check "scores within their bounds" scripts/scores.py --check --tnc "$tnc"
 else
-    skipped=$((skipped + 1))
-    echo "skipped: a WAV through sox (sox is not installed)"
+    skip "scores within their bounds" python3
 fi
 
 echo "$passed passed, $failed failed, $skipped skipped"

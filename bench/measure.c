@@ -1,0 +1,25 @@
+/* Runs a program and tells, on standard error, its processor seconds and its peak memory in KiB. Standard error of the
+   program goes to /dev/null. A small process of its own, since a child's peak memory begins with its parent's.
+   cc -O2 -o measure measure.c && measure PROGRAM WORDS.. */
+#include <fcntl.h>
+#include <stdio.h>
+#include <sys/resource.h>
+#include <sys/wait.h>
+#include <unistd.h>
+
+int main(int count, char **words) {
+    if (count < 2) return 1;
+    pid_t child = fork();
+    if (child < 0) return 1;
+    if (child == 0) {
+        dup2(open("/dev/null", O_WRONLY), 2);
+        execvp(words[1], words + 1);
+        _exit(127);
+    }
+    int status;
+    struct rusage used;
+    if (wait4(child, &status, 0, &used) != child) return 1;
+    double seconds = used.ru_utime.tv_sec + used.ru_stime.tv_sec + (used.ru_utime.tv_usec + used.ru_stime.tv_usec) / 1e6;
+    fprintf(stderr, "%f %ld\n", seconds, used.ru_maxrss);
+    return WIFEXITED(status) ? WEXITSTATUS(status) : 1;
+}

@@ -1,0 +1,172 @@
+#!/usr/bin/env bash
+# Whether the manual page and the program agree: each command, option, range and default of the page is what the program
+# takes, each option that the program knows is on the page, each report line too, and the examples of the page run.
+#   scripts/check_manual.sh [PROGRAM]      bin/tnc, where no other is named
+set -euo pipefail
+cd "$(dirname "$0")/.."
+tnc=$(realpath "${1:-bin/tnc}")
+page=$PWD/man/tnc.1
+room=$(mktemp -d)
+trap 'rm -rf "$room"' EXIT
+faults=0
+
+# Says what does not agree.
+fault() {
+    faults=$((faults + 1))
+    echo "manual page: $*"
+}
+
+# The words that a command needs beside one option of its.
+needed_beside() {
+    case "$1 $2" in
+        "loop --seed") echo "--frames 0" ;;
+        "loop --frames") echo "--seed 0" ;;
+        loop*) echo "--seed 0 --frames 0" ;;
+    esac
+}
+
+# WORDS..: the program refuses these words, or takes them, with nothing to read (which is no WAV file: status 2).
+is_refused() {
+    local status=0
+    "$tnc" "$@" </dev/null >/dev/null 2>&1 || status=$?
+    [ "$status" = 1 ]
+}
+is_taken() {
+    local status=0
+    "$tnc" "$@" </dev/null >/dev/null 2>&1 || status=$?
+    [ "$status" = 0 ] || [[ $status = 2 && " $* " = *" --wav "* ]]
+}
+
+# The number after a number of any length, and the one before, which is no number before 0.
+one_more() {
+    local digits=$1 zeros=
+    while [[ $digits == *9 ]]; do
+        digits=${digits%9} zeros=0$zeros
+    done
+    [ -n "$digits" ] || digits=0
+    echo "${digits%?}$((${digits: -1} + 1))$zeros"
+}
+one_less() {
+    echo $(($1 - 1))
+}
+
+# COMMAND OPTION TAKEN..: the numbers that an option takes.
+takes() {
+    local beside number
+    beside=$(needed_beside "$1" "$2")
+    for number in "${@:3}"; do
+        is_taken "$1" $beside "$2" "$number" || fault "$1 $2 $number is refused"
+        is_taken "$1" $beside "$2=00$number" || fault "$1 $2=00$number is refused"
+    done
+}
+does_not_take() {
+    local beside number
+    beside=$(needed_beside "$1" "$2")
+    for number in "${@:3}"; do
+        is_refused "$1" $beside "$2" "$number" || fault "$1 $2 $number is taken"
+    done
+}
+
+# The page as lines `COMMAND OPTION TEXT`, TEXT being what stands below the option; an option with a number is followed
+# by n.
+entries=$(awk '
+    function flush() { if (option ~ /^--/) print command "|" option "|" text; option = ""; text = "" }
+    /^\.(SH|SS|TP)/ { flush() }
+    /^\.SH / { inside = $2 == "COMMANDS" }
+    /^\.SS / { command = $2 }
+    /^\.TP/ && inside { getline; gsub(/\\-/, "-"); gsub(/"/, ""); option = $2 ($3 == "" ? "" : " " $3); next }
+    inside && option != "" && !/^\./ { text = text " " $0 }
+' "$page")
+# The commands of the page, and those of the program.
+commands=$(awk '/^\.SH /{ inside = $2 == "COMMANDS" } /^\.SS / && inside { print $2 }' "$page")
+known=$(sed -n 's/.*Command::new(alloc, "\([a-z]*\)").*/\1/p' crates/tnc_words/src/options.rt)
+[ "$(sort <<<"$commands")" = "$(sort <<<"$known")" ] || fault "its commands are" $commands "and the program's" $known
+
+# Each option of the program is on the page.
+options=$(sed -n 's/.*\(flag\|option\|needed\)(alloc, "\([a-z]*\)").*/--\2/p' crates/tnc_words/src/options.rt | sort -u)
+on_page=$(cut -d '|' -f 2 <<<"$entries" | cut -d ' ' -f 1 | sort -u)
+[ "$options" = "$on_page" ] || fault "its options are" $on_page "and the program's" $options
+
+# Each command takes the options that the page gives it, within their ranges, and no other.
+for command in $commands; do
+    is_taken "$command" $(needed_beside "$command" "") || fault "$command is refused"
+    for option in $options; do
+        entry=$(grep "^$command|$option[ |]" <<<"$entries" || true)
+        text=${entry##*|}
+        beside=$(needed_beside "$command" "$option")
+        if [ -z "$entry" ]; then
+            is_refused "$command" $beside "$option" || fault "$command $option is taken, and not on the page"
+            is_refused "$command" $beside "$option" 8 || fault "$command $option 8 is taken, and not on the page"
+            continue
+        elif [[ $entry != *"|$option n|"* ]]; then
+            is_taken "$command" $beside "$option" || fault "$command $option is refused"
+            is_refused "$command" $beside "$option" "$option" || fault "$command $option is taken twice"
+            is_refused "$command" $beside "$option=1" || fault "$command $option=1 is taken"
+            continue
+        elif [[ $text =~ From\ ([0-9]+)\ to\ ([0-9]+) ]]; then
+            takes "$command" "$option" "${BASH_REMATCH[1]}" "${BASH_REMATCH[2]}"
+            does_not_take "$command" "$option" "$(one_less "${BASH_REMATCH[1]}")" "$(one_more "${BASH_REMATCH[2]}")"
+        elif [[ $text =~ ([0-9]+)\ or\ ([0-9]+)\; ]]; then
+            takes "$command" "$option" "${BASH_REMATCH[1]}" "${BASH_REMATCH[2]}"
+            for number in "${BASH_REMATCH[1]}" "${BASH_REMATCH[2]}"; do
+                does_not_take "$command" "$option" "$(one_less "$number")" "$(one_more "$number")"
+            done
+        else
+            fault "$command $option has no range"
+        fi
+        is_refused "$command" $beside "$option" || fault "$command $option is taken without its number"
+        does_not_take "$command" "$option" +8 8x ""
+        # the default, or that there is none
+        if [[ $text =~ \;\ ([0-9]+)\ where\ it\ is\ not\ given ]]; then
+            "$tnc" "$command" <samples/minimodem-clean.frames >"$room/without"
+            "$tnc" "$command" "$option" "${BASH_REMATCH[1]}" <samples/minimodem-clean.frames | cmp -s - "$room/without" \
+                || fault "$command $option has another default"
+        elif [[ $text == *"It has to be given."* ]]; then
+            is_refused "$command" $beside || fault "$command does not need $option"
+        else
+            fault "$command $option has neither a default nor has to be given"
+        fi
+    done
+done
+
+# Each report line and each line for what is no frame.
+plain=$(sed 's/\\-/-/g; s/^\.[A-Z]* "\{0,1\}//; s/"//g' "$page")
+texts=$(sed -n 's/^name_of_flaw .*codes "\(.*\)"$/tnc: bad input: \1 at /p; s/^wav_text .* = codes "\([a-z ]*[a-z]\) \{0,1\}".*/tnc: bad input: \1 /p;
+    s/^input_text .*codes "too long.*/tnc: bad input: too long at /p; s/^.*codes "\(tnc: [a-z ]*[a-z]\) *".*/\1/p' \
+    crates/tnc_main/specs/Report.antt
+    sed -n 's/^[a-z_]*fault[a-z_]* .*codes "\(! [a-z ]*[a-z]\) *".*/\1/p' crates/ax25_frames/specs/FrameText.antt | grep -v "out of memory")
+while read -r text; do
+    grep -qF -- "$text" <<<"$plain" || fault "there is no line '$text'"
+done <<<"$texts"
+[ "$(wc -l <<<"$texts")" -ge 20 ] || fault "only $(wc -l <<<"$texts") lines were looked for"
+
+# Each exit status.
+codes=$(sed -n 's/^code_of [A-Za-z]* = \([0-9]*\)$/\1/p' crates/tnc_main/specs/Status.antt)
+listed=$(awk '/^\.SH /{ inside = $2 == "EXIT" } inside && /^\.B [0-9]+$/ { print $2 }' "$page")
+[ "$codes" = "$listed" ] || fault "its statuses are" $listed "and the program's" $codes
+
+# The examples, one after another in a folder of their own.
+mkdir "$room/bin" "$room/work"
+ln -s "$tnc" "$room/bin/tnc"
+cp samples/direwolf-clean.raw "$room/work/recording.raw"
+awk '/^\.EX/{ inside = 1; next } /^\.EE/{ inside = 0 } inside' "$page" | sed 's/\\-/-/g; s/\\e/\\/g' >"$room/examples"
+if command -v sox >/dev/null; then
+    sox -q -t raw -r 9600 -e signed -b 16 -c 1 samples/direwolf-clean.raw -r 48000 "$room/work/recording.wav"
+else
+    sed -i '/^sox/d' "$room/examples"
+    echo "skipped: the manual page's examples with sox (sox is not installed)"
+fi
+while read -r line; do
+    (cd "$room/work" && PATH=$room/bin:$PATH && set -o pipefail && eval "$line") >"$room/output" 2>"$room/report" </dev/null \
+        || fault "its example '$line' ends with status $?"
+    [[ ! -s $room/report && ( -s $room/output || $line == *">"* ) ]] || fault "its example '$line' says nothing, or has a report"
+done <"$room/examples"
+
+# The page itself.
+if command -v groff >/dev/null; then
+    groff -man -ww -Tascii "$page" 2>"$room/report" >/dev/null && [ ! -s "$room/report" ] || fault "groff warns: $(head -n 3 "$room/report")"
+else
+    echo "skipped: the manual page as groff reads it (groff is not installed)"
+fi
+
+[ "$faults" = 0 ]

@@ -1,0 +1,274 @@
+#!/usr/bin/env python3
+"""What `tnc decode` hears of sound that is not clean: how many of so many frames, row by row.
+
+  scripts/scores.py                 a table with 100 frames a row
+  scripts/scores.py --frames 20     with another number
+  scripts/scores.py --beside        and what atest and multimon-ng hear of the same sound, where they are installed
+  scripts/scores.py --check         12 frames a row, each count held against its bounds; status 1 outside
+  scripts/scores.py --tnc PROGRAM   of another program than bin/tnc
+
+The sound is made here and shares nothing with the program: frames with random text, inserted zeros, tones of continuous
+phase at any clock. All is drawn from fixed seeds, so a run gives the same table again. Levels are amplitudes of a tone,
+in steps of a sample; a signal-to-noise ratio is that of the power of a tone to the power of white noise in the whole
+band of 4800 Hz."""
+import argparse
+import array
+import math
+import os
+import random
+import shutil
+import subprocess
+import sys
+import tempfile
+from collections import Counter
+
+TOP = os.path.dirname(os.path.dirname(os.path.abspath(__file__)))
+RATE, BAUD, MARK, SPACE = 9600, 1200, 1200, 2200
+LEVEL = 10000
+CHECKED = 12
+
+
+def check_sequence(octets):
+    value = 0xFFFF
+    for octet in octets:
+        value ^= octet
+        for _ in range(8):
+            value = value >> 1 ^ 0x8408 if value & 1 else value >> 1
+    return bytes(((value ^ 0xFFFF) & 255, (value ^ 0xFFFF) >> 8))
+
+
+def call(name, ssid, last):
+    return bytes(2 * ord(letter) for letter in name.ljust(6)) + bytes([0x60 | 2 * ssid | last])
+
+
+def frames(count, seed, information):
+    """UI frames whose text has so many octets; each has its number in it, so no two are equal."""
+    draw = random.Random(seed)
+    letters = "abcdefghijklmnopqrstuvwxyz     0123456789"
+    made = []
+    for number in range(count):
+        length = information or 20 + int(draw.random() * 109)
+        text = f"{number:04} " + "".join(letters[int(draw.random() * len(letters))] for _ in range(length - 5))
+        head = call("APRS", 0, 0) + call(f"N{seed}CALL"[:6], 1 + number % 15, 1)
+        made.append(head + b"\x03\xf0" + text.encode())
+    return made
+
+
+def line_bits(frame, opening):
+    """The levels of the line, 1 for mark: flags, the frame with its inserted zeros, and two flags."""
+    bits = [0, 1, 1, 1, 1, 1, 1, 0] * opening
+    ones = 0
+    for octet in frame + check_sequence(frame):
+        for place in range(8):
+            bit = octet >> place & 1
+            bits.append(bit)
+            ones = ones + 1 if bit else 0
+            if ones == 5:
+                bits.append(0)
+                ones = 0
+    bits += [0, 1, 1, 1, 1, 1, 1, 0] * 2
+    level = 1
+    for bit in bits:
+        level = level if bit else 1 - level
+        yield level
+
+
+def tones(frame, start, clock=0.0, mark=LEVEL, space=LEVEL, opening=30):
+    """The samples of a transmission that begins `start` samples (a fraction of one) after the first. The sender's clock
+    is fast by so many parts per million, its tones as well as its bits."""
+    rate = 1 + clock / 1e6
+    samples_a_bit = RATE / (BAUD * rate)
+    begin, phase, at = start, 0.0, math.ceil(start)
+    made = [0.0] * at
+    for level in line_bits(frame, opening):
+        step = 2 * math.pi * (MARK if level else SPACE) * rate / RATE
+        loud = mark if level else space
+        end = begin + samples_a_bit
+        while at < end:
+            made.append(loud * math.sin(phase + step * (at - begin)))
+            at += 1
+        phase = (phase + step * samples_a_bit) % (2 * math.pi)
+        begin = end
+    return made
+
+
+def sound(sent, seed, gap=400, **how):
+    """Transmissions one after another, each behind a silence of its own at a place of its own within a sample."""
+    draw = random.Random(seed)
+    made = []
+    for frame in sent:
+        made += [0.0] * (gap + int(draw.random() * 97))
+        made += tones(frame, draw.random(), **how)
+    return made + [0.0] * 200
+
+
+class Noise:
+    """White noise of unit power, drawn once."""
+
+    def __init__(self):
+        self.draw, self.values = random.Random(77), []
+
+    def of(self, count):
+        while len(self.values) < count:
+            size, turn = math.sqrt(-2 * math.log(1 - self.draw.random())), 2 * math.pi * self.draw.random()
+            self.values += [size * math.cos(turn), size * math.sin(turn)]
+        return self.values
+
+
+NOISE = Noise()
+
+
+def noisy(samples, ratio, level=LEVEL):
+    power = level / math.sqrt(2) / 10 ** (ratio / 20)
+    return [sample + power * noise for sample, noise in zip(samples, NOISE.of(len(samples)))]
+
+
+def added(samples, others):
+    """One sound on top of another."""
+    longer, shorter = sorted((samples, others), key=len, reverse=True)
+    return [one + other for one, other in zip(longer, shorter)] + longer[len(shorter):]
+
+
+def pcm(samples):
+    return array.array("h", (max(-32768, min(32767, round(sample))) for sample in samples))
+
+
+def octets_of(samples):
+    made = pcm(samples)
+    if sys.byteorder == "big":
+        made.byteswap()
+    return made.tobytes()
+
+
+# A row: its name, the least and the most of the checked frames that are heard, the frames that were sent, the sound, and
+# the frames of another sender, which may be heard too.
+def rows(count):
+    mixed = frames(count, 1, None)
+    clean = sound(mixed, 11)
+    yield "clean", *CLEAN, mixed, clean, []
+    for ratio, least, most in NOISES:
+        yield f"noise, {ratio} dB", least, most, mixed, noisy(clean, ratio), []
+    for level, least, most in LEVELS:
+        loud = [sample * level / LEVEL for sample in clean]
+        yield f"level {level}{', clipped' if level > 32767 else ''}", least, most, mixed, loud, []
+    for level, least, most in QUIET:
+        loud = [sample * level / LEVEL for sample in clean]
+        yield f"level {level}, noise, 12 dB", least, most, mixed, noisy(loud, 12, level), []
+    for twist, least, most in TWISTS:
+        made = sound(mixed, 12, space=LEVEL * 10 ** (twist / 20))
+        yield f"space {twist:+} dB", least, most, mixed, made, []
+        for ratio, fewest, highest in NOISY_TWISTS.get(twist, []):
+            yield f"space {twist:+} dB, noise, {ratio} dB", fewest, highest, mixed, noisy(made, ratio), []
+    for offset, least, most in OFFSETS:
+        yield f"offset {offset}", least, most, mixed, [sample + offset for sample in clean], []
+    for information, clocks in CLOCKS:
+        sent = frames(count, 2, information)
+        for clock, least, most in clocks:
+            yield f"clock {clock:+} ppm, {information} octets", least, most, sent, sound(sent, 13, clock=clock), []
+    # a second sender of another level and clock, behind the first
+    first, second = frames(count - count // 2, 3, None), frames(count // 2, 4, None)
+    made = sound(first, 14, gap=300) + sound(second, 15, clock=-80, mark=LEVEL / 4, space=LEVEL / 4)
+    yield "two senders, one after the other", *SECOND_AFTER, first + second, made, []
+    # one that sends at the same time, and is weaker
+    others = frames(count, 5, None)
+    for under, least, most in SECOND_AT_ONCE:
+        weak = LEVEL * 10 ** (-under / 20)
+        other = sound(others, 16, gap=10, clock=40, mark=weak, space=weak)
+        yield f"another sender at once, {under} dB weaker", least, most, mixed, added(clean, other), others
+
+
+# Bounds of the checked frames: what a correct receiver of this kind hears of the fixed sound, and one or two frames of
+# room where a sample that is rounded otherwise could turn the outcome.
+CLEAN = (12, 12)
+NOISES = [(20, 12, 12), (15, 12, 12), (10, 12, 12), (8, 11, 12), (7, 11, 12), (6, 8, 12), (5, 3, 7), (4, 0, 4), (2, 0, 1)]
+LEVELS = [(1, 12, 12), (2, 12, 12), (10, 12, 12), (100, 12, 12), (30000, 12, 12), (100000, 12, 12)]
+QUIET = [(3, 10, 12), (10, 11, 12)]
+TWISTS = [(-18, 12, 12), (-12, 12, 12), (-6, 12, 12), (6, 12, 12), (12, 12, 12), (18, 12, 12)]
+NOISY_TWISTS = {-6: [(12, 11, 12)], 6: [(12, 11, 12)]}
+OFFSETS = [(2000, 12, 12), (5000, 12, 12), (10000, 12, 12)]
+CLOCKS = [
+    (20, [(-1000, 12, 12), (1000, 12, 12), (-3000, 0, 0), (3000, 0, 0)]),
+    (256, [(-100, 12, 12), (100, 12, 12), (-300, 12, 12), (300, 12, 12), (-1000, 0, 0), (1000, 0, 0)]),
+]
+SECOND_AFTER = (12, 12)
+SECOND_AT_ONCE = [(20, 12, 12), (10, 11, 12), (6, 10, 12), (3, 8, 12)]
+
+
+def heard_by_tnc(tnc, samples, _):
+    run = subprocess.run([tnc, "decode"], input=octets_of(samples), capture_output=True)
+    if run.returncode:
+        sys.exit(f"scores.py: tnc decode ended with status {run.returncode}: {run.stderr.decode().strip()}")
+    return run.stdout.decode().split()
+
+
+def resampled(samples, rate, kind, to):
+    words = ["sox", "-q", "-V0", "-t", "raw", "-r", str(RATE), "-e", "signed", "-b", "16", "-c", "1", "-"]
+    words += ["-t", kind, "-r", str(rate), "-e", "signed", "-b", "16", to]
+    subprocess.run(words, input=octets_of(samples), stderr=subprocess.DEVNULL, check=True)
+
+
+def heard_by_atest(_, samples, room):
+    """The frames in the hexadecimal dumps of Dire Wolf's atest."""
+    resampled(samples, 48000, "wav", f"{room}/48000.wav")
+    run = subprocess.run(["atest", "-B", "1200", "-h", f"{room}/48000.wav"], capture_output=True)
+    made, part = [], ""
+    for line in run.stdout.decode(errors="replace").splitlines() + [""]:
+        if line.startswith("  ") and line[5:8] == ":  ":
+            part += line[8:56].replace(" ", "")
+        elif part:
+            made.append(part)
+            part = ""
+    return made
+
+
+def heard_by_multimon(_, samples, room):
+    """The texts that multimon-ng prints, which are those of the frames: it prints no octets."""
+    resampled(samples, 22050, "raw", f"{room}/22050.raw")
+    with open(f"{room}/22050.raw", "rb") as given:
+        run = subprocess.run(["multimon-ng", "-q", "-t", "raw", "-a", "AFSK1200", "-"], stdin=given, capture_output=True)
+    return [line for line in run.stdout.decode(errors="replace").splitlines() if not line.startswith("AFSK1200:")]
+
+
+def count_of(sent, others, heard):
+    """How many of what was sent was heard, and how many lines are neither that nor another sender's."""
+    given = Counter(heard)
+    known = given & Counter(sent)
+    return known.total(), (given - known - Counter(others)).total()
+
+
+def main():
+    words = argparse.ArgumentParser(description="what tnc decode hears of sound that is not clean")
+    words.add_argument("--frames", type=int, default=100)
+    words.add_argument("--check", action="store_true")
+    words.add_argument("--beside", action="store_true")
+    words.add_argument("--tnc", default=f"{TOP}/bin/tnc")
+    given = words.parse_args()
+    count = CHECKED if given.check else given.frames
+    columns = [("tnc", heard_by_tnc, bytes.hex)]
+    if given.beside:
+        text_of = lambda frame: frame[16:].decode()
+        peers = [("atest", heard_by_atest, bytes.hex), ("multimon-ng", heard_by_multimon, text_of)]
+        for name, hears, spelled in peers:
+            if shutil.which(name) and shutil.which("sox"):
+                columns.append((name, hears, spelled))
+            else:
+                print(f"left out: {name} ({name} or sox is not installed)")
+    outside = 0
+    if not given.check:
+        print(f"| {'Of ' + str(count) + ' frames':40} | " + " | ".join(f"{name:>11}" for name, _, _ in columns) + " |")
+        print(f"|{'-' * 42}|" + "|".join("-" * 12 + ":" for _ in columns) + "|")
+    with tempfile.TemporaryDirectory() as room:
+        for name, least, most, sent, samples, others in rows(count):
+            cells = []
+            for column, hears, spelled in columns:
+                heard, strays = count_of(map(spelled, sent), map(spelled, others), hears(given.tnc, samples, room))
+                cells.append(f"{heard}" + (f" (+{strays})" if strays else ""))
+                if given.check and (strays or not least <= heard <= most):
+                    outside += 1
+                    print(f"scores.py: {name}: {heard} of {count} frames, and {strays} not sent; bounds {least} to {most}")
+            if not given.check:
+                print(f"| {name:40} | " + " | ".join(f"{cell:>11}" for cell in cells) + " |")
+    sys.exit(outside > 0)
+
+
+main()
