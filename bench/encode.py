@@ -5,9 +5,9 @@
 
 The frames are those of the shipped recordings, again and again. Each program runs five times, and the best run counts.
 Printed are seconds of audio made a second of processor time, the peak memory, and the time against that of tnc for as
-much audio. A peer that is not installed is left out, and said so. The plain encoder is bench/plain_encoder.c, built here
-with cc -O2; it writes a transmission at a time, as tnc does, and makes the same samples, which is looked at first. Dire
-Wolf's gen_packets makes the same frames with fewer flags, by its own sums, at 9600 samples a second."""
+much audio. A peer that is not installed is left out, and said so. The plain encoder is bench/plain_encoder.c, built
+here with cc -O2; it writes a transmission at a time, as tnc does, and makes the same samples, which is looked at first.
+Dire Wolf's gen_packets makes the same frames with fewer flags, by its own sums, at 9600 samples a second."""
 import subprocess
 import sys
 import tempfile

@@ -19,7 +19,8 @@ int main(int count, char **words) {
     int status;
     struct rusage used;
     if (wait4(child, &status, 0, &used) != child) return 1;
-    double seconds = used.ru_utime.tv_sec + used.ru_stime.tv_sec + (used.ru_utime.tv_usec + used.ru_stime.tv_usec) / 1e6;
+    double seconds = used.ru_utime.tv_sec + used.ru_stime.tv_sec;
+    seconds += (used.ru_utime.tv_usec + used.ru_stime.tv_usec) / 1e6;
     fprintf(stderr, "%f %ld\n", seconds, used.ru_maxrss);
     return WIFEXITED(status) ? WEXITSTATUS(status) : 1;
 }

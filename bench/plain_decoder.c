@@ -55,7 +55,8 @@ static void lane(const int16_t *x, size_t n, int offset) {
                 uint16_t check = 0xffff;
                 for (int i = 0; i < length - 2; i++) check = check >> 8 ^ fcs_table[(check ^ octets[i]) & 255];
                 check ^= 0xffff;
-                if (octets[length - 2] == (check & 255) && octets[length - 1] == check >> 8) add(at + 8, offset, octets, length - 2);
+                if (octets[length - 2] == (check & 255) && octets[length - 1] == check >> 8)
+                    add(at + 8, offset, octets, length - 2);
             }
             open = 1, length = filled = part = ones = 0;
         } else {
@@ -94,7 +95,8 @@ int main(void) {
     for (size_t i = 0; i < count; i++) {
         int repeated = 0;
         for (size_t j = i; j-- > 0 && found[j].end + 15 >= found[i].end;)
-            if (found[j].length == found[i].length && !memcmp(found[j].octets, found[i].octets, found[i].length)) repeated = 1;
+            if (found[j].length == found[i].length && !memcmp(found[j].octets, found[i].octets, found[i].length))
+                repeated = 1;
         if (repeated) continue;
         for (int k = 0; k < found[i].length; k++) printf("%02x", found[i].octets[k]);
         putchar('\n');

@@ -73,7 +73,8 @@ decodes() {
 
 # RECORDING: the same of a WAV file that sox made of it.
 decodes_wav() {
-    sox -q "${pcm[@]}" "$1.raw" "$room/recording.wav" && "$tnc" decode --wav <"$room/recording.wav" | cmp -s - "$1.frames"
+    sox -q "${pcm[@]}" "$1.raw" "$room/recording.wav" \
+        && "$tnc" decode --wav <"$room/recording.wav" | cmp -s - "$1.frames"
 }
 
 # RECORDING: the same of a WAV file that sox writes into a pipe, whose head does not tell its length.
@@ -117,20 +118,23 @@ has_lengths() {
         && [ "$(($(octets_of "$1" --silence 5) - plain))" = "$((count * 10))" ] \
         && [ "$(($(octets_of "$1" --join --silence 5) - $(octets_of "$1" --join)))" = 10 ] \
         && [ "$(($(octets_of "$1" --wav) - plain))" = 44 ] \
-        && cmp -s <("$tnc" encode --silence 5 <"$1" | head -c 14) <(printf '\0\0\0\0\0\0\0\0\0\0'; "$tnc" encode <"$1" | head -c 4)
+        && cmp -s <("$tnc" encode --silence 5 <"$1" | head -c 14) \
+            <(head -c 10 /dev/zero; "$tnc" encode <"$1" | head -c 4)
 }
 
 # A frame with both octets that KISS writes as two.
 escapes() {
     local line=c0dbdcdd0102030405060708090a0b
+    local spelled='\xc0\0\xdb\xdc\xdb\xdd\xdc\xdd\x01\x02\x03\x04\x05\x06\x07\x08\x09\x0a\x0b\xc0'
     printf '%s\n' "$line" | "$tnc" encode | "$tnc" decode --kiss >"$room/frames.kiss" \
-        && cmp -s "$room/frames.kiss" <(printf '\xc0\0\xdb\xdc\xdb\xdd\xdc\xdd\x01\x02\x03\x04\x05\x06\x07\x08\x09\x0a\x0b\xc0') \
+        && cmp -s "$room/frames.kiss" <(printf "$spelled") \
         && [ "$("$tnc" encode --kiss <"$room/frames.kiss" | "$tnc" decode)" = "$line" ]
 }
 
 # FRAMES: sox reads the WAV file of encode as its raw samples.
 is_wav_for_sox() {
-    "$tnc" encode --wav <"$1" >"$room/made.wav" && sox -q "$room/made.wav" "${pcm[@]}" - | cmp -s - <("$tnc" encode <"$1")
+    "$tnc" encode --wav <"$1" >"$room/made.wav" \
+        && sox -q "$room/made.wav" "${pcm[@]}" - | cmp -s - <("$tnc" encode <"$1")
 }
 
 # A stored text of decode and show. It was made by the program once; then each of its lines was compared with what
@@ -156,11 +160,12 @@ is_other_rate() {
         | answers 2 "tnc: bad input: bad format 3 value 44100 at 27" decode --wav && [ ! -s "$room/output" ]
 }
 
-# A bad line behind a good one: told, at its place, and the frame before it is sent.
+# PLACE FLAW LINE: a bad line behind a good one, told at its place, and the frame before it is sent.
 is_bad_line() {
     local line=9c6e988a9a40e0ac9664848484e103f0
     printf '%s\n' "$line" | "$tnc" encode >"$room/sent.raw"
-    printf '%s\n%s' "$line" "$3" | answers 2 "tnc: bad input: $2 at $((33 + $1))" encode && cmp -s "$room/output" "$room/sent.raw"
+    printf '%s\n%s' "$line" "$3" | answers 2 "tnc: bad input: $2 at $((33 + $1))" encode \
+        && cmp -s "$room/output" "$room/sent.raw"
 }
 
 # A loop on a signal that it makes itself.
@@ -248,10 +253,11 @@ for frames in samples/*.frames; do
         skip "encode of $frames, heard by atest" "sox or atest"
     fi
 done
+frames=samples/direwolf-clean.frames
 if has sox multimon-ng; then
-    check "encode of samples/direwolf-clean.frames, heard by multimon-ng" is_heard_by_multimon samples/direwolf-clean.frames
+    check "encode of $frames, heard by multimon-ng" is_heard_by_multimon "$frames"
 else
-    skip "encode of samples/direwolf-clean.frames, heard by multimon-ng" "sox or multimon-ng"
+    skip "encode of $frames, heard by multimon-ng" "sox or multimon-ng"
 fi
 
 # Inputs with nothing in them, and inputs that are not what they should be.
@@ -276,8 +282,8 @@ check "a loop" loops
 # Words that are refused, and streams that fail.
 check "a word that is no command" is_refused decod
 check "no word" is_refused
-for words in "decode --rate 48000" "decode --wav=yes" "encode --opening 1" "encode --silence 1000001" "show --modulo 16" \
-    "loop --seed 7" "loop --seed 7 --frames 1001" "decode recording.raw" "decode --help" "--version"; do
+for words in "decode --rate 48000" "decode --wav=yes" "decode recording.raw" "decode --help" "--version" \
+    "encode --opening 1" "encode --silence 1000001" "show --modulo 16" "loop --seed 7" "loop --seed 7 --frames 1001"; do
     check "$words" is_refused $words
 done
 check "decode to a full disk" cannot_write decode <samples/direwolf-clean.raw
@@ -288,11 +294,13 @@ for command in decode encode show; do
     check "$command of a folder" cannot_read $command
 done
 
-# The manual page, and the scores of sound that is not clean.
+# The manual page, what the documents show, and the scores of sound that is not clean.
 check "the manual page and the program agree" scripts/check_manual.sh "$tnc"
 if has python3; then
+    check "the documents show what the program prints" scripts/check_readme.py "$tnc"
     check "scores within their bounds" scripts/scores.py --check --tnc "$tnc"
 else
+    skip "the documents show what the program prints" python3
     skip "scores within their bounds" python3
 fi
 

@@ -5,6 +5,7 @@
   scripts/scores.py --frames 20     with another number
   scripts/scores.py --beside        and what atest and multimon-ng hear of the same sound, where they are installed
   scripts/scores.py --check         12 frames a row, each count held against its bounds; status 1 outside
+  scripts/scores.py --noise 40      how many lines come of 40 hours of white noise, which holds no frame
   scripts/scores.py --tnc PROGRAM   of another program than bin/tnc
 
 The sound is made here and shares nothing with the program: frames with random text, inserted zeros, tones of continuous
@@ -140,8 +141,8 @@ def octets_of(samples):
     return made.tobytes()
 
 
-# A row: its name, the least and the most of the checked frames that are heard, the frames that were sent, the sound, and
-# the frames of another sender, which may be heard too.
+# A row: its name, the least and the most of the checked frames that are heard, the frames that were sent, the sound,
+# and the frames of another sender, which may be heard too.
 def rows(count):
     mixed = frames(count, 1, None)
     clean = sound(mixed, 11)
@@ -180,7 +181,8 @@ def rows(count):
 # Bounds of the checked frames: what a correct receiver of this kind hears of the fixed sound, and one or two frames of
 # room where a sample that is rounded otherwise could turn the outcome.
 CLEAN = (12, 12)
-NOISES = [(20, 12, 12), (15, 12, 12), (10, 12, 12), (8, 11, 12), (7, 11, 12), (6, 8, 12), (5, 3, 7), (4, 0, 4), (2, 0, 1)]
+NOISES = [(20, 12, 12), (15, 12, 12), (10, 12, 12), (8, 11, 12), (7, 11, 12), (6, 8, 12), (5, 3, 7), (4, 0, 4)]
+NOISES += [(2, 0, 1)]
 LEVELS = [(1, 12, 12), (2, 12, 12), (10, 12, 12), (100, 12, 12), (30000, 12, 12), (100000, 12, 12)]
 QUIET = [(3, 10, 12), (10, 11, 12)]
 TWISTS = [(-18, 12, 12), (-12, 12, 12), (-6, 12, 12), (6, 12, 12), (12, 12, 12), (18, 12, 12)]
@@ -225,8 +227,18 @@ def heard_by_multimon(_, samples, room):
     """The texts that multimon-ng prints, which are those of the frames: it prints no octets."""
     resampled(samples, 22050, "raw", f"{room}/22050.raw")
     with open(f"{room}/22050.raw", "rb") as given:
-        run = subprocess.run(["multimon-ng", "-q", "-t", "raw", "-a", "AFSK1200", "-"], stdin=given, capture_output=True)
+        words = ["multimon-ng", "-q", "-t", "raw", "-a", "AFSK1200", "-"]
+        run = subprocess.run(words, stdin=given, capture_output=True)
     return [line for line in run.stdout.decode(errors="replace").splitlines() if not line.startswith("AFSK1200:")]
+
+
+def of_noise(tnc, hours):
+    """The lines that come of noise alone: samples that are drawn evenly, hour by hour."""
+    lines = 0
+    for hour in range(hours):
+        noise = random.Random(hour).randbytes(2 * RATE * 3600)
+        lines += subprocess.run([tnc, "decode"], input=noise, capture_output=True, check=True).stdout.count(b"\n")
+    print(f"{hours} hours of noise: {lines} lines")
 
 
 def count_of(sent, others, heard):
@@ -242,7 +254,11 @@ def main():
     words.add_argument("--check", action="store_true")
     words.add_argument("--beside", action="store_true")
     words.add_argument("--tnc", default=f"{TOP}/bin/tnc")
+    words.add_argument("--noise", type=int, metavar="HOURS")
     given = words.parse_args()
+    if given.noise:
+        of_noise(given.tnc, given.noise)
+        return
     count = CHECKED if given.check else given.frames
     columns = [("tnc", heard_by_tnc, bytes.hex)]
     if given.beside:
@@ -265,7 +281,7 @@ def main():
                 cells.append(f"{heard}" + (f" (+{strays})" if strays else ""))
                 if given.check and (strays or not least <= heard <= most):
                     outside += 1
-                    print(f"scores.py: {name}: {heard} of {count} frames, and {strays} not sent; bounds {least} to {most}")
+                    print(f"scores.py: {name}: {heard} of {count}, and {strays} not sent; bounds {least} to {most}")
             if not given.check:
                 print(f"| {name:40} | " + " | ".join(f"{cell:>11}" for cell in cells) + " |")
     sys.exit(outside > 0)
