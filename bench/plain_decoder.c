@@ -19,8 +19,8 @@ static int sine(int phase) {
 static int is_mark(const int16_t *x) {
     int64_t sum[4];
     for (int s = 0; s < 4; s++) {
-        int64_t total = 0;
-        for (int i = 0; i < 8; i++) total += (int64_t)x[i] * weight[s][i];
+        int32_t total = 0;
+        for (int i = 0; i < 8; i++) total += x[i] * weight[s][i];
         sum[s] = total;
     }
     uint64_t mark = (uint64_t)(sum[0] * sum[0]) + (uint64_t)(sum[1] * sum[1]);

@@ -245,7 +245,7 @@ def count_of(sent, others, heard):
     """How many of what was sent was heard, and how many lines are neither that nor another sender's."""
     given = Counter(heard)
     known = given & Counter(sent)
-    return known.total(), (given - known - Counter(others)).total()
+    return sum(known.values()), sum((given - known - Counter(others)).values())
 
 
 def main():
