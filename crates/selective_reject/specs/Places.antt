@@ -17,25 +17,31 @@ packet_at places k = (place_at places k).packet
 abbrev pub is_full : List Place → ℕ → Bool
 is_full places k = is_some (packet_at places k)
 
--- the packet is neither there nor asked for
-abbrev pub is_missing : List Place → ℕ → Bool
-is_missing places k = not ((place_at places k).asked || is_full places k)
+-- a place with its packet
+abbrev pub filled_place : Packet → Place → Place
+filled_place packet place = record { packet = Some packet; asked = place.asked }
 
 abbrev pub with_packet : List Place → ℕ → Packet → List Place
-with_packet places k packet = slice_set places k (record { packet = Some packet; asked = (place_at places k).asked })
+with_packet places k packet = slice_set places k (filled_place packet (place_at places k))
 
--- the place is asked for where its packet is missing
+-- the packet is neither there nor asked for
+abbrev pub misses : Place → Bool
+misses place = not (place.asked || is_some place.packet)
+
+abbrev pub is_missing : List Place → ℕ → Bool
+is_missing places k = misses (place_at places k)
+
+-- a place, asked for where its packet is not there
+abbrev pub asked_place : Place → Place
+asked_place place = record { packet = place.packet; asked = place.asked || not (is_some place.packet) }
+
 abbrev pub with_asked : List Place → ℕ → List Place
-with_asked places k = if is_missing places k then slice_set places k (record { packet = None; asked = true }) else places
+with_asked places k = slice_set places k (asked_place (place_at places k))
 
 -- which of the first n places miss their packets, rising
 unfoldable pub missing : List Place → ℕ → List ℕ
 missing places n = filter (is_missing places) (range_with_len 0 n)
 
--- a place, asked for where its packet is missing
-abbrev pub asked_place : Place → Place
-asked_place place = record { packet = place.packet; asked = place.asked || not (is_some place.packet) }
-
--- the first n places are asked for where their packets are missing
+-- the first n places are asked for where their packets are not there
 unfoldable pub asked : List Place → ℕ → List Place
 asked places n = map asked_place (take n places) ++ drop n places

@@ -4,7 +4,7 @@ ghost use Rattle.std.specs.Prelude.{◌≡◌, ℕ, ◌+◌, ◌%◌, ◌<◌, �
 ghost use Rattle.std.specs.Result.{IsErrOf};
 ghost use Rattle.selective_reject.specs.Numbers.{IsModulus, ahead};
 ghost use Rattle.selective_reject.specs.Window.{IsWindow, IsBadWindow, AreFitting};
-ghost use Rattle.selective_reject.specs.Incoming.{Incoming, IsIncoming, StandsForIncoming, empty_incoming, reduced_incoming, took, taking, keeps, after_accept, taken, after_take, numbers_to_ask, after_ask};
+ghost use Rattle.selective_reject.specs.Incoming.{Incoming, IsIncoming, StandsForIncoming, empty_incoming, reduced_incoming, took, taking, keeps, after_accept, taken, after_take, before_number, numbers_to_ask, after_ask};
 ghost use Rattle.selective_reject.specs.TrueNumbers.{IsInReach, took_truly, after_accept_truly};
 
 use crate::number::ahead;
@@ -166,17 +166,19 @@ impl InStore {
             → (result.items ≡ numbers_to_ask store ns) × StandsForIncoming self.new (after_ask store ns) }
         ensures formed { IsIncoming self.new }
     {
-        let mut numbers = ArrayVec::new();
+        let count = self.before_number(ns);
+        self.places.ask_first(count, self.vr, self.modulus)
+    }
+
+    /// How many places from V(R) on stand before that of `ns`: none where it is not in the window.
+    fn before_number(&self, ns: u8) -> u8
+        requires { ns < self.now.modulus }
+        ensures count { result ≡ before_number self.now ns }
+        ensures within { result < self.now.window }
+        ensures formed { IsIncoming self.now }
+    {
         let distance = ahead(self.modulus, self.vr, ns);
-        if distance >= self.window {
-            return numbers;
-        }
-        for place in 0..distance {
-            if self.places.ask(place) {
-                numbers.push((self.vr + place) % self.modulus);
-            }
-        }
-        numbers
+        if distance < self.window { distance } else { 0 }
     }
 
     /// V(R), as it is sent in N(R): the number of the next packet in sequence.

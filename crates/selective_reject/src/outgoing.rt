@@ -146,6 +146,10 @@ impl OutStore {
         requires number { nr < modulus }
         ensures packet { option_copied result ≡ sent_packet modulus nr self.now }
         ensures stands_for { (store : Outgoing) → StandsForOutgoing self.now store → option_copied result ≡ sent_packet modulus nr store }
+        // Where fewer than the modulus are under way, a number from V(A) to below the top gives its packet.
+        ensures true_number { (store : Outgoing) (number : ℕ) → StandsForOutgoing self.now store
+            → store.va ≤ number → number < store.top → store.top < store.va + modulus → nr ≡ number % modulus
+            → option_copied result ≡ slice_get store.packets (number - store.va) }
     {
         let place = ahead(modulus, self.va, nr);
         if place >= self.most_sent {

@@ -1,9 +1,11 @@
 //! The places of the numbers that may come next.
 
-ghost use Rattle.std.specs.Prelude.{◌≡◌, ◌+◌, ◌<◌, ◌≤◌, true, List, [], ◌∷◌, ◌++◌, length, drop, slice_index_or, slice_set, replicate, Option, Some, None, IfOk};
-ghost use Rattle.selective_reject.specs.Places.{empty_place, is_full, is_missing, packet_at, with_packet, with_asked};
+ghost use Rattle.std.specs.Prelude.{◌≡◌, ◌+◌, ◌%◌, ◌<◌, ◌≤◌, true, [], ◌∷◌, ◌++◌, length, map, drop, replicate, IfOk};
+ghost use Rattle.selective_reject.specs.Numbers.{IsModulus};
+ghost use Rattle.selective_reject.specs.Places.{empty_place, filled_place, asked_place, misses, is_full, is_missing, packet_at, with_packet, with_asked, missing, asked};
 
 use crate::packet::Packet;
+use arrayvec::ArrayVec;
 use circular_buffer::HeapCircularBuffer;
 use std::alloc::Global;
 use std::marker::Model;
@@ -26,6 +28,23 @@ impl Place {
             packet: None,
             asked: false,
         }
+    }
+
+    fn put(&mut self, packet: Packet)
+        ensures { self.new ≡ filled_place packet self.old }
+    {
+        self.packet = Some(packet);
+    }
+
+    /// Notes that the number is asked for, where its packet is not there and it was not asked for before, and tells
+    /// whether that is so.
+    fn ask(&mut self) -> bool
+        ensures asked { result ≡ misses self.old }
+        ensures place { self.new ≡ asked_place self.old }
+    {
+        let misses = !self.asked && self.packet.is_none();
+        self.asked |= misses;
+        misses
     }
 }
 
@@ -73,10 +92,11 @@ impl Places {
     }
 
     pub(crate) fn put(&mut self, place: u8, packet: Packet)
+        requires { place < length self.old }
         ensures { self.new ≡ with_packet self.old place packet }
     {
         if let Some(place) = self.places.get_mut(usize::from(place)) {
-            place.packet = Some(packet);
+            place.put(packet);
         }
     }
 
@@ -91,21 +111,34 @@ impl Places {
         first.packet
     }
 
-    /// Notes that the number is asked for, where its packet is not there and it was not asked for before, and tells
-    /// whether that is so.
-    pub(crate) fn ask(&mut self, place: u8) -> bool
+    /// Asks for the first `count` places that miss their packets, and gives their numbers, where the first place is that
+    /// of number `vr`.
+    pub(crate) fn ask_first(&mut self, count: u8, vr: u8, modulus: u8) -> ArrayVec<u8, 64>
+        requires modulus { IsModulus modulus }
+        requires vr { vr < modulus }
+        requires within { count ≤ length self.old }
+        requires at_most_64 { count ≤ 64 }
+        ensures numbers { result.items ≡ map (λ k. (vr + k) % modulus) (missing self.old count) }
+        ensures places { self.new ≡ asked self.old count }
+    {
+        let mut numbers = ArrayVec::new();
+        for place in 0..count {
+            if self.ask(place) {
+                numbers.push((vr + place) % modulus);
+            }
+        }
+        numbers
+    }
+
+    fn ask(&mut self, place: u8) -> bool
         requires { place < length self.old }
         ensures asked { result ≡ is_missing self.old place }
         ensures places { self.new ≡ with_asked self.old place }
     {
-        let Some(place) = self.places.get_mut(usize::from(place)) else {
-            return false;
-        };
-        if place.asked || place.packet.is_some() {
-            return false;
+        match self.places.get_mut(usize::from(place)) {
+            Some(place) => place.ask(),
+            None => false,
         }
-        place.asked = true;
-        true
     }
 }
 

@@ -1,0 +1,4 @@
+pub mod Distances
+pub mod PlaceLemmas
+pub mod IncomingRounds
+pub mod OutgoingRounds
