@@ -47,6 +47,10 @@ after_acknowledge modulus nr store = if is_named modulus nr store then acknowled
 abbrev pub back : Outgoing → Outgoing
 back store = record store { vs = store.va }
 
+-- the packets that stay are counted from 0 again
+abbrev pub restarted : Outgoing → Outgoing
+restarted store = record { va = 0; vs = 0; top = 0; packets = store.packets }
+
 -- the packet that was sent with a number: from va to below top
 abbrev pub sent_packet : ℕ → ℕ → Outgoing → Option Packet
 sent_packet modulus number store =

@@ -3,7 +3,7 @@
 ghost use Rattle.std.specs.Prelude.{◌≡◌, ℕ, ◌+◌, ◌-◌, ◌%◌, ◌<◌, ◌≤◌, ◌↔◌, ◌==◌, length, slice_get, nat_lt, Ok, OnOk, IfOk, IfErr, IfSome, IsErr, if◌then◌else◌};
 ghost use Rattle.std.specs.Option.{option_copied};
 ghost use Rattle.selective_reject.specs.Numbers.{IsModulus};
-ghost use Rattle.selective_reject.specs.Outgoing.{Outgoing, IsOutgoing, StandsForOutgoing, empty_outgoing, reduced_outgoing, after_push, number_to_send, after_next, acknowledgement, after_acknowledge, acknowledged, back, sent_packet};
+ghost use Rattle.selective_reject.specs.Outgoing.{Outgoing, IsOutgoing, StandsForOutgoing, empty_outgoing, reduced_outgoing, after_push, number_to_send, after_next, acknowledgement, after_acknowledge, acknowledged, back, restarted, sent_packet};
 
 use crate::number::ahead;
 use crate::packet::Packet;
@@ -179,6 +179,50 @@ impl OutStore {
         ensures stands_for { (store : Outgoing) → StandsForOutgoing self.now store → result ≡ nat_lt store.va store.top }
     {
         self.most_sent > 0
+    }
+
+    /// How many of the packets were sent since the last [`OutStore::go_back`]: V(S) less V(A).
+    pub fn sent(&self) -> u8
+        ensures count { self.now.vs ≡ self.now.va + result }
+        ensures stands_for { (store : Outgoing) → StandsForOutgoing self.now store → store.vs ≡ store.va + result }
+        ensures formed { IsOutgoing self.now }
+    {
+        self.sent
+    }
+
+    /// The packet that stands so many places behind the first that is not acknowledged, sent or not.
+    pub fn packet(&self, place: usize) -> Option<&Packet>
+        ensures { option_copied result ≡ slice_get self.now.packets place }
+    {
+        self.packets.get(place)
+    }
+
+    /// How many packets [`OutStore::acknowledge`] would remove, which is refused exactly where that is.
+    pub fn acknowledgement(&self, modulus: u8, nr: u8) -> Result<u8, BadNr>
+        requires modulus { IsModulus modulus }
+        requires number { nr < modulus }
+        ensures count { result ≡ acknowledgement modulus nr self.now }
+        ensures within { IfOk result (λ count. count ≤ length self.now.packets) }
+        ensures formed { IsOutgoing self.now }
+    {
+        let count = ahead(modulus, self.va, nr);
+        if count > self.most_sent {
+            return Err(BadNr {
+                va: self.va % modulus,
+                top: (self.va + self.most_sent) % modulus,
+            });
+        }
+        Ok(count)
+    }
+
+    /// Counts the packets from 0 again, none of them sent: V(A) and V(S) are 0, and the packets stay.
+    pub fn restart(&mut self)
+        ensures store { self.new ≡ restarted self.old }
+        ensures formed { IsOutgoing self.new }
+    {
+        self.va = 0;
+        self.sent = 0;
+        self.most_sent = 0;
     }
 
     /// Empties the store, as after [`OutStore::new`]: V(A) and V(S) are 0.
