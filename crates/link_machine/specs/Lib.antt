@@ -8,3 +8,5 @@ pub mod Frames
 pub mod Ticks
 pub mod Step
 pub mod StandsFor
+pub mod Room
+pub mod Held

@@ -3,7 +3,7 @@
 use Rattle.std.specs.Prelude.{ℕ, ◌+◌, Bool, false, [], Some, None}
 use Rattle.ax25_address.specs.declared.path.Path.{Path}
 use Rattle.selective_reject.specs.declared.window.Mode.{Mode}
-use Rattle.selective_reject.specs.Outgoing.{Outgoing, empty_outgoing, is_named}
+use Rattle.selective_reject.specs.Outgoing.{restarted, Outgoing, empty_outgoing, is_named}
 use Rattle.selective_reject.specs.Incoming.{Incoming, empty_incoming}
 use Rattle.selective_reject.specs.Numbers.{ahead}
 use Rattle.link_machine.specs.declared.state.LinkState.{LinkState}
@@ -50,24 +50,25 @@ with_control control m = record m { control = control }
 abbrev pub fresh_control : Control → Control
 fresh_control c = record c { rej = false; poll = false; busy = false; due = false; rc = 0; t1 = None; t2 = None; t3 = Some t3_ticks }
 
--- FRESH: all numbers are 0, and nothing is stored or asked for. The packets given stay.
-abbrev pub renumbered : Outgoing → Outgoing
-renumbered o = record { va = 0; vs = 0; top = 0; packets = o.packets }
-
+-- nothing is stored or asked for, and V(R) is 0
 abbrev pub cleared : Incoming → Incoming
 cleared i = empty_incoming i.modulus i.window i.mode
 
+-- FRESH: the same, and all numbers are 0. The packets given stay.
 abbrev pub fresh : Machine → Machine
 fresh m = record {
   path = m.path;
   control = fresh_control m.control;
-  outgoing = renumbered m.outgoing;
+  outgoing = restarted m.outgoing;
   incoming = cleared m.incoming;
 }
 
--- EMPTY: no packet waits, and no disconnect is asked for
+-- EMPTY: no packet waits, and no disconnect is asked for. The numbers of a store that is emptied are 0.
+abbrev pub unquit : Control → Control
+unquit c = record c { quit = false }
+
 abbrev pub emptied : Machine → Machine
-emptied m = record m { control = record m.control { quit = false }; outgoing = record m.outgoing { packets = [] } }
+emptied m = record m { control = unquit m.control; outgoing = empty_outgoing }
 
 abbrev pub in_state : LinkState → Control → Control
 in_state state c = record c { state = state }

@@ -8,6 +8,9 @@ mod control;
 mod fault;
 mod machine;
 mod params;
+mod room;
+mod sending;
+mod setting_up;
 mod state;
 
 pub use acts::{Acts, Told, Why};
