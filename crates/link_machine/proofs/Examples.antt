@@ -17,8 +17,9 @@ use Rattle.link_machine.specs.declared.acts.Why.TheVariants.{Asked, Failed}
 use Rattle.link_machine.specs.Machine.{new_machine}
 use Rattle.link_machine.specs.Sent.Sent.{InfoSent, SuperSent, SetupSent}
 use Rattle.link_machine.specs.Turn.{Turn, begin}
-use Rattle.link_machine.specs.Step.{Event, step}
-use Rattle.link_machine.specs.Step.Event.{Connect, Send, Disconnect, Hear, Tick}
+use Rattle.link_machine.specs.Event.{Event}
+use Rattle.link_machine.specs.Step.{step}
+use Rattle.link_machine.specs.Event.Event.{Connect, Send, Disconnect, Hear, Tick}
 
 -- the last of several events
 abbrev run_on : List Event → Turn → Turn

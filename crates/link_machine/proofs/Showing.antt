@@ -2,7 +2,7 @@
 use Rattle.std.proofs.Common.{◌≡◌, ℕ, ◌+◌, ◌%◌, Bool, List, [], ◌∷◌, ◌++◌, map, refl, sym, ◌∙◌, ap, subst, arith}
 use Rattle.std.proofs.lemmas.List.{map-append}
 use Rattle.ax25_address.specs.declared.path.Path.{Path}
-use Rattle.selective_reject.specs.Outgoing.{Outgoing, StandsForOutgoing}
+use Rattle.selective_reject.specs.Outgoing.{Outgoing, IsOutgoing, StandsForOutgoing}
 use Rattle.selective_reject.specs.Incoming.{Incoming, StandsForIncoming}
 use Rattle.link_machine.specs.declared.acts.Told.{Told}
 use Rattle.link_machine.specs.declared.control.Control.{Control}
@@ -31,8 +31,8 @@ holds_setting f held m h = record {
     modulus = h.formed.modulus;
     outgoing = h.formed.outgoing;
     incoming = h.formed.incoming;
-    next = h.formed.next;
   };
+  next = h.next;
 }
 
 pub shows_setting :
@@ -103,3 +103,24 @@ shows_fresh held behind room t h new = shows_changing fresh held behind room t r
 -- what waits is forgotten
 pub shows_emptied : (held behind : Held) (room : Room) (t : Turn) → Shows held room t → ((m : Machine) → Holds held m → Holds behind (emptied m)) → Shows behind room (changing emptied t)
 shows_emptied held behind room t h new = shows_changing emptied held behind room t refl h (new t.now h.holds)
+
+-- what waits to be acknowledged changes
+pub holds_outgoing :
+    (held : Held) (m : Machine) (behind o : Outgoing) → Holds held m → IsOutgoing behind → StandsForOutgoing behind o
+    → Holds (record held { outgoing = behind }) (record m { outgoing = o })
+holds_outgoing held m behind o h formed stands = record {
+  stands = record {
+    path = h.stands.path;
+    control = h.stands.control;
+    outgoing = stands;
+    incoming = h.stands.incoming;
+  };
+  formed = record {
+    mode = h.formed.mode;
+    window = h.formed.window;
+    modulus = h.formed.modulus;
+    outgoing = formed;
+    incoming = h.formed.incoming;
+  };
+  next = h.next;
+}

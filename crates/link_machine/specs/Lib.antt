@@ -3,6 +3,7 @@ pub mod Machine
 pub mod Sent
 pub mod Turn
 pub mod Acts
+pub mod Event
 pub mod Requests
 pub mod Frames
 pub mod Ticks
@@ -10,3 +11,4 @@ pub mod Step
 pub mod StandsFor
 pub mod Room
 pub mod Held
+pub mod Timers

@@ -3,6 +3,7 @@ ghost use Rattle.std.specs.Prelude.{◌≡◌, ◌<◌, Bool};
 ghost use Rattle.link_machine.specs.Machine.{fresh_control, in_state, idle_control};
 ghost use Rattle.link_machine.specs.Acts.{timed_by, nothing_due, behind_poll, polling, awaiting, releasing, calling, owing, watching};
 ghost use Rattle.link_machine.specs.Frames.{stopped_t1, stopped};
+ghost use Rattle.link_machine.specs.Requests.{has_link, is_closed};
 ghost use Rattle.link_machine.specs.Ticks.{retried, is_spent, unretried};
 
 use crate::state::LinkState;
@@ -62,6 +63,20 @@ impl Control {
             t2: None,
             t3: None,
         }
+    }
+
+    /// Whether a link is called, up or released.
+    pub(crate) fn has_link(&self) -> bool
+        ensures { result ≡ has_link self.now.state }
+    {
+        !matches!(self.state, LinkState::Idle)
+    }
+
+    /// Whether packets and a disconnect are refused.
+    pub(crate) fn is_closed(&self) -> bool
+        ensures { result ≡ is_closed self.now }
+    {
+        matches!(self.state, LinkState::Idle | LinkState::Releasing) || self.quit
     }
 
     /// A set-up begins. A wish to disconnect stays.

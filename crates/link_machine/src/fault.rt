@@ -1,6 +1,10 @@
 //! Why a call of a link is refused.
+ghost use Rattle.std.specs.Prelude.{◌≡◌};
+ghost use Rattle.link_machine.specs.declared.fault.LinkFault.TheVariants.{Memory as MemoryFault};
+
 use crate::state::LinkState;
 use thiserror::Error;
+use tnc_base::OutOfMemory;
 
 /// Why a call is refused. The link is then as it was.
 #[derive(Clone, Copy, Debug, PartialEq, Eq, Error)]
@@ -39,4 +43,12 @@ pub enum NewFault {
     /// Memory was not given.
     #[error("out of memory")]
     Memory,
+}
+
+impl From<OutOfMemory> for LinkFault {
+    ghost from_gives = { λ _ fault. fault ≡ MemoryFault };
+
+    fn from(_: OutOfMemory) -> LinkFault {
+        LinkFault::Memory
+    }
 }

@@ -6,16 +6,24 @@
 mod acts;
 mod control;
 mod fault;
+mod flushing;
+mod hearing;
+mod hearing_up;
+mod link;
 mod machine;
 mod params;
+mod receiving;
+mod requests;
 mod room;
 mod sending;
 mod setting_up;
 mod state;
+mod ticks;
 
 pub use acts::{Acts, Told, Why};
 pub use control::Control;
 pub use fault::{LinkFault, NewFault};
+pub use link::Link;
 pub use machine::Machine;
 pub use params::Params;
 pub use state::LinkState;

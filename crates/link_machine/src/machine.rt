@@ -1,15 +1,21 @@
 //! What a link keeps, and the acts that change it without a word.
 ghost use Rattle.std.specs.Prelude.{◌≡◌, ℕ, ◌<◌, ◌≤◌, true, Bool, IfOk};
-ghost use Rattle.selective_reject.specs.Window.{IsWindow};
+ghost use Rattle.std.specs.Prelude.{◌↔◌};
+ghost use Rattle.std.specs.Result.{IsErrOf};
+ghost use Rattle.selective_reject.specs.Window.{IsBadWindow};
+ghost use Rattle.link_machine.specs.StandsFor.{StandsFor};
 ghost use Rattle.link_machine.specs.Machine.{Machine as State, fresh, emptied, is_valid, named, new_machine};
 ghost use Rattle.link_machine.specs.Turn.{Turn, changing};
 ghost use Rattle.link_machine.specs.Acts.{acknowledged, gone_back, recover};
-ghost use Rattle.link_machine.specs.Held.{Holds, Shows};
+ghost use Rattle.link_machine.specs.Held.{IsLink, IsWhole, Holds, Shows};
 ghost use Rattle.link_machine.specs.declared.room.Room.{Room};
 
 use crate::control::Control;
+use crate::fault::{LinkFault, NewFault};
+use crate::params::Params;
 use ax25_address::Path;
-use selective_reject::{InStore, Mode, OutStore};
+use selective_reject::{InStore, Mode, OutStore, StoreFault};
+use std::alloc::Global;
 
 /// How many sequence numbers there are.
 pub(crate) const MODULUS: u8 = 8;
@@ -32,6 +38,41 @@ pub struct Machine {
 }
 
 impl Machine {
+    /// An idle link on a path.
+    pub(crate) fn new(alloc: Global, params: Params, path: Path) -> Result<Machine, NewFault>
+        ensures stands_for { IfOk result (λ machine. StandsFor machine (new_machine path 8 params.window params.mode)) }
+        ensures whole { IfOk result IsWhole }
+        ensures bad_window { (window : ℕ) → IsErrOf result (NewFault.BadWindow window)
+            ↔ ((window ≡ params.window) × IsBadWindow 8 params.window params.mode) }
+    {
+        let incoming = match InStore::new(alloc, MODULUS, params.window, params.mode) {
+            Ok(incoming) => incoming,
+            Err(StoreFault::BadWindow { window }) => return Err(NewFault::BadWindow { window }),
+            Err(StoreFault::Memory) => return Err(NewFault::Memory),
+        };
+        let Ok(outgoing) = OutStore::new(alloc) else {
+            return Err(NewFault::Memory);
+        };
+        Ok(Machine {
+            path,
+            mode: params.mode,
+            window: params.window,
+            control: Control::idle(),
+            outgoing,
+            incoming,
+        })
+    }
+
+    /// The refusal of a request in this state.
+    pub(crate) fn wrong_state(&self) -> LinkFault
+        ensures { result ≡ LinkFault.WrongState self.now.control.state self.now.control.quit }
+    {
+        LinkFault::WrongState {
+            state: self.control.state,
+            quit: self.control.quit,
+        }
+    }
+
     /// The numbers, conditions and timers of a set-up that begins. What was given to be sent stays, and so does a wish to
     /// disconnect.
     pub(crate) fn begin(&mut self)
@@ -53,7 +94,11 @@ impl Machine {
     /// Takes a valid N(R) as an acknowledgement.
     pub(crate) fn acknowledge(&mut self, nr: u8)
         requires { nr < 8 }
-        ensures { (m : State) → Holds self.old m → is_valid nr m ≡ true → Holds self.new (acknowledged (named nr m) m) }
+        ensures holds { (m : State) → Holds self.old m → is_valid nr m ≡ true → Holds self.new (acknowledged (named nr m) m) }
+        ensures formed { IsLink self.old → IsLink self.new }
+        ensures incoming { self.new.incoming ≡ self.old.incoming }
+        ensures mode { self.new.mode ≡ self.old.mode }
+        ensures window { self.new.window ≡ self.old.window }
     {
         if let Ok(count) = self.outgoing.acknowledge(MODULUS, nr) {
             let all = !self.outgoing.is_waiting();

@@ -18,11 +18,12 @@ use Rattle.link_machine.specs.Sent.{Sent, frame_of, frames_of, infos_from}
 use Rattle.link_machine.specs.Sent.Sent.{InfoSent, SuperSent, SetupSent}
 use Rattle.link_machine.specs.Turn.{Turn, begin, changing, setting, sending, telling, nothing, in_order}
 use Rattle.link_machine.specs.Acts.{acknowledged, timed_by, nothing_due, report, respond_ready, answer_poll, gone_back, behind_poll, recover, polling, poll, in_window, to_send, awaiting, sent_to, send_packets, flush, releasing, release, close, settle, calling, call, reset, owing, with_rej, reject, before_gap, run, moved_on, run_with, give, stored, srej_for, ask, watching, sent_packet, send_again}
-use Rattle.link_machine.specs.Requests.{connect, joined, quitting, is_closed, refuses_packet, refuses_connect}
+use Rattle.link_machine.specs.Requests.{connect, joined, quitting, is_closed, has_link, takes_none, refusal}
 use Rattle.link_machine.specs.Frames.{answer_ua, answer_dm, stopped_t1, end_call, stopped, leave, open_called, open_answered, hear_idle, hear_calling, hear_releasing, with_busy, hear_rr, hear_rnr, hear_rej, acknowledged_by_srej, hear_srej, hear_supervisory, take_in_sequence, refuse_out_of_sequence, hear_info_by_rej, take_selected, hear_info_by_srej, hear_info_by, hear_info, open_again, end_by_disc, end_by_dm, hear_up, hear_in, hear}
 use Rattle.link_machine.specs.Ticks.{runs_out, lowered, with_t1, with_t2, with_t3, t2_out, retried, is_spent, call_again, poll_again, release_again, t1_out, unretried, t3_out, tick_t2_of, tick_t2, tick_t3_of, tick_t3, tick_t1_of, tick_t1, tick_in, tick}
-use Rattle.link_machine.specs.Step.{Event, refuses, row, settle_in, settled, step}
-use Rattle.link_machine.specs.Step.Event.{Connect, Send, Disconnect, Hear, Tick}
+use Rattle.link_machine.specs.Event.{Event}
+use Rattle.link_machine.specs.Step.{row, settle_in, settled, step, refusal_of, done_of}
+use Rattle.link_machine.specs.Event.Event.{Connect, Send, Disconnect, Hear, Tick}
 use Rattle.link_machine.specs.Room.{frames_left, told_left, HasRoom, Uses}
 use Rattle.link_machine.specs.Held.{IsLink, Holds, Shows}
 use Rattle.link_machine.specs.StandsFor.{StandsFor}
