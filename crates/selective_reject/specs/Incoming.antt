@@ -1,4 +1,4 @@
--- What a receiver keeps of a sender's packets (AX.25 2.2 sections 4.2.2.4, 4.3.2.4 and 6.4.4).
+-- What a receiver keeps of a sender's packets (AX.25 2.2 sections 4.2 and 6.4).
 use Rattle.std.specs.Prelude.{◌≡◌, ℕ, ◌+◌, ◌%◌, ◌<◌, ◌==◌, nat_lt, Bool, true, false, if◌then◌else◌, List, [], ◌∷◌, ◌++◌, length, map, drop, replicate, Option, Some, None}
 use Rattle.selective_reject.specs.declared.packet.Packet.{Packet}
 use Rattle.selective_reject.specs.declared.place.Place.{Place}
@@ -19,12 +19,14 @@ pub record Incoming : Type 0 where
   pub places : List Place
 
 abbrev pub empty_incoming : ℕ → ℕ → Mode → Incoming
-empty_incoming modulus window mode = record { modulus = modulus; window = window; mode = mode; vr = 0; places = replicate window empty_place }
+empty_incoming modulus window mode =
+    record { modulus = modulus; window = window; mode = mode; vr = 0; places = replicate window empty_place }
 
 -- what becomes of a packet that is so far ahead of vr, where its place is full or not
 abbrev pub taking_by : Mode → ℕ → ℕ → Bool → Took
 taking_by Rej window distance full = if distance == 0 then (if full then Again else Next) else NotNext
-taking_by Srej window distance full = if nat_lt distance window then (if full then Again else (if distance == 0 then Next else Stored)) else Outside
+taking_by Srej window distance full =
+    if nat_lt distance window then (if full then Again else (if distance == 0 then Next else Stored)) else Outside
 
 abbrev pub taking : Incoming → ℕ → Took
 taking store distance = taking_by store.mode store.window distance (is_full store.places distance)
@@ -55,11 +57,13 @@ taken store = packet_at store.places 0
 
 abbrev pub after_take : Incoming → Incoming
 after_take store =
-    if is_full store.places 0 then record store { vr = store.vr + 1; places = drop 1 store.places ++ empty_place ∷ [] } else store
+    if is_full store.places 0 then record store { vr = store.vr + 1; places = drop 1 store.places ++ empty_place ∷ [] }
+    else store
 
 -- how many places from vr on stand before the number: none where it is not in the window
 abbrev pub before_number : Incoming → ℕ → ℕ
-before_number store ns = let distance = ahead store.modulus store.vr ns in if nat_lt distance store.window then distance else 0
+before_number store ns =
+    let distance = ahead store.modulus store.vr ns in if nat_lt distance store.window then distance else 0
 
 -- the numbers from vr up to N(S) that are neither there nor asked for, as they are sent
 abbrev pub numbers_to_ask : Incoming → ℕ → List ℕ

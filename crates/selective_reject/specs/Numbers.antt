@@ -1,4 +1,5 @@
--- Sequence numbers (AX.25 2.2 section 4.2.2): packets are numbered from 0 on, and frames carry those numbers modulo 8 or 128.
+-- Sequence numbers (AX.25 2.2 section 4.2): packets are numbered from 0 on, and frames carry those numbers modulo 8 or
+-- 128.
 use Rattle.std.specs.Prelude.{◌≡◌, ℕ, ◌+◌, ◌-◌, ◌%◌, ◌⊎◌}
 
 -- a modulus of AX.25

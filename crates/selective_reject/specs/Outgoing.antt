@@ -1,10 +1,11 @@
--- What a sender keeps until it is acknowledged (AX.25 2.2 sections 4.2.2.2, 4.2.2.6 and 6.4).
+-- What a sender keeps until it is acknowledged (AX.25 2.2 sections 4.2 and 6.4).
 use Rattle.std.specs.Prelude.{◌≡◌, ℕ, ◌+◌, ◌-◌, ◌*◌, ◌/◌, ◌%◌, ◌<◌, ◌≤◌, nat_lt, nat_le, min, max, Bool, if◌then◌else◌, List, [], ◌∷◌, ◌++◌, length, drop, slice_get, Option, Some, None, Result, Ok, Err}
 use Rattle.selective_reject.specs.declared.packet.Packet.{Packet}
 use Rattle.selective_reject.specs.declared.outgoing.BadNr.{BadNr}
 use Rattle.selective_reject.specs.Numbers.{ahead}
 
--- va is the number of the first packet, vs that of the next one to be sent, and top one more than the highest that was sent
+-- va is the number of the first packet, vs that of the next one to be sent, and top one more than the highest that was
+-- sent
 pub record Outgoing : Type 0 where
   pub va : ℕ
   pub vs : ℕ
@@ -26,11 +27,13 @@ abbrev pub number_to_send : ℕ → ℕ → Outgoing → Option ℕ
 number_to_send modulus window store = if may_send window store then Some (store.vs % modulus) else None
 
 abbrev pub after_next : ℕ → Outgoing → Outgoing
-after_next window store = if may_send window store then record store { vs = store.vs + 1; top = max store.top (store.vs + 1) } else store
+after_next window store =
+    if may_send window store then record store { vs = store.vs + 1; top = max store.top (store.vs + 1) } else store
 
 -- the packets below a number are removed
 abbrev pub acknowledged : ℕ → Outgoing → Outgoing
-acknowledged number store = record { va = number; vs = max store.vs number; top = store.top; packets = drop (number - store.va) store.packets }
+acknowledged number store =
+    record { va = number; vs = max store.vs number; top = store.top; packets = drop (number - store.va) store.packets }
 
 -- N(R) names a number from va to top
 abbrev pub is_named : ℕ → ℕ → Outgoing → Bool
@@ -39,10 +42,12 @@ is_named modulus nr store = nat_le (ahead modulus store.va nr) (store.top - stor
 -- how many packets N(R) acknowledges
 abbrev pub acknowledgement : ℕ → ℕ → Outgoing → Result ℕ BadNr
 acknowledgement modulus nr store =
-    if is_named modulus nr store then Ok (ahead modulus store.va nr) else Err (record { va = store.va % modulus; top = store.top % modulus })
+    if is_named modulus nr store then Ok (ahead modulus store.va nr)
+    else Err (record { va = store.va % modulus; top = store.top % modulus })
 
 abbrev pub after_acknowledge : ℕ → ℕ → Outgoing → Outgoing
-after_acknowledge modulus nr store = if is_named modulus nr store then acknowledged (store.va + ahead modulus store.va nr) store else store
+after_acknowledge modulus nr store =
+    if is_named modulus nr store then acknowledged (store.va + ahead modulus store.va nr) store else store
 
 abbrev pub back : Outgoing → Outgoing
 back store = record store { vs = store.va }
@@ -54,7 +59,8 @@ restarted store = record { va = 0; vs = 0; top = 0; packets = store.packets }
 -- the packet that was sent with a number: from va to below top
 abbrev pub sent_packet : ℕ → ℕ → Outgoing → Option Packet
 sent_packet modulus number store =
-    let place = ahead modulus store.va number in if nat_lt place (store.top - store.va) then slice_get store.packets place else None
+    let place = ahead modulus store.va number in
+    if nat_lt place (store.top - store.va) then slice_get store.packets place else None
 
 -- what holds of each store that is kept
 pub record IsOutgoing (held : Outgoing) : Type 0 where
@@ -65,7 +71,8 @@ pub record IsOutgoing (held : Outgoing) : Type 0 where
   pub under_way : held.top ≤ held.va + 127
   pub room : length held.packets ≤ 1024
 
--- A store keeps va modulo 128, which both moduli divide. It stands for each store that is the same but for whole rounds.
+-- A store keeps va modulo 128, which both moduli divide. It stands for each store that is the same but for whole
+-- rounds.
 pub record StandsForOutgoing (held store : Outgoing) : Type 0 where
   pub va : held.va ≡ store.va % 128
   pub vs : held.vs + store.va ≡ store.vs + held.va

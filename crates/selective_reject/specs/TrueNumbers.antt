@@ -20,4 +20,5 @@ abbrev pub took_truly : Incoming → ℕ → Took
 took_truly store number = if nat_lt number store.vr then old_packet store.mode else taking store (number - store.vr)
 
 abbrev pub after_accept_truly : Incoming → ℕ → Packet → Incoming
-after_accept_truly store number packet = if nat_lt number store.vr then store else after_taking store (number - store.vr) packet
+after_accept_truly store number packet =
+    if nat_lt number store.vr then store else after_taking store (number - store.vr) packet

@@ -1,10 +1,10 @@
--- Windows (AX.25 2.2 sections 4.2.2.1 and 6.4): how many frames a sender may have under way.
+-- Windows (AX.25 2.2 sections 4.2 and 6.4): how many frames a sender may have under way.
 use Rattle.std.specs.Prelude.{◌≡◌, ℕ, ◌-◌, ◌/◌, ◌<◌, ◌≤◌, ◌⊎◌}
 use Rattle.selective_reject.specs.declared.window.Mode.{Mode}
 use Rattle.selective_reject.specs.declared.window.Mode.TheVariants.{Rej, Srej}
 
--- a window of the whole modulus could not be told from none; where frames that come ahead of a gap are kept, a repeat must
--- not be taken for a later one
+-- A window of the whole modulus could not be told from none. Where frames that come ahead of a gap are kept, a repeat
+-- must not be taken for a later one.
 abbrev pub largest_window : ℕ → Mode → ℕ
 largest_window modulus Rej = modulus - 1
 largest_window modulus Srej = modulus / 2

@@ -51,7 +51,8 @@ pub enum StoreFault {
     Memory,
 }
 
-/// Keeps the packets that came and were not taken: the next one in sequence, and with [`Mode::Srej`] those ahead of a gap.
+/// Keeps the packets that came and were not taken: the next one in sequence, and with [`Mode::Srej`] those ahead of a
+/// gap.
 #[derive(Drop)]
 pub struct InStore {
     modulus: u8,
@@ -68,19 +69,22 @@ impl Model for InStore {
 
     ghost Value = { Incoming };
 
-    ghost view = { λ s. record { modulus = s.modulus; window = s.window; mode = s.mode; vr = s.vr; places = s.places } };
+    ghost view = { λ s. record
+        { modulus = s.modulus; window = s.window; mode = s.mode; vr = s.vr; places = s.places } };
 
-    ghost invariant = { λ s. IsIncoming (record { modulus = s.modulus; window = s.window; mode = s.mode; vr = s.vr; places = s.places }) };
+    ghost invariant = { λ s. IsIncoming (record
+        { modulus = s.modulus; window = s.window; mode = s.mode; vr = s.vr; places = s.places }) };
 }
 
 impl InStore {
-    /// An empty store, with V(R) 0. Its places are taken here. Refuses exactly the windows that [`check_window`] refuses,
-    /// and else fails only for want of memory.
+    /// An empty store, with V(R) 0. Its places are taken here. Refuses exactly the windows that [`check_window`]
+    /// refuses, and else fails only for want of memory.
     pub fn new(alloc: Global, modulus: u8, window: u8, mode: Mode) -> Result<InStore, StoreFault>
         requires { IsModulus modulus }
         ensures empty { IfOk result (λ store. store ≡ empty_incoming modulus window mode) }
         ensures window { OnOk result (IsWindow modulus window mode) }
-        ensures bad_window { (refused : ℕ) → IsErrOf result (StoreFault.BadWindow refused) ↔ ((refused ≡ window) × IsBadWindow modulus window mode) }
+        ensures bad_window { (refused : ℕ) → IsErrOf result (StoreFault.BadWindow refused)
+            ↔ ((refused ≡ window) × IsBadWindow modulus window mode) }
     {
         if let Err(BadWindow { window }) = check_window(modulus, window, mode) {
             return Err(StoreFault::BadWindow { window });
@@ -107,7 +111,8 @@ impl InStore {
             → (result ≡ took store ns) × StandsForIncoming self.new (after_accept store ns packet) }
         // Where the windows of both ends fit, it is decided as by the true number of the frame.
         ensures true_number { (store : Incoming) (sender number : ℕ) → StandsForIncoming self.old store
-            → AreFitting store.modulus store.window sender store.mode → IsInReach store.vr sender number → ns ≡ number % store.modulus
+            → AreFitting store.modulus store.window sender store.mode → IsInReach store.vr sender number
+            → ns ≡ number % store.modulus
             → (result ≡ took_truly store number) × StandsForIncoming self.new (after_accept_truly store number packet) }
         ensures formed { IsIncoming self.new }
     {
@@ -155,8 +160,8 @@ impl InStore {
         self.places.take()
     }
 
-    /// The numbers from V(R) up to `ns`, `ns` not among them, that are neither stored nor asked for, rising. They are then
-    /// asked for. None where `ns` is not in the window.
+    /// The numbers from V(R) up to `ns`, `ns` not among them, that are neither stored nor asked for, rising. They are
+    /// then asked for. None where `ns` is not in the window.
     pub fn ask(&mut self, ns: u8) -> ArrayVec<u8, 64>
         requires mode { self.old.mode ≡ Mode.Srej }
         requires number { ns < self.old.modulus }

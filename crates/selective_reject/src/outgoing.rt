@@ -76,8 +76,8 @@ impl OutStore {
         self.packets.try_push_back(packet)
     }
 
-    /// The number of the next packet to be sent, V(S), which then rises by one. None exactly where as many as the window
-    /// has, or all that there are, were sent from V(A) on.
+    /// The number of the next packet to be sent, V(S), which then rises by one. None exactly where as many as the
+    /// window has, or all that there are, were sent from V(A) on.
     pub fn next(&mut self, modulus: u8, window: u8) -> Option<u8>
         requires modulus { IsModulus modulus }
         requires at_least_one { 1 ≤ window }
@@ -101,28 +101,23 @@ impl OutStore {
         Some(number)
     }
 
-    /// Removes the packets below the number that `nr` names, and says how many. Refuses `nr` exactly where it names none
-    /// from V(A) to the greatest V(S) so far; the store is then unchanged.
+    /// Removes the packets below the number that `nr` names, and says how many. Refuses `nr` exactly where it names
+    /// none from V(A) to the greatest V(S) so far; the store is then unchanged.
     pub fn acknowledge(&mut self, modulus: u8, nr: u8) -> Result<u8, BadNr>
         requires modulus { IsModulus modulus }
         requires number { nr < modulus }
         ensures count { result ≡ acknowledgement modulus nr self.old }
         ensures store { self.new ≡ reduced_outgoing (after_acknowledge modulus nr self.old) }
         ensures stands_for { (store : Outgoing) → StandsForOutgoing self.old store
-            → (result ≡ acknowledgement modulus nr store) × StandsForOutgoing self.new (after_acknowledge modulus nr store) }
+            → (result ≡ acknowledgement modulus nr store)
+            × StandsForOutgoing self.new (after_acknowledge modulus nr store) }
         // Where fewer than the modulus are under way, a number from V(A) to the top is the one that is named.
         ensures true_number { (store : Outgoing) (number : ℕ) → StandsForOutgoing self.old store
             → store.va ≤ number → number ≤ store.top → store.top < store.va + modulus → nr ≡ number % modulus
             → (result ≡ Ok (number - store.va)) × StandsForOutgoing self.new (acknowledged number store) }
         ensures formed { IsOutgoing self.new }
     {
-        let count = ahead(modulus, self.va, nr);
-        if count > self.most_sent {
-            return Err(BadNr {
-                va: self.va % modulus,
-                top: (self.va + self.most_sent) % modulus,
-            });
-        }
+        let count = self.acknowledgement(modulus, nr)?;
         let rest = self.packets.len() - usize::from(count);
         self.packets.truncate_front(rest);
         self.va = (self.va + count) % 128;
@@ -134,7 +129,8 @@ impl OutStore {
     /// Begins to send again from the first packet that is not acknowledged: V(S) becomes V(A).
     pub fn go_back(&mut self)
         ensures store { self.new ≡ back self.old }
-        ensures stands_for { (store : Outgoing) → StandsForOutgoing self.old store → StandsForOutgoing self.new (back store) }
+        ensures stands_for { (store : Outgoing) → StandsForOutgoing self.old store
+            → StandsForOutgoing self.new (back store) }
         ensures formed { IsOutgoing self.new }
     {
         self.sent = 0;
@@ -145,7 +141,8 @@ impl OutStore {
         requires modulus { IsModulus modulus }
         requires number { nr < modulus }
         ensures packet { option_copied result ≡ sent_packet modulus nr self.now }
-        ensures stands_for { (store : Outgoing) → StandsForOutgoing self.now store → option_copied result ≡ sent_packet modulus nr store }
+        ensures stands_for { (store : Outgoing) → StandsForOutgoing self.now store
+            → option_copied result ≡ sent_packet modulus nr store }
         // Where fewer than the modulus are under way, a number from V(A) to below the top gives its packet.
         ensures true_number { (store : Outgoing) (number : ℕ) → StandsForOutgoing self.now store
             → store.va ≤ number → number < store.top → store.top < store.va + modulus → nr ≡ number % modulus
@@ -176,7 +173,8 @@ impl OutStore {
     /// True where some packet was sent and is not acknowledged: V(A) is below the greatest V(S) so far.
     pub fn is_waiting(&self) -> bool
         ensures waiting { result ≡ nat_lt self.now.va self.now.top }
-        ensures stands_for { (store : Outgoing) → StandsForOutgoing self.now store → result ≡ nat_lt store.va store.top }
+        ensures stands_for { (store : Outgoing) → StandsForOutgoing self.now store
+            → result ≡ nat_lt store.va store.top }
     {
         self.most_sent > 0
     }
@@ -220,8 +218,8 @@ impl OutStore {
         ensures store { self.new ≡ restarted self.old }
         ensures formed { IsOutgoing self.new }
     {
+        self.go_back();
         self.va = 0;
-        self.sent = 0;
         self.most_sent = 0;
     }
 
@@ -229,9 +227,7 @@ impl OutStore {
     pub fn clear(&mut self)
         ensures { self.new ≡ empty_outgoing }
     {
+        self.restart();
         self.packets.clear();
-        self.va = 0;
-        self.sent = 0;
-        self.most_sent = 0;
     }
 }

@@ -111,8 +111,8 @@ impl Places {
         first.packet
     }
 
-    /// Asks for the first `count` places that miss their packets, and gives their numbers, where the first place is that
-    /// of number `vr`.
+    /// Asks for those of the first `count` places that miss their packets, and gives their numbers, where the first
+    /// place is that of number `vr`.
     pub(crate) fn ask_first(&mut self, count: u8, vr: u8, modulus: u8) -> ArrayVec<u8, 64>
         requires modulus { IsModulus modulus }
         requires vr { vr < modulus }

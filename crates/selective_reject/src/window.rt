@@ -2,7 +2,7 @@
 
 ghost use Rattle.std.specs.Prelude.{◌≡◌, ◌↔◌, IsOk, IfErr};
 ghost use Rattle.selective_reject.specs.Numbers.{IsModulus};
-ghost use Rattle.selective_reject.specs.Window.{IsWindow, largest_window};
+ghost use Rattle.selective_reject.specs.Window.{IsWindow, IsBadWindow, largest_window};
 
 use thiserror::Error;
 
@@ -24,11 +24,11 @@ pub struct BadWindow {
 }
 
 /// Refuses a window of 0, and one that is over `modulus - 1` with [`Mode::Rej`] or over half the modulus with
-/// [`Mode::Srej`] (AX.25 2.2 sections 4.2.2.1 and 6.4.4.3).
+/// [`Mode::Srej`] (AX.25 2.2 sections 4.2 and 6.4).
 pub fn check_window(modulus: u8, window: u8, mode: Mode) -> Result<(), BadWindow>
     requires { IsModulus modulus }
     ensures ok { IsOk result ↔ IsWindow modulus window mode }
-    ensures bad { IfErr result (λ bad. bad.window ≡ window) }
+    ensures bad { IfErr result (λ bad. (bad.window ≡ window) × IsBadWindow modulus window mode) }
 {
     if window == 0 || largest_window(modulus, mode) < window {
         return Err(BadWindow { window });
