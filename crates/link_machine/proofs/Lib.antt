@@ -1,3 +1,4 @@
 pub mod Examples
 pub mod Showing
 pub mod PacketLemmas
+pub mod Events

@@ -1,5 +1,5 @@
 //! The variables of a link apart from its numbers and packets.
-ghost use Rattle.std.specs.Prelude.{◌≡◌, ◌<◌, Bool};
+ghost use Rattle.std.specs.Prelude.{◌≡◌, ◌<◌, ◌&&◌, Bool};
 ghost use Rattle.link_machine.specs.Machine.{fresh_control, in_state, idle_control};
 ghost use Rattle.link_machine.specs.Acts.{timed_by, nothing_due, behind_poll, polling, awaiting, releasing, calling, owing, watching};
 ghost use Rattle.link_machine.specs.Frames.{stopped_t1, stopped};
@@ -186,6 +186,13 @@ impl Control {
             self.t1 = None;
             self.t3 = Some(T3);
         }
+    }
+
+    /// Whether a response with F = 1, where this is one, is the answer to a poll.
+    pub(crate) fn recovers(&self, answers: bool) -> bool
+        ensures { result ≡ (self.now.poll && answers) }
+    {
+        self.poll && answers
     }
 
     /// I frames were sent.

@@ -1,15 +1,16 @@
 //! The frames that a link hears where it is up.
 ghost use Rattle.std.specs.Prelude.{◌≡◌, ℕ, ◌+◌, ◌≤◌, ◌<◌, ◌&&◌, not, true, Bool};
 ghost use Rattle.link_machine.specs.declared.state.LinkState.TheVariants.{Up};
-ghost use Rattle.link_machine.specs.Machine.{is_valid, named};
+ghost use Rattle.std.specs.Prelude.{if◌then◌else◌};
+ghost use Rattle.link_machine.specs.Machine.{Machine as State, is_valid, named};
 ghost use Rattle.link_machine.specs.Turn.{Turn, nothing};
 ghost use Rattle.std.specs.Prelude.{◌%◌, ◌||◌, Ok, IfOk};
 ghost use Rattle.std.specs.Option.{option_to_list};
 ghost use Rattle.selective_reject.specs.Outgoing.{acknowledgement, sent_packet};
 ghost use Rattle.link_machine.specs.Acts.{reset, send_again, sent_packet as asked_packets};
-ghost use Rattle.link_machine.specs.Frames.{answer_dm, open_again, end_by_disc, end_by_dm, hear_rr, hear_rnr, hear_rej, hear_srej, hear_supervisory, hear_info, hear_up};
+ghost use Rattle.link_machine.specs.Frames.{answer_dm, open_again, end_by_disc, end_by_dm, hear_rr, hear_rnr, hear_rej, hear_srej, hear_supervisory, acknowledged_by_srej, hear_info, hear_up};
 ghost use Rattle.link_machine.specs.Room.{frames_left, told_left, Uses};
-ghost use Rattle.link_machine.specs.Held.{IsLink, IsWhole, Shows, Makes, HasNumbersBelow, hear_numbered, hear_supervisory_of};
+ghost use Rattle.link_machine.specs.Held.{IsLink, IsWhole, Holds, Shows, Makes, HasNumbersBelow, hear_numbered, hear_supervisory_of};
 
 use crate::acts::Acts;
 use crate::flushing::copy_of;
@@ -19,6 +20,28 @@ use ax25_frames::{Kind, S, U, W};
 use selective_reject::{Mode, Packet};
 use std::alloc::Global;
 use tnc_base::{Octets, OutOfMemory};
+
+/// Whether an S frame asks for an answer: a command with P = 1.
+fn is_asking(command: bool, flag: bool) -> bool
+    ensures { result ≡ (command && flag) }
+{
+    command && flag
+}
+
+/// Whether an S frame may be the answer to a poll: a response with F = 1.
+fn is_answering(command: bool, flag: bool) -> bool
+    ensures { result ≡ (not command && flag) }
+{
+    !command && flag
+}
+
+/// How many packets an SREJ acknowledges.
+fn acknowledged_by_srej(count: u8, flag: bool) -> u8
+    ensures value { result ≡ (if flag then count else 0) }
+    ensures bound { result ≤ count }
+{
+    if flag { count } else { 0 }
+}
 
 impl Machine {
     /// Hears a frame where the link is up.
@@ -135,13 +158,13 @@ impl Machine {
         let Ok(count) = self.outgoing.acknowledgement(MODULUS, nr) else {
             return self.hear_error(alloc);
         };
-        let asks = command && flag;
-        let answers = !command && flag;
+        let asks = is_asking(command, flag);
+        let answers = is_answering(command, flag);
         match which {
             S::Rr => self.hear_rr(alloc, count, nr, asks, answers),
             S::Rnr => self.hear_rnr(alloc, count, nr, asks, answers),
             S::Rej => self.hear_rej(alloc, count, nr, asks, answers),
-            S::Srej => self.hear_srej(alloc, count, nr, asks, answers),
+            S::Srej => self.hear_srej(alloc, count, nr, flag, asks, answers),
         }
     }
 
@@ -158,7 +181,8 @@ impl Machine {
         requires valid { acknowledgement 8 nr self.old.outgoing ≡ Ok count }
         ensures { Makes (λ t. hear_rr (named nr t.now) asks answers t) self.old self.new result }
     {
-        let packets = self.copies_to_send(alloc, count, self.control.poll && answers)?;
+        let recovers = self.control.recovers(answers);
+        let packets = self.copies_to_send(alloc, count, recovers)?;
         let mut room = Room::new(alloc, packets.len() + 2, 0)?;
         self.take_rr(&mut room, nr, asks, answers);
         self.settle(&mut room, packets);
@@ -191,7 +215,8 @@ impl Machine {
         requires valid { acknowledgement 8 nr self.old.outgoing ≡ Ok count }
         ensures { Makes (λ t. hear_rnr (named nr t.now) asks answers t) self.old self.new result }
     {
-        let packets = self.copies_to_send(alloc, count, self.control.poll && answers)?;
+        let recovers = self.control.recovers(answers);
+        let packets = self.copies_to_send(alloc, count, recovers)?;
         let mut room = Room::new(alloc, packets.len() + 2, 0)?;
         self.take_rnr(&mut room, nr, asks, answers);
         self.settle(&mut room, packets);
@@ -252,20 +277,20 @@ impl Machine {
         alloc: Global,
         count: u8,
         nr: u8,
+        flag: bool,
         asks: bool,
         answers: bool,
     ) -> Result<Acts, OutOfMemory>
         requires formed { IsWhole self.old }
         requires number { nr < 8 }
         requires valid { acknowledgement 8 nr self.old.outgoing ≡ Ok count }
-        ensures { Makes (λ t. hear_srej (named nr t.now) (asks || answers) asks answers t) self.old self.new result }
+        ensures { Makes (λ t. hear_srej (named nr t.now) flag asks answers t) self.old self.new result }
     {
-        let flag = asks || answers;
         let again = self.copy_asked(alloc, nr)?;
-        let acknowledged = if flag { count } else { 0 };
-        let packets = self.copies_to_send(alloc, acknowledged, self.control.poll && answers)?;
+        let recovers = self.control.recovers(answers);
+        let packets = self.copies_to_send(alloc, acknowledged_by_srej(count, flag), recovers)?;
         let mut room = Room::new(alloc, packets.len() + 3, 0)?;
-        self.take_srej(&mut room, nr, asks, answers, again);
+        self.take_srej(&mut room, nr, flag, asks, answers, again);
         self.settle(&mut room, packets);
         Ok(room.finish())
     }
@@ -285,6 +310,7 @@ impl Machine {
         &mut self,
         room: &mut Room,
         nr: u8,
+        flag: bool,
         asks: bool,
         answers: bool,
         again: Option<Packet>,
@@ -292,16 +318,24 @@ impl Machine {
         requires number { nr < 8 }
         requires room { 2 ≤ frames_left room.old }
         ensures shows { (t : Turn) → Shows self.old room.old t → is_valid nr t.now ≡ true → again ≡ sent_packet 8 nr self.old.outgoing
-            → Shows self.new room.new (hear_srej (named nr t.now) (asks || answers) asks answers t) }
+            → Shows self.new room.new (hear_srej (named nr t.now) flag asks answers t) }
         ensures uses { Uses room.old room.new 2 0 }
     {
         self.control.busy = false;
-        if asks || answers {
-            self.acknowledge(nr);
-        }
+        self.acknowledge_by_srej(nr, flag);
         self.send_again(room, nr, again);
         self.answer_poll(room, asks);
         self.recover(answers);
+    }
+
+    /// SREJ acknowledges with P/F = 1 alone.
+    fn acknowledge_by_srej(&mut self, nr: u8, flag: bool)
+        requires { nr < 8 }
+        ensures { (m : State) → Holds self.old m → is_valid nr m ≡ true → Holds self.new (acknowledged_by_srej (named nr m) flag m) }
+    {
+        if flag {
+            self.acknowledge(nr);
+        }
     }
 
     /// Sends again the I frame that an SREJ asks for, where it was sent.

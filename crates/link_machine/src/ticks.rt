@@ -2,7 +2,7 @@
 ghost use Rattle.std.specs.Prelude.{◌≡◌, ℕ, ◌+◌, ◌≤◌, ◌<◌, Bool, IsTrue};
 ghost use Rattle.link_machine.specs.declared.state.LinkState.TheVariants.{Idle};
 ghost use Rattle.link_machine.specs.Turn.{Turn};
-ghost use Rattle.link_machine.specs.Ticks.{t2_out, call_again, poll_again, release_again, t1_out, t3_out, tick_t2, tick_t3, tick_t1, tick_timers, tick};
+ghost use Rattle.link_machine.specs.Ticks.{t2_out, call_again, poll_again, release_again, t1_out, t3_out, tick_t2, tick_t3, tick_t1, tick};
 ghost use Rattle.link_machine.specs.Room.{frames_left, told_left, Uses};
 ghost use Rattle.link_machine.specs.Held.{IsLink, IsWhole, Shows, Makes};
 ghost use Rattle.link_machine.specs.Timers.{outs, out_of, quits};
