@@ -72,7 +72,7 @@ impl Machine {
         ensures { Makes (hear_calling kind.now) self.old self.new result }
     {
         let packets = self.copies_to_send(alloc, 0, true)?;
-        let mut room = Room::new(alloc, packets.len() + 1, 1)?;
+        let mut room = Room::new(alloc, packets.len() + 2, 1)?;
         self.take_calling(&mut room, kind);
         self.settle(&mut room, packets);
         Ok(room.finish())
@@ -81,7 +81,8 @@ impl Machine {
     fn take_calling(&mut self, room: &mut Room, kind: &Kind)
         requires frames { 1 ≤ frames_left room.old }
         requires told { 1 ≤ told_left room.old }
-        ensures { (t : Turn) → Shows self.old room.old t → Shows self.new room.new (hear_calling kind.now t) }
+        ensures shows { (t : Turn) → Shows self.old room.old t → Shows self.new room.new (hear_calling kind.now t) }
+        ensures uses { Uses room.old room.new 1 1 }
     {
         match kind {
             Kind::Setup { which, flag } => match which {

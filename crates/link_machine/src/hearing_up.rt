@@ -341,8 +341,8 @@ impl Machine {
     /// Sends again the I frame that an SREJ asks for, where it was sent.
     fn send_again(&mut self, room: &mut Room, nr: u8, again: Option<Packet>)
         requires { 1 ≤ frames_left room.old }
-        ensures shows { (t : Turn) (n : ℕ) → Shows self.old room.old t → nr ≡ n % 8 → option_to_list again ≡ asked_packets n t.now.outgoing
-            → Shows self.new room.new (send_again n t) }
+        ensures shows { (t : Turn) (n : ℕ) → Shows self.old room.old t → nr ≡ n % 8 → t.now.outgoing.va ≤ n
+            → option_to_list again ≡ asked_packets n t.now.outgoing → Shows self.new room.new (send_again n t) }
         ensures uses { Uses room.old room.new 1 0 }
     {
         if let Some(packet) = again {

@@ -32,6 +32,15 @@ use Rattle.link_machine.proofs.Events.{itself, holds_itself, shows_begin, made, 
 use Rattle.link_machine.specs.Held.{IsWhole, Made, Makes, hear_numbered, hear_supervisory_of, outgoing_behind}
 use Rattle.ax25_frames.specs.declared.frame.S.{S}
 use Rattle.std.specs.Prelude.{if◌then◌else◌, ◌&&◌, not}
+use Rattle.link_machine.proofs.Events.{supervised_srej, send_again_keeps, srej_path, srej_poll, srej_incoming, named_as_sent, asked_right, info_keeps, tick_keeps, in_window_push, in_window_full, same_pushed}
+use Rattle.selective_reject.proofs.OutgoingRounds.{same_sent_packet}
+use Rattle.link_machine.proofs.PacketLemmas.{in_order as in_number_order}
+use Rattle.link_machine.proofs.Showing.{modulus_is_8}
+use Rattle.std.specs.Option.{option_to_list}
+use Rattle.std.specs.List.{slice_get}
+use Rattle.selective_reject.specs.declared.window.Mode.{Mode}
+use Rattle.selective_reject.specs.declared.window.Mode.TheVariants.{Rej as RejMode, Srej as SrejMode}
+use Rattle.selective_reject.specs.Outgoing.{sent_packet as packet_sent}
 use Rattle.link_machine.proofs.machine.Machine.hear_calling.Goals as goal
 
 pub settle-requires-clause-formed : goal.settle-requires-clause-formed
@@ -39,13 +48,13 @@ settle-requires-clause-formed c =
     let m = itself c.args.self.now in
     let h = holds_itself c.args.self.now c.requires.formed in
     let begun = shows_begin c.args.self.now m c.in_ok-room.room _ _ c.in_ok-room.ensures h in
-    (c.take_calling.ensures (begin m) begun).holds.formed
+    (c.take_calling.ensures.shows (begin m) begun).holds.formed
 
 pub returns : goal.returns
 returns c = λ m h.
     let begun = shows_begin c.args.self.now m c.in_ok-room.room _ _ c.in_ok-room.ensures h in
     let t : Turn = hear_calling c.args.kind.now (begin m) in
-    let shown = c.take_calling.ensures (begin m) begun in
+    let shown = c.take_calling.ensures.shows (begin m) begun in
     let state = sym (ap (λ (x : Control). x.state) h.stands.control) ∙ c.requires.state in
     let right : (t.now.control.state ≡ Up → c.in_ok-packets.packets.items ≡ in_window t.now.incoming.window t.now.outgoing) = λ up.
         let opened = opened_calling c.args.kind.now (begin m) state up in
