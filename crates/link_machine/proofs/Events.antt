@@ -26,7 +26,9 @@ use Rattle.ax25_frames.specs.declared.frame.U.TheVariants.{Sabm, Sabme, Disc, Dm
 use Rattle.selective_reject.specs.Incoming.{Incoming}
 use Rattle.tnc_base.specs.declared.fault.OutOfMemory.{OutOfMemory}
 use Rattle.std.proofs.Common.{zero, suc, ◌==◌, nat_lt, inr, None}
-use Rattle.std.proofs.lemmas.Bool.{lt-ltb, le-ltb, cases_lt}
+use Rattle.std.proofs.lemmas.Bool.{lt-ltb, le-ltb, cases_lt, ltb-true}
+use Rattle.std.proofs.lemmas.Option.{slice_get_cases}
+use Rattle.std.specs.Prelude.{IsErr, OnOk, ◌⊎◌, get_or}
 use Rattle.std.specs.List.{slice_get}
 use Rattle.std.specs.Option.{option_to_list}
 use Rattle.std.specs.Prelude.{Option}
@@ -592,3 +594,30 @@ pub sent_one :
 sent_one n t p h =
     let X : List Packet → Turn = λ ps. record t { now = record t.now { control = watching (nothing_due t.now.control) }; sent = t.sent ++ infos_from n t.now.incoming.vr ps } in
     ap X h ∙ sym (sent_where (nat_lt n t.now.outgoing.top) (X (sent_packet n t.now.outgoing)) t p _ h)
+
+-- a packet that was not sent is asked for in vain
+no_packet : (b : Bool) (ps : List Packet) → (b ≡ true → ps ≡ [] → ⊥) → [] ≡ (if b then ps else []) → b ≡ false
+no_packet true ps h e = absurd (h refl (sym e))
+no_packet false ps h e = refl
+
+pub not_sent :
+    (held o : Outgoing) (n : ℕ) → IsOutgoing held → StandsForOutgoing held o → o.va ≤ n → [] ≡ sent_packet n o → nat_lt n o.top ≡ false
+not_sent held o n formed h above none =
+    no_packet (nat_lt n o.top) _ (λ e f. in_vain (ltb-true n o.top e) (slice_get_cases o.packets (n - o.va)).1 f) none
+  where
+    in_vain :
+        n < o.top → ((x : Packet) × (n - o.va < length o.packets) × (slice_get o.packets (n - o.va) ≡ Some x) × (get_or o.packets (n - o.va) x ≡ x))
+            ⊎ ((length o.packets ≤ n - o.va) × (slice_get o.packets (n - o.va) ≡ None))
+        → option_to_list (slice_get o.packets (n - o.va)) ≡ [] → ⊥
+    in_vain below (inl there) f = false≢true (sym (ap has_one (sym (ap option_to_list there.2) ∙ f)))
+    in_vain below (inr past) f =
+        let top : held.top + o.va ≡ o.top + held.va = h.top in
+        let sent : held.top ≤ held.va + length held.packets = formed.sent in
+        let same : length held.packets ≡ length o.packets = ap length h.packets in
+        let far : length o.packets ≤ n - o.va = past.0 in
+        omega arith
+
+-- what holds where a call did not fail
+pub on_ok : {A E : Type 0} (r : Result A E) (P : Type 0) → (IsErr r → ⊥) → OnOk r P → P
+on_ok (Ok x) P h p = p
+on_ok (Err e) P h p = absurd (h tt)

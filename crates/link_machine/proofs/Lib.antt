@@ -2,3 +2,4 @@ pub mod Examples
 pub mod Showing
 pub mod PacketLemmas
 pub mod Events
+pub mod RunLemmas

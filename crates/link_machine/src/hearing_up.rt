@@ -345,10 +345,13 @@ impl Machine {
             → option_to_list again ≡ asked_packets n t.now.outgoing → Shows self.new room.new (send_again n t) }
         ensures uses { Uses room.old room.new 1 0 }
     {
-        if let Some(packet) = again {
-            self.control.settle_due();
-            self.control.watch();
-            self.send_info(room, nr, packet);
+        match again {
+            Some(packet) => {
+                self.control.settle_due();
+                self.control.watch();
+                self.send_info(room, nr, packet);
+            }
+            None => {}
         }
     }
 

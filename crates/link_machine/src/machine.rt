@@ -4,7 +4,7 @@ ghost use Rattle.std.specs.Prelude.{◌↔◌};
 ghost use Rattle.std.specs.Result.{IsErrOf};
 ghost use Rattle.selective_reject.specs.Window.{IsBadWindow};
 ghost use Rattle.link_machine.specs.StandsFor.{StandsFor};
-ghost use Rattle.link_machine.specs.Machine.{Machine as State, fresh, emptied, is_valid, named, new_machine};
+ghost use Rattle.link_machine.specs.Machine.{Machine as State, fresh, emptied, unquit, is_valid, named, new_machine};
 ghost use Rattle.link_machine.specs.Turn.{Turn, changing};
 ghost use Rattle.link_machine.specs.Acts.{acknowledged, gone_back, recover};
 ghost use Rattle.link_machine.specs.Held.{IsLink, IsWhole, Holds, Shows};
@@ -85,7 +85,8 @@ impl Machine {
 
     /// Forgets what was given to be sent, and a wish to disconnect.
     pub(crate) fn empty(&mut self)
-        ensures { (m : State) → Holds self.old m → Holds self.new (emptied m) }
+        ensures holds { (m : State) → Holds self.old m → Holds self.new (emptied m) }
+        ensures control { self.new.control ≡ unquit self.old.control }
     {
         self.control.quit = false;
         self.outgoing.clear();

@@ -3,7 +3,7 @@ ghost use Rattle.std.specs.Prelude.{◌≡◌, ℕ, ◌+◌, ◌%◌, ◌≤◌,
 ghost use Rattle.link_machine.specs.Sent.{role_of};
 ghost use Rattle.link_machine.specs.Sent.Sent.{SuperSent, SetupSent};
 ghost use Rattle.link_machine.specs.Turn.{Turn, sending, telling};
-ghost use Rattle.link_machine.specs.Acts.{respond_ready, answer_poll, poll, reject};
+ghost use Rattle.link_machine.specs.Acts.{nothing_due, polling, respond_ready, answer_poll, poll, reject};
 ghost use Rattle.link_machine.specs.Room.{frames_left, told_left, Uses};
 ghost use Rattle.link_machine.specs.Held.{Shows};
 ghost use Rattle.ax25_frames.specs.FrameText.{sets_up_or_ends};
@@ -63,6 +63,7 @@ impl Machine {
     pub(crate) fn respond_ready(&mut self, room: &mut Room, flag: bool)
         requires { 1 ≤ frames_left room.old }
         ensures shows { (t : Turn) → Shows self.old room.old t → Shows self.new room.new (respond_ready flag t) }
+        ensures control { self.new.control ≡ nothing_due self.old.control }
         ensures uses { Uses room.old room.new 1 0 }
     {
         self.control.settle_due();
@@ -84,6 +85,7 @@ impl Machine {
     pub(crate) fn poll(&mut self, room: &mut Room)
         requires { 1 ≤ frames_left room.old }
         ensures shows { (t : Turn) → Shows self.old room.old t → Shows self.new room.new (poll t) }
+        ensures control { self.new.control ≡ polling (nothing_due self.old.control) }
         ensures uses { Uses room.old room.new 1 0 }
     {
         self.control.settle_due();

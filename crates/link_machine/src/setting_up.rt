@@ -1,9 +1,10 @@
 //! How a link begins and ends.
 ghost use Rattle.std.specs.Prelude.{◌≡◌, ℕ, ◌≤◌, Bool};
+ghost use Rattle.link_machine.specs.Machine.{unquit};
 ghost use Rattle.link_machine.specs.Turn.{Turn};
 ghost use Rattle.link_machine.specs.Acts.{call, reset, release};
 ghost use Rattle.link_machine.specs.Requests.{connect};
-ghost use Rattle.link_machine.specs.Frames.{end_call, leave, open_called, open_answered, open_again, end_by_disc, end_by_dm};
+ghost use Rattle.link_machine.specs.Frames.{stopped_t1, stopped, end_call, leave, open_called, open_answered, open_again, end_by_disc, end_by_dm};
 ghost use Rattle.link_machine.specs.Room.{frames_left, told_left, Uses};
 ghost use Rattle.link_machine.specs.Held.{Shows};
 ghost use Rattle.link_machine.specs.declared.room.Room.{Room as AnyRoom};
@@ -62,6 +63,7 @@ impl Machine {
     pub(crate) fn end_call(&mut self, room: &mut Room, why: Why)
         requires { 1 ≤ told_left room.old }
         ensures shows { (t : Turn) → Shows self.old room.old t → Shows self.new room.new (end_call why t) }
+        ensures control { self.new.control ≡ stopped_t1 (unquit self.old.control) }
         ensures uses { Uses room.old room.new 0 1 }
     {
         self.empty();
@@ -71,7 +73,8 @@ impl Machine {
 
     /// Leaves a set-up.
     pub(crate) fn leave(&mut self)
-        ensures { (room : AnyRoom) (t : Turn) → Shows self.old room t → Shows self.new room (leave t) }
+        ensures shows { (room : AnyRoom) (t : Turn) → Shows self.old room t → Shows self.new room (leave t) }
+        ensures control { self.new.control ≡ stopped (unquit self.old.control) }
     {
         self.empty();
         self.control.leave();

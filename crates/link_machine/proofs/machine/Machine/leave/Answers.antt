@@ -30,7 +30,7 @@ use Rattle.link_machine.specs.StandsFor.{StandsFor}
 use Rattle.link_machine.proofs.Showing.{shows_control, shows_changing, shows_fresh, shows_emptied, vr_as_sent}
 use Rattle.link_machine.proofs.machine.Machine.leave.Goals as goal
 
-pub returns : goal.returns
-returns c = λ room t h.
-    let empty = shows_emptied c.args.self.now c.empty.new.self room t h c.empty.ensures in
+pub returns-clause-shows : goal.returns-clause-shows
+returns-clause-shows c = λ room t h.
+    let empty = shows_emptied c.args.self.now c.empty.new.self room t h c.empty.ensures.holds in
     shows_control stopped c.empty.new.self c.leave.new.self room (changing emptied t) c.leave.ensures empty

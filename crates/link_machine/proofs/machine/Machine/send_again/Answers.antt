@@ -32,7 +32,7 @@ use Rattle.link_machine.proofs.Events.{itself, holds_itself, shows_begin, made, 
 use Rattle.link_machine.specs.Held.{IsWhole, Made, Makes, hear_numbered, hear_supervisory_of, outgoing_behind}
 use Rattle.ax25_frames.specs.declared.frame.S.{S}
 use Rattle.std.specs.Prelude.{if◌then◌else◌, ◌&&◌, not}
-use Rattle.link_machine.proofs.Events.{supervised_srej, send_again_keeps, srej_path, sent_one, srej_poll, srej_incoming, named_as_sent, asked_right, info_keeps, tick_keeps, in_window_push, in_window_full, same_pushed}
+use Rattle.link_machine.proofs.Events.{supervised_srej, send_again_keeps, srej_path, srej_poll, srej_incoming, named_as_sent, asked_right, info_keeps, tick_keeps, in_window_push, in_window_full, same_pushed}
 use Rattle.selective_reject.proofs.OutgoingRounds.{same_sent_packet}
 use Rattle.link_machine.proofs.PacketLemmas.{in_order as in_number_order}
 use Rattle.link_machine.proofs.Showing.{modulus_is_8}
@@ -41,16 +41,25 @@ use Rattle.std.specs.List.{slice_get}
 use Rattle.selective_reject.specs.declared.window.Mode.{Mode}
 use Rattle.selective_reject.specs.declared.window.Mode.TheVariants.{Rej as RejMode, Srej as SrejMode}
 use Rattle.selective_reject.specs.Outgoing.{sent_packet as packet_sent}
+use Rattle.std.proofs.lemmas.Bool.{cond-true, cond-false}
+use Rattle.link_machine.proofs.Events.{sent_one, not_sent, on_ok}
+use Rattle.link_machine.proofs.PacketLemmas.{same_window}
+use Rattle.std.specs.Prelude.{IsErr}
 use Rattle.link_machine.proofs.machine.Machine.send_again.Goals as goal
 
 pub returns-in-Some-clause-shows : goal.returns-in-Some-clause-shows
 returns-in-Some-clause-shows c = λ t n h number above which.
     let due = shows_control nothing_due c.args.self.now c.settle_due.new.self c.args.room.now t c.settle_due.ensures h in
-    let watched = shows_control watching _ c.watch.new.self c.args.room.now (setting nothing_due t) c.watch.ensures due in
+    let held : Held = record c.args.self.now { control = c.watch.new.self } in
+    let watched : Shows held c.args.room.now (setting watching (setting nothing_due t)) = shows_control watching _ c.watch.new.self c.args.room.now (setting nothing_due t) c.watch.ensures due in
     let sent = c.send_info.ensures.shows (setting watching (setting nothing_due t)) n watched number in
-    let P : Turn → Type 0 = λ x. Shows _ c.send_info.new.room x in
+    let P : Turn → Type 0 = λ x. Shows held c.send_info.new.room x in
     let one : c.in-Some.packet ∷ [] ≡ sent_packet n t.now.outgoing = ap option_to_list (sym c.in-Some.is) ∙ which in
     subst P (sent_one n t c.in-Some.packet one) sent
 
-pub returns-in_default-clause-shows : goal.returns-in_default-clause-shows
-returns-in_default-clause-shows c = λ t n h number above which. ?
+pub returns-in-None-clause-shows : goal.returns-in-None-clause-shows
+returns-in-None-clause-shows c = λ t n h number above which.
+    let none : [] ≡ sent_packet n t.now.outgoing = ap option_to_list (sym c.in-None.is) ∙ which in
+    let off = not_sent c.args.self.now.outgoing t.now.outgoing n h.holds.formed.outgoing h.holds.stands.outgoing above none in
+    let P : Turn → Type 0 = λ x. Shows c.args.self.now c.args.room.now x in
+    subst P (sym (cond-false (nat_lt n t.now.outgoing.top) _ t off)) h
