@@ -620,4 +620,4 @@ not_sent held o n formed h above none =
 -- what holds where a call did not fail
 pub on_ok : {A E : Type 0} (r : Result A E) (P : Type 0) → (IsErr r → ⊥) → OnOk r P → P
 on_ok (Ok x) P h p = p
-on_ok (Err e) P h p = absurd (h tt)
+on_ok (Err e) P h p = absurd (h refl)

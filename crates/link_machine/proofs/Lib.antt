@@ -3,3 +3,4 @@ pub mod Showing
 pub mod PacketLemmas
 pub mod Events
 pub mod RunLemmas
+pub mod ReceiveLemmas

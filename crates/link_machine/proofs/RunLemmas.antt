@@ -4,7 +4,7 @@ use Rattle.std.specs.Prelude.{Option, is_some, slice_index_or, slice_set, filter
 use Rattle.std.specs.List.{range_with_len}
 use Rattle.std.proofs.lemmas.Bool.{false≢true, lt-ltb, ltb-true, cases_eq, eq-eqb}
 use Rattle.std.proofs.lemmas.List.{drop-drop, drop-append-le}
-use Rattle.std.proofs.Common.{length-append, length-drop, append-nil}
+use Rattle.std.proofs.Common.{length-append, length-drop, append-nil, zero-add}
 use Rattle.selective_reject.specs.declared.packet.Packet.{Packet}
 use Rattle.selective_reject.specs.declared.place.Place.{Place}
 use Rattle.selective_reject.specs.Places.{empty_place, filled_place, place_at, packet_at, is_full, with_packet, missing, asked, asked_place, is_missing}
@@ -72,7 +72,7 @@ moved_none held store h = record {
     vr = h.vr ∙ ap (λ n. n % store.modulus) (omega arith);
     places = h.places ∙ sym (append-nil store.places);
   };
-  left = ap (λ ps. length (run ps)) h.places ∙ omega arith;
+  left = zero-add (length (run held.places)) ∙ ap (λ ps. length (run ps)) h.places;
 }
 
 further_by : (i : Incoming) (j : ℕ) (b : Bool) → b ≡ true → j < length i.places

@@ -1,9 +1,12 @@
 -- How what a link keeps follows the acts of a turn.
-use Rattle.std.proofs.Common.{◌≡◌, ℕ, ◌+◌, ◌%◌, Bool, List, [], ◌∷◌, ◌++◌, map, refl, sym, ◌∙◌, ap, subst, arith}
+use Rattle.std.proofs.Common.{◌≡◌, ℕ, ◌+◌, ◌%◌, Bool, List, [], ◌∷◌, ◌++◌, length, map, refl, sym, ◌∙◌, ap, subst, arith}
 use Rattle.std.proofs.lemmas.List.{map-append}
 use Rattle.ax25_address.specs.declared.path.Path.{Path}
 use Rattle.selective_reject.specs.Outgoing.{Outgoing, IsOutgoing, StandsForOutgoing}
-use Rattle.selective_reject.specs.Incoming.{Incoming, StandsForIncoming}
+use Rattle.selective_reject.specs.Incoming.{Incoming, IsIncoming, StandsForIncoming}
+use Rattle.selective_reject.specs.declared.packet.Packet.{Packet}
+use Rattle.link_machine.specs.Acts.{moved_on, give}
+use Rattle.link_machine.specs.declared.acts.Told.TheVariants.{Given}
 use Rattle.link_machine.specs.declared.acts.Told.{Told}
 use Rattle.link_machine.specs.declared.control.Control.{Control}
 use Rattle.link_machine.specs.declared.machine.Machine.{Machine as Held}
@@ -12,7 +15,7 @@ use Rattle.link_machine.specs.Machine.{Machine, fresh, emptied}
 use Rattle.link_machine.specs.Sent.{Sent, frame_of, frames_of}
 use Rattle.link_machine.specs.Turn.{Turn, changing, setting, sending, telling}
 use Rattle.link_machine.specs.StandsFor.{StandsFor}
-use Rattle.link_machine.specs.Held.{IsLink, Holds, Shows}
+use Rattle.link_machine.specs.Held.{IsLink, IsReady, Holds, Shows}
 
 -- only the variables change
 pub holds_setting :
@@ -124,3 +127,50 @@ holds_outgoing held m behind o h formed stands = record {
   };
   next = h.next;
 }
+
+-- packets are given, and V(R) has moved on
+pub holds_incoming :
+    (held : Held) (m : Machine) (behind i : Incoming) → Holds held m → StandsForIncoming behind i → IsIncoming behind → IsReady behind
+    → i.modulus ≡ m.incoming.modulus → i.window ≡ m.incoming.window → i.mode ≡ m.incoming.mode
+    → Holds (record held { incoming = behind }) (record m { incoming = i })
+holds_incoming held m behind i h stands formed ready modulus window mode = record {
+  stands = record {
+    path = h.stands.path;
+    control = h.stands.control;
+    outgoing = h.stands.outgoing;
+    incoming = stands;
+  };
+  formed = record {
+    mode = h.formed.mode ∙ h.stands.incoming.mode ∙ sym mode ∙ sym stands.mode;
+    window = h.formed.window ∙ h.stands.incoming.window ∙ sym window ∙ sym stands.window;
+    modulus = stands.modulus ∙ modulus ∙ sym h.stands.incoming.modulus ∙ h.formed.modulus;
+    outgoing = h.formed.outgoing;
+    incoming = formed;
+  };
+  next = ready;
+}
+
+pub shows_incoming :
+    (held : Held) (behind : Incoming) (room after : Room) (t : Turn) (i : Incoming) (packets : List Packet) → Shows held room t
+    → StandsForIncoming behind (moved_on (length packets) t.now.incoming) → IsIncoming behind → IsReady behind
+    → after.told.items ≡ room.told.items ++ map Given packets → after.frames ≡ room.frames
+    → Shows (record held { incoming = behind }) after (give packets t)
+shows_incoming held behind room after t i packets h stands formed ready told frames = record {
+  holds = holds_incoming held t.now behind (moved_on (length packets) t.now.incoming) h.holds stands formed ready refl refl refl;
+  frames = ap (λ v. v.items) frames ∙ h.frames;
+  told = told ∙ ap (λ xs. xs ++ map Given packets) h.told;
+}
+
+pub same_incoming :
+    (held : Held) (behind : Incoming) (room : Room) (t : Turn) → Shows held room t → StandsForIncoming behind t.now.incoming → IsIncoming behind
+    → IsReady behind → Shows (record held { incoming = behind }) room t
+same_incoming held behind room t h stands formed ready = record {
+  holds = holds_incoming held t.now behind t.now.incoming h.holds stands formed ready refl refl refl;
+  frames = h.frames;
+  told = h.told;
+}
+
+pub shows_as :
+    (held : Held) (behind : Incoming) (room : Room) (t u : Turn) → t ≡ u → Shows (record held { incoming = behind }) room t
+    → Shows (record held { incoming = behind }) room u
+shows_as held behind room t u e h = let P : Turn → Type 0 = λ x. Shows (record held { incoming = behind }) room x in subst P e h

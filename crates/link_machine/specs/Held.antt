@@ -1,9 +1,10 @@
 -- What a link keeps in one event, act by act. No public clause speaks of this.
-use Rattle.std.specs.Prelude.{◌<◌, Result, Ok, Err, ◌≡◌, ℕ, ◌+◌, Bool, false, ◌++◌, ◌∷◌, [], length, if◌then◌else◌, List}
+use Rattle.std.specs.Prelude.{replicate, ◌<◌, Result, Ok, Err, ◌≡◌, ℕ, ◌+◌, Bool, false, ◌++◌, ◌∷◌, [], length, if◌then◌else◌, List}
 use Rattle.link_machine.specs.Sent.Sent.{InfoSent}
 use Rattle.selective_reject.specs.Outgoing.{Outgoing, IsOutgoing, after_next, acknowledged, back}
-use Rattle.selective_reject.specs.Incoming.{IsIncoming}
-use Rattle.selective_reject.specs.Places.{is_full}
+use Rattle.selective_reject.specs.Incoming.{Incoming, IsIncoming}
+use Rattle.selective_reject.specs.declared.window.Mode.TheVariants.{Rej}
+use Rattle.selective_reject.specs.Places.{empty_place, is_full}
 use Rattle.link_machine.specs.declared.machine.Machine.{Machine as Held}
 use Rattle.link_machine.specs.declared.room.Room.{Room}
 use Rattle.link_machine.specs.Machine.{Machine, is_valid, named}
@@ -32,12 +33,16 @@ pub record IsLink (held : Held) : Type 0 where
   pub outgoing : IsOutgoing held.outgoing
   pub incoming : IsIncoming held.incoming
 
+-- between two events no packet waits for its turn to be given: that with number V(R) is not there, and by REJ none is
+pub record IsReady (i : Incoming) : Type 0 where
+  pub next : is_full i.places 0 ≡ false
+  pub in_sequence : i.mode ≡ Rej → i.places ≡ replicate i.window empty_place
+
 -- the link stands for the machine
 pub record Holds (held : Held) (m : Machine) : Type 0 where
   pub stands : StandsFor held m
   pub formed : IsLink held
-  -- the packet with number V(R) is given at once
-  pub next : is_full held.incoming.places 0 ≡ false
+  pub next : IsReady held.incoming
 
 -- the SREJ for a number
 abbrev pub srej_frame : Path → ℕ → Frame
@@ -80,7 +85,7 @@ pub record SentSome (packets left : List Packet) (held : Held) (room : Room) (t 
 -- what holds of each link between two events
 pub record IsWhole (held : Held) : Type 0 where
   pub link : IsLink held
-  pub next : is_full held.incoming.places 0 ≡ false
+  pub next : IsReady held.incoming
 
 -- the numbers that a frame has are below a modulus
 abbrev pub HasNumbersBelow : ℕ → Kind → Type 0

@@ -6,7 +6,7 @@ ghost use Rattle.selective_reject.specs.Places.{is_full};
 ghost use Rattle.link_machine.specs.Machine.{ahead_of_vr};
 ghost use Rattle.link_machine.specs.Turn.{Turn};
 ghost use Rattle.link_machine.specs.Acts.{run, moved_on, give, ask};
-ghost use Rattle.link_machine.specs.Frames.{take_selected, hear_info_by_rej, hear_info_by_srej};
+ghost use Rattle.link_machine.specs.Frames.{take_selected, refuse_out_of_sequence, hear_info_by_rej, hear_info_by_srej};
 ghost use Rattle.link_machine.specs.Room.{frames_left, told_left, Uses};
 ghost use Rattle.link_machine.specs.Held.{IsLink, Shows, srej_frame};
 
@@ -78,11 +78,24 @@ impl Machine {
             → Shows self.new room.new (hear_info_by_rej ns flag packet t) }
         ensures uses { Uses room.old room.new 1 1 }
     {
-        if self.receive_in_sequence(room, ns, packet) {
+        let next = self.receive_in_sequence(room, ns, packet);
+        if next {
             self.control.rej = false;
             self.control.owe();
             self.answer_poll(room, flag);
-        } else if self.control.rej {
+        } else {
+            self.refuse_out_of_sequence(room, flag);
+        }
+    }
+
+    /// Asks by REJ for the frame that is missing, unless that was done.
+    fn refuse_out_of_sequence(&mut self, room: &mut Room, flag: bool)
+        requires { 1 ≤ frames_left room.old }
+        ensures shows { (t : Turn) → Shows self.old room.old t → Shows self.new room.new (refuse_out_of_sequence flag t) }
+        ensures uses { Uses room.old room.new 1 0 }
+    {
+        let asked = self.control.rej;
+        if asked {
             self.answer_poll(room, flag);
         } else {
             self.reject(room, flag);

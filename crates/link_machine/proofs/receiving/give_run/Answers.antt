@@ -109,3 +109,11 @@ loop-packet-smaller c =
     let one : run before.places ≡ packet ∷ run (drop 1 before.places) = run_of_full before.places packet there in
     let same : run behind.places ≡ run (drop 1 before.places) = ap run places ∙ run-push (drop 1 before.places) in
     omega (arith, ap length one, ap length same)
+
+pub returns-clause-uses : goal.returns-clause-uses
+returns-clause-uses c =
+    let short : length (run c.args.incoming.now.places) ≤ length c.args.incoming.now.places = length-run c.args.incoming.now.places in
+    let places : length c.args.incoming.now.places ≡ c.args.incoming.now.window = c.requires.formed.places in
+    let used = c.loop-packet.invariant.used in
+    let frames = c.loop-packet.invariant.frames_same in
+    record { of_frames = omega arith; of_told = omega arith }
