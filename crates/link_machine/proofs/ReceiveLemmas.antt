@@ -196,7 +196,7 @@ count_in_window d w false e = omega arith
 pub asks_at_most : (i : Incoming) (ns : ℕ) → length (numbers_to_ask i ns) ≤ i.window
 asks_at_most i ns =
     let n = before_number i ns in
-    let e : length (numbers_to_ask i ns) ≡ length (missing i.places n) = length-map (λ k. (i.vr + k) % i.modulus) (missing i.places n) in
+    let e : length (numbers_to_ask i ns) ≡ length (missing i.places n) = length-map (missing i.places n) (λ k. (i.vr + k) % i.modulus) in
     let h : length (missing i.places n) ≤ n = length-missing i.places n in
     let w : n ≤ i.window = count_in_window (ahead i.modulus i.vr ns) i.window (nat_lt (ahead i.modulus i.vr ns) i.window) refl in
     omega arith

@@ -71,7 +71,8 @@ impl Link {
         if self.machine.control.has_link() {
             return Err(self.machine.wrong_state());
         }
-        Ok(self.machine.take_connect(self.alloc)?)
+        let acts = self.machine.take_connect(self.alloc)?;
+        Ok(acts)
     }
 
     /// Gives a packet of at most 256 octets to be sent. Refused where there is no link or a disconnect was asked for, where
@@ -93,7 +94,8 @@ impl Link {
         if len > MOST_OCTETS {
             return Err(LinkFault::TooLong { len });
         }
-        Ok(self.machine.take_packet(self.alloc, packet)?)
+        let acts = self.machine.take_packet(self.alloc, packet)?;
+        Ok(acts)
     }
 
     /// Asks for the link to be released once every packet is acknowledged. Refused where there is no link, and where it was
@@ -108,7 +110,8 @@ impl Link {
         if self.machine.control.is_closed() {
             return Err(self.machine.wrong_state());
         }
-        Ok(self.machine.take_disconnect(self.alloc)?)
+        let acts = self.machine.take_disconnect(self.alloc)?;
+        Ok(acts)
     }
 
     /// Hears a frame from the other station, whose numbers are below 8.

@@ -41,8 +41,34 @@ use Rattle.std.specs.List.{slice_get}
 use Rattle.selective_reject.specs.declared.window.Mode.{Mode}
 use Rattle.selective_reject.specs.declared.window.Mode.TheVariants.{Rej as RejMode, Srej as SrejMode}
 use Rattle.selective_reject.specs.Outgoing.{sent_packet as packet_sent}
+use Rattle.std.proofs.lemmas.Bool.{cond-true, cond-false}
+use Rattle.link_machine.proofs.Events.{sent_one, not_sent, on_ok}
+use Rattle.link_machine.proofs.PacketLemmas.{same_window}
+use Rattle.std.specs.Prelude.{IsErr}
+use Rattle.std.specs.Option.{option_to_list}
+use Rattle.std.proofs.lemmas.List.{map-append}
+use Rattle.std.proofs.Common.{append_assoc, append-nil}
+use Rattle.std.specs.Prelude.{is_some}
+use Rattle.selective_reject.specs.declared.incoming.Took.{Took}
+use Rattle.selective_reject.specs.declared.incoming.Took.TheVariants.{Next, Stored}
+use Rattle.selective_reject.specs.Incoming.{keeps}
+use Rattle.selective_reject.specs.Places.{packet_at, is_full, empty_place, with_packet, missing, asked}
+use Rattle.link_machine.specs.Held.{IsReady, srej_frame}
+use Rattle.link_machine.proofs.RunLemmas.{MovedSome, places_taken, moved_none, moved_one_more, moved_all, run-push, length-run, run_of_full, run_of_empty, run_with_next}
+use Rattle.link_machine.proofs.ReceiveLemmas.{is_next, is_stored, not_next, not_stored, keeps_none, took_by_rej, took_by_srej, accepted, not_accepted, ready_cleared, places_in_sequence, there_with, moved_with, first_kept, first_asked, srejs_as_written, asks_at_most, before_in_window, rej_is_not_srej}
+use Rattle.link_machine.proofs.Showing.{shows_incoming}
+use Rattle.link_machine.proofs.Events.{answers_all, answers_right, free_connect, free_disconnect, free_send, holds_of, whole_behind}
+use Rattle.std.proofs.lemmas.Bool.{le-leb}
+use Rattle.std.specs.Prelude.{Option}
 use Rattle.selective_reject.specs.Outgoing.{acknowledged as without_acked}
+use Rattle.link_machine.specs.Done.{Done}
+use Rattle.tnc_base.specs.declared.fault.OutOfMemory.{OutOfMemory}
+use Rattle.std.specs.Prelude.{Result}
 use Rattle.link_machine.proofs.machine.Machine.hear_info.Goals as goal
+
+pub returns-in_default : goal.returns-in_default
+returns-in_default c =
+    makes_reset (λ n. hear_info n c.args.ns c.args.flag (record { pid = c.args.pid; octets = c.args.octets.now })) c.args.nr c.in_default.field-0 c.args.self.now c.hear_error.new.self c.hear_error.result (sym c.in_default.ensures.count) c.hear_error.ensures
 
 pub settle-requires-clause-formed : goal.settle-requires-clause-formed
 settle-requires-clause-formed c =
@@ -53,16 +79,21 @@ settle-requires-clause-formed c =
     (c.take_info.ensures.shows (begin m) begun valid.0).holds.formed
 
 pub returns : goal.returns
-returns c = λ m h.
-    let begun = shows_begin c.args.self.now m c.in_ok-room.room _ _ c.in_ok-room.ensures h in
-    let valid = valid_number c.args.self.now m c.args.nr c.in-Ok.count h (sym c.in-Ok.ensures.count) in
-    let n = named c.args.nr m in
-    let packet : Packet = record { pid = c.args.pid; octets = c.args.octets.now } in
-    let acked : Turn = changing (acknowledged n) (begin m) in
-    let t : Turn = hear_info n c.args.ns c.args.flag packet (begin m) in
-    let shown = c.take_info.ensures.shows (begin m) begun valid.0 in
-    let kept = info_keeps m.incoming.mode c.args.ns c.args.flag packet acked in
-    let right : (t.now.control.state ≡ Up → c.in_ok-packets.packets.items ≡ in_window t.now.incoming.window t.now.outgoing) = λ _.
-        copies_right c.args.self.now m c.in-Ok.count false c.in_ok-packets.packets.items h c.in_ok-packets.ensures
-        ∙ sym (ap (λ o. in_window t.now.incoming.window o) kept.0 ∙ ap (λ k. in_window k acked.now.outgoing) kept.1 ∙ ap (λ k. in_window m.incoming.window (without_acked k m.outgoing)) valid.1) in
-    made c.settle.new.self c.settle.new.room (settled t) c.finish.result (c.settle.ensures.shows t shown right) c.finish.ensures.frames c.finish.ensures.told
+returns c =
+    let packet : Packet = record { pid = c.args.pid; octets = c.in_ok-from_slice.field-0 } in
+    let done : Result Done OutOfMemory = Ok c.finish.result in
+    let makes : Makes (λ t. hear_info (named c.args.nr t.now) c.args.ns c.args.flag packet t) c.args.self.now c.settle.new.self done = λ m h.
+        let begun = shows_begin c.args.self.now m c.in_ok-room.room _ _ c.in_ok-room.ensures h in
+        let valid = valid_number c.args.self.now m c.args.nr c.in-Ok.count h (sym c.in-Ok.ensures.count) in
+        let n = named c.args.nr m in
+        let acked : Turn = changing (acknowledged n) (begin m) in
+        let t : Turn = hear_info n c.args.ns c.args.flag packet (begin m) in
+        let shown = c.take_info.ensures.shows (begin m) begun valid.0 in
+        let kept = info_keeps m.incoming.mode c.args.ns c.args.flag packet acked in
+        let right : (t.now.control.state ≡ Up → c.in_ok-packets.packets.items ≡ in_window t.now.incoming.window t.now.outgoing) = λ _.
+            copies_right c.args.self.now m c.in-Ok.count false c.in_ok-packets.packets.items h c.in_ok-packets.ensures
+            ∙ sym (ap (λ o. in_window t.now.incoming.window o) kept.0 ∙ ap (λ k. in_window k acked.now.outgoing) kept.1 ∙ ap (λ k. in_window m.incoming.window (without_acked k m.outgoing)) valid.1) in
+        made c.settle.new.self c.settle.new.room (settled t) c.finish.result (c.settle.ensures.shows t shown right) c.finish.ensures.frames c.finish.ensures.told in
+    let all = makes_numbered (λ n. hear_info n c.args.ns c.args.flag packet) c.args.nr c.in-Ok.count c.args.self.now c.settle.new.self done (sym c.in-Ok.ensures.count) makes in
+    let P : List ℕ → Type 0 = λ o. Makes (hear_numbered c.args.nr (λ n. hear_info n c.args.ns c.args.flag (record { pid = c.args.pid; octets = o }))) c.args.self.now c.settle.new.self done in
+    subst P c.in_ok-from_slice.ensures all

@@ -83,3 +83,6 @@ returns-in-Srej c =
     let P : S → Type 0 = λ w. Makes (hear_numbered c.args.nr (hear_supervisory_of w c.args.command c.args.flag)) c.args.self.now c.hear_srej.new.self c.hear_srej.result in
     subst P (sym c.in-Srej.is) (makes_numbered (hear_supervisory_of Srej c.args.command c.args.flag) c.args.nr c.in-Ok.count c.args.self.now c.hear_srej.new.self c.hear_srej.result valid made)
 
+pub returns-in_default : goal.returns-in_default
+returns-in_default c =
+    makes_reset (hear_supervisory_of c.args.which c.args.command c.args.flag) c.args.nr c.in_default.field-0 c.args.self.now c.hear_error.new.self c.hear_error.result (sym c.in_default.ensures.count) c.hear_error.ensures

@@ -92,7 +92,6 @@ returns-in-Next-clause-shows c = λ t h.
     } in
     let told : c.give_run.new.room.told.items ≡ c.args.room.now.told.items ++ map Given (run_with p t.now) =
         c.give_run.ensures.told ∙ ap (λ ps. c.args.room.now.told.items ++ map Given (run ps)) stands.places ∙ ap (λ xs. c.args.room.now.told.items ++ map Given xs) all in
-    let T : Turn → Type 0 = λ x. Shows _ c.give_run.new.room x in
     let shown = shows_incoming c.args.self.now c.give_run.new.incoming c.args.room.now c.give_run.new.room t i (run_with p t.now) h given c.give_run.ensures.formed ready told c.give_run.ensures.frames in
     shows_as c.args.self.now c.give_run.new.incoming c.give_run.new.room _ _ (sym (cond-true (ahead_of_vr c.args.ns t.now == 0) (give (run_with p t.now) t) _ yes)) shown
 
