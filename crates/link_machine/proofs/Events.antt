@@ -26,7 +26,7 @@ use Rattle.ax25_frames.specs.declared.frame.U.TheVariants.{Sabm, Sabme, Disc, Dm
 use Rattle.selective_reject.specs.Incoming.{Incoming}
 use Rattle.tnc_base.specs.declared.fault.OutOfMemory.{OutOfMemory}
 use Rattle.std.proofs.Common.{zero, suc, ◌==◌, nat_lt, inr, None}
-use Rattle.std.proofs.lemmas.Bool.{lt-ltb, le-ltb, cases_lt, ltb-true}
+use Rattle.std.proofs.lemmas.Bool.{lt-ltb, le-ltb, lt-leb, cases_lt, ltb-true}
 use Rattle.std.proofs.lemmas.Option.{slice_get_cases}
 use Rattle.std.specs.Prelude.{IsErr, OnOk, ◌⊎◌, get_or}
 use Rattle.std.specs.List.{slice_get}
@@ -43,6 +43,10 @@ use Rattle.link_machine.specs.Requests.{has_link, is_closed}
 use Rattle.link_machine.specs.declared.fault.LinkFault.{LinkFault}
 use Rattle.link_machine.specs.declared.fault.LinkFault.TheVariants.{WrongState, Full, TooLong}
 use Rattle.std.specs.Prelude.{IfOk, nat_le}
+use Rattle.link_machine.specs.declared.fault.NewFault.{NewFault}
+use Rattle.link_machine.specs.declared.fault.NewFault.TheVariants.{BadWindow, Memory}
+use Rattle.selective_reject.specs.declared.incoming.StoreFault.{StoreFault}
+use Rattle.selective_reject.specs.declared.incoming.StoreFault.TheVariants.{BadWindow as BadStoreWindow, Memory as StoreMemory}
 use Rattle.link_machine.specs.StandsFor.{StandsFor}
 use Rattle.link_machine.specs.declared.acts.Told.{Told}
 use Rattle.ax25_frames.specs.declared.frame.Frame.{Frame}
@@ -52,7 +56,7 @@ use Rattle.std.proofs.Common.{Some, length-append, length-drop}
 use Rattle.std.proofs.lemmas.List.{take_all, drop-append-le, take-append-le}
 use Rattle.selective_reject.specs.Outgoing.{after_push}
 use Rattle.link_machine.specs.Room.{HasRoom}
-use Rattle.link_machine.specs.Held.{IsLink, IsWhole, Holds, Shows, Made, Makes, hear_numbered, outgoing_behind, frames_to_close}
+use Rattle.link_machine.specs.Held.{IsLink, IsWhole, Holds, Shows, Made, Makes, hear_numbered, new_fault_of, outgoing_behind, frames_to_close}
 use Rattle.link_machine.proofs.PacketLemmas.{in_window_behind, same_window}
 use Rattle.link_machine.proofs.Showing.{modulus_is_8}
 
@@ -682,3 +686,31 @@ free_send m packet e room short =
     ap (λ b. is_some (if b then wrong else if nat_le 1024 (length m.outgoing.packets) then Some Full else if nat_lt 256 (length packet.octets) then long else None)) e
     ∙ ap (λ b. is_some (if b then Some Full else if nat_lt 256 (length packet.octets) then long else None)) (lt-leb 1024 (length m.outgoing.packets) room)
     ∙ ap (λ b. is_some (if b then long else None)) (le-ltb 256 (length packet.octets) short)
+
+-- a window is refused as the store refuses it
+abbrev window_of : NewFault → ℕ
+window_of (BadWindow window) = suc window
+window_of Memory = 0
+
+store_window : (fault : StoreFault) (w : ℕ) → new_fault_of fault ≡ BadWindow w → fault ≡ BadStoreWindow w
+store_window (BadStoreWindow v) w e = let s : suc v ≡ suc w = ap window_of e in ap BadStoreWindow (omega arith)
+store_window StoreMemory w e = absurd (none (ap window_of e))
+  where
+    none : 0 ≡ suc w → ⊥
+    none h = omega arith
+
+abbrev fault_in : {A : Type 0} → NewFault → Result A NewFault → NewFault
+fault_in other (Ok x) = other
+fault_in other (Err fault) = fault
+
+abbrev store_fault_in : {A : Type 0} → StoreFault → Result A StoreFault → StoreFault
+store_fault_in other (Ok x) = other
+store_fault_in other (Err fault) = fault
+
+pub refused_as : {A B : Type 0} (fault : StoreFault) (w : ℕ) → ◌≡◌ {A = Result A NewFault} (Err (new_fault_of fault)) (Err (BadWindow w))
+    → ◌≡◌ {A = Result B StoreFault} (Err fault) (Err (BadStoreWindow w))
+refused_as fault w e = ap Err (store_window fault w (ap (fault_in Memory) e))
+
+pub refuses_as : {A B : Type 0} (fault : StoreFault) (w : ℕ) → ◌≡◌ {A = Result B StoreFault} (Err fault) (Err (BadStoreWindow w))
+    → ◌≡◌ {A = Result A NewFault} (Err (new_fault_of fault)) (Err (BadWindow w))
+refuses_as fault w e = ap (λ f. Err (new_fault_of f)) (ap (store_fault_in StoreMemory) e)

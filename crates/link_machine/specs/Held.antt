@@ -13,6 +13,10 @@ use Rattle.link_machine.specs.Acts.{sent_to, reset}
 use Rattle.link_machine.specs.Frames.{hear_supervisory}
 use Rattle.link_machine.specs.Step.{settled}
 use Rattle.link_machine.specs.Done.{Done}
+use Rattle.link_machine.specs.declared.fault.NewFault.{NewFault}
+use Rattle.link_machine.specs.declared.fault.NewFault.TheVariants.{BadWindow, Memory}
+use Rattle.selective_reject.specs.declared.incoming.StoreFault.{StoreFault}
+use Rattle.selective_reject.specs.declared.incoming.StoreFault.TheVariants.{BadWindow as BadStoreWindow, Memory as StoreMemory}
 use Rattle.tnc_base.specs.declared.fault.OutOfMemory.{OutOfMemory}
 use Rattle.link_machine.specs.Turn.{Turn, Act, begin}
 use Rattle.selective_reject.specs.declared.packet.Packet.{Packet}
@@ -112,3 +116,8 @@ pub record Made (turn : Turn) (behind : Held) (done : Done) : Type 0 where
 abbrev pub Makes : Act → Held → Held → Result Done OutOfMemory → Type 0
 Makes act before behind (Ok done) = (m : Machine) → Holds before m → Made (settled (act (begin m))) behind done
 Makes act before behind (Err fault) = behind ≡ before
+
+-- why no link is made, where a store of it is refused
+abbrev pub new_fault_of : StoreFault → NewFault
+new_fault_of (BadStoreWindow window) = BadWindow window
+new_fault_of StoreMemory = Memory

@@ -18,6 +18,8 @@ mod room;
 mod sending;
 mod setting_up;
 mod state;
+#[cfg(test)]
+mod tests;
 mod ticks;
 
 pub use acts::{Acts, Told, Why};

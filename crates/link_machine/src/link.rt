@@ -56,8 +56,10 @@ impl Link {
         ensures bad_window { (window : ℕ) → IsErrOf result (NewFault.BadWindow window)
             ↔ ((window ≡ params.window) × IsBadWindow 8 params.window params.mode) }
     {
-        let machine = Machine::new(alloc, params, path)?;
-        Ok(Link { alloc, machine })
+        match Machine::new(alloc, params, path) {
+            Ok(machine) => Ok(Link { alloc, machine }),
+            Err(fault) => Err(fault),
+        }
     }
 
     /// Calls the other station. Refused where there is a link already.

@@ -7,7 +7,7 @@ ghost use Rattle.link_machine.specs.StandsFor.{StandsFor};
 ghost use Rattle.link_machine.specs.Machine.{Machine as State, fresh, emptied, unquit, is_valid, named, new_machine};
 ghost use Rattle.link_machine.specs.Turn.{Turn, changing};
 ghost use Rattle.link_machine.specs.Acts.{acknowledged, gone_back, recover};
-ghost use Rattle.link_machine.specs.Held.{IsLink, IsWhole, Holds, Shows};
+ghost use Rattle.link_machine.specs.Held.{IsLink, IsWhole, Holds, Shows, new_fault_of};
 ghost use Rattle.link_machine.specs.declared.room.Room.{Room};
 
 use crate::control::Control;
@@ -37,6 +37,16 @@ pub struct Machine {
     pub incoming: InStore,
 }
 
+/// Why no link is made, where a store of it is refused.
+fn refusal_of(fault: StoreFault) -> NewFault
+    ensures { result ≡ new_fault_of fault }
+{
+    match fault {
+        StoreFault::BadWindow { window } => NewFault::BadWindow { window },
+        StoreFault::Memory => NewFault::Memory,
+    }
+}
+
 impl Machine {
     /// An idle link on a path.
     pub(crate) fn new(alloc: Global, params: Params, path: Path) -> Result<Machine, NewFault>
@@ -47,8 +57,7 @@ impl Machine {
     {
         let incoming = match InStore::new(alloc, MODULUS, params.window, params.mode) {
             Ok(incoming) => incoming,
-            Err(StoreFault::BadWindow { window }) => return Err(NewFault::BadWindow { window }),
-            Err(StoreFault::Memory) => return Err(NewFault::Memory),
+            Err(fault) => return Err(refusal_of(fault)),
         };
         let Ok(outgoing) = OutStore::new(alloc) else {
             return Err(NewFault::Memory);

@@ -96,4 +96,4 @@ returns c =
         made c.settle.new.self c.settle.new.room (settled t) c.finish.result (c.settle.ensures.shows t shown right) c.finish.ensures.frames c.finish.ensures.told in
     let all = makes_numbered (λ n. hear_info n c.args.ns c.args.flag packet) c.args.nr c.in-Ok.count c.args.self.now c.settle.new.self done (sym c.in-Ok.ensures.count) makes in
     let P : List ℕ → Type 0 = λ o. Makes (hear_numbered c.args.nr (λ n. hear_info n c.args.ns c.args.flag (record { pid = c.args.pid; octets = o }))) c.args.self.now c.settle.new.self done in
-    subst P c.in_ok-from_slice.ensures all
+    subst P (c.in_ok-from_slice.ensures ∙ c.as_slice.ensures.list) all
