@@ -1,5 +1,5 @@
 -- An event from its first act to its last.
-use Rattle.std.proofs.Common.{◌≡◌, ℕ, ◌+◌, ◌-◌, ◌%◌, ◌<◌, ◌≤◌, ◌&&◌, not, Bool, true, false, if◌then◌else◌, List, [], ◌∷◌, ◌++◌, length, take, drop, min, max, Ok, Err, Result, refl, sym, ◌∙◌, ap, subst, arith, inl}
+use Rattle.std.proofs.Common.{◌≡◌, ℕ, ◌+◌, ◌-◌, ◌%◌, ◌<◌, ◌≤◌, ◌&&◌, Bool, true, false, if◌then◌else◌, List, [], ◌∷◌, ◌++◌, length, take, drop, min, max, Ok, Err, Result, refl, sym, ◌∙◌, ap, subst, arith, inl}
 use Rattle.std.proofs.lemmas.Bool.{false≢true}
 use Rattle.std.proofs.Math.Nat.{mod-eq_of_lt}
 use Rattle.selective_reject.specs.declared.packet.Packet.{Packet}
@@ -17,7 +17,7 @@ use Rattle.link_machine.specs.Machine.{Machine, is_valid, named, ahead_of_vr}
 use Rattle.link_machine.specs.Sent.{frames_of, infos_from}
 use Rattle.link_machine.specs.Sent.Sent.{InfoSent}
 use Rattle.link_machine.specs.Turn.{Turn, Act, begin, setting, sending, in_order}
-use Rattle.link_machine.specs.Acts.{acknowledged, timed_by, timed_anew, answer_poll, recover, in_window, settle, reset, close, send_packets, send_again, sent_packet, give, with_rej, owing, watching, nothing_due}
+use Rattle.link_machine.specs.Acts.{acknowledged, timed_anew, answer_poll, recover, in_window, settle, reset, close, send_packets, send_again, sent_packet, give, with_rej, owing, watching, nothing_due}
 use Rattle.link_machine.specs.declared.acts.Why.TheVariants.{Asked}
 use Rattle.link_machine.specs.Frames.{hear_in, hear, hear_idle, hear_calling, hear_releasing, open_called, end_call, acknowledged_by_srej, hear_info_by_rej, take_selected, hear_info_by_srej, hear_info_by}
 use Rattle.ax25_frames.specs.declared.frame.Kind.{Kind}
@@ -56,7 +56,7 @@ use Rattle.std.proofs.Common.{Some, length-append, length-drop}
 use Rattle.std.proofs.lemmas.List.{take_all, drop-append-le, take-append-le}
 use Rattle.selective_reject.specs.Outgoing.{after_push}
 use Rattle.link_machine.specs.Room.{HasRoom}
-use Rattle.link_machine.specs.Held.{IsLink, IsWhole, Holds, Shows, Made, Makes, hear_numbered, new_fault_of, outgoing_behind, frames_to_close}
+use Rattle.link_machine.specs.Held.{IsWhole, Holds, Shows, Made, Makes, hear_numbered, new_fault_of, outgoing_behind, frames_to_close}
 use Rattle.link_machine.proofs.PacketLemmas.{in_window_behind, same_window}
 use Rattle.link_machine.proofs.Showing.{modulus_is_8}
 
@@ -145,7 +145,7 @@ window_eq k l l' a a' b b' packets e f g =
 same_distance :
     (count : ℕ) (goes_back : Bool) (held o : Outgoing) → StandsForOutgoing held o
     → (outgoing_behind count goes_back held).vs - (outgoing_behind count goes_back held).va
-      ≡ (outgoing_behind count goes_back o).vs - (outgoing_behind count goes_back o).va
+    ≡ (outgoing_behind count goes_back o).vs - (outgoing_behind count goes_back o).va
 same_distance count true held o h = omega arith
 same_distance count false held o h = let e : held.vs + o.va ≡ o.vs + held.va = h.vs in omega arith
 
@@ -209,9 +209,10 @@ pub valid_number :
     → (is_valid nr m ≡ true) × (named nr m ≡ m.outgoing.va + count)
 valid_number held m nr count h e =
     let whole : acknowledgement 8 nr m.outgoing ≡ Ok count = sym (same_acknowledgement held.outgoing m.outgoing 8 nr (inl refl) h.stands.outgoing) ∙ e in
-    let both = is_named_if_counted (is_named 8 nr m.outgoing) (ahead 8 m.outgoing.va nr) count _ whole in
-    (ap (λ k. is_named k nr m.outgoing) (modulus_is_8 held m h) ∙ both.0,
-     ap (λ k. m.outgoing.va + ahead k m.outgoing.va nr) (modulus_is_8 held m h) ∙ ap (λ k. m.outgoing.va + k) both.1)
+    let both = is_named_if_counted (is_named 8 nr m.outgoing) (ahead 8 m.outgoing.va nr) count _ whole in (
+      ap (λ k. is_named k nr m.outgoing) (modulus_is_8 held m h) ∙ both.0,
+      ap (λ k. m.outgoing.va + ahead k m.outgoing.va nr) (modulus_is_8 held m h) ∙ ap (λ k. m.outgoing.va + k) both.1,
+    )
 
 not_named_if_bad : (b : Bool) (d : ℕ) (bad bad' : BadNr) → ◌≡◌ {A = Result ℕ BadNr} (if b then Ok d else Err bad) (Err bad') → b ≡ false
 not_named_if_bad true d bad bad' h = absurd (false≢true (sym (ap is_good h)))
@@ -244,8 +245,8 @@ behind_answers asks answers t =
     let polled = answer_poll_machine asks t in
     let recovered = recover_by ((answer_poll asks t).now.control.poll && answers) _ (answer_poll asks t) refl in (
       recovered.0
-      ∙ ap (λ b. if b && answers then back (answer_poll asks t).now.outgoing else (answer_poll asks t).now.outgoing) polled.2
-      ∙ ap (λ o. if t.now.control.poll && answers then back o else o) polled.0,
+          ∙ ap (λ b. if b && answers then back (answer_poll asks t).now.outgoing else (answer_poll asks t).now.outgoing) polled.2
+          ∙ ap (λ o. if t.now.control.poll && answers then back o else o) polled.0,
       recovered.1 ∙ polled.1,
     )
 
@@ -267,10 +268,10 @@ pub supervised :
 supervised t m n count asks answers goes_back out inc back_or_not number =
     let left = behind_answers asks answers t in
     let whole : (recover answers (answer_poll asks t)).now.outgoing ≡ outgoing_behind count goes_back m.outgoing =
-        left.0
-        ∙ ap (λ o. if t.now.control.poll && answers then back o else o) out
-        ∙ ap (λ b. if b then back (without_acknowledged n m.outgoing) else without_acknowledged n m.outgoing) back_or_not
-        ∙ ap (λ k. if goes_back then back (without_acknowledged k m.outgoing) else without_acknowledged k m.outgoing) number in
+    left.0
+    ∙ ap (λ o. if t.now.control.poll && answers then back o else o) out
+    ∙ ap (λ b. if b then back (without_acknowledged n m.outgoing) else without_acknowledged n m.outgoing) back_or_not
+    ∙ ap (λ k. if goes_back then back (without_acknowledged k m.outgoing) else without_acknowledged k m.outgoing) number in
     sym (ap (λ (i : Incoming). in_window i.window (recover answers (answer_poll asks t)).now.outgoing) (left.1 ∙ inc) ∙ ap (λ o. in_window m.incoming.window o) whole)
 
 back_again : (b : Bool) (o : Outgoing) → (if b then back (back o) else back o) ≡ back o
@@ -286,10 +287,10 @@ pub supervised_back :
 supervised_back t m n count asks answers out inc number =
     let left = behind_answers asks answers t in
     let whole : (recover answers (answer_poll asks t)).now.outgoing ≡ outgoing_behind count true m.outgoing =
-        left.0
-        ∙ ap (λ o. if t.now.control.poll && answers then back o else o) out
-        ∙ back_again (t.now.control.poll && answers) (without_acknowledged n m.outgoing)
-        ∙ ap (λ k. back (without_acknowledged k m.outgoing)) number in
+    left.0
+    ∙ ap (λ o. if t.now.control.poll && answers then back o else o) out
+    ∙ back_again (t.now.control.poll && answers) (without_acknowledged n m.outgoing)
+    ∙ ap (λ k. back (without_acknowledged k m.outgoing)) number in
     sym (ap (λ (i : Incoming). in_window i.window (recover answers (answer_poll asks t)).now.outgoing) (left.1 ∙ inc) ∙ ap (λ o. in_window m.incoming.window o) whole)
 
 -- a frame with a valid N(R)
@@ -412,9 +413,9 @@ supervised_srej t m c n count true asks answers goes_back out inc back_or_not nu
 supervised_srej t m c n count false asks answers goes_back out inc back_or_not number =
     let left = behind_answers asks answers t in
     let whole : (recover answers (answer_poll asks t)).now.outgoing ≡ (if goes_back then back m.outgoing else m.outgoing) =
-        left.0
-        ∙ ap (λ o. if t.now.control.poll && answers then back o else o) out
-        ∙ ap (λ b. if b then back m.outgoing else m.outgoing) back_or_not in
+    left.0
+    ∙ ap (λ o. if t.now.control.poll && answers then back o else o) out
+    ∙ ap (λ b. if b then back m.outgoing else m.outgoing) back_or_not in
     in_window_none m.incoming.window goes_back m.outgoing
     ∙ sym (ap (λ (i : Incoming). in_window i.window (recover answers (answer_poll asks t)).now.outgoing) (left.1 ∙ inc) ∙ ap (λ o. in_window m.incoming.window o) whole)
 
@@ -461,13 +462,13 @@ asked_right o c m n count true e number =
     let d : n - o.va ≡ count = omega arith in
     let z : n - n ≡ 0 = omega arith in
     asked_at (nat_lt count (o.top - o.va)) (nat_lt n o.top) (slice_get o.packets count) (slice_get (drop (n - o.va) o.packets) (n - n))
-        (same_less count (o.top - o.va) n o.top (λ h. omega arith) (λ h. omega arith))
-        (sym (slice_get-drop (n - o.va) (n - n) o.packets ∙ ap (λ k. slice_get o.packets k) (omega arith)))
+    (same_less count (o.top - o.va) n o.top (λ h. omega arith) (λ h. omega arith))
+    (sym (slice_get-drop (n - o.va) (n - n) o.packets ∙ ap (λ k. slice_get o.packets k) (omega arith)))
     ∙ ap (λ (x : Outgoing). sent_packet n (without_acknowledged n x)) (sym e)
 asked_right o c m n count false e number =
     asked_at (nat_lt count (o.top - o.va)) (nat_lt n o.top) (slice_get o.packets count) (slice_get o.packets (n - o.va))
-        (same_less count (o.top - o.va) n o.top (λ h. omega arith) (λ h. omega arith))
-        (ap (λ k. slice_get o.packets k) (omega arith))
+    (same_less count (o.top - o.va) n o.top (λ h. omega arith) (λ h. omega arith))
+    (ap (λ k. slice_get o.packets k) (omega arith))
     ∙ ap (λ (x : Outgoing). sent_packet n x) (sym e)
 
 -- I frames leave what waits and the window
@@ -485,8 +486,8 @@ keeps_window_poll false t = (refl, refl)
 info_by_rej : (ns : ℕ) (flag : Bool) (packet : Packet) (t : Turn) → KeepsWindow t (hear_info_by_rej ns flag packet t)
 info_by_rej ns flag packet t =
     keeps_window_if (ahead_of_vr ns t.now == 0) _ _ t
-        (keeps_window_poll flag (in_order (give (packet ∷ []) ∷ setting (with_rej false) ∷ setting owing ∷ []) t))
-        (keeps_window_if t.now.control.rej _ _ t (keeps_window_poll flag t) (refl, refl))
+    (keeps_window_poll flag (in_order (give (packet ∷ []) ∷ setting (with_rej false) ∷ setting owing ∷ []) t))
+    (keeps_window_if t.now.control.rej _ _ t (keeps_window_poll flag t) (refl, refl))
 
 selected : (d : ℕ) (packet : Packet) (t : Turn) → KeepsWindow t (take_selected d packet t)
 selected d packet t = keeps_window_if (d == 0) _ _ t (refl, refl) (keeps_window_if _ _ _ t (refl, refl) (refl, refl))
@@ -564,7 +565,7 @@ in_window_push k o p within room =
     let now : in_window k o ≡ drop d o.packets = take_all (min k (length o.packets) - d) (drop d o.packets) (rw length-drop (omega arith)) in
     let cut : drop d (o.packets ++ p ∷ []) ≡ drop d o.packets ++ p ∷ [] = drop-append-le d o.packets (p ∷ []) (omega arith) in
     let more : take (min k (length (o.packets ++ p ∷ [])) - d) (drop d (o.packets ++ p ∷ [])) ≡ drop d (o.packets ++ p ∷ []) =
-        take_all _ (drop d (o.packets ++ p ∷ [])) (rw length-drop (omega (arith, n))) in
+    take_all _ (drop d (o.packets ++ p ∷ [])) (rw length-drop (omega (arith, n))) in
     more ∙ cut ∙ ap (λ xs. xs ++ p ∷ []) (sym (in_window_now k o ∙ now))
 
 pub in_window_full :
@@ -621,7 +622,7 @@ not_sent held o n formed h above none =
   where
     in_vain :
         n < o.top → ((x : Packet) × (n - o.va < length o.packets) × (slice_get o.packets (n - o.va) ≡ Some x) × (get_or o.packets (n - o.va) x ≡ x))
-            ⊎ ((length o.packets ≤ n - o.va) × (slice_get o.packets (n - o.va) ≡ None))
+        ⊎ ((length o.packets ≤ n - o.va) × (slice_get o.packets (n - o.va) ≡ None))
         → option_to_list (slice_get o.packets (n - o.va)) ≡ [] → ⊥
     in_vain below (inl there) f = false≢true (sym (ap has_one (sym (ap option_to_list there.2) ∙ f)))
     in_vain below (inr past) f =

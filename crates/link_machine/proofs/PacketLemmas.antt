@@ -1,6 +1,6 @@
 -- Packets that go out one by one.
-use Rattle.std.proofs.Common.{◌≡◌, ℕ, ◌+◌, ◌-◌, ◌%◌, ◌<◌, ◌≤◌, Bool, true, false, List, [], ◌∷◌, ◌++◌, length, take, drop, map, min, max, Some, None, refl, sym, ◌∙◌, ap, subst, arith, append_assoc, length-append, length-take, length-drop}
-use Rattle.std.proofs.Common.{suc, zero, add-one}
+use Rattle.std.proofs.Common.{◌≡◌, ℕ, ◌+◌, ◌-◌, ◌%◌, ◌≤◌, Bool, true, false, List, [], ◌∷◌, ◌++◌, length, take, drop, min, max, Some, refl, sym, ◌∙◌, ap, subst, arith, append_assoc, length-append, length-take, length-drop}
+use Rattle.std.proofs.Common.{suc, zero}
 use Rattle.std.proofs.lemmas.Bool.{lt-ltb, cond-true}
 use Rattle.std.proofs.lemmas.Grind.{common_steps}
 use Rattle.std.proofs.lemmas.List.{drop-drop}
@@ -11,9 +11,8 @@ use Rattle.link_machine.specs.declared.machine.Machine.{Machine as Held}
 use Rattle.link_machine.specs.declared.room.Room.{Room}
 use Rattle.link_machine.specs.Machine.{Machine}
 use Rattle.link_machine.proofs.Showing.{shows_changing, holds_outgoing}
-use Rattle.selective_reject.specs.Outgoing.{number_to_send, acknowledged, back}
+use Rattle.selective_reject.specs.Outgoing.{number_to_send}
 use Rattle.link_machine.specs.Held.{outgoing_behind}
-use Rattle.link_machine.specs.Turn.{changing}
 use Rattle.std.specs.Prelude.{Option}
 use Rattle.selective_reject.specs.declared.packet.Packet.{Packet}
 use Rattle.selective_reject.specs.Outgoing.{Outgoing, StandsForOutgoing, IsOutgoing, may_send, after_next}
@@ -21,7 +20,7 @@ use Rattle.link_machine.specs.Sent.{Sent, infos_from}
 use Rattle.link_machine.specs.Sent.Sent.{InfoSent}
 use Rattle.link_machine.specs.Turn.{Turn}
 use Rattle.link_machine.specs.Acts.{in_window, sent_to}
-use Rattle.link_machine.specs.Held.{IsLink, Holds, Shows, SentSome, sending_packets, send_next}
+use Rattle.link_machine.specs.Held.{Holds, Shows, sending_packets, send_next}
 
 -- one packet more
 pub infos_from_more :
@@ -85,12 +84,12 @@ sending_one_more gone p t may =
     let o = t.now.outgoing in
     let e : length (gone ++ p ∷ []) ≡ length gone + 1 = length-append gone (p ∷ []) in
     let next : after_next t.now.incoming.window (sent_to (o.vs + length gone) o) ≡ sent_to (o.vs + length (gone ++ p ∷ [])) o =
-        cond-true _ _ _ may
-        ∙ same_outgoing o.va _ _ _ _ o.packets (omega arith) (omega arith) in
+    cond-true _ _ _ may
+    ∙ same_outgoing o.va _ _ _ _ o.packets (omega arith) (omega arith) in
     let frames : (t.sent ++ infos_from o.vs t.now.incoming.vr gone) ++ InfoSent (o.vs + length gone) t.now.incoming.vr p ∷ []
-        ≡ t.sent ++ infos_from o.vs t.now.incoming.vr (gone ++ p ∷ []) =
-        append_assoc t.sent (infos_from o.vs t.now.incoming.vr gone) (InfoSent (o.vs + length gone) t.now.incoming.vr p ∷ [])
-        ∙ ap (λ fs. t.sent ++ fs) (sym (infos_from_more o.vs t.now.incoming.vr gone p)) in
+    ≡ t.sent ++ infos_from o.vs t.now.incoming.vr (gone ++ p ∷ []) =
+    append_assoc t.sent (infos_from o.vs t.now.incoming.vr gone) (InfoSent (o.vs + length gone) t.now.incoming.vr p ∷ [])
+    ∙ ap (λ fs. t.sent ++ fs) (sym (infos_from_more o.vs t.now.incoming.vr gone p)) in
     same_turn t _ _ _ _ next frames
 
 -- before the first
@@ -98,8 +97,8 @@ pub sending_none : (t : Turn) → t.now.outgoing.vs ≤ t.now.outgoing.top → t
 sending_none t order =
     let o = t.now.outgoing in
     same_turn t o (sent_to (o.vs + 0) o) t.sent (t.sent ++ [])
-        (same_outgoing o.va o.vs (o.vs + 0) o.top (max o.top (o.vs + 0)) o.packets (omega arith) (omega arith))
-        (search (arith, common_steps))
+    (same_outgoing o.va o.vs (o.vs + 0) o.top (max o.top (o.vs + 0)) o.packets (omega arith) (omega arith))
+    (search (arith, common_steps))
 
 -- the window that a link keeps is that of the machine
 pub same_window : (held : Held) (m : Machine) → Holds held m → held.window ≡ m.incoming.window
@@ -113,8 +112,8 @@ pub shows_next :
 shows_next held behind room t h formed stands =
     let m = t.now in
     let o : StandsForOutgoing behind (after_next m.incoming.window m.outgoing) =
-        let P : ℕ → Type 0 = λ w. StandsForOutgoing behind (after_next w m.outgoing) in
-        subst P (same_window held m h.holds) (stands m.outgoing h.holds.stands.outgoing) in
+    let P : ℕ → Type 0 = λ w. StandsForOutgoing behind (after_next w m.outgoing) in
+    subst P (same_window held m h.holds) (stands m.outgoing h.holds.stands.outgoing) in
     let f : Machine → Machine = λ x. record x { outgoing = after_next x.incoming.window x.outgoing } in
     shows_changing f held (record held { outgoing = behind }) room t refl h (holds_outgoing held m behind _ h.holds formed o)
 
@@ -123,7 +122,7 @@ pub number_of_next :
     → may_send m.incoming.window m.outgoing ≡ true → ns ≡ m.outgoing.vs % 8
 number_of_next held m answer ns h said is may =
     let e : number_to_send 8 held.window m.outgoing ≡ Some (m.outgoing.vs % 8) =
-        ap (λ w. number_to_send 8 w m.outgoing) (same_window held m h) ∙ cond-true _ _ _ may in
+    ap (λ w. number_to_send 8 w m.outgoing) (same_window held m h) ∙ cond-true _ _ _ may in
     ap (λ x. unwrap_or x ns) (sym is ∙ said ∙ e)
 
 -- one element more of a list
@@ -144,7 +143,7 @@ slice_get-drop (suc a) n (x ∷ xs) =
 pub copied_more :
     (packets : List Packet) (first sent place : ℕ) → sent ≤ place
     → take (place + 1 - sent) (drop (first + sent) packets)
-      ≡ take (place - sent) (drop (first + sent) packets) ++ option_to_list (slice_get packets (first + place))
+    ≡ take (place - sent) (drop (first + sent) packets) ++ option_to_list (slice_get packets (first + place))
 copied_more packets first sent place h =
     let e : place + 1 - sent ≡ suc (place - sent) = omega arith in
     let f : first + sent + (place - sent) ≡ first + place = omega arith in
@@ -155,7 +154,7 @@ copied_more packets first sent place h =
 dropped :
     (k count va vs : ℕ) (o : Outgoing) → va ≡ o.va + count
     → take (min k (length (drop (va - o.va) o.packets)) - (vs - va)) (drop (vs - va) (drop (va - o.va) o.packets))
-      ≡ take (min k (length o.packets - count) - (vs - va)) (drop (count + (vs - va)) o.packets)
+    ≡ take (min k (length o.packets - count) - (vs - va)) (drop (count + (vs - va)) o.packets)
 dropped k count va vs o e =
     let n : va - o.va ≡ count = omega arith in
     ap (λ c. take (min k (length (drop c o.packets)) - (vs - va)) (drop (vs - va) (drop c o.packets))) n

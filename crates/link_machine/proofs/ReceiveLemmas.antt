@@ -1,11 +1,9 @@
 -- What becomes of the packet of an I frame.
-use Rattle.std.proofs.Common.{◌≡◌, ℕ, zero, suc, ◌+◌, ◌-◌, ◌%◌, ◌<◌, ◌≤◌, ◌==◌, ◌&&◌, not, Bool, true, false, if◌then◌else◌, List, [], ◌∷◌, ◌++◌, length, take, drop, map, replicate, Some, None, refl, sym, ◌∙◌, ap, subst, arith, inl, inr, nat_lt, append_assoc, eqb-true}
+use Rattle.std.proofs.Common.{◌≡◌, ℕ, zero, suc, ◌+◌, ◌%◌, ◌<◌, ◌≤◌, ◌==◌, ◌&&◌, not, Bool, true, false, if◌then◌else◌, List, [], ◌∷◌, ◌++◌, length, drop, map, replicate, Some, refl, sym, ◌∙◌, ap, arith, nat_lt, eqb-true}
 use Rattle.std.proofs.lemmas.List.{length-map}
-use Rattle.std.specs.Prelude.{Option, is_some, filter}
+use Rattle.std.specs.Prelude.{filter}
 use Rattle.std.specs.List.{range_with_len}
-use Rattle.std.specs.Option.{option_to_list}
-use Rattle.std.proofs.lemmas.Bool.{false≢true, lt-ltb, ltb-true, cond-true, cond-false}
-use Rattle.std.proofs.lemmas.List.{map-append}
+use Rattle.std.proofs.lemmas.Bool.{false≢true, lt-ltb, ltb-true, cond-true}
 use Rattle.ax25_address.specs.declared.path.Path.{Path}
 use Rattle.selective_reject.specs.declared.packet.Packet.{Packet}
 use Rattle.selective_reject.specs.declared.place.Place.{Place}
@@ -14,13 +12,12 @@ use Rattle.selective_reject.specs.declared.incoming.Took.TheVariants.{Next, NotN
 use Rattle.selective_reject.specs.declared.window.Mode.{Mode}
 use Rattle.selective_reject.specs.declared.window.Mode.TheVariants.{Rej, Srej}
 use Rattle.selective_reject.specs.Numbers.{ahead}
-use Rattle.selective_reject.specs.Places.{empty_place, place_at, packet_at, is_full, with_packet, missing, asked, asked_place, is_missing}
-use Rattle.selective_reject.specs.Incoming.{Incoming, IsIncoming, StandsForIncoming, taking_by, taking, took, keeps, after_accept, after_take, taken, empty_incoming, before_number, numbers_to_ask, after_ask}
-use Rattle.link_machine.specs.Acts.{run, moved_on, srej_for}
+use Rattle.selective_reject.specs.Places.{empty_place, packet_at, is_full, with_packet, missing, asked, is_missing}
+use Rattle.selective_reject.specs.Incoming.{Incoming, taking_by, took, keeps, after_accept, empty_incoming, before_number, numbers_to_ask}
+use Rattle.link_machine.specs.Acts.{moved_on, srej_for}
 use Rattle.link_machine.specs.Machine.{Machine}
 use Rattle.link_machine.specs.Sent.{frame_of}
 use Rattle.link_machine.specs.Held.{IsReady, srej_frame}
-use Rattle.link_machine.proofs.RunLemmas.{run_with_next}
 
 abbrev pub is_next : Took → Bool
 is_next Next = true
@@ -71,13 +68,14 @@ pub took_by_rej :
     → (is_next (took i ns) ≡ (ahead i.modulus i.vr ns == 0)) × (is_stored (took i ns) ≡ false)
 took_by_rej i ns mode next =
     let d = ahead i.modulus i.vr ns in
-    let both = by_rej (d == 0) (is_full i.places d) (full_at i.places d next) in
-    (ap (λ m. is_next (taking_by m i.window d (is_full i.places d))) mode ∙ both.0,
-     ap (λ m. is_stored (taking_by m i.window d (is_full i.places d))) mode ∙ both.1)
+    let both = by_rej (d == 0) (is_full i.places d) (full_at i.places d next) in (
+      ap (λ m. is_next (taking_by m i.window d (is_full i.places d))) mode ∙ both.0,
+      ap (λ m. is_stored (taking_by m i.window d (is_full i.places d))) mode ∙ both.1,
+    )
 
 by_srej : (within full b : Bool) → (b ≡ true → full ≡ false) → (b ≡ true → within ≡ true)
     → (is_next (if within then (if full then Again else (if b then Next else Stored)) else Outside) ≡ b)
-      × (is_stored (if within then (if full then Again else (if b then Next else Stored)) else Outside) ≡ (if b then false else (within && not full)))
+    × (is_stored (if within then (if full then Again else (if b then Next else Stored)) else Outside) ≡ (if b then false else (within && not full)))
 by_srej true true true h k = absurd (false≢true (sym (h refl)))
 by_srej true true false h k = (refl, refl)
 by_srej true false true h k = (refl, refl)
@@ -91,9 +89,10 @@ pub took_by_srej :
     (is_next (took i ns) ≡ (d == 0)) × (is_stored (took i ns) ≡ (if d == 0 then false else (nat_lt d i.window && not (is_full i.places d))))
 took_by_srej i ns mode next some =
     let d = ahead i.modulus i.vr ns in
-    let both = by_srej (nat_lt d i.window) (is_full i.places d) (d == 0) (full_at i.places d next) (λ e. let z : d ≡ 0 = eqb-true d 0 e in lt-ltb d i.window (omega arith)) in
-    (ap (λ m. is_next (taking_by m i.window d (is_full i.places d))) mode ∙ both.0,
-     ap (λ m. is_stored (taking_by m i.window d (is_full i.places d))) mode ∙ both.1)
+    let both = by_srej (nat_lt d i.window) (is_full i.places d) (d == 0) (full_at i.places d next) (λ e. let z : d ≡ 0 = eqb-true d 0 e in lt-ltb d i.window (omega arith)) in (
+      ap (λ m. is_next (taking_by m i.window d (is_full i.places d))) mode ∙ both.0,
+      ap (λ m. is_stored (taking_by m i.window d (is_full i.places d))) mode ∙ both.1,
+    )
 
 -- what an accepted packet leaves
 keeping : (i : Incoming) (d : ℕ) (packet : Packet) (b : Bool) → b ≡ true

@@ -1,14 +1,13 @@
 -- Packets that are given in sequence, and those that are asked for.
-use Rattle.std.proofs.Common.{◌≡◌, ℕ, zero, suc, ◌+◌, ◌-◌, ◌%◌, ◌<◌, ◌≤◌, ◌==◌, ◌&&◌, not, Bool, true, false, if◌then◌else◌, List, [], ◌∷◌, ◌++◌, length, take, drop, map, replicate, Some, None, refl, sym, ◌∙◌, ap, subst, arith, inl, inr, nat_lt, append_assoc}
-use Rattle.std.specs.Prelude.{Option, is_some, slice_index_or, slice_set, filter}
-use Rattle.std.specs.List.{range_with_len}
-use Rattle.std.proofs.lemmas.Bool.{false≢true, lt-ltb, ltb-true, cases_eq, eq-eqb}
+use Rattle.std.proofs.Common.{◌≡◌, ℕ, zero, suc, ◌+◌, ◌%◌, ◌<◌, ◌≤◌, Bool, true, false, if◌then◌else◌, List, [], ◌∷◌, ◌++◌, length, take, drop, replicate, Some, None, refl, sym, ◌∙◌, ap, subst, arith, append_assoc}
+use Rattle.std.specs.Prelude.{Option, is_some}
+use Rattle.std.proofs.lemmas.Bool.{false≢true}
 use Rattle.std.proofs.lemmas.List.{drop-drop, drop-append-le}
-use Rattle.std.proofs.Common.{length-append, length-drop, append-nil, zero-add}
+use Rattle.std.proofs.Common.{length-drop, append-nil, zero-add}
 use Rattle.selective_reject.specs.declared.packet.Packet.{Packet}
 use Rattle.selective_reject.specs.declared.place.Place.{Place}
-use Rattle.selective_reject.specs.Places.{empty_place, filled_place, place_at, packet_at, is_full, with_packet, missing, asked, asked_place, is_missing}
-use Rattle.selective_reject.specs.Incoming.{Incoming, IsIncoming, StandsForIncoming, after_take, taken, reduced_incoming}
+use Rattle.selective_reject.specs.Places.{empty_place, packet_at, is_full, with_packet}
+use Rattle.selective_reject.specs.Incoming.{Incoming, StandsForIncoming, after_take, reduced_incoming}
 use Rattle.link_machine.specs.Acts.{before_gap, run, moved_on}
 
 -- an empty place behind changes no run

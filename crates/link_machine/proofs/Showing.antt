@@ -1,7 +1,6 @@
 -- How what a link keeps follows the acts of a turn.
-use Rattle.std.proofs.Common.{◌≡◌, ℕ, ◌+◌, ◌%◌, Bool, List, [], ◌∷◌, ◌++◌, length, map, refl, sym, ◌∙◌, ap, subst, arith}
+use Rattle.std.proofs.Common.{◌≡◌, ℕ, ◌%◌, List, [], ◌∷◌, ◌++◌, length, map, refl, sym, ◌∙◌, ap, subst}
 use Rattle.std.proofs.lemmas.List.{map-append}
-use Rattle.ax25_address.specs.declared.path.Path.{Path}
 use Rattle.selective_reject.specs.Outgoing.{Outgoing, IsOutgoing, StandsForOutgoing}
 use Rattle.selective_reject.specs.Incoming.{Incoming, IsIncoming, StandsForIncoming}
 use Rattle.selective_reject.specs.declared.packet.Packet.{Packet}
@@ -14,8 +13,7 @@ use Rattle.link_machine.specs.declared.room.Room.{Room}
 use Rattle.link_machine.specs.Machine.{Machine, fresh, emptied}
 use Rattle.link_machine.specs.Sent.{Sent, frame_of, frames_of}
 use Rattle.link_machine.specs.Turn.{Turn, changing, setting, sending, telling}
-use Rattle.link_machine.specs.StandsFor.{StandsFor}
-use Rattle.link_machine.specs.Held.{IsLink, IsReady, Holds, Shows}
+use Rattle.link_machine.specs.Held.{IsReady, Holds, Shows}
 
 -- only the variables change
 pub holds_setting :
@@ -65,10 +63,10 @@ pub shows_sending :
 shows_sending x held room behind t h frames told = record {
   holds = h.holds;
   frames =
-    frames
-    ∙ ap (λ fs. fs ++ frame_of 8 held.path x ∷ []) h.frames
-    ∙ ap (λ p. frames_of 8 t.now.path t.sent ++ frame_of 8 p x ∷ []) h.holds.stands.path
-    ∙ sym (map-append (frame_of 8 t.now.path) t.sent (x ∷ []));
+      frames
+      ∙ ap (λ fs. fs ++ frame_of 8 held.path x ∷ []) h.frames
+      ∙ ap (λ p. frames_of 8 t.now.path t.sent ++ frame_of 8 p x ∷ []) h.holds.stands.path
+      ∙ sym (map-append (frame_of 8 t.now.path) t.sent (x ∷ []));
   told = ap (λ v. v.items) told ∙ h.told;
 }
 

@@ -1,6 +1,6 @@
 -- A link as a machine (AX.25 2.2 sections 6.3 and 6.7.1): its state and its variables. Sequence numbers count from 0 in
 -- each set-up; only frames carry them modulo 8.
-use Rattle.std.specs.Prelude.{ℕ, ◌+◌, Bool, false, [], Some, None}
+use Rattle.std.specs.Prelude.{ℕ, ◌+◌, Bool, false, Some, None}
 use Rattle.ax25_address.specs.declared.path.Path.{Path}
 use Rattle.selective_reject.specs.declared.window.Mode.{Mode}
 use Rattle.selective_reject.specs.Outgoing.{restarted, Outgoing, empty_outgoing, is_named}

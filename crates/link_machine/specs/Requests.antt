@@ -1,5 +1,5 @@
 -- What the layer above asks for, by state, and what is refused.
-use Rattle.std.specs.Prelude.{ℕ, Bool, true, false, nat_lt, nat_le, ◌||◌, if◌then◌else◌, List, [], ◌∷◌, length, Option, Some, None}
+use Rattle.std.specs.Prelude.{ℕ, Bool, true, false, nat_lt, nat_le, ◌||◌, if◌then◌else◌, [], ◌∷◌, length, Option, Some, None}
 use Rattle.selective_reject.specs.declared.packet.Packet.{Packet}
 use Rattle.selective_reject.specs.Outgoing.{after_push}
 use Rattle.link_machine.specs.declared.state.LinkState.{LinkState}
@@ -8,7 +8,7 @@ use Rattle.link_machine.specs.declared.fault.LinkFault.{LinkFault}
 use Rattle.link_machine.specs.declared.fault.LinkFault.TheVariants.{WrongState, Full, TooLong}
 use Rattle.link_machine.specs.declared.control.Control.{Control}
 use Rattle.link_machine.specs.Machine.{Machine, fresh, most_packets, most_octets}
-use Rattle.link_machine.specs.Turn.{Turn, Act, changing, in_order}
+use Rattle.link_machine.specs.Turn.{Act, changing, in_order}
 use Rattle.link_machine.specs.Acts.{call}
 use Rattle.link_machine.specs.Event.{Event}
 use Rattle.link_machine.specs.Event.Event.{Connect, Send, Disconnect, Hear, Tick}

@@ -1,6 +1,6 @@
 -- The step of a link: its state and an event give one next state, the frames that are sent, and what the layer above
 -- is told. It is a function, so there is exactly one of each.
-use Rattle.std.specs.Prelude.{ℕ, Bool, true, false, length, if◌then◌else◌, List, [], ◌∷◌, Option, Some, None, is_some}
+use Rattle.std.specs.Prelude.{length, if◌then◌else◌, Option, is_some}
 use Rattle.ax25_frames.specs.FrameText.{is_command_of}
 use Rattle.link_machine.specs.declared.state.LinkState.{LinkState}
 use Rattle.link_machine.specs.declared.state.LinkState.TheVariants.{Idle, Calling, Up, Releasing}

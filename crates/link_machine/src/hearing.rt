@@ -33,12 +33,7 @@ impl Machine {
     }
 
     /// Hears a frame where there is no link.
-    fn hear_idle(
-        &mut self,
-        alloc: Global,
-        command: bool,
-        kind: &Kind,
-    ) -> Result<Acts, OutOfMemory>
+    fn hear_idle(&mut self, alloc: Global, command: bool, kind: &Kind) -> Result<Acts, OutOfMemory>
         requires formed { IsWhole self.old }
         requires state { self.old.control.state ≡ Idle }
         ensures { Makes (hear_idle command kind.now) self.old self.new result }

@@ -74,9 +74,7 @@ impl Machine {
             Kind::Super { which, nr, flag } => {
                 self.hear_super(alloc, *which, *nr, command, *flag)
             }
-            Kind::Other {
-                which: W::Frmr, ..
-            } => self.hear_error(alloc),
+            Kind::Other { which: W::Frmr, .. } => self.hear_error(alloc),
             Kind::Ui { .. } | Kind::Other { .. } => self.hear_nothing(alloc),
         }
     }

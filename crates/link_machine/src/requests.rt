@@ -27,11 +27,7 @@ impl Machine {
     }
 
     /// Takes a packet to be sent.
-    pub(crate) fn take_packet(
-        &mut self,
-        alloc: Global,
-        packet: Packet,
-    ) -> Result<Acts, OutOfMemory>
+    pub(crate) fn take_packet(&mut self, alloc: Global, packet: Packet) -> Result<Acts, OutOfMemory>
         requires whole { IsWhole self.old }
         requires room { length self.old.outgoing.packets < 1024 }
         ensures { Makes (changing (joined packet)) self.old self.new result }

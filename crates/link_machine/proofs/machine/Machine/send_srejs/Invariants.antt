@@ -1,4 +1,4 @@
-use Rattle.std.proofs.Common.{◌≡◌, ◌+◌, ◌≤◌, ◌++◌, length, map, take}
+use Rattle.std.proofs.Common.{◌≡◌, ◌+◌, ◌≤◌, ◌++◌, map, take}
 use Rattle.link_machine.specs.Room.{frames_left, told_left}
 use Rattle.link_machine.specs.Held.{srej_frame}
 use Rattle.link_machine.proofs.machine.Machine.send_srejs.Given as goal
