@@ -1,0 +1,6 @@
+pub mod Examples
+pub mod Showing
+pub mod PacketLemmas
+pub mod Events
+pub mod RunLemmas
+pub mod ReceiveLemmas

@@ -1,0 +1,218 @@
+-- What becomes of the packet of an I frame.
+use Rattle.std.proofs.Common.{◌≡◌, ℕ, zero, suc, ◌+◌, ◌%◌, ◌<◌, ◌≤◌, ◌==◌, ◌&&◌, not, Bool, true, false, if◌then◌else◌, List, [], ◌∷◌, ◌++◌, length, drop, map, replicate, Some, refl, sym, ◌∙◌, ap, arith, nat_lt, eqb-true}
+use Rattle.std.proofs.lemmas.List.{length-map}
+use Rattle.std.specs.Prelude.{filter}
+use Rattle.std.specs.List.{range_with_len}
+use Rattle.std.proofs.lemmas.Bool.{false≢true, lt-ltb, ltb-true, cond-true}
+use Rattle.ax25_address.specs.declared.path.Path.{Path}
+use Rattle.selective_reject.specs.declared.packet.Packet.{Packet}
+use Rattle.selective_reject.specs.declared.place.Place.{Place}
+use Rattle.selective_reject.specs.declared.incoming.Took.{Took}
+use Rattle.selective_reject.specs.declared.incoming.Took.TheVariants.{Next, NotNext, Stored, Again, Outside}
+use Rattle.selective_reject.specs.declared.window.Mode.{Mode}
+use Rattle.selective_reject.specs.declared.window.Mode.TheVariants.{Rej, Srej}
+use Rattle.selective_reject.specs.Numbers.{ahead}
+use Rattle.selective_reject.specs.Places.{empty_place, packet_at, is_full, with_packet, missing, asked, is_missing}
+use Rattle.selective_reject.specs.Incoming.{Incoming, taking_by, took, keeps, after_accept, empty_incoming, before_number, numbers_to_ask}
+use Rattle.link_machine.specs.Acts.{moved_on, srej_for}
+use Rattle.link_machine.specs.Machine.{Machine}
+use Rattle.link_machine.specs.Sent.{frame_of}
+use Rattle.link_machine.specs.Held.{IsReady, srej_frame}
+
+abbrev pub is_next : Took → Bool
+is_next Next = true
+is_next NotNext = false
+is_next Stored = false
+is_next Again = false
+is_next Outside = false
+
+abbrev pub is_stored : Took → Bool
+is_stored Next = false
+is_stored NotNext = false
+is_stored Stored = true
+is_stored Again = false
+is_stored Outside = false
+
+pub not_next : (x : Took) → (x ≡ Next → ⊥) → is_next x ≡ false
+not_next Next h = absurd (h refl)
+not_next NotNext h = refl
+not_next Stored h = refl
+not_next Again h = refl
+not_next Outside h = refl
+
+pub not_stored : (x : Took) → (x ≡ Stored → ⊥) → is_stored x ≡ false
+not_stored Next h = refl
+not_stored NotNext h = refl
+not_stored Stored h = absurd (h refl)
+not_stored Again h = refl
+not_stored Outside h = refl
+
+pub keeps_none : (x : Took) → is_next x ≡ false → is_stored x ≡ false → keeps x ≡ false
+keeps_none Next h k = absurd (false≢true (sym h))
+keeps_none NotNext h k = refl
+keeps_none Stored h k = absurd (false≢true (sym k))
+keeps_none Again h k = refl
+keeps_none Outside h k = refl
+
+-- a place that stands at the front
+full_at : (ps : List Place) (d : ℕ) → is_full ps 0 ≡ false → (d == 0) ≡ true → is_full ps d ≡ false
+full_at ps d h e = ap (λ k. is_full ps k) (eqb-true d 0 e) ∙ h
+
+by_rej : (b full : Bool) → (b ≡ true → full ≡ false) → (is_next (if b then (if full then Again else Next) else NotNext) ≡ b) × (is_stored (if b then (if full then Again else Next) else NotNext) ≡ false)
+by_rej true true h = absurd (false≢true (sym (h refl)))
+by_rej true false h = (refl, refl)
+by_rej false full h = (refl, refl)
+
+pub took_by_rej :
+    (i : Incoming) (ns : ℕ) → i.mode ≡ Rej → is_full i.places 0 ≡ false
+    → (is_next (took i ns) ≡ (ahead i.modulus i.vr ns == 0)) × (is_stored (took i ns) ≡ false)
+took_by_rej i ns mode next =
+    let d = ahead i.modulus i.vr ns in
+    let both = by_rej (d == 0) (is_full i.places d) (full_at i.places d next) in (
+      ap (λ m. is_next (taking_by m i.window d (is_full i.places d))) mode ∙ both.0,
+      ap (λ m. is_stored (taking_by m i.window d (is_full i.places d))) mode ∙ both.1,
+    )
+
+by_srej : (within full b : Bool) → (b ≡ true → full ≡ false) → (b ≡ true → within ≡ true)
+    → (is_next (if within then (if full then Again else (if b then Next else Stored)) else Outside) ≡ b)
+    × (is_stored (if within then (if full then Again else (if b then Next else Stored)) else Outside) ≡ (if b then false else (within && not full)))
+by_srej true true true h k = absurd (false≢true (sym (h refl)))
+by_srej true true false h k = (refl, refl)
+by_srej true false true h k = (refl, refl)
+by_srej true false false h k = (refl, refl)
+by_srej false full true h k = absurd (false≢true (k refl))
+by_srej false full false h k = (refl, refl)
+
+pub took_by_srej :
+    (i : Incoming) (ns : ℕ) → i.mode ≡ Srej → is_full i.places 0 ≡ false → 1 ≤ i.window →
+    let d = ahead i.modulus i.vr ns in
+    (is_next (took i ns) ≡ (d == 0)) × (is_stored (took i ns) ≡ (if d == 0 then false else (nat_lt d i.window && not (is_full i.places d))))
+took_by_srej i ns mode next some =
+    let d = ahead i.modulus i.vr ns in
+    let both = by_srej (nat_lt d i.window) (is_full i.places d) (d == 0) (full_at i.places d next) (λ e. let z : d ≡ 0 = eqb-true d 0 e in lt-ltb d i.window (omega arith)) in (
+      ap (λ m. is_next (taking_by m i.window d (is_full i.places d))) mode ∙ both.0,
+      ap (λ m. is_stored (taking_by m i.window d (is_full i.places d))) mode ∙ both.1,
+    )
+
+-- what an accepted packet leaves
+keeping : (i : Incoming) (d : ℕ) (packet : Packet) (b : Bool) → b ≡ true
+    → (if b then record i { places = with_packet i.places d packet } else i) ≡ record i { places = with_packet i.places d packet }
+keeping i d packet true e = refl
+keeping i d packet false e = absurd (false≢true e)
+
+leaving : (i : Incoming) (d : ℕ) (packet : Packet) (b : Bool) → b ≡ false
+    → (if b then record i { places = with_packet i.places d packet } else i) ≡ i
+leaving i d packet true e = absurd (false≢true (sym e))
+leaving i d packet false e = refl
+
+pub accepted : (i : Incoming) (ns : ℕ) (packet : Packet) → keeps (took i ns) ≡ true
+    → after_accept i ns packet ≡ record i { places = with_packet i.places (ahead i.modulus i.vr ns) packet }
+accepted i ns packet e = keeping i (ahead i.modulus i.vr ns) packet (keeps (took i ns)) e
+
+pub not_accepted : (i : Incoming) (ns : ℕ) (packet : Packet) → keeps (took i ns) ≡ false → after_accept i ns packet ≡ i
+not_accepted i ns packet e = leaving i (ahead i.modulus i.vr ns) packet (keeps (took i ns)) e
+
+-- a link that is made or cleared waits for nothing
+pub ready_cleared : (modulus window : ℕ) (mode : Mode) → IsReady (empty_incoming modulus window mode)
+ready_cleared modulus window mode = record { next = empty window; in_sequence = λ _. refl }
+  where
+    empty : (n : ℕ) → is_full (replicate n empty_place) 0 ≡ false
+    empty zero = refl
+    empty (suc n) = refl
+
+-- the next packet by REJ: it comes and is given, and no place is full
+replicate-push : (n : ℕ) → replicate n empty_place ++ empty_place ∷ [] ≡ replicate (suc n) empty_place
+replicate-push zero = refl
+replicate-push (suc n) = ap (λ xs. empty_place ∷ xs) (replicate-push n)
+
+pub places_in_sequence : (ps : List Place) (window : ℕ) (packet : Packet) → 1 ≤ window → ps ≡ replicate window empty_place
+    → drop 1 (with_packet ps 0 packet) ++ empty_place ∷ [] ≡ replicate window empty_place
+places_in_sequence ps zero packet h e = absurd (none h)
+  where
+    none : 1 ≤ 0 → ⊥
+    none k = omega arith
+places_in_sequence ps (suc n) packet h e =
+    ap (λ xs. drop 1 (with_packet xs 0 packet) ++ empty_place ∷ []) e ∙ replicate-push n
+
+pub there_with : (ps : List Place) (packet : Packet) → 1 ≤ length ps → packet_at (with_packet ps 0 packet) 0 ≡ Some packet
+there_with [] packet h = absurd (none h)
+  where
+    none : 1 ≤ 0 → ⊥
+    none k = omega arith
+there_with (p ∷ ps) packet h = refl
+
+drop_with : (ps : List Place) (n : ℕ) (packet : Packet) → drop (suc n) (with_packet ps 0 packet) ≡ drop (suc n) ps
+drop_with [] n packet = refl
+drop_with (p ∷ ps) n packet = refl
+
+-- the next packet with those that follow
+pub moved_with : (i : Incoming) (n : ℕ) (packet : Packet) → moved_on (suc n) (record i { places = with_packet i.places 0 packet }) ≡ moved_on (suc n) i
+moved_with i n packet = ap (λ ps. record i { vr = i.vr + suc n; places = ps ++ replicate (suc n) empty_place }) (drop_with i.places n packet)
+
+-- a packet further ahead leaves the first place
+pub first_kept : (ps : List Place) (d : ℕ) (packet : Packet) → (d == 0) ≡ false → is_full (with_packet ps d packet) 0 ≡ is_full ps 0
+first_kept ps zero packet e = absurd (false≢true (sym e))
+first_kept [] (suc d) packet e = refl
+first_kept (p ∷ ps) (suc d) packet e = refl
+
+-- numbers that are asked for leave the packets
+pub first_asked : (ps : List Place) (n : ℕ) → is_full (asked ps n) 0 ≡ is_full ps 0
+unfolding asked
+first_asked ps zero = refl
+first_asked [] (suc n) = refl
+first_asked (p ∷ ps) (suc n) = refl
+
+-- the SREJs as they are written
+pub srejs_as_written :
+    (path : Path) (m : Machine) (xs : List ℕ)
+    → map (frame_of 8 path) (map (srej_for m) xs) ≡ map (srej_frame path) (map (λ k. (m.incoming.vr + k) % 8) xs)
+srejs_as_written path m [] = refl
+srejs_as_written path m (x ∷ xs) = ap (λ fs. srej_frame path ((m.incoming.vr + x) % 8) ∷ fs) (srejs_as_written path m xs)
+
+pub length-filter_le : (p : ℕ → Bool) (xs : List ℕ) → length (filter p xs) ≤ length xs
+length-filter_le p [] = omega arith
+length-filter_le p (x ∷ xs) = by (p x) (filter p xs) xs (length-filter_le p xs)
+  where
+    by : (b : Bool) (ys xs : List ℕ) → length ys ≤ length xs → length (if b then x ∷ ys else ys) ≤ length (x ∷ xs)
+    by true ys xs h = omega arith
+    by false ys xs h = omega arith
+
+length-range : (a n : ℕ) → length (range_with_len a n) ≡ n
+length-range a zero = refl
+length-range a (suc n) = ap suc (length-range (a + 1) n)
+
+pub length-missing : (ps : List Place) (n : ℕ) → length (missing ps n) ≤ n
+unfolding missing
+length-missing ps n =
+    let e : length (range_with_len 0 n) ≡ n = length-range 0 n in
+    let h : length (filter (is_missing ps) (range_with_len 0 n)) ≤ length (range_with_len 0 n) = length-filter_le (is_missing ps) (range_with_len 0 n) in
+    omega arith
+
+count_in_window : (d w : ℕ) (b : Bool) → b ≡ nat_lt d w → (if b then d else 0) ≤ w
+count_in_window d w true e = let h : d < w = ltb-true d w (sym e) in omega arith
+count_in_window d w false e = omega arith
+
+pub asks_at_most : (i : Incoming) (ns : ℕ) → length (numbers_to_ask i ns) ≤ i.window
+asks_at_most i ns =
+    let n = before_number i ns in
+    let e : length (numbers_to_ask i ns) ≡ length (missing i.places n) = length-map (missing i.places n) (λ k. (i.vr + k) % i.modulus) in
+    let h : length (missing i.places n) ≤ n = length-missing i.places n in
+    let w : n ≤ i.window = count_in_window (ahead i.modulus i.vr ns) i.window (nat_lt (ahead i.modulus i.vr ns) i.window) refl in
+    omega arith
+
+pub before_in_window : (i : Incoming) (ns : ℕ) → ahead i.modulus i.vr ns < i.window → before_number i ns ≡ ahead i.modulus i.vr ns
+before_in_window i ns h = cond-true _ _ _ (lt-ltb (ahead i.modulus i.vr ns) i.window h)
+
+pub rej_is_not_srej : Rej ≡ Srej → ⊥
+rej_is_not_srej e = false≢true (ap is_srej e)
+  where
+    is_srej : Mode → Bool
+    is_srej Rej = false
+    is_srej Srej = true
+
+pub drop_one : (ps : List Place) (packet : Packet) → drop 1 (with_packet ps 0 packet) ≡ drop 1 ps
+drop_one ps packet = drop_with ps 0 packet
+
+pub both_first : (a b : Bool) → (a && b) ≡ true → a ≡ true
+both_first true b e = refl
+both_first false b e = e

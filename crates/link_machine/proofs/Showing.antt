@@ -1,0 +1,174 @@
+-- How what a link keeps follows the acts of a turn.
+use Rattle.std.proofs.Common.{◌≡◌, ℕ, ◌%◌, List, [], ◌∷◌, ◌++◌, length, map, refl, sym, ◌∙◌, ap, subst}
+use Rattle.std.proofs.lemmas.List.{map-append}
+use Rattle.selective_reject.specs.Outgoing.{Outgoing, IsOutgoing, StandsForOutgoing}
+use Rattle.selective_reject.specs.Incoming.{Incoming, IsIncoming, StandsForIncoming}
+use Rattle.selective_reject.specs.declared.packet.Packet.{Packet}
+use Rattle.link_machine.specs.Acts.{moved_on, give}
+use Rattle.link_machine.specs.declared.acts.Told.TheVariants.{Given}
+use Rattle.link_machine.specs.declared.acts.Told.{Told}
+use Rattle.link_machine.specs.declared.control.Control.{Control}
+use Rattle.link_machine.specs.declared.machine.Machine.{Machine as Held}
+use Rattle.link_machine.specs.declared.room.Room.{Room}
+use Rattle.link_machine.specs.Machine.{Machine, fresh, emptied}
+use Rattle.link_machine.specs.Sent.{Sent, frame_of, frames_of}
+use Rattle.link_machine.specs.Turn.{Turn, changing, setting, sending, telling}
+use Rattle.link_machine.specs.Held.{IsReady, Holds, Shows}
+
+-- only the variables change
+pub holds_setting :
+    (f : Control → Control) (held : Held) (m : Machine) → Holds held m
+    → Holds (record held { control = f held.control }) (record m { control = f m.control })
+holds_setting f held m h = record {
+  stands = record {
+    path = h.stands.path;
+    control = ap f h.stands.control;
+    outgoing = h.stands.outgoing;
+    incoming = h.stands.incoming;
+  };
+  formed = record {
+    mode = h.formed.mode;
+    window = h.formed.window;
+    modulus = h.formed.modulus;
+    outgoing = h.formed.outgoing;
+    incoming = h.formed.incoming;
+  };
+  next = h.next;
+}
+
+pub shows_setting :
+    (f : Control → Control) (held : Held) (room : Room) (t : Turn) → Shows held room t
+    → Shows (record held { control = f held.control }) room (setting f t)
+shows_setting f held room t h = record {
+  holds = holds_setting f held t.now h.holds;
+  frames = h.frames;
+  told = h.told;
+}
+
+-- the machine changes and stays on its path
+pub shows_changing :
+    (f : Machine → Machine) (held behind : Held) (room : Room) (t : Turn) → (f t.now).path ≡ t.now.path → Shows held room t
+    → Holds behind (f t.now) → Shows behind room (changing f t)
+shows_changing f held behind room t path h new = record {
+  holds = new;
+  frames = h.frames ∙ ap (λ p. frames_of 8 p t.sent) (sym path);
+  told = h.told;
+}
+
+-- a frame is sent
+pub shows_sending :
+    (x : Sent) (held : Held) (room behind : Room) (t : Turn) → Shows held room t
+    → behind.frames.items ≡ room.frames.items ++ frame_of 8 held.path x ∷ [] → behind.told ≡ room.told
+    → Shows held behind (sending x t)
+shows_sending x held room behind t h frames told = record {
+  holds = h.holds;
+  frames =
+      frames
+      ∙ ap (λ fs. fs ++ frame_of 8 held.path x ∷ []) h.frames
+      ∙ ap (λ p. frames_of 8 t.now.path t.sent ++ frame_of 8 p x ∷ []) h.holds.stands.path
+      ∙ sym (map-append (frame_of 8 t.now.path) t.sent (x ∷ []));
+  told = ap (λ v. v.items) told ∙ h.told;
+}
+
+-- the layer above is told
+pub shows_telling :
+    (x : Told) (held : Held) (room behind : Room) (t : Turn) → Shows held room t
+    → behind.told.items ≡ room.told.items ++ x ∷ [] → behind.frames ≡ room.frames
+    → Shows held behind (telling x t)
+shows_telling x held room behind t h told frames = record {
+  holds = h.holds;
+  frames = ap (λ v. v.items) frames ∙ h.frames;
+  told = told ∙ ap (λ xs. xs ++ x ∷ []) h.told;
+}
+
+-- the variables become those that an act makes of them
+pub shows_control :
+    (f : Control → Control) (held : Held) (c : Control) (room : Room) (t : Turn) → c ≡ f held.control → Shows held room t
+    → Shows (record held { control = c }) room (setting f t)
+shows_control f held c room t e h =
+    let P : Control → Type 0 = λ x. Shows (record held { control = x }) room (setting f t) in
+    subst P (sym e) (shows_setting f held room t h)
+
+-- the modulus is 8
+pub modulus_is_8 : (held : Held) (m : Machine) → Holds held m → m.incoming.modulus ≡ 8
+modulus_is_8 held m h = sym h.stands.incoming.modulus ∙ h.formed.modulus
+
+-- V(R) as it is sent
+pub vr_as_sent : (held : Held) (m : Machine) (nr : ℕ) → Holds held m → nr ≡ m.incoming.vr % m.incoming.modulus → nr ≡ m.incoming.vr % 8
+vr_as_sent held m nr h e = e ∙ ap (λ k. m.incoming.vr % k) (modulus_is_8 held m h)
+
+-- a set-up begins
+pub shows_fresh : (held behind : Held) (room : Room) (t : Turn) → Shows held room t → ((m : Machine) → Holds held m → Holds behind (fresh m)) → Shows behind room (changing fresh t)
+shows_fresh held behind room t h new = shows_changing fresh held behind room t refl h (new t.now h.holds)
+
+-- what waits is forgotten
+pub shows_emptied : (held behind : Held) (room : Room) (t : Turn) → Shows held room t → ((m : Machine) → Holds held m → Holds behind (emptied m)) → Shows behind room (changing emptied t)
+shows_emptied held behind room t h new = shows_changing emptied held behind room t refl h (new t.now h.holds)
+
+-- what waits to be acknowledged changes
+pub holds_outgoing :
+    (held : Held) (m : Machine) (behind o : Outgoing) → Holds held m → IsOutgoing behind → StandsForOutgoing behind o
+    → Holds (record held { outgoing = behind }) (record m { outgoing = o })
+holds_outgoing held m behind o h formed stands = record {
+  stands = record {
+    path = h.stands.path;
+    control = h.stands.control;
+    outgoing = stands;
+    incoming = h.stands.incoming;
+  };
+  formed = record {
+    mode = h.formed.mode;
+    window = h.formed.window;
+    modulus = h.formed.modulus;
+    outgoing = formed;
+    incoming = h.formed.incoming;
+  };
+  next = h.next;
+}
+
+-- packets are given, and V(R) has moved on
+pub holds_incoming :
+    (held : Held) (m : Machine) (behind i : Incoming) → Holds held m → StandsForIncoming behind i → IsIncoming behind → IsReady behind
+    → i.modulus ≡ m.incoming.modulus → i.window ≡ m.incoming.window → i.mode ≡ m.incoming.mode
+    → Holds (record held { incoming = behind }) (record m { incoming = i })
+holds_incoming held m behind i h stands formed ready modulus window mode = record {
+  stands = record {
+    path = h.stands.path;
+    control = h.stands.control;
+    outgoing = h.stands.outgoing;
+    incoming = stands;
+  };
+  formed = record {
+    mode = h.formed.mode ∙ h.stands.incoming.mode ∙ sym mode ∙ sym stands.mode;
+    window = h.formed.window ∙ h.stands.incoming.window ∙ sym window ∙ sym stands.window;
+    modulus = stands.modulus ∙ modulus ∙ sym h.stands.incoming.modulus ∙ h.formed.modulus;
+    outgoing = h.formed.outgoing;
+    incoming = formed;
+  };
+  next = ready;
+}
+
+pub shows_incoming :
+    (held : Held) (behind : Incoming) (room after : Room) (t : Turn) (i : Incoming) (packets : List Packet) → Shows held room t
+    → StandsForIncoming behind (moved_on (length packets) t.now.incoming) → IsIncoming behind → IsReady behind
+    → after.told.items ≡ room.told.items ++ map Given packets → after.frames ≡ room.frames
+    → Shows (record held { incoming = behind }) after (give packets t)
+shows_incoming held behind room after t i packets h stands formed ready told frames = record {
+  holds = holds_incoming held t.now behind (moved_on (length packets) t.now.incoming) h.holds stands formed ready refl refl refl;
+  frames = ap (λ v. v.items) frames ∙ h.frames;
+  told = told ∙ ap (λ xs. xs ++ map Given packets) h.told;
+}
+
+pub same_incoming :
+    (held : Held) (behind : Incoming) (room : Room) (t : Turn) → Shows held room t → StandsForIncoming behind t.now.incoming → IsIncoming behind
+    → IsReady behind → Shows (record held { incoming = behind }) room t
+same_incoming held behind room t h stands formed ready = record {
+  holds = holds_incoming held t.now behind t.now.incoming h.holds stands formed ready refl refl refl;
+  frames = h.frames;
+  told = h.told;
+}
+
+pub shows_as :
+    (held : Held) (behind : Incoming) (room : Room) (t u : Turn) → t ≡ u → Shows (record held { incoming = behind }) room t
+    → Shows (record held { incoming = behind }) room u
+shows_as held behind room t u e h = let P : Turn → Type 0 = λ x. Shows (record held { incoming = behind }) room x in subst P e h

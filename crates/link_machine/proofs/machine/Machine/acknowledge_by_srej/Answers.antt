@@ -1,0 +1,15 @@
+use Rattle.std.proofs.Common.{Bool, sym, subst}
+use Rattle.link_machine.specs.Machine.{named}
+use Rattle.link_machine.specs.Frames.{acknowledged_by_srej}
+use Rattle.link_machine.specs.Held.{Holds}
+use Rattle.link_machine.proofs.machine.Machine.acknowledge_by_srej.Goals as goal
+
+pub returns-then-flag : goal.returns-then-flag
+returns-then-flag c = λ m h valid.
+    let P : Bool → Type 0 = λ b. Holds c.acknowledge.new.self (acknowledged_by_srej (named c.args.nr m) b m) in
+    subst P (sym c.if-flag.true) (c.acknowledge.ensures.holds m h valid)
+
+pub returns-else-flag : goal.returns-else-flag
+returns-else-flag c = λ m h valid.
+    let P : Bool → Type 0 = λ b. Holds c.args.self.now (acknowledged_by_srej (named c.args.nr m) b m) in
+    subst P (sym c.if-flag.false) h

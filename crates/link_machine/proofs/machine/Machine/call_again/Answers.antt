@@ -1,0 +1,16 @@
+use Rattle.std.proofs.Common.{◌≡◌, false, sym, ◌∙◌, ap, subst}
+use Rattle.link_machine.specs.declared.acts.Why.TheVariants.{Failed}
+use Rattle.link_machine.specs.Turn.{Turn, setting}
+use Rattle.link_machine.specs.Frames.{end_call}
+use Rattle.link_machine.specs.Ticks.{retried, is_spent}
+use Rattle.link_machine.specs.Held.{Shows}
+use Rattle.link_machine.proofs.Showing.{shows_control}
+use Rattle.std.proofs.lemmas.Bool.{cond-false}
+use Rattle.link_machine.proofs.machine.Machine.call_again.Goals as goal
+
+pub returns-else-is_spent-clause-shows : goal.returns-else-is_spent-clause-shows
+returns-else-is_spent-clause-shows c = λ t h.
+    let spent : is_spent t.now.control ≡ false = ap is_spent (sym h.holds.stands.control) ∙ sym c.is_spent.ensures ∙ c.if-is_spent.false in
+    let retry = shows_control retried c.args.self.now c.retry.new.self c.args.room.now t c.retry.ensures h in
+    let P : Turn → Type 0 = λ x. Shows (record c.args.self.now { control = c.retry.new.self }) c.send_setup.new.room x in
+    subst P (sym (cond-false (is_spent t.now.control) (end_call Failed t) _ spent)) (c.send_setup.ensures.shows (setting retried t) retry)

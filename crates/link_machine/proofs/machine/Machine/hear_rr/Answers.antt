@@ -1,0 +1,34 @@
+use Rattle.std.proofs.Common.{◌≡◌, false, refl, sym, ◌∙◌, ap}
+use Rattle.link_machine.specs.declared.control.Control.{Control}
+use Rattle.link_machine.specs.declared.state.LinkState.TheVariants.{Up}
+use Rattle.link_machine.specs.Machine.{named}
+use Rattle.link_machine.specs.Turn.{Turn, begin, changing, setting}
+use Rattle.link_machine.specs.Acts.{acknowledged, in_window}
+use Rattle.link_machine.specs.Frames.{with_busy, hear_rr}
+use Rattle.link_machine.specs.Step.{settled}
+use Rattle.link_machine.proofs.Events.{itself, holds_itself, shows_begin, made, valid_number, copies_right, supervised, acknowledged_poll}
+use Rattle.std.specs.Prelude.{◌&&◌}
+use Rattle.link_machine.proofs.machine.Machine.hear_rr.Goals as goal
+
+pub settle-requires-clause-formed : goal.settle-requires-clause-formed
+settle-requires-clause-formed c =
+    let m = itself c.args.self.now in
+    let h = holds_itself c.args.self.now c.requires.formed in
+    let begun = shows_begin c.args.self.now m c.in_ok-room.room _ _ c.in_ok-room.ensures h in
+    let valid = valid_number c.args.self.now m c.args.nr c.args.count h c.requires.valid in
+    (c.take_rr.ensures.shows (begin m) begun valid.0).holds.formed
+
+pub returns : goal.returns
+returns c = λ m h.
+    let begun = shows_begin c.args.self.now m c.in_ok-room.room _ _ c.in_ok-room.ensures h in
+    let valid = valid_number c.args.self.now m c.args.nr c.args.count h c.requires.valid in
+    let n = named c.args.nr m in
+    let t : Turn = hear_rr n c.args.asks c.args.answers (begin m) in
+    let shown = c.take_rr.ensures.shows (begin m) begun valid.0 in
+    let busy : Turn = changing (acknowledged n) (setting (with_busy false) (begin m)) in
+    let poll : (busy.now.control.poll && c.args.answers) ≡ c.recovers-recovers.result =
+    ap (λ p. p && c.args.answers) (acknowledged_poll n (setting (with_busy false) (begin m)).now ∙ sym (ap (λ (x : Control). x.poll) h.stands.control)) ∙ sym c.recovers-recovers.ensures in
+    let right : (t.now.control.state ≡ Up → c.in_ok-packets.packets.items ≡ in_window t.now.incoming.window t.now.outgoing) = λ _.
+    copies_right c.args.self.now m c.args.count c.recovers-recovers.result c.in_ok-packets.packets.items h c.in_ok-packets.ensures
+    ∙ supervised busy m n c.args.count c.args.asks c.args.answers c.recovers-recovers.result refl refl poll valid.1 in
+    made c.settle.new.self c.settle.new.room (settled t) c.finish.result (c.settle.ensures.shows t shown right) c.finish.ensures.frames c.finish.ensures.told

@@ -1,0 +1,24 @@
+use Rattle.std.proofs.Common.{◌≡◌, true, false, [], ◌∷◌, sym, ◌∙◌, ap, subst}
+use Rattle.link_machine.specs.declared.acts.Told.TheVariants.{Ended}
+use Rattle.link_machine.specs.declared.acts.Why.TheVariants.{Failed}
+use Rattle.link_machine.specs.Turn.{Turn, setting, telling, in_order}
+use Rattle.link_machine.specs.Acts.{poll}
+use Rattle.link_machine.specs.Frames.{answer_dm, leave}
+use Rattle.link_machine.specs.Ticks.{retried, is_spent}
+use Rattle.link_machine.specs.Held.{Shows}
+use Rattle.link_machine.proofs.Showing.{shows_control}
+use Rattle.std.proofs.lemmas.Bool.{cond-true, cond-false}
+use Rattle.link_machine.proofs.machine.Machine.poll_again.Goals as goal
+
+pub returns-then-is_spent-clause-shows : goal.returns-then-is_spent-clause-shows
+returns-then-is_spent-clause-shows c = λ t h.
+    let spent : is_spent t.now.control ≡ true = ap is_spent (sym h.holds.stands.control) ∙ sym c.is_spent.ensures ∙ c.if-is_spent.true in
+    let P : Turn → Type 0 = λ x. Shows c.leave.new.self c.tell.new.room x in
+    subst P (sym (cond-true (is_spent t.now.control) _ (in_order (setting retried ∷ poll ∷ []) t) spent)) (c.tell.ensures.shows _ (c.send_setup.ensures.shows _ (c.leave.ensures.shows c.args.room.now t h)))
+
+pub returns-else-is_spent-clause-shows : goal.returns-else-is_spent-clause-shows
+returns-else-is_spent-clause-shows c = λ t h.
+    let spent : is_spent t.now.control ≡ false = ap is_spent (sym h.holds.stands.control) ∙ sym c.is_spent.ensures ∙ c.if-is_spent.false in
+    let retry = shows_control retried c.args.self.now c.retry.new.self c.args.room.now t c.retry.ensures h in
+    let P : Turn → Type 0 = λ x. Shows c.poll.new.self c.poll.new.room x in
+    subst P (sym (cond-false (is_spent t.now.control) (in_order (leave ∷ answer_dm false ∷ telling (Ended Failed) ∷ []) t) _ spent)) (c.poll.ensures.shows (setting retried t) retry)

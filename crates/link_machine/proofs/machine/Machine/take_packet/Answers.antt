@@ -1,0 +1,27 @@
+use Rattle.std.proofs.Common.{◌≡◌, length, refl, ◌∙◌, ap, arith}
+use Rattle.selective_reject.specs.Outgoing.{after_push}
+use Rattle.link_machine.specs.declared.state.LinkState.TheVariants.{Up}
+use Rattle.link_machine.specs.Turn.{Turn, begin, changing}
+use Rattle.link_machine.specs.Acts.{in_window}
+use Rattle.link_machine.specs.Requests.{joined}
+use Rattle.link_machine.specs.Step.{settled}
+use Rattle.link_machine.proofs.Showing.{shows_changing, holds_outgoing}
+use Rattle.link_machine.proofs.Events.{shows_begin, made}
+use Rattle.link_machine.proofs.Events.{same_pushed}
+use Rattle.link_machine.proofs.Events.{on_ok}
+use Rattle.link_machine.proofs.PacketLemmas.{same_window}
+use Rattle.std.specs.Prelude.{IsErr}
+use Rattle.link_machine.proofs.machine.Machine.take_packet.Goals as goal
+
+pub returns : goal.returns
+returns c = λ m h.
+    let begun = shows_begin c.args.self.now m c.in_ok-room.room _ _ c.in_ok-room.ensures h in
+    let not_full : (IsErr c.push.result → ⊥) = λ e. let full : length c.args.self.now.outgoing.packets ≡ 1024 = c.push.ensures.full.0 e in omega (arith, c.requires.room) in
+    let pushed = on_ok c.push.result _ not_full (c.push.ensures.stands_for m.outgoing h.stands.outgoing) in
+    let t : Turn = changing (joined c.args.packet) (begin m) in
+    let shown = shows_changing (joined c.args.packet) c.args.self.now _ c.in_ok-room.room (begin m) refl begun (holds_outgoing c.args.self.now m c.push.new.self (after_push c.args.packet m.outgoing) h c.push.ensures.formed pushed) in
+    let right : (t.now.control.state ≡ Up → c.in_ok-packets.packets.items ≡ in_window t.now.incoming.window t.now.outgoing) = λ _.
+    c.in_ok-packets.ensures
+    ∙ same_pushed c.args.self.now.window c.args.packet c.args.self.now.outgoing m.outgoing h.stands.outgoing
+    ∙ ap (λ k. in_window k (after_push c.args.packet m.outgoing)) (same_window c.args.self.now m h) in
+    made c.settle.new.self c.settle.new.room (settled t) c.finish.result (c.settle.ensures.shows t shown right) c.finish.ensures.frames c.finish.ensures.told

@@ -1,0 +1,73 @@
+use Rattle.std.proofs.Common.{◌≡◌, ◌+◌, ◌≤◌, length, true, [], ◌∷◌, ◌++◌, drop, map, refl, sym, ◌∙◌, ap, arith, Some}
+use Rattle.link_machine.specs.declared.acts.Told.TheVariants.{Given}
+use Rattle.link_machine.specs.Acts.{run}
+use Rattle.std.proofs.Common.{append_assoc}
+use Rattle.selective_reject.specs.Places.{packet_at, is_full, empty_place}
+use Rattle.link_machine.proofs.RunLemmas.{places_taken, moved_none, moved_one_more, run-push, length-run, run_of_full}
+use Rattle.std.specs.Prelude.{is_some}
+use Rattle.link_machine.proofs.receiving.give_run.Goals as goal
+
+pub loop-packet-init : goal.loop-packet-init
+loop-packet-init c =
+    let short : length (run c.args.incoming.now.places) ≤ length c.args.incoming.now.places = length-run c.args.incoming.now.places in
+    let places : length c.args.incoming.now.places ≡ c.args.incoming.now.window = c.requires.formed.places in
+    let room = c.requires.room in
+    record {
+      formed = c.requires.formed;
+      told = refl;
+      frames = refl;
+      stands = λ store h. moved_none c.args.incoming.now store h;
+      room = omega arith;
+      used = omega arith;
+      frames_same = omega arith;
+    }
+
+pub loop-packet-preserved : goal.loop-packet-preserved
+loop-packet-preserved c =
+    let i = c.loop-packet.invariant in
+    let before = c.loop-packet.incoming in
+    let behind = c.take.new.self in
+    let packet = c.in-Some.packet in
+    let there : packet_at before.places 0 ≡ Some packet = sym c.in-Some.ensures.packet in
+    let full : is_full before.places 0 ≡ true = ap is_some there in
+    let places : behind.places ≡ drop 1 before.places ++ empty_place ∷ [] = places_taken before behind full c.take.ensures.store in
+    let one : run before.places ≡ packet ∷ run (drop 1 before.places) = run_of_full before.places packet there in
+    let same : run behind.places ≡ run (drop 1 before.places) = ap run places ∙ run-push (drop 1 before.places) in
+    let less : length (run before.places) ≡ length (run behind.places) + 1 = ap length one ∙ omega (arith, ap length same) in
+    let uses = c.tell.ensures.uses in
+    let room = i.room in
+    let used = i.used in
+    let frames_same = i.frames_same in
+    record {
+      formed = c.take.ensures.formed;
+      told =
+          ap (λ xs. xs ++ map Given (run behind.places)) c.tell.ensures.told
+          ∙ append_assoc c.loop-packet.room.told.items (Given packet ∷ []) (map Given (run behind.places))
+          ∙ ap (λ xs. c.loop-packet.room.told.items ++ map Given xs) (ap (λ xs. packet ∷ xs) same ∙ sym one)
+          ∙ i.told;
+      frames = c.tell.ensures.frames ∙ i.frames;
+      stands = λ store h. moved_one_more before behind store packet (i.stands store h) (λ s k. (c.take.ensures.stands_for s k).1) places there;
+      room = omega (arith, uses.of_told);
+      used = omega (arith, uses.of_told);
+      frames_same = omega (arith, uses.of_frames);
+    }
+
+pub loop-packet-smaller : goal.loop-packet-smaller
+loop-packet-smaller c =
+    let before = c.loop-packet.incoming in
+    let behind = c.take.new.self in
+    let packet = c.in-Some.packet in
+    let there : packet_at before.places 0 ≡ Some packet = sym c.in-Some.ensures.packet in
+    let full : is_full before.places 0 ≡ true = ap is_some there in
+    let places : behind.places ≡ drop 1 before.places ++ empty_place ∷ [] = places_taken before behind full c.take.ensures.store in
+    let one : run before.places ≡ packet ∷ run (drop 1 before.places) = run_of_full before.places packet there in
+    let same : run behind.places ≡ run (drop 1 before.places) = ap run places ∙ run-push (drop 1 before.places) in
+    omega (arith, ap length one, ap length same)
+
+pub returns-clause-uses : goal.returns-clause-uses
+returns-clause-uses c =
+    let short : length (run c.args.incoming.now.places) ≤ length c.args.incoming.now.places = length-run c.args.incoming.now.places in
+    let places : length c.args.incoming.now.places ≡ c.args.incoming.now.window = c.requires.formed.places in
+    let used = c.loop-packet.invariant.used in
+    let frames = c.loop-packet.invariant.frames_same in
+    record { of_frames = omega arith; of_told = omega arith }

@@ -1,0 +1,187 @@
+-- The frames that a link hears, by state (AX.25 2.2 sections 6.3 to 6.5).
+use Rattle.std.specs.Prelude.{ℕ, Bool, true, false, nat_lt, ◌==◌, not, ◌&&◌, if◌then◌else◌, [], ◌∷◌, None}
+use Rattle.ax25_frames.specs.declared.frame.Kind.{Kind}
+use Rattle.ax25_frames.specs.declared.frame.Kind.TheVariants.{Info, Super, Setup, Ui, Other}
+use Rattle.ax25_frames.specs.declared.frame.S.{S}
+use Rattle.ax25_frames.specs.declared.frame.S.TheVariants.{Rr, Rnr, Rej, Srej}
+use Rattle.ax25_frames.specs.declared.frame.U.TheVariants.{Sabm, Sabme, Disc, Dm, Ua}
+use Rattle.ax25_frames.specs.declared.frame.W.TheVariants.{Frmr, Xid, Test}
+use Rattle.selective_reject.specs.declared.packet.Packet.{Packet}
+use Rattle.selective_reject.specs.declared.window.Mode.{Mode}
+use Rattle.selective_reject.specs.declared.window.Mode.TheVariants.{Rej as RejMode, Srej as SrejMode}
+use Rattle.selective_reject.specs.Places.{is_full}
+use Rattle.link_machine.specs.declared.state.LinkState.{LinkState}
+use Rattle.link_machine.specs.declared.state.LinkState.TheVariants.{Idle, Calling, Up, Releasing}
+use Rattle.link_machine.specs.declared.acts.Told.TheVariants.{Opened, Ended}
+use Rattle.link_machine.specs.declared.acts.Why.{Why}
+use Rattle.link_machine.specs.declared.acts.Why.TheVariants.{Asked, Peer, Reset, Refused}
+use Rattle.link_machine.specs.declared.control.Control.{Control}
+use Rattle.link_machine.specs.Machine.{Machine, fresh, emptied, in_state, is_valid, named, ahead_of_vr}
+use Rattle.link_machine.specs.Sent.Sent.{SetupSent}
+use Rattle.link_machine.specs.Turn.{Act, changing, setting, sending, telling, nothing, in_order}
+use Rattle.link_machine.specs.Acts.{acknowledged, answer_poll, recover, gone_back, reset, owing, with_rej, reject, run_with, give, stored, ask, send_again, watching}
+
+abbrev pub answer_ua : Bool → Act
+answer_ua flag = sending (SetupSent Ua flag)
+
+abbrev pub answer_dm : Bool → Act
+answer_dm flag = sending (SetupSent Dm flag)
+
+-- a call or a release ends: no packet stays, and T1, the one timer that runs there, is off
+abbrev pub stopped_t1 : Control → Control
+stopped_t1 c = record c { state = Idle; t1 = None }
+
+abbrev pub end_call : Why → Act
+end_call why = in_order (changing emptied ∷ setting stopped_t1 ∷ telling (Ended why) ∷ [])
+
+-- a set-up ends: no packet stays, and all timers are off
+abbrev pub stopped : Control → Control
+stopped c = record c { state = Idle; t1 = None; t2 = None; t3 = None }
+
+abbrev pub leave : Act
+leave = in_order (changing emptied ∷ setting stopped ∷ [])
+
+-- the other side's set-up: all begins anew, no packet stays, and its SABM is answered
+abbrev pub open_called : Bool → Act
+open_called flag =
+    in_order (changing fresh ∷ changing emptied ∷ setting (in_state Up) ∷ answer_ua flag ∷ telling (Opened false) ∷ [])
+
+-- this side's set-up: all begins anew; what was given while calling stays
+abbrev pub open_answered : Act
+open_answered = in_order (changing fresh ∷ setting (in_state Up) ∷ telling (Opened true) ∷ [])
+
+-- Idle: SABM opens; SABME, DISC and numbered commands are answered by DM with F = P
+abbrev pub hear_idle : Bool → Kind → Act
+hear_idle command (Setup Sabm flag) = open_called flag
+hear_idle command (Setup Sabme flag) = answer_dm flag
+hear_idle command (Setup Disc flag) = answer_dm flag
+hear_idle command (Setup Dm flag) = nothing
+hear_idle command (Setup Ua flag) = nothing
+hear_idle command (Info ns nr flag pid octets) = answer_dm flag
+hear_idle command (Super which nr flag) = if command then answer_dm flag else nothing
+hear_idle command (Ui flag pid octets) = nothing
+hear_idle command (Other which flag octets) = nothing
+
+-- Calling: UA and DM count with F = 1 alone
+abbrev pub hear_calling : Kind → Act
+hear_calling (Setup Sabm flag) = answer_ua flag
+hear_calling (Setup Sabme flag) = answer_dm flag
+hear_calling (Setup Disc flag) = answer_dm flag
+hear_calling (Setup Dm flag) = if flag then end_call Refused else nothing
+hear_calling (Setup Ua flag) = if flag then open_answered else nothing
+hear_calling (Info ns nr flag pid octets) = nothing
+hear_calling (Super which nr flag) = nothing
+hear_calling (Ui flag pid octets) = nothing
+hear_calling (Other which flag octets) = nothing
+
+-- Releasing: UA and DM count with F = 1 alone, numbered commands with P = 1 alone
+abbrev pub hear_releasing : Bool → Kind → Act
+hear_releasing command (Setup Sabm flag) = answer_dm flag
+hear_releasing command (Setup Sabme flag) = answer_dm flag
+hear_releasing command (Setup Disc flag) = answer_ua flag
+hear_releasing command (Setup Dm flag) = if flag then end_call Asked else nothing
+hear_releasing command (Setup Ua flag) = if flag then end_call Asked else nothing
+hear_releasing command (Info ns nr flag pid octets) = if flag then answer_dm true else nothing
+hear_releasing command (Super which nr flag) = if command && flag then answer_dm true else nothing
+hear_releasing command (Ui flag pid octets) = nothing
+hear_releasing command (Other which flag octets) = nothing
+
+-- the other side is busy, or no longer
+abbrev pub with_busy : Bool → Control → Control
+with_busy busy c = record c { busy = busy }
+
+-- Up: an S frame that names number n; `asks` says that it is a command with P = 1, `answers` a response with F = 1
+abbrev pub hear_rr : ℕ → Bool → Bool → Act
+hear_rr n asks answers = in_order (
+    setting (with_busy false) ∷ changing (acknowledged n) ∷ answer_poll asks ∷ recover answers ∷ [])
+
+abbrev pub hear_rnr : ℕ → Bool → Bool → Act
+hear_rnr n asks answers = in_order (
+    setting (with_busy true) ∷ changing (acknowledged n) ∷ answer_poll asks ∷ recover answers ∷ setting watching ∷ [])
+
+abbrev pub hear_rej : ℕ → Bool → Bool → Act
+hear_rej n asks answers = in_order (
+    setting (with_busy false) ∷ changing (acknowledged n) ∷ changing gone_back ∷ answer_poll asks ∷ recover answers ∷ [])
+
+-- SREJ acknowledges with P/F = 1 alone
+abbrev pub acknowledged_by_srej : ℕ → Bool → Machine → Machine
+acknowledged_by_srej n flag m = if flag then acknowledged n m else m
+
+abbrev pub hear_srej : ℕ → Bool → Bool → Bool → Act
+hear_srej n flag asks answers = in_order (
+    setting (with_busy false) ∷ changing (acknowledged_by_srej n flag) ∷ send_again n ∷ answer_poll asks ∷ recover answers ∷ [])
+
+abbrev pub hear_supervisory : S → ℕ → Bool → Bool → Act
+hear_supervisory Rr n command flag = hear_rr n (command && flag) (not command && flag)
+hear_supervisory Rnr n command flag = hear_rnr n (command && flag) (not command && flag)
+hear_supervisory Rej n command flag = hear_rej n (command && flag) (not command && flag)
+hear_supervisory Srej n command flag = hear_srej n flag (command && flag) (not command && flag)
+
+-- Up, by REJ: the packet with number V(R) is given, and no other. Another one is answered by one REJ, until the one that
+-- it asks for comes.
+abbrev pub take_in_sequence : Bool → Packet → Act
+take_in_sequence flag packet =
+    in_order (give (packet ∷ []) ∷ setting (with_rej false) ∷ setting owing ∷ answer_poll flag ∷ [])
+
+abbrev pub refuse_out_of_sequence : Bool → Act
+refuse_out_of_sequence flag turn = if turn.now.control.rej then answer_poll flag turn else reject flag turn
+
+abbrev pub hear_info_by_rej : ℕ → Bool → Packet → Act
+hear_info_by_rej ns flag packet turn =
+    if ahead_of_vr ns turn.now == 0 then take_in_sequence flag packet turn else refuse_out_of_sequence flag turn
+
+-- Up, by SREJ: the packet with number V(R) is given with those stored that follow it. One in the window is stored, and
+-- what is missing before it is asked for. Another is dropped.
+abbrev pub take_selected : ℕ → Packet → Act
+take_selected ahead packet turn =
+    if ahead == 0 then give (run_with packet turn.now) turn else
+    if nat_lt ahead turn.now.incoming.window && not (is_full turn.now.incoming.places ahead)
+    then in_order (changing (stored ahead packet) ∷ ask ahead ∷ []) turn else turn
+
+abbrev pub hear_info_by_srej : ℕ → Bool → Packet → Act
+hear_info_by_srej ns flag packet turn =
+    in_order (take_selected (ahead_of_vr ns turn.now) packet ∷ setting owing ∷ answer_poll flag ∷ []) turn
+
+abbrev pub hear_info_by : Mode → ℕ → Bool → Packet → Act
+hear_info_by RejMode = hear_info_by_rej
+hear_info_by SrejMode = hear_info_by_srej
+
+abbrev pub hear_info : ℕ → ℕ → Bool → Packet → Act
+hear_info n ns flag packet turn =
+    in_order (changing (acknowledged n) ∷ hear_info_by turn.now.incoming.mode ns flag packet ∷ []) turn
+
+-- Up: a SABM ends the set-up and opens another
+abbrev pub open_again : Bool → Act
+open_again flag = in_order (telling (Ended Reset) ∷ open_called flag ∷ [])
+
+-- Up: the other side ends the set-up
+abbrev pub end_by_disc : Bool → Act
+end_by_disc flag = in_order (leave ∷ answer_ua flag ∷ telling (Ended Peer) ∷ [])
+
+abbrev pub end_by_dm : Act
+end_by_dm = in_order (leave ∷ telling (Ended Peer) ∷ [])
+
+-- Up: a frame with an invalid N(R) makes this side call anew, and nothing else of it counts
+abbrev pub hear_up : Bool → Kind → Act
+hear_up command (Setup Sabm flag) turn = open_again flag turn
+hear_up command (Setup Sabme flag) turn = answer_dm flag turn
+hear_up command (Setup Disc flag) turn = end_by_disc flag turn
+hear_up command (Setup Dm flag) turn = end_by_dm turn
+hear_up command (Setup Ua flag) turn = turn
+hear_up command (Info ns nr flag pid octets) turn =
+    if is_valid nr turn.now then hear_info (named nr turn.now) ns flag (record { pid = pid; octets = octets }) turn else reset turn
+hear_up command (Super which nr flag) turn =
+    if is_valid nr turn.now then hear_supervisory which (named nr turn.now) command flag turn else reset turn
+hear_up command (Ui flag pid octets) turn = turn
+hear_up command (Other Frmr flag octets) turn = reset turn
+hear_up command (Other Xid flag octets) turn = turn
+hear_up command (Other Test flag octets) turn = turn
+
+abbrev pub hear_in : LinkState → Bool → Kind → Act
+hear_in Idle command = hear_idle command
+hear_in Calling command = hear_calling
+hear_in Up command = hear_up command
+hear_in Releasing command = hear_releasing command
+
+abbrev pub hear : Bool → Kind → Act
+hear command kind turn = hear_in turn.now.control.state command kind turn

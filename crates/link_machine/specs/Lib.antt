@@ -1,0 +1,14 @@
+pub mod Done
+pub mod Machine
+pub mod Sent
+pub mod Turn
+pub mod Acts
+pub mod Event
+pub mod Requests
+pub mod Frames
+pub mod Ticks
+pub mod Step
+pub mod StandsFor
+pub mod Room
+pub mod Held
+pub mod Timers

@@ -1,0 +1,109 @@
+-- A link as a machine (AX.25 2.2 sections 6.3 and 6.7.1): its state and its variables. Sequence numbers count from 0 in
+-- each set-up; only frames carry them modulo 8.
+use Rattle.std.specs.Prelude.{ℕ, ◌+◌, Bool, false, Some, None}
+use Rattle.ax25_address.specs.declared.path.Path.{Path}
+use Rattle.selective_reject.specs.declared.window.Mode.{Mode}
+use Rattle.selective_reject.specs.Outgoing.{restarted, Outgoing, empty_outgoing, is_named}
+use Rattle.selective_reject.specs.Incoming.{Incoming, empty_incoming}
+use Rattle.selective_reject.specs.Numbers.{ahead}
+use Rattle.link_machine.specs.declared.state.LinkState.{LinkState}
+use Rattle.link_machine.specs.declared.state.LinkState.TheVariants.{Idle}
+use Rattle.link_machine.specs.declared.control.Control.{Control}
+
+pub record Machine : Type 0 where
+  -- from this side to the other
+  pub path : Path
+  -- the state, the conditions, the retries and the timers
+  pub control : Control
+  -- V(A), V(S), the number behind the highest that was ever sent, and the packets given and not acknowledged
+  pub outgoing : Outgoing
+  -- V(R), the packets received before their turn and the numbers asked for, by their distance from V(R); also the
+  -- modulus, whether REJ or SREJ asks for what is lost, and k
+  pub incoming : Incoming
+
+-- T1, T2 and T3, in ticks of 10 ms
+abbrev pub t1_ticks : ℕ
+t1_ticks = 300
+
+abbrev pub t2_ticks : ℕ
+t2_ticks = 30
+
+abbrev pub t3_ticks : ℕ
+t3_ticks = 3000
+
+-- the most retries, N2
+abbrev pub most_retries : ℕ
+most_retries = 10
+
+-- the most octets of a packet, N1
+abbrev pub most_octets : ℕ
+most_octets = 256
+
+-- the most packets that wait
+abbrev pub most_packets : ℕ
+most_packets = 1024
+
+abbrev pub with_control : Control → Machine → Machine
+with_control control m = record m { control = control }
+
+-- The conditions and the timers of a set-up that begins. A wish to disconnect stays.
+abbrev pub fresh_control : Control → Control
+fresh_control c = record c { rej = false; poll = false; busy = false; due = false; rc = 0; t1 = None; t2 = None; t3 = Some t3_ticks }
+
+-- nothing is stored or asked for, and V(R) is 0
+abbrev pub cleared : Incoming → Incoming
+cleared i = empty_incoming i.modulus i.window i.mode
+
+-- The same, and all numbers are 0. The packets given stay.
+abbrev pub fresh : Machine → Machine
+fresh m = record {
+  path = m.path;
+  control = fresh_control m.control;
+  outgoing = restarted m.outgoing;
+  incoming = cleared m.incoming;
+}
+
+-- No packet waits, and no disconnect is asked for. The numbers of a store that is emptied are 0.
+abbrev pub unquit : Control → Control
+unquit c = record c { quit = false }
+
+abbrev pub emptied : Machine → Machine
+emptied m = record m { control = unquit m.control; outgoing = empty_outgoing }
+
+abbrev pub in_state : LinkState → Control → Control
+in_state state c = record c { state = state }
+
+-- N(R) is valid where it names a number from V(A) to the top, which is not V(S): that goes back
+abbrev pub is_valid : ℕ → Machine → Bool
+is_valid nr m = is_named m.incoming.modulus nr m.outgoing
+
+-- the number that a valid N(R) names
+abbrev pub named : ℕ → Machine → ℕ
+named nr m = m.outgoing.va + ahead m.incoming.modulus m.outgoing.va nr
+
+-- how far N(S) lies ahead of V(R), modulo the modulus
+abbrev pub ahead_of_vr : ℕ → Machine → ℕ
+ahead_of_vr ns m = ahead m.incoming.modulus m.incoming.vr ns
+
+-- a link that is new: no numbers, no packets, no timers
+abbrev pub idle_control : Control
+idle_control = record {
+  state = Idle;
+  rej = false;
+  poll = false;
+  busy = false;
+  due = false;
+  quit = false;
+  rc = 0;
+  t1 = None;
+  t2 = None;
+  t3 = None;
+}
+
+abbrev pub new_machine : Path → ℕ → ℕ → Mode → Machine
+new_machine path modulus window mode = record {
+  path = path;
+  control = idle_control;
+  outgoing = empty_outgoing;
+  incoming = empty_incoming modulus window mode;
+}

@@ -1,0 +1,47 @@
+-- The step of a link: its state and an event give one next state, the frames that are sent, and what the layer above
+-- is told. It is a function, so there is exactly one of each.
+use Rattle.std.specs.Prelude.{length, if◌then◌else◌, Option, is_some}
+use Rattle.ax25_frames.specs.FrameText.{is_command_of}
+use Rattle.link_machine.specs.declared.state.LinkState.{LinkState}
+use Rattle.link_machine.specs.declared.state.LinkState.TheVariants.{Idle, Calling, Up, Releasing}
+use Rattle.link_machine.specs.declared.fault.LinkFault.{LinkFault}
+use Rattle.link_machine.specs.Done.{Done}
+use Rattle.link_machine.specs.Machine.{Machine}
+use Rattle.link_machine.specs.Sent.{frames_of}
+use Rattle.link_machine.specs.Turn.{Turn, Act, begin, changing, setting, nothing}
+use Rattle.link_machine.specs.Acts.{settle}
+use Rattle.link_machine.specs.Event.{Event}
+use Rattle.link_machine.specs.Event.Event.{Connect, Send, Disconnect, Hear, Tick}
+use Rattle.link_machine.specs.Requests.{refusal, connect, joined, quitting}
+use Rattle.link_machine.specs.Frames.{hear}
+use Rattle.link_machine.specs.Ticks.{tick}
+
+-- why an event is refused
+abbrev pub refusal_of : Machine → Event → Option LinkFault
+refusal_of m event = refusal m.control (length m.outgoing.packets) event
+
+-- what an event does by the state
+abbrev pub row : Event → Act
+row Connect = connect
+row (Send packet) = changing (joined packet)
+row Disconnect = setting quitting
+row (Hear frame) = hear (is_command_of frame.path.role frame.kind) frame.kind
+row (Tick waiting) = tick waiting
+
+-- an event that leaves the link up ends with what can be sent, and then, where it is time, with the release
+abbrev pub settle_in : LinkState → Act
+settle_in Idle = nothing
+settle_in Calling = nothing
+settle_in Up = settle
+settle_in Releasing = nothing
+
+abbrev pub settled : Act
+settled turn = settle_in turn.now.control.state turn
+
+-- the step; a request that is refused changes nothing
+unfoldable pub step : Machine → Event → Turn
+step m event = if is_some (refusal_of m event) then begin m else settled (row event (begin m))
+
+-- what a step does, its frames as they are written
+abbrev pub done_of : Turn → Done
+done_of turn = record { frames = frames_of turn.now.incoming.modulus turn.now.path turn.sent; told = turn.told }

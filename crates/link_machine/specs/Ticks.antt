@@ -1,0 +1,112 @@
+-- A tick of 10 ms, and the timers that run out with it (AX.25 2.2 section 6.7.1).
+use Rattle.std.specs.Prelude.{ℕ, ◌+◌, ◌-◌, Bool, true, false, nat_le, if◌then◌else◌, [], ◌∷◌, Option, Some, None}
+use Rattle.ax25_frames.specs.declared.frame.U.TheVariants.{Sabm, Disc}
+use Rattle.link_machine.specs.declared.state.LinkState.{LinkState}
+use Rattle.link_machine.specs.declared.state.LinkState.TheVariants.{Idle, Calling, Up, Releasing}
+use Rattle.link_machine.specs.declared.acts.Told.TheVariants.{Ended}
+use Rattle.link_machine.specs.declared.acts.Why.TheVariants.{Failed}
+use Rattle.link_machine.specs.declared.control.Control.{Control}
+use Rattle.link_machine.specs.Machine.{t1_ticks, most_retries}
+use Rattle.link_machine.specs.Sent.Sent.{SetupSent}
+use Rattle.link_machine.specs.Turn.{Act, setting, sending, telling, nothing, in_order}
+use Rattle.link_machine.specs.Acts.{respond_ready, poll}
+use Rattle.link_machine.specs.Frames.{answer_dm, leave, end_call}
+
+-- a tick of a timer with so many ticks left: one that comes to 0 has run out and is off
+abbrev pub runs_out : ℕ → Bool
+runs_out left = nat_le left 1
+
+abbrev pub lowered : ℕ → Option ℕ
+lowered left = if runs_out left then None else Some (left - 1)
+
+abbrev pub with_t1 : Option ℕ → Control → Control
+with_t1 timer c = record c { t1 = timer }
+
+abbrev pub with_t2 : Option ℕ → Control → Control
+with_t2 timer c = record c { t2 = timer }
+
+abbrev pub with_t3 : Option ℕ → Control → Control
+with_t3 timer c = record c { t3 = timer }
+
+-- T2 runs out: what is due is sent
+abbrev pub t2_out : LinkState → Act
+t2_out Idle = nothing
+t2_out Calling = nothing
+t2_out Up = respond_ready false
+t2_out Releasing = nothing
+
+-- one retry more
+abbrev pub retried : Control → Control
+retried c = record c { rc = c.rc + 1; t1 = Some t1_ticks }
+
+-- the retries are spent where there were 10; there are never more
+abbrev pub is_spent : Control → Bool
+is_spent c = nat_le most_retries c.rc
+
+abbrev pub call_again : Act
+call_again turn =
+    if is_spent turn.now.control then end_call Failed turn else in_order (setting retried ∷ sending (SetupSent Sabm true) ∷ []) turn
+
+abbrev pub poll_again : Act
+poll_again turn =
+    if is_spent turn.now.control then in_order (leave ∷ answer_dm false ∷ telling (Ended Failed) ∷ []) turn
+    else in_order (setting retried ∷ poll ∷ []) turn
+
+abbrev pub release_again : Act
+release_again turn =
+    if is_spent turn.now.control then end_call Failed turn else in_order (setting retried ∷ sending (SetupSent Disc true) ∷ []) turn
+
+-- T1 runs out: what awaits an answer is sent once more
+abbrev pub t1_out : LinkState → Act
+t1_out Idle = nothing
+t1_out Calling = call_again
+t1_out Up = poll_again
+t1_out Releasing = release_again
+
+-- T3 runs out: a side that was silent is polled
+abbrev pub unretried : Control → Control
+unretried c = record c { rc = 0; t3 = None }
+
+abbrev pub t3_out : LinkState → Act
+t3_out Idle = nothing
+t3_out Calling = nothing
+t3_out Up = in_order (setting unretried ∷ poll ∷ [])
+t3_out Releasing = nothing
+
+-- a tick of T2
+abbrev pub tick_t2_of : Option ℕ → Act
+tick_t2_of None turn = turn
+tick_t2_of (Some left) turn =
+    if runs_out left then in_order (setting (with_t2 None) ∷ t2_out turn.now.control.state ∷ []) turn else setting (with_t2 (lowered left)) turn
+
+abbrev pub tick_t2 : Act
+tick_t2 turn = tick_t2_of turn.now.control.t2 turn
+
+-- a tick of T3
+abbrev pub tick_t3_of : Option ℕ → Act
+tick_t3_of None turn = turn
+tick_t3_of (Some left) turn =
+    if runs_out left then in_order (setting (with_t3 None) ∷ t3_out turn.now.control.state ∷ []) turn else setting (with_t3 (lowered left)) turn
+
+abbrev pub tick_t3 : Act
+tick_t3 turn = tick_t3_of turn.now.control.t3 turn
+
+-- a tick of T1, which stands still while a frame of the link waits to be sent; where it is off, one of T3
+abbrev pub tick_t1_of : Option ℕ → Bool → Act
+tick_t1_of None waiting turn = tick_t3 turn
+tick_t1_of (Some left) true turn = turn
+tick_t1_of (Some left) false turn =
+    if runs_out left then in_order (setting (with_t1 None) ∷ t1_out turn.now.control.state ∷ []) turn else setting (with_t1 (lowered left)) turn
+
+abbrev pub tick_t1 : Bool → Act
+tick_t1 waiting turn = tick_t1_of turn.now.control.t1 waiting turn
+
+-- an idle link has no timers
+abbrev pub tick_in : LinkState → Bool → Act
+tick_in Idle waiting = nothing
+tick_in Calling waiting = in_order (tick_t2 ∷ tick_t1 waiting ∷ [])
+tick_in Up waiting = in_order (tick_t2 ∷ tick_t1 waiting ∷ [])
+tick_in Releasing waiting = in_order (tick_t2 ∷ tick_t1 waiting ∷ [])
+
+abbrev pub tick : Bool → Act
+tick waiting turn = tick_in turn.now.control.state waiting turn

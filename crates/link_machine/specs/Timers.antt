@@ -1,0 +1,16 @@
+-- How much a tick may do.
+use Rattle.std.specs.Prelude.{ℕ, ◌+◌, if◌then◌else◌, Option, Some, None}
+use Rattle.link_machine.specs.declared.control.Control.{Control}
+use Rattle.link_machine.specs.Ticks.{runs_out}
+
+-- 1 where a timer runs out with the next tick
+abbrev pub out_of : Option ℕ → ℕ
+out_of None = 0
+out_of (Some left) = if runs_out left then 1 else 0
+
+abbrev pub outs : Control → ℕ
+outs c = out_of c.t1 + out_of c.t2 + out_of c.t3
+
+-- 1 where a disconnect was asked for
+abbrev pub quits : Control → ℕ
+quits c = if c.quit then 1 else 0

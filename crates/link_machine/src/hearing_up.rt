@@ -1,0 +1,402 @@
+//! The frames that a link hears where it is up.
+ghost use Rattle.std.specs.Prelude.{◌≡◌, ℕ, ◌+◌, ◌≤◌, ◌<◌, ◌&&◌, not, true, Bool};
+ghost use Rattle.link_machine.specs.declared.state.LinkState.TheVariants.{Up};
+ghost use Rattle.std.specs.Prelude.{if◌then◌else◌};
+ghost use Rattle.link_machine.specs.Machine.{Machine as State, is_valid, named};
+ghost use Rattle.link_machine.specs.Turn.{Turn, nothing};
+ghost use Rattle.std.specs.Prelude.{◌%◌, ◌||◌, Ok, IfOk};
+ghost use Rattle.std.specs.Option.{option_to_list};
+ghost use Rattle.selective_reject.specs.Outgoing.{acknowledgement, sent_packet};
+ghost use Rattle.link_machine.specs.Acts.{reset, send_again, sent_packet as asked_packets};
+ghost use Rattle.link_machine.specs.Frames.{answer_dm, open_again, end_by_disc, end_by_dm, hear_rr, hear_rnr, hear_rej, hear_srej, hear_supervisory, acknowledged_by_srej, hear_info, hear_up};
+ghost use Rattle.link_machine.specs.Room.{frames_left, told_left, Uses};
+ghost use Rattle.link_machine.specs.Held.{IsLink, IsWhole, Holds, Shows, Makes, HasNumbersBelow, hear_numbered, hear_supervisory_of};
+
+use crate::acts::Acts;
+use crate::flushing::copy_of;
+use crate::machine::{MODULUS, Machine};
+use crate::room::Room;
+use ax25_frames::{Kind, S, U, W};
+use selective_reject::{Mode, Packet};
+use std::alloc::Global;
+use tnc_base::{Octets, OutOfMemory};
+
+/// Whether an S frame asks for an answer: a command with P = 1.
+fn is_asking(command: bool, flag: bool) -> bool
+    ensures { result ≡ (command && flag) }
+{
+    command && flag
+}
+
+/// Whether an S frame may be the answer to a poll: a response with F = 1.
+fn is_answering(command: bool, flag: bool) -> bool
+    ensures { result ≡ (not command && flag) }
+{
+    !command && flag
+}
+
+/// How many packets an SREJ acknowledges.
+fn acknowledged_by_srej(count: u8, flag: bool) -> u8
+    ensures value { result ≡ (if flag then count else 0) }
+    ensures bound { result ≤ count }
+{
+    if flag { count } else { 0 }
+}
+
+impl Machine {
+    /// Hears a frame where the link is up.
+    pub(crate) fn hear_up(
+        &mut self,
+        alloc: Global,
+        command: bool,
+        kind: &Kind,
+    ) -> Result<Acts, OutOfMemory>
+        requires formed { IsWhole self.old }
+        requires state { self.old.control.state ≡ Up }
+        requires numbers { HasNumbersBelow 8 kind.now }
+        ensures { Makes (hear_up command kind.now) self.old self.new result }
+    {
+        match kind {
+            Kind::Setup { which, flag } => match which {
+                U::Sabm => self.hear_sabm(alloc, *flag),
+                U::Sabme => self.hear_sabme(alloc, *flag),
+                U::Disc => self.hear_disc(alloc, *flag),
+                U::Dm => self.hear_dm(alloc),
+                U::Ua => self.hear_nothing(alloc),
+            },
+            Kind::Info {
+                ns,
+                nr,
+                poll,
+                pid,
+                octets,
+            } => self.hear_info(alloc, *ns, *nr, *poll, *pid, octets),
+            Kind::Super { which, nr, flag } => {
+                self.hear_super(alloc, *which, *nr, command, *flag)
+            }
+            Kind::Other { which: W::Frmr, .. } => self.hear_error(alloc),
+            Kind::Ui { .. } | Kind::Other { .. } => self.hear_nothing(alloc),
+        }
+    }
+
+    fn hear_sabm(&mut self, alloc: Global, flag: bool) -> Result<Acts, OutOfMemory>
+        requires formed { IsWhole self.old }
+        requires state { self.old.control.state ≡ Up }
+        ensures { Makes (open_again flag) self.old self.new result }
+    {
+        let mut room = Room::new(alloc, 1, 2)?;
+        self.open_again(&mut room, flag);
+        Ok(room.finish())
+    }
+
+    fn hear_sabme(&mut self, alloc: Global, flag: bool) -> Result<Acts, OutOfMemory>
+        requires formed { IsWhole self.old }
+        requires state { self.old.control.state ≡ Up }
+        ensures { Makes (answer_dm flag) self.old self.new result }
+    {
+        let packets = self.copies_to_send(alloc, 0, false)?;
+        let mut room = Room::new(alloc, packets.len() + 2, 0)?;
+        self.send_setup(&mut room, U::Dm, flag);
+        self.settle(&mut room, packets);
+        Ok(room.finish())
+    }
+
+    fn hear_disc(&mut self, alloc: Global, flag: bool) -> Result<Acts, OutOfMemory>
+        requires formed { IsWhole self.old }
+        ensures { Makes (end_by_disc flag) self.old self.new result }
+    {
+        let mut room = Room::new(alloc, 1, 1)?;
+        self.end_by_disc(&mut room, flag);
+        Ok(room.finish())
+    }
+
+    fn hear_dm(&mut self, alloc: Global) -> Result<Acts, OutOfMemory>
+        requires formed { IsWhole self.old }
+        ensures { Makes end_by_dm self.old self.new result }
+    {
+        let mut room = Room::new(alloc, 0, 1)?;
+        self.end_by_dm(&mut room);
+        Ok(room.finish())
+    }
+
+    /// A frame that says nothing to a link that is up.
+    fn hear_nothing(&mut self, alloc: Global) -> Result<Acts, OutOfMemory>
+        requires formed { IsWhole self.old }
+        ensures { Makes nothing self.old self.new result }
+    {
+        let packets = self.copies_to_send(alloc, 0, false)?;
+        let mut room = Room::new(alloc, packets.len() + 1, 0)?;
+        self.settle(&mut room, packets);
+        Ok(room.finish())
+    }
+
+    /// An error of the protocol.
+    fn hear_error(&mut self, alloc: Global) -> Result<Acts, OutOfMemory>
+        requires formed { IsWhole self.old }
+        ensures { Makes reset self.old self.new result }
+    {
+        let mut room = Room::new(alloc, 1, 1)?;
+        self.reset(&mut room);
+        Ok(room.finish())
+    }
+
+    /// An S frame.
+    fn hear_super(
+        &mut self,
+        alloc: Global,
+        which: S,
+        nr: u8,
+        command: bool,
+        flag: bool,
+    ) -> Result<Acts, OutOfMemory>
+        requires formed { IsWhole self.old }
+        requires number { nr < 8 }
+        ensures { Makes (hear_numbered nr (hear_supervisory_of which command flag)) self.old self.new result }
+    {
+        let Ok(count) = self.outgoing.acknowledgement(MODULUS, nr) else {
+            return self.hear_error(alloc);
+        };
+        let asks = is_asking(command, flag);
+        let answers = is_answering(command, flag);
+        match which {
+            S::Rr => self.hear_rr(alloc, count, nr, asks, answers),
+            S::Rnr => self.hear_rnr(alloc, count, nr, asks, answers),
+            S::Rej => self.hear_rej(alloc, count, nr, asks, answers),
+            S::Srej => self.hear_srej(alloc, count, nr, flag, asks, answers),
+        }
+    }
+
+    fn hear_rr(
+        &mut self,
+        alloc: Global,
+        count: u8,
+        nr: u8,
+        asks: bool,
+        answers: bool,
+    ) -> Result<Acts, OutOfMemory>
+        requires formed { IsWhole self.old }
+        requires number { nr < 8 }
+        requires valid { acknowledgement 8 nr self.old.outgoing ≡ Ok count }
+        ensures { Makes (λ t. hear_rr (named nr t.now) asks answers t) self.old self.new result }
+    {
+        let recovers = self.control.recovers(answers);
+        let packets = self.copies_to_send(alloc, count, recovers)?;
+        let mut room = Room::new(alloc, packets.len() + 2, 0)?;
+        self.take_rr(&mut room, nr, asks, answers);
+        self.settle(&mut room, packets);
+        Ok(room.finish())
+    }
+
+    fn take_rr(&mut self, room: &mut Room, nr: u8, asks: bool, answers: bool)
+        requires number { nr < 8 }
+        requires room { 1 ≤ frames_left room.old }
+        ensures shows { (t : Turn) → Shows self.old room.old t → is_valid nr t.now ≡ true
+            → Shows self.new room.new (hear_rr (named nr t.now) asks answers t) }
+        ensures uses { Uses room.old room.new 1 0 }
+    {
+        self.control.busy = false;
+        self.acknowledge(nr);
+        self.answer_poll(room, asks);
+        self.recover(answers);
+    }
+
+    fn hear_rnr(
+        &mut self,
+        alloc: Global,
+        count: u8,
+        nr: u8,
+        asks: bool,
+        answers: bool,
+    ) -> Result<Acts, OutOfMemory>
+        requires formed { IsWhole self.old }
+        requires number { nr < 8 }
+        requires valid { acknowledgement 8 nr self.old.outgoing ≡ Ok count }
+        ensures { Makes (λ t. hear_rnr (named nr t.now) asks answers t) self.old self.new result }
+    {
+        let recovers = self.control.recovers(answers);
+        let packets = self.copies_to_send(alloc, count, recovers)?;
+        let mut room = Room::new(alloc, packets.len() + 2, 0)?;
+        self.take_rnr(&mut room, nr, asks, answers);
+        self.settle(&mut room, packets);
+        Ok(room.finish())
+    }
+
+    fn take_rnr(&mut self, room: &mut Room, nr: u8, asks: bool, answers: bool)
+        requires number { nr < 8 }
+        requires room { 1 ≤ frames_left room.old }
+        ensures shows { (t : Turn) → Shows self.old room.old t → is_valid nr t.now ≡ true
+            → Shows self.new room.new (hear_rnr (named nr t.now) asks answers t) }
+        ensures uses { Uses room.old room.new 1 0 }
+    {
+        self.control.busy = true;
+        self.acknowledge(nr);
+        self.answer_poll(room, asks);
+        self.recover(answers);
+        self.control.watch();
+    }
+
+    fn hear_rej(
+        &mut self,
+        alloc: Global,
+        count: u8,
+        nr: u8,
+        asks: bool,
+        answers: bool,
+    ) -> Result<Acts, OutOfMemory>
+        requires formed { IsWhole self.old }
+        requires number { nr < 8 }
+        requires valid { acknowledgement 8 nr self.old.outgoing ≡ Ok count }
+        ensures { Makes (λ t. hear_rej (named nr t.now) asks answers t) self.old self.new result }
+    {
+        let packets = self.copies_to_send(alloc, count, true)?;
+        let mut room = Room::new(alloc, packets.len() + 2, 0)?;
+        self.take_rej(&mut room, nr, asks, answers);
+        self.settle(&mut room, packets);
+        Ok(room.finish())
+    }
+
+    fn take_rej(&mut self, room: &mut Room, nr: u8, asks: bool, answers: bool)
+        requires number { nr < 8 }
+        requires room { 1 ≤ frames_left room.old }
+        ensures shows { (t : Turn) → Shows self.old room.old t → is_valid nr t.now ≡ true
+            → Shows self.new room.new (hear_rej (named nr t.now) asks answers t) }
+        ensures uses { Uses room.old room.new 1 0 }
+    {
+        self.control.busy = false;
+        self.acknowledge(nr);
+        self.go_back();
+        self.answer_poll(room, asks);
+        self.recover(answers);
+    }
+
+    /// SREJ, which acknowledges with P/F = 1 alone.
+    fn hear_srej(
+        &mut self,
+        alloc: Global,
+        count: u8,
+        nr: u8,
+        flag: bool,
+        asks: bool,
+        answers: bool,
+    ) -> Result<Acts, OutOfMemory>
+        requires formed { IsWhole self.old }
+        requires number { nr < 8 }
+        requires valid { acknowledgement 8 nr self.old.outgoing ≡ Ok count }
+        ensures { Makes (λ t. hear_srej (named nr t.now) flag asks answers t) self.old self.new result }
+    {
+        let again = self.copy_asked(alloc, nr)?;
+        let recovers = self.control.recovers(answers);
+        let packets = self.copies_to_send(alloc, acknowledged_by_srej(count, flag), recovers)?;
+        let mut room = Room::new(alloc, packets.len() + 3, 0)?;
+        self.take_srej(&mut room, nr, flag, asks, answers, again);
+        self.settle(&mut room, packets);
+        Ok(room.finish())
+    }
+
+    /// A copy of the packet that an SREJ asks for, where it was sent.
+    fn copy_asked(&self, alloc: Global, nr: u8) -> Result<Option<Packet>, OutOfMemory>
+        requires { nr < 8 }
+        ensures { IfOk result (λ again. again ≡ sent_packet 8 nr self.now.outgoing) }
+    {
+        match self.outgoing.one(MODULUS, nr) {
+            Some(packet) => Ok(Some(copy_of(alloc, packet)?)),
+            None => Ok(None),
+        }
+    }
+
+    fn take_srej(
+        &mut self,
+        room: &mut Room,
+        nr: u8,
+        flag: bool,
+        asks: bool,
+        answers: bool,
+        again: Option<Packet>,
+    )
+        requires number { nr < 8 }
+        requires room { 2 ≤ frames_left room.old }
+        ensures shows { (t : Turn) → Shows self.old room.old t → is_valid nr t.now ≡ true → again ≡ sent_packet 8 nr self.old.outgoing
+            → Shows self.new room.new (hear_srej (named nr t.now) flag asks answers t) }
+        ensures uses { Uses room.old room.new 2 0 }
+    {
+        self.control.busy = false;
+        self.acknowledge_by_srej(nr, flag);
+        self.send_again(room, nr, again);
+        self.answer_poll(room, asks);
+        self.recover(answers);
+    }
+
+    /// SREJ acknowledges with P/F = 1 alone.
+    fn acknowledge_by_srej(&mut self, nr: u8, flag: bool)
+        requires { nr < 8 }
+        ensures { (m : State) → Holds self.old m → is_valid nr m ≡ true → Holds self.new (acknowledged_by_srej (named nr m) flag m) }
+    {
+        if flag {
+            self.acknowledge(nr);
+        }
+    }
+
+    /// Sends again the I frame that an SREJ asks for, where it was sent.
+    fn send_again(&mut self, room: &mut Room, nr: u8, again: Option<Packet>)
+        requires { 1 ≤ frames_left room.old }
+        ensures shows { (t : Turn) (n : ℕ) → Shows self.old room.old t → nr ≡ n % 8 → t.now.outgoing.va ≤ n
+            → option_to_list again ≡ asked_packets n t.now.outgoing → Shows self.new room.new (send_again n t) }
+        ensures uses { Uses room.old room.new 1 0 }
+    {
+        match again {
+            Some(packet) => {
+                self.control.settle_due();
+                self.control.watch();
+                self.send_info(room, nr, packet);
+            }
+            None => {}
+        }
+    }
+
+    /// An I frame.
+    fn hear_info(
+        &mut self,
+        alloc: Global,
+        ns: u8,
+        nr: u8,
+        flag: bool,
+        pid: u8,
+        octets: &Octets,
+    ) -> Result<Acts, OutOfMemory>
+        requires formed { IsWhole self.old }
+        requires send_number { ns < 8 }
+        requires receive_number { nr < 8 }
+        ensures { Makes (hear_numbered nr (λ n. hear_info n ns flag (record { pid = pid; octets = octets.now }))) self.old self.new result }
+    {
+        let Ok(count) = self.outgoing.acknowledgement(MODULUS, nr) else {
+            return self.hear_error(alloc);
+        };
+        let packet = Packet {
+            pid,
+            octets: Octets::from_slice(alloc, octets.as_slice())?,
+        };
+        let packets = self.copies_to_send(alloc, count, false)?;
+        let window = usize::from(self.window);
+        let mut room = Room::new(alloc, packets.len() + window + 2, window)?;
+        self.take_info(&mut room, ns, nr, flag, packet);
+        self.settle(&mut room, packets);
+        Ok(room.finish())
+    }
+
+    fn take_info(&mut self, room: &mut Room, ns: u8, nr: u8, flag: bool, packet: Packet)
+        requires formed { IsLink self.old }
+        requires send_number { ns < 8 }
+        requires receive_number { nr < 8 }
+        requires frames { self.old.window + 1 ≤ frames_left room.old }
+        requires told { self.old.window ≤ told_left room.old }
+        ensures shows { (t : Turn) → Shows self.old room.old t → is_valid nr t.now ≡ true
+            → Shows self.new room.new (hear_info (named nr t.now) ns flag packet t) }
+        ensures uses { Uses room.old room.new (self.old.window + 1) self.old.window }
+    {
+        self.acknowledge(nr);
+        match self.mode {
+            Mode::Rej => self.take_by_rej(room, ns, flag, packet),
+            Mode::Srej => self.take_by_srej(room, ns, flag, packet),
+        }
+    }
+}

@@ -1,0 +1,153 @@
+//! A link, as the layer above sees it.
+ghost use Rattle.std.specs.Prelude.{◌≡◌, ℕ, ◌<◌, ◌⊎◌, ◌↔◌, true, Bool, Ok, Err, Some, OnOk, OnErr, IfOk, IfErr, length};
+ghost use Rattle.std.specs.Result.{IsErrOf};
+ghost use Rattle.selective_reject.specs.Window.{IsBadWindow};
+
+use crate::acts::Acts;
+use crate::fault::{LinkFault, NewFault};
+use crate::machine::{MODULUS, Machine};
+use crate::params::Params;
+use crate::state::LinkState;
+use ax25_address::Path;
+use ax25_frames::Frame;
+use selective_reject::Packet;
+use std::alloc::Global;
+use std::marker::Model;
+use tnc_base::OutOfMemory;
+
+/// The most octets of a packet, N1.
+const MOST_OCTETS: usize = 256;
+
+/// The most packets that wait to be acknowledged.
+const MOST_PACKETS: usize = 1024;
+
+/// One link with one station. It stands for a machine that counts its packets from 0 in each set-up, and makes exactly
+/// the step of that machine at each call.
+#[derive(Drop)]
+pub struct Link {
+    alloc: Global,
+    machine: Machine,
+}
+
+impl Model for Link {
+    ghost use Rattle.link_machine.specs.declared.machine.Machine.{Machine};
+    ghost use Rattle.link_machine.specs.Held.{IsWhole};
+
+    ghost Value = { Machine };
+
+    ghost view = { λ link. link.machine };
+
+    ghost invariant = { λ link. IsWhole link.machine };
+}
+
+impl Link {
+    ghost use Rattle.link_machine.specs.Machine.{Machine as State, new_machine};
+    ghost use Rattle.link_machine.specs.Event.Event.{Connect, Send, Disconnect, Hear, Tick};
+    ghost use Rattle.link_machine.specs.Requests.{refusal};
+    ghost use Rattle.link_machine.specs.Step.{step, done_of};
+    ghost use Rattle.link_machine.specs.StandsFor.{StandsFor};
+    ghost use Rattle.link_machine.specs.Held.{HasNumbersBelow};
+    ghost use Rattle.link_machine.specs.declared.fault.LinkFault.{LinkFault};
+
+    /// An idle link on a path, which goes from this station to the other. It takes its memory from `alloc`, now the places
+    /// of its packets, and later for what it answers.
+    pub fn new(alloc: Global, params: Params, path: Path) -> Result<Link, NewFault>
+        ensures stands_for { IfOk result (λ link. StandsFor link (new_machine path 8 params.window params.mode)) }
+        ensures bad_window { (window : ℕ) → IsErrOf result (NewFault.BadWindow window)
+            ↔ ((window ≡ params.window) × IsBadWindow 8 params.window params.mode) }
+    {
+        match Machine::new(alloc, params, path) {
+            Ok(machine) => Ok(Link { alloc, machine }),
+            Err(fault) => Err(fault),
+        }
+    }
+
+    /// Calls the other station. Refused where there is a link already.
+    pub fn connect(&mut self) -> Result<Acts, LinkFault>
+        ensures step { (m : State) → StandsFor self.old m → IfOk result (λ acts. acts ≡ done_of (step m Connect)) }
+        ensures stands_for { (m : State) → StandsFor self.old m → OnOk result (StandsFor self.new (step m Connect).now) }
+        ensures refused { (fault : LinkFault) → refusal self.old.control (length self.old.outgoing.packets) Connect ≡ Some fault → result ≡ Err fault }
+        ensures fault { IfErr result (λ fault. (fault ≡ LinkFault.Memory) ⊎ (refusal self.old.control (length self.old.outgoing.packets) Connect ≡ Some fault)) }
+        ensures unchanged { OnErr result (self.new ≡ self.old) }
+    {
+        if self.machine.control.has_link() {
+            return Err(self.machine.wrong_state());
+        }
+        let acts = self.machine.take_connect(self.alloc)?;
+        Ok(acts)
+    }
+
+    /// Gives a packet of at most 256 octets to be sent. Refused where there is no link or a disconnect was asked for, where
+    /// 1024 packets wait, and where the packet is too long.
+    pub fn send(&mut self, packet: Packet) -> Result<Acts, LinkFault>
+        ensures step { (m : State) → StandsFor self.old m → IfOk result (λ acts. acts ≡ done_of (step m (Send packet))) }
+        ensures stands_for { (m : State) → StandsFor self.old m → OnOk result (StandsFor self.new (step m (Send packet)).now) }
+        ensures refused { (fault : LinkFault) → refusal self.old.control (length self.old.outgoing.packets) (Send packet) ≡ Some fault → result ≡ Err fault }
+        ensures fault { IfErr result (λ fault. (fault ≡ LinkFault.Memory) ⊎ (refusal self.old.control (length self.old.outgoing.packets) (Send packet) ≡ Some fault)) }
+        ensures unchanged { OnErr result (self.new ≡ self.old) }
+    {
+        if self.machine.control.is_closed() {
+            return Err(self.machine.wrong_state());
+        }
+        if self.machine.outgoing.len() >= MOST_PACKETS {
+            return Err(LinkFault::Full);
+        }
+        let len = packet.octets.len();
+        if len > MOST_OCTETS {
+            return Err(LinkFault::TooLong { len });
+        }
+        let acts = self.machine.take_packet(self.alloc, packet)?;
+        Ok(acts)
+    }
+
+    /// Asks for the link to be released once every packet is acknowledged. Refused where there is no link, and where it was
+    /// asked for before.
+    pub fn disconnect(&mut self) -> Result<Acts, LinkFault>
+        ensures step { (m : State) → StandsFor self.old m → IfOk result (λ acts. acts ≡ done_of (step m Disconnect)) }
+        ensures stands_for { (m : State) → StandsFor self.old m → OnOk result (StandsFor self.new (step m Disconnect).now) }
+        ensures refused { (fault : LinkFault) → refusal self.old.control (length self.old.outgoing.packets) Disconnect ≡ Some fault → result ≡ Err fault }
+        ensures fault { IfErr result (λ fault. (fault ≡ LinkFault.Memory) ⊎ (refusal self.old.control (length self.old.outgoing.packets) Disconnect ≡ Some fault)) }
+        ensures unchanged { OnErr result (self.new ≡ self.old) }
+    {
+        if self.machine.control.is_closed() {
+            return Err(self.machine.wrong_state());
+        }
+        let acts = self.machine.take_disconnect(self.alloc)?;
+        Ok(acts)
+    }
+
+    /// Hears a frame from the other station, whose numbers are below 8.
+    pub fn frame(&mut self, frame: &Frame) -> Result<Acts, OutOfMemory>
+        requires { HasNumbersBelow 8 frame.now.kind }
+        ensures step { (m : State) → StandsFor self.old m → IfOk result (λ acts. acts ≡ done_of (step m (Hear frame.now))) }
+        ensures stands_for { (m : State) → StandsFor self.old m → OnOk result (StandsFor self.new (step m (Hear frame.now)).now) }
+        ensures unchanged { OnErr result (self.new ≡ self.old) }
+    {
+        self.machine.hear(self.alloc, frame)
+    }
+
+    /// A tick of 10 ms. `waiting` says that a frame of this link waits in the transmit queue.
+    pub fn tick(&mut self, waiting: bool) -> Result<Acts, OutOfMemory>
+        ensures step { (m : State) → StandsFor self.old m → IfOk result (λ acts. acts ≡ done_of (step m (Tick waiting))) }
+        ensures stands_for { (m : State) → StandsFor self.old m → OnOk result (StandsFor self.new (step m (Tick waiting)).now) }
+        ensures unchanged { OnErr result (self.new ≡ self.old) }
+    {
+        self.machine.tick(self.alloc, waiting)
+    }
+
+    /// Where the link stands.
+    pub fn state(&self) -> LinkState
+        ensures state { result ≡ self.now.control.state }
+        ensures stands_for { (m : State) → StandsFor self.now m → result ≡ m.control.state }
+    {
+        self.machine.control.state
+    }
+
+    /// How many packets are not acknowledged.
+    pub fn pending(&self) -> usize
+        ensures count { result ≡ length self.now.outgoing.packets }
+        ensures stands_for { (m : State) → StandsFor self.now m → result ≡ length m.outgoing.packets }
+    {
+        self.machine.outgoing.len()
+    }
+}

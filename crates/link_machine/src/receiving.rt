@@ -1,0 +1,181 @@
+//! How packets come in.
+ghost use Rattle.std.specs.Prelude.{◌≡◌, ℕ, ◌+◌, ◌%◌, ◌≤◌, ◌<◌, ◌==◌, true, false, Bool, [], ◌∷◌, ◌++◌, length, map, if◌then◌else◌};
+ghost use Rattle.std.specs.Option.{option_to_list};
+ghost use Rattle.selective_reject.specs.Incoming.{Incoming, IsIncoming, StandsForIncoming, taken, after_take};
+ghost use Rattle.selective_reject.specs.Places.{is_full};
+ghost use Rattle.link_machine.specs.Machine.{ahead_of_vr};
+ghost use Rattle.link_machine.specs.Turn.{Turn};
+ghost use Rattle.link_machine.specs.Acts.{run, moved_on, give, ask};
+ghost use Rattle.link_machine.specs.Frames.{take_selected, refuse_out_of_sequence, hear_info_by_rej, hear_info_by_srej};
+ghost use Rattle.link_machine.specs.Room.{frames_left, told_left, Uses};
+ghost use Rattle.link_machine.specs.Held.{IsLink, Shows, srej_frame};
+
+use crate::acts::Told;
+use crate::machine::Machine;
+use crate::room::Room;
+use ax25_address::Role;
+use ax25_frames::{Frame, Kind, S};
+use selective_reject::{InStore, Mode, Packet, Took};
+
+/// Gives the packet with number V(R), where it is there.
+fn give_next(incoming: &mut InStore, room: &mut Room)
+    requires { 1 ≤ told_left room.old }
+    ensures told { room.new.told.items ≡ room.old.told.items ++ map Told.Given (option_to_list (taken incoming.old)) }
+    ensures frames { room.new.frames ≡ room.old.frames }
+    ensures stands_for { (store : Incoming) → StandsForIncoming incoming.old store → StandsForIncoming incoming.new (after_take store) }
+    ensures formed { IsIncoming incoming.new }
+    ensures uses { Uses room.old room.new 0 1 }
+{
+    if let Some(packet) = incoming.take() {
+        room.tell(Told::Given { packet });
+    }
+}
+
+/// Gives the packets from number V(R) on, up to the first that is not there.
+fn give_run(incoming: &mut InStore, room: &mut Room)
+    requires formed { IsIncoming incoming.old }
+    requires room { incoming.old.window ≤ told_left room.old }
+    ensures told { room.new.told.items ≡ room.old.told.items ++ map Told.Given (run incoming.old.places) }
+    ensures frames { room.new.frames ≡ room.old.frames }
+    ensures stands_for { (store : Incoming) → StandsForIncoming incoming.old store
+        → StandsForIncoming incoming.new (moved_on (length (run store.places)) store) }
+    ensures formed { IsIncoming incoming.new }
+    ensures next { is_full incoming.new.places 0 ≡ false }
+    ensures uses { Uses room.old room.new 0 incoming.old.window }
+{
+    while let Some(packet) = incoming.take() {
+        room.tell(Told::Given { packet });
+    }
+}
+
+impl Machine {
+    /// Takes an I frame by REJ: gives its packet where it is the next, and tells whether it is.
+    fn receive_in_sequence(&mut self, room: &mut Room, ns: u8, packet: Packet) -> bool
+        requires formed { IsLink self.old }
+        requires number { ns < 8 }
+        requires room { 1 ≤ told_left room.old }
+        ensures next { (t : Turn) → Shows self.old room.old t → t.now.incoming.mode ≡ Mode.Rej → result ≡ (ahead_of_vr ns t.now == 0) }
+        ensures shows { (t : Turn) → Shows self.old room.old t → t.now.incoming.mode ≡ Mode.Rej
+            → Shows self.new room.new (if result then give (packet ∷ []) t else t) }
+        ensures uses { Uses room.old room.new 0 1 }
+    {
+        match self.incoming.accept(ns, packet) {
+            Took::Next => {
+                give_next(&mut self.incoming, room);
+                true
+            }
+            _ => false,
+        }
+    }
+
+    /// Takes an I frame by REJ.
+    pub(crate) fn take_by_rej(&mut self, room: &mut Room, ns: u8, flag: bool, packet: Packet)
+        requires formed { IsLink self.old }
+        requires number { ns < 8 }
+        requires frames { 1 ≤ frames_left room.old }
+        requires told { 1 ≤ told_left room.old }
+        ensures shows { (t : Turn) → Shows self.old room.old t → t.now.incoming.mode ≡ Mode.Rej
+            → Shows self.new room.new (hear_info_by_rej ns flag packet t) }
+        ensures uses { Uses room.old room.new 1 1 }
+    {
+        let next = self.receive_in_sequence(room, ns, packet);
+        if next {
+            self.control.rej = false;
+            self.control.owe();
+            self.answer_poll(room, flag);
+        } else {
+            self.refuse_out_of_sequence(room, flag);
+        }
+    }
+
+    /// Asks by REJ for the frame that is missing, unless that was done.
+    fn refuse_out_of_sequence(&mut self, room: &mut Room, flag: bool)
+        requires { 1 ≤ frames_left room.old }
+        ensures shows { (t : Turn) → Shows self.old room.old t → Shows self.new room.new (refuse_out_of_sequence flag t) }
+        ensures uses { Uses room.old room.new 1 0 }
+    {
+        let asked = self.control.rej;
+        if asked {
+            self.answer_poll(room, flag);
+        } else {
+            self.reject(room, flag);
+        }
+    }
+
+    /// Sends an SREJ for each of the numbers.
+    fn send_srejs(&self, room: &mut Room, numbers: &[u8])
+        requires { length numbers.now ≤ frames_left room.old }
+        ensures frames { room.new.frames.items ≡ room.old.frames.items ++ map (srej_frame self.now.path) numbers.now }
+        ensures told { room.new.told ≡ room.old.told }
+        ensures uses { Uses room.old room.new (length numbers.now) 0 }
+    {
+        for nr in numbers {
+            self.send_srej(room, *nr);
+        }
+    }
+
+    /// Sends an SREJ.
+    fn send_srej(&self, room: &mut Room, nr: u8)
+        requires { 1 ≤ frames_left room.old }
+        ensures frames { room.new.frames.items ≡ room.old.frames.items ++ srej_frame self.now.path nr ∷ [] }
+        ensures told { room.new.told ≡ room.old.told }
+        ensures uses { Uses room.old room.new 1 0 }
+    {
+        room.send(Frame {
+            path: self.path.with_role(Role::Response),
+            kind: Kind::Super {
+                which: S::Srej,
+                nr,
+                flag: false,
+            },
+        });
+    }
+
+    /// Asks by SREJ for what is missing before the frame `ns`, which is in the window and is stored.
+    fn ask(&mut self, room: &mut Room, ns: u8)
+        requires formed { IsLink self.old }
+        requires mode { self.old.incoming.mode ≡ Mode.Srej }
+        requires number { ns < 8 }
+        requires room { self.old.incoming.window ≤ frames_left room.old }
+        ensures shows { (t : Turn) → Shows self.old room.old t → ahead_of_vr ns t.now < t.now.incoming.window
+            → Shows self.new room.new (ask (ahead_of_vr ns t.now) t) }
+        ensures uses { Uses room.old room.new self.old.incoming.window 0 }
+    {
+        let numbers = self.incoming.ask(ns);
+        self.send_srejs(room, numbers.as_slice());
+    }
+
+    /// Takes an I frame by SREJ: gives its packet where it is the next, with those that follow, or stores it and asks for
+    /// what is missing before it.
+    fn receive_selected(&mut self, room: &mut Room, ns: u8, packet: Packet)
+        requires formed { IsLink self.old }
+        requires mode { self.old.incoming.mode ≡ Mode.Srej }
+        requires number { ns < 8 }
+        requires frames { self.old.incoming.window ≤ frames_left room.old }
+        requires told { self.old.incoming.window ≤ told_left room.old }
+        ensures shows { (t : Turn) → Shows self.old room.old t
+            → Shows self.new room.new (take_selected (ahead_of_vr ns t.now) packet t) }
+        ensures uses { Uses room.old room.new self.old.incoming.window self.old.incoming.window }
+    {
+        match self.incoming.accept(ns, packet) {
+            Took::Next => give_run(&mut self.incoming, room),
+            Took::Stored => self.ask(room, ns),
+            _ => {}
+        }
+    }
+
+    /// Takes an I frame by SREJ.
+    pub(crate) fn take_by_srej(&mut self, room: &mut Room, ns: u8, flag: bool, packet: Packet)
+        requires formed { IsLink self.old }
+        requires mode { self.old.incoming.mode ≡ Mode.Srej }
+        requires number { ns < 8 }
+        requires frames { self.old.incoming.window + 1 ≤ frames_left room.old }
+        requires told { self.old.incoming.window ≤ told_left room.old }
+        ensures shows { (t : Turn) → Shows self.old room.old t → Shows self.new room.new (hear_info_by_srej ns flag packet t) }
+        ensures uses { Uses room.old room.new (self.old.incoming.window + 1) self.old.incoming.window }
+    {
+        self.receive_selected(room, ns, packet);
+        self.control.owe();
+        self.answer_poll(room, flag);
+    }
+}

@@ -1,0 +1,115 @@
+//! The frames that a link sends.
+ghost use Rattle.std.specs.Prelude.{◌≡◌, ℕ, ◌+◌, ◌%◌, ◌≤◌, Bool};
+ghost use Rattle.link_machine.specs.Sent.{role_of};
+ghost use Rattle.link_machine.specs.Sent.Sent.{SuperSent, SetupSent};
+ghost use Rattle.link_machine.specs.Turn.{Turn, sending, telling};
+ghost use Rattle.link_machine.specs.Acts.{nothing_due, polling, respond_ready, answer_poll, poll, reject};
+ghost use Rattle.link_machine.specs.Room.{frames_left, told_left, Uses};
+ghost use Rattle.link_machine.specs.Held.{Shows};
+ghost use Rattle.ax25_frames.specs.FrameText.{sets_up_or_ends};
+
+use crate::acts::Told;
+use crate::machine::Machine;
+use crate::room::Room;
+use ax25_address::Role;
+use ax25_frames::{Frame, Kind, S, U};
+
+/// The role of a command, or of a response.
+fn role_of(command: bool) -> Role
+    ensures { result ≡ role_of command }
+{
+    if command {
+        Role::Command
+    } else {
+        Role::Response
+    }
+}
+
+/// Whether a frame that sets up or ends a link is a command.
+fn sets_up_or_ends(which: U) -> bool
+    ensures { result ≡ sets_up_or_ends which }
+{
+    matches!(which, U::Sabm | U::Sabme | U::Disc)
+}
+
+impl Machine {
+    /// Sends SABM, DISC, UA or DM.
+    pub(crate) fn send_setup(&self, room: &mut Room, which: U, flag: bool)
+        requires { 1 ≤ frames_left room.old }
+        ensures shows { (t : Turn) → Shows self.now room.old t → Shows self.now room.new (sending (SetupSent which flag) t) }
+        ensures uses { Uses room.old room.new 1 0 }
+    {
+        let role = role_of(sets_up_or_ends(which));
+        room.send(Frame {
+            path: self.path.with_role(role),
+            kind: Kind::Setup { which, flag },
+        });
+    }
+
+    /// Sends an S frame with the number `nr`.
+    pub(crate) fn send_super(&self, room: &mut Room, which: S, command: bool, nr: u8, flag: bool)
+        requires { 1 ≤ frames_left room.old }
+        ensures shows { (t : Turn) (n : ℕ) → Shows self.now room.old t → nr ≡ n % 8
+            → Shows self.now room.new (sending (SuperSent which command n flag) t) }
+        ensures uses { Uses room.old room.new 1 0 }
+    {
+        room.send(Frame {
+            path: self.path.with_role(role_of(command)),
+            kind: Kind::Super { which, nr, flag },
+        });
+    }
+
+    /// Tells V(R) by RR as a response.
+    pub(crate) fn respond_ready(&mut self, room: &mut Room, flag: bool)
+        requires { 1 ≤ frames_left room.old }
+        ensures shows { (t : Turn) → Shows self.old room.old t → Shows self.new room.new (respond_ready flag t) }
+        ensures control { self.new.control ≡ nothing_due self.old.control }
+        ensures uses { Uses room.old room.new 1 0 }
+    {
+        self.control.settle_due();
+        self.send_super(room, S::Rr, false, self.incoming.vr(), flag);
+    }
+
+    /// Answers a command with P = 1.
+    pub(crate) fn answer_poll(&mut self, room: &mut Room, asks: bool)
+        requires { 1 ≤ frames_left room.old }
+        ensures shows { (t : Turn) → Shows self.old room.old t → Shows self.new room.new (answer_poll asks t) }
+        ensures uses { Uses room.old room.new 1 0 }
+    {
+        if asks {
+            self.respond_ready(room, true);
+        }
+    }
+
+    /// Polls the other side by RR as a command.
+    pub(crate) fn poll(&mut self, room: &mut Room)
+        requires { 1 ≤ frames_left room.old }
+        ensures shows { (t : Turn) → Shows self.old room.old t → Shows self.new room.new (poll t) }
+        ensures control { self.new.control ≡ polling (nothing_due self.old.control) }
+        ensures uses { Uses room.old room.new 1 0 }
+    {
+        self.control.settle_due();
+        self.send_super(room, S::Rr, true, self.incoming.vr(), true);
+        self.control.poll();
+    }
+
+    /// Asks by REJ for all from V(R) on.
+    pub(crate) fn reject(&mut self, room: &mut Room, flag: bool)
+        requires { 1 ≤ frames_left room.old }
+        ensures shows { (t : Turn) → Shows self.old room.old t → Shows self.new room.new (reject flag t) }
+        ensures uses { Uses room.old room.new 1 0 }
+    {
+        self.control.settle_due();
+        self.send_super(room, S::Rej, false, self.incoming.vr(), flag);
+        self.control.rej = true;
+    }
+
+    /// Tells the layer above.
+    pub(crate) fn tell(&self, room: &mut Room, item: Told)
+        requires { 1 ≤ told_left room.old }
+        ensures shows { (t : Turn) → Shows self.now room.old t → Shows self.now room.new (telling item t) }
+        ensures uses { Uses room.old room.new 0 1 }
+    {
+        room.tell(item);
+    }
+}

@@ -1,0 +1,208 @@
+//! A tick of 10 ms, and the timers that run out with it.
+ghost use Rattle.std.specs.Prelude.{◌≡◌, ℕ, ◌+◌, ◌≤◌, ◌<◌, Bool, IsTrue};
+ghost use Rattle.link_machine.specs.declared.state.LinkState.TheVariants.{Idle};
+ghost use Rattle.link_machine.specs.Turn.{Turn};
+ghost use Rattle.link_machine.specs.Ticks.{t2_out, call_again, poll_again, release_again, t1_out, t3_out, tick_t2, tick_t3, tick_t1, tick};
+ghost use Rattle.link_machine.specs.Room.{frames_left, told_left, Uses};
+ghost use Rattle.link_machine.specs.Held.{IsLink, IsWhole, Shows, Makes};
+ghost use Rattle.link_machine.specs.Timers.{outs, out_of, quits};
+
+use crate::acts::{Acts, Told, Why};
+use crate::machine::Machine;
+use crate::room::Room;
+use crate::state::LinkState;
+use ax25_frames::U;
+use std::alloc::Global;
+use tnc_base::OutOfMemory;
+
+/// Whether a timer runs out with the next tick, as a count of what may be sent for it.
+fn out_of(timer: Option<u16>) -> usize
+    ensures count { result ≡ out_of timer }
+    ensures small { result ≤ 1 }
+{
+    match timer {
+        Some(left) if left <= 1 => 1,
+        _ => 0,
+    }
+}
+
+impl Machine {
+    /// A tick, where `waiting` says that a frame of the link waits to be sent.
+    pub(crate) fn tick(&mut self, alloc: Global, waiting: bool) -> Result<Acts, OutOfMemory>
+        requires { IsWhole self.old }
+        ensures { Makes (tick waiting) self.old self.new result }
+    {
+        let packets = self.copies_to_send(alloc, 0, false)?;
+        let outs = out_of(self.control.t1) + out_of(self.control.t2) + out_of(self.control.t3);
+        let frames = packets.len() + outs + usize::from(self.control.quit);
+        let mut room = Room::new(alloc, frames, outs)?;
+        self.tick_timers(&mut room, waiting);
+        self.settle(&mut room, packets);
+        Ok(room.finish())
+    }
+
+    fn tick_timers(&mut self, room: &mut Room, waiting: bool)
+        requires frames { outs self.old.control ≤ frames_left room.old }
+        requires told { outs self.old.control ≤ told_left room.old }
+        ensures shows { (t : Turn) → Shows self.old room.old t → Shows self.new room.new (tick waiting t) }
+        ensures uses { Uses room.old room.new (outs self.old.control) (outs self.old.control) }
+        ensures quit { quits self.new.control ≤ quits self.old.control }
+    {
+        match self.control.state {
+            LinkState::Idle => {}
+            _ => {
+                self.tick_t2(room);
+                self.tick_t1(room, waiting);
+            }
+        }
+    }
+
+    fn tick_t2(&mut self, room: &mut Room)
+        requires { out_of self.old.control.t2 ≤ frames_left room.old }
+        ensures shows { (t : Turn) → Shows self.old room.old t → Shows self.new room.new (tick_t2 t) }
+        ensures uses { Uses room.old room.new (out_of self.old.control.t2) 0 }
+        ensures quit { quits self.new.control ≤ quits self.old.control }
+        ensures others { (self.new.control.t1 ≡ self.old.control.t1) × (self.new.control.t3 ≡ self.old.control.t3) }
+    {
+        let Some(left) = self.control.t2 else {
+            return;
+        };
+        if left > 1 {
+            self.control.t2 = Some(left - 1);
+            return;
+        }
+        self.control.t2 = None;
+        self.t2_out(room);
+    }
+
+    /// T2 runs out: what is due is sent.
+    fn t2_out(&mut self, room: &mut Room)
+        requires { 1 ≤ frames_left room.old }
+        ensures shows { (t : Turn) → Shows self.old room.old t → Shows self.new room.new (t2_out t.now.control.state t) }
+        ensures uses { Uses room.old room.new 1 0 }
+        ensures quit { quits self.new.control ≤ quits self.old.control }
+        ensures others { (self.new.control.t1 ≡ self.old.control.t1) × (self.new.control.t3 ≡ self.old.control.t3) }
+    {
+        match self.control.state {
+            LinkState::Up => self.respond_ready(room, false),
+            _ => {}
+        }
+    }
+
+    fn tick_t1(&mut self, room: &mut Room, waiting: bool)
+        requires frames { out_of self.old.control.t1 + out_of self.old.control.t3 ≤ frames_left room.old }
+        requires told { out_of self.old.control.t1 + out_of self.old.control.t3 ≤ told_left room.old }
+        ensures shows { (t : Turn) → Shows self.old room.old t → Shows self.new room.new (tick_t1 waiting t) }
+        ensures uses { let most = out_of self.old.control.t1 + out_of self.old.control.t3 in Uses room.old room.new most most }
+        ensures quit { quits self.new.control ≤ quits self.old.control }
+    {
+        let Some(left) = self.control.t1 else {
+            return self.tick_t3(room);
+        };
+        if waiting {
+            return;
+        }
+        if left > 1 {
+            self.control.t1 = Some(left - 1);
+            return;
+        }
+        self.control.t1 = None;
+        self.t1_out(room);
+    }
+
+    /// T1 runs out: what awaits an answer is sent once more.
+    fn t1_out(&mut self, room: &mut Room)
+        requires frames { 1 ≤ frames_left room.old }
+        requires told { 1 ≤ told_left room.old }
+        ensures shows { (t : Turn) → Shows self.old room.old t → Shows self.new room.new (t1_out t.now.control.state t) }
+        ensures uses { Uses room.old room.new 1 1 }
+        ensures quit { quits self.new.control ≤ quits self.old.control }
+    {
+        match self.control.state {
+            LinkState::Idle => {}
+            LinkState::Calling => self.call_again(room),
+            LinkState::Up => self.poll_again(room),
+            LinkState::Releasing => self.release_again(room),
+        }
+    }
+
+    fn call_again(&mut self, room: &mut Room)
+        requires frames { 1 ≤ frames_left room.old }
+        requires told { 1 ≤ told_left room.old }
+        ensures shows { (t : Turn) → Shows self.old room.old t → Shows self.new room.new (call_again t) }
+        ensures uses { Uses room.old room.new 1 1 }
+        ensures quit { quits self.new.control ≤ quits self.old.control }
+    {
+        if self.control.is_spent() {
+            self.end_call(room, Why::Failed);
+        } else {
+            self.control.retry();
+            self.send_setup(room, U::Sabm, true);
+        }
+    }
+
+    fn poll_again(&mut self, room: &mut Room)
+        requires frames { 1 ≤ frames_left room.old }
+        requires told { 1 ≤ told_left room.old }
+        ensures shows { (t : Turn) → Shows self.old room.old t → Shows self.new room.new (poll_again t) }
+        ensures uses { Uses room.old room.new 1 1 }
+        ensures quit { quits self.new.control ≤ quits self.old.control }
+    {
+        if self.control.is_spent() {
+            self.leave();
+            self.send_setup(room, U::Dm, false);
+            self.tell(room, Told::Ended { why: Why::Failed });
+        } else {
+            self.control.retry();
+            self.poll(room);
+        }
+    }
+
+    fn release_again(&mut self, room: &mut Room)
+        requires frames { 1 ≤ frames_left room.old }
+        requires told { 1 ≤ told_left room.old }
+        ensures shows { (t : Turn) → Shows self.old room.old t → Shows self.new room.new (release_again t) }
+        ensures uses { Uses room.old room.new 1 1 }
+        ensures quit { quits self.new.control ≤ quits self.old.control }
+    {
+        if self.control.is_spent() {
+            self.end_call(room, Why::Failed);
+        } else {
+            self.control.retry();
+            self.send_setup(room, U::Disc, true);
+        }
+    }
+
+    fn tick_t3(&mut self, room: &mut Room)
+        requires { out_of self.old.control.t3 ≤ frames_left room.old }
+        ensures shows { (t : Turn) → Shows self.old room.old t → Shows self.new room.new (tick_t3 t) }
+        ensures uses { Uses room.old room.new (out_of self.old.control.t3) 0 }
+        ensures quit { quits self.new.control ≤ quits self.old.control }
+    {
+        let Some(left) = self.control.t3 else {
+            return;
+        };
+        if left > 1 {
+            self.control.t3 = Some(left - 1);
+            return;
+        }
+        self.control.t3 = None;
+        self.t3_out(room);
+    }
+
+    /// T3 runs out: a side that was silent is polled.
+    fn t3_out(&mut self, room: &mut Room)
+        requires { 1 ≤ frames_left room.old }
+        ensures shows { (t : Turn) → Shows self.old room.old t → Shows self.new room.new (t3_out t.now.control.state t) }
+        ensures uses { Uses room.old room.new 1 0 }
+        ensures quit { quits self.new.control ≤ quits self.old.control }
+    {
+        match self.control.state {
+            LinkState::Up => {
+                self.control.begin_retries();
+                self.poll(room);
+            }
+            _ => {}
+        }
+    }
+}
