@@ -148,11 +148,13 @@ fn note(alloc: Global, acts: Acts, text: &mut String) -> Result<(), Fail> {
     Ok(())
 }
 
-/// What a link does at the last of what happens to it.
-fn last_of(alloc: Global, mode: Mode, happens: &[Happens]) -> Result<String, Fail> {
-    let params = Params { mode, window: 4 };
-    let mut link = Link::new(alloc, params, path()?)?;
+/// What a link does at the last of what happens to it, after what happened before.
+fn last_of(alloc: Global, before: &[Happens], happens: &[Happens]) -> Result<String, Fail> {
+    let mut link = Link::new(alloc, Params::default(), path()?)?;
     let mut text = String::new(alloc);
+    for each in before {
+        happen(alloc, &mut link, *each, &mut text)?;
+    }
     for each in happens {
         text = String::new(alloc);
         happen(alloc, &mut link, *each, &mut text)?;
@@ -176,7 +178,7 @@ fn rows_where_there_is_no_link(rt: HostRuntime) -> Result<(), Fail> {
         (&[Ticks(4000)], ""),
     ];
     for (happens, want) in table {
-        let text = last_of(rt.alloc(), Mode::Rej, happens)?;
+        let text = last_of(rt.alloc(), &[], happens)?;
         assert_eq!(rt; text.as_str(), want);
     }
     Ok(())
@@ -207,10 +209,10 @@ fn rows_of_a_call(rt: HostRuntime) -> Result<(), Fail> {
         (&[Connect, WaitingTicks(400)], ""),
     ];
     for (happens, want) in table {
-        let text = last_of(rt.alloc(), Mode::Rej, happens)?;
+        let text = last_of(rt.alloc(), &[], happens)?;
         assert_eq!(rt; text.as_str(), want);
     }
-    let spent = last_of(rt.alloc(), Mode::Rej, &[Connect, Ticks(3000), Ticks(300)])?;
+    let spent = last_of(rt.alloc(), &[], &[Connect, Ticks(3000), Ticks(300)])?;
     assert_eq!(rt; spent.as_str(), "ended Failed,");
     Ok(())
 }
@@ -281,19 +283,12 @@ fn rows_of_a_link_that_is_up(rt: HostRuntime) -> Result<(), Fail> {
         (&[Ticks(3000)], "A>B RR cmd nr=0 f=1,"),
     ];
     for (happens, want) in table {
-        let mut link = Link::new(rt.alloc(), Params::default(), path()?)?;
-        let mut text = String::new(rt.alloc());
-        happen(rt.alloc(), &mut link, Connect, &mut text)?;
-        happen(rt.alloc(), &mut link, Setup(U::Ua, true), &mut text)?;
-        for each in happens {
-            text = String::new(rt.alloc());
-            happen(rt.alloc(), &mut link, *each, &mut text)?;
-        }
+        let text = last_of(rt.alloc(), &[Connect, Setup(U::Ua, true)], happens)?;
         assert_eq!(rt; text.as_str(), want);
     }
     let spent = last_of(
         rt.alloc(),
-        Mode::Rej,
+        &[],
         &[
             Connect,
             Setup(U::Ua, true),
@@ -323,20 +318,16 @@ fn rows_of_a_release(rt: HostRuntime) -> Result<(), Fail> {
         (&[Ticks(300)], "A>B DISC cmd f=1,"),
     ];
     for (happens, want) in table {
-        let mut link = Link::new(rt.alloc(), Params::default(), path()?)?;
-        let mut text = String::new(rt.alloc());
-        for each in [Connect, Setup(U::Ua, true), Disconnect] {
-            happen(rt.alloc(), &mut link, each, &mut text)?;
-        }
-        for each in happens {
-            text = String::new(rt.alloc());
-            happen(rt.alloc(), &mut link, *each, &mut text)?;
-        }
+        let text = last_of(
+            rt.alloc(),
+            &[Connect, Setup(U::Ua, true), Disconnect],
+            happens,
+        )?;
         assert_eq!(rt; text.as_str(), want);
     }
     let spent = last_of(
         rt.alloc(),
-        Mode::Rej,
+        &[],
         &[
             Connect,
             Setup(U::Ua, true),
