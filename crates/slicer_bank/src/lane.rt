@@ -1,21 +1,27 @@
-//! One lane: a slicer at one offset and a deframer of its bits.
+//! One lane: the rule of the line and the deframer of its bits.
 
-ghost use Rattle.std.specs.Prelude.{◌≡◌, ℕ, ◌+◌, ◌<◌, ◌^◌, ℤ, List, [], ◌∷◌, ◌++◌, true, IfOk};
-ghost use Rattle.hdlc_framer.specs.Frames.{IsFrame};
+ghost use Rattle.std.specs.Prelude.{◌≡◌, ℕ, List, [], ◌∷◌, ◌++◌, length, true, IfOk};
+ghost use Rattle.tone_table.specs.declared.tone.Tone.{Tone};
+ghost use Rattle.nrzi_bits.specs.Line.{bits_of};
+ghost use Rattle.offset_slicers.specs.Decision.{tone_of};
+ghost use Rattle.hdlc_framer.specs.Frames.{IsFrame, EndsFrame};
 ghost use Rattle.hdlc_framer.specs.Held.{HoldsFrame};
-ghost use Rattle.slicer_bank.specs.Held.{LaneStandsFor, AreLanesAt, LanesStandFor};
-ghost use Rattle.slicer_bank.specs.Candidates.{EndsWith};
+ghost use Rattle.slicer_bank.specs.Held.{LaneStandsFor, LanesStandFor};
 
 use hdlc_framer::{Deframer, Event};
-use offset_slicers::Slicer;
+use nrzi_bits::NrziIn;
+use offset_slicers::decide;
 use std::alloc::Global;
 use std::marker::Model;
 use tnc_base::OutOfMemory;
 
-/// A slicer at one offset, and the deframer of its bits.
+/// One lane for each offset of a bit.
+pub(crate) const LANES: u64 = 8;
+
+/// The rule of inverted NRZ for the windows of one offset, and the deframer of the bits that it gives.
 #[derive(Drop)]
 pub(crate) struct Lane {
-    slicer: Slicer,
+    line: NrziIn,
     deframer: Deframer,
 }
 
@@ -24,41 +30,35 @@ impl Model for Lane {
 
     ghost Value = { HeldLane };
 
-    ghost view = { λ s. record { slicer = s.slicer; deframer = s.deframer } };
+    ghost view = { λ s. record { before = s.line; deframer = s.deframer } };
 }
 
 impl Lane {
-    pub(crate) fn new(offset: u8) -> Lane
-        requires { offset < 8 }
+    pub(crate) fn new() -> Lane
         ensures stands_for { LaneStandsFor result [] }
-        ensures offset { result.slicer.offset ≡ offset }
-        ensures position { result.slicer.position ≡ 0 }
     {
         Lane {
-            slicer: Slicer::new(offset),
+            line: NrziIn::new(),
             deframer: Deframer::new(),
         }
     }
 
-    /// Takes one sample, and says whether a frame ends with it.
-    pub(crate) fn push(&mut self, sample: i16) -> bool
-        requires { self.old.slicer.position < 2 ^ 48 }
-        ensures stands_for { (x : List ℤ) → LaneStandsFor self.old x → LaneStandsFor self.new (x ++ sample ∷ []) }
-        ensures offset { self.new.slicer.offset ≡ self.old.slicer.offset }
-        ensures position { self.new.slicer.position ≡ self.old.slicer.position + 1 }
+    /// Takes the next window, and says whether a frame ends with it.
+    pub(crate) fn push(&mut self, window: &[i16; 8]) -> bool
+        ensures stands_for { (tones : List Tone) → LaneStandsFor self.old tones
+            → LaneStandsFor self.new (tones ++ tone_of window.now ∷ []) }
         ensures holds { result ≡ true → (octets : List ℕ) × IsFrame octets × HoldsFrame self.new.deframer octets }
-        ensures heard { (x : List ℤ) → LaneStandsFor self.old x → result ≡ true
-            → (octets : List ℕ) × EndsWith self.old.slicer.offset (x ++ sample ∷ []) octets }
-        ensures frame { (x : List ℤ) (octets : List ℕ) → LaneStandsFor self.old x → EndsWith self.old.slicer.offset (x ++ sample ∷ []) octets
+        ensures heard { (tones : List Tone) → LaneStandsFor self.old tones → result ≡ true
+            → (octets : List ℕ) × EndsFrame (bits_of (tones ++ tone_of window.now ∷ [])) octets }
+        ensures frame { (tones : List Tone) (octets : List ℕ) → LaneStandsFor self.old tones
+            → EndsFrame (bits_of (tones ++ tone_of window.now ∷ [])) octets
             → (result ≡ true) × HoldsFrame self.new.deframer octets }
     {
-        match self.slicer.push(sample) {
-            Some(bit) => self.deframer.push(bit) == Event::Frame,
-            None => false,
-        }
+        let bit = self.line.step(decide(window));
+        self.deframer.push(bit) == Event::Frame
     }
 
-    /// The octets of the frame that the last sample ended, without its check sequence.
+    /// The octets of the frame that the last window ended, without its check sequence.
     pub(crate) fn octets(&self) -> &[u8]
         requires { (octets : List ℕ) × IsFrame octets × HoldsFrame self.now.deframer octets }
         ensures { (octets : List ℕ) → IsFrame octets → HoldsFrame self.now.deframer octets → result.now ≡ octets }
@@ -67,14 +67,14 @@ impl Lane {
     }
 }
 
-/// The eight lanes, each at its offset, which have taken nothing.
+/// The eight lanes, which have taken nothing.
 pub(crate) fn new_lanes(alloc: Global) -> Result<Vec<Lane>, OutOfMemory>
-    ensures lanes { IfOk result (λ lanes. AreLanesAt 0 lanes.items) }
+    ensures count { IfOk result (λ lanes. length lanes.items ≡ 8) }
     ensures stand_for { IfOk result (λ lanes. LanesStandFor lanes.items []) }
 {
     let mut lanes = Vec::new(alloc);
-    for offset in 0..8 {
-        lanes.push(Lane::new(offset))?;
+    for _ in 0..LANES {
+        lanes.push(Lane::new())?;
     }
     Ok(lanes)
 }

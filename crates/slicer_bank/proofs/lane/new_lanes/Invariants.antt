@@ -1,5 +1,5 @@
 use Rattle.slicer_bank.proofs.FreshLanes.{AreFresh}
 use Rattle.slicer_bank.proofs.lane.new_lanes.Given as goal
 
-abbrev pub invariant-loop-offset : goal.invariant-loop-offset
-invariant-loop-offset l = AreFresh l.offset l.lanes.items
+abbrev pub invariant-loop : goal.invariant-loop
+invariant-loop l = AreFresh l.counter l.lanes.items

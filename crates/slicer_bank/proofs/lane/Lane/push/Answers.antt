@@ -1,23 +1,20 @@
-use Rattle.std.proofs.Common.{◌≡◌, ℕ, ℤ, List, [], ◌∷◌, ◌++◌, true, ◌∙◌, subst}
-use Rattle.std.proofs.lemmas.Int.{to_z-of_z}
-use mir.Syntax.{w16}
-use Rattle.offset_slicers.specs.Windows.{bits}
+use Rattle.std.proofs.Common.{◌≡◌, ℕ, List, [], ◌∷◌, ◌++◌, true, ◌∙◌, ap, sym, subst}
+use Rattle.tone_table.specs.declared.tone.Tone.{Tone}
+use Rattle.nrzi_bits.specs.Line.{bits_of}
+use Rattle.offset_slicers.specs.Decision.{tone_of}
 use Rattle.hdlc_framer.specs.Frames.{EndsFrame}
 use Rattle.hdlc_framer.specs.Held.{HoldsFrame}
-use Rattle.slicer_bank.specs.Candidates.{EndsWith}
 use Rattle.slicer_bank.specs.Held.{HeldLane, LaneStandsFor}
 use Rattle.slicer_bank.proofs.LaneLemmas.{test_of_frame}
 use Rattle.slicer_bank.proofs.lane.Lane.push.Goals as goal
 
-pub returns-in-Some-clause-frame : goal.returns-in-Some-clause-frame
-returns-in-Some-clause-frame c =
-    let P : HeldLane → Type 0 = λ old. (x : List ℤ) (octets : List ℕ) → LaneStandsFor old x → EndsWith old.slicer.offset (x ++ c.args.sample ∷ []) octets
-    → (c.eq.result ≡ true) × HoldsFrame c.push-in-Some.new.self octets in
-    let offset : ℕ = c.self.inside.slicer.offset in
-    subst P c.self.view_is (λ x octets h ends.
-    let more : bits offset (x ++ c.args.sample ∷ []) ≡ bits offset x ++ c.in-Some.bit ∷ []
-    = subst (λ s. bits offset (x ++ s ∷ []) ≡ bits offset x ++ c.in-Some.bit ∷ []) (to_z-of_z w16 c.args.sample c.ranges.sample) (c.in-Some.ensures.bits x h.slicer) in
-    let told = c.push-in-Some.ensures.event (bits offset x) h.deframer in (
-      c.eq.ensures ∙ test_of_frame offset x c.args.sample c.in-Some.bit c.push-in-Some.result ends.window more told octets ends,
-      c.push-in-Some.ensures.frame (bits offset x) octets h.deframer (subst (λ b. EndsFrame b octets) more ends.frame),
-    ))
+pub returns-clause-frame : goal.returns-clause-frame
+returns-clause-frame c =
+    let P : HeldLane → Type 0 = λ old. (tones : List Tone) (octets : List ℕ) → LaneStandsFor old tones
+    → EndsFrame (bits_of (tones ++ tone_of c.args.window.now ∷ [])) octets → (c.eq.result ≡ true) × HoldsFrame c.push.new.self octets in
+    subst P c.self.view_is (λ tones octets h ends.
+    let more : bits_of (tones ++ tone_of c.args.window.now ∷ []) ≡ bits_of tones ++ c.step-bit.result ∷ []
+    = ap (λ t. bits_of (tones ++ t ∷ [])) (sym c.decide.ensures) ∙ c.step-bit.ensures.bits tones h.before in
+    let last : EndsFrame (bits_of tones ++ c.step-bit.result ∷ []) octets = subst (λ b. EndsFrame b octets) more ends in
+    let told = c.push.ensures.event (bits_of tones) h.deframer in
+    (c.eq.ensures ∙ test_of_frame (bits_of tones) c.step-bit.result c.push.result octets told last, c.push.ensures.frame (bits_of tones) octets h.deframer last))
