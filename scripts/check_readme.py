@@ -4,7 +4,8 @@ another in a folder with bin/tnc and samples/, and has to print the lines below 
 
   scripts/check_readme.py [PROGRAM]      bin/tnc, where no other is named
 
-A block whose commands call a program that is not installed is left out, and said so."""
+A block whose commands call a program that is not installed is left out, and said so. The sound card of `arecord` and
+`aplay` is one that ALSA makes of files: it hears a recording, and what it plays is decoded."""
 import os
 import re
 import shutil
@@ -14,7 +15,13 @@ import tempfile
 
 TOP = os.path.dirname(os.path.dirname(os.path.abspath(__file__)))
 PAGES = ("README.md", "docs/RECEIVING.md")
-OTHERS = ("sox", "atest", "multimon-ng")
+OTHERS = ("sox", "atest", "multimon-ng", "arecord", "aplay")
+CARD = """pcm.!default {{
+  type asym
+  capture.pcm {{ type file slave.pcm null file /dev/null infile "{heard}" format raw }}
+  playback.pcm {{ type file slave.pcm null file "{played}" format raw }}
+}}
+"""
 
 
 def blocks(text):
@@ -27,6 +34,37 @@ def blocks(text):
             else:
                 steps[-1][1].append(line)
         yield steps
+
+
+def resampled(given, rate, taken, other):
+    """The raw samples of a file at another rate."""
+    form = ["-e", "signed", "-b", "16", "-c", "1"]
+    subprocess.run(["sox", "-q", "-t", "raw", "-r", rate, *form, given, "-t", "raw", "-r", other, taken], check=True)
+
+
+def with_card(command, room):
+    """Makes the sound card of a command that uses one, and gives the file of what it plays and its rate."""
+    used = re.search(r"\b(arecord|aplay) .*?-r (\d+)", command)
+    if not used:
+        return None
+    heard, played = f"{TOP}/samples/direwolf-clean.raw", f"{room}/played.raw"
+    if used[2] != "9600":
+        resampled(heard, "9600", f"{room}/heard.raw", used[2])
+        heard = f"{room}/heard.raw"
+    with open(f"{room}/.asoundrc", "w") as it:
+        it.write(CARD.format(heard=heard, played=played))
+    return (played, used[2]) if used[1] == "aplay" else None
+
+
+def plays(card, room):
+    """Whether what the card played has the frames of hello.hex."""
+    played, rate = card
+    if rate != "9600":
+        resampled(played, rate, f"{room}/played-9600.raw", "9600")
+        played = f"{room}/played-9600.raw"
+    with open(played, "rb") as given:
+        told = subprocess.run([f"{room}/bin/tnc", "decode"], stdin=given, stdout=subprocess.PIPE).stdout
+    return told == open(f"{room}/hello.hex", "rb").read()
 
 
 def main():
@@ -44,9 +82,14 @@ def main():
                     print(f"skipped: {page}: {steps[0][0]} ({', '.join(missing)} is not installed)")
                     continue
                 for command, wanted in steps:
-                    told = subprocess.run(["bash", "-c", command], cwd=room, stdin=subprocess.DEVNULL, text=True,
-                                          stdout=subprocess.PIPE, stderr=subprocess.STDOUT).stdout.splitlines()
+                    card = with_card(command, room)
+                    told = subprocess.run(["bash", "-c", command], cwd=room, env={**os.environ, "HOME": room}, text=True,
+                                          stdin=subprocess.DEVNULL, stdout=subprocess.PIPE,
+                                          stderr=subprocess.STDOUT).stdout.splitlines()
                     run += 1
+                    if card and not plays(card, room):
+                        wrong += 1
+                        print(f"{page}: $ {command}\n  does not play the frames of hello.hex")
                     if told != wanted:
                         wrong += 1
                         print(f"{page}: $ {command}\n  prints {told[:4]}\n  and not {wanted[:4]}")
