@@ -1,0 +1,201 @@
+-- A tick of the whole channel.
+use Rattle.std.proofs.Common.{◌≡◌, ℕ, ◌≤◌, Bool, true, false, cond, eqb, Option, Some, None, is_some, List, [], ◌∷◌, length, refl, ap, ◌∙◌, sym, subst, inl, inr, arith}
+use Rattle.std.specs.List.{All}
+use Rattle.std.proofs.Math.Nat.{le-max_left}
+use Rattle.std.proofs.lemmas.Bool.{cases_Bool, cond-true, eqb-false}
+use Rattle.rand_pcg.specs.Lcg.{Lcg}
+use Rattle.channel_access.specs.declared.parameters.Parameters.{Parameters}
+use Rattle.channel_access.specs.declared.sending.Sending.{Sending}
+use Rattle.channel_access.specs.Parameters.{opening_flags}
+use Rattle.channel_access.specs.Waiting.{WaitingFrame, HasFrameLength}
+use Rattle.channel_access.specs.OnAir.{OnAir, bits_then, decided, with_tick}
+use Rattle.channel_access.specs.Channel.{Channel, Decision, decision, begun, air_samples, air_sent, air_waiting, air_after, air_tick, after_tick, Takes}
+use Rattle.channel_access.specs.Held.{Held, new_sending}
+use Rattle.channel_access.specs.HeldTick.{run_of, going_on, held_samples, held_sent, after_held_send, held_tick, after_held_tick}
+use Rattle.channel_access.specs.StandsFor.{StandsFor, StandsForAir, Goes}
+use Rattle.channel_access.proofs.BodyLemmas.{flags-is}
+use Rattle.channel_access.proofs.OrderLemmas.{air_takes}
+use Rattle.channel_access.proofs.StageLemmas.{now_at}
+use Rattle.channel_access.proofs.TickLemmas.{all_waiting}
+use Rattle.channel_access.proofs.AirLemmas.{at_end, run_samples, run_sent, run_air}
+
+-- a new transmission, where a frame waits
+pub begins : (parameters : Parameters) (waiting : List WaitingFrame) (generator : Lcg) (slot : ℕ) → 1 ≤ length waiting
+    → Goes (new_sending parameters) waiting (begun (record {
+      waiting = waiting;
+      parameters = parameters;
+      generator = generator;
+      slot = slot;
+      air = None;
+    }))
+unfolding new_sending
+begins parameters [] generator slot some = absurd (omega arith)
+begins parameters (front ∷ others) generator slot some =
+    let opening : ℕ = opening_flags parameters.tx_delay in
+    let two : 2 ≤ opening = le-max_left 2 _ in
+    record {
+      sent = [];
+      sends = record {
+        stands = record {
+          some = omega arith;
+          bits = sym (flags-is opening);
+          frames = refl;
+          ends = refl;
+          named = refl;
+        };
+        count = refl;
+        frames = refl;
+        closing = refl;
+        tone = refl;
+        phase = refl;
+      };
+      left = refl;
+    }
+
+-- ---- a tick of what is under way, or of silence
+
+pub record SendsTick (s : Option Sending) (waiting : List WaitingFrame) (air : Option OnAir) (held : Held)
+    (channel : Channel)
+    : Type 0 where
+  pub samples : held_samples s waiting ≡ air_samples waiting air
+  pub sent : held_sent s waiting ≡ air_sent waiting air
+  pub after : StandsFor (after_held_send s held)
+      (record channel { waiting = air_waiting waiting air; air = air_after waiting air })
+
+pub sends_tick : (s : Option Sending) (air : Option OnAir) (channel : Channel)
+    → All (λ frame. HasFrameLength frame.octets) channel.waiting → StandsForAir s channel.waiting air
+    → SendsTick s channel.waiting air (record {
+      waiting = channel.waiting;
+      parameters = channel.parameters;
+      generator = channel.generator;
+      slot = channel.slot;
+      sending = s;
+    }) channel
+sends_tick None None channel fit h = record {
+  samples = refl;
+  sent = refl;
+  after = record { waiting = refl; parameters = refl; generator = refl; slot = refl; lengths = fit; air = tt };
+}
+sends_tick None (Some t) channel fit h = absurd h
+sends_tick (Some s) None channel fit h = absurd h
+sends_tick (Some s) (Some t) channel fit h =
+    let end = at_end s channel.waiting t h fit in
+    let P : List WaitingFrame → Type 0 = λ w. StandsForAir (going_on (run_of s channel.waiting).sending) w
+    (with_tick (now_at (bits_then t) channel.waiting t)) in
+    record {
+      samples = run_samples s channel.waiting t h fit;
+      sent = run_sent s channel.waiting t h fit;
+      after = record {
+        waiting = end.is_waiting;
+        parameters = refl;
+        generator = refl;
+        slot = refl;
+        lengths = all_waiting (bits_then t) (decided (bits_then t) channel.waiting t) channel.waiting fit;
+        air = subst P end.is_waiting (run_air s channel.waiting t h fit);
+      };
+    }
+
+-- ---- a tick
+
+-- what is kept of a channel, with its sender
+abbrev pub held_of : Channel → Option Sending → Held
+held_of channel s = record {
+  waiting = channel.waiting;
+  parameters = channel.parameters;
+  generator = channel.generator;
+  slot = channel.slot;
+  sending = s;
+}
+
+pub held-is : (held : Held) (channel : Channel) → StandsFor held channel → held ≡ held_of channel held.sending
+held-is held channel h =
+    ap (λ w. record held { waiting = w }) h.waiting
+    ∙ ap (λ p. record held { waiting = channel.waiting; parameters = p }) h.parameters
+    ∙ ap (λ g. record held { waiting = channel.waiting; parameters = channel.parameters; generator = g }) h.generator
+    ∙ ap (λ n. record (held_of channel held.sending) { slot = n }) h.slot
+
+-- a tick of what is kept is the tick of the channel
+pub record IsTick (busy : Bool) (held : Held) (channel : Channel) : Type 0 where
+  pub order : Takes (air_tick busy channel).sent channel.waiting (after_tick busy channel).waiting
+  pub tick : held_tick busy held ≡ air_tick busy channel
+  pub after : StandsFor (after_held_tick busy held) (after_tick busy channel)
+
+-- a transmission begins only where a frame waits
+some_wait : (busy : Bool) (channel : Channel) → (decision busy channel).begins ≡ true → 1 ≤ length channel.waiting
+some_wait busy channel begins =
+    elim (cases_Bool (eqb (length channel.waiting) 0)) [
+      | inl none ↦
+          let never : (decision busy channel).begins ≡ false =
+          ap (λ (d : Decision). d.begins) (cond-true (eqb (length channel.waiting) 0) _ _ none) in
+          let both : true ≡ false = sym begins ∙ never in
+          cc
+      | inr some ↦
+          let ne : length channel.waiting ≡ 0 → ⊥ = eqb-false (length channel.waiting) 0 some in
+          omega arith
+    ]
+
+-- the decision of a tick at rest, d, where channel is the channel with it
+rest_tick : (busy : Bool) (channel : Channel) (d : Decision) (b : Bool) → (b ≡ true → 1 ≤ length channel.waiting)
+    → All (λ frame. HasFrameLength frame.octets) channel.waiting
+    → SendsTick (cond b (Some (new_sending channel.parameters)) None) channel.waiting
+    (cond b (Some (begun channel)) None)
+    (record (held_of channel (cond b (Some (new_sending channel.parameters)) None))
+    { slot = d.slot; generator = d.generator })
+    (record channel { slot = d.slot; generator = d.generator; air = cond b (Some (begun channel)) None })
+rest_tick busy channel d true some fit =
+    sends_tick (Some (new_sending channel.parameters)) (Some (begun channel))
+    (record channel { slot = d.slot; generator = d.generator; air = Some (begun channel) }) fit
+    (begins channel.parameters channel.waiting channel.generator channel.slot (some refl))
+rest_tick busy channel d false some fit =
+    sends_tick None None (record channel { slot = d.slot; generator = d.generator; air = None }) fit tt
+
+is_tick : (busy : Bool) (channel : Channel) (s : Option Sending) (air : Option OnAir)
+    → All (λ frame. HasFrameLength frame.octets) channel.waiting → StandsForAir s channel.waiting air
+    → IsTick busy (held_of channel s) (record channel { air = air })
+is_tick busy channel None None fit h =
+    let d : Decision = decision busy (record channel { air = None }) in
+    let now : Option Sending = cond d.begins (Some (new_sending channel.parameters)) None in
+    let air : Option OnAir = cond d.begins (Some (begun channel)) None in
+    let r = rest_tick busy channel d d.begins (some_wait busy channel) fit in
+    let same : is_some now ≡ is_some air = both_some d.begins in
+    record {
+      order = rest_takes d.begins (some_wait busy channel);
+      tick =
+          ap (λ x. record { samples = x; began = is_some now; sent = held_sent now channel.waiting }) r.samples
+          ∙ ap (λ x. record {
+            samples = air_samples channel.waiting air;
+            began = x;
+            sent = held_sent now channel.waiting;
+          }) same
+          ∙ ap (λ x. record { samples = air_samples channel.waiting air; began = is_some air; sent = x }) r.sent;
+      after = r.after;
+    }
+  where
+    rest_takes : (b : Bool) → (b ≡ true → 1 ≤ length channel.waiting)
+        → Takes (air_sent channel.waiting (cond b (Some (begun channel)) None)) channel.waiting
+        (air_waiting channel.waiting (cond b (Some (begun channel)) None))
+    rest_takes true some =
+        air_takes (Some (new_sending channel.parameters)) channel.waiting (Some (begun channel))
+        (begins channel.parameters channel.waiting channel.generator channel.slot (some refl))
+    rest_takes false some = refl
+
+    both_some : (b : Bool) → is_some (cond b (Some (new_sending channel.parameters)) None)
+        ≡ is_some (cond b (Some (begun channel)) None)
+    both_some true = refl
+    both_some false = refl
+is_tick busy channel None (Some t) fit h = absurd h
+is_tick busy channel (Some s) None fit h = absurd h
+is_tick busy channel (Some s) (Some t) fit h =
+    let r = sends_tick (Some s) (Some t) (record channel { air = Some t }) fit h in
+    record {
+      order = air_takes (Some s) channel.waiting (Some t) h;
+      tick =
+          ap (λ x. record { samples = x; began = false; sent = held_sent (Some s) channel.waiting }) r.samples
+          ∙ ap (λ x. record { samples = air_samples channel.waiting (Some t); began = false; sent = x }) r.sent;
+      after = r.after;
+    }
+
+pub tick_of : (busy : Bool) (held : Held) (channel : Channel) → StandsFor held channel → IsTick busy held channel
+tick_of busy held channel h =
+    let P : Held → Type 0 = λ k. IsTick busy k channel in
+    subst P (sym (held-is held channel h)) (is_tick busy channel held.sending channel.air h.lengths h.air)

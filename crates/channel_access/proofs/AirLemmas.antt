@@ -1,0 +1,401 @@
+-- A tick of a transmission: its samples, and what is left of it.
+use Rattle.std.proofs.Common.{◌≡◌, ℕ, ◌+◌, ◌-◌, ◌*◌, ◌/◌, ◌≤◌, ◌⊎◌, Bool, true, false, cond, leb, ltb, Option, Some, None, ℤ, pos, List, [], ◌∷◌, ◌++◌, length, take, drop, replicate, refl, ap, ◌∙◌, sym, subst, inl, inr, arith, length-append, append_assoc, append-nil}
+use Rattle.std.specs.List.{All}
+use Rattle.std.proofs.Math.Nat.{le-max_left}
+use Rattle.std.proofs.Math.Seq.{take-append_seam, drop-append_seam}
+use Rattle.std.proofs.lemmas.Bool.{cases_Bool, cond-true, cond-false, le-leb, lt-leb}
+use Rattle.std.proofs.lemmas.List.{replicate-append-replicate}
+use Rattle.std.proofs.lemmas.List.Elements.{All-head}
+use Rattle.tone_table.specs.Wave.{wave_from, wave}
+use Rattle.nrzi_bits.specs.Line.{line_from, last_from, line}
+use Rattle.nrzi_bits.proofs.LineLemmas.{line_from-append}
+use Rattle.afsk_modulator.specs.Phase.{phase_behind}
+use Rattle.afsk_modulator.specs.Transmission.{transmission}
+use Rattle.afsk_modulator.proofs.WaveLemmas.{wave_from-append}
+use Rattle.tone_table.specs.declared.tone.Tone.TheVariants.{Mark}
+use Rattle.hdlc_framer.specs.Body.{flags, body}
+use Rattle.hdlc_framer.specs.Frames.{frame_bits}
+use Rattle.channel_access.specs.declared.sending.Sending.{Sending}
+use Rattle.channel_access.specs.declared.stage.Stage.{Stage}
+use Rattle.channel_access.specs.declared.stage.Stage.TheVariants.{Opening, Frame, Following, Closing, Over}
+use Rattle.channel_access.specs.Waiting.{WaitingFrame, HasFrameLength}
+use Rattle.channel_access.specs.OnAir.{OnAir, bits_then, bits_of, samples_of, decided, followed_by, has_sent_frames, names_next, with_named, frame_named, tick_samples, with_tick, most_frames}
+use Rattle.channel_access.specs.Held.{Run, tick_start, stage_over}
+use Rattle.channel_access.specs.HeldTick.{run_of, going_on}
+use Rattle.channel_access.specs.StandsFor.{Stands, Counts, Sends, Goes, StandsForAir, flag_rest, frame_rest}
+use Rattle.channel_access.proofs.BodyLemmas.{length-flag_rest, body-more_closing, body-single, body-push}
+use Rattle.channel_access.proofs.FrameLemmas.{next_given}
+use Rattle.channel_access.proofs.StageLemmas.{now_at, by_test, same_now, same_waiting, frames_go_on, frames_ended, flag_goes_on, all_named, flag_end-last, frames_end-next, flag_there_at, opening_end}
+use Rattle.channel_access.proofs.SendingLemmas.{padded, padded-full, length-padded}
+use Rattle.channel_access.proofs.JoinLemmas.{may_come, end_later, flag_not_yet}
+use Rattle.channel_access.proofs.TickLemmas.{AtBit, sent_at, bits_more, all_waiting}
+
+-- ---- what is left of a transmission, as far as it is decided
+
+pub record IsLeft (stage : Stage) (t : OnAir) (sent rest : List Bool) : Type 0 where
+  pub whole : sent ++ rest ≡ bits_of t
+  pub some : stage_over stage ≡ false → 1 ≤ length rest
+  pub none : stage_over stage ≡ true → rest ≡ []
+
+pub open_bits : (t : OnAir) → t.ends ≡ false → body t.frames t.opening 0 ≡ bits_of t
+unfolding bits_of
+open_bits t goes = ap (λ b. body t.frames t.opening (cond b t.closing 0)) (sym goes)
+
+pub closed_bits : (t : OnAir) → t.ends ≡ true → body t.frames t.opening t.closing ≡ bits_of t
+unfolding bits_of
+closed_bits t ends = ap (λ b. body t.frames t.opening (cond b t.closing 0)) (sym ends)
+
+-- more than the bits of some flags
+flags_left : (left : ℕ) (rest : List Bool) → 1 ≤ left → 1 ≤ length (flag_rest left ++ rest)
+flags_left left rest some = omega (arith, length-append (flag_rest left) rest, length-flag_rest left)
+
+never : {A : Type 0} → true ≡ false → A
+never is = cc
+
+pub is_left : (stage : Stage) (waiting : List WaitingFrame) (t : OnAir) (sent : List Bool) → Stands stage waiting t sent
+    → All (λ frame. HasFrameLength frame.octets) waiting → 1 ≤ t.closing → (rest : List Bool) × IsLeft stage t sent rest
+is_left (Opening left) [] t sent h fit closes = absurd h
+is_left (Opening left) (front ∷ others) t sent h fit closes = (
+  flag_rest left ++ frame_bits front.octets,
+  record {
+    whole = sym (append_assoc sent (flag_rest left) (frame_bits front.octets))
+        ∙ ap (λ xs. xs ++ frame_bits front.octets) h.bits ∙ sym (body-single front.octets t.opening)
+        ∙ ap (λ xs. body xs t.opening 0) (sym h.frames) ∙ open_bits t h.ends;
+    some = λ _. flags_left left (frame_bits front.octets) h.some;
+    none = λ is. never (sym is);
+  },
+)
+is_left (Frame f) [] t sent h fit closes = absurd h
+is_left (Frame f) (front ∷ others) t sent h fit closes =
+    let next = next_given f front.octets h.some in (
+      frame_rest f front.octets,
+      record {
+        whole = h.bits ∙ open_bits t h.ends;
+        some = λ _. omega (arith, ap length next.rest);
+        none = λ is. never (sym is);
+      },
+    )
+is_left (Following left true) [] t sent h fit closes = absurd h
+is_left (Following left true) (front ∷ []) t sent h fit closes = absurd h
+is_left (Following left true) (front ∷ next ∷ others) t sent h fit closes = (
+  flag_rest left ++ frame_bits next.octets,
+  record {
+    whole = sym (append_assoc sent (flag_rest left) (frame_bits next.octets))
+        ∙ ap (λ xs. xs ++ frame_bits next.octets) h.bits ∙ sym (body-push h.past front.octets next.octets t.opening)
+        ∙ ap (λ xs. body xs t.opening 0) (sym h.frames) ∙ open_bits t h.ends;
+    some = λ _. flags_left left (frame_bits next.octets) h.some;
+    none = λ is. never (sym is);
+  },
+)
+is_left (Following left false) [] t sent h fit closes = absurd h
+is_left (Following left false) (front ∷ others) t sent h fit closes =
+    let frames : List (List ℕ) = h.past ++ front.octets ∷ [] in
+    let whole : frames ≡ t.frames = sym (h.frames ∙ append-nil frames) in
+    let all : 1 + (t.closing - 1) ≡ t.closing = omega arith in (
+      flag_rest left ++ flags (t.closing - 1),
+      record {
+        whole = sym (append_assoc sent (flag_rest left) (flags (t.closing - 1)))
+            ∙ ap (λ xs. xs ++ flags (t.closing - 1)) h.bits ∙ sym (body-more_closing frames t.opening (t.closing - 1))
+            ∙ ap (body frames t.opening) all ∙ ap (λ xs. body xs t.opening t.closing) whole ∙ closed_bits t h.ends;
+        some = λ _. flags_left left (flags (t.closing - 1)) h.some;
+        none = λ is. never (sym is);
+      },
+    )
+is_left (Closing left) waiting t sent h fit closes = (
+  flag_rest left,
+  record {
+    whole = h.bits ∙ closed_bits t h.ends;
+    some = λ _. omega (arith, h.some, length-flag_rest left);
+    none = λ is. never (sym is);
+  },
+)
+is_left Over waiting t sent h fit closes = (
+  [],
+  record {
+    whole = append-nil sent ∙ h.bits ∙ closed_bits t h.ends;
+    some = λ is. never is;
+    none = λ _. refl;
+  },
+)
+
+pub all_sent : (stage : Stage) (total : ℕ) (sent : List Bool) → Counts stage total sent → stage_over stage ≡ false
+    → length sent ≡ total
+all_sent (Opening left) total sent count goes = count
+all_sent (Frame f) total sent count goes = count
+all_sent (Following left another) total sent count goes = count
+all_sent (Closing left) total sent count goes = count
+all_sent Over total sent count goes = never goes
+
+pub no_more_sent : (stage : Stage) (total : ℕ) (sent : List Bool) → Counts stage total sent → length sent ≤ total
+no_more_sent (Opening left) total sent count = omega arith
+no_more_sent (Frame f) total sent count = omega arith
+no_more_sent (Following left another) total sent count = omega arith
+no_more_sent (Closing left) total sent count = omega arith
+no_more_sent Over total sent count = count
+
+-- ---- naming a frame changes no bit
+
+bits_of-with_named : (bits : ℕ) (t : OnAir) → bits_of (with_named bits t) ≡ bits_of t
+unfolding bits_of
+bits_of-with_named bits t =
+    by_test (λ (u : OnAir). bits_of u ≡ bits_of t) (names_next bits t)
+    (record t { named = t.named + 1 }) t (λ _. refl) (λ _. refl)
+
+-- ---- the samples of a tick
+
+pub samples_of-is : (t : OnAir) → samples_of t ≡ wave (line (bits_of t))
+unfolding samples_of bits_of transmission
+samples_of-is t = refl
+
+pub wave-append : (sent rest : List Bool) → (later : List ℤ) × (wave (line (sent ++ rest)) ≡ wave (line sent) ++ later)
+wave-append sent rest =
+    let tones = line_from (last_from Mark (line sent)) rest in (
+      wave_from (phase_behind (line sent)) tones,
+      ap wave (line_from-append Mark sent rest) ∙ wave_from-append 0 (line sent) tones,
+    )
+
+-- the samples so far are the first of all samples with zeros behind them
+first_samples : (total : ℕ) (t : OnAir) (sent rest : List Bool) → sent ++ rest ≡ bits_of t → length sent ≤ total
+    → (rest ≡ []) ⊎ (length sent ≡ total) → total ≤ length sent + 12
+    → (later : List ℤ) × (samples_of t ++ replicate 96 (pos 0) ≡ padded total sent ++ later)
+unfolding padded
+first_samples total t sent rest whole short (inl over) near =
+    let zeros : ℕ = 8 * (total - length sent) in
+    let all : zeros + (96 - zeros) ≡ 96 = omega arith in
+    let same : samples_of t ≡ wave (line sent) =
+    samples_of-is t ∙ ap (λ xs. wave (line xs)) (sym whole ∙ ap (λ xs. sent ++ xs) over ∙ append-nil sent) in (
+      replicate (96 - zeros) (pos 0),
+      ap (λ xs. xs ++ replicate 96 (pos 0)) same
+          ∙ ap (λ n. wave (line sent) ++ replicate n (pos 0)) (sym all)
+          ∙ ap (λ xs. wave (line sent) ++ xs) (sym (replicate-append-replicate zeros (96 - zeros) (pos 0)))
+          ∙ sym (append_assoc (wave (line sent)) (replicate zeros (pos 0)) (replicate (96 - zeros) (pos 0))),
+    )
+first_samples total t sent rest whole short (inr full) near =
+    let later = wave-append sent rest in
+    let same : samples_of t ≡ wave (line sent) ++ later.0 =
+    samples_of-is t ∙ ap (λ xs. wave (line xs)) (sym whole) ∙ later.1 in (
+      later.0 ++ replicate 96 (pos 0),
+      ap (λ xs. xs ++ replicate 96 (pos 0)) same ∙ append_assoc (wave (line sent)) later.0 (replicate 96 (pos 0))
+          ∙ ap (λ xs. xs ++ (later.0 ++ replicate 96 (pos 0))) (sym (padded-full total sent full)),
+    )
+
+-- the part of a list that stands between two others
+middle : (before part after all : List ℤ) (start size : ℕ) → all ≡ (before ++ part) ++ after → length before ≡ start
+    → length part ≡ size → part ≡ take size (drop start all)
+middle before part after all start size whole is_start is_size =
+    sym (
+    ap (λ xs. take size (drop start xs)) (whole ∙ append_assoc before part after)
+    ∙ ap (λ n. take size (drop n (before ++ (part ++ after)))) (sym is_start)
+    ∙ ap (take size) (drop-append_seam before (part ++ after))
+    ∙ ap (λ n. take n (part ++ after)) (sym is_size) ∙ take-append_seam part after
+    )
+
+-- ---- a transmission between two ticks
+
+-- nothing is decided or named before the first bit of a tick
+module _ (bits : ℕ) (waiting : List WaitingFrame) (t : OnAir) where
+  pub record StartsTick : Type 0 where
+    pub goes : has_sent_frames bits t ≡ false
+    pub flag : names_next bits t ≡ false
+
+starts_tick : (stage : Stage) (waiting : List WaitingFrame) (t : OnAir) (total : ℕ) (sent : List Bool)
+    → Stands stage waiting t sent → Counts stage total sent → All (λ frame. HasFrameLength frame.octets) waiting
+    → StartsTick total waiting t
+starts_tick (Opening left) [] t total sent h count fit = absurd h
+starts_tick (Opening left) (front ∷ others) t total sent h count fit =
+    let fits = All-head (λ (frame : WaitingFrame). HasFrameLength frame.octets) front others fit in
+    let some : 1 ≤ left = h.some in
+    let end = opening_end left front others t total sent h count fits in
+    let behind = flag_end-last t [] front.octets h.frames h.named in
+    record { goes = frames_go_on total t (omega arith); flag = flag_goes_on total t (omega arith) }
+starts_tick (Frame f) [] t total sent h count fit = absurd h
+starts_tick (Frame f) (front ∷ others) t total sent h count fit =
+    let later = end_later f front t total sent h count in
+    record { goes = frames_go_on total t (omega arith); flag = flag_not_yet f front t total sent h count total later }
+starts_tick (Following left true) [] t total sent h count fit = absurd h
+starts_tick (Following left true) (front ∷ []) t total sent h count fit = absurd h
+starts_tick (Following left true) (front ∷ next ∷ others) t total sent h count fit =
+    let some : 1 ≤ left = h.some in
+    let there = flag_there_at left front (next.octets ∷ []) false t total sent h count in
+    let behind = frames_end-next t h.past front.octets next.octets h.frames h.named in
+    record { goes = frames_go_on total t (omega arith); flag = flag_goes_on total t (omega arith) }
+starts_tick (Following left false) [] t total sent h count fit = absurd h
+starts_tick (Following left false) (front ∷ others) t total sent h count fit =
+    let some : 1 ≤ left = h.some in
+    let there = flag_there_at left front [] true t total sent h count in
+    record { goes = frames_ended total t h.ends; flag = flag_goes_on total t (omega arith) }
+starts_tick (Closing left) waiting t total sent h count fit =
+    record { goes = frames_ended total t h.ends; flag = all_named total t h.named }
+starts_tick Over waiting t total sent h count fit =
+    record { goes = frames_ended total t h.ends; flag = all_named total t h.named }
+
+-- the count of ticks is no matter
+retick : (stage : Stage) (waiting : List WaitingFrame) (t : OnAir) (ticks : ℕ) (sent : List Bool)
+    → Stands stage waiting t sent
+    → Stands stage waiting (record t { ticks = ticks }) sent
+retick (Opening left) [] t ticks sent h = h
+retick (Opening left) (front ∷ others) t ticks sent h =
+    record { some = h.some; bits = h.bits; frames = h.frames; ends = h.ends; named = h.named }
+retick (Frame f) [] t ticks sent h = h
+retick (Frame f) (front ∷ others) t ticks sent h =
+    record { past = h.past; some = h.some; bits = h.bits; frames = h.frames; ends = h.ends; named = h.named }
+retick (Following left true) [] t ticks sent h = h
+retick (Following left true) (front ∷ []) t ticks sent h = h
+retick (Following left true) (front ∷ next ∷ others) t ticks sent h =
+    record { past = h.past; some = h.some; bits = h.bits; frames = h.frames; ends = h.ends; named = h.named }
+retick (Following left false) [] t ticks sent h = h
+retick (Following left false) (front ∷ others) t ticks sent h =
+    record { past = h.past; some = h.some; bits = h.bits; frames = h.frames; ends = h.ends; named = h.named }
+retick (Closing left) waiting t ticks sent h = record { some = h.some; bits = h.bits; ends = h.ends; named = h.named }
+retick Over waiting t ticks sent h = record { bits = h.bits; ends = h.ends; named = h.named }
+
+-- nor is it changed by what is decided and named
+ticks-followed_by : (others : List WaitingFrame) (t : OnAir) → (followed_by others t).ticks ≡ t.ticks
+ticks-followed_by [] t = refl
+ticks-followed_by (next ∷ others) t =
+    by_test (λ (u : OnAir). u.ticks ≡ t.ticks) (ltb (length t.frames) most_frames) _ _ (λ _. refl) (λ _. refl)
+
+ticks-decided : (bits : ℕ) (waiting : List WaitingFrame) (t : OnAir) → (decided bits waiting t).ticks ≡ t.ticks
+ticks-decided bits waiting t =
+    by_test (λ (u : OnAir). u.ticks ≡ t.ticks) (has_sent_frames bits t) (followed_by (drop 1 waiting) t) t
+    (λ _. ticks-followed_by (drop 1 waiting) t) (λ _. refl)
+
+ticks-with_named : (bits : ℕ) (t : OnAir) → (with_named bits t).ticks ≡ t.ticks
+ticks-with_named bits t =
+    by_test (λ (u : OnAir). u.ticks ≡ t.ticks) (names_next bits t)
+    (record t { named = t.named + 1 }) t (λ _. refl) (λ _. refl)
+
+module _ (s : Sending) (waiting : List WaitingFrame) (t : OnAir) (g : Goes s waiting t)
+    (fit : All (λ frame. HasFrameLength frame.octets) waiting) where
+  at_start : AtBit (12 * t.ticks) waiting t g.sent (12 * t.ticks) (tick_start s waiting)
+  at_start =
+      let total : ℕ = 12 * t.ticks in
+      let st = starts_tick s.stage waiting t total g.sent g.sends.stands g.sends.count fit in
+      let P : OnAir → Type 0 = λ u. Sends s waiting u total g.sent in
+      let is : decided total waiting t ≡ t = cond-false (has_sent_frames total t) _ t st.goes in
+      record {
+        more = g.sent;
+        sends = subst P (sym (same_now total waiting t st.goes st.flag)) g.sends;
+        is_waiting = sym (same_waiting total waiting t st.goes st.flag);
+        is_sent = sym (ap (sent_at total total) is ∙ cond-false (names_next total t) _ None st.flag);
+        grows = omega arith;
+        samples = sym (append-nil (padded total g.sent));
+      }
+
+  pub at_end : AtBit (12 * t.ticks) waiting t g.sent (bits_then t) (run_of s waiting)
+  at_end =
+      let total : ℕ = 12 * t.ticks in
+      let may = may_come s.stage waiting t total g.sent g.sends.stands g.sends.count fit in
+      let P : ℕ → Type 0 = λ n. AtBit total waiting t g.sent n (run_of s waiting) in
+      let then_sent : total + 12 ≡ bits_then t = omega arith in
+      subst P then_sent (bits_more total s waiting t g.sent fit (total + 12) may at_start 12 (omega arith))
+
+  abbrev run : Run
+  run = run_of s waiting
+
+  abbrev decided_then : OnAir
+  decided_then = decided (bits_then t) waiting t
+
+  abbrev then_on_air : OnAir
+  then_on_air = now_at (bits_then t) waiting t
+
+  pub run_fits : All (λ frame. HasFrameLength frame.octets) run.waiting
+  run_fits =
+      let P : List WaitingFrame → Type 0 = λ w. All (λ frame. HasFrameLength frame.octets) w in
+      subst P (sym at_end.is_waiting) (all_waiting (bits_then t) decided_then waiting fit)
+
+  what_is_left : (rest : List Bool) × IsLeft run.sending.stage then_on_air at_end.more rest
+  what_is_left =
+      let closes = le-max_left 1 (3 * run.sending.tail / 2) in
+      is_left run.sending.stage run.waiting then_on_air at_end.more at_end.sends.stands run_fits
+      (omega (arith, at_end.sends.closing))
+
+  same_ticks : then_on_air.ticks ≡ t.ticks
+  same_ticks = ticks-with_named (bits_then t) decided_then ∙ ticks-decided (bits_then t) waiting t
+
+  full_before : length g.sent ≡ 12 * t.ticks
+  full_before = all_sent s.stage (12 * t.ticks) g.sent g.sends.count g.left
+
+  pub run_samples : run.samples ≡ tick_samples decided_then
+  unfolding tick_samples
+  run_samples =
+      let b = at_end in
+      let left = what_is_left in
+      let short = no_more_sent run.sending.stage (bits_then t) b.more b.sends.count in
+      let full = full_before in
+      let ended : (left.0 ≡ []) ⊎ (length b.more ≡ bits_then t) =
+      elim (cases_Bool (stage_over run.sending.stage)) [
+        | inl over ↦ inl (left.1.none over)
+        | inr goes ↦ inr (all_sent run.sending.stage (bits_then t) b.more b.sends.count goes)
+      ] in
+      let first = first_samples (bits_then t) then_on_air b.more left.0 left.1.whole short ended
+      (omega (arith, b.grows)) in
+      let same : samples_of decided_then ≡ samples_of then_on_air =
+      samples_of-is decided_then ∙ ap (λ xs. wave (line xs)) (sym (bits_of-with_named (bits_then t) decided_then))
+      ∙ sym (samples_of-is then_on_air) in
+      let whole : samples_of decided_then ++ replicate 96 (pos 0) ≡
+      (padded (12 * t.ticks) g.sent ++ run.samples) ++ first.0 =
+      ap (λ xs. xs ++ replicate 96 (pos 0)) same ∙ first.1 ∙ ap (λ xs. xs ++ first.0) b.samples in
+      let before = length-padded (12 * t.ticks) g.sent (omega arith) in
+      let behind = length-padded (bits_then t) b.more short in
+      let ticks : 96 * (decided (bits_then t) waiting t).ticks ≡ 96 * t.ticks =
+      ap (λ n. 96 * n) (ticks-decided (bits_then t) waiting t) in
+      middle (padded (12 * t.ticks) g.sent) run.samples first.0 (samples_of decided_then ++ replicate 96 (pos 0))
+      (96 * decided_then.ticks) 96 whole (omega arith)
+      (omega (arith, ap length b.samples, length-append (padded (12 * t.ticks) g.sent) run.samples))
+
+  pub run_sent : run.sent ≡ frame_named (bits_then t) decided_then
+  run_sent =
+      let ticks : 12 * t.ticks ≡ 12 * decided_then.ticks =
+      ap (λ n. 12 * n) (sym (ticks-decided (bits_then t) waiting t)) in
+      at_end.is_sent ∙ ap (λ n. sent_at n (bits_then t) decided_then) ticks
+
+  -- where something is left
+  goes_on : stage_over run.sending.stage ≡ false
+      → Goes run.sending run.waiting (record then_on_air { ticks = then_on_air.ticks + 1 })
+  goes_on goes =
+      let b = at_end in
+      let next : OnAir = record then_on_air { ticks = then_on_air.ticks + 1 } in
+      let P : ℕ → Type 0 = λ n. Sends run.sending run.waiting next n b.more in
+      let same : bits_then t ≡ 12 * next.ticks = ap (λ n. 12 * (n + 1)) (sym same_ticks) in
+      record {
+        sent = b.more;
+        sends = subst P same (record {
+          stands = retick run.sending.stage run.waiting then_on_air (then_on_air.ticks + 1) b.more b.sends.stands;
+          count = b.sends.count;
+          frames = b.sends.frames;
+          closing = b.sends.closing;
+          tone = b.sends.tone;
+          phase = b.sends.phase;
+        });
+        left = goes;
+      }
+
+  pub run_air : StandsForAir (going_on run.sending) run.waiting (with_tick then_on_air)
+  run_air =
+      let b = at_end in
+      let left = what_is_left in
+      let size : length (bits_of then_on_air) ≡ length b.more + length left.0 =
+      ap length (sym left.1.whole) ∙ length-append b.more left.0 in
+      let short = no_more_sent run.sending.stage (bits_then t) b.more b.sends.count in
+      let same : bits_then then_on_air ≡ bits_then t = ap (λ n. 12 * (n + 1)) same_ticks in
+      let P : Option Sending → Type 0 = λ x. StandsForAir x run.waiting (with_tick then_on_air) in
+      elim (cases_Bool (stage_over run.sending.stage)) [
+        | inl over ↦
+            let Q : Option OnAir → Type 0 = λ y. StandsForAir None run.waiting y in
+            let none : length left.0 ≡ 0 = ap length (left.1.none over) in
+            let all : leb (length (bits_of then_on_air)) (bits_then then_on_air) ≡ true =
+            le-leb (length (bits_of then_on_air)) (bits_then then_on_air) (omega arith) in
+            subst P (sym (cond-true (stage_over run.sending.stage) None (Some run.sending) over))
+            (subst Q (sym (cond-true (leb (length (bits_of then_on_air)) (bits_then then_on_air)) None _ all)) tt)
+        | inr goes ↦
+            let Q : Option OnAir → Type 0 = λ y. StandsForAir (Some run.sending) run.waiting y in
+            let more : 1 ≤ length left.0 = left.1.some goes in
+            let full : length b.more ≡ bits_then t =
+            all_sent run.sending.stage (bits_then t) b.more b.sends.count goes in
+            let later : leb (length (bits_of then_on_air)) (bits_then then_on_air) ≡ false =
+            lt-leb (length (bits_of then_on_air)) (bits_then then_on_air) (omega arith) in
+            subst P (sym (cond-false (stage_over run.sending.stage) None (Some run.sending) goes))
+            (subst Q (sym (cond-false (leb (length (bits_of then_on_air)) (bits_then then_on_air)) None _ later))
+            (goes_on goes))
+      ]

@@ -1,0 +1,62 @@
+-- Worked examples, computed on the definitions.
+use Rattle.std.proofs.Common.{◌≡◌, ℕ, true, false, Some, None, List, [], ◌∷◌, ◌+◌, length, refl}
+use Rattle.hdlc_framer.specs.BitOrder.{octet_bits}
+use Rattle.hdlc_framer.specs.Body.{body}
+use Rattle.hdlc_framer.specs.CheckSequence.{fcs_of}
+use Rattle.hdlc_framer.specs.Frames.{with_fcs, frame_bits}
+use Rattle.channel_access.specs.declared.parameters.Param.TheVariants.{FullDuplex, Persist}
+use Rattle.channel_access.specs.Words.{generator_of, draw, behind_draw}
+use Rattle.channel_access.specs.OnAir.{OnAir, bits_of, flag_end, followed_by, frame_named}
+use Rattle.channel_access.specs.Channel.{Channel, new_channel, with_frame, with_setting, decision, begun}
+
+-- SABM with P from N7LEM to NJ7P
+abbrev shortest : List ℕ
+shortest = 0x9C ∷ 0x94 ∷ 0x6E ∷ 0xA0 ∷ 0x40 ∷ 0x40 ∷ 0xE0 ∷ 0x9C ∷ 0x6E ∷ 0x98 ∷ 0x8A ∷ 0x9A ∷ 0x40 ∷ 0x61 ∷ 0x3F ∷ []
+
+-- it waits in full duplex
+abbrev waiting : Channel
+waiting = with_setting (FullDuplex true) (with_frame None shortest (new_channel 1))
+
+begins_at_once : (decision true waiting).begins ≡ true
+begins_at_once = refl
+
+-- 75 flags, the frame and 3 flags
+abbrev whole : OnAir
+whole = followed_by [] (begun waiting)
+
+flags_round_it : whole.closing + whole.opening ≡ 78
+flags_round_it = refl
+
+whole_length : length (bits_of whole) ≡ 762
+unfolding fcs_of octet_bits with_fcs frame_bits body bits_of
+whole_length = refl
+
+-- the flag behind the frame ends with bit 746, the second of tick 63
+flag_place : flag_end 1 whole ≡ 746
+unfolding fcs_of octet_bits with_fcs frame_bits body flag_end
+flag_place = refl
+
+named_in_tick_63 : frame_named 756 (record whole { ticks = 62 }) ≡ Some (record { octets = shortest; after = 16 })
+unfolding fcs_of octet_bits with_fcs frame_bits body flag_end
+named_in_tick_63 = refl
+
+not_before : frame_named 744 (record whole { ticks = 61 }) ≡ None
+unfolding fcs_of octet_bits with_fcs frame_bits body flag_end
+not_before = refl
+
+-- the draws of seed 2 begin with 102 and 40
+draws : draw (generator_of 2) ≡ 102
+draws = refl
+
+next_draws : draw (behind_draw (generator_of 2)) ≡ 40
+next_draws = refl
+
+-- at most P begins, and above it a slot has to pass
+abbrev one_waits : Channel
+one_waits = with_frame None shortest (new_channel 2)
+
+a_slot_passes : (decision false one_waits).slot ≡ 10
+a_slot_passes = refl
+
+at_p_begins : (decision false (with_setting (Persist 102) one_waits)).begins ≡ true
+at_p_begins = refl

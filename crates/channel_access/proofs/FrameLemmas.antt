@@ -1,0 +1,131 @@
+-- The bits of a frame, one at a time.
+use Rattle.std.proofs.Common.{◌≡◌, ℕ, zero, suc, ◌+◌, ◌*◌, ◌/◌, ◌%◌, ◌^◌, ◌<◌, ◌≤◌, Bool, true, false, eqb, bit_and, List, [], ◌∷◌, length, get_or, refl, ap, ◌∙◌, sym, inl, inr, cond, leb, ltb, drop, Some, arith, length-append, add-one}
+use Rattle.std.proofs.Math.Seq.{drop-cons}
+use Rattle.std.proofs.lemmas.Bool.{cases_Bool, cond-true, cond-false, le-leb, lt-leb, lt-ltb, leb-true, leb-false}
+use Rattle.std.proofs.lemmas.Bool.Decides.{nat_tests}
+use Rattle.std.proofs.lemmas.List.{drop_all, get_or_append_left, get_or-append_right}
+use Rattle.std.proofs.lemmas.Nat.{and_mask, shr-shr}
+use Rattle.hdlc_framer.specs.BitOrder.{low_bits, octet_bits, sent_bits}
+use Rattle.hdlc_framer.proofs.BitLemmas.{length-octet_bits, length-sent_bits}
+use Rattle.hdlc_framer.specs.Frames.{frame_bits, with_fcs}
+use Rattle.hdlc_framer.proofs.StuffingLemmas.{stuffed_is}
+use Rattle.channel_access.specs.declared.frame_bits.FrameBits.{FrameBits}
+use Rattle.channel_access.specs.Held.{checked, bits_in, bit_count, frame_start, behind_place, next_in_frame, frame_over}
+use Rattle.channel_access.specs.StandsFor.{rest_behind, frame_rest}
+
+low_bits-at : (count n k : ℕ) → k < count → get_or (low_bits count n) k false ≡ eqb (n / 2 ^ k % 2) 1
+low_bits-at zero n k below = absurd (omega arith)
+low_bits-at (suc count) n zero below = ap (λ m. eqb (m % 2) 1) (omega arith)
+low_bits-at (suc count) n (suc k) below =
+    low_bits-at count (n / 2) k (omega arith)
+    ∙ ap (λ m. eqb (m % 2) 1) (shr-shr n 1 k ∙ ap (λ m. n / 2 ^ m) (omega arith))
+
+octet_bits-at : (octet k : ℕ) → k < 8 → get_or (octet_bits octet) k false ≡ eqb (bit_and (octet / 2 ^ k) 1) 1
+unfolding octet_bits
+octet_bits-at octet k below = low_bits-at 8 octet k below ∙ ap (λ m. eqb m 1) (sym (and_mask (octet / 2 ^ k) 1))
+
+-- bit k of octet i stands at 8 * i + k
+pub sent_bits-at : (octets : List ℕ) (i k : ℕ) → i < length octets → k < 8
+    → get_or (sent_bits octets) (8 * i + k) false ≡ eqb (bit_and (get_or octets i 0 / 2 ^ k) 1) 1
+sent_bits-at [] i k below low = absurd (omega arith)
+sent_bits-at (octet ∷ octets) zero k below low =
+    let within : k < length (octet_bits octet) = omega (arith, length-octet_bits octet) in
+    ap (λ m. get_or (sent_bits (octet ∷ octets)) m false) (omega arith)
+    ∙ get_or_append_left (octet_bits octet) (sent_bits octets) false k within ∙ octet_bits-at octet k low
+sent_bits-at (octet ∷ octets) (suc i) k below low =
+    let behind : 8 ≤ 8 * suc i + k = omega arith in
+    get_or-append_right (octet_bits octet) (sent_bits octets) 8 (8 * suc i + k) false (length-octet_bits octet) behind
+    ∙ ap (λ m. get_or (sent_bits octets) m false) (omega arith) ∙ sent_bits-at octets i k (omega arith) low
+
+-- the bit at a place of a frame
+pub bits_in-at : (octets : List ℕ) (check place : ℕ) → place < 8 * (length octets + 2)
+    → get_or (bits_in octets check) place false
+    ≡ eqb (bit_and (get_or (checked octets check) (place / 8) 0 / 2 ^ (place % 8)) 1) 1
+unfolding bits_in
+bits_in-at octets check place below =
+    let within : place / 8 < length (checked octets check) =
+    omega (arith, length-append octets ((check % 256) ∷ (check / 256) ∷ [])) in
+    ap (λ m. get_or (sent_bits (checked octets check)) m false) (omega arith)
+    ∙ sent_bits-at (checked octets check) (place / 8) (place % 8) within (omega arith)
+
+-- ---- what is left of a frame
+
+-- at the first bit all of it is
+pub frame_rest-start : (octets : List ℕ) → frame_rest (frame_start octets) octets ≡ frame_bits octets
+unfolding frame_rest bits_in frame_bits with_fcs
+frame_rest-start octets = sym (stuffed_is (sent_bits (with_fcs octets)))
+
+-- a bit that is no inserted zero
+rest_behind-cons : (ones : ℕ) (bit : Bool) (bits : List Bool) → ones < 5
+    → rest_behind ones (bit ∷ bits) ≡ bit ∷ rest_behind (cond bit (ones + 1) 0) bits
+rest_behind-cons zero true bits below = refl
+rest_behind-cons zero false bits below = refl
+rest_behind-cons (suc zero) true bits below = refl
+rest_behind-cons (suc zero) false bits below = refl
+rest_behind-cons (suc (suc zero)) true bits below = refl
+rest_behind-cons (suc (suc zero)) false bits below = refl
+rest_behind-cons (suc (suc (suc zero))) true bits below = refl
+rest_behind-cons (suc (suc (suc zero))) false bits below = refl
+rest_behind-cons (suc (suc (suc (suc zero)))) true bits below = refl
+rest_behind-cons (suc (suc (suc (suc zero)))) false bits below = refl
+rest_behind-cons (suc (suc (suc (suc (suc ones))))) bit bits below = absurd (omega arith)
+
+length-bits_in : (octets : List ℕ) (check : ℕ) → length (bits_in octets check) ≡ 8 * (length octets + 2)
+unfolding bits_in
+length-bits_in octets check =
+    omega (arith, length-sent_bits (checked octets check), length-append octets ((check % 256) ∷ (check / 256) ∷ []))
+
+-- a frame that is not over gives its next bit
+pub record NextInFrame (f : FrameBits) (octets : List ℕ) : Type 0 where
+  pub bit : Bool
+  pub behind : FrameBits
+  pub given : next_in_frame f octets ≡ Some (bit, behind)
+  pub rest : frame_rest f octets ≡ bit ∷ frame_rest behind octets
+
+zero_next : (f : FrameBits) (octets : List ℕ) → 5 ≤ f.ones → NextInFrame f octets
+unfolding frame_rest
+zero_next f octets five =
+    let test : leb 5 f.ones ≡ true = le-leb 5 f.ones five in
+    record {
+      bit = false;
+      behind = record f { ones = 0 };
+      given = cond-true (leb 5 f.ones) _ _ test;
+      rest = cond-true (leb 5 f.ones) _ _ test;
+    }
+
+bit_next : (f : FrameBits) (octets : List ℕ) → f.ones < 5 → f.place < bit_count octets → NextInFrame f octets
+unfolding frame_rest
+bit_next f octets few within =
+    let test : leb 5 f.ones ≡ false = lt-leb 5 f.ones few in
+    let inside : ltb f.place (bit_count octets) ≡ true = lt-ltb f.place (bit_count octets) within in
+    let bits = bits_in octets f.check in
+    let bit = get_or bits f.place false in
+    let below : f.place < length bits = omega (arith, length-bits_in octets f.check) in
+    let cut : drop f.place bits ≡ bit ∷ drop (f.place + 1) bits =
+    drop-cons bits f.place false below ∙ ap (λ n. bit ∷ drop n bits) (sym (add-one f.place)) in
+    record {
+      bit = bit;
+      behind = behind_place f bit;
+      given = cond-false (leb 5 f.ones) _ _ test ∙ cond-true (ltb f.place (bit_count octets)) _ _ inside;
+      rest = ap (rest_behind f.ones) cut ∙ rest_behind-cons f.ones bit (drop (f.place + 1) bits) few;
+    }
+
+pub next_given : (f : FrameBits) (octets : List ℕ) → frame_over f octets ≡ false → NextInFrame f octets
+next_given f octets going =
+    elim (cases_Bool (leb 5 f.ones)) [
+      | inl five ↦ zero_next f octets (leb-true 5 f.ones five)
+      | inr few ↦
+          let below : f.ones < 5 = leb-false 5 f.ones few in
+          let within : f.place < bit_count octets = grind (arith, nat_tests) in
+          bit_next f octets below within
+    ]
+
+-- nothing is left of a frame that is over
+pub frame_rest-over : (f : FrameBits) (octets : List ℕ) → frame_over f octets ≡ true → frame_rest f octets ≡ []
+unfolding frame_rest
+frame_rest-over f octets over =
+    let few : f.ones < 5 = grind (arith, nat_tests) in
+    let behind : bit_count octets ≤ f.place = grind (arith, nat_tests) in
+    let none : drop f.place (bits_in octets f.check) ≡ [] =
+    drop_all f.place (bits_in octets f.check) (omega (arith, length-bits_in octets f.check)) in
+    ap (rest_behind f.ones) none ∙ cond-false (leb 5 f.ones) _ _ (lt-leb 5 f.ones few)

@@ -1,0 +1,103 @@
+-- Frames are sent in the order of the queue: the frame that a tick names is the front one of those that wait.
+use Rattle.std.proofs.Common.{◌≡◌, ℕ, ◌+◌, ◌-◌, ◌*◌, Bool, true, false, ltb, Option, Some, None, List, [], ◌∷◌, ◌++◌, length, get_or, drop, refl, ap, ◌∙◌, sym, subst, inl, inr, append_assoc, append-nil}
+use Rattle.std.proofs.Math.Seq.{get_or-append_seam}
+use Rattle.std.proofs.lemmas.Bool.{cases_Bool, cond-true, cond-false}
+use Rattle.channel_access.specs.declared.air_tick.Sent.{Sent}
+use Rattle.channel_access.specs.declared.sending.Sending.{Sending}
+use Rattle.channel_access.specs.declared.stage.Stage.{Stage}
+use Rattle.channel_access.specs.declared.stage.Stage.TheVariants.{Opening, Frame, Following, Closing, Over}
+use Rattle.channel_access.specs.Waiting.{WaitingFrame}
+use Rattle.channel_access.specs.OnAir.{OnAir, bits_then, has_sent_frames, followed_by, decided, names_next, flag_end, waiting_with_named, most_frames}
+use Rattle.channel_access.specs.Channel.{air_sent, air_waiting, Takes}
+use Rattle.channel_access.specs.StandsFor.{Stands, StandsForAir}
+use Rattle.channel_access.proofs.StageLemmas.{by_test, frames_ended, all_named}
+
+-- a decision adds frames behind those that the transmission has
+pub record AddsFrames (t u : OnAir) : Type 0 where
+  pub more : List (List ℕ)
+  pub frames : u.frames ≡ t.frames ++ more
+  pub named : u.named ≡ t.named
+
+followed_frames : (others : List WaitingFrame) (t : OnAir) → AddsFrames t (followed_by others t)
+followed_frames [] t = record { more = []; frames = sym (append-nil t.frames); named = refl }
+followed_frames (next ∷ others) t =
+    by_test (λ (u : OnAir). AddsFrames t u) (ltb (length t.frames) most_frames) _ _
+    (λ few. record { more = next.octets ∷ []; frames = refl; named = refl })
+    (λ many. record { more = []; frames = sym (append-nil t.frames); named = refl })
+
+decided_frames : (bits : ℕ) (waiting : List WaitingFrame) (t : OnAir) → AddsFrames t (decided bits waiting t)
+decided_frames bits waiting t =
+    by_test (λ (u : OnAir). AddsFrames t u) (has_sent_frames bits t) (followed_by (drop 1 waiting) t) t
+    (λ ended. followed_frames (drop 1 waiting) t)
+    (λ goes. record { more = []; frames = sym (append-nil t.frames); named = refl })
+
+-- the octets are those of the front frame
+abbrev FrontIs : List WaitingFrame → List ℕ → Type 0
+FrontIs [] octets = ⊥
+FrontIs (front ∷ others) octets = octets ≡ front.octets
+
+next_is : (t u : OnAir) (past : List (List ℕ)) (octets : List ℕ) (rest : List (List ℕ)) → AddsFrames t u
+    → t.frames ≡ past ++ octets ∷ rest → t.named ≡ length past → get_or u.frames u.named [] ≡ octets
+next_is t u past octets rest adds frames named =
+    ap (λ n. get_or u.frames n []) (adds.named ∙ named)
+    ∙ ap (λ xs. get_or xs (length past) [])
+    (adds.frames ∙ ap (λ xs. xs ++ adds.more) frames ∙ append_assoc past (octets ∷ rest) adds.more)
+    ∙ get_or-append_seam past octets (rest ++ adds.more) []
+
+nothing_named : (bits : ℕ) (waiting : List WaitingFrame) (t : OnAir) → t.ends ≡ true → t.named ≡ length t.frames
+    → names_next bits (decided bits waiting t) ≡ true → ⊥
+nothing_named bits waiting t ends all is =
+    let same : decided bits waiting t ≡ t = cond-false (has_sent_frames bits t) _ t (frames_ended bits t ends) in
+    let never : true ≡ false = sym is ∙ ap (names_next bits) same ∙ all_named bits t all in
+    cc
+
+front_named : (stage : Stage) (waiting : List WaitingFrame) (t : OnAir) (sent : List Bool) (bits : ℕ)
+    → Stands stage waiting t sent → names_next bits (decided bits waiting t) ≡ true
+    → FrontIs waiting (get_or (decided bits waiting t).frames (decided bits waiting t).named [])
+front_named (Opening left) [] t sent bits h is = h
+front_named (Opening left) (front ∷ others) t sent bits h is =
+    next_is t _ [] front.octets [] (decided_frames bits (front ∷ others) t) h.frames h.named
+front_named (Frame f) [] t sent bits h is = h
+front_named (Frame f) (front ∷ others) t sent bits h is =
+    next_is t _ h.past front.octets [] (decided_frames bits (front ∷ others) t) h.frames h.named
+front_named (Following left true) [] t sent bits h is = h
+front_named (Following left true) (front ∷ []) t sent bits h is = absurd h
+front_named (Following left true) (front ∷ next ∷ others) t sent bits h is =
+    next_is t _ h.past front.octets (next.octets ∷ []) (decided_frames bits (front ∷ next ∷ others) t)
+    (h.frames ∙ append_assoc h.past (front.octets ∷ []) (next.octets ∷ [])) h.named
+front_named (Following left false) [] t sent bits h is = h
+front_named (Following left false) (front ∷ others) t sent bits h is =
+    next_is t _ h.past front.octets [] (decided_frames bits (front ∷ others) t)
+    (h.frames ∙ append_assoc h.past (front.octets ∷ []) []) h.named
+front_named (Closing left) waiting t sent bits h is = absurd (nothing_named bits waiting t h.ends h.named is)
+front_named Over waiting t sent bits h is = absurd (nothing_named bits waiting t h.ends h.named is)
+
+takes_front : (waiting : List WaitingFrame) (sent : Sent) → FrontIs waiting sent.octets
+    → Takes (Some sent) waiting (drop 1 waiting)
+takes_front [] sent h = h
+takes_front (front ∷ others) sent h = (h, refl)
+
+-- a tick of what is under way
+pub air_takes : (s : Option Sending) (waiting : List WaitingFrame) (air : Option OnAir) → StandsForAir s waiting air
+    → Takes (air_sent waiting air) waiting (air_waiting waiting air)
+air_takes None waiting None h = refl
+air_takes None waiting (Some t) h = absurd h
+air_takes (Some s) waiting None h = absurd h
+air_takes (Some s) waiting (Some t) h =
+    let bits : ℕ = bits_then t in
+    let u : OnAir = decided bits waiting t in
+    let sent : Sent = record {
+      octets = get_or u.frames u.named [];
+      after = 8 * (flag_end (u.named + 1) u - 12 * u.ticks);
+    } in
+    let P : Option Sent → Type 0 = λ x. Takes x waiting (waiting_with_named bits u waiting) in
+    elim (cases_Bool (names_next bits u)) [
+      | inl named ↦
+          let Q : List WaitingFrame → Type 0 = λ w. Takes (Some sent) waiting w in
+          subst P (sym (cond-true (names_next bits u) (Some sent) None named))
+          (subst Q (sym (cond-true (names_next bits u) (drop 1 waiting) waiting named))
+          (takes_front waiting sent (front_named s.stage waiting t h.sent bits h.sends.stands named)))
+      | inr goes ↦
+          subst P (sym (cond-false (names_next bits u) (Some sent) None goes))
+          (cond-false (names_next bits u) (drop 1 waiting) waiting goes)
+    ]

@@ -1,0 +1,98 @@
+-- What a transmission is as a whole, over all its ticks.
+use Rattle.std.proofs.Common.{◌≡◌, ℕ, ◌+◌, ◌*◌, ◌≤◌, Bool, true, false, not, ◌&&◌, cond, eqb, leb, ltb, ℤ, pos, List, [], ◌∷◌, ◌++◌, length, take, drop, replicate, refl, ap, ◌∙◌, sym, inl, inr, arith, append_assoc, append-nil}
+use Rattle.std.proofs.lemmas.Bool.{cases_Bool}
+use Rattle.std.proofs.lemmas.List.{take-append-le, drop-append-le, length-drop}
+use Rattle.afsk_modulator.specs.Transmission.{transmission}
+use Rattle.hdlc_framer.specs.Body.{flags, body}
+use Rattle.hdlc_framer.specs.Frames.{frame_bits}
+use Rattle.hdlc_framer.specs.Stuffing.{flag}
+use Rattle.hdlc_framer.proofs.StuffLemmas.{joined-push}
+use Rattle.nrzi_bits.specs.Line.{line}
+use Rattle.nrzi_bits.proofs.LineLemmas.{length-line_from}
+use Rattle.tone_table.specs.declared.tone.Tone.TheVariants.{Mark}
+use Rattle.tone_table.specs.Wave.{wave}
+use Rattle.channel_access.specs.Waiting.{WaitingFrame}
+use Rattle.channel_access.specs.OnAir.{OnAir, bits_then, bits_of, samples_of, frames_end, has_sent_frames, followed_by, decided, tick_samples, most_frames}
+use Rattle.channel_access.proofs.BodyLemmas.{body-closing}
+use Rattle.channel_access.proofs.StageLemmas.{by_test}
+use Rattle.channel_access.proofs.SendingLemmas.{length-wave_from}
+use Rattle.channel_access.proofs.AirLemmas.{open_bits, closed_bits, samples_of-is, wave-append}
+
+-- the closing flags come behind all frames
+closes_adds : (t : OnAir) → t.ends ≡ false
+    → (rest : List Bool) × (bits_of (record t { ends = true }) ≡ bits_of t ++ rest)
+closes_adds t goes = (
+  flags t.closing,
+  sym (closed_bits (record t { ends = true }) refl) ∙ body-closing t.frames t.opening t.closing
+      ∙ ap (λ xs. xs ++ flags t.closing) (open_bits t goes),
+)
+
+-- a frame ends only where it is open what follows
+open_when_ended : (bits : ℕ) (t : OnAir) → has_sent_frames bits t ≡ true → t.ends ≡ false
+open_when_ended bits t ended =
+    elim (cases_Bool t.ends) [
+      | inl ends ↦
+          let never : has_sent_frames bits t ≡ false = ap (λ b. not b && leb (frames_end t) bits) ends in
+          let both : true ≡ false = sym ended ∙ never in
+          cc
+      | inr goes ↦ goes
+    ]
+
+-- another frame comes behind all frames
+body-one_more : (frames : List (List ℕ)) (octets : List ℕ) (opening : ℕ)
+    → (rest : List Bool) × (body (frames ++ octets ∷ []) opening 0 ≡ body frames opening 0 ++ rest)
+unfolding body
+body-one_more frames octets opening =
+    let last : List Bool = cond (eqb (length frames) 0) (frame_bits octets) (flag ++ frame_bits octets) in (
+      last,
+      ap (λ xs. flags opening ++ (xs ++ [])) (joined-push frames octets) ∙ simp (append_assoc, append-nil),
+    )
+
+followed_adds : (others : List WaitingFrame) (t : OnAir) → t.ends ≡ false
+    → (rest : List Bool) × (bits_of (followed_by others t) ≡ bits_of t ++ rest)
+followed_adds [] t goes = closes_adds t goes
+followed_adds (next ∷ others) t goes =
+    by_test (λ (u : OnAir). (rest : List Bool) × (bits_of u ≡ bits_of t ++ rest)) (ltb
+    (length t.frames) most_frames) _ _
+    (λ few.
+    let more = body-one_more t.frames next.octets t.opening in (
+      more.0,
+      sym (open_bits (record t { frames = t.frames ++ next.octets ∷ [] }) goes) ∙ more.1
+          ∙ ap (λ xs. xs ++ more.0) (open_bits t goes),
+    ))
+    (λ many. closes_adds t goes)
+
+pub decided_adds : (bits : ℕ) (waiting : List WaitingFrame) (t : OnAir)
+    → (rest : List Bool) × (bits_of (decided bits waiting t) ≡ bits_of t ++ rest)
+decided_adds bits waiting t =
+    by_test (λ (u : OnAir). (rest : List Bool) × (bits_of u ≡ bits_of t ++ rest)) (has_sent_frames bits t)
+    (followed_by (drop 1 waiting) t) t (λ ended. followed_adds (drop 1 waiting) t (open_when_ended bits t ended))
+    (λ _. ([], sym (append-nil (bits_of t))))
+
+pub whole_at_end : (t : OnAir) → t.ends ≡ true → samples_of t ≡ transmission t.frames t.opening t.closing
+unfolding samples_of
+whole_at_end t ends = ap (λ b. transmission t.frames t.opening (cond b t.closing 0)) ends
+
+length-samples_of : (t : OnAir) → length (samples_of t) ≡ 8 * length (bits_of t)
+length-samples_of t =
+    ap length (samples_of-is t) ∙ length-wave_from 0 (line (bits_of t))
+    ∙ ap (λ n. 8 * n) (length-line_from Mark (bits_of t))
+
+-- a piece of a list is there with anything behind the list
+piece : (xs ys : List ℤ) (start size : ℕ) → start + size ≤ length xs
+    → take size (drop start (xs ++ ys)) ≡ take size (drop start xs)
+piece xs ys start size within =
+    ap (take size) (drop-append-le start xs ys (omega arith))
+    ∙ take-append-le size (drop start xs) ys (omega (arith, length-drop start xs))
+
+pub tick_in_whole : (t whole : OnAir) (rest : List Bool) → bits_of whole ≡ bits_of t ++ rest
+    → bits_then t ≤ length (bits_of t)
+    → tick_samples t ≡ take 96 (drop (96 * t.ticks) (samples_of whole))
+unfolding tick_samples
+tick_in_whole t whole rest adds within =
+    let later = wave-append (bits_of t) rest in
+    let all : samples_of whole ≡ samples_of t ++ later.0 =
+    samples_of-is whole ∙ ap (λ xs. wave (line xs)) adds ∙ later.1 ∙ ap (λ xs. xs ++ later.0) (sym (samples_of-is t)) in
+    let long : 96 * t.ticks + 96 ≤ length (samples_of t) = omega (arith, length-samples_of t) in
+    piece (samples_of t) (replicate 96 (pos 0)) (96 * t.ticks) 96 long
+    ∙ sym (ap (λ xs. take 96 (drop (96 * t.ticks) xs)) all ∙ piece (samples_of t) later.0 (96 * t.ticks) 96 long)

@@ -1,0 +1,7 @@
+use Rattle.std.proofs.Common.{rules}
+use Rattle.channel_access.specs.Held.{new_sending}
+use Rattle.channel_access.proofs.sending.Sending.new.Goals as goal
+
+pub returns : goal.returns
+unfolding new_sending
+returns c = search rules

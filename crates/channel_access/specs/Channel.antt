@@ -1,0 +1,114 @@
+-- The access to the channel, tick by tick: p-persistence in half duplex, and at once in full duplex (the KISS TNC
+-- protocol, Chepponis and Karn).
+use Rattle.std.specs.Prelude.{◌≡◌, ℕ, ◌-◌, ◌==◌, nat_lt, nat_le, Bool, true, false, ◌&&◌, if◌then◌else◌, ℤ, pos, List, [], ◌∷◌, ◌++◌, length, take, map, replicate, Option, Some, None, is_some, is_none}
+use Rattle.rand_pcg.specs.Lcg.{Lcg}
+use Rattle.channel_access.specs.declared.air_tick.AirTick.{AirTick}
+use Rattle.channel_access.specs.declared.air_tick.Sent.{Sent}
+use Rattle.channel_access.specs.declared.parameters.Param.{Param}
+use Rattle.channel_access.specs.declared.parameters.Parameters.{Parameters}
+use Rattle.channel_access.specs.Parameters.{default_parameters, with_param, opening_flags, closing_flags}
+use Rattle.channel_access.specs.Waiting.{WaitingFrame}
+use Rattle.channel_access.specs.Words.{generator_of, draw, behind_draw}
+use Rattle.channel_access.specs.OnAir.{OnAir, bits_then, decided, with_named, waiting_with_named, frame_named, tick_samples, with_tick}
+
+-- The frames that wait, in order, with those of the transmission under way that are not named as sent yet; the ticks
+-- that are left of a slot; and the transmission under way.
+pub record Channel : Type 0 where
+  pub waiting : List WaitingFrame
+  pub parameters : Parameters
+  pub generator : Lcg
+  pub slot : ℕ
+  pub air : Option OnAir
+
+abbrev pub new_channel : ℕ → Channel
+new_channel seed =
+    record { waiting = []; parameters = default_parameters; generator = generator_of seed; slot = 0; air = None }
+
+-- with one frame more
+abbrev pub with_frame : Option ℕ → List ℕ → Channel → Channel
+with_frame link octets channel =
+    record channel { waiting = channel.waiting ++ (record { link = link; octets = octets }) ∷ [] }
+
+abbrev pub with_setting : Param → Channel → Channel
+with_setting param channel = record channel { parameters = with_param param channel.parameters }
+
+-- ---- a tick at rest
+
+-- what it decides, and how it leaves the slot and the generator
+pub record Decision : Type 0 where
+  pub begins : Bool
+  pub slot : ℕ
+  pub generator : Lcg
+
+-- The first rule that fits decides: no frame waits; full duplex; the channel is busy; the slot runs; a draw.
+abbrev pub decision : Bool → Channel → Decision
+decision busy channel =
+    if length channel.waiting == 0 then record { begins = false; slot = 0; generator = channel.generator }
+    else if channel.parameters.full_duplex
+    then record { begins = true; slot = channel.slot; generator = channel.generator }
+    else if busy then record { begins = false; slot = 0; generator = channel.generator }
+    else if nat_lt 0 channel.slot
+    then record { begins = false; slot = channel.slot - 1; generator = channel.generator }
+    else if nat_le (draw channel.generator) channel.parameters.persist
+    then record { begins = true; slot = channel.slot; generator = behind_draw channel.generator }
+    else record { begins = false; slot = channel.parameters.slot_time; generator = behind_draw channel.generator }
+
+-- a transmission that begins now, with the front one of the frames that wait
+abbrev pub begun : Channel → OnAir
+begun channel = record {
+  opening = opening_flags channel.parameters.tx_delay;
+  closing = closing_flags channel.parameters.tx_tail;
+  frames = map (λ frame. frame.octets) (take 1 channel.waiting);
+  ends = false;
+  named = 0;
+  ticks = 0;
+}
+
+abbrev pub with_decision : Decision → Channel → Channel
+with_decision d channel =
+    record channel { slot = d.slot; generator = d.generator; air = if d.begins then Some (begun channel) else None }
+
+-- the channel with the decision of a tick, where it is at rest
+abbrev pub after_rules : Bool → Channel → Channel
+after_rules busy channel = if is_none channel.air then with_decision (decision busy channel) channel else channel
+
+-- ---- what a tick sends
+
+-- a tick of a transmission, or of silence
+abbrev pub air_samples : List WaitingFrame → Option OnAir → List ℤ
+air_samples waiting None = replicate 96 (pos 0)
+air_samples waiting (Some t) = tick_samples (decided (bits_then t) waiting t)
+
+abbrev pub air_sent : List WaitingFrame → Option OnAir → Option Sent
+air_sent waiting None = None
+air_sent waiting (Some t) = frame_named (bits_then t) (decided (bits_then t) waiting t)
+
+abbrev pub air_waiting : List WaitingFrame → Option OnAir → List WaitingFrame
+air_waiting waiting None = waiting
+air_waiting waiting (Some t) = waiting_with_named (bits_then t) (decided (bits_then t) waiting t) waiting
+
+abbrev pub air_after : List WaitingFrame → Option OnAir → Option OnAir
+air_after waiting None = None
+air_after waiting (Some t) = with_tick (with_named (bits_then t) (decided (bits_then t) waiting t))
+
+-- a tick of the channel
+abbrev pub air_tick : Bool → Channel → AirTick
+air_tick busy channel =
+    let now = after_rules busy channel in
+    record {
+      samples = air_samples now.waiting now.air;
+      began = is_none channel.air && is_some now.air;
+      sent = air_sent now.waiting now.air;
+    }
+
+-- and the channel behind it
+abbrev pub after_tick : Bool → Channel → Channel
+after_tick busy channel =
+    let now = after_rules busy channel in
+    record now { waiting = air_waiting now.waiting now.air; air = air_after now.waiting now.air }
+
+-- What a tick takes out of the frames that wait: the frame that it names, which is the front one, or none.
+abbrev pub Takes : Option Sent → List WaitingFrame → List WaitingFrame → Type 0
+Takes None before after = after ≡ before
+Takes (Some sent) [] after = ⊥
+Takes (Some sent) (front ∷ others) after = (sent.octets ≡ front.octets) × (after ≡ others)

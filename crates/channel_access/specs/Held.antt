@@ -1,0 +1,233 @@
+-- What the code keeps of a transmission under way, bit by bit. No public clause cites it.
+use Rattle.std.specs.Prelude.{ℕ, zero, suc, ◌+◌, ◌-◌, ◌*◌, ◌/◌, ◌%◌, nat_lt, nat_le, Bool, true, false, ◌&&◌, if◌then◌else◌, ℤ, pos, List, [], ◌∷◌, ◌++◌, length, drop, replicate, slice_index_or, Option, Some, None}
+use Rattle.rand_pcg.specs.Lcg.{Lcg}
+use Rattle.tone_table.specs.declared.tone.Tone.TheVariants.{Mark}
+use Rattle.tone_table.specs.Tones.{next_phase}
+use Rattle.tone_table.specs.Wave.{pure_window}
+use Rattle.nrzi_bits.specs.Line.{sent_tone}
+use Rattle.hdlc_framer.specs.BitOrder.{sent_bits}
+use Rattle.hdlc_framer.specs.CheckSequence.{fcs_of}
+use Rattle.channel_access.specs.declared.air_tick.Sent.{Sent}
+use Rattle.channel_access.specs.declared.frame_bits.FrameBits.{FrameBits}
+use Rattle.channel_access.specs.declared.stage.Stage.{Stage}
+use Rattle.channel_access.specs.declared.stage.Stage.TheVariants.{Opening, Frame, Following, Closing, Over}
+use Rattle.channel_access.specs.declared.sending.Sending.{Sending}
+use Rattle.channel_access.specs.declared.parameters.Parameters.{Parameters}
+use Rattle.channel_access.specs.Parameters.{opening_flags, closing_flags}
+use Rattle.channel_access.specs.Waiting.{WaitingFrame}
+use Rattle.channel_access.specs.OnAir.{most_frames}
+
+-- ---- the bits of one frame
+
+-- octets and their check sequence, the low octet first
+abbrev pub checked : List ℕ → ℕ → List ℕ
+checked octets check = octets ++ (check % 256) ∷ (check / 256) ∷ []
+
+-- their bits in sending order, without inserted zeros
+unfoldable pub bits_in : List ℕ → ℕ → List Bool
+bits_in octets check = sent_bits (checked octets check)
+
+-- how many they are
+abbrev pub bit_count : List ℕ → ℕ
+bit_count octets = 8 * (length octets + 2)
+
+-- at the first bit of a frame
+abbrev pub frame_start : List ℕ → FrameBits
+frame_start octets = record { place = 0; ones = 0; check = fcs_of octets }
+
+-- the next bit, and where the frame stands behind it: a zero is inserted behind five 1s, and else the bit at the place
+-- comes
+abbrev pub behind_place : FrameBits → Bool → FrameBits
+behind_place f bit = record f { place = f.place + 1; ones = if bit then f.ones + 1 else 0 }
+
+abbrev pub next_in_frame : FrameBits → List ℕ → Option (Bool × FrameBits)
+next_in_frame f octets =
+    if nat_le 5 f.ones then Some (false, record f { ones = 0 })
+    else if nat_lt f.place (bit_count octets)
+    then (let bit = slice_index_or (bits_in octets f.check) f.place false in Some (bit, behind_place f bit))
+    else None
+
+-- no bit is left, and no zero is to be inserted
+abbrev pub frame_over : FrameBits → List ℕ → Bool
+frame_over f octets = nat_lt f.ones 5 && nat_le (bit_count octets) f.place
+
+-- ---- flags
+
+-- the bit of some flags before which so many bits are left, itself among them: the first and the last of each eight are
+-- 0
+abbrev pub flag_bit : ℕ → Bool
+flag_bit left = nat_lt 1 (left % 8)
+
+-- ---- one bit of a transmission
+
+pub record Step : Type 0 where
+  pub bit : Option Bool
+  pub named : Option (List ℕ)
+  pub stage : Stage
+  pub frames : ℕ
+  pub waiting : List WaitingFrame
+
+-- the frame at the front begins
+abbrev pub front_begins : List WaitingFrame → Stage
+front_begins [] = Over
+front_begins (front ∷ others) = Frame (frame_start front.octets)
+
+abbrev pub behind_opening : ℕ → List WaitingFrame → Stage
+behind_opening left waiting = if nat_lt 1 left then Opening (left - 1) else front_begins waiting
+
+-- another frame follows
+abbrev pub joins : ℕ → List WaitingFrame → Bool
+joins frames waiting = nat_lt frames most_frames && nat_lt 1 (length waiting)
+
+-- the closing flags behind the first of them
+abbrev pub other_closing : ℕ → Stage
+other_closing tail = if nat_lt 1 (closing_flags tail) then Closing (8 * (closing_flags tail - 1)) else Over
+
+abbrev pub behind_flag : Bool → ℕ → List WaitingFrame → Stage
+behind_flag true tail waiting = front_begins waiting
+behind_flag false tail waiting = other_closing tail
+
+abbrev pub behind_closing : ℕ → Stage
+behind_closing left = if nat_lt 1 left then Closing (left - 1) else Over
+
+-- the sender behind the last bit of a frame, where so many frames wait
+abbrev pub followed : ℕ → Sending → Sending
+followed waiting s =
+    let another = nat_lt s.frames most_frames && nat_lt 1 waiting in
+    record s { stage = Following 8 another; frames = if another then s.frames + 1 else s.frames }
+
+-- a step of a frame
+abbrev pub frame_step : Option (Bool × FrameBits) → List ℕ → ℕ → List WaitingFrame → Step
+frame_step None octets frames waiting =
+    record { bit = None; named = None; stage = Over; frames = frames; waiting = waiting }
+frame_step (Some (bit, f)) octets frames waiting =
+    if frame_over f octets
+    then record {
+      bit = Some bit;
+      named = None;
+      stage = Following 8 (joins frames waiting);
+      frames = if joins frames waiting then frames + 1 else frames;
+      waiting = waiting;
+    }
+    else record { bit = Some bit; named = None; stage = Frame f; frames = frames; waiting = waiting }
+
+abbrev pub front_step : FrameBits → ℕ → List WaitingFrame → Step
+front_step f frames [] = record { bit = None; named = None; stage = Over; frames = frames; waiting = [] }
+front_step f frames (front ∷ others) = frame_step (next_in_frame f front.octets) front.octets frames (front ∷ others)
+
+-- the octets of the front frame
+abbrev pub front_octets : List WaitingFrame → Option (List ℕ)
+front_octets [] = None
+front_octets (front ∷ others) = Some front.octets
+
+-- the flag behind the front frame, which is named with the last bit of it
+abbrev pub flag_step : ℕ → Bool → ℕ → ℕ → List WaitingFrame → Step
+flag_step left another tail frames waiting =
+    if nat_lt 1 left
+    then record {
+      bit = Some (flag_bit left);
+      named = None;
+      stage = Following (left - 1) another;
+      frames = frames;
+      waiting = waiting;
+    }
+    else record {
+      bit = Some (flag_bit left);
+      named = front_octets waiting;
+      stage = behind_flag another tail (drop 1 waiting);
+      frames = frames;
+      waiting = drop 1 waiting;
+    }
+
+abbrev pub stage_step : Stage → ℕ → ℕ → List WaitingFrame → Step
+stage_step (Opening left) tail frames waiting =
+    record {
+      bit = Some (flag_bit left);
+      named = None;
+      stage = behind_opening left waiting;
+      frames = frames;
+      waiting = waiting;
+    }
+stage_step (Frame f) tail frames waiting = front_step f frames waiting
+stage_step (Following left another) tail frames waiting = flag_step left another tail frames waiting
+stage_step (Closing left) tail frames waiting =
+    record { bit = Some (flag_bit left); named = None; stage = behind_closing left; frames = frames; waiting = waiting }
+stage_step Over tail frames waiting =
+    record { bit = None; named = None; stage = Over; frames = frames; waiting = waiting }
+
+unfoldable pub step_of : Sending → List WaitingFrame → Step
+step_of s waiting = stage_step s.stage s.tail s.frames waiting
+
+-- the sender with the stage of a step
+abbrev pub with_step : Sending → Step → Sending
+with_step s step = record s { stage = step.stage; frames = step.frames }
+
+abbrev pub stage_over : Stage → Bool
+stage_over Over = true
+stage_over _ = false
+
+-- ---- its samples
+
+-- eight samples of a bit, or silence
+unfoldable pub window_of : Sending → Option Bool → List ℤ
+window_of s None = replicate 8 (pos 0)
+window_of s (Some bit) = pure_window s.modulator (sent_tone s.line bit)
+
+-- the sender behind it
+abbrev pub behind_bit : Sending → Option Bool → Sending
+behind_bit s None = s
+behind_bit s (Some bit) =
+    record s { line = sent_tone s.line bit; modulator = next_phase s.modulator (sent_tone s.line bit) }
+
+-- ---- some bits, one after another
+
+-- the sender, the frames that wait, the samples so far and the frame named so far
+pub record Run : Type 0 where
+  pub sending : Sending
+  pub waiting : List WaitingFrame
+  pub samples : List ℤ
+  pub sent : Option Sent
+
+-- the frame that a step names, if it does, behind so many bits
+abbrev pub sent_with : Option (List ℕ) → ℕ → Option Sent → Option Sent
+sent_with None bits before = before
+sent_with (Some octets) bits before = Some (record { octets = octets; after = 8 * bits })
+
+-- one bit more, behind so many
+unfoldable pub with_bit : ℕ → Run → Run
+with_bit count run =
+    let step = step_of run.sending run.waiting in
+    let stepped = with_step run.sending step in
+    record {
+      sending = behind_bit stepped step.bit;
+      waiting = step.waiting;
+      samples = run.samples ++ window_of stepped step.bit;
+      sent = sent_with step.named (count + 1) run.sent;
+    }
+
+unfoldable pub with_bits : ℕ → Run → Run
+with_bits zero run = run
+with_bits (suc count) run = with_bit count (with_bits count run)
+
+-- before the first bit of a tick
+abbrev pub tick_start : Sending → List WaitingFrame → Run
+tick_start sending waiting = record { sending = sending; waiting = waiting; samples = []; sent = None }
+
+-- a new transmission
+unfoldable pub new_sending : Parameters → Sending
+new_sending parameters = record {
+  stage = Opening (8 * opening_flags parameters.tx_delay);
+  frames = 1;
+  tail = parameters.tx_tail;
+  line = Mark;
+  modulator = 0;
+}
+
+-- ---- what an access keeps
+
+pub record Held : Type 0 where
+  pub waiting : List WaitingFrame
+  pub parameters : Parameters
+  pub generator : Lcg
+  pub slot : ℕ
+  pub sending : Option Sending

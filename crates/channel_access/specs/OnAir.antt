@@ -1,0 +1,90 @@
+-- A transmission under way (AX.25 2.2 section 3, ISO/IEC 3309): flags, frames with one flag between neighbours, and
+-- flags. It is sent tick by tick, 12 bits each, and frames may join it while it runs.
+use Rattle.std.specs.Prelude.{ℕ, ◌+◌, ◌-◌, ◌*◌, nat_lt, nat_le, Bool, true, not, ◌&&◌, if◌then◌else◌, ℤ, pos, List, [], ◌∷◌, ◌++◌, length, take, drop, replicate, slice_index_or, Option, Some, None}
+use Rattle.hdlc_framer.specs.Body.{body}
+use Rattle.afsk_modulator.specs.Transmission.{transmission}
+use Rattle.channel_access.specs.declared.air_tick.Sent.{Sent}
+use Rattle.channel_access.specs.Waiting.{WaitingFrame}
+
+-- The frames are those that it has as far as that is decided, in order, and `ends` says that no further one follows. Of
+-- these frames the first `named` are sent, each with the flag behind it, and so many ticks of the whole are sent.
+pub record OnAir : Type 0 where
+  pub opening : ℕ
+  pub closing : ℕ
+  pub frames : List (List ℕ)
+  pub ends : Bool
+  pub named : ℕ
+  pub ticks : ℕ
+
+-- how many frames one transmission has at most
+abbrev pub most_frames : ℕ
+most_frames = 8
+
+-- how many bits are sent when the next tick has been sent
+abbrev pub bits_then : OnAir → ℕ
+bits_then t = 12 * (t.ticks + 1)
+
+-- the flags behind the last frame: none is decided before it is decided that no further frame follows
+abbrev pub flags_behind : OnAir → ℕ
+flags_behind t = if t.ends then t.closing else 0
+
+-- its bits, and its samples, as far as they are decided
+unfoldable pub bits_of : OnAir → List Bool
+bits_of t = body t.frames t.opening (flags_behind t)
+
+unfoldable pub samples_of : OnAir → List ℤ
+samples_of t = transmission t.frames t.opening (flags_behind t)
+
+-- how many bits are sent when the last bit of its last frame is sent
+unfoldable pub frames_end : OnAir → ℕ
+frames_end t = length (body t.frames t.opening 0)
+
+-- how many are sent when the flag behind its first frames, so many of them, is sent
+unfoldable pub flag_end : ℕ → OnAir → ℕ
+flag_end count t = length (body (take count t.frames) t.opening 1)
+
+-- With so many bits sent, the last frame is sent, and it is open what follows it.
+abbrev pub has_sent_frames : ℕ → OnAir → Bool
+has_sent_frames bits t = not t.ends && nat_le (frames_end t) bits
+
+-- What follows the last frame, where these wait behind it: the first of them, where the transmission has fewer than
+-- eight frames, and else the closing flags.
+abbrev pub followed_by : List WaitingFrame → OnAir → OnAir
+followed_by [] t = record t { ends = true }
+followed_by (next ∷ others) t =
+    if nat_lt (length t.frames) most_frames then record t { frames = t.frames ++ next.octets ∷ [] }
+    else record t { ends = true }
+
+-- The transmission with what is decided when so many bits are sent. While its last frame is being sent, that frame is
+-- the front one of those that wait.
+abbrev pub decided : ℕ → List WaitingFrame → OnAir → OnAir
+decided bits waiting t = if has_sent_frames bits t then followed_by (drop 1 waiting) t else t
+
+-- With so many bits sent, the flag behind the first frame that is not named yet is sent.
+abbrev pub names_next : ℕ → OnAir → Bool
+names_next bits t = nat_lt t.named (length t.frames) && nat_le (flag_end (t.named + 1) t) bits
+
+-- The transmission and the frames that wait, with that frame named as sent: it waits no longer.
+abbrev pub with_named : ℕ → OnAir → OnAir
+with_named bits t = if names_next bits t then record t { named = t.named + 1 } else t
+
+abbrev pub waiting_with_named : ℕ → OnAir → List WaitingFrame → List WaitingFrame
+waiting_with_named bits t waiting = if names_next bits t then drop 1 waiting else waiting
+
+-- That frame, with the samples from the beginning of the tick to the end of the flag behind it.
+abbrev pub frame_named : ℕ → OnAir → Option Sent
+frame_named bits t =
+    if names_next bits t
+    then Some (record {
+      octets = slice_index_or t.frames t.named [];
+      after = 8 * (flag_end (t.named + 1) t - 12 * t.ticks);
+    })
+    else None
+
+-- the samples of the next tick: 96 of the transmission, or what is left of it and then zeros
+unfoldable pub tick_samples : OnAir → List ℤ
+tick_samples t = take 96 (drop (96 * t.ticks) (samples_of t ++ replicate 96 (pos 0)))
+
+-- with the next tick sent, unless all of it is sent then
+abbrev pub with_tick : OnAir → Option OnAir
+with_tick t = if nat_le (length (bits_of t)) (bits_then t) then None else Some (record t { ticks = t.ticks + 1 })

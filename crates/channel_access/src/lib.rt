@@ -1,0 +1,22 @@
+//! Access to a shared radio channel, in ticks of 10 ms: frames wait in a queue, and a transmission begins by the rule
+//! of p-persistence in half duplex and at once in full duplex (the KISS TNC protocol, Chepponis and Karn). Up to eight
+//! frames are sent in one. What is promised: over any list of calls each tick has exactly the samples of the
+//! transmission that the rules give, and each frame waits until the flag behind it is sent.
+#![tactic(auto)]
+
+mod access;
+mod air_tick;
+mod frame_bits;
+mod laws;
+mod parameters;
+mod queue;
+mod sending;
+mod stage;
+
+pub use access::Access;
+pub use air_tick::{AirTick, Sent};
+pub use laws::{a_tick_is_a_part_of_the_whole, decisions_add_bits, the_end_is_a_transmission};
+pub use parameters::Param;
+
+#[cfg(test)]
+mod tests;

@@ -1,0 +1,74 @@
+//! What a host sets (the KISS TNC protocol, Chepponis and Karn, commands 1 to 5).
+ghost use Rattle.std.specs.Prelude.{◌≡◌, ◌≤◌};
+ghost use Rattle.channel_access.specs.Parameters.{default_parameters, with_param, opening_flags, closing_flags};
+
+/// A parameter, and what it is set to. Times are in units of 10 ms.
+#[derive(Clone, Copy, Debug, PartialEq, Eq)]
+pub enum Param {
+    /// TXDELAY: how long flags are sent before the first frame.
+    TxDelay(u8),
+    /// P: a draw from 0 to 255 begins a transmission where it is at most this.
+    Persist(u8),
+    /// The slot time: how long a transmission waits after a draw that began none.
+    SlotTime(u8),
+    /// TXtail: how long flags are sent behind the last frame.
+    TxTail(u8),
+    /// Full duplex: a transmission begins whether or not the channel is busy.
+    FullDuplex(bool),
+}
+
+/// All of them.
+#[derive(Clone, Copy, Debug)]
+pub(crate) struct Parameters {
+    pub tx_delay: u8,
+    pub persist: u8,
+    pub slot_time: u8,
+    pub tx_tail: u8,
+    pub full_duplex: bool,
+}
+
+impl Parameters {
+    /// Half duplex, 500 ms of opening flags, and one of four draws begins.
+    pub(crate) fn new() -> Parameters
+        ensures { result ≡ default_parameters }
+    {
+        Parameters {
+            tx_delay: 50,
+            persist: 63,
+            slot_time: 10,
+            tx_tail: 2,
+            full_duplex: false,
+        }
+    }
+
+    /// Sets one.
+    pub(crate) fn set(&mut self, param: Param)
+        ensures { self.new ≡ with_param param self.old }
+    {
+        match param {
+            Param::TxDelay(ticks) => self.tx_delay = ticks,
+            Param::Persist(most) => self.persist = most,
+            Param::SlotTime(ticks) => self.slot_time = ticks,
+            Param::TxTail(ticks) => self.tx_tail = ticks,
+            Param::FullDuplex(on) => self.full_duplex = on,
+        }
+    }
+}
+
+/// The flags that open a transmission, at three in two ticks.
+pub(crate) fn opening_flags(tx_delay: u8) -> u16
+    ensures count { result ≡ opening_flags tx_delay }
+    ensures least { 2 ≤ result }
+    ensures most { result ≤ 382 }
+{
+    (3 * u16::from(tx_delay) / 2).max(2)
+}
+
+/// The flags that close one.
+pub(crate) fn closing_flags(tx_tail: u8) -> u16
+    ensures count { result ≡ closing_flags tx_tail }
+    ensures least { 1 ≤ result }
+    ensures most { result ≤ 382 }
+{
+    (3 * u16::from(tx_tail) / 2).max(1)
+}

@@ -1,0 +1,277 @@
+//! A transmission under way, bit by bit.
+ghost use Rattle.std.specs.Prelude.{◌≡◌, ◌+◌, ◌*◌, ◌<◌, ◌≤◌, ◌++◌, Some, None, take};
+ghost use Rattle.channel_access.specs.Held.{step_of, with_step, behind_bit, behind_opening, behind_closing, front_begins, front_step, flag_step, followed, other_closing, flag_bit, stage_over, window_of, sent_with, with_bits, tick_start, new_sending};
+
+use crate::air_tick::{SAMPLES, Sent};
+use crate::frame_bits::FrameBits;
+use crate::parameters::{Parameters, closing_flags, opening_flags};
+use crate::queue::Queue;
+use crate::stage::Stage;
+use afsk_modulator::Modulator;
+use nrzi_bits::NrziOut;
+use tnc_base::Octets;
+
+/// The bits of a tick.
+const TICK_BITS: u8 = 12;
+
+/// How many frames one transmission has at most.
+const MOST_FRAMES: u8 = 8;
+
+/// A transmission that has begun. The frame that it sends is the front one of the queue, and leaves it when the flag
+/// behind it is sent.
+#[derive(Drop)]
+pub(crate) struct Sending {
+    stage: Stage,
+    /// How many frames it has so far.
+    frames: u8,
+    /// TXtail, as it was when the transmission began.
+    tail: u8,
+    line: NrziOut,
+    modulator: Modulator,
+}
+
+/// What one bit of a transmission is.
+#[derive(Drop)]
+struct Bit {
+    /// The bit, or none where nothing is left.
+    value: Option<bool>,
+    /// The frame whose following flag ends with it.
+    named: Option<Octets>,
+}
+
+impl Bit {
+    fn of(bit: bool) -> Bit
+        ensures { result ≡ record { value = Some bit; named = None } }
+    {
+        Bit {
+            value: Some(bit),
+            named: None,
+        }
+    }
+
+    fn silent() -> Bit
+        ensures { result ≡ record { value = None; named = None } }
+    {
+        Bit {
+            value: None,
+            named: None,
+        }
+    }
+}
+
+impl Sending {
+    /// Before the first flag of a transmission.
+    pub(crate) fn new(parameters: &Parameters) -> Sending
+        ensures { result ≡ new_sending parameters.now }
+    {
+        Sending {
+            stage: Stage::Opening {
+                left: 8 * opening_flags(parameters.tx_delay),
+            },
+            frames: 1,
+            tail: parameters.tx_tail,
+            line: NrziOut::new(),
+            modulator: Modulator::new(),
+        }
+    }
+
+    /// Whether nothing is left.
+    pub(crate) fn is_over(&self) -> bool
+        ensures { result ≡ stage_over self.now.stage }
+    {
+        matches!(self.stage, Stage::Over)
+    }
+
+    /// The samples of a tick, and the frame that is sent with it.
+    pub(crate) fn tick(&mut self, queue: &mut Queue) -> ([i16; SAMPLES], Option<Sent>)
+        ensures samples { result.0 ≡ (with_bits 12 (tick_start self.old queue.old)).samples }
+        ensures sent { result.1 ≡ (with_bits 12 (tick_start self.old queue.old)).sent }
+        ensures sending { self.new ≡ (with_bits 12 (tick_start self.old queue.old)).sending }
+        ensures waiting { queue.new ≡ (with_bits 12 (tick_start self.old queue.old)).waiting }
+    {
+        let mut samples = [0; SAMPLES];
+        let mut sent = None;
+        for count in 0..TICK_BITS {
+            let bit = self.step(queue);
+            let window = self.window(bit.value);
+            put_window(&mut samples, count, &window);
+            sent = sent_with(bit.named, count + 1, sent);
+        }
+        (samples, sent)
+    }
+
+    /// The next bit.
+    #[tactic(auto, unfolding(crate::specs::Held::step_of))]
+    fn step(&mut self, queue: &mut Queue) -> Bit
+        ensures bit { result.value ≡ (step_of self.old queue.old).bit }
+        ensures named { result.named ≡ (step_of self.old queue.old).named }
+        ensures sending { self.new ≡ with_step self.old (step_of self.old queue.old) }
+        ensures waiting { queue.new ≡ (step_of self.old queue.old).waiting }
+    {
+        match self.stage {
+            Stage::Opening { left } => {
+                self.stage = behind_opening(left, queue);
+                Bit::of(flag_bit(left))
+            }
+            Stage::Frame { bits } => self.step_in_frame(bits, queue),
+            Stage::Following { left, another } => self.step_in_flag(left, another, queue),
+            Stage::Closing { left } => {
+                self.stage = behind_closing(left);
+                Bit::of(flag_bit(left))
+            }
+            Stage::Over => Bit::silent(),
+        }
+    }
+
+    /// A bit of the front frame.
+    fn step_in_frame(&mut self, bits: FrameBits, queue: &Queue) -> Bit
+        ensures bit { result.value ≡ (front_step bits self.old.frames queue.now).bit }
+        ensures named { result.named ≡ None }
+        ensures sending { self.new ≡ with_step self.old (front_step bits self.old.frames queue.now) }
+    {
+        let Some(octets) = queue.front() else {
+            return self.end();
+        };
+        let Some((bit, behind)) = bits.next(octets) else {
+            return self.end();
+        };
+        if behind.is_over(octets) {
+            self.follow(queue.len());
+        } else {
+            self.stage = Stage::Frame { bits: behind };
+        }
+        Bit::of(bit)
+    }
+
+    fn end(&mut self) -> Bit
+        ensures bit { result ≡ record { value = None; named = None } }
+        ensures sending { self.new ≡ record self.old { stage = Stage.Over } }
+    {
+        self.stage = Stage::Over;
+        Bit::silent()
+    }
+
+    /// The last bit of the front frame is sent, and it is decided what follows: another frame where one waits behind it
+    /// and there are fewer than eight, and else the closing flags.
+    fn follow(&mut self, waiting: usize)
+        ensures { self.new ≡ followed waiting self.old }
+    {
+        let another = self.frames < MOST_FRAMES && waiting > 1;
+        if another {
+            self.frames += 1;
+        }
+        self.stage = Stage::Following { left: 8, another };
+    }
+
+    /// A bit of the flag behind the front frame. With its last one that frame is sent.
+    fn step_in_flag(&mut self, left: u8, another: bool, queue: &mut Queue) -> Bit
+        ensures bit { result.value ≡ Some (flag_bit left) }
+        ensures named { result.named ≡ (flag_step left another self.old.tail self.old.frames queue.old).named }
+        ensures sending { self.new
+            ≡ with_step self.old (flag_step left another self.old.tail self.old.frames queue.old) }
+        ensures waiting { queue.new ≡ (flag_step left another self.old.tail self.old.frames queue.old).waiting }
+    {
+        let value = Some(flag_bit(u16::from(left)));
+        if left > 1 {
+            self.stage = Stage::Following {
+                left: left - 1,
+                another,
+            };
+            return Bit { value, named: None };
+        }
+        let named = queue.pop();
+        self.stage = if another {
+            front_begins(queue)
+        } else {
+            other_closing(self.tail)
+        };
+        Bit { value, named }
+    }
+
+    /// Eight samples of a bit, or silence.
+    fn window(&mut self, bit: Option<bool>) -> [i16; 8]
+        ensures samples { result ≡ window_of self.old bit }
+        ensures sending { self.new ≡ behind_bit self.old bit }
+    {
+        match bit {
+            Some(bit) => self.modulator.next(self.line.step(bit)),
+            None => [0; 8],
+        }
+    }
+}
+
+/// The bit of some flags, which end when so many bits, this one among them, are sent: the first and the last of each
+/// eight are 0.
+fn flag_bit(left: u16) -> bool
+    ensures { result ≡ flag_bit left }
+{
+    left % 8 > 1
+}
+
+fn behind_opening(left: u16, queue: &Queue) -> Stage
+    ensures { result ≡ behind_opening left queue.now }
+{
+    if left > 1 {
+        Stage::Opening { left: left - 1 }
+    } else {
+        front_begins(queue)
+    }
+}
+
+fn behind_closing(left: u16) -> Stage
+    ensures { result ≡ behind_closing left }
+{
+    if left > 1 {
+        Stage::Closing { left: left - 1 }
+    } else {
+        Stage::Over
+    }
+}
+
+fn front_begins(queue: &Queue) -> Stage
+    ensures { result ≡ front_begins queue.now }
+{
+    match queue.front() {
+        Some(octets) => Stage::Frame {
+            bits: FrameBits::new(octets),
+        },
+        None => Stage::Over,
+    }
+}
+
+/// The closing flags behind the first of them.
+fn other_closing(tail: u8) -> Stage
+    ensures { result ≡ other_closing tail }
+{
+    let flags = closing_flags(tail);
+    if flags > 1 {
+        Stage::Closing {
+            left: 8 * (flags - 1),
+        }
+    } else {
+        Stage::Over
+    }
+}
+
+/// The window of a bit before which so many were put.
+fn put_window(samples: &mut [i16; SAMPLES], count: u8, window: &[i16; 8])
+    requires { count < 12 }
+    ensures { take (8 * (count + 1)) samples.new ≡ take (8 * count) samples.old ++ window.now }
+{
+    let start = 8 * usize::from(count);
+    samples[start..start + 8].copy_from_slice(window.as_slice());
+}
+
+/// The frame that was sent so far, where so many bits of the tick are sent and the last of them names a frame or none.
+fn sent_with(named: Option<Octets>, bits: u8, sent: Option<Sent>) -> Option<Sent>
+    requires { bits ≤ 12 }
+    ensures { result ≡ sent_with named bits sent }
+{
+    match named {
+        Some(octets) => Some(Sent {
+            octets,
+            after: 8 * bits,
+        }),
+        None => sent,
+    }
+}
