@@ -1,0 +1,125 @@
+-- Worked examples of two links, by computation.
+use Rattle.std.specs.Prelude.{◌≡◌, ℕ, true, false, List, [], ◌∷◌, ◌++◌, map, replicate, length, refl, Some}
+use Rattle.selective_reject.specs.declared.packet.Packet.{Packet}
+use Rattle.selective_reject.specs.declared.window.Mode.{Mode}
+use Rattle.selective_reject.specs.declared.window.Mode.TheVariants.{Rej, Srej}
+use Rattle.selective_reject.specs.Numbers.{ahead}
+use Rattle.selective_reject.specs.Places.{missing, asked}
+use Rattle.link_machine.specs.declared.acts.Told.TheVariants.{Opened, Ended}
+use Rattle.link_machine.specs.declared.acts.Why.TheVariants.{Reset}
+use Rattle.link_machine.specs.declared.params.Params.{Params}
+use Rattle.link_machine.specs.Sent.{Sent}
+use Rattle.link_machine.specs.Sent.Sent.{InfoSent, SuperSent, SetupSent}
+use Rattle.link_machine.specs.Step.{step as link_step}
+use Rattle.ax25_frames.specs.declared.frame.S.TheVariants.{Rr as RrFrame, Rej as RejFrame, Srej as SrejFrame}
+use Rattle.ax25_frames.specs.declared.frame.U.TheVariants.{Sabm}
+use Rattle.link_world.specs.declared.end.End.{End}
+use Rattle.link_world.specs.declared.end.End.TheVariants.{A, B}
+use Rattle.link_world.specs.declared.event.Event.{Event}
+use Rattle.link_world.specs.declared.event.Event.TheVariants.{Connect, Send, Tick, Hear, Lose}
+use Rattle.link_world.specs.Flight.{Tagged}
+use Rattle.link_world.specs.World.{World, first_world, run, towards, told_by}
+use Rattle.link_world.specs.Quiet.{is_quiet, is_quiet_to_send}
+
+abbrev params : Mode → ℕ → Params
+params mode window = record { mode = mode; window = window }
+
+abbrev from_first : Mode → ℕ → List Event → World
+from_first mode window events = run (first_world (params mode window) (params mode window)) events
+
+abbrev packet : ℕ → Packet
+packet n = record { pid = 240; octets = n ∷ [] }
+
+abbrev sends : List ℕ → List Event
+sends numbers = map (λ n. Send A (packet n)) numbers
+
+abbrev sent_to : End → World → List Sent
+sent_to end w = map (λ (t : Tagged). t.sent) (towards end w)
+
+-- A calls B
+abbrev both_up : List Event
+both_up = Connect A ∷ Hear B ∷ Hear A ∷ []
+
+-- By REJ with a window of seven, ten packets: frame 3 is lost and asked for, and all from 3 on are sent again.
+abbrev lost_by_rej : List Event
+lost_by_rej = both_up ++ sends (0 ∷ 1 ∷ 2 ∷ 3 ∷ 4 ∷ 5 ∷ 6 ∷ 7 ∷ 8 ∷ 9 ∷ []) ++ Lose B 3 ∷ replicate 6 (Hear B)
+
+-- REJ asks from 3 on
+pub asks_by_rej : sent_to A (from_first Rej 7 lost_by_rej) ≡ SuperSent RejFrame false 3 false ∷ []
+unfolding link_step ahead
+asks_by_rej = refl
+
+-- all from 3 on go out again
+pub sends_again_by_rej :
+    sent_to B (from_first Rej 7 (lost_by_rej ++ Hear A ∷ []))
+    ≡ map (λ n. InfoSent n 0 (packet n)) (3 ∷ 4 ∷ 5 ∷ 6 ∷ 7 ∷ 8 ∷ 9 ∷ [])
+unfolding link_step ahead
+sends_again_by_rej = refl
+
+-- B got all ten, each once, in the set-up whose origin is that of A
+pub got_by_rej :
+    (from_first Rej 7 (lost_by_rej ++ Hear A ∷ replicate 7 (Hear B))).b.end.set_ups
+    ≡ record {
+      given = [];
+      got = map packet (0 ∷ 1 ∷ 2 ∷ 3 ∷ 4 ∷ 5 ∷ 6 ∷ 7 ∷ 8 ∷ 9 ∷ []);
+      mate = 0;
+      acted_on = replicate 13 0;
+      accepted = Some 0;
+    } ∷ []
+unfolding link_step ahead
+got_by_rej = refl
+
+-- By SREJ with a window of four, four packets: frame 0 is lost and asked for once, and alone sent again.
+abbrev lost_by_srej : List Event
+lost_by_srej = both_up ++ sends (0 ∷ 1 ∷ 2 ∷ 3 ∷ []) ++ Lose B 0 ∷ replicate 3 (Hear B)
+
+-- SREJ asks for 0
+pub asks_by_srej : sent_to A (from_first Srej 4 lost_by_srej) ≡ SuperSent SrejFrame false 0 false ∷ []
+unfolding link_step ahead missing asked
+asks_by_srej = refl
+
+-- 0 alone goes out again
+pub sends_again_by_srej : sent_to B (from_first Srej 4 (lost_by_srej ++ Hear A ∷ [])) ≡ InfoSent 0 0 (packet 0) ∷ []
+unfolding link_step ahead missing asked
+sends_again_by_srej = refl
+
+-- the 30th tick acknowledges all
+pub acknowledges_by_srej :
+    sent_to A (from_first Srej 4 (lost_by_srej ++ Hear A ∷ Hear B ∷ replicate 30 (Tick B false))) ≡ SuperSent RrFrame
+    false 4 false ∷ []
+unfolding link_step ahead missing asked
+acknowledges_by_srej = refl
+
+-- Both call, and the UA to A is lost: A calls again, and B begins anew.
+abbrev answer_lost : List Event
+answer_lost = Connect A ∷ Connect B ∷ Hear B ∷ Hear A ∷ Hear B ∷ Lose A 0 ∷ replicate 300 (Tick A false)
+
+-- A calls again
+pub calls_again : sent_to B (from_first Rej 4 answer_lost) ≡ SetupSent Sabm true ∷ []
+unfolding link_step
+calls_again = refl
+
+-- B is told that its set-up ended, and that another begins
+pub begins_anew : told_by (from_first Rej 4 answer_lost) (Hear B) ≡ Ended Reset ∷ Opened false ∷ []
+unfolding link_step
+begins_anew = refl
+
+-- A has one set-up then
+pub set_ups_of_a : length (from_first Rej 4 (answer_lost ++ Hear B ∷ Hear A ∷ [])).a.end.set_ups ≡ 1
+unfolding link_step
+set_ups_of_a = refl
+
+-- and B two
+pub set_ups_of_b : length (from_first Rej 4 (answer_lost ++ Hear B ∷ Hear A ∷ [])).b.end.set_ups ≡ 2
+unfolding link_step
+set_ups_of_b = refl
+
+-- A call whose SABM is still in flight is not repeated into a quiet channel.
+pub is_not_quiet : is_quiet_to_send (from_first Rej 4 (Connect A ∷ replicate 299 (Tick A false))) (Tick A false) ≡ false
+unfolding link_step
+is_not_quiet = refl
+
+-- a tick earlier none was sent
+pub is_still_quiet : is_quiet (from_first Rej 4 (Connect A ∷ replicate 298 (Tick A false))) (Tick A false) ≡ true
+unfolding link_step
+is_still_quiet = refl

@@ -1,0 +1,12 @@
+pub mod Growth
+pub mod ActGrowth
+pub mod HearingGrowth
+pub mod StepGrowth
+pub mod TagLemmas
+pub mod Untagging
+pub mod Happens
+pub mod Counting
+pub mod Examples
+pub mod Sides
+pub mod ErrorLemmas
+pub mod law

@@ -1,0 +1,59 @@
+-- Frames with their tags and without.
+use Rattle.std.proofs.Common.{◌≡◌, ℕ, ◌+◌, Bool, suc, List, [], ◌∷◌, ◌++◌, map, take, drop, refl, sym, ◌∙◌, ap}
+use Rattle.std.specs.Prelude.{count_by, fold, cond, remove}
+use Rattle.std.proofs.lemmas.List.{map-append, take-map, drop-map}
+use Rattle.std.proofs.lemmas.Simd.{map-map}
+use Rattle.ax25_frames.specs.declared.frame.Frame.{Frame}
+use Rattle.link_machine.specs.Sent.{Sent, frame_of, frames_of}
+use Rattle.link_world.specs.declared.flight.InFlight.{InFlight}
+use Rattle.link_world.specs.Flight.{Tagged, asks, asks_in, answers_in}
+use Rattle.link_world.specs.Recorded.{RecordedEnd, tagged}
+use Rattle.link_world.specs.Untagged.{frames}
+use Rattle.link_world.specs.StandsFor.{in_flight, all_in_flight}
+use Rattle.link_world.specs.Held.{flying, asking, answering, asking_frames}
+
+-- frames that are tagged are the frames that were sent
+pub frames-tagged :
+    (on_ask : Bool) (r : RecordedEnd) (sent : List Sent)
+    → frames (map (tagged on_ask r) sent) ≡ frames_of r.machine.incoming.modulus r.machine.path sent
+frames-tagged on_ask r sent = map-map (λ (f : Tagged). f.frame) (tagged on_ask r) sent
+
+-- and fly as such
+pub all_in_flight-tagged :
+    (on_ask : Bool) (r : RecordedEnd) (sent : List Sent)
+    → all_in_flight (map (tagged on_ask r) sent) ≡ map (flying on_ask)
+    (frames_of r.machine.incoming.modulus r.machine.path sent)
+all_in_flight-tagged on_ask r sent =
+    map-map in_flight (tagged on_ask r) sent
+    ∙ sym (map-map (flying on_ask) (frame_of r.machine.incoming.modulus r.machine.path) sent)
+
+-- a fold of the images
+fold-map : {X Y A : Type 0} (g : A → Y → A) (f : X → Y) (a : A) (xs : List X) → fold g a (map f xs) ≡ fold
+    (λ b x. g b (f x)) a xs
+fold-map g f a [] = refl
+fold-map g f a (x ∷ xs) = fold-map g f (g a (f x)) xs
+
+-- a count of the images
+pub count_by-map : {X Y : Type 0} (p : Y → Bool) (f : X → Y) (xs : List X) → count_by p (map f xs) ≡ count_by
+    (λ x. p (f x)) xs
+count_by-map p f xs = fold-map (λ a y. a + cond (p y) 1 0) f 0 xs
+
+-- SABM and DISC are counted alike with tags and in flight
+pub asks_in-flight : (tags : List Tagged) → asks_in tags ≡ asking (all_in_flight tags)
+asks_in-flight tags = sym (count_by-map (λ (f : InFlight). asks f.frame.kind) in_flight tags)
+
+-- so are answers
+pub answers_in-flight : (tags : List Tagged) → answers_in tags ≡ answering (all_in_flight tags)
+answers_in-flight tags = sym (count_by-map (λ (f : InFlight). f.answers) in_flight tags)
+
+-- and SABM and DISC as frames
+pub asks_in-frames : (tags : List Tagged) → asks_in tags ≡ asking_frames (frames tags)
+asks_in-frames tags = sym (count_by-map (λ (f : Frame). asks f.kind) (λ (f : Tagged). f.frame) tags)
+
+-- the images of a list without one item
+pub map-remove : {X Y : Type 0} (f : X → Y) (xs : List X) (index : ℕ) → map f (remove xs index) ≡ remove (map f xs)
+    index
+map-remove f xs index =
+    map-append f (take index xs) (drop (suc index) xs)
+    ∙ ap (λ x. x ++ map f (drop (suc index) xs)) (sym (take-map f index xs))
+    ∙ ap (λ x. take index (map f xs) ++ x) (sym (drop-map f (suc index) xs))

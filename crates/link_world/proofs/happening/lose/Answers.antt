@@ -1,0 +1,27 @@
+use Rattle.std.proofs.Common.{◌≡◌, ◌<◌, List, length, refl, sym, subst, arith, true, None, Some}
+use Rattle.std.proofs.lemmas.Bool.{false≢true}
+use Rattle.std.specs.Prelude.{is_some, remove, OnSome, Option}
+use Rattle.link_machine.specs.declared.acts.Told.{Told}
+use Rattle.link_world.specs.declared.event.Event.TheVariants.{Lose}
+use Rattle.link_world.specs.declared.side.Side.{Side as HeldSide}
+use Rattle.link_world.specs.Held.{MadeStep}
+use Rattle.link_world.proofs.Sides.{lost_made}
+use Rattle.link_world.proofs.happening.lose.Goals as goal
+
+-- what holds of a value holds where there is one
+on_some : {T P : Type 0} (r : Option T) → is_some r ≡ true → OnSome r P → P
+on_some None some h = absurd (false≢true some)
+on_some (Some x) some h = h
+
+pub returns-clause-step : goal.returns-clause-step
+returns-clause-step c = λ w end both.
+    let near : HeldSide = record { link = c.args.near.now.link; towards = c.remove.new.self } in
+    let P : List Told → Type 0 = λ told. MadeStep (Lose end c.args.index) c.args.number w near c.args.far.now told in
+    let some : is_some c.remove.result ≡ true = c.if-is_none.ensures in
+    let count : c.args.near.now.towards.len ≡ length c.args.near.now.towards.items = c.args.near.now.towards.ok.0 in
+    let there : c.args.index < length c.args.near.now.towards.items = let h = c.remove.ensures.variant.0 some in omega
+    arith in
+    let lost : c.remove.new.self.items ≡ remove c.args.near.now.towards.items c.args.index = on_some c.remove.result
+    some c.remove.ensures.items in
+    subst P (sym c.new.ensures.items) (lost_made end c.args.index c.args.number w c.args.near.now c.args.far.now near
+    both there refl lost)

@@ -1,0 +1,275 @@
+-- Each event of a quiet run keeps what holds of a world.
+use Rattle.std.proofs.Common.{◌≡◌, ℕ, zero, suc, ◌+◌, ◌-◌, ◌*◌, ◌/◌, ◌<◌, ◌≤◌, Bool, true, false, ◌&&◌, ◌||◌, not, ◌==◌, nat_eq, cond, if◌then◌else◌, List, [], ◌∷◌, ◌++◌, length, take, drop, map, Option, Some, None, ◌⊎◌, inl, inr, refl, sym, ap, ◌∙◌, subst, arith, append-nil, count_by}
+use Rattle.std.specs.Bool.{⊤}
+use Rattle.std.specs.List.{AllByRecursion as Each, remove}
+use Rattle.std.proofs.lemmas.Bool.{eqb-true, or_cases, not-true, false≢true}
+use Rattle.std.proofs.lemmas.List.{map-append}
+use Rattle.std.proofs.lemmas.List.Sums.{sum_by-cons}
+use Rattle.ax25_frames.specs.declared.frame.Kind.{Kind}
+use Rattle.ax25_frames.specs.declared.frame.U.{U}
+use Rattle.ax25_frames.specs.declared.frame.U.TheVariants.{Sabm as SabmFrame, Sabme as SabmeFrame, Disc as DiscFrame, Dm as DmFrame, Ua as UaFrame}
+use Rattle.selective_reject.specs.declared.window.Mode.{Mode}
+use Rattle.selective_reject.specs.declared.window.Mode.TheVariants.{Rej as RejMode, Srej as SrejMode}
+use Rattle.selective_reject.specs.Window.{IsWindow, largest_window}
+use Rattle.selective_reject.specs.Incoming.{Incoming}
+use Rattle.link_machine.specs.declared.params.Params.{Params}
+use Rattle.link_machine.specs.declared.state.LinkState.{LinkState}
+use Rattle.link_machine.specs.declared.state.LinkState.TheVariants.{Idle as IdleState}
+use Rattle.link_machine.specs.Sent.{Sent, sent_kind}
+use Rattle.link_machine.specs.Sent.Sent.{InfoSent, SuperSent, SetupSent}
+use Rattle.link_machine.specs.Step.{step as link_step}
+use Rattle.link_world.proofs.law.Core.{End, Tagged as CoreTagged, between}
+use Rattle.link_world.proofs.law.CoreMoves.{asks as core_asks, answers as core_answers, sabms, ask_of, answer_of}
+use Rattle.link_world.proofs.law.CoreOf.{core_sent, cores_sent, kind_of}
+use Rattle.link_world.specs.Flight.{Tagged, asks, is_answer, asks_in, answers_in}
+use Rattle.link_world.specs.Recorded.{RecordedEnd, Happening, seen, hears_ask, behind, tagged}
+use Rattle.link_world.specs.Recorded.Happening.{Connects, Sends, Disconnects, Ticks, Hears}
+use Rattle.link_world.specs.World.{Side, World, near_step, near_turn, staying}
+use Rattle.link_world.specs.Quiet.{is_alone, sends_alone, called_alone, is_idle, is_sabm, begins_with_sabm}
+use Rattle.link_world.specs.Windows.{WindowsFit}
+use Rattle.link_world.specs.declared.event.Event.{Event}
+use Rattle.link_world.specs.declared.event.Event.TheVariants.{Connect, Send, Disconnect, Tick, Hear, Lose}
+use Rattle.link_world.proofs.law.Each.{each_append, each_removed}
+use Rattle.link_world.proofs.law.Exchanges.{sabms_are_asks}
+use Rattle.link_world.proofs.law.PlacesFit.{IsFit}
+use Rattle.link_world.proofs.law.Losing.{lose_keeps}
+use Rattle.link_world.proofs.law.Invariant.{Invariant}
+use Rattle.link_world.proofs.law.UpInfo.{WindowsOf}
+use Rattle.link_world.proofs.law.Shown.{core_flight, core_tagged, Shown, IsWritten, AnswersAsSent}
+use Rattle.link_world.proofs.law.Shown.Shown.{ShownIdle, ShownCalling, ShownUp, ShownReleasing}
+use Rattle.link_world.proofs.law.Settling.{IsSameKind, Outcome, IsAlone}
+use Rattle.link_world.proofs.law.UpEvents.{Keeps}
+use Rattle.link_world.proofs.law.EndSteps.{HearsNothing, hears_keeps, asks_keep}
+
+-- a link with these parameters
+pub record IsLike (i : Incoming) (p : Params) : Type 0 where
+  pub window : i.window ≡ p.window
+  pub mode : i.mode ≡ p.mode
+  pub modulus : i.modulus ≡ 8
+
+-- what holds of a world
+pub record ShowsWorld (a b : Params) (w : World) : Type 0 where
+  pub x : End
+  pub y : End
+  pub near : Shown w.a.end x
+  pub far : Shown w.b.end y
+  pub near_fit : IsFit w.a.end.machine.incoming
+  pub far_fit : IsFit w.b.end.machine.incoming
+  pub near_like : IsLike w.a.end.machine.incoming a
+  pub far_like : IsLike w.b.end.machine.incoming b
+  pub holds : Invariant (between x y (core_flight w.a.towards) (core_flight w.b.towards))
+  pub near_written : Each (IsWritten 8) w.a.towards
+  pub far_written : Each (IsWritten 8) w.b.towards
+
+-- the same from the other end
+pub shows_mirror : (a b : Params) (w : World) → ShowsWorld a b w → ShowsWorld b a (record { a = w.b; b = w.a })
+shows_mirror a b w s = record {
+  x = s.y;
+  y = s.x;
+  near = s.far;
+  far = s.near;
+  near_fit = s.far_fit;
+  far_fit = s.near_fit;
+  near_like = s.far_like;
+  far_like = s.near_like;
+  holds = record { x_hears = s.holds.y_hears; y_hears = s.holds.x_hears };
+  near_written = s.far_written;
+  far_written = s.near_written;
+}
+
+shown_window : (r : RecordedEnd) (x : End) → Shown r x → x.window ≡ r.machine.incoming.window
+shown_window r x (ShownIdle state packets waiting) = refl
+shown_window r x (ShownCalling state waiting) = refl
+shown_window r x (ShownUp ended last is state waiting) = refl
+shown_window r x (ShownReleasing state packets waiting) = refl
+
+window_below : (window : ℕ) (mode : Mode) → IsWindow 8 window mode → window < 8
+window_below window RejMode h = let high = h.1 in omega arith
+window_below window SrejMode h = let high = h.1 in omega arith
+
+-- the windows of the two ends fit
+pub windows_of : (a b : Params) (w : World) → WindowsFit 8 a b → (s : ShowsWorld a b w) → WindowsOf w.a.end.machine.incoming s.y
+windows_of a b w fit s =
+    let i = w.a.end.machine.incoming in
+    let own : i.window ≡ a.window = s.near_like.window in
+    let modulus : i.modulus ≡ 8 = s.near_like.modulus in
+    let sender : s.y.window ≡ b.window = shown_window w.b.end s.y s.far ∙ s.far_like.window in
+    let own_below = window_below a.window a.mode fit.of_a in
+    let other_below = window_below b.window b.mode fit.of_b in
+    record {
+      own = omega arith;
+      sender = omega arith;
+      halves = λ mode. let half = fit.halves (inl (sym s.near_like.mode ∙ mode)) in
+          let one = half.0 in
+          let other = half.1 in
+          (omega arith, omega arith);
+    }
+
+alone_of : (n ahead : ℕ) → is_alone n ahead ≡ true → (n ≡ 0) ⊎ (ahead ≡ 0)
+alone_of zero ahead h = inl refl
+alone_of (suc n) ahead h = elim (or_cases (suc n == 0) (suc n + ahead == 1) h) [
+  | inl none ↦ let e = eqb-true (suc n) 0 none in absurd (omega arith)
+  | inr one ↦ let e = eqb-true (suc n + ahead) 1 one in inr (omega arith)
+]
+
+-- asks as they are written and as they are sent
+ask_same : (modulus : ℕ) (answers : Bool) (s : Sent) → cond (asks (sent_kind modulus s)) 1 0 ≡ ask_of (kind_of answers s)
+ask_same modulus answers (InfoSent number nr packet) = refl
+ask_same modulus answers (SuperSent which command nr flag) = refl
+ask_same modulus answers (SetupSent SabmFrame flag) = refl
+ask_same modulus answers (SetupSent SabmeFrame flag) = refl
+ask_same modulus answers (SetupSent DiscFrame flag) = refl
+ask_same modulus answers (SetupSent DmFrame flag) = refl
+ask_same modulus answers (SetupSent UaFrame flag) = refl
+
+asks_sent : (on_ask : Bool) (r : RecordedEnd) (sent : List Sent) → asks_in (map (tagged on_ask r) sent) ≡ core_asks (cores_sent false 0 sent)
+asks_sent on_ask r [] = refl
+asks_sent on_ask r (s ∷ sent) =
+    sum_by-cons (λ (f : Tagged). cond (asks f.frame.kind) 1 0) (tagged on_ask r s) (map (tagged on_ask r) sent)
+    ∙ ap (λ n. n + asks_in (map (tagged on_ask r) sent)) (ask_same r.machine.incoming.modulus false s)
+    ∙ ap (λ n. ask_of (kind_of false s) + n) (asks_sent on_ask r sent)
+
+asks_flying : (fs : List Tagged) → Each (IsWritten 8) fs → asks_in fs ≡ core_asks (core_flight fs)
+asks_flying [] h = refl
+asks_flying (f ∷ fs) h =
+    sum_by-cons (λ (g : Tagged). cond (asks g.frame.kind) 1 0) f fs
+    ∙ ap (λ k. cond (asks k) 1 0 + asks_in fs) h.0.kind
+    ∙ ap (λ n. n + asks_in fs) (ask_same 8 f.answers f.sent)
+    ∙ ap (λ n. ask_of (kind_of f.answers f.sent) + n) (asks_flying fs h.1)
+
+answer_same : (answers : Bool) (s : Sent) → AnswersAsSent answers s → cond answers 1 0 ≡ answer_of (kind_of answers s)
+answer_same answers (InfoSent number nr packet) h = ap (λ b. cond b 1 0) h
+answer_same answers (SuperSent which command nr flag) h = ap (λ b. cond b 1 0) h
+answer_same answers (SetupSent SabmFrame flag) h = ap (λ b. cond b 1 0) h
+answer_same answers (SetupSent SabmeFrame flag) h = absurd h
+answer_same answers (SetupSent DiscFrame flag) h = ap (λ b. cond b 1 0) h
+answer_same true (SetupSent DmFrame flag) h = refl
+answer_same false (SetupSent DmFrame flag) h = refl
+answer_same answers (SetupSent UaFrame flag) h = ap (λ b. cond b 1 0) h
+
+answers_flying : (fs : List Tagged) → Each (IsWritten 8) fs → answers_in fs ≡ core_answers (core_flight fs)
+answers_flying [] h = refl
+answers_flying (f ∷ fs) h =
+    sum_by-cons (λ (g : Tagged). cond g.answers 1 0) f fs
+    ∙ ap (λ n. n + answers_in fs) (answer_same f.answers f.sent h.0.answers)
+    ∙ ap (λ n. answer_of (kind_of f.answers f.sent) + n) (answers_flying fs h.1)
+
+-- a SABM or DISC goes out alone
+alone_as_sent :
+    (h : Happening) (r : RecordedEnd) (stays : List Tagged) (flying : List Tagged) (sent : List Sent) → Each (IsWritten 8) stays → Each (IsWritten 8) flying
+    → let turn = link_step r.machine (seen h) in
+    is_alone (asks_in (map (tagged (hears_ask h) (behind h r turn)) sent)) (asks_in flying + answers_in stays) ≡ true
+    → IsAlone (core_flight stays) (core_flight flying) sent
+alone_as_sent h r stays flying sent stays_written flying_written alone =
+    let turn = link_step r.machine (seen h) in
+    let now = behind h r turn in
+    elim (alone_of (asks_in (map (tagged (hears_ask h) now) sent)) (asks_in flying + answers_in stays) alone) [
+      | inl none ↦ inl (sym (asks_sent (hears_ask h) now sent) ∙ none)
+      | inr quiet ↦ let one = asks_flying flying flying_written in
+          let other = answers_flying stays stays_written in
+          inr (omega arith)
+    ]
+
+-- the world behind an event of its end
+shows_behind :
+    (a b : Params) (w : World) (s : ShowsWorld a b w) (h : Happening) (stays : List Tagged) → Each (IsWritten 8) stays
+    → let turn = link_step w.a.end.machine (seen h) in
+    Outcome s.y (core_flight stays) (core_flight w.b.towards) (hears_ask h) w.a.end.machine.incoming (behind h w.a.end turn) turn.sent
+    → ShowsWorld a b (record {
+      a = record { end = behind h w.a.end turn; towards = stays };
+      b = record w.b { towards = w.b.towards ++ map (tagged (hears_ask h) (behind h w.a.end turn)) turn.sent };
+    })
+shows_behind a b w s h stays written o =
+    let turn = link_step w.a.end.machine (seen h) in
+    let now = behind h w.a.end turn in
+    let modulus : now.machine.incoming.modulus ≡ 8 = o.same.modulus ∙ s.near_like.modulus in
+    record {
+      x = o.end_is;
+      y = s.y;
+      near = o.shown;
+      far = s.far;
+      near_fit = o.fit;
+      far_fit = s.far_fit;
+      near_like = record { window = o.same.window ∙ s.near_like.window; mode = o.same.mode ∙ s.near_like.mode; modulus = modulus };
+      far_like = record { window = s.far_like.window; mode = s.far_like.mode; modulus = s.far_like.modulus };
+      holds = subst (λ fs. Invariant (between o.end_is s.y (core_flight stays) fs)) (sym (map-append core_tagged w.b.towards (map (tagged (hears_ask h) now) turn.sent))) o.holds;
+      near_written = written;
+      far_written = each_append (IsWritten 8) w.b.towards (map (tagged (hears_ask h) now) turn.sent) s.far_written
+          (subst (λ m. Each (IsWritten m) (map (tagged (hears_ask h) now) turn.sent)) modulus o.written);
+    }
+
+-- what happens that is no frame heard
+pub near_asks :
+    (a b : Params) (w : World) (s : ShowsWorld a b w) (h : Happening) → HearsNothing h
+    → let turn = link_step w.a.end.machine (seen h) in
+    is_alone (asks_in (map (tagged (hears_ask h) (behind h w.a.end turn)) turn.sent)) (asks_in w.b.towards + answers_in w.a.towards) ≡ true
+    → ShowsWorld a b (record {
+      a = record { end = behind h w.a.end turn; towards = w.a.towards };
+      b = record w.b { towards = w.b.towards ++ map (tagged (hears_ask h) (behind h w.a.end turn)) turn.sent };
+    })
+near_asks a b w s h silent alone =
+    let turn = link_step w.a.end.machine (seen h) in
+    shows_behind a b w s h w.a.towards s.near_written
+    (asks_keep h w.a.end s.x s.y (core_flight w.a.towards) (core_flight w.b.towards) silent s.near s.near_fit s.holds
+    (alone_as_sent h w.a.end w.a.towards w.b.towards turn.sent s.near_written s.far_written alone))
+
+-- a frame that is heard
+pub near_hears :
+    (a b : Params) (w : World) (s : ShowsWorld a b w) (f : Tagged) (rest : List Tagged) → WindowsFit 8 a b → w.a.towards ≡ f ∷ rest
+    → let h = Hears f in
+    let turn = link_step w.a.end.machine (seen h) in
+    is_alone (asks_in (map (tagged (hears_ask h) (behind h w.a.end turn)) turn.sent)) (asks_in w.b.towards + answers_in rest) ≡ true
+    → (w.a.end.machine.control.state ≡ IdleState → is_sabm f.frame.kind ≡ true → asks_in w.b.towards ≡ 0)
+    → ShowsWorld a b (record {
+      a = record { end = behind h w.a.end turn; towards = rest };
+      b = record w.b { towards = w.b.towards ++ map (tagged (hears_ask h) (behind h w.a.end turn)) turn.sent };
+    })
+near_hears a b w s f rest fit is alone called =
+    let turn = link_step w.a.end.machine (seen (Hears f)) in
+    let to_y = core_flight w.b.towards in
+    let written : Each (IsWritten 8) (f ∷ rest) = subst (λ fs. Each (IsWritten 8) fs) is s.near_written in
+    let front : Invariant (between s.x s.y (core_tagged f ∷ core_flight rest) to_y) = subst (λ fs. Invariant (between s.x s.y (core_flight fs) to_y)) is s.holds in
+    let own : IsWritten w.a.end.machine.incoming.modulus f = subst (λ m. IsWritten m f) (sym s.near_like.modulus) written.0 in
+    let quiet : w.a.end.machine.control.state ≡ IdleState → (flag : Bool) → f.sent ≡ SetupSent SabmFrame flag → sabms to_y ≡ 0 =
+    λ idle flag sabm. none (called idle (ap is_sabm written.0.kind ∙ ap (λ t. is_sabm (sent_kind 8 t)) sabm)) in
+    shows_behind a b w s (Hears f) rest written.1
+    (hears_keeps w.a.end f s.x s.y (core_flight rest) to_y s.near s.near_fit (windows_of a b w fit s) own quiet front
+    (alone_as_sent (Hears f) w.a.end rest w.b.towards turn.sent written.1 s.far_written alone))
+  where
+    none : asks_in w.b.towards ≡ 0 → sabms (core_flight w.b.towards) ≡ 0
+    none e =
+        let same = asks_flying w.b.towards s.far_written in
+        let few = sabms_are_asks (core_flight w.b.towards) in
+        omega arith
+
+-- what holds whatever element goes holds behind a removal
+removed_keeps :
+    {A : Type 0} (P : List A → Type 0) → ((before : List A) (x : A) (after : List A) → P (before ++ x ∷ after) → P (before ++ after))
+    → (xs : List A) (n : ℕ) → P xs → P (remove xs n)
+removed_keeps P loses [] zero h = h
+removed_keeps P loses [] (suc n) h = h
+removed_keeps P loses (x ∷ xs) zero h = loses [] x xs h
+removed_keeps P loses (x ∷ xs) (suc n) h =
+    removed_keeps (λ ys. P (x ∷ ys)) (λ before y after. loses (x ∷ before) y after) xs n h
+
+-- a frame is lost
+pub near_loses : (a b : Params) (w : World) (n : ℕ) → ShowsWorld a b w
+    → ShowsWorld a b (record { a = record w.a { towards = remove w.a.towards n }; b = record w.b { towards = w.b.towards ++ [] } })
+near_loses a b w n s = record {
+  x = s.x;
+  y = s.y;
+  near = s.near;
+  far = s.far;
+  near_fit = s.near_fit;
+  far_fit = s.far_fit;
+  near_like = s.near_like;
+  far_like = s.far_like;
+  holds = subst (λ fs. Invariant (between s.x s.y (core_flight (remove w.a.towards n)) (core_flight fs))) (sym (append-nil w.b.towards))
+      (removed_keeps (λ fs. Invariant (between s.x s.y (core_flight fs) (core_flight w.b.towards)))
+      (λ before f after inv. subst (λ fs. Invariant (between s.x s.y fs (core_flight w.b.towards))) (sym (map-append core_tagged before after))
+      (lose_keeps s.x s.y (core_flight before) (core_tagged f) (core_flight after) (core_flight w.b.towards)
+      (subst (λ fs. Invariant (between s.x s.y fs (core_flight w.b.towards))) (map-append core_tagged before (f ∷ after)) inv)))
+      w.a.towards n s.holds);
+  near_written = removed_keeps (λ fs. Each (IsWritten 8) fs) (λ before f after. each_removed (IsWritten 8) before f after) w.a.towards n s.near_written;
+  far_written = subst (λ fs. Each (IsWritten 8) fs) (sym (append-nil w.b.towards)) s.far_written;
+}

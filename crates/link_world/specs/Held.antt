@@ -1,0 +1,170 @@
+-- What a world keeps in one event. No public clause speaks of this.
+use Rattle.std.specs.Prelude.{◌≡◌, ℕ, ◌+◌, ◌≤◌, ◌⊎◌, ◌&&◌, Bool, true, List, map, count_by, All, Option, Some, None, Result, Ok, Err, ◌++◌, false}
+use Rattle.ax25_frames.specs.declared.frame.Frame.{Frame}
+use Rattle.link_machine.specs.declared.acts.Told.{Told}
+use Rattle.link_machine.specs.Done.{Done}
+use Rattle.link_machine.specs.declared.fault.LinkFault.{LinkFault}
+use Rattle.link_machine.specs.declared.fault.LinkFault.TheVariants.{WrongState, Full, TooLong, Memory as LinkMemory}
+use Rattle.link_machine.specs.declared.machine.Machine.{Machine as HeldLink}
+use Rattle.link_machine.specs.Machine.{Machine}
+use Rattle.link_machine.specs.StandsFor.{StandsFor as LinkStandsFor}
+use Rattle.link_machine.specs.Held.{HasNumbersBelow}
+use Rattle.link_machine.specs.Event.{Event as LinkEvent}
+use Rattle.link_machine.specs.Event.Event.{Connect as LinkConnect, Send as LinkSend, Disconnect as LinkDisconnect, Tick as LinkTick}
+use Rattle.link_world.specs.declared.end.End.{End}
+use Rattle.link_world.specs.declared.end.End.TheVariants.{A, B}
+use Rattle.link_world.specs.declared.event.Event.{Event}
+use Rattle.link_world.specs.declared.event.Event.TheVariants.{Connect, Send, Disconnect, Tick}
+use Rattle.link_world.specs.declared.request.Request.{Request}
+use Rattle.link_world.specs.declared.request.Request.TheVariants.{Connect as ConnectRequest, Send as SendRequest, Disconnect as DisconnectRequest, Tick as TickRequest}
+use Rattle.link_world.specs.Recorded.{Happening}
+use Rattle.link_world.specs.Recorded.Happening.{Connects, Sends, Disconnects, Ticks}
+use Rattle.link_world.specs.declared.fault.WorldFault.{WorldFault}
+use Rattle.link_world.specs.declared.fault.WorldFault.TheVariants.{NothingThere, Link, NotQuiet, Memory}
+use Rattle.link_world.specs.declared.flight.InFlight.{InFlight}
+use Rattle.link_world.specs.declared.side.Side.{Side as HeldSide}
+use Rattle.link_world.specs.Flight.{asks, is_answer}
+use Rattle.link_world.specs.World.{Side, World, near_step, near_turn, step, told_by}
+use Rattle.link_world.specs.Quiet.{is_alone}
+use Rattle.link_world.specs.Faults.{near_cause, cause}
+use Rattle.link_world.specs.StandsFor.{all_in_flight}
+
+-- the most frames that a link sends in one event
+abbrev pub most_frames : ℕ
+most_frames = 16
+
+-- a link that counts modulo 8, with a window below 8: it stands for some machine
+pub record IsCounting (link : HeldLink) : Type 0 where
+  pub machine : Machine
+  pub stands : LinkStandsFor link machine
+  pub modulus : link.incoming.modulus ≡ 8
+  pub window : link.incoming.window ≤ 7
+
+abbrev pub HasLowNumbers : InFlight → Type 0
+HasLowNumbers f = HasNumbersBelow 8 f.frame.kind
+
+-- what holds of each side between two events
+pub record IsSide (side : HeldSide) : Type 0 where
+  pub link : IsCounting side.link
+  pub numbers : All HasLowNumbers side.towards.items
+
+pub record AreSides (near far : HeldSide) : Type 0 where
+  pub of_near : IsSide near
+  pub of_far : IsSide far
+
+-- the side stands for a side of a world
+pub record StandsForSide (held : HeldSide) (side : Side) : Type 0 where
+  pub link : LinkStandsFor held.link side.end.machine
+  pub towards : held.towards.items ≡ all_in_flight side.towards
+
+-- both sides stand for those of a world
+pub record StandForBoth (near far : HeldSide) (w : World) : Type 0 where
+  pub of_near : StandsForSide near w.a
+  pub of_far : StandsForSide far w.b
+
+-- a request as an event of an end, as it happens to the end, and as its link sees it
+abbrev pub event_of : Request → End → Event
+event_of ConnectRequest end = Connect end
+event_of (SendRequest packet) end = Send end packet
+event_of DisconnectRequest end = Disconnect end
+event_of (TickRequest waiting) end = Tick end waiting
+
+abbrev pub happening_of : Request → Happening
+happening_of ConnectRequest = Connects
+happening_of (SendRequest packet) = Sends packet
+happening_of DisconnectRequest = Disconnects
+happening_of (TickRequest waiting) = Ticks waiting
+
+abbrev pub seen_of : Request → LinkEvent
+seen_of ConnectRequest = LinkConnect
+seen_of (SendRequest packet) = LinkSend packet
+seen_of DisconnectRequest = LinkDisconnect
+seen_of (TickRequest waiting) = LinkTick waiting
+
+-- frames that a link sent, as they are in flight
+abbrev pub flying : Bool → Frame → InFlight
+flying on_ask frame = record { frame = frame; answers = on_ask && is_answer frame.kind }
+
+abbrev pub asking_frames : List Frame → ℕ
+asking_frames frames = count_by (λ (f : Frame). asks f.kind) frames
+
+abbrev pub asking : List InFlight → ℕ
+asking frames = count_by (λ (f : InFlight). asks f.frame.kind) frames
+
+abbrev pub answering : List InFlight → ℕ
+answering frames = count_by (λ (f : InFlight). f.answers) frames
+
+-- whether the frames may be sent, where these are in flight to the other end and back
+abbrev pub may_fly : List Frame → List InFlight → List InFlight → Bool
+may_fly frames ahead back = is_alone (asking_frames frames) (asking ahead + answering back)
+
+abbrev pub world_fault_of : LinkFault → WorldFault
+world_fault_of (WrongState state quit) = Link (WrongState state quit)
+world_fault_of Full = Link Full
+world_fault_of (TooLong len) = Link (TooLong len)
+world_fault_of LinkMemory = Memory
+
+-- the sides made the step of the world, and this was told
+pub record MadeStep (event : Event) (number : ℕ) (w : World) (near far : HeldSide) (told : List Told) : Type 0 where
+  pub free : near_cause number event w ≡ None
+  pub stands : StandForBoth near far (near_step event w)
+  pub tells : told ≡ (near_turn event w).told
+
+-- the frames of an event went behind those in flight
+pub record Flew (done : Done) (on_ask : Bool) (ahead back behind : List InFlight) (told : List Told) : Type 0 where
+  pub quiet : may_fly done.frames ahead back ≡ true
+  pub towards : behind ≡ ahead ++ map (flying on_ask) done.frames
+  pub tells : told ≡ done.told
+
+-- they did not, since the channel was not quiet
+pub record Stayed (done : Done) (number : ℕ) (ahead back behind : List InFlight) (fault : WorldFault) : Type 0 where
+  pub noisy : may_fly done.frames ahead back ≡ false
+  pub towards : behind ≡ ahead
+  pub answers : fault ≡ NotQuiet number
+
+-- at which event the world stops, by what that answered
+abbrev pub stop_by : WorldFault → Option ℕ
+stop_by NothingThere = None
+stop_by (Link fault) = None
+stop_by (NotQuiet index) = Some index
+stop_by Memory = None
+
+-- why an event was refused
+abbrev pub IsRefusal : Event → ℕ → World → WorldFault → Type 0
+IsRefusal event number w fault = (fault ≡ Memory) ⊎ (near_cause number event w ≡ Some fault)
+
+-- A refusal changes no frame in flight. Where the channel was not quiet the link has made its step; else it is as it
+-- was.
+pub record IsKept (number : ℕ) (fault : WorldFault) (near_old far_old near far : HeldSide) : Type 0 where
+  pub near_towards : near.towards.items ≡ near_old.towards.items
+  pub far_towards : far.towards.items ≡ far_old.towards.items
+  pub far_link : far.link ≡ far_old.link
+  pub near_link : (fault ≡ NotQuiet number) ⊎ (near.link ≡ near_old.link)
+
+-- of two sides, that of an end
+abbrev pub side_at : End → HeldSide → HeldSide → HeldSide
+side_at A a b = a
+side_at B a b = b
+
+-- the same of the two sides of a world
+pub record MadeStepOf (event : Event) (number : ℕ) (w : World) (a b : HeldSide) (told : List Told) : Type 0 where
+  pub free : cause number w event ≡ None
+  pub stands : StandForBoth a b (step w event)
+  pub tells : told ≡ told_by w event
+
+abbrev pub IsRefusalOf : Event → ℕ → World → WorldFault → Type 0
+IsRefusalOf event number w fault = (fault ≡ Memory) ⊎ (cause number w event ≡ Some fault)
+
+pub record LinksKept (a_old b_old a b : HeldSide) : Type 0 where
+  pub of_a : a.link ≡ a_old.link
+  pub of_b : b.link ≡ b_old.link
+
+pub record AreKept (number : ℕ) (fault : WorldFault) (a_old b_old a b : HeldSide) : Type 0 where
+  pub towards_a : a.towards.items ≡ a_old.towards.items
+  pub towards_b : b.towards.items ≡ b_old.towards.items
+  pub links : (fault ≡ NotQuiet number) ⊎ LinksKept a_old b_old a b
+
+-- at which event the world stops, by what an event answered
+abbrev pub stop_of : {T : Type 0} → Result T WorldFault → Option ℕ
+stop_of (Ok told) = None
+stop_of (Err fault) = stop_by fault

@@ -1,0 +1,12 @@
+pub mod Flight
+pub mod SetUps
+pub mod Recorded
+pub mod World
+pub mod Untagged
+pub mod Quiet
+pub mod Windows
+pub mod Origin
+pub mod Law
+pub mod Faults
+pub mod StandsFor
+pub mod Held

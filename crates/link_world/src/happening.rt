@@ -1,0 +1,169 @@
+//! One event at an end, and what it changes there and on the way to the partner.
+ghost use Rattle.std.specs.Prelude.{◌≡◌, ℕ, ◌+◌, ◌≤◌, false, drop, length, Err, IfOk, IfErr};
+ghost use Rattle.std.specs.VecDeque.{deque_len, deque_capacity};
+ghost use Rattle.link_world.specs.declared.event.Event.TheVariants.{Hear, Lose};
+ghost use Rattle.link_world.specs.declared.end.End.{End as AnyEnd};
+ghost use Rattle.link_world.specs.World.{World as State, end_of};
+ghost use Rattle.link_world.specs.Faults.{is_there};
+ghost use Rattle.link_world.specs.Held.{event_of, side_at, IsSide, AreSides, StandForBoth, MadeStep, IsRefusal, IsKept, MadeStepOf, IsRefusalOf, AreKept, Flew, Stayed, asking_frames};
+
+use crate::end::End;
+use crate::event::Event;
+use crate::fault::WorldFault;
+use crate::flight::asks;
+use crate::request::Request;
+use crate::side::Side;
+use ax25_frames::Frame;
+use link_machine::{Acts, Told};
+use std::alloc::Global;
+
+/// Lets the event with this number happen at its end.
+pub(crate) fn happen(
+    alloc: Global,
+    a: &mut Side,
+    b: &mut Side,
+    event: Event,
+    number: u64,
+) -> Result<Vec<Told>, WorldFault>
+    requires { AreSides a.old b.old }
+    ensures step { (w : State) → StandForBoth a.old b.old w
+        → IfOk result (λ told. MadeStepOf event number w a.new b.new told.items) }
+    ensures refused { (w : State) → StandForBoth a.old b.old w → IfErr result (IsRefusalOf event number w) }
+    ensures nothing_there { is_there event (length (side_at (end_of event) a.old b.old).towards.items) ≡ false
+        → result ≡ Err WorldFault.NothingThere }
+    ensures kept { IfErr result (λ fault. AreKept number fault a.old b.old a.new b.new) }
+    ensures formed { AreSides a.new b.new }
+{
+    match event.end() {
+        End::A => happen_near(alloc, a, b, event, number),
+        End::B => happen_near(alloc, b, a, event, number),
+    }
+}
+
+/// Lets the event happen at the end `near`, whose partner is `far`.
+fn happen_near(
+    alloc: Global,
+    near: &mut Side,
+    far: &mut Side,
+    event: Event,
+    number: u64,
+) -> Result<Vec<Told>, WorldFault>
+    requires { AreSides near.old far.old }
+    ensures step { (w : State) → StandForBoth near.old far.old w
+        → IfOk result (λ told. MadeStep event number w near.new far.new told.items) }
+    ensures refused { (w : State) → StandForBoth near.old far.old w → IfErr result (IsRefusal event number w) }
+    ensures nothing_there { is_there event (length near.old.towards.items) ≡ false
+        → result ≡ Err WorldFault.NothingThere }
+    ensures kept { IfErr result (λ fault. IsKept number fault near.old far.old near.new far.new) }
+    ensures formed { AreSides near.new far.new }
+{
+    match event {
+        Event::Connect(_) => take(near, far, Request::Connect, number),
+        Event::Send(_, packet) => take(near, far, Request::Send(packet), number),
+        Event::Disconnect(_) => take(near, far, Request::Disconnect, number),
+        Event::Tick(_, waiting) => take(near, far, Request::Tick(waiting), number),
+        Event::Hear(_) => hear(near, far, number),
+        Event::Lose(_, index) => lose(alloc, near, far, index, number),
+    }
+}
+
+/// Lets the end's link take a request or a tick.
+fn take(
+    near: &mut Side,
+    far: &mut Side,
+    request: Request,
+    number: u64,
+) -> Result<Vec<Told>, WorldFault>
+    requires { AreSides near.old far.old }
+    ensures step { (w : State) (end : AnyEnd) → StandForBoth near.old far.old w
+        → IfOk result (λ told. MadeStep (event_of request end) number w near.new far.new told.items) }
+    ensures refused { (w : State) (end : AnyEnd) → StandForBoth near.old far.old w
+        → IfErr result (IsRefusal (event_of request end) number w) }
+    ensures kept { IfErr result (λ fault. IsKept number fault near.old far.old near.new far.new) }
+    ensures formed { AreSides near.new far.new }
+{
+    far.make_room()?;
+    let acts = request.ask(&mut near.link)?;
+    deliver(near, far, acts, 0, false, number)
+}
+
+/// Loses a frame in flight towards the end.
+fn lose(
+    alloc: Global,
+    near: &mut Side,
+    far: &Side,
+    index: usize,
+    number: u64,
+) -> Result<Vec<Told>, WorldFault>
+    requires { AreSides near.old far.now }
+    ensures step { (w : State) (end : AnyEnd) → StandForBoth near.old far.now w
+        → IfOk result (λ told. MadeStep (Lose end index) number w near.new far.now told.items) }
+    ensures refused { (w : State) (end : AnyEnd) → StandForBoth near.old far.now w
+        → IfErr result (IsRefusal (Lose end index) number w) }
+    ensures nothing_there { length near.old.towards.items ≤ index → result ≡ Err WorldFault.NothingThere }
+    ensures kept { IfErr result (λ fault. IsKept number fault near.old far.now near.new far.now) }
+    ensures formed { IsSide near.new }
+{
+    if near.towards.remove(index).is_none() {
+        return Err(WorldFault::NothingThere);
+    }
+    Ok(Vec::new(alloc))
+}
+
+/// Lets the end hear the frame at the front. Where that is refused, the frame stays there.
+fn hear(near: &mut Side, far: &mut Side, number: u64) -> Result<Vec<Told>, WorldFault>
+    requires { AreSides near.old far.old }
+    ensures step { (w : State) (end : AnyEnd) → StandForBoth near.old far.old w
+        → IfOk result (λ told. MadeStep (Hear end) number w near.new far.new told.items) }
+    ensures refused { (w : State) (end : AnyEnd) → StandForBoth near.old far.old w
+        → IfErr result (IsRefusal (Hear end) number w) }
+    ensures nothing_there { length near.old.towards.items ≡ 0 → result ≡ Err WorldFault.NothingThere }
+    ensures kept { IfErr result (λ fault. IsKept number fault near.old far.old near.new far.new) }
+    ensures formed { AreSides near.new far.new }
+{
+    let Some(heard) = near.towards.front() else {
+        return Err(WorldFault::NothingThere);
+    };
+    far.make_room()?;
+    let on_ask = asks(&heard.frame.kind);
+    let acts = near.link.frame(&heard.frame)?;
+    match deliver(near, far, acts, 1, on_ask, number) {
+        Ok(told) => {
+            let _ = near.towards.pop_front();
+            Ok(told)
+        }
+        Err(fault) => Err(fault),
+    }
+}
+
+/// Sends what a link sent on its way to `far`, where `heard` of the frames towards `near` were heard. A SABM or DISC is
+/// refused unless it is alone.
+fn deliver(
+    near: &Side,
+    far: &mut Side,
+    acts: Acts,
+    heard: usize,
+    on_ask: bool,
+    number: u64,
+) -> Result<Vec<Told>, WorldFault>
+    requires { deque_len far.old.towards + length acts.frames ≤ deque_capacity far.old.towards }
+    ensures flew { IfOk result (λ told.
+        Flew acts on_ask far.old.towards.items (drop heard near.now.towards.items) far.new.towards.items told.items) }
+    ensures stayed { IfErr result
+        (Stayed acts number far.old.towards.items (drop heard near.now.towards.items) far.new.towards.items) }
+    ensures link { far.new.link ≡ far.old.link }
+{
+    let sent = asking_frames(&acts.frames);
+    if sent > 0 && sent + far.asking() + near.answering(heard) != 1 {
+        return Err(WorldFault::NotQuiet { index: number });
+    }
+    far.append(acts.frames, on_ask);
+    Ok(acts.told)
+}
+
+/// How many SABM and DISC are among the frames.
+fn asking_frames(frames: &[Frame]) -> usize
+    ensures { result ≡ asking_frames frames.now }
+{
+    frames.iter().filter(|frame| asks(&frame.kind)).count()
+}

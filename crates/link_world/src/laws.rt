@@ -1,0 +1,20 @@
+//! Laws on worlds. A law is the contract of a function that does nothing.
+ghost use Rattle.std.specs.Prelude.{◌≡◌};
+ghost use Rattle.link_world.specs.declared.event.Event.{Event};
+ghost use Rattle.link_world.specs.World.{World, step};
+ghost use Rattle.link_world.specs.Untagged.{untagged, untagged_step};
+ghost use Rattle.link_world.specs.Law.{PrefixLaw};
+
+/// What the two links do, and which frames are in flight, never depends on tags and records: without them the step of a
+/// world is one step of one machine, whose frames go behind those in flight to the other, or the loss of a frame.
+pub fn tags_do_not_matter()
+    ensures { (w : World) (event : Event) → untagged (step w event) ≡ untagged_step (untagged w) event }
+{}
+
+/// The law of two links. In every run of events from a new world whose windows fit, in which each SABM and DISC enters a
+/// quiet channel: what each set-up of an end got is, packet for packet and in order, a prefix of what the other end was
+/// given in one set-up of its own, its origin; origins rise strictly; a set-up acts on frames of one set-up alone; and no
+/// link hears an invalid N(R). So nothing is made up, doubled or put in another order, whatever is lost.
+pub fn prefix_law()
+    ensures { PrefixLaw }
+{}
