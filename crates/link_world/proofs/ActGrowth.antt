@@ -13,7 +13,7 @@ use Rattle.selective_reject.specs.Places.{missing, is_missing}
 use Rattle.link_machine.specs.Machine.{Machine}
 use Rattle.link_machine.specs.Sent.{infos_from}
 use Rattle.link_machine.specs.Sent.Sent.{SuperSent, SetupSent}
-use Rattle.link_machine.specs.Acts.{respond_ready, answer_poll, recover, poll, in_window, to_send, send_packets, flush, release, close, settle, call, reset, reject, give, ask, srej_for, send_again, sent_packet}
+use Rattle.link_machine.specs.Acts.{respond_ready, answer_poll, recover, poll, in_window, to_send, send_packets, flush, release, close, settle, reset, reject, give, ask, srej_for, send_again, sent_packet}
 use Rattle.ax25_frames.specs.declared.frame.S.TheVariants.{Rr, Rej}
 use Rattle.ax25_frames.specs.declared.frame.U.TheVariants.{Sabm, Disc}
 use Rattle.link_world.proofs.Growth.{Sends, still, more, one, either, both}

@@ -1,8 +1,8 @@
 -- A link that counts modulo 8 goes on doing so, and what it sends has numbers below 8 and fits the room.
-use Rattle.std.proofs.Common.{◌≡◌, ℕ, suc, ◌≤◌, Bool, List, ◌++◌, length, map, sym, ◌∙◌, ap, subst, arith}
-use Rattle.std.specs.Prelude.{All, remove, Result, Ok, Err, IfOk, IfErr}
+use Rattle.std.proofs.Common.{◌≡◌, ◌≤◌, Bool, List, ◌++◌, length, map, sym, ◌∙◌, ap, subst, arith}
+use Rattle.std.specs.Prelude.{All, Result, Ok, Err, IfOk, IfErr}
 use Rattle.std.proofs.lemmas.List.{length-map}
-use Rattle.std.proofs.lemmas.List.Elements.{All-map, All-append, All-take, All-drop}
+use Rattle.std.proofs.lemmas.List.Elements.{All-map, All-append}
 use Rattle.ax25_address.specs.declared.path.Path.{Path}
 use Rattle.ax25_frames.specs.declared.frame.Frame.{Frame}
 use Rattle.link_machine.specs.declared.machine.Machine.{Machine as HeldLink}
@@ -15,7 +15,6 @@ use Rattle.link_machine.specs.Held.{HasNumbersBelow}
 use Rattle.link_machine.specs.Event.{Event}
 use Rattle.link_machine.specs.Turn.{begin}
 use Rattle.link_machine.specs.Step.{step, done_of}
-use Rattle.link_world.specs.declared.flight.InFlight.{InFlight}
 use Rattle.link_world.specs.declared.side.Side.{Side as HeldSide}
 use Rattle.link_world.specs.Held.{IsCounting, HasLowNumbers, IsSide, flying}
 use Rattle.link_world.proofs.Growth.{Grows}

@@ -1,25 +1,21 @@
 -- What a request, a tick, a frame heard and a frame lost make of two sides.
-use Rattle.std.proofs.Common.{◌≡◌, ℕ, suc, ◌<◌, ◌⊎◌, inl, inr, Bool, true, false, if◌then◌else◌, List, [], ◌∷◌, length, drop, refl, sym, ◌∙◌, ap, subst, arith, Some, None, Result, Ok, Err}
+use Rattle.std.proofs.Common.{◌≡◌, ℕ, suc, ◌<◌, Bool, true, false, List, [], ◌∷◌, length, drop, refl, sym, ◌∙◌, ap, subst, arith, Some, None, Result, Ok, Err}
 use Rattle.std.specs.Prelude.{Option, remove, slice_index_or}
 use Rattle.std.proofs.lemmas.Bool.{lt-ltb}
 use Rattle.std.proofs.lemmas.List.{append-nil, length-map}
 use Rattle.link_machine.specs.declared.acts.Told.{Told}
 use Rattle.link_machine.specs.declared.fault.LinkFault.{LinkFault}
-use Rattle.link_machine.specs.declared.fault.LinkFault.TheVariants.{WrongState, Full, TooLong, Memory as LinkMemory}
 use Rattle.link_machine.specs.declared.machine.Machine.{Machine as HeldLink}
 use Rattle.link_machine.specs.Done.{Done}
 use Rattle.link_machine.specs.Event.{Event as LinkEvent}
 use Rattle.link_machine.specs.Event.Event.{Hear as LinkHear}
 use Rattle.link_machine.specs.Machine.{Machine}
-use Rattle.link_machine.specs.Requests.{refusal}
 use Rattle.link_machine.specs.StandsFor.{StandsFor as LinkStandsFor}
 use Rattle.link_machine.specs.Step.{step, done_of, refusal_of}
 use Rattle.ax25_frames.specs.declared.frame.Frame.{Frame}
 use Rattle.link_world.specs.declared.end.End.{End}
-use Rattle.link_world.specs.declared.event.Event.{Event}
-use Rattle.link_world.specs.declared.event.Event.TheVariants.{Connect, Send, Disconnect, Hear, Lose}
+use Rattle.link_world.specs.declared.event.Event.TheVariants.{Hear, Lose}
 use Rattle.link_world.specs.declared.fault.WorldFault.{WorldFault}
-use Rattle.link_world.specs.declared.fault.WorldFault.TheVariants.{NothingThere, Link}
 use Rattle.link_world.specs.declared.flight.InFlight.{InFlight}
 use Rattle.link_world.specs.declared.request.Request.{Request}
 use Rattle.link_world.specs.declared.request.Request.TheVariants.{Connect as ConnectRequest, Send as SendRequest, Disconnect as DisconnectRequest, Tick as TickRequest}
@@ -28,10 +24,9 @@ use Rattle.link_world.specs.Flight.{Tagged, asks}
 use Rattle.link_world.specs.Recorded.{RecordedEnd, seen, hears_ask}
 use Rattle.link_world.specs.Recorded.Happening.{Hears}
 use Rattle.link_world.specs.World.{Side, World}
-use Rattle.link_world.specs.Quiet.{sends_alone}
-use Rattle.link_world.specs.Faults.{is_there, refused_by, cause_by, near_cause}
+use Rattle.link_world.specs.Faults.{refused_by, near_cause}
 use Rattle.link_world.specs.StandsFor.{in_flight, all_in_flight}
-use Rattle.link_world.specs.Held.{event_of, happening_of, seen_of, StandForBoth, MadeStep, Flew, Stayed, IsRefusal, world_fault_of}
+use Rattle.link_world.specs.Held.{event_of, happening_of, seen_of, StandForBoth, MadeStep, Flew, Stayed}
 use Rattle.link_world.proofs.Counting.{Steps}
 use Rattle.link_world.proofs.TagLemmas.{map-remove}
 use Rattle.link_world.proofs.Happens.{IsAsked, cause_is, made, noisy}

@@ -1,5 +1,5 @@
 -- All I and S frames that a set-up acted on are of its mate.
-use Rattle.std.proofs.Common.{◌≡◌, ℕ, zero, suc, ◌+◌, ◌<◌, ◌≤◌, Bool, true, false, if◌then◌else◌, List, [], ◌∷◌, ◌++◌, length, map, All, Option, Some, None, is_some, refl, sym, ap, ◌∙◌, subst, arith}
+use Rattle.std.proofs.Common.{◌≡◌, ℕ, Bool, true, false, if◌then◌else◌, List, [], ◌∷◌, ◌++◌, All, is_some, refl, sym, ap, ◌∙◌, subst}
 use Rattle.std.specs.List.{AllByRecursion as Each, fold}
 use Rattle.std.proofs.lemmas.List.Elements.{All-from_recursion}
 use Rattle.selective_reject.specs.declared.packet.Packet.{Packet}
@@ -12,15 +12,14 @@ use Rattle.link_machine.specs.Sent.{Sent, sent_kind}
 use Rattle.link_machine.specs.Sent.Sent.{InfoSent, SuperSent, SetupSent}
 use Rattle.link_machine.specs.Step.{refusal_of}
 use Rattle.link_machine.specs.Turn.{Turn}
-use Rattle.link_world.proofs.law.Core.{End, Tagged as CoreTagged, Numbered, between}
+use Rattle.link_world.proofs.law.Core.{End, Tagged as CoreTagged, between}
 use Rattle.link_world.proofs.law.Core.Numbered.{Info}
-use Rattle.link_world.proofs.law.CoreMoves.{numbered_to}
 use Rattle.link_world.proofs.law.CoreOf.{super_of, running_of, end_behind, up_end}
 use Rattle.link_world.specs.SetUps.{SetUp, change_last, last_changed, giving, getting, acting, opened}
 use Rattle.link_world.specs.Flight.{Tagged, is_numbered}
 use Rattle.link_world.specs.Origin.{ActedOnOne}
 use Rattle.link_world.specs.Recorded.{RecordedEnd, Happening, told_of, mate_of, taking, hearing, noting, accepts, behind}
-use Rattle.link_world.specs.Recorded.Happening.{Connects, Sends, Disconnects, Ticks, Hears}
+use Rattle.link_world.specs.Recorded.Happening.{Sends, Hears}
 use Rattle.link_world.proofs.law.Each.{each_weaker, each_pushed, each_before, each_last}
 use Rattle.link_world.proofs.law.Upward.{front_of_mate}
 use Rattle.link_world.proofs.law.Invariant.{Invariant}
@@ -31,33 +30,47 @@ abbrev pub ActedOnMate : SetUp → Type 0
 ActedOnMate q = Each (λ n. n ≡ q.mate) q.acted_on
 
 -- the last set-up changes, and its mate and what it acted on stay
-last_changed_keeps : (P : SetUp → Type 0) (f : SetUp → SetUp) → ((q : SetUp) → P q → P (f q)) → (q : SetUp) (qs : List SetUp) → P q → Each P qs → Each P (last_changed f q qs)
+last_changed_keeps :
+    (P : SetUp → Type 0) (f : SetUp → SetUp) → ((q : SetUp) → P q → P (f q)) → (q : SetUp) (qs : List SetUp) → P q
+    → Each P qs → Each P (last_changed f q qs)
 last_changed_keeps P f keeps q [] here rest = (keeps q here, tt)
 last_changed_keeps P f keeps q (p ∷ qs) here rest = (here, last_changed_keeps P f keeps p qs rest.0 rest.1)
 
-change_last_keeps : (P : SetUp → Type 0) (f : SetUp → SetUp) → ((q : SetUp) → P q → P (f q)) → (qs : List SetUp) → Each P qs → Each P (change_last f qs)
+change_last_keeps :
+    (P : SetUp → Type 0) (f : SetUp → SetUp) → ((q : SetUp) → P q → P (f q)) → (qs : List SetUp) → Each P qs
+    → Each P (change_last f qs)
 change_last_keeps P f keeps [] h = tt
 change_last_keeps P f keeps (q ∷ qs) h = last_changed_keeps P f keeps q qs h.0 h.1
 
-told_keeps : (mate : ℕ) (waiting : List Packet) (qs : List SetUp) (told : List Told) → Each ActedOnMate qs → Each ActedOnMate (fold (told_of mate waiting) qs told)
+told_keeps :
+    (mate : ℕ) (waiting : List Packet) (qs : List SetUp) (told : List Told) → Each ActedOnMate qs
+    → Each ActedOnMate (fold (told_of mate waiting) qs told)
 told_keeps mate waiting qs [] h = h
 told_keeps mate waiting qs (Opened ours ∷ told) h =
-    told_keeps mate waiting (qs ++ opened mate waiting ∷ []) told (each_pushed ActedOnMate qs (opened mate waiting) h tt)
+    told_keeps mate waiting (qs ++ opened mate waiting ∷ []) told
+    (each_pushed ActedOnMate qs (opened mate waiting) h tt)
 told_keeps mate waiting qs (Given packet ∷ told) h =
-    told_keeps mate waiting (change_last (getting packet) qs) told (change_last_keeps ActedOnMate (getting packet) (λ q a. a) qs h)
+    told_keeps mate waiting (change_last (getting packet) qs) told
+    (change_last_keeps ActedOnMate (getting packet) (λ q a. a) qs h)
 told_keeps mate waiting qs (Ended why ∷ told) h = told_keeps mate waiting qs told h
 
 -- what is told changes nothing of it
-pub acted_behind : (h : Happening) (r : RecordedEnd) (turn : Turn) → Each ActedOnMate (noting h r).set_ups → Each ActedOnMate (behind h r turn).set_ups
+pub acted_behind :
+    (h : Happening) (r : RecordedEnd) (turn : Turn) → Each ActedOnMate (noting h r).set_ups
+    → Each ActedOnMate (behind h r turn).set_ups
 acted_behind h r turn acted = told_keeps (mate_of h) (noting h r).waiting (noting h r).set_ups turn.told acted
 
-taking_keeps : (state : LinkState) (packet : Packet) (r : RecordedEnd) → Each ActedOnMate r.set_ups → Each ActedOnMate (taking state packet r).set_ups
+taking_keeps :
+    (state : LinkState) (packet : Packet) (r : RecordedEnd) → Each ActedOnMate r.set_ups
+    → Each ActedOnMate (taking state packet r).set_ups
 taking_keeps IdleState packet r h = h
 taking_keeps CallingState packet r h = h
 taking_keeps UpState packet r h = change_last_keeps ActedOnMate (giving packet) (λ q a. a) r.set_ups h
 taking_keeps ReleasingState packet r h = h
 
-pub acted_sends : (packet : Packet) (r : RecordedEnd) → Each ActedOnMate r.set_ups → Each ActedOnMate (noting (Sends packet) r).set_ups
+pub acted_sends :
+    (packet : Packet) (r : RecordedEnd) → Each ActedOnMate r.set_ups
+    → Each ActedOnMate (noting (Sends packet) r).set_ups
 acted_sends packet r h = go (is_some (refusal_of r.machine (Send packet)))
   where
     go : (b : Bool) → Each ActedOnMate (if b then r else taking r.machine.control.state packet r).set_ups
@@ -65,29 +78,37 @@ acted_sends packet r h = go (is_some (refusal_of r.machine (Send packet)))
     go false = taking_keeps r.machine.control.state packet r h
 
 -- the last one acts on a frame of its mate
-acting_keeps : (qs ended : List SetUp) (last : SetUp) (number : ℕ) (takes : Bool) → qs ≡ ended ++ last ∷ [] → number ≡ last.mate
+acting_keeps :
+    (qs ended : List SetUp) (last : SetUp) (number : ℕ) (takes : Bool) → qs ≡ ended ++ last ∷ [] → number ≡ last.mate
     → Each ActedOnMate qs → Each ActedOnMate (change_last (acting number takes) qs)
 acting_keeps qs ended last number takes is mate h =
     let all = subst (λ t. Each ActedOnMate t) is h in
-    subst (λ t. Each ActedOnMate t) (sym (ap (change_last (acting number takes)) is ∙ change_last-push (acting number takes) ended last))
+    subst (λ t. Each ActedOnMate t) (sym (ap (change_last (acting number takes)) is
+    ∙ change_last-push (acting number takes) ended last))
     (each_pushed ActedOnMate ended (acting number takes last) (each_before ActedOnMate ended last all)
     (each_pushed (λ n. n ≡ last.mate) last.acted_on number (each_last ActedOnMate ended last all) mate))
 
 -- the mate of the last set-up, of a frame that is acted on
 mate_of_front :
-    (r : RecordedEnd) (ended : List SetUp) (last : SetUp) (f : Tagged) (sent : Sent) (y : End) (rest to_y : List CoreTagged)
+    (r : RecordedEnd) (ended : List SetUp) (last : SetUp) (f : Tagged) (sent : Sent) (y : End)
+    (rest to_y : List CoreTagged)
     → is_numbered (sent_kind 8 sent) ≡ true
-    → Invariant (between (up_end r.machine (core_set_ups ended) (core_set_up last)) y (core_tagged (record f { sent = sent }) ∷ rest) to_y)
+    → Invariant (between (up_end r.machine (core_set_ups ended) (core_set_up last)) y
+    (core_tagged (record f { sent = sent }) ∷ rest) to_y)
     → f.set_up ≡ last.mate
 mate_of_front r ended last f (InfoSent ns nr packet) y rest to_y is inv =
-    front_of_mate (end_behind r.machine (core_set_ups ended)) y (running_of r.machine (core_set_up last)) f.set_up (Info ns nr packet) rest to_y inv
+    front_of_mate (end_behind r.machine (core_set_ups ended)) y (running_of r.machine (core_set_up last)) f.set_up
+    (Info ns nr packet) rest to_y inv
 mate_of_front r ended last f (SuperSent which command nr flag) y rest to_y is inv =
-    front_of_mate (end_behind r.machine (core_set_ups ended)) y (running_of r.machine (core_set_up last)) f.set_up (super_of which nr flag) rest to_y inv
-mate_of_front r ended last f (SetupSent which flag) y rest to_y is inv = absurd (Rattle.std.proofs.lemmas.Bool.false≢true is)
+    front_of_mate (end_behind r.machine (core_set_ups ended)) y (running_of r.machine (core_set_up last)) f.set_up
+    (super_of which nr flag) rest to_y inv
+mate_of_front r ended last f (SetupSent which flag) y rest to_y is inv =
+    absurd (Rattle.std.proofs.lemmas.Bool.false≢true is)
 
 pub acted_hears :
     (r : RecordedEnd) (x y : End) (f : Tagged) (rest to_y : List CoreTagged) → Shown r x → IsWritten 8 f
-    → Invariant (between x y (core_tagged f ∷ rest) to_y) → Each ActedOnMate r.set_ups → Each ActedOnMate (noting (Hears f) r).set_ups
+    → Invariant (between x y (core_tagged f ∷ rest) to_y) → Each ActedOnMate r.set_ups
+    → Each ActedOnMate (noting (Hears f) r).set_ups
 acted_hears r x y f rest to_y (ShownIdle state packets waiting) written inv h =
     subst (λ s. Each ActedOnMate (hearing s f r).set_ups) (sym state) h
 acted_hears r x y f rest to_y (ShownCalling state waiting) written inv h =
@@ -96,7 +117,8 @@ acted_hears r x y f rest to_y (ShownUp ended last is state waiting) written inv 
     subst (λ s. Each ActedOnMate (hearing s f r).set_ups) (sym state) (go (is_numbered f.frame.kind) refl)
   where
     go : (b : Bool) → is_numbered f.frame.kind ≡ b
-        → Each ActedOnMate (if b then record r { set_ups = change_last (acting f.set_up (accepts r.machine f.frame.kind)) r.set_ups } else r).set_ups
+        → Each ActedOnMate (if b then record r
+        { set_ups = change_last (acting f.set_up (accepts r.machine f.frame.kind)) r.set_ups } else r).set_ups
     go true e = acting_keeps r.set_ups ended last f.set_up (accepts r.machine f.frame.kind) is
         (mate_of_front r ended last f f.sent y rest to_y (sym (ap is_numbered written.kind) ∙ e) inv) h
     go false e = h

@@ -1,28 +1,25 @@
 -- An end opens a set-up: it hears a SABM, or the UA to its own.
-use Rattle.std.proofs.Common.{◌≡◌, ℕ, zero, suc, ◌+◌, ◌-◌, ◌<◌, ◌≤◌, min, Bool, true, false, ◌&&◌, ◌||◌, ◌==◌, if◌then◌else◌, List, [], ◌∷◌, ◌++◌, length, take, drop, map, replicate, Option, Some, None, refl, sym, ap, ◌∙◌, subst, arith, append-nil, append_assoc, length-append}
-use Rattle.std.specs.List.{AllByRecursion as Each, fold}
-use Rattle.std.specs.Bool.{⊤}
+use Rattle.std.proofs.Common.{◌≡◌, ℕ, zero, suc, ◌-◌, min, Bool, true, false, ◌==◌, if◌then◌else◌, List, [], ◌∷◌, ◌++◌, length, take, map, replicate, refl, sym, ap, ◌∙◌, subst}
+use Rattle.std.specs.List.{fold}
 use Rattle.std.proofs.lemmas.List.Sums.{fold-append}
 use Rattle.ax25_address.specs.declared.path.Path.{Path}
 use Rattle.ax25_frames.specs.FrameText.{is_command_of}
 use Rattle.ax25_frames.specs.declared.frame.U.TheVariants.{Sabm as SabmFrame, Ua as UaFrame}
 use Rattle.selective_reject.specs.declared.packet.Packet.{Packet}
-use Rattle.selective_reject.specs.Incoming.{Incoming}
 use Rattle.link_machine.specs.declared.acts.Told.{Told}
 use Rattle.link_machine.specs.declared.acts.Told.TheVariants.{Opened, Ended}
 use Rattle.link_machine.specs.declared.acts.Why.TheVariants.{Reset}
 use Rattle.link_machine.specs.Machine.{Machine}
-use Rattle.link_machine.specs.Sent.{Sent}
 use Rattle.link_machine.specs.Sent.Sent.{SetupSent}
-use Rattle.link_machine.specs.Turn.{Turn, begin, telling}
-use Rattle.link_machine.specs.Acts.{close, flush, in_window, send_packets}
-use Rattle.link_machine.specs.Frames.{hear_up, open_again, open_called}
+use Rattle.link_machine.specs.Turn.{Turn, begin}
+use Rattle.link_machine.specs.Acts.{close, in_window, send_packets}
+use Rattle.link_machine.specs.Frames.{hear_up, open_called}
 use Rattle.link_machine.specs.Step.{settled}
 use Rattle.link_world.proofs.law.Core.{End, SetUp as CoreSetUp, Tagged as CoreTagged, between}
 use Rattle.link_world.proofs.law.Core.Kind.{Ua}
-use Rattle.link_world.proofs.law.Core.Standing.{Idle, Up}
-use Rattle.link_world.proofs.law.CoreMoves.{now, after_all, opened, of_end}
-use Rattle.link_world.proofs.law.CoreOf.{core_sent, cores_sent, stored_from, running_of, end_behind, up_end}
+use Rattle.link_world.proofs.law.Core.Standing.{Up}
+use Rattle.link_world.proofs.law.CoreMoves.{now, opened, of_end}
+use Rattle.link_world.proofs.law.CoreOf.{stored_from, running_of, end_behind, up_end}
 use Rattle.link_world.specs.SetUps.{SetUp, opened as opened_set_up}
 use Rattle.link_world.specs.Recorded.{RecordedEnd, Happening, told_of, mate_of, noting, hears_ask, tagged}
 use Rattle.link_world.specs.Recorded.Happening.{Hears}
@@ -33,7 +30,7 @@ use Rattle.link_world.proofs.law.Invariant.{Invariant}
 use Rattle.link_world.proofs.law.Shown.{core_set_up, core_set_ups, core_flight, core_tagged, flight_of_up}
 use Rattle.link_world.proofs.law.Shown.Shown.{ShownUp}
 use Rattle.link_world.proofs.law.Settling.{Outcome, end_with, all_of_last, length_of_last}
-use Rattle.link_world.proofs.law.Outcomes.{same_kind, outcome_behind, setup_written}
+use Rattle.link_world.proofs.law.Outcomes.{outcome_behind, setup_written}
 use Rattle.link_world.proofs.law.UpEvents.{Keeps, UpEnd, heard_frame}
 
 take_none : (n : ℕ) → ◌≡◌ {A = List Packet} (take n []) []
@@ -41,8 +38,12 @@ take_none zero = refl
 take_none (suc n) = refl
 
 -- where nothing waits and no disconnect was asked for, nothing more is done
-nothing_settles : (turn : Turn) (window : ℕ) → close (if length (in_window window (record { va = 0; vs = 0; top = 0; packets = [] })) == 0 then turn else send_packets (in_window window (record { va = 0; vs = 0; top = 0; packets = [] })) turn) ≡ close turn
-nothing_settles turn window = ap (λ ps. close (if length ps == 0 then turn else send_packets ps turn)) (take_none (min window 0 - 0))
+nothing_settles :
+    (turn : Turn) (window : ℕ)
+    → close (if length (in_window window (record { va = 0; vs = 0; top = 0; packets = [] })) == 0 then turn else
+    send_packets (in_window window (record { va = 0; vs = 0; top = 0; packets = [] })) turn) ≡ close turn
+nothing_settles turn window =
+    ap (λ ps. close (if length ps == 0 then turn else send_packets ps turn)) (take_none (min window 0 - 0))
 
 -- the set-up that has opened by a call
 abbrev pub called_end : Machine → List SetUp → ℕ → End
@@ -53,7 +54,8 @@ pub open_called_outcome :
     (h : Happening) (r : RecordedEnd) (y : End) (rest to_y : List CoreTagged) (told : List Told) (flag : Bool)
     → hears_ask h ≡ true → noting h r ≡ r → r.waiting ≡ [] → IsFit r.machine.incoming
     → fold (told_of (mate_of h) []) r.set_ups told ≡ r.set_ups
-    → Invariant (between (called_end r.machine r.set_ups (mate_of h)) y rest (to_y ++ of_end (called_end r.machine r.set_ups (mate_of h)) Ua ∷ []))
+    → Invariant (between (called_end r.machine r.set_ups (mate_of h)) y rest
+    (to_y ++ of_end (called_end r.machine r.set_ups (mate_of h)) Ua ∷ []))
     → Keeps h r y rest to_y (settled (open_called flag (record (begin r.machine) { told = told })))
 open_called_outcome h r y rest to_y told flag asks noted waiting fit before inv =
     subst (Keeps h r y rest to_y) (sym (nothing_settles turn r.machine.incoming.window)) outcome
@@ -84,7 +86,8 @@ open_called_outcome h r y rest to_y told flag asks noted waiting fit before inv 
     stored = sym (stored_empty 0 r.machine.incoming.window)
 
     frames : core_flight (map (tagged true e) (SetupSent UaFrame flag ∷ [])) ≡ of_end z Ua ∷ []
-    frames = flight_of_up true e (length (core_set_ups r.set_ups)) (SetupSent UaFrame flag ∷ []) refl (length_of_last r.set_ups new)
+    frames = flight_of_up true e (length (core_set_ups r.set_ups)) (SetupSent UaFrame flag ∷ []) refl
+        (length_of_last r.set_ups new)
 
     outcome : Keeps h r y rest to_y turn
     outcome alone = outcome_behind h r y rest to_y (hears_ask h) r.machine.incoming turn all [] set_ups_are refl
@@ -93,8 +96,11 @@ open_called_outcome h r y rest to_y told flag asks noted waiting fit before inv 
           shown = ShownUp r.set_ups new refl refl refl;
           fit = fit_new r.machine.incoming.modulus r.machine.incoming.window r.machine.incoming.mode fit.positive;
           same = record { mode = refl; window = refl; modulus = refl };
-          holds = subst (λ fs. Invariant (between (up_end turn.now (core_set_ups r.set_ups) (core_set_up new)) y rest (to_y ++ fs))) (sym frames)
-              (subst (λ ss. Invariant (between (now (Up (record (opened (mate_of h) []) { stored = ss })) (end_behind r.machine (core_set_ups r.set_ups))) y rest
+          holds = subst (λ fs. Invariant (between (up_end turn.now (core_set_ups r.set_ups) (core_set_up new)) y rest
+              (to_y ++ fs))) (sym frames)
+              (subst (λ ss. Invariant (between
+              (now (Up (record (opened (mate_of h) []) { stored = ss }))
+              (end_behind r.machine (core_set_ups r.set_ups))) y rest
               (to_y ++ of_end z Ua ∷ []))) stored inv);
           written = setup_written true e UaFrame flag refl;
         }))
@@ -106,7 +112,8 @@ pub up_hears_sabm :
     → let f = heard_frame path r.machine.incoming.modulus (SetupSent SabmFrame flag) set_up answers in
     noting (Hears f) r ≡ r
     → Invariant (between (up_end r.machine (core_set_ups ended) (core_set_up last)) y (core_tagged f ∷ rest) to_y)
-    → Keeps (Hears f) r y rest to_y (settled (hear_up (is_command_of path.role f.frame.kind) f.frame.kind (begin r.machine)))
+    → Keeps (Hears f) r y rest to_y (settled (hear_up (is_command_of path.role f.frame.kind) f.frame.kind
+    (begin r.machine)))
 up_hears_sabm r ended last path flag set_up answers y rest to_y u noted h =
     let f = heard_frame path r.machine.incoming.modulus (SetupSent SabmFrame flag) set_up answers in
     let x = up_end r.machine (core_set_ups ended) (core_set_up last) in
@@ -114,4 +121,6 @@ up_hears_sabm r ended last path flag set_up answers y rest to_y u noted h =
     Invariant (between z y rest (to_y ++ of_end z Ua ∷ [])) in
     open_called_outcome (Hears f) r y rest to_y (Ended Reset ∷ []) flag refl noted u.waiting u.fit refl
     (subst P (sym (ap core_set_ups u.set_ups ∙ all_of_last ended last))
-    (open_called_keeps x y set_up rest to_y (no_call_of_up (end_behind r.machine (core_set_ups ended)) y (running_of r.machine (core_set_up last)) (core_tagged f ∷ rest) to_y h) h))
+    (open_called_keeps x y set_up rest to_y
+    (no_call_of_up (end_behind r.machine (core_set_ups ended)) y (running_of r.machine (core_set_up last))
+    (core_tagged f ∷ rest) to_y h) h))

@@ -1,18 +1,14 @@
 -- Events of an end that is calling.
-use Rattle.std.proofs.Common.{◌≡◌, ℕ, zero, suc, ◌+◌, ◌<◌, ◌≤◌, Bool, true, false, ◌&&◌, if◌then◌else◌, List, [], ◌∷◌, ◌++◌, length, map, replicate, Option, Some, None, is_some, ◌⊎◌, inl, inr, refl, sym, ap, ◌∙◌, subst, arith, append-nil, append_assoc}
+use Rattle.std.proofs.Common.{◌≡◌, ℕ, ◌+◌, Bool, true, false, if◌then◌else◌, List, [], ◌∷◌, ◌++◌, map, replicate, is_some, inl, inr, refl, sym, ap, ◌∙◌, subst, arith, append-nil}
 use Rattle.std.specs.List.{AllByRecursion as Each, fold}
-use Rattle.std.proofs.lemmas.Bool.{cond-false, cond-true}
+use Rattle.std.proofs.lemmas.Bool.{cond-false}
 use Rattle.ax25_address.specs.declared.path.Path.{Path}
 use Rattle.ax25_frames.specs.declared.frame.U.TheVariants.{Sabm as SabmFrame, Sabme as SabmeFrame, Disc as DiscFrame, Dm as DmFrame, Ua as UaFrame}
 use Rattle.selective_reject.specs.declared.packet.Packet.{Packet}
-use Rattle.selective_reject.specs.Outgoing.{empty_outgoing}
 use Rattle.selective_reject.specs.Places.{empty_place}
-use Rattle.selective_reject.specs.Incoming.{Incoming}
 use Rattle.link_machine.specs.declared.control.Control.{Control}
-use Rattle.link_machine.specs.declared.state.LinkState.{LinkState}
-use Rattle.link_machine.specs.declared.state.LinkState.TheVariants.{Idle as IdleState, Calling as CallingState}
-use Rattle.link_machine.specs.declared.acts.Told.{Told}
-use Rattle.link_machine.specs.declared.acts.Told.TheVariants.{Opened, Ended}
+use Rattle.link_machine.specs.declared.state.LinkState.TheVariants.{Calling as CallingState}
+use Rattle.link_machine.specs.declared.acts.Told.TheVariants.{Opened}
 use Rattle.link_machine.specs.declared.acts.Why.{Why}
 use Rattle.link_machine.specs.declared.acts.Why.TheVariants.{Failed, Refused}
 use Rattle.link_machine.specs.Machine.{Machine}
@@ -21,18 +17,18 @@ use Rattle.link_machine.specs.Sent.Sent.{InfoSent, SuperSent, SetupSent}
 use Rattle.link_machine.specs.Turn.{Turn, begin, changing, setting}
 use Rattle.link_machine.specs.Event.Event.{Send}
 use Rattle.link_machine.specs.Requests.{joined, quitting}
-use Rattle.link_machine.specs.Ticks.{tick, tick_in, t1_out, call_again, is_spent, retried}
+use Rattle.link_machine.specs.Ticks.{tick, tick_in, call_again, is_spent, retried}
 use Rattle.link_machine.specs.Frames.{hear_calling, end_call, open_answered}
 use Rattle.link_machine.specs.Step.{settled, settle_in, refusal_of}
 use Rattle.link_world.proofs.law.Core.{End, Tagged as CoreTagged, between}
 use Rattle.link_world.proofs.law.Core.Kind.{Sabm, Disc, Ua, Dm}
 use Rattle.link_world.proofs.law.Core.Standing.{Idle, Calling, Up}
 use Rattle.link_world.proofs.law.CoreMoves.{now, of_end, asks, answers, opened}
-use Rattle.link_world.proofs.law.CoreOf.{core_sent, cores_sent, end_behind, stored_from}
+use Rattle.link_world.proofs.law.CoreOf.{end_behind, stored_from}
 use Rattle.link_world.specs.SetUps.{SetUp, opened as opened_set_up}
 use Rattle.link_world.specs.Flight.{Tagged}
-use Rattle.link_world.specs.Recorded.{RecordedEnd, Happening, noting, taking, hearing, hears_ask, waiting_in, behind, tagged, told_of, mate_of}
-use Rattle.link_world.specs.Recorded.Happening.{Connects, Sends, Disconnects, Ticks, Hears}
+use Rattle.link_world.specs.Recorded.{RecordedEnd, Happening, noting, taking, hearing, hears_ask, waiting_in, tagged, told_of}
+use Rattle.link_world.specs.Recorded.Happening.{Sends, Disconnects, Ticks, Hears}
 use Rattle.link_world.proofs.law.PlacesFit.{IsFit, fit_new}
 use Rattle.link_world.proofs.law.PlacesStored.{stored_empty}
 use Rattle.link_world.proofs.law.Losing.{lose_keeps}
@@ -40,9 +36,9 @@ use Rattle.link_world.proofs.law.Standings.{leave_to_idle_keeps, give_calling_ke
 use Rattle.link_world.proofs.law.Kept.{call_keeps}
 use Rattle.link_world.proofs.law.Opening.{decline_by_dm_keeps, agree_keeps, open_answered_keeps}
 use Rattle.link_world.proofs.law.Invariant.{Invariant}
-use Rattle.link_world.proofs.law.UpActs.{IsUp, Progress}
+use Rattle.link_world.proofs.law.UpActs.{Progress}
 use Rattle.link_world.proofs.law.Shown.{core_set_up, core_set_ups, core_flight, core_tagged, IsWritten, AnswersAsSent}
-use Rattle.link_world.proofs.law.Settling.{Outcome, IsAlone, end_with}
+use Rattle.link_world.proofs.law.Settling.{IsAlone, end_with}
 use Rattle.link_world.proofs.law.Outcomes.{IsDownState, same_kind, idle_outcome, calling_outcome, outcome_behind, setup_flight, setup_written}
 use Rattle.link_world.proofs.law.DownTicks.{timed, ticks_down}
 use Rattle.link_world.proofs.law.UpEvents.{Keeps, heard_frame, up_ends}
@@ -60,21 +56,29 @@ abbrev pub calls_on : Machine → Control → List Sent → Turn
 calls_on m c sent = record (begin m) { now = record m { control = c }; sent = sent }
 
 pub calling_stays :
-    (h : Happening) (r : RecordedEnd) (c : Control) (y : End) (to_x to_y : List CoreTagged) (sent : List Sent) (frames : List CoreTagged)
+    (h : Happening) (r : RecordedEnd) (c : Control) (y : End) (to_x to_y : List CoreTagged) (sent : List Sent)
+    (frames : List CoreTagged)
     → CallingEnd r → c.state ≡ CallingState → noting h r ≡ r
-    → core_flight (map (tagged (hears_ask h) (end_with (record r.machine { control = c }) r.set_ups r.machine.outgoing.packets)) sent) ≡ frames
-    → Each (IsWritten r.machine.incoming.modulus) (map (tagged (hears_ask h) (end_with (record r.machine { control = c }) r.set_ups r.machine.outgoing.packets)) sent)
+    → core_flight (map (tagged (hears_ask h) (end_with (record r.machine { control = c }) r.set_ups
+    r.machine.outgoing.packets)) sent) ≡ frames
+    → Each (IsWritten r.machine.incoming.modulus)
+    (map (tagged (hears_ask h) (end_with (record r.machine { control = c }) r.set_ups r.machine.outgoing.packets))
+    sent)
     → (IsAlone to_x to_y sent → Invariant (between (calling_end r) y to_x (to_y ++ frames)))
     → Keeps h r y to_x to_y (settled (calls_on r.machine c sent))
 calling_stays h r c y to_x to_y sent frames d state noted flight written inv =
     subst (λ s. Keeps h r y to_x to_y (settle_in s (calls_on r.machine c sent))) (sym state)
-    (λ alone. outcome_behind h r y to_x to_y (hears_ask h) r.machine.incoming (calls_on r.machine c sent) r.set_ups r.machine.outgoing.packets
+    (λ alone. outcome_behind h r y to_x to_y (hears_ask h) r.machine.incoming (calls_on r.machine c sent) r.set_ups
+    r.machine.outgoing.packets
     (ap (λ (n : RecordedEnd). n.set_ups) noted)
-    (ap (λ (n : RecordedEnd). waiting_in c.state n.waiting) noted ∙ ap (λ s. waiting_in s r.waiting) state ∙ d.waiting)
-    (calling_outcome y to_x to_y (hears_ask h) r.machine.incoming (record r.machine { control = c }) r.set_ups sent frames state d.fit (same_kind r.machine.incoming) flight written (inv alone)))
+    (ap (λ (n : RecordedEnd). waiting_in c.state n.waiting) noted ∙ ap (λ s. waiting_in s r.waiting) state
+    ∙ d.waiting)
+    (calling_outcome y to_x to_y (hears_ask h) r.machine.incoming (record r.machine { control = c }) r.set_ups sent
+    frames state d.fit (same_kind r.machine.incoming) flight written (inv alone)))
 
 pub calling_silent :
-    (h : Happening) (r : RecordedEnd) (c : Control) (y : End) (to_x to_y : List CoreTagged) → CallingEnd r → c.state ≡ CallingState → noting h r ≡ r
+    (h : Happening) (r : RecordedEnd) (c : Control) (y : End) (to_x to_y : List CoreTagged) → CallingEnd r
+    → c.state ≡ CallingState → noting h r ≡ r
     → Invariant (between (calling_end r) y to_x to_y) → Keeps h r y to_x to_y (settled (calls_on r.machine c []))
 calling_silent h r c y to_x to_y d state noted inv =
     calling_stays h r c y to_x to_y [] [] d state noted refl tt
@@ -82,19 +86,26 @@ calling_silent h r c y to_x to_y d state noted inv =
 
 -- the call ends
 pub call_ends :
-    (h : Happening) (r : RecordedEnd) (c : Control) (why : Why) (y : End) (to_x to_y : List CoreTagged) → CallingEnd r → noting h r ≡ r
-    → Invariant (between (calling_end r) y to_x to_y) → Keeps h r y to_x to_y (settled (end_call why (timed r.machine c)))
+    (h : Happening) (r : RecordedEnd) (c : Control) (why : Why) (y : End) (to_x to_y : List CoreTagged) → CallingEnd r
+    → noting h r ≡ r
+    → Invariant (between (calling_end r) y to_x to_y)
+    → Keeps h r y to_x to_y (settled (end_call why (timed r.machine c)))
 call_ends h r c why y to_x to_y d noted inv alone =
     let turn = end_call why (timed r.machine c) in
     let z = now Idle (end_behind r.machine (core_set_ups r.set_ups)) in
-    outcome_behind h r y to_x to_y (hears_ask h) r.machine.incoming turn r.set_ups [] (ap (λ (n : RecordedEnd). n.set_ups) noted) refl
-    (idle_outcome y to_x to_y (hears_ask h) r.machine.incoming turn.now r.set_ups [] [] refl refl d.fit (same_kind r.machine.incoming) refl tt
-    (subst (λ fs. Invariant (between z y to_x fs)) (sym (append-nil to_y)) (leave_to_idle_keeps (calling_end r) y to_x to_y inv)))
+    outcome_behind h r y to_x to_y (hears_ask h) r.machine.incoming turn r.set_ups []
+    (ap (λ (n : RecordedEnd). n.set_ups) noted) refl
+    (idle_outcome y to_x to_y (hears_ask h) r.machine.incoming turn.now r.set_ups [] [] refl refl d.fit
+    (same_kind r.machine.incoming) refl tt
+    (subst (λ fs. Invariant (between z y to_x fs)) (sym (append-nil to_y))
+    (leave_to_idle_keeps (calling_end r) y to_x to_y inv)))
 
 -- a packet is given
 pub calling_sends :
-    (r : RecordedEnd) (packet : Packet) (y : End) (to_x to_y : List CoreTagged) → CallingEnd r → is_some (refusal_of r.machine (Send packet)) ≡ false
-    → Invariant (between (calling_end r) y to_x to_y) → Keeps (Sends packet) r y to_x to_y (settled (changing (joined packet) (begin r.machine)))
+    (r : RecordedEnd) (packet : Packet) (y : End) (to_x to_y : List CoreTagged) → CallingEnd r
+    → is_some (refusal_of r.machine (Send packet)) ≡ false
+    → Invariant (between (calling_end r) y to_x to_y)
+    → Keeps (Sends packet) r y to_x to_y (settled (changing (joined packet) (begin r.machine)))
 calling_sends r packet y to_x to_y d taken inv =
     let turn = changing (joined packet) (begin r.machine) in
     let more = r.machine.outgoing.packets ++ packet ∷ [] in
@@ -104,24 +115,30 @@ calling_sends r packet y to_x to_y d taken inv =
     subst (λ s. Keeps (Sends packet) r y to_x to_y (settle_in s turn)) (sym d.state)
     (λ alone. outcome_behind (Sends packet) r y to_x to_y false r.machine.incoming turn r.set_ups more
     (ap (λ (n : RecordedEnd). n.set_ups) noted)
-    (ap (λ (n : RecordedEnd). waiting_in r.machine.control.state n.waiting) noted ∙ ap (λ s. waiting_in s (r.waiting ++ packet ∷ [])) d.state ∙ ap (λ w. w ++ packet ∷ []) d.waiting)
-    (calling_outcome y to_x to_y false r.machine.incoming turn.now r.set_ups [] [] d.state d.fit (same_kind r.machine.incoming) refl tt
+    (ap (λ (n : RecordedEnd). waiting_in r.machine.control.state n.waiting) noted
+    ∙ ap (λ s. waiting_in s (r.waiting ++ packet ∷ [])) d.state ∙ ap (λ w. w ++ packet ∷ []) d.waiting)
+    (calling_outcome y to_x to_y false r.machine.incoming turn.now r.set_ups [] [] d.state d.fit
+    (same_kind r.machine.incoming) refl tt
     (subst (λ fs. Invariant (between (now (Calling more) x) y to_x fs)) (sym (append-nil to_y))
     (give_calling_keeps x y r.machine.outgoing.packets more to_x to_y inv))))
 
 -- a disconnect is asked for
 pub calling_quits :
     (r : RecordedEnd) (y : End) (to_x to_y : List CoreTagged) → CallingEnd r
-    → Invariant (between (calling_end r) y to_x to_y) → Keeps Disconnects r y to_x to_y (settled (setting quitting (begin r.machine)))
-calling_quits r y to_x to_y d inv = calling_silent Disconnects r (quitting r.machine.control) y to_x to_y d d.state refl inv
+    → Invariant (between (calling_end r) y to_x to_y)
+    → Keeps Disconnects r y to_x to_y (settled (setting quitting (begin r.machine)))
+calling_quits r y to_x to_y d inv =
+    calling_silent Disconnects r (quitting r.machine.control) y to_x to_y d d.state refl inv
 
 down : (c : Control) → c.state ≡ CallingState → IsDownState c.state
 down c is = subst IsDownState (sym is) tt
 
 -- SABM goes out once more, or the call has failed
 calls_again :
-    (r : RecordedEnd) (c : Control) (waiting : Bool) (y : End) (to_x to_y : List CoreTagged) → CallingEnd r → c.state ≡ CallingState
-    → Invariant (between (calling_end r) y to_x to_y) → Keeps (Ticks waiting) r y to_x to_y (settled (call_again (timed r.machine c)))
+    (r : RecordedEnd) (c : Control) (waiting : Bool) (y : End) (to_x to_y : List CoreTagged) → CallingEnd r
+    → c.state ≡ CallingState
+    → Invariant (between (calling_end r) y to_x to_y)
+    → Keeps (Ticks waiting) r y to_x to_y (settled (call_again (timed r.machine c)))
 calls_again r c waiting y to_x to_y d state inv = go (is_spent c)
   where
     e : RecordedEnd
@@ -132,28 +149,35 @@ calls_again r c waiting y to_x to_y d state inv = go (is_spent c)
     by_alone (inr quiet) = quiet
 
     go : (b : Bool) → Keeps (Ticks waiting) r y to_x to_y
-        (settled (if b then end_call Failed (timed r.machine c) else calls_on r.machine (retried c) (SetupSent SabmFrame true ∷ [])))
+        (settled (if b then end_call Failed (timed r.machine c) else calls_on r.machine (retried c)
+        (SetupSent SabmFrame true ∷ [])))
     go true = call_ends (Ticks waiting) r c Failed y to_x to_y d refl inv
-    go false = calling_stays (Ticks waiting) r (retried c) y to_x to_y (SetupSent SabmFrame true ∷ []) (of_end (calling_end r) Sabm ∷ []) d state refl
+    go false = calling_stays (Ticks waiting) r (retried c) y to_x to_y (SetupSent SabmFrame true ∷ [])
+        (of_end (calling_end r) Sabm ∷ []) d state refl
         (setup_flight false e SabmFrame true (down (retried c) state)) (setup_written false e SabmFrame true refl)
-        (λ alone. call_keeps (end_behind r.machine (core_set_ups r.set_ups)) y r.machine.outgoing.packets to_x to_y (by_alone alone) inv)
+        (λ alone. call_keeps (end_behind r.machine (core_set_ups r.set_ups)) y r.machine.outgoing.packets to_x to_y
+        (by_alone alone) inv)
 
 pub calling_ticks :
     (r : RecordedEnd) (waiting : Bool) (y : End) (to_x to_y : List CoreTagged) → CallingEnd r
-    → Invariant (between (calling_end r) y to_x to_y) → Keeps (Ticks waiting) r y to_x to_y (settled (tick waiting (begin r.machine)))
+    → Invariant (between (calling_end r) y to_x to_y)
+    → Keeps (Ticks waiting) r y to_x to_y (settled (tick waiting (begin r.machine)))
 calling_ticks r waiting y to_x to_y d inv =
     subst (λ s. Keeps (Ticks waiting) r y to_x to_y (settled (tick_in s waiting (begin r.machine)))) (sym d.state)
     (ticks_down (λ t. Keeps (Ticks waiting) r y to_x to_y (settled t)) r.machine CallingState tt
-    (λ c is. calling_silent (Ticks waiting) r c y to_x to_y d is refl inv) (λ c is. calls_again r c waiting y to_x to_y d is inv) waiting d.state)
+    (λ c is. calling_silent (Ticks waiting) r c y to_x to_y d is refl inv)
+    (λ c is. calls_again r c waiting y to_x to_y d is inv) waiting d.state)
 
 calling_noted : (r : RecordedEnd) (f : Tagged) → CallingEnd r → noting (Hears f) r ≡ r
 calling_noted r f d = ap (λ s. hearing s f r) d.state
 
 calling_passes :
     (r : RecordedEnd) (f : Tagged) (y : End) (rest to_y : List CoreTagged) → CallingEnd r
-    → Invariant (between (calling_end r) y (core_tagged f ∷ rest) to_y) → Keeps (Hears f) r y rest to_y (settled (begin r.machine))
+    → Invariant (between (calling_end r) y (core_tagged f ∷ rest) to_y)
+    → Keeps (Hears f) r y rest to_y (settled (begin r.machine))
 calling_passes r f y rest to_y d inv =
-    calling_silent (Hears f) r r.machine.control y rest to_y d d.state (calling_noted r f d) (lose_keeps (calling_end r) y [] (core_tagged f) rest to_y inv)
+    calling_silent (Hears f) r r.machine.control y rest to_y d d.state (calling_noted r f d)
+    (lose_keeps (calling_end r) y [] (core_tagged f) rest to_y inv)
 
 -- the UA to its SABM: the set-up opens, and what waits goes out
 calling_opens :
@@ -169,7 +193,14 @@ calling_opens r f y rest to_y d no_ask inv =
     let x = end_behind m (core_set_ups r.set_ups) in
     let opens = open_answered_keeps x y given f.set_up rest to_y inv in
     let stored : [] ≡ stored_from 0 (replicate i.window empty_place) = sym (stored_empty 0 i.window) in
-    let g : Progress = record { ended = core_set_ups r.set_ups; open_now = core_set_up new; answers = false; told = Opened true ∷ []; incoming = turn.now.incoming } in
+    let g : Progress = record {
+      ended = core_set_ups r.set_ups;
+      open_now = core_set_up new;
+      answers = false;
+      told =
+          Opened true ∷ [];
+      incoming = turn.now.incoming;
+    } in
     up_ends (Hears f) r y rest to_y g r.set_ups new r.set_ups turn (sym no_ask) refl refl
     (fit_new i.modulus i.window i.mode d.fit.positive) (record { mode = refl; window = refl; modulus = refl })
     (ap (λ (n : RecordedEnd). n.set_ups) (calling_noted r f d))
@@ -180,40 +211,52 @@ calling_opens r f y rest to_y d no_ask inv =
       told = refl;
       incoming = refl;
       fits = tt;
-      holds = subst (λ ss. Invariant (between (now (Up (record (opened f.set_up given) { stored = ss })) x) y rest (to_y ++ []))) stored
-          (subst (λ fs. Invariant (between (now (Up (opened f.set_up given)) x) y rest fs)) (sym (append-nil to_y)) opens);
+      holds = subst (λ ss. Invariant (between (now (Up (record (opened f.set_up given) { stored = ss })) x) y rest
+          (to_y ++ []))) stored
+          (subst (λ fs. Invariant (between (now (Up (opened f.set_up given)) x) y rest fs)) (sym (append-nil to_y))
+          opens);
     })
 
 -- what it hears
 pub calling_hears :
-    (r : RecordedEnd) (path : Path) (sent : Sent) (set_up : ℕ) (answered : Bool) (y : End) (rest to_y : List CoreTagged) → CallingEnd r
+    (r : RecordedEnd) (path : Path) (sent : Sent) (set_up : ℕ) (answered : Bool) (y : End)
+    (rest to_y : List CoreTagged) → CallingEnd r
     → let f = heard_frame path r.machine.incoming.modulus sent set_up answered in
     AnswersAsSent answered sent
     → Invariant (between (calling_end r) y (core_tagged f ∷ rest) to_y)
     → Keeps (Hears f) r y rest to_y (settled (hear_calling f.frame.kind (begin r.machine)))
 calling_hears r path (InfoSent ns nr packet) set_up answered y rest to_y d fits inv =
-    calling_passes r (heard_frame path r.machine.incoming.modulus (InfoSent ns nr packet) set_up answered) y rest to_y d inv
+    calling_passes r (heard_frame path r.machine.incoming.modulus (InfoSent ns nr packet) set_up answered) y rest to_y
+    d inv
 calling_hears r path (SuperSent which c nr flag) set_up answered y rest to_y d fits inv =
-    calling_passes r (heard_frame path r.machine.incoming.modulus (SuperSent which c nr flag) set_up answered) y rest to_y d inv
+    calling_passes r (heard_frame path r.machine.incoming.modulus (SuperSent which c nr flag) set_up answered) y rest
+    to_y d inv
 calling_hears r path (SetupSent SabmFrame flag) set_up answered y rest to_y d fits inv =
     let f = heard_frame path r.machine.incoming.modulus (SetupSent SabmFrame flag) set_up answered in
     let e = end_with r.machine r.set_ups r.machine.outgoing.packets in
-    calling_stays (Hears f) r r.machine.control y rest to_y (SetupSent UaFrame flag ∷ []) (of_end (calling_end r) Ua ∷ []) d d.state (calling_noted r f d)
+    calling_stays (Hears f) r r.machine.control y rest to_y (SetupSent UaFrame flag ∷ [])
+    (of_end (calling_end r) Ua ∷ []) d d.state (calling_noted r f d)
     (setup_flight true e UaFrame flag (down r.machine.control d.state)) (setup_written true e UaFrame flag refl)
-    (λ alone. agree_keeps (end_behind r.machine (core_set_ups r.set_ups)) y r.machine.outgoing.packets set_up rest to_y inv)
+    (λ alone. agree_keeps (end_behind r.machine (core_set_ups r.set_ups)) y r.machine.outgoing.packets set_up rest to_y
+    inv)
 calling_hears r path (SetupSent SabmeFrame flag) set_up answered y rest to_y d fits inv = absurd fits
 calling_hears r path (SetupSent DiscFrame flag) set_up answered y rest to_y d fits inv =
     let f = heard_frame path r.machine.incoming.modulus (SetupSent DiscFrame flag) set_up answered in
     let e = end_with r.machine r.set_ups r.machine.outgoing.packets in
-    calling_stays (Hears f) r r.machine.control y rest to_y (SetupSent DmFrame flag ∷ []) (of_end (calling_end r) (Dm true) ∷ []) d d.state (calling_noted r f d)
+    calling_stays (Hears f) r r.machine.control y rest to_y (SetupSent DmFrame flag ∷ [])
+    (of_end (calling_end r) (Dm true) ∷ []) d d.state (calling_noted r f d)
     (setup_flight true e DmFrame flag (down r.machine.control d.state)) (setup_written true e DmFrame flag tt)
     (λ alone. decline_by_dm_keeps (calling_end r) y set_up Disc rest to_y refl inv)
 calling_hears r path (SetupSent DmFrame true) set_up answered y rest to_y d fits inv =
     let f = heard_frame path r.machine.incoming.modulus (SetupSent DmFrame true) set_up answered in
-    call_ends (Hears f) r r.machine.control Refused y rest to_y d (calling_noted r f d) (lose_keeps (calling_end r) y [] (core_tagged f) rest to_y inv)
+    call_ends (Hears f) r r.machine.control Refused y rest to_y d (calling_noted r f d)
+    (lose_keeps (calling_end r) y [] (core_tagged f) rest to_y inv)
 calling_hears r path (SetupSent DmFrame false) set_up answered y rest to_y d fits inv =
-    calling_passes r (heard_frame path r.machine.incoming.modulus (SetupSent DmFrame false) set_up answered) y rest to_y d inv
+    calling_passes r (heard_frame path r.machine.incoming.modulus (SetupSent DmFrame false) set_up answered) y rest
+    to_y d inv
 calling_hears r path (SetupSent UaFrame true) set_up answered y rest to_y d fits inv =
-    calling_opens r (heard_frame path r.machine.incoming.modulus (SetupSent UaFrame true) set_up answered) y rest to_y d refl inv
+    calling_opens r (heard_frame path r.machine.incoming.modulus (SetupSent UaFrame true) set_up answered) y rest to_y
+    d refl inv
 calling_hears r path (SetupSent UaFrame false) set_up answered y rest to_y d fits inv =
-    calling_passes r (heard_frame path r.machine.incoming.modulus (SetupSent UaFrame false) set_up answered) y rest to_y d inv
+    calling_passes r (heard_frame path r.machine.incoming.modulus (SetupSent UaFrame false) set_up answered) y rest
+    to_y d inv

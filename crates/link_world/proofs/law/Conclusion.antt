@@ -1,14 +1,15 @@
--- What holds of a world, in its own words: what a set-up got is a prefix of what was given in its origin, and origins rise.
-use Rattle.std.proofs.Common.{◌≡◌, ◌≢◌, ℕ, zero, suc, ◌+◌, ◌<◌, ◌≤◌, Bool, true, false, List, [], ◌∷◌, ◌++◌, length, map, get_or, slice_get, All, AllPairs, Option, Some, None, IfSome, refl, sym, ap, ◌∙◌, subst, arith}
+-- What holds of a world, in its own words: what a set-up got is a prefix of what was given in its origin, and origins
+-- rise.
+use Rattle.std.proofs.Common.{◌≡◌, ◌≢◌, ℕ, zero, suc, ◌<◌, List, [], ◌∷◌, length, get_or, All, Option, Some, None, IfSome, refl, sym, ap, ◌∙◌, subst, arith}
 use Rattle.std.specs.Bool.{⊤}
-use Rattle.std.specs.List.{AllByRecursion as Each, filter_map}
+use Rattle.std.specs.List.{AllByRecursion as Each}
 use Rattle.std.specs.List.{cons_option}
 use Rattle.std.proofs.lemmas.List.Elements.{All-from_recursion}
 use Rattle.std.proofs.lemmas.Option.{slice_get-get_or}
 use Rattle.selective_reject.specs.declared.packet.Packet.{Packet}
-use Rattle.link_world.proofs.law.Core.{End, SetUp as CoreSetUp, IsPrefixOf, given_in, set_ups, between}
+use Rattle.link_world.proofs.law.Core.{End, SetUp as CoreSetUp, given_in, set_ups}
 use Rattle.link_world.proofs.law.CoreLaw.{GotBy, GotOf, OriginBelow, OriginsRise}
-use Rattle.link_world.specs.SetUps.{SetUp, opened}
+use Rattle.link_world.specs.SetUps.{SetUp}
 use Rattle.link_world.specs.Origin.{origin_of, origin, origins, GotPrefix, GotNothingElse, RiseStrictly}
 use Rattle.link_world.specs.Recorded.{RecordedEnd}
 use Rattle.link_world.specs.World.{World}
@@ -30,7 +31,9 @@ each_of_map : (P : CoreSetUp → Type 0) (qs : List SetUp) → Each P (core_set_
 each_of_map P [] h = tt
 each_of_map P (q ∷ qs) h = (h.0, each_of_map P qs h.1)
 
-given_at : (theirs : List SetUp) (n : ℕ) (d : SetUp) → n < length theirs → given_in (core_set_ups theirs) n ≡ (get_or theirs n d).given
+given_at :
+    (theirs : List SetUp) (n : ℕ) (d : SetUp) → n < length theirs
+    → given_in (core_set_ups theirs) n ≡ (get_or theirs n d).given
 given_at [] n d within = absurd (omega arith)
 given_at (q ∷ theirs) zero d within = refl
 given_at (q ∷ theirs) (suc n) d within = given_at theirs n d (omega arith)
@@ -40,7 +43,9 @@ origin_of_got [] accepted some = absurd (some refl)
 origin_of_got (p ∷ got) accepted some = refl
 
 -- a set-up that got something
-got_prefix : (theirs : List SetUp) (q : SetUp) (accepted : Option ℕ) → q.accepted ≡ accepted → GotBy (core_set_ups theirs) q.got accepted
+got_prefix :
+    (theirs : List SetUp) (q : SetUp) (accepted : Option ℕ) → q.accepted ≡ accepted
+    → GotBy (core_set_ups theirs) q.got accepted
     → q.got ≢ [] → GotPrefix theirs q
 got_prefix theirs q None is none some = absurd (some none)
 got_prefix theirs q (Some n) is h some =
@@ -55,10 +60,13 @@ got_prefix theirs q (Some n) is h some =
     }
 
 -- each of them
-pub prefixes_hold : (theirs ours : List SetUp) → Each (GotOf (core_set_ups theirs)) (core_set_ups ours) → All (GotNothingElse theirs) ours
+pub prefixes_hold :
+    (theirs ours : List SetUp) → Each (GotOf (core_set_ups theirs)) (core_set_ups ours)
+    → All (GotNothingElse theirs) ours
 prefixes_hold theirs ours h =
     All-from_recursion (GotNothingElse theirs) ours
-    (each_weaker (λ q. GotOf (core_set_ups theirs) (core_set_up q)) (GotNothingElse theirs) (λ q g some. got_prefix theirs q q.accepted refl g some)
+    (each_weaker (λ q. GotOf (core_set_ups theirs) (core_set_up q)) (GotNothingElse theirs)
+    (λ q g some. got_prefix theirs q q.accepted refl g some)
     ours (each_of_map (GotOf (core_set_ups theirs)) ours h))
 
 -- numbers that rise, by recursion
@@ -75,7 +83,8 @@ pairs_rise (n ∷ ns) h (suc i) zero d less within = absurd (omega arith)
 pairs_rise (n ∷ ns) h (suc i) (suc j) d less within = pairs_rise ns h.1 i j d (omega arith) (omega arith)
 
 -- the origin of a set-up that got something is that of its first accepted frame
-some_origin : (got : List Packet) (accepted : Option ℕ) (P : ℕ → Type 0) → IfSome accepted P → IfSome (origin_of got accepted) P
+some_origin :
+    (got : List Packet) (accepted : Option ℕ) (P : ℕ → Type 0) → IfSome accepted P → IfSome (origin_of got accepted) P
 some_origin [] accepted P h = tt
 some_origin (p ∷ got) accepted P h = h
 
@@ -83,12 +92,14 @@ above_all : (n : ℕ) (qs : List SetUp) → Each (λ q. IfSome (origin q) (λ m.
 above_all n [] h = tt
 above_all n (q ∷ qs) h = go (origin q) h.0 (above_all n qs h.1)
   where
-    go : (o : Option ℕ) → IfSome o (λ m. n < m) → Each (λ m. n < m) (origins qs) → Each (λ m. n < m) (cons_option o (origins qs))
+    go : (o : Option ℕ) → IfSome o (λ m. n < m) → Each (λ m. n < m) (origins qs)
+        → Each (λ m. n < m) (cons_option o (origins qs))
     go None here rest = rest
     go (Some m) here rest = (here, rest)
 
 rises_by :
-    (o : Option ℕ) (qs : List SetUp) → IfSome o (λ a. Each (λ q. IfSome (origin q) (λ m. a < m)) qs) → Rising (origins qs)
+    (o : Option ℕ) (qs : List SetUp) → IfSome o (λ a. Each (λ q. IfSome (origin q) (λ m. a < m)) qs)
+    → Rising (origins qs)
     → Rising (cons_option o (origins qs))
 unfolding Rising
 rises_by None qs h rest = rest
@@ -96,12 +107,15 @@ rises_by (Some a) qs h rest = (above_all a qs h, rest)
 
 below_each : (q : SetUp) (qs : List SetUp) → Each (OriginBelow (core_set_up q)) (core_set_ups qs)
     → IfSome (origin q) (λ a. Each (λ p. IfSome (origin p) (λ m. a < m)) qs)
-below_each q qs h = some_origin q.got q.accepted (λ a. Each (λ p. IfSome (origin p) (λ m. a < m)) qs) (go q.accepted refl)
+below_each q qs h =
+    some_origin q.got q.accepted (λ a. Each (λ p. IfSome (origin p) (λ m. a < m)) qs) (go q.accepted refl)
   where
     go : (o : Option ℕ) → q.accepted ≡ o → IfSome o (λ a. Each (λ p. IfSome (origin p) (λ m. a < m)) qs)
     go None is = tt
-    go (Some a) is = each_weaker (λ p. OriginBelow (core_set_up q) (core_set_up p)) (λ p. IfSome (origin p) (λ m. a < m))
-        (λ p b. some_origin p.got p.accepted (λ m. a < m) (subst (λ o. IfSome o (λ c. IfSome p.accepted (λ m. c < m))) is b))
+    go (Some a) is = each_weaker (λ p. OriginBelow (core_set_up q) (core_set_up p))
+        (λ p. IfSome (origin p) (λ m. a < m))
+        (λ p b. some_origin p.got p.accepted (λ m. a < m)
+        (subst (λ o. IfSome o (λ c. IfSome p.accepted (λ m. c < m))) is b))
         qs (each_of_map (OriginBelow (core_set_up q)) qs h)
 
 rising_of : (qs : List SetUp) → OriginsRise (core_set_ups qs) → Rising (origins qs)

@@ -1,5 +1,5 @@
 -- A link, and what it sends, as the law of two links reads them.
-use Rattle.std.specs.Prelude.{ℕ, ◌+◌, Bool, true, false, List, [], ◌∷◌, length, map, Option, Some, None}
+use Rattle.std.specs.Prelude.{ℕ, ◌+◌, Bool, true, false, List, [], ◌∷◌, map, Option, Some, None}
 use Rattle.ax25_frames.specs.declared.frame.S.{S}
 use Rattle.ax25_frames.specs.declared.frame.S.TheVariants.{Rr, Rnr, Rej, Srej as SrejFrame}
 use Rattle.ax25_frames.specs.declared.frame.U.{U}
@@ -9,10 +9,10 @@ use Rattle.selective_reject.specs.declared.place.Place.{Place}
 use Rattle.link_machine.specs.Machine.{Machine}
 use Rattle.link_machine.specs.Sent.{Sent}
 use Rattle.link_machine.specs.Sent.Sent.{InfoSent, SuperSent, SetupSent}
-use Rattle.link_world.proofs.law.Core.{Tagged, Kind, Numbered, SetUp, Stored, Running, Standing, End}
+use Rattle.link_world.proofs.law.Core.{Tagged, Kind, Numbered, SetUp, Stored, Running, End}
 use Rattle.link_world.proofs.law.Core.Numbered.{Info, Super, Srej}
 use Rattle.link_world.proofs.law.Core.Kind.{Sabm, Disc, Ua, Dm, IsNumbered}
-use Rattle.link_world.proofs.law.Core.Standing.{Idle, Calling, Up, Releasing}
+use Rattle.link_world.proofs.law.Core.Standing.{Idle, Up}
 use Rattle.link_world.proofs.law.CoreMoves.{now}
 
 -- the packets in places, by their numbers

@@ -1,33 +1,30 @@
 -- What an end is behind an event, where it is not up.
-use Rattle.std.proofs.Common.{◌≡◌, ℕ, zero, suc, ◌+◌, ◌<◌, ◌≤◌, Bool, true, false, ◌&&◌, ◌==◌, if◌then◌else◌, List, [], ◌∷◌, ◌++◌, length, map, Option, Some, None, refl, sym, ap, ◌∙◌, subst, arith, append-nil, append_assoc}
+use Rattle.std.proofs.Common.{◌≡◌, ℕ, suc, ◌+◌, Bool, ◌&&◌, List, [], ◌∷◌, ◌++◌, length, map, refl, sym, ap, ◌∙◌, subst, append-nil}
 use Rattle.std.specs.List.{AllByRecursion as Each, fold}
 use Rattle.std.specs.Bool.{⊤}
-use Rattle.std.proofs.lemmas.Bool.{and_right}
 use Rattle.std.proofs.lemmas.List.{map-append}
 use Rattle.ax25_frames.specs.declared.frame.U.{U}
-use Rattle.ax25_frames.specs.declared.frame.U.TheVariants.{Sabm as SabmFrame, Sabme as SabmeFrame, Disc as DiscFrame, Dm as DmFrame, Ua as UaFrame}
 use Rattle.selective_reject.specs.declared.packet.Packet.{Packet}
 use Rattle.selective_reject.specs.Incoming.{Incoming}
 use Rattle.link_machine.specs.declared.state.LinkState.{LinkState}
 use Rattle.link_machine.specs.declared.state.LinkState.TheVariants.{Idle as IdleState, Calling as CallingState, Up as UpState, Releasing as ReleasingState}
 use Rattle.link_machine.specs.Machine.{Machine}
 use Rattle.link_machine.specs.Sent.{Sent, sent_kind}
-use Rattle.link_machine.specs.Sent.Sent.{InfoSent, SuperSent, SetupSent}
-use Rattle.link_machine.specs.Turn.{Turn, begin}
-use Rattle.link_world.proofs.law.Core.{End, SetUp as CoreSetUp, Tagged as CoreTagged, between}
-use Rattle.link_world.proofs.law.Core.Standing.{Idle, Calling, Up, Releasing}
-use Rattle.link_world.proofs.law.CoreMoves.{now, of_end}
-use Rattle.link_world.proofs.law.CoreOf.{core_sent, cores_sent, kind_of, setup_of, end_behind, up_end}
+use Rattle.link_machine.specs.Sent.Sent.{SetupSent}
+use Rattle.link_machine.specs.Turn.{Turn}
+use Rattle.link_world.proofs.law.Core.{End, Tagged as CoreTagged, between}
+use Rattle.link_world.proofs.law.Core.Standing.{Idle, Calling, Releasing}
+use Rattle.link_world.proofs.law.CoreMoves.{now}
+use Rattle.link_world.proofs.law.CoreOf.{cores_sent, kind_of, setup_of, end_behind}
 use Rattle.link_world.specs.SetUps.{SetUp}
-use Rattle.link_world.specs.Flight.{Tagged, is_answer, set_up_of, set_up_now}
+use Rattle.link_world.specs.Flight.{is_answer, set_up_now}
 use Rattle.link_world.specs.Recorded.{RecordedEnd, Happening, tagged, waiting_in, told_of, mate_of, noting, behind}
-use Rattle.link_world.proofs.law.Each.{each_append}
 use Rattle.link_world.proofs.law.PlacesFit.{IsFit}
 use Rattle.link_world.proofs.law.Invariant.{Invariant}
 use Rattle.link_world.proofs.law.UpActs.{SentFits}
-use Rattle.link_world.proofs.law.Shown.{core_set_up, core_set_ups, core_flight, core_tagged, Shown, IsWritten, AnswersAsSent, kind_by}
+use Rattle.link_world.proofs.law.Shown.{core_set_ups, core_flight, core_tagged, Shown, IsWritten, AnswersAsSent, kind_by}
 use Rattle.link_world.proofs.law.Shown.Shown.{ShownIdle, ShownCalling, ShownUp, ShownReleasing}
-use Rattle.link_world.proofs.law.Settling.{IsSameKind, Outcome, Settled, end_with, flight_of_numbered, numbered_written}
+use Rattle.link_world.proofs.law.Settling.{IsSameKind, Outcome, end_with, flight_of_numbered}
 
 pub same_kind : (i : Incoming) → IsSameKind i i
 same_kind i = record { mode = refl; window = refl; modulus = refl }
@@ -38,16 +35,20 @@ pub behind_is :
     → fold (told_of (mate_of h) (noting h r).waiting) (noting h r).set_ups turn.told ≡ qs
     → waiting_in turn.now.control.state (noting h r).waiting ≡ waiting → behind h r turn ≡ end_with turn.now qs waiting
 behind_is h r turn qs waiting one other =
-    ap (λ t. end_with turn.now t (waiting_in turn.now.control.state (noting h r).waiting)) one ∙ ap (λ t. end_with turn.now qs t) other
+    ap (λ t. end_with turn.now t (waiting_in turn.now.control.state (noting h r).waiting)) one
+    ∙ ap (λ t. end_with turn.now qs t) other
 
 -- an event of a link that was up settles
 pub settled_outcome :
-    (h : Happening) (r : RecordedEnd) (y : End) (to_x to_y : List CoreTagged) (on_ask : Bool) (i : Incoming) (turn : Turn) (qs : List SetUp)
+    (h : Happening) (r : RecordedEnd) (y : End) (to_x to_y : List CoreTagged) (on_ask : Bool) (i : Incoming)
+    (turn : Turn) (qs : List SetUp)
     → fold (told_of (mate_of h) (noting h r).waiting) (noting h r).set_ups turn.told ≡ qs
     → ((waiting : List Packet) → waiting_in turn.now.control.state waiting ≡ [])
-    → Outcome y to_x to_y on_ask i (end_with turn.now qs []) turn.sent → Outcome y to_x to_y on_ask i (behind h r turn) turn.sent
+    → Outcome y to_x to_y on_ask i (end_with turn.now qs []) turn.sent
+    → Outcome y to_x to_y on_ask i (behind h r turn) turn.sent
 settled_outcome h r y to_x to_y on_ask i turn qs told waits o =
-    subst (λ e. Outcome y to_x to_y on_ask i e turn.sent) (sym (behind_is h r turn qs [] told (waits (noting h r).waiting))) o
+    subst (λ e. Outcome y to_x to_y on_ask i e turn.sent)
+    (sym (behind_is h r turn qs [] told (waits (noting h r).waiting))) o
 
 -- no packet waits where none may
 pub waiting_stays : (r : RecordedEnd) (x : End) → Shown r x → waiting_in r.machine.control.state r.waiting ≡ r.waiting
@@ -60,7 +61,8 @@ waiting_stays r x (ShownReleasing state packets waiting) = ap (λ s. waiting_in 
 pub nothing_outcome :
     (r : RecordedEnd) (x y : End) (to_x to_y : List CoreTagged) (on_ask : Bool) → Shown r x → IsFit r.machine.incoming
     → Invariant (between x y to_x to_y)
-    → Outcome y to_x to_y on_ask r.machine.incoming (end_with r.machine r.set_ups (waiting_in r.machine.control.state r.waiting)) []
+    → Outcome y to_x to_y on_ask r.machine.incoming
+    (end_with r.machine r.set_ups (waiting_in r.machine.control.state r.waiting)) []
 nothing_outcome r x y to_x to_y on_ask shown fit h = record {
   end_is = x;
   shown = subst (λ w. Shown (end_with r.machine r.set_ups w) x) (sym (waiting_stays r x shown)) shown;
@@ -94,19 +96,26 @@ pub setup_flight :
 setup_flight on_ask r which flag down =
     let tag : set_up_now r.machine.control.state (length r.set_ups) ≡ length (core_set_ups r.set_ups) =
     down_tag r.machine.control.state (length r.set_ups) down ∙ sym (length_core r.set_ups) in
-    ap (λ t. record { tag = t; kind = kind_of (on_ask && is_answer (sent_kind 8 (SetupSent which flag))) (SetupSent which flag) } ∷ []) tag
-    ∙ ap (λ k. record { tag = length (core_set_ups r.set_ups); kind = k } ∷ []) (kind_by on_ask 8 (SetupSent which flag))
+    ap (λ t. record {
+      tag = t;
+      kind = kind_of (on_ask && is_answer (sent_kind 8 (SetupSent which flag)))
+          (SetupSent which flag);
+    } ∷ []) tag
+    ∙ ap (λ k. record { tag = length (core_set_ups r.set_ups); kind = k } ∷ [])
+    (kind_by on_ask 8 (SetupSent which flag))
 
 -- behind I and S frames
 pub setup_behind_flight :
-    (on_ask : Bool) (r : RecordedEnd) (n : ℕ) (sent : List Sent) (which : U) (flag : Bool) → IsDownState r.machine.control.state
+    (on_ask : Bool) (r : RecordedEnd) (n : ℕ) (sent : List Sent) (which : U) (flag : Bool)
+    → IsDownState r.machine.control.state
     → length r.set_ups ≡ n + 1 → Each (SentFits on_ask) sent
     → core_flight (map (tagged on_ask r) (sent ++ SetupSent which flag ∷ []))
     ≡ cores_sent on_ask n sent ++ record { tag = length (core_set_ups r.set_ups); kind = setup_of on_ask which } ∷ []
 setup_behind_flight on_ask r n sent which flag down count fits =
     ap core_flight (map-append (tagged on_ask r) sent (SetupSent which flag ∷ []))
     ∙ map-append core_tagged (map (tagged on_ask r) sent) (map (tagged on_ask r) (SetupSent which flag ∷ []))
-    ∙ ap (λ t. t ++ core_flight (map (tagged on_ask r) (SetupSent which flag ∷ []))) (flight_of_numbered on_ask r n sent count fits)
+    ∙ ap (λ t. t ++ core_flight (map (tagged on_ask r) (SetupSent which flag ∷ [])))
+    (flight_of_numbered on_ask r n sent count fits)
     ∙ ap (λ t. cores_sent on_ask n sent ++ t) (setup_flight on_ask r which flag down)
 
 -- a frame without numbers is written as it is sent
@@ -118,7 +127,8 @@ setup_written on_ask r which flag answers = (record { kind = refl; answers = ans
 
 -- an end that is idle, calling or releasing
 pub idle_outcome :
-    (y : End) (to_x to_y : List CoreTagged) (on_ask : Bool) (i : Incoming) (m : Machine) (qs : List SetUp) (sent : List Sent) (frames : List CoreTagged)
+    (y : End) (to_x to_y : List CoreTagged) (on_ask : Bool) (i : Incoming) (m : Machine) (qs : List SetUp)
+    (sent : List Sent) (frames : List CoreTagged)
     → m.control.state ≡ IdleState → m.outgoing.packets ≡ [] → IsFit m.incoming → IsSameKind m.incoming i
     → core_flight (map (tagged on_ask (end_with m qs [])) sent) ≡ frames
     → Each (IsWritten m.incoming.modulus) (map (tagged on_ask (end_with m qs [])) sent)
@@ -134,7 +144,8 @@ idle_outcome y to_x to_y on_ask i m qs sent frames state packets fit same is wri
 }
 
 pub calling_outcome :
-    (y : End) (to_x to_y : List CoreTagged) (on_ask : Bool) (i : Incoming) (m : Machine) (qs : List SetUp) (sent : List Sent) (frames : List CoreTagged)
+    (y : End) (to_x to_y : List CoreTagged) (on_ask : Bool) (i : Incoming) (m : Machine) (qs : List SetUp)
+    (sent : List Sent) (frames : List CoreTagged)
     → m.control.state ≡ CallingState → IsFit m.incoming → IsSameKind m.incoming i
     → core_flight (map (tagged on_ask (end_with m qs m.outgoing.packets)) sent) ≡ frames
     → Each (IsWritten m.incoming.modulus) (map (tagged on_ask (end_with m qs m.outgoing.packets)) sent)
@@ -145,12 +156,14 @@ calling_outcome y to_x to_y on_ask i m qs sent frames state fit same is written 
   shown = ShownCalling state refl;
   fit = fit;
   same = same;
-  holds = subst (λ fs. Invariant (between (now (Calling m.outgoing.packets) (end_behind m (core_set_ups qs))) y to_x (to_y ++ fs))) (sym is) h;
+  holds = subst (λ fs. Invariant (between (now (Calling m.outgoing.packets) (end_behind m (core_set_ups qs))) y to_x
+      (to_y ++ fs))) (sym is) h;
   written = written;
 }
 
 pub releasing_outcome :
-    (y : End) (to_x to_y : List CoreTagged) (on_ask : Bool) (i : Incoming) (m : Machine) (qs : List SetUp) (sent : List Sent) (frames : List CoreTagged)
+    (y : End) (to_x to_y : List CoreTagged) (on_ask : Bool) (i : Incoming) (m : Machine) (qs : List SetUp)
+    (sent : List Sent) (frames : List CoreTagged)
     → m.control.state ≡ ReleasingState → m.outgoing.packets ≡ [] → IsFit m.incoming → IsSameKind m.incoming i
     → core_flight (map (tagged on_ask (end_with m qs [])) sent) ≡ frames
     → Each (IsWritten m.incoming.modulus) (map (tagged on_ask (end_with m qs [])) sent)
@@ -161,15 +174,18 @@ releasing_outcome y to_x to_y on_ask i m qs sent frames state packets fit same i
   shown = ShownReleasing state packets refl;
   fit = fit;
   same = same;
-  holds = subst (λ fs. Invariant (between (now Releasing (end_behind m (core_set_ups qs))) y to_x (to_y ++ fs))) (sym is) h;
+  holds = subst (λ fs. Invariant (between (now Releasing (end_behind m (core_set_ups qs))) y to_x (to_y ++ fs)))
+      (sym is) h;
   written = written;
 }
 
 -- and so behind an event
 pub outcome_behind :
-    (h : Happening) (r : RecordedEnd) (y : End) (to_x to_y : List CoreTagged) (on_ask : Bool) (i : Incoming) (turn : Turn) (qs : List SetUp) (waiting : List Packet)
+    (h : Happening) (r : RecordedEnd) (y : End) (to_x to_y : List CoreTagged) (on_ask : Bool) (i : Incoming)
+    (turn : Turn) (qs : List SetUp) (waiting : List Packet)
     → fold (told_of (mate_of h) (noting h r).waiting) (noting h r).set_ups turn.told ≡ qs
     → waiting_in turn.now.control.state (noting h r).waiting ≡ waiting
-    → Outcome y to_x to_y on_ask i (end_with turn.now qs waiting) turn.sent → Outcome y to_x to_y on_ask i (behind h r turn) turn.sent
+    → Outcome y to_x to_y on_ask i (end_with turn.now qs waiting) turn.sent
+    → Outcome y to_x to_y on_ask i (behind h r turn) turn.sent
 outcome_behind h r y to_x to_y on_ask i turn qs waiting told waits o =
     subst (λ e. Outcome y to_x to_y on_ask i e turn.sent) (sym (behind_is h r turn qs waiting told waits)) o

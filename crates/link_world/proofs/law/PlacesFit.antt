@@ -1,13 +1,12 @@
 -- The places of a link between two events: as many as the window, and nothing in the first; by REJ nothing in any.
-use Rattle.std.proofs.Common.{◌≡◌, ℕ, zero, suc, ◌+◌, ◌-◌, ◌<◌, ◌≤◌, Bool, true, false, not, List, [], ◌∷◌, ◌++◌, length, take, drop, replicate, set, get_or, Option, Some, None, is_some, refl, sym, ap, ◌∙◌, subst, arith, append-nil, length-append, length-drop, length-set}
+use Rattle.std.proofs.Common.{◌≡◌, ℕ, zero, suc, ◌+◌, ◌-◌, ◌≤◌, List, [], ◌∷◌, ◌++◌, length, drop, replicate, Option, Some, None, refl, sym, ap, ◌∙◌, arith, length-append, length-drop, length-set}
 use Rattle.std.proofs.lemmas.List.{length-replicate, drop-replicate, replicate-append-replicate, get_or-set_other}
-use Rattle.std.proofs.lemmas.Bool.{false≢true}
 use Rattle.selective_reject.specs.declared.packet.Packet.{Packet}
 use Rattle.selective_reject.specs.declared.place.Place.{Place}
 use Rattle.selective_reject.specs.declared.window.Mode.{Mode}
 use Rattle.selective_reject.specs.declared.window.Mode.TheVariants.{Rej as RejMode, Srej as SrejMode}
 use Rattle.selective_reject.specs.Incoming.{Incoming}
-use Rattle.selective_reject.specs.Places.{empty_place, packet_at, is_full, with_packet, filled_place, place_at, asked, asked_place}
+use Rattle.selective_reject.specs.Places.{empty_place, packet_at, with_packet, filled_place, place_at, asked}
 use Rattle.link_machine.specs.Acts.{run, before_gap, moved_on}
 
 pub record IsFit (i : Incoming) : Type 0 where
@@ -21,21 +20,27 @@ first_of_empty zero = refl
 first_of_empty (suc count) = refl
 
 -- places that are left behind make room for empty ones
-length_moved : (count : ℕ) (ps : List Place) → count ≤ length ps → length (drop count ps ++ replicate count empty_place) ≡ length ps
+length_moved :
+    (count : ℕ) (ps : List Place) → count ≤ length ps
+    → length (drop count ps ++ replicate count empty_place) ≡ length ps
 length_moved count ps le =
-    length-append (drop count ps) (replicate count empty_place) ∙ ap (λ n. length (drop count ps) + n) (length-replicate count empty_place)
+    length-append (drop count ps) (replicate count empty_place)
+    ∙ ap (λ n. length (drop count ps) + n) (length-replicate count empty_place)
     ∙ ap (λ n. n + count) (length-drop count ps) ∙ omega arith
 
-first_behind : (count : ℕ) (ps : List Place) → packet_at ps 0 ≡ None → packet_at (ps ++ replicate count empty_place) 0 ≡ None
+first_behind :
+    (count : ℕ) (ps : List Place) → packet_at ps 0 ≡ None → packet_at (ps ++ replicate count empty_place) 0 ≡ None
 first_behind count [] none = first_of_empty count
 first_behind count (p ∷ ps) none = none
 
 -- behind a run the first place is empty
-run_behind : (count : ℕ) (ps : List Place) → packet_at (drop (length (run ps)) ps ++ replicate count empty_place) 0 ≡ None
+run_behind :
+    (count : ℕ) (ps : List Place) → packet_at (drop (length (run ps)) ps ++ replicate count empty_place) 0 ≡ None
 run_behind count [] = first_of_empty count
 run_behind count (p ∷ ps) = go p.packet refl (run_behind count ps)
   where
-    go : (o : Option Packet) → p.packet ≡ o → packet_at (drop (length (run ps)) ps ++ replicate count empty_place) 0 ≡ None
+    go : (o : Option Packet) → p.packet ≡ o
+        → packet_at (drop (length (run ps)) ps ++ replicate count empty_place) 0 ≡ None
         → packet_at (drop (length (before_gap o (run ps))) (p ∷ ps) ++ replicate count empty_place) 0 ≡ None
     go None is rest = is
     go (Some packet) is rest = rest
@@ -52,7 +57,9 @@ rej≢srej : RejMode ≡ SrejMode → ⊥
 rej≢srej e = cc
 
 -- V(R) moves on behind a run
-pub fit_behind_run : (i : Incoming) (packet : Packet) → i.mode ≡ SrejMode → IsFit i → IsFit (moved_on (length (packet ∷ run (drop 1 i.places))) i)
+pub fit_behind_run :
+    (i : Incoming) (packet : Packet) → i.mode ≡ SrejMode → IsFit i
+    → IsFit (moved_on (length (packet ∷ run (drop 1 i.places))) i)
 fit_behind_run i packet mode f =
     let ps : List Place = drop 1 i.places in
     let count : ℕ = length (packet ∷ run ps) in
@@ -69,14 +76,17 @@ fit_behind_run i packet mode f =
     }
   where
     behind : (qs : List Place)
-        → packet_at (drop (length (run (drop 1 qs))) (drop 1 qs) ++ replicate (suc (length (run (drop 1 qs)))) empty_place) 0 ≡ None
-        → packet_at (drop (suc (length (run (drop 1 qs)))) qs ++ replicate (suc (length (run (drop 1 qs)))) empty_place) 0 ≡ None
+        → packet_at (drop (length (run (drop 1 qs))) (drop 1 qs) ++ replicate (suc (length (run (drop 1 qs))))
+        empty_place) 0 ≡ None
+        → packet_at (drop (suc (length (run (drop 1 qs)))) qs ++ replicate (suc (length (run (drop 1 qs))))
+        empty_place) 0 ≡ None
     behind [] h = refl
     behind (p ∷ qs) h = h
 
 moved_empty : (w : ℕ) → 1 ≤ w → drop 1 (replicate w empty_place) ++ replicate 1 empty_place ≡ replicate w empty_place
 moved_empty w positive =
-    ap (λ t. t ++ replicate 1 empty_place) (drop-replicate 1 w empty_place) ∙ replicate-append-replicate (w - 1) 1 empty_place
+    ap (λ t. t ++ replicate 1 empty_place) (drop-replicate 1 w empty_place)
+    ∙ replicate-append-replicate (w - 1) 1 empty_place
     ∙ ap (λ n. replicate n empty_place) (omega arith)
 
 -- by REJ V(R) moves on by one
@@ -93,10 +103,13 @@ fit_behind_one i mode f =
     }
 
 -- a packet ahead is stored
-pub fit_with : (i : Incoming) (k : ℕ) (packet : Packet) → i.mode ≡ SrejMode → 1 ≤ k → IsFit i → IsFit (record i { places = with_packet i.places k packet })
+pub fit_with :
+    (i : Incoming) (k : ℕ) (packet : Packet) → i.mode ≡ SrejMode → 1 ≤ k → IsFit i
+    → IsFit (record i { places = with_packet i.places k packet })
 fit_with i k packet mode ahead f = record {
   places = length-set i.places k (filled_place packet (place_at i.places k)) ∙ f.places;
-  first = ap (λ (p : Place). p.packet) (get_or-set_other i.places k 0 (filled_place packet (place_at i.places k)) empty_place (λ e. omega arith)) ∙ f.first;
+  first = ap (λ (p : Place). p.packet) (get_or-set_other i.places k 0 (filled_place packet (place_at i.places k))
+      empty_place (λ e. omega arith)) ∙ f.first;
   positive = f.positive;
   in_order = λ rej. absurd (rej≢srej (sym rej ∙ mode));
 }
@@ -123,7 +136,9 @@ fit_asked i k mode f = record {
 }
 
 -- none is stored in a link that is new
-pub fit_new : (modulus window : ℕ) (mode : Mode) → 1 ≤ window → IsFit (record { modulus = modulus; window = window; mode = mode; vr = 0; places = replicate window empty_place })
+pub fit_new :
+    (modulus window : ℕ) (mode : Mode) → 1 ≤ window
+    → IsFit (record { modulus = modulus; window = window; mode = mode; vr = 0; places = replicate window empty_place })
 fit_new modulus window mode positive = record {
   places = length-replicate window empty_place;
   first = first_of_empty window;

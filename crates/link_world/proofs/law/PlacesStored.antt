@@ -1,10 +1,10 @@
 -- The packets in places, by their numbers, when a place is filled, asked for or left behind.
-use Rattle.std.proofs.Common.{◌≡◌, ℕ, zero, suc, ◌+◌, ◌<◌, ◌≤◌, Bool, true, false, List, [], ◌∷◌, ◌++◌, length, take, drop, map, filter, replicate, set, get_or, Option, Some, None, is_some, if◌then◌else◌, refl, sym, ap, ◌∙◌, subst, arith, append-nil}
+use Rattle.std.proofs.Common.{◌≡◌, ℕ, zero, suc, ◌+◌, ◌<◌, ◌≤◌, Bool, true, false, List, [], ◌∷◌, ◌++◌, length, drop, filter, replicate, Option, Some, None, is_some, if◌then◌else◌, refl, sym, ap, ◌∙◌, arith}
 use Rattle.std.specs.List.{AllByRecursion as Each, range_with_len}
 use Rattle.std.proofs.lemmas.Bool.{false≢true}
 use Rattle.selective_reject.specs.declared.packet.Packet.{Packet}
 use Rattle.selective_reject.specs.declared.place.Place.{Place}
-use Rattle.selective_reject.specs.Places.{empty_place, packet_at, is_full, with_packet, filled_place, asked, asked_place, missing, is_missing}
+use Rattle.selective_reject.specs.Places.{empty_place, packet_at, is_full, with_packet, asked, asked_place, missing, is_missing}
 use Rattle.link_world.proofs.law.Core.{Stored}
 use Rattle.link_world.proofs.law.CoreOf.{stored_before, stored_from}
 
@@ -13,12 +13,14 @@ pub stored_empty : (n count : ℕ) → stored_from n (replicate count empty_plac
 stored_empty n zero = refl
 stored_empty n (suc count) = stored_empty (n + 1) count
 
-pub stored_behind : (n count : ℕ) (ps : List Place) → stored_from n (ps ++ replicate count empty_place) ≡ stored_from n ps
+pub stored_behind :
+    (n count : ℕ) (ps : List Place) → stored_from n (ps ++ replicate count empty_place) ≡ stored_from n ps
 stored_behind n count [] = stored_empty n count
 stored_behind n count (p ∷ ps) = ap (λ t. stored_before n p.packet t) (stored_behind (n + 1) count ps)
 
 -- nothing is in the first place
-pub stored_first_empty : (n : ℕ) (ps : List Place) → packet_at ps 0 ≡ None → stored_from (n + 1) (drop 1 ps) ≡ stored_from n ps
+pub stored_first_empty :
+    (n : ℕ) (ps : List Place) → packet_at ps 0 ≡ None → stored_from (n + 1) (drop 1 ps) ≡ stored_from n ps
 stored_first_empty n [] none = refl
 stored_first_empty n (p ∷ ps) none = ap (λ o. stored_before n o (stored_from (n + 1) ps)) (sym none)
 
@@ -44,7 +46,8 @@ none_of_full None e = refl
 none_of_full (Some p) e = absurd (false≢true (sym e))
 
 placed_later :
-    (n k : ℕ) (packet : Packet) (o : Option Packet) (p : Place) (ps : List Place) → p.packet ≡ o → IsPlaced (n + 1) k packet ps
+    (n k : ℕ) (packet : Packet) (o : Option Packet) (p : Place) (ps : List Place) → p.packet ≡ o
+    → IsPlaced (n + 1) k packet ps
     → IsPlaced n (suc k) packet (p ∷ ps)
 placed_later n k packet None p ps is h =
     let further : n + 1 + k ≡ n + suc k = omega arith in
@@ -60,7 +63,8 @@ placed_later n k packet (Some q) p ps is h =
     record {
       before = record { number = n; packet = q } ∷ h.before;
       after = h.after;
-      was = ap (λ o. stored_before n o (stored_from (n + 1) ps)) is ∙ ap (λ t. record { number = n; packet = q } ∷ t) h.was;
+      was = ap (λ o. stored_before n o (stored_from (n + 1) ps)) is
+          ∙ ap (λ t. record { number = n; packet = q } ∷ t) h.was;
       is = ap (λ o. stored_before n o (stored_from (n + 1) (with_packet ps k packet))) is
           ∙ ap (λ t. record { number = n; packet = q } ∷ t)
           (h.is ∙ ap (λ t. h.before ++ record { number = t; packet = packet } ∷ h.after) further);

@@ -1,17 +1,16 @@
 -- A quiet run keeps what holds, from a new world on.
-use Rattle.std.proofs.Common.{◌≡◌, ℕ, zero, suc, ◌+◌, ◌*◌, ◌<◌, ◌≤◌, Bool, true, false, ◌&&◌, ◌||◌, not, ◌==◌, nat_eq, List, [], ◌∷◌, ◌++◌, length, drop, ◌⊎◌, inl, inr, refl, sym, ap, ◌∙◌, subst, arith, append-nil}
+use Rattle.std.proofs.Common.{◌≡◌, ℕ, ◌*◌, ◌≤◌, Bool, true, ◌&&◌, ◌||◌, not, ◌==◌, List, [], ◌∷◌, ◌⊎◌, inl, inr, refl, sym, ap, ◌∙◌}
 use Rattle.std.specs.Prelude.{IsTrue}
-use Rattle.std.proofs.lemmas.Bool.{and_parts, or_cases, eqb-true, false≢true}
+use Rattle.std.proofs.lemmas.Bool.{and_parts, eqb-true}
 use Rattle.ax25_address.specs.declared.path.Path.{Path}
 use Rattle.selective_reject.specs.declared.window.Mode.TheVariants.{Srej as SrejMode}
 use Rattle.link_machine.specs.declared.params.Params.{Params}
 use Rattle.link_machine.specs.declared.state.LinkState.{LinkState}
 use Rattle.link_machine.specs.declared.state.LinkState.TheVariants.{Idle as IdleState}
-use Rattle.link_world.proofs.law.Core.Standing.{Idle}
 use Rattle.link_world.proofs.law.CoreMoves.{new_end}
 use Rattle.link_world.specs.Flight.{Tagged, asks_in}
 use Rattle.link_world.specs.Recorded.{RecordedEnd}
-use Rattle.link_world.specs.Recorded.Happening.{Connects, Sends, Disconnects, Ticks, Hears}
+use Rattle.link_world.specs.Recorded.Happening.{Connects, Sends, Disconnects, Ticks}
 use Rattle.link_world.specs.World.{Side, World, near_step, seen_from, end_of, step, run, new_world}
 use Rattle.link_world.specs.Quiet.{sends_alone, called_alone, is_quiet, IsQuietRun, is_idle, is_sabm}
 use Rattle.link_world.specs.Windows.{WindowsFit}
@@ -22,11 +21,12 @@ use Rattle.link_world.specs.declared.event.Event.TheVariants.{Connect, Send, Dis
 use Rattle.link_world.proofs.law.PlacesFit.{fit_new}
 use Rattle.link_world.proofs.law.Kept.{new_holds}
 use Rattle.link_world.proofs.law.Shown.Shown.{ShownIdle}
-use Rattle.link_world.proofs.law.WorldSteps.{ShowsWorld, IsLike, shows_mirror, near_asks, near_hears, near_loses}
+use Rattle.link_world.proofs.law.WorldSteps.{ShowsWorld, shows_mirror, near_asks, near_hears, near_loses}
 
 -- an idle end is called only while no SABM or DISC of its own is in flight
 called_by :
-    (state : LinkState) (sabm : Bool) (n : ℕ) → not (is_idle state && sabm) || (n == 0) ≡ true → state ≡ IdleState → sabm ≡ true → n ≡ 0
+    (state : LinkState) (sabm : Bool) (n : ℕ) → not (is_idle state && sabm) || (n == 0) ≡ true → state ≡ IdleState
+    → sabm ≡ true → n ≡ 0
 called_by state sabm n h idle is =
     let both : is_idle state && sabm ≡ true = ap (λ s. is_idle s && sabm) idle ∙ is in
     let only : (n == 0) ≡ true = sym (ap (λ b. not b || (n == 0)) both) ∙ h in
@@ -36,15 +36,18 @@ called_by state sabm n h idle is =
 near_hear :
     (a b : Params) (r : RecordedEnd) (towards : List Tagged) (far : Side) (e : Name) → WindowsFit 8 a b
     → let w : World = record { a = record { end = r; towards = towards }; b = far } in
-    sends_alone w (Hear e) ≡ true → called_alone w (Hear e) ≡ true → ShowsWorld a b w → ShowsWorld a b (near_step (Hear e) w)
-near_hear a b r [] far e fit alone called s = near_loses a b (record { a = record { end = r; towards = [] }; b = far }) 0 s
+    sends_alone w (Hear e) ≡ true → called_alone w (Hear e) ≡ true → ShowsWorld a b w
+    → ShowsWorld a b (near_step (Hear e) w)
+near_hear a b r [] far e fit alone called s =
+    near_loses a b (record { a = record { end = r; towards = [] }; b = far }) 0 s
 near_hear a b r (f ∷ rest) far e fit alone called s =
     near_hears a b (record { a = record { end = r; towards = f ∷ rest }; b = far }) s f rest fit refl alone
     (called_by r.machine.control.state (is_sabm f.frame.kind) (asks_in far.towards) called)
 
 -- an event of the near end
 near_shows :
-    (a b : Params) (w : World) (event : Event) → WindowsFit 8 a b → sends_alone w event ≡ true → called_alone w event ≡ true
+    (a b : Params) (w : World) (event : Event) → WindowsFit 8 a b → sends_alone w event ≡ true
+    → called_alone w event ≡ true
     → ShowsWorld a b w → ShowsWorld a b (near_step event w)
 near_shows a b w (Connect e) fit alone called s = near_asks a b w s Connects tt alone
 near_shows a b w (Send e packet) fit alone called s = near_asks a b w s (Sends packet) tt alone
@@ -67,7 +70,8 @@ fit_mirror a b fit = record {
 
 -- an event of either
 pub step_shows :
-    (a b : Params) (w : World) (event : Event) → WindowsFit 8 a b → IsTrue (is_quiet w event) → ShowsWorld a b w → ShowsWorld a b (step w event)
+    (a b : Params) (w : World) (event : Event) → WindowsFit 8 a b → IsTrue (is_quiet w event) → ShowsWorld a b w
+    → ShowsWorld a b (step w event)
 step_shows a b w event fit quiet s = go (end_of event) (and_parts _ _ quiet)
   where
     go : (e : Name) → (sends_alone (seen_from e w) event ≡ true) × (called_alone (seen_from e w) event ≡ true)
@@ -78,7 +82,8 @@ step_shows a b w event fit quiet s = go (end_of event) (and_parts _ _ quiet)
 
 -- a run
 pub run_shows :
-    (a b : Params) (w : World) (events : List Event) → WindowsFit 8 a b → IsQuietRun w events → ShowsWorld a b w → ShowsWorld a b (run w events)
+    (a b : Params) (w : World) (events : List Event) → WindowsFit 8 a b → IsQuietRun w events → ShowsWorld a b w
+    → ShowsWorld a b (run w events)
 run_shows a b w [] fit quiet s = s
 run_shows a b w (event ∷ events) fit quiet s =
     run_shows a b (step w event) events fit quiet.1 (step_shows a b w event fit quiet.0 s)

@@ -1,27 +1,20 @@
 -- How an end of the world, with its record, shows an end as the law of two links reads it.
-use Rattle.std.proofs.Common.{◌≡◌, ℕ, zero, suc, ◌+◌, ◌-◌, ◌<◌, ◌≤◌, Bool, true, false, ◌&&◌, List, [], ◌∷◌, ◌++◌, length, map, Option, Some, None, refl, sym, ap, ◌∙◌, subst, arith, length-append}
-use Rattle.std.specs.List.{AllByRecursion as Each, fold}
+use Rattle.std.proofs.Common.{◌≡◌, ℕ, ◌+◌, Bool, true, false, ◌&&◌, List, [], ◌∷◌, ◌++◌, length, map, refl, sym, ap, ◌∙◌, arith}
+use Rattle.std.specs.List.{fold}
 use Rattle.std.specs.Bool.{⊤}
-use Rattle.std.proofs.lemmas.List.Sums.{fold-append}
-use Rattle.std.proofs.lemmas.List.{map-append, append-nil, append_assoc}
-use Rattle.ax25_frames.specs.declared.frame.S.{S}
-use Rattle.ax25_frames.specs.declared.frame.U.{U}
+use Rattle.std.proofs.lemmas.List.{append-nil, append_assoc}
 use Rattle.ax25_frames.specs.declared.frame.U.TheVariants.{Sabm as SabmFrame, Sabme as SabmeFrame, Disc as DiscFrame, Dm as DmFrame, Ua as UaFrame}
 use Rattle.selective_reject.specs.declared.packet.Packet.{Packet}
-use Rattle.link_machine.specs.declared.state.LinkState.{LinkState}
 use Rattle.link_machine.specs.declared.state.LinkState.TheVariants.{Idle as IdleState, Calling as CallingState, Up as UpState, Releasing as ReleasingState}
-use Rattle.link_machine.specs.declared.acts.Told.{Told}
-use Rattle.link_machine.specs.declared.acts.Told.TheVariants.{Opened, Given, Ended}
-use Rattle.link_machine.specs.Machine.{Machine}
+use Rattle.link_machine.specs.declared.acts.Told.TheVariants.{Given}
 use Rattle.link_machine.specs.Sent.{Sent, sent_kind}
 use Rattle.link_machine.specs.Sent.Sent.{InfoSent, SuperSent, SetupSent}
-use Rattle.link_machine.specs.Turn.{Turn}
 use Rattle.link_world.proofs.law.Core.{End, SetUp as CoreSetUp, Tagged as CoreTagged}
 use Rattle.link_world.proofs.law.Core.Standing.{Idle, Calling, Releasing}
 use Rattle.link_world.proofs.law.CoreMoves.{now}
-use Rattle.link_world.proofs.law.CoreOf.{core_sent, cores_sent, kind_of, setup_of, end_behind, up_end}
+use Rattle.link_world.proofs.law.CoreOf.{core_sent, cores_sent, kind_of, end_behind, up_end}
 use Rattle.link_world.specs.SetUps.{SetUp, change_last, last_changed, getting}
-use Rattle.link_world.specs.Flight.{Tagged, is_answer, set_up_of, set_up_now}
+use Rattle.link_world.specs.Flight.{Tagged, is_answer, set_up_of}
 use Rattle.link_world.specs.Recorded.{RecordedEnd, told_of, tagged}
 
 abbrev pub core_set_up : SetUp → CoreSetUp
@@ -62,7 +55,9 @@ pub record IsWritten (modulus : ℕ) (f : Tagged) : Type 0 where
   pub kind : f.frame.kind ≡ sent_kind modulus f.sent
   pub answers : AnswersAsSent f.answers f.sent
 
-last_of_more : (f : SetUp → SetUp) (q : SetUp) (qs : List SetUp) (c : SetUp) → last_changed f q (qs ++ c ∷ []) ≡ q ∷ (qs ++ f c ∷ [])
+last_of_more :
+    (f : SetUp → SetUp) (q : SetUp) (qs : List SetUp) (c : SetUp)
+    → last_changed f q (qs ++ c ∷ []) ≡ q ∷ (qs ++ f c ∷ [])
 last_of_more f q [] c = refl
 last_of_more f q (p ∷ qs) c = ap (λ t. q ∷ t) (last_of_more f p qs c)
 
@@ -85,7 +80,8 @@ told_given mate waiting qs c (p ∷ packets) =
     ∙ ap (λ t. qs ++ record c { got = t } ∷ []) (append_assoc c.got (p ∷ []) packets)
 
 -- only UA and DM are read as answers
-pub kind_by : (on_ask : Bool) (modulus : ℕ) (s : Sent) → kind_of (on_ask && is_answer (sent_kind modulus s)) s ≡ kind_of on_ask s
+pub kind_by :
+    (on_ask : Bool) (modulus : ℕ) (s : Sent) → kind_of (on_ask && is_answer (sent_kind modulus s)) s ≡ kind_of on_ask s
 kind_by on_ask modulus (InfoSent number nr packet) = refl
 kind_by on_ask modulus (SuperSent which command nr flag) = refl
 kind_by true modulus (SetupSent SabmFrame flag) = refl
@@ -107,13 +103,16 @@ up_tag modulus n (SetupSent which flag) = omega arith
 
 -- what an end that is up has sent, with its tags
 pub flight_of_up :
-    (on_ask : Bool) (r : RecordedEnd) (n : ℕ) (sent : List Sent) → r.machine.control.state ≡ UpState → length r.set_ups ≡ n + 1
+    (on_ask : Bool) (r : RecordedEnd) (n : ℕ) (sent : List Sent) → r.machine.control.state ≡ UpState
+    → length r.set_ups ≡ n + 1
     → core_flight (map (tagged on_ask r) sent) ≡ cores_sent on_ask n sent
 flight_of_up on_ask r n [] up count = refl
 flight_of_up on_ask r n (s ∷ sent) up count =
     let modulus : ℕ = r.machine.incoming.modulus in
     let tag : set_up_of (sent_kind modulus s) r.machine.control.state (length r.set_ups) ≡ n =
-    ap (λ t. set_up_of (sent_kind modulus s) t (length r.set_ups)) up ∙ ap (set_up_of (sent_kind modulus s) UpState) count ∙ up_tag modulus n s in
-    ap (λ t. record { tag = t; kind = kind_of (on_ask && is_answer (sent_kind modulus s)) s } ∷ core_flight (map (tagged on_ask r) sent)) tag
+    ap (λ t. set_up_of (sent_kind modulus s) t (length r.set_ups)) up
+    ∙ ap (set_up_of (sent_kind modulus s) UpState) count ∙ up_tag modulus n s in
+    ap (λ t. record { tag = t; kind = kind_of (on_ask && is_answer (sent_kind modulus s)) s } ∷ core_flight
+    (map (tagged on_ask r) sent)) tag
     ∙ ap (λ k. record { tag = n; kind = k } ∷ core_flight (map (tagged on_ask r) sent)) (kind_by on_ask modulus s)
     ∙ ap (λ t. core_sent on_ask n s ∷ t) (flight_of_up on_ask r n sent up count)

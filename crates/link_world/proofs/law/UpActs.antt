@@ -1,5 +1,5 @@
 -- A link that is up, act by act.
-use Rattle.std.proofs.Common.{◌≡◌, ℕ, zero, suc, ◌+◌, ◌-◌, ◌<◌, ◌≤◌, min, max, le_refl, nat_lt, Bool, true, false, ◌||◌, ◌&&◌, not, if◌then◌else◌, nat_eq, ◌==◌, is_none, List, [], ◌∷◌, ◌++◌, length, take, drop, map, slice_get, Option, Some, None, refl, sym, ap, ◌∙◌, subst, arith, append_assoc, length-append, length-take, length-drop, take-append-drop, drop-drop}
+use Rattle.std.proofs.Common.{◌≡◌, ℕ, suc, ◌+◌, ◌-◌, ◌<◌, ◌≤◌, min, max, le_refl, nat_lt, Bool, true, false, ◌||◌, ◌&&◌, not, if◌then◌else◌, ◌==◌, is_none, List, [], ◌∷◌, ◌++◌, length, drop, slice_get, Some, None, refl, sym, ap, ◌∙◌, subst, arith, append_assoc, length-take, take-append-drop, drop-drop}
 use Rattle.std.specs.Bool.{⊤}
 use Rattle.std.specs.List.{AllByRecursion as Each}
 use Rattle.link_world.proofs.law.Each.{each_append, each_pushed}
@@ -9,9 +9,8 @@ use Rattle.ax25_frames.specs.declared.frame.S.{S}
 use Rattle.ax25_frames.specs.declared.frame.S.TheVariants.{Rr, Rej as RejFrame}
 use Rattle.selective_reject.specs.declared.packet.Packet.{Packet}
 use Rattle.link_machine.specs.declared.control.Control.{Control}
-use Rattle.link_machine.specs.declared.state.LinkState.{LinkState}
 use Rattle.link_machine.specs.declared.state.LinkState.TheVariants.{Up as UpState}
-use Rattle.link_machine.specs.Machine.{Machine, t1_ticks, t3_ticks}
+use Rattle.link_machine.specs.Machine.{t1_ticks, t3_ticks}
 use Rattle.link_machine.specs.declared.acts.Told.{Told}
 use Rattle.selective_reject.specs.Incoming.{Incoming}
 use Rattle.link_machine.specs.Sent.{Sent, infos_from}
@@ -19,10 +18,9 @@ use Rattle.link_machine.specs.Sent.Sent.{InfoSent, SuperSent, SetupSent}
 use Rattle.link_machine.specs.Turn.{Turn, Act, changing, setting, sending}
 use Rattle.link_machine.specs.Acts.{to_send, in_window, flush, send_packets, awaiting, nothing_due, report, respond_ready, answer_poll, poll, polling, reject, with_rej, gone_back, behind_poll, recover, acknowledged, timed_anew, timed_by}
 use Rattle.link_world.proofs.law.Core.{End, Running, SetUp, Tagged, Numbered, between, era}
-use Rattle.link_world.proofs.law.Core.Numbered.{Info, Super, Srej}
+use Rattle.link_world.proofs.law.Core.Numbered.{Info, Super}
 use Rattle.link_world.proofs.law.Core.Kind.{IsNumbered}
-use Rattle.link_world.proofs.law.Core.Standing.{Up}
-use Rattle.link_world.proofs.law.CoreMoves.{now, of_end, numbered_to, Acknowledges, sending_from, sent_number}
+use Rattle.link_world.proofs.law.CoreMoves.{of_end, numbered_to, Acknowledges, sending_from, sent_number}
 use Rattle.link_world.proofs.law.CoreOf.{super_of, core_sent, cores_sent, running_of, end_behind, up_end}
 use Rattle.link_world.proofs.law.Losing.{lose_keeps}
 use Rattle.link_world.proofs.law.Upward.{set_vs_keeps, ack_front_keeps}
@@ -33,12 +31,16 @@ use Rattle.link_world.proofs.law.Invariant.{Keeps, Invariant}
 abbrev pub infos_under_way : ℕ → ℕ → ℕ → List Packet → List Tagged
 infos_under_way tag number nr packets = cores_sent false tag (infos_from number nr packets)
 
-first_of_part : (ahead : ℕ) (kept : List Packet) (p : Packet) (rest : List Packet) → drop ahead kept ≡ p ∷ rest → slice_get kept ahead ≡ Some p
+first_of_part :
+    (ahead : ℕ) (kept : List Packet) (p : Packet) (rest : List Packet) → drop ahead kept ≡ p ∷ rest
+    → slice_get kept ahead ≡ Some p
 first_of_part ahead kept p rest is =
     let place : ahead + 0 ≡ ahead = omega arith in
     ap (slice_get kept) (sym place) ∙ sym (get_behind ahead 0 kept) ∙ ap (λ t. slice_get t 0) is
 
-next_of_part : (ahead : ℕ) (kept : List Packet) (p : Packet) (rest : List Packet) → drop ahead kept ≡ p ∷ rest → drop (ahead + 1) kept ≡ rest
+next_of_part :
+    (ahead : ℕ) (kept : List Packet) (p : Packet) (rest : List Packet) → drop ahead kept ≡ p ∷ rest
+    → drop (ahead + 1) kept ≡ rest
 next_of_part ahead kept p rest is = sym (drop-drop 1 ahead kept) ∙ ap (drop 1) is
 
 -- the packet with number V(S) goes out
@@ -97,8 +99,8 @@ pub infos_fit : (answers : Bool) (number nr : ℕ) (ps : List Packet) → Each (
 infos_fit answers number nr [] = tt
 infos_fit answers number nr (p ∷ ps) = (tt, infos_fit answers (number + 1) nr ps)
 
--- A link that is up, in the middle of an event: the set-ups that ended, the one that is open, whether a UA or DM sent now
--- answers a SABM or DISC, what was told so far, and what is kept of the partner's packets.
+-- A link that is up, in the middle of an event: the set-ups that ended, the one that is open, whether a UA or DM sent
+-- now answers a SABM or DISC, what was told so far, and what is kept of the partner's packets.
 pub record Progress : Type 0 where
   pub ended : List SetUp
   pub open_now : SetUp
@@ -176,10 +178,12 @@ packets_go_out y to_x to_y g turn p ps is h =
       state = awaiting_state (nothing_due m.control) ∙ h.state;
       told = h.told;
       incoming = h.incoming;
-      fits = each_append (SentFits g.answers) turn.sent (infos_from o.vs m.incoming.vr (p ∷ ps)) h.fits
+      fits = each_append (SentFits g.answers) turn.sent
+          (infos_from o.vs m.incoming.vr (p ∷ ps)) h.fits
           (infos_fit g.answers o.vs m.incoming.vr (p ∷ ps));
       holds = subst (λ t. UpInvariant x y s to_x t)
-          (ap (λ t. (to_y ++ cores_sent g.answers tag turn.sent) ++ t) (infos_same g.answers tag o.vs m.incoming.vr (p ∷ ps))
+          (ap (λ t. (to_y ++ cores_sent g.answers tag turn.sent) ++ t)
+          (infos_same g.answers tag o.vs m.incoming.vr (p ∷ ps))
           ∙ sent_more g.answers tag to_y turn.sent (infos_from o.vs m.incoming.vr (p ∷ ps)))
           (run_goes_out x y r p ps rest to_x (to_y ++ cores_sent g.answers tag turn.sent) part window h.holds);
     }
@@ -215,9 +219,17 @@ KeepsUp to_x act =
 
 -- conditions, retries and timers change
 pub setting_keeps :
-    (change : Control → Control) → ((c : Control) → (change c).state ≡ c.state) → (to_x : List Tagged) → KeepsUp to_x (setting change)
+    (change : Control → Control) → ((c : Control) → (change c).state ≡ c.state) → (to_x : List Tagged)
+    → KeepsUp to_x (setting change)
 setting_keeps change same to_x y to_y g turn h =
-    record { state = same turn.now.control ∙ h.state; told = h.told; incoming = h.incoming; fits = h.fits; holds = h.holds }
+    record {
+      state = same turn.now.control ∙ h.state;
+      told = h.told;
+      incoming = h.incoming;
+      fits = h.fits;
+      holds =
+          h.holds;
+    }
 
 -- an S frame with N(R) = V(R) goes out
 pub sending_super_keeps :
@@ -230,9 +242,17 @@ sending_super_keeps which command flag to_x is y to_y g turn h =
     let tag : ℕ = length g.ended in
     let s : Sent = SuperSent which command m.incoming.vr flag in
     let gone : UpInvariant x y r to_x ((to_y ++ cores_sent g.answers tag turn.sent) ++ core_sent g.answers tag s ∷ []) =
-    subst (λ n. UpInvariant x y r to_x ((to_y ++ cores_sent g.answers tag turn.sent) ++ of_end x (IsNumbered n) ∷ []))
+    subst (λ n. UpInvariant x y r to_x ((to_y ++ cores_sent g.answers tag turn.sent) ++ of_end x (IsNumbered n) ∷
+    []))
     (sym (is m.incoming.vr)) (send_super_keeps x y r to_x (to_y ++ cores_sent g.answers tag turn.sent) h.holds) in
-    record { state = h.state; told = h.told; incoming = h.incoming; fits = each_pushed (SentFits g.answers) turn.sent s h.fits tt; holds = subst (λ t. UpInvariant x y r to_x t) (sent_one g.answers tag to_y turn.sent s) gone }
+    record {
+      state = h.state;
+      told = h.told;
+      incoming = h.incoming;
+      fits = each_pushed (SentFits g.answers) turn.sent s
+          h.fits tt;
+      holds = subst (λ t. UpInvariant x y r to_x t) (sent_one g.answers tag to_y turn.sent s) gone;
+    }
 
 nothing_due_state : (c : Control) → (nothing_due c).state ≡ c.state
 nothing_due_state c = refl
@@ -260,7 +280,8 @@ poll_keeps to_x y to_y g turn h =
 
 pub reject_keeps : (flag : Bool) (to_x : List Tagged) → KeepsUp to_x (reject flag)
 reject_keeps flag to_x y to_y g turn h =
-    setting_keeps (with_rej true) (λ c. refl) to_x y to_y g (report (SuperSent RejFrame false turn.now.incoming.vr flag) turn)
+    setting_keeps (with_rej true) (λ c. refl) to_x y to_y g
+    (report (SuperSent RejFrame false turn.now.incoming.vr flag) turn)
     (report_keeps RejFrame false flag to_x (λ vr. refl) y to_y g turn h)
 
 -- V(S) goes back to V(A)
@@ -272,11 +293,13 @@ gone_back_keeps to_x y to_y g turn h =
       told = h.told;
       incoming = h.incoming;
       fits = h.fits;
-      holds = set_vs_keeps (end_behind m g.ended) y (running_of m g.open_now) m.outgoing.va to_x
+      holds = set_vs_keeps (end_behind m g.ended) y
+          (running_of m g.open_now) m.outgoing.va to_x
           (to_y ++ cores_sent g.answers (length g.ended) turn.sent) (le_refl m.outgoing.va) h.holds;
     }
 
-behind_poll_by : (b : Bool) (c d e : Control) → d.state ≡ c.state → e.state ≡ c.state → (if b then d else e).state ≡ c.state
+behind_poll_by :
+    (b : Bool) (c d e : Control) → d.state ≡ c.state → e.state ≡ c.state → (if b then d else e).state ≡ c.state
 behind_poll_by true c d e one other = one
 behind_poll_by false c d e one other = other
 
@@ -309,7 +332,8 @@ timed_by_state some all c = awaiting_by (some && not c.poll) c (timed_anew all c
 
 -- the front frame acknowledges
 pub acknowledged_keeps :
-    (tag nr : ℕ) (n : Numbered) (rest : List Tagged) → Acknowledges n nr → KeepsUp (numbered_to tag n ∷ rest) (changing (acknowledged nr))
+    (tag nr : ℕ) (n : Numbered) (rest : List Tagged) → Acknowledges n nr
+    → KeepsUp (numbered_to tag n ∷ rest) (changing (acknowledged nr))
 acknowledged_keeps tag nr n rest is y to_y g turn h =
     let m = turn.now in
     record {
@@ -317,7 +341,8 @@ acknowledged_keeps tag nr n rest is y to_y g turn h =
       told = h.told;
       incoming = h.incoming;
       fits = h.fits;
-      holds = ack_front_keeps (end_behind m g.ended) y (running_of m g.open_now) tag nr n rest
+      holds = ack_front_keeps (end_behind m g.ended) y
+          (running_of m g.open_now) tag nr n rest
           (to_y ++ cores_sent g.answers (length g.ended) turn.sent) is h.holds;
     }
 
@@ -330,5 +355,6 @@ passed_over y f rest to_y g turn h = record {
   told = h.told;
   incoming = h.incoming;
   fits = h.fits;
-  holds = lose_keeps (up_end turn.now g.ended g.open_now) y [] f rest (to_y ++ cores_sent g.answers (length g.ended) turn.sent) h.holds;
+  holds = lose_keeps (up_end turn.now g.ended g.open_now) y [] f
+      rest (to_y ++ cores_sent g.answers (length g.ended) turn.sent) h.holds;
 }

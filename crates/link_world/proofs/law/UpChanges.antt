@@ -1,44 +1,35 @@
 -- An end that is up hears a frame without numbers.
-use Rattle.std.proofs.Common.{◌≡◌, ℕ, zero, suc, ◌+◌, ◌-◌, ◌<◌, ◌≤◌, min, Bool, true, false, ◌&&◌, ◌||◌, ◌==◌, if◌then◌else◌, List, [], ◌∷◌, ◌++◌, length, take, drop, map, Option, Some, None, refl, sym, ap, ◌∙◌, subst, arith, append-nil, append_assoc}
-use Rattle.std.specs.List.{AllByRecursion as Each, fold}
-use Rattle.std.specs.Bool.{⊤}
+use Rattle.std.proofs.Common.{◌≡◌, ℕ, Bool, true, false, List, [], ◌∷◌, ◌++◌, refl, sym, ap, ◌∙◌, subst, append-nil}
 use Rattle.ax25_address.specs.declared.path.Path.{Path}
 use Rattle.ax25_frames.specs.FrameText.{is_command_of}
 use Rattle.ax25_frames.specs.declared.frame.U.{U}
-use Rattle.ax25_frames.specs.declared.frame.U.TheVariants.{Sabm as SabmFrame, Sabme as SabmeFrame, Disc as DiscFrame, Dm as DmFrame, Ua as UaFrame}
-use Rattle.selective_reject.specs.declared.packet.Packet.{Packet}
-use Rattle.selective_reject.specs.Incoming.{Incoming}
-use Rattle.link_machine.specs.declared.state.LinkState.{LinkState}
-use Rattle.link_machine.specs.Machine.{Machine}
-use Rattle.link_machine.specs.Sent.{Sent}
+use Rattle.ax25_frames.specs.declared.frame.U.TheVariants.{Disc as DiscFrame, Dm as DmFrame, Ua as UaFrame}
 use Rattle.link_machine.specs.Sent.Sent.{SetupSent}
-use Rattle.link_machine.specs.Turn.{Turn, begin}
-use Rattle.link_machine.specs.Acts.{settle, flush, in_window, to_send}
-use Rattle.link_machine.specs.Frames.{hear_up, end_by_disc, end_by_dm, open_again}
-use Rattle.link_machine.specs.Step.{settled, settle_in}
-use Rattle.link_world.proofs.law.Core.{End, SetUp as CoreSetUp, Tagged as CoreTagged, between}
-use Rattle.link_world.proofs.law.Core.Kind.{Disc, Ua, Dm, Sabm}
-use Rattle.link_world.proofs.law.Core.Standing.{Idle, Up}
-use Rattle.link_world.proofs.law.CoreMoves.{now, after_all, opened, of_end, setup_to}
-use Rattle.link_world.proofs.law.CoreOf.{core_sent, cores_sent, running_of, end_behind, up_end}
+use Rattle.link_machine.specs.Turn.{begin}
+use Rattle.link_machine.specs.Frames.{hear_up, end_by_disc, end_by_dm}
+use Rattle.link_machine.specs.Step.{settled}
+use Rattle.link_world.proofs.law.Core.{End, Tagged as CoreTagged, between}
+use Rattle.link_world.proofs.law.Core.Kind.{Ua}
+use Rattle.link_world.proofs.law.Core.Standing.{Idle}
+use Rattle.link_world.proofs.law.CoreMoves.{now, of_end}
+use Rattle.link_world.proofs.law.CoreOf.{end_behind, up_end}
 use Rattle.link_world.specs.SetUps.{SetUp}
-use Rattle.link_world.specs.Flight.{Tagged}
-use Rattle.link_world.specs.Recorded.{RecordedEnd, Happening, noting, hearing, tagged}
+use Rattle.link_world.specs.Recorded.{RecordedEnd, noting, hearing}
 use Rattle.link_world.specs.Recorded.Happening.{Hears}
-use Rattle.link_world.proofs.law.PlacesFit.{IsFit, fit_new}
 use Rattle.link_world.proofs.law.Losing.{lose_keeps}
 use Rattle.link_world.proofs.law.Standings.{leave_to_idle_keeps}
-use Rattle.link_world.proofs.law.Opening.{decline_idle_keeps, open_called_keeps, no_call_of_up}
-use Rattle.link_world.proofs.law.UpActs.{IsUp, passed_over}
+use Rattle.link_world.proofs.law.Opening.{decline_idle_keeps}
+use Rattle.link_world.proofs.law.UpActs.{passed_over}
 use Rattle.link_world.proofs.law.Invariant.{Invariant}
-use Rattle.link_world.proofs.law.Shown.{core_set_up, core_set_ups, core_flight, core_tagged}
-use Rattle.link_world.proofs.law.Settling.{IsSameKind, Outcome, end_with, all_of_last}
+use Rattle.link_world.proofs.law.Shown.{core_set_up, core_set_ups, core_tagged}
+use Rattle.link_world.proofs.law.Settling.{end_with, all_of_last}
 use Rattle.link_world.proofs.law.Outcomes.{same_kind, idle_outcome, outcome_behind, setup_flight, setup_written}
 use Rattle.link_world.proofs.law.UpEvents.{Keeps, UpEnd, up_begins, up_ends, progress_of, heard_frame}
 
 -- such a frame leaves the record as it is
 pub noted_nothing :
-    (r : RecordedEnd) (ended : List SetUp) (last : SetUp) (path : Path) (modulus : ℕ) (which : U) (flag : Bool) (set_up : ℕ) (answers : Bool)
+    (r : RecordedEnd) (ended : List SetUp) (last : SetUp) (path : Path) (modulus : ℕ) (which : U) (flag : Bool)
+    (set_up : ℕ) (answers : Bool)
     → UpEnd r ended last → noting (Hears (heard_frame path modulus (SetupSent which flag) set_up answers)) r ≡ r
 noted_nothing r ended last path modulus which flag set_up answers u =
     ap (λ s. hearing s (heard_frame path modulus (SetupSent which flag) set_up answers) r) u.state
@@ -49,13 +40,17 @@ pub up_hears_ua :
     (y : End) (rest to_y : List CoreTagged) → UpEnd r ended last
     → let f = heard_frame path r.machine.incoming.modulus (SetupSent UaFrame flag) set_up answers in
     Invariant (between (up_end r.machine (core_set_ups ended) (core_set_up last)) y (core_tagged f ∷ rest) to_y)
-    → Keeps (Hears f) r y rest to_y (settled (hear_up (is_command_of path.role f.frame.kind) f.frame.kind (begin r.machine)))
+    → Keeps (Hears f) r y rest to_y (settled (hear_up (is_command_of path.role f.frame.kind) f.frame.kind
+    (begin r.machine)))
 up_hears_ua r ended last path flag set_up answers y rest to_y u h =
     let f = heard_frame path r.machine.incoming.modulus (SetupSent UaFrame flag) set_up answers in
     let g = progress_of r ended last false in
-    up_ends (Hears f) r y rest to_y g ended last (ended ++ last ∷ []) (begin r.machine) refl refl refl u.fit (same_kind r.machine.incoming)
-    (ap (λ (e : RecordedEnd). e.set_ups) (noted_nothing r ended last path r.machine.incoming.modulus UaFrame flag set_up answers u) ∙ u.set_ups) refl
-    (passed_over y (core_tagged f) rest to_y g (begin r.machine) (up_begins r ended last false y (core_tagged f ∷ rest) to_y u h))
+    up_ends (Hears f) r y rest to_y g ended last (ended ++ last ∷ []) (begin r.machine) refl refl refl u.fit
+    (same_kind r.machine.incoming)
+    (ap (λ (e : RecordedEnd). e.set_ups) (noted_nothing r ended last path r.machine.incoming.modulus UaFrame flag
+    set_up answers u) ∙ u.set_ups) refl
+    (passed_over y (core_tagged f) rest to_y g (begin r.machine)
+    (up_begins r ended last false y (core_tagged f ∷ rest) to_y u h))
 
 -- the end that has left
 left_end :
@@ -73,16 +68,21 @@ pub up_hears_dm :
     (y : End) (rest to_y : List CoreTagged) → UpEnd r ended last
     → let f = heard_frame path r.machine.incoming.modulus (SetupSent DmFrame flag) set_up answers in
     Invariant (between (up_end r.machine (core_set_ups ended) (core_set_up last)) y (core_tagged f ∷ rest) to_y)
-    → Keeps (Hears f) r y rest to_y (settled (hear_up (is_command_of path.role f.frame.kind) f.frame.kind (begin r.machine)))
+    → Keeps (Hears f) r y rest to_y (settled (hear_up (is_command_of path.role f.frame.kind) f.frame.kind
+    (begin r.machine)))
 up_hears_dm r ended last path flag set_up answers y rest to_y u h alone =
     let f = heard_frame path r.machine.incoming.modulus (SetupSent DmFrame flag) set_up answers in
     let turn = settled (end_by_dm (begin r.machine)) in
     outcome_behind (Hears f) r y rest to_y false r.machine.incoming turn r.set_ups []
-    (ap (λ (e : RecordedEnd). e.set_ups) (noted_nothing r ended last path r.machine.incoming.modulus DmFrame flag set_up answers u)) refl
-    (idle_outcome y rest to_y false r.machine.incoming turn.now r.set_ups [] [] refl refl u.fit (same_kind r.machine.incoming) refl tt
-    (subst (λ t. Invariant (between (now Idle (end_behind r.machine (core_set_ups r.set_ups))) y rest t)) (sym (append-nil to_y))
+    (ap (λ (e : RecordedEnd). e.set_ups) (noted_nothing r ended last path r.machine.incoming.modulus DmFrame flag
+    set_up answers u)) refl
+    (idle_outcome y rest to_y false r.machine.incoming turn.now r.set_ups [] [] refl refl u.fit
+    (same_kind r.machine.incoming) refl tt
+    (subst (λ t. Invariant (between (now Idle (end_behind r.machine (core_set_ups r.set_ups))) y rest t))
+    (sym (append-nil to_y))
     (left_end r ended last y rest to_y u
-    (lose_keeps (up_end r.machine (core_set_ups ended) (core_set_up last)) y [] (core_tagged f) rest to_y h))))
+    (lose_keeps (up_end r.machine (core_set_ups ended) (core_set_up last)) y [] (core_tagged f) rest to_y
+    h))))
 
 -- a DISC ends the set-up, and is answered
 pub up_hears_disc :
@@ -90,14 +90,18 @@ pub up_hears_disc :
     (y : End) (rest to_y : List CoreTagged) → UpEnd r ended last
     → let f = heard_frame path r.machine.incoming.modulus (SetupSent DiscFrame flag) set_up answers in
     Invariant (between (up_end r.machine (core_set_ups ended) (core_set_up last)) y (core_tagged f ∷ rest) to_y)
-    → Keeps (Hears f) r y rest to_y (settled (hear_up (is_command_of path.role f.frame.kind) f.frame.kind (begin r.machine)))
+    → Keeps (Hears f) r y rest to_y (settled (hear_up (is_command_of path.role f.frame.kind) f.frame.kind
+    (begin r.machine)))
 up_hears_disc r ended last path flag set_up answers y rest to_y u h alone =
     let f = heard_frame path r.machine.incoming.modulus (SetupSent DiscFrame flag) set_up answers in
     let turn = settled (end_by_disc flag (begin r.machine)) in
     let e = end_behind r.machine (core_set_ups r.set_ups) in
     outcome_behind (Hears f) r y rest to_y true r.machine.incoming turn r.set_ups []
-    (ap (λ (e : RecordedEnd). e.set_ups) (noted_nothing r ended last path r.machine.incoming.modulus DiscFrame flag set_up answers u)) refl
-    (idle_outcome y rest to_y true r.machine.incoming turn.now r.set_ups (SetupSent UaFrame flag ∷ []) (of_end (now Idle e) Ua ∷ []) refl refl u.fit (same_kind r.machine.incoming)
-    (setup_flight true (end_with turn.now r.set_ups []) UaFrame flag tt) (setup_written true (end_with turn.now r.set_ups []) UaFrame flag refl)
+    (ap (λ (e : RecordedEnd). e.set_ups) (noted_nothing r ended last path r.machine.incoming.modulus DiscFrame flag
+    set_up answers u)) refl
+    (idle_outcome y rest to_y true r.machine.incoming turn.now r.set_ups (SetupSent UaFrame flag ∷ [])
+    (of_end (now Idle e) Ua ∷ []) refl refl u.fit (same_kind r.machine.incoming)
+    (setup_flight true (end_with turn.now r.set_ups []) UaFrame flag tt)
+    (setup_written true (end_with turn.now r.set_ups []) UaFrame flag refl)
     (decline_idle_keeps e y set_up rest to_y
     (left_end r ended last y (core_tagged f ∷ rest) to_y u h)))

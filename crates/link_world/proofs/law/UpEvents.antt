@@ -1,35 +1,26 @@
 -- Events of an end that is up: what the layer above asks for, and I and S frames.
-use Rattle.std.proofs.Common.{◌≡◌, ℕ, zero, suc, ◌+◌, ◌%◌, ◌<◌, ◌≤◌, Bool, true, false, ◌&&◌, ◌==◌, if◌then◌else◌, List, [], ◌∷◌, ◌++◌, length, map, Option, Some, None, is_some, refl, sym, ap, ◌∙◌, subst, arith, append-nil, append_assoc}
-use Rattle.std.specs.List.{AllByRecursion as Each, fold}
-use Rattle.std.specs.Bool.{⊤}
-use Rattle.std.proofs.lemmas.Bool.{cond-true, cond-false, and_right}
-use Rattle.ax25_frames.specs.declared.frame.Frame.{Frame}
+use Rattle.std.proofs.Common.{◌≡◌, ℕ, ◌%◌, ◌<◌, Bool, true, false, ◌&&◌, if◌then◌else◌, List, [], ◌∷◌, ◌++◌, Option, Some, None, is_some, refl, sym, ap, ◌∙◌, subst, append-nil}
+use Rattle.std.specs.List.{fold}
+use Rattle.std.proofs.lemmas.Bool.{cond-false}
 use Rattle.ax25_address.specs.declared.path.Path.{Path}
 use Rattle.ax25_frames.specs.FrameText.{is_command_of}
 use Rattle.ax25_frames.specs.declared.frame.S.{S}
-use Rattle.ax25_frames.specs.declared.frame.Kind.{Kind}
-use Rattle.ax25_frames.specs.declared.frame.Kind.TheVariants.{Info as InfoKind, Super as SuperKind}
 use Rattle.selective_reject.specs.declared.packet.Packet.{Packet}
 use Rattle.selective_reject.specs.Places.{is_full}
-use Rattle.selective_reject.specs.Incoming.{Incoming}
-use Rattle.link_machine.specs.declared.state.LinkState.{LinkState}
 use Rattle.link_machine.specs.declared.state.LinkState.TheVariants.{Up as UpState}
-use Rattle.link_machine.specs.declared.acts.Told.{Told}
-use Rattle.link_machine.specs.declared.acts.Told.TheVariants.{Given}
-use Rattle.link_machine.specs.Machine.{Machine, is_valid, ahead_of_vr}
-use Rattle.link_machine.specs.Sent.{Sent, sent_kind, frame_of}
-use Rattle.link_machine.specs.Sent.Sent.{InfoSent, SuperSent, SetupSent}
+use Rattle.link_machine.specs.Machine.{ahead_of_vr}
+use Rattle.link_machine.specs.Sent.{Sent, sent_kind}
+use Rattle.link_machine.specs.Sent.Sent.{InfoSent, SuperSent}
 use Rattle.link_machine.specs.Turn.{Turn, begin, changing, setting}
 use Rattle.link_machine.specs.Acts.{settle}
-use Rattle.link_machine.specs.Event.{Event}
-use Rattle.link_machine.specs.Event.Event.{Connect, Send, Disconnect, Hear, Tick}
+use Rattle.link_machine.specs.Event.Event.{Send}
 use Rattle.link_machine.specs.Requests.{joined, quitting}
-use Rattle.link_machine.specs.Frames.{hear, hear_in, hear_up}
-use Rattle.link_machine.specs.Step.{step, settled, settle_in, refusal_of}
-use Rattle.link_world.proofs.law.Core.{End, SetUp as CoreSetUp, Tagged as CoreTagged, between}
+use Rattle.link_machine.specs.Frames.{hear_up}
+use Rattle.link_machine.specs.Step.{settled, settle_in, refusal_of}
+use Rattle.link_world.proofs.law.Core.{End, Tagged as CoreTagged, between}
 use Rattle.link_world.proofs.law.Core.Numbered.{Info}
-use Rattle.link_world.proofs.law.CoreMoves.{numbered_to, first_origin}
-use Rattle.link_world.proofs.law.CoreOf.{core_sent, cores_sent, super_of, running_of, end_behind, up_end}
+use Rattle.link_world.proofs.law.CoreMoves.{first_origin}
+use Rattle.link_world.proofs.law.CoreOf.{running_of, end_behind, up_end}
 use Rattle.link_world.specs.SetUps.{SetUp, change_last, giving, acting, first_of}
 use Rattle.link_world.specs.Flight.{Tagged}
 use Rattle.link_world.specs.Recorded.{RecordedEnd, Happening, accepts_by, accepts, told_of, mate_of, noting, hearing, behind, seen, hears_ask}
@@ -41,7 +32,7 @@ use Rattle.link_world.proofs.law.UpTaking.{got_by}
 use Rattle.link_world.proofs.law.UpHearing.{IsRead, nr_is_read, hear_super_keeps}
 use Rattle.link_world.proofs.law.UpInfo.{HasHeard, WindowsOf, progress_behind, hear_info_heard}
 use Rattle.link_world.proofs.law.Invariant.{Invariant}
-use Rattle.link_world.proofs.law.Shown.{core_set_up, core_set_ups, core_flight, core_tagged, change_last-push, getting_all, told_given}
+use Rattle.link_world.proofs.law.Shown.{core_set_up, core_set_ups, core_tagged, change_last-push, getting_all, told_given}
 use Rattle.link_world.proofs.law.Settling.{IsSameKind, Outcome, IsAlone, Settled, settle_settles}
 use Rattle.link_world.proofs.law.Outcomes.{same_kind, settled_outcome}
 
@@ -68,7 +59,8 @@ progress_of r ended last answers = record {
 }
 
 pub up_begins :
-    (r : RecordedEnd) (ended : List SetUp) (last : SetUp) (answers : Bool) (y : End) (to_x to_y : List CoreTagged) → UpEnd r ended last
+    (r : RecordedEnd) (ended : List SetUp) (last : SetUp) (answers : Bool) (y : End) (to_x to_y : List CoreTagged)
+    → UpEnd r ended last
     → Invariant (between (up_end r.machine (core_set_ups ended) (core_set_up last)) y to_x to_y)
     → IsUp y to_x to_y (progress_of r ended last answers) (begin r.machine)
 up_begins r ended last answers y to_x to_y u h = record {
@@ -76,13 +68,16 @@ up_begins r ended last answers y to_x to_y u h = record {
   told = refl;
   incoming = refl;
   fits = tt;
-  holds = subst (λ t. Invariant (between (up_end r.machine (core_set_ups ended) (core_set_up last)) y to_x t)) (sym (append-nil to_y)) h;
+  holds = subst (λ t. Invariant (between (up_end r.machine (core_set_ups ended) (core_set_up last)) y to_x t))
+      (sym (append-nil to_y)) h;
 }
 
 -- an event that leaves it up
 pub up_ends :
-    (h : Happening) (r : RecordedEnd) (y : End) (to_x to_y : List CoreTagged) (g : Progress) (ended : List SetUp) (last : SetUp) (qs : List SetUp) (turn : Turn)
-    → g.answers ≡ hears_ask h → g.ended ≡ core_set_ups ended → g.open_now ≡ core_set_up last → IsFit g.incoming → IsSameKind g.incoming r.machine.incoming
+    (h : Happening) (r : RecordedEnd) (y : End) (to_x to_y : List CoreTagged) (g : Progress) (ended : List SetUp)
+    (last : SetUp) (qs : List SetUp) (turn : Turn)
+    → g.answers ≡ hears_ask h → g.ended ≡ core_set_ups ended → g.open_now ≡ core_set_up last → IsFit g.incoming
+    → IsSameKind g.incoming r.machine.incoming
     → (noting h r).set_ups ≡ qs → fold (told_of (mate_of h) (noting h r).waiting) qs g.told ≡ ended ++ last ∷ []
     → IsUp y to_x to_y g turn → Keeps h r y to_x to_y (settled turn)
 up_ends h r y to_x to_y g ended last qs turn answers before open_is fit same noted told up =
@@ -95,27 +90,33 @@ up_ends h r y to_x to_y g ended last qs turn answers before open_is fit same not
         settled_outcome h r y to_x to_y (hears_ask h) r.machine.incoming (settle turn) (ended ++ last ∷ [])
         (ap (λ t. fold (told_of (mate_of h) (noting h r).waiting) t (settle turn).told) noted
         ∙ ap (fold (told_of (mate_of h) (noting h r).waiting) qs) s.told ∙ told) s.waits
-        (subst (λ b. Outcome y to_x to_y b r.machine.incoming (record { machine = (settle turn).now; set_ups = ended ++ last ∷ []; waiting = [] }) (settle turn).sent)
+        (subst (λ b. Outcome y to_x to_y b r.machine.incoming
+        (record { machine = (settle turn).now; set_ups = ended ++ last ∷ []; waiting = [] }) (settle turn).sent)
         answers s.outcome)
 
 -- a packet is given
 pub up_sends :
-    (r : RecordedEnd) (ended : List SetUp) (last : SetUp) (packet : Packet) (y : End) (to_x to_y : List CoreTagged) → UpEnd r ended last
+    (r : RecordedEnd) (ended : List SetUp) (last : SetUp) (packet : Packet) (y : End) (to_x to_y : List CoreTagged)
+    → UpEnd r ended last
     → is_some (refusal_of r.machine (Send packet)) ≡ false
     → Invariant (between (up_end r.machine (core_set_ups ended) (core_set_up last)) y to_x to_y)
     → Keeps (Sends packet) r y to_x to_y (settled (changing (joined packet) (begin r.machine)))
 up_sends r ended last packet y to_x to_y u taken h =
     let noted : (noting (Sends packet) r).set_ups ≡ ended ++ giving packet last ∷ [] =
     ap (λ (e : RecordedEnd). e.set_ups) (cond-false (is_some (refusal_of r.machine (Send packet))) r _ taken)
-    ∙ ap (λ s. (Rattle.link_world.specs.Recorded.taking s packet r).set_ups) u.state ∙ ap (change_last (giving packet)) u.set_ups
+    ∙ ap (λ s. (Rattle.link_world.specs.Recorded.taking s packet r).set_ups) u.state
+    ∙ ap (change_last (giving packet)) u.set_ups
     ∙ change_last-push (giving packet) ended last in
-    up_ends (Sends packet) r y to_x to_y (progress_of r ended (giving packet last) false) ended (giving packet last) (ended ++ giving packet last ∷ [])
-    (changing (joined packet) (begin r.machine)) refl refl refl u.fit (same_kind r.machine.incoming) noted refl (record {
+    up_ends (Sends packet) r y to_x to_y (progress_of r ended (giving packet last) false) ended (giving packet last)
+    (ended ++ giving packet last ∷ [])
+    (changing (joined packet) (begin r.machine)) refl refl refl u.fit (same_kind r.machine.incoming) noted refl
+    (record {
       state = u.state;
       told = refl;
       incoming = refl;
       fits = tt;
-      holds = give_up_keeps (end_behind r.machine (core_set_ups ended)) y (running_of r.machine (core_set_up last)) packet to_x (to_y ++ [])
+      holds = give_up_keeps (end_behind r.machine (core_set_ups ended)) y (running_of r.machine (core_set_up last))
+          packet to_x (to_y ++ [])
           (up_begins r ended last false y to_x to_y u h).holds;
     })
 
@@ -125,48 +126,64 @@ pub up_quits :
     → Invariant (between (up_end r.machine (core_set_ups ended) (core_set_up last)) y to_x to_y)
     → Keeps Disconnects r y to_x to_y (settled (setting quitting (begin r.machine)))
 up_quits r ended last y to_x to_y u h =
-    up_ends Disconnects r y to_x to_y (progress_of r ended last false) ended last (ended ++ last ∷ []) (setting quitting (begin r.machine))
+    up_ends Disconnects r y to_x to_y (progress_of r ended last false) ended last (ended ++ last ∷ [])
+    (setting quitting (begin r.machine))
     refl refl refl u.fit (same_kind r.machine.incoming) u.set_ups refl
-    (setting_keeps quitting (λ c. refl) to_x y to_y (progress_of r ended last false) (begin r.machine) (up_begins r ended last false y to_x to_y u h))
+    (setting_keeps quitting (λ c. refl) to_x y to_y (progress_of r ended last false) (begin r.machine)
+    (up_begins r ended last false y to_x to_y u h))
 
 -- a frame as it was written
 abbrev pub heard_frame : Path → ℕ → Sent → ℕ → Bool → Tagged
 heard_frame path modulus sent set_up answers =
-    record { frame = record { path = path; kind = sent_kind modulus sent }; sent = sent; set_up = set_up; answers = answers }
+    record {
+      frame = record { path = path; kind = sent_kind modulus sent };
+      sent = sent;
+      set_up = set_up;
+      answers =
+          answers;
+    }
 
 -- an S frame is heard
 pub up_hears_super :
-    (r : RecordedEnd) (ended : List SetUp) (last : SetUp) (path : Path) (which : S) (command : Bool) (nr : ℕ) (flag : Bool) (set_up : ℕ) (answers : Bool)
-    (y : End) (rest to_y : List CoreTagged) → UpEnd r ended last → r.machine.incoming.window < r.machine.incoming.modulus
+    (r : RecordedEnd) (ended : List SetUp) (last : SetUp) (path : Path) (which : S) (command : Bool) (nr : ℕ)
+    (flag : Bool) (set_up : ℕ) (answers : Bool)
+    (y : End) (rest to_y : List CoreTagged) → UpEnd r ended last
+    → r.machine.incoming.window < r.machine.incoming.modulus
     → let f = heard_frame path r.machine.incoming.modulus (SuperSent which command nr flag) set_up answers in
     Invariant (between (up_end r.machine (core_set_ups ended) (core_set_up last)) y (core_tagged f ∷ rest) to_y)
-    → Keeps (Hears f) r y rest to_y (settled (hear_up (is_command_of path.role f.frame.kind) f.frame.kind (begin r.machine)))
+    → Keeps (Hears f) r y rest to_y (settled (hear_up (is_command_of path.role f.frame.kind) f.frame.kind
+    (begin r.machine)))
 up_hears_super r ended last path which command nr flag set_up answers y rest to_y u fits h =
     let f = heard_frame path r.machine.incoming.modulus (SuperSent which command nr flag) set_up answers in
     let acted = acting set_up false last in
     let noted : (noting (Hears f) r).set_ups ≡ ended ++ acted ∷ [] =
-    ap (λ s. (hearing s f r).set_ups) u.state ∙ ap (change_last (acting set_up false)) u.set_ups ∙ change_last-push (acting set_up false) ended last in
+    ap (λ s. (hearing s f r).set_ups) u.state ∙ ap (change_last (acting set_up false)) u.set_ups
+    ∙ change_last-push (acting set_up false) ended last in
     up_ends (Hears f) r y rest to_y (progress_of r ended last false) ended acted (ended ++ acted ∷ [])
     (hear_up (is_command_of path.role f.frame.kind) f.frame.kind (begin r.machine))
     refl refl refl u.fit (same_kind r.machine.incoming) noted refl
-    (hear_super_keeps y set_up nr rest to_y (progress_of r ended last false) (begin r.machine) which (is_command_of path.role f.frame.kind) flag fits
+    (hear_super_keeps y set_up nr rest to_y (progress_of r ended last false) (begin r.machine) which
+    (is_command_of path.role f.frame.kind) flag fits
     (up_begins r ended last false y (core_tagged f ∷ rest) to_y u h))
 
 first_same : (o : Option ℕ) (tag : ℕ) → first_of o tag ≡ first_origin o tag
 first_same None tag = refl
 first_same (Some a) tag = refl
 
-origin_same : (b : Bool) (o : Option ℕ) (tag : ℕ) → (if b then first_origin o tag else o) ≡ (if b then first_of o tag else o)
+origin_same :
+    (b : Bool) (o : Option ℕ) (tag : ℕ) → (if b then first_origin o tag else o) ≡ (if b then first_of o tag else o)
 origin_same true o tag = sym (first_same o tag)
 origin_same false o tag = refl
 
 -- an I frame is heard
 pub up_hears_info :
-    (r : RecordedEnd) (ended : List SetUp) (last : SetUp) (path : Path) (ns nr : ℕ) (packet : Packet) (set_up : ℕ) (answers : Bool)
+    (r : RecordedEnd) (ended : List SetUp) (last : SetUp) (path : Path) (ns nr : ℕ) (packet : Packet) (set_up : ℕ)
+    (answers : Bool)
     (y : End) (rest to_y : List CoreTagged) → UpEnd r ended last → WindowsOf r.machine.incoming y
     → let f = heard_frame path r.machine.incoming.modulus (InfoSent ns nr packet) set_up answers in
     Invariant (between (up_end r.machine (core_set_ups ended) (core_set_up last)) y (core_tagged f ∷ rest) to_y)
-    → Keeps (Hears f) r y rest to_y (settled (hear_up (is_command_of path.role f.frame.kind) f.frame.kind (begin r.machine)))
+    → Keeps (Hears f) r y rest to_y (settled (hear_up (is_command_of path.role f.frame.kind) f.frame.kind
+    (begin r.machine)))
 up_hears_info r ended last path ns nr packet set_up answers y rest to_y u windows h =
     let m = r.machine in
     let i = m.incoming in
@@ -181,12 +198,16 @@ up_hears_info r ended last path ns nr packet set_up answers y rest to_y u window
     let noted : (noting (Hears f) r).set_ups ≡ ended ++ acted ∷ [] =
     ap (λ s. (hearing s f r).set_ups) u.state ∙ ap (λ b. change_last (acting set_up b) r.set_ups) does
     ∙ ap (change_last (acting set_up takes)) u.set_ups ∙ change_last-push (acting set_up takes) ended last in
-    let heard : HasHeard y rest to_y set_up takes g (hear_up (is_command_of path.role f.frame.kind) f.frame.kind (begin m)) =
-    hear_info_heard y set_up ns nr packet rest to_y g (begin m) (is_command_of path.role f.frame.kind) false windows u.fit up in
+    let heard : HasHeard y rest to_y set_up takes g
+    (hear_up (is_command_of path.role f.frame.kind) f.frame.kind (begin m)) =
+    hear_info_heard y set_up ns nr packet rest to_y g (begin m) (is_command_of path.role f.frame.kind) false
+    windows u.fit up in
     let behind_it = getting_all heard.packets acted in
-    let open_is : got_by heard.packets (if takes then first_origin last.accepted set_up else last.accepted) (core_set_up last) ≡ core_set_up behind_it =
+    let open_is : got_by heard.packets (if takes then first_origin last.accepted set_up else last.accepted)
+    (core_set_up last) ≡ core_set_up behind_it =
     ap (λ o. got_by heard.packets o (core_set_up last)) (origin_same takes last.accepted set_up) in
-    up_ends (Hears f) r y rest to_y (progress_behind heard.packets takes set_up heard.incoming g) ended behind_it (ended ++ acted ∷ [])
+    up_ends (Hears f) r y rest to_y (progress_behind heard.packets takes set_up heard.incoming g) ended behind_it
+    (ended ++ acted ∷ [])
     (hear_up (is_command_of path.role f.frame.kind) f.frame.kind (begin m))
     refl refl open_is heard.fit (record { mode = heard.same.0; window = heard.same.1; modulus = heard.same.2 }) noted
     (told_given (mate_of (Hears f)) (noting (Hears f) r).waiting ended acted heard.packets) heard.up

@@ -1,30 +1,26 @@
 -- A link that is up hears an I frame.
-use Rattle.std.proofs.Common.{◌≡◌, ℕ, zero, suc, ◌+◌, ◌-◌, ◌*◌, ◌%◌, ◌<◌, ◌≤◌, le_refl, le_trans, Bool, true, false, ◌&&◌, ◌||◌, not, nat_lt, nat_le, ◌==◌, if◌then◌else◌, List, [], ◌∷◌, ◌++◌, length, drop, map, Option, Some, None, refl, sym, ap, ◌∙◌, subst, arith, append-nil, append_assoc, inl, inr}
+use Rattle.std.proofs.Common.{◌≡◌, ℕ, ◌+◌, ◌-◌, ◌%◌, ◌<◌, ◌≤◌, Bool, true, false, ◌&&◌, ◌||◌, not, nat_lt, ◌==◌, if◌then◌else◌, List, [], ◌∷◌, ◌++◌, length, map, refl, sym, ap, ◌∙◌, subst, arith, append-nil, append_assoc, inl, inr}
 use Rattle.std.specs.List.{AllByRecursion as Each}
-use Rattle.std.proofs.lemmas.List.{map-append}
-use Rattle.std.proofs.lemmas.Bool.{cond-true, cond-false, cases_Bool, eqb-true, eqb-false, ltb-true, false≢true, and_parts, not-true, eq-eqb, cases_lt}
+use Rattle.std.proofs.lemmas.Bool.{cond-true, eqb-true, eqb-false, ltb-true, and_parts, not-true, cases_lt}
 use Rattle.ax25_frames.specs.declared.frame.S.TheVariants.{Srej as SrejFrame}
 use Rattle.ax25_frames.specs.declared.frame.Kind.TheVariants.{Info as InfoKind}
 use Rattle.selective_reject.specs.declared.packet.Packet.{Packet}
 use Rattle.selective_reject.specs.declared.window.Mode.{Mode}
 use Rattle.selective_reject.specs.declared.window.Mode.TheVariants.{Rej as RejMode, Srej as SrejMode}
-use Rattle.selective_reject.specs.Numbers.{ahead}
 use Rattle.selective_reject.specs.Places.{is_full, with_packet, missing, asked}
 use Rattle.selective_reject.specs.Incoming.{Incoming}
-use Rattle.link_machine.specs.declared.acts.Told.{Told}
 use Rattle.link_machine.specs.declared.acts.Told.TheVariants.{Given}
-use Rattle.link_machine.specs.declared.control.Control.{Control}
 use Rattle.link_machine.specs.Machine.{Machine, named, ahead_of_vr}
 use Rattle.link_machine.specs.Sent.{Sent}
 use Rattle.link_machine.specs.Sent.Sent.{SuperSent}
-use Rattle.link_machine.specs.Turn.{Turn, Act, changing, setting}
+use Rattle.link_machine.specs.Turn.{Turn, changing, setting}
 use Rattle.link_machine.specs.Acts.{acknowledged, answer_poll, reject, owing, with_rej, run_with, moved_on, give, stored, ask, srej_for}
-use Rattle.link_machine.specs.Frames.{hear_up, hear_info, hear_info_by, hear_info_by_rej, hear_info_by_srej, take_in_sequence, refuse_out_of_sequence, take_selected}
-use Rattle.link_world.proofs.law.Core.{End, Running, SetUp, Stored, Tagged, Numbered, between}
-use Rattle.link_world.proofs.law.Core.Numbered.{Info, Super, Srej}
+use Rattle.link_machine.specs.Frames.{hear_up, hear_info, hear_info_by, hear_info_by_rej, hear_info_by_srej, take_in_sequence, refuse_out_of_sequence}
+use Rattle.link_world.proofs.law.Core.{End, Running, SetUp, Stored, Tagged, between}
+use Rattle.link_world.proofs.law.Core.Numbered.{Info, Srej}
 use Rattle.link_world.proofs.law.Core.Kind.{IsNumbered}
 use Rattle.link_world.proofs.law.CoreMoves.{numbered_to, first_origin, storing, of_end}
-use Rattle.link_world.proofs.law.CoreOf.{core_sent, cores_sent, running_of, end_behind, up_end, stored_from}
+use Rattle.link_world.proofs.law.CoreOf.{cores_sent, running_of, end_behind, up_end, stored_from}
 use Rattle.link_world.specs.Recorded.{accepts_by}
 use Rattle.link_world.proofs.law.UpSending.{UpInvariant, send_srej_keeps}
 use Rattle.link_world.proofs.law.Receiving.{store_front_keeps}
@@ -45,11 +41,13 @@ progress_behind packets accepts tag incoming g = record g {
   incoming = incoming;
 }
 
-pub record HasHeard (y : End) (rest to_y : List Tagged) (tag : ℕ) (accepts : Bool) (g : Progress) (turn : Turn) : Type 0 where
+pub record HasHeard (y : End) (rest to_y : List Tagged) (tag : ℕ) (accepts : Bool) (g : Progress)
+    (turn : Turn) : Type 0 where
   pub packets : List Packet
   pub incoming : Incoming
   pub fit : IsFit incoming
-  pub same : (incoming.mode ≡ g.incoming.mode) × (incoming.window ≡ g.incoming.window) × (incoming.modulus ≡ g.incoming.modulus)
+  pub same : (incoming.mode ≡ g.incoming.mode) × (incoming.window ≡ g.incoming.window)
+      × (incoming.modulus ≡ g.incoming.modulus)
   pub up : IsUp y rest to_y (progress_behind packets accepts tag incoming g) turn
 
 -- the windows of a hearer in this mode, and of the sender, fit the modulus
@@ -97,13 +95,23 @@ heard_then y rest to_y tag accepts g turn behind keeps h = record {
 given_to :
     (y : End) (rest to_y : List Tagged) (tag : ℕ) (g : Progress) (turn : Turn) (packets : List Packet)
     → IsFit (moved_on (length packets) turn.now.incoming) → turn.told ≡ g.told → turn.now.incoming ≡ g.incoming
-    → IsUp y rest to_y (record g { open_now = got_by packets (first_origin g.open_now.origin tag) g.open_now; told = g.told ++ map Given packets; incoming = moved_on (length packets) turn.now.incoming }) (give packets turn)
+    → IsUp y rest to_y (record g {
+      open_now = got_by packets (first_origin g.open_now.origin tag) g.open_now;
+      told =
+          g.told ++ map Given packets;
+      incoming = moved_on (length packets) turn.now.incoming;
+    }) (give packets turn)
     → HasHeard y rest to_y tag true g (give packets turn)
 given_to y rest to_y tag g turn packets fit told incoming h = record {
   packets = packets;
   incoming = moved_on (length packets) turn.now.incoming;
   fit = fit;
-  same = (ap (λ (i : Incoming). i.mode) incoming, ap (λ (i : Incoming). i.window) incoming, ap (λ (i : Incoming). i.modulus) incoming);
+  same = (
+    ap (λ (i : Incoming). i.mode) incoming,
+    ap (λ (i : Incoming). i.window) incoming,
+    ap
+        (λ (i : Incoming). i.modulus) incoming,
+  );
   up = h;
 }
 
@@ -116,7 +124,8 @@ sequence_heard :
 sequence_heard y tag nr packet rest to_y g turn ns mode fit is h =
     let m = turn.now in
     let under_way = to_y ++ cores_sent g.answers (length g.ended) turn.sent in
-    let front = subst (λ n. Invariant (between (up_end m g.ended g.open_now) y (numbered_to tag (Info n nr packet) ∷ rest) under_way)) is h.holds in
+    let front = subst (λ n. Invariant (between (up_end m g.ended g.open_now) y
+    (numbered_to tag (Info n nr packet) ∷ rest) under_way)) is h.holds in
     given_to y rest to_y tag g turn (packet ∷ []) (fit_behind_one m.incoming mode fit) h.told h.incoming (record {
       state = h.state;
       told = ap (λ t. t ++ Given packet ∷ []) h.told;
@@ -134,8 +143,10 @@ run_heard :
 run_heard y tag nr packet rest to_y g turn ns mode fit is h =
     let m = turn.now in
     let under_way = to_y ++ cores_sent g.answers (length g.ended) turn.sent in
-    let front = subst (λ n. Invariant (between (up_end m g.ended g.open_now) y (numbered_to tag (Info n nr packet) ∷ rest) under_way)) is h.holds in
-    given_to y rest to_y tag g turn (run_with packet m) (fit_behind_run m.incoming packet mode fit) h.told h.incoming (record {
+    let front = subst (λ n. Invariant (between (up_end m g.ended g.open_now) y
+    (numbered_to tag (Info n nr packet) ∷ rest) under_way)) is h.holds in
+    given_to y rest to_y tag g turn (run_with packet m) (fit_behind_run m.incoming packet mode fit) h.told h.incoming
+    (record {
       state = h.state;
       told = ap (λ t. t ++ map Given (run_with packet m)) h.told;
       incoming = refl;
@@ -145,9 +156,11 @@ run_heard y tag nr packet rest to_y g turn ns mode fit is h =
 
 -- SREJ goes out for some numbers below one that is stored
 srejs_go_out :
-    (x y : End) (r : Running) (k : ℕ) (before : List Stored) (s : Stored) (after : List Stored) (js : List ℕ) (answers : Bool) (to_x to_y : List Tagged)
+    (x y : End) (r : Running) (k : ℕ) (before : List Stored) (s : Stored) (after : List Stored) (js : List ℕ)
+    (answers : Bool) (to_x to_y : List Tagged)
     → r.stored ≡ before ++ s ∷ after → s.number ≡ r.vr + k → Each (λ j. j < k) js → UpInvariant x y r to_x to_y
-    → UpInvariant x y r to_x (to_y ++ cores_sent answers (length x.ended) (map (λ j. SuperSent SrejFrame false (r.vr + j) false) js))
+    → UpInvariant x y r to_x (to_y ++ cores_sent answers (length x.ended)
+    (map (λ j. SuperSent SrejFrame false (r.vr + j) false) js))
 srejs_go_out x y r k before s after [] answers to_x to_y is number below h =
     subst (λ t. UpInvariant x y r to_x t) (sym (append-nil to_y)) h
 srejs_go_out x y r k before s after (j ∷ js) answers to_x to_y is number below h =
@@ -155,7 +168,8 @@ srejs_go_out x y r k before s after (j ∷ js) answers to_x to_y is number below
     let here : j < k = below.0 in
     let one = send_srej_keeps x y r (r.vr + j) before s after to_x to_y is (omega arith) (omega arith) h in
     subst (λ t. UpInvariant x y r to_x t)
-    (append_assoc to_y (f ∷ []) (cores_sent answers (length x.ended) (map (λ i. SuperSent SrejFrame false (r.vr + i) false) js)))
+    (append_assoc to_y (f ∷ []) (cores_sent answers (length x.ended)
+    (map (λ i. SuperSent SrejFrame false (r.vr + i) false) js)))
     (srejs_go_out x y r k before s after js answers to_x (to_y ++ f ∷ []) is number below.1 one)
 
 srejs_fit : (answers : Bool) (m : Machine) (js : List ℕ) → Each (SentFits answers) (map (srej_for m) js)
@@ -182,38 +196,58 @@ stored_heard y tag nr packet rest to_y g turn ns k mode fit is some within empty
     let pl : IsPlaced i.vr k packet i.places = place_filled i.vr k packet i.places (omega arith) empty in
     let s : Stored = record { number = i.vr + k; packet = packet } in
     let front : UpInvariant x y (storing (pl.before ++ s ∷ pl.after) (first_origin q.origin tag) r) rest under_way =
-    subst (λ n. UpInvariant x y (storing (pl.before ++ record { number = n; packet = packet } ∷ pl.after) (first_origin q.origin tag) r) rest under_way) is
+    subst (λ n. UpInvariant x y (storing (pl.before ++ record { number = n; packet = packet } ∷ pl.after)
+    (first_origin q.origin tag) r) rest under_way) is
     (store_front_keeps x y r tag ns nr packet pl.before pl.after rest under_way pl.was h.holds) in
     let with_got : UpInvariant x y (record r { stored = pl.before ++ s ∷ pl.after; set_up = q1 }) rest under_way =
-    subst (λ t. UpInvariant x y (record r { stored = pl.before ++ s ∷ pl.after; set_up = record q { got = t; origin = first_origin q.origin tag } }) rest under_way)
+    subst (λ t. UpInvariant x y (record r
+    { stored = pl.before ++ s ∷ pl.after; set_up = record q { got = t; origin = first_origin q.origin tag } })
+    rest under_way)
     (sym (append-nil q.got)) front in
-    let asked_for = srejs_go_out x y (record r { stored = pl.before ++ s ∷ pl.after; set_up = q1 }) k pl.before s pl.after (missing places k) g.answers rest under_way
+    let asked_for = srejs_go_out x y (record r { stored = pl.before ++ s ∷ pl.after; set_up = q1 }) k pl.before s
+    pl.after (missing places k) g.answers rest under_way
     refl refl (missing_below places k) with_got in
-    let same : pl.before ++ s ∷ pl.after ≡ stored_from i.vr (asked places k) = sym pl.is ∙ sym (stored_asked i.vr k places) in
+    let same : pl.before ++ s ∷ pl.after ≡ stored_from i.vr (asked places k) =
+    sym pl.is ∙ sym (stored_asked i.vr k places) in
     let sent : List Sent = map (srej_for (stored k packet m)) (missing places k) in
-    let all : UpInvariant x y (record r { stored = stored_from i.vr (asked places k); set_up = q1 }) rest (to_y ++ cores_sent g.answers (length g.ended) (turn.sent ++ sent)) =
-    subst (λ t. UpInvariant x y (record r { stored = stored_from i.vr (asked places k); set_up = q1 }) rest t) (sent_more g.answers (length g.ended) to_y turn.sent sent)
-    (subst (λ ss. UpInvariant x y (record r { stored = ss; set_up = q1 }) rest (under_way ++ cores_sent g.answers (length g.ended) sent)) same asked_for) in
+    let all : UpInvariant x y (record r {
+      stored =
+          stored_from i.vr (asked places k);
+      set_up = q1;
+    }) rest
+    (to_y ++ cores_sent g.answers (length g.ended) (turn.sent ++ sent)) =
+    subst (λ t. UpInvariant x y (record r { stored = stored_from i.vr (asked places k); set_up = q1 }) rest t)
+    (sent_more g.answers (length g.ended) to_y turn.sent sent)
+    (subst (λ ss. UpInvariant x y (record r { stored = ss; set_up = q1 }) rest
+    (under_way ++ cores_sent g.answers (length g.ended) sent)) same asked_for) in
     record {
       packets = [];
       incoming = record i { places = asked places k };
       fit = fit_asked (record i { places = places }) k mode (fit_with i k packet mode some fit);
-      same = (ap (λ (j : Incoming). j.mode) h.incoming, ap (λ (j : Incoming). j.window) h.incoming, ap (λ (j : Incoming). j.modulus) h.incoming);
+      same = (
+        ap (λ (j : Incoming). j.mode) h.incoming,
+        ap (λ (j : Incoming). j.window) h.incoming,
+        ap
+            (λ (j : Incoming). j.modulus) h.incoming,
+      );
       up = record {
         state = h.state;
         told = h.told ∙ sym (append-nil g.told);
         incoming = refl;
-        fits = each_append (SentFits g.answers) turn.sent sent h.fits (srejs_fit g.answers (stored k packet m) (missing places k));
+        fits = each_append (SentFits g.answers) turn.sent sent h.fits
+            (srejs_fit g.answers (stored k packet m) (missing places k));
         holds = all;
       };
     }
 
 behind_info :
     (flag : Bool) (y : End) (rest to_y : List Tagged) (tag : ℕ) (accepts : Bool) (g : Progress) (turn : Turn)
-    → HasHeard y rest to_y tag accepts g turn → HasHeard y rest to_y tag accepts g (answer_poll flag (setting owing turn))
+    → HasHeard y rest to_y tag accepts g turn
+    → HasHeard y rest to_y tag accepts g (answer_poll flag (setting owing turn))
 behind_info flag y rest to_y tag accepts g turn h =
     heard_then y rest to_y tag accepts g turn (answer_poll flag (setting owing turn))
-    (λ p up. answer_poll_keeps flag rest y to_y p (setting owing turn) (setting_keeps owing (λ c. refl) rest y to_y p turn up)) h
+    (λ p up. answer_poll_keeps flag rest y to_y p (setting owing turn)
+    (setting_keeps owing (λ c. refl) rest y to_y p turn up)) h
 
 -- by REJ
 by_rej_heard :
@@ -237,9 +271,11 @@ by_rej_heard y tag ns nr packet rest to_y g turn flag windows mode fit h = go (d
     taken = give (packet ∷ []) turn
 
     go : (b : Bool) → (distance == 0) ≡ b
-        → HasHeard y rest to_y tag b g (if b then take_in_sequence flag packet turn else refuse_out_of_sequence flag turn)
+        → HasHeard y rest to_y tag b g (if b then take_in_sequence flag packet turn else refuse_out_of_sequence flag
+        turn)
     go true is =
-        let named_by = ns_by_rej i.modulus (end_behind turn.now g.ended) y (running_of turn.now g.open_now) tag ns nr packet rest
+        let named_by = ns_by_rej i.modulus (end_behind turn.now g.ended) y (running_of turn.now g.open_now) tag ns nr
+        packet rest
         (to_y ++ cores_sent g.answers (length g.ended) turn.sent) windows.sender h.holds in
         behind_info flag y rest to_y tag true g (setting (with_rej false) taken)
         (heard_then y rest to_y tag true g taken (setting (with_rej false) taken)
@@ -247,7 +283,8 @@ by_rej_heard y tag ns nr packet rest to_y g turn flag windows mode fit h = go (d
         (sequence_heard y tag nr packet rest to_y g turn ns mode fit (named_by.0 (eqb-true distance 0 is)) h))
     go false is = by_reject turn.now.control.rej
       where
-        by_reject : (b : Bool) → HasHeard y rest to_y tag false g (if b then answer_poll flag turn else reject flag turn)
+        by_reject : (b : Bool)
+            → HasHeard y rest to_y tag false g (if b then answer_poll flag turn else reject flag turn)
         by_reject true = heard_nothing y f rest to_y tag g (answer_poll flag turn) (subst IsFit h.incoming fit)
             (answer_poll_keeps flag (f ∷ rest) y to_y g turn h)
         by_reject false = heard_nothing y f rest to_y tag g (reject flag turn) (subst IsFit h.incoming fit)
@@ -259,7 +296,8 @@ by_srej_heard :
     → WindowsOf turn.now.incoming y → turn.now.incoming.mode ≡ SrejMode → IsFit turn.now.incoming
     → IsUp y (numbered_to tag (Info ns nr packet) ∷ rest) to_y g turn
     → let k = ahead_of_vr (ns % turn.now.incoming.modulus) turn.now in
-    HasHeard y rest to_y tag ((k == 0) || (nat_lt k turn.now.incoming.window && not (is_full turn.now.incoming.places k))) g
+    HasHeard y rest to_y tag ((k == 0) || (nat_lt k turn.now.incoming.window && not
+    (is_full turn.now.incoming.places k))) g
     (hear_info_by_srej (ns % turn.now.incoming.modulus) flag packet turn)
 by_srej_heard y tag ns nr packet rest to_y g turn flag windows mode fit h = go (k == 0) refl
   where
@@ -276,8 +314,10 @@ by_srej_heard y tag ns nr packet rest to_y g turn flag windows mode fit h = go (
     fits = nat_lt k i.window && not (is_full i.places k)
 
     named_by : (i.vr ≤ ns → k ≡ ns - i.vr) × (ns < i.vr → i.window ≤ k)
-    named_by = ns_by_srej i.modulus (end_behind turn.now g.ended) y (running_of turn.now g.open_now) tag ns nr packet rest
-        (to_y ++ cores_sent g.answers (length g.ended) turn.sent) (windows.halves mode).0 (windows.halves mode).1 h.holds
+    named_by = ns_by_srej i.modulus (end_behind turn.now g.ended) y (running_of turn.now g.open_now) tag ns nr packet
+        rest
+        (to_y ++ cores_sent g.answers (length g.ended) turn.sent) (windows.halves mode).0 (windows.halves mode).1
+        h.holds
 
     in_window : k < i.window → ns ≡ i.vr + k
     in_window within = elim (cases_lt ns i.vr) [
@@ -314,7 +354,8 @@ by_srej_heard y tag ns nr packet rest to_y g turn flag windows mode fit h = go (
 
 -- by either
 by_mode_heard :
-    (y : End) (tag ns nr : ℕ) (packet : Packet) (rest to_y : List Tagged) (g : Progress) (turn : Turn) (flag : Bool) (mode : Mode)
+    (y : End) (tag ns nr : ℕ) (packet : Packet) (rest to_y : List Tagged) (g : Progress) (turn : Turn) (flag : Bool)
+    (mode : Mode)
     → WindowsOf turn.now.incoming y → turn.now.incoming.mode ≡ mode → IsFit turn.now.incoming
     → IsUp y (numbered_to tag (Info ns nr packet) ∷ rest) to_y g turn
     → let k = ahead_of_vr (ns % turn.now.incoming.modulus) turn.now in
@@ -327,7 +368,8 @@ by_mode_heard y tag ns nr packet rest to_y g turn flag SrejMode windows mode fit
 
 -- An I frame as it is heard.
 pub hear_info_heard :
-    (y : End) (tag ns nr : ℕ) (packet : Packet) (rest to_y : List Tagged) (g : Progress) (turn : Turn) (command flag : Bool)
+    (y : End) (tag ns nr : ℕ) (packet : Packet) (rest to_y : List Tagged) (g : Progress) (turn : Turn)
+    (command flag : Bool)
     → WindowsOf turn.now.incoming y → IsFit turn.now.incoming
     → IsUp y (numbered_to tag (Info ns nr packet) ∷ rest) to_y g turn
     → let i = turn.now.incoming in
@@ -344,4 +386,5 @@ hear_info_heard y tag ns nr packet rest to_y g turn command flag windows fit h =
     subst (λ t. HasHeard y rest to_y tag accepts g t)
     (sym (cond-true _ (hear_info (named (nr % i.modulus) m) (ns % i.modulus) flag packet turn) _ read.valid))
     (subst (λ n. HasHeard y rest to_y tag accepts g (hear_info n (ns % i.modulus) flag packet turn)) (sym read.named_is)
-    (by_mode_heard y tag ns nr packet rest to_y g (changing (acknowledged nr) turn) flag i.mode windows refl fit acked))
+    (by_mode_heard y tag ns nr packet rest to_y g (changing (acknowledged nr) turn) flag i.mode windows refl fit
+    acked))

@@ -1,19 +1,14 @@
 -- A link that is up takes the packet of an I frame, by REJ or by SREJ.
-use Rattle.std.proofs.Common.{◌≡◌, ℕ, zero, suc, ◌+◌, ◌-◌, ◌%◌, ◌<◌, ◌≤◌, le_refl, Bool, true, false, ◌&&◌, not, nat_lt, ◌==◌, if◌then◌else◌, List, [], ◌∷◌, ◌++◌, length, take, drop, map, replicate, Option, Some, None, IsSome, is_some, IfSome, refl, sym, ap, ◌∙◌, subst, arith, append_assoc, append-nil, add-one}
-use Rattle.std.specs.List.{AllByRecursion as Each}
-use Rattle.std.proofs.lemmas.Bool.{cond-true, cond-false, ne_eqb, eq-eqb, false≢true}
-use Rattle.std.proofs.lemmas.List.{map-append, drop-drop}
+use Rattle.std.proofs.Common.{◌≡◌, ℕ, ◌+◌, List, [], ◌∷◌, ◌++◌, length, drop, Option, Some, None, IsSome, refl, sym, ap, ◌∙◌, subst, arith, append_assoc, append-nil}
+use Rattle.std.proofs.lemmas.List.{drop-drop}
 use Rattle.selective_reject.specs.declared.packet.Packet.{Packet}
 use Rattle.selective_reject.specs.declared.place.Place.{Place}
-use Rattle.selective_reject.specs.Places.{empty_place, packet_at, is_full, with_packet, missing, asked}
-use Rattle.selective_reject.specs.Incoming.{Incoming}
+use Rattle.selective_reject.specs.Places.{packet_at}
 use Rattle.link_machine.specs.Machine.{Machine}
-use Rattle.link_machine.specs.Turn.{Turn}
 use Rattle.link_machine.specs.Acts.{run, before_gap, run_with, moved_on}
-use Rattle.link_world.proofs.law.Core.{End, Running, SetUp, Stored, Tagged, Numbered, between, era}
-use Rattle.link_world.proofs.law.Core.Numbered.{Info, Super, Srej}
-use Rattle.link_world.proofs.law.Core.Standing.{Up}
-use Rattle.link_world.proofs.law.CoreMoves.{now, numbered_to, got_more, first_origin, storing}
+use Rattle.link_world.proofs.law.Core.{End, Running, SetUp, Stored, Tagged, between}
+use Rattle.link_world.proofs.law.Core.Numbered.{Info}
+use Rattle.link_world.proofs.law.CoreMoves.{numbered_to, first_origin}
 use Rattle.link_world.proofs.law.CoreOf.{stored_before, stored_from, running_of, end_behind, up_end}
 use Rattle.link_world.proofs.law.PlacesStored.{stored_behind, stored_first_empty}
 use Rattle.link_world.proofs.law.UpSending.{UpInvariant}
@@ -31,20 +26,25 @@ got_so_far vr stored q r = record r { vr = vr; stored = stored; set_up = q }
 -- what is taken of some places
 abbrev pub taken_of : (vr : ℕ) → List Packet → List Place → SetUp → Running → Running
 taken_of vr packets ps q r =
-    got_so_far (vr + length packets) (stored_from (vr + length packets) (drop (length packets) ps)) (got_by packets q.origin q) r
+    got_so_far (vr + length packets) (stored_from (vr + length packets) (drop (length packets) ps))
+    (got_by packets q.origin q) r
 
 none_taken :
     (x y : End) (r : Running) (vr : ℕ) (q : SetUp) (ps : List Place) (to_x to_y : List Tagged)
-    → UpInvariant x y (got_so_far vr (stored_from vr ps) q r) to_x to_y → UpInvariant x y (taken_of vr [] ps q r) to_x to_y
+    → UpInvariant x y (got_so_far vr (stored_from vr ps) q r) to_x to_y
+    → UpInvariant x y (taken_of vr [] ps q r) to_x to_y
 none_taken x y r vr q ps to_x to_y h =
     let none : vr ≡ vr + 0 = omega arith in
     subst (λ n. UpInvariant x y (got_so_far n (stored_from n ps) (got_by [] q.origin q) r) to_x to_y) none
-    (subst (λ g. UpInvariant x y (got_so_far vr (stored_from vr ps) (record q { got = g }) r) to_x to_y) (sym (append-nil q.got)) h)
+    (subst (λ g. UpInvariant x y (got_so_far vr (stored_from vr ps) (record q { got = g }) r) to_x to_y)
+    (sym (append-nil q.got)) h)
 
 some_taken :
-    (x y : End) (r : Running) (vr : ℕ) (q : SetUp) (p : Place) (ps : List Place) (to_x to_y : List Tagged) (o : Option Packet)
+    (x y : End) (r : Running) (vr : ℕ) (q : SetUp) (p : Place) (ps : List Place) (to_x to_y : List Tagged)
+    (o : Option Packet)
     → p.packet ≡ o → IsSome q.origin
-    → ((packet : Packet) → UpInvariant x y (got_so_far (vr + 1) (stored_from (vr + 1) ps) (got_by (packet ∷ []) q.origin q) r) to_x to_y
+    → ((packet : Packet) → UpInvariant x y (got_so_far (vr + 1) (stored_from (vr + 1) ps)
+    (got_by (packet ∷ []) q.origin q) r) to_x to_y
     → UpInvariant x y (taken_of (vr + 1) (run ps) ps (got_by (packet ∷ []) q.origin q) r) to_x to_y)
     → UpInvariant x y (got_so_far vr (stored_from vr (p ∷ ps)) q r) to_x to_y
     → UpInvariant x y (taken_of vr (before_gap o (run ps)) (p ∷ ps) q r) to_x to_y
@@ -52,20 +52,23 @@ some_taken x y r vr q p ps to_x to_y None is some rest h = none_taken x y r vr q
 some_taken x y r vr q p ps to_x to_y (Some packet) is some rest h =
     let s : Stored = record { number = vr; packet = packet } in
     let before = got_so_far vr (stored_from vr (p ∷ ps)) q r in
-    let one : UpInvariant x y (got_so_far (vr + 1) (stored_from (vr + 1) ps) (got_by (packet ∷ []) q.origin q) r) to_x to_y =
+    let one : UpInvariant x y (got_so_far (vr + 1) (stored_from (vr + 1) ps) (got_by (packet ∷ []) q.origin q) r) to_x
+    to_y =
     take_stored_keeps x y before [] s (stored_from (vr + 1) ps) to_x to_y
     (ap (λ t. stored_before vr t (stored_from (vr + 1) ps)) is) refl some h in
     let further : vr + 1 + length (run ps) ≡ vr + length (packet ∷ run ps) = omega arith in
     let got : (q.got ++ packet ∷ []) ++ run ps ≡ q.got ++ packet ∷ run ps = append_assoc q.got (packet ∷ []) (run ps) in
     subst (λ g. UpInvariant x y (got_so_far (vr + length (packet ∷ run ps))
-    (stored_from (vr + length (packet ∷ run ps)) (drop (length (run ps)) ps)) (record q { got = g }) r) to_x to_y) got
+    (stored_from (vr + length (packet ∷ run ps)) (drop (length (run ps)) ps)) (record q { got = g }) r) to_x to_y)
+    got
     (subst (λ n. UpInvariant x y (got_so_far n (stored_from n (drop (length (run ps)) ps))
     (record q { got = (q.got ++ packet ∷ []) ++ run ps }) r) to_x to_y) further (rest packet one))
 
 -- one behind another, up to the first place that is empty
 pub run_taken :
     (x y : End) (r : Running) (vr : ℕ) (q : SetUp) (ps : List Place) (to_x to_y : List Tagged) → IsSome q.origin
-    → UpInvariant x y (got_so_far vr (stored_from vr ps) q r) to_x to_y → UpInvariant x y (taken_of vr (run ps) ps q r) to_x to_y
+    → UpInvariant x y (got_so_far vr (stored_from vr ps) q r) to_x to_y
+    → UpInvariant x y (taken_of vr (run ps) ps q r) to_x to_y
 run_taken x y r vr q [] to_x to_y some h = none_taken x y r vr q [] to_x to_y h
 run_taken x y r vr q (p ∷ ps) to_x to_y some h =
     some_taken x y r vr q p ps to_x to_y p.packet refl some
@@ -85,7 +88,8 @@ pub next_taken :
     (got_by (packet ∷ []) (first_origin q.origin tag) q) (running_of m q)) rest to_y
 next_taken y m ended q tag nr packet rest to_y none h =
     subst (λ ss. UpInvariant (end_behind m ended) y
-    (got_so_far (m.incoming.vr + 1) ss (got_by (packet ∷ []) (first_origin q.origin tag) q) (running_of m q)) rest to_y)
+    (got_so_far (m.incoming.vr + 1) ss (got_by (packet ∷ []) (first_origin q.origin tag) q) (running_of m q)) rest
+    to_y)
     (sym (stored_first_empty m.incoming.vr m.incoming.places none))
     (accept_front_keeps (end_behind m ended) y (running_of m q) tag nr packet rest to_y h)
 
@@ -125,6 +129,8 @@ run_with_taken y m ended q tag nr packet rest to_y none h =
     let n = i.vr + length (packet ∷ more) in
     let last : P n (stored_from n (drop (length more) (drop 1 i.places))) (q.got ++ packet ∷ more) =
     subst (λ g. P n (stored_from n (drop (length more) (drop 1 i.places))) g) got
-    (subst (λ k. P k (stored_from k (drop (length more) (drop 1 i.places))) ((q.got ++ packet ∷ []) ++ more)) further all) in
+    (subst (λ k. P k (stored_from k (drop (length more) (drop 1 i.places))) ((q.got ++ packet ∷ []) ++ more))
+    further all) in
     subst (λ ss. P n ss (q.got ++ packet ∷ more))
-    (ap (stored_from n) places ∙ sym (stored_behind n (length (packet ∷ more)) (drop (length (packet ∷ more)) i.places))) last
+    (ap (stored_from n) places ∙ sym (stored_behind n (length (packet ∷ more))
+    (drop (length (packet ∷ more)) i.places))) last

@@ -1,39 +1,39 @@
 -- A tick of an end that is up.
-use Rattle.std.proofs.Common.{◌≡◌, ℕ, zero, suc, ◌+◌, ◌-◌, ◌<◌, ◌≤◌, Bool, true, false, ◌&&◌, if◌then◌else◌, List, [], ◌∷◌, ◌++◌, length, map, Option, Some, None, refl, sym, ap, ◌∙◌, subst, arith, append-nil, append_assoc}
+use Rattle.std.proofs.Common.{◌≡◌, ℕ, Bool, true, false, if◌then◌else◌, List, [], ◌∷◌, ◌++◌, length, map, Option, Some, None, refl, sym, ap, ◌∙◌, subst, append_assoc}
 use Rattle.std.specs.List.{AllByRecursion as Each, fold}
 use Rattle.std.proofs.lemmas.Bool.{cond-false}
 use Rattle.std.proofs.lemmas.List.{map-append}
 use Rattle.ax25_frames.specs.declared.frame.U.TheVariants.{Dm as DmFrame}
-use Rattle.link_machine.specs.declared.control.Control.{Control}
 use Rattle.link_machine.specs.declared.state.LinkState.{LinkState}
 use Rattle.link_machine.specs.declared.state.LinkState.TheVariants.{Up as UpState}
 use Rattle.link_machine.specs.declared.acts.Told.TheVariants.{Ended}
 use Rattle.link_machine.specs.Sent.Sent.{SetupSent}
 use Rattle.link_machine.specs.Turn.{Turn, begin, setting}
 use Rattle.link_machine.specs.Acts.{poll}
-use Rattle.link_machine.specs.Ticks.{runs_out, lowered, with_t1, with_t2, with_t3, t1_out, t2_out, t3_out, tick_t1, tick_t2, tick_t3, tick_t1_of, tick_t2_of, tick_t3_of, tick, tick_in, is_spent, poll_again, retried, unretried}
+use Rattle.link_machine.specs.Ticks.{runs_out, lowered, with_t1, with_t2, with_t3, t1_out, t2_out, t3_out, tick_t2, tick_t3, tick_t1_of, tick_t2_of, tick_t3_of, tick, tick_in, is_spent, poll_again, retried, unretried}
 use Rattle.link_machine.specs.Step.{settled}
-use Rattle.link_world.proofs.law.Core.{End, SetUp as CoreSetUp, Tagged as CoreTagged, between}
+use Rattle.link_world.proofs.law.Core.{End, Tagged as CoreTagged, between}
 use Rattle.link_world.proofs.law.Core.Kind.{Dm}
 use Rattle.link_world.proofs.law.Core.Standing.{Idle}
 use Rattle.link_world.proofs.law.CoreMoves.{now, of_end}
-use Rattle.link_world.proofs.law.CoreOf.{core_sent, cores_sent, end_behind, up_end}
+use Rattle.link_world.proofs.law.CoreOf.{cores_sent, end_behind, up_end}
 use Rattle.link_world.specs.SetUps.{SetUp}
-use Rattle.link_world.specs.Recorded.{RecordedEnd, Happening, noting, told_of, mate_of, tagged}
+use Rattle.link_world.specs.Recorded.{RecordedEnd, told_of, tagged}
 use Rattle.link_world.specs.Recorded.Happening.{Ticks}
 use Rattle.link_world.proofs.law.Each.{each_append}
 use Rattle.link_world.proofs.law.Standings.{leave_to_idle_keeps}
 use Rattle.link_world.proofs.law.Kept.{send_dm_keeps}
-use Rattle.link_world.proofs.law.UpActs.{IsUp, Progress, KeepsUp, setting_keeps, respond_ready_keeps, poll_keeps, choice_keeps}
+use Rattle.link_world.proofs.law.UpActs.{IsUp, Progress, setting_keeps, respond_ready_keeps, poll_keeps, choice_keeps}
 use Rattle.link_world.proofs.law.Invariant.{Invariant}
-use Rattle.link_world.proofs.law.Shown.{core_set_up, core_set_ups, core_flight, IsWritten}
+use Rattle.link_world.proofs.law.Shown.{core_set_up, core_set_ups, IsWritten}
 use Rattle.link_world.proofs.law.Settling.{Outcome, end_with, all_of_last, length_of_last, numbered_written}
 use Rattle.link_world.proofs.law.Outcomes.{same_kind, idle_outcome, outcome_behind, setup_behind_flight, setup_written}
 use Rattle.link_world.proofs.law.UpEvents.{Keeps, UpEnd, up_begins, up_ends, progress_of}
 
 -- an act by the state, of a link that is up
 by_state :
-    (act : LinkState → Turn → Turn) (y : End) (to_x to_y : List CoreTagged) (g : Progress) (turn : Turn) (state : LinkState)
+    (act : LinkState → Turn → Turn) (y : End) (to_x to_y : List CoreTagged) (g : Progress) (turn : Turn)
+    (state : LinkState)
     → state ≡ UpState → IsUp y to_x to_y g (act UpState turn) → IsUp y to_x to_y g (act state turn)
 by_state act y to_x to_y g turn state is h = subst (λ s. IsUp y to_x to_y g (act s turn)) (sym is) h
 
@@ -41,16 +41,19 @@ t2_keeps : (o : Option ℕ) (to_x : List CoreTagged) (y : End) (to_y : List Core
     → IsUp y to_x to_y g turn → IsUp y to_x to_y g (tick_t2_of o turn)
 t2_keeps None to_x y to_y g turn h = h
 t2_keeps (Some left) to_x y to_y g turn h =
-    choice_keeps to_x (runs_out left) y to_y g (t2_out turn.now.control.state (setting (with_t2 None) turn)) (setting (with_t2 (lowered left)) turn)
+    choice_keeps to_x (runs_out left) y to_y g (t2_out turn.now.control.state (setting (with_t2 None) turn))
+    (setting (with_t2 (lowered left)) turn)
     (by_state t2_out y to_x to_y g (setting (with_t2 None) turn) turn.now.control.state h.state
-    (respond_ready_keeps false to_x y to_y g (setting (with_t2 None) turn) (setting_keeps (with_t2 None) (λ c. refl) to_x y to_y g turn h)))
+    (respond_ready_keeps false to_x y to_y g (setting (with_t2 None) turn)
+    (setting_keeps (with_t2 None) (λ c. refl) to_x y to_y g turn h)))
     (setting_keeps (with_t2 (lowered left)) (λ c. refl) to_x y to_y g turn h)
 
 t3_keeps : (o : Option ℕ) (to_x : List CoreTagged) (y : End) (to_y : List CoreTagged) (g : Progress) (turn : Turn)
     → IsUp y to_x to_y g turn → IsUp y to_x to_y g (tick_t3_of o turn)
 t3_keeps None to_x y to_y g turn h = h
 t3_keeps (Some left) to_x y to_y g turn h =
-    choice_keeps to_x (runs_out left) y to_y g (t3_out turn.now.control.state (setting (with_t3 None) turn)) (setting (with_t3 (lowered left)) turn)
+    choice_keeps to_x (runs_out left) y to_y g (t3_out turn.now.control.state (setting (with_t3 None) turn))
+    (setting (with_t3 (lowered left)) turn)
     (by_state t3_out y to_x to_y g (setting (with_t3 None) turn) turn.now.control.state h.state
     (poll_keeps to_x y to_y g (setting unretried (setting (with_t3 None) turn))
     (setting_keeps unretried (λ c. refl) to_x y to_y g (setting (with_t3 None) turn)
@@ -59,16 +62,25 @@ t3_keeps (Some left) to_x y to_y g turn h =
 
 -- the retries are spent: DM goes out, and the end is idle
 spent_outcome :
-    (r : RecordedEnd) (ended : List SetUp) (last : SetUp) (waiting : Bool) (y : End) (to_x to_y : List CoreTagged) (turn : Turn) → UpEnd r ended last
+    (r : RecordedEnd) (ended : List SetUp) (last : SetUp) (waiting : Bool) (y : End) (to_x to_y : List CoreTagged)
+    (turn : Turn) → UpEnd r ended last
     → IsUp y to_x to_y (progress_of r ended last false) turn → is_spent turn.now.control ≡ true
     → Keeps (Ticks waiting) r y to_x to_y (settled (poll_again turn))
 spent_outcome r ended last waiting y to_x to_y turn u h spent =
-    subst (λ t. Keeps (Ticks waiting) r y to_x to_y (settled t)) (sym (ap (λ b. if b then gone else stays) spent)) outcome
+    subst (λ t. Keeps (Ticks waiting) r y to_x to_y (settled t)) (sym (ap (λ b. if b then gone else stays) spent))
+    outcome
   where
     gone : Turn
     gone = record {
       now = record turn.now {
-        control = record turn.now.control { state = Rattle.link_machine.specs.declared.state.LinkState.TheVariants.Idle; quit = false; t1 = None; t2 = None; t3 = None };
+        control = record turn.now.control {
+          state =
+              Rattle.link_machine.specs.declared.state.LinkState.TheVariants.Idle;
+          quit = false;
+          t1 = None;
+          t2 = None;
+          t3 = None;
+        };
         outgoing = Rattle.selective_reject.specs.Outgoing.empty_outgoing;
       };
       sent = turn.sent ++ SetupSent DmFrame false ∷ [];
@@ -94,33 +106,43 @@ spent_outcome r ended last waiting y to_x to_y turn u h spent =
     under_way = to_y ++ cores_sent false n turn.sent
 
     left : Invariant (between idle y to_x under_way)
-    left = subst (λ qs. Invariant (between (now Idle (end_behind turn.now qs)) y to_x under_way)) (sym (all_of_last ended last))
+    left = subst (λ qs. Invariant (between (now Idle (end_behind turn.now qs)) y to_x under_way))
+        (sym (all_of_last ended last))
         (leave_to_idle_keeps (up_end turn.now (core_set_ups ended) (core_set_up last)) y to_x under_way h.holds)
 
     outcome : Keeps (Ticks waiting) r y to_x to_y (settled gone)
     outcome alone = outcome_behind (Ticks waiting) r y to_x to_y false r.machine.incoming gone all []
-        (ap (λ t. fold (told_of 0 r.waiting) r.set_ups (t ++ Ended Rattle.link_machine.specs.declared.acts.Why.TheVariants.Failed ∷ [])) h.told ∙ u.set_ups) refl
+        (ap (λ t. fold (told_of 0 r.waiting) r.set_ups
+        (t ++ Ended Rattle.link_machine.specs.declared.acts.Why.TheVariants.Failed ∷ [])) h.told ∙ u.set_ups) refl
         (idle_outcome y to_x to_y false r.machine.incoming gone.now all (turn.sent ++ SetupSent DmFrame false ∷ [])
         (cores_sent false n turn.sent ++ of_end idle (Dm false) ∷ []) refl refl
         (subst Rattle.link_world.proofs.law.PlacesFit.IsFit (sym h.incoming) u.fit)
-        (subst (λ i. Rattle.link_world.proofs.law.Settling.IsSameKind i r.machine.incoming) (sym h.incoming) (same_kind r.machine.incoming))
+        (subst (λ i. Rattle.link_world.proofs.law.Settling.IsSameKind i r.machine.incoming) (sym h.incoming)
+        (same_kind r.machine.incoming))
         (setup_behind_flight false e n turn.sent DmFrame false tt (length_of_last ended last) h.fits)
-        (subst (λ fs. Each (IsWritten gone.now.incoming.modulus) fs) (sym (map-append (tagged false e) turn.sent (SetupSent DmFrame false ∷ [])))
-        (each_append (IsWritten gone.now.incoming.modulus) (map (tagged false e) turn.sent) (map (tagged false e) (SetupSent DmFrame false ∷ []))
+        (subst (λ fs. Each (IsWritten gone.now.incoming.modulus) fs)
+        (sym (map-append (tagged false e) turn.sent (SetupSent DmFrame false ∷ [])))
+        (each_append (IsWritten gone.now.incoming.modulus) (map (tagged false e) turn.sent)
+        (map (tagged false e) (SetupSent DmFrame false ∷ []))
         (numbered_written false e turn.sent h.fits) (setup_written false e DmFrame false tt)))
-        (subst (λ fs. Invariant (between idle y to_x fs)) (append_assoc to_y (cores_sent false n turn.sent) (of_end idle (Dm false) ∷ []))
+        (subst (λ fs. Invariant (between idle y to_x fs))
+        (append_assoc to_y (cores_sent false n turn.sent) (of_end idle (Dm false) ∷ []))
         (send_dm_keeps idle y to_x under_way left)))
 
 -- an event that leaves it up
 tick_ends :
-    (r : RecordedEnd) (ended : List SetUp) (last : SetUp) (waiting : Bool) (y : End) (to_x to_y : List CoreTagged) (turn : Turn) → UpEnd r ended last
+    (r : RecordedEnd) (ended : List SetUp) (last : SetUp) (waiting : Bool) (y : End) (to_x to_y : List CoreTagged)
+    (turn : Turn) → UpEnd r ended last
     → IsUp y to_x to_y (progress_of r ended last false) turn → Keeps (Ticks waiting) r y to_x to_y (settled turn)
 tick_ends r ended last waiting y to_x to_y turn u h =
-    up_ends (Ticks waiting) r y to_x to_y (progress_of r ended last false) ended last (ended ++ last ∷ []) turn refl refl refl u.fit (same_kind r.machine.incoming) u.set_ups refl h
+    up_ends (Ticks waiting) r y to_x to_y (progress_of r ended last false) ended last (ended ++ last ∷ []) turn refl
+    refl refl u.fit (same_kind r.machine.incoming) u.set_ups refl h
 
 polls :
-    (r : RecordedEnd) (ended : List SetUp) (last : SetUp) (waiting : Bool) (y : End) (to_x to_y : List CoreTagged) (turn : Turn) → UpEnd r ended last
-    → IsUp y to_x to_y (progress_of r ended last false) turn → Keeps (Ticks waiting) r y to_x to_y (settled (poll_again turn))
+    (r : RecordedEnd) (ended : List SetUp) (last : SetUp) (waiting : Bool) (y : End) (to_x to_y : List CoreTagged)
+    (turn : Turn) → UpEnd r ended last
+    → IsUp y to_x to_y (progress_of r ended last false) turn
+    → Keeps (Ticks waiting) r y to_x to_y (settled (poll_again turn))
 polls r ended last waiting y to_x to_y turn u h = go (is_spent turn.now.control) refl
   where
     g : Progress
@@ -129,15 +151,19 @@ polls r ended last waiting y to_x to_y turn u h = go (is_spent turn.now.control)
     go : (b : Bool) → is_spent turn.now.control ≡ b → Keeps (Ticks waiting) r y to_x to_y (settled (poll_again turn))
     go true spent = spent_outcome r ended last waiting y to_x to_y turn u h spent
     go false spent =
-        subst (λ t. Keeps (Ticks waiting) r y to_x to_y (settled t)) (sym (cond-false _ _ (poll (setting retried turn)) spent))
+        subst (λ t. Keeps (Ticks waiting) r y to_x to_y (settled t))
+        (sym (cond-false _ _ (poll (setting retried turn)) spent))
         (tick_ends r ended last waiting y to_x to_y (poll (setting retried turn)) u
         (poll_keeps to_x y to_y g (setting retried turn) (setting_keeps retried (λ c. refl) to_x y to_y g turn h)))
 
 t1_ends :
-    (o : Option ℕ) (still : Bool) (r : RecordedEnd) (ended : List SetUp) (last : SetUp) (waiting : Bool) (y : End) (to_x to_y : List CoreTagged) (turn : Turn)
-    → UpEnd r ended last → IsUp y to_x to_y (progress_of r ended last false) turn → Keeps (Ticks waiting) r y to_x to_y (settled (tick_t1_of o still turn))
+    (o : Option ℕ) (still : Bool) (r : RecordedEnd) (ended : List SetUp) (last : SetUp) (waiting : Bool) (y : End)
+    (to_x to_y : List CoreTagged) (turn : Turn)
+    → UpEnd r ended last → IsUp y to_x to_y (progress_of r ended last false) turn
+    → Keeps (Ticks waiting) r y to_x to_y (settled (tick_t1_of o still turn))
 t1_ends None still r ended last waiting y to_x to_y turn u h =
-    tick_ends r ended last waiting y to_x to_y (tick_t3 turn) u (t3_keeps turn.now.control.t3 to_x y to_y (progress_of r ended last false) turn h)
+    tick_ends r ended last waiting y to_x to_y (tick_t3 turn) u
+    (t3_keeps turn.now.control.t3 to_x y to_y (progress_of r ended last false) turn h)
 t1_ends (Some left) true r ended last waiting y to_x to_y turn u h = tick_ends r ended last waiting y to_x to_y turn u h
 t1_ends (Some left) false r ended last waiting y to_x to_y turn u h = go (runs_out left)
   where
@@ -150,7 +176,9 @@ t1_ends (Some left) false r ended last waiting y to_x to_y turn u h = go (runs_o
     is_out : IsUp y to_x to_y g out
     is_out = setting_keeps (with_t1 None) (λ c. refl) to_x y to_y g turn h
 
-    go : (b : Bool) → Keeps (Ticks waiting) r y to_x to_y (settled (if b then t1_out turn.now.control.state out else setting (with_t1 (lowered left)) turn))
+    go : (b : Bool)
+        → Keeps (Ticks waiting) r y to_x to_y
+        (settled (if b then t1_out turn.now.control.state out else setting (with_t1 (lowered left)) turn))
     go true = subst (λ s. Keeps (Ticks waiting) r y to_x to_y (settled (t1_out s out))) (sym h.state)
         (polls r ended last waiting y to_x to_y out u is_out)
     go false = tick_ends r ended last waiting y to_x to_y (setting (with_t1 (lowered left)) turn) u
@@ -158,12 +186,14 @@ t1_ends (Some left) false r ended last waiting y to_x to_y turn u h = go (runs_o
 
 -- a tick of an end that is up
 pub up_ticks :
-    (r : RecordedEnd) (ended : List SetUp) (last : SetUp) (waiting : Bool) (y : End) (to_x to_y : List CoreTagged) → UpEnd r ended last
+    (r : RecordedEnd) (ended : List SetUp) (last : SetUp) (waiting : Bool) (y : End) (to_x to_y : List CoreTagged)
+    → UpEnd r ended last
     → Invariant (between (up_end r.machine (core_set_ups ended) (core_set_up last)) y to_x to_y)
     → Keeps (Ticks waiting) r y to_x to_y (settled (tick waiting (begin r.machine)))
 up_ticks r ended last waiting y to_x to_y u h =
     let g = progress_of r ended last false in
-    let first = t2_keeps r.machine.control.t2 to_x y to_y g (begin r.machine) (up_begins r ended last false y to_x to_y u h) in
+    let first = t2_keeps r.machine.control.t2 to_x y to_y g (begin r.machine)
+    (up_begins r ended last false y to_x to_y u h) in
     let turn = tick_t2 (begin r.machine) in
     subst (λ s. Keeps (Ticks waiting) r y to_x to_y (settled (tick_in s waiting (begin r.machine)))) (sym u.state)
     (t1_ends turn.now.control.t1 waiting r ended last waiting y to_x to_y turn u first)

@@ -1,5 +1,5 @@
 -- No N(R) that an end reads is invalid, so no link is reset by a number.
-use Rattle.std.proofs.Common.{◌≡◌, ℕ, ◌+◌, ◌-◌, ◌%◌, ◌<◌, ◌≤◌, Bool, true, false, List, [], ◌∷◌, ◌++◌, refl, sym, ap, ◌∙◌, subst, arith}
+use Rattle.std.proofs.Common.{◌≡◌, ℕ, ◌-◌, ◌%◌, ◌<◌, ◌≤◌, true, List, [], ◌∷◌, refl, ap, ◌∙◌, subst}
 use Rattle.std.proofs.lemmas.Bool.{le-leb}
 use Rattle.selective_reject.specs.Numbers.{ahead}
 use Rattle.link_machine.specs.declared.params.Params.{Params}
@@ -14,33 +14,35 @@ use Rattle.link_world.specs.SetUps.{SetUp}
 use Rattle.link_world.specs.Flight.{Tagged}
 use Rattle.link_world.specs.Recorded.{RecordedEnd}
 use Rattle.link_world.specs.World.{Side, World}
-use Rattle.link_world.specs.Law.{names_valid, first_names_valid, reads_valid, hears_valid}
+use Rattle.link_world.specs.Law.{names_valid, reads_valid, hears_valid}
 use Rattle.link_world.specs.Windows.{WindowsFit}
 use Rattle.link_world.specs.declared.event.Event.{Event}
 use Rattle.link_world.specs.declared.event.Event.TheVariants.{Connect, Send, Disconnect, Tick, Hear, Lose}
-use Rattle.link_world.proofs.law.UpSending.{UpInvariant}
 use Rattle.link_world.proofs.law.Deciding.{nr_of, nr_is_named}
 use Rattle.link_world.proofs.law.UpHearing.{nr_of_super}
-use Rattle.link_world.proofs.law.UpInfo.{WindowsOf}
 use Rattle.link_world.proofs.law.Invariant.{Invariant}
 use Rattle.link_world.proofs.law.Shown.{core_set_up, core_set_ups, core_flight, core_tagged, Shown, IsWritten}
 use Rattle.link_world.proofs.law.Shown.Shown.{ShownIdle, ShownCalling, ShownUp, ShownReleasing}
 use Rattle.link_world.proofs.law.WorldSteps.{ShowsWorld, windows_of}
 
 valid_by :
-    (m : Machine) (ended : List SetUp) (last : SetUp) (y : End) (tag : ℕ) (n : Numbered) (nr : ℕ) (rest to_y : List CoreTagged) → nr_of n ≡ nr
+    (m : Machine) (ended : List SetUp) (last : SetUp) (y : End) (tag : ℕ) (n : Numbered) (nr : ℕ)
+    (rest to_y : List CoreTagged) → nr_of n ≡ nr
     → m.incoming.modulus ≡ 8 → m.incoming.window < m.incoming.modulus
     → Invariant (between (up_end m (core_set_ups ended) (core_set_up last)) y (numbered_to tag n ∷ rest) to_y)
     → Rattle.link_machine.specs.Machine.is_valid (nr % 8) m ≡ true
 valid_by m ended last y tag n nr rest to_y is modulus fits inv =
-    let named_by = nr_is_named m.incoming.modulus (end_behind m (core_set_ups ended)) y (running_of m (core_set_up last)) tag n rest to_y fits inv in
+    let named_by = nr_is_named m.incoming.modulus (end_behind m (core_set_ups ended)) y
+    (running_of m (core_set_up last)) tag n rest to_y fits inv in
     subst (λ k. Rattle.link_machine.specs.Machine.is_valid (nr % k) m ≡ true) modulus
-    (le-leb _ _ (subst (λ t. ahead m.incoming.modulus m.outgoing.va (t % m.incoming.modulus) ≤ m.outgoing.top - m.outgoing.va) is named_by.0))
+    (le-leb _ _ (subst (λ t. ahead m.incoming.modulus m.outgoing.va (t % m.incoming.modulus) ≤ m.outgoing.top -
+    m.outgoing.va) is named_by.0))
 
 names_by :
     (m : Machine) (ended : List SetUp) (last : SetUp) (y : End) (f : Tagged) (sent : Sent) (rest to_y : List CoreTagged)
     → m.incoming.modulus ≡ 8 → m.incoming.window < m.incoming.modulus
-    → Invariant (between (up_end m (core_set_ups ended) (core_set_up last)) y (core_tagged (record f { sent = sent }) ∷ rest) to_y)
+    → Invariant (between (up_end m (core_set_ups ended) (core_set_up last)) y
+    (core_tagged (record f { sent = sent }) ∷ rest) to_y)
     → names_valid m (sent_kind 8 sent) ≡ true
 names_by m ended last y f (InfoSent ns nr packet) rest to_y modulus fits inv =
     valid_by m ended last y f.set_up (Info ns nr packet) nr rest to_y refl modulus fits inv
@@ -57,21 +59,27 @@ reads_by a b r towards far fit s = go s.x s.near s.holds towards s.near_written 
     w : World
     w = record { a = record { end = r; towards = towards }; b = far }
 
-    go : (x : End) → Shown r x → Invariant (between x s.y (core_flight towards) (core_flight far.towards)) → (ts : List Tagged)
-        → Rattle.std.specs.List.AllByRecursion (IsWritten 8) towards → towards ≡ ts → reads_valid r.machine.control.state r.machine ts ≡ true
+    go : (x : End) → Shown r x → Invariant (between x s.y (core_flight towards) (core_flight far.towards))
+        → (ts : List Tagged)
+        → Rattle.std.specs.List.AllByRecursion (IsWritten 8) towards → towards ≡ ts
+        → reads_valid r.machine.control.state r.machine ts ≡ true
     go x (ShownIdle state packets waiting) inv ts written is = ap (λ t. reads_valid t r.machine ts) state
     go x (ShownCalling state waiting) inv ts written is = ap (λ t. reads_valid t r.machine ts) state
     go x (ShownUp ended last l state waiting) inv [] written is = ap (λ t. reads_valid t r.machine []) state
     go x (ShownUp ended last l state waiting) inv (f ∷ rest) written is =
         let own = windows_of a b w fit s in
-        let all : Rattle.std.specs.List.AllByRecursion (IsWritten 8) (f ∷ rest) = subst (λ fs. Rattle.std.specs.List.AllByRecursion (IsWritten 8) fs) is written in
+        let all : Rattle.std.specs.List.AllByRecursion (IsWritten 8) (f ∷ rest) =
+        subst (λ fs. Rattle.std.specs.List.AllByRecursion (IsWritten 8) fs) is written in
         ap (λ t. reads_valid t r.machine (f ∷ rest)) state ∙ ap (names_valid r.machine) all.0.kind
-        ∙ names_by r.machine ended last s.y f f.sent (core_flight rest) (core_flight far.towards) s.near_like.modulus own.own
-        (subst (λ fs. Invariant (between (up_end r.machine (core_set_ups ended) (core_set_up last)) s.y (core_flight fs) (core_flight far.towards))) is inv)
+        ∙ names_by r.machine ended last s.y f f.sent (core_flight rest) (core_flight far.towards) s.near_like.modulus
+        own.own
+        (subst (λ fs. Invariant (between (up_end r.machine (core_set_ups ended) (core_set_up last)) s.y
+        (core_flight fs) (core_flight far.towards))) is inv)
     go x (ShownReleasing state packets waiting) inv ts written is = ap (λ t. reads_valid t r.machine ts) state
 
 -- what the near end reads
-pub near_valid : (a b : Params) (w : World) (event : Event) → WindowsFit 8 a b → ShowsWorld a b w → hears_valid event w ≡ true
+pub near_valid :
+    (a b : Params) (w : World) (event : Event) → WindowsFit 8 a b → ShowsWorld a b w → hears_valid event w ≡ true
 near_valid a b w (Connect e) fit s = refl
 near_valid a b w (Send e packet) fit s = refl
 near_valid a b w (Disconnect e) fit s = refl

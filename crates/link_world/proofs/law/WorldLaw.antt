@@ -1,20 +1,19 @@
 -- The law of two links: in every quiet run from a new world whose windows fit, what each set-up got is a prefix of what
--- the other end was given in its origin, origins rise strictly, all that a set-up acted on is of one set-up of the other
--- end, and no number is invalid.
-use Rattle.std.proofs.Common.{◌≡◌, Bool, true, List, [], ◌∷◌, refl, subst}
+-- the other end was given in its origin, origins rise strictly, all that a set-up acted on is of one set-up of the
+-- other end, and no number is invalid.
+use Rattle.std.proofs.Common.{◌≡◌, true, List, [], ◌∷◌}
 use Rattle.std.specs.Prelude.{IsTrue}
 use Rattle.std.specs.List.{AllByRecursion as Each}
-use Rattle.std.proofs.lemmas.Bool.{and_parts}
 use Rattle.link_machine.specs.declared.params.Params.{Params}
 use Rattle.link_machine.specs.Step.{step as link_step}
 use Rattle.link_world.specs.Recorded.{RecordedEnd, seen}
 use Rattle.link_world.specs.Recorded.Happening.{Connects, Sends, Disconnects, Ticks, Hears}
 use Rattle.link_world.specs.Flight.{Tagged}
 use Rattle.link_world.specs.World.{Side, World, near_step, seen_from, end_of, step, run, new_world}
-use Rattle.link_world.specs.Quiet.{is_quiet, IsQuietRun}
+use Rattle.link_world.specs.Quiet.{IsQuietRun}
 use Rattle.link_world.specs.Windows.{WindowsFit}
 use Rattle.link_world.specs.Origin.{GotInOrder}
-use Rattle.link_world.specs.Law.{hears_valid, NumbersAreValid, KeepsOrder, PrefixLaw}
+use Rattle.link_world.specs.Law.{hears_valid, NumbersAreValid, PrefixLaw}
 use Rattle.link_world.specs.declared.end.End.{End as Name}
 use Rattle.link_world.specs.declared.end.End.TheVariants.{A, B}
 use Rattle.link_world.specs.declared.event.Event.{Event}
@@ -44,7 +43,8 @@ hear_acted a b r (f ∷ rest) far e s h = record {
   far = h.far;
 }
 
-near_acted : (a b : Params) (w : World) (event : Event) → ShowsWorld a b w → ActedWorld w → ActedWorld (near_step event w)
+near_acted :
+    (a b : Params) (w : World) (event : Event) → ShowsWorld a b w → ActedWorld w → ActedWorld (near_step event w)
 near_acted a b w (Connect e) s h = record {
   near = acted_behind Connects w.a.end (link_step w.a.end.machine (seen Connects)) h.near;
   far = h.far;

@@ -1,34 +1,28 @@
 -- Each event of a quiet run keeps what holds of a world.
-use Rattle.std.proofs.Common.{◌≡◌, ℕ, zero, suc, ◌+◌, ◌-◌, ◌*◌, ◌/◌, ◌<◌, ◌≤◌, Bool, true, false, ◌&&◌, ◌||◌, not, ◌==◌, nat_eq, cond, if◌then◌else◌, List, [], ◌∷◌, ◌++◌, length, take, drop, map, Option, Some, None, ◌⊎◌, inl, inr, refl, sym, ap, ◌∙◌, subst, arith, append-nil, count_by}
-use Rattle.std.specs.Bool.{⊤}
+use Rattle.std.proofs.Common.{◌≡◌, ℕ, zero, suc, ◌+◌, ◌<◌, Bool, true, false, ◌==◌, cond, List, [], ◌∷◌, ◌++◌, map, ◌⊎◌, inl, inr, refl, sym, ap, ◌∙◌, subst, arith, append-nil}
 use Rattle.std.specs.List.{AllByRecursion as Each, remove}
-use Rattle.std.proofs.lemmas.Bool.{eqb-true, or_cases, not-true, false≢true}
+use Rattle.std.proofs.lemmas.Bool.{eqb-true, or_cases}
 use Rattle.std.proofs.lemmas.List.{map-append}
 use Rattle.std.proofs.lemmas.List.Sums.{sum_by-cons}
-use Rattle.ax25_frames.specs.declared.frame.Kind.{Kind}
-use Rattle.ax25_frames.specs.declared.frame.U.{U}
 use Rattle.ax25_frames.specs.declared.frame.U.TheVariants.{Sabm as SabmFrame, Sabme as SabmeFrame, Disc as DiscFrame, Dm as DmFrame, Ua as UaFrame}
 use Rattle.selective_reject.specs.declared.window.Mode.{Mode}
 use Rattle.selective_reject.specs.declared.window.Mode.TheVariants.{Rej as RejMode, Srej as SrejMode}
-use Rattle.selective_reject.specs.Window.{IsWindow, largest_window}
+use Rattle.selective_reject.specs.Window.{IsWindow}
 use Rattle.selective_reject.specs.Incoming.{Incoming}
 use Rattle.link_machine.specs.declared.params.Params.{Params}
-use Rattle.link_machine.specs.declared.state.LinkState.{LinkState}
 use Rattle.link_machine.specs.declared.state.LinkState.TheVariants.{Idle as IdleState}
 use Rattle.link_machine.specs.Sent.{Sent, sent_kind}
 use Rattle.link_machine.specs.Sent.Sent.{InfoSent, SuperSent, SetupSent}
 use Rattle.link_machine.specs.Step.{step as link_step}
-use Rattle.link_world.proofs.law.Core.{End, Tagged as CoreTagged, between}
+use Rattle.link_world.proofs.law.Core.{End, between}
 use Rattle.link_world.proofs.law.CoreMoves.{asks as core_asks, answers as core_answers, sabms, ask_of, answer_of}
-use Rattle.link_world.proofs.law.CoreOf.{core_sent, cores_sent, kind_of}
-use Rattle.link_world.specs.Flight.{Tagged, asks, is_answer, asks_in, answers_in}
+use Rattle.link_world.proofs.law.CoreOf.{cores_sent, kind_of}
+use Rattle.link_world.specs.Flight.{Tagged, asks, asks_in, answers_in}
 use Rattle.link_world.specs.Recorded.{RecordedEnd, Happening, seen, hears_ask, behind, tagged}
-use Rattle.link_world.specs.Recorded.Happening.{Connects, Sends, Disconnects, Ticks, Hears}
-use Rattle.link_world.specs.World.{Side, World, near_step, near_turn, staying}
-use Rattle.link_world.specs.Quiet.{is_alone, sends_alone, called_alone, is_idle, is_sabm, begins_with_sabm}
+use Rattle.link_world.specs.Recorded.Happening.{Hears}
+use Rattle.link_world.specs.World.{World}
+use Rattle.link_world.specs.Quiet.{is_alone, is_sabm}
 use Rattle.link_world.specs.Windows.{WindowsFit}
-use Rattle.link_world.specs.declared.event.Event.{Event}
-use Rattle.link_world.specs.declared.event.Event.TheVariants.{Connect, Send, Disconnect, Tick, Hear, Lose}
 use Rattle.link_world.proofs.law.Each.{each_append, each_removed}
 use Rattle.link_world.proofs.law.Exchanges.{sabms_are_asks}
 use Rattle.link_world.proofs.law.PlacesFit.{IsFit}
@@ -37,8 +31,7 @@ use Rattle.link_world.proofs.law.Invariant.{Invariant}
 use Rattle.link_world.proofs.law.UpInfo.{WindowsOf}
 use Rattle.link_world.proofs.law.Shown.{core_flight, core_tagged, Shown, IsWritten, AnswersAsSent}
 use Rattle.link_world.proofs.law.Shown.Shown.{ShownIdle, ShownCalling, ShownUp, ShownReleasing}
-use Rattle.link_world.proofs.law.Settling.{IsSameKind, Outcome, IsAlone}
-use Rattle.link_world.proofs.law.UpEvents.{Keeps}
+use Rattle.link_world.proofs.law.Settling.{Outcome, IsAlone}
 use Rattle.link_world.proofs.law.EndSteps.{HearsNothing, hears_keeps, asks_keep}
 
 -- a link with these parameters
@@ -88,7 +81,8 @@ window_below window RejMode h = let high = h.1 in omega arith
 window_below window SrejMode h = let high = h.1 in omega arith
 
 -- the windows of the two ends fit
-pub windows_of : (a b : Params) (w : World) → WindowsFit 8 a b → (s : ShowsWorld a b w) → WindowsOf w.a.end.machine.incoming s.y
+pub windows_of :
+    (a b : Params) (w : World) → WindowsFit 8 a b → (s : ShowsWorld a b w) → WindowsOf w.a.end.machine.incoming s.y
 windows_of a b w fit s =
     let i = w.a.end.machine.incoming in
     let own : i.window ≡ a.window = s.near_like.window in
@@ -113,7 +107,8 @@ alone_of (suc n) ahead h = elim (or_cases (suc n == 0) (suc n + ahead == 1) h) [
 ]
 
 -- asks as they are written and as they are sent
-ask_same : (modulus : ℕ) (answers : Bool) (s : Sent) → cond (asks (sent_kind modulus s)) 1 0 ≡ ask_of (kind_of answers s)
+ask_same :
+    (modulus : ℕ) (answers : Bool) (s : Sent) → cond (asks (sent_kind modulus s)) 1 0 ≡ ask_of (kind_of answers s)
 ask_same modulus answers (InfoSent number nr packet) = refl
 ask_same modulus answers (SuperSent which command nr flag) = refl
 ask_same modulus answers (SetupSent SabmFrame flag) = refl
@@ -122,7 +117,9 @@ ask_same modulus answers (SetupSent DiscFrame flag) = refl
 ask_same modulus answers (SetupSent DmFrame flag) = refl
 ask_same modulus answers (SetupSent UaFrame flag) = refl
 
-asks_sent : (on_ask : Bool) (r : RecordedEnd) (sent : List Sent) → asks_in (map (tagged on_ask r) sent) ≡ core_asks (cores_sent false 0 sent)
+asks_sent :
+    (on_ask : Bool) (r : RecordedEnd) (sent : List Sent)
+    → asks_in (map (tagged on_ask r) sent) ≡ core_asks (cores_sent false 0 sent)
 asks_sent on_ask r [] = refl
 asks_sent on_ask r (s ∷ sent) =
     sum_by-cons (λ (f : Tagged). cond (asks f.frame.kind) 1 0) (tagged on_ask r s) (map (tagged on_ask r) sent)
@@ -156,7 +153,8 @@ answers_flying (f ∷ fs) h =
 
 -- a SABM or DISC goes out alone
 alone_as_sent :
-    (h : Happening) (r : RecordedEnd) (stays : List Tagged) (flying : List Tagged) (sent : List Sent) → Each (IsWritten 8) stays → Each (IsWritten 8) flying
+    (h : Happening) (r : RecordedEnd) (stays : List Tagged) (flying : List Tagged) (sent : List Sent)
+    → Each (IsWritten 8) stays → Each (IsWritten 8) flying
     → let turn = link_step r.machine (seen h) in
     is_alone (asks_in (map (tagged (hears_ask h) (behind h r turn)) sent)) (asks_in flying + answers_in stays) ≡ true
     → IsAlone (core_flight stays) (core_flight flying) sent
@@ -174,7 +172,8 @@ alone_as_sent h r stays flying sent stays_written flying_written alone =
 shows_behind :
     (a b : Params) (w : World) (s : ShowsWorld a b w) (h : Happening) (stays : List Tagged) → Each (IsWritten 8) stays
     → let turn = link_step w.a.end.machine (seen h) in
-    Outcome s.y (core_flight stays) (core_flight w.b.towards) (hears_ask h) w.a.end.machine.incoming (behind h w.a.end turn) turn.sent
+    Outcome s.y (core_flight stays) (core_flight w.b.towards) (hears_ask h) w.a.end.machine.incoming
+    (behind h w.a.end turn) turn.sent
     → ShowsWorld a b (record {
       a = record { end = behind h w.a.end turn; towards = stays };
       b = record w.b { towards = w.b.towards ++ map (tagged (hears_ask h) (behind h w.a.end turn)) turn.sent };
@@ -190,9 +189,15 @@ shows_behind a b w s h stays written o =
       far = s.far;
       near_fit = o.fit;
       far_fit = s.far_fit;
-      near_like = record { window = o.same.window ∙ s.near_like.window; mode = o.same.mode ∙ s.near_like.mode; modulus = modulus };
+      near_like = record {
+        window = o.same.window ∙ s.near_like.window;
+        mode = o.same.mode
+            ∙ s.near_like.mode;
+        modulus = modulus;
+      };
       far_like = record { window = s.far_like.window; mode = s.far_like.mode; modulus = s.far_like.modulus };
-      holds = subst (λ fs. Invariant (between o.end_is s.y (core_flight stays) fs)) (sym (map-append core_tagged w.b.towards (map (tagged (hears_ask h) now) turn.sent))) o.holds;
+      holds = subst (λ fs. Invariant (between o.end_is s.y (core_flight stays) fs))
+          (sym (map-append core_tagged w.b.towards (map (tagged (hears_ask h) now) turn.sent))) o.holds;
       near_written = written;
       far_written = each_append (IsWritten 8) w.b.towards (map (tagged (hears_ask h) now) turn.sent) s.far_written
           (subst (λ m. Each (IsWritten m) (map (tagged (hears_ask h) now) turn.sent)) modulus o.written);
@@ -202,7 +207,8 @@ shows_behind a b w s h stays written o =
 pub near_asks :
     (a b : Params) (w : World) (s : ShowsWorld a b w) (h : Happening) → HearsNothing h
     → let turn = link_step w.a.end.machine (seen h) in
-    is_alone (asks_in (map (tagged (hears_ask h) (behind h w.a.end turn)) turn.sent)) (asks_in w.b.towards + answers_in w.a.towards) ≡ true
+    is_alone (asks_in (map (tagged (hears_ask h) (behind h w.a.end turn)) turn.sent))
+    (asks_in w.b.towards + answers_in w.a.towards) ≡ true
     → ShowsWorld a b (record {
       a = record { end = behind h w.a.end turn; towards = w.a.towards };
       b = record w.b { towards = w.b.towards ++ map (tagged (hears_ask h) (behind h w.a.end turn)) turn.sent };
@@ -215,10 +221,12 @@ near_asks a b w s h silent alone =
 
 -- a frame that is heard
 pub near_hears :
-    (a b : Params) (w : World) (s : ShowsWorld a b w) (f : Tagged) (rest : List Tagged) → WindowsFit 8 a b → w.a.towards ≡ f ∷ rest
+    (a b : Params) (w : World) (s : ShowsWorld a b w) (f : Tagged) (rest : List Tagged) → WindowsFit 8 a b
+    → w.a.towards ≡ f ∷ rest
     → let h = Hears f in
     let turn = link_step w.a.end.machine (seen h) in
-    is_alone (asks_in (map (tagged (hears_ask h) (behind h w.a.end turn)) turn.sent)) (asks_in w.b.towards + answers_in rest) ≡ true
+    is_alone (asks_in (map (tagged (hears_ask h) (behind h w.a.end turn)) turn.sent))
+    (asks_in w.b.towards + answers_in rest) ≡ true
     → (w.a.end.machine.control.state ≡ IdleState → is_sabm f.frame.kind ≡ true → asks_in w.b.towards ≡ 0)
     → ShowsWorld a b (record {
       a = record { end = behind h w.a.end turn; towards = rest };
@@ -228,9 +236,12 @@ near_hears a b w s f rest fit is alone called =
     let turn = link_step w.a.end.machine (seen (Hears f)) in
     let to_y = core_flight w.b.towards in
     let written : Each (IsWritten 8) (f ∷ rest) = subst (λ fs. Each (IsWritten 8) fs) is s.near_written in
-    let front : Invariant (between s.x s.y (core_tagged f ∷ core_flight rest) to_y) = subst (λ fs. Invariant (between s.x s.y (core_flight fs) to_y)) is s.holds in
-    let own : IsWritten w.a.end.machine.incoming.modulus f = subst (λ m. IsWritten m f) (sym s.near_like.modulus) written.0 in
-    let quiet : w.a.end.machine.control.state ≡ IdleState → (flag : Bool) → f.sent ≡ SetupSent SabmFrame flag → sabms to_y ≡ 0 =
+    let front : Invariant (between s.x s.y (core_tagged f ∷ core_flight rest) to_y) =
+    subst (λ fs. Invariant (between s.x s.y (core_flight fs) to_y)) is s.holds in
+    let own : IsWritten w.a.end.machine.incoming.modulus f =
+    subst (λ m. IsWritten m f) (sym s.near_like.modulus) written.0 in
+    let quiet : w.a.end.machine.control.state ≡ IdleState → (flag : Bool) → f.sent ≡ SetupSent SabmFrame flag
+    → sabms to_y ≡ 0 =
     λ idle flag sabm. none (called idle (ap is_sabm written.0.kind ∙ ap (λ t. is_sabm (sent_kind 8 t)) sabm)) in
     shows_behind a b w s (Hears f) rest written.1
     (hears_keeps w.a.end f s.x s.y (core_flight rest) to_y s.near s.near_fit (windows_of a b w fit s) own quiet front
@@ -244,7 +255,8 @@ near_hears a b w s f rest fit is alone called =
 
 -- what holds whatever element goes holds behind a removal
 removed_keeps :
-    {A : Type 0} (P : List A → Type 0) → ((before : List A) (x : A) (after : List A) → P (before ++ x ∷ after) → P (before ++ after))
+    {A : Type 0} (P : List A → Type 0)
+    → ((before : List A) (x : A) (after : List A) → P (before ++ x ∷ after) → P (before ++ after))
     → (xs : List A) (n : ℕ) → P xs → P (remove xs n)
 removed_keeps P loses [] zero h = h
 removed_keeps P loses [] (suc n) h = h
@@ -254,7 +266,11 @@ removed_keeps P loses (x ∷ xs) (suc n) h =
 
 -- a frame is lost
 pub near_loses : (a b : Params) (w : World) (n : ℕ) → ShowsWorld a b w
-    → ShowsWorld a b (record { a = record w.a { towards = remove w.a.towards n }; b = record w.b { towards = w.b.towards ++ [] } })
+    → ShowsWorld a b (record {
+      a = record w.a { towards = remove w.a.towards n };
+      b = record w.b
+          { towards = w.b.towards ++ [] };
+    })
 near_loses a b w n s = record {
   x = s.x;
   y = s.y;
@@ -264,12 +280,16 @@ near_loses a b w n s = record {
   far_fit = s.far_fit;
   near_like = s.near_like;
   far_like = s.far_like;
-  holds = subst (λ fs. Invariant (between s.x s.y (core_flight (remove w.a.towards n)) (core_flight fs))) (sym (append-nil w.b.towards))
+  holds = subst (λ fs. Invariant (between s.x s.y (core_flight (remove w.a.towards n)) (core_flight fs)))
+      (sym (append-nil w.b.towards))
       (removed_keeps (λ fs. Invariant (between s.x s.y (core_flight fs) (core_flight w.b.towards)))
-      (λ before f after inv. subst (λ fs. Invariant (between s.x s.y fs (core_flight w.b.towards))) (sym (map-append core_tagged before after))
+      (λ before f after inv. subst (λ fs. Invariant (between s.x s.y fs (core_flight w.b.towards)))
+      (sym (map-append core_tagged before after))
       (lose_keeps s.x s.y (core_flight before) (core_tagged f) (core_flight after) (core_flight w.b.towards)
-      (subst (λ fs. Invariant (between s.x s.y fs (core_flight w.b.towards))) (map-append core_tagged before (f ∷ after)) inv)))
+      (subst (λ fs. Invariant (between s.x s.y fs (core_flight w.b.towards)))
+      (map-append core_tagged before (f ∷ after)) inv)))
       w.a.towards n s.holds);
-  near_written = removed_keeps (λ fs. Each (IsWritten 8) fs) (λ before f after. each_removed (IsWritten 8) before f after) w.a.towards n s.near_written;
+  near_written = removed_keeps (λ fs. Each (IsWritten 8) fs)
+      (λ before f after. each_removed (IsWritten 8) before f after) w.a.towards n s.near_written;
   far_written = subst (λ fs. Each (IsWritten 8) fs) (sym (append-nil w.b.towards)) s.far_written;
 }

@@ -1,6 +1,7 @@
 //! Exchanges between two real links.
 use super::*;
 use crate::flight::InFlight;
+use crate::laws::{prefix_law, tags_do_not_matter};
 use End::{A, B};
 use ax25_frames::text_of;
 use selective_reject::{Mode, Packet};
@@ -255,9 +256,11 @@ fn events_are_refused(rt: HostRuntime) -> Result<(), Fail> {
     Ok(())
 }
 
-/// The repeat comes with the 301st call.
+/// The repeat comes with the 301st call. From there on the laws say nothing.
 #[test]
 fn a_repeat_is_not_quiet(rt: HostRuntime) -> Result<(), Fail> {
+    prefix_law();
+    tags_do_not_matter();
     let mut world = world_behind(rt.alloc(), by_rej(4), &[Connect(A)])?;
     let mut text = String::new(rt.alloc());
     happen(rt.alloc(), &mut world, Ticks(A, 300), &mut text)?;
