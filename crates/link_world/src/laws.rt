@@ -11,10 +11,11 @@ pub fn tags_do_not_matter()
     ensures { (w : World) (event : Event) → untagged (step w event) ≡ untagged_step (untagged w) event }
 {}
 
-/// The law of two links. In every run of events from a new world whose windows fit, in which each SABM and DISC enters a
-/// quiet channel: what each set-up of an end got is, packet for packet and in order, a prefix of what the other end was
-/// given in one set-up of its own, its origin; origins rise strictly; a set-up acts on frames of one set-up alone; and no
-/// link hears an invalid N(R). So nothing is made up, doubled or put in another order, whatever is lost.
+/// The law of two links. In every run of events from a new world whose windows fit each other, in which each SABM and DISC
+/// enters a quiet channel and an idle end hears a SABM only where no SABM or DISC of its own is in flight: what each set-up
+/// of an end got is, packet for packet and in order, a prefix of what the other end was given in one set-up of its own, its
+/// origin; origins rise strictly; a set-up acts on frames of one set-up alone; and no link that is up hears an invalid N(R).
+/// So nothing is made up, doubled or put in another order, whatever is lost. That anything arrives is not said.
 pub fn prefix_law()
     ensures { PrefixLaw }
 {}
