@@ -1,5 +1,6 @@
 pub mod Ordering
 pub mod Merging
 pub mod Searching
+pub mod Forgetting
 pub mod Putting
 pub mod Taking

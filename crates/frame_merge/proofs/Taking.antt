@@ -2,15 +2,16 @@
 use Rattle.std.proofs.Common.{◌≡◌, ℕ, ◌+◌, ◌-◌, ◌^◌, ◌<◌, ◌≤◌, List, [], ◌∷◌, ◌++◌, true, false, ◌&&◌, not, cond, ap, sym, ◌∙◌, arith, length, get_or, take, min, refl, zero, suc, replicate}
 use Rattle.std.specs.Prelude.{fold, nat_lt, nat_le, if◌then◌else◌}
 use Rattle.std.specs.List.{All, list_any}
-use Rattle.std.proofs.lemmas.Bool.{lt-ltb}
+use Rattle.std.proofs.lemmas.Bool.{lt-ltb, leb-true}
 use Rattle.std.proofs.lemmas.List.{take_more, append-nil}
-use Rattle.std.proofs.lemmas.List.Elements.{All-head, All-tail, filter-append}
+use Rattle.std.proofs.lemmas.List.Elements.{All-head, All-tail, All-weaker, filter-append, filter_passes}
 use Rattle.frame_merge.specs.declared.candidate.Candidate.{Candidate}
-use Rattle.frame_merge.specs.Order.{in_order, IsInOrder}
-use Rattle.frame_merge.specs.Merged.{repeats, merged, merged_after, below, between, is_ready_after}
+use Rattle.frame_merge.specs.Order.{in_order}
+use Rattle.frame_merge.specs.Merged.{repeats, merged, merged_after, below, not_below, between, is_ready_after}
 use Rattle.frame_merge.specs.Held.{Held, StandsFor, least}
 use Rattle.frame_merge.proofs.Ordering.{rising_ends, All-in_order}
 use Rattle.frame_merge.proofs.Merging.{merged_after-append, merged-rising, below_between, All-merged}
+use Rattle.frame_merge.proofs.Forgetting.{between-kept, not_below-not_below}
 
 -- the part of one candidate after `earlier`
 between_one : (from to : ℕ) (earlier : List Candidate) (item : Candidate)
@@ -66,17 +67,48 @@ pub le-least : (b : ℕ) (marks : List ℕ) → b ≤ 2 ^ 64 - 1 → All (λ mar
 le-least b marks le h = le-fold_min b (2 ^ 64 - 1) marks le h
 
 -- what is ready now joins what was given
-pub so_far_more : (old : Held) (to : ℕ) (ready puts given : List Candidate)
-    → IsInOrder old.items
+so_far_more : (old : Held) (to : ℕ) (ready puts given : List Candidate)
     → old.given_below ≤ to
     → ready ≡ between old.given_below to (merged old.items)
     → StandsFor old puts given
     → given ++ ready ≡ below to (merged (in_order puts))
-so_far_more old to ready puts given order rises is h =
-    let before : given ≡ below old.given_below (merged old.items) = h.so_far ∙ ap (λ t. below old.given_below (merged t)) (sym h.items) in
-    let joined : below old.given_below (merged old.items) ++ between old.given_below to (merged old.items) ≡ below to (merged old.items)
-    = below_between old.given_below to (merged old.items) rises (merged-rising (λ y. y.end) [] old.items (rising_ends old.items order)) in
-    ap (λ t. t ++ ready) before ∙ ap (λ t. below old.given_below (merged old.items) ++ t) is ∙ joined ∙ ap (λ t. below to (merged t)) h.items
+so_far_more old to ready puts given rises is h =
+    let all : List Candidate = in_order puts in
+    let same : ready ≡ between old.given_below to (merged all)
+    = is ∙ ap (λ t. between old.given_below to (merged t)) h.items ∙ between-kept old.given_below to all h.order in
+    ap (λ t. t ++ ready) h.so_far ∙ ap (λ t. below old.given_below (merged all) ++ t) same
+    ∙ below_between old.given_below to (merged all) rises (merged-rising (λ y. y.end) [] all (rising_ends all h.order))
+
+-- what is kept then is what would be kept of all
+pub kept_now : (old : Held) (to : ℕ) (puts given : List Candidate) → old.given_below ≤ to → StandsFor old puts given
+    → not_below (to - 15) old.items ≡ not_below (to - 15) (in_order puts)
+kept_now old to puts given rises h = ap (not_below (to - 15)) h.items ∙ not_below-not_below (old.given_below - 15) (to - 15) (in_order puts) (omega arith)
+
+-- the merger after that
+pub stands_for_ready : (old new : Held) (to : ℕ) (ready puts given : List Candidate)
+    → old.given_below ≤ to
+    → ready ≡ between old.given_below to (merged old.items)
+    → new.given_below ≡ to
+    → new.items ≡ not_below (to - 15) old.items
+    → StandsFor old puts given
+    → StandsFor new puts (given ++ ready) × (given ++ ready ≡ below to (merged (in_order puts)))
+stands_for_ready old new to ready puts given rises is at kept h =
+    let total = so_far_more old to ready puts given rises is h in (
+      record {
+        items = kept ∙ kept_now old to puts given rises h ∙ ap (λ t. not_below (t - 15) (in_order puts)) (sym at);
+        order = h.order;
+        ends = h.ends;
+        so_far = total ∙ ap (λ t. below t (merged (in_order puts))) (sym at);
+      },
+      total,
+    )
+
+-- each candidate that is kept ends at most 15 samples before
+pub kept_bound : (to : ℕ) (items : List Candidate) → All (λ item. to ≤ item.end + 15) (not_below (to - 15) items)
+kept_bound to items = All-weaker (λ item. nat_le (to - 15) item.end ≡ true) (λ item. to ≤ item.end + 15) (λ item le. near item.end le) (not_below (to - 15) items) (filter_passes (λ item. nat_le (to - 15) item.end) items)
+  where
+    near : (end : ℕ) → nat_le (to - 15) end ≡ true → to ≤ end + 15
+    near end le = let l = leb-true (to - 15) end le in omega arith
 
 -- all candidates end below the greatest position, so all are taken there
 below_all : (position : ℕ) (xs : List Candidate) → All (λ x. x.end < position) xs → below position xs ≡ xs

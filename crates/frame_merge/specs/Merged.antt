@@ -24,6 +24,10 @@ merged items = merged_after [] items
 abbrev pub below : ℕ → List Candidate → List Candidate
 below position items = filter (λ item. nat_lt item.end position) items
 
+-- the part that does not end below a position
+abbrev pub not_below : ℕ → List Candidate → List Candidate
+not_below position items = filter (λ item. nat_le position item.end) items
+
 -- the part that ends from one position to below another
 abbrev pub between : ℕ → ℕ → List Candidate → List Candidate
 between from to items = filter (λ item. nat_le from item.end && nat_lt item.end to) items

@@ -8,6 +8,7 @@
 #![tactic(auto)]
 
 mod candidate;
+mod keeping;
 mod merger;
 mod place;
 mod ready;
