@@ -111,7 +111,7 @@ kept_bound to items = All-weaker (λ item. nat_le (to - 15) item.end ≡ true) (
     near end le = let l = leb-true (to - 15) end le in omega arith
 
 -- all candidates end below the greatest position, so all are taken there
-below_all : (position : ℕ) (xs : List Candidate) → All (λ x. x.end < position) xs → below position xs ≡ xs
+pub below_all : (position : ℕ) (xs : List Candidate) → All (λ x. x.end < position) xs → below position xs ≡ xs
 below_all position [] h = refl
 below_all position (x ∷ xs) h =
     ap (λ t. cond t (x ∷ below position xs) (below position xs)) (lt-ltb x.end position (All-head (λ y. y.end < position) x xs h))
@@ -119,6 +119,14 @@ below_all position (x ∷ xs) h =
 
 pub below_end : (puts : List Candidate) → All (λ x. x.end < 2 ^ 64 - 1) puts → below (2 ^ 64 - 1) (merged (in_order puts)) ≡ merged (in_order puts)
 below_end puts h = below_all (2 ^ 64 - 1) (merged (in_order puts)) (All-merged (λ x. x.end < 2 ^ 64 - 1) [] (in_order puts) (All-in_order (λ x. x.end < 2 ^ 64 - 1) puts h))
+
+-- the least of marks that are all at one position
+pub least-one : (n position : ℕ) → position ≤ 2 ^ 64 - 1 → least (replicate (suc n) position) ≡ position
+least-one n position le = ap (λ a. fold min a (replicate n position)) (let m : min (2 ^ 64 - 1) position ≡ position = omega arith in m) ∙ settled n
+  where
+    settled : (n : ℕ) → fold min position (replicate n position) ≡ position
+    settled zero = refl
+    settled (suc n) = ap (λ a. fold min a (replicate n position)) (let m : min position position ≡ position = omega arith in m) ∙ settled n
 
 -- the least of marks that are all at the greatest position
 pub least-replicate : (n : ℕ) → least (replicate n (2 ^ 64 - 1)) ≡ 2 ^ 64 - 1
