@@ -9,6 +9,8 @@ use Rattle.hdlc_framer.specs.Frames.{EndsFrame}
 use Rattle.hdlc_framer.specs.Events.{EventAt}
 use Rattle.hdlc_framer.specs.Held.{Line, Held, StandsFor, HoldsFrame, next_line, open_line, line_after, line_of, content_after_zero}
 use Rattle.hdlc_framer.specs.LineEvents.{ClosesFrame, EndsOnZero, LineEvent}
+use Rattle.hdlc_framer.specs.HeldCarrier.{HeldCarrier, next_carrier}
+use Rattle.hdlc_framer.proofs.CarrierLemmas.{carrier_next}
 use Rattle.hdlc_framer.proofs.Lines.{at, line_after-push}
 use Rattle.hdlc_framer.proofs.FrameEnds.{event_told, frame_told}
 
@@ -18,12 +20,16 @@ opened line ends =
     sym (ap (λ n. at 0 (content_after_zero n line.after_zero line.content)) ends.six ∙ ap (λ z. at 0 (content_after_zero 6 z line.content)) ends.after_zero)
 
 module _ (held : Held) (b : List Bool) (bit : Bool) where
-  -- a bit that ends no frame
-  pub stands_next : StandsFor held b → StandsFor (record { line = next_line (line_of held) bit; framed = false }) (b ++ bit ∷ [])
-  stands_next stands = record { line = ap (λ line. next_line line bit) stands.line ∙ sym (line_after-push b bit) }
-
   pub event_is : (event : Event) → StandsFor held b → LineEvent (line_of held) bit event → EventAt (b ++ bit ∷ []) event
   event_is event stands told = event_told b bit event (subst (λ line. LineEvent line bit event) stands.line told)
+
+  -- a bit that ends no frame
+  pub stands_next : (event : Event) → StandsFor held b → LineEvent (line_of held) bit event
+      → StandsFor (record { line = next_line (line_of held) bit; framed = false; carrier = next_carrier held.carrier event }) (b ++ bit ∷ [])
+  stands_next event stands told = record {
+    line = ap (λ line. next_line line bit) stands.line ∙ sym (line_after-push b bit);
+    carrier = carrier_next held.carrier b bit event stands.carrier (event_is event stands told);
+  }
 
 frame_event : (line : Line) (bit : Bool) (event : Event) → Frame ≡ event → LineEvent line bit event → (bit ≡ false) × EndsOnZero line
 frame_event line bit event is told = by_bit bit (subst (LineEvent line bit) (sym is) told)
@@ -34,14 +40,15 @@ frame_event line bit event is told = by_bit bit (subst (LineEvent line bit) (sym
 
 -- the bit that ends a frame
 pub stands_framed : (held : Held) (b : List Bool) (bit : Bool) (event : Event) → Frame ≡ event → StandsFor held b → LineEvent (line_of held) bit event
-    → StandsFor (record { line = line_of held; framed = true }) (b ++ bit ∷ [])
+    → StandsFor (record { line = line_of held; framed = true; carrier = next_carrier held.carrier event }) (b ++ bit ∷ [])
 stands_framed held b bit event is stands told =
     let ends = frame_event (line_of held) bit event is told in
-    record { line = opened (line_of held) ends.1 ∙ ap (next_line (line_of held)) (sym ends.0) ∙ ap (λ line. next_line line bit) stands.line ∙ sym (line_after-push b bit) }
+    record { carrier = carrier_next held.carrier b bit event stands.carrier (event_is held b bit event stands told); line = opened (line_of held) ends.1 ∙ ap (next_line (line_of held)) (sym ends.0) ∙ ap (λ line. next_line line bit) stands.line ∙ sym (line_after-push b bit) }
 
 -- where a frame ends, the line before the bit has it
-pub frame_held : (held : Held) (b : List Bool) (bit : Bool) (octets : List ℕ) → StandsFor held b → EndsFrame (b ++ bit ∷ []) octets → HoldsFrame (record { line = line_of held; framed = true }) octets
-frame_held held b bit octets stands ends =
+pub frame_held : (held : Held) (b : List Bool) (bit : Bool) (octets : List ℕ) → StandsFor held b → EndsFrame (b ++ bit ∷ []) octets
+    → (carrier : HeldCarrier) → HoldsFrame (record { line = line_of held; framed = true; carrier = carrier }) octets
+frame_held held b bit octets stands ends carrier =
     record { framed = refl; content = ap (λ line. line.content) stands.line ∙ (frame_told b bit octets ends).2.content }
 
 -- and the event is a frame

@@ -43,7 +43,7 @@ ends_on_zero bits ends =
     ap line_after (flag_without_last bits ends.0 ends.1) ∙ line_after-append ends.0 flag_front in
     record { six = ap (λ line. line.ones) known; after_zero = ap (λ line. line.after_zero) known }
 
-no_flag_on_one : (bits : List Bool) → ¬ EndsFlag (bits ++ true ∷ [])
+pub no_flag_on_one : (bits : List Bool) → ¬ EndsFlag (bits ++ true ∷ [])
 no_flag_on_one bits ends =
     true≢false (same_from_push bits (ends.0 ++ flag_front) true false (ends.1 ∙ sym (append_assoc ends.0 flag_front (false ∷ [])))).1
 
@@ -142,7 +142,7 @@ event_told bits false Abort told = absurd told
 event_told bits false Frame told = (told.1.0, ends_frame bits told.1.0 told.0 told.1.1)
 
 -- a frame ends with a flag
-frame_flag : (bits : List Bool) (octets : List ℕ) → EndsFrame bits octets → EndsFlag bits
+pub frame_flag : (bits : List Bool) (octets : List ℕ) → EndsFrame bits octets → EndsFlag bits
 frame_flag bits octets ends = (
   ends.0 ++ (flag ++ frame_bits octets),
   ends.1 ∙ ap (λ xs. ends.0 ++ xs) (sym (append_assoc flag (frame_bits octets) flag)) ∙ sym (append_assoc ends.0 (flag ++ frame_bits octets) flag),
@@ -154,7 +154,7 @@ frame_told bits true octets ends = absurd (no_frame_on_one bits octets ends)
 frame_told bits false octets ends = (refl, ends_on_zero bits (frame_flag (bits ++ false ∷ []) octets ends), closes_frame bits octets ends)
 
 -- a flag ends with a 0, and an abort with a 1
-flag_no_abort : (bits : List Bool) → EndsFlag bits → ¬ EndsAbort bits
+pub flag_no_abort : (bits : List Bool) → EndsFlag bits → ¬ EndsAbort bits
 flag_no_abort bits ends abort =
     let here : bits ≡ (ends.0 ++ flag_front) ++ false ∷ [] = ends.1 ∙ sym (append_assoc ends.0 flag_front (false ∷ [])) in
     omega (arith, run-push_zero (ends.0 ++ flag_front), ap run_of_ones here, abort)

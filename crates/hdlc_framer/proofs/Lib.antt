@@ -3,6 +3,7 @@ pub mod Lines
 pub mod BitLemmas
 pub mod CheckSequenceLemmas
 pub mod FrameEnds
+pub mod CarrierLemmas
 pub mod PackedLemmas
 pub mod DeframerLemmas
 pub mod StuffLemmas

@@ -4,6 +4,7 @@ use Rattle.std.specs.Prelude.{◌≡◌, ℕ, ◌+◌, ◌==◌, ◌&&◌, min, 
 use Rattle.std.specs.List.{fold}
 use Rattle.hdlc_framer.specs.BitOrder.{sent_bits}
 use Rattle.hdlc_framer.specs.Frames.{with_fcs}
+use Rattle.hdlc_framer.specs.HeldCarrier.{HeldCarrier, CarrierStandsFor}
 
 -- the run of 1s at the end (seven stands for more, too), whether a 0 has come, and the bits since the last flag without
 -- inserted zeros; no content where there was no flag, or an abort or too many bits since
@@ -46,10 +47,16 @@ line_after bits = fold next_line new_line bits
 abbrev pub flag_start : List Bool
 flag_start = false ∷ true ∷ true ∷ true ∷ true ∷ true ∷ []
 
--- The line, or where the last bit ended a frame, the line before that bit: so the frame is kept until the next bit.
+-- The line, or where the last bit ended a frame, the line before that bit: so the frame is kept until the next bit. Beside
+-- it the detector of a carrier.
 pub record Held : Type 0 where
   pub line : Line
   pub framed : Bool
+  pub carrier : HeldCarrier
+
+-- how many flags in a row the deframer listens for
+abbrev pub flags_asked : Held → ℕ
+flags_asked held = held.carrier.flags
 
 -- the line after the last bit
 abbrev pub line_of : Held → Line
@@ -58,6 +65,7 @@ line_of held = if held.framed then open_line else held.line
 -- the deframer has taken these bits since its opening state
 pub record StandsFor (held : Held) (bits : List Bool) : Type 0 where
   pub line : line_of held ≡ line_after bits
+  pub carrier : CarrierStandsFor held.carrier bits
 
 -- the last bit ended a frame with these octets
 pub record HoldsFrame (held : Held) (octets : List ℕ) : Type 0 where

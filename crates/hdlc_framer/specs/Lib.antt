@@ -4,6 +4,8 @@ pub mod Stuffing
 pub mod Frames
 pub mod Held
 pub mod Events
+pub mod Carrier
+pub mod HeldCarrier
 pub mod LineEvents
 pub mod Register
 pub mod Packed

@@ -1,9 +1,11 @@
 // Frames out of a line of bits.
 
-ghost use Rattle.std.specs.Prelude.{◌≡◌, ℕ, ◌≤◌, Bool, false, List, [], ◌∷◌, ◌++◌, length};
+ghost use Rattle.std.specs.Prelude.{◌≡◌, ◌↔◌, ℕ, ◌≤◌, Bool, false, List, [], ◌∷◌, ◌++◌, length, IsTrue};
+ghost use Rattle.hdlc_framer.specs.Carrier.{HoldsCarrier};
 ghost use Rattle.hdlc_framer.specs.Frames.{IsFrame, EndsFrame};
-ghost use Rattle.hdlc_framer.specs.Held.{StandsFor, HoldsFrame, line_of};
+ghost use Rattle.hdlc_framer.specs.Held.{StandsFor, HoldsFrame, flags_asked, line_of};
 
+use crate::carrier::Carrier;
 use crate::event::Event;
 use crate::line::LineState;
 use std::marker::Model;
@@ -13,6 +15,7 @@ use std::marker::Model;
 pub struct Deframer {
     line: LineState,
     framed: bool,
+    carrier: Carrier,
 }
 
 impl Model for Deframer {
@@ -20,28 +23,42 @@ impl Model for Deframer {
 
     ghost Value = { Held };
 
-    ghost view = { λ d. record { line = d.line; framed = d.framed } };
+    ghost view = { λ d. record { line = d.line; framed = d.framed; carrier = d.carrier } };
 }
 
 impl Deframer {
     ghost use Rattle.hdlc_framer.specs.Events.{EventAt};
 
-    /// A deframer in the opening state: no bit has come.
+    /// A deframer in the opening state: no bit has come. It is busy from the first flag on.
     pub fn new() -> Self
         ensures stands_for { StandsFor result [] }
+        ensures flags { flags_asked result ≡ 1 }
+    {
+        Deframer::listening(1)
+    }
+
+    /// The same, but it is busy only from so many flags in a row on, 1 to 8: chance makes a single flag of noise often, and
+    /// three in a row seldom.
+    pub fn listening(flags: u8) -> Self
+        requires { (1 ≤ flags) × (flags ≤ 8) }
+        ensures stands_for { StandsFor result [] }
+        ensures flags { flags_asked result ≡ flags }
     {
         Deframer {
             line: LineState::new(),
             framed: false,
+            carrier: Carrier::new(flags),
         }
     }
 
     /// Goes back to the opening state, as if no bit had come.
     pub fn reset(&mut self)
         ensures stands_for { StandsFor self.new [] }
+        ensures flags { flags_asked self.new ≡ flags_asked self.old }
     {
         self.line = LineState::new();
         self.framed = false;
+        self.carrier.reset();
     }
 
     /// Takes the next bit, `true` for a 1, and tells what it ends. A flag that ends a frame opens the next one.
@@ -52,9 +69,11 @@ impl Deframer {
             → (octets : List ℕ) × IsFrame octets × HoldsFrame self.new octets }
         ensures frame { (b : List Bool) → (octets : List ℕ) → StandsFor self.old b
             → EndsFrame (b ++ bit ∷ []) octets → HoldsFrame self.new octets }
+        ensures flags { flags_asked self.new ≡ flags_asked self.old }
     {
         self.settle();
         let event = self.line.event(bit);
+        self.carrier.push(event);
         if event == Event::Frame {
             self.framed = true;
         } else {
@@ -65,12 +84,20 @@ impl Deframer {
 
     // Goes on behind the flag that ended the frame, if one is held.
     fn settle(&mut self)
-        ensures { self.new ≡ record { line = line_of self.old; framed = false } }
+        ensures { self.new ≡ record { line = line_of self.old; framed = false; carrier = self.old.carrier } }
     {
         if self.framed {
             self.framed = false;
             self.line.open();
         }
+    }
+
+    /// Whether another station is heard: so many flags in a row have come as this deframer listens for, and since then
+    /// neither seven 1s in a row nor 10,000 bits without a flag.
+    pub fn busy(&self) -> bool
+        ensures busy { (b : List Bool) → StandsFor self.now b → IsTrue result ↔ HoldsCarrier (flags_asked self.now) b }
+    {
+        self.carrier.is_held()
     }
 
     /// The octets of the frame that the last bit ended, without its check sequence: 15 to 1024 of them.

@@ -5,6 +5,7 @@
 //! flag, an abort or a frame of 15 to 1024 octets with a right check sequence ends, however the bits are cut up.
 #![tactic(auto)]
 
+mod carrier;
 mod check_sequence;
 mod content;
 mod deframer;

@@ -360,3 +360,47 @@ fn transmissions(rt: HostRuntime) -> Result<(), Fail> {
     assert_eq!(rt; all.as_slice(), want.as_slice());
     Ok(())
 }
+
+// Bits as a text of 0 and 1, followed by so many zeros.
+fn carried_by(deframer: &mut Deframer, bits: &str, zeros: u32) -> bool {
+    for bit in bits.bytes() {
+        deframer.push(bit == b'1');
+    }
+    for _ in 0..zeros {
+        deframer.push(false);
+    }
+    deframer.busy()
+}
+
+#[test]
+fn busy_from_flags_in_a_row_on(rt: HostRuntime) {
+    let table = [
+        (1, "", 20, false),
+        (1, "0111111", 0, false),
+        (1, "01111110", 0, true),
+        (1, "01111110", 9_999, true),
+        (1, "01111110", 10_000, false),
+        (1, "011111101111111", 0, false),
+        (1, "0111111011111110", 0, false),
+        (1, "0111111011111110111111", 2, true),
+        // three in a row: sharing a 0, one after another, and not in a row
+        (3, "0111111001111110", 0, false),
+        (3, "0111111011111101111110", 0, true),
+        (3, "011111100111111001111110", 0, true),
+        (3, "011111100111111000111111001111110", 0, false),
+        (3, "011111100111111001111110", 9_999, true),
+        (3, "011111100111111001111110", 10_000, false),
+        (3, "011111100111111001111110001111110", 9_999, true),
+        (3, "0111111001111110011111101111111001111110", 0, false),
+    ];
+    for (flags, bits, zeros, busy) in table {
+        let mut deframer = Deframer::listening(flags);
+        assert_eq!(rt;
+            carried_by(&mut deframer, bits, zeros),
+            busy,
+            "{flags} flags, {bits} and {zeros} zeros"
+        );
+        deframer.reset();
+        assert!(rt; !deframer.busy());
+    }
+}

@@ -1,0 +1,12 @@
+use Rattle.std.proofs.Common.{[], sym, subst}
+use Rattle.hdlc_framer.specs.Held.{line_after}
+use Rattle.hdlc_framer.specs.HeldCarrier.{CarrierStandsFor}
+use Rattle.hdlc_framer.proofs.CarrierLemmas.{carrier_new}
+use Rattle.hdlc_framer.proofs.deframer.Deframer.listening.Goals as goal
+
+pub returns-clause-stands_for : goal.returns-clause-stands_for
+unfolding line_after
+returns-clause-stands_for c = record {
+  line = c.new.ensures;
+  carrier = subst (λ carrier. CarrierStandsFor carrier []) (sym c.new-2.ensures) (carrier_new c.args.flags c.requires.0);
+}
