@@ -127,7 +127,7 @@ fn hear(
 
 fn note(alloc: Global, acts: Acts, text: &mut String) -> Result<(), Fail> {
     for frame in &acts.frames {
-        text.push_str(text_of(alloc, frame)?.as_str())?;
+        text.push_str(text_of(alloc, &frame.frame)?.as_str())?;
         text.push_str(",")?;
     }
     for told in &acts.told {
@@ -354,7 +354,7 @@ fn srej_asks_for_one_frame(rt: HostRuntime) -> Result<(), Fail> {
     ];
     let params = Params {
         mode: Mode::Srej,
-        window: 4,
+        ..Params::default()
     };
     let mut link = Link::new(rt.alloc(), params, path()?)?;
     for (happens, want) in exchange {
@@ -425,7 +425,7 @@ fn windows_are_refused(rt: HostRuntime) -> Result<(), Fail> {
         (Mode::Srej, 4, true),
         (Mode::Srej, 5, false),
     ] {
-        match Link::new(rt.alloc(), Params { mode, window }, path()?) {
+        match Link::new(rt.alloc(), Params { mode, window, ..Params::default() }, path()?) {
             Ok(_) => assert!(rt; fits),
             Err(NewFault::BadWindow { window: refused }) => {
                 assert!(rt; !fits && refused == window);

@@ -141,17 +141,18 @@ impl InStore {
     pub fn clear(&mut self)
         ensures empty { self.new ≡ empty_incoming self.old.modulus self.old.window self.old.mode }
     {
-        self.begin(self.modulus, self.window);
+        self.begin(self.modulus, self.window, self.mode);
     }
 
-    /// Empties the store, as after [`InStore::new`] with this modulus and window, and the mode that it has.
-    pub fn begin(&mut self, modulus: u8, window: u8)
+    /// Empties the store, as after [`InStore::new`] with this modulus, window and mode.
+    pub fn begin(&mut self, modulus: u8, window: u8, mode: Mode)
         requires modulus { IsModulus modulus }
-        requires window { IsWindow modulus window self.old.mode }
-        ensures empty { self.new ≡ empty_incoming modulus window self.old.mode }
+        requires window { IsWindow modulus window mode }
+        ensures empty { self.new ≡ empty_incoming modulus window mode }
     {
         self.modulus = modulus;
         self.window = window;
+        self.mode = mode;
         self.vr = 0;
         self.places.clear(window);
     }
@@ -211,6 +212,13 @@ impl InStore {
         ensures formed { IsIncoming self.now }
     {
         self.window
+    }
+
+    /// What is done with a frame that comes ahead of a gap.
+    pub fn mode(&self) -> Mode
+        ensures { result ≡ self.now.mode }
+    {
+        self.mode
     }
 
     /// V(R), as it is sent in N(R): the number of the next packet in sequence.
