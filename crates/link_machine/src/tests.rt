@@ -425,7 +425,15 @@ fn windows_are_refused(rt: HostRuntime) -> Result<(), Fail> {
         (Mode::Srej, 4, true),
         (Mode::Srej, 5, false),
     ] {
-        match Link::new(rt.alloc(), Params { mode, window, ..Params::default() }, path()?) {
+        match Link::new(
+            rt.alloc(),
+            Params {
+                mode,
+                window,
+                ..Params::default()
+            },
+            path()?,
+        ) {
             Ok(_) => assert!(rt; fits),
             Err(NewFault::BadWindow { window: refused }) => {
                 assert!(rt; !fits && refused == window);
