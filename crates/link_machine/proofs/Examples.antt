@@ -1,20 +1,23 @@
 -- Worked examples of the link's step, by computation.
-use Rattle.std.specs.Prelude.{◌≡◌, ℕ, true, false, List, [], ◌∷◌, ◌++◌, fold, replicate, refl}
+use Rattle.std.specs.Prelude.{◌≡◌, ℕ, Bool, true, false, List, [], ◌∷◌, ◌++◌, map, fold, replicate, refl}
 use Rattle.ax25_address.specs.declared.path.Path.{Path}
 use Rattle.ax25_address.specs.declared.path.Role.{Role}
 use Rattle.ax25_address.specs.declared.path.Role.TheVariants.{Command, Response}
 use Rattle.ax25_frames.specs.declared.frame.Kind.{Kind}
-use Rattle.ax25_frames.specs.declared.frame.Kind.TheVariants.{Info, Super, Setup}
+use Rattle.ax25_frames.specs.declared.frame.Kind.TheVariants.{Info, Super, Setup, Other}
 use Rattle.ax25_frames.specs.declared.frame.S.TheVariants.{Rr, Rej, Srej}
-use Rattle.ax25_frames.specs.declared.frame.U.TheVariants.{Sabm, Ua, Disc}
+use Rattle.ax25_frames.specs.declared.frame.U.TheVariants.{Sabm, Sabme, Ua, Dm, Disc}
+use Rattle.ax25_frames.specs.declared.frame.W.TheVariants.{Frmr}
 use Rattle.selective_reject.specs.declared.packet.Packet.{Packet}
 use Rattle.selective_reject.specs.declared.window.Mode.{Mode}
 use Rattle.selective_reject.specs.declared.window.Mode.TheVariants.{Rej as RejMode, Srej as SrejMode}
 use Rattle.selective_reject.specs.Numbers.{ahead}
 use Rattle.selective_reject.specs.Places.{missing, asked}
 use Rattle.link_machine.specs.declared.acts.Told.TheVariants.{Opened, Given, Ended}
-use Rattle.link_machine.specs.declared.acts.Why.TheVariants.{Asked, Failed}
+use Rattle.link_machine.specs.declared.acts.Why.TheVariants.{Asked, Failed, Peer, Reset, Refused}
+use Rattle.link_machine.specs.declared.params.Params.{Params}
 use Rattle.link_machine.specs.Machine.{new_machine}
+use Rattle.link_machine.specs.Sent.{Sent, SentIn, sent_in, all_sent_in}
 use Rattle.link_machine.specs.Sent.Sent.{InfoSent, SuperSent, SetupSent}
 use Rattle.link_machine.specs.Turn.{Turn, begin}
 use Rattle.link_machine.specs.Event.{Event}
@@ -25,8 +28,21 @@ use Rattle.link_machine.specs.Event.Event.{Connect, Send, Disconnect, Hear, Tick
 abbrev run_on : List Event → Turn → Turn
 run_on events turn = fold (λ t event. step t.now event) turn events
 
-abbrev from_new : Path → ℕ → Mode → List Event → Turn
-from_new path window mode events = run_on events (begin (new_machine path 8 window mode))
+abbrev params_of : Mode → Bool → Params
+params_of mode wide = record { mode = mode; window = 4; wide = wide; wide_window = 32 }
+
+abbrev from_new : Path → Mode → List Event → Turn
+from_new path mode events = run_on events (begin (new_machine path (params_of mode false)))
+
+-- the same, of a link that calls modulo 128
+abbrev from_wide : Path → Mode → List Event → Turn
+from_wide path mode events = run_on events (begin (new_machine path (params_of mode true)))
+
+abbrev eight : List Sent → List SentIn
+eight = all_sent_in 8
+
+abbrev wide : List Sent → List SentIn
+wide = all_sent_in 128
 
 abbrev hears : Path → Role → Kind → Event
 hears path role kind = Hear (record { path = record path { role = role }; kind = kind })
@@ -38,7 +54,7 @@ abbrev info : Path → ℕ → ℕ → Event
 info path ns nr = hears path Command (Info ns nr false 240 (ns ∷ []))
 
 -- a call
-pub calls : (p : Path) → (from_new p 4 RejMode (Connect ∷ [])).sent ≡ SetupSent Sabm true ∷ []
+pub calls : (p : Path) → (from_new p RejMode (Connect ∷ [])).sent ≡ eight (SetupSent Sabm true ∷ [])
 unfolding step
 calls p = refl
 
@@ -46,40 +62,40 @@ calls p = refl
 abbrev opened : Path → List Event
 opened p = Connect ∷ hears p Response (Setup Ua true) ∷ []
 
-pub opens : (p : Path) → (from_new p 4 RejMode (opened p)).told ≡ Opened true ∷ []
+pub opens : (p : Path) → (from_new p RejMode (opened p)).told ≡ Opened true ∷ []
 unfolding step
 opens p = refl
 
 abbrev four_sent : Path → List Event
 four_sent p = opened p ++ Send (packet 0) ∷ Send (packet 1) ∷ Send (packet 2) ∷ Send (packet 3) ∷ []
 
-pub sends : (p : Path) → (from_new p 4 RejMode (four_sent p)).sent ≡ InfoSent 3 0 (packet 3) ∷ []
+pub sends : (p : Path) → (from_new p RejMode (four_sent p)).sent ≡ eight (InfoSent 3 0 (packet 3) ∷ [])
 unfolding step
 sends p = refl
 
-pub window_is_full : (p : Path) → (from_new p 4 RejMode (four_sent p ++ Send (packet 4) ∷ [])).sent ≡ []
+pub window_is_full : (p : Path) → (from_new p RejMode (four_sent p ++ Send (packet 4) ∷ [])).sent ≡ []
 unfolding step
 window_is_full p = refl
 
 -- RR for two of the four lets the fifth go
 pub window_opens :
     (p : Path) →
-    (from_new p 4 RejMode (four_sent p ++ Send (packet 4) ∷ hears p Response (Super Rr 2 false) ∷ [])).sent ≡ InfoSent 4 0 (packet 4) ∷ []
+    (from_new p RejMode (four_sent p ++ Send (packet 4) ∷ hears p Response (Super Rr 2 false) ∷ [])).sent ≡ eight (InfoSent 4 0 (packet 4) ∷ [])
 unfolding step ahead
 window_opens p = refl
 
 -- REJ with N(R) 1: all from 1 on are sent again
 pub rejected :
     (p : Path) →
-    (from_new p 4 RejMode (four_sent p ++ hears p Response (Super Rej 1 false) ∷ [])).sent
-    ≡ InfoSent 1 0 (packet 1) ∷ InfoSent 2 0 (packet 2) ∷ InfoSent 3 0 (packet 3) ∷ []
+    (from_new p RejMode (four_sent p ++ hears p Response (Super Rej 1 false) ∷ [])).sent
+    ≡ eight (InfoSent 1 0 (packet 1) ∷ InfoSent 2 0 (packet 2) ∷ InfoSent 3 0 (packet 3) ∷ [])
 unfolding step ahead
 rejected p = refl
 
 -- SREJ with N(R) 1 and F = 0: that one is sent again, and nothing is acknowledged
 pub selectively_rejected :
     (p : Path) →
-    (from_new p 4 SrejMode (four_sent p ++ hears p Response (Super Srej 1 false) ∷ [])).sent ≡ InfoSent 1 0 (packet 1) ∷ []
+    (from_new p SrejMode (four_sent p ++ hears p Response (Super Srej 1 false) ∷ [])).sent ≡ eight (InfoSent 1 0 (packet 1) ∷ [])
 unfolding step ahead
 selectively_rejected p = refl
 
@@ -87,20 +103,20 @@ selectively_rejected p = refl
 abbrev called : Path → List Event
 called p = hears p Command (Setup Sabm true) ∷ []
 
-pub asks_once : (p : Path) → (from_new p 4 SrejMode (called p ++ info p 1 0 ∷ [])).sent ≡ SuperSent Srej false 0 false ∷ []
+pub asks_once : (p : Path) → (from_new p SrejMode (called p ++ info p 1 0 ∷ [])).sent ≡ eight (SuperSent Srej false 0 false ∷ [])
 unfolding step ahead missing asked
 asks_once p = refl
 
 abbrev three_came : Path → List Event
 three_came p = called p ++ info p 1 0 ∷ info p 2 0 ∷ info p 3 0 ∷ []
 
-pub asks_no_more : (p : Path) → (from_new p 4 SrejMode (three_came p)).sent ≡ []
+pub asks_no_more : (p : Path) → (from_new p SrejMode (three_came p)).sent ≡ []
 unfolding step ahead missing asked
 asks_no_more p = refl
 
 pub gives_all :
     (p : Path) →
-    (from_new p 4 SrejMode (three_came p ++ info p 0 0 ∷ [])).told
+    (from_new p SrejMode (three_came p ++ info p 0 0 ∷ [])).told
     ≡ Given (packet 0) ∷ Given (packet 1) ∷ Given (packet 2) ∷ Given (packet 3) ∷ []
 unfolding step ahead missing asked
 gives_all p = refl
@@ -108,33 +124,105 @@ gives_all p = refl
 -- the 30th tick sends RR with N(R) 4
 pub responds_late :
     (p : Path) →
-    (from_new p 4 SrejMode (three_came p ++ info p 0 0 ∷ [] ++ replicate 30 (Tick false))).sent ≡ SuperSent Rr false 4 false ∷ []
+    (from_new p SrejMode (three_came p ++ info p 0 0 ∷ [] ++ replicate 30 (Tick false))).sent ≡ eight (SuperSent Rr false 4 false ∷ [])
 unfolding step ahead missing asked
 responds_late p = refl
 
 -- by REJ: one REJ until the frame comes
 pub rejects_once :
-    (p : Path) → (from_new p 4 RejMode (called p ++ info p 1 0 ∷ [])).sent ≡ SuperSent Rej false 0 false ∷ []
+    (p : Path) → (from_new p RejMode (called p ++ info p 1 0 ∷ [])).sent ≡ eight (SuperSent Rej false 0 false ∷ [])
 unfolding step ahead
 rejects_once p = refl
 
-pub rejects_no_more : (p : Path) → (from_new p 4 RejMode (called p ++ info p 1 0 ∷ info p 2 0 ∷ [])).sent ≡ []
+pub rejects_no_more : (p : Path) → (from_new p RejMode (called p ++ info p 1 0 ∷ info p 2 0 ∷ [])).sent ≡ []
 unfolding step ahead
 rejects_no_more p = refl
 
 -- a disconnect waits for the packets
 pub releases :
     (p : Path) →
-    (from_new p 4 RejMode (opened p ++ Send (packet 0) ∷ Disconnect ∷ hears p Response (Super Rr 1 false) ∷ [])).sent ≡ SetupSent Disc true ∷ []
+    (from_new p RejMode (opened p ++ Send (packet 0) ∷ Disconnect ∷ hears p Response (Super Rr 1 false) ∷ [])).sent ≡ eight (SetupSent Disc true ∷ [])
 unfolding step ahead
 releases p = refl
 
 pub is_released :
-    (p : Path) → (from_new p 4 RejMode (opened p ++ Disconnect ∷ hears p Response (Setup Ua true) ∷ [])).told ≡ Ended Asked ∷ []
+    (p : Path) → (from_new p RejMode (opened p ++ Disconnect ∷ hears p Response (Setup Ua true) ∷ [])).told ≡ Ended Asked ∷ []
 unfolding step
 is_released p = refl
 
 -- a call without an answer is repeated ten times, every three seconds
-pub gives_up : (p : Path) → (from_new p 4 RejMode (Connect ∷ replicate 3300 (Tick false))).told ≡ Ended Failed ∷ []
+pub gives_up : (p : Path) → (from_new p RejMode (Connect ∷ replicate 3300 (Tick false))).told ≡ Ended Failed ∷ []
 unfolding step
 gives_up p = refl
+
+-- a wide call, in modulus 128
+pub calls_wide : (p : Path) → (from_wide p RejMode (Connect ∷ [])).sent ≡ wide (SetupSent Sabme true ∷ [])
+unfolding step
+calls_wide p = refl
+
+-- FRMR in reply: SABM goes out, and UA opens the link modulo 8
+abbrev refused_wide : Path → List Event
+refused_wide p = Connect ∷ hears p Response (Other Frmr true []) ∷ []
+
+pub calls_narrow : (p : Path) → (from_wide p RejMode (refused_wide p)).sent ≡ eight (SetupSent Sabm true ∷ [])
+unfolding step
+calls_narrow p = refl
+
+pub opens_narrow :
+    (p : Path) → (from_wide p RejMode (refused_wide p ++ hears p Response (Setup Ua true) ∷ [])).told ≡ Opened true ∷ []
+unfolding step
+opens_narrow p = refl
+
+pub counts_narrow :
+    (p : Path) → (from_wide p RejMode (refused_wide p ++ hears p Response (Setup Ua true) ∷ [])).now.incoming.modulus ≡ 8
+unfolding step
+counts_narrow p = refl
+
+-- a wide link that calls passes over SABM and answers SABME
+pub passes_over_sabm :
+    (p : Path) → (from_wide p RejMode (Connect ∷ hears p Command (Setup Sabm true) ∷ [])).sent ≡ []
+unfolding step
+passes_over_sabm p = refl
+
+pub agrees_wide :
+    (p : Path) →
+    (from_wide p RejMode (Connect ∷ hears p Command (Setup Sabme true) ∷ [])).sent ≡ wide (SetupSent Ua true ∷ [])
+unfolding step
+agrees_wide p = refl
+
+-- every link answers SABME, and then has 128 numbers and the wide window
+abbrev called_wide : Path → List Event
+called_wide p = hears p Command (Setup Sabme true) ∷ []
+
+pub opens_wide : (p : Path) → (from_new p RejMode (called_wide p)).sent ≡ wide (SetupSent Ua true ∷ [])
+unfolding step
+opens_wide p = refl
+
+pub asks_wide :
+    (p : Path) →
+    (from_new p SrejMode (called_wide p ++ info p 9 0 ∷ [])).sent
+    ≡ wide (map (λ nr. SuperSent Srej false nr false) (0 ∷ 1 ∷ 2 ∷ 3 ∷ 4 ∷ 5 ∷ 6 ∷ 7 ∷ 8 ∷ []))
+unfolding step ahead missing asked
+asks_wide p = refl
+
+-- the answer to DISC is written in the modulus of the set-up that it ends; the link has 8 then
+abbrev ended_wide : Path → List Event
+ended_wide p = called_wide p ++ hears p Command (Setup Disc true) ∷ []
+
+pub ends_wide : (p : Path) → (from_new p RejMode (ended_wide p)).sent ≡ wide (SetupSent Ua true ∷ [])
+unfolding step
+ends_wide p = refl
+
+pub idles_narrow : (p : Path) → (from_new p RejMode (ended_wide p)).now.incoming.modulus ≡ 8
+unfolding step
+idles_narrow p = refl
+
+-- at the last retry both the acknowledgement that is due and the DM go out modulo 128
+pub last_tick_wide :
+    (p : Path) →
+    (from_new p RejMode (
+    called_wide p ++ Send (packet 0) ∷ [] ++ replicate 3270 (Tick false) ++ info p 0 0 ∷ [] ++ replicate 30 (Tick false)
+    )).sent
+    ≡ wide (SuperSent Rr false 1 false ∷ SetupSent Dm false ∷ [])
+unfolding step ahead
+last_tick_wide p = refl

@@ -2,7 +2,8 @@
 use Rattle.std.specs.Prelude.{ℕ, ◌+◌, ◌-◌, Bool, true, false, nat_lt, ◌==◌, not, ◌&&◌, ◌||◌, if◌then◌else◌, List, [], ◌∷◌, ◌++◌, length, take, drop, map, min, max, replicate, slice_get, Option, Some, None, is_none}
 use Rattle.std.specs.Option.{option_to_list}
 use Rattle.ax25_frames.specs.declared.frame.S.TheVariants.{Rr, Rej, Srej}
-use Rattle.ax25_frames.specs.declared.frame.U.TheVariants.{Sabm, Disc}
+use Rattle.ax25_frames.specs.declared.frame.U.{U}
+use Rattle.ax25_frames.specs.declared.frame.U.TheVariants.{Sabm, Sabme, Disc}
 use Rattle.selective_reject.specs.declared.packet.Packet.{Packet}
 use Rattle.selective_reject.specs.declared.place.Place.{Place}
 use Rattle.selective_reject.specs.Outgoing.{Outgoing, acknowledged as without_acknowledged, back}
@@ -12,8 +13,8 @@ use Rattle.link_machine.specs.declared.state.LinkState.TheVariants.{Calling, Rel
 use Rattle.link_machine.specs.declared.acts.Told.TheVariants.{Given, Ended}
 use Rattle.link_machine.specs.declared.acts.Why.TheVariants.{Reset}
 use Rattle.link_machine.specs.declared.control.Control.{Control}
-use Rattle.link_machine.specs.Machine.{Machine, fresh, emptied, t1_ticks, t2_ticks, t3_ticks}
-use Rattle.link_machine.specs.Sent.{Sent, infos_from}
+use Rattle.link_machine.specs.Machine.{Machine, fresh, emptied, is_wide, t1_ticks, t2_ticks, t3_ticks}
+use Rattle.link_machine.specs.Sent.{Sent, all_sent_in, infos_from}
 use Rattle.link_machine.specs.Sent.Sent.{SuperSent, SetupSent}
 use Rattle.link_machine.specs.Turn.{Act, changing, setting, sending, telling, in_order}
 
@@ -91,7 +92,7 @@ send_packets packets turn = record turn {
     control = awaiting (nothing_due turn.now.control);
     outgoing = sent_to (turn.now.outgoing.vs + length packets) turn.now.outgoing;
   };
-  sent = turn.sent ++ infos_from turn.now.outgoing.vs turn.now.incoming.vr packets;
+  sent = turn.sent ++ all_sent_in turn.now.incoming.modulus (infos_from turn.now.outgoing.vs turn.now.incoming.vr packets);
 }
 
 abbrev pub flush : Act
@@ -111,14 +112,21 @@ close turn = if turn.now.control.quit && length turn.now.outgoing.packets == 0 t
 abbrev pub settle : Act
 settle = in_order (flush ∷ close ∷ [])
 
--- SABM with P = 1, whose answer is awaited
+-- SABM, or SABME in modulus 128, with P = 1
+abbrev pub calling_frame : Bool → U
+calling_frame wide = if wide then Sabme else Sabm
+
+abbrev pub send_call : Act
+send_call turn = sending (SetupSent (calling_frame (is_wide turn.now)) true) turn
+
+-- the answer to a call is awaited
 abbrev pub calling : Control → Control
 calling c = record c { state = Calling; t1 = Some t1_ticks; t3 = None }
 
 abbrev pub call : Act
-call = in_order (setting calling ∷ sending (SetupSent Sabm true) ∷ [])
+call = in_order (setting calling ∷ send_call ∷ [])
 
--- the set-up ends, and this side calls anew
+-- the set-up ends, and this side calls anew in the same modulus
 abbrev pub reset : Act
 reset = in_order (telling (Ended Reset) ∷ changing fresh ∷ changing emptied ∷ call ∷ [])
 
@@ -167,7 +175,7 @@ srej_for m ahead = SuperSent Srej false (m.incoming.vr + ahead) false
 abbrev pub ask : ℕ → Act
 ask ahead turn = record turn {
   now = record turn.now { incoming = record turn.now.incoming { places = asked turn.now.incoming.places ahead } };
-  sent = turn.sent ++ map (srej_for turn.now) (missing turn.now.incoming.places ahead);
+  sent = turn.sent ++ all_sent_in turn.now.incoming.modulus (map (srej_for turn.now) (missing turn.now.incoming.places ahead));
 }
 
 -- T1 runs, and T3 is off
@@ -182,5 +190,5 @@ abbrev pub send_again : ℕ → Act
 send_again n turn =
     if nat_lt n turn.now.outgoing.top then record turn {
       now = record turn.now { control = watching (nothing_due turn.now.control) };
-      sent = turn.sent ++ infos_from n turn.now.incoming.vr (sent_packet n turn.now.outgoing);
+      sent = turn.sent ++ all_sent_in turn.now.incoming.modulus (infos_from n turn.now.incoming.vr (sent_packet n turn.now.outgoing));
     } else turn

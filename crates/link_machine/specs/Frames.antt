@@ -1,5 +1,5 @@
 -- The frames that a link hears, by state (AX.25 2.2 sections 6.3 to 6.5).
-use Rattle.std.specs.Prelude.{ℕ, Bool, true, false, nat_lt, ◌==◌, not, ◌&&◌, if◌then◌else◌, [], ◌∷◌, None}
+use Rattle.std.specs.Prelude.{ℕ, Bool, true, false, nat_lt, ◌==◌, not, ◌&&◌, if◌then◌else◌, [], ◌∷◌, None, Some}
 use Rattle.ax25_frames.specs.declared.frame.Kind.{Kind}
 use Rattle.ax25_frames.specs.declared.frame.Kind.TheVariants.{Info, Super, Setup, Ui, Other}
 use Rattle.ax25_frames.specs.declared.frame.S.{S}
@@ -16,7 +16,7 @@ use Rattle.link_machine.specs.declared.acts.Told.TheVariants.{Opened, Ended}
 use Rattle.link_machine.specs.declared.acts.Why.{Why}
 use Rattle.link_machine.specs.declared.acts.Why.TheVariants.{Asked, Peer, Reset, Refused}
 use Rattle.link_machine.specs.declared.control.Control.{Control}
-use Rattle.link_machine.specs.Machine.{Machine, fresh, emptied, in_state, is_valid, named, ahead_of_vr}
+use Rattle.link_machine.specs.Machine.{Machine, fresh, emptied, in_modulus, narrowed, is_wide, t1_ticks, in_state, is_valid, named, ahead_of_vr}
 use Rattle.link_machine.specs.Sent.Sent.{SetupSent}
 use Rattle.link_machine.specs.Turn.{Act, changing, setting, sending, telling, nothing, in_order}
 use Rattle.link_machine.specs.Acts.{acknowledged, answer_poll, recover, gone_back, reset, owing, with_rej, reject, run_with, give, stored, ask, send_again, watching}
@@ -27,33 +27,33 @@ answer_ua flag = sending (SetupSent Ua flag)
 abbrev pub answer_dm : Bool → Act
 answer_dm flag = sending (SetupSent Dm flag)
 
--- a call or a release ends: no packet stays, and T1, the one timer that runs there, is off
+-- a call or a release ends: no packet stays, the modulus is 8, and T1, the one timer that runs there, is off
 abbrev pub stopped_t1 : Control → Control
 stopped_t1 c = record c { state = Idle; t1 = None }
 
 abbrev pub end_call : Why → Act
-end_call why = in_order (changing emptied ∷ setting stopped_t1 ∷ telling (Ended why) ∷ [])
+end_call why = in_order (changing emptied ∷ changing narrowed ∷ setting stopped_t1 ∷ telling (Ended why) ∷ [])
 
--- a set-up ends: no packet stays, and all timers are off
+-- a set-up ends: no packet stays, the modulus is 8, and all timers are off
 abbrev pub stopped : Control → Control
 stopped c = record c { state = Idle; t1 = None; t2 = None; t3 = None }
 
 abbrev pub leave : Act
-leave = in_order (changing emptied ∷ setting stopped ∷ [])
+leave = in_order (changing emptied ∷ changing narrowed ∷ setting stopped ∷ [])
 
--- the other side's set-up: all begins anew, no packet stays, and its SABM is answered
-abbrev pub open_called : Bool → Act
-open_called flag =
-    in_order (changing fresh ∷ changing emptied ∷ setting (in_state Up) ∷ answer_ua flag ∷ telling (Opened false) ∷ [])
+-- the other side's set-up: all begins anew in its modulus, no packet stays, and its SABM or SABME is answered
+abbrev pub open_called : ℕ → Bool → Act
+open_called modulus flag =
+    in_order (changing fresh ∷ changing emptied ∷ changing (in_modulus modulus) ∷ setting (in_state Up) ∷ answer_ua flag ∷ telling (Opened false) ∷ [])
 
--- this side's set-up: all begins anew; what was given while calling stays
+-- this side's set-up: all begins anew; what was given while calling stays, and so does the modulus
 abbrev pub open_answered : Act
 open_answered = in_order (changing fresh ∷ setting (in_state Up) ∷ telling (Opened true) ∷ [])
 
--- Idle: SABM opens; SABME, DISC and numbered commands are answered by DM with F = P
+-- Idle: SABM opens in modulus 8, SABME in 128; DISC and numbered commands are answered by DM with F = P
 abbrev pub hear_idle : Bool → Kind → Act
-hear_idle command (Setup Sabm flag) = open_called flag
-hear_idle command (Setup Sabme flag) = answer_dm flag
+hear_idle command (Setup Sabm flag) = open_called 8 flag
+hear_idle command (Setup Sabme flag) = open_called 128 flag
 hear_idle command (Setup Disc flag) = answer_dm flag
 hear_idle command (Setup Dm flag) = nothing
 hear_idle command (Setup Ua flag) = nothing
@@ -62,17 +62,30 @@ hear_idle command (Super which nr flag) = if command then answer_dm flag else no
 hear_idle command (Ui flag pid octets) = nothing
 hear_idle command (Other which flag octets) = nothing
 
--- Calling: UA and DM count with F = 1 alone
+-- FRMR answers a SABME that the other side does not know: the call goes on in modulus 8, with all its retries
+abbrev pub unretried_call : Control → Control
+unretried_call c = record c { rc = 0; t1 = Some t1_ticks }
+
+abbrev pub call_narrow : Act
+call_narrow = in_order (changing narrowed ∷ setting unretried_call ∷ sending (SetupSent Sabm true) ∷ [])
+
+-- Calling: a call of the same kind is agreed to. SABM says nothing to a wide call, since the other side will hear the
+-- SABME. UA and DM count with F = 1 alone.
+abbrev pub hear_calling_in : Bool → Kind → Act
+hear_calling_in wide (Setup Sabm flag) = if wide then nothing else answer_ua flag
+hear_calling_in wide (Setup Sabme flag) = if wide then answer_ua flag else answer_dm flag
+hear_calling_in wide (Setup Disc flag) = answer_dm flag
+hear_calling_in wide (Setup Dm flag) = if flag then end_call Refused else nothing
+hear_calling_in wide (Setup Ua flag) = if flag then open_answered else nothing
+hear_calling_in wide (Info ns nr flag pid octets) = nothing
+hear_calling_in wide (Super which nr flag) = nothing
+hear_calling_in wide (Ui flag pid octets) = nothing
+hear_calling_in wide (Other Frmr flag octets) = if wide then call_narrow else nothing
+hear_calling_in wide (Other Xid flag octets) = nothing
+hear_calling_in wide (Other Test flag octets) = nothing
+
 abbrev pub hear_calling : Kind → Act
-hear_calling (Setup Sabm flag) = answer_ua flag
-hear_calling (Setup Sabme flag) = answer_dm flag
-hear_calling (Setup Disc flag) = answer_dm flag
-hear_calling (Setup Dm flag) = if flag then end_call Refused else nothing
-hear_calling (Setup Ua flag) = if flag then open_answered else nothing
-hear_calling (Info ns nr flag pid octets) = nothing
-hear_calling (Super which nr flag) = nothing
-hear_calling (Ui flag pid octets) = nothing
-hear_calling (Other which flag octets) = nothing
+hear_calling kind turn = hear_calling_in (is_wide turn.now) kind turn
 
 -- Releasing: UA and DM count with F = 1 alone, numbered commands with P = 1 alone
 abbrev pub hear_releasing : Bool → Kind → Act
@@ -150,21 +163,21 @@ abbrev pub hear_info : ℕ → ℕ → Bool → Packet → Act
 hear_info n ns flag packet turn =
     in_order (changing (acknowledged n) ∷ hear_info_by turn.now.incoming.mode ns flag packet ∷ []) turn
 
--- Up: a SABM ends the set-up and opens another
-abbrev pub open_again : Bool → Act
-open_again flag = in_order (telling (Ended Reset) ∷ open_called flag ∷ [])
+-- Up: a SABM or SABME ends the set-up and opens another
+abbrev pub open_again : ℕ → Bool → Act
+open_again modulus flag = in_order (telling (Ended Reset) ∷ open_called modulus flag ∷ [])
 
--- Up: the other side ends the set-up
+-- Up: the other side ends the set-up. The answer still goes out in the modulus of that set-up.
 abbrev pub end_by_disc : Bool → Act
-end_by_disc flag = in_order (leave ∷ answer_ua flag ∷ telling (Ended Peer) ∷ [])
+end_by_disc flag = in_order (answer_ua flag ∷ leave ∷ telling (Ended Peer) ∷ [])
 
 abbrev pub end_by_dm : Act
 end_by_dm = in_order (leave ∷ telling (Ended Peer) ∷ [])
 
 -- Up: a frame with an invalid N(R) makes this side call anew, and nothing else of it counts
 abbrev pub hear_up : Bool → Kind → Act
-hear_up command (Setup Sabm flag) turn = open_again flag turn
-hear_up command (Setup Sabme flag) turn = answer_dm flag turn
+hear_up command (Setup Sabm flag) turn = open_again 8 flag turn
+hear_up command (Setup Sabme flag) turn = open_again 128 flag turn
 hear_up command (Setup Disc flag) turn = end_by_disc flag turn
 hear_up command (Setup Dm flag) turn = end_by_dm turn
 hear_up command (Setup Ua flag) turn = turn

@@ -7,33 +7,26 @@ use Rattle.selective_reject.specs.declared.window.Mode.TheVariants.{Rej}
 use Rattle.selective_reject.specs.Places.{empty_place, is_full}
 use Rattle.link_machine.specs.declared.machine.Machine.{Machine as Held}
 use Rattle.link_machine.specs.declared.room.Room.{Room}
-use Rattle.link_machine.specs.Machine.{Machine, is_valid, named}
-use Rattle.link_machine.specs.Sent.{frames_of, infos_from}
+use Rattle.link_machine.specs.Machine.{Machine, is_valid, named, modulus_named}
+use Rattle.link_machine.specs.Sent.{sent_in, all_sent_in, sent_frames, infos_from}
 use Rattle.link_machine.specs.Acts.{sent_to, reset}
 use Rattle.link_machine.specs.Frames.{hear_supervisory}
 use Rattle.link_machine.specs.Step.{settled}
 use Rattle.link_machine.specs.Done.{Done}
-use Rattle.link_machine.specs.declared.fault.NewFault.{NewFault}
-use Rattle.link_machine.specs.declared.fault.NewFault.TheVariants.{BadWindow, Memory}
-use Rattle.selective_reject.specs.declared.incoming.StoreFault.{StoreFault}
-use Rattle.selective_reject.specs.declared.incoming.StoreFault.TheVariants.{BadWindow as BadStoreWindow, Memory as StoreMemory}
 use Rattle.tnc_base.specs.declared.fault.OutOfMemory.{OutOfMemory}
 use Rattle.link_machine.specs.Turn.{Turn, Act, begin}
 use Rattle.selective_reject.specs.declared.packet.Packet.{Packet}
 use Rattle.link_machine.specs.StandsFor.{StandsFor}
-use Rattle.ax25_address.specs.declared.path.Path.{Path}
+use Rattle.link_machine.specs.declared.acts.SentFrame.{SentFrame}
+use Rattle.ax25_address.specs.declared.path.Role.{Role}
 use Rattle.ax25_address.specs.declared.path.Role.TheVariants.{Response}
-use Rattle.ax25_frames.specs.declared.frame.Frame.{Frame}
 use Rattle.ax25_frames.specs.declared.frame.Kind.{Kind}
-use Rattle.ax25_frames.specs.declared.frame.Kind.TheVariants.{Info, Super, Setup, Ui, Other}
+use Rattle.ax25_frames.specs.declared.frame.Kind.TheVariants.{Super}
 use Rattle.ax25_frames.specs.declared.frame.S.{S}
 use Rattle.ax25_frames.specs.declared.frame.S.TheVariants.{Srej}
 
 -- what holds of each link between two events, and between two acts
 pub record IsLink (held : Held) : Type 0 where
-  pub mode : held.mode ≡ held.incoming.mode
-  pub window : held.window ≡ held.incoming.window
-  pub modulus : held.incoming.modulus ≡ 8
   pub outgoing : IsOutgoing held.outgoing
   pub incoming : IsIncoming held.incoming
 
@@ -48,14 +41,21 @@ pub record Holds (held : Held) (m : Machine) : Type 0 where
   pub formed : IsLink held
   pub next : IsReady held.incoming
 
+-- a frame on the link's path, in the modulus that the link has
+abbrev pub frame_from : Held → Role → Kind → SentFrame
+frame_from held role kind = record {
+  frame = record { path = record held.path { role = role }; kind = kind };
+  modulus = modulus_named held.incoming.modulus;
+}
+
 -- the SREJ for a number
-abbrev pub srej_frame : Path → ℕ → Frame
-srej_frame path nr = record { path = record path { role = Response }; kind = Super Srej nr false }
+abbrev pub srej_frame : Held → ℕ → SentFrame
+srej_frame held nr = frame_from held Response (Super Srej nr false)
 
 -- the link and what it has done so far stand for the turn
 pub record Shows (held : Held) (room : Room) (turn : Turn) : Type 0 where
   pub holds : Holds held turn.now
-  pub frames : room.frames.items ≡ frames_of 8 turn.now.path turn.sent
+  pub frames : room.frames.items ≡ sent_frames turn.now.path turn.sent
   pub told : room.told.items ≡ turn.told
 
 -- what waits to be acknowledged, once so many more are and V(S) has perhaps gone back
@@ -70,14 +70,14 @@ frames_to_close held = if held.control.quit then 1 else 0
 abbrev pub send_next : Packet → Turn → Turn
 send_next packet t = record t {
   now = record t.now { outgoing = after_next t.now.incoming.window t.now.outgoing };
-  sent = t.sent ++ InfoSent t.now.outgoing.vs t.now.incoming.vr packet ∷ [];
+  sent = t.sent ++ sent_in t.now.incoming.modulus (InfoSent t.now.outgoing.vs t.now.incoming.vr packet) ∷ [];
 }
 
 -- packets go out, and nothing else changes yet
 abbrev pub sending_packets : List Packet → Turn → Turn
 sending_packets packets t = record t {
   now = record t.now { outgoing = sent_to (t.now.outgoing.vs + length packets) t.now.outgoing };
-  sent = t.sent ++ infos_from t.now.outgoing.vs t.now.incoming.vr packets;
+  sent = t.sent ++ all_sent_in t.now.incoming.modulus (infos_from t.now.outgoing.vs t.now.incoming.vr packets);
 }
 
 -- of the packets that go out, some have gone, and the others are left
@@ -91,14 +91,6 @@ pub record IsWhole (held : Held) : Type 0 where
   pub link : IsLink held
   pub next : IsReady held.incoming
 
--- the numbers that a frame has are below a modulus
-abbrev pub HasNumbersBelow : ℕ → Kind → Type 0
-HasNumbersBelow modulus (Info ns nr flag pid octets) = (ns < modulus) × (nr < modulus)
-HasNumbersBelow modulus (Super which nr flag) = nr < modulus
-HasNumbersBelow modulus (Setup which flag) = Unit {0}
-HasNumbersBelow modulus (Ui flag pid octets) = Unit {0}
-HasNumbersBelow modulus (Other which flag octets) = Unit {0}
-
 -- a frame with a valid N(R), or one with another
 abbrev pub hear_numbered : ℕ → (ℕ → Act) → Act
 hear_numbered nr hear t = if is_valid nr t.now then hear (named nr t.now) t else reset t
@@ -109,15 +101,10 @@ hear_supervisory_of which command flag n = hear_supervisory which n command flag
 -- the link has become and done what an event makes of it
 pub record Made (turn : Turn) (behind : Held) (done : Done) : Type 0 where
   pub holds : Holds behind turn.now
-  pub frames : done.frames ≡ frames_of 8 turn.now.path turn.sent
+  pub frames : done.frames ≡ sent_frames turn.now.path turn.sent
   pub told : done.told ≡ turn.told
 
 -- what an event makes of a link, where an act is its row; where memory was not given, nothing
 abbrev pub Makes : Act → Held → Held → Result Done OutOfMemory → Type 0
 Makes act before behind (Ok done) = (m : Machine) → Holds before m → Made (settled (act (begin m))) behind done
 Makes act before behind (Err fault) = behind ≡ before
-
--- why no link is made, where a store of it is refused
-abbrev pub new_fault_of : StoreFault → NewFault
-new_fault_of (BadStoreWindow window) = BadWindow window
-new_fault_of StoreMemory = Memory

@@ -1,3 +1,4 @@
+pub mod Params
 pub mod Done
 pub mod Machine
 pub mod Sent

@@ -1,24 +1,29 @@
 -- A link as a machine (AX.25 2.2 sections 6.3 and 6.7.1): its state and its variables. Sequence numbers count from 0 in
--- each set-up; only frames carry them modulo 8.
-use Rattle.std.specs.Prelude.{ℕ, ◌+◌, Bool, false, Some, None}
+-- each set-up; only frames carry them modulo the link's modulus.
+use Rattle.std.specs.Prelude.{ℕ, ◌+◌, ◌==◌, Bool, false, Some, None, if◌then◌else◌}
 use Rattle.ax25_address.specs.declared.path.Path.{Path}
-use Rattle.selective_reject.specs.declared.window.Mode.{Mode}
+use Rattle.ax25_frames.specs.declared.frame.Modulus.{Modulus}
+use Rattle.ax25_frames.specs.declared.frame.Modulus.TheVariants.{Eight, OneTwentyEight}
 use Rattle.selective_reject.specs.Outgoing.{restarted, Outgoing, empty_outgoing, is_named}
 use Rattle.selective_reject.specs.Incoming.{Incoming, empty_incoming}
 use Rattle.selective_reject.specs.Numbers.{ahead}
 use Rattle.link_machine.specs.declared.state.LinkState.{LinkState}
 use Rattle.link_machine.specs.declared.state.LinkState.TheVariants.{Idle}
 use Rattle.link_machine.specs.declared.control.Control.{Control}
+use Rattle.link_machine.specs.declared.params.Params.{Params}
+use Rattle.link_machine.specs.Params.{window_in, called_modulus}
 
 pub record Machine : Type 0 where
   -- from this side to the other
   pub path : Path
+  -- what the link was made with
+  pub params : Params
   -- the state, the conditions, the retries and the timers
   pub control : Control
   -- V(A), V(S), the number behind the highest that was ever sent, and the packets given and not acknowledged
   pub outgoing : Outgoing
   -- V(R), the packets received before their turn and the numbers asked for, by their distance from V(R); also the
-  -- modulus, whether REJ or SREJ asks for what is lost, and k
+  -- link's modulus, 8 or 128, whether REJ or SREJ asks for what is lost, and k
   pub incoming : Incoming
 
 -- T1, T2 and T3, in ticks of 10 ms
@@ -54,14 +59,34 @@ fresh_control c = record c { rej = false; poll = false; busy = false; due = fals
 abbrev pub cleared : Incoming → Incoming
 cleared i = empty_incoming i.modulus i.window i.mode
 
--- The same, and all numbers are 0. The packets given stay.
+-- The same, and all numbers are 0. The packets given and the modulus stay.
 abbrev pub fresh : Machine → Machine
 fresh m = record {
   path = m.path;
+  params = m.params;
   control = fresh_control m.control;
   outgoing = restarted m.outgoing;
   incoming = cleared m.incoming;
 }
+
+-- Numbers are modulo a modulus from here on, with its window. Nothing is stored or asked for, and V(R) is 0.
+abbrev pub in_modulus : ℕ → Machine → Machine
+in_modulus modulus m = record m { incoming = empty_incoming modulus (window_in modulus m.params) m.params.mode }
+
+-- a link that is not there has modulus 8
+abbrev pub narrowed : Machine → Machine
+narrowed = in_modulus 8
+
+-- a link that calls has its own
+abbrev pub in_own_modulus : Machine → Machine
+in_own_modulus m = in_modulus (called_modulus m.params) m
+
+abbrev pub is_wide : Machine → Bool
+is_wide m = m.incoming.modulus == 128
+
+-- a modulus by its name: 8 or 128
+abbrev pub modulus_named : ℕ → Modulus
+modulus_named modulus = if modulus == 128 then OneTwentyEight else Eight
 
 -- No packet waits, and no disconnect is asked for. The numbers of a store that is emptied are 0.
 abbrev pub unquit : Control → Control
@@ -85,7 +110,7 @@ named nr m = m.outgoing.va + ahead m.incoming.modulus m.outgoing.va nr
 abbrev pub ahead_of_vr : ℕ → Machine → ℕ
 ahead_of_vr ns m = ahead m.incoming.modulus m.incoming.vr ns
 
--- a link that is new: no numbers, no packets, no timers
+-- a link that is new: modulus 8, no numbers, no packets, no timers
 abbrev pub idle_control : Control
 idle_control = record {
   state = Idle;
@@ -100,10 +125,11 @@ idle_control = record {
   t3 = None;
 }
 
-abbrev pub new_machine : Path → ℕ → ℕ → Mode → Machine
-new_machine path modulus window mode = record {
+abbrev pub new_machine : Path → Params → Machine
+new_machine path params = record {
   path = path;
+  params = params;
   control = idle_control;
   outgoing = empty_outgoing;
-  incoming = empty_incoming modulus window mode;
+  incoming = empty_incoming 8 params.window params.mode;
 }

@@ -7,7 +7,7 @@ use Rattle.link_machine.specs.declared.state.LinkState.TheVariants.{Idle, Callin
 use Rattle.link_machine.specs.declared.fault.LinkFault.{LinkFault}
 use Rattle.link_machine.specs.declared.fault.LinkFault.TheVariants.{WrongState, Full, TooLong}
 use Rattle.link_machine.specs.declared.control.Control.{Control}
-use Rattle.link_machine.specs.Machine.{Machine, fresh, most_packets, most_octets}
+use Rattle.link_machine.specs.Machine.{Machine, fresh, in_own_modulus, most_packets, most_octets}
 use Rattle.link_machine.specs.Turn.{Act, changing, in_order}
 use Rattle.link_machine.specs.Acts.{call}
 use Rattle.link_machine.specs.Event.{Event}
@@ -41,8 +41,9 @@ refusal c count Disconnect = if is_closed c then Some (WrongState c.state c.quit
 refusal c count (Hear frame) = None
 refusal c count (Tick waiting) = None
 
+-- a call in the link's own modulus
 abbrev pub connect : Act
-connect = in_order (changing fresh ∷ call ∷ [])
+connect = in_order (changing fresh ∷ changing in_own_modulus ∷ call ∷ [])
 
 -- the packet joins those that wait; one given while calling belongs to the set-up that follows
 abbrev pub joined : Packet → Machine → Machine

@@ -11,19 +11,32 @@ use Rattle.ax25_frames.specs.declared.frame.S.{S}
 use Rattle.ax25_frames.specs.declared.frame.U.{U}
 use Rattle.ax25_frames.specs.FrameText.{sets_up_or_ends}
 use Rattle.selective_reject.specs.declared.packet.Packet.{Packet}
+use Rattle.link_machine.specs.declared.acts.SentFrame.{SentFrame}
+use Rattle.link_machine.specs.Machine.{modulus_named}
 
 pub data Sent : Type 0 where
   -- an I frame with P = 0: its number, N(R), and the packet
   InfoSent : (number nr : ℕ) → (packet : Packet) → Sent
   -- an S frame: which one, whether it is a command, N(R), and P or F
   SuperSent : (which : S) → (command : Bool) → (nr : ℕ) → (flag : Bool) → Sent
-  -- SABM, DISC, UA or DM, and P or F
+  -- SABM, SABME, DISC, UA or DM, and P or F
   SetupSent : (which : U) → (flag : Bool) → Sent
+
+-- a frame, and the modulus in which it is sent: that of the link when it sends it
+pub record SentIn : Type 0 where
+  pub modulus : ℕ
+  pub frame : Sent
+
+abbrev pub sent_in : ℕ → Sent → SentIn
+sent_in modulus frame = record { modulus = modulus; frame = frame }
+
+abbrev pub all_sent_in : ℕ → List Sent → List SentIn
+all_sent_in modulus frames = map (sent_in modulus) frames
 
 abbrev pub role_of : Bool → Role
 role_of command = if command then Command else Response
 
--- an I frame is a command, and so are SABM and DISC; UA and DM are responses
+-- an I frame is a command, and so are SABM, SABME and DISC; UA and DM are responses
 abbrev pub sent_role : Sent → Role
 sent_role (InfoSent number nr packet) = Command
 sent_role (SuperSent which command nr flag) = role_of command
@@ -38,8 +51,11 @@ sent_kind modulus (SetupSent which flag) = Setup which flag
 abbrev pub frame_of : ℕ → Path → Sent → Frame
 frame_of modulus path sent = record { path = record path { role = sent_role sent }; kind = sent_kind modulus sent }
 
-abbrev pub frames_of : ℕ → Path → List Sent → List Frame
-frames_of modulus path sent = map (frame_of modulus path) sent
+abbrev pub sent_frame : Path → SentIn → SentFrame
+sent_frame path sent = record { frame = frame_of sent.modulus path sent.frame; modulus = modulus_named sent.modulus }
+
+abbrev pub sent_frames : Path → List SentIn → List SentFrame
+sent_frames path sent = map (sent_frame path) sent
 
 -- packets as I frames, numbered from a number on
 abbrev pub infos_from : ℕ → ℕ → List Packet → List Sent

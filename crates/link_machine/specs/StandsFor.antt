@@ -8,6 +8,7 @@ use Rattle.link_machine.specs.Machine.{Machine}
 
 pub record StandsFor (held : Held) (m : Machine) : Type 0 where
   pub path : held.path ≡ m.path
+  pub params : held.params ≡ m.params
   pub control : held.control ≡ m.control
   pub outgoing : StandsForOutgoing held.outgoing m.outgoing
   pub incoming : StandsForIncoming held.incoming m.incoming

@@ -7,7 +7,7 @@ use Rattle.link_machine.specs.declared.state.LinkState.TheVariants.{Idle, Callin
 use Rattle.link_machine.specs.declared.fault.LinkFault.{LinkFault}
 use Rattle.link_machine.specs.Done.{Done}
 use Rattle.link_machine.specs.Machine.{Machine}
-use Rattle.link_machine.specs.Sent.{frames_of}
+use Rattle.link_machine.specs.Sent.{sent_frames}
 use Rattle.link_machine.specs.Turn.{Turn, Act, begin, changing, setting, nothing}
 use Rattle.link_machine.specs.Acts.{settle}
 use Rattle.link_machine.specs.Event.{Event}
@@ -44,4 +44,4 @@ step m event = if is_some (refusal_of m event) then begin m else settled (row ev
 
 -- what a step does, its frames as they are written
 abbrev pub done_of : Turn → Done
-done_of turn = record { frames = frames_of turn.now.incoming.modulus turn.now.path turn.sent; told = turn.told }
+done_of turn = record { frames = sent_frames turn.now.path turn.sent; told = turn.told }

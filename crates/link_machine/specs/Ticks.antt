@@ -1,6 +1,6 @@
 -- A tick of 10 ms, and the timers that run out with it (AX.25 2.2 section 6.7.1).
 use Rattle.std.specs.Prelude.{ℕ, ◌+◌, ◌-◌, Bool, true, false, nat_le, if◌then◌else◌, [], ◌∷◌, Option, Some, None}
-use Rattle.ax25_frames.specs.declared.frame.U.TheVariants.{Sabm, Disc}
+use Rattle.ax25_frames.specs.declared.frame.U.TheVariants.{Disc}
 use Rattle.link_machine.specs.declared.state.LinkState.{LinkState}
 use Rattle.link_machine.specs.declared.state.LinkState.TheVariants.{Idle, Calling, Up, Releasing}
 use Rattle.link_machine.specs.declared.acts.Told.TheVariants.{Ended}
@@ -9,7 +9,7 @@ use Rattle.link_machine.specs.declared.control.Control.{Control}
 use Rattle.link_machine.specs.Machine.{t1_ticks, most_retries}
 use Rattle.link_machine.specs.Sent.Sent.{SetupSent}
 use Rattle.link_machine.specs.Turn.{Act, setting, sending, telling, nothing, in_order}
-use Rattle.link_machine.specs.Acts.{respond_ready, poll}
+use Rattle.link_machine.specs.Acts.{respond_ready, send_call, poll}
 use Rattle.link_machine.specs.Frames.{answer_dm, leave, end_call}
 
 -- a tick of a timer with so many ticks left: one that comes to 0 has run out and is off
@@ -45,11 +45,12 @@ is_spent c = nat_le most_retries c.rc
 
 abbrev pub call_again : Act
 call_again turn =
-    if is_spent turn.now.control then end_call Failed turn else in_order (setting retried ∷ sending (SetupSent Sabm true) ∷ []) turn
+    if is_spent turn.now.control then end_call Failed turn else in_order (setting retried ∷ send_call ∷ []) turn
 
+-- the DM that ends a set-up still goes out in its modulus
 abbrev pub poll_again : Act
 poll_again turn =
-    if is_spent turn.now.control then in_order (leave ∷ answer_dm false ∷ telling (Ended Failed) ∷ []) turn
+    if is_spent turn.now.control then in_order (answer_dm false ∷ leave ∷ telling (Ended Failed) ∷ []) turn
     else in_order (setting retried ∷ poll ∷ []) turn
 
 abbrev pub release_again : Act

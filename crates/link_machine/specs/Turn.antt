@@ -3,11 +3,11 @@ use Rattle.std.specs.Prelude.{List, [], ◌∷◌, ◌++◌}
 use Rattle.link_machine.specs.declared.acts.Told.{Told}
 use Rattle.link_machine.specs.declared.control.Control.{Control}
 use Rattle.link_machine.specs.Machine.{Machine}
-use Rattle.link_machine.specs.Sent.{Sent}
+use Rattle.link_machine.specs.Sent.{Sent, SentIn, sent_in}
 
 pub record Turn : Type 0 where
   pub now : Machine
-  pub sent : List Sent
+  pub sent : List SentIn
   pub told : List Told
 
 abbrev pub Act : Type 0
@@ -25,8 +25,9 @@ changing change turn = record turn { now = change turn.now }
 abbrev pub setting : (Control → Control) → Act
 setting change turn = record turn { now = record turn.now { control = change turn.now.control } }
 
+-- a frame goes out, in the modulus that the link then has
 abbrev pub sending : Sent → Act
-sending frame turn = record turn { sent = turn.sent ++ frame ∷ [] }
+sending frame turn = record turn { sent = turn.sent ++ sent_in turn.now.incoming.modulus frame ∷ [] }
 
 abbrev pub telling : Told → Act
 telling item turn = record turn { told = turn.told ++ item ∷ [] }

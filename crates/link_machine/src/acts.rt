@@ -1,5 +1,5 @@
 //! What a link does in one event.
-use ax25_frames::Frame;
+use ax25_frames::{Frame, Modulus};
 use selective_reject::Packet;
 use std::marker::Model;
 
@@ -38,12 +38,22 @@ pub enum Why {
     Failed,
 }
 
+/// A frame that a link sends, and the modulus in which it is written: that of the link when it sends it. The link may
+/// have another one after the same event, since a link that ends falls back to 8.
+#[derive(Debug, Drop)]
+pub struct SentFrame {
+    /// The frame.
+    pub frame: Frame,
+    /// The modulus of its numbers.
+    pub modulus: Modulus,
+}
+
 /// What a link does in one event: the frames that it sends and what it tells the layer above, each in order. Contracts
 /// see both as lists.
 #[derive(Debug, Drop)]
 pub struct Acts {
     /// The frames, to be sent in this order.
-    pub frames: Vec<Frame>,
+    pub frames: Vec<SentFrame>,
     /// What the layer above is told, in this order.
     pub told: Vec<Told>,
 }

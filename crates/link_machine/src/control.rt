@@ -2,7 +2,7 @@
 ghost use Rattle.std.specs.Prelude.{◌≡◌, ◌<◌, ◌&&◌, Bool};
 ghost use Rattle.link_machine.specs.Machine.{fresh_control, in_state, idle_control};
 ghost use Rattle.link_machine.specs.Acts.{timed_by, nothing_due, behind_poll, polling, awaiting, releasing, calling, owing, watching};
-ghost use Rattle.link_machine.specs.Frames.{stopped_t1, stopped};
+ghost use Rattle.link_machine.specs.Frames.{stopped_t1, stopped, unretried_call};
 ghost use Rattle.link_machine.specs.Requests.{has_link, is_closed};
 ghost use Rattle.link_machine.specs.Ticks.{retried, is_spent, unretried};
 
@@ -93,13 +93,21 @@ impl Control {
         self.t3 = Some(T3);
     }
 
-    /// SABM was sent.
+    /// SABM or SABME was sent.
     pub(crate) fn call(&mut self)
         ensures { self.new ≡ calling self.old }
     {
         self.state = LinkState::Calling;
         self.t1 = Some(T1);
         self.t3 = None;
+    }
+
+    /// A call goes on, with all its retries.
+    pub(crate) fn call_anew(&mut self)
+        ensures { self.new ≡ unretried_call self.old }
+    {
+        self.rc = 0;
+        self.t1 = Some(T1);
     }
 
     /// DISC was sent.

@@ -10,11 +10,11 @@ ghost use Rattle.link_machine.specs.Step.{settled};
 ghost use Rattle.link_machine.specs.Room.{frames_left, told_left, Uses};
 ghost use Rattle.link_machine.specs.Held.{IsLink, Shows, outgoing_behind, frames_to_close, sending_packets, send_next};
 
-use crate::machine::{MODULUS, Machine};
+use crate::machine::Machine;
 use crate::room::Room;
 use crate::state::LinkState;
 use ax25_address::Role;
-use ax25_frames::{Frame, Kind};
+use ax25_frames::Kind;
 use selective_reject::Packet;
 use std::alloc::Global;
 use std::collections::VecDeque;
@@ -50,10 +50,10 @@ impl Machine {
         goes_back: bool,
     ) -> Result<VecDeque<Packet>, OutOfMemory>
         requires { acknowledged ≤ length self.now.outgoing.packets }
-        ensures { IfOk result (λ packets. packets.items ≡ in_window self.now.window (outgoing_behind acknowledged goes_back self.now.outgoing)) }
+        ensures { IfOk result (λ packets. packets.items ≡ in_window self.now.incoming.window (outgoing_behind acknowledged goes_back self.now.outgoing)) }
     {
         let first = usize::from(acknowledged);
-        let most = (self.outgoing.len() - first).min(usize::from(self.window));
+        let most = (self.outgoing.len() - first).min(usize::from(self.incoming.window()));
         let sent = self.sent_behind(acknowledged, goes_back);
         let mut packets = VecDeque::new(alloc);
         for place in sent..most {
@@ -80,20 +80,18 @@ impl Machine {
     /// Sends an I frame with the number `ns`.
     pub(crate) fn send_info(&self, room: &mut Room, ns: u8, packet: Packet)
         requires { 1 ≤ frames_left room.old }
-        ensures shows { (t : Turn) (n : ℕ) → Shows self.now room.old t → ns ≡ n % 8
+        ensures shows { (t : Turn) (n : ℕ) → Shows self.now room.old t → ns ≡ n % self.now.incoming.modulus
             → Shows self.now room.new (sending (InfoSent n t.now.incoming.vr packet) t) }
         ensures uses { Uses room.old room.new 1 0 }
     {
-        room.send(Frame {
-            path: self.path.with_role(Role::Command),
-            kind: Kind::Info {
-                ns,
-                nr: self.incoming.vr(),
-                poll: false,
-                pid: packet.pid,
-                octets: packet.octets,
-            },
-        });
+        let kind = Kind::Info {
+            ns,
+            nr: self.incoming.vr(),
+            poll: false,
+            pid: packet.pid,
+            octets: packet.octets,
+        };
+        self.send(room, Role::Command, kind);
     }
 
     /// Sends the packet with number V(S), which rises.
@@ -106,8 +104,9 @@ impl Machine {
         ensures formed { IsLink self.new }
         ensures control { self.new.control ≡ self.old.control }
     {
-        let window = self.window;
-        if let Some(ns) = self.outgoing.next(MODULUS, window) {
+        let modulus = self.incoming.modulus();
+        let window = self.incoming.window();
+        if let Some(ns) = self.outgoing.next(modulus, window) {
             self.send_info(room, ns, packet);
         }
     }

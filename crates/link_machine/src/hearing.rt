@@ -1,17 +1,20 @@
 //! The frames that a link hears where it is not up.
 ghost use Rattle.std.specs.Prelude.{◌≡◌, ℕ, ◌+◌, ◌≤◌, ◌<◌, Bool};
+ghost use Rattle.ax25_frames.specs.ControlField.{IsNumbered};
+ghost use Rattle.ax25_frames.specs.FrameOctets.{control_of};
 ghost use Rattle.ax25_frames.specs.FrameText.{is_command_of};
+ghost use Rattle.link_machine.specs.Machine.{modulus_named};
 ghost use Rattle.link_machine.specs.declared.state.LinkState.TheVariants.{Idle, Calling, Up, Releasing};
 ghost use Rattle.link_machine.specs.Turn.{Turn};
 ghost use Rattle.link_machine.specs.Frames.{hear_idle, hear_calling, hear_releasing, hear_up, hear};
 ghost use Rattle.link_machine.specs.Room.{frames_left, told_left, Uses};
-ghost use Rattle.link_machine.specs.Held.{IsWhole, Shows, Makes, HasNumbersBelow};
+ghost use Rattle.link_machine.specs.Held.{IsWhole, Shows, Makes};
 
 use crate::acts::{Acts, Why};
 use crate::machine::Machine;
 use crate::room::Room;
 use crate::state::LinkState;
-use ax25_frames::{Frame, Kind, U, is_command};
+use ax25_frames::{Frame, Kind, Modulus, U, W, is_command};
 use std::alloc::Global;
 use std::collections::VecDeque;
 use tnc_base::OutOfMemory;
@@ -20,7 +23,7 @@ impl Machine {
     /// Hears a frame.
     pub(crate) fn hear(&mut self, alloc: Global, frame: &Frame) -> Result<Acts, OutOfMemory>
         requires formed { IsWhole self.old }
-        requires numbers { HasNumbersBelow 8 frame.now.kind }
+        requires numbers { IsNumbered (modulus_named self.old.incoming.modulus) (control_of frame.now.kind) }
         ensures { Makes (hear (is_command_of frame.now.path.role frame.now.kind) frame.now.kind) self.old self.new result }
     {
         let command = is_command(frame);
@@ -50,8 +53,9 @@ impl Machine {
     {
         match kind {
             Kind::Setup { which, flag } => match which {
-                U::Sabm => self.open_called(room, *flag),
-                U::Sabme | U::Disc => self.send_setup(room, U::Dm, *flag),
+                U::Sabm => self.open_called(room, Modulus::Eight, *flag),
+                U::Sabme => self.open_called(room, Modulus::OneTwentyEight, *flag),
+                U::Disc => self.send_setup(room, U::Dm, *flag),
                 U::Dm | U::Ua => {}
             },
             Kind::Info { poll, .. } => self.send_setup(room, U::Dm, *poll),
@@ -79,14 +83,18 @@ impl Machine {
         ensures shows { (t : Turn) → Shows self.old room.old t → Shows self.new room.new (hear_calling kind.now t) }
         ensures uses { Uses room.old room.new 1 1 }
     {
+        let wide = self.is_wide();
         match kind {
             Kind::Setup { which, flag } => match which {
+                U::Sabm if wide => {}
+                U::Sabme if wide => self.send_setup(room, U::Ua, *flag),
                 U::Sabm => self.send_setup(room, U::Ua, *flag),
                 U::Sabme | U::Disc => self.send_setup(room, U::Dm, *flag),
                 U::Dm if *flag => self.end_call(room, Why::Refused),
                 U::Ua if *flag => self.open_answered(room),
                 U::Dm | U::Ua => {}
             },
+            Kind::Other { which: W::Frmr, .. } if wide => self.call_narrow(room),
             Kind::Info { .. } | Kind::Super { .. } | Kind::Ui { .. } | Kind::Other { .. } => {}
         }
     }

@@ -2,21 +2,23 @@
 ghost use Rattle.std.specs.Prelude.{◌≡◌, ℕ, ◌+◌, ◌≤◌, ◌<◌, ◌&&◌, not, true, Bool};
 ghost use Rattle.link_machine.specs.declared.state.LinkState.TheVariants.{Up};
 ghost use Rattle.std.specs.Prelude.{if◌then◌else◌};
-ghost use Rattle.link_machine.specs.Machine.{Machine as State, is_valid, named};
+ghost use Rattle.ax25_frames.specs.ControlField.{IsNumbered, numbers};
+ghost use Rattle.ax25_frames.specs.FrameOctets.{control_of};
+ghost use Rattle.link_machine.specs.Machine.{Machine as State, is_valid, named, modulus_named};
 ghost use Rattle.link_machine.specs.Turn.{Turn, nothing};
 ghost use Rattle.std.specs.Prelude.{◌%◌, ◌||◌, Ok, IfOk};
 ghost use Rattle.std.specs.Option.{option_to_list};
 ghost use Rattle.selective_reject.specs.Outgoing.{acknowledgement, sent_packet};
 ghost use Rattle.link_machine.specs.Acts.{reset, send_again, sent_packet as asked_packets};
-ghost use Rattle.link_machine.specs.Frames.{answer_dm, open_again, end_by_disc, end_by_dm, hear_rr, hear_rnr, hear_rej, hear_srej, hear_supervisory, acknowledged_by_srej, hear_info, hear_up};
+ghost use Rattle.link_machine.specs.Frames.{open_again, end_by_disc, end_by_dm, hear_rr, hear_rnr, hear_rej, hear_srej, hear_supervisory, acknowledged_by_srej, hear_info, hear_up};
 ghost use Rattle.link_machine.specs.Room.{frames_left, told_left, Uses};
-ghost use Rattle.link_machine.specs.Held.{IsLink, IsWhole, Holds, Shows, Makes, HasNumbersBelow, hear_numbered, hear_supervisory_of};
+ghost use Rattle.link_machine.specs.Held.{IsLink, IsWhole, Holds, Shows, Makes, hear_numbered, hear_supervisory_of};
 
 use crate::acts::Acts;
 use crate::flushing::copy_of;
-use crate::machine::{MODULUS, Machine};
+use crate::machine::Machine;
 use crate::room::Room;
-use ax25_frames::{Kind, S, U, W};
+use ax25_frames::{Kind, Modulus, S, U, W};
 use selective_reject::{Mode, Packet};
 use std::alloc::Global;
 use tnc_base::{Octets, OutOfMemory};
@@ -53,13 +55,13 @@ impl Machine {
     ) -> Result<Acts, OutOfMemory>
         requires formed { IsWhole self.old }
         requires state { self.old.control.state ≡ Up }
-        requires numbers { HasNumbersBelow 8 kind.now }
+        requires numbers { IsNumbered (modulus_named self.old.incoming.modulus) (control_of kind.now) }
         ensures { Makes (hear_up command kind.now) self.old self.new result }
     {
         match kind {
             Kind::Setup { which, flag } => match which {
-                U::Sabm => self.hear_sabm(alloc, *flag),
-                U::Sabme => self.hear_sabme(alloc, *flag),
+                U::Sabm => self.hear_call(alloc, Modulus::Eight, *flag),
+                U::Sabme => self.hear_call(alloc, Modulus::OneTwentyEight, *flag),
                 U::Disc => self.hear_disc(alloc, *flag),
                 U::Dm => self.hear_dm(alloc),
                 U::Ua => self.hear_nothing(alloc),
@@ -79,25 +81,19 @@ impl Machine {
         }
     }
 
-    fn hear_sabm(&mut self, alloc: Global, flag: bool) -> Result<Acts, OutOfMemory>
+    /// SABM, or SABME where the modulus is 128.
+    fn hear_call(
+        &mut self,
+        alloc: Global,
+        modulus: Modulus,
+        flag: bool,
+    ) -> Result<Acts, OutOfMemory>
         requires formed { IsWhole self.old }
         requires state { self.old.control.state ≡ Up }
-        ensures { Makes (open_again flag) self.old self.new result }
+        ensures { Makes (open_again (numbers modulus) flag) self.old self.new result }
     {
         let mut room = Room::new(alloc, 1, 2)?;
-        self.open_again(&mut room, flag);
-        Ok(room.finish())
-    }
-
-    fn hear_sabme(&mut self, alloc: Global, flag: bool) -> Result<Acts, OutOfMemory>
-        requires formed { IsWhole self.old }
-        requires state { self.old.control.state ≡ Up }
-        ensures { Makes (answer_dm flag) self.old self.new result }
-    {
-        let packets = self.copies_to_send(alloc, 0, false)?;
-        let mut room = Room::new(alloc, packets.len() + 2, 0)?;
-        self.send_setup(&mut room, U::Dm, flag);
-        self.settle(&mut room, packets);
+        self.open_again(&mut room, modulus, flag);
         Ok(room.finish())
     }
 
@@ -150,10 +146,10 @@ impl Machine {
         flag: bool,
     ) -> Result<Acts, OutOfMemory>
         requires formed { IsWhole self.old }
-        requires number { nr < 8 }
+        requires number { nr < self.old.incoming.modulus }
         ensures { Makes (hear_numbered nr (hear_supervisory_of which command flag)) self.old self.new result }
     {
-        let Ok(count) = self.outgoing.acknowledgement(MODULUS, nr) else {
+        let Ok(count) = self.outgoing.acknowledgement(self.incoming.modulus(), nr) else {
             return self.hear_error(alloc);
         };
         let asks = is_asking(command, flag);
@@ -175,8 +171,8 @@ impl Machine {
         answers: bool,
     ) -> Result<Acts, OutOfMemory>
         requires formed { IsWhole self.old }
-        requires number { nr < 8 }
-        requires valid { acknowledgement 8 nr self.old.outgoing ≡ Ok count }
+        requires number { nr < self.old.incoming.modulus }
+        requires valid { acknowledgement self.old.incoming.modulus nr self.old.outgoing ≡ Ok count }
         ensures { Makes (λ t. hear_rr (named nr t.now) asks answers t) self.old self.new result }
     {
         let recovers = self.control.recovers(answers);
@@ -188,7 +184,7 @@ impl Machine {
     }
 
     fn take_rr(&mut self, room: &mut Room, nr: u8, asks: bool, answers: bool)
-        requires number { nr < 8 }
+        requires number { nr < self.old.incoming.modulus }
         requires room { 1 ≤ frames_left room.old }
         ensures shows { (t : Turn) → Shows self.old room.old t → is_valid nr t.now ≡ true
             → Shows self.new room.new (hear_rr (named nr t.now) asks answers t) }
@@ -209,8 +205,8 @@ impl Machine {
         answers: bool,
     ) -> Result<Acts, OutOfMemory>
         requires formed { IsWhole self.old }
-        requires number { nr < 8 }
-        requires valid { acknowledgement 8 nr self.old.outgoing ≡ Ok count }
+        requires number { nr < self.old.incoming.modulus }
+        requires valid { acknowledgement self.old.incoming.modulus nr self.old.outgoing ≡ Ok count }
         ensures { Makes (λ t. hear_rnr (named nr t.now) asks answers t) self.old self.new result }
     {
         let recovers = self.control.recovers(answers);
@@ -222,7 +218,7 @@ impl Machine {
     }
 
     fn take_rnr(&mut self, room: &mut Room, nr: u8, asks: bool, answers: bool)
-        requires number { nr < 8 }
+        requires number { nr < self.old.incoming.modulus }
         requires room { 1 ≤ frames_left room.old }
         ensures shows { (t : Turn) → Shows self.old room.old t → is_valid nr t.now ≡ true
             → Shows self.new room.new (hear_rnr (named nr t.now) asks answers t) }
@@ -244,8 +240,8 @@ impl Machine {
         answers: bool,
     ) -> Result<Acts, OutOfMemory>
         requires formed { IsWhole self.old }
-        requires number { nr < 8 }
-        requires valid { acknowledgement 8 nr self.old.outgoing ≡ Ok count }
+        requires number { nr < self.old.incoming.modulus }
+        requires valid { acknowledgement self.old.incoming.modulus nr self.old.outgoing ≡ Ok count }
         ensures { Makes (λ t. hear_rej (named nr t.now) asks answers t) self.old self.new result }
     {
         let packets = self.copies_to_send(alloc, count, true)?;
@@ -256,7 +252,7 @@ impl Machine {
     }
 
     fn take_rej(&mut self, room: &mut Room, nr: u8, asks: bool, answers: bool)
-        requires number { nr < 8 }
+        requires number { nr < self.old.incoming.modulus }
         requires room { 1 ≤ frames_left room.old }
         ensures shows { (t : Turn) → Shows self.old room.old t → is_valid nr t.now ≡ true
             → Shows self.new room.new (hear_rej (named nr t.now) asks answers t) }
@@ -280,8 +276,8 @@ impl Machine {
         answers: bool,
     ) -> Result<Acts, OutOfMemory>
         requires formed { IsWhole self.old }
-        requires number { nr < 8 }
-        requires valid { acknowledgement 8 nr self.old.outgoing ≡ Ok count }
+        requires number { nr < self.old.incoming.modulus }
+        requires valid { acknowledgement self.old.incoming.modulus nr self.old.outgoing ≡ Ok count }
         ensures { Makes (λ t. hear_srej (named nr t.now) flag asks answers t) self.old self.new result }
     {
         let again = self.copy_asked(alloc, nr)?;
@@ -295,10 +291,10 @@ impl Machine {
 
     /// A copy of the packet that an SREJ asks for, where it was sent.
     fn copy_asked(&self, alloc: Global, nr: u8) -> Result<Option<Packet>, OutOfMemory>
-        requires { nr < 8 }
-        ensures { IfOk result (λ again. again ≡ sent_packet 8 nr self.now.outgoing) }
+        requires { nr < self.now.incoming.modulus }
+        ensures { IfOk result (λ again. again ≡ sent_packet self.now.incoming.modulus nr self.now.outgoing) }
     {
-        match self.outgoing.one(MODULUS, nr) {
+        match self.outgoing.one(self.incoming.modulus(), nr) {
             Some(packet) => Ok(Some(copy_of(alloc, packet)?)),
             None => Ok(None),
         }
@@ -313,9 +309,9 @@ impl Machine {
         answers: bool,
         again: Option<Packet>,
     )
-        requires number { nr < 8 }
+        requires number { nr < self.old.incoming.modulus }
         requires room { 2 ≤ frames_left room.old }
-        ensures shows { (t : Turn) → Shows self.old room.old t → is_valid nr t.now ≡ true → again ≡ sent_packet 8 nr self.old.outgoing
+        ensures shows { (t : Turn) → Shows self.old room.old t → is_valid nr t.now ≡ true → again ≡ sent_packet self.old.incoming.modulus nr self.old.outgoing
             → Shows self.new room.new (hear_srej (named nr t.now) flag asks answers t) }
         ensures uses { Uses room.old room.new 2 0 }
     {
@@ -328,7 +324,7 @@ impl Machine {
 
     /// SREJ acknowledges with P/F = 1 alone.
     fn acknowledge_by_srej(&mut self, nr: u8, flag: bool)
-        requires { nr < 8 }
+        requires { nr < self.old.incoming.modulus }
         ensures { (m : State) → Holds self.old m → is_valid nr m ≡ true → Holds self.new (acknowledged_by_srej (named nr m) flag m) }
     {
         if flag {
@@ -339,7 +335,7 @@ impl Machine {
     /// Sends again the I frame that an SREJ asks for, where it was sent.
     fn send_again(&mut self, room: &mut Room, nr: u8, again: Option<Packet>)
         requires { 1 ≤ frames_left room.old }
-        ensures shows { (t : Turn) (n : ℕ) → Shows self.old room.old t → nr ≡ n % 8 → t.now.outgoing.va ≤ n
+        ensures shows { (t : Turn) (n : ℕ) → Shows self.old room.old t → nr ≡ n % self.old.incoming.modulus → t.now.outgoing.va ≤ n
             → option_to_list again ≡ asked_packets n t.now.outgoing → Shows self.new room.new (send_again n t) }
         ensures uses { Uses room.old room.new 1 0 }
     {
@@ -364,11 +360,11 @@ impl Machine {
         octets: &Octets,
     ) -> Result<Acts, OutOfMemory>
         requires formed { IsWhole self.old }
-        requires send_number { ns < 8 }
-        requires receive_number { nr < 8 }
+        requires send_number { ns < self.old.incoming.modulus }
+        requires receive_number { nr < self.old.incoming.modulus }
         ensures { Makes (hear_numbered nr (λ n. hear_info n ns flag (record { pid = pid; octets = octets.now }))) self.old self.new result }
     {
-        let Ok(count) = self.outgoing.acknowledgement(MODULUS, nr) else {
+        let Ok(count) = self.outgoing.acknowledgement(self.incoming.modulus(), nr) else {
             return self.hear_error(alloc);
         };
         let packet = Packet {
@@ -376,7 +372,7 @@ impl Machine {
             octets: Octets::from_slice(alloc, octets.as_slice())?,
         };
         let packets = self.copies_to_send(alloc, count, false)?;
-        let window = usize::from(self.window);
+        let window = usize::from(self.incoming.window());
         let mut room = Room::new(alloc, packets.len() + window + 2, window)?;
         self.take_info(&mut room, ns, nr, flag, packet);
         self.settle(&mut room, packets);
@@ -385,16 +381,16 @@ impl Machine {
 
     fn take_info(&mut self, room: &mut Room, ns: u8, nr: u8, flag: bool, packet: Packet)
         requires formed { IsLink self.old }
-        requires send_number { ns < 8 }
-        requires receive_number { nr < 8 }
-        requires frames { self.old.window + 1 ≤ frames_left room.old }
-        requires told { self.old.window ≤ told_left room.old }
+        requires send_number { ns < self.old.incoming.modulus }
+        requires receive_number { nr < self.old.incoming.modulus }
+        requires frames { self.old.incoming.window + 1 ≤ frames_left room.old }
+        requires told { self.old.incoming.window ≤ told_left room.old }
         ensures shows { (t : Turn) → Shows self.old room.old t → is_valid nr t.now ≡ true
             → Shows self.new room.new (hear_info (named nr t.now) ns flag packet t) }
-        ensures uses { Uses room.old room.new (self.old.window + 1) self.old.window }
+        ensures uses { Uses room.old room.new (self.old.incoming.window + 1) self.old.incoming.window }
     {
         self.acknowledge(nr);
-        match self.mode {
+        match self.incoming.mode() {
             Mode::Rej => self.take_by_rej(room, ns, flag, packet),
             Mode::Srej => self.take_by_srej(room, ns, flag, packet),
         }

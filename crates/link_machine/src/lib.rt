@@ -1,4 +1,4 @@
-//! One link of AX.25 2.2 (sections 4, 6), modulo 8, as a machine without a clock of its own: each call is one event, a
+//! One link of AX.25 2.2 (sections 4, 6), modulo 8 or 128, as a machine without a clock of its own: each call is one event, a
 //! request of the layer above, a frame heard or a tick of 10 ms, and answers the frames that are sent and what the layer
 //! above is told. Lost I frames are asked for again by REJ or by SREJ. Every call makes exactly the step of the link's
 //! table, and one that is refused or finds no memory changes nothing.
@@ -6,6 +6,11 @@
 //! ```text
 //! A call                        A                         B
 //!   connect                     | -- SABM P=1 ----------> |  told: opened
+//!   told: opened, ours          | <----------- UA F=1 --- |
+//! A wide call of a side that knows modulo 8 alone
+//!   connect                     | -- SABME P=1 ---------> |
+//!                               | <--------- FRMR F=1 --- |
+//!                               | -- SABM P=1 ----------> |  told: opened
 //!   told: opened, ours          | <----------- UA F=1 --- |
 //! Data
 //!   send                        | -- I ns=0 nr=0 -------> |  told: given
@@ -38,7 +43,12 @@
 //! - At the last retry a link that is up sends DM with F = 0 and ends (section 6.7.2). There are ten retries.
 //! - FRMR is never sent. A frame with an invalid N(R), and an FRMR heard, end the set-up, and this side calls anew (section
 //!   6.5).
-//! - RNR is never sent, and SABME is answered by DM: there is no modulo 128 yet (section 6.3.1).
+//! - RNR is never sent.
+//! - Every link answers SABM and SABME, and takes the modulus of the one that it hears; `wide` says how it calls itself.
+//!   FRMR in reply to SABME brings SABM, with all retries anew (section 6.3.1).
+//! - While a wide call is under way SABM is passed over: the other side hears the SABME, and answers it by DM or FRMR. SABME
+//!   is answered by DM while a call modulo 8 is under way.
+//! - A link that is not there counts modulo 8. The frame that ends a set-up is written in the modulus of that set-up.
 //! - A packet that is given while the call is under way belongs to the set-up that follows.
 //! - T1 stands still while a frame of the link waits in the transmit queue, since no answer can be expected (section 6.7.1).
 #![tactic(auto)]
@@ -62,10 +72,10 @@ mod state;
 mod tests;
 mod ticks;
 
-pub use acts::{Acts, Told, Why};
+pub use acts::{Acts, SentFrame, Told, Why};
 pub use control::Control;
 pub use fault::{LinkFault, NewFault};
 pub use link::Link;
 pub use machine::Machine;
-pub use params::Params;
+pub use params::{FittingParams, Params};
 pub use state::LinkState;

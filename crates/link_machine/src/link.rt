@@ -1,15 +1,14 @@
 //! A link, as the layer above sees it.
 ghost use Rattle.std.specs.Prelude.{◌≡◌, ℕ, ◌<◌, ◌⊎◌, ◌↔◌, true, Bool, Ok, Err, Some, OnOk, OnErr, IfOk, IfErr, length};
 ghost use Rattle.std.specs.Result.{IsErrOf};
-ghost use Rattle.selective_reject.specs.Window.{IsBadWindow};
 
 use crate::acts::Acts;
 use crate::fault::{LinkFault, NewFault};
-use crate::machine::{MODULUS, Machine};
+use crate::machine::Machine;
 use crate::params::Params;
 use crate::state::LinkState;
 use ax25_address::Path;
-use ax25_frames::Frame;
+use ax25_frames::{Frame, Modulus};
 use selective_reject::Packet;
 use std::alloc::Global;
 use std::marker::Model;
@@ -41,20 +40,24 @@ impl Model for Link {
 }
 
 impl Link {
-    ghost use Rattle.link_machine.specs.Machine.{Machine as State, new_machine};
+    ghost use Rattle.ax25_frames.specs.ControlField.{IsNumbered};
+    ghost use Rattle.ax25_frames.specs.FrameOctets.{control_of};
+    ghost use Rattle.link_machine.specs.Params.{HasWindows, IsRefusedWindow};
+    ghost use Rattle.link_machine.specs.Machine.{Machine as State, new_machine, modulus_named};
     ghost use Rattle.link_machine.specs.Event.Event.{Connect, Send, Disconnect, Hear, Tick};
     ghost use Rattle.link_machine.specs.Requests.{refusal};
     ghost use Rattle.link_machine.specs.Step.{step, done_of};
     ghost use Rattle.link_machine.specs.StandsFor.{StandsFor};
-    ghost use Rattle.link_machine.specs.Held.{HasNumbersBelow};
     ghost use Rattle.link_machine.specs.declared.fault.LinkFault.{LinkFault};
 
     /// An idle link on a path, which goes from this station to the other. It takes its memory from `alloc`, now the places
-    /// of its packets, and later for what it answers.
+    /// of its packets in both moduli, and later for what it answers. Refuses the first of `window` and `wide_window` that
+    /// does not fit its modulus.
     pub fn new(alloc: Global, params: Params, path: Path) -> Result<Link, NewFault>
-        ensures stands_for { IfOk result (λ link. StandsFor link (new_machine path 8 params.window params.mode)) }
+        ensures stands_for { IfOk result (λ link. StandsFor link (new_machine path params)) }
+        ensures windows { OnOk result (HasWindows params) }
         ensures bad_window { (window : ℕ) → IsErrOf result (NewFault.BadWindow window)
-            ↔ ((window ≡ params.window) × IsBadWindow 8 params.window params.mode) }
+            ↔ IsRefusedWindow params window }
     {
         match Machine::new(alloc, params, path) {
             Ok(machine) => Ok(Link { alloc, machine }),
@@ -116,9 +119,10 @@ impl Link {
         Ok(acts)
     }
 
-    /// Hears a frame from the other station, whose numbers are below 8.
+    /// Hears a frame from the other station, whose numbers are below the link's modulus, as [`ax25_frames::read_frame`] in
+    /// that modulus gives it.
     pub fn frame(&mut self, frame: &Frame) -> Result<Acts, OutOfMemory>
-        requires { HasNumbersBelow 8 frame.now.kind }
+        requires { IsNumbered (modulus_named self.old.incoming.modulus) (control_of frame.now.kind) }
         ensures step { (m : State) → StandsFor self.old m → IfOk result (λ acts. acts ≡ done_of (step m (Hear frame.now))) }
         ensures stands_for { (m : State) → StandsFor self.old m → OnOk result (StandsFor self.new (step m (Hear frame.now)).now) }
         ensures unchanged { OnErr result (self.new ≡ self.old) }
@@ -141,6 +145,14 @@ impl Link {
         ensures stands_for { (m : State) → StandsFor self.now m → result ≡ m.control.state }
     {
         self.machine.control.state
+    }
+
+    /// The modulus of its numbers: that of the set-up, or of the call; 8 where there is none.
+    pub fn modulus(&self) -> Modulus
+        ensures modulus { result ≡ modulus_named self.now.incoming.modulus }
+        ensures stands_for { (m : State) → StandsFor self.now m → result ≡ modulus_named m.incoming.modulus }
+    {
+        self.machine.modulus()
     }
 
     /// How many packets are not acknowledged.

@@ -1,71 +1,72 @@
 //! What a link keeps, and the acts that change it without a word.
-ghost use Rattle.std.specs.Prelude.{◌≡◌, ℕ, ◌<◌, ◌≤◌, true, Bool, IfOk};
-ghost use Rattle.std.specs.Prelude.{◌↔◌};
+ghost use Rattle.std.specs.Prelude.{◌≡◌, ℕ, ◌<◌, ◌≤◌, ◌↔◌, ◌==◌, true, Bool, IfOk, OnOk};
 ghost use Rattle.std.specs.Result.{IsErrOf};
-ghost use Rattle.selective_reject.specs.Window.{IsBadWindow};
+ghost use Rattle.ax25_frames.specs.ControlField.{numbers};
+ghost use Rattle.selective_reject.specs.Numbers.{IsModulus};
+ghost use Rattle.link_machine.specs.Params.{HasWindows, IsRefusedWindow};
 ghost use Rattle.link_machine.specs.StandsFor.{StandsFor};
-ghost use Rattle.link_machine.specs.Machine.{Machine as State, fresh, emptied, unquit, is_valid, named, new_machine};
+ghost use Rattle.link_machine.specs.Machine.{Machine as State, fresh, emptied, in_modulus, narrowed, unquit, is_valid, named, modulus_named, new_machine};
 ghost use Rattle.link_machine.specs.Turn.{Turn, changing};
 ghost use Rattle.link_machine.specs.Acts.{acknowledged, gone_back, recover};
-ghost use Rattle.link_machine.specs.Held.{IsLink, IsWhole, Holds, Shows, new_fault_of};
+ghost use Rattle.link_machine.specs.Held.{IsLink, IsWhole, Holds, Shows};
 ghost use Rattle.link_machine.specs.declared.room.Room.{Room};
 
 use crate::control::Control;
 use crate::fault::{LinkFault, NewFault};
-use crate::params::Params;
+use crate::params::{FittingParams, Params};
 use ax25_address::Path;
-use selective_reject::{InStore, Mode, OutStore, StoreFault};
+use ax25_frames::Modulus;
+use selective_reject::{BadWindow, InStore, OutStore};
 use std::alloc::Global;
-
-/// How many sequence numbers there are.
-pub(crate) const MODULUS: u8 = 8;
 
 /// What a link keeps: its path and its variables. Numbers are kept modulo the modulus.
 #[derive(Drop)]
 pub struct Machine {
     /// From this side to the other.
     pub path: Path,
-    /// How lost frames are asked for.
-    pub mode: Mode,
-    /// The most I frames that are sent and not acknowledged, k.
-    pub window: u8,
+    /// What the link was made with.
+    pub params: FittingParams,
     /// The state, the conditions, the retries and the timers.
     pub control: Control,
     /// V(A), V(S) and the packets that are not acknowledged.
     pub outgoing: OutStore,
-    /// V(R) and the packets that came before their turn.
+    /// V(R), the packets that came before their turn, the modulus, k, and how lost frames are asked for.
     pub incoming: InStore,
 }
 
-/// Why no link is made, where a store of it is refused.
-fn refusal_of(fault: StoreFault) -> NewFault
-    ensures { result ≡ new_fault_of fault }
+/// How many sequence numbers a modulus has.
+fn numbers(modulus: Modulus) -> u8
+    ensures value { result ≡ numbers modulus }
+    ensures known { IsModulus result }
 {
-    match fault {
-        StoreFault::BadWindow { window } => NewFault::BadWindow { window },
-        StoreFault::Memory => NewFault::Memory,
+    match modulus {
+        Modulus::Eight => 8,
+        Modulus::OneTwentyEight => 128,
     }
 }
 
 impl Machine {
     /// An idle link on a path.
     pub(crate) fn new(alloc: Global, params: Params, path: Path) -> Result<Machine, NewFault>
-        ensures stands_for { IfOk result (λ machine. StandsFor machine (new_machine path 8 params.window params.mode)) }
+        ensures stands_for { IfOk result (λ machine. StandsFor machine (new_machine path params)) }
         ensures whole { IfOk result IsWhole }
+        ensures windows { OnOk result (HasWindows params) }
         ensures bad_window { (window : ℕ) → IsErrOf result (NewFault.BadWindow window)
-            ↔ ((window ≡ params.window) × IsBadWindow 8 params.window params.mode) }
+            ↔ IsRefusedWindow params window }
     {
-        let incoming = match InStore::new(alloc, MODULUS, params.window, params.mode) {
-            Ok(incoming) => incoming,
-            Err(fault) => return Err(refusal_of(fault)),
+        let fitting = match FittingParams::check(params) {
+            Ok(fitting) => fitting,
+            Err(BadWindow { window }) => return Err(NewFault::BadWindow { window }),
+        };
+        let Ok(incoming) = InStore::new(alloc, 8, params.window, params.mode) else {
+            return Err(NewFault::Memory);
         };
         let Ok(outgoing) = OutStore::new(alloc) else {
             return Err(NewFault::Memory);
         };
         Ok(Machine {
             path,
-            mode: params.mode,
-            window: params.window,
+            params: fitting,
             control: Control::idle(),
             outgoing,
             incoming,
@@ -82,8 +83,44 @@ impl Machine {
         }
     }
 
-    /// The numbers, conditions and timers of a set-up that begins. What was given to be sent stays, and so does a wish to
-    /// disconnect.
+    /// Whether numbers are modulo 128.
+    pub(crate) fn is_wide(&self) -> bool
+        ensures { result ≡ (self.now.incoming.modulus == 128) }
+    {
+        self.incoming.modulus() == 128
+    }
+
+    /// The modulus of its numbers.
+    pub(crate) fn modulus(&self) -> Modulus
+        ensures { result ≡ modulus_named self.now.incoming.modulus }
+    {
+        if self.is_wide() {
+            Modulus::OneTwentyEight
+        } else {
+            Modulus::Eight
+        }
+    }
+
+    /// Counts in a modulus from here on, in its window. V(R) is 0, and nothing is stored or asked for.
+    pub(crate) fn count_in(&mut self, modulus: Modulus)
+        ensures holds { (m : State) → Holds self.old m → Holds self.new (in_modulus (numbers modulus) m) }
+        ensures control { self.new.control ≡ self.old.control }
+    {
+        let window = self.params.window_in(modulus);
+        self.incoming
+            .begin(numbers(modulus), window, self.params.mode());
+    }
+
+    /// Counts modulo 8, as a link that is not there does.
+    pub(crate) fn narrow(&mut self)
+        ensures holds { (m : State) → Holds self.old m → Holds self.new (narrowed m) }
+        ensures control { self.new.control ≡ self.old.control }
+    {
+        self.count_in(Modulus::Eight);
+    }
+
+    /// The numbers, conditions and timers of a set-up that begins. What was given to be sent stays, and so do the modulus
+    /// and a wish to disconnect.
     pub(crate) fn begin(&mut self)
         ensures { (m : State) → Holds self.old m → Holds self.new (fresh m) }
     {
@@ -103,14 +140,12 @@ impl Machine {
 
     /// Takes a valid N(R) as an acknowledgement.
     pub(crate) fn acknowledge(&mut self, nr: u8)
-        requires { nr < 8 }
+        requires { nr < self.old.incoming.modulus }
         ensures holds { (m : State) → Holds self.old m → is_valid nr m ≡ true → Holds self.new (acknowledged (named nr m) m) }
         ensures formed { IsLink self.old → IsLink self.new }
         ensures incoming { self.new.incoming ≡ self.old.incoming }
-        ensures mode { self.new.mode ≡ self.old.mode }
-        ensures window { self.new.window ≡ self.old.window }
     {
-        if let Ok(count) = self.outgoing.acknowledge(MODULUS, nr) {
+        if let Ok(count) = self.outgoing.acknowledge(self.incoming.modulus(), nr) {
             let all = !self.outgoing.is_waiting();
             self.control.acknowledge(count > 0, all);
         }

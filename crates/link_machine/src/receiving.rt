@@ -14,7 +14,7 @@ use crate::acts::Told;
 use crate::machine::Machine;
 use crate::room::Room;
 use ax25_address::Role;
-use ax25_frames::{Frame, Kind, S};
+use ax25_frames::{Kind, S};
 use selective_reject::{InStore, Mode, Packet, Took};
 
 /// Gives the packet with number V(R), where it is there.
@@ -52,7 +52,7 @@ impl Machine {
     /// Takes an I frame by REJ: gives its packet where it is the next, and tells whether it is.
     fn receive_in_sequence(&mut self, room: &mut Room, ns: u8, packet: Packet) -> bool
         requires formed { IsLink self.old }
-        requires number { ns < 8 }
+        requires number { ns < self.old.incoming.modulus }
         requires room { 1 ≤ told_left room.old }
         ensures next { (t : Turn) → Shows self.old room.old t → t.now.incoming.mode ≡ Mode.Rej → result ≡ (ahead_of_vr ns t.now == 0) }
         ensures shows { (t : Turn) → Shows self.old room.old t → t.now.incoming.mode ≡ Mode.Rej
@@ -71,7 +71,7 @@ impl Machine {
     /// Takes an I frame by REJ.
     pub(crate) fn take_by_rej(&mut self, room: &mut Room, ns: u8, flag: bool, packet: Packet)
         requires formed { IsLink self.old }
-        requires number { ns < 8 }
+        requires number { ns < self.old.incoming.modulus }
         requires frames { 1 ≤ frames_left room.old }
         requires told { 1 ≤ told_left room.old }
         ensures shows { (t : Turn) → Shows self.old room.old t → t.now.incoming.mode ≡ Mode.Rej
@@ -105,7 +105,7 @@ impl Machine {
     /// Sends an SREJ for each of the numbers.
     fn send_srejs(&self, room: &mut Room, numbers: &[u8])
         requires { length numbers.now ≤ frames_left room.old }
-        ensures frames { room.new.frames.items ≡ room.old.frames.items ++ map (srej_frame self.now.path) numbers.now }
+        ensures frames { room.new.frames.items ≡ room.old.frames.items ++ map (srej_frame self.now) numbers.now }
         ensures told { room.new.told ≡ room.old.told }
         ensures uses { Uses room.old room.new (length numbers.now) 0 }
     {
@@ -117,25 +117,23 @@ impl Machine {
     /// Sends an SREJ.
     fn send_srej(&self, room: &mut Room, nr: u8)
         requires { 1 ≤ frames_left room.old }
-        ensures frames { room.new.frames.items ≡ room.old.frames.items ++ srej_frame self.now.path nr ∷ [] }
+        ensures frames { room.new.frames.items ≡ room.old.frames.items ++ srej_frame self.now nr ∷ [] }
         ensures told { room.new.told ≡ room.old.told }
         ensures uses { Uses room.old room.new 1 0 }
     {
-        room.send(Frame {
-            path: self.path.with_role(Role::Response),
-            kind: Kind::Super {
-                which: S::Srej,
-                nr,
-                flag: false,
-            },
-        });
+        let kind = Kind::Super {
+            which: S::Srej,
+            nr,
+            flag: false,
+        };
+        self.send(room, Role::Response, kind);
     }
 
     /// Asks by SREJ for what is missing before the frame `ns`, which is in the window and is stored.
     fn ask(&mut self, room: &mut Room, ns: u8)
         requires formed { IsLink self.old }
         requires mode { self.old.incoming.mode ≡ Mode.Srej }
-        requires number { ns < 8 }
+        requires number { ns < self.old.incoming.modulus }
         requires room { self.old.incoming.window ≤ frames_left room.old }
         ensures shows { (t : Turn) → Shows self.old room.old t → ahead_of_vr ns t.now < t.now.incoming.window
             → Shows self.new room.new (ask (ahead_of_vr ns t.now) t) }
@@ -150,7 +148,7 @@ impl Machine {
     fn receive_selected(&mut self, room: &mut Room, ns: u8, packet: Packet)
         requires formed { IsLink self.old }
         requires mode { self.old.incoming.mode ≡ Mode.Srej }
-        requires number { ns < 8 }
+        requires number { ns < self.old.incoming.modulus }
         requires frames { self.old.incoming.window ≤ frames_left room.old }
         requires told { self.old.incoming.window ≤ told_left room.old }
         ensures shows { (t : Turn) → Shows self.old room.old t
@@ -168,7 +166,7 @@ impl Machine {
     pub(crate) fn take_by_srej(&mut self, room: &mut Room, ns: u8, flag: bool, packet: Packet)
         requires formed { IsLink self.old }
         requires mode { self.old.incoming.mode ≡ Mode.Srej }
-        requires number { ns < 8 }
+        requires number { ns < self.old.incoming.modulus }
         requires frames { self.old.incoming.window + 1 ≤ frames_left room.old }
         requires told { self.old.incoming.window ≤ told_left room.old }
         ensures shows { (t : Turn) → Shows self.old room.old t → Shows self.new room.new (hear_info_by_srej ns flag packet t) }

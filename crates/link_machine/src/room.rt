@@ -2,15 +2,14 @@
 ghost use Rattle.std.specs.Prelude.{◌≡◌, ℕ, ◌+◌, ◌≤◌, [], ◌∷◌, ◌++◌, IfOk, vec_len, vec_capacity};
 ghost use Rattle.link_machine.specs.Room.{frames_left, told_left, HasRoom, Uses};
 
-use crate::acts::{Acts, Told};
-use ax25_frames::Frame;
+use crate::acts::{Acts, SentFrame, Told};
 use std::alloc::Global;
 use tnc_base::OutOfMemory;
 
 /// The frames and told items of an event so far, and room for more.
 #[derive(Drop)]
 pub(crate) struct Room {
-    pub(crate) frames: Vec<Frame>,
+    pub(crate) frames: Vec<SentFrame>,
     pub(crate) told: Vec<Told>,
 }
 
@@ -26,7 +25,7 @@ impl Room {
     }
 
     /// Sends a frame.
-    pub(crate) fn send(&mut self, frame: Frame)
+    pub(crate) fn send(&mut self, frame: SentFrame)
         requires { 1 ≤ frames_left self.old }
         ensures frames { self.new.frames.items ≡ self.old.frames.items ++ frame ∷ [] }
         ensures told { self.new.told ≡ self.old.told }

@@ -1,14 +1,14 @@
 //! The frames that a link sends.
-ghost use Rattle.std.specs.Prelude.{◌≡◌, ℕ, ◌+◌, ◌%◌, ◌≤◌, Bool};
+ghost use Rattle.std.specs.Prelude.{◌≡◌, ℕ, ◌+◌, ◌%◌, ◌≤◌, ◌++◌, ◌∷◌, [], Bool};
 ghost use Rattle.link_machine.specs.Sent.{role_of};
 ghost use Rattle.link_machine.specs.Sent.Sent.{SuperSent, SetupSent};
 ghost use Rattle.link_machine.specs.Turn.{Turn, sending, telling};
 ghost use Rattle.link_machine.specs.Acts.{nothing_due, polling, respond_ready, answer_poll, poll, reject};
 ghost use Rattle.link_machine.specs.Room.{frames_left, told_left, Uses};
-ghost use Rattle.link_machine.specs.Held.{Shows};
+ghost use Rattle.link_machine.specs.Held.{Shows, frame_from};
 ghost use Rattle.ax25_frames.specs.FrameText.{sets_up_or_ends};
 
-use crate::acts::Told;
+use crate::acts::{SentFrame, Told};
 use crate::machine::Machine;
 use crate::room::Room;
 use ax25_address::Role;
@@ -33,30 +33,40 @@ fn sets_up_or_ends(which: U) -> bool
 }
 
 impl Machine {
-    /// Sends SABM, DISC, UA or DM.
+    /// Sends a frame on the link's path, in the modulus that the link has.
+    pub(crate) fn send(&self, room: &mut Room, role: Role, kind: Kind)
+        requires { 1 ≤ frames_left room.old }
+        ensures frames { room.new.frames.items ≡ room.old.frames.items ++ frame_from self.now role kind ∷ [] }
+        ensures told { room.new.told ≡ room.old.told }
+        ensures uses { Uses room.old room.new 1 0 }
+    {
+        room.send(SentFrame {
+            frame: Frame {
+                path: self.path.with_role(role),
+                kind,
+            },
+            modulus: self.modulus(),
+        });
+    }
+
+    /// Sends SABM, SABME, DISC, UA or DM.
     pub(crate) fn send_setup(&self, room: &mut Room, which: U, flag: bool)
         requires { 1 ≤ frames_left room.old }
         ensures shows { (t : Turn) → Shows self.now room.old t → Shows self.now room.new (sending (SetupSent which flag) t) }
         ensures uses { Uses room.old room.new 1 0 }
     {
         let role = role_of(sets_up_or_ends(which));
-        room.send(Frame {
-            path: self.path.with_role(role),
-            kind: Kind::Setup { which, flag },
-        });
+        self.send(room, role, Kind::Setup { which, flag });
     }
 
     /// Sends an S frame with the number `nr`.
     pub(crate) fn send_super(&self, room: &mut Room, which: S, command: bool, nr: u8, flag: bool)
         requires { 1 ≤ frames_left room.old }
-        ensures shows { (t : Turn) (n : ℕ) → Shows self.now room.old t → nr ≡ n % 8
+        ensures shows { (t : Turn) (n : ℕ) → Shows self.now room.old t → nr ≡ n % self.now.incoming.modulus
             → Shows self.now room.new (sending (SuperSent which command n flag) t) }
         ensures uses { Uses room.old room.new 1 0 }
     {
-        room.send(Frame {
-            path: self.path.with_role(role_of(command)),
-            kind: Kind::Super { which, nr, flag },
-        });
+        self.send(room, role_of(command), Kind::Super { which, nr, flag });
     }
 
     /// Tells V(R) by RR as a response.

@@ -2,9 +2,10 @@
 ghost use Rattle.std.specs.Prelude.{◌≡◌, ℕ, ◌≤◌, Bool};
 ghost use Rattle.link_machine.specs.Machine.{unquit};
 ghost use Rattle.link_machine.specs.Turn.{Turn};
-ghost use Rattle.link_machine.specs.Acts.{call, reset, release};
+ghost use Rattle.ax25_frames.specs.ControlField.{numbers};
+ghost use Rattle.link_machine.specs.Acts.{calling_frame, send_call, call, reset, release};
 ghost use Rattle.link_machine.specs.Requests.{connect};
-ghost use Rattle.link_machine.specs.Frames.{stopped_t1, stopped, end_call, leave, open_called, open_answered, open_again, end_by_disc, end_by_dm};
+ghost use Rattle.link_machine.specs.Frames.{stopped_t1, stopped, call_narrow, end_call, leave, open_called, open_answered, open_again, end_by_disc, end_by_dm};
 ghost use Rattle.link_machine.specs.Room.{frames_left, told_left, Uses};
 ghost use Rattle.link_machine.specs.Held.{Shows};
 ghost use Rattle.link_machine.specs.declared.room.Room.{Room as AnyRoom};
@@ -13,16 +14,43 @@ use crate::acts::{Told, Why};
 use crate::machine::Machine;
 use crate::room::Room;
 use crate::state::LinkState;
-use ax25_frames::U;
+use ax25_frames::{Modulus, U};
+
+/// The frame that calls.
+fn calling_frame(wide: bool) -> U
+    ensures { result ≡ calling_frame wide }
+{
+    if wide { U::Sabme } else { U::Sabm }
+}
 
 impl Machine {
-    /// Sends SABM and awaits its answer.
+    /// Sends SABM, or SABME where numbers are modulo 128.
+    pub(crate) fn send_call(&self, room: &mut Room)
+        requires { 1 ≤ frames_left room.old }
+        ensures shows { (t : Turn) → Shows self.now room.old t → Shows self.now room.new (send_call t) }
+        ensures uses { Uses room.old room.new 1 0 }
+    {
+        self.send_setup(room, calling_frame(self.is_wide()), true);
+    }
+
+    /// Calls and awaits the answer.
     pub(crate) fn call(&mut self, room: &mut Room)
         requires { 1 ≤ frames_left room.old }
         ensures shows { (t : Turn) → Shows self.old room.old t → Shows self.new room.new (call t) }
         ensures uses { Uses room.old room.new 1 0 }
     {
         self.control.call();
+        self.send_call(room);
+    }
+
+    /// Goes on calling modulo 8, since the other side does not know SABME.
+    pub(crate) fn call_narrow(&mut self, room: &mut Room)
+        requires { 1 ≤ frames_left room.old }
+        ensures shows { (t : Turn) → Shows self.old room.old t → Shows self.new room.new (call_narrow t) }
+        ensures uses { Uses room.old room.new 1 0 }
+    {
+        self.narrow();
+        self.control.call_anew();
         self.send_setup(room, U::Sabm, true);
     }
 
@@ -33,6 +61,8 @@ impl Machine {
         ensures uses { Uses room.old room.new 1 0 }
     {
         self.begin();
+        let modulus = self.params.called_modulus();
+        self.count_in(modulus);
         self.call(room);
     }
 
@@ -67,6 +97,7 @@ impl Machine {
         ensures uses { Uses room.old room.new 0 1 }
     {
         self.empty();
+        self.narrow();
         self.control.end_call();
         self.tell(room, Told::Ended { why });
     }
@@ -77,18 +108,20 @@ impl Machine {
         ensures control { self.new.control ≡ stopped (unquit self.old.control) }
     {
         self.empty();
+        self.narrow();
         self.control.leave();
     }
 
     /// Opens the other side's set-up.
-    pub(crate) fn open_called(&mut self, room: &mut Room, flag: bool)
+    pub(crate) fn open_called(&mut self, room: &mut Room, modulus: Modulus, flag: bool)
         requires frames { 1 ≤ frames_left room.old }
         requires told { 1 ≤ told_left room.old }
-        ensures shows { (t : Turn) → Shows self.old room.old t → Shows self.new room.new (open_called flag t) }
+        ensures shows { (t : Turn) → Shows self.old room.old t → Shows self.new room.new (open_called (numbers modulus) flag t) }
         ensures uses { Uses room.old room.new 1 1 }
     {
         self.begin();
         self.empty();
+        self.count_in(modulus);
         self.control.state = LinkState::Up;
         self.send_setup(room, U::Ua, flag);
         self.tell(room, Told::Opened { ours: false });
@@ -106,14 +139,14 @@ impl Machine {
     }
 
     /// Ends the set-up and opens another, since the other side begins anew.
-    pub(crate) fn open_again(&mut self, room: &mut Room, flag: bool)
+    pub(crate) fn open_again(&mut self, room: &mut Room, modulus: Modulus, flag: bool)
         requires frames { 1 ≤ frames_left room.old }
         requires told { 2 ≤ told_left room.old }
-        ensures shows { (t : Turn) → Shows self.old room.old t → Shows self.new room.new (open_again flag t) }
+        ensures shows { (t : Turn) → Shows self.old room.old t → Shows self.new room.new (open_again (numbers modulus) flag t) }
         ensures uses { Uses room.old room.new 1 2 }
     {
         self.tell(room, Told::Ended { why: Why::Reset });
-        self.open_called(room, flag);
+        self.open_called(room, modulus, flag);
     }
 
     /// Ends the set-up as the other side asks.
@@ -123,8 +156,8 @@ impl Machine {
         ensures shows { (t : Turn) → Shows self.old room.old t → Shows self.new room.new (end_by_disc flag t) }
         ensures uses { Uses room.old room.new 1 1 }
     {
-        self.leave();
         self.send_setup(room, U::Ua, flag);
+        self.leave();
         self.tell(room, Told::Ended { why: Why::Peer });
     }
 

@@ -5,7 +5,7 @@
 pub enum LinkState {
     /// There is no link.
     Idle,
-    /// SABM was sent, and its answer is awaited.
+    /// SABM or SABME was sent, and its answer is awaited.
     Calling,
     /// The link is set up.
     Up,

@@ -137,7 +137,7 @@ impl Machine {
             self.end_call(room, Why::Failed);
         } else {
             self.control.retry();
-            self.send_setup(room, U::Sabm, true);
+            self.send_call(room);
         }
     }
 
@@ -149,8 +149,8 @@ impl Machine {
         ensures quit { quits self.new.control ≤ quits self.old.control }
     {
         if self.control.is_spent() {
-            self.leave();
             self.send_setup(room, U::Dm, false);
+            self.leave();
             self.tell(room, Told::Ended { why: Why::Failed });
         } else {
             self.control.retry();

@@ -77,8 +77,8 @@ impl Model for InStore {
 }
 
 impl InStore {
-    /// An empty store, with V(R) 0. Its places are taken here. Refuses exactly the windows that [`check_window`]
-    /// refuses, and else fails only for want of memory.
+    /// An empty store, with V(R) 0. The places of every window are taken here, so [`InStore::begin`] finds its own. Refuses
+    /// the windows that [`check_window`] refuses, and else fails only for want of memory.
     pub fn new(alloc: Global, modulus: u8, window: u8, mode: Mode) -> Result<InStore, StoreFault>
         requires { IsModulus modulus }
         ensures empty { IfOk result (λ store. store ≡ empty_incoming modulus window mode) }
@@ -141,8 +141,20 @@ impl InStore {
     pub fn clear(&mut self)
         ensures empty { self.new ≡ empty_incoming self.old.modulus self.old.window self.old.mode }
     {
+        self.begin(self.modulus, self.window, self.mode);
+    }
+
+    /// Empties the store, as after [`InStore::new`] with this modulus, window and mode.
+    pub fn begin(&mut self, modulus: u8, window: u8, mode: Mode)
+        requires modulus { IsModulus modulus }
+        requires window { IsWindow modulus window mode }
+        ensures empty { self.new ≡ empty_incoming modulus window mode }
+    {
+        self.modulus = modulus;
+        self.window = window;
+        self.mode = mode;
         self.vr = 0;
-        self.places.clear(self.window);
+        self.places.clear(window);
     }
 
     /// The packet with number V(R), where it is there; V(R) then rises by one.
@@ -184,6 +196,29 @@ impl InStore {
     {
         let distance = ahead(self.modulus, self.vr, ns);
         if distance < self.window { distance } else { 0 }
+    }
+
+    /// How many numbers there are.
+    pub fn modulus(&self) -> u8
+        ensures value { result ≡ self.now.modulus }
+        ensures formed { IsIncoming self.now }
+    {
+        self.modulus
+    }
+
+    /// How many numbers from V(R) on have a place.
+    pub fn window(&self) -> u8
+        ensures value { result ≡ self.now.window }
+        ensures formed { IsIncoming self.now }
+    {
+        self.window
+    }
+
+    /// What is done with a frame that comes ahead of a gap.
+    pub fn mode(&self) -> Mode
+        ensures { result ≡ self.now.mode }
+    {
+        self.mode
     }
 
     /// V(R), as it is sent in N(R): the number of the next packet in sequence.

@@ -11,6 +11,9 @@ use std::alloc::Global;
 use std::marker::Model;
 use tnc_base::OutOfMemory;
 
+/// The largest window of any modulus, and so the most places.
+const MOST_PLACES: u8 = 127;
+
 /// The place of one number.
 #[derive(Drop)]
 pub struct Place {
@@ -48,34 +51,36 @@ impl Place {
     }
 }
 
-/// The places of as many numbers as the window has, from the next one to be taken on.
+/// The places of as many numbers as the window has, from the next one to be taken on. There is memory for the largest
+/// window.
 #[derive(Drop)]
 pub(crate) struct Places {
     places: HeapCircularBuffer<Place>,
 }
 
 impl Model for Places {
-    ghost use Rattle.std.specs.Prelude.{◌≡◌, List, length};
+    ghost use Rattle.std.specs.Prelude.{◌≡◌, ◌≤◌, List, length};
     ghost use Rattle.selective_reject.specs.declared.place.Place.{Place};
 
     ghost Value = { List Place };
 
     ghost view = { λ s. s.places.items };
 
-    ghost invariant = { λ s. length s.places.items ≡ s.places.capacity };
+    ghost invariant = { λ s. (s.places.capacity ≡ 127) × (length s.places.items ≤ 127) };
 }
 
 impl Places {
     pub(crate) fn new(alloc: Global, window: u8) -> Result<Places, OutOfMemory>
+        requires { window ≤ 127 }
         ensures { IfOk result (λ places. places ≡ replicate window empty_place) }
     {
-        let mut places = HeapCircularBuffer::with_capacity(alloc, usize::from(window))?;
+        let mut places = HeapCircularBuffer::with_capacity(alloc, usize::from(MOST_PLACES))?;
         fill(&mut places, window);
         Ok(Places { places })
     }
 
     pub(crate) fn clear(&mut self, window: u8)
-        requires { length self.old ≡ window }
+        requires { window ≤ 127 }
         ensures { self.new ≡ replicate window empty_place }
     {
         self.places.clear();
@@ -144,9 +149,9 @@ impl Places {
 
 fn fill(places: &mut HeapCircularBuffer<Place>, window: u8)
     requires empty { places.old.items ≡ [] }
-    requires capacity { places.old.capacity ≡ window }
+    requires capacity { window ≤ places.old.capacity }
     ensures items { places.new.items ≡ replicate window empty_place }
-    ensures capacity { places.new.capacity ≡ window }
+    ensures capacity { places.new.capacity ≡ places.old.capacity }
 {
     for _place in 0..window {
         places.push_back(Place::empty());
