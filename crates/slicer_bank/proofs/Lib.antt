@@ -5,3 +5,5 @@ pub mod HeardLemmas
 pub mod PieceLemmas
 pub mod OneList
 pub mod FreshLanes
+pub mod FrameDecided
+pub mod SomeList

@@ -7,9 +7,11 @@
 #![tactic(auto)]
 
 mod bank;
+mod existence;
 mod hearing;
 mod lane;
 mod laws;
 
 pub use bank::Bank;
+pub use existence::some_list_of_candidates;
 pub use laws::{blocks_join, one_list_of_candidates};

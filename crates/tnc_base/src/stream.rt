@@ -1,7 +1,8 @@
 //! The two ends of a program that works on a stream of octets.
 //!
 //! A source and a sink count their faults. Code that is lent one can't raise that count, so a contract that allows an
-//! answer of failure only where the count rose refuses a body that gives up by itself.
+//! answer of failure only where the count rose refuses a body that gives up by itself. A call that does not fail leaves
+//! the count as it was, so a contract that keeps the count refuses a body that tries a failed call again.
 ghost use Rattle.std.specs.Prelude.{◌≡◌, ◌≤◌, ◌++◌, ℕ, List, Option, length, IfOk, OnOk, OnErr};
 ghost use Rattle.tnc_base.specs.Faults.{HasRisen};
 ghost use Rattle.tnc_base.specs.Streams.{Gives, WrotePart};
@@ -23,6 +24,7 @@ pub trait Source {
             → IfOk result (Gives octets (left self.new) buffer.new) }
         ensures kept { OnErr result (left self.new ≡ left self.old) }
         ensures later { faults self.old ≤ faults self.new }
+        ensures faultless { OnOk result (faults self.new ≡ faults self.old) }
         ensures failed { OnErr result (HasRisen (faults self.old) (faults self.new)) };
 }
 
@@ -41,5 +43,6 @@ pub trait Sink {
         ensures partly { (before : List ℕ) → written self.old ≡ Some before
             → OnErr result (WrotePart before octets.now (written self.new)) }
         ensures later { faults self.old ≤ faults self.new }
+        ensures faultless { OnOk result (faults self.new ≡ faults self.old) }
         ensures failed { OnErr result (HasRisen (faults self.old) (faults self.new)) };
 }

@@ -39,6 +39,7 @@ pub fn encode<I: Source, O: Sink>(
     ensures encoded { (octets before : List ℕ) → I.left input.old ≡ Some octets
         → O.written output.old ≡ Some before
         → OnOk result (O.written output.new ≡ Some (before ++ encoded words octets)) }
+    ensures faultless { OnOk result ((I.faults input.new ≡ I.faults input.old) × (O.faults output.new ≡ O.faults output.old)) }
 
     // what is wrong with the input, and what was written before that is told
     ensures bad { (octets : List ℕ) → (fault : InputFault) → I.left input.old ≡ Some octets
@@ -81,6 +82,7 @@ fn encode_octets<O: Sink>(
     ensures cut { (before : List ℕ) → O.written output.old ≡ Some before
         → OnErr result (WrotePart before (encoded words octets.now) (O.written output.new)) }
     ensures read { ¬ IsErrOf result Fault.Read }
+    ensures faultless { OnOk result (O.faults output.new ≡ O.faults output.old) }
     ensures write { IsErrOf result Fault.Write → HasRisen (O.faults output.old) (O.faults output.new) }
 {
     let read = read_frames(alloc, words.frames, octets)?;
@@ -114,6 +116,7 @@ fn send_as_told<O: Sink>(
         → OnErr result (WrotePart before (written_as words.audio (signal (transmissions words frames.now)))
         (O.written output.new)) }
     ensures read { ¬ IsErrOf result Fault.Read }
+    ensures faultless { OnOk result (O.faults output.new ≡ O.faults output.old) }
     ensures write { IsErrOf result Fault.Write → HasRisen (O.faults output.old) (O.faults output.new) }
 {
     match words.audio {
@@ -138,6 +141,7 @@ fn send_before_fault<O: Sink>(
     ensures cut { (before : List ℕ) → O.written output.old ≡ Some before
         → OnErr result (WrotePart before (written_before words.audio (signal (transmissions words frames.now)))
         (O.written output.new)) }
+    ensures faultless { OnOk result (O.faults output.new ≡ O.faults output.old) }
     ensures write { IsErrOf result Fault.Write → HasRisen (O.faults output.old) (O.faults output.new) }
     ensures faults { IfErr result (λ fault. (fault ≡ Fault.Memory) ⊎ (fault ≡ Fault.Write)) }
 {
@@ -167,6 +171,7 @@ fn send_wav<O: Sink>(
     ensures cut { (before : List ℕ) → O.written output.old ≡ Some before
         → OnErr result (WrotePart before (written_as AudioForm.Wav (signal (transmissions words frames.now)))
         (O.written output.new)) }
+    ensures faultless { OnOk result (O.faults output.new ≡ O.faults output.old) }
     ensures write { IsErrOf result Fault.Write → HasRisen (O.faults output.old) (O.faults output.new) }
     ensures read { ¬ IsErrOf result Fault.Read }
 {
@@ -195,6 +200,7 @@ fn send_all<O: Sink>(
         → OnOk result (O.written output.new ≡ Some (before ++ pcm (signal (transmissions words frames.now)))) }
     ensures cut { (before : List ℕ) → O.written output.old ≡ Some before
         → OnErr result (WrotePart before (pcm (signal (transmissions words frames.now))) (O.written output.new)) }
+    ensures faultless { OnOk result (O.faults output.new ≡ O.faults output.old) }
     ensures write { IsErrOf result Fault.Write → HasRisen (O.faults output.old) (O.faults output.new) }
     ensures faults { IfErr result (λ fault. (fault ≡ Fault.Memory) ⊎ (fault ≡ Fault.Write)) }
 {
@@ -226,6 +232,7 @@ fn send<O: Sink>(
     ensures cut { (before : List ℕ) → O.written output.old ≡ Some before
         → OnErr result (WrotePart before (pcm (samples_of (sent_at_once words frames.now))) (O.written output.new)) }
     ensures later { O.faults output.old ≤ O.faults output.new }
+    ensures faultless { OnOk result (O.faults output.new ≡ O.faults output.old) }
     ensures write { IsErrOf result Fault.Write → HasRisen (O.faults output.old) (O.faults output.new) }
     ensures faults { IfErr result (λ fault. (fault ≡ Fault.Memory) ⊎ (fault ≡ Fault.Write)) }
 {

@@ -14,7 +14,7 @@ const INPUT_LIMIT: usize = 1 << 40;
 /// The most octets of one read.
 const PIECE: usize = 4096;
 
-/// All octets of the input, read to its end. Where there are more than 2^40, no octet behind the next one is read.
+/// All octets of the input, read to its end. Reads at most 2^40 + 1 octets, and ends at the first read that fails.
 pub fn read_all<I: Source>(alloc: Global, input: &mut I) -> Result<Vec<u8>, Fault>
     ensures whole { (octets : List ℕ) → I.left input.old ≡ Some octets
         → IfOk result (λ all. all.items ≡ octets) }
@@ -26,6 +26,7 @@ pub fn read_all<I: Source>(alloc: Global, input: &mut I) -> Result<Vec<u8>, Faul
     ensures stops { (octets : List ℕ) → I.left input.old ≡ Some octets
         → IsErrOf result (Fault.Input InputFault.TooLong) → I.left input.new ≡ Some (drop (input_limit + 1) octets) }
     ensures later { I.faults input.old ≤ I.faults input.new }
+    ensures faultless { OnOk result (I.faults input.new ≡ I.faults input.old) }
     ensures read { IsErrOf result Fault.Read → HasRisen (I.faults input.old) (I.faults input.new) }
     ensures write { ¬ IsErrOf result Fault.Write }
     ensures only { (fault : InputFault) → IsErrOf result (Fault.Input fault) → fault ≡ InputFault.TooLong }

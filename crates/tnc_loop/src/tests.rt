@@ -14,6 +14,7 @@ fn twenty_frames_of_seed_seven_are_heard(rt: HostRuntime) -> Result<(), Fail> {
     let words = LoopWords {
         seed: 7,
         frames: 20,
+        rough: false,
     };
     let done = loop_back(rt.alloc(), words, &mut output);
     assert!(rt; done.is_ok());
@@ -26,7 +27,15 @@ fn twenty_frames_of_seed_seven_are_heard(rt: HostRuntime) -> Result<(), Fail> {
 #[test]
 fn no_frame_is_heard_of_none(rt: HostRuntime) -> Result<(), Fail> {
     let mut output = MemSink::new(rt.alloc(), 1000, Vec::new(rt.alloc()))?;
-    let done = loop_back(rt.alloc(), LoopWords { seed: 7, frames: 0 }, &mut output);
+    let done = loop_back(
+        rt.alloc(),
+        LoopWords {
+            seed: 7,
+            frames: 0,
+            rough: false,
+        },
+        &mut output,
+    );
     assert!(rt; done.is_ok());
     let summary = b"frames 0\nheard 0\nstray 0\nhash cbf29ce484222325\n";
     assert_eq!(rt; output.written(), summary.as_slice());
@@ -36,7 +45,15 @@ fn no_frame_is_heard_of_none(rt: HostRuntime) -> Result<(), Fail> {
 #[test]
 fn an_output_that_fails_is_told(rt: HostRuntime) -> Result<(), Fail> {
     let mut output = MemSink::new(rt.alloc(), 1000, [0].to_vec(rt.alloc())?)?;
-    let done = loop_back(rt.alloc(), LoopWords { seed: 7, frames: 1 }, &mut output);
+    let done = loop_back(
+        rt.alloc(),
+        LoopWords {
+            seed: 7,
+            frames: 1,
+            rough: false,
+        },
+        &mut output,
+    );
     assert!(rt; matches!(done, Err(LoopFault::Write)));
     assert!(rt; output.written().is_empty());
     Ok(())

@@ -28,6 +28,7 @@ pub fn show<I: Source, O: Sink>(
     ensures shown { (octets before : List ℕ) → I.left input.old ≡ Some octets
         → O.written output.old ≡ Some before
         → OnOk result ((text : List ℕ) × IsShown words octets text × (O.written output.new ≡ Some (before ++ text))) }
+    ensures faultless { OnOk result ((I.faults input.new ≡ I.faults input.old) × (O.faults output.new ≡ O.faults output.old)) }
 
     // what is wrong with the input, and what was written before that is told
     ensures bad { (octets : List ℕ) → (fault : InputFault) → I.left input.old ≡ Some octets
@@ -48,7 +49,7 @@ pub fn show<I: Source, O: Sink>(
     ensures cut_text { (octets before : List ℕ) → I.left input.old ≡ Some octets
         → O.written output.old ≡ Some before → IsErrOf result Fault.Write
         → (text : List ℕ) × IsShown words octets text × WrotePart before text (O.written output.new) }
-    ensures unwritten { (result ≡ Err (Fault.Input InputFault.TooLong)) ⊎ (result ≡ Err Fault.Read)
+    ensures unwritten { (result ≡ Err (Fault.Input InputFault.TooLong)) ⊎ ((result ≡ Err Fault.Memory) ⊎ (result ≡ Err Fault.Read))
         → output.new ≡ output.old }
 {
     let octets = read_all(alloc, input)?;

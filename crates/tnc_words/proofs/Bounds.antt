@@ -32,6 +32,13 @@ closing_least words encode h = at_least _ _ _ _ _ h.options.closing (omega arith
 pub silence_greatest : (words : List Text) (encode : EncodeWords) → IsEncode words encode → encode.silence ≤ 1000000
 silence_greatest words encode h = at_most _ _ _ _ _ h.options.silence (omega arith)
 
+-- a level is 10 at least, and full scale at most
+pub level_least : (words : List Text) (encode : EncodeWords) → IsEncode words encode → 10 ≤ encode.level
+level_least words encode h = at_least _ _ _ _ _ h.options.level (omega arith)
+
+pub level_greatest : (words : List Text) (encode : EncodeWords) → IsEncode words encode → encode.level ≤ 32767
+level_greatest words encode h = at_most _ _ _ _ _ h.options.level (omega arith)
+
 -- at most a thousand frames make a loop
 pub frames_greatest : (words : List Text) (run : LoopWords) → IsLoop words run → run.frames ≤ 1000
 frames_greatest words run h = given_at_most _ _ _ _ h.options.frames

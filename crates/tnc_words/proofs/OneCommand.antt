@@ -56,6 +56,7 @@ one_encode_options found encode other h k =
     let join = other.join in
     let opening = other.opening in
     let closing = other.closing in
+    let silence = other.silence in
     ap (λ v. record encode { frames = v }) (h.frames ∙ sym k.frames)
     ∙ ap (λ v. record encode { frames = frames; audio = v }) (h.audio ∙ sym k.audio)
     ∙ ap (λ v. record encode { frames = frames; audio = audio; join = v }) (h.join ∙ sym k.join)
@@ -63,7 +64,9 @@ one_encode_options found encode other h k =
     (one_number _ _ _ _ _ _ h.opening k.opening)
     ∙ ap (λ v. record encode { frames = frames; audio = audio; join = join; opening = opening; closing = v })
     (one_number _ _ _ _ _ _ h.closing k.closing)
-    ∙ ap (λ v. record other { silence = v }) (one_number _ _ _ _ _ _ h.silence k.silence)
+    ∙ ap (λ v. record encode { frames = frames; audio = audio; join = join; opening = opening; closing = closing; silence = v })
+    (one_number _ _ _ _ _ _ h.silence k.silence)
+    ∙ ap (λ v. record other { level = v }) (one_number _ _ _ _ _ _ h.level k.level)
 
 one_show_options : (found : List Row) (show other : ShowWords) → HasShowOptions found show
     → HasShowOptions found other → show ≡ other
@@ -73,8 +76,9 @@ one_show_options found show other h k =
 one_loop_options : (found : List Row) (run other : LoopWords) → HasLoopOptions found run
     → HasLoopOptions found other → run ≡ other
 one_loop_options found run other h k =
-    ap (λ v. record { seed = v; frames = run.frames }) (given_number _ _ _ _ _ h.seed k.seed)
-    ∙ ap (λ v. record { seed = other.seed; frames = v }) (given_number _ _ _ _ _ h.frames k.frames)
+    ap (λ v. record run { seed = v }) (given_number _ _ _ _ _ h.seed k.seed)
+    ∙ ap (λ v. record run { seed = other.seed; frames = v }) (given_number _ _ _ _ _ h.frames k.frames)
+    ∙ ap (λ v. record other { rough = v }) (h.rough ∙ sym k.rough)
 
 -- ---- words give one set of options
 

@@ -27,8 +27,8 @@ pub record IsDecode (words : List Text) (decode : DecodeWords) : Type 0 where
   pub taken : decode_faults words ≡ []
   pub options : HasDecodeOptions (decode_rows words) decode
 
--- The options of encode: 75 flags open a transmission, 2 close it and no silence stands before it, where no other
--- number was given.
+-- The options of encode. If no other number was given, 75 flags open a transmission, 2 close it, no silence stands
+-- before it, and its level is 10000.
 pub record HasEncodeOptions (found : List Row) (encode : EncodeWords) : Type 0 where
   pub frames : encode.frames ≡ frame_form found
   pub audio : encode.audio ≡ audio_form found
@@ -36,6 +36,7 @@ pub record HasEncodeOptions (found : List Row) (encode : EncodeWords) : Type 0 w
   pub opening : HasNumber (first_of (codes "opening") found) 75 2 10000 encode.opening
   pub closing : HasNumber (first_of (codes "closing") found) 2 1 10000 encode.closing
   pub silence : HasNumber (first_of (codes "silence") found) 0 0 1000000 encode.silence
+  pub level : HasNumber (first_of (codes "level") found) 10000 10 32767 encode.level
 
 -- encode with these options
 pub record IsEncode (words : List Text) (encode : EncodeWords) : Type 0 where
@@ -53,10 +54,11 @@ pub record IsShow (words : List Text) (show : ShowWords) : Type 0 where
   pub taken : show_faults words ≡ []
   pub options : HasShowOptions (show_rows words) show
 
--- The options of loop, which have no default.
+-- The options of loop. Its numbers have no default.
 pub record HasLoopOptions (found : List Row) (loop : LoopWords) : Type 0 where
   pub seed : GivesNumber (first_of (codes "seed") found) 0 (2 ^ 64 - 1) loop.seed
   pub frames : GivesNumber (first_of (codes "frames") found) 0 1000 loop.frames
+  pub rough : loop.rough ≡ is_used (codes "rough") found
 
 -- loop with these options
 pub record IsLoop (words : List Text) (loop : LoopWords) : Type 0 where

@@ -26,19 +26,24 @@ with_forms app = with_rule (with_rule app (flag_rule (codes "wav"))) (flag_rule 
 abbrev pub decode_app : App
 decode_app = with_forms (new_app (codes "decode"))
 
--- encode [--wav] [--kiss] [--join] [--opening n] [--closing n] [--silence n]
+-- [--opening n] [--closing n] [--silence n] [--level n]
+abbrev pub with_numbers : App → App
+with_numbers app = with_rule (with_rule (with_rule (with_rule app
+    (option_rule (codes "opening"))) (option_rule (codes "closing")))
+    (option_rule (codes "silence"))) (option_rule (codes "level"))
+
+-- encode [--wav] [--kiss] [--join] [--opening n] [--closing n] [--silence n] [--level n]
 abbrev pub encode_app : App
-encode_app = with_rule (with_rule (with_rule (with_rule (with_forms (new_app (codes "encode")))
-    (flag_rule (codes "join"))) (option_rule (codes "opening"))) (option_rule (codes "closing")))
-    (option_rule (codes "silence"))
+encode_app = with_numbers (with_rule (with_forms (new_app (codes "encode"))) (flag_rule (codes "join")))
 
 -- show [--modulo n]
 abbrev pub show_app : App
 show_app = with_rule (new_app (codes "show")) (option_rule (codes "modulo"))
 
--- loop --seed n --frames n
+-- loop --seed n --frames n [--rough]
 abbrev pub loop_app : App
-loop_app = with_rule (with_rule (new_app (codes "loop")) (needed_rule (codes "seed"))) (needed_rule (codes "frames"))
+loop_app = with_rule (with_rule (with_rule (new_app (codes "loop"))
+    (needed_rule (codes "seed"))) (needed_rule (codes "frames"))) (flag_rule (codes "rough"))
 
 -- Why clap refuses words, of which the first is the command's own: nothing where it takes them.
 unfoldable pub decode_faults : List Text → Kinds

@@ -56,6 +56,8 @@ pub struct EncodeWords {
     pub closing: u16,
     /// The silent samples before it, at most 1,000,000.
     pub silence: u32,
+    /// The peak of each tone, 10 to 32,767, which is full scale.
+    pub level: u16,
 }
 
 /// The option of `show`.
@@ -72,4 +74,6 @@ pub struct LoopWords {
     pub seed: u64,
     /// How many frames there are, at most 1000.
     pub frames: u16,
+    /// Each frame has a phase, a level and noise of its own, and not the exact signal.
+    pub rough: bool,
 }

@@ -31,6 +31,12 @@ const SILENCE: Bounds = Bounds {
     greatest: 1_000_000,
 };
 
+/// The peak of each tone.
+const LEVEL: Bounds = Bounds {
+    least: 10,
+    greatest: 32_767,
+};
+
 /// `encode` and its options, behind its own word.
 pub(crate) fn read_encode(alloc: Global, words: &[String]) -> Result<EncodeWords, WordsFault>
     requires { first_word (map string_bytes words.now) ≡ Some (codes "encode") }
@@ -54,5 +60,6 @@ fn encode_options(found: &ArgMatches) -> Option<EncodeWords>
         opening: number_or_default(text_of(found, "opening"), 75, OPENING)? as u16,
         closing: number_or_default(text_of(found, "closing"), 2, CLOSING)? as u16,
         silence: number_or_default(text_of(found, "silence"), 0, SILENCE)? as u32,
+        level: number_or_default(text_of(found, "level"), 10_000, LEVEL)? as u16,
     })
 }

@@ -8,7 +8,7 @@ use crate::command::LoopWords;
 use crate::fault::WordsFault;
 use crate::number::{Bounds, number_within};
 use crate::options::loop_command;
-use crate::parsing::{parsed, text_of};
+use crate::parsing::{has_flag, parsed, text_of};
 use clap::ArgMatches;
 use std::alloc::Global;
 
@@ -43,5 +43,6 @@ fn loop_options(found: &ArgMatches) -> Option<LoopWords>
     Some(LoopWords {
         seed: number_within(text_of(found, "seed")?, SEED)?,
         frames: number_within(text_of(found, "frames")?, FRAMES)? as u16,
+        rough: has_flag(found, "rough"),
     })
 }

@@ -2,7 +2,7 @@
 ghost use Rattle.std.specs.Prelude.{◌≡◌, IfOk, false};
 ghost use Rattle.clap.specs.Words.{app_of, rule_of, with_rule};
 ghost use Rattle.tnc_words.specs.Options.{decode_app, encode_app, show_app, loop_app};
-ghost use Rattle.tnc_words.specs.Options.{flag_rule, needed_rule, option_rule, with_forms};
+ghost use Rattle.tnc_words.specs.Options.{flag_rule, needed_rule, option_rule, with_forms, with_numbers};
 
 use clap::{Arg, ArgAction, Command};
 use std::alloc::{AllocError, Global};
@@ -14,15 +14,23 @@ pub(crate) fn decode_command<'a>(alloc: Global) -> Result<Command<'a>, AllocErro
     forms(alloc, Command::new(alloc, "decode"))
 }
 
-/// `encode` with its three flags and its three numbers.
+/// `encode` with its three flags and its four numbers.
 pub(crate) fn encode_command<'a>(alloc: Global) -> Result<Command<'a>, AllocError>
     ensures { IfOk result (λ command. app_of command ≡ encode_app) }
 {
     let command = forms(alloc, Command::new(alloc, "encode"))?;
     let command = with(command, flag(alloc, "join"))?;
+    numbers(alloc, command)
+}
+
+/// A command with the numbers of a transmission.
+fn numbers<'a>(alloc: Global, command: Command<'a>) -> Result<Command<'a>, AllocError>
+    ensures { IfOk result (λ longer. app_of longer ≡ with_numbers (app_of command.entry)) }
+{
     let command = with(command, option(alloc, "opening"))?;
     let command = with(command, option(alloc, "closing"))?;
-    with(command, option(alloc, "silence"))
+    let command = with(command, option(alloc, "silence"))?;
+    with(command, option(alloc, "level"))
 }
 
 /// `show` with its number.
@@ -32,13 +40,14 @@ pub(crate) fn show_command<'a>(alloc: Global) -> Result<Command<'a>, AllocError>
     with(Command::new(alloc, "show"), option(alloc, "modulo"))
 }
 
-/// `loop` with its two numbers, both of which it needs.
+/// `loop` with its two numbers, both of which it needs, and its flag.
 pub(crate) fn loop_command<'a>(alloc: Global) -> Result<Command<'a>, AllocError>
     ensures { IfOk result (λ command. app_of command ≡ loop_app) }
 {
     let command = Command::new(alloc, "loop");
     let command = with(command, needed(alloc, "seed"))?;
-    with(command, needed(alloc, "frames"))
+    let command = with(command, needed(alloc, "frames"))?;
+    with(command, flag(alloc, "rough"))
 }
 
 /// A command with the flags for the forms of samples and frames.

@@ -28,6 +28,7 @@ fn encode(join: bool, opening: u16, closing: u16, silence: u32) -> Command {
         opening,
         closing,
         silence,
+        level: 10_000,
     })
 }
 
@@ -40,6 +41,20 @@ fn encode_forms(frames: FrameForm, audio: AudioForm) -> Command {
         opening: 75,
         closing: 2,
         silence: 0,
+        level: 10_000,
+    })
+}
+
+// With no option but the level.
+fn encode_level(level: u16) -> Command {
+    Command::Encode(EncodeWords {
+        frames: FrameForm::Hex,
+        audio: AudioForm::Raw,
+        join: false,
+        opening: 75,
+        closing: 2,
+        silence: 0,
+        level,
     })
 }
 
@@ -48,12 +63,24 @@ fn show(modulus: Modulus) -> Command {
 }
 
 fn loop_of(seed: u64, frames: u16) -> Command {
-    Command::Loop(LoopWords { seed, frames })
+    Command::Loop(LoopWords {
+        seed,
+        frames,
+        rough: false,
+    })
+}
+
+fn rough_loop(seed: u64, frames: u16) -> Command {
+    Command::Loop(LoopWords {
+        seed,
+        frames,
+        rough: true,
+    })
 }
 
 #[test]
 fn good_words_ask_for_a_command(rt: HostRuntime) -> Result<(), Fail> {
-    let table: [(&[&str], Command); 27] = [
+    let table: [(&[&str], Command); 33] = [
         (&["decode"], decode(AudioForm::Raw, FrameForm::Hex)),
         (&["decode", "--"], decode(AudioForm::Raw, FrameForm::Hex)),
         (&["decode", "--wav"], decode(AudioForm::Wav, FrameForm::Hex)),
@@ -99,6 +126,9 @@ fn good_words_ask_for_a_command(rt: HostRuntime) -> Result<(), Fail> {
             &["encode", "--closing", "00000000000000000000000000007"],
             encode(false, 75, 7, 0),
         ),
+        (&["encode", "--level", "10"], encode_level(10)),
+        (&["encode", "--level=010000"], encode_level(10_000)),
+        (&["encode", "--level=32767"], encode_level(32_767)),
         (&["show"], show(Modulus::Eight)),
         (&["show", "--modulo", "8"], show(Modulus::Eight)),
         (&["show", "--modulo=008"], show(Modulus::Eight)),
@@ -121,6 +151,18 @@ fn good_words_ask_for_a_command(rt: HostRuntime) -> Result<(), Fail> {
             ],
             loop_of(18_446_744_073_709_551_615, 1),
         ),
+        (
+            &["loop", "--seed", "7", "--frames", "20", "--rough"],
+            rough_loop(7, 20),
+        ),
+        (
+            &["loop", "--rough", "--frames=20", "--seed=7"],
+            rough_loop(7, 20),
+        ),
+        (
+            &["loop", "--seed=0", "--rough", "--frames=0", "--"],
+            rough_loop(0, 0),
+        ),
     ];
     one_command();
     for (words, want) in table {
@@ -131,7 +173,7 @@ fn good_words_ask_for_a_command(rt: HostRuntime) -> Result<(), Fail> {
 
 #[test]
 fn other_words_are_refused(rt: HostRuntime) -> Result<(), Fail> {
-    let table: [&[&str]; 69] = [
+    let table: [&[&str]; 81] = [
         &[],
         &[""],
         &["decod"],
@@ -172,6 +214,13 @@ fn other_words_are_refused(rt: HostRuntime) -> Result<(), Fail> {
         &["encode", "--closing", "10001"],
         &["encode", "--silence", "1000001"],
         &["encode", "--silence", "4294967296"],
+        &["encode", "--level"],
+        &["encode", "--level", "9"],
+        &["encode", "--level", "32768"],
+        &["encode", "--level", "65546"],
+        &["encode", "--level", "-10"],
+        &["encode", "--level", "10", "--level", "10"],
+        &["decode", "--level", "10"],
         &["show", "x"],
         &["show", "--wav"],
         &["show", "--modulo"],
@@ -200,6 +249,11 @@ fn other_words_are_refused(rt: HostRuntime) -> Result<(), Fail> {
         &["loop", "--seed", "0x7", "--frames", "1"],
         &["loop", "--seed", "7", "--seed", "7", "--frames", "1"],
         &["loop", "--seed", "7", "--frames", "1", "--join"],
+        &["loop", "--rough"],
+        &["loop", "--seed", "7", "--frames", "1", "--rough=true"],
+        &["loop", "--seed", "7", "--frames", "1", "--rough", "--rough"],
+        &["loop", "--seed", "7", "--frames", "1", "--level", "10"],
+        &["encode", "--rough"],
         &["loop", "--help"],
     ];
     for words in table {

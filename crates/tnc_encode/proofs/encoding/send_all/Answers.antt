@@ -1,4 +1,4 @@
-use Rattle.std.proofs.Common.{◌++◌, ◌∷◌, [], ℕ, List, Option, Some, length, take, sym, subst, ap, ◌∙◌, append_assoc, arith}
+use Rattle.std.proofs.Common.{◌++◌, ◌∷◌, [], ℕ, List, Option, Some, length, take, refl, sym, subst, ap, ◌∙◌, append_assoc, arith}
 use borrow.Author.Tests.{eqb-true}
 use Rattle.std.proofs.lemmas.List.{append-nil, take_all}
 use Rattle.tnc_base.specs.Streams.{WrotePart}
@@ -28,7 +28,7 @@ returns-else-is_empty-clause-cut g c = λ before was.
 pub loop-frame-init : goal.loop-frame-init
 loop-frame-init g c = record {
   sent = λ before was. was ∙ ap Some (sym (append-nil before)) ∙ ap (λ text. Some (before ++ text)) (sym (own_octets-none c.args.words));
-  later = omega arith;
+  faultless = refl;
 }
 
 pub loop-frame-preserved : goal.loop-frame-preserved
@@ -39,7 +39,7 @@ loop-frame-preserved g c = record {
       ∙ ap (λ frames. Some ((before ++ done) ++ pcm (samples_of (sent_at_once c.args.words frames)))) c.from_ref.ensures.value
       ∙ ap Some (append_assoc before done (pcm (samples_of (sent_at_once c.args.words (c.frame-item.result ∷ [])))))
       ∙ ap (λ text. Some (before ++ text)) (sym (own_octets-more c.args.words c.args.frames.now c.loop-frame.frame-index c.frame-item.result c.loop-frame-test.true c.frame-item.is));
-  later = (let before = c.loop-frame.invariant.later in let now = c.in_ok-send.ensures.later in omega arith);
+  faultless = c.in_ok-send.ensures.faultless ∙ c.loop-frame.invariant.faultless;
 }
 
 pub returns-in_err-send-clause-cut : goal.returns-in_err-send-clause-cut

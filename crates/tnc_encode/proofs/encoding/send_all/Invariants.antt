@@ -1,5 +1,5 @@
 -- The frames so far have been sent, each on its own.
-use Rattle.std.proofs.Common.{◌≡◌, ◌≤◌, ◌++◌, ℕ, List, Some, take}
+use Rattle.std.proofs.Common.{◌≡◌, ◌++◌, ℕ, List, Some, take}
 use Rattle.tnc_encode.proofs.SendingLemmas.{own_octets}
 use Rattle.tnc_encode.proofs.encoding.send_all.Given as goal
 
@@ -7,5 +7,5 @@ abbrev pub invariant-loop-frame : goal.invariant-loop-frame
 invariant-loop-frame g l = record {
   sent : (before : List ℕ) → g.O.Sink.written l.initial.output ≡ Some before
       → g.O.Sink.written l.output ≡ Some (before ++ own_octets l.fn.words (take l.frame-index l.frames));
-  later : g.O.Sink.faults l.initial.output ≤ g.O.Sink.faults l.output;
+  faultless : g.O.Sink.faults l.output ≡ g.O.Sink.faults l.initial.output;
 }

@@ -31,7 +31,7 @@ reading-preserved g c = record {
       let len = c.len.ensures in
       let len_again = c.len-in-reading.ensures in
       grind (arith, common_steps);
-  later = let so_far = c.reading.invariant.later in let later = c.in-Ok.ensures.later in omega arith;
+  faultless = c.in-Ok.ensures.faultless ∙ c.reading.invariant.faultless;
 }
 
 pub returns-clause-stops : goal.returns-clause-stops

@@ -7,7 +7,7 @@ abbrev pub invariant-reading : goal.invariant-reading
 invariant-reading g l = record {
   so_far : (whole : List ℕ) → g.I.Source.left l.initial.input ≡ Some whole → HasRead whole l.octets.items (g.I.Source.left l.input);
   bound : vec_len l.octets ≤ input_limit + 1;
-  later : g.I.Source.faults l.initial.input ≤ g.I.Source.faults l.input;
+  faultless : g.I.Source.faults l.input ≡ g.I.Source.faults l.initial.input;
 }
 
 abbrev pub decreases-reading : goal.decreases-reading
