@@ -1,3 +1,4 @@
 pub mod WindowLemmas
+pub mod LevelLemmas
 pub mod WaveLemmas
 pub mod Examples

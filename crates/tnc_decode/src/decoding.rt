@@ -31,6 +31,7 @@ pub fn decode<I: Source, O: Sink>(
     ensures decoded { (octets before : List ℕ) → I.left input.old ≡ Some octets
         → O.written output.old ≡ Some before
         → OnOk result ((text : List ℕ) × IsDecoded words octets text × (O.written output.new ≡ Some (before ++ text))) }
+    ensures faultless { OnOk result ((I.faults input.new ≡ I.faults input.old) × (O.faults output.new ≡ O.faults output.old)) }
 
     // what is wrong with the input, and what was written before that is told
     ensures bad { (octets : List ℕ) → (fault : InputFault) → I.left input.old ≡ Some octets

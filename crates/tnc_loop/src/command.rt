@@ -25,6 +25,7 @@ pub fn loop_back<O: Sink>(alloc: Global, words: LoopWords, output: &mut O) -> Re
         → OnOk result (O.written output.new ≡ Some (before ++ clean_summary words)) }
     ensures no_stray { OnOk result (NoStray (drawn words) (signal (drawn words))) }
     ensures clean { OnOk result (MergesTo (frames_of (drawn words)) (signal (drawn words))) }
+    ensures faultless { OnOk result (O.faults output.new ≡ O.faults output.old) }
 
     // the stray candidate that is told, and what was written before
     ensures stray { (octets : List ℕ) → IsErrOf result (LoopFault.Stray octets) → IsFirstStray words octets }
