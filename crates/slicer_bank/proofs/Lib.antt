@@ -5,3 +5,7 @@ pub mod HeardLemmas
 pub mod PieceLemmas
 pub mod OneList
 pub mod FreshLanes
+pub mod MergingLemmas
+pub mod MergedLemmas
+pub mod FewKept
+pub mod DecoderLemmas
