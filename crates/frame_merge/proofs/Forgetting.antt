@@ -8,27 +8,20 @@ use Rattle.std.proofs.Math.Bool.{and-false}
 use Rattle.std.proofs.lemmas.Bool.{cases_lt, lt-ltb, le-leb, lt-leb, ltb-true}
 use Rattle.std.proofs.lemmas.List.{append-nil}
 use Rattle.std.proofs.lemmas.List.Elements.{All-cons, All-head, All-tail, All-weaker, All-filter, filter-append, filter_passes}
+use Rattle.std.proofs.lemmas.List.Kept.{IsNonDecreasingBy-filter}
 use Rattle.std.proofs.lemmas.List.Folds.{list_any-append, list_any_none}
 use Rattle.frame_merge.specs.declared.candidate.Candidate.{Candidate}
 use Rattle.frame_merge.specs.Order.{standing, place, IsInOrder}
 use Rattle.frame_merge.specs.Merged.{repeats, merged, merged_after, below, not_below, between}
-use Rattle.frame_merge.proofs.Ordering.{place_here, place_behind, rising_tail, rising_head, rising_cons, rising_ends}
+use Rattle.frame_merge.proofs.Ordering.{place_here, place_behind, rising_tail, rising_head, rising_ends}
 use Rattle.frame_merge.proofs.Merging.{merged_after-append, All-merged, below_none}
 
 -- a part of a list in order is in order
 pub not_below-in_order : (position : ℕ) (xs : List Candidate) → IsInOrder xs → IsInOrder (not_below position xs)
 not_below-in_order position xs h = record {
-  rising = rises xs h.rising;
+  rising = IsNonDecreasingBy-filter standing (λ item. nat_le position item.end) xs h.rising;
   offsets = All-filter (λ item. nat_le position item.end) (λ item. item.offset < 256) xs h.offsets;
 }
-  where
-    rises : (xs : List Candidate) → IsNonDecreasingBy standing xs → IsNonDecreasingBy standing (not_below position xs)
-    rises [] h = h
-    rises (x ∷ xs) h =
-        let rest = rises xs (rising_tail standing x xs h) in
-        let behind = All-filter (λ item. nat_le position item.end) (λ y. standing x ≤ standing y) xs (rising_head standing x xs h) in
-        elim (nat_le position x.end) as (λ t. IsNonDecreasingBy standing (cond t (x ∷ not_below position xs) (not_below position xs)))
-        [ true ↦ rising_cons standing x (not_below position xs) behind rest | false ↦ rest ]
 
 -- a candidate that ends at or past a position is put into the part that does too
 pub not_below-place : (position : ℕ) (item : Candidate) (xs : List Candidate) → position ≤ item.end → item.offset < 256 → All (λ y. y.offset < 256) xs

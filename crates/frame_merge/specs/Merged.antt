@@ -1,5 +1,5 @@
 -- Merging: up to eight slicers hear one transmission, at ends that lie within 15 samples of one another.
-use Rattle.std.specs.Prelude.{ℕ, ◌+◌, List, [], ◌∷◌, ◌++◌, Bool, nat_le, nat_lt, ◌&&◌, not, if◌then◌else◌, filter}
+use Rattle.std.specs.Prelude.{ℕ, ◌+◌, List, [], ◌∷◌, ◌++◌, map, Bool, nat_le, nat_lt, ◌&&◌, not, if◌then◌else◌, filter}
 use Rattle.std.specs.List.{list_any}
 use Rattle.std.specs.Str.{bytes_eq}
 use Rattle.frame_merge.specs.declared.candidate.Candidate.{Candidate}
@@ -19,6 +19,10 @@ merged_after earlier (item ∷ items) =
 -- the candidates that remain of a list in order
 abbrev pub merged : List Candidate → List Candidate
 merged items = merged_after [] items
+
+-- the frames of candidates
+abbrev pub frames_of : List Candidate → List (List ℕ)
+frames_of items = map (λ item. item.octets) items
 
 -- the part of a list that ends below a position
 abbrev pub below : ℕ → List Candidate → List Candidate

@@ -7,3 +7,7 @@ pub mod OneList
 pub mod FreshLanes
 pub mod FrameDecided
 pub mod SomeList
+pub mod MergingLemmas
+pub mod MergedLemmas
+pub mod FewKept
+pub mod DecoderLemmas

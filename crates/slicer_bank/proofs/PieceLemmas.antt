@@ -1,11 +1,13 @@
 -- A piece of samples, window after window, and a block as two pieces.
 use Rattle.std.proofs.Common.{◌≡◌, ℕ, ◌+◌, ◌-◌, ◌<◌, ◌≤◌, ℤ, pos, List, [], ◌∷◌, ◌++◌, length, get_or, take, drop, ap, sym, ◌∙◌, arith, append_assoc, subst, length-append, length-drop}
 use Rattle.std.proofs.lemmas.List.{append-nil, take_more, take_all, length-take-le, take-append-drop, drop-drop}
+use Rattle.std.specs.List.{All}
 use Rattle.std.proofs.Math.Seq.{drop-append_seam, take-append_seam}
 use Rattle.frame_merge.specs.declared.candidate.Candidate.{Candidate}
 use Rattle.slicer_bank.specs.Candidates.{AreCandidatesBehind}
 use Rattle.slicer_bank.specs.Held.{HeldLane, LanesStandFor, last_seven}
 use Rattle.slicer_bank.specs.Heard.{HearsMore}
+use Rattle.slicer_bank.specs.Merging.{CanBePut}
 use Rattle.slicer_bank.proofs.HeardLemmas.{hears_none, hears_join}
 use Rattle.slicer_bank.proofs.SevenLemmas.{window_of_piece, seven_behind_first}
 
@@ -19,6 +21,7 @@ pub record PieceHeard (position end : ℕ) (piece rest : List ℤ) (initial lane
   pub begun : position ≤ end
   pub rest_is : rest ≡ drop (end - position) piece
   pub count : length lanes ≡ 8
+  pub bounds : All CanBePut before → All CanBePut after
   pub heard : Hears position (take 7 piece) (take (end - position) (drop 7 piece)) initial lanes before after
 
 pub piece_none : (position : ℕ) (piece : List ℤ) (lanes : List HeldLane) (found : List Candidate) → length lanes ≡ 8 → PieceHeard position position piece piece lanes lanes found found
@@ -28,6 +31,7 @@ piece_none position piece lanes found count =
       begun = omega arith;
       rest_is = ap (λ n. drop n piece) (sym none);
       count = count;
+      bounds = λ h. h;
       heard = λ x size seven s.
           let empty : take (position - position) (drop 7 piece) ≡ [] = ap (λ n. take n (drop 7 piece)) none in
           (subst (LanesStandFor lanes) (sym (ap (λ t. x ++ t) empty ∙ append-nil x)) s, subst (λ t. HearsMore x t found found) (sym empty) (hears_none x found));
@@ -37,10 +41,11 @@ pub piece_more : (position end : ℕ) (piece rest window : List ℤ) (initial ol
     → 8 ≤ length rest → window ≡ take 8 rest
     → PieceHeard position end piece rest initial old before found
     → length new ≡ 8
+    → (All CanBePut found → All CanBePut after)
     → ((x : List ℤ) (sample : ℤ) → length x + 1 ≡ end + 1 → window ≡ last_seven x ++ sample ∷ [] → LanesStandFor old x
     → LanesStandFor new (x ++ sample ∷ []) × HearsMore x (sample ∷ []) found after)
     → PieceHeard position (end + 1) piece (drop 1 rest) initial new before after
-piece_more position end piece rest window initial old new before found after inside is h count step =
+piece_more position end piece rest window initial old new before found after inside is h count bounds step =
     let begun = h.begun in
     let index : ℕ = end - position in
     let next : end + 1 - position ≡ index + 1 = omega arith in
@@ -49,6 +54,7 @@ piece_more position end piece rest window initial old new before found after ins
       begun = omega arith;
       rest_is = ap (drop 1) h.rest_is ∙ drop-drop 1 index piece ∙ ap (λ n. drop n piece) (sym next);
       count = count;
+      bounds = λ each. bounds (h.bounds each);
       heard = λ x size seven s.
           let more : List ℤ = drop 7 piece in
           let sample : ℤ = get_or more index (pos 0) in

@@ -1,8 +1,10 @@
 //! The bank of eight lanes.
 
 ghost use Rattle.std.specs.Prelude.{◌≡◌, ◌+◌, ◌<◌, ◌^◌, ℤ, List, [], ◌++◌, length, true, IfOk, OnOk, OnErr, IsErr};
+ghost use Rattle.std.specs.List.{All};
 ghost use Rattle.slicer_bank.specs.Held.{StandsFor};
 ghost use Rattle.slicer_bank.specs.Candidates.{AreCandidatesBehind};
+ghost use Rattle.slicer_bank.specs.Merging.{CanBePut};
 
 use crate::hearing::hear_block;
 use crate::lane::{Lane, new_lanes};
@@ -52,6 +54,7 @@ impl Bank {
         requires { self.old.position + length block.now < 2 ^ 48 }
         ensures found { IfOk result (λ found. (x : List ℤ) → StandsFor self.old x
             → StandsFor self.new (x ++ block.now) × AreCandidatesBehind (length x) (x ++ block.now) found.items) }
+        ensures bounds { IfOk result (λ found. All CanBePut found.items) }
         ensures position { OnOk result (self.new.position ≡ self.old.position + length block.now) }
         ensures fails { self.old.spent ≡ true → IsErr result }
         ensures spent { OnErr result (self.new.spent ≡ true) }

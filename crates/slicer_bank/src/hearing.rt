@@ -1,12 +1,14 @@
 //! What the lanes hear: in a block of samples, in a piece of it, and in one window.
 
-ghost use Rattle.std.specs.Prelude.{◌≡◌, ◌+◌, ◌<◌, ◌≤◌, ◌^◌, ℤ, List, [], ◌∷◌, ◌++◌, length, take, drop, IfOk, OnOk};
+ghost use Rattle.std.specs.Prelude.{◌≡◌, ◌+◌, ◌-◌, ◌<◌, ◌≤◌, ◌^◌, ℤ, List, [], ◌∷◌, ◌++◌, length, take, drop, IfOk, OnOk};
+ghost use Rattle.std.specs.List.{All};
 ghost use Rattle.tone_table.specs.declared.tone.Tone.{Tone};
 ghost use Rattle.nrzi_bits.specs.Line.{bits_of};
 ghost use Rattle.offset_slicers.specs.Decision.{tone_of};
 ghost use Rattle.slicer_bank.specs.Held.{LaneStandsFor, LanesStandFor, last_seven};
 ghost use Rattle.slicer_bank.specs.Candidates.{AreCandidatesBehind};
 ghost use Rattle.slicer_bank.specs.Heard.{HearsMore, Adds};
+ghost use Rattle.slicer_bank.specs.Merging.{CanBePut};
 
 use crate::lane::{LANES, Lane};
 use frame_merge::Candidate;
@@ -29,6 +31,7 @@ pub(crate) fn hear_block(
         → recent.old ≡ last_seven x → LanesStandFor lanes.old x
         → LanesStandFor lanes.new (x ++ block.now) × (recent.new ≡ last_seven (x ++ block.now))
         × AreCandidatesBehind position (x ++ block.now) found.items) }
+    ensures bounds { IfOk result (λ found. All CanBePut found.items) }
 {
     let mut found = Vec::new(alloc);
     let (first, _) = block.split_at(block.len().min(7));
@@ -57,6 +60,7 @@ fn hear_first(
     ensures found { OnOk result ((x : List ℤ) → length x ≡ position
         → recent.now ≡ last_seven x → LanesStandFor lanes.old x
         → LanesStandFor lanes.new (x ++ first.now) × HearsMore x first.now found.old.items found.new.items) }
+    ensures bounds { OnOk result (All CanBePut found.old.items → All CanBePut found.new.items) }
 {
     let bridge = bridge(recent, first);
     hear_piece(alloc, lanes, position, &bridge[..7 + first.len()], found)?;
@@ -103,6 +107,7 @@ fn hear_piece(
         → take 7 piece.now ≡ last_seven x → LanesStandFor lanes.old x
         → LanesStandFor lanes.new (x ++ drop 7 piece.now)
         × HearsMore x (drop 7 piece.now) found.old.items found.new.items) }
+    ensures bounds { OnOk result (All CanBePut found.old.items → All CanBePut found.new.items) }
 {
     let mut end = position;
     let mut rest = piece;
@@ -123,10 +128,12 @@ fn hear_window(
     found: &mut Vec<Candidate>,
 ) -> Result<(), OutOfMemory>
     requires lanes { length lanes.old ≡ 8 }
+    requires room { end < 2 ^ 64 - 1 }
     ensures lanes { length lanes.new ≡ 8 }
     ensures found { OnOk result ((x : List ℤ) (sample : ℤ) → length x + 1 ≡ end
         → window.now ≡ last_seven x ++ sample ∷ [] → LanesStandFor lanes.old x
         → LanesStandFor lanes.new (x ++ sample ∷ []) × HearsMore x (sample ∷ []) found.old.items found.new.items) }
+    ensures bounds { OnOk result (All CanBePut found.old.items → All CanBePut found.new.items) }
 {
     if end < 8 {
         return Ok(());
@@ -152,10 +159,13 @@ fn hear(
     window: &[i16; 8],
     found: &mut Vec<Candidate>,
 ) -> Result<(), OutOfMemory>
+    requires lane { offset < 8 }
+    requires room { end < 2 ^ 64 - 1 }
     ensures stands_for { (tones : List Tone) → LaneStandsFor lane.old tones
         → LaneStandsFor lane.new (tones ++ tone_of window.now ∷ []) }
     ensures found { OnOk result ((tones : List Tone) → LaneStandsFor lane.old tones
         → Adds offset end (bits_of (tones ++ tone_of window.now ∷ [])) found.old.items found.new.items) }
+    ensures bounds { OnOk result (All CanBePut found.old.items → All CanBePut found.new.items) }
 {
     if !lane.push(window) {
         return Ok(());

@@ -1,8 +1,9 @@
 //! Laws on the candidates of samples. A law is the contract of a function that does nothing.
 
-ghost use Rattle.std.specs.Prelude.{◌≡◌, ◌≤◌, ℕ, ℤ, List, ◌++◌, length};
+ghost use Rattle.std.specs.Prelude.{◌≡◌, ◌+◌, ◌≤◌, ℕ, ℤ, List, ◌++◌, length};
 ghost use Rattle.frame_merge.specs.declared.candidate.Candidate.{Candidate};
 ghost use Rattle.slicer_bank.specs.Candidates.{AreCandidates, AreCandidatesBehind};
+ghost use Rattle.slicer_bank.specs.MergedItems.{AreMerged, AreMergedBetween};
 
 /// Samples have one list of candidates.
 pub fn one_list_of_candidates()
@@ -12,4 +13,15 @@ pub fn one_list_of_candidates()
 /// The candidates of a block that follow those of the samples before it are, with them, those of all samples.
 pub fn blocks_join()
     ensures { (x block : List ℤ) (items found : List Candidate) → AreCandidates x items → AreCandidatesBehind (length x) (x ++ block) found → AreCandidates (x ++ block) (items ++ found) }
+{}
+
+/// The items of samples that end below a position, and the next ones, which more samples gave, are those of all samples.
+pub fn items_join()
+    ensures { (from middle to : ℕ) (x y : List ℤ) (items more : List Candidate) → from ≤ middle → middle ≤ to → middle ≤ length x
+        → AreMergedBetween from middle x items → AreMergedBetween middle to (x ++ y) more → AreMergedBetween from to (x ++ y) (items ++ more) }
+{}
+
+/// The items that end up to the number of samples are all.
+pub fn items_are_all()
+    ensures { (x : List ℤ) (items : List Candidate) → AreMergedBetween 0 (length x + 1) x items → AreMerged x items }
 {}

@@ -7,11 +7,18 @@
 #![tactic(auto)]
 
 mod bank;
+mod decoder;
 mod existence;
 mod hearing;
 mod lane;
 mod laws;
+mod merging;
 
 pub use bank::Bank;
+pub use decoder::Decoder;
 pub use existence::some_list_of_candidates;
-pub use laws::{blocks_join, one_list_of_candidates};
+pub use laws::{blocks_join, items_are_all, items_join, one_list_of_candidates};
+pub use merging::merge;
+
+#[cfg(test)]
+mod worked_signal;

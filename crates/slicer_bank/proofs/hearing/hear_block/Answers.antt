@@ -1,4 +1,7 @@
-use Rattle.std.proofs.Common.{◌≡◌, take, arith, subst, ◌∙◌, ap}
+use Rattle.std.proofs.Common.{◌≡◌, take, arith, subst, sym, ◌∙◌, ap}
+use Rattle.std.specs.List.{All}
+use Rattle.std.proofs.lemmas.List.Elements.{All-nil}
+use Rattle.slicer_bank.specs.Merging.{CanBePut}
 use Rattle.std.proofs.lemmas.List.{take_all}
 use Rattle.slicer_bank.proofs.PieceLemmas.{Hears, block_heard, candidates_heard}
 use Rattle.slicer_bank.proofs.hearing.hear_block.Goals as goal
@@ -24,3 +27,8 @@ returns-clause-found c = λ x size is h.
     let heard = block_heard c.args.position c.args.recent.now c.args.block.now c.args.lanes.now c.hear_first.new.lanes c.hear_piece.new.lanes
     c.new-found.result.items c.hear_first.new.found.items c.hear_piece.new.found.items (omega arith) first c.in_ok-hear_piece.ensures.found x size is h in
     (heard.0, c.keep_last.ensures x is, candidates_heard x c.args.block.now c.args.position c.new-found.result.items c.hear_piece.new.found.items size c.new-found.ensures.items heard.1)
+
+pub returns-clause-bounds : goal.returns-clause-bounds
+returns-clause-bounds c =
+    let none : All CanBePut c.new-found.result.items = subst (All CanBePut) (sym c.new-found.ensures.items) (All-nil CanBePut) in
+    c.in_ok-hear_piece.ensures.bounds (c.in_ok-hear_first.ensures.bounds none)

@@ -1,0 +1,68 @@
+-- Candidates put into a merger, one after another.
+use Rattle.std.proofs.Common.{◌≡◌, ℕ, ◌+◌, ◌<◌, List, [], ◌∷◌, ◌++◌, length, get_or, append_assoc, sym, subst, ◌∙◌, ap, arith, inl, inr, refl, length-append, ℤ}
+use Rattle.std.specs.List.{All, AllPairs}
+use Rattle.std.specs.List.Sorted.{IsNonDecreasingBy}
+use Rattle.std.proofs.lemmas.Bool.{cases_eq}
+use Rattle.std.proofs.lemmas.List.{append-nil, nil_from_length}
+use Rattle.std.proofs.Math.Seq.{get_or-append_seam}
+use Rattle.slicer_bank.specs.Merging.{CanBePut}
+use Rattle.frame_merge.specs.declared.candidate.Candidate.{Candidate}
+use Rattle.frame_merge.specs.Held.{Held, StandsFor}
+use Rattle.frame_merge.specs.Order.{standing, in_order, IsInOrder}
+use Rattle.frame_merge.proofs.Ordering.{in_order-rising}
+use Rattle.slicer_bank.specs.Candidates.{AreCandidates}
+
+-- the merger was given these candidates since, and so many others are left
+pub record HasPut (initial now : Held) (all items left : List Candidate) (count : ℕ) : Type 0 where
+  pub marks : now.marks ≡ initial.marks
+  pub stands_for : (puts given : List Candidate) → StandsFor initial puts given → StandsFor now (puts ++ items) given
+  pub parts : items ++ left ≡ all
+  pub counted : length left ≡ count
+
+pub has_put_none : (initial : Held) (all left : List Candidate) (count : ℕ) → left ≡ all → length left ≡ count → HasPut initial initial all [] left count
+has_put_none initial all left count is counted = record {
+  marks = refl;
+  stands_for = λ puts given h. subst (λ t. StandsFor initial t given) (sym (append-nil puts)) h;
+  parts = is;
+  counted = counted;
+}
+
+pub has_put_more : (initial was now : Held) (all items left rest : List Candidate) (count less : ℕ) (item : Candidate) → HasPut initial was all items left count
+    → left ≡ item ∷ rest → less + 1 ≡ count
+    → now.marks ≡ was.marks → ((puts given : List Candidate) → StandsFor was puts given → StandsFor now (puts ++ item ∷ []) given)
+    → HasPut initial now all (items ++ item ∷ []) rest less
+has_put_more initial was now all items left rest count less item h is fewer same step = record {
+  marks = same ∙ h.marks;
+  stands_for = λ puts given s. subst (λ t. StandsFor now t given) (append_assoc puts items (item ∷ [])) (step (puts ++ items) given (h.stands_for puts given s));
+  parts = append_assoc items (item ∷ []) rest ∙ ap (λ t. items ++ t) (sym is) ∙ h.parts;
+  counted = (let c = h.counted in let l : length left ≡ length (item ∷ rest) = ap length is in omega arith);
+}
+
+pub has_put_all : (initial now : Held) (all items left : List Candidate) (count : ℕ) → HasPut initial now all items left count → count ≡ 0 → items ≡ all
+has_put_all initial now all items left count h none =
+    let empty : left ≡ [] = nil_from_length left (h.counted ∙ none) in
+    sym (append-nil items) ∙ ap (λ t. items ++ t) (sym empty) ∙ h.parts
+
+-- what may be put into a merger with nothing marked
+pub next_can_be_put : (initial now : Held) (all items left rest : List Candidate) (count : ℕ) (item : Candidate) → HasPut initial now all items left count → left ≡ item ∷ rest → All CanBePut all → CanBePut item
+next_can_be_put initial now all items left rest count item h is each =
+    let whole : items ++ item ∷ rest ≡ all = ap (λ t. items ++ t) (sym is) ∙ h.parts in
+    let within : length items < length all = (let l : length (items ++ item ∷ rest) ≡ length all = ap length whole in let m = length-append items (item ∷ rest) in omega arith) in
+    subst CanBePut (ap (λ t. get_or t (length items) item) (sym whole) ∙ get_or-append_seam items item rest item) (each (length items) item within)
+
+-- a list that strictly rises is in order
+rising_strictly : (items : List Candidate) → AllPairs (λ item later. standing item < standing later) items → IsNonDecreasingBy standing items
+rising_strictly items h i j d ij jl = elim (cases_eq i j) [
+  | inl same ↦ let e : standing (get_or items i d) ≡ standing (get_or items j d) = ap (λ t. standing (get_or items t d)) same in omega arith
+  | inr other ↦ let below = h i j d (omega arith) jl in omega arith
+]
+
+pub in_order-strictly : (items : List Candidate) → AllPairs (λ item later. standing item < standing later) items → in_order items ≡ items
+in_order-strictly items h = in_order-rising items (rising_strictly items h)
+
+-- and so are the candidates of samples
+pub is_in_order : (x : List ℤ) (items : List Candidate) → AreCandidates x items → IsInOrder items
+is_in_order x items h = record {
+  rising = rising_strictly items h.order;
+  offsets = λ k d l. let e = h.each k d l in let small = e.0.offset in omega arith;
+}

@@ -1,0 +1,71 @@
+//! From candidates to the items that are given: each frame once, and in order.
+
+ghost use Rattle.std.specs.Prelude.{◌≡◌, ◌+◌, ◌<◌, ◌^◌, ℤ, List, ◌++◌, length, replicate, IfOk, OnOk};
+ghost use Rattle.std.specs.List.{All, AllPairs};
+ghost use Rattle.frame_merge.specs.declared.candidate.Candidate.{Candidate};
+ghost use Rattle.frame_merge.specs.Held.{StandsFor};
+ghost use Rattle.frame_merge.specs.Merged.{merged};
+ghost use Rattle.frame_merge.specs.Order.{standing};
+ghost use Rattle.slicer_bank.specs.HeldDecoder.{HaveTaken};
+ghost use Rattle.slicer_bank.specs.MergedItems.{AreMergedBetween};
+ghost use Rattle.slicer_bank.specs.Merging.{CanBePut};
+
+use crate::bank::Bank;
+use frame_merge::{Candidate, Merger};
+use std::alloc::Global;
+use tnc_base::OutOfMemory;
+
+/// The offsets of a bit, each with a lane of its own.
+pub(crate) const OFFSETS: u8 = 8;
+
+/// What is merged from candidates that stand in order.
+pub fn merge(alloc: Global, candidates: Vec<Candidate>) -> Result<Vec<Candidate>, OutOfMemory>
+    requires items { All CanBePut candidates.items }
+    requires order { AllPairs (λ item later. standing item < standing later) candidates.items }
+    ensures { IfOk result (λ items. items.items ≡ merged candidates.items) }
+{
+    let mut merger = Merger::new(alloc, OFFSETS)?;
+    put_all(&mut merger, candidates)?;
+    merger.finish();
+    merger.take_ready()
+}
+
+/// Gives a block to a bank that has taken `position` samples, and what it hears to a merger whose lanes are marked there.
+/// Tells the items that are settled by the block.
+pub(crate) fn merge_block(
+    bank: &mut Bank,
+    merger: &mut Merger,
+    position: u64,
+    block: &[i16],
+) -> Result<Vec<Candidate>, OutOfMemory>
+    requires room { position + length block.now < 2 ^ 48 }
+    requires position { bank.old.position ≡ position }
+    requires marks { merger.old.marks ≡ replicate 8 position }
+    ensures given { IfOk result (λ ready. (x : List ℤ) → length x ≡ position → HaveTaken bank.old merger.old x
+        → HaveTaken bank.new merger.new (x ++ block.now)
+        × AreMergedBetween (length x) (length (x ++ block.now)) (x ++ block.now) ready.items) }
+    ensures position { OnOk result (bank.new.position ≡ position + length block.now) }
+    ensures marks { OnOk result (merger.new.marks ≡ replicate 8 (position + length block.now)) }
+{
+    let found = bank.feed(block)?;
+    put_all(merger, found)?;
+    merger.mark_all(position + block.len() as u64);
+    let ready = merger.take_ready()?;
+    Ok(ready)
+}
+
+/// Puts candidates into a merger of eight lanes, in their order. None of them ends below the mark of its lane.
+fn put_all(merger: &mut Merger, items: Vec<Candidate>) -> Result<(), OutOfMemory>
+    requires marks { length merger.old.marks ≡ 8 }
+    requires items { All CanBePut items.items }
+    ensures stands_for { OnOk result ((puts given : List Candidate) → StandsFor merger.old puts given → StandsFor merger.new (puts ++ items.items) given) }
+    ensures marks { merger.new.marks ≡ merger.old.marks }
+{
+    for item in items {
+        // No item is late, so want of memory is the one refusal.
+        let Ok(()) = merger.put(item) else {
+            return Err(OutOfMemory);
+        };
+    }
+    Ok(())
+}
