@@ -25,7 +25,7 @@ line_after-append bits more = fold-append next_line new_line bits more
 
 -- ---- flags and aborts
 
-ends_flag : (bits : List Bool) → EndsOnZero (line_after bits) → EndsFlag (bits ++ false ∷ [])
+pub ends_flag : (bits : List Bool) → EndsOnZero (line_after bits) → EndsFlag (bits ++ false ∷ [])
 ends_flag bits ends =
     let told = told_after bits in
     let was = told.zero_before ends.after_zero in
@@ -37,7 +37,7 @@ flag_without_last : (bits before : List Bool) → bits ++ false ∷ [] ≡ befor
 flag_without_last bits before e =
     (same_from_push bits (before ++ flag_front) false false (e ∙ sym (append_assoc before flag_front (false ∷ [])))).0
 
-ends_on_zero : (bits : List Bool) → EndsFlag (bits ++ false ∷ []) → EndsOnZero (line_after bits)
+pub ends_on_zero : (bits : List Bool) → EndsFlag (bits ++ false ∷ []) → EndsOnZero (line_after bits)
 ends_on_zero bits ends =
     let known : line_after bits ≡ fold next_line (line_after ends.0) flag_front =
     ap line_after (flag_without_last bits ends.0 ends.1) ∙ line_after-append ends.0 flag_front in

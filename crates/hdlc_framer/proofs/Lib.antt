@@ -7,4 +7,5 @@ pub mod CarrierLemmas
 pub mod PackedLemmas
 pub mod DeframerLemmas
 pub mod StuffLemmas
+pub mod BusyLemmas
 mod Examples

@@ -1,6 +1,6 @@
 -- When a receiver hears a carrier, by the bits alone (AX.25 2.2 sections 3.1, 3.9 and 6.4.2 leave it to the modem): flags
 -- show that another station sends, and an abort or a long stretch without a flag that it sends no more.
-use Rattle.std.specs.Prelude.{ℕ, zero, suc, ◌-◌, ◌<◌, ◌≤◌, ◌⊎◌, ⊤, Bool, List, length, take}
+use Rattle.std.specs.Prelude.{ℕ, zero, suc, ◌+◌, ◌-◌, ◌<◌, ◌≤◌, ◌⊎◌, ⊤, Bool, List, length, take}
 use Rattle.hdlc_framer.specs.Frames.{EndsFlag, EndsAbort}
 
 -- So many flags in a row end with the last bit. Two in a row share a 0, so that the first ends 7 bits before the second, or
@@ -29,3 +29,12 @@ pub record HoldsCarrier (flags : ℕ) (bits : List Bool) : Type 0 where
   pub within : place ≤ length bits
   pub found : EndsFlags flags (take place bits)
   pub kept : (later : ℕ) → place < later → later ≤ length bits → ¬ IsLost (take later bits)
+
+-- a flag has come and, since the last one, neither seven 1s in a row nor 10,000 bits
+pub record IsBusy (bits : List Bool) : Type 0 where
+  pub place : ℕ
+  pub within : place ≤ length bits
+  pub flag : EndsFlag (take place bits)
+  pub last : (later : ℕ) → place < later → later ≤ length bits → ¬ EndsFlag (take later bits)
+  pub no_abort : (later : ℕ) → place < later → later ≤ length bits → ¬ EndsAbort (take later bits)
+  pub fewer : length bits < place + most_quiet

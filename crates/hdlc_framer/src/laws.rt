@@ -1,6 +1,7 @@
 // Laws on the definitions. A law is the contract of a function that does nothing.
 
 ghost use Rattle.std.specs.Prelude.{◌≡◌, ◌≤◌, ◌↔◌, ℕ, Bool, List, length};
+ghost use Rattle.hdlc_framer.specs.Carrier.{HoldsCarrier, IsBusy};
 ghost use Rattle.hdlc_framer.specs.CheckSequence.{remainder};
 ghost use Rattle.hdlc_framer.specs.Division.{IsRemainder};
 ghost use Rattle.hdlc_framer.specs.Events.{EventAt};
@@ -27,4 +28,10 @@ pub fn one_event_comes()
 pub fn remainder_is_of_division()
     ensures { (p : List Bool) → (r : List Bool) → 16 ≤ length p
         → (IsRemainder p r ↔ (r ≡ remainder p)) }
+{}
+
+/// A carrier of one flag is held exactly if a flag has come and, since the last one, neither seven 1s in a row nor 10,000
+/// bits.
+pub fn one_flag_makes_busy()
+    ensures { (bits : List Bool) → HoldsCarrier 1 bits ↔ IsBusy bits }
 {}

@@ -17,7 +17,7 @@ mod stuffing;
 pub use check_sequence::fcs;
 pub use deframer::Deframer;
 pub use event::Event;
-pub use laws::{one_event_comes, one_frame_ends, remainder_is_of_division};
+pub use laws::{one_event_comes, one_flag_makes_busy, one_frame_ends, remainder_is_of_division};
 pub use stuffing::stuff;
 
 #[cfg(test)]
