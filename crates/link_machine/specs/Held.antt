@@ -1,5 +1,5 @@
 -- What a link keeps in one event, act by act. No public clause speaks of this.
-use Rattle.std.specs.Prelude.{replicate, ◌<◌, Result, Ok, Err, ◌≡◌, ℕ, ◌+◌, Bool, false, ◌++◌, ◌∷◌, [], length, if◌then◌else◌, List}
+use Rattle.std.specs.Prelude.{All, ◌≤◌, replicate, ◌<◌, Result, Ok, Err, ◌≡◌, ℕ, ◌+◌, Bool, false, ◌++◌, ◌∷◌, [], length, if◌then◌else◌, List}
 use Rattle.link_machine.specs.Sent.Sent.{InfoSent}
 use Rattle.selective_reject.specs.Outgoing.{Outgoing, IsOutgoing, after_next, acknowledged, back}
 use Rattle.selective_reject.specs.Incoming.{Incoming, IsIncoming}
@@ -7,7 +7,7 @@ use Rattle.selective_reject.specs.declared.window.Mode.TheVariants.{Rej}
 use Rattle.selective_reject.specs.Places.{empty_place, is_full}
 use Rattle.link_machine.specs.declared.machine.Machine.{Machine as Held}
 use Rattle.link_machine.specs.declared.room.Room.{Room}
-use Rattle.link_machine.specs.Machine.{Machine, is_valid, named, modulus_named}
+use Rattle.link_machine.specs.Machine.{Machine, most_octets, is_valid, named, modulus_named}
 use Rattle.link_machine.specs.Sent.{sent_in, all_sent_in, sent_frames, infos_from}
 use Rattle.link_machine.specs.Acts.{sent_to, reset}
 use Rattle.link_machine.specs.Frames.{hear_supervisory}
@@ -90,6 +90,15 @@ pub record SentSome (packets left : List Packet) (held : Held) (room : Room) (t 
 pub record IsWhole (held : Held) : Type 0 where
   pub link : IsLink held
   pub next : IsReady held.incoming
+
+-- a packet of at most N1 octets
+abbrev pub IsShort : Packet → Type 0
+IsShort packet = length packet.octets ≤ most_octets
+
+-- what holds of each link between two calls
+pub record IsKept (held : Held) : Type 0 where
+  pub whole : IsWhole held
+  pub short : All IsShort held.outgoing.packets
 
 -- a frame with a valid N(R), or one with another
 abbrev pub hear_numbered : ℕ → (ℕ → Act) → Act

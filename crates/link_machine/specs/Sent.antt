@@ -9,6 +9,7 @@ use Rattle.ax25_frames.specs.declared.frame.Kind.{Kind}
 use Rattle.ax25_frames.specs.declared.frame.Kind.TheVariants.{Info, Super, Setup}
 use Rattle.ax25_frames.specs.declared.frame.S.{S}
 use Rattle.ax25_frames.specs.declared.frame.U.{U}
+use Rattle.ax25_frames.specs.FrameOctets.{CanWrite}
 use Rattle.ax25_frames.specs.FrameText.{sets_up_or_ends}
 use Rattle.selective_reject.specs.declared.packet.Packet.{Packet}
 use Rattle.link_machine.specs.declared.acts.SentFrame.{SentFrame}
@@ -56,6 +57,10 @@ sent_frame path sent = record { frame = frame_of sent.modulus path sent.frame; m
 
 abbrev pub sent_frames : Path → List SentIn → List SentFrame
 sent_frames path sent = map (sent_frame path) sent
+
+-- the frame can be written in its modulus
+abbrev pub IsWritable : SentFrame → Type 0
+IsWritable sent = CanWrite sent.modulus sent.frame
 
 -- packets as I frames, numbered from a number on
 abbrev pub infos_from : ℕ → ℕ → List Packet → List Sent

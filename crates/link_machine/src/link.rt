@@ -1,5 +1,5 @@
 //! A link, as the layer above sees it.
-ghost use Rattle.std.specs.Prelude.{◌≡◌, ℕ, ◌<◌, ◌⊎◌, ◌↔◌, true, Bool, Ok, Err, Some, OnOk, OnErr, IfOk, IfErr, length};
+ghost use Rattle.std.specs.Prelude.{◌≡◌, ℕ, ◌<◌, ◌⊎◌, ◌↔◌, true, Bool, Ok, Err, Some, OnOk, OnErr, IfOk, IfErr, All, length};
 ghost use Rattle.std.specs.Result.{IsErrOf};
 
 use crate::acts::Acts;
@@ -30,13 +30,13 @@ pub struct Link {
 
 impl Model for Link {
     ghost use Rattle.link_machine.specs.declared.machine.Machine.{Machine};
-    ghost use Rattle.link_machine.specs.Held.{IsWhole};
+    ghost use Rattle.link_machine.specs.Held.{IsKept};
 
     ghost Value = { Machine };
 
     ghost view = { λ link. link.machine };
 
-    ghost invariant = { λ link. IsWhole link.machine };
+    ghost invariant = { λ link. IsKept link.machine };
 }
 
 impl Link {
@@ -46,6 +46,7 @@ impl Link {
     ghost use Rattle.link_machine.specs.Machine.{Machine as State, new_machine, modulus_named};
     ghost use Rattle.link_machine.specs.Event.Event.{Connect, Send, Disconnect, Hear, Tick};
     ghost use Rattle.link_machine.specs.Requests.{refusal};
+    ghost use Rattle.link_machine.specs.Sent.{IsWritable};
     ghost use Rattle.link_machine.specs.Step.{step, done_of};
     ghost use Rattle.link_machine.specs.StandsFor.{StandsFor};
     ghost use Rattle.link_machine.specs.declared.fault.LinkFault.{LinkFault};
@@ -71,6 +72,7 @@ impl Link {
         ensures stands_for { (m : State) → StandsFor self.old m → OnOk result (StandsFor self.new (step m Connect).now) }
         ensures refused { (fault : LinkFault) → refusal self.old.control (length self.old.outgoing.packets) Connect ≡ Some fault → result ≡ Err fault }
         ensures fault { IfErr result (λ fault. (fault ≡ LinkFault.Memory) ⊎ (refusal self.old.control (length self.old.outgoing.packets) Connect ≡ Some fault)) }
+        ensures writable { IfOk result (λ acts. All IsWritable acts.frames) }
         ensures unchanged { OnErr result (self.new ≡ self.old) }
     {
         if self.machine.control.has_link() {
@@ -87,6 +89,7 @@ impl Link {
         ensures stands_for { (m : State) → StandsFor self.old m → OnOk result (StandsFor self.new (step m (Send packet)).now) }
         ensures refused { (fault : LinkFault) → refusal self.old.control (length self.old.outgoing.packets) (Send packet) ≡ Some fault → result ≡ Err fault }
         ensures fault { IfErr result (λ fault. (fault ≡ LinkFault.Memory) ⊎ (refusal self.old.control (length self.old.outgoing.packets) (Send packet) ≡ Some fault)) }
+        ensures writable { IfOk result (λ acts. All IsWritable acts.frames) }
         ensures unchanged { OnErr result (self.new ≡ self.old) }
     {
         if self.machine.control.is_closed() {
@@ -110,6 +113,7 @@ impl Link {
         ensures stands_for { (m : State) → StandsFor self.old m → OnOk result (StandsFor self.new (step m Disconnect).now) }
         ensures refused { (fault : LinkFault) → refusal self.old.control (length self.old.outgoing.packets) Disconnect ≡ Some fault → result ≡ Err fault }
         ensures fault { IfErr result (λ fault. (fault ≡ LinkFault.Memory) ⊎ (refusal self.old.control (length self.old.outgoing.packets) Disconnect ≡ Some fault)) }
+        ensures writable { IfOk result (λ acts. All IsWritable acts.frames) }
         ensures unchanged { OnErr result (self.new ≡ self.old) }
     {
         if self.machine.control.is_closed() {
@@ -125,6 +129,7 @@ impl Link {
         requires { IsNumbered (modulus_named self.old.incoming.modulus) (control_of frame.now.kind) }
         ensures step { (m : State) → StandsFor self.old m → IfOk result (λ acts. acts ≡ done_of (step m (Hear frame.now))) }
         ensures stands_for { (m : State) → StandsFor self.old m → OnOk result (StandsFor self.new (step m (Hear frame.now)).now) }
+        ensures writable { IfOk result (λ acts. All IsWritable acts.frames) }
         ensures unchanged { OnErr result (self.new ≡ self.old) }
     {
         self.machine.hear(self.alloc, frame)
@@ -134,6 +139,7 @@ impl Link {
     pub fn tick(&mut self, waiting: bool) -> Result<Acts, OutOfMemory>
         ensures step { (m : State) → StandsFor self.old m → IfOk result (λ acts. acts ≡ done_of (step m (Tick waiting))) }
         ensures stands_for { (m : State) → StandsFor self.old m → OnOk result (StandsFor self.new (step m (Tick waiting)).now) }
+        ensures writable { IfOk result (λ acts. All IsWritable acts.frames) }
         ensures unchanged { OnErr result (self.new ≡ self.old) }
     {
         self.machine.tick(self.alloc, waiting)

@@ -4,22 +4,33 @@ use Rattle.link_machine.specs.declared.machine.Machine.{Machine as Held}
 use Rattle.link_machine.specs.Requests.{connect, has_link}
 use Rattle.link_machine.specs.Event.Event.{Connect}
 use Rattle.link_machine.specs.StandsFor.{StandsFor}
-use Rattle.link_machine.proofs.Events.{answers_right, free_connect, holds_of, whole_behind}
+use Rattle.link_machine.proofs.Events.{answers_right, free_connect, holds_of, itself, holds_itself}
+use Rattle.link_machine.proofs.Writable.{kept_behind, kept_by}
 use Rattle.link_machine.proofs.link.Link.connect.Goals as goal
 
 pub invariant_of-self-2 : goal.invariant_of-self-2
-invariant_of-self-2 c = whole_behind connect c.self.inside.machine c.take_connect.new.self c.take_connect.result c.take_connect.ensures c.self.invariant
+invariant_of-self-2 c =
+    let held = c.self.inside.machine in
+    let free = free_connect (itself held) (sym c.has_link.ensures ∙ c.if-has_link.false) in
+    (kept_by held c.take_connect.new.self Connect c.take_connect.result c.self.invariant free c.take_connect.ensures).0
+
+pub returns-clause-writable : goal.returns-clause-writable
+returns-clause-writable c =
+    let held = c.self.inside.machine in
+    let free = free_connect (itself held) (sym c.has_link.ensures ∙ c.if-has_link.false) in
+    let made = c.in_ok-acts.ensures (itself held) (holds_itself held c.self.invariant.whole) in
+    (kept_behind held c.take_connect.new.self Connect c.in_ok-acts.acts c.self.invariant free made).1
 
 pub returns-clause-step : goal.returns-clause-step
 returns-clause-step c = λ m h.
     let P : Held → Type 0 = λ x. StandsFor x m in
     let stands : StandsFor c.self.inside.machine m = subst P (sym c.self.view_is) h in
     let free = free_connect m (ap (λ (x : Control). has_link x.state) (sym stands.control) ∙ sym c.has_link.ensures ∙ c.if-has_link.false) in
-    (answers_right c.take_connect.new.self m (Connect) c.in_ok-acts.acts free (c.in_ok-acts.ensures m (holds_of c.self.inside.machine m c.self.invariant stands))).0
+    (answers_right c.take_connect.new.self m (Connect) c.in_ok-acts.acts free (c.in_ok-acts.ensures m (holds_of c.self.inside.machine m c.self.invariant.whole stands))).0
 
 pub returns-clause-stands_for : goal.returns-clause-stands_for
 returns-clause-stands_for c = λ m h.
     let P : Held → Type 0 = λ x. StandsFor x m in
     let stands : StandsFor c.self.inside.machine m = subst P (sym c.self.view_is) h in
     let free = free_connect m (ap (λ (x : Control). has_link x.state) (sym stands.control) ∙ sym c.has_link.ensures ∙ c.if-has_link.false) in
-    (answers_right c.take_connect.new.self m (Connect) c.in_ok-acts.acts free (c.in_ok-acts.ensures m (holds_of c.self.inside.machine m c.self.invariant stands))).1
+    (answers_right c.take_connect.new.self m (Connect) c.in_ok-acts.acts free (c.in_ok-acts.ensures m (holds_of c.self.inside.machine m c.self.invariant.whole stands))).1

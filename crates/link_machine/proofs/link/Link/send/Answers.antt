@@ -4,11 +4,26 @@ use Rattle.link_machine.specs.Turn.{changing}
 use Rattle.link_machine.specs.Requests.{joined, is_closed}
 use Rattle.link_machine.specs.Event.Event.{Send}
 use Rattle.link_machine.specs.StandsFor.{StandsFor}
-use Rattle.link_machine.proofs.Events.{answers_right, free_send, holds_of, whole_behind}
+use Rattle.link_machine.proofs.Events.{answers_right, free_send, holds_of, itself, holds_itself}
+use Rattle.link_machine.proofs.Writable.{kept_behind, kept_by}
 use Rattle.link_machine.proofs.link.Link.send.Goals as goal
 
 pub invariant_of-self-2 : goal.invariant_of-self-2
-invariant_of-self-2 c = whole_behind (changing (joined c.args.packet)) c.self.inside.machine c.take_packet.new.self c.take_packet.result c.take_packet.ensures c.self.invariant
+invariant_of-self-2 c =
+    let held = c.self.inside.machine in
+    let len : c.len.result ≡ length held.outgoing.packets = c.len.ensures.count in
+    let octets : c.len-len.result ≡ length c.args.packet.octets = c.len-len.ensures.count in
+    let free = free_send (itself held) c.args.packet (sym c.is_closed.ensures ∙ c.if-is_closed.false) (omega arith) (omega arith) in
+    (kept_by held c.take_packet.new.self (Send c.args.packet) c.take_packet.result c.self.invariant free c.take_packet.ensures).0
+
+pub returns-clause-writable : goal.returns-clause-writable
+returns-clause-writable c =
+    let held = c.self.inside.machine in
+    let len : c.len.result ≡ length held.outgoing.packets = c.len.ensures.count in
+    let octets : c.len-len.result ≡ length c.args.packet.octets = c.len-len.ensures.count in
+    let free = free_send (itself held) c.args.packet (sym c.is_closed.ensures ∙ c.if-is_closed.false) (omega arith) (omega arith) in
+    let made = c.in_ok-acts.ensures (itself held) (holds_itself held c.self.invariant.whole) in
+    (kept_behind held c.take_packet.new.self (Send c.args.packet) c.in_ok-acts.acts c.self.invariant free made).1
 
 pub returns-clause-step : goal.returns-clause-step
 returns-clause-step c = λ m h.
@@ -18,7 +33,7 @@ returns-clause-step c = λ m h.
     let len : c.len.result ≡ length c.self.inside.machine.outgoing.packets = c.len.ensures.count in
     let octets : c.len-len.result ≡ length c.args.packet.octets = c.len-len.ensures.count in
     let free = free_send m c.args.packet (ap is_closed (sym stands.control) ∙ sym c.is_closed.ensures ∙ c.if-is_closed.false) (omega arith) (omega arith) in
-    (answers_right c.take_packet.new.self m (Send c.args.packet) c.in_ok-acts.acts free (c.in_ok-acts.ensures m (holds_of c.self.inside.machine m c.self.invariant stands))).0
+    (answers_right c.take_packet.new.self m (Send c.args.packet) c.in_ok-acts.acts free (c.in_ok-acts.ensures m (holds_of c.self.inside.machine m c.self.invariant.whole stands))).0
 
 pub returns-clause-stands_for : goal.returns-clause-stands_for
 returns-clause-stands_for c = λ m h.
@@ -28,4 +43,4 @@ returns-clause-stands_for c = λ m h.
     let len : c.len.result ≡ length c.self.inside.machine.outgoing.packets = c.len.ensures.count in
     let octets : c.len-len.result ≡ length c.args.packet.octets = c.len-len.ensures.count in
     let free = free_send m c.args.packet (ap is_closed (sym stands.control) ∙ sym c.is_closed.ensures ∙ c.if-is_closed.false) (omega arith) (omega arith) in
-    (answers_right c.take_packet.new.self m (Send c.args.packet) c.in_ok-acts.acts free (c.in_ok-acts.ensures m (holds_of c.self.inside.machine m c.self.invariant stands))).1
+    (answers_right c.take_packet.new.self m (Send c.args.packet) c.in_ok-acts.acts free (c.in_ok-acts.ensures m (holds_of c.self.inside.machine m c.self.invariant.whole stands))).1
