@@ -3,3 +3,4 @@ pub mod Merging
 pub mod Searching
 pub mod Putting
 pub mod Taking
+pub mod Sorting
