@@ -6,7 +6,8 @@ use Rattle.hdlc_framer.specs.BitOrder.{octet_bits}
 use Rattle.hdlc_framer.specs.Body.{body}
 use Rattle.hdlc_framer.specs.CheckSequence.{fcs_of}
 use Rattle.hdlc_framer.specs.Frames.{with_fcs, frame_bits}
-use Rattle.afsk_modulator.specs.Transmission.{transmission}
+use Rattle.afsk_modulator.specs.Level.{sample_at, at_level}
+use Rattle.afsk_modulator.specs.Transmission.{transmission, transmission_at}
 
 -- SABM with P from N7LEM to NJ7P
 abbrev shortest : List ℕ
@@ -21,3 +22,8 @@ shortest_length = refl
 first_window : take 8 (transmission (shortest ∷ []) 2 1) ≡ pos 0 ∷ pos 9914 ∷ pos 2588 ∷ negsuc 9238 ∷ negsuc 4999 ∷ pos 7934 ∷ pos 7071 ∷ negsuc 6087 ∷ []
 unfolding fcs_of octet_bits with_fcs frame_bits body transmission pure_window wave_sample cycle_sample half_wave quarter
 first_window = refl
+
+-- at level 10 the same window, a thousandth of it and rounded towards zero
+quiet_window : take 8 (transmission_at 0 10 (shortest ∷ []) 2 1) ≡ pos 0 ∷ pos 9 ∷ pos 2 ∷ negsuc 8 ∷ negsuc 4 ∷ pos 7 ∷ pos 7 ∷ negsuc 5 ∷ []
+unfolding fcs_of octet_bits with_fcs frame_bits body transmission_at at_level sample_at pure_window wave_sample cycle_sample half_wave quarter
+quiet_window = refl

@@ -1,3 +1,5 @@
 pub mod WindowLemmas
+pub mod LevelLemmas
 pub mod WaveLemmas
 pub mod Examples
+pub mod SignalLemmas

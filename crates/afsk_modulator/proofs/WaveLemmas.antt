@@ -4,7 +4,10 @@ use Rattle.std.proofs.lemmas.List.{append-nil}
 use Rattle.tone_table.specs.declared.tone.Tone.{Tone}
 use Rattle.tone_table.specs.Tones.{next_phase}
 use Rattle.tone_table.specs.Wave.{pure_window, wave_from, wave}
-use Rattle.afsk_modulator.specs.Phase.{phase_from, phase_behind}
+use Rattle.afsk_modulator.specs.Level.{at_level}
+use Rattle.afsk_modulator.specs.Modulation.{Modulation, full, tone_window, wave_of, behind}
+use Rattle.afsk_modulator.specs.Phase.{phase_from}
+use Rattle.afsk_modulator.proofs.LevelLemmas.{at_level-full, at_level-append}
 
 -- the phase behind two lists of tones, one behind the other
 pub phase_from-append : (phase : ℕ) (ts us : List Tone) → phase_from phase (ts ++ us) ≡ phase_from (phase_from phase ts) us
@@ -19,16 +22,26 @@ wave_from-append phase (t ∷ ts) us =
     ap (λ samples. pure_window phase t ++ samples) (wave_from-append (next_phase phase t) ts us)
     ∙ sym (append_assoc (pure_window phase t) (wave_from (next_phase phase t) ts) (wave_from (phase_from (next_phase phase t) ts) us))
 
--- the phase behind one tone more
-pub phase_behind-push : (tones : List Tone) (tone : Tone) (phase : ℕ) → phase ≡ phase_behind tones
-    → next_phase phase tone ≡ phase_behind (tones ++ tone ∷ [])
-phase_behind-push tones tone phase at =
-    ap (λ p. next_phase p tone) at ∙ sym (phase_from-append 0 tones (tone ∷ []))
+-- where a wave goes on behind one tone more
+pub behind-push : (start : Modulation) (tones : List Tone) (tone : Tone) (now : Modulation) → now ≡ behind start tones
+    → behind now (tone ∷ []) ≡ behind start (tones ++ tone ∷ [])
+behind-push start tones tone now at =
+    ap (λ m. behind m (tone ∷ [])) at
+    ∙ ap (λ phase. record start { phase = phase }) (sym (phase_from-append start.phase tones (tone ∷ [])))
 
 -- the wave of one tone more
-pub wave-push : (tones : List Tone) (tone : Tone) (phase : ℕ) → phase ≡ phase_behind tones
-    → wave (tones ++ tone ∷ []) ≡ wave tones ++ pure_window phase tone
-wave-push tones tone phase at =
-    wave_from-append 0 tones (tone ∷ [])
-    ∙ ap (λ samples. wave tones ++ samples) (append-nil (pure_window (phase_behind tones) tone))
-    ∙ ap (λ p. wave tones ++ pure_window p tone) (sym at)
+pub wave_of-push : (start : Modulation) (tones : List Tone) (tone : Tone) (now : Modulation) → now ≡ behind start tones
+    → wave_of start (tones ++ tone ∷ []) ≡ wave_of start tones ++ tone_window now tone
+wave_of-push start tones tone now at =
+    let there : Modulation = behind start tones in
+    ap (at_level start.level) (wave_from-append start.phase tones (tone ∷ []) ∙ ap (λ w. wave_from start.phase tones ++ w) (append-nil (pure_window there.phase tone)))
+    ∙ at_level-append start.level (wave_from start.phase tones) (pure_window there.phase tone)
+    ∙ ap (λ m. wave_of start tones ++ tone_window m tone) (sym at)
+
+-- the same for a transmission at full amplitude
+pub wave-push : (tones : List Tone) (tone : Tone) (now : Modulation) → now ≡ behind full tones
+    → wave (tones ++ tone ∷ []) ≡ wave tones ++ tone_window now tone
+wave-push tones tone now at =
+    sym (at_level-full (wave (tones ++ tone ∷ [])))
+    ∙ wave_of-push full tones tone now at
+    ∙ ap (λ w. w ++ tone_window now tone) (at_level-full (wave tones))

@@ -10,10 +10,16 @@ use Rattle.tone_table.specs.declared.tone.Tone.{Tone}
 use Rattle.tone_table.specs.Sine.{cycle_sample, wave_sample}
 use Rattle.tone_table.specs.Tones.{phase_step}
 use Rattle.tone_table.specs.Wave.{pure_window}
+use Rattle.afsk_modulator.specs.Level.{sample_at, at_level}
+use Rattle.afsk_modulator.specs.Modulation.{Modulation, tone_window}
 
--- the first samples of a tone from a phase on
-abbrev pub samples_below : ℕ → ℕ → Tone → List ℤ
-samples_below count phase tone = map (λ i. wave_sample (phase + i * phase_step tone)) (range_with_len 0 count)
+-- a sample of a tone
+abbrev pub tone_sample : Modulation → Tone → ℕ → ℤ
+tone_sample m tone i = sample_at m.level (wave_sample (m.phase + i * phase_step tone))
+
+-- the first samples of a tone
+abbrev pub samples_below : ℕ → Modulation → Tone → List ℤ
+samples_below count m tone = map (tone_sample m tone) (range_with_len 0 count)
 
 -- whole cycles change no sample
 wave_sample-mod : (phase : ℕ) → wave_sample (phase % 48) ≡ wave_sample phase
@@ -21,22 +27,25 @@ unfolding wave_sample
 wave_sample-mod phase = ap cycle_sample (mod-mod phase 48)
 
 -- one sample more
-pub samples_more : (place phase step at : ℕ) (tone : Tone) (window : List ℤ) (sample : ℤ) → place < length window
-    → take place window ≡ samples_below place phase tone → step ≡ phase_step tone → at ≡ (phase + place * step) % 48
-    → sample ≡ wave_sample at → unsigned_abs sample ≤ 10000
-    → take (place + 1) (set window place (to_z w16 (of_z w16 sample))) ≡ samples_below (place + 1) phase tone
-samples_more place phase step at tone window sample below so_far is_step is_at is small =
+pub samples_more : (m : Modulation) (place step at : ℕ) (tone : Tone) (window : List ℤ) (pure sample : ℤ) → place < length window
+    → take place window ≡ samples_below place m tone → step ≡ phase_step tone → at ≡ (m.phase + place * step) % 48
+    → pure ≡ wave_sample at → unsigned_abs pure ≤ 10000 → sample ≡ sample_at m.level (to_z w16 (of_z w16 pure))
+    → unsigned_abs sample ≤ m.level → m.level ≤ 32767
+    → take (place + 1) (set window place (to_z w16 (of_z w16 sample))) ≡ samples_below (place + 1) m tone
+samples_more m place step at tone window pure sample below so_far is_step is_at is_pure low is small most =
     let fits : FitsSigned w16 sample = search (arith, ints) in
-    let now : to_z w16 (of_z w16 sample) ≡ wave_sample (phase + place * phase_step tone) =
-    to_z-of_z w16 sample fits ∙ is ∙ ap wave_sample is_at ∙ wave_sample-mod (phase + place * step) ∙ ap (λ s. wave_sample (phase + place * s)) is_step in
+    let pure_fits : FitsSigned w16 pure = search (arith, ints) in
+    let now : to_z w16 (of_z w16 sample) ≡ tone_sample m tone place =
+    to_z-of_z w16 sample fits ∙ is ∙ ap (sample_at m.level)
+    (to_z-of_z w16 pure pure_fits ∙ is_pure ∙ ap wave_sample is_at ∙ wave_sample-mod (m.phase + place * step) ∙ ap (λ s. wave_sample (m.phase + place * s)) is_step) in
     take_more_set window place (to_z w16 (of_z w16 sample)) below
     ∙ ap (λ xs. xs ++ to_z w16 (of_z w16 sample) ∷ []) so_far
-    ∙ ap (λ z. samples_below place phase tone ++ z ∷ []) now
-    ∙ sym (map-range_with_len_more (λ i. wave_sample (phase + i * phase_step tone)) 0 place place (zero-add place))
+    ∙ ap (λ z. samples_below place m tone ++ z ∷ []) now
+    ∙ sym (map-range_with_len_more (tone_sample m tone) 0 place place (zero-add place))
 
 -- all eight of them
-pub samples_all : (place phase : ℕ) (tone : Tone) (window : List ℤ) → place ≡ 8 → length window ≡ 8
-    → take place window ≡ samples_below place phase tone → window ≡ pure_window phase tone
-unfolding pure_window
-samples_all place phase tone window all whole so_far =
-    sym (take_all place window (omega arith)) ∙ so_far ∙ ap (λ n. samples_below n phase tone) all
+pub samples_all : (m : Modulation) (place : ℕ) (tone : Tone) (window : List ℤ) → place ≡ 8 → length window ≡ 8
+    → take place window ≡ samples_below place m tone → window ≡ tone_window m tone
+unfolding pure_window at_level
+samples_all m place tone window all whole so_far =
+    sym (take_all place window (omega arith)) ∙ so_far ∙ ap (λ n. samples_below n m tone) all

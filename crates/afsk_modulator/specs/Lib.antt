@@ -1,3 +1,5 @@
 pub mod Phase
+pub mod Level
+pub mod Modulation
 pub mod Transmission
 pub mod Signal

@@ -7,7 +7,3 @@ use Rattle.tone_table.specs.Tones.{next_phase}
 abbrev pub phase_from : ℕ → List Tone → ℕ
 phase_from phase [] = phase
 phase_from phase (tone ∷ tones) = phase_from (next_phase phase tone) tones
-
--- the phase behind some tones of a transmission, which begins at phase 0
-abbrev pub phase_behind : List Tone → ℕ
-phase_behind tones = phase_from 0 tones

@@ -1,6 +1,7 @@
 -- A signal: transmissions, one behind the other, each after silence (AX.25 2.2 section 3 over Bell 202).
 use Rattle.std.specs.Prelude.{ℕ, ℤ, pos, List, ◌++◌, replicate}
 use Rattle.std.specs.List.{flat_map}
+use Rattle.afsk_modulator.specs.Level.{at_level}
 use Rattle.afsk_modulator.specs.Transmission.{transmission}
 
 -- frames that are sent at one go, with the count of silent samples before them and of the flags round them
@@ -17,3 +18,7 @@ samples_of t = replicate t.silence (pos 0) ++ transmission t.frames t.opening t.
 -- the samples of all of them, in order
 unfoldable pub signal : List Transmission → List ℤ
 signal transmissions = flat_map samples_of transmissions
+
+-- the same at a level
+unfoldable pub signal_at : ℕ → List Transmission → List ℤ
+signal_at level transmissions = at_level level (signal transmissions)

@@ -1,12 +1,17 @@
 -- A transmission (AX.25 2.2 section 3, ISO/IEC 3309) as samples of Bell 202, and what is no transmission.
 use Rattle.std.specs.Prelude.{ℕ, ◌<◌, ◌⊎◌, ℤ, List, [], length, slice_index_or}
-use Rattle.tone_table.specs.Wave.{wave}
+use Rattle.tone_table.specs.Wave.{wave_from, wave}
 use Rattle.nrzi_bits.specs.Line.{line}
 use Rattle.hdlc_framer.specs.Body.{body}
+use Rattle.afsk_modulator.specs.Level.{at_level}
 
 -- the wave, from phase 0 on, of the tones, from mark on, of the flags and frames
 unfoldable pub transmission : List (List ℕ) → ℕ → ℕ → List ℤ
 transmission frames opening closing = wave (line (body frames opening closing))
+
+-- the wave from any phase on, at any level
+unfoldable pub transmission_at : ℕ → ℕ → List (List ℕ) → ℕ → ℕ → List ℤ
+transmission_at phase level frames opening closing = at_level level (wave_from phase (line (body frames opening closing)))
 
 -- fewer than two flags open it, or none closes it
 abbrev pub AreFewFlags : ℕ → ℕ → Type 0

@@ -1,11 +1,11 @@
 //! Frames as the samples of one transmission.
 ghost use Rattle.std.specs.Prelude.{◌≡◌, ℕ, ◌↔◌, All, IfOk, OnOk, IsErrOf, IfSome, IsNone};
 ghost use Rattle.nrzi_bits.specs.Line.{line};
-ghost use Rattle.tone_table.specs.Wave.{wave};
-ghost use Rattle.afsk_modulator.specs.Transmission.{transmission, AreFewFlags, IsBadLength, IsFirstBadLength};
+ghost use Rattle.afsk_modulator.specs.Modulation.{wave_of, IsBitPhase, IsLevel};
+ghost use Rattle.afsk_modulator.specs.Transmission.{transmission, transmission_at, AreFewFlags, IsBadLength, IsFirstBadLength};
 
 use crate::fault::ModFault;
-use crate::modulator::Modulator;
+use crate::modulator::{FULL_LEVEL, Modulator};
 use hdlc_framer::stuff;
 use nrzi_bits::NrziOut;
 use std::alloc::Global;
@@ -39,6 +39,26 @@ pub fn transmission(
     ensures bad_length { (index : ℕ) → IsErrOf result (ModFault.BadLength index)
         ↔ ((¬ AreFewFlags opening closing) × IsFirstBadLength frames.now index) }
 {
+    transmission_at(alloc, 0, FULL_LEVEL, frames, opening, closing)
+}
+
+/// The same from any phase at which a bit can begin, with the amplitude `level`. The full one is 10000.
+pub fn transmission_at(
+    alloc: Global,
+    phase: u8,
+    level: u16,
+    frames: &[Octets],
+    opening: u16,
+    closing: u16,
+) -> Result<Vec<i16>, ModFault>
+    requires phase { IsBitPhase phase }
+    requires level { IsLevel level }
+    ensures sent { IfOk result (λ samples. samples.items ≡ transmission_at phase level frames.now opening closing) }
+    ensures lengths { OnOk result (All (λ octets. ¬ IsBadLength octets) frames.now) }
+    ensures few_flags { IsErrOf result ModFault.FewFlags ↔ AreFewFlags opening closing }
+    ensures bad_length { (index : ℕ) → IsErrOf result (ModFault.BadLength index)
+        ↔ ((¬ AreFewFlags opening closing) × IsFirstBadLength frames.now index) }
+{
     if opening < LEAST_OPENING || closing < LEAST_CLOSING {
         return Err(ModFault::FewFlags);
     }
@@ -46,7 +66,7 @@ pub fn transmission(
         return Err(ModFault::BadLength { index });
     }
     let bits = stuff(alloc, frames, opening, closing)?;
-    Ok(modulated(alloc, &bits)?)
+    Ok(modulated(alloc, Modulator::start(phase, level), &bits)?)
 }
 
 /// The place of the first frame with fewer than 15 or more than 1024 octets.
@@ -63,12 +83,15 @@ fn first_bad_length(frames: &[Octets]) -> Option<usize>
     None
 }
 
-/// The wave of bits on a line that stands at mark, from phase 0 on.
-fn modulated(alloc: Global, bits: &[bool]) -> Result<Vec<i16>, OutOfMemory>
-    ensures { IfOk result (λ samples. samples.items ≡ wave (line bits.now)) }
+/// The wave of bits on a line that stands at mark, from where a modulator stands.
+fn modulated(
+    alloc: Global,
+    mut modulator: Modulator,
+    bits: &[bool],
+) -> Result<Vec<i16>, OutOfMemory>
+    ensures { IfOk result (λ samples. samples.items ≡ wave_of modulator (line bits.now)) }
 {
     let mut line = NrziOut::new();
-    let mut modulator = Modulator::new();
     let mut samples = Vec::new(alloc);
     for bit in bits {
         samples.extend_from_slice(modulator.next(line.step(*bit)).as_slice())?;

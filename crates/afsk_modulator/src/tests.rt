@@ -1,4 +1,4 @@
-use super::{ModFault, Modulator, transmission};
+use super::{ModFault, Modulator, transmission, transmission_at};
 use std::alloc::Global;
 use std::test::Fail;
 use tnc_base::Octets;
@@ -49,6 +49,32 @@ fn the_shortest_frame_is_sent_as_bell_202_does(rt: HostRuntime) -> Result<(), Fa
     assert_eq!(rt; samples.len(), 1296);
     let begins = [0, 9914, 2588, -9239, -5000, 7934, 7071, -6088, -8660, 3827];
     assert!(rt; samples.starts_with(&begins));
+    Ok(())
+}
+
+// The first flag begins with a space.
+#[test]
+fn a_level_rounds_towards_zero_and_a_phase_shifts(rt: HostRuntime) -> Result<(), Fail> {
+    let table = [
+        (0, 10, [0, 9, 2, -9, -5, 7, 7, -6]),
+        (
+            0,
+            32767,
+            [0, 32485, 8480, -30273, -16383, 25997, 23169, -19948],
+        ),
+        (
+            40,
+            10000,
+            [-8660, 3827, 9659, -1305, -10000, -1305, 9659, 3827],
+        ),
+    ];
+    for (phase, level, first) in table {
+        let samples = transmission_at(rt.alloc(), phase, level, &frames(rt.alloc(), &[15])?, 2, 1)?;
+        assert!(rt; samples.starts_with(&first), "phase {phase}, level {level}");
+        assert_eq!(rt; samples.len(), 1296);
+    }
+    let few = transmission_at(rt.alloc(), 8, 20000, &frames(rt.alloc(), &[15])?, 1, 1).err();
+    assert_eq!(rt; few, Some(ModFault::FewFlags));
     Ok(())
 }
 

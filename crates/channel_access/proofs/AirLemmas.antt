@@ -9,7 +9,7 @@ use Rattle.std.proofs.lemmas.List.Elements.{All-head}
 use Rattle.tone_table.specs.Wave.{wave_from, wave}
 use Rattle.nrzi_bits.specs.Line.{line_from, last_from, line}
 use Rattle.nrzi_bits.proofs.LineLemmas.{line_from-append}
-use Rattle.afsk_modulator.specs.Phase.{phase_behind}
+use Rattle.afsk_modulator.specs.Phase.{phase_from}
 use Rattle.afsk_modulator.specs.Transmission.{transmission}
 use Rattle.afsk_modulator.proofs.WaveLemmas.{wave_from-append}
 use Rattle.tone_table.specs.declared.tone.Tone.TheVariants.{Mark}
@@ -150,7 +150,7 @@ samples_of-is t = refl
 pub wave-append : (sent rest : List Bool) → (later : List ℤ) × (wave (line (sent ++ rest)) ≡ wave (line sent) ++ later)
 wave-append sent rest =
     let tones = line_from (last_from Mark (line sent)) rest in (
-      wave_from (phase_behind (line sent)) tones,
+      wave_from (phase_from 0 (line sent)) tones,
       ap wave (line_from-append Mark sent rest) ∙ wave_from-append 0 (line sent) tones,
     )
 

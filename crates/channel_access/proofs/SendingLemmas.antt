@@ -8,8 +8,8 @@ use Rattle.tone_table.specs.Tones.{next_phase}
 use Rattle.tone_table.specs.Wave.{pure_window, wave_from, wave}
 use Rattle.nrzi_bits.specs.Line.{sent_tone, line, last_tone}
 use Rattle.nrzi_bits.proofs.LineLemmas.{length-line_from, line-push, last_tone-push}
-use Rattle.afsk_modulator.specs.Phase.{phase_behind}
-use Rattle.afsk_modulator.proofs.WaveLemmas.{phase_behind-push, wave-push}
+use Rattle.afsk_modulator.specs.Modulation.{full, tone_window, behind}
+use Rattle.afsk_modulator.proofs.WaveLemmas.{behind-push, wave-push}
 use Rattle.channel_access.specs.declared.sending.Sending.{Sending}
 use Rattle.channel_access.specs.declared.stage.Stage.{Stage}
 use Rattle.channel_access.specs.declared.stage.Stage.TheVariants.{Opening, Frame, Following, Closing, Over}
@@ -100,12 +100,12 @@ module _ (s : Sending) (waiting : List WaitingFrame) (t : OnAir) (total : ℕ) (
           frames = st.frames;
           closing = st.closing ∙ h.closing;
           tone = sym (ap last_tone lined ∙ last_tone-push (line sent) tone);
-          phase = phase_behind-push (line sent) tone s.modulator h.phase ∙ ap phase_behind (sym lined);
+          phase = behind-push full (line sent) tone s.modulator h.phase ∙ ap (behind full) (sym lined);
         });
         grows = omega (arith, length-append sent (bit ∷ []));
         samples =
             padded-full (total + 1) more longer ∙ ap wave lined ∙ wave-push (line sent) tone s.modulator h.phase
-            ∙ ap (λ xs. xs ++ pure_window s.modulator tone) (sym (padded-full total sent count))
+            ∙ ap (λ xs. xs ++ tone_window s.modulator tone) (sym (padded-full total sent count))
             ∙ ap (λ o. padded total sent ++ window_of (with_step s step) o) (sym st.is_bit);
       }
 

@@ -2,11 +2,10 @@
 use Rattle.std.specs.Prelude.{ℕ, zero, suc, ◌+◌, ◌-◌, ◌*◌, ◌/◌, ◌%◌, nat_lt, nat_le, Bool, true, false, ◌&&◌, if◌then◌else◌, ℤ, pos, List, [], ◌∷◌, ◌++◌, length, drop, replicate, slice_index_or, Option, Some, None}
 use Rattle.rand_pcg.specs.Lcg.{Lcg}
 use Rattle.tone_table.specs.declared.tone.Tone.TheVariants.{Mark}
-use Rattle.tone_table.specs.Tones.{next_phase}
-use Rattle.tone_table.specs.Wave.{pure_window}
 use Rattle.nrzi_bits.specs.Line.{sent_tone}
 use Rattle.hdlc_framer.specs.BitOrder.{sent_bits}
 use Rattle.hdlc_framer.specs.CheckSequence.{fcs_of}
+use Rattle.afsk_modulator.specs.Modulation.{full, tone_window, behind}
 use Rattle.channel_access.specs.declared.air_tick.Sent.{Sent}
 use Rattle.channel_access.specs.declared.frame_bits.FrameBits.{FrameBits}
 use Rattle.channel_access.specs.declared.stage.Stage.{Stage}
@@ -171,13 +170,13 @@ stage_over _ = false
 -- eight samples of a bit, or silence
 unfoldable pub window_of : Sending → Option Bool → List ℤ
 window_of s None = replicate 8 (pos 0)
-window_of s (Some bit) = pure_window s.modulator (sent_tone s.line bit)
+window_of s (Some bit) = tone_window s.modulator (sent_tone s.line bit)
 
 -- the sender behind it
 abbrev pub behind_bit : Sending → Option Bool → Sending
 behind_bit s None = s
 behind_bit s (Some bit) =
-    record s { line = sent_tone s.line bit; modulator = next_phase s.modulator (sent_tone s.line bit) }
+    record s { line = sent_tone s.line bit; modulator = behind s.modulator (sent_tone s.line bit ∷ []) }
 
 -- ---- some bits, one after another
 
@@ -220,7 +219,7 @@ new_sending parameters = record {
   frames = 1;
   tail = parameters.tx_tail;
   line = Mark;
-  modulator = 0;
+  modulator = full;
 }
 
 -- ---- what an access keeps

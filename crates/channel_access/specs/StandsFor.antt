@@ -4,7 +4,7 @@
 use Rattle.std.specs.Prelude.{◌≡◌, ℕ, zero, suc, ◌-◌, ◌*◌, ◌≤◌, Bool, true, false, List, [], ◌∷◌, ◌++◌, length, drop, nat_le, Option, Some, None, if◌then◌else◌}
 use Rattle.std.specs.List.{All}
 use Rattle.nrzi_bits.specs.Line.{line, last_tone}
-use Rattle.afsk_modulator.specs.Phase.{phase_behind}
+use Rattle.afsk_modulator.specs.Modulation.{full, behind}
 use Rattle.hdlc_framer.specs.Body.{flags, body}
 use Rattle.hdlc_framer.specs.Counted.{stuffed_from}
 use Rattle.channel_access.specs.declared.frame_bits.FrameBits.{FrameBits}
@@ -92,7 +92,7 @@ pub record Sends (s : Sending) (waiting : List WaitingFrame) (t : OnAir) (total 
   pub frames : s.frames ≡ length t.frames
   pub closing : t.closing ≡ closing_flags s.tail
   pub tone : s.line ≡ last_tone (line sent)
-  pub phase : s.modulator ≡ phase_behind (line sent)
+  pub phase : s.modulator ≡ behind full (line sent)
 
 -- A transmission under way, between two ticks of it.
 pub record Goes (s : Sending) (waiting : List WaitingFrame) (t : OnAir) : Type 0 where

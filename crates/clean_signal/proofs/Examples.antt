@@ -1,15 +1,16 @@
 -- Worked examples, computed on the definitions.
-use Rattle.std.proofs.Common.{◌≡◌, ℕ, ◌*◌, List, [], ◌∷◌, Bool, true, false, length, refl}
+use Rattle.std.proofs.Common.{◌≡◌, ℕ, pos, List, [], ◌∷◌, true, false, length, refl}
 use Rattle.hdlc_framer.specs.BitOrder.{octet_bits}
 use Rattle.hdlc_framer.specs.Body.{body}
 use Rattle.hdlc_framer.specs.CheckSequence.{fcs_of}
 use Rattle.hdlc_framer.specs.Frames.{with_fcs, frame_bits}
 use Rattle.frame_merge.specs.declared.candidate.Candidate.{Candidate}
 use Rattle.tone_table.specs.Wave.{pure_window}
+use Rattle.offset_slicers.specs.Near.{distance}
 use Rattle.afsk_modulator.specs.Transmission.{transmission}
 use Rattle.afsk_modulator.specs.Signal.{Transmission, signal}
 use Rattle.clean_signal.specs.declared.true_end.TrueEnd.{TrueEnd}
-use Rattle.clean_signal.specs.GoodTransmission.{body_of, sample_count, frames_of}
+use Rattle.clean_signal.specs.GoodTransmission.{body_of}
 use Rattle.clean_signal.specs.TrueEnds.{true_ends}
 use Rattle.clean_signal.specs.Stray.{is_sent}
 
@@ -57,3 +58,10 @@ one_bit_late = refl
 
 none_sent : is_sent [] (heard 1294 6) ≡ false
 none_sent = refl
+
+-- At level 10 a wave sample of 9914 is 9.914, and a tenth of the level is 1: 9 and 10 are near it, and 8 and 11 are not.
+nine_is_near : distance 10 (pos 9914) (pos 9) ≡ 9140
+nine_is_near = refl
+
+eleven_is_far : distance 10 (pos 9914) (pos 11) ≡ 10860
+eleven_is_far = refl

@@ -1,4 +1,4 @@
--- The law of clean signals: from the candidates of the samples to clusters of them, and from there to the frames.
+-- The law of signals near a clean one: from the candidates of the samples to clusters of them, and from there to the frames.
 use Rattle.std.proofs.Common.{◌≡◌, ℕ, zero, suc, ◌+◌, ◌-◌, ◌<◌, ℤ, true, List, [], ◌∷◌, get_or, map, refl, ap, sym, subst, ◌∙◌, arith, inl, inr}
 use Rattle.std.specs.Prelude.{nat_lt, ◌&&◌}
 use Rattle.std.specs.List.{All, AllPairs, AllByRecursion, Contains}
@@ -10,17 +10,19 @@ use Rattle.frame_merge.specs.declared.candidate.Candidate.{Candidate}
 use Rattle.frame_merge.specs.Order.{standing}
 use Rattle.slicer_bank.specs.Candidates.{AreCandidates}
 use Rattle.slicer_bank.specs.Heard.{candidate_at}
-use Rattle.afsk_modulator.specs.Signal.{Transmission, signal}
+use Rattle.afsk_modulator.specs.Modulation.{IsLevel}
+use Rattle.afsk_modulator.specs.Signal.{Transmission, signal, signal_at}
 use Rattle.clean_signal.specs.declared.true_end.TrueEnd.{TrueEnd}
 use Rattle.clean_signal.specs.GoodTransmission.{IsTransmission, frames_of}
 use Rattle.clean_signal.specs.TrueEnds.{true_ends}
 use Rattle.clean_signal.specs.Stray.{is_of, is_sent, NoStray}
 use Rattle.clean_signal.specs.Carried.{CarriesAll}
+use Rattle.clean_signal.specs.NearSignal.{Received, IsReceived, IsNearAll, transmissions_of}
 use Rattle.clean_signal.specs.MergedFrames.{MergesTo}
 use Rattle.clean_signal.proofs.Clusters.{Cluster, IsIn, AreApart, IsInOne, HasOne, Rising, Known, merge_keeps}
 use Rattle.clean_signal.proofs.CarriedFrames.{IsFound, all_found}
 use Rattle.clean_signal.proofs.EndLemmas.{Spaced, spaced, octets-true_ends_from}
-use Rattle.clean_signal.proofs.WaveLemmas.{signal_carries}
+use Rattle.clean_signal.proofs.NearLemmas.{near_carries, signal_at-carries, signal_at-full}
 
 -- the candidates of a frame that was sent
 abbrev cluster_of : TrueEnd → Cluster
@@ -90,6 +92,11 @@ octets-clusters : (ends : List TrueEnd) → map (λ c. c.octets) (map cluster_of
 octets-clusters [] = refl
 octets-clusters (e ∷ ends) = ap (λ os. e.octets ∷ os) (octets-clusters ends)
 
+all_transmissions : (received : List Received) → AllByRecursion IsReceived received → All IsTransmission (transmissions_of received)
+all_transmissions [] good k d l = absurd (omega arith)
+all_transmissions (r ∷ received) good zero d l = good.0.transmission
+all_transmissions (r ∷ received) good (suc k) d l = all_transmissions received good.1 k d (omega arith)
+
 -- carried transmissions without a stray give their frames
 pub carried_law : (sent : List Transmission) (x : List ℤ) → All IsTransmission sent → CarriesAll sent x → NoStray sent x → MergesTo (frames_of sent) x
 carried_law sent x good carries no_stray items are =
@@ -102,8 +109,23 @@ carried_law sent x good carries no_stray items are =
     (all_have_one x items (true_ends sent) are (all_found sent [] x 0 fits carries refl))
     ∙ octets-clusters (true_ends sent) ∙ octets-true_ends_from sent 0
 
+-- so do samples near them
+pub near_law : (received : List Received) (x : List ℤ) → All IsReceived received → IsNearAll received x → NoStray (transmissions_of received) x
+    → MergesTo (frames_of (transmissions_of received)) x
+near_law received x good near no_stray =
+    let fits : AllByRecursion IsReceived received = recursion_from_All IsReceived received good in
+    carried_law (transmissions_of received) x (all_transmissions received fits) (near_carries received x fits near) no_stray
+
+-- so does the signal at a level
+pub level_law : (level : ℕ) (sent : List Transmission) → IsLevel level → All IsTransmission sent → NoStray sent (signal_at level sent)
+    → MergesTo (frames_of sent) (signal_at level sent)
+level_law level sent fits good no_stray = carried_law sent (signal_at level sent) good (signal_at-carries level sent fits good) no_stray
+
+-- and the clean signal
 pub clean_law : (sent : List Transmission) → All IsTransmission sent → NoStray sent (signal sent) → MergesTo (frames_of sent) (signal sent)
-clean_law sent good no_stray = carried_law sent (signal sent) good (signal_carries sent) no_stray
+clean_law sent good =
+    subst (λ (x : List ℤ). NoStray sent x → MergesTo (frames_of sent) x) (signal_at-full sent)
+    (level_law 10000 sent (record { least = omega arith; most = omega arith }) good)
 
 -- what holds of each of all candidates holds of every candidate
 pub no_stray_of : (sent : List Transmission) (x : List ℤ) (items : List Candidate) → AreCandidates x items

@@ -1,7 +1,7 @@
--- The samples of a wave: how many, each by its place, and what they carry.
-use Rattle.std.proofs.Common.{◌≡◌, ℕ, zero, suc, ◌+◌, ◌-◌, ◌*◌, ◌%◌, ◌<◌, ℤ, pos, List, [], ◌∷◌, ◌++◌, length, get_or, take, replicate, refl, ap, ◌∙◌, arith, length-append, append_assoc, append-nil}
+-- The samples of a wave and of a signal: how many, and each by its place.
+use Rattle.std.proofs.Common.{◌≡◌, ℕ, zero, suc, ◌+◌, ◌-◌, ◌*◌, ◌%◌, ◌<◌, ℤ, pos, List, [], ◌∷◌, ◌++◌, length, get_or, take, replicate, refl, ap, ◌∙◌, arith, length-append, append-nil}
 use Rattle.std.proofs.lemmas.List.{get_or_append_left, get_or-append_right, length-replicate}
-use Rattle.std.proofs.lemmas.List.Concat.{flat_map-cons, flat_map-append}
+use Rattle.std.proofs.lemmas.List.Concat.{flat_map-append}
 use Rattle.std.proofs.lemmas.List.FromFn.{get_or-map-range_with_len}
 use Rattle.std.proofs.lemmas.List.Sums.{sum_by-cons}
 use Rattle.tone_table.specs.declared.tone.Tone.{Tone}
@@ -11,11 +11,10 @@ use Rattle.tone_table.specs.Tones.{phase_step, next_phase}
 use Rattle.tone_table.specs.Wave.{pure_window, wave_from, wave}
 use Rattle.nrzi_bits.specs.Line.{line}
 use Rattle.nrzi_bits.proofs.LineLemmas.{length-line_from}
-use Rattle.offset_slicers.proofs.WaveLemmas.{length-pure_window, tones_at-wave_from}
+use Rattle.offset_slicers.proofs.WaveLemmas.{length-pure_window}
 use Rattle.afsk_modulator.specs.Transmission.{transmission}
 use Rattle.afsk_modulator.specs.Signal.{Transmission, samples_of, signal}
 use Rattle.clean_signal.specs.GoodTransmission.{body_of, sample_count}
-use Rattle.clean_signal.specs.Carried.{Carries, CarriesAll}
 use Rattle.clean_signal.specs.WavePlace.{phase_at}
 
 pub length-wave_from : (phase : ℕ) (tones : List Tone) → length (wave_from phase tones) ≡ 8 * length tones
@@ -57,30 +56,6 @@ wave_from-place (tone ∷ tones) phase (suc j) i within below =
 pub wave_place : (tones : List Tone) (j i : ℕ) → j < length tones → i < 8
     → get_or (wave tones) (8 * j + i) (pos 0) ≡ wave_sample (phase_at tones j i)
 wave_place tones j i within below = wave_from-place tones 0 j i within below ∙ ap wave_sample (omega arith)
-
--- ---- what a clean signal carries
-
-wave_carries : (tones : List Tone) → Carries tones (wave tones)
-wave_carries tones = record { size = length-wave_from 0 tones; decided = tones_at-wave_from tones 0 (omega arith) }
-
-transmission_carries : (t : Transmission) → Carries (line (body_of t)) (transmission t.frames t.opening t.closing)
-unfolding transmission
-transmission_carries t = wave_carries (line (body_of t))
-
--- a clean signal carries its transmissions
-pub signal_carries : (transmissions : List Transmission) → CarriesAll transmissions (signal transmissions)
-unfolding signal
-signal_carries [] = tt
-signal_carries (t ∷ transmissions) = (
-  replicate t.silence (pos 0),
-  transmission t.frames t.opening t.closing,
-  signal transmissions,
-  flat_map-cons samples_of t transmissions
-      ∙ append_assoc (replicate t.silence (pos 0)) (transmission t.frames t.opening t.closing) (signal transmissions),
-  length-replicate t.silence (pos 0),
-  transmission_carries t,
-  signal_carries transmissions,
-)
 
 -- ---- how long a signal is
 

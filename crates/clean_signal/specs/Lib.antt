@@ -2,5 +2,6 @@ pub mod GoodTransmission
 pub mod TrueEnds
 pub mod Stray
 pub mod Carried
+pub mod NearSignal
 pub mod MergedFrames
 pub mod WavePlace

@@ -9,7 +9,10 @@
 mod laws;
 mod true_end;
 
-pub use laws::{carried_frames, clean_frames, none_stray, samples_by_place};
+pub use laws::{
+    carried_frames, clean_frames, level_frames, near_frames, none_stray, samples_by_place,
+    sent_is_near,
+};
 pub use true_end::{TrueEnd, is_sent};
 
 #[cfg(test)]

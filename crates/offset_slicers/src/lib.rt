@@ -12,7 +12,7 @@ mod slicer;
 
 pub use correlators::correlate;
 pub use decision::{decide, energies};
-pub use laws::pure_windows;
+pub use laws::{near_windows, pure_windows};
 pub use slicer::Slicer;
 
 #[cfg(test)]

@@ -3,6 +3,8 @@ use tone_table::Tone;
 
 /// A space from phase 0, which ends at phase 40.
 const SPACE: [i16; 8] = [0, 9914, 2588, -9239, -5000, 7934, 7071, -6088];
+/// The same at level 10.
+const QUIET_SPACE: [i16; 8] = [0, 9, 2, -9, -5, 7, 7, -6];
 /// The space that follows it, which ends at phase 32.
 const SPACE_ON: [i16; 8] = [-8660, 3827, 9659, -1305, -10000, -1305, 9659, 3827];
 /// The mark that follows that.
@@ -23,6 +25,12 @@ fn correlations_energies_and_tones_of_known_windows(rt: HostRuntime) {
             (159990165679440200, 5702823708294833),
             Tone::Mark,
         ),
+        (
+            QUIET_SPACE,
+            [-57071, 85355, 344116, 24293],
+            (10542575066, 119005971305),
+            Tone::Space,
+        ),
         ([0; 8], [0; 4], (0, 0), Tone::Mark),
         (
             [-32768; 8],
@@ -32,6 +40,7 @@ fn correlations_energies_and_tones_of_known_windows(rt: HostRuntime) {
         ),
     ];
     pure_windows();
+    near_windows();
     for (window, sums, want, tone) in windows {
         assert_eq!(rt; correlate(&window), sums);
         assert_eq!(rt; energies(&window), want);

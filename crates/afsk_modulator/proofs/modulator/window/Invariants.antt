@@ -5,6 +5,6 @@ use Rattle.afsk_modulator.proofs.modulator.window.Given as goal
 
 abbrev pub invariant-loop-place : goal.invariant-loop-place
 invariant-loop-place l = record {
-  samples : take l.place l.window ≡ samples_below l.place l.phase l.fn.tone;
+  samples : take l.place l.window ≡ samples_below l.place (record { phase = l.phase; level = l.level }) l.fn.tone;
   whole : length l.window ≡ 8;
 }

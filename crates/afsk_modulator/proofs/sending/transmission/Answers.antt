@@ -1,9 +1,8 @@
-use Rattle.std.proofs.Common.{ap, ◌∙◌}
-use Rattle.nrzi_bits.specs.Line.{line}
-use Rattle.tone_table.specs.Wave.{wave}
-use Rattle.afsk_modulator.specs.Transmission.{transmission}
+use Rattle.std.proofs.Common.{◌≡◌, ℤ, List, IfOk, subst}
+use Rattle.afsk_modulator.proofs.LevelLemmas.{transmission_at-full}
 use Rattle.afsk_modulator.proofs.sending.transmission.Goals as goal
 
 pub returns-clause-sent : goal.returns-clause-sent
-unfolding transmission
-returns-clause-sent c = c.in_ok-modulated.ensures ∙ ap (λ bits. wave (line bits)) (c.deref.ensures.value ∙ c.in_ok-bits.ensures)
+returns-clause-sent c =
+    subst (λ (sent : List ℤ). IfOk c.transmission_at.result (λ samples. samples.items ≡ sent))
+    (transmission_at-full c.args.frames.now c.args.opening c.args.closing) c.transmission_at.ensures.sent
