@@ -1,5 +1,5 @@
 -- Samples at a level.
-use Rattle.std.proofs.Common.{◌≡◌, ℕ, ◌*◌, ◌<◌, ◌≤◌, ℤ, pos, ◌*ℤ◌, ◌+ℤ◌, ◌-ℤ◌, List, [], ◌∷◌, ◌++◌, map, unsigned_abs, refl, ap, ◌∙◌, arith}
+use Rattle.std.proofs.Common.{◌≡◌, ℕ, zero, suc, ◌*◌, ◌<◌, ◌≤◌, ℤ, pos, ◌*ℤ◌, ◌+ℤ◌, ◌-ℤ◌, List, [], ◌∷◌, ◌++◌, map, replicate, unsigned_abs, refl, ap, ◌∙◌, arith}
 use Rattle.std.specs.Prelude.{int_rem}
 use Rattle.std.proofs.lemmas.Int.{ints, quot-rem, rem_below, unsigned_abs-mul}
 use Rattle.std.proofs.lemmas.List.{map-append}
@@ -49,3 +49,12 @@ pub sample_at-close : (level : ℕ) (sample : ℤ) → 10 ≤ level
     → unsigned_abs (pos 10000 *ℤ sample_at level sample -ℤ pos level *ℤ sample) ≤ 1000 * level
 sample_at-close level sample least =
     let p = parts level sample in omega (arith, ints, p.1, p.2)
+
+-- silence is silence at each level
+pub at_level-silence : (level count : ℕ) → at_level level (replicate count (pos 0)) ≡ replicate count (pos 0)
+unfolding at_level
+at_level-silence level zero = refl
+at_level-silence level (suc count) =
+    let p = parts level (pos 0) in
+    let none : sample_at level (pos 0) ≡ pos 0 = omega (arith, ints, p.1, p.2) in
+    (λ i. none i ∷ at_level-silence level count i)

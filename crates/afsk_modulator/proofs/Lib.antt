@@ -2,3 +2,4 @@ pub mod WindowLemmas
 pub mod LevelLemmas
 pub mod WaveLemmas
 pub mod Examples
+pub mod SignalLemmas

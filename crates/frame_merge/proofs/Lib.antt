@@ -4,3 +4,4 @@ pub mod Searching
 pub mod Forgetting
 pub mod Putting
 pub mod Taking
+pub mod Sorting

@@ -10,8 +10,10 @@
 mod candidate;
 mod keeping;
 mod merger;
+mod order_law;
 mod place;
 mod ready;
 
 pub use candidate::Candidate;
 pub use merger::{Merger, PutFault};
+pub use order_law::in_order_sorts;

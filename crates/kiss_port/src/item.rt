@@ -1,4 +1,4 @@
-// What a piece of the stream says.
+//! What a piece of the stream says.
 
 ghost use Rattle.std.specs.Prelude.{◌≡◌, ◌≤◌, length, IfOk};
 ghost use Rattle.kiss_port.specs.Held.{kept_item};
@@ -25,8 +25,12 @@ pub enum KissItem {
 }
 
 impl KissItem {
-    // The item of a piece of which this was kept: its octets, or where there were more than fit, the first of them.
-    pub fn of_kept(alloc: Global, long: bool, kept: &[u8]) -> Result<Option<KissItem>, OutOfMemory>
+    /// The item of a piece of which this was kept: its octets, or where there were more than fit, the first of them.
+    pub(crate) fn of_kept(
+        alloc: Global,
+        long: bool,
+        kept: &[u8],
+    ) -> Result<Option<KissItem>, OutOfMemory>
         requires { length kept.now ≤ 1025 }
         ensures { IfOk result (λ item. item ≡ kept_item long kept.now) }
     {

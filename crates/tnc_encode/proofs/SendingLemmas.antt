@@ -1,47 +1,48 @@
 -- Signals as octets, one piece behind another.
-use Rattle.std.proofs.Common.{◌≡◌, ℕ, ◌+◌, ◌<◌, List, [], ◌∷◌, ◌++◌, true, false, cond, length, map, take, drop, get_or, Option, Some, append_assoc, refl, sym, ap, ◌∙◌, arith}
-use Rattle.std.proofs.lemmas.Grind.{flat_map-append}
-use Rattle.std.proofs.lemmas.List.{append-nil, map-append, take_more, take-append-drop}
+use Rattle.std.proofs.Common.{◌≡◌, ℕ, ◌+◌, ◌<◌, List, [], ◌∷◌, ◌++◌, true, false, cond, length, map, take, drop, get_or, Option, Some, append_assoc, sym, ap, ◌∙◌, arith}
+use Rattle.std.proofs.lemmas.List.{map-append, take_more, take-append-drop}
 use Rattle.tnc_base.specs.Streams.{WrotePart}
 use Rattle.tnc_forms.proofs.PcmLemmas.{pcm-append}
 use Rattle.tnc_words.specs.declared.command.EncodeWords.{EncodeWords}
-use Rattle.afsk_modulator.specs.Signal.{Transmission, samples_of, signal}
-use Rattle.tnc_encode.specs.Encoded.{sent_at_once, joined, transmissions}
+use Rattle.afsk_modulator.specs.Signal.{Transmission, signal_at}
+use Rattle.afsk_modulator.proofs.SignalLemmas.{signal_at-none, signal_at-one, signal_at-append}
+use Rattle.tnc_encode.specs.Encoded.{sent_at_once, joined, samples_at_once, signal_of}
 use Rattle.tnc_forms.specs.Pcm.{pcm}
 
--- the octets of transmissions
-unfoldable pub octets_of : List Transmission → List ℕ
-octets_of transmissions = pcm (signal transmissions)
-
-octets_of-append : (ts us : List Transmission) → octets_of (ts ++ us) ≡ octets_of ts ++ octets_of us
-unfolding octets_of signal
-octets_of-append ts us = ap pcm (flat_map-append samples_of ts us) ∙ pcm-append (signal ts) (signal us)
-
-octets_of-one : (t : Transmission) → octets_of (t ∷ []) ≡ pcm (samples_of t)
-unfolding octets_of signal
-octets_of-one t = ap pcm (append-nil (samples_of t))
-
--- no transmission
-pub nothing_sent : pcm (signal []) ≡ []
-unfolding pcm signal
-nothing_sent = refl
-
--- all frames in one transmission
-pub joined_sent : (words : EncodeWords) (frames : List (List ℕ)) → words.join ≡ true → 0 < length frames
-    → pcm (samples_of (sent_at_once words frames)) ≡ pcm (signal (transmissions words frames))
-unfolding octets_of
-joined_sent words [] join some = absurd (omega arith)
-joined_sent words (first ∷ frames) join some =
-    sym (octets_of-one (sent_at_once words (first ∷ frames)))
-    ∙ ap (λ b. octets_of (cond b (joined words (first ∷ frames)) (map (λ frame. sent_at_once words (frame ∷ [])) (first ∷ frames)))) (sym join)
-
-pub none_joined : (words : EncodeWords) (frames : List (List ℕ)) → words.join ≡ true → length frames ≡ 0
-    → pcm (signal (transmissions words frames)) ≡ []
-none_joined words [] join none =
-    ap (λ b. pcm (signal (cond b (joined words []) (map (λ frame. sent_at_once words (frame ∷ [])) [])))) join ∙ nothing_sent
-none_joined words (first ∷ frames) join none = absurd (omega arith)
-
 module _ (words : EncodeWords) where
+  -- the octets of transmissions
+  unfoldable pub octets_of : List Transmission → List ℕ
+  octets_of transmissions = pcm (signal_at words.level transmissions)
+
+  octets_of-append : (ts us : List Transmission) → octets_of (ts ++ us) ≡ octets_of ts ++ octets_of us
+  unfolding octets_of
+  octets_of-append ts us =
+      ap pcm (signal_at-append words.level ts us) ∙ pcm-append (signal_at words.level ts) (signal_at words.level us)
+
+  octets_of-one : (frames : List (List ℕ)) → octets_of (sent_at_once words frames ∷ []) ≡ pcm (samples_at_once words frames)
+  unfolding octets_of
+  octets_of-one frames = ap pcm (signal_at-one words.level (sent_at_once words frames))
+
+  -- no transmission
+  nothing_sent : octets_of [] ≡ []
+  unfolding octets_of pcm
+  nothing_sent = ap pcm (signal_at-none words.level)
+
+  -- all frames in one transmission
+  pub joined_sent : (frames : List (List ℕ)) → words.join ≡ true → 0 < length frames
+      → pcm (samples_at_once words frames) ≡ pcm (signal_of words frames)
+  unfolding octets_of
+  joined_sent [] join some = absurd (omega arith)
+  joined_sent (first ∷ frames) join some =
+      sym (octets_of-one (first ∷ frames))
+      ∙ ap (λ b. octets_of (cond b (joined words (first ∷ frames)) (map (λ frame. sent_at_once words (frame ∷ [])) (first ∷ frames)))) (sym join)
+
+  pub none_joined : (frames : List (List ℕ)) → words.join ≡ true → length frames ≡ 0 → pcm (signal_of words frames) ≡ []
+  unfolding octets_of
+  none_joined [] join none =
+      ap (λ b. octets_of (cond b (joined words []) (map (λ frame. sent_at_once words (frame ∷ [])) []))) join ∙ nothing_sent
+  none_joined (first ∷ frames) join none = absurd (omega arith)
+
   -- each frame its own transmission
   abbrev own : List ℕ → Transmission
   own frame = sent_at_once words (frame ∷ [])
@@ -49,7 +50,7 @@ module _ (words : EncodeWords) where
   unfoldable pub own_octets : List (List ℕ) → List ℕ
   own_octets frames = octets_of (map own frames)
 
-  pub own_octets-all : (frames : List (List ℕ)) → words.join ≡ false → own_octets frames ≡ pcm (signal (transmissions words frames))
+  pub own_octets-all : (frames : List (List ℕ)) → words.join ≡ false → own_octets frames ≡ pcm (signal_of words frames)
   unfolding own_octets octets_of
   own_octets-all frames apart = ap (λ b. octets_of (cond b (joined words frames) (map own frames))) (sym apart)
 
@@ -61,13 +62,13 @@ module _ (words : EncodeWords) where
   unfolding own_octets
   own_octets-append fs gs = ap octets_of (map-append own fs gs) ∙ octets_of-append (map own fs) (map own gs)
 
-  own_octets-one : (frame : List ℕ) → own_octets (frame ∷ []) ≡ pcm (samples_of (own frame))
+  own_octets-one : (frame : List ℕ) → own_octets (frame ∷ []) ≡ pcm (samples_at_once words (frame ∷ []))
   unfolding own_octets
-  own_octets-one frame = octets_of-one (own frame)
+  own_octets-one frame = octets_of-one (frame ∷ [])
 
   module _ (frames : List (List ℕ)) (index : ℕ) (frame : List ℕ) (below : index < length frames) (is : frame ≡ get_or frames index frame) where
     -- one frame more
-    pub own_octets-more : own_octets (take (index + 1) frames) ≡ own_octets (take index frames) ++ pcm (samples_of (own frame))
+    pub own_octets-more : own_octets (take (index + 1) frames) ≡ own_octets (take index frames) ++ pcm (samples_at_once words (frame ∷ []))
     own_octets-more =
         ap own_octets (take_more frames index frame below)
         ∙ own_octets-append (take index frames) (get_or frames index frame ∷ [])
@@ -75,12 +76,12 @@ module _ (words : EncodeWords) where
         ∙ ap (λ xs. own_octets (take index frames) ++ xs) (own_octets-one frame)
 
     -- a first part of that frame's octets behind those of the frames before it is a first part of all
-    pub cut_within : (before : List ℕ) (now : Option (List ℕ)) → WrotePart (before ++ own_octets (take index frames)) (pcm (samples_of (own frame))) now
+    pub cut_within : (before : List ℕ) (now : Option (List ℕ)) → WrotePart (before ++ own_octets (take index frames)) (pcm (samples_at_once words (frame ∷ []))) now
         → WrotePart before (own_octets frames) now
     cut_within before now (part, rest, parts, written) =
         let done : List ℕ = own_octets (take index frames) in
         let left : List ℕ = own_octets (drop (index + 1) frames) in
-        let whole : own_octets frames ≡ (done ++ pcm (samples_of (own frame))) ++ left =
+        let whole : own_octets frames ≡ (done ++ pcm (samples_at_once words (frame ∷ []))) ++ left =
         ap own_octets (sym (take-append-drop (index + 1) frames)) ∙ own_octets-append (take (index + 1) frames) (drop (index + 1) frames)
         ∙ ap (λ xs. xs ++ left) own_octets-more in (
           done ++ part,

@@ -1,6 +1,7 @@
 -- What encode makes of the octets of its input.
 use Rattle.std.specs.Prelude.{ℕ, ℤ, nat_lt, List, [], ◌∷◌, ◌++◌, map, length, Option, Some, None, if◌then◌else◌}
-use Rattle.afsk_modulator.specs.Signal.{Transmission, signal}
+use Rattle.afsk_modulator.specs.Level.{at_level}
+use Rattle.afsk_modulator.specs.Signal.{Transmission, samples_of, signal_at}
 use Rattle.wav_file.specs.Head.{head_of}
 use Rattle.tnc_forms.specs.declared.fault.InputFault.{InputFault}
 use Rattle.tnc_forms.specs.declared.fault.InputFault.TheVariants.{LongWav}
@@ -26,9 +27,16 @@ abbrev pub transmissions : EncodeWords → List (List ℕ) → List Transmission
 transmissions words frames =
     if words.join then joined words frames else map (λ frame. sent_at_once words (frame ∷ [])) frames
 
--- the samples of the input's frames
+-- the samples of frames that are sent at one go, and the signal of all of them, at the level of the words
+abbrev pub samples_at_once : EncodeWords → List (List ℕ) → List ℤ
+samples_at_once words frames = at_level words.level (samples_of (sent_at_once words frames))
+
+abbrev pub signal_of : EncodeWords → List (List ℕ) → List ℤ
+signal_of words frames = signal_at words.level (transmissions words frames)
+
+-- the signal of the input's frames
 abbrev pub samples_sent : EncodeWords → List ℕ → List ℤ
-samples_sent words input = signal (transmissions words (frames_of words.frames input))
+samples_sent words input = signal_of words (frames_of words.frames input)
 
 -- samples as raw PCM, or as a WAV file
 abbrev pub written_as : AudioForm → List ℤ → List ℕ

@@ -1,10 +1,10 @@
 //! How many samples a signal has, and the head of its WAV file.
 ghost use Rattle.std.specs.Prelude.{◌≡◌, ◌≤◌, ◌<◌, ◌+◌, ◌*◌, ◌^◌, All, IfOk, IfErr, OnOk, length, true};
-ghost use Rattle.afsk_modulator.specs.Signal.{signal};
+ghost use Rattle.afsk_modulator.specs.Modulation.{IsLevel};
 ghost use Rattle.afsk_modulator.specs.Transmission.{IsBadLength};
 ghost use Rattle.wav_file.specs.Head.{head_of};
 ghost use Rattle.tnc_forms.specs.declared.fault.InputFault.{InputFault};
-ghost use Rattle.tnc_encode.specs.Encoded.{most_samples, transmissions};
+ghost use Rattle.tnc_encode.specs.Encoded.{most_samples, signal_of, transmissions};
 
 use crate::sending::samples_at_once;
 use std::alloc::Global;
@@ -22,8 +22,9 @@ pub(crate) fn count_samples(
 ) -> Result<u128, OutOfMemory>
     requires opening { 2 ≤ words.opening }
     requires closing { 1 ≤ words.closing }
+    requires level { IsLevel words.level }
     requires lengths { All (λ octets. ¬ IsBadLength octets) frames.now }
-    ensures { IfOk result (λ count. count ≡ length (signal (transmissions words frames.now))) }
+    ensures { IfOk result (λ count. count ≡ length (signal_of words frames.now)) }
 {
     if words.join {
         return count_joined(alloc, words, frames);
@@ -40,9 +41,10 @@ pub(crate) fn count_samples(
 fn count_joined(alloc: Global, words: EncodeWords, frames: &[Octets]) -> Result<u128, OutOfMemory>
     requires opening { 2 ≤ words.opening }
     requires closing { 1 ≤ words.closing }
+    requires level { IsLevel words.level }
     requires lengths { All (λ octets. ¬ IsBadLength octets) frames.now }
     requires join { words.join ≡ true }
-    ensures { IfOk result (λ count. count ≡ length (signal (transmissions words frames.now))) }
+    ensures { IfOk result (λ count. count ≡ length (signal_of words frames.now)) }
 {
     if frames.is_empty() {
         return Ok(0);

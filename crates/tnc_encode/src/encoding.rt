@@ -2,13 +2,13 @@
 ghost use Rattle.std.specs.Prelude.{◌≡◌, ◌≢◌, ◌≤◌, ◌<◌, ◌+◌, ◌++◌, ◌⊎◌, All, List, ℕ, Some, None, [], length, drop, OnOk, OnErr, IfErr, IsErrOf};
 ghost use Rattle.tnc_base.specs.Faults.{HasRisen};
 ghost use Rattle.tnc_base.specs.Streams.{WrotePart};
-ghost use Rattle.afsk_modulator.specs.Signal.{signal, samples_of};
+ghost use Rattle.afsk_modulator.specs.Modulation.{IsLevel};
 ghost use Rattle.afsk_modulator.specs.Transmission.{IsBadLength};
 ghost use Rattle.wav_file.specs.Head.{head_of};
 ghost use Rattle.tnc_forms.specs.declared.fault.InputFault.{InputFault};
 ghost use Rattle.tnc_forms.specs.Pcm.{pcm};
 ghost use Rattle.tnc_forms.specs.Reading.{input_limit};
-ghost use Rattle.tnc_encode.specs.Encoded.{encoded, encoded_before, encode_fault, length_fault, sent_at_once, transmissions, written_as, written_before};
+ghost use Rattle.tnc_encode.specs.Encoded.{encode_fault, encoded, encoded_before, length_fault, samples_at_once, signal_of, written_as, written_before};
 
 use crate::counting::{count_samples, head};
 use crate::frames::read_frames;
@@ -30,6 +30,7 @@ pub fn encode<I: Source, O: Sink>(
 ) -> Result<(), Fault>
     requires opening { 2 ≤ words.opening }
     requires closing { 1 ≤ words.closing }
+    requires level { IsLevel words.level }
 
     // what is read, and what is written of it
     ensures end { (octets : List ℕ) → I.left input.old ≡ Some octets
@@ -71,6 +72,7 @@ fn encode_octets<O: Sink>(
 ) -> Result<(), Fault>
     requires opening { 2 ≤ words.opening }
     requires closing { 1 ≤ words.closing }
+    requires level { IsLevel words.level }
     requires limit { length octets.now ≤ input_limit }
     ensures good { OnOk result (encode_fault words octets.now ≡ None) }
     ensures encoded { (before : List ℕ) → O.written output.old ≡ Some before
@@ -104,16 +106,17 @@ fn send_as_told<O: Sink>(
 ) -> Result<(), Fault>
     requires opening { 2 ≤ words.opening }
     requires closing { 1 ≤ words.closing }
+    requires level { IsLevel words.level }
     requires lengths { All (λ octets. ¬ IsBadLength octets) frames.now }
     ensures sent { (before : List ℕ) → O.written output.old ≡ Some before
         → OnOk result (O.written output.new
-        ≡ Some (before ++ written_as words.audio (signal (transmissions words frames.now)))) }
-    ensures fits { OnOk result (length_fault words.audio (length (signal (transmissions words frames.now))) ≡ None) }
+        ≡ Some (before ++ written_as words.audio (signal_of words frames.now))) }
+    ensures fits { OnOk result (length_fault words.audio (length (signal_of words frames.now)) ≡ None) }
     ensures long { (fault : InputFault) → IsErrOf result (Fault.Input fault)
-        → (length_fault words.audio (length (signal (transmissions words frames.now))) ≡ Some fault)
+        → (length_fault words.audio (length (signal_of words frames.now)) ≡ Some fault)
         × (fault ≢ InputFault.TooLong) × (words.audio ≡ AudioForm.Wav) × (output.new ≡ output.old) }
     ensures cut { (before : List ℕ) → O.written output.old ≡ Some before
-        → OnErr result (WrotePart before (written_as words.audio (signal (transmissions words frames.now)))
+        → OnErr result (WrotePart before (written_as words.audio (signal_of words frames.now))
         (O.written output.new)) }
     ensures read { ¬ IsErrOf result Fault.Read }
     ensures faultless { OnOk result (O.faults output.new ≡ O.faults output.old) }
@@ -134,12 +137,13 @@ fn send_before_fault<O: Sink>(
 ) -> Result<(), Fault>
     requires opening { 2 ≤ words.opening }
     requires closing { 1 ≤ words.closing }
+    requires level { IsLevel words.level }
     requires lengths { All (λ octets. ¬ IsBadLength octets) frames.now }
     ensures sent { (before : List ℕ) → O.written output.old ≡ Some before
         → OnOk result (O.written output.new
-        ≡ Some (before ++ written_before words.audio (signal (transmissions words frames.now)))) }
+        ≡ Some (before ++ written_before words.audio (signal_of words frames.now))) }
     ensures cut { (before : List ℕ) → O.written output.old ≡ Some before
-        → OnErr result (WrotePart before (written_before words.audio (signal (transmissions words frames.now)))
+        → OnErr result (WrotePart before (written_before words.audio (signal_of words frames.now))
         (O.written output.new)) }
     ensures faultless { OnOk result (O.faults output.new ≡ O.faults output.old) }
     ensures write { IsErrOf result Fault.Write → HasRisen (O.faults output.old) (O.faults output.new) }
@@ -160,16 +164,17 @@ fn send_wav<O: Sink>(
 ) -> Result<(), Fault>
     requires opening { 2 ≤ words.opening }
     requires closing { 1 ≤ words.closing }
+    requires level { IsLevel words.level }
     requires lengths { All (λ octets. ¬ IsBadLength octets) frames.now }
     ensures sent { (before : List ℕ) → O.written output.old ≡ Some before
         → OnOk result (O.written output.new
-        ≡ Some (before ++ written_as AudioForm.Wav (signal (transmissions words frames.now)))) }
-    ensures fits { OnOk result (length_fault AudioForm.Wav (length (signal (transmissions words frames.now))) ≡ None) }
+        ≡ Some (before ++ written_as AudioForm.Wav (signal_of words frames.now))) }
+    ensures fits { OnOk result (length_fault AudioForm.Wav (length (signal_of words frames.now)) ≡ None) }
     ensures long { (fault : InputFault) → IsErrOf result (Fault.Input fault)
-        → (length_fault AudioForm.Wav (length (signal (transmissions words frames.now))) ≡ Some fault)
+        → (length_fault AudioForm.Wav (length (signal_of words frames.now)) ≡ Some fault)
         × (fault ≢ InputFault.TooLong) × (output.new ≡ output.old) }
     ensures cut { (before : List ℕ) → O.written output.old ≡ Some before
-        → OnErr result (WrotePart before (written_as AudioForm.Wav (signal (transmissions words frames.now)))
+        → OnErr result (WrotePart before (written_as AudioForm.Wav (signal_of words frames.now))
         (O.written output.new)) }
     ensures faultless { OnOk result (O.faults output.new ≡ O.faults output.old) }
     ensures write { IsErrOf result Fault.Write → HasRisen (O.faults output.old) (O.faults output.new) }
@@ -195,11 +200,12 @@ fn send_all<O: Sink>(
 ) -> Result<(), Fault>
     requires opening { 2 ≤ words.opening }
     requires closing { 1 ≤ words.closing }
+    requires level { IsLevel words.level }
     requires lengths { All (λ octets. ¬ IsBadLength octets) frames.now }
     ensures sent { (before : List ℕ) → O.written output.old ≡ Some before
-        → OnOk result (O.written output.new ≡ Some (before ++ pcm (signal (transmissions words frames.now)))) }
+        → OnOk result (O.written output.new ≡ Some (before ++ pcm (signal_of words frames.now))) }
     ensures cut { (before : List ℕ) → O.written output.old ≡ Some before
-        → OnErr result (WrotePart before (pcm (signal (transmissions words frames.now))) (O.written output.new)) }
+        → OnErr result (WrotePart before (pcm (signal_of words frames.now)) (O.written output.new)) }
     ensures faultless { OnOk result (O.faults output.new ≡ O.faults output.old) }
     ensures write { IsErrOf result Fault.Write → HasRisen (O.faults output.old) (O.faults output.new) }
     ensures faults { IfErr result (λ fault. (fault ≡ Fault.Memory) ⊎ (fault ≡ Fault.Write)) }
@@ -226,11 +232,12 @@ fn send<O: Sink>(
 ) -> Result<(), Fault>
     requires opening { 2 ≤ words.opening }
     requires closing { 1 ≤ words.closing }
+    requires level { IsLevel words.level }
     requires lengths { All (λ octets. ¬ IsBadLength octets) frames.now }
     ensures sent { (before : List ℕ) → O.written output.old ≡ Some before
-        → OnOk result (O.written output.new ≡ Some (before ++ pcm (samples_of (sent_at_once words frames.now)))) }
+        → OnOk result (O.written output.new ≡ Some (before ++ pcm (samples_at_once words frames.now))) }
     ensures cut { (before : List ℕ) → O.written output.old ≡ Some before
-        → OnErr result (WrotePart before (pcm (samples_of (sent_at_once words frames.now))) (O.written output.new)) }
+        → OnErr result (WrotePart before (pcm (samples_at_once words frames.now)) (O.written output.new)) }
     ensures later { O.faults output.old ≤ O.faults output.new }
     ensures faultless { OnOk result (O.faults output.new ≡ O.faults output.old) }
     ensures write { IsErrOf result Fault.Write → HasRisen (O.faults output.old) (O.faults output.new) }

@@ -1,14 +1,14 @@
 -- What the ends of commands say of the program's.
-use Rattle.std.proofs.Common.{◌≡◌, Result, Ok, Err, inl, inr, refl, sym, subst, ◌∙◌}
-use Rattle.std.specs.Prelude.{OnOk, OnErr, IsErrAnd, ◌⊎◌, List, ℕ}
+use Rattle.std.proofs.Common.{◌≡◌, Result, Ok, Err, sym, subst, ◌∙◌}
+use Rattle.std.specs.Prelude.{OnOk, OnErr, List, ℕ}
 use Rattle.tnc_forms.specs.declared.fault.Fault.{Fault}
 use Rattle.tnc_forms.specs.declared.fault.Fault.TheVariants.{Input as OfInput, Memory as OfMemory, Read as OfRead, Write as OfWrite}
 use Rattle.tnc_forms.specs.declared.fault.InputFault.{InputFault}
 use Rattle.tnc_loop.specs.declared.fault.LoopFault.{LoopFault}
 use Rattle.tnc_loop.specs.declared.fault.LoopFault.TheVariants.{Stray as LoopStray, Memory as LoopMemory, Write as LoopWrite}
 use Rattle.tnc_main.specs.declared.stop.Stop.{Stop}
-use Rattle.tnc_main.specs.declared.stop.Stop.TheVariants.{Input, Stray, Memory, Read, Write}
-use Rattle.tnc_main.specs.Stops.{IsTold, end_of, end_of_loop}
+use Rattle.tnc_main.specs.declared.stop.Stop.TheVariants.{Input, Stray}
+use Rattle.tnc_main.specs.Stops.{end_of, end_of_loop}
 
 module _ (r : Result (Unit {0}) Stop) (end : Result (Unit {0}) Fault) (is : r ≡ end_of end) where
   pub if_ok : {P Q : Type 0} → (P → Q) → OnOk end P → OnOk r Q
@@ -78,27 +78,6 @@ module _ (r : Result (Unit {0}) Stop) (end : Result (Unit {0}) LoopFault) (is : 
       go (Err LoopMemory) h = cc h
       go (Err LoopWrite) h = cc h
 
--- what is told of an end is a fault of the input or a stray candidate
-pub told_of : (r : Result (Unit {0}) Stop) → IsErrAnd r IsTold
-    → ((fault : InputFault) × (r ≡ Err (Input fault))) ⊎ ((frame : List ℕ) × (r ≡ Err (Stray frame)))
-told_of (Ok x) h = absurd h
-told_of (Err (Input fault)) h = inl (fault, refl)
-told_of (Err (Stray frame)) h = inr (frame, refl)
-told_of (Err Memory) h = absurd h
-told_of (Err Read) h = absurd h
-told_of (Err Write) h = absurd h
-
--- with no fault but want of memory a command ends well or for that
-pub ends_well : (r : Result (Unit {0}) Stop) (status : ℕ) → OnOk r (status ≡ 0) → (r ≡ Err Memory → status ≡ 3)
-    → ((fault : InputFault) → r ≡ Err (Input fault) → ⊥) → ((frame : List ℕ) → r ≡ Err (Stray frame) → ⊥)
-    → (r ≡ Err Read → ⊥) → (r ≡ Err Write → ⊥) → (status ≡ 0) ⊎ (status ≡ 3)
-ends_well (Ok x) status ok memory bad stray read write = inl ok
-ends_well (Err (Input fault)) status ok memory bad stray read write = absurd (bad fault refl)
-ends_well (Err (Stray frame)) status ok memory bad stray read write = absurd (stray frame refl)
-ends_well (Err Memory) status ok memory bad stray read write = inr (memory refl)
-ends_well (Err Read) status ok memory bad stray read write = absurd (read refl)
-ends_well (Err Write) status ok memory bad stray read write = absurd (write refl)
-
 -- what holds however a call ended holds where it ended well
 pub on_ok : {T E : Type 0} (r : Result T E) {P : Type 0} → P → OnOk r P
 on_ok (Ok x) p = p
@@ -107,3 +86,7 @@ on_ok (Err e) p = tt
 pub both_ok : {T E : Type 0} (r : Result T E) (P Q : Type 0) → OnOk r P → OnOk r Q → OnOk r (P × Q)
 both_ok (Ok x) P Q p q = (p, q)
 both_ok (Err e) P Q p q = tt
+
+-- what holds at each fault holds at this one
+pub on_fault : {T E : Type 0} (r : Result T E) {P : Type 0} {e : E} → r ≡ Err e → OnErr r P → P
+on_fault r {P} is h = subst (λ q. OnErr q P) is h

@@ -1,4 +1,8 @@
 pub mod Ends
+pub mod Statuses
+pub mod Jobs
+pub mod Writing
+pub mod Telling
 pub mod CommandLemmas
 pub mod TextLemmas
 pub mod PcmRoundTrip

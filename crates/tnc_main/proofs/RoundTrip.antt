@@ -76,6 +76,11 @@ module _ (encode : EncodeWords) (decode : DecodeWords) (octets : List ℕ) (none
       → (text : List ℕ) → IsDecoded decode (encoded encode octets) text → text ≡ print decode.frames (frames_of encode.frames octets)
   heard each opening closing no_stray text is =
       let frames : List (List ℕ) = frames_of encode.frames octets in
-      clean_text decode sent (encoded encode octets) text same_samples
-      (transmissions_good encode opening closing frames (frames_of-fit encode.frames octets each)) no_stray is
+      clean_text decode sent (encoded encode octets) text
+      (record {
+        samples = same_samples;
+        each = transmissions_good encode opening closing frames (frames_of-fit encode.frames octets each);
+        no_stray = no_stray;
+      })
+      is
       ∙ ap (print decode.frames) (frames_sent encode frames)

@@ -1,8 +1,10 @@
--- What each command makes of its input.
-use Rattle.std.specs.Prelude.{◌≡◌, ℕ, ⊤, List, [], Option, Some, None}
+-- What each command makes of its input, and why it refuses it. These commands make one text of their input and end.
+use Rattle.std.specs.Prelude.{◌≡◌, ℕ, ◌<◌, ◌≤◌, List, [], Option, Some, None, length}
 use Rattle.tnc_forms.specs.declared.fault.InputFault.{InputFault}
+use Rattle.tnc_forms.specs.Reading.{input_limit}
 use Rattle.tnc_words.specs.declared.command.Command.{Command}
 use Rattle.tnc_words.specs.declared.command.Command.TheVariants.{Decode, Encode, Show, Loop}
+use Rattle.tnc_words.specs.declared.command.LoopWords.{LoopWords}
 use Rattle.tnc_decode.specs.Audio.{audio_fault}
 use Rattle.tnc_decode.specs.Decoded.{IsDecoded}
 use Rattle.tnc_encode.specs.Encoded.{encoded, encoded_before, encode_fault}
@@ -14,15 +16,12 @@ use Rattle.clean_signal.specs.Stray.{NoStray}
 use Rattle.tnc_loop.specs.Drawn.{drawn}
 use Rattle.tnc_loop.specs.Summary.{IsSummary, IsFirstStray}
 
--- the octets that a command has to read, of those that its input has left: loop reads none
+-- a command has these octets to read, of those that its input has left: loop reads none
 abbrev pub Reads : Command → Option (List ℕ) → List ℕ → Type 0
+Reads (Decode words) left octets = left ≡ Some octets
+Reads (Encode words) left octets = left ≡ Some octets
+Reads (Show words) left octets = left ≡ Some octets
 Reads (Loop words) left octets = octets ≡ []
-Reads other left octets = left ≡ Some octets
-
--- what a command leaves of these octets of its input
-abbrev pub left_by : Command → List ℕ → List ℕ
-left_by (Loop words) octets = octets
-left_by other octets = []
 
 -- the text is what a command makes of octets; each has one text
 abbrev pub Makes : Command → List ℕ → List ℕ → Type 0
@@ -38,19 +37,31 @@ fault_of (Encode words) octets = encode_fault words octets
 fault_of (Show words) octets = show_fault octets
 fault_of (Loop words) octets = None
 
--- the text is what a command writes of octets before it refuses them
-abbrev pub MakesBefore : Command → List ℕ → List ℕ → Type 0
-MakesBefore (Decode words) octets text = IsDecoded words octets text
-MakesBefore (Encode words) octets text = text ≡ encoded_before words octets
-MakesBefore (Show words) octets text = IsShown words octets text
-MakesBefore (Loop words) octets text = ⊥
+-- the text is what a command makes of octets that are not too many, before it refuses them
+abbrev pub MakesUpToFault : Command → List ℕ → List ℕ → Type 0
+MakesUpToFault (Decode words) octets text = IsDecoded words octets text
+MakesUpToFault (Encode words) octets text = text ≡ encoded_before words octets
+MakesUpToFault (Show words) octets text = IsShown words octets text
+MakesUpToFault (Loop words) octets text = ⊥
 
--- the first stray candidate of what loop sent to itself has these octets
+-- the text is what a command writes of octets before it refuses them: nothing of too many
+pub record MakesBefore (command : Command) (octets text : List ℕ) : Type 0 where
+  pub too_many : input_limit < length octets → text ≡ []
+  pub up_to_fault : length octets ≤ input_limit → MakesUpToFault command octets text
+
+-- the first stray candidate of what a command sent to itself has these octets
 abbrev pub Strays : Command → List ℕ → Type 0
+Strays (Decode words) octets = ⊥
+Strays (Encode words) octets = ⊥
+Strays (Show words) octets = ⊥
 Strays (Loop words) octets = IsFirstStray words octets
-Strays other octets = ⊥
 
--- of a loop: no candidate of what it sent to itself is stray, and what it heard is what it made, in order
-abbrev pub HeardAsMade : Command → Type 0
-HeardAsMade (Loop words) = NoStray (drawn words) (signal (drawn words)) × MergesTo (frames_of (drawn words)) (signal (drawn words))
-HeardAsMade other = ⊤
+-- nothing is wrong with the octets of a command, nor with what it sends to itself
+pub record IsFaultless (command : Command) (octets : List ℕ) : Type 0 where
+  pub input : fault_of command octets ≡ None
+  pub sent : (frame : List ℕ) → ¬ Strays command frame
+
+-- no candidate of what a loop sent to itself is stray, and what it heard is what it made, in order
+pub record HeardAsMade (words : LoopWords) : Type 0 where
+  pub no_stray : NoStray (drawn words) (signal (drawn words))
+  pub heard : MergesTo (frames_of (drawn words)) (signal (drawn words))

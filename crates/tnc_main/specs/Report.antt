@@ -8,7 +8,7 @@ use Rattle.tnc_forms.specs.declared.fault.InputFault.TheVariants.{TooLong, Line,
 use Rattle.tnc_forms.specs.declared.line_fault.LineFlaw.{LineFlaw}
 use Rattle.tnc_forms.specs.declared.line_fault.LineFlaw.TheVariants.{LongLine, OddLine, BadDigit, ShortLine}
 use Rattle.tnc_main.specs.declared.stop.Stop.{Stop}
-use Rattle.tnc_main.specs.declared.stop.Stop.TheVariants.{Input, Stray}
+use Rattle.tnc_main.specs.declared.stop.Stop.TheVariants.{Input, Stray, Memory, Read, Write}
 
 abbrev pub bad_words_line : List ℕ
 bad_words_line = codes "tnc: bad words" ++ 10 ∷ []
@@ -51,4 +51,6 @@ stray_line octets = codes "tnc: stray " ++ (encode_lower octets ++ 10 ∷ [])
 abbrev pub line_of : Stop → List ℕ
 line_of (Input fault) = input_line fault
 line_of (Stray octets) = stray_line octets
-line_of other = []
+line_of Memory = []
+line_of Read = []
+line_of Write = []

@@ -1,11 +1,13 @@
 -- What can stop a command.
-use Rattle.std.specs.Prelude.{◌≡◌, ℕ, ⊤, ◌≤◌, List, Some, Result, Ok, Err}
+use Rattle.std.specs.Prelude.{◌≡◌, ◌⊎◌, ℕ, ⊤, ◌≤◌, List, Some, Result, Ok, Err, IsErrAnd}
 use Rattle.tnc_forms.specs.declared.fault.Fault.{Fault}
 use Rattle.tnc_forms.specs.declared.fault.Fault.TheVariants.{Input as OfInput, Memory as OfMemory, Read as OfRead, Write as OfWrite}
 use Rattle.tnc_loop.specs.declared.fault.LoopFault.{LoopFault}
 use Rattle.tnc_loop.specs.declared.fault.LoopFault.TheVariants.{Stray as LoopStray, Memory as LoopMemory, Write as LoopWrite}
 use Rattle.tnc_words.specs.declared.command.Command.{Command}
-use Rattle.tnc_words.specs.declared.command.Command.TheVariants.{Encode}
+use Rattle.tnc_words.specs.declared.command.Command.TheVariants.{Decode, Encode, Show, Loop}
+use Rattle.tnc_main.specs.declared.status.Status.{Status}
+use Rattle.tnc_main.specs.declared.status.Status.TheVariants.{Done, BadInput, Memory as NoMemory, ReadFault, WriteFault, Stray as HeardStray}
 use Rattle.tnc_main.specs.declared.stop.Stop.{Stop}
 use Rattle.tnc_main.specs.declared.stop.Stop.TheVariants.{Input, Stray, Memory, Read, Write}
 use Rattle.tnc_main.specs.Commands.{Strays, fault_of}
@@ -14,13 +16,30 @@ use Rattle.tnc_main.specs.Commands.{Strays, fault_of}
 abbrev pub IsStopOf : Command → List ℕ → Stop → Type 0
 IsStopOf command octets (Input fault) = fault_of command octets ≡ Some fault
 IsStopOf command octets (Stray frame) = Strays command frame
-IsStopOf command octets other = ⊤
+IsStopOf command octets Memory = ⊤
+IsStopOf command octets Read = ⊤
+IsStopOf command octets Write = ⊤
 
 -- it is told in a line
 abbrev pub IsTold : Stop → Type 0
 IsTold (Input fault) = ⊤
 IsTold (Stray frame) = ⊤
-IsTold other = ⊥
+IsTold Memory = ⊥
+IsTold Read = ⊥
+IsTold Write = ⊥
+
+-- the status of an end
+abbrev pub status_of : Result (Unit {0}) Stop → Status
+status_of (Ok nothing) = Done
+status_of (Err (Input fault)) = BadInput
+status_of (Err (Stray octets)) = HeardStray
+status_of (Err Memory) = NoMemory
+status_of (Err Read) = ReadFault
+status_of (Err Write) = WriteFault
+
+-- an end has its own status, or where its line could not be made or written that of want of memory or of a write fault
+abbrev pub EndsAs : Result (Unit {0}) Stop → Status → Type 0
+EndsAs end status = (status ≡ status_of end) ⊎ (IsErrAnd end IsTold × ((status ≡ NoMemory) ⊎ (status ≡ WriteFault)))
 
 -- how the ends of commands are told to the program
 abbrev pub stop_of : Fault → Stop
@@ -44,5 +63,7 @@ end_of_loop (Err fault) = Err (stop_of_loop fault)
 
 -- the flags of encode can be sent
 abbrev pub CanRun : Command → Type 0
+CanRun (Decode words) = ⊤
 CanRun (Encode words) = (2 ≤ words.opening) × (1 ≤ words.closing)
-CanRun other = ⊤
+CanRun (Show words) = ⊤
+CanRun (Loop words) = ⊤

@@ -1,22 +1,24 @@
 //! The program as one call: from the words of a command line, over streams that are handed in, to an exit status.
-ghost use Rattle.std.specs.Prelude.{◌≡◌, ◌≢◌, ◌⊎◌, ◌≤◌, ◌<◌, ◌+◌, ◌++◌, IfErr, IsErrAnd, IsErrOf, IsOk, OnOk, ℕ, List, Some, None, length, drop, map, string_bytes};
+ghost use Rattle.std.specs.Prelude.{◌≡◌, ◌⊎◌, ◌<◌, ◌++◌, IfErr, IsErrAnd, Err, ℕ, List, Some, length, map, string_bytes};
 ghost use Rattle.tnc_base.specs.Faults.{HasRisen};
 ghost use Rattle.tnc_base.specs.Streams.{WrotePart};
-ghost use Rattle.afsk_modulator.specs.Signal.{Transmission, signal};
-ghost use Rattle.clean_signal.specs.GoodTransmission.{IsTransmission, frames_of};
-ghost use Rattle.clean_signal.specs.Stray.{NoStray};
-ghost use Rattle.std.specs.List.{All};
-ghost use Rattle.tnc_words.specs.declared.command.Command.{Command};
+ghost use Rattle.afsk_modulator.specs.Signal.{Transmission};
+ghost use Rattle.clean_signal.specs.GoodTransmission.{frames_of};
 ghost use Rattle.tnc_words.specs.declared.command.DecodeWords.{DecodeWords};
-ghost use Rattle.tnc_words.specs.Commands.{Asks, IsDecode};
-ghost use Rattle.tnc_forms.specs.declared.fault.InputFault.{InputFault};
+ghost use Rattle.tnc_words.specs.declared.command.LoopWords.{LoopWords};
+ghost use Rattle.tnc_words.specs.Commands.{IsLoop};
 ghost use Rattle.tnc_forms.specs.Reading.{input_limit};
 ghost use Rattle.tnc_decode.specs.Audio.{samples_of};
 ghost use Rattle.tnc_decode.specs.Printing.{print};
+ghost use Rattle.tnc_loop.specs.Summary.{IsFirstStray};
+ghost use Rattle.tnc_main.specs.declared.status.Status.{Status};
 ghost use Rattle.tnc_main.specs.declared.stop.Stop.{Stop};
-ghost use Rattle.tnc_main.specs.Commands.{HeardAsMade, Makes, MakesBefore, Reads, Strays, fault_of, left_by};
-ghost use Rattle.tnc_main.specs.Report.{bad_words_line, input_line, line_of, stray_line};
-ghost use Rattle.tnc_main.specs.Stops.{IsStopOf, IsTold};
+ghost use Rattle.tnc_main.specs.Clean.{IsClean};
+ghost use Rattle.tnc_main.specs.Commands.{HeardAsMade, IsFaultless};
+ghost use Rattle.tnc_main.specs.Report.{bad_words_line, line_of};
+ghost use Rattle.tnc_main.specs.Runs.{AskNothing, IsCaused, Job, Leaves, Tells, Writes};
+ghost use Rattle.tnc_main.specs.Status.{code_of};
+ghost use Rattle.tnc_main.specs.Stops.{EndsAs, IsTold};
 
 use crate::performing::perform;
 use crate::report::{BAD_WORDS, of_input, of_stray, told};
@@ -24,10 +26,21 @@ use crate::status::Status;
 use crate::stop::Stop;
 use std::alloc::Global;
 use tnc_base::{OutOfMemory, Sink, Source};
-use tnc_words::{WordsFault, read_words};
+use tnc_words::{Command, WordsFault, read_words};
 
-/// Does what `words`, those after the program's name, ask for. Answers the exit status: 0 done, 1 bad words, 2 bad
-/// input, 3 out of memory, 4 the input failed, 5 the output or the report failed, 6 a loop that heard what was not sent.
+/// Does what `words`, those after the program's name, ask for, and answers the exit status:
+///
+/// | Status | What happened | What an operator does |
+/// |---|---|---|
+/// | 0 | The input was read to its end, and all was written. | Nothing. |
+/// | 1 | The words ask for nothing. Nothing was read or written. | Corrects the command line. |
+/// | 2 | The input breaks the rules of its form. The report names what is wrong, and where. | Corrects the input. |
+/// | 3 | Memory ran out. The output may be cut. | Runs it again with more memory. |
+/// | 4 | The input failed. | Looks at where it comes from. |
+/// | 5 | The output or the report failed, and may be cut. | Looks at where it goes to. |
+/// | 6 | A loop heard a frame that it did not send. The report names it. | Reports the seed: the receiver was fooled. |
+///
+/// A command that lives on, and does not make one text of its input, is no `Job`: it gets a clause of its own.
 pub fn run<I: Source, O: Sink, E: Sink>(
     alloc: Global,
     words: &[String],
@@ -35,92 +48,59 @@ pub fn run<I: Source, O: Sink, E: Sink>(
     output: &mut O,
     report: &mut E,
 ) -> u8
-    // what decode makes of a clean signal: the frames that were sent, whole, once and in order
-    ensures heard { (decode : DecodeWords) → (sent : List Transmission) → (octets before : List ℕ)
-        → IsDecode (map string_bytes words.now) decode → I.left input.old ≡ Some octets
-        → O.written output.old ≡ Some before
-        → samples_of decode.audio octets ≡ signal sent → All IsTransmission sent → NoStray sent (signal sent)
-        → result ≡ 0 → O.written output.new ≡ Some (before ++ print decode.frames (frames_of sent)) }
+    // what the words may be: where they ask for nothing, neither input nor output is touched
+    ensures bad_words { result ≡ 1 → AskNothing (map string_bytes words.now) }
+    ensures refused { AskNothing (map string_bytes words.now) → (input.new ≡ input.old) × (output.new ≡ output.old)
+        × ((result ≡ 1) ⊎ ((result ≡ 3) ⊎ (result ≡ 5))) }
 
-    // what a loop that ends well has shown: it heard the frames that it made, and nothing stray
-    ensures heard_as_made { (command : Command) → Asks (map string_bytes words.now) command
-        → result ≡ 0 → HeardAsMade command }
+    // what each command reads and writes
+    ensures read { (job : Job (map string_bytes words.now) (I.left input.old) result)
+        → Leaves job.command job.octets job.status (I.left input.new) }
+    ensures written { (job : Job (map string_bytes words.now) (I.left input.old) result) → (before : List ℕ)
+        → O.written output.old ≡ Some before → (text : List ℕ) × Writes job.command job.octets job.status text
+        × (O.written output.new ≡ Some (before ++ text)) }
+    ensures unwritten { result ≡ 4 → output.new ≡ output.old }
+    ensures too_long { (job : Job (map string_bytes words.now) (I.left input.old) result)
+        → input_limit < length job.octets → result ≡ 2 → output.new ≡ output.old }
+    ensures heard { (job : Job (map string_bytes words.now) (I.left input.old) result) → (decode : DecodeWords)
+        → (sent : List Transmission) → (before : List ℕ) → job.command ≡ Command.Decode decode
+        → IsClean (samples_of decode.audio job.octets) sent → O.written output.old ≡ Some before
+        → result ≡ 0 → O.written output.new ≡ Some (before ++ print decode.frames (frames_of sent)) }
+    ensures looped { (loop : LoopWords) → IsLoop (map string_bytes words.now) loop
+        → (input.new ≡ input.old) × (result ≡ 0 → HeardAsMade loop) }
 
     // each status and its cause
-    ensures known { result ≤ 6 }
-    ensures bad_words { result ≡ 1 → (command : Command) → ¬ Asks (map string_bytes words.now) command }
-    ensures refused { ((command : Command) → ¬ Asks (map string_bytes words.now) command)
-        → (result ≡ 1) ⊎ ((result ≡ 3) ⊎ (result ≡ 5)) }
-    ensures good_input { (command : Command) → (octets : List ℕ) → Asks (map string_bytes words.now) command
-        → Reads command (I.left input.old) octets → result ≡ 0 → fault_of command octets ≡ None }
-    ensures bad_input { (command : Command) → (octets : List ℕ) → Asks (map string_bytes words.now) command
-        → Reads command (I.left input.old) octets
-        → result ≡ 2 → (fault : InputFault) × (fault_of command octets ≡ Some fault) }
+    ensures known { (status : Status) × (result ≡ code_of status) }
+    ensures cause { (job : Job (map string_bytes words.now) (I.left input.old) result)
+        → IsCaused job.command job.octets job.status }
+    ensures faultless { result ≡ 0
+        → (I.faults input.new ≡ I.faults input.old) × (O.faults output.new ≡ O.faults output.old) }
     ensures read_fault { result ≡ 4 → HasRisen (I.faults input.old) (I.faults input.new) }
-    ensures write_fault { result ≡ 5 → HasRisen (O.faults output.old) (O.faults output.new)
-        ⊎ HasRisen (E.faults report.old) (E.faults report.new) }
-    ensures stray { (command : Command) → Asks (map string_bytes words.now) command
-        → result ≡ 6 → (frame : List ℕ) × Strays command frame }
+    ensures write_fault { result ≡ 5
+        → HasRisen (O.faults output.old) (O.faults output.new) ⊎ HasRisen (E.faults report.old) (E.faults report.new) }
+    ensures stray { result ≡ 6 → (loop : LoopWords) × IsLoop (map string_bytes words.now) loop
+        × ((frame : List ℕ) × IsFirstStray loop frame) }
 
-    // the octets that are read
-    ensures unread { result ≡ 1 → input.new ≡ input.old }
-    ensures end { (command : Command) → (octets : List ℕ) → Asks (map string_bytes words.now) command
-        → I.left input.old ≡ Some octets
-        → result ≡ 0 → I.left input.new ≡ Some (left_by command octets) }
-    ensures stops { (command : Command) → (octets : List ℕ) → Asks (map string_bytes words.now) command
-        → I.left input.old ≡ Some octets → Reads command (I.left input.old) octets
-        → result ≡ 2 → input_limit < length octets → I.left input.new ≡ Some (drop (input_limit + 1) octets) }
-
-    // the octets that are written
-    ensures made { (command : Command) → (octets before : List ℕ) → Asks (map string_bytes words.now) command
-        → Reads command (I.left input.old) octets → O.written output.old ≡ Some before
-        → (result ≡ 0) ⊎ (result ≡ 6)
-        → (text : List ℕ) × Makes command octets text × (O.written output.new ≡ Some (before ++ text)) }
-    ensures made_before { (command : Command) → (octets before : List ℕ) → Asks (map string_bytes words.now) command
-        → Reads command (I.left input.old) octets → O.written output.old ≡ Some before
-        → result ≡ 2 → length octets ≤ input_limit
-        → (text : List ℕ) × MakesBefore command octets text × (O.written output.new ≡ Some (before ++ text)) }
-    ensures part { (command : Command) → (octets before text : List ℕ) → Asks (map string_bytes words.now) command
-        → Reads command (I.left input.old) octets → O.written output.old ≡ Some before
-        → Makes command octets text → WrotePart before text (O.written output.new) }
-    ensures unwritten { (result ≡ 1) ⊎ (result ≡ 4) → output.new ≡ output.old }
-    ensures too_long_unwritten { (command : Command) → (octets : List ℕ) → Asks (map string_bytes words.now) command
-        → Reads command (I.left input.old) octets
-        → result ≡ 2 → input_limit < length octets → output.new ≡ output.old }
-
-    // the lines that are reported
+    // what is told
     ensures silent { (result ≡ 0) ⊎ ((result ≡ 3) ⊎ (result ≡ 4)) → report.new ≡ report.old }
-    ensures bad_words_told { (before : List ℕ) → E.written report.old ≡ Some before
-        → result ≡ 1 → E.written report.new ≡ Some (before ++ bad_words_line) }
-    ensures bad_words_cut { (before : List ℕ) → E.written report.old ≡ Some before
-        → ((command : Command) → ¬ Asks (map string_bytes words.now) command)
-        → result ≡ 5 → WrotePart before bad_words_line (E.written report.new) }
-    ensures bad_input_told { (command : Command) → (octets before : List ℕ) → (fault : InputFault)
-        → Asks (map string_bytes words.now) command → Reads command (I.left input.old) octets
-        → E.written report.old ≡ Some before → fault_of command octets ≡ Some fault
-        → result ≡ 2 → E.written report.new ≡ Some (before ++ input_line fault) }
-    ensures stray_told { (command : Command) → (before : List ℕ) → Asks (map string_bytes words.now) command
+    ensures told { (job : Job (map string_bytes words.now) (I.left input.old) result) → (before : List ℕ)
+        → E.written report.old ≡ Some before → (line : List ℕ) × Tells job.command job.octets job.status line
+        × (E.written report.new ≡ Some (before ++ line)) }
+    ensures bad_words_told { (before : List ℕ) → AskNothing (map string_bytes words.now)
         → E.written report.old ≡ Some before
-        → result ≡ 6 → (frame : List ℕ) × Strays command frame
-        × (E.written report.new ≡ Some (before ++ stray_line frame)) }
-    ensures report_cut { (command : Command) → (octets before : List ℕ) → Asks (map string_bytes words.now) command
-        → Reads command (I.left input.old) octets → E.written report.old ≡ Some before
-        → result ≡ 5
-        → (stop : Stop) × IsStopOf command octets stop × WrotePart before (line_of stop) (E.written report.new) }
+        → (result ≡ 1 → E.written report.new ≡ Some (before ++ bad_words_line))
+        × (result ≡ 5 → WrotePart before bad_words_line (E.written report.new)) }
 
-    // good words, an input without a fault, and no fault of a stream
-    ensures complete { (command : Command) → (octets : List ℕ) → Asks (map string_bytes words.now) command
-        → Reads command (I.left input.old) octets → fault_of command octets ≡ None
-        → ((frame : List ℕ) → ¬ Strays command frame)
-        → ¬ HasRisen (I.faults input.old) (I.faults input.new)
+    // completeness: good words, an input without a fault, and no fault of a stream
+    ensures complete { (job : Job (map string_bytes words.now) (I.left input.old) result)
+        → IsFaultless job.command job.octets → ¬ HasRisen (I.faults input.old) (I.faults input.new)
         → ¬ HasRisen (O.faults output.old) (O.faults output.new)
-        → ¬ HasRisen (E.faults report.old) (E.faults report.new)
-        → (result ≡ 0) ⊎ (result ≡ 3) }
+        → ¬ HasRisen (E.faults report.old) (E.faults report.new) → (result ≡ 0) ⊎ (result ≡ 3) }
 {
     match read_words(alloc, words) {
         Ok(command) => {
             let end = perform(alloc, command, input, output);
-            explained(alloc, end, report)
+            explained(alloc, end, report).code()
         }
         Err(WordsFault::Refused) => told(report, BAD_WORDS, Status::BadWords).code(),
         Err(WordsFault::Memory) => Status::Memory.code(),
@@ -128,37 +108,32 @@ pub fn run<I: Source, O: Sink, E: Sink>(
 }
 
 /// The exit status of a command that has ended, with the line that explains it.
-fn explained<E: Sink>(alloc: Global, end: Result<(), Stop>, report: &mut E) -> u8
-    ensures known { result ≤ 6 }
-    ensures done { result ≡ 0 → IsOk end }
-    ensures bad_words { result ≢ 1 }
-    ensures bad_input { result ≡ 2 → (fault : InputFault) × IsErrOf end (Stop.Input fault) }
-    ensures read_fault { result ≡ 4 → IsErrOf end Stop.Read }
-    ensures write_fault { result ≡ 5
-        → IsErrOf end Stop.Write ⊎ (IsErrAnd end IsTold × HasRisen (E.faults report.old) (E.faults report.new)) }
-    ensures stray { result ≡ 6 → (frame : List ℕ) × IsErrOf end (Stop.Stray frame) }
-    ensures ok { OnOk end (result ≡ 0) }
-    ensures memory { IsErrOf end Stop.Memory → result ≡ 3 }
+fn explained<E: Sink>(alloc: Global, end: Result<(), Stop>, report: &mut E) -> Status
+    ensures ends { EndsAs end result }
+    ensures fault { result ≡ Status.WriteFault → (end ≡ Err Stop.Write)
+        ⊎ (IsErrAnd end IsTold × HasRisen (E.faults report.old) (E.faults report.new)) }
 
-    // what is reported
-    ensures silent { (result ≡ 0) ⊎ ((result ≡ 3) ⊎ (result ≡ 4)) → report.new ≡ report.old }
+    // what is told
+    ensures silent { (result ≡ Status.Done) ⊎ ((result ≡ Status.Memory) ⊎ (result ≡ Status.ReadFault))
+        → report.new ≡ report.old }
     ensures told { (before : List ℕ) → E.written report.old ≡ Some before
-        → (result ≡ 2) ⊎ (result ≡ 6) → IfErr end (λ stop. E.written report.new ≡ Some (before ++ line_of stop)) }
+        → (result ≡ Status.BadInput) ⊎ (result ≡ Status.Stray)
+        → IfErr end (λ stop. E.written report.new ≡ Some (before ++ line_of stop)) }
     ensures cut { (before : List ℕ) → E.written report.old ≡ Some before
-        → result ≡ 5 → IfErr end (λ stop. WrotePart before (line_of stop) (E.written report.new)) }
+        → result ≡ Status.WriteFault → IfErr end (λ stop. WrotePart before (line_of stop) (E.written report.new)) }
 {
     match end {
-        Ok(()) => Status::Done.code(),
+        Ok(()) => Status::Done,
         Err(Stop::Input(fault)) => match of_input(alloc, fault) {
-            Ok(line) => told(report, line.as_bytes(), Status::BadInput).code(),
-            Err(OutOfMemory) => Status::Memory.code(),
+            Ok(line) => told(report, line.as_bytes(), Status::BadInput),
+            Err(OutOfMemory) => Status::Memory,
         },
         Err(Stop::Stray(octets)) => match of_stray(alloc, octets.as_slice()) {
-            Ok(line) => told(report, line.as_bytes(), Status::Stray).code(),
-            Err(OutOfMemory) => Status::Memory.code(),
+            Ok(line) => told(report, line.as_bytes(), Status::Stray),
+            Err(OutOfMemory) => Status::Memory,
         },
-        Err(Stop::Memory) => Status::Memory.code(),
-        Err(Stop::Read) => Status::ReadFault.code(),
-        Err(Stop::Write) => Status::WriteFault.code(),
+        Err(Stop::Memory) => Status::Memory,
+        Err(Stop::Read) => Status::ReadFault,
+        Err(Stop::Write) => Status::WriteFault,
     }
 }

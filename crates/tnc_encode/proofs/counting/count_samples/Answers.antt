@@ -1,6 +1,5 @@
 use Rattle.std.proofs.Common.{◌≡◌, ◌<◌, ◌^◌, [], ◌∷◌, length, sym, ap, ◌∙◌, arith}
-use Rattle.afsk_modulator.specs.Signal.{samples_of}
-use Rattle.tnc_encode.specs.Encoded.{sent_at_once}
+use Rattle.tnc_encode.specs.Encoded.{samples_at_once}
 use Rattle.std.proofs.lemmas.List.{take_all}
 use Rattle.tnc_encode.proofs.CountingLemmas.{own_samples, own_samples-none, own_samples-more, own_samples-all}
 use Rattle.tnc_encode.proofs.counting.count_samples.Goals as goal
@@ -16,9 +15,9 @@ returns c =
 
 pub loop-frame-preserved : goal.loop-frame-preserved
 loop-frame-preserved c =
-    let len : c.len.result ≡ length (samples_of (sent_at_once c.args.words (c.frame-item.result ∷ []))) =
+    let len : c.len.result ≡ length (samples_at_once c.args.words (c.frame-item.result ∷ [])) =
     c.len.ensures ∙ c.in_ok-samples_at_once.field-0.ok.0
-    ∙ ap length (c.in_ok-samples_at_once.ensures ∙ ap (λ fs. samples_of (sent_at_once c.args.words fs)) c.from_ref.ensures.value) in
+    ∙ ap length (c.in_ok-samples_at_once.ensures ∙ ap (λ fs. samples_at_once c.args.words fs) c.from_ref.ensures.value) in
     let more = own_samples-more c.args.words c.args.frames.now c.loop-frame.frame-index c.frame-item.result c.loop-frame-test.true c.frame-item.is in
     let counted = c.loop-frame.invariant.counted in
     let bound = c.loop-frame.invariant.bound in

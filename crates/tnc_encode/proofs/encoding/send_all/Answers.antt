@@ -2,8 +2,7 @@ use Rattle.std.proofs.Common.{◌++◌, ◌∷◌, [], ℕ, List, Option, Some, 
 use borrow.Author.Tests.{eqb-true}
 use Rattle.std.proofs.lemmas.List.{append-nil, take_all}
 use Rattle.tnc_base.specs.Streams.{WrotePart}
-use Rattle.afsk_modulator.specs.Signal.{samples_of}
-use Rattle.tnc_encode.specs.Encoded.{sent_at_once}
+use Rattle.tnc_encode.specs.Encoded.{samples_at_once}
 use Rattle.tnc_forms.specs.Pcm.{pcm}
 use Rattle.tnc_forms.proofs.Ends.{map_ok, map_err, on_err}
 use Rattle.tnc_encode.proofs.SendingLemmas.{none_joined, joined_sent, own_octets, own_octets-none, own_octets-more, own_octets-all, cut_within}
@@ -36,8 +35,8 @@ loop-frame-preserved g c = record {
   sent = λ before was.
       let done : List ℕ = own_octets c.args.words (take c.loop-frame.frame-index c.args.frames.now) in
       c.in_ok-send.ensures.sent (before ++ done) (c.loop-frame.invariant.sent before was)
-      ∙ ap (λ frames. Some ((before ++ done) ++ pcm (samples_of (sent_at_once c.args.words frames)))) c.from_ref.ensures.value
-      ∙ ap Some (append_assoc before done (pcm (samples_of (sent_at_once c.args.words (c.frame-item.result ∷ [])))))
+      ∙ ap (λ frames. Some ((before ++ done) ++ pcm (samples_at_once c.args.words frames))) c.from_ref.ensures.value
+      ∙ ap Some (append_assoc before done (pcm (samples_at_once c.args.words (c.frame-item.result ∷ []))))
       ∙ ap (λ text. Some (before ++ text)) (sym (own_octets-more c.args.words c.args.frames.now c.loop-frame.frame-index c.frame-item.result c.loop-frame-test.true c.frame-item.is));
   faultless = c.in_ok-send.ensures.faultless ∙ c.loop-frame.invariant.faultless;
 }
@@ -46,8 +45,8 @@ pub returns-in_err-send-clause-cut : goal.returns-in_err-send-clause-cut
 returns-in_err-send-clause-cut g c = λ before was.
     let done : List ℕ = own_octets c.args.words (take c.loop-frame.frame-index c.args.frames.now) in
     let now : Option (List ℕ) = g.O.Sink.written c.send-in-loop-frame.new.output in
-    let part : WrotePart (before ++ done) (pcm (samples_of (sent_at_once c.args.words (c.frame-item.result ∷ [])))) now =
-    subst (λ (frames : List (List ℕ)). WrotePart (before ++ done) (pcm (samples_of (sent_at_once c.args.words frames))) now) c.from_ref.ensures.value
+    let part : WrotePart (before ++ done) (pcm (samples_at_once c.args.words (c.frame-item.result ∷ []))) now =
+    subst (λ (frames : List (List ℕ)). WrotePart (before ++ done) (pcm (samples_at_once c.args.words frames)) now) c.from_ref.ensures.value
     (c.in_err-send.ensures.cut (before ++ done) (c.loop-frame.invariant.sent before was)) in
     on_err _ (subst (λ (text : List ℕ). WrotePart before text now) (own_octets-all c.args.words c.args.frames.now c.if-words.false)
     (cut_within c.args.words c.args.frames.now c.loop-frame.frame-index c.frame-item.result c.loop-frame-test.true c.frame-item.is before now part))

@@ -1,8 +1,8 @@
-use Rattle.std.proofs.Common.{◌≡◌, ◌++◌, Some, IfErr, inl, inr, sym, subst, ap, ◌∙◌, arith}
+use Rattle.std.proofs.Common.{◌≡◌, ◌++◌, Some, IfErr, inl, inr, sym, subst, ap, ◌∙◌}
 use Rattle.std.specs.Prelude.{Result}
 use Rattle.tnc_main.specs.declared.stop.Stop.{Stop}
 use Rattle.tnc_main.specs.Report.{line_of, stray_line}
-use Rattle.tnc_main.specs.Status.{code_of}
+use Rattle.tnc_main.specs.declared.status.Status.TheVariants.{BadInput, WriteFault, Stray as HeardStray}
 use Rattle.tnc_main.proofs.program.explained.Goals as goal
 
 pub returns-in-Ok-of_stray-clause-told : goal.returns-in-Ok-of_stray-clause-told
@@ -11,8 +11,10 @@ returns-in-Ok-of_stray-clause-told g c = λ before was which.
     elim (c.told-in-Ok-of_stray.ensures.line before was) [
       | inl whole ↦ whole ∙ ap (λ line. Some (before ++ line)) (c.as_bytes-in-Ok-of_stray.ensures.value ∙ c.in-Ok-of_stray.ensures ∙ ap stray_line c.as_slice.ensures.list)
       | inr fault ↦
-          let code : c.code-in-Ok-of_stray.result ≡ 5 = c.code-in-Ok-of_stray.ensures ∙ ap code_of fault in
-          elim which [ inl two ↦ absurd (omega arith) | inr six ↦ absurd (omega arith) ]
+          elim which [
+            | inl bad ↦ let both : BadInput ≡ WriteFault = sym bad ∙ fault in cc both
+            | inr stray ↦ let both : HeardStray ≡ WriteFault = sym stray ∙ fault in cc both
+          ]
     ] in
     subst (λ (end : Result (Unit {0}) Stop). IfErr end (λ stop. g.E.Sink.written c.told-in-Ok-of_stray.new.report ≡ Some (before ++ line_of stop))) (sym c.in-Err-Stray.is)
     (written ∙ ap (λ stop. Some (before ++ line_of stop)) (sym c.in-Err-Stray.field-0-is))

@@ -1,0 +1,102 @@
+-- Statuses and their codes, and what a status says of a command's end.
+use Rattle.std.proofs.Common.{◌≡◌, ◌≢◌, ℕ, zero, suc, Result, Ok, Err, inl, inr, refl, sym, ap, ◌∙◌, arith, true≢false}
+use Rattle.std.specs.Prelude.{IsOk, List}
+use Rattle.tnc_forms.specs.declared.fault.InputFault.{InputFault}
+use Rattle.tnc_main.specs.declared.status.Status.{Status}
+use Rattle.tnc_main.specs.declared.status.Status.TheVariants.{Done, BadWords, BadInput, Memory as NoMemory, ReadFault, WriteFault, Stray as HeardStray}
+use Rattle.tnc_main.specs.declared.stop.Stop.{Stop}
+use Rattle.tnc_main.specs.declared.stop.Stop.TheVariants.{Input, Stray, Memory, Read, Write}
+use Rattle.tnc_main.specs.Status.{code_of}
+use Rattle.tnc_main.specs.Stops.{EndsAs, status_of}
+
+-- the status of a code
+status_at : ℕ → Status
+status_at zero = Done
+status_at (suc zero) = BadWords
+status_at (suc (suc zero)) = BadInput
+status_at (suc (suc (suc zero))) = NoMemory
+status_at (suc (suc (suc (suc zero)))) = ReadFault
+status_at (suc (suc (suc (suc (suc zero))))) = WriteFault
+status_at (suc (suc (suc (suc (suc (suc n)))))) = HeardStray
+
+status_at-code : (status : Status) → status_at (code_of status) ≡ status
+unfolding status_at
+status_at-code Done = refl
+status_at-code BadWords = refl
+status_at-code BadInput = refl
+status_at-code NoMemory = refl
+status_at-code ReadFault = refl
+status_at-code WriteFault = refl
+status_at-code HeardStray = refl
+
+-- a status is known by its code
+pub one_status : (status other : Status) → code_of status ≡ code_of other → status ≡ other
+one_status status other same = sym (status_at-code status) ∙ ap status_at same ∙ status_at-code other
+
+-- the status of a good end
+pub status_done : (end : Result (Unit {0}) Stop) → IsOk end → status_of end ≡ Done
+status_done (Ok x) ok = refl
+status_done (Err stop) ok = absurd (true≢false (sym ok))
+
+-- a code that neither want of memory nor a write fault has is that of the end
+own_code : (end : Result (Unit {0}) Stop) (status : Status) (code : ℕ) → EndsAs end status → code_of status ≡ code → code ≢ 3 → code ≢ 5
+    → code_of (status_of end) ≡ code
+own_code end status code (inl same) is not_three not_five = ap code_of (sym same) ∙ is
+own_code end status code (inr (told, inl memory)) is not_three not_five = absurd (not_three (sym is ∙ ap code_of memory))
+own_code end status code (inr (told, inr write)) is not_three not_five = absurd (not_five (sym is ∙ ap code_of write))
+
+module _ (end : Result (Unit {0}) Stop) (status : Status) (ends : EndsAs end status) where
+  pub at_done : code_of status ≡ 0 → IsOk end
+  at_done is = go end (own_code end status 0 ends is (λ e. omega arith) (λ e. omega arith))
+    where
+      go : (r : Result (Unit {0}) Stop) → code_of (status_of r) ≡ 0 → IsOk r
+      go (Ok x) e = refl
+      go (Err (Input fault)) e = absurd (omega arith)
+      go (Err (Stray frame)) e = absurd (omega arith)
+      go (Err Memory) e = absurd (omega arith)
+      go (Err Read) e = absurd (omega arith)
+      go (Err Write) e = absurd (omega arith)
+
+  pub at_bad_words : code_of status ≡ 1 → ⊥
+  at_bad_words is = go end (own_code end status 1 ends is (λ e. omega arith) (λ e. omega arith))
+    where
+      go : (r : Result (Unit {0}) Stop) → code_of (status_of r) ≡ 1 → ⊥
+      go (Ok x) e = omega arith
+      go (Err (Input fault)) e = omega arith
+      go (Err (Stray frame)) e = omega arith
+      go (Err Memory) e = omega arith
+      go (Err Read) e = omega arith
+      go (Err Write) e = omega arith
+
+  pub at_bad_input : code_of status ≡ 2 → (fault : InputFault) × (end ≡ Err (Input fault))
+  at_bad_input is = go end (own_code end status 2 ends is (λ e. omega arith) (λ e. omega arith))
+    where
+      go : (r : Result (Unit {0}) Stop) → code_of (status_of r) ≡ 2 → (fault : InputFault) × (r ≡ Err (Input fault))
+      go (Ok x) e = absurd (omega arith)
+      go (Err (Input fault)) e = (fault, refl)
+      go (Err (Stray frame)) e = absurd (omega arith)
+      go (Err Memory) e = absurd (omega arith)
+      go (Err Read) e = absurd (omega arith)
+      go (Err Write) e = absurd (omega arith)
+
+  pub at_read_fault : code_of status ≡ 4 → end ≡ Err Read
+  at_read_fault is = go end (own_code end status 4 ends is (λ e. omega arith) (λ e. omega arith))
+    where
+      go : (r : Result (Unit {0}) Stop) → code_of (status_of r) ≡ 4 → r ≡ Err Read
+      go (Ok x) e = absurd (omega arith)
+      go (Err (Input fault)) e = absurd (omega arith)
+      go (Err (Stray frame)) e = absurd (omega arith)
+      go (Err Memory) e = absurd (omega arith)
+      go (Err Read) e = refl
+      go (Err Write) e = absurd (omega arith)
+
+  pub at_stray : code_of status ≡ 6 → (frame : List ℕ) × (end ≡ Err (Stray frame))
+  at_stray is = go end (own_code end status 6 ends is (λ e. omega arith) (λ e. omega arith))
+    where
+      go : (r : Result (Unit {0}) Stop) → code_of (status_of r) ≡ 6 → (frame : List ℕ) × (r ≡ Err (Stray frame))
+      go (Ok x) e = absurd (omega arith)
+      go (Err (Input fault)) e = absurd (omega arith)
+      go (Err (Stray frame)) e = (frame, refl)
+      go (Err Memory) e = absurd (omega arith)
+      go (Err Read) e = absurd (omega arith)
+      go (Err Write) e = absurd (omega arith)
