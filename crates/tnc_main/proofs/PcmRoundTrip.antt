@@ -1,5 +1,5 @@
 -- What is written of the samples of a signal is read as these samples, as raw PCM and as a WAV file.
-use Rattle.std.proofs.Common.{◌≡◌, ℕ, ◌+◌, ◌*◌, ◌<◌, ◌≤◌, ℤ, pos, List, [], ◌∷◌, ◌++◌, length, length-append, replicate, All, Ok, refl, ap, ◌∙◌, arith, of_z}
+use Rattle.std.proofs.Common.{◌≡◌, ℕ, ◌+◌, ◌*◌, ◌<◌, ◌≤◌, ℤ, pos, List, [], ◌∷◌, ◌++◌, length, get_or, length-append, replicate, All, Ok, refl, ap, ◌∙◌, arith, of_z}
 use Rattle.std.specs.Prelude.{unsigned_abs}
 use Rattle.std.specs.Int.{cast_signed, from_le_bytes, to_le_bytes}
 use Rattle.std.specs.List.{AllByRecursion, range_with_len}
@@ -18,7 +18,9 @@ use Rattle.tone_table.proofs.SineLemmas.{unsigned_abs-wave_sample}
 use Rattle.nrzi_bits.specs.Line.{line}
 use Rattle.hdlc_framer.specs.Body.{body}
 use Rattle.afsk_modulator.specs.Transmission.{transmission}
-use Rattle.afsk_modulator.specs.Signal.{Transmission, samples_of as samples_at, signal}
+use Rattle.afsk_modulator.specs.Level.{at_level, sample_at}
+use Rattle.afsk_modulator.specs.Signal.{Transmission, samples_of as samples_at, signal, signal_at}
+use Rattle.afsk_modulator.proofs.LevelLemmas.{unsigned_abs-sample_at}
 use Rattle.wav_file.specs.Head.{head_of}
 use Rattle.wav_file.specs.Reading.{Reading, samples_in, verdict_of}
 use Rattle.wav_file.specs.Samples.{sample_of, samples}
@@ -76,34 +78,35 @@ module _ (xs : List ℤ) (few : length xs ≤ 2147483629) where
 
 -- ---- the samples of a signal fit
 
-wave_fits : (phase : ℕ) → IsSample (wave_sample phase)
-wave_fits phase =
-    let quiet : unsigned_abs (wave_sample phase) ≤ 10000 = unsigned_abs-wave_sample phase in
-    let small : unsigned_abs (wave_sample phase) < 32768 = omega (arith, quiet) in
-    fits_signed_from_abs w16 (wave_sample phase) small
+-- no louder than the wave of the definitions
+abbrev IsQuiet : ℤ → Type 0
+IsQuiet z = unsigned_abs z ≤ 10000
 
-zero_fits : IsSample (pos 0)
-zero_fits = fits_signed_from_abs w16 (pos 0) (omega arith)
-
-window_fits : (phase : ℕ) (tone : Tone) → All IsSample (pure_window phase tone)
+window_quiet : (phase : ℕ) (tone : Tone) → All IsQuiet (pure_window phase tone)
 unfolding pure_window
-window_fits phase tone =
-    All-map IsSample (λ i. wave_sample (phase + i * phase_step tone)) (range_with_len 0 8) (λ k d below. wave_fits _)
+window_quiet phase tone =
+    All-map IsQuiet (λ i. wave_sample (phase + i * phase_step tone)) (range_with_len 0 8) (λ k d below. unsigned_abs-wave_sample _)
 
-wave_from_fits : (tones : List Tone) (phase : ℕ) → All IsSample (wave_from phase tones)
-wave_from_fits [] phase = All-nil IsSample
-wave_from_fits (tone ∷ tones) phase =
-    All-append IsSample (pure_window phase tone) (wave_from (next_phase phase tone) tones) (window_fits phase tone) (wave_from_fits tones (next_phase phase tone))
+wave_quiet : (tones : List Tone) (phase : ℕ) → All IsQuiet (wave_from phase tones)
+wave_quiet [] phase = All-nil IsQuiet
+wave_quiet (tone ∷ tones) phase =
+    All-append IsQuiet (pure_window phase tone) (wave_from (next_phase phase tone) tones) (window_quiet phase tone) (wave_quiet tones (next_phase phase tone))
 
-transmission_fits : (t : Transmission) → All IsSample (samples_at t)
+transmission_quiet : (t : Transmission) → All IsQuiet (samples_at t)
 unfolding transmission
-transmission_fits t =
-    All-append IsSample (replicate t.silence (pos 0)) (transmission t.frames t.opening t.closing)
-    (All-replicate IsSample t.silence (pos 0) zero_fits) (wave_from_fits (line (body t.frames t.opening t.closing)) 0)
+transmission_quiet t =
+    All-append IsQuiet (replicate t.silence (pos 0)) (transmission t.frames t.opening t.closing)
+    (All-replicate IsQuiet t.silence (pos 0) (omega arith)) (wave_quiet (line (body t.frames t.opening t.closing)) 0)
 
-pub signal_fits : (sent : List Transmission) → All IsSample (signal sent)
+signal_quiet : (sent : List Transmission) → All IsQuiet (signal sent)
 unfolding signal
-signal_fits [] = All-nil IsSample
-signal_fits (t ∷ sent) =
-    All-same IsSample (signal (t ∷ sent)) (samples_at t ++ signal sent) (flat_map-cons samples_at t sent)
-    (All-append IsSample (samples_at t) (signal sent) (transmission_fits t) (signal_fits sent))
+signal_quiet [] = All-nil IsQuiet
+signal_quiet (t ∷ sent) =
+    All-same IsQuiet (signal (t ∷ sent)) (samples_at t ++ signal sent) (flat_map-cons samples_at t sent)
+    (All-append IsQuiet (samples_at t) (signal sent) (transmission_quiet t) (signal_quiet sent))
+
+pub signal_fits : (level : ℕ) (sent : List Transmission) → level ≤ 32767 → All IsSample (signal_at level sent)
+unfolding signal_at at_level
+signal_fits level sent most = All-map IsSample (sample_at level) (signal sent) (λ k d below.
+    let quiet = unsigned_abs-sample_at level (get_or (signal sent) k d) (signal_quiet sent k d below) in
+    fits_signed_from_abs w16 (sample_at level (get_or (signal sent) k d)) (omega arith))

@@ -1,9 +1,12 @@
 -- What encode writes is heard by decode.
-use Rattle.std.proofs.Common.{◌≡◌, ℕ, ◌≤◌, Bool, true, false, true≢false, List, length, nat_lt, Option, Some, None, refl, ap, ◌∙◌, le-ltb}
+use Rattle.std.proofs.Common.{◌≡◌, ℕ, ◌≤◌, Bool, true, false, true≢false, ℤ, List, All, length, nat_lt, Option, Some, None, refl, sym, subst, ap, ◌∙◌, le-ltb}
 use Rattle.std.specs.Prelude.{is_some, if◌then◌else◌}
 use Rattle.std.proofs.lemmas.Bool.{ltb-false}
-use Rattle.afsk_modulator.specs.Signal.{Transmission, signal}
+use Rattle.afsk_modulator.specs.Modulation.{IsLevel}
+use Rattle.clean_signal.specs.GoodTransmission.{frames_of as all_frames}
+use Rattle.clean_signal.specs.MergedFrames.{MergesTo}
 use Rattle.clean_signal.specs.Stray.{NoStray}
+use Rattle.clean_signal.proofs.Law.{level_law}
 use Rattle.tnc_words.specs.declared.command.AudioForm.{AudioForm}
 use Rattle.tnc_words.specs.declared.command.AudioForm.TheVariants.{Raw, Wav}
 use Rattle.tnc_words.specs.declared.command.DecodeWords.{DecodeWords}
@@ -15,10 +18,10 @@ use Rattle.tnc_decode.specs.Audio.{audio_fault, fault_in_verdict, form_fault, sa
 use Rattle.tnc_decode.specs.Decoded.{IsDecoded}
 use Rattle.tnc_decode.specs.Printing.{print}
 use Rattle.tnc_encode.specs.Frames.{form_fault as frames_fault, frames_of}
-use Rattle.tnc_encode.specs.Encoded.{encode_fault, encoded, first_of, length_fault, most_samples, samples_sent, transmissions, written_as}
-use Rattle.tnc_main.proofs.PcmRoundTrip.{samples-pcm, samples-wav, signal_fits, wav_whole}
+use Rattle.tnc_encode.specs.Encoded.{encode_fault, encoded, first_of, length_fault, most_samples, samples_sent, signal_of, transmissions, written_as}
+use Rattle.tnc_main.proofs.PcmRoundTrip.{IsSample, samples-pcm, samples-wav, signal_fits, wav_whole}
 use Rattle.tnc_main.proofs.SentFrames.{AreOctets, frames_of-fit, frames_sent, transmissions_good}
-use Rattle.tnc_main.proofs.TextLemmas.{clean_text}
+use Rattle.tnc_main.proofs.TextLemmas.{merged_text}
 
 some_is_not_none : (fault : InputFault) → Some fault ≡ None → ⊥
 some_is_not_none fault e = true≢false (ap is_some e)
@@ -46,41 +49,38 @@ wav_fits words octets none wav =
 
 -- ---- samples
 
-written_read : (form : AudioForm) (sent : List Transmission) → (form ≡ Wav → length (signal sent) ≤ most_samples)
-    → samples_of form (written_as form (signal sent)) ≡ signal sent
-written_read Raw sent few = samples-pcm (signal sent) (signal_fits sent)
-written_read Wav sent few = samples-wav (signal sent) (few refl) (signal_fits sent)
+written_read : (form : AudioForm) (x : List ℤ) → All IsSample x → (form ≡ Wav → length x ≤ most_samples) → samples_of form (written_as form x) ≡ x
+written_read Raw x fit few = samples-pcm x fit
+written_read Wav x fit few = samples-wav x (few refl) fit
 
-written_good : (form : AudioForm) (sent : List Transmission) → (form ≡ Wav → length (signal sent) ≤ most_samples)
-    → form_fault form (written_as form (signal sent)) ≡ None
-written_good Raw sent few = refl
-written_good Wav sent few = ap fault_in_verdict (wav_whole (signal sent) (few refl))
+written_good : (form : AudioForm) (x : List ℤ) → (form ≡ Wav → length x ≤ most_samples) → form_fault form (written_as form x) ≡ None
+written_good Raw x few = refl
+written_good Wav x few = ap fault_in_verdict (wav_whole x (few refl))
 
 module _ (encode : EncodeWords) (decode : DecodeWords) (octets : List ℕ) (none : encode_fault encode octets ≡ None) (same : decode.audio ≡ encode.audio) where
-  abbrev sent : List Transmission
-  sent = transmissions encode (frames_of encode.frames octets)
-
-  same_samples : samples_of decode.audio (encoded encode octets) ≡ signal sent
-  unfolding encoded
-  same_samples = ap (λ form. samples_of form (encoded encode octets)) same ∙ written_read encode.audio sent (wav_fits encode octets none)
+  abbrev frames : List (List ℕ)
+  frames = frames_of encode.frames octets
 
   -- decode takes what encode wrote
   pub taken : length (encoded encode octets) ≤ input_limit → audio_fault decode.audio (encoded encode octets) ≡ None
   unfolding encoded
   taken short =
       ap (λ b. if b then Some TooLong else form_fault decode.audio (encoded encode octets)) (le-ltb input_limit (length (encoded encode octets)) short)
-      ∙ ap (λ form. form_fault form (encoded encode octets)) same ∙ written_good encode.audio sent (wav_fits encode octets none)
+      ∙ ap (λ form. form_fault form (encoded encode octets)) same ∙ written_good encode.audio (signal_of encode frames) (wav_fits encode octets none)
+
+  same_samples : IsLevel encode.level → samples_of decode.audio (encoded encode octets) ≡ signal_of encode frames
+  unfolding encoded
+  same_samples level =
+      ap (λ form. samples_of form (encoded encode octets)) same
+      ∙ written_read encode.audio (signal_of encode frames) (signal_fits encode.level (transmissions encode frames) level.most) (wav_fits encode octets none)
 
   -- and prints its frames
-  pub heard : AreOctets octets → 2 ≤ encode.opening → 1 ≤ encode.closing → NoStray sent (signal sent)
-      → (text : List ℕ) → IsDecoded decode (encoded encode octets) text → text ≡ print decode.frames (frames_of encode.frames octets)
-  heard each opening closing no_stray text is =
-      let frames : List (List ℕ) = frames_of encode.frames octets in
-      clean_text decode sent (encoded encode octets) text
-      (record {
-        samples = same_samples;
-        each = transmissions_good encode opening closing frames (frames_of-fit encode.frames octets each);
-        no_stray = no_stray;
-      })
-      is
+  pub heard : AreOctets octets → 2 ≤ encode.opening → 1 ≤ encode.closing → IsLevel encode.level
+      → NoStray (transmissions encode frames) (signal_of encode frames)
+      → (text : List ℕ) → IsDecoded decode (encoded encode octets) text → text ≡ print decode.frames frames
+  heard each opening closing level no_stray text is =
+      let good = transmissions_good encode opening closing frames (frames_of-fit encode.frames octets each) in
+      merged_text decode (all_frames (transmissions encode frames)) (encoded encode octets) text
+      (subst (λ x. MergesTo (all_frames (transmissions encode frames)) x) (sym (same_samples level))
+      (level_law encode.level (transmissions encode frames) level good no_stray)) is
       ∙ ap (print decode.frames) (frames_sent encode frames)

@@ -1,10 +1,10 @@
--- Why an input that is too long is refused, and the text of a clean signal.
-use Rattle.std.proofs.Common.{◌≡◌, ℕ, ◌<◌, List, length, Option, Some, subst, ap, ◌∙◌, arith, lt-ltb}
+-- Why an input that is too long is refused, and the text of samples near a signal.
+use Rattle.std.proofs.Common.{◌≡◌, ℕ, ◌<◌, List, length, Option, Some, ap, ◌∙◌, arith, lt-ltb}
 use Rattle.std.specs.Prelude.{if◌then◌else◌}
-use Rattle.afsk_modulator.specs.Signal.{Transmission}
-use Rattle.slicer_bank.specs.Candidates.{AreCandidates}
 use Rattle.clean_signal.specs.GoodTransmission.{frames_of}
-use Rattle.clean_signal.proofs.Law.{clean_law}
+use Rattle.clean_signal.specs.MergedFrames.{MergesTo}
+use Rattle.clean_signal.specs.NearSignal.{Received, transmissions_of}
+use Rattle.clean_signal.proofs.Law.{near_law}
 use Rattle.tnc_words.specs.declared.command.Command.{Command}
 use Rattle.tnc_words.specs.declared.command.Command.TheVariants.{Decode, Encode, Show, Loop}
 use Rattle.tnc_words.specs.declared.command.DecodeWords.{DecodeWords}
@@ -16,7 +16,7 @@ use Rattle.tnc_decode.specs.Decoded.{IsDecoded}
 use Rattle.tnc_decode.specs.Printing.{print}
 use Rattle.tnc_encode.specs.Encoded.{encode_fault, first_of, length_fault, samples_sent}
 use Rattle.tnc_encode.specs.Frames.{form_fault as frames_fault}
-use Rattle.tnc_main.specs.Clean.{IsClean}
+use Rattle.tnc_main.specs.Clean.{IsNearlyClean}
 use Rattle.tnc_main.specs.Commands.{Reads, fault_of}
 
 -- an input with too many octets is refused for that
@@ -32,9 +32,14 @@ long_fault (Show words) left octets read long =
     ap (λ b. if b then Some TooLong else hex_fault 0 octets) (lt-ltb input_limit (length octets) long)
 long_fault (Loop words) left octets read long = let none : length octets ≡ 0 = ap length read in absurd (omega arith)
 
--- what decode makes of a clean signal
-pub clean_text : (words : DecodeWords) (sent : List Transmission) (octets text : List ℕ) → IsClean (samples_of words.audio octets) sent
-    → IsDecoded words octets text → text ≡ print words.frames (frames_of sent)
-clean_text words sent octets text clean h =
-    h.is
-    ∙ ap (print words.frames) (clean_law sent clean.each clean.no_stray h.candidates (subst (λ x. AreCandidates x h.candidates) clean.samples h.are))
+-- what decode makes of samples whose merged candidates are these frames
+pub merged_text : (words : DecodeWords) (frames : List (List ℕ)) (octets text : List ℕ) → MergesTo frames (samples_of words.audio octets)
+    → IsDecoded words octets text → text ≡ print words.frames frames
+merged_text words frames octets text merges h = h.is ∙ ap (print words.frames) (merges h.candidates h.are)
+
+-- as those near a signal are
+pub near_text : (words : DecodeWords) (received : List Received) (octets text : List ℕ) → IsNearlyClean (samples_of words.audio octets) received
+    → IsDecoded words octets text → text ≡ print words.frames (frames_of (transmissions_of received))
+near_text words received octets text clean h =
+    merged_text words (frames_of (transmissions_of received)) octets text
+    (near_law received (samples_of words.audio octets) clean.each clean.near clean.no_stray) h

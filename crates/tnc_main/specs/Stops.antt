@@ -4,6 +4,7 @@ use Rattle.tnc_forms.specs.declared.fault.Fault.{Fault}
 use Rattle.tnc_forms.specs.declared.fault.Fault.TheVariants.{Input as OfInput, Memory as OfMemory, Read as OfRead, Write as OfWrite}
 use Rattle.tnc_loop.specs.declared.fault.LoopFault.{LoopFault}
 use Rattle.tnc_loop.specs.declared.fault.LoopFault.TheVariants.{Stray as LoopStray, Memory as LoopMemory, Write as LoopWrite}
+use Rattle.afsk_modulator.specs.Modulation.{IsLevel}
 use Rattle.tnc_words.specs.declared.command.Command.{Command}
 use Rattle.tnc_words.specs.declared.command.Command.TheVariants.{Decode, Encode, Show, Loop}
 use Rattle.tnc_main.specs.declared.status.Status.{Status}
@@ -61,9 +62,9 @@ abbrev pub end_of_loop : Result (Unit {0}) LoopFault → Result (Unit {0}) Stop
 end_of_loop (Ok nothing) = Ok nothing
 end_of_loop (Err fault) = Err (stop_of_loop fault)
 
--- the flags of encode can be sent
+-- the flags of encode can be sent, at its level
 abbrev pub CanRun : Command → Type 0
 CanRun (Decode words) = ⊤
-CanRun (Encode words) = (2 ≤ words.opening) × (1 ≤ words.closing)
+CanRun (Encode words) = (2 ≤ words.opening) × (1 ≤ words.closing) × IsLevel words.level
 CanRun (Show words) = ⊤
 CanRun (Loop words) = ⊤

@@ -2,7 +2,7 @@
 
 ghost use Rattle.std.specs.Prelude.{◌≡◌, ◌<◌, ◌≤◌, ℕ, List, None, length};
 ghost use Rattle.std.specs.List.{All};
-ghost use Rattle.afsk_modulator.specs.Signal.{signal};
+ghost use Rattle.afsk_modulator.specs.Modulation.{IsLevel};
 ghost use Rattle.clean_signal.specs.Stray.{NoStray};
 ghost use Rattle.tnc_words.specs.declared.command.DecodeWords.{DecodeWords};
 ghost use Rattle.tnc_words.specs.declared.command.EncodeWords.{EncodeWords};
@@ -10,7 +10,7 @@ ghost use Rattle.tnc_forms.specs.Reading.{input_limit};
 ghost use Rattle.tnc_decode.specs.Audio.{audio_fault};
 ghost use Rattle.tnc_decode.specs.Decoded.{IsDecoded};
 ghost use Rattle.tnc_decode.specs.Printing.{print};
-ghost use Rattle.tnc_encode.specs.Encoded.{encode_fault, encoded, transmissions};
+ghost use Rattle.tnc_encode.specs.Encoded.{encode_fault, encoded, signal_of, transmissions};
 ghost use Rattle.tnc_encode.specs.Frames.{frames_of};
 
 /// What `encode` writes is heard by `decode`. Of an input without a fault, `decode` in the same form of audio takes
@@ -18,10 +18,10 @@ ghost use Rattle.tnc_encode.specs.Frames.{frames_of};
 /// as raw PCM or a WAV file, of lines or KISS, in one transmission or in one for each frame.
 pub fn decode_of_encode()
     ensures heard { (encode : EncodeWords) → (decode : DecodeWords) → (octets text : List ℕ)
-        → All (λ octet. octet < 256) octets → 2 ≤ encode.opening → 1 ≤ encode.closing
+        → All (λ octet. octet < 256) octets → 2 ≤ encode.opening → 1 ≤ encode.closing → IsLevel encode.level
         → encode_fault encode octets ≡ None → decode.audio ≡ encode.audio
         → NoStray (transmissions encode (frames_of encode.frames octets))
-        (signal (transmissions encode (frames_of encode.frames octets)))
+        (signal_of encode (frames_of encode.frames octets))
         → IsDecoded decode (encoded encode octets) text
         → text ≡ print decode.frames (frames_of encode.frames octets) }
     ensures taken { (encode : EncodeWords) → (decode : DecodeWords) → (octets : List ℕ)

@@ -2,8 +2,8 @@
 ghost use Rattle.std.specs.Prelude.{◌≡◌, ◌⊎◌, ◌<◌, ◌++◌, IfErr, IsErrAnd, Err, ℕ, List, Some, length, map, string_bytes};
 ghost use Rattle.tnc_base.specs.Faults.{HasRisen};
 ghost use Rattle.tnc_base.specs.Streams.{WrotePart};
-ghost use Rattle.afsk_modulator.specs.Signal.{Transmission};
 ghost use Rattle.clean_signal.specs.GoodTransmission.{frames_of};
+ghost use Rattle.clean_signal.specs.NearSignal.{Received, transmissions_of};
 ghost use Rattle.tnc_words.specs.declared.command.DecodeWords.{DecodeWords};
 ghost use Rattle.tnc_words.specs.declared.command.LoopWords.{LoopWords};
 ghost use Rattle.tnc_words.specs.Commands.{IsLoop};
@@ -13,7 +13,7 @@ ghost use Rattle.tnc_decode.specs.Printing.{print};
 ghost use Rattle.tnc_loop.specs.Summary.{IsFirstStray};
 ghost use Rattle.tnc_main.specs.declared.status.Status.{Status};
 ghost use Rattle.tnc_main.specs.declared.stop.Stop.{Stop};
-ghost use Rattle.tnc_main.specs.Clean.{IsClean};
+ghost use Rattle.tnc_main.specs.Clean.{IsNearlyClean};
 ghost use Rattle.tnc_main.specs.Commands.{HeardAsMade, IsFaultless};
 ghost use Rattle.tnc_main.specs.Report.{bad_words_line, line_of};
 ghost use Rattle.tnc_main.specs.Runs.{AskNothing, IsCaused, Job, Leaves, Tells, Writes};
@@ -63,9 +63,10 @@ pub fn run<I: Source, O: Sink, E: Sink>(
     ensures too_long { (job : Job (map string_bytes words.now) (I.left input.old) result)
         → input_limit < length job.octets → result ≡ 2 → output.new ≡ output.old }
     ensures heard { (job : Job (map string_bytes words.now) (I.left input.old) result) → (decode : DecodeWords)
-        → (sent : List Transmission) → (before : List ℕ) → job.command ≡ Command.Decode decode
-        → IsClean (samples_of decode.audio job.octets) sent → O.written output.old ≡ Some before
-        → result ≡ 0 → O.written output.new ≡ Some (before ++ print decode.frames (frames_of sent)) }
+        → (received : List Received) → (before : List ℕ) → job.command ≡ Command.Decode decode
+        → IsNearlyClean (samples_of decode.audio job.octets) received → O.written output.old ≡ Some before
+        → result ≡ 0
+        → O.written output.new ≡ Some (before ++ print decode.frames (frames_of (transmissions_of received))) }
     ensures looped { (loop : LoopWords) → IsLoop (map string_bytes words.now) loop
         → (input.new ≡ input.old) × (result ≡ 0 → HeardAsMade loop) }
 

@@ -14,7 +14,7 @@ use Rattle.tnc_main.specs.Stops.{status_of}
 use Rattle.tnc_main.proofs.Statuses.{at_bad_input, at_done, at_stray, one_status, status_done}
 use Rattle.tnc_main.proofs.CommandLemmas.{stray_of_loop}
 use Rattle.tnc_main.proofs.Jobs.{same_command, reads, for_job}
-use Rattle.tnc_main.proofs.TextLemmas.{clean_text, long_fault}
+use Rattle.tnc_main.proofs.TextLemmas.{long_fault, near_text}
 use Rattle.tnc_main.proofs.Writing.{told_writes}
 use Rattle.tnc_main.proofs.Telling.{caused, ends_well, leaves, tells}
 use Rattle.tnc_main.proofs.program.run.Goals as goal
@@ -49,7 +49,7 @@ returns-in-Ok-clause-too_long g c = λ job over two.
     c.perform-end.ensures.unwritten (inl (bad.1 ∙ ap (λ fault. Err (Input fault)) same))
 
 pub returns-in-Ok-clause-heard : goal.returns-in-Ok-clause-heard
-returns-in-Ok-clause-heard g c = λ job decode sent before is clean was zero.
+returns-in-Ok-clause-heard g c = λ job decode received before is clean was zero.
     let mine = reads (map string_bytes c.args.words.now) (g.I.Source.left c.args.input.now) c.code.result c.in-Ok.command c.explained.result c.in-Ok.ensures.asks c.code.ensures job in
     let made = c.perform-end.ensures.written job.octets before mine was in
     let done : Done ≡ status_of c.perform-end.result =
@@ -58,7 +58,7 @@ returns-in-Ok-clause-heard g c = λ job decode sent before is clean was zero.
     subst (λ status. Writes c.in-Ok.command job.octets status made.0) (sym done) made.1 in
     let text : Makes (Decode decode) job.octets made.0 =
     subst (λ command. Makes command job.octets made.0) (sym (same_command (map string_bytes c.args.words.now) (g.I.Source.left c.args.input.now) c.code.result c.in-Ok.command c.explained.result c.in-Ok.ensures.asks c.code.ensures job) ∙ is) decoded in
-    made.2 ∙ ap (λ t. Some (before ++ t)) (clean_text decode sent job.octets made.0 clean text)
+    made.2 ∙ ap (λ t. Some (before ++ t)) (near_text decode received job.octets made.0 clean text)
 
 pub returns-in-Ok-clause-looped : goal.returns-in-Ok-clause-looped
 returns-in-Ok-clause-looped g c = λ loop is.
