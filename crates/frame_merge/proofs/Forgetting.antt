@@ -71,7 +71,7 @@ not_below_all position (x ∷ xs) h =
     ∙ ap (λ t. x ∷ t) (not_below_all position xs (All-tail (λ y. position ≤ y.end) x xs h))
 
 -- a list in order is what ends below a position, and then the rest
-below_then_rest : (position : ℕ) (xs : List Candidate) → IsNonDecreasingBy (λ y. y.end) xs → below position xs ++ not_below position xs ≡ xs
+pub below_then_rest : (position : ℕ) (xs : List Candidate) → IsNonDecreasingBy (λ y. y.end) xs → below position xs ++ not_below position xs ≡ xs
 below_then_rest position [] h = refl
 below_then_rest position (x ∷ xs) h =
     elim (cases_lt x.end position) [

@@ -14,6 +14,7 @@ use Rattle.frame_merge.specs.Merged.{merged, merged_after, below, not_below, bet
 use Rattle.frame_merge.proofs.Ordering.{rising_ends}
 use Rattle.frame_merge.proofs.Merging.{merged_after-append, merged-rising, below_none, below_between, between_all, All-merged}
 use Rattle.frame_merge.proofs.Taking.{below_all}
+use Rattle.frame_merge.proofs.Forgetting.{below_then_rest}
 use Rattle.slicer_bank.specs.Candidates.{IsCandidate, AreCandidates, AreCandidatesBehind}
 use Rattle.slicer_bank.specs.MergedItems.{AreMerged, AreMergedBetween}
 use Rattle.slicer_bank.proofs.CandidateLemmas.{end_within, candidates_join}
@@ -122,23 +123,40 @@ between_late from to (x ∷ xs) h =
     ∙ ap (λ t. cond t (x ∷ between from to xs) (between from to xs)) (and-false (nat_le from x.end))
     ∙ between_late from to xs (All-tail (λ y. to ≤ y.end) x xs h)
 
+-- more samples change nothing of what is given of the first
+pub given_still : (from to : ℕ) (x y : List ℤ) (items all : List Candidate) → to ≤ length x → AreMergedBetween from to x items → AreCandidates (x ++ y) all
+    → items ≡ between from to (merged all)
+given_still from to x y items all within h whole =
+    let parts = begins x y h.candidates all h.are whole in
+    let found : List Candidate = parts.0 in
+    let late : All (λ item. to ≤ item.end) found = All-weaker (λ item. length x ≤ item.end) (λ item. to ≤ item.end) (λ item l. omega arith) found parts.2 in
+    h.is
+    ∙ sym (ap (λ t. between from to (merged t)) parts.1
+    ∙ ap (between from to) (merged_after-append [] h.candidates found)
+    ∙ filter-append _ (merged h.candidates) (merged_after h.candidates found)
+    ∙ ap (λ t. between from to (merged h.candidates) ++ t) (between_late from to (merged_after h.candidates found) (All-merged (λ item. to ≤ item.end) h.candidates found late))
+    ∙ append-nil (between from to (merged h.candidates)))
+
+-- what is given of samples is the first part of what is merged of more
+pub given_first : (to : ℕ) (x y : List ℤ) (items all : List Candidate) → to ≤ length x → AreMergedBetween 0 to x items → AreCandidates (x ++ y) all
+    → (rest : List Candidate) × (merged all ≡ items ++ rest)
+given_first to x y items all within h whole =
+    let same : items ≡ below to (merged all) = given_still 0 to x y items all within h whole ∙ between_all 0 to (merged all) (λ k d l. omega arith) in
+    (not_below to (merged all), sym (below_then_rest to (merged all) (rising_merged (x ++ y) all whole)) ∙ ap (λ t. t ++ not_below to (merged all)) (sym same))
+
+-- and what ends below an earlier position is the first part of it
+pub given_early : (early to : ℕ) (x : List ℤ) (items all : List Candidate) → early ≤ to → items ≡ between 0 to (merged all) → AreCandidates x all
+    → items ≡ between 0 early (merged all) ++ between early to (merged all)
+given_early early to x items all le is are = is ∙ sym (between_between 0 early to (merged all) (omega arith) le (rising_merged x all are))
+
 pub join : (from middle to : ℕ) (x y : List ℤ) (items more : List Candidate) → from ≤ middle → middle ≤ to → middle ≤ length x
     → AreMergedBetween from middle x items → AreMergedBetween middle to (x ++ y) more → AreMergedBetween from to (x ++ y) (items ++ more)
-join from middle to x y items more le le' within h k =
-    let parts = begins x y h.candidates k.candidates h.are k.are in
-    let found : List Candidate = parts.0 in
-    let late : All (λ item. middle ≤ item.end) found = All-weaker (λ item. length x ≤ item.end) (λ item. middle ≤ item.end) (λ item l. omega arith) found parts.2 in
-    let same : items ≡ between from middle (merged k.candidates)
-    = h.is ∙ sym (ap (λ t. between from middle (merged t)) parts.1
-    ∙ ap (between from middle) (merged_after-append [] h.candidates found)
-    ∙ filter-append _ (merged h.candidates) (merged_after h.candidates found)
-    ∙ ap (λ t. between from middle (merged h.candidates) ++ t) (between_late from middle (merged_after h.candidates found) (All-merged (λ item. middle ≤ item.end) h.candidates found late))
-    ∙ append-nil (between from middle (merged h.candidates))) in
-    record {
-      candidates = k.candidates;
-      are = k.are;
-      is = ap (λ t. t ++ more) same ∙ ap (λ t. between from middle (merged k.candidates) ++ t) k.is ∙ between_between from middle to (merged k.candidates) le le' (rising_merged (x ++ y) k.candidates k.are);
-    }
+join from middle to x y items more le le' within h k = record {
+  candidates = k.candidates;
+  are = k.are;
+  is = ap (λ t. t ++ more) (given_still from middle x y items k.candidates within h k.are) ∙ ap (λ t. between from middle (merged k.candidates) ++ t) k.is
+      ∙ between_between from middle to (merged k.candidates) le le' (rising_merged (x ++ y) k.candidates k.are);
+}
 
 pub all : (x : List ℤ) (items : List Candidate) → AreMergedBetween 0 (length x + 1) x items → AreMerged x items
 all x items h = record { candidates = h.candidates; are = h.are; is = h.is ∙ between_all 0 (length x + 1) (merged h.candidates) (λ k d l. omega arith) ∙ below_all_of x h.candidates h.are }

@@ -2,4 +2,4 @@ pub mod DrawingLemmas
 pub mod SendingLemmas
 pub mod LengthLemmas
 pub mod SummaryLemmas
-pub mod HearingLemmas
+pub mod ToldLemmas

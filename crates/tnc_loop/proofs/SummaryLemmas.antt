@@ -6,7 +6,7 @@ use Rattle.std.specs.Prelude.{not}
 use Rattle.std.proofs.lemmas.List.{drop_more, drop_all}
 use Rattle.std.proofs.lemmas.List.Elements.{All-head, All-tail}
 use Rattle.frame_merge.specs.declared.candidate.Candidate.{Candidate}
-use Rattle.frame_merge.specs.Merged.{merged}
+use Rattle.frame_merge.specs.Merged.{frames_of as frames_heard, merged}
 use Rattle.afsk_modulator.specs.Signal.{signal}
 use Rattle.slicer_bank.proofs.OneList.{one_list}
 use Rattle.clean_signal.specs.declared.true_end.TrueEnd.{TrueEnd}
@@ -14,7 +14,6 @@ use Rattle.clean_signal.specs.GoodTransmission.{frames_of}
 use Rattle.clean_signal.specs.Stray.{is_sent, NoStray}
 use Rattle.clean_signal.specs.TrueEnds.{true_ends}
 use Rattle.clean_signal.proofs.Law.{clean_law}
-use Rattle.tnc_decode.specs.Decoded.{frames_of as frames_heard}
 use Rattle.tnc_words.specs.declared.command.LoopWords.{LoopWords}
 use Rattle.tnc_loop.specs.Drawn.{drawn}
 use Rattle.tnc_loop.specs.Strays.{strays, first_stray}

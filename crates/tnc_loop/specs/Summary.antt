@@ -5,13 +5,12 @@ use Rattle.std.specs.List.{concat}
 use Rattle.hex.specs.Hex.{encode_lower}
 use Rattle.tnc_base.specs.Hash.{fnv_1a}
 use Rattle.frame_merge.specs.declared.candidate.Candidate.{Candidate}
-use Rattle.frame_merge.specs.Merged.{merged}
+use Rattle.frame_merge.specs.Merged.{frames_of as frames_heard, merged}
 use Rattle.slicer_bank.specs.Candidates.{AreCandidates}
 use Rattle.afsk_modulator.specs.Signal.{signal}
 use Rattle.clean_signal.specs.declared.true_end.TrueEnd.{TrueEnd}
 use Rattle.clean_signal.specs.GoodTransmission.{frames_of}
 use Rattle.clean_signal.specs.TrueEnds.{true_ends}
-use Rattle.tnc_decode.specs.Decoded.{frames_of as frames_heard}
 use Rattle.tnc_words.specs.declared.command.LoopWords.{LoopWords}
 use Rattle.tnc_loop.specs.Drawn.{drawn}
 use Rattle.tnc_loop.specs.Strays.{strays, first_stray}

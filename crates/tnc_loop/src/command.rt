@@ -10,7 +10,7 @@ ghost use Rattle.tnc_loop.specs.Drawn.{drawn};
 ghost use Rattle.tnc_loop.specs.Summary.{IsSummary, IsFirstStray, clean_summary};
 
 use crate::fault::LoopFault;
-use crate::hearing::hear_drawn;
+use crate::telling::tell_drawn;
 use std::alloc::Global;
 use tnc_base::Sink;
 use tnc_words::LoopWords;
@@ -39,7 +39,7 @@ pub fn loop_back<O: Sink>(alloc: Global, words: LoopWords, output: &mut O) -> Re
         → OnErr result (WrotePart before text (O.written output.new)) }
     ensures unwritten { result ≡ Err LoopFault.Memory → output.new ≡ output.old }
 {
-    let told = hear_drawn(alloc, words)?;
+    let told = tell_drawn(alloc, words)?;
     match (output.write(told.summary.as_bytes()), told.stray) {
         (Err(_), _) => Err(LoopFault::Write),
         (Ok(()), None) => Ok(()),

@@ -7,11 +7,11 @@
 mod command;
 mod drawing;
 mod fault;
-mod hearing;
 mod laws;
 mod sending;
 mod straying;
 mod summing;
+mod telling;
 
 pub use command::loop_back;
 pub use fault::LoopFault;

@@ -1,7 +1,7 @@
 //! The summary of what was heard.
 ghost use Rattle.std.specs.Prelude.{◌≡◌, IfOk, string_bytes};
 ghost use Rattle.std.specs.List.{concat};
-ghost use Rattle.tnc_decode.specs.Decoded.{frames_of};
+ghost use Rattle.frame_merge.specs.Merged.{frames_of};
 ghost use Rattle.tnc_loop.specs.Summary.{summary};
 
 use frame_merge::Candidate;

@@ -1,7 +1,7 @@
 -- The octets so far.
 use Rattle.std.proofs.Common.{◌≡◌, ◌++◌, drop}
 use Rattle.std.specs.List.{concat}
-use Rattle.tnc_decode.specs.Decoded.{frames_of}
+use Rattle.frame_merge.specs.Merged.{frames_of}
 use Rattle.tnc_loop.proofs.summing.octets_of.Given as goal
 
 abbrev pub invariant-loop-item : goal.invariant-loop-item

@@ -3,14 +3,13 @@ use Rattle.std.proofs.Common.{◌≡◌, ℕ, zero, suc, ℤ, Bool, true, false,
 use Rattle.std.specs.Prelude.{Option, Some, None, is_some, option_map, find, not}
 use Rattle.std.specs.List.{All}
 use Rattle.frame_merge.specs.declared.candidate.Candidate.{Candidate}
-use Rattle.frame_merge.specs.Merged.{merged}
+use Rattle.frame_merge.specs.Merged.{frames_of as frames_heard, merged}
 use Rattle.slicer_bank.specs.Candidates.{AreCandidates}
 use Rattle.afsk_modulator.specs.Signal.{signal}
 use Rattle.clean_signal.specs.declared.true_end.TrueEnd.{TrueEnd}
 use Rattle.clean_signal.specs.TrueEnds.{true_ends}
 use Rattle.clean_signal.specs.Stray.{is_sent}
 use Rattle.clean_signal.proofs.Law.{no_stray_of}
-use Rattle.tnc_decode.specs.Decoded.{frames_of as frames_heard}
 use Rattle.tnc_words.specs.declared.command.LoopWords.{LoopWords}
 use Rattle.tnc_loop.specs.declared.sending.Sent.{Sent}
 use Rattle.tnc_loop.specs.Drawn.{drawn}

@@ -1,4 +1,4 @@
-//! The signal that is drawn, heard.
+//! What is told of the signal that is drawn.
 ghost use Rattle.std.specs.Prelude.{IfOk, string_bytes};
 ghost use Rattle.tnc_loop.specs.Held.{HasFound};
 ghost use Rattle.tnc_loop.specs.Summary.{IsSummary};
@@ -6,10 +6,9 @@ ghost use Rattle.tnc_loop.specs.Summary.{IsSummary};
 use crate::sending::send_drawn;
 use crate::straying::{count_strays, first_stray};
 use crate::summing::summary;
-use slicer_bank::Bank;
+use slicer_bank::{Bank, merge};
 use std::alloc::Global;
 use tnc_base::{Octets, OutOfMemory};
-use tnc_decode::merge;
 use tnc_words::LoopWords;
 
 /// What is told of a signal.
@@ -22,7 +21,7 @@ pub(crate) struct Told {
 }
 
 /// Sends the transmissions that the words draw, and hears their signal as one block.
-pub(crate) fn hear_drawn(alloc: Global, words: LoopWords) -> Result<Told, OutOfMemory>
+pub(crate) fn tell_drawn(alloc: Global, words: LoopWords) -> Result<Told, OutOfMemory>
     ensures summary { IfOk result (λ told. IsSummary words (string_bytes told.summary)) }
     ensures stray { IfOk result (λ told. HasFound words told.stray) }
 {

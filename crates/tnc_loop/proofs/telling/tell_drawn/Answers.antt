@@ -1,17 +1,10 @@
-use Rattle.std.proofs.Common.{◌≡◌, ◌<◌, ◌^◌, [], length, ap, ◌∙◌, string_bytes, arith}
+use Rattle.std.proofs.Common.{[], length, ap, ◌∙◌, string_bytes}
 use Rattle.slicer_bank.specs.Candidates.{AreCandidates}
 use Rattle.afsk_modulator.specs.Signal.{signal}
-use Rattle.tnc_decode.proofs.MergingLemmas.{all_can_be_put}
 use Rattle.tnc_loop.specs.Drawn.{drawn}
 use Rattle.tnc_loop.specs.Strays.{strays, first_stray}
-use Rattle.tnc_loop.proofs.HearingLemmas.{are_of, has_found, is_summary}
-use Rattle.tnc_loop.proofs.hearing.hear_drawn.Goals as goal
-
-pub merge-requires-clause-items : goal.merge-requires-clause-items
-merge-requires-clause-items c =
-    let few : length c.deref.result.now < 2 ^ 48 =
-    (let same : length c.deref.result.now ≡ length c.in_ok-sent.sent.samples.items = ap length c.deref.ensures.value in let fits = c.in_ok-sent.ensures.count in omega arith) in
-    all_can_be_put c.deref.result.now c.in_ok-candidates.candidates.items few (c.in_ok-candidates.ensures.found [] c.in_ok-bank.ensures.stands_for).1
+use Rattle.tnc_loop.proofs.ToldLemmas.{are_of, has_found, is_summary}
+use Rattle.tnc_loop.proofs.telling.tell_drawn.Goals as goal
 
 pub merge-requires-clause-order : goal.merge-requires-clause-order
 merge-requires-clause-order c = (c.in_ok-candidates.ensures.found [] c.in_ok-bank.ensures.stands_for).1.order
