@@ -92,7 +92,9 @@ send_packets packets turn = record turn {
     control = awaiting (nothing_due turn.now.control);
     outgoing = sent_to (turn.now.outgoing.vs + length packets) turn.now.outgoing;
   };
-  sent = turn.sent ++ all_sent_in turn.now.incoming.modulus (infos_from turn.now.outgoing.vs turn.now.incoming.vr packets);
+  sent = turn.sent ++ all_sent_in turn.now.incoming.modulus (
+      infos_from turn.now.outgoing.vs turn.now.incoming.vr packets
+      );
 }
 
 abbrev pub flush : Act
@@ -175,7 +177,9 @@ srej_for m ahead = SuperSent Srej false (m.incoming.vr + ahead) false
 abbrev pub ask : ℕ → Act
 ask ahead turn = record turn {
   now = record turn.now { incoming = record turn.now.incoming { places = asked turn.now.incoming.places ahead } };
-  sent = turn.sent ++ all_sent_in turn.now.incoming.modulus (map (srej_for turn.now) (missing turn.now.incoming.places ahead));
+  sent = turn.sent ++ all_sent_in turn.now.incoming.modulus (
+      map (srej_for turn.now) (missing turn.now.incoming.places ahead)
+      );
 }
 
 -- T1 runs, and T3 is off
@@ -190,5 +194,7 @@ abbrev pub send_again : ℕ → Act
 send_again n turn =
     if nat_lt n turn.now.outgoing.top then record turn {
       now = record turn.now { control = watching (nothing_due turn.now.control) };
-      sent = turn.sent ++ all_sent_in turn.now.incoming.modulus (infos_from n turn.now.incoming.vr (sent_packet n turn.now.outgoing));
+      sent = turn.sent ++ all_sent_in turn.now.incoming.modulus (
+          infos_from n turn.now.incoming.vr (sent_packet n turn.now.outgoing)
+          );
     } else turn

@@ -43,8 +43,9 @@ leave = in_order (changing emptied ∷ changing narrowed ∷ setting stopped ∷
 
 -- the other side's set-up: all begins anew in its modulus, no packet stays, and its SABM or SABME is answered
 abbrev pub open_called : ℕ → Bool → Act
-open_called modulus flag =
-    in_order (changing fresh ∷ changing emptied ∷ changing (in_modulus modulus) ∷ setting (in_state Up) ∷ answer_ua flag ∷ telling (Opened false) ∷ [])
+open_called modulus flag = in_order (
+    changing fresh ∷ changing emptied ∷ changing (in_modulus modulus) ∷ setting (in_state Up)
+    ∷ answer_ua flag ∷ telling (Opened false) ∷ [])
 
 -- this side's set-up: all begins anew; what was given while calling stays, and so does the modulus
 abbrev pub open_answered : Act

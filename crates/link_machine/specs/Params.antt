@@ -24,4 +24,8 @@ HasWindows params = IsWindow 8 params.window params.mode × IsWindow 128 params.
 abbrev pub IsRefusedWindow : Params → ℕ → Type 0
 IsRefusedWindow params refused =
     ((refused ≡ params.window) × IsBadWindow 8 params.window params.mode)
-    ⊎ (IsWindow 8 params.window params.mode × (refused ≡ params.wide_window) × IsBadWindow 128 params.wide_window params.mode)
+    ⊎ (
+    IsWindow 8 params.window params.mode
+    × (refused ≡ params.wide_window)
+    × IsBadWindow 128 params.wide_window params.mode
+    )

@@ -1,7 +1,7 @@
-//! One link of AX.25 2.2 (sections 4, 6), modulo 8 or 128, as a machine without a clock of its own: each call is one event, a
-//! request of the layer above, a frame heard or a tick of 10 ms, and answers the frames that are sent and what the layer
-//! above is told. Lost I frames are asked for again by REJ or by SREJ. Every call makes exactly the step of the link's
-//! table, and one that is refused or finds no memory changes nothing.
+//! One link of AX.25 2.2 (sections 4, 6), modulo 8 or 128, as a machine without a clock of its own. Each call is one event:
+//! a request of the layer above, a frame heard or a tick of 10 ms. It answers the frames that are sent, each with its
+//! modulus, and what the layer above is told. Lost I frames are asked for again by REJ or by SREJ. Every call makes exactly
+//! the step of the link's table, and one that is refused or finds no memory changes nothing.
 //!
 //! ```text
 //! A call                        A                         B

@@ -102,6 +102,21 @@ fn a_packet_is_taken_by_its_number(rt: HostRuntime) -> Result<(), Fail> {
 }
 
 #[test]
+fn a_store_begins_anew_in_either_modulus(rt: HostRuntime) -> Result<(), Fail> {
+    let mut store = InStore::new(rt.alloc(), 8, 4, Mode::Srej)?;
+    assert!(rt; store.accept(3, packet(&rt, 3)?) == Took::Stored);
+    store.begin(128, 64, Mode::Srej);
+    assert!(rt; store.modulus() == 128 && store.window() == 64 && store.mode() == Mode::Srej);
+    assert!(rt; store.vr() == 0);
+    assert!(rt; store.accept(63, packet(&rt, 63)?) == Took::Stored);
+    store.begin(128, 64, Mode::Srej);
+    assert!(rt; store.accept(64, packet(&rt, 64)?) == Took::Outside);
+    store.begin(8, 7, Mode::Rej);
+    assert!(rt; store.accept(3, packet(&rt, 3)?) == Took::NotNext);
+    Ok(())
+}
+
+#[test]
 fn packets_ahead_of_a_gap_are_taken_behind_it(rt: HostRuntime) -> Result<(), Fail> {
     let mut store = InStore::new(rt.alloc(), 8, 4, Mode::Srej)?;
     assert!(rt; give(&rt, &mut store, 2)? == Took::Stored);
