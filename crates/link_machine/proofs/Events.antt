@@ -4,7 +4,7 @@ use Rattle.std.proofs.lemmas.Bool.{false≢true}
 use Rattle.std.proofs.Math.Nat.{mod-eq_of_lt}
 use Rattle.selective_reject.specs.declared.packet.Packet.{Packet}
 use Rattle.selective_reject.specs.declared.outgoing.BadNr.{BadNr}
-use Rattle.selective_reject.specs.Numbers.{ahead}
+use Rattle.selective_reject.specs.Numbers.{IsModulus, ahead}
 use Rattle.selective_reject.specs.Outgoing.{Outgoing, StandsForOutgoing, IsOutgoing, acknowledged as without_acknowledged, back, restarted, is_named, acknowledgement}
 use Rattle.selective_reject.proofs.OutgoingRounds.{same_acknowledgement}
 use Rattle.link_machine.specs.declared.control.Control.{Control}
@@ -13,20 +13,23 @@ use Rattle.link_machine.specs.declared.room.Room.{Room}
 use Rattle.link_machine.specs.declared.state.LinkState.{LinkState}
 use Rattle.link_machine.specs.declared.state.LinkState.TheVariants.{Idle, Calling, Up, Releasing}
 use Rattle.link_machine.specs.Done.{Done}
-use Rattle.link_machine.specs.Machine.{Machine, is_valid, named, ahead_of_vr}
-use Rattle.link_machine.specs.Sent.{frames_of, infos_from}
+use Rattle.link_machine.specs.Machine.{Machine, is_wide, is_valid, named, ahead_of_vr}
+use Rattle.link_machine.specs.Sent.{SentIn, sent_in, sent_frames, all_sent_in, infos_from}
 use Rattle.link_machine.specs.Sent.Sent.{InfoSent}
 use Rattle.link_machine.specs.Turn.{Turn, Act, begin, setting, sending, in_order}
 use Rattle.link_machine.specs.Acts.{acknowledged, timed_anew, answer_poll, recover, in_window, settle, reset, close, send_packets, send_again, sent_packet, give, with_rej, owing, watching, nothing_due}
 use Rattle.link_machine.specs.declared.acts.Why.TheVariants.{Asked}
-use Rattle.link_machine.specs.Frames.{hear_in, hear, hear_idle, hear_calling, hear_releasing, open_called, end_call, acknowledged_by_srej, hear_info_by_rej, take_selected, hear_info_by_srej, hear_info_by}
+use Rattle.link_machine.specs.Frames.{hear_in, hear, hear_idle, hear_calling_in, hear_calling, hear_releasing, open_called, end_call, acknowledged_by_srej, hear_info_by_rej, take_selected, hear_info_by_srej, hear_info_by}
 use Rattle.ax25_frames.specs.declared.frame.Kind.{Kind}
 use Rattle.ax25_frames.specs.declared.frame.Kind.TheVariants.{Info, Super, Setup, Ui, Other}
 use Rattle.ax25_frames.specs.declared.frame.U.TheVariants.{Sabm, Sabme, Disc, Dm, Ua}
+use Rattle.ax25_frames.specs.declared.frame.W.TheVariants.{Frmr, Xid, Test}
 use Rattle.selective_reject.specs.Incoming.{Incoming}
 use Rattle.tnc_base.specs.declared.fault.OutOfMemory.{OutOfMemory}
 use Rattle.std.proofs.Common.{zero, suc, ◌==◌, nat_lt, inr, None}
-use Rattle.std.proofs.lemmas.Bool.{lt-ltb, le-ltb, lt-leb, cases_lt, ltb-true}
+use Rattle.std.proofs.lemmas.Bool.{lt-ltb, le-ltb, lt-leb, cases_lt, ltb-true, ltb-false, leb-true, eqb-false}
+use Rattle.std.proofs.Common.{eqb-true}
+use Rattle.std.specs.Prelude.{not}
 use Rattle.std.proofs.lemmas.Option.{slice_get_cases}
 use Rattle.std.specs.Prelude.{IsErr, OnOk, ◌⊎◌, get_or}
 use Rattle.std.specs.List.{slice_get}
@@ -43,22 +46,17 @@ use Rattle.link_machine.specs.Requests.{has_link, is_closed}
 use Rattle.link_machine.specs.declared.fault.LinkFault.{LinkFault}
 use Rattle.link_machine.specs.declared.fault.LinkFault.TheVariants.{WrongState, Full, TooLong}
 use Rattle.std.specs.Prelude.{IfOk, nat_le}
-use Rattle.link_machine.specs.declared.fault.NewFault.{NewFault}
-use Rattle.link_machine.specs.declared.fault.NewFault.TheVariants.{BadWindow, Memory}
-use Rattle.selective_reject.specs.declared.incoming.StoreFault.{StoreFault}
-use Rattle.selective_reject.specs.declared.incoming.StoreFault.TheVariants.{BadWindow as BadStoreWindow, Memory as StoreMemory}
 use Rattle.link_machine.specs.StandsFor.{StandsFor}
 use Rattle.link_machine.specs.declared.acts.Told.{Told}
-use Rattle.ax25_frames.specs.declared.frame.Frame.{Frame}
+use Rattle.link_machine.specs.declared.acts.SentFrame.{SentFrame}
 use Rattle.std.specs.Prelude.{is_some}
 use Rattle.link_machine.specs.Ticks.{runs_out, with_t1, with_t2, with_t3, is_spent, t2_out, t3_out, t1_out, tick_t2_of, tick_t2, tick_t3_of, tick_t1_of, tick_t1, tick_in}
 use Rattle.std.proofs.Common.{Some, length-append, length-drop}
 use Rattle.std.proofs.lemmas.List.{take_all, drop-append-le, take-append-le}
 use Rattle.selective_reject.specs.Outgoing.{after_push}
 use Rattle.link_machine.specs.Room.{HasRoom}
-use Rattle.link_machine.specs.Held.{IsWhole, Holds, Shows, Made, Makes, hear_numbered, new_fault_of, outgoing_behind, frames_to_close}
-use Rattle.link_machine.proofs.PacketLemmas.{in_window_behind, same_window}
-use Rattle.link_machine.proofs.Showing.{modulus_is_8}
+use Rattle.link_machine.specs.Held.{IsWhole, Holds, Shows, Made, Makes, hear_numbered, outgoing_behind, frames_to_close}
+use Rattle.link_machine.proofs.PacketLemmas.{in_window_behind, in_order as in_number_order}
 
 abbrev pub is_up : LinkState → Bool
 is_up Idle = false
@@ -88,12 +86,13 @@ not_up Releasing h = refl
 
 -- a link stands for itself
 abbrev pub itself : Held → Machine
-itself held = record { path = held.path; control = held.control; outgoing = held.outgoing; incoming = held.incoming }
+itself held = record { path = held.path; params = held.params; control = held.control; outgoing = held.outgoing; incoming = held.incoming }
 
 pub holds_itself : (held : Held) → IsWhole held → Holds held (itself held)
 holds_itself held h = record {
   stands = record {
     path = refl;
+    params = refl;
     control = refl;
     outgoing = record { va = sym (mod-eq_of_lt h.link.outgoing.va); vs = refl; top = refl; packets = refl };
     incoming = record {
@@ -179,16 +178,16 @@ in_window_restarted k o =
 -- the copies that are taken are the packets in the machine's window
 pub copies_right :
     (held : Held) (m : Machine) (count : ℕ) (goes_back : Bool) (packets : List Packet) → Holds held m
-    → packets ≡ in_window held.window (outgoing_behind count goes_back held.outgoing)
+    → packets ≡ in_window held.incoming.window (outgoing_behind count goes_back held.outgoing)
     → packets ≡ in_window m.incoming.window (outgoing_behind count goes_back m.outgoing)
 copies_right held m count goes_back packets h e =
     e
-    ∙ same_in_window held.window count goes_back held.outgoing m.outgoing h.stands.outgoing
-    ∙ ap (λ k. in_window k (outgoing_behind count goes_back m.outgoing)) (same_window held m h)
+    ∙ same_in_window held.incoming.window count goes_back held.outgoing m.outgoing h.stands.outgoing
+    ∙ ap (λ k. in_window k (outgoing_behind count goes_back m.outgoing)) h.stands.incoming.window
 
 pub copies_right_now :
     (held : Held) (m : Machine) (packets : List Packet) → Holds held m
-    → packets ≡ in_window held.window (outgoing_behind 0 false held.outgoing) → packets ≡ in_window m.incoming.window m.outgoing
+    → packets ≡ in_window held.incoming.window (outgoing_behind 0 false held.outgoing) → packets ≡ in_window m.incoming.window m.outgoing
 copies_right_now held m packets h e = copies_right held m 0 false packets h e ∙ in_window_now m.incoming.window m.outgoing
 
 -- what a valid N(R) says
@@ -204,15 +203,51 @@ is_named_if_counted false d count bad h = absurd (false≢true (ap is_good h))
     is_good (Ok n) = true
     is_good (Err e) = false
 
+-- N(R) acknowledges of the machine what it acknowledges of the link
+as_machine :
+    (held : Held) (m : Machine) (nr : ℕ) → Holds held m
+    → acknowledgement held.incoming.modulus nr held.outgoing ≡ acknowledgement m.incoming.modulus nr m.outgoing
+as_machine held m nr h =
+    same_acknowledgement held.outgoing m.outgoing held.incoming.modulus nr h.formed.incoming.modulus h.stands.outgoing
+    ∙ ap (λ k. acknowledgement k nr m.outgoing) h.stands.incoming.modulus
+
 pub valid_number :
-    (held : Held) (m : Machine) (nr count : ℕ) → Holds held m → acknowledgement 8 nr held.outgoing ≡ Ok count
+    (held : Held) (m : Machine) (nr count : ℕ) → Holds held m → acknowledgement held.incoming.modulus nr held.outgoing ≡ Ok count
     → (is_valid nr m ≡ true) × (named nr m ≡ m.outgoing.va + count)
 valid_number held m nr count h e =
-    let whole : acknowledgement 8 nr m.outgoing ≡ Ok count = sym (same_acknowledgement held.outgoing m.outgoing 8 nr (inl refl) h.stands.outgoing) ∙ e in
-    let both = is_named_if_counted (is_named 8 nr m.outgoing) (ahead 8 m.outgoing.va nr) count _ whole in (
-      ap (λ k. is_named k nr m.outgoing) (modulus_is_8 held m h) ∙ both.0,
-      ap (λ k. m.outgoing.va + ahead k m.outgoing.va nr) (modulus_is_8 held m h) ∙ ap (λ k. m.outgoing.va + k) both.1,
-    )
+    let same = as_machine held m nr h in
+    both (is_named_if_counted (is_named m.incoming.modulus nr m.outgoing) (ahead m.incoming.modulus m.outgoing.va nr) count _ (sym same ∙ e))
+  where
+    both :
+        (is_valid nr m ≡ true) × (ahead m.incoming.modulus m.outgoing.va nr ≡ count)
+        → (is_valid nr m ≡ true) × (named nr m ≡ m.outgoing.va + count)
+    both found = (found.0, ap (λ k. m.outgoing.va + k) found.1)
+
+-- it names a number up to the top
+pub below_top : (held : Held) (m : Machine) (nr : ℕ) → Holds held m → is_valid nr m ≡ true → named nr m ≤ m.outgoing.top
+below_top held m nr h valid =
+    let order = in_number_order held.outgoing m.outgoing h.formed.outgoing h.stands.outgoing in
+    let d = ahead m.incoming.modulus m.outgoing.va nr in
+    let low : m.outgoing.va ≤ m.outgoing.vs = order.0 in
+    let high : m.outgoing.vs ≤ m.outgoing.top = order.1 in
+    let near : d ≤ m.outgoing.top - m.outgoing.va = leb-true d (m.outgoing.top - m.outgoing.va) valid in
+    omega arith
+
+same_less : (a b c d : ℕ) → (a < b → c < d) → (b ≤ a → d ≤ c) → nat_lt a b ≡ nat_lt c d
+same_less a b c d f g = elim (cases_lt a b) [ inl h ↦ lt-ltb a b h ∙ sym (lt-ltb c d (f h)) | inr h ↦ le-ltb a b h ∙ sym (le-ltb c d (g h)) ]
+
+-- some packets are acknowledged, and perhaps all that were sent
+pub some_acknowledged : (va n count : ℕ) → n ≡ va + count → nat_lt 0 count ≡ nat_lt va n
+some_acknowledged va n count e = same_less 0 count va n (λ h. omega arith) (λ h. omega arith)
+
+pub all_acknowledged : (n top : ℕ) → n ≤ top → not (nat_lt n top) ≡ (n == top)
+all_acknowledged n top h = by (nat_lt n top) (n == top) refl refl
+  where
+    by : (a b : Bool) → nat_lt n top ≡ a → (n == top) ≡ b → not a ≡ b
+    by true true e f = absurd (let l : n < top = ltb-true n top e in let s : n ≡ top = eqb-true n top f in omega arith)
+    by true false e f = refl
+    by false true e f = refl
+    by false false e f = absurd (let l : top ≤ n = ltb-false n top e in let s : n ≡ top → ⊥ = eqb-false n top f in s (omega arith))
 
 not_named_if_bad : (b : Bool) (d : ℕ) (bad bad' : BadNr) → ◌≡◌ {A = Result ℕ BadNr} (if b then Ok d else Err bad) (Err bad') → b ≡ false
 not_named_if_bad true d bad bad' h = absurd (false≢true (sym (ap is_good h)))
@@ -223,10 +258,10 @@ not_named_if_bad true d bad bad' h = absurd (false≢true (sym (ap is_good h)))
 not_named_if_bad false d bad bad' h = refl
 
 pub invalid_number :
-    (held : Held) (m : Machine) (nr : ℕ) (bad : BadNr) → Holds held m → acknowledgement 8 nr held.outgoing ≡ Err bad → is_valid nr m ≡ false
+    (held : Held) (m : Machine) (nr : ℕ) (bad : BadNr) → Holds held m → acknowledgement held.incoming.modulus nr held.outgoing ≡ Err bad → is_valid nr m ≡ false
 invalid_number held m nr bad h e =
-    let whole : acknowledgement 8 nr m.outgoing ≡ Err bad = sym (same_acknowledgement held.outgoing m.outgoing 8 nr (inl refl) h.stands.outgoing) ∙ e in
-    ap (λ k. is_named k nr m.outgoing) (modulus_is_8 held m h) ∙ not_named_if_bad (is_named 8 nr m.outgoing) (ahead 8 m.outgoing.va nr) _ bad whole
+    not_named_if_bad
+    (is_named m.incoming.modulus nr m.outgoing) (ahead m.incoming.modulus m.outgoing.va nr) _ bad (sym (as_machine held m nr h) ∙ e)
 
 -- what the answer to a poll and recovery leave
 answer_poll_machine : (asks : Bool) (t : Turn) → ((answer_poll asks t).now.outgoing ≡ t.now.outgoing) × ((answer_poll asks t).now.incoming ≡ t.now.incoming) × ((answer_poll asks t).now.control.poll ≡ t.now.control.poll)
@@ -295,7 +330,7 @@ supervised_back t m n count asks answers out inc number =
 
 -- a frame with a valid N(R)
 pub makes_numbered :
-    (act : ℕ → Act) (nr count : ℕ) (before behind : Held) (result : Result Done OutOfMemory) → acknowledgement 8 nr before.outgoing ≡ Ok count
+    (act : ℕ → Act) (nr count : ℕ) (before behind : Held) (result : Result Done OutOfMemory) → acknowledgement before.incoming.modulus nr before.outgoing ≡ Ok count
     → Makes (λ t. act (named nr t.now) t) before behind result → Makes (hear_numbered nr act) before behind result
 makes_numbered act nr count before behind (Ok done) valid makes = λ m h.
     let P : Turn → Type 0 = λ x. Made (settled x) behind done in
@@ -304,7 +339,7 @@ makes_numbered act nr count before behind (Err fault) valid makes = makes
 
 -- a frame with another
 pub makes_reset :
-    (act : ℕ → Act) (nr : ℕ) (bad : BadNr) (before behind : Held) (result : Result Done OutOfMemory) → acknowledgement 8 nr before.outgoing ≡ Err bad
+    (act : ℕ → Act) (nr : ℕ) (bad : BadNr) (before behind : Held) (result : Result Done OutOfMemory) → acknowledgement before.incoming.modulus nr before.outgoing ≡ Err bad
     → Makes reset before behind result → Makes (hear_numbered nr act) before behind result
 makes_reset act nr bad before behind (Ok done) valid makes = λ m h.
     let P : Turn → Type 0 = λ x. Made (settled x) behind done in
@@ -326,9 +361,9 @@ nothing_to_take : (n : ℕ) → ◌≡◌ {A = List Packet} (take n []) []
 nothing_to_take zero = refl
 nothing_to_take (suc n) = refl
 
-pub settled_open : (flag : Bool) (t : Turn) → settled (open_called flag t) ≡ open_called flag t
-settled_open flag t =
-    let behind = open_called flag t in
+pub settled_open : (modulus : ℕ) (flag : Bool) (t : Turn) → settled (open_called modulus flag t) ≡ open_called modulus flag t
+settled_open modulus flag t =
+    let behind = open_called modulus flag t in
     let none : in_window behind.now.incoming.window behind.now.outgoing ≡ [] = nothing_to_take _ in
     ap (λ ps. close (if length ps == 0 then behind else send_packets ps behind)) none
 
@@ -340,8 +375,8 @@ by_flag true x y e f = e
 by_flag false x y e f = f
 
 pub settled_idle : (command : Bool) (kind : Kind) (t : Turn) → t.now.control.state ≡ Idle → settled (hear_idle command kind t) ≡ hear_idle command kind t
-settled_idle command (Setup Sabm flag) t e = settled_open flag t
-settled_idle command (Setup Sabme flag) t e = unsettled _ (idle_is t e)
+settled_idle command (Setup Sabm flag) t e = settled_open 8 flag t
+settled_idle command (Setup Sabme flag) t e = settled_open 128 flag t
 settled_idle command (Setup Disc flag) t e = unsettled _ (idle_is t e)
 settled_idle command (Setup Dm flag) t e = unsettled _ (idle_is t e)
 settled_idle command (Setup Ua flag) t e = unsettled _ (idle_is t e)
@@ -377,20 +412,32 @@ not_calling t e f = false≢true (sym (ap is_up e) ∙ ap is_up f)
 not_idle : Idle ≡ Up → ⊥
 not_idle f = false≢true (ap is_up f)
 
+opened_by :
+    (wide : Bool) (kind : Kind) (t : Turn) → t.now.control.state ≡ Calling → (hear_calling_in wide kind t).now.control.state ≡ Up →
+    let behind = hear_calling_in wide kind t in
+    (behind.now.outgoing ≡ restarted t.now.outgoing) × (behind.now.incoming.window ≡ t.now.incoming.window)
+opened_by true (Setup Sabm flag) t e up = absurd (not_calling t e up)
+opened_by false (Setup Sabm flag) t e up = absurd (not_calling t e up)
+opened_by true (Setup Sabme flag) t e up = absurd (not_calling t e up)
+opened_by false (Setup Sabme flag) t e up = absurd (not_calling t e up)
+opened_by wide (Setup Disc flag) t e up = absurd (not_calling t e up)
+opened_by wide (Setup Dm true) t e up = absurd (not_idle up)
+opened_by wide (Setup Dm false) t e up = absurd (not_calling t e up)
+opened_by wide (Setup Ua true) t e up = (refl, refl)
+opened_by wide (Setup Ua false) t e up = absurd (not_calling t e up)
+opened_by wide (Info ns nr flag pid octets) t e up = absurd (not_calling t e up)
+opened_by wide (Super which nr flag) t e up = absurd (not_calling t e up)
+opened_by wide (Ui flag pid octets) t e up = absurd (not_calling t e up)
+opened_by true (Other Frmr flag octets) t e up = absurd (not_calling t e up)
+opened_by false (Other Frmr flag octets) t e up = absurd (not_calling t e up)
+opened_by wide (Other Xid flag octets) t e up = absurd (not_calling t e up)
+opened_by wide (Other Test flag octets) t e up = absurd (not_calling t e up)
+
 pub opened_calling :
-    (kind : Kind) (t : Turn) → t.now.control.state ≡ Calling → (hear_calling kind t).now.control.state ≡ Up
-    → ((hear_calling kind t).now.outgoing ≡ restarted t.now.outgoing) × ((hear_calling kind t).now.incoming.window ≡ t.now.incoming.window)
-opened_calling (Setup Sabm flag) t e up = absurd (not_calling t e up)
-opened_calling (Setup Sabme flag) t e up = absurd (not_calling t e up)
-opened_calling (Setup Disc flag) t e up = absurd (not_calling t e up)
-opened_calling (Setup Dm true) t e up = absurd (not_idle up)
-opened_calling (Setup Dm false) t e up = absurd (not_calling t e up)
-opened_calling (Setup Ua true) t e up = (refl, refl)
-opened_calling (Setup Ua false) t e up = absurd (not_calling t e up)
-opened_calling (Info ns nr flag pid octets) t e up = absurd (not_calling t e up)
-opened_calling (Super which nr flag) t e up = absurd (not_calling t e up)
-opened_calling (Ui flag pid octets) t e up = absurd (not_calling t e up)
-opened_calling (Other which flag octets) t e up = absurd (not_calling t e up)
+    (kind : Kind) (t : Turn) → t.now.control.state ≡ Calling → (hear_calling kind t).now.control.state ≡ Up →
+    let behind = hear_calling kind t in
+    (behind.now.outgoing ≡ restarted t.now.outgoing) × (behind.now.incoming.window ≡ t.now.incoming.window)
+opened_calling kind t e up = opened_by (is_wide t.now) kind t e up
 
 -- nothing is acknowledged, and V(S) perhaps goes back
 pub in_window_none : (k : ℕ) (goes_back : Bool) (o : Outgoing) → in_window k (outgoing_behind 0 goes_back o) ≡ in_window k (if goes_back then back o else o)
@@ -443,17 +490,15 @@ srej_incoming n true m = refl
 srej_incoming n false m = refl
 
 -- a number that is named is what was named it by
-pub named_as_sent : (va nr : ℕ) → nr < 8 → nr ≡ (va + ahead 8 va nr) % 8
+pub named_as_sent : (m va nr : ℕ) → IsModulus m → nr < m → nr ≡ (va + ahead m va nr) % m
 unfolding ahead
-named_as_sent va nr h = omega arith
+named_as_sent m va nr (inl is) h = let low : nr < 8 = omega (arith, h, is) in rw is (omega arith)
+named_as_sent m va nr (inr is) h = let low : nr < 128 = omega (arith, h, is) in rw is (omega arith)
 
 -- the packet that an SREJ asks for
 asked_at : (b b' : Bool) (x x' : Option Packet) → b ≡ b' → x ≡ x' → option_to_list (if b then x else None) ≡ (if b' then option_to_list x' else [])
 asked_at true b' x x' e f = ap option_to_list f ∙ ap (λ b. if b then option_to_list x' else []) e
 asked_at false b' x x' e f = ap (λ b. if b then option_to_list x' else []) e
-
-same_less : (a b c d : ℕ) → (a < b → c < d) → (b ≤ a → d ≤ c) → nat_lt a b ≡ nat_lt c d
-same_less a b c d f g = elim (cases_lt a b) [ inl h ↦ lt-ltb a b h ∙ sym (lt-ltb c d (f h)) | inr h ↦ le-ltb a b h ∙ sym (le-ltb c d (g h)) ]
 
 pub asked_right :
     (o : Outgoing) (c : Control) (m : Machine) (n count : ℕ) (flag : Bool) → m.outgoing ≡ o → n ≡ o.va + count
@@ -607,7 +652,10 @@ pub sent_one :
     (n : ℕ) (t : Turn) (p : Packet) → p ∷ [] ≡ sent_packet n t.now.outgoing
     → sending (InfoSent n t.now.incoming.vr p) (setting watching (setting nothing_due t)) ≡ send_again n t
 sent_one n t p h =
-    let X : List Packet → Turn = λ ps. record t { now = record t.now { control = watching (nothing_due t.now.control) }; sent = t.sent ++ infos_from n t.now.incoming.vr ps } in
+    let X : List Packet → Turn = λ ps. record t {
+      now = record t.now { control = watching (nothing_due t.now.control) };
+      sent = t.sent ++ all_sent_in t.now.incoming.modulus (infos_from n t.now.incoming.vr ps);
+    } in
     ap X h ∙ sym (sent_where (nat_lt n t.now.outgoing.top) (X (sent_packet n t.now.outgoing)) t p _ h)
 
 -- a packet that was not sent is asked for in vain
@@ -644,9 +692,8 @@ stepped m event e = cond-false _ _ _ e
 
 done_as : (held : Held) (t : Turn) (done : Done) → Made t held done → done ≡ done_of t
 done_as held t done h =
-    let D : List Frame → List Told → Done = λ fs ts. record { frames = fs; told = ts } in
-    ap (λ fs. D fs done.told) (h.frames ∙ ap (λ k. frames_of k t.now.path t.sent) (sym (modulus_is_8 held t.now h.holds)))
-    ∙ ap (λ ts. D (frames_of t.now.incoming.modulus t.now.path t.sent) ts) h.told
+    let D : List SentFrame → List Told → Done = λ fs ts. record { frames = fs; told = ts } in
+    ap (λ fs. D fs done.told) h.frames ∙ ap (λ ts. D (sent_frames t.now.path t.sent) ts) h.told
 
 pub answers_right :
     (behind : Held) (m : Machine) (event : Event) (done : Done) → is_some (refusal_of m event) ≡ false → Made (settled (row event (begin m))) behind done
@@ -687,31 +734,3 @@ free_send m packet e room short =
     ap (λ b. is_some (if b then wrong else if nat_le 1024 (length m.outgoing.packets) then Some Full else if nat_lt 256 (length packet.octets) then long else None)) e
     ∙ ap (λ b. is_some (if b then Some Full else if nat_lt 256 (length packet.octets) then long else None)) (lt-leb 1024 (length m.outgoing.packets) room)
     ∙ ap (λ b. is_some (if b then long else None)) (le-ltb 256 (length packet.octets) short)
-
--- a window is refused as the store refuses it
-abbrev window_of : NewFault → ℕ
-window_of (BadWindow window) = suc window
-window_of Memory = 0
-
-store_window : (fault : StoreFault) (w : ℕ) → new_fault_of fault ≡ BadWindow w → fault ≡ BadStoreWindow w
-store_window (BadStoreWindow v) w e = let s : suc v ≡ suc w = ap window_of e in ap BadStoreWindow (omega arith)
-store_window StoreMemory w e = absurd (none (ap window_of e))
-  where
-    none : 0 ≡ suc w → ⊥
-    none h = omega arith
-
-abbrev fault_in : {A : Type 0} → NewFault → Result A NewFault → NewFault
-fault_in other (Ok x) = other
-fault_in other (Err fault) = fault
-
-abbrev store_fault_in : {A : Type 0} → StoreFault → Result A StoreFault → StoreFault
-store_fault_in other (Ok x) = other
-store_fault_in other (Err fault) = fault
-
-pub refused_as : {A B : Type 0} (fault : StoreFault) (w : ℕ) → ◌≡◌ {A = Result A NewFault} (Err (new_fault_of fault)) (Err (BadWindow w))
-    → ◌≡◌ {A = Result B StoreFault} (Err fault) (Err (BadStoreWindow w))
-refused_as fault w e = ap Err (store_window fault w (ap (fault_in Memory) e))
-
-pub refuses_as : {A B : Type 0} (fault : StoreFault) (w : ℕ) → ◌≡◌ {A = Result B StoreFault} (Err fault) (Err (BadStoreWindow w))
-    → ◌≡◌ {A = Result A NewFault} (Err (new_fault_of fault)) (Err (BadWindow w))
-refuses_as fault w e = ap (λ f. Err (new_fault_of f)) (ap (store_fault_in StoreMemory) e)

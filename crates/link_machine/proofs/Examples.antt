@@ -221,7 +221,7 @@ idles_narrow p = refl
 pub last_tick_wide :
     (p : Path) →
     (from_new p RejMode (
-        called_wide p ++ Send (packet 0) ∷ [] ++ replicate 3270 (Tick false) ++ info p 0 0 ∷ [] ++ replicate 30 (Tick false)
+    called_wide p ++ Send (packet 0) ∷ [] ++ replicate 3270 (Tick false) ++ info p 0 0 ∷ [] ++ replicate 30 (Tick false)
     )).sent
     ≡ wide (SuperSent Rr false 1 false ∷ SetupSent Dm false ∷ [])
 unfolding step ahead

@@ -3,7 +3,7 @@ use Rattle.std.proofs.Common.{◌≡◌, ℕ, ◌+◌, ◌-◌, ◌%◌, ◌≤�
 use Rattle.std.proofs.Common.{suc, zero}
 use Rattle.std.proofs.lemmas.Bool.{lt-ltb, cond-true}
 use Rattle.std.proofs.lemmas.Grind.{common_steps}
-use Rattle.std.proofs.lemmas.List.{drop-drop}
+use Rattle.std.proofs.lemmas.List.{drop-drop, map-append}
 use Rattle.std.specs.List.{slice_get}
 use Rattle.std.specs.Option.{option_to_list}
 use Rattle.std.specs.Option.{unwrap_or}
@@ -16,7 +16,7 @@ use Rattle.link_machine.specs.Held.{outgoing_behind}
 use Rattle.std.specs.Prelude.{Option}
 use Rattle.selective_reject.specs.declared.packet.Packet.{Packet}
 use Rattle.selective_reject.specs.Outgoing.{Outgoing, StandsForOutgoing, IsOutgoing, may_send, after_next}
-use Rattle.link_machine.specs.Sent.{Sent, infos_from}
+use Rattle.link_machine.specs.Sent.{Sent, SentIn, sent_in, all_sent_in, infos_from}
 use Rattle.link_machine.specs.Sent.Sent.{InfoSent}
 use Rattle.link_machine.specs.Turn.{Turn}
 use Rattle.link_machine.specs.Acts.{in_window, sent_to}
@@ -69,10 +69,10 @@ same_outgoing va vs vs' top top' packets e f =
     ap (λ s. store s top) e ∙ ap (λ t. store vs' t) f
 
 same_turn :
-    (t : Turn) (o o' : Outgoing) (s s' : List Sent) → o ≡ o' → s ≡ s'
+    (t : Turn) (o o' : Outgoing) (s s' : List SentIn) → o ≡ o' → s ≡ s'
     → ◌≡◌ {A = Turn} (record t { now = record t.now { outgoing = o }; sent = s }) (record t { now = record t.now { outgoing = o' }; sent = s' })
 same_turn t o o' s s' e f =
-    let turn : Outgoing → List Sent → Turn = λ x y. record t { now = record t.now { outgoing = x }; sent = y } in
+    let turn : Outgoing → List SentIn → Turn = λ x y. record t { now = record t.now { outgoing = x }; sent = y } in
     ap (λ x. turn x s) e ∙ ap (λ y. turn o' y) f
 
 -- one packet more has gone
@@ -86,10 +86,16 @@ sending_one_more gone p t may =
     let next : after_next t.now.incoming.window (sent_to (o.vs + length gone) o) ≡ sent_to (o.vs + length (gone ++ p ∷ [])) o =
     cond-true _ _ _ may
     ∙ same_outgoing o.va _ _ _ _ o.packets (omega arith) (omega arith) in
-    let frames : (t.sent ++ infos_from o.vs t.now.incoming.vr gone) ++ InfoSent (o.vs + length gone) t.now.incoming.vr p ∷ []
-    ≡ t.sent ++ infos_from o.vs t.now.incoming.vr (gone ++ p ∷ []) =
-    append_assoc t.sent (infos_from o.vs t.now.incoming.vr gone) (InfoSent (o.vs + length gone) t.now.incoming.vr p ∷ [])
-    ∙ ap (λ fs. t.sent ++ fs) (sym (infos_from_more o.vs t.now.incoming.vr gone p)) in
+    let modulus = t.now.incoming.modulus in
+    let infos = infos_from o.vs t.now.incoming.vr gone in
+    let last = InfoSent (o.vs + length gone) t.now.incoming.vr p in
+    let frames : (t.sent ++ all_sent_in modulus infos) ++ sent_in modulus last ∷ []
+    ≡ t.sent ++ all_sent_in modulus (infos_from o.vs t.now.incoming.vr (gone ++ p ∷ [])) =
+    append_assoc t.sent (all_sent_in modulus infos) (sent_in modulus last ∷ [])
+    ∙ ap (λ fs. t.sent ++ fs) (
+    sym (map-append (sent_in modulus) infos (last ∷ []))
+    ∙ ap (all_sent_in modulus) (sym (infos_from_more o.vs t.now.incoming.vr gone p))
+    ) in
     same_turn t _ _ _ _ next frames
 
 -- before the first
@@ -100,29 +106,25 @@ sending_none t order =
     (same_outgoing o.va o.vs (o.vs + 0) o.top (max o.top (o.vs + 0)) o.packets (omega arith) (omega arith))
     (search (arith, common_steps))
 
--- the window that a link keeps is that of the machine
-pub same_window : (held : Held) (m : Machine) → Holds held m → held.window ≡ m.incoming.window
-same_window held m h = h.formed.window ∙ h.stands.incoming.window
-
 -- V(S) goes on to the next packet, whose number is sent
 pub shows_next :
     (held : Held) (behind : Outgoing) (room : Room) (t : Turn) → Shows held room t → IsOutgoing behind
-    → ((store : Outgoing) → StandsForOutgoing held.outgoing store → StandsForOutgoing behind (after_next held.window store))
+    → ((store : Outgoing) → StandsForOutgoing held.outgoing store → StandsForOutgoing behind (after_next held.incoming.window store))
     → Shows (record held { outgoing = behind }) room (record t { now = record t.now { outgoing = after_next t.now.incoming.window t.now.outgoing } })
 shows_next held behind room t h formed stands =
     let m = t.now in
     let o : StandsForOutgoing behind (after_next m.incoming.window m.outgoing) =
     let P : ℕ → Type 0 = λ w. StandsForOutgoing behind (after_next w m.outgoing) in
-    subst P (same_window held m h.holds) (stands m.outgoing h.holds.stands.outgoing) in
+    subst P h.holds.stands.incoming.window (stands m.outgoing h.holds.stands.outgoing) in
     let f : Machine → Machine = λ x. record x { outgoing = after_next x.incoming.window x.outgoing } in
     shows_changing f held (record held { outgoing = behind }) room t refl h (holds_outgoing held m behind _ h.holds formed o)
 
 pub number_of_next :
-    (held : Held) (m : Machine) (answer : Option ℕ) (ns : ℕ) → Holds held m → answer ≡ number_to_send 8 held.window m.outgoing → answer ≡ Some ns
-    → may_send m.incoming.window m.outgoing ≡ true → ns ≡ m.outgoing.vs % 8
+    (held : Held) (m : Machine) (answer : Option ℕ) (ns : ℕ) → Holds held m → answer ≡ number_to_send held.incoming.modulus held.incoming.window m.outgoing
+    → answer ≡ Some ns → may_send m.incoming.window m.outgoing ≡ true → ns ≡ m.outgoing.vs % held.incoming.modulus
 number_of_next held m answer ns h said is may =
-    let e : number_to_send 8 held.window m.outgoing ≡ Some (m.outgoing.vs % 8) =
-    ap (λ w. number_to_send 8 w m.outgoing) (same_window held m h) ∙ cond-true _ _ _ may in
+    let e : number_to_send held.incoming.modulus held.incoming.window m.outgoing ≡ Some (m.outgoing.vs % held.incoming.modulus) =
+    ap (λ w. number_to_send held.incoming.modulus w m.outgoing) h.stands.incoming.window ∙ cond-true _ _ _ may in
     ap (λ x. unwrap_or x ns) (sym is ∙ said ∙ e)
 
 -- one element more of a list

@@ -4,7 +4,6 @@ use Rattle.std.proofs.lemmas.List.{length-map}
 use Rattle.std.specs.Prelude.{filter}
 use Rattle.std.specs.List.{range_with_len}
 use Rattle.std.proofs.lemmas.Bool.{false≢true, lt-ltb, ltb-true, cond-true}
-use Rattle.ax25_address.specs.declared.path.Path.{Path}
 use Rattle.selective_reject.specs.declared.packet.Packet.{Packet}
 use Rattle.selective_reject.specs.declared.place.Place.{Place}
 use Rattle.selective_reject.specs.declared.incoming.Took.{Took}
@@ -16,7 +15,8 @@ use Rattle.selective_reject.specs.Places.{empty_place, packet_at, is_full, with_
 use Rattle.selective_reject.specs.Incoming.{Incoming, taking_by, took, keeps, after_accept, empty_incoming, before_number, numbers_to_ask}
 use Rattle.link_machine.specs.Acts.{moved_on, srej_for}
 use Rattle.link_machine.specs.Machine.{Machine}
-use Rattle.link_machine.specs.Sent.{frame_of}
+use Rattle.link_machine.specs.declared.machine.Machine.{Machine as Held}
+use Rattle.link_machine.specs.Sent.{all_sent_in, sent_frames}
 use Rattle.link_machine.specs.Held.{IsReady, srej_frame}
 
 abbrev pub is_next : Took → Bool
@@ -164,10 +164,12 @@ first_asked (p ∷ ps) (suc n) = refl
 
 -- the SREJs as they are written
 pub srejs_as_written :
-    (path : Path) (m : Machine) (xs : List ℕ)
-    → map (frame_of 8 path) (map (srej_for m) xs) ≡ map (srej_frame path) (map (λ k. (m.incoming.vr + k) % 8) xs)
-srejs_as_written path m [] = refl
-srejs_as_written path m (x ∷ xs) = ap (λ fs. srej_frame path ((m.incoming.vr + x) % 8) ∷ fs) (srejs_as_written path m xs)
+    (held : Held) (m : Machine) (xs : List ℕ) →
+    sent_frames held.path (all_sent_in held.incoming.modulus (map (srej_for m) xs))
+    ≡ map (srej_frame held) (map (λ k. (m.incoming.vr + k) % held.incoming.modulus) xs)
+srejs_as_written held m [] = refl
+srejs_as_written held m (x ∷ xs) =
+    ap (λ fs. srej_frame held ((m.incoming.vr + x) % held.incoming.modulus) ∷ fs) (srejs_as_written held m xs)
 
 pub length-filter_le : (p : ℕ → Bool) (xs : List ℕ) → length (filter p xs) ≤ length xs
 length-filter_le p [] = omega arith

@@ -10,8 +10,8 @@ use Rattle.link_machine.specs.declared.acts.Told.{Told}
 use Rattle.link_machine.specs.declared.control.Control.{Control}
 use Rattle.link_machine.specs.declared.machine.Machine.{Machine as Held}
 use Rattle.link_machine.specs.declared.room.Room.{Room}
-use Rattle.link_machine.specs.Machine.{Machine, fresh, emptied}
-use Rattle.link_machine.specs.Sent.{Sent, frame_of, frames_of}
+use Rattle.link_machine.specs.Machine.{Machine, fresh, emptied, in_modulus}
+use Rattle.link_machine.specs.Sent.{Sent, sent_in, sent_frame, sent_frames}
 use Rattle.link_machine.specs.Turn.{Turn, changing, setting, sending, telling}
 use Rattle.link_machine.specs.Held.{IsReady, Holds, Shows}
 
@@ -22,19 +22,25 @@ pub holds_setting :
 holds_setting f held m h = record {
   stands = record {
     path = h.stands.path;
+    params = h.stands.params;
     control = ap f h.stands.control;
     outgoing = h.stands.outgoing;
     incoming = h.stands.incoming;
   };
   formed = record {
-    mode = h.formed.mode;
-    window = h.formed.window;
-    modulus = h.formed.modulus;
     outgoing = h.formed.outgoing;
     incoming = h.formed.incoming;
   };
   next = h.next;
 }
+
+-- the variables become those that an act makes of them
+pub holds_control :
+    (f : Control → Control) (held : Held) (m : Machine) (c : Control) → c ≡ f held.control → Holds held m
+    → Holds (record held { control = c }) (record m { control = f m.control })
+holds_control f held m c e h =
+    let P : Control → Type 0 = λ x. Holds (record held { control = x }) (record m { control = f m.control }) in
+    subst P (sym e) (holds_setting f held m h)
 
 pub shows_setting :
     (f : Control → Control) (held : Held) (room : Room) (t : Turn) → Shows held room t
@@ -51,22 +57,23 @@ pub shows_changing :
     → Holds behind (f t.now) → Shows behind room (changing f t)
 shows_changing f held behind room t path h new = record {
   holds = new;
-  frames = h.frames ∙ ap (λ p. frames_of 8 p t.sent) (sym path);
+  frames = h.frames ∙ ap (λ p. sent_frames p t.sent) (sym path);
   told = h.told;
 }
 
 -- a frame is sent
 pub shows_sending :
     (x : Sent) (held : Held) (room behind : Room) (t : Turn) → Shows held room t
-    → behind.frames.items ≡ room.frames.items ++ frame_of 8 held.path x ∷ [] → behind.told ≡ room.told
+    → behind.frames.items ≡ room.frames.items ++ sent_frame held.path (sent_in held.incoming.modulus x) ∷ [] → behind.told ≡ room.told
     → Shows held behind (sending x t)
 shows_sending x held room behind t h frames told = record {
   holds = h.holds;
   frames =
       frames
-      ∙ ap (λ fs. fs ++ frame_of 8 held.path x ∷ []) h.frames
-      ∙ ap (λ p. frames_of 8 t.now.path t.sent ++ frame_of 8 p x ∷ []) h.holds.stands.path
-      ∙ sym (map-append (frame_of 8 t.now.path) t.sent (x ∷ []));
+      ∙ ap (λ fs. fs ++ sent_frame held.path (sent_in held.incoming.modulus x) ∷ []) h.frames
+      ∙ ap (λ p. sent_frames t.now.path t.sent ++ sent_frame p (sent_in held.incoming.modulus x) ∷ []) h.holds.stands.path
+      ∙ ap (λ k. sent_frames t.now.path t.sent ++ sent_frame t.now.path (sent_in k x) ∷ []) h.holds.stands.incoming.modulus
+      ∙ sym (map-append (sent_frame t.now.path) t.sent (sent_in t.now.incoming.modulus x ∷ []));
   told = ap (λ v. v.items) told ∙ h.told;
 }
 
@@ -81,7 +88,7 @@ shows_telling x held room behind t h told frames = record {
   told = told ∙ ap (λ xs. xs ++ x ∷ []) h.told;
 }
 
--- the variables become those that an act makes of them
+-- the same of a turn
 pub shows_control :
     (f : Control → Control) (held : Held) (c : Control) (room : Room) (t : Turn) → c ≡ f held.control → Shows held room t
     → Shows (record held { control = c }) room (setting f t)
@@ -89,13 +96,11 @@ shows_control f held c room t e h =
     let P : Control → Type 0 = λ x. Shows (record held { control = x }) room (setting f t) in
     subst P (sym e) (shows_setting f held room t h)
 
--- the modulus is 8
-pub modulus_is_8 : (held : Held) (m : Machine) → Holds held m → m.incoming.modulus ≡ 8
-modulus_is_8 held m h = sym h.stands.incoming.modulus ∙ h.formed.modulus
-
 -- V(R) as it is sent
-pub vr_as_sent : (held : Held) (m : Machine) (nr : ℕ) → Holds held m → nr ≡ m.incoming.vr % m.incoming.modulus → nr ≡ m.incoming.vr % 8
-vr_as_sent held m nr h e = e ∙ ap (λ k. m.incoming.vr % k) (modulus_is_8 held m h)
+pub vr_as_sent :
+    (held : Held) (m : Machine) (nr : ℕ) → Holds held m → nr ≡ m.incoming.vr % m.incoming.modulus
+    → nr ≡ m.incoming.vr % held.incoming.modulus
+vr_as_sent held m nr h e = e ∙ ap (λ k. m.incoming.vr % k) (sym h.stands.incoming.modulus)
 
 -- a set-up begins
 pub shows_fresh : (held behind : Held) (room : Room) (t : Turn) → Shows held room t → ((m : Machine) → Holds held m → Holds behind (fresh m)) → Shows behind room (changing fresh t)
@@ -105,6 +110,14 @@ shows_fresh held behind room t h new = shows_changing fresh held behind room t r
 pub shows_emptied : (held behind : Held) (room : Room) (t : Turn) → Shows held room t → ((m : Machine) → Holds held m → Holds behind (emptied m)) → Shows behind room (changing emptied t)
 shows_emptied held behind room t h new = shows_changing emptied held behind room t refl h (new t.now h.holds)
 
+-- numbers are modulo another modulus
+pub shows_in_modulus :
+    (modulus : ℕ) (held behind : Held) (room : Room) (t : Turn) → Shows held room t
+    → ((m : Machine) → Holds held m → Holds behind (in_modulus modulus m))
+    → Shows behind room (changing (in_modulus modulus) t)
+shows_in_modulus modulus held behind room t h new =
+    shows_changing (in_modulus modulus) held behind room t refl h (new t.now h.holds)
+
 -- what waits to be acknowledged changes
 pub holds_outgoing :
     (held : Held) (m : Machine) (behind o : Outgoing) → Holds held m → IsOutgoing behind → StandsForOutgoing behind o
@@ -112,14 +125,12 @@ pub holds_outgoing :
 holds_outgoing held m behind o h formed stands = record {
   stands = record {
     path = h.stands.path;
+    params = h.stands.params;
     control = h.stands.control;
     outgoing = stands;
     incoming = h.stands.incoming;
   };
   formed = record {
-    mode = h.formed.mode;
-    window = h.formed.window;
-    modulus = h.formed.modulus;
     outgoing = formed;
     incoming = h.formed.incoming;
   };
@@ -129,19 +140,16 @@ holds_outgoing held m behind o h formed stands = record {
 -- packets are given, and V(R) has moved on
 pub holds_incoming :
     (held : Held) (m : Machine) (behind i : Incoming) → Holds held m → StandsForIncoming behind i → IsIncoming behind → IsReady behind
-    → i.modulus ≡ m.incoming.modulus → i.window ≡ m.incoming.window → i.mode ≡ m.incoming.mode
     → Holds (record held { incoming = behind }) (record m { incoming = i })
-holds_incoming held m behind i h stands formed ready modulus window mode = record {
+holds_incoming held m behind i h stands formed ready = record {
   stands = record {
     path = h.stands.path;
+    params = h.stands.params;
     control = h.stands.control;
     outgoing = h.stands.outgoing;
     incoming = stands;
   };
   formed = record {
-    mode = h.formed.mode ∙ h.stands.incoming.mode ∙ sym mode ∙ sym stands.mode;
-    window = h.formed.window ∙ h.stands.incoming.window ∙ sym window ∙ sym stands.window;
-    modulus = stands.modulus ∙ modulus ∙ sym h.stands.incoming.modulus ∙ h.formed.modulus;
     outgoing = h.formed.outgoing;
     incoming = formed;
   };
@@ -154,7 +162,7 @@ pub shows_incoming :
     → after.told.items ≡ room.told.items ++ map Given packets → after.frames ≡ room.frames
     → Shows (record held { incoming = behind }) after (give packets t)
 shows_incoming held behind room after t i packets h stands formed ready told frames = record {
-  holds = holds_incoming held t.now behind (moved_on (length packets) t.now.incoming) h.holds stands formed ready refl refl refl;
+  holds = holds_incoming held t.now behind (moved_on (length packets) t.now.incoming) h.holds stands formed ready;
   frames = ap (λ v. v.items) frames ∙ h.frames;
   told = told ∙ ap (λ xs. xs ++ map Given packets) h.told;
 }
@@ -163,7 +171,7 @@ pub same_incoming :
     (held : Held) (behind : Incoming) (room : Room) (t : Turn) → Shows held room t → StandsForIncoming behind t.now.incoming → IsIncoming behind
     → IsReady behind → Shows (record held { incoming = behind }) room t
 same_incoming held behind room t h stands formed ready = record {
-  holds = holds_incoming held t.now behind t.now.incoming h.holds stands formed ready refl refl refl;
+  holds = holds_incoming held t.now behind t.now.incoming h.holds stands formed ready;
   frames = h.frames;
   told = h.told;
 }

@@ -82,7 +82,12 @@ impl Machine {
     }
 
     /// SABM, or SABME where the modulus is 128.
-    fn hear_call(&mut self, alloc: Global, modulus: Modulus, flag: bool) -> Result<Acts, OutOfMemory>
+    fn hear_call(
+        &mut self,
+        alloc: Global,
+        modulus: Modulus,
+        flag: bool,
+    ) -> Result<Acts, OutOfMemory>
         requires formed { IsWhole self.old }
         requires state { self.old.control.state ≡ Up }
         ensures { Makes (open_again (numbers modulus) flag) self.old self.new result }

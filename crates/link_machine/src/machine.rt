@@ -5,7 +5,7 @@ ghost use Rattle.ax25_frames.specs.ControlField.{numbers};
 ghost use Rattle.selective_reject.specs.Numbers.{IsModulus};
 ghost use Rattle.link_machine.specs.Params.{HasWindows, IsRefusedWindow};
 ghost use Rattle.link_machine.specs.StandsFor.{StandsFor};
-ghost use Rattle.link_machine.specs.Machine.{Machine as State, fresh, emptied, in_modulus, unquit, is_valid, named, modulus_named, new_machine};
+ghost use Rattle.link_machine.specs.Machine.{Machine as State, fresh, emptied, in_modulus, narrowed, unquit, is_valid, named, modulus_named, new_machine};
 ghost use Rattle.link_machine.specs.Turn.{Turn, changing};
 ghost use Rattle.link_machine.specs.Acts.{acknowledged, gone_back, recover};
 ghost use Rattle.link_machine.specs.Held.{IsLink, IsWhole, Holds, Shows};
@@ -109,6 +109,14 @@ impl Machine {
         let window = self.params.window_in(modulus);
         self.incoming
             .begin(numbers(modulus), window, self.params.mode());
+    }
+
+    /// Counts modulo 8, as a link that is not there does.
+    pub(crate) fn narrow(&mut self)
+        ensures holds { (m : State) → Holds self.old m → Holds self.new (narrowed m) }
+        ensures control { self.new.control ≡ self.old.control }
+    {
+        self.count_in(Modulus::Eight);
     }
 
     /// The numbers, conditions and timers of a set-up that begins. What was given to be sent stays, and so do the modulus

@@ -49,7 +49,7 @@ impl Machine {
         ensures shows { (t : Turn) → Shows self.old room.old t → Shows self.new room.new (call_narrow t) }
         ensures uses { Uses room.old room.new 1 0 }
     {
-        self.count_in(Modulus::Eight);
+        self.narrow();
         self.control.call_anew();
         self.send_setup(room, U::Sabm, true);
     }
@@ -97,7 +97,7 @@ impl Machine {
         ensures uses { Uses room.old room.new 0 1 }
     {
         self.empty();
-        self.count_in(Modulus::Eight);
+        self.narrow();
         self.control.end_call();
         self.tell(room, Told::Ended { why });
     }
@@ -108,7 +108,7 @@ impl Machine {
         ensures control { self.new.control ≡ stopped (unquit self.old.control) }
     {
         self.empty();
-        self.count_in(Modulus::Eight);
+        self.narrow();
         self.control.leave();
     }
 

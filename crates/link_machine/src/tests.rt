@@ -1,82 +1,37 @@
-//! Rows of a link's table, and longer exchanges.
-ghost use Rattle.std.specs.Prelude.{IfOk, IfSome};
-ghost use Rattle.link_machine.specs.Held.{HasNumbersBelow};
+//! Rows of a link's table, and longer exchanges, as lines of text: what happens, and after a bar what the link does at the
+//! last of that.
+//!
+//! What happens is a list of words with numbers:
+//!
+//! - `connect`, `send/7` (a packet of the octet 7), `disconnect`.
+//! - `ticks/300`, with no frame of the link in the queue, and `waits/300`, with one.
+//! - `SABM/1`, and so SABME, DISC, DM, UA: P or F.
+//! - `RR/0/1` is a response with N(R) 0 and F = 1, `RRc/0/1` the command, and so RNR, REJ, SREJ.
+//! - `I/2/0/1` is an I frame of the octet 2 with N(S) 2, N(R) 0 and P = 1.
+//! - `UI`, `FRMR`, `XID`.
+//! - `look` shows the state and the modulus.
+//!
+//! A frame that is sent modulo 128 has `/128` after it.
+ghost use Rattle.std.specs.Prelude.{◌<◌, IfOk, IfSome};
+ghost use Rattle.ax25_frames.specs.ControlField.{IsNumbered, numbers};
+ghost use Rattle.ax25_frames.specs.FrameOctets.{control_of};
 
 use super::*;
 use arrayvec::ArrayVec;
 use ax25_address::{Call, Path, Role};
-use ax25_frames::{Frame, Kind, S, U, W, text_of};
+use ax25_frames::{Frame, Kind, Modulus, S, U, W, text_of, write_frame};
 use selective_reject::{Mode, Packet};
 use std::alloc::Global;
 use std::test::Fail;
 use tnc_base::Octets;
 
-/// What happens to a link in a test. Sequence numbers are below 8.
-#[derive(Clone, Copy)]
-enum Happens {
-    Connect,
-    /// A packet of one octet.
-    Send(u8),
-    Disconnect,
-    /// So many ticks, with no frame of the link in the queue.
-    Ticks(u16),
-    /// The same, with one.
-    WaitingTicks(u16),
-    /// SABM, SABME, DISC, DM or UA.
-    Setup(U, bool),
-    /// An S frame as a command, or as a response.
-    Command(S, u8, bool),
-    Response(S, u8, bool),
-    /// An I frame with a packet of one octet, its number: N(S), N(R) and P.
-    Info(u8, u8, bool),
-    /// FRMR, XID or TEST.
-    Other(W),
-    /// UI.
-    Ui,
-}
-
-use Happens::{Command, Connect, Disconnect, Info, Response, Send, Setup, Ticks, WaitingTicks};
-
-/// The path from A to B.
-fn path() -> Result<Path, Fail> {
+fn path(dest: &str, source: &str) -> Result<Path, Fail> {
     Ok(Path {
-        dest: Call::parse("B")?,
-        source: Call::parse("A")?,
+        dest: Call::parse(dest)?,
+        source: Call::parse(source)?,
         repeaters: ArrayVec::new(),
         role: Role::Command,
     })
-}
-
-/// What a frame from B says, where a frame is heard.
-fn kind_of(alloc: Global, happens: Happens) -> Result<Option<Kind>, Fail>
-    ensures { IfOk result (λ kind. IfSome kind (HasNumbersBelow 8)) }
-{
-    Ok(Some(match happens {
-        Setup(which, flag) => Kind::Setup { which, flag },
-        Command(which, nr, flag) | Response(which, nr, flag) => Kind::Super {
-            which,
-            nr: nr % 8,
-            flag,
-        },
-        Info(ns, nr, poll) => Kind::Info {
-            ns: ns % 8,
-            nr: nr % 8,
-            poll,
-            pid: 0xf0,
-            octets: Octets::from_slice(alloc, &[ns])?,
-        },
-        Happens::Other(which) => Kind::Other {
-            which,
-            flag: false,
-            octets: Octets::from_slice(alloc, &[])?,
-        },
-        Happens::Ui => Kind::Ui {
-            flag: false,
-            pid: 0xf0,
-            octets: Octets::from_slice(alloc, &[])?,
-        },
-        _ => return Ok(None),
-    }))
 }
 
 fn packet(alloc: Global, octets: &[u8]) -> Result<Packet, Fail> {
@@ -86,49 +41,156 @@ fn packet(alloc: Global, octets: &[u8]) -> Result<Packet, Fail> {
     })
 }
 
-/// Lets it happen, and appends what the link does to `text`: the lines of frames, and what is told, each with a comma.
-fn happen(alloc: Global, link: &mut Link, happens: Happens, text: &mut String) -> Result<(), Fail> {
-    match happens {
-        Connect => note(alloc, link.connect()?, text)?,
-        Send(octet) => note(alloc, link.send(packet(alloc, &[octet])?)?, text)?,
-        Disconnect => note(alloc, link.disconnect()?, text)?,
-        Ticks(count) => {
-            for _ in 0..count {
-                note(alloc, link.tick(false)?, text)?;
-            }
-        }
-        WaitingTicks(count) => {
-            for _ in 0..count {
-                note(alloc, link.tick(true)?, text)?;
-            }
-        }
-        Command(..) => hear(alloc, link, happens, Role::Command, text)?,
-        _ => hear(alloc, link, happens, Role::Response, text)?,
+/// The name of a word, and its three numbers, 0 where it has none.
+fn parts(word: &str) -> (&str, u16, u16, u16) {
+    let (name, rest) = word.split_once('/').unwrap_or((word, ""));
+    let (first, rest) = rest.split_once('/').unwrap_or((rest, ""));
+    let (second, third) = rest.split_once('/').unwrap_or((rest, ""));
+    (name, number(first), number(second), number(third))
+}
+
+fn number(text: &str) -> u16 {
+    text.parse().unwrap_or(0)
+}
+
+fn octet(number: u16) -> u8 {
+    u8::try_from(number).unwrap_or(0)
+}
+
+/// A number below the modulus.
+fn below(modulus: Modulus, number: u16) -> u8
+    ensures { result < numbers modulus }
+{
+    match modulus {
+        Modulus::Eight => octet(number) % 8,
+        Modulus::OneTwentyEight => octet(number) % 128,
+    }
+}
+
+fn setup_named(name: &str) -> Option<U> {
+    match name {
+        "SABM" => Some(U::Sabm),
+        "SABME" => Some(U::Sabme),
+        "DISC" => Some(U::Disc),
+        "DM" => Some(U::Dm),
+        "UA" => Some(U::Ua),
+        _ => None,
+    }
+}
+
+fn super_named(name: &str) -> Option<S> {
+    match name {
+        "RR" | "RRc" => Some(S::Rr),
+        "RNR" | "RNRc" => Some(S::Rnr),
+        "REJ" | "REJc" => Some(S::Rej),
+        "SREJ" | "SREJc" => Some(S::Srej),
+        _ => None,
+    }
+}
+
+/// What a frame from the other side says, in the modulus of the link that hears it.
+fn kind_of(alloc: Global, word: &str, modulus: Modulus) -> Result<Kind, Fail>
+    ensures { IfOk result (λ kind. IsNumbered modulus (control_of kind)) }
+{
+    let (name, first, second, third) = parts(word);
+    if let Some(which) = setup_named(name) {
+        return Ok(Kind::Setup {
+            which,
+            flag: first != 0,
+        });
+    }
+    if let Some(which) = super_named(name) {
+        return Ok(Kind::Super {
+            which,
+            nr: below(modulus, first),
+            flag: second != 0,
+        });
+    }
+    if name == "I" {
+        return Ok(Kind::Info {
+            ns: below(modulus, first),
+            nr: below(modulus, second),
+            poll: third != 0,
+            pid: 0xf0,
+            octets: Octets::from_slice(alloc, &[octet(first)])?,
+        });
+    }
+    let octets = Octets::from_slice(alloc, &[])?;
+    Ok(match name {
+        "UI" => Kind::Ui {
+            flag: false,
+            pid: 0xf0,
+            octets,
+        },
+        "FRMR" => Kind::Other {
+            which: W::Frmr,
+            flag: false,
+            octets,
+        },
+        _ => Kind::Other {
+            which: W::Xid,
+            flag: false,
+            octets,
+        },
+    })
+}
+
+/// Lets a word happen, and appends what the link does to `text`: the lines of frames, and what is told, each with a comma.
+fn happen(alloc: Global, link: &mut Link, word: &str, text: &mut String) -> Result<(), Fail> {
+    let (name, first, _, _) = parts(word);
+    match name {
+        "connect" => note(alloc, link.connect()?, text),
+        "send" => note(alloc, link.send(packet(alloc, &[octet(first)])?)?, text),
+        "disconnect" => note(alloc, link.disconnect()?, text),
+        "ticks" => tick(alloc, link, first, false, text),
+        "waits" => tick(alloc, link, first, true, text),
+        "look" => look(alloc, link, text),
+        _ => hear(alloc, link, word, text),
+    }
+}
+
+fn tick(
+    alloc: Global,
+    link: &mut Link,
+    count: u16,
+    waiting: bool,
+    text: &mut String,
+) -> Result<(), Fail> {
+    for _ in 0..count {
+        note(alloc, link.tick(waiting)?, text)?;
     }
     Ok(())
 }
 
-fn hear(
-    alloc: Global,
-    link: &mut Link,
-    happens: Happens,
-    role: Role,
-    text: &mut String,
-) -> Result<(), Fail> {
-    if let Some(kind) = kind_of(alloc, happens)? {
-        let frame = Frame {
-            path: ax25_address::reversed(&path()?, role),
-            kind,
-        };
-        note(alloc, link.frame(&frame)?, text)?;
-    }
+fn look(alloc: Global, link: &Link, text: &mut String) -> Result<(), Fail> {
+    let state = link.state();
+    let modulus = link.modulus();
+    text.push_str(format!(in alloc; "{state:?} {modulus:?}")?.as_str())?;
     Ok(())
+}
+
+fn hear(alloc: Global, link: &mut Link, word: &str, text: &mut String) -> Result<(), Fail> {
+    let (name, _, _, _) = parts(word);
+    let role = if name.ends_with('c') {
+        Role::Command
+    } else {
+        Role::Response
+    };
+    let kind = kind_of(alloc, word, link.modulus())?;
+    let frame = Frame {
+        path: ax25_address::reversed(&path("B", "A")?, role),
+        kind,
+    };
+    note(alloc, link.frame(&frame)?, text)
 }
 
 fn note(alloc: Global, acts: Acts, text: &mut String) -> Result<(), Fail> {
-    for frame in &acts.frames {
-        text.push_str(text_of(alloc, &frame.frame)?.as_str())?;
-        text.push_str(",")?;
+    for sent in &acts.frames {
+        text.push_str(text_of(alloc, &sent.frame)?.as_str())?;
+        text.push_str(match sent.modulus {
+            Modulus::Eight => ",",
+            Modulus::OneTwentyEight => "/128,",
+        })?;
     }
     for told in &acts.told {
         match told {
@@ -148,219 +210,272 @@ fn note(alloc: Global, acts: Acts, text: &mut String) -> Result<(), Fail> {
     Ok(())
 }
 
-/// What a link does at the last of what happens to it, after what happened before.
-fn last_of(alloc: Global, before: &[Happens], happens: &[Happens]) -> Result<String, Fail> {
-    let mut link = Link::new(alloc, Params::default(), path()?)?;
+/// What a link does at the last of the words, which happen to it in order.
+fn last_of(alloc: Global, link: &mut Link, words: &str) -> Result<String, Fail> {
     let mut text = String::new(alloc);
-    for each in before {
-        happen(alloc, &mut link, *each, &mut text)?;
-    }
-    for each in happens {
+    for word in words.split_whitespace() {
         text = String::new(alloc);
-        happen(alloc, &mut link, *each, &mut text)?;
+        happen(alloc, link, word, &mut text)?;
     }
     Ok(text)
 }
 
-/// The rows of the table, by state. Each case is what happens to a new link, and what it does at the last of that.
-#[test]
-fn rows_where_there_is_no_link(rt: HostRuntime) -> Result<(), Fail> {
-    let table: [(&[Happens], &str); 10] = [
-        (&[Connect], "A>B SABM cmd f=1,"),
-        (&[Setup(U::Sabm, false)], "A>B UA rsp f=0,opened,"),
-        (&[Setup(U::Sabme, true)], "A>B DM rsp f=1,"),
-        (&[Setup(U::Disc, false)], "A>B DM rsp f=0,"),
-        (&[Info(0, 0, true)], "A>B DM rsp f=1,"),
-        (&[Command(S::Rr, 0, true)], "A>B DM rsp f=1,"),
-        (&[Response(S::Rr, 0, true)], ""),
-        (&[Setup(U::Ua, true)], ""),
-        (&[Happens::Ui], ""),
-        (&[Ticks(4000)], ""),
-    ];
-    for (happens, want) in table {
-        let text = last_of(rt.alloc(), &[], happens)?;
-        assert_eq!(rt; text.as_str(), want);
+/// Notes a line whose link does something else than it says.
+fn check(alloc: Global, link: &mut Link, line: &str, failures: &mut String) -> Result<(), Fail> {
+    let (words, want) = line.split_once('|').unwrap_or((line, ""));
+    let text = last_of(alloc, link, words)?;
+    if text.as_str() != want.trim_start() {
+        failures.push_str(format!(in alloc; "{words}: {text}\n")?.as_str())?;
     }
     Ok(())
 }
+
+/// The lines that fail, each with a new link to which `before` happened.
+fn rows(alloc: Global, params: Params, before: &str, lines: &str) -> Result<String, Fail> {
+    let mut failures = String::new(alloc);
+    for line in lines.lines() {
+        let mut link = Link::new(alloc, params, path("B", "A")?)?;
+        last_of(alloc, &mut link, before)?;
+        check(alloc, &mut link, line, &mut failures)?;
+    }
+    Ok(failures)
+}
+
+/// The lines that fail, all with the same link.
+fn exchange(alloc: Global, params: Params, lines: &str) -> Result<String, Fail> {
+    let mut link = Link::new(alloc, params, path("B", "A")?)?;
+    let mut failures = String::new(alloc);
+    for line in lines.lines() {
+        check(alloc, &mut link, line, &mut failures)?;
+    }
+    Ok(failures)
+}
+
+/// Parameters of a link that calls modulo 128.
+fn wide() -> Params {
+    Params {
+        wide: true,
+        ..Params::default()
+    }
+}
+
+fn srej() -> Params {
+    Params {
+        mode: Mode::Srej,
+        ..Params::default()
+    }
+}
+
+const IDLE: &str = "connect | A>B SABM cmd f=1,
+SABM/0 | A>B UA rsp f=0,opened,
+SABME/1 | A>B UA rsp f=1/128,opened,
+DISC/0 | A>B DM rsp f=0,
+I/0/0/1 | A>B DM rsp f=1,
+RRc/0/1 | A>B DM rsp f=1,
+RR/0/1 |
+UA/1 |
+FRMR |
+UI |
+ticks/4000 |
+look | Idle Eight";
+
+#[test]
+fn rows_where_there_is_no_link(rt: HostRuntime) -> Result<(), Fail> {
+    let failures = rows(rt.alloc(), Params::default(), "", IDLE)?;
+    assert_eq!(rt; failures.as_str(), "");
+    Ok(())
+}
+
+const CALLING: &str = "send/1 |
+disconnect |
+UA/1 | opened by us,
+UA/0 |
+send/7 UA/1 | A>B I cmd ns=0 nr=0 p=0 pid=f0 len=1 07,opened by us,
+disconnect UA/1 | A>B DISC cmd f=1,opened by us,
+DM/1 | ended Refused,
+DM/0 |
+SABM/1 | A>B UA rsp f=1,
+SABME/1 | A>B DM rsp f=1,
+DISC/0 | A>B DM rsp f=0,
+FRMR |
+I/0/0/1 |
+ticks/300 | A>B SABM cmd f=1,
+waits/400 |
+ticks/3000 ticks/300 | ended Failed,";
 
 #[test]
 fn rows_of_a_call(rt: HostRuntime) -> Result<(), Fail> {
-    let table: [(&[Happens], &str); 14] = [
-        (&[Connect, Send(1)], ""),
-        (&[Connect, Disconnect], ""),
-        (&[Connect, Setup(U::Ua, true)], "opened by us,"),
-        (&[Connect, Setup(U::Ua, false)], ""),
-        (
-            &[Connect, Send(7), Setup(U::Ua, true)],
-            "A>B I cmd ns=0 nr=0 p=0 pid=f0 len=1 07,opened by us,",
-        ),
-        (
-            &[Connect, Disconnect, Setup(U::Ua, true)],
-            "A>B DISC cmd f=1,opened by us,",
-        ),
-        (&[Connect, Setup(U::Dm, true)], "ended Refused,"),
-        (&[Connect, Setup(U::Dm, false)], ""),
-        (&[Connect, Setup(U::Sabm, true)], "A>B UA rsp f=1,"),
-        (&[Connect, Setup(U::Sabme, true)], "A>B DM rsp f=1,"),
-        (&[Connect, Setup(U::Disc, false)], "A>B DM rsp f=0,"),
-        (&[Connect, Info(0, 0, true)], ""),
-        (&[Connect, Ticks(300)], "A>B SABM cmd f=1,"),
-        (&[Connect, WaitingTicks(400)], ""),
-    ];
-    for (happens, want) in table {
-        let text = last_of(rt.alloc(), &[], happens)?;
-        assert_eq!(rt; text.as_str(), want);
-    }
-    let spent = last_of(rt.alloc(), &[], &[Connect, Ticks(3000), Ticks(300)])?;
-    assert_eq!(rt; spent.as_str(), "ended Failed,");
+    let failures = rows(rt.alloc(), Params::default(), "connect", CALLING)?;
+    assert_eq!(rt; failures.as_str(), "");
     Ok(())
 }
+
+const CALLING_WIDE: &str = "look | Calling OneTwentyEight
+UA/1 look | Up OneTwentyEight
+send/7 UA/1 | A>B I cmd ns=0 nr=0 p=0 pid=f0 len=1 07/128,opened by us,
+DM/1 | ended Refused,
+DM/1 look | Idle Eight
+SABM/1 |
+SABME/1 | A>B UA rsp f=1/128,
+SABME/1 look | Calling OneTwentyEight
+DISC/0 | A>B DM rsp f=0/128,
+FRMR | A>B SABM cmd f=1,
+FRMR FRMR |
+FRMR UA/1 | opened by us,
+FRMR UA/1 look | Up Eight
+send/7 FRMR UA/1 | A>B I cmd ns=0 nr=0 p=0 pid=f0 len=1 07,opened by us,
+XID |
+I/0/0/1 |
+ticks/300 | A>B SABME cmd f=1/128,
+ticks/3000 ticks/300 | ended Failed,
+ticks/3000 FRMR ticks/299 |
+ticks/3000 FRMR ticks/3000 ticks/300 | ended Failed,";
+
+#[test]
+fn rows_of_a_wide_call(rt: HostRuntime) -> Result<(), Fail> {
+    let called = rows(rt.alloc(), wide(), "", "connect | A>B SABME cmd f=1/128,")?;
+    assert_eq!(rt; called.as_str(), "");
+    let failures = rows(rt.alloc(), wide(), "connect", CALLING_WIDE)?;
+    assert_eq!(rt; failures.as_str(), "");
+    Ok(())
+}
+
+const UP: &str = "send/1 | A>B I cmd ns=0 nr=0 p=0 pid=f0 len=1 01,
+disconnect | A>B DISC cmd f=1,
+send/1 disconnect |
+send/1 disconnect RR/1/0 | A>B DISC cmd f=1,
+SABM/1 | A>B UA rsp f=1,ended Reset,opened,
+SABME/1 | A>B UA rsp f=1/128,ended Reset,opened,
+SABME/1 look | Up OneTwentyEight
+DISC/1 | A>B UA rsp f=1,ended Peer,
+DM/0 | ended Peer,
+FRMR | A>B SABM cmd f=1,ended Reset,
+UA/1 |
+UI |
+XID |
+RRc/0/1 | A>B RR rsp nr=0 f=1,
+send/1 RR/2/0 | A>B SABM cmd f=1,ended Reset,
+RNR/0/0 send/1 |
+RNR/0/0 send/1 RR/0/0 | A>B I cmd ns=0 nr=0 p=0 pid=f0 len=1 01,
+RNR/0/0 ticks/300 | A>B RR cmd nr=0 f=1,
+send/1 send/2 REJ/1/0 | A>B I cmd ns=1 nr=0 p=0 pid=f0 len=1 02,
+send/1 send/2 SREJ/0/0 | A>B I cmd ns=0 nr=0 p=0 pid=f0 len=1 01,
+send/1 SREJ/1/0 |
+I/0/0/0 | given 0,
+I/0/0/1 | A>B RR rsp nr=1 f=1,given 0,
+I/1/0/0 | A>B REJ rsp nr=0 f=0,
+I/1/0/0 I/2/0/0 |
+I/1/0/0 I/2/0/1 | A>B RR rsp nr=0 f=1,
+I/0/0/0 ticks/29 |
+I/0/0/0 ticks/30 | A>B RR rsp nr=1 f=0,
+send/1 ticks/300 | A>B RR cmd nr=0 f=1,
+send/1 ticks/300 RR/0/1 | A>B I cmd ns=0 nr=0 p=0 pid=f0 len=1 01,
+ticks/3000 | A>B RR cmd nr=0 f=1,
+send/1 ticks/3000 ticks/300 | A>B DM rsp f=0,ended Failed,";
 
 #[test]
 fn rows_of_a_link_that_is_up(rt: HostRuntime) -> Result<(), Fail> {
-    let table: [(&[Happens], &str); 30] = [
-        (&[Send(1)], "A>B I cmd ns=0 nr=0 p=0 pid=f0 len=1 01,"),
-        (&[Disconnect], "A>B DISC cmd f=1,"),
-        (&[Send(1), Disconnect], ""),
-        (
-            &[Send(1), Disconnect, Response(S::Rr, 1, false)],
-            "A>B DISC cmd f=1,",
-        ),
-        (
-            &[Setup(U::Sabm, true)],
-            "A>B UA rsp f=1,ended Reset,opened,",
-        ),
-        (&[Setup(U::Sabme, true)], "A>B DM rsp f=1,"),
-        (&[Setup(U::Disc, true)], "A>B UA rsp f=1,ended Peer,"),
-        (&[Setup(U::Dm, false)], "ended Peer,"),
-        (&[Happens::Other(W::Frmr)], "A>B SABM cmd f=1,ended Reset,"),
-        (&[Setup(U::Ua, true)], ""),
-        (&[Happens::Ui], ""),
-        (&[Happens::Other(W::Xid)], ""),
-        (&[Command(S::Rr, 0, true)], "A>B RR rsp nr=0 f=1,"),
-        (
-            &[Send(1), Response(S::Rr, 2, false)],
-            "A>B SABM cmd f=1,ended Reset,",
-        ),
-        (&[Response(S::Rnr, 0, false), Send(1)], ""),
-        (
-            &[
-                Response(S::Rnr, 0, false),
-                Send(1),
-                Response(S::Rr, 0, false),
-            ],
-            "A>B I cmd ns=0 nr=0 p=0 pid=f0 len=1 01,",
-        ),
-        (
-            &[Response(S::Rnr, 0, false), Ticks(300)],
-            "A>B RR cmd nr=0 f=1,",
-        ),
-        (
-            &[Send(1), Send(2), Response(S::Rej, 1, false)],
-            "A>B I cmd ns=1 nr=0 p=0 pid=f0 len=1 02,",
-        ),
-        (
-            &[Send(1), Send(2), Response(S::Srej, 0, false)],
-            "A>B I cmd ns=0 nr=0 p=0 pid=f0 len=1 01,",
-        ),
-        (&[Send(1), Response(S::Srej, 1, false)], ""),
-        (&[Info(0, 0, false)], "given 0,"),
-        (&[Info(0, 0, true)], "A>B RR rsp nr=1 f=1,given 0,"),
-        (&[Info(1, 0, false)], "A>B REJ rsp nr=0 f=0,"),
-        (&[Info(1, 0, false), Info(2, 0, false)], ""),
-        (
-            &[Info(1, 0, false), Info(2, 0, true)],
-            "A>B RR rsp nr=0 f=1,",
-        ),
-        (&[Info(0, 0, false), Ticks(29)], ""),
-        (&[Info(0, 0, false), Ticks(30)], "A>B RR rsp nr=1 f=0,"),
-        (&[Send(1), Ticks(300)], "A>B RR cmd nr=0 f=1,"),
-        (
-            &[Send(1), Ticks(300), Response(S::Rr, 0, true)],
-            "A>B I cmd ns=0 nr=0 p=0 pid=f0 len=1 01,",
-        ),
-        (&[Ticks(3000)], "A>B RR cmd nr=0 f=1,"),
-    ];
-    for (happens, want) in table {
-        let text = last_of(rt.alloc(), &[Connect, Setup(U::Ua, true)], happens)?;
-        assert_eq!(rt; text.as_str(), want);
-    }
-    let spent = last_of(
-        rt.alloc(),
-        &[],
-        &[
-            Connect,
-            Setup(U::Ua, true),
-            Send(1),
-            Ticks(3000),
-            Ticks(300),
-        ],
-    )?;
-    assert_eq!(rt; spent.as_str(), "A>B DM rsp f=0,ended Failed,");
+    let failures = rows(rt.alloc(), Params::default(), "connect UA/1", UP)?;
+    assert_eq!(rt; failures.as_str(), "");
     Ok(())
 }
 
+const UP_WIDE: &str = "SABM/1 | A>B UA rsp f=1,ended Reset,opened,
+SABM/1 look | Up Eight
+SABME/0 | A>B UA rsp f=0/128,ended Reset,opened,
+FRMR | A>B SABME cmd f=1/128,ended Reset,
+DISC/1 | A>B UA rsp f=1/128,ended Peer,
+DISC/1 look | Idle Eight
+DM/0 look | Idle Eight
+disconnect UA/1 look | Idle Eight
+disconnect SABME/1 | A>B DM rsp f=1/128,
+send/1 RR/2/0 | A>B SABME cmd f=1/128,ended Reset,
+I/0/0/1 | A>B RR rsp nr=1 f=1/128,given 0,
+I/127/0/0 | A>B REJ rsp nr=0 f=0/128,
+send/1 send/2 send/3 send/4 send/5 | A>B I cmd ns=4 nr=0 p=0 pid=f0 len=1 05/128,
+send/1 ticks/3000 ticks/300 look | Idle Eight
+send/1 ticks/3270 I/0/0/0 ticks/30 | A>B RR rsp nr=1 f=0/128,A>B DM rsp f=0/128,ended Failed,";
+
+#[test]
+fn rows_of_a_wide_link_that_is_up(rt: HostRuntime) -> Result<(), Fail> {
+    let failures = rows(rt.alloc(), Params::default(), "SABME/1", UP_WIDE)?;
+    assert_eq!(rt; failures.as_str(), "");
+    Ok(())
+}
+
+const RELEASING: &str = "UA/1 | ended Asked,
+DM/1 | ended Asked,
+UA/0 |
+DM/0 |
+SABM/1 | A>B DM rsp f=1,
+SABME/0 | A>B DM rsp f=0,
+DISC/1 | A>B UA rsp f=1,
+I/0/0/1 | A>B DM rsp f=1,
+I/0/0/0 |
+RRc/0/1 | A>B DM rsp f=1,
+RR/0/1 |
+ticks/300 | A>B DISC cmd f=1,
+ticks/3000 ticks/300 | ended Failed,";
+
 #[test]
 fn rows_of_a_release(rt: HostRuntime) -> Result<(), Fail> {
-    let table: [(&[Happens], &str); 12] = [
-        (&[Setup(U::Ua, true)], "ended Asked,"),
-        (&[Setup(U::Dm, true)], "ended Asked,"),
-        (&[Setup(U::Ua, false)], ""),
-        (&[Setup(U::Dm, false)], ""),
-        (&[Setup(U::Sabm, true)], "A>B DM rsp f=1,"),
-        (&[Setup(U::Sabme, false)], "A>B DM rsp f=0,"),
-        (&[Setup(U::Disc, true)], "A>B UA rsp f=1,"),
-        (&[Info(0, 0, true)], "A>B DM rsp f=1,"),
-        (&[Info(0, 0, false)], ""),
-        (&[Command(S::Rr, 0, true)], "A>B DM rsp f=1,"),
-        (&[Response(S::Rr, 0, true)], ""),
-        (&[Ticks(300)], "A>B DISC cmd f=1,"),
-    ];
-    for (happens, want) in table {
-        let text = last_of(
-            rt.alloc(),
-            &[Connect, Setup(U::Ua, true), Disconnect],
-            happens,
-        )?;
-        assert_eq!(rt; text.as_str(), want);
-    }
-    let spent = last_of(
+    let failures = rows(
         rt.alloc(),
-        &[],
-        &[
-            Connect,
-            Setup(U::Ua, true),
-            Disconnect,
-            Ticks(3000),
-            Ticks(300),
-        ],
+        Params::default(),
+        "connect UA/1 disconnect",
+        RELEASING,
     )?;
-    assert_eq!(rt; spent.as_str(), "ended Failed,");
+    assert_eq!(rt; failures.as_str(), "");
     Ok(())
 }
 
 /// By SREJ: frame 0 of four is lost and is asked for once. It brings all four, and RR for them comes 30 ticks later.
+const ONE_LOST: &str = "SABM/1 | A>B UA rsp f=1,opened,
+I/1/0/0 | A>B SREJ rsp nr=0 f=0,
+I/2/0/0 |
+I/3/0/0 |
+I/0/0/0 | given 0,given 1,given 2,given 3,
+ticks/30 | A>B RR rsp nr=4 f=0,
+I/4/0/1 | A>B RR rsp nr=5 f=1,given 4,";
+
+/// The same modulo 128, with frames that no window of modulo 8 has, and one outside the window of 32.
+const THREE_LOST: &str = "SABME/1 | A>B UA rsp f=1/128,opened,
+I/0/0/0 | given 0,
+I/33/0/0 |
+I/3/0/0 | A>B SREJ rsp nr=1 f=0/128,A>B SREJ rsp nr=2 f=0/128,
+I/5/0/1 | A>B SREJ rsp nr=4 f=0/128,A>B RR rsp nr=1 f=1/128,
+I/1/0/0 | given 1,
+I/2/0/0 | given 2,given 3,
+I/4/0/1 | A>B RR rsp nr=6 f=1/128,given 4,given 5,";
+
 #[test]
-fn srej_asks_for_one_frame(rt: HostRuntime) -> Result<(), Fail> {
-    let exchange: [(Happens, &str); 7] = [
-        (Setup(U::Sabm, true), "A>B UA rsp f=1,opened,"),
-        (Info(1, 0, false), "A>B SREJ rsp nr=0 f=0,"),
-        (Info(2, 0, false), ""),
-        (Info(3, 0, false), ""),
-        (Info(0, 0, false), "given 0,given 1,given 2,given 3,"),
-        (Ticks(30), "A>B RR rsp nr=4 f=0,"),
-        (Info(4, 0, true), "A>B RR rsp nr=5 f=1,given 4,"),
-    ];
-    let params = Params {
-        mode: Mode::Srej,
-        ..Params::default()
-    };
-    let mut link = Link::new(rt.alloc(), params, path()?)?;
-    for (happens, want) in exchange {
-        let mut text = String::new(rt.alloc());
-        happen(rt.alloc(), &mut link, happens, &mut text)?;
-        assert_eq!(rt; text.as_str(), want);
+fn srej_asks_for_lost_frames(rt: HostRuntime) -> Result<(), Fail> {
+    for lines in [ONE_LOST, THREE_LOST] {
+        let failures = exchange(rt.alloc(), srej(), lines)?;
+        assert_eq!(rt; failures.as_str(), "");
+    }
+    Ok(())
+}
+
+/// The octets of a set-up frame.
+fn octets_of(alloc: Global, sent: &SentFrame) -> Result<Octets, Fail> {
+    match sent.frame.kind {
+        Kind::Setup { .. } => Ok(write_frame(alloc, &sent.frame, sent.modulus)?),
+        _ => Ok(Octets::from_slice(alloc, &[])?),
+    }
+}
+
+#[test]
+fn a_wide_call_in_octets(rt: HostRuntime) -> Result<(), Fail> {
+    let mut link = Link::new(rt.alloc(), wide(), path("NJ7P", "N7LEM")?)?;
+    let acts = link.connect()?;
+    assert_eq!(rt; acts.frames.len(), 1);
+    for sent in &acts.frames {
+        let octets = octets_of(rt.alloc(), sent)?;
+        assert_eq!(rt;
+            octets.as_slice(),
+            b"\x9c\x94\x6e\xa0\x40\x40\xe0\x9c\x6e\x98\x8a\x9a\x40\x61\x7f".as_slice()
+        );
     }
     Ok(())
 }
@@ -368,7 +483,7 @@ fn srej_asks_for_one_frame(rt: HostRuntime) -> Result<(), Fail> {
 #[test]
 fn requests_are_refused(rt: HostRuntime) -> Result<(), Fail> {
     let alloc = rt.alloc();
-    let mut link = Link::new(alloc, Params::default(), path()?)?;
+    let mut link = Link::new(alloc, Params::default(), path("B", "A")?)?;
     let idle = link.send(packet(alloc, b"x")?);
     assert!(rt;
         matches!(
@@ -407,7 +522,7 @@ fn requests_are_refused(rt: HostRuntime) -> Result<(), Fail> {
             })
         )
     );
-    let mut other = Link::new(alloc, Params::default(), path()?)?;
+    let mut other = Link::new(alloc, Params::default(), path("B", "A")?)?;
     other.connect()?;
     let long = other.send(packet(alloc, &[0x41; 257])?);
     assert!(rt; matches!(long, Err(LinkFault::TooLong { len: 257 })));
@@ -418,20 +533,30 @@ fn requests_are_refused(rt: HostRuntime) -> Result<(), Fail> {
 
 #[test]
 fn windows_are_refused(rt: HostRuntime) -> Result<(), Fail> {
-    for (mode, window, fits) in [
-        (Mode::Rej, 0, false),
-        (Mode::Rej, 7, true),
-        (Mode::Rej, 8, false),
-        (Mode::Srej, 4, true),
-        (Mode::Srej, 5, false),
-    ] {
-        match Link::new(rt.alloc(), Params { mode, window, ..Params::default() }, path()?) {
-            Ok(_) => assert!(rt; fits),
-            Err(NewFault::BadWindow { window: refused }) => {
-                assert!(rt; !fits && refused == window);
-            }
-            Err(NewFault::Memory) => assert!(rt; false),
-        }
+    let table = [
+        (Mode::Rej, 0, 32, 0),
+        (Mode::Rej, 7, 127, 255),
+        (Mode::Rej, 8, 0, 8),
+        (Mode::Rej, 7, 128, 128),
+        (Mode::Rej, 7, 0, 0),
+        (Mode::Srej, 4, 64, 255),
+        (Mode::Srej, 5, 65, 5),
+        (Mode::Srej, 4, 65, 65),
+    ];
+    for (mode, window, wide_window, refused) in table {
+        let params = Params {
+            mode,
+            window,
+            wide: false,
+            wide_window,
+        };
+        // No window is 255.
+        let found = match Link::new(rt.alloc(), params, path("B", "A")?) {
+            Ok(_) => 255,
+            Err(NewFault::BadWindow { window }) => window,
+            Err(NewFault::Memory) => 254,
+        };
+        assert_eq!(rt; found, refused);
     }
     Ok(())
 }

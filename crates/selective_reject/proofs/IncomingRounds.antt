@@ -1,5 +1,5 @@
 -- What is decided by numbers on the air is decided by whole numbers, and by true numbers.
-use Rattle.std.proofs.Common.{◌≡◌, ℕ, ◌+◌, ◌-◌, ◌/◌, ◌%◌, ◌<◌, ◌≤◌, ◌==◌, Bool, true, false, nat_lt, List, [], ◌∷◌, map, if◌then◌else◌, ap, sym, ◌∙◌, refl, subst, inl, inr, arith}
+use Rattle.std.proofs.Common.{◌≡◌, ℕ, ◌+◌, ◌-◌, ◌%◌, ◌<◌, ◌≤◌, ◌==◌, Bool, true, false, nat_lt, List, [], ◌∷◌, map, if◌then◌else◌, ap, sym, ◌∙◌, refl, subst, inl, inr, arith}
 use Rattle.std.proofs.Math.Nat.{mod-add-mod}
 use Rattle.std.proofs.lemmas.Bool.{cases_lt, lt-ltb, le-ltb, ne_eqb}
 use Rattle.selective_reject.specs.declared.packet.Packet.{Packet}
@@ -7,7 +7,7 @@ use Rattle.selective_reject.specs.declared.window.Mode.{Mode}
 use Rattle.selective_reject.specs.declared.window.Mode.TheVariants.{Rej, Srej}
 use Rattle.selective_reject.specs.declared.incoming.Took.{Took}
 use Rattle.selective_reject.specs.declared.incoming.Took.TheVariants.{NotNext, Outside}
-use Rattle.selective_reject.specs.Numbers.{IsModulus, ahead}
+use Rattle.selective_reject.specs.Numbers.{ahead}
 use Rattle.selective_reject.specs.Window.{IsWindow, AreFitting}
 use Rattle.selective_reject.specs.Places.{is_full, with_packet, missing, asked}
 use Rattle.selective_reject.specs.Incoming.{Incoming, StandsForIncoming, taking, taking_by, after_taking, keeps, took, after_accept, before_number, numbers_to_ask, after_ask}

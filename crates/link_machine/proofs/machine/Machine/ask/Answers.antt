@@ -1,9 +1,9 @@
 use Rattle.std.proofs.Common.{◌≡◌, ℕ, ◌+◌, ◌%◌, ◌≤◌, length, ◌++◌, map, refl, sym, ◌∙◌, ap, subst, arith}
 use Rattle.selective_reject.specs.Incoming.{StandsForIncoming, numbers_to_ask, before_number}
+use Rattle.link_machine.specs.declared.machine.Machine.{Machine as Held}
 use Rattle.link_machine.specs.Machine.{ahead_of_vr}
-use Rattle.link_machine.specs.Sent.{frame_of, frames_of}
+use Rattle.link_machine.specs.Sent.{sent_frame, sent_frames, all_sent_in}
 use Rattle.link_machine.specs.Acts.{srej_for}
-use Rattle.link_machine.proofs.Showing.{modulus_is_8}
 use Rattle.selective_reject.specs.declared.window.Mode.TheVariants.{Srej as SrejMode}
 use Rattle.std.proofs.lemmas.List.{map-append}
 use Rattle.selective_reject.specs.Places.{is_full, missing, asked}
@@ -33,11 +33,12 @@ returns-clause-shows c = λ t h near.
     let d = ahead_of_vr c.args.ns t.now in
     let asks = c.ask-numbers.ensures.stands_for i h.holds.stands.incoming in
     let before : before_number i c.args.ns ≡ d = before_in_window i c.args.ns near in
-    let eight : i.modulus ≡ 8 = modulus_is_8 c.args.self.now t.now h.holds in
-    let numbers : c.as_slice.result.now ≡ map (λ k. (i.vr + k) % 8) (missing i.places d) =
+    let held : Held = record c.args.self.now { incoming = c.ask-numbers.new.self } in
+    let modulus : held.incoming.modulus ≡ i.modulus = asks.1.modulus in
+    let numbers : c.as_slice.result.now ≡ map (λ k. (i.vr + k) % held.incoming.modulus) (missing i.places d) =
     c.as_slice.ensures.value ∙ asks.0
     ∙ ap (λ n. map (λ k. (i.vr + k) % i.modulus) (missing i.places n)) before
-    ∙ ap (λ m. map (λ k. (i.vr + k) % m) (missing i.places d)) eight in
+    ∙ ap (λ m. map (λ k. (i.vr + k) % m) (missing i.places d)) (sym modulus) in
     let stands : StandsForIncoming c.ask-numbers.new.self (record i { places = asked i.places d }) =
     let P : ℕ → Type 0 = λ n. StandsForIncoming c.ask-numbers.new.self (record i { places = asked i.places n }) in
     subst P before asks.1 in
@@ -46,16 +47,19 @@ returns-clause-shows c = λ t h near.
       next = ap (λ ps. is_full ps 0) stands.places ∙ first_asked i.places d ∙ ap (λ ps. is_full ps 0) (sym h.holds.stands.incoming.places) ∙ h.holds.next.next;
       in_sequence = λ rej. absurd (rej_is_not_srej (sym rej ∙ stands.mode ∙ srej));
     } in
-    let path : c.args.self.now.path ≡ t.now.path = h.holds.stands.path in
-    let frames : c.send_srejs.new.room.frames.items ≡ frames_of 8 t.now.path (t.sent ++ map (srej_for t.now) (missing i.places d)) =
+    let srejs = map (srej_for t.now) (missing i.places d) in
+    let frames : c.send_srejs.new.room.frames.items ≡ sent_frames t.now.path (t.sent ++ all_sent_in i.modulus srejs) =
     c.send_srejs.ensures.frames
-    ∙ ap (λ xs. c.args.room.now.frames.items ++ map (srej_frame c.args.self.now.path) xs) numbers
-    ∙ ap (λ fs. fs ++ map (srej_frame c.args.self.now.path) (map (λ k. (i.vr + k) % 8) (missing i.places d))) h.frames
-    ∙ ap (λ p. frames_of 8 t.now.path t.sent ++ map (srej_frame p) (map (λ k. (i.vr + k) % 8) (missing i.places d))) path
-    ∙ ap (λ fs. frames_of 8 t.now.path t.sent ++ fs) (sym (srejs_as_written t.now.path t.now (missing i.places d)))
-    ∙ sym (map-append (frame_of 8 t.now.path) t.sent (map (srej_for t.now) (missing i.places d))) in
+    ∙ ap (λ xs. c.args.room.now.frames.items ++ map (srej_frame held) xs) numbers
+    ∙ ap (λ fs. fs ++ map (srej_frame held) (map (λ k. (i.vr + k) % held.incoming.modulus) (missing i.places d))) h.frames
+    ∙ ap (λ fs. sent_frames t.now.path t.sent ++ fs) (
+    sym (srejs_as_written held t.now (missing i.places d))
+    ∙ ap (λ p. sent_frames p (all_sent_in held.incoming.modulus srejs)) h.holds.stands.path
+    ∙ ap (λ k. sent_frames t.now.path (all_sent_in k srejs)) modulus
+    )
+    ∙ sym (map-append (sent_frame t.now.path) t.sent (all_sent_in i.modulus srejs)) in
     record {
-      holds = holds_incoming c.args.self.now t.now c.ask-numbers.new.self (record i { places = asked i.places d }) h.holds stands c.ask-numbers.ensures.formed ready refl refl refl;
+      holds = holds_incoming c.args.self.now t.now c.ask-numbers.new.self (record i { places = asked i.places d }) h.holds stands c.ask-numbers.ensures.formed ready;
       frames = frames;
       told = ap (λ v. v.items) c.send_srejs.ensures.told ∙ h.told;
     }

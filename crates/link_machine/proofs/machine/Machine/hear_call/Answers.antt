@@ -1,15 +1,16 @@
 use Rattle.std.proofs.Common.{sym, subst}
+use Rattle.ax25_frames.specs.ControlField.{numbers}
 use Rattle.link_machine.specs.declared.acts.Told.TheVariants.{Ended}
 use Rattle.link_machine.specs.declared.acts.Why.TheVariants.{Reset}
 use Rattle.link_machine.specs.Turn.{Turn, begin, telling}
 use Rattle.link_machine.specs.Frames.{open_again}
 use Rattle.link_machine.proofs.Events.{shows_begin, made, settled_open}
 use Rattle.link_machine.specs.Held.{Made}
-use Rattle.link_machine.proofs.machine.Machine.hear_sabm.Goals as goal
+use Rattle.link_machine.proofs.machine.Machine.hear_call.Goals as goal
 
 pub returns : goal.returns
 returns c = λ m h.
     let begun = shows_begin c.args.self.now m c.in_ok-room.room _ _ c.in_ok-room.ensures h in
     let t = telling (Ended Reset) (begin m) in
     let P : Turn → Type 0 = λ x. Made x c.open_again.new.self c.finish.result in
-    subst P (sym (settled_open c.args.flag t)) (made c.open_again.new.self c.open_again.new.room (open_again c.args.flag (begin m)) c.finish.result (c.open_again.ensures.shows (begin m) begun) c.finish.ensures.frames c.finish.ensures.told)
+    subst P (sym (settled_open (numbers c.args.modulus) c.args.flag t)) (made c.open_again.new.self c.open_again.new.room (open_again (numbers c.args.modulus) c.args.flag (begin m)) c.finish.result (c.open_again.ensures.shows (begin m) begun) c.finish.ensures.frames c.finish.ensures.told)

@@ -1,4 +1,4 @@
-use Rattle.std.proofs.Common.{◌≡◌, Bool, sym, subst, Ok}
+use Rattle.std.proofs.Common.{◌≡◌, Bool, sym, ◌∙◌, ap, subst, Ok, Err}
 use Rattle.selective_reject.specs.Outgoing.{acknowledgement}
 use Rattle.ax25_frames.specs.declared.frame.S.TheVariants.{Rr, Rnr, Rej, Srej}
 use Rattle.link_machine.specs.Machine.{named}
@@ -11,7 +11,8 @@ use Rattle.link_machine.proofs.machine.Machine.hear_super.Goals as goal
 
 pub returns-in-Rr : goal.returns-in-Rr
 returns-in-Rr c =
-    let valid : acknowledgement 8 c.args.nr c.args.self.now.outgoing ≡ Ok c.in-Ok.count = sym c.in-Ok.ensures.count in
+    let valid : acknowledgement c.args.self.now.incoming.modulus c.args.nr c.args.self.now.outgoing ≡ Ok c.in-Ok.count =
+    ap (λ k. acknowledgement k c.args.nr c.args.self.now.outgoing) (sym c.modulus.ensures.value) ∙ sym c.in-Ok.ensures.count in
     let A : Bool → Bool → Type 0 = λ a b. Makes (λ t. hear_rr (named c.args.nr t.now) a b t) c.args.self.now c.hear_rr.new.self c.hear_rr.result in
     let B : Bool → Type 0 = λ b. A (c.args.command && c.args.flag) b in
     let C : Bool → Type 0 = λ a. A a c.is_answering-answers.result in
@@ -21,7 +22,8 @@ returns-in-Rr c =
 
 pub returns-in-Rnr : goal.returns-in-Rnr
 returns-in-Rnr c =
-    let valid : acknowledgement 8 c.args.nr c.args.self.now.outgoing ≡ Ok c.in-Ok.count = sym c.in-Ok.ensures.count in
+    let valid : acknowledgement c.args.self.now.incoming.modulus c.args.nr c.args.self.now.outgoing ≡ Ok c.in-Ok.count =
+    ap (λ k. acknowledgement k c.args.nr c.args.self.now.outgoing) (sym c.modulus.ensures.value) ∙ sym c.in-Ok.ensures.count in
     let A : Bool → Bool → Type 0 = λ a b. Makes (λ t. hear_rnr (named c.args.nr t.now) a b t) c.args.self.now c.hear_rnr.new.self c.hear_rnr.result in
     let B : Bool → Type 0 = λ b. A (c.args.command && c.args.flag) b in
     let C : Bool → Type 0 = λ a. A a c.is_answering-answers.result in
@@ -31,7 +33,8 @@ returns-in-Rnr c =
 
 pub returns-in-Rej : goal.returns-in-Rej
 returns-in-Rej c =
-    let valid : acknowledgement 8 c.args.nr c.args.self.now.outgoing ≡ Ok c.in-Ok.count = sym c.in-Ok.ensures.count in
+    let valid : acknowledgement c.args.self.now.incoming.modulus c.args.nr c.args.self.now.outgoing ≡ Ok c.in-Ok.count =
+    ap (λ k. acknowledgement k c.args.nr c.args.self.now.outgoing) (sym c.modulus.ensures.value) ∙ sym c.in-Ok.ensures.count in
     let A : Bool → Bool → Type 0 = λ a b. Makes (λ t. hear_rej (named c.args.nr t.now) a b t) c.args.self.now c.hear_rej.new.self c.hear_rej.result in
     let B : Bool → Type 0 = λ b. A (c.args.command && c.args.flag) b in
     let C : Bool → Type 0 = λ a. A a c.is_answering-answers.result in
@@ -41,7 +44,8 @@ returns-in-Rej c =
 
 pub returns-in-Srej : goal.returns-in-Srej
 returns-in-Srej c =
-    let valid : acknowledgement 8 c.args.nr c.args.self.now.outgoing ≡ Ok c.in-Ok.count = sym c.in-Ok.ensures.count in
+    let valid : acknowledgement c.args.self.now.incoming.modulus c.args.nr c.args.self.now.outgoing ≡ Ok c.in-Ok.count =
+    ap (λ k. acknowledgement k c.args.nr c.args.self.now.outgoing) (sym c.modulus.ensures.value) ∙ sym c.in-Ok.ensures.count in
     let A : Bool → Bool → Type 0 = λ a b. Makes (λ t. hear_srej (named c.args.nr t.now) c.args.flag a b t) c.args.self.now c.hear_srej.new.self c.hear_srej.result in
     let B : Bool → Type 0 = λ b. A (c.args.command && c.args.flag) b in
     let C : Bool → Type 0 = λ a. A a c.is_answering-answers.result in
@@ -51,4 +55,6 @@ returns-in-Srej c =
 
 pub returns-in_default : goal.returns-in_default
 returns-in_default c =
-    makes_reset (hear_supervisory_of c.args.which c.args.command c.args.flag) c.args.nr c.in_default.field-0 c.args.self.now c.hear_error.new.self c.hear_error.result (sym c.in_default.ensures.count) c.hear_error.ensures
+    let invalid : acknowledgement c.args.self.now.incoming.modulus c.args.nr c.args.self.now.outgoing ≡ Err c.in_default.field-0 =
+    ap (λ k. acknowledgement k c.args.nr c.args.self.now.outgoing) (sym c.modulus.ensures.value) ∙ sym c.in_default.ensures.count in
+    makes_reset (hear_supervisory_of c.args.which c.args.command c.args.flag) c.args.nr c.in_default.field-0 c.args.self.now c.hear_error.new.self c.hear_error.result invalid c.hear_error.ensures

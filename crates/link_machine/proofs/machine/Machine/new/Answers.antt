@@ -1,10 +1,21 @@
-use Rattle.std.proofs.Common.{◌≡◌, sym, ◌∙◌, ap, Err}
-use Rattle.link_machine.proofs.Events.{refused_as, refuses_as}
-use Rattle.link_machine.specs.Held.{new_fault_of}
+use Rattle.std.proofs.Common.{◌≡◌, ℕ, ap, Ok, Err}
+use Rattle.std.specs.Prelude.{Result}
+use Rattle.selective_reject.specs.declared.window.BadWindow.{BadWindow as Refused}
+use Rattle.link_machine.specs.declared.fault.NewFault.{NewFault}
+use Rattle.link_machine.specs.declared.fault.NewFault.TheVariants.{BadWindow, Memory}
 use Rattle.link_machine.proofs.machine.Machine.new.Goals as goal
+
+-- the window that is refused
+abbrev window_in : {A : Type 0} → Result A NewFault → ℕ
+window_in (Ok x) = 0
+window_in (Err (BadWindow window)) = window
+window_in (Err Memory) = 0
+
+abbrev refused_in : {A : Type 0} → Result A Refused → ℕ
+refused_in (Ok x) = 0
+refused_in (Err bad) = bad.window
 
 pub returns-in-Err-clause-bad_window : goal.returns-in-Err-clause-bad_window
 returns-in-Err-clause-bad_window c = λ w.
-    let said : c.refusal_of.result ≡ new_fault_of c.in-Err.fault = c.refusal_of.ensures in
     let is = c.in-Err.ensures.bad_window w in
-    (λ e. is.0 (refused_as c.in-Err.fault w (ap Err (sym said) ∙ e)), λ r. ap Err said ∙ refuses_as c.in-Err.fault w (is.1 r))
+    (λ e. is.0 (ap (λ k. Err (record { window = k })) (ap window_in e)), λ r. ap (λ k. Err (BadWindow k)) (ap refused_in (is.1 r)))

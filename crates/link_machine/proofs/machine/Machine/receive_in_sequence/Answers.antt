@@ -53,7 +53,7 @@ returns-in-Next-clause-shows c = λ t h mode.
     let places : c.give_next.new.incoming.places ≡ replicate i.window empty_place =
     given.places ∙ ap (λ xs. xs ++ empty_place ∷ []) (sym (drop_one i.places c.args.packet)) ∙ places_in_sequence i.places i.window c.args.packet some_whole whole in
     let ready : IsReady c.give_next.new.incoming = record {
-      next = ap (λ ps. is_full ps 0) places ∙ (ready_cleared 8 i.window RejMode).next;
+      next = ap (λ ps. is_full ps 0) places ∙ (ready_cleared i.modulus i.window RejMode).next;
       in_sequence = λ _. places ∙ ap (λ n. replicate n empty_place) (sym given.window);
     } in
     let told : c.give_next.new.room.told.items ≡ c.args.room.now.told.items ++ map Given (c.args.packet ∷ []) =

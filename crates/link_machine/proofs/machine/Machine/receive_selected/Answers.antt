@@ -81,7 +81,7 @@ returns-in-Stored-clause-shows c = λ t h.
     } in
     let t1 = changing (stored d p) t in
     let kept : Shows (record c.args.self.now { incoming = c.accept.new.self }) c.args.room.now t1 =
-    shows_changing (stored d p) c.args.self.now _ c.args.room.now t refl h (holds_incoming c.args.self.now t.now c.accept.new.self store h.holds stands c.accept.ensures.formed ready refl refl refl) in
+    shows_changing (stored d p) c.args.self.now _ c.args.room.now t refl h (holds_incoming c.args.self.now t.now c.accept.new.self store h.holds stands c.accept.ensures.formed ready) in
     let asked_for = c.ask.ensures.shows t1 kept near in
     let T : Turn → Type 0 = λ x. Shows c.ask.new.self c.ask.new.room x in
     subst T (sym (cond-false (d == 0) (give (run_with p t.now) t) _ no ∙ cond-true (nat_lt d i.window && not (is_full i.places d)) (in_order (changing (stored d p) ∷ ask d ∷ []) t) t free)) asked_for

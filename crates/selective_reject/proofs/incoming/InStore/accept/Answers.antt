@@ -1,6 +1,6 @@
-use Rattle.std.proofs.Common.{◌≡◌, ℕ, sym, ◌∙◌, ap, subst, rules}
+use Rattle.std.proofs.Common.{◌≡◌, sym, ◌∙◌, subst, rules}
 use Rattle.selective_reject.specs.Incoming.{Incoming, StandsForIncoming, took, after_accept}
-use Rattle.selective_reject.specs.TrueNumbers.{took_truly, after_accept_truly}
+use Rattle.selective_reject.specs.TrueNumbers.{after_accept_truly}
 use Rattle.selective_reject.proofs.IncomingRounds.{same_took, stands_for-after_accept, accept-truly}
 use Rattle.selective_reject.proofs.incoming.InStore.accept.Goals as goal
 

@@ -1,6 +1,5 @@
-use Rattle.std.proofs.Common.{◌≡◌, ℕ, List, length, sym, ◌∙◌, ap, subst, rules, arith}
-use Rattle.selective_reject.specs.Places.{asked}
-use Rattle.selective_reject.specs.Incoming.{Incoming, IsIncoming, StandsForIncoming, numbers_to_ask, after_ask}
+use Rattle.std.proofs.Common.{◌≡◌, length, sym, ◌∙◌, ap, subst, rules}
+use Rattle.selective_reject.specs.Incoming.{Incoming, StandsForIncoming, numbers_to_ask, after_ask}
 use Rattle.selective_reject.proofs.PlaceLemmas.{length-asked}
 use Rattle.selective_reject.proofs.IncomingRounds.{same_numbers, stands_for-after_ask}
 use Rattle.selective_reject.proofs.incoming.InStore.ask.Goals as goal

@@ -1,4 +1,4 @@
-use Rattle.std.proofs.Common.{◌≡◌, ℕ, ◌+◌, ◌-◌, ◌%◌, sym, ◌∙◌, subst, rules}
+use Rattle.std.proofs.Common.{◌≡◌, ◌+◌, ◌-◌, ◌%◌, sym, ◌∙◌, subst, rules}
 use Rattle.selective_reject.specs.Outgoing.{Outgoing, StandsForOutgoing, reduced_outgoing, acknowledged, acknowledgement, after_acknowledge}
 use Rattle.selective_reject.proofs.OutgoingRounds.{same_acknowledgement, stands_for-after_acknowledge, acknowledge-truly}
 use Rattle.selective_reject.proofs.outgoing.OutStore.acknowledge.Goals as goal

@@ -1,4 +1,4 @@
-use Rattle.std.proofs.Common.{◌≡◌, ℕ, ◌+◌, ◌-◌, ◌%◌, ◌<◌, ◌≤◌, max, subst, slice_get, arith}
+use Rattle.std.proofs.Common.{◌≡◌, ◌+◌, ◌-◌, ◌%◌, ◌<◌, subst, slice_get, arith}
 use Rattle.selective_reject.specs.Outgoing.{Outgoing, sent_packet}
 use Rattle.selective_reject.proofs.OutgoingRounds.{sent_packet-at}
 use Rattle.selective_reject.proofs.outgoing.OutStore.next.Goals as goal

@@ -1,4 +1,4 @@
-use Rattle.std.proofs.Common.{◌≡◌, sym, ◌∙◌, ap, rules, None}
+use Rattle.std.proofs.Common.{◌≡◌, ◌∙◌, rules, None}
 use Rattle.std.specs.Option.{option_copied}
 use Rattle.selective_reject.specs.Outgoing.{sent_packet}
 use Rattle.selective_reject.proofs.OutgoingRounds.{same_sent_packet, sent_packet-truly}

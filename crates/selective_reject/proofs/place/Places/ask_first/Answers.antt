@@ -1,5 +1,5 @@
-use Rattle.std.proofs.Common.{◌≡◌, ℕ, ◌+◌, ◌%◌, ◌<◌, Bool, true, false, List, [], ◌∷◌, ◌++◌, length, map, get_or, if◌then◌else◌, ap, sym, ◌∙◌, arith, rules}
-use Rattle.selective_reject.specs.Places.{empty_place, misses, is_missing, with_asked, missing, asked}
+use Rattle.std.proofs.Common.{◌≡◌, ℕ, ◌+◌, ◌%◌, ◌<◌, true, false, length, map, get_or, ap, sym, ◌∙◌, arith}
+use Rattle.selective_reject.specs.Places.{empty_place, misses, is_missing, with_asked}
 use Rattle.selective_reject.proofs.PlaceLemmas.{missing-none, asked-none, length-asked, get_or-asked, asked-more, numbers-more}
 use Rattle.selective_reject.proofs.place.Places.ask_first.Goals as goal
 use Rattle.selective_reject.proofs.place.Places.ask_first.Goals.{then-ask, else-ask}

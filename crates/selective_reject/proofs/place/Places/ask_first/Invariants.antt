@@ -1,4 +1,4 @@
-use Rattle.std.proofs.Common.{◌≡◌, ◌+◌, ◌%◌, ◌≤◌, map, length}
+use Rattle.std.proofs.Common.{◌≡◌, ◌+◌, ◌%◌, ◌≤◌, map}
 use Rattle.arrayvec.specs.ArrayVec.{array_vec_len}
 use Rattle.selective_reject.specs.Places.{missing, asked}
 use Rattle.selective_reject.proofs.place.Places.ask_first.Given as goal
