@@ -1,9 +1,9 @@
 -- x is up, and its own numbers change: V(A), V(S), the number behind the highest that was sent, and the packets it
 -- keeps.
-use Rattle.std.proofs.Common.{◌≡◌, ℕ, ◌+◌, ◌-◌, ◌<◌, ◌≤◌, max, List, ◌∷◌, Option, Some, length, drop, arith, ap, refl, ◌∙◌, le_trans, le_refl}
+use Rattle.std.proofs.Common.{◌≡◌, ℕ, ◌+◌, ◌-◌, ◌<◌, ◌≤◌, max, List, ◌∷◌, Option, Some, length, drop, arith, ap, refl, ◌∙◌, subst, le_trans, le_refl}
 use Rattle.std.proofs.lemmas.List.{drop-drop}
 use Rattle.selective_reject.specs.declared.packet.Packet.{Packet}
-use Rattle.link_world.proofs.law.Core.{End, Running, Stored, Tagged, Numbered, set_ups, count, got_in}
+use Rattle.link_world.proofs.law.Core.{End, Running, Stored, Tagged, Numbered, set_ups, count, got_in, modulus_in}
 use Rattle.link_world.proofs.law.Core.Numbered.{Info, Super, Srej}
 use Rattle.link_world.proofs.law.Core.Standing.{Up}
 use Rattle.link_world.proofs.law.CoreMoves.{now, sending_from, numbered_to, acknowledged_to, Acknowledges}
@@ -126,6 +126,16 @@ front_of_mate x y r tag m n rest to_y h =
     let opened : tag < count y = h.x_hears.tags.of_set_up.0 in
     let last : count y ≤ r.set_up.mate + 1 = h.x_hears.mates.last in
     omega arith
+
+-- and it is written in the modulus of the end
+pub front_modulus :
+    (x y : End) (r : Running) (tag m : ℕ) (n : Numbered) (rest to_y : List Tagged)
+    → Invariant (record { x = now (Up r) x; y = y; to_x = numbered_to tag m n ∷ rest; to_y = to_y }) → m ≡ x.modulus
+front_modulus x y r tag m n rest to_y h =
+    let is : tag ≡ r.set_up.mate = front_of_mate x y r tag m n rest to_y h in
+    let opened : tag < count y = h.x_hears.tags.of_set_up.0 in
+    h.x_hears.moduli.frames.0 ∙ ap (modulus_in (set_ups y)) is
+    ∙ h.x_hears.moduli.mate (subst (λ k. k < count y) is opened)
 
 acknowledging :
     (mate top nr n : ℕ) (f : Numbered) (o : Option Numbered) → Acknowledges f nr → o ≡ Some f
