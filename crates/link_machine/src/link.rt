@@ -66,6 +66,16 @@ impl Link {
         }
     }
 
+    /// The same link, in memory of its own, to try what an event would make of it.
+    pub fn copy(&self) -> Result<Link, OutOfMemory>
+        ensures { IfOk result (λ copy. copy ≡ self.now) }
+    {
+        Ok(Link {
+            alloc: self.alloc,
+            machine: self.machine.copy(self.alloc)?,
+        })
+    }
+
     /// Calls the other station. Refused where there is a link already.
     pub fn connect(&mut self) -> Result<Acts, LinkFault>
         ensures step { (m : State) → StandsFor self.old m → IfOk result (λ acts. acts ≡ done_of (step m Connect)) }

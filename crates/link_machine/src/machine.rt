@@ -18,6 +18,7 @@ use ax25_address::Path;
 use ax25_frames::Modulus;
 use selective_reject::{BadWindow, InStore, OutStore};
 use std::alloc::Global;
+use tnc_base::OutOfMemory;
 
 /// What a link keeps: its path and its variables. Numbers are kept modulo the modulus.
 #[derive(Drop)]
@@ -70,6 +71,19 @@ impl Machine {
             control: Control::idle(),
             outgoing,
             incoming,
+        })
+    }
+
+    /// The same machine, in memory of its own.
+    pub(crate) fn copy(&self, alloc: Global) -> Result<Machine, OutOfMemory>
+        ensures { IfOk result (λ copy. copy ≡ self.now) }
+    {
+        Ok(Machine {
+            path: self.path.with_role(self.path.role),
+            params: self.params.copy(),
+            control: self.control,
+            outgoing: self.outgoing.copy(alloc)?,
+            incoming: self.incoming.copy(alloc)?,
         })
     }
 

@@ -66,6 +66,15 @@ impl FittingParams {
         Ok(FittingParams { params })
     }
 
+    /// The same parameters.
+    pub(crate) fn copy(&self) -> FittingParams
+        ensures { result ≡ self.now }
+    {
+        FittingParams {
+            params: self.params,
+        }
+    }
+
     /// REJ or SREJ.
     pub(crate) fn mode(&self) -> Mode
         ensures { result ≡ self.now.mode }

@@ -9,16 +9,17 @@ use Rattle.link_machine.specs.declared.state.LinkState.TheVariants.{Idle, Callin
 use Rattle.link_machine.specs.Sent.{Sent}
 
 pub record Tagged : Type 0 where
-  -- the frame as it is heard
+  -- the frame, and the modulus in which it is written: that of its sender's set-up
   pub frame : Frame
+  pub modulus : ℕ
   -- the same with its true N(S) and N(R), counted from 0 in each set-up
   pub sent : Sent
   -- which set-up of its sender it belongs to, counted from 0
   pub set_up : ℕ
-  -- whether it is a UA or DM that was sent on hearing a SABM or DISC
+  -- whether it is a UA or DM that was sent on hearing a SABM, SABME or DISC
   pub answers : Bool
 
--- SABM and DISC, and SABME, ask for an answer
+-- SABM, SABME and DISC ask for an answer
 abbrev pub asks : Kind → Bool
 asks (Info ns nr flag pid octets) = false
 asks (Super which nr flag) = false
@@ -59,7 +60,7 @@ set_up_of (Setup which flag) state count = set_up_now state count
 set_up_of (Ui flag pid octets) state count = set_up_now state count
 set_up_of (Other which flag octets) state count = set_up_now state count
 
--- how many SABM and DISC are among the frames, and how many answers to one
+-- how many SABM, SABME and DISC are among the frames, and how many answers to one
 abbrev pub asks_in : List Tagged → ℕ
 asks_in frames = count_by (λ (f : Tagged). asks f.frame.kind) frames
 

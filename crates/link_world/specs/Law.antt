@@ -1,6 +1,7 @@
 -- The law of two links over a channel that loses frames, and never makes one up, doubles or reorders any.
-use Rattle.std.specs.Prelude.{Bool, true, List, [], ◌∷◌, IsTrue}
+use Rattle.std.specs.Prelude.{Bool, true, List, [], ◌∷◌, IsTrue, Option, Some, None}
 use Rattle.ax25_address.specs.declared.path.Path.{Path}
+use Rattle.ax25_frames.specs.declared.frame.Frame.{Frame}
 use Rattle.ax25_frames.specs.declared.frame.Kind.{Kind}
 use Rattle.ax25_frames.specs.declared.frame.Kind.TheVariants.{Info, Super, Setup, Ui, Other}
 use Rattle.link_machine.specs.declared.params.Params.{Params}
@@ -10,7 +11,7 @@ use Rattle.link_machine.specs.Machine.{Machine, is_valid}
 use Rattle.link_world.specs.declared.event.Event.{Event}
 use Rattle.link_world.specs.declared.event.Event.TheVariants.{Connect, Send, Disconnect, Tick, Hear, Lose}
 use Rattle.link_world.specs.Flight.{Tagged}
-use Rattle.link_world.specs.World.{World, seen_from, end_of, new_world, step, run}
+use Rattle.link_world.specs.World.{World, read_in, seen_from, end_of, new_world, step, run}
 use Rattle.link_world.specs.Quiet.{IsQuietRun}
 use Rattle.link_world.specs.Windows.{WindowsFit}
 use Rattle.link_world.specs.Origin.{GotInOrder}
@@ -23,9 +24,13 @@ names_valid m (Setup which flag) = true
 names_valid m (Ui flag pid octets) = true
 names_valid m (Other which flag octets) = true
 
+abbrev pub read_names_valid : Machine → Option Frame → Bool
+read_names_valid m None = true
+read_names_valid m (Some frame) = names_valid m frame.kind
+
 abbrev pub first_names_valid : Machine → List Tagged → Bool
 first_names_valid m [] = true
-first_names_valid m (tagged ∷ rest) = names_valid m tagged.frame.kind
+first_names_valid m (tagged ∷ rest) = read_names_valid m (read_in m.incoming.modulus tagged)
 
 -- numbers are read while a link is up
 abbrev pub reads_valid : LinkState → Machine → List Tagged → Bool
@@ -55,8 +60,8 @@ pub record KeepsOrder (w : World) (events : List Event) : Type 0 where
   pub numbers : NumbersAreValid w events
 
 -- In every quiet run from a new world whose windows fit, each set-up got a prefix of what the other end was given in
--- its origin, and origins rise strictly.
+-- its origin, which has the same modulus, and origins rise strictly. The ends may call in different moduli.
 abbrev pub PrefixLaw : Type 0
 PrefixLaw =
-    (to_b to_a : Path) (a b : Params) → WindowsFit 8 a b
+    (to_b to_a : Path) (a b : Params) → WindowsFit a b
     → (events : List Event) → let w = new_world to_b to_a a b in IsQuietRun w events → KeepsOrder w events

@@ -1,3 +1,4 @@
+pub mod Reading
 pub mod Flight
 pub mod SetUps
 pub mod Recorded

@@ -21,13 +21,14 @@ origins set_ups = filter_map origin set_ups
 abbrev pub IsPrefixOf : List Packet → List Packet → Type 0
 IsPrefixOf part whole = (rest : List Packet) × (whole ≡ part ++ rest)
 
--- what a set-up got is a prefix of what was given in its origin
+-- what a set-up got is a prefix of what was given in its origin, which has the same modulus
 pub record GotPrefix (theirs : List SetUp) (q : SetUp) : Type 0 where
   pub number : ℕ
   pub is_origin : origin q ≡ Some number
   pub giver : SetUp
   pub is_there : slice_get theirs number ≡ Some giver
   pub prefix : IsPrefixOf q.got giver.given
+  pub same_modulus : giver.modulus ≡ q.modulus
 
 abbrev pub GotNothingElse : List SetUp → SetUp → Type 0
 GotNothingElse theirs q = q.got ≢ [] → GotPrefix theirs q

@@ -1,4 +1,4 @@
--- When SABM and DISC enter a quiet channel. Each condition is a test of the world before an event.
+-- When SABM, SABME and DISC enter a quiet channel. Each condition is a test of the world before an event.
 use Rattle.std.specs.Prelude.{ℕ, ◌+◌, ◌==◌, ◌||◌, ◌&&◌, Bool, true, false, not, List, [], ◌∷◌, IsTrue}
 use Rattle.ax25_frames.specs.declared.frame.Kind.{Kind}
 use Rattle.ax25_frames.specs.declared.frame.Kind.TheVariants.{Info, Super, Setup, Ui, Other}
@@ -11,7 +11,7 @@ use Rattle.link_world.specs.declared.event.Event.TheVariants.{Connect, Send, Dis
 use Rattle.link_world.specs.Flight.{Tagged, asks_in, answers_in}
 use Rattle.link_world.specs.World.{World, seen_from, end_of, near_turn, staying, step}
 
--- A SABM or DISC of an end is sent alone: no earlier one is in flight to the other end, and no answer to one comes
+-- A SABM, SABME or DISC of an end is sent alone: no earlier one is in flight to the other end, and no answer to one comes
 -- back. `sent` counts those that the event sends, `ahead` the earlier ones and their answers.
 abbrev pub is_alone : ℕ → ℕ → Bool
 is_alone sent ahead = (sent == 0) || (sent + ahead == 1)
@@ -20,7 +20,7 @@ abbrev pub sends_alone : World → Event → Bool
 sends_alone w event =
     is_alone (asks_in (near_turn event w).sent) (asks_in w.b.towards + answers_in (staying event w.a.towards))
 
--- the event sends no SABM or DISC but into a quiet channel
+-- the event sends no SABM, SABME or DISC but into a quiet channel
 abbrev pub is_quiet_to_send : World → Event → Bool
 is_quiet_to_send w event = sends_alone (seen_from (end_of event) w) event
 
@@ -48,7 +48,7 @@ abbrev pub begins_with_sabm : List Tagged → Bool
 begins_with_sabm [] = false
 begins_with_sabm (tagged ∷ rest) = is_sabm tagged.frame.kind
 
--- an idle end hears SABM
+-- an idle end hears SABM or SABME
 abbrev pub is_called : Event → World → Bool
 is_called (Connect end) w = false
 is_called (Send end packet) w = false
@@ -57,7 +57,7 @@ is_called (Tick end waiting) w = false
 is_called (Hear end) w = is_idle w.a.end.machine.control.state && begins_with_sabm w.a.towards
 is_called (Lose end index) w = false
 
--- an idle end hears SABM only where no SABM or DISC of its own is in flight
+-- an idle end hears SABM or SABME only where no SABM, SABME or DISC of its own is in flight
 abbrev pub called_alone : World → Event → Bool
 called_alone w event = not (is_called event w) || (asks_in w.b.towards == 0)
 

@@ -13,7 +13,7 @@ use Rattle.link_machine.specs.declared.acts.Told.TheVariants.{Opened, Given, End
 use Rattle.link_machine.specs.declared.state.LinkState.{LinkState}
 use Rattle.link_machine.specs.declared.state.LinkState.TheVariants.{Idle, Calling, Up, Releasing}
 use Rattle.link_machine.specs.Machine.{Machine, is_valid, ahead_of_vr}
-use Rattle.link_machine.specs.Sent.{Sent, frame_of}
+use Rattle.link_machine.specs.Sent.{SentIn, frame_of}
 use Rattle.link_machine.specs.Turn.{Turn}
 use Rattle.link_machine.specs.Event.{Event}
 use Rattle.link_machine.specs.Event.Event.{Connect, Send, Disconnect, Hear, Tick}
@@ -92,11 +92,15 @@ mate_of Disconnects = 0
 mate_of (Ticks waiting) = 0
 mate_of (Hears tagged) = tagged.set_up
 
--- what is recorded of what the link tells: a set-up begins with what was given in the call, and gets packets
-abbrev pub told_of : ℕ → List Packet → List SetUp → Told → List SetUp
-told_of mate waiting set_ups (Opened ours) = set_ups ++ opened mate waiting ∷ []
-told_of mate waiting set_ups (Given packet) = change_last (getting packet) set_ups
-told_of mate waiting set_ups (Ended why) = set_ups
+-- the set-up that opens in a turn, if one does: in the link's modulus, with what was given in the call
+abbrev pub opening : Happening → RecordedEnd → Turn → SetUp
+opening h noted turn = opened (mate_of h) turn.now.incoming.modulus noted.waiting
+
+-- what is recorded of what the link tells: the next set-up begins, and the last one gets packets
+abbrev pub told_of : SetUp → List SetUp → Told → List SetUp
+told_of next set_ups (Opened ours) = set_ups ++ next ∷ []
+told_of next set_ups (Given packet) = change_last (getting packet) set_ups
+told_of next set_ups (Ended why) = set_ups
 
 -- packets wait for a set-up while the call is under way
 abbrev pub waiting_in : LinkState → List Packet → List Packet
@@ -111,11 +115,11 @@ behind h r turn =
     let noted = noting h r in
     record {
       machine = turn.now;
-      set_ups = fold (told_of (mate_of h) noted.waiting) noted.set_ups turn.told;
+      set_ups = fold (told_of (opening h noted turn)) noted.set_ups turn.told;
       waiting = waiting_in turn.now.control.state noted.waiting;
     }
 
--- a UA or DM that is sent on hearing a SABM or DISC answers it
+-- a UA or DM that is sent on hearing a SABM, SABME or DISC answers it
 abbrev pub hears_ask : Happening → Bool
 hears_ask Connects = false
 hears_ask (Sends packet) = false
@@ -124,16 +128,17 @@ hears_ask (Ticks waiting) = false
 hears_ask (Hears tagged) = asks tagged.frame.kind
 
 -- a frame as the end sends it, with its tags
-abbrev pub tagged_as : Frame → Bool → RecordedEnd → Sent → Tagged
+abbrev pub tagged_as : Frame → Bool → RecordedEnd → SentIn → Tagged
 tagged_as frame on_ask r sent = record {
   frame = frame;
-  sent = sent;
+  modulus = sent.modulus;
+  sent = sent.frame;
   set_up = set_up_of frame.kind r.machine.control.state (length r.set_ups);
   answers = on_ask && is_answer frame.kind;
 }
 
-abbrev pub tagged : Bool → RecordedEnd → Sent → Tagged
-tagged on_ask r sent = tagged_as (frame_of r.machine.incoming.modulus r.machine.path sent) on_ask r sent
+abbrev pub tagged : Bool → RecordedEnd → SentIn → Tagged
+tagged on_ask r sent = tagged_as (frame_of sent.modulus r.machine.path sent.frame) on_ask r sent
 
 -- what an end becomes, sends and tells
 pub record EndTurn : Type 0 where

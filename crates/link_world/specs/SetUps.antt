@@ -7,15 +7,18 @@ pub record SetUp : Type 0 where
   pub given : List Packet
   -- the packets that it got of the other end
   pub got : List Packet
-  -- the set-up that the frame belonged to, SABM or UA, that opened it
+  -- its modulus, 8 or 128
+  pub modulus : ℕ
+  -- the set-up that the frame belonged to, SABM, SABME or UA, that opened it
   pub mate : ℕ
   -- the set-ups that the I and S frames belonged to that it acted on, in order
   pub acted_on : List ℕ
   -- the set-up that the first I frame belonged to that it accepted
   pub accepted : Option ℕ
 
-abbrev pub opened : ℕ → List Packet → SetUp
-opened mate given = record { given = given; got = []; mate = mate; acted_on = []; accepted = None }
+abbrev pub opened : (mate modulus : ℕ) → List Packet → SetUp
+opened mate modulus given =
+    record { given = given; got = []; modulus = modulus; mate = mate; acted_on = []; accepted = None }
 
 abbrev pub giving : Packet → SetUp → SetUp
 giving packet q = record q { given = q.given ++ packet ∷ [] }

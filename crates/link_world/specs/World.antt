@@ -1,15 +1,17 @@
 -- Two ends, and the frames in flight towards each in the order in which they were sent.
-use Rattle.std.specs.Prelude.{List, [], ◌∷◌, ◌++◌, drop, remove, Option, Some, None}
+use Rattle.std.specs.Prelude.{ℕ, List, [], ◌∷◌, ◌++◌, drop, remove, Option, Some, None}
 use Rattle.ax25_address.specs.Callsign.{Callsign}
 use Rattle.ax25_address.specs.declared.path.Path.{Path}
 use Rattle.ax25_address.specs.declared.path.Role.TheVariants.{Command}
 use Rattle.link_machine.specs.declared.acts.Told.{Told}
 use Rattle.link_machine.specs.declared.params.Params.{Params}
-use Rattle.link_machine.specs.Machine.{new_machine}
+use Rattle.ax25_frames.specs.declared.frame.Frame.{Frame}
+use Rattle.link_machine.specs.Machine.{new_machine, modulus_named}
 use Rattle.link_world.specs.declared.end.End.{End}
 use Rattle.link_world.specs.declared.end.End.TheVariants.{A, B}
 use Rattle.link_world.specs.declared.event.Event.{Event}
 use Rattle.link_world.specs.declared.event.Event.TheVariants.{Connect, Send, Disconnect, Tick, Hear, Lose}
+use Rattle.link_world.specs.Reading.{frame_read}
 use Rattle.link_world.specs.Flight.{Tagged}
 use Rattle.link_world.specs.Recorded.{RecordedEnd, Happening, EndTurn, end_turn, no_turn}
 use Rattle.link_world.specs.Recorded.Happening.{Connects, Sends, Disconnects, Ticks, Hears}
@@ -31,7 +33,7 @@ seen_from B w = record { a = w.b; b = w.a }
 -- an idle link on a path, and nothing in flight
 abbrev pub new_side : Path → Params → Side
 new_side path params = record {
-  end = record { machine = new_machine path 8 params.window params.mode; set_ups = []; waiting = [] };
+  end = record { machine = new_machine path params; set_ups = []; waiting = [] };
   towards = [];
 }
 
@@ -47,19 +49,28 @@ end_of (Tick end waiting) = end
 end_of (Hear end) = end
 end_of (Lose end index) = end
 
--- the end hears the frame at the front, where there is one
-abbrev pub hearing_first : List Tagged → Option Happening
-hearing_first [] = None
-hearing_first (tagged ∷ rest) = Some (Hears tagged)
+-- a frame as a link in a modulus reads it, where it does not refuse it
+abbrev pub read_in : ℕ → Tagged → Option Frame
+read_in modulus f = frame_read (modulus_named f.modulus) (modulus_named modulus) f.frame
 
--- what an event is to its end
-abbrev pub happening : Event → List Tagged → Option Happening
-happening (Connect end) towards = Some Connects
-happening (Send end packet) towards = Some (Sends packet)
-happening (Disconnect end) towards = Some Disconnects
-happening (Tick end waiting) towards = Some (Ticks waiting)
-happening (Hear end) towards = hearing_first towards
-happening (Lose end index) towards = None
+-- what is read is heard; a frame that is refused is no event of the end
+abbrev pub hearing_as : Tagged → Option Frame → Option Happening
+hearing_as tagged None = None
+hearing_as tagged (Some frame) = Some (Hears (record tagged { frame = frame }))
+
+-- the end hears the frame at the front, where there is one, in its own modulus
+abbrev pub hearing_first : ℕ → List Tagged → Option Happening
+hearing_first modulus [] = None
+hearing_first modulus (tagged ∷ rest) = hearing_as tagged (read_in modulus tagged)
+
+-- what an event is to its end, whose link has this modulus
+abbrev pub happening : Event → ℕ → List Tagged → Option Happening
+happening (Connect end) modulus towards = Some Connects
+happening (Send end packet) modulus towards = Some (Sends packet)
+happening (Disconnect end) modulus towards = Some Disconnects
+happening (Tick end waiting) modulus towards = Some (Ticks waiting)
+happening (Hear end) modulus towards = hearing_first modulus towards
+happening (Lose end index) modulus towards = None
 
 -- the frames that stay in flight towards it
 abbrev pub staying : Event → List Tagged → List Tagged
@@ -76,7 +87,7 @@ turn_of (Some h) r = end_turn h r
 
 -- what an event makes of its end, seen from there
 abbrev pub near_turn : Event → World → EndTurn
-near_turn event w = turn_of (happening event w.a.towards) w.a.end
+near_turn event w = turn_of (happening event w.a.end.machine.incoming.modulus w.a.towards) w.a.end
 
 -- the frames that are sent go behind those in flight towards the other end
 abbrev pub near_step : Event → World → World

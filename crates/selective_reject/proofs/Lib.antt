@@ -1,3 +1,4 @@
+pub mod Copies
 pub mod Distances
 pub mod PlaceLemmas
 pub mod IncomingRounds

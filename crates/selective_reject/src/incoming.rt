@@ -137,6 +137,19 @@ impl InStore {
         }
     }
 
+    /// The same store, in memory of its own.
+    pub fn copy(&self, alloc: Global) -> Result<InStore, OutOfMemory>
+        ensures { IfOk result (λ copy. copy ≡ self.now) }
+    {
+        Ok(InStore {
+            modulus: self.modulus,
+            window: self.window,
+            mode: self.mode,
+            vr: self.vr,
+            places: self.places.copy(alloc)?,
+        })
+    }
+
     /// Empties the store, as after [`InStore::new`]: V(R) is 0, and nothing is stored or asked for.
     pub fn clear(&mut self)
         ensures empty { self.new ≡ empty_incoming self.old.modulus self.old.window self.old.mode }

@@ -64,6 +64,24 @@ impl OutStore {
         })
     }
 
+    /// The same store, in memory of its own.
+    pub fn copy(&self, alloc: Global) -> Result<OutStore, OutOfMemory>
+        ensures { IfOk result (λ copy. copy ≡ self.now) }
+    {
+        let mut packets = HeapCircularBuffer::with_capacity(alloc, CAPACITY)?;
+        for place in 0..self.packets.len() {
+            if let Some(packet) = self.packets.get(place) {
+                packets.push_back(packet.copy(alloc)?);
+            }
+        }
+        Ok(OutStore {
+            packets,
+            va: self.va,
+            sent: self.sent,
+            most_sent: self.most_sent,
+        })
+    }
+
     /// Puts a packet behind all others. Hands it back exactly where there are 1024.
     pub fn push(&mut self, packet: Packet) -> Result<(), Packet>
         ensures full { IsErr result ↔ (length self.old.packets ≡ 1024) }

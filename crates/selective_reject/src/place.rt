@@ -33,6 +33,19 @@ impl Place {
         }
     }
 
+    fn copy(&self, alloc: Global) -> Result<Place, OutOfMemory>
+        ensures { IfOk result (λ copy. copy ≡ self.now) }
+    {
+        let packet = match &self.packet {
+            Some(packet) => Some(packet.copy(alloc)?),
+            None => None,
+        };
+        Ok(Place {
+            packet,
+            asked: self.asked,
+        })
+    }
+
     fn put(&mut self, packet: Packet)
         ensures { self.new ≡ filled_place packet self.old }
     {
@@ -76,6 +89,18 @@ impl Places {
     {
         let mut places = HeapCircularBuffer::with_capacity(alloc, usize::from(MOST_PLACES))?;
         fill(&mut places, window);
+        Ok(Places { places })
+    }
+
+    pub(crate) fn copy(&self, alloc: Global) -> Result<Places, OutOfMemory>
+        ensures { IfOk result (λ copy. copy ≡ self.now) }
+    {
+        let mut places = HeapCircularBuffer::with_capacity(alloc, usize::from(MOST_PLACES))?;
+        for place in 0..self.places.len() {
+            if let Some(place) = self.places.get(place) {
+                places.push_back(place.copy(alloc)?);
+            }
+        }
         Ok(Places { places })
     }
 

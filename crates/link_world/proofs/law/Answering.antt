@@ -1,8 +1,8 @@
 -- x sends a UA: where y is calling, it sees x from then on.
-use Rattle.std.proofs.Common.{◌≡◌, ℕ, List, [], ◌∷◌, ◌++◌, Option, Some, None, IfSome, length, arith, ap, refl, sym, subst, le_refl}
+use Rattle.std.proofs.Common.{◌≡◌, ℕ, ◌<◌, List, [], ◌∷◌, ◌++◌, Option, Some, None, IfSome, length, arith, ap, refl, sym, subst, le_refl}
 use Rattle.std.specs.List.{AllByRecursion as Each}
 use Rattle.selective_reject.specs.declared.packet.Packet.{Packet}
-use Rattle.link_world.proofs.law.Core.{End, Standing, SetUp, Tagged, set_ups, era, got_in}
+use Rattle.link_world.proofs.law.Core.{End, Standing, SetUp, Tagged, set_ups, era, count, got_in, modulus_in}
 use Rattle.link_world.proofs.law.Core.Kind.{Ua}
 use Rattle.link_world.proofs.law.Core.Standing.{Idle, Calling, Up, Releasing}
 use Rattle.link_world.proofs.law.CoreMoves.{now, of_end, asks, answers}
@@ -16,7 +16,7 @@ use Rattle.link_world.proofs.law.Options.{if_weaker}
 use Rattle.link_world.proofs.law.Exchanges.{ua_pushed_ua}
 use Rattle.link_world.proofs.law.Sending.{both_sent, numbers_of_other}
 use Rattle.link_world.proofs.law.Silences.{sent_of_silent, count_le_era}
-use Rattle.link_world.proofs.law.Invariant.{WasSent, OriginUnder, Hears, BothHear, Invariant}
+use Rattle.link_world.proofs.law.Invariant.{CallsBy, WasSent, OriginUnder, Hears, BothHear, Invariant}
 
 -- What is to be known for y to see x's set-up, the one that is open or would open next: nothing of it is under way yet.
 pub record IsNewToMate (v : Option View) (x y : End) (to_x to_y : List Tagged) : Type 0 where
@@ -25,26 +25,38 @@ pub record IsNewToMate (v : Option View) (x y : End) (to_x to_y : List Tagged) :
   pub mate : IfSome v (λ a. a.mate ≡ era y)
   pub sent : IfSome v (λ a. WasSent a to_x 0 × Each (IsSilent (era x)) to_y)
   pub earlier : Each (OriginUnder (era x)) y.ended
+  -- where y is calling, what it will see is in its modulus
+  pub modulus : IfSome v (λ a. CallsBy y.standing y.modulus a.modulus)
+  pub own : era x < count x → CallsBy y.standing y.modulus (modulus_in (set_ups x) (era x))
 
 -- x hears a partner that sees it with nothing sent yet
 seen_anew :
     (v u : Option View) (x y : End) (to_x to_y : List Tagged) (tag : ℕ) → IfSome v (λ a. a.mate ≡ era y)
-    → IfSome v (λ a. WasSent a to_x 0)
-    → Hears v u x y to_x to_y → Hears v (Some (view_fresh tag)) x y to_x to_y
-seen_anew v u x y to_x to_y tag mate sent h = record {
+    → IfSome v (λ a. WasSent a to_x 0) → IfSome v (λ a. a.modulus ≡ y.modulus)
+    → Hears v u x y to_x to_y → Hears v (Some (view_fresh y.modulus tag)) x y to_x to_y
+seen_anew v u x y to_x to_y tag mate sent modulus h = record {
   tags = h.tags;
   one_exchange = h.one_exchange;
   mates = record { last = h.mates.last; each_other = mate };
   keeps = h.keeps;
   numbers = record { counts = h.numbers.counts; acks = h.numbers.acks; infos = h.numbers.infos; sent = sent };
   packets = h.packets;
+  moduli = record {
+    window = h.moduli.window;
+    own = h.moduli.own;
+    frames = h.moduli.frames;
+    calls = h.moduli.calls;
+    same = modulus;
+    mate = h.moduli.mate;
+    origins = h.moduli.origins;
+  };
 }
 
 -- an end that is calling sees the set-up that a UA under way to it names
 sees_anew :
     (v u : Option View) (x y : End) (waiting : List Packet) (to_x to_y : List Tagged)
     → IsNewToMate v x (now (Calling waiting) y) to_x to_y → Hears u v (now (Calling waiting) y) x to_y to_x
-    → Hears (Some (view_fresh (era x))) v (now (Calling waiting) y) x to_y to_x
+    → Hears (Some (view_fresh y.modulus (era x))) v (now (Calling waiting) y) x to_y to_x
 sees_anew v u x y waiting to_x to_y new h =
     let xs = set_ups x in
     let got : length (got_in xs (era x)) ≡ 0 = ap length new.got in
@@ -59,10 +71,10 @@ sees_anew v u x y waiting to_x to_y new h =
       numbers = record {
         counts = ap (λ (q : SetUp). length q.got) (sym (at_none y.ended (era y) (le_refl (era y))));
         acks = acks_silent (era x) 0 (length (got_in xs (era x))) 0 to_y new.silent (omega arith) (omega arith);
-        infos = infos_silent (era x) 0 0 x.window to_y new.silent;
+        infos = infos_silent (era x) 0 0 (x.windows y.modulus) to_y new.silent;
         sent = if_weaker v (λ a. WasSent a to_x 0 × Each (IsSilent (era x)) to_y)
-            (λ a. WasSent (view_fresh (era x)) to_y a.top)
-            (λ a c. sent_of_silent (era x) a.top to_y c.1) new.sent;
+            (λ a. WasSent (view_fresh y.modulus (era x)) to_y a.top)
+            (λ a c. sent_of_silent y.modulus (era x) a.top to_y c.1) new.sent;
       };
       packets = record {
         carries = h.packets.carries;
@@ -72,6 +84,15 @@ sees_anew v u x y waiting to_x to_y new h =
         own = subst (λ (q : SetUp). IfSome q.origin (λ o. o ≡ era x)) (sym (at_none y.ended (era y) (le_refl (era y))))
             tt;
         earlier = new.earlier;
+      };
+      moduli = record {
+        window = h.moduli.window;
+        own = tt;
+        frames = h.moduli.frames;
+        calls = h.moduli.calls;
+        same = if_weaker v (λ a. a.modulus ≡ y.modulus) (λ a. y.modulus ≡ a.modulus) (λ a is. sym is) new.modulus;
+        mate = new.own;
+        origins = h.moduli.origins;
       };
     }
 
@@ -89,6 +110,8 @@ new_behind_ua v x y to_x to_y new =
       sent = if_weaker v (λ a. WasSent a to_x 0 × Each (IsSilent (era x)) to_y)
           (λ a. WasSent a to_x 0 × Each (IsSilent (era x)) (to_y ++ of_end x Ua ∷ [])) (λ a c. (c.0, silent)) new.sent;
       earlier = new.earlier;
+      modulus = new.modulus;
+      own = new.own;
     }
 
 -- with what each end saw before
@@ -97,8 +120,8 @@ ua_pushed_both :
     → BothHear v u x y to_x to_y → BothHear v u x y to_x (to_y ++ of_end x Ua ∷ [])
 ua_pushed_both v u x y to_x to_y none quiet h =
     let other = h.y_hears.one_exchange in
-    both_sent v u x y to_x to_y Ua tt tt (omega arith) (omega arith) tt
-    (numbers_of_other u v to_y (of_end x Ua) (set_ups x) x.window refl) h
+    both_sent v u x y to_x to_y Ua tt tt (omega arith) (omega arith) tt tt tt
+    (numbers_of_other u v to_y (of_end x Ua) (set_ups x) x.windows refl) h
 
 sent_ua_by :
     (s : Standing) (v : Option View) (x y : End) (to_x to_y : List Tagged) → answers to_y ≡ 0 → asks to_x ≡ 0
@@ -112,15 +135,15 @@ sent_ua_by (Calling waiting) v x y to_x to_y none quiet new h =
     let u = view z to_y in
     let pushed = ua_pushed_both v u x z to_x to_y none quiet h in
     let behind = new_behind_ua v x z to_x to_y new in
-    subst (λ t. BothHear v t x z to_x to_z) (ap (view_by (Calling waiting)) (sym (ua_pushed_ua to_y (era x) none)))
+    subst (λ t. BothHear v t x z to_x to_z) (ap (view_by y.modulus (Calling waiting)) (sym (ua_pushed_ua to_y (era x) none)))
     (record {
       x_hears = seen_anew v u x z to_x to_z (era x) new.mate
           (if_weaker v (λ a. WasSent a to_x 0 × Each (IsSilent (era x)) to_y) (λ a. WasSent a to_x 0) (λ a c. c.0)
-          new.sent) pushed.x_hears;
+          new.sent) new.modulus pushed.x_hears;
       y_hears = sees_anew v u x y waiting to_x to_z behind pushed.y_hears;
     })
 sent_ua_by (Up r) v x y to_x to_y none quiet new h =
-    ua_pushed_both v (Some (view_up r)) x (now (Up r) y) to_x to_y none quiet h
+    ua_pushed_both v (Some (view_up y.modulus r)) x (now (Up r) y) to_x to_y none quiet h
 sent_ua_by Releasing v x y to_x to_y none quiet new h = ua_pushed_both v None x (now Releasing y) to_x to_y none quiet h
 
 -- x sends a UA, while no other answer is under way to y, and y asks nothing more

@@ -7,14 +7,14 @@ use Rattle.std.specs.List.{cons_option}
 use Rattle.std.proofs.lemmas.List.Elements.{All-from_recursion}
 use Rattle.std.proofs.lemmas.Option.{slice_get-get_or}
 use Rattle.selective_reject.specs.declared.packet.Packet.{Packet}
-use Rattle.link_world.proofs.law.Core.{End, SetUp as CoreSetUp, given_in, set_ups}
-use Rattle.link_world.proofs.law.CoreLaw.{GotBy, GotOf, OriginBelow, OriginsRise}
+use Rattle.link_world.proofs.law.Core.{End, SetUp as CoreSetUp, given_in, modulus_in, set_ups}
+use Rattle.link_world.proofs.law.CoreLaw.{GotBy, GotOf, OriginBelow, OriginsRise, OriginAlike}
 use Rattle.link_world.specs.SetUps.{SetUp}
 use Rattle.link_world.specs.Origin.{origin_of, origin, origins, GotPrefix, GotNothingElse, RiseStrictly}
 use Rattle.link_world.specs.Recorded.{RecordedEnd}
 use Rattle.link_world.specs.World.{World}
 use Rattle.link_machine.specs.declared.params.Params.{Params}
-use Rattle.link_world.proofs.law.Each.{each_weaker}
+use Rattle.link_world.proofs.law.Each.{each_weaker, each_both}
 use Rattle.link_world.proofs.law.Shown.{core_set_up, core_set_ups, Shown}
 use Rattle.link_world.proofs.law.Shown.Shown.{ShownIdle, ShownCalling, ShownUp, ShownReleasing}
 use Rattle.link_world.proofs.law.Settling.{all_of_last}
@@ -38,6 +38,13 @@ given_at [] n d within = absurd (omega arith)
 given_at (q ∷ theirs) zero d within = refl
 given_at (q ∷ theirs) (suc n) d within = given_at theirs n d (omega arith)
 
+modulus_at :
+    (theirs : List SetUp) (n : ℕ) (d : SetUp) → n < length theirs
+    → modulus_in (core_set_ups theirs) n ≡ (get_or theirs n d).modulus
+modulus_at [] n d within = absurd (omega arith)
+modulus_at (q ∷ theirs) zero d within = refl
+modulus_at (q ∷ theirs) (suc n) d within = modulus_at theirs n d (omega arith)
+
 origin_of_got : (got : List Packet) (accepted : Option ℕ) → got ≢ [] → origin_of got accepted ≡ accepted
 origin_of_got [] accepted some = absurd (some refl)
 origin_of_got (p ∷ got) accepted some = refl
@@ -46,9 +53,10 @@ origin_of_got (p ∷ got) accepted some = refl
 got_prefix :
     (theirs : List SetUp) (q : SetUp) (accepted : Option ℕ) → q.accepted ≡ accepted
     → GotBy (core_set_ups theirs) q.got accepted
+    → IfSome accepted (λ n. modulus_in (core_set_ups theirs) n ≡ q.modulus)
     → q.got ≢ [] → GotPrefix theirs q
-got_prefix theirs q None is none some = absurd (some none)
-got_prefix theirs q (Some n) is h some =
+got_prefix theirs q None is none alike some = absurd (some none)
+got_prefix theirs q (Some n) is h alike some =
     let within : n < length theirs = subst (λ k. n < k) (length_core theirs) h.0 in
     let giver = get_or theirs n q in
     record {
@@ -57,17 +65,18 @@ got_prefix theirs q (Some n) is h some =
       giver = giver;
       is_there = slice_get-get_or theirs n q within;
       prefix = (h.1.rest, sym (given_at theirs n q within) ∙ h.1.is);
+      same_modulus = sym (modulus_at theirs n q within) ∙ alike;
     }
 
 -- each of them
 pub prefixes_hold :
     (theirs ours : List SetUp) → Each (GotOf (core_set_ups theirs)) (core_set_ups ours)
-    → All (GotNothingElse theirs) ours
-prefixes_hold theirs ours h =
+    → Each (OriginAlike (core_set_ups theirs)) (core_set_ups ours) → All (GotNothingElse theirs) ours
+prefixes_hold theirs ours h alike =
     All-from_recursion (GotNothingElse theirs) ours
-    (each_weaker (λ q. GotOf (core_set_ups theirs) (core_set_up q)) (GotNothingElse theirs)
-    (λ q g some. got_prefix theirs q q.accepted refl g some)
-    ours (each_of_map (GotOf (core_set_ups theirs)) ours h))
+    (each_both (λ q. GotOf (core_set_ups theirs) (core_set_up q)) (λ q. OriginAlike (core_set_ups theirs) (core_set_up q))
+    (GotNothingElse theirs) (λ q g a some. got_prefix theirs q q.accepted refl g a some)
+    ours (each_of_map (GotOf (core_set_ups theirs)) ours h) (each_of_map (OriginAlike (core_set_ups theirs)) ours alike))
 
 -- numbers that rise, by recursion
 Rising : List ℕ → Type 0
@@ -139,6 +148,8 @@ near_got a b w s =
     record {
       prefixes = prefixes_hold w.b.end.set_ups w.a.end.set_ups
           (subst (λ qs. Each (GotOf qs) (core_set_ups w.a.end.set_ups)) theirs
-          (subst (λ qs. Each (GotOf (set_ups s.y)) qs) ours s.holds.x_hears.packets.prefixes));
+          (subst (λ qs. Each (GotOf (set_ups s.y)) qs) ours s.holds.x_hears.packets.prefixes))
+          (subst (λ qs. Each (OriginAlike qs) (core_set_ups w.a.end.set_ups)) theirs
+          (subst (λ qs. Each (OriginAlike (set_ups s.y)) qs) ours s.holds.x_hears.moduli.origins));
       origins_rise = origins_hold w.a.end.set_ups (subst OriginsRise ours s.holds.x_hears.packets.origins);
     }

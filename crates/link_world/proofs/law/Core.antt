@@ -11,13 +11,14 @@ pub data Numbered : Type 0 where
   Super : (nr : ℕ) → Numbered
   Srej : (nr : ℕ) → Numbered
 
--- SABM and DISC ask, UA answers, and so does a DM that was sent on hearing one of them
+-- SABM, which calls in modulus 8, SABME, which calls in 128, and DISC ask; UA answers, and so does a DM that was sent on
+-- hearing one of them. I and S frames are written in a modulus.
 pub data Kind : Type 0 where
-  Sabm : Kind
+  Sabm : (modulus : ℕ) → Kind
   Disc : Kind
   Ua : Kind
   Dm : (answers : Bool) → Kind
-  IsNumbered : (frame : Numbered) → Kind
+  IsNumbered : (modulus : ℕ) → (frame : Numbered) → Kind
 
 -- A frame under way, with its sender's set-up: the one that was open, else the one that it would open next. A UA that
 -- opens a set-up carries that one.
@@ -25,11 +26,12 @@ pub record Tagged : Type 0 where
   pub tag : ℕ
   pub kind : Kind
 
--- A set-up of an end: the packets given in it and got in it, the tag of the SABM or UA that opened it, which is its
--- mate, and the tag of the first I frame that it accepted, which is its origin.
+-- A set-up of an end: the packets given in it and got in it, its modulus, the tag of the SABM or UA that opened it, which
+-- is its mate, and the tag of the first I frame that it accepted, which is its origin.
 pub record SetUp : Type 0 where
   pub given : List Packet
   pub got : List Packet
+  pub modulus : ℕ
   pub mate : ℕ
   pub origin : Option ℕ
 
@@ -56,8 +58,10 @@ pub data Standing : Type 0 where
   Up : (running : Running) → Standing
   Releasing : Standing
 
--- an end: its modulus, its window k, the set-ups that ended, in order, and how it stands
+-- an end: its windows, by the modulus; its modulus, and its window k there; the set-ups that ended, in order, and how it
+-- stands
 pub record End : Type 0 where
+  pub windows : ℕ → ℕ
   pub modulus : ℕ
   pub window : ℕ
   pub ended : List SetUp
@@ -97,7 +101,7 @@ count e = length (set_ups e)
 
 -- a set-up that was not opened: nothing is given or got in it
 abbrev pub unopened : SetUp
-unopened = record { given = []; got = []; mate = 0; origin = None }
+unopened = record { given = []; got = []; modulus = 0; mate = 0; origin = None }
 
 abbrev pub set_up_at : List SetUp → ℕ → SetUp
 set_up_at set_ups n = slice_index_or set_ups n unopened
@@ -107,6 +111,9 @@ given_in set_ups n = (set_up_at set_ups n).given
 
 abbrev pub got_in : List SetUp → ℕ → List Packet
 got_in set_ups n = (set_up_at set_ups n).got
+
+abbrev pub modulus_in : List SetUp → ℕ → ℕ
+modulus_in set_ups n = (set_up_at set_ups n).modulus
 
 -- a list begins with another
 pub record IsPrefixOf (front whole : List Packet) : Type 0 where

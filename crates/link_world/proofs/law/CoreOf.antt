@@ -7,7 +7,8 @@ use Rattle.ax25_frames.specs.declared.frame.U.TheVariants.{Sabm as SabmFrame, Sa
 use Rattle.selective_reject.specs.declared.packet.Packet.{Packet}
 use Rattle.selective_reject.specs.declared.place.Place.{Place}
 use Rattle.link_machine.specs.Machine.{Machine}
-use Rattle.link_machine.specs.Sent.{Sent}
+use Rattle.link_machine.specs.Params.{window_in}
+use Rattle.link_machine.specs.Sent.{Sent, SentIn}
 use Rattle.link_machine.specs.Sent.Sent.{InfoSent, SuperSent, SetupSent}
 use Rattle.link_world.proofs.law.Core.{Tagged, Kind, Numbered, SetUp, Stored, Running, End}
 use Rattle.link_world.proofs.law.Core.Numbered.{Info, Super, Srej}
@@ -36,22 +37,22 @@ super_of Rej nr flag = Super nr
 super_of SrejFrame nr flag = srej_of flag nr
 
 abbrev pub setup_of : Bool → U → Kind
-setup_of answers SabmFrame = Sabm
-setup_of answers SabmeFrame = Sabm
+setup_of answers SabmFrame = Sabm 8
+setup_of answers SabmeFrame = Sabm 128
 setup_of answers DiscFrame = Disc
 setup_of answers DmFrame = Dm answers
 setup_of answers UaFrame = Ua
 
--- what a link sends, where UA and DM answer a SABM or DISC or not
-abbrev pub kind_of : Bool → Sent → Kind
-kind_of answers (InfoSent number nr packet) = IsNumbered (Info number nr packet)
-kind_of answers (SuperSent which command nr flag) = IsNumbered (super_of which nr flag)
-kind_of answers (SetupSent which flag) = setup_of answers which
+-- what a link sends in a modulus, where UA and DM answer a SABM, SABME or DISC or not
+abbrev pub kind_of : Bool → ℕ → Sent → Kind
+kind_of answers modulus (InfoSent number nr packet) = IsNumbered modulus (Info number nr packet)
+kind_of answers modulus (SuperSent which command nr flag) = IsNumbered modulus (super_of which nr flag)
+kind_of answers modulus (SetupSent which flag) = setup_of answers which
 
-abbrev pub core_sent : Bool → ℕ → Sent → Tagged
-core_sent answers tag sent = record { tag = tag; kind = kind_of answers sent }
+abbrev pub core_sent : Bool → ℕ → SentIn → Tagged
+core_sent answers tag sent = record { tag = tag; kind = kind_of answers sent.modulus sent.frame }
 
-abbrev pub cores_sent : Bool → ℕ → List Sent → List Tagged
+abbrev pub cores_sent : Bool → ℕ → List SentIn → List Tagged
 cores_sent answers tag sent = map (core_sent answers tag) sent
 
 -- a link that is up, in a set-up
@@ -68,7 +69,13 @@ running_of m q = record {
 
 -- an end behind some set-ups
 abbrev pub end_behind : Machine → List SetUp → End
-end_behind m ended = record { modulus = m.incoming.modulus; window = m.incoming.window; ended = ended; standing = Idle }
+end_behind m ended = record {
+  windows = λ modulus. window_in modulus m.params;
+  modulus = m.incoming.modulus;
+  window = m.incoming.window;
+  ended = ended;
+  standing = Idle;
+}
 
 abbrev pub up_end : Machine → List SetUp → SetUp → End
 up_end m ended q = now (Up (running_of m q)) (end_behind m ended)

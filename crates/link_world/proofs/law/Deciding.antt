@@ -41,26 +41,26 @@ nr_order va got top (Srej nr) o is h ends =
 
 -- N(R) of a front frame is from V(A) to the top
 pub nr_in_order :
-    (x y : End) (r : Running) (tag : ℕ) (n : Numbered) (rest to_y : List Tagged)
-    → UpInvariant x y r (numbered_to tag n ∷ rest) to_y
+    (x y : End) (r : Running) (tag m : ℕ) (n : Numbered) (rest to_y : List Tagged)
+    → UpInvariant x y r (numbered_to tag m n ∷ rest) to_y
     → (r.va ≤ nr_of n) × (nr_of n ≤ r.top)
-nr_in_order x y r tag n rest to_y h =
+nr_in_order x y r tag m n rest to_y h =
     let mate = r.set_up.mate in
-    let f = numbered_to tag n in
+    let f = numbered_to tag m n in
     let got = length (got_in (set_ups y) mate) in
-    let of : of_mate mate f ≡ Some n = of_mate_same mate f (front_of_mate x y r tag n rest to_y h) in
+    let of : of_mate mate f ≡ Some n = of_mate_same mate f (front_of_mate x y r tag m n rest to_y h) in
     nr_order r.va got r.top n (of_mate mate f) of h.x_hears.numbers.acks.0
     (chain_start (acks mate got r.top) (acks_rising mate got r.top) (ack_next r.va (of_mate mate f)) rest
     h.x_hears.numbers.acks.1)
 
 -- So it is valid, and names the true number, where the window is below the modulus.
 pub nr_is_named :
-    (modulus : ℕ) (x y : End) (r : Running) (tag : ℕ) (n : Numbered) (rest to_y : List Tagged) → x.window < modulus
-    → UpInvariant x y r (numbered_to tag n ∷ rest) to_y
+    (modulus : ℕ) (x y : End) (r : Running) (tag m : ℕ) (n : Numbered) (rest to_y : List Tagged) → x.window < modulus
+    → UpInvariant x y r (numbered_to tag m n ∷ rest) to_y
     → (ahead modulus r.va (nr_of n % modulus) ≤ r.top - r.va)
     × (r.va + ahead modulus r.va (nr_of n % modulus) ≡ nr_of n)
-nr_is_named modulus x y r tag n rest to_y fits h =
-    let order = nr_in_order x y r tag n rest to_y h in
+nr_is_named modulus x y r tag m n rest to_y fits h =
+    let order = nr_in_order x y r tag m n rest to_y h in
     let k : Keeps r x.window = h.x_hears.keeps in
     let low = order.0 in
     let high = order.1 in
@@ -75,29 +75,29 @@ held_from vr (s ∷ stored) = let rest = held_from vr stored in omega arith
 
 -- N(S) of a front frame is less than the sender's window above V(R), and at most that window below it
 pub ns_in_order :
-    (x y : End) (r : Running) (tag ns nr : ℕ) (packet : Packet) (rest to_y : List Tagged)
-    → UpInvariant x y r (numbered_to tag (Info ns nr packet) ∷ rest) to_y
-    → (r.vr ≤ ns + y.window) × (ns < r.vr + y.window)
-ns_in_order x y r tag ns nr packet rest to_y h =
+    (x y : End) (r : Running) (tag m ns nr : ℕ) (packet : Packet) (rest to_y : List Tagged)
+    → UpInvariant x y r (numbered_to tag m (Info ns nr packet) ∷ rest) to_y
+    → (r.vr ≤ ns + (y.windows x.modulus)) × (ns < r.vr + (y.windows x.modulus))
+ns_in_order x y r tag m ns nr packet rest to_y h =
     let mate = r.set_up.mate in
     let n : Numbered = Info ns nr packet in
-    let f = numbered_to tag n in
-    let of : of_mate mate f ≡ Some n = of_mate_same mate f (front_of_mate x y r tag n rest to_y h) in
-    let both : (held r.vr r.stored ≤ ns + y.window) × (ns < r.vr + y.window) =
-    subst (λ o. InfoHolds r.vr y.window (held r.vr r.stored) o) of h.x_hears.numbers.infos.0 in
+    let f = numbered_to tag m n in
+    let of : of_mate mate f ≡ Some n = of_mate_same mate f (front_of_mate x y r tag m n rest to_y h) in
+    let both : (held r.vr r.stored ≤ ns + (y.windows x.modulus)) × (ns < r.vr + (y.windows x.modulus)) =
+    subst (λ o. InfoHolds r.vr (y.windows x.modulus) (held r.vr r.stored) o) of h.x_hears.numbers.infos.0 in
     let low = both.0 in
     let from = held_from r.vr r.stored in
     (omega arith, both.1)
 
 -- by REJ: it is V(R) modulo the modulus exactly where it is V(R), where the sender's window is below the modulus
 pub ns_by_rej :
-    (modulus : ℕ) (x y : End) (r : Running) (tag ns nr : ℕ) (packet : Packet) (rest to_y : List Tagged)
-    → y.window < modulus
-    → UpInvariant x y r (numbered_to tag (Info ns nr packet) ∷ rest) to_y
+    (modulus : ℕ) (x y : End) (r : Running) (tag m ns nr : ℕ) (packet : Packet) (rest to_y : List Tagged)
+    → (y.windows x.modulus) < modulus
+    → UpInvariant x y r (numbered_to tag m (Info ns nr packet) ∷ rest) to_y
     → (ahead modulus r.vr (ns % modulus) ≡ 0) ↔ (ns ≡ r.vr)
-ns_by_rej modulus x y r tag ns nr packet rest to_y fits h =
-    let order = ns_in_order x y r tag ns nr packet rest to_y h in
-    decided modulus y.window r.vr ns fits order.0 order.1
+ns_by_rej modulus x y r tag m ns nr packet rest to_y fits h =
+    let order = ns_in_order x y r tag m ns nr packet rest to_y h in
+    decided modulus (y.windows x.modulus) r.vr ns fits order.0 order.1
   where
     decided : (modulus k vr ns : ℕ) → k < modulus → vr ≤ ns + k → ns < vr + k
         → (ahead modulus vr (ns % modulus) ≡ 0) ↔ (ns ≡ vr)
@@ -115,14 +115,14 @@ ns_by_rej modulus x y r tag ns nr packet rest to_y fits h =
 -- By SREJ, where both windows are at most half the modulus: from V(R) on the distance is the true one, and below V(R)
 -- it is outside the hearer's window.
 pub ns_by_srej :
-    (modulus : ℕ) (x y : End) (r : Running) (tag ns nr : ℕ) (packet : Packet) (rest to_y : List Tagged)
-    → x.window + x.window ≤ modulus → y.window + y.window ≤ modulus
-    → UpInvariant x y r (numbered_to tag (Info ns nr packet) ∷ rest) to_y
+    (modulus : ℕ) (x y : End) (r : Running) (tag m ns nr : ℕ) (packet : Packet) (rest to_y : List Tagged)
+    → x.window + x.window ≤ modulus → (y.windows x.modulus) + (y.windows x.modulus) ≤ modulus
+    → UpInvariant x y r (numbered_to tag m (Info ns nr packet) ∷ rest) to_y
     → (r.vr ≤ ns → ahead modulus r.vr (ns % modulus) ≡ ns - r.vr)
     × (ns < r.vr → x.window ≤ ahead modulus r.vr (ns % modulus))
-ns_by_srej modulus x y r tag ns nr packet rest to_y own other h =
-    let order = ns_in_order x y r tag ns nr packet rest to_y h in
-    decided modulus x.window y.window r.vr ns own other order.0 order.1
+ns_by_srej modulus x y r tag m ns nr packet rest to_y own other h =
+    let order = ns_in_order x y r tag m ns nr packet rest to_y h in
+    decided modulus x.window (y.windows x.modulus) r.vr ns own other order.0 order.1
   where
     decided :
         (modulus own k vr ns : ℕ) → own + own ≤ modulus → k + k ≤ modulus → vr ≤ ns + k → ns < vr + k

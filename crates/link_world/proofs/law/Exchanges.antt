@@ -31,11 +31,11 @@ pub answers_removed :
 answers_removed before f after = omega (arith, answers_append before (f ∷ after), answers_append before after)
 
 sabm_is_ask : (k : Kind) → sabm_of k ≤ ask_of k
-sabm_is_ask Sabm = omega arith
+sabm_is_ask (Sabm modulus) = omega arith
 sabm_is_ask Disc = omega arith
 sabm_is_ask Ua = omega arith
 sabm_is_ask (Dm answers) = omega arith
-sabm_is_ask (IsNumbered n) = omega arith
+sabm_is_ask (IsNumbered modulus n) = omega arith
 
 -- a SABM asks
 pub sabms_are_asks : (fs : List Tagged) → sabms fs ≤ asks fs
@@ -48,11 +48,11 @@ ua_pushed [] f h = h
 ua_pushed (g ∷ fs) f h = ap (λ t. ua_by g.kind g.tag t) (ua_pushed fs f h)
 
 ua_none : (k : Kind) (tag : ℕ) (rest : Option ℕ) → answer_of k ≡ 0 → ua_by k tag rest ≡ rest
-ua_none Sabm tag rest h = refl
+ua_none (Sabm modulus) tag rest h = refl
 ua_none Disc tag rest h = refl
 ua_none Ua tag rest h = absurd (omega arith)
 ua_none (Dm answers) tag rest h = refl
-ua_none (IsNumbered n) tag rest h = refl
+ua_none (IsNumbered modulus n) tag rest h = refl
 
 -- no answer, and so no UA
 pub no_ua : (fs : List Tagged) → answers fs ≡ 0 → ua_tag fs ≡ None
@@ -72,20 +72,20 @@ abbrev pub Fades : {A : Type 0} → Option A → Option A → Type 0
 Fades new old = (new ≡ None) ⊎ (new ≡ old)
 
 fades_by : (k : Kind) (tag : ℕ) (new old : Option ℕ) → Fades new old → Fades (ua_by k tag new) (ua_by k tag old)
-fades_by Sabm tag new old h = h
+fades_by (Sabm modulus) tag new old h = h
 fades_by Disc tag new old h = h
 fades_by Ua tag new old h = inr refl
 fades_by (Dm answers) tag new old h = h
-fades_by (IsNumbered n) tag new old h = h
+fades_by (IsNumbered modulus n) tag new old h = h
 
 removed_first :
     (k : Kind) (tag : ℕ) (after : List Tagged) → answer_of k + answers after ≤ 1
     → Fades (ua_tag after) (ua_by k tag (ua_tag after))
-removed_first Sabm tag after h = inr refl
+removed_first (Sabm modulus) tag after h = inr refl
 removed_first Disc tag after h = inr refl
 removed_first Ua tag after h = inl (no_ua after (omega arith))
 removed_first (Dm answers) tag after h = inr refl
-removed_first (IsNumbered n) tag after h = inr refl
+removed_first (IsNumbered modulus n) tag after h = inr refl
 
 -- a frame goes: there is no UA then, or it is the same
 pub ua_removed :
@@ -97,12 +97,14 @@ ua_removed (g ∷ before) f after h =
     (ua_removed before f after (omega arith))
 
 -- so with what an end sees
-pub view_fades : (s : Standing) (new old : Option ℕ) → Fades new old → Fades (view_by s new) (view_by s old)
-view_fades Idle new old h = inr refl
-view_fades (Calling waiting) new old (inl none) = inl (ap (view_by (Calling waiting)) none)
-view_fades (Calling waiting) new old (inr same) = inr (ap (view_by (Calling waiting)) same)
-view_fades (Up r) new old h = inr refl
-view_fades Releasing new old h = inr refl
+pub view_fades :
+    (modulus : ℕ) (s : Standing) (new old : Option ℕ) → Fades new old
+    → Fades (view_by modulus s new) (view_by modulus s old)
+view_fades modulus Idle new old h = inr refl
+view_fades modulus (Calling waiting) new old (inl none) = inl (ap (view_by modulus (Calling waiting)) none)
+view_fades modulus (Calling waiting) new old (inr same) = inr (ap (view_by modulus (Calling waiting)) same)
+view_fades modulus (Up r) new old h = inr refl
+view_fades modulus Releasing new old h = inr refl
 
 -- what holds with none and held before holds
 pub by_fading : {A : Type 0} (P : Option A → Type 0) (new old : Option A) → Fades new old → P None → P old → P new

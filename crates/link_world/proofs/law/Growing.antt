@@ -4,7 +4,7 @@ use Rattle.std.specs.List.{AllByRecursion as Each}
 use Rattle.std.proofs.lemmas.Bool.{cases_lt}
 use Rattle.std.proofs.lemmas.Option.{none-some}
 use Rattle.selective_reject.specs.declared.packet.Packet.{Packet}
-use Rattle.link_world.proofs.law.Core.{End, Running, SetUp, Stored, Tagged, Kind, IsPrefixOf, set_ups, era, count, given_in, got_in}
+use Rattle.link_world.proofs.law.Core.{End, Running, SetUp, Stored, Tagged, Kind, IsPrefixOf, set_ups, era, count, given_in, got_in, modulus_in}
 use Rattle.link_world.proofs.law.Core.Numbered.{Info, Super, Srej}
 use Rattle.link_world.proofs.law.Core.Kind.{Sabm, Disc, Ua, Dm, IsNumbered}
 use Rattle.link_world.proofs.law.Core.Standing.{Up}
@@ -17,17 +17,19 @@ use Rattle.link_world.proofs.law.Views.{View, view_up}
 use Rattle.link_world.proofs.law.Options.{if_weaker}
 use Rattle.link_world.proofs.law.Upward.{sent_higher}
 use Rattle.link_world.proofs.law.CoreLaw.{GotBy, GotOf, OriginBelow, OriginsRise}
+use Rattle.link_world.proofs.law.Silences.{origins_opened}
+use Rattle.link_world.proofs.law.Moduli.{frames_grown, origins_grown}
 use Rattle.link_world.proofs.law.Invariant.{low_by, Tags, MatesAgree, Carries, Packets, WasSent, Hears}
 
 carries_grown : (ys zs : List SetUp) → SetUpsGrow ys zs → (tag : ℕ) (k : Kind) → Carries ys tag k → Carries zs tag k
-carries_grown ys zs g tag Sabm h = tt
+carries_grown ys zs g tag (Sabm modulus) h = tt
 carries_grown ys zs g tag Disc h = tt
 carries_grown ys zs g tag Ua h = tt
 carries_grown ys zs g tag (Dm answers) h = tt
-carries_grown ys zs g tag (IsNumbered (Info ns nr packet)) h =
+carries_grown ys zs g tag (IsNumbered modulus (Info ns nr packet)) h =
     prefix_get (given_in ys tag) (given_in zs tag) ns packet (g.given tag) h
-carries_grown ys zs g tag (IsNumbered (Super nr)) h = tt
-carries_grown ys zs g tag (IsNumbered (Srej nr)) h = tt
+carries_grown ys zs g tag (IsNumbered modulus (Super nr)) h = tt
+carries_grown ys zs g tag (IsNumbered modulus (Srej nr)) h = tt
 
 got_grown :
     (ys zs : List SetUp) → SetUpsGrow ys zs → (got : List Packet) (o : Option ℕ) → GotBy ys got o → GotBy zs got o
@@ -68,15 +70,19 @@ mates_seen v a b era count other is h = record {
 -- y hears of it
 pub last_changes :
     (u : Option View) (x y : End) (r s : Running) (to_x to_y : List Tagged) → IsPrefixOf r.set_up.given s.set_up.given
-    → r.top ≤ s.top
+    → r.top ≤ s.top → s.set_up.modulus ≡ r.set_up.modulus
     → IfSome u (λ b. AcksRise b.mate b.va to_y (length (got_in (set_ups (now (Up s) x)) b.mate)) b.top)
-    → Hears u (Some (view_up r)) y (now (Up r) x) to_y to_x → Hears u (Some (view_up s)) y (now (Up s) x) to_y to_x
-last_changes u x y r s to_x to_y given top acks h =
+    → Hears u (Some (view_up x.modulus r)) y (now (Up r) x) to_y to_x
+    → Hears u (Some (view_up x.modulus s)) y (now (Up s) x) to_y to_x
+last_changes u x y r s to_x to_y given top modulus acks h =
     let same : count (now (Up r) x) ≡ count (now (Up s) x) = same_count x.ended r.set_up s.set_up in
+    let xs = set_ups (now (Up r) x) in
+    let zs = set_ups (now (Up s) x) in
+    let grown : SetUpsGrow xs zs = grow_last x.ended r.set_up s.set_up given modulus in
     record {
       tags = subst (λ c. Tags (low_by y.standing) to_y (era x) c) same h.tags;
       one_exchange = h.one_exchange;
-      mates = mates_seen u (view_up r) (view_up s) (era x) (count (now (Up r) x)) (count (now (Up s) x)) same h.mates;
+      mates = mates_seen u (view_up x.modulus r) (view_up x.modulus s) (era x) (count (now (Up r) x)) (count (now (Up s) x)) same h.mates;
       keeps = h.keeps;
       numbers = record {
         counts = h.numbers.counts;
@@ -85,8 +91,20 @@ last_changes u x y r s to_x to_y given top acks h =
         sent = if_weaker u (λ b. WasSent b to_y r.top) (λ b. WasSent b to_y s.top)
             (λ b w. sent_higher b to_y r.top s.top top w) h.numbers.sent;
       };
-      packets = packets_grown u to_y y.ended (set_ups y) (set_ups (now (Up r) x)) (set_ups (now (Up s) x))
-          (grow_last x.ended r.set_up s.set_up given) h.packets;
+      packets = packets_grown u to_y y.ended (set_ups y) xs zs grown h.packets;
+      moduli = record {
+        window = h.moduli.window;
+        own = h.moduli.own;
+        frames = frames_grown xs zs grown to_y h.tags.of_set_up h.moduli.frames;
+        calls = h.moduli.calls;
+        same = h.moduli.same;
+        mate = if_weaker u (λ b. b.mate < length xs → modulus_in xs b.mate ≡ b.modulus)
+            (λ b. b.mate < length zs → modulus_in zs b.mate ≡ b.modulus)
+            (λ b is within. let before : b.mate < length xs = omega arith in
+            grown.modulus b.mate before ∙ is before) h.moduli.mate;
+        origins = origins_grown xs zs grown (set_ups y) (origins_opened xs (set_ups y) h.packets.prefixes)
+            h.moduli.origins;
+      };
     }
 
 -- a packet was given only in a set-up that was opened

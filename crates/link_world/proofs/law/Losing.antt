@@ -11,6 +11,7 @@ use Rattle.link_world.proofs.law.Views.{View, ua_tag, view}
 use Rattle.link_world.proofs.law.Options.{if_weaker}
 use Rattle.link_world.proofs.law.Exchanges.{asks_removed, answers_removed, ua_removed, view_fades}
 use Rattle.link_world.proofs.law.NoView.{both_fading}
+use Rattle.link_world.proofs.law.Moduli.{moduli_lost}
 use Rattle.link_world.proofs.law.Invariant.{OfSetUp, IsCurrentCall, Carries, Tags, Numbers, Packets, WasSent, BothHear, Invariant}
 
 pub tags_lost :
@@ -32,18 +33,19 @@ sent_lost a before f after top h = record {
 
 pub numbers_lost :
     (v u : Option View) (before : List Tagged) (f : Tagged) (after : List Tagged) (xs : List SetUp) (own : ℕ)
-    (ys : List SetUp) (k : ℕ)
-    → Numbers v u (before ++ f ∷ after) xs own ys k → Numbers v u (before ++ after) xs own ys k
-numbers_lost v u before f after xs own ys k h = record {
+    (ys : List SetUp) (windows : ℕ → ℕ)
+    → Numbers v u (before ++ f ∷ after) xs own ys windows → Numbers v u (before ++ after) xs own ys windows
+numbers_lost v u before f after xs own ys windows h = record {
   counts = h.counts;
   acks = if_weaker v (λ a. AcksRise a.mate a.va (before ++ f ∷ after) (length (got_in ys a.mate)) a.top)
       (λ a. AcksRise a.mate a.va (before ++ after) (length (got_in ys a.mate)) a.top)
       (λ a c. chain_removed (acks a.mate (length (got_in ys a.mate)) a.top)
       (acks_rising a.mate (length (got_in ys a.mate)) a.top) a.va before f after c)
       h.acks;
-  infos = if_weaker v (λ a. InfosFit a.mate (held a.vr a.stored) (before ++ f ∷ after) a.vr k)
-      (λ a. InfosFit a.mate (held a.vr a.stored) (before ++ after) a.vr k)
-      (λ a c. chain_removed (infos a.mate a.vr k) (infos_rising a.mate a.vr k) (held a.vr a.stored) before f after c)
+  infos = if_weaker v (λ a. InfosFit a.mate (held a.vr a.stored) (before ++ f ∷ after) a.vr (windows a.modulus))
+      (λ a. InfosFit a.mate (held a.vr a.stored) (before ++ after) a.vr (windows a.modulus))
+      (λ a c. chain_removed (infos a.mate a.vr (windows a.modulus)) (infos_rising a.mate a.vr (windows a.modulus))
+      (held a.vr a.stored) before f after c)
       h.infos;
   sent = if_weaker v (λ a. IfSome u (λ b. WasSent a (before ++ f ∷ after) b.top))
       (λ a. IfSome u (λ b. WasSent a (before ++ after) b.top))
@@ -79,8 +81,9 @@ both_lost v u x y before f after to_y h =
         one_exchange = omega arith;
         mates = h.x_hears.mates;
         keeps = h.x_hears.keeps;
-        numbers = numbers_lost v u before f after (set_ups x) (era x) (set_ups y) y.window h.x_hears.numbers;
+        numbers = numbers_lost v u before f after (set_ups x) (era x) (set_ups y) y.windows h.x_hears.numbers;
         packets = packets_lost v before f after x.ended (set_ups x) (set_ups y) h.x_hears.packets;
+        moduli = moduli_lost v u x y before f after h.x_hears.moduli;
       };
       y_hears = record {
         tags = h.y_hears.tags;
@@ -89,6 +92,7 @@ both_lost v u x y before f after to_y h =
         keeps = h.y_hears.keeps;
         numbers = h.y_hears.numbers;
         packets = h.y_hears.packets;
+        moduli = h.y_hears.moduli;
       };
     }
 
@@ -99,7 +103,7 @@ pub lose_keeps :
     → Invariant (record { x = x; y = y; to_x = before ++ after; to_y = to_y })
 lose_keeps x y before f after to_y h =
     let other = h.y_hears.one_exchange in
-    let fades = view_fades x.standing (ua_tag (before ++ after)) (ua_tag (before ++ f ∷ after))
+    let fades = view_fades x.modulus x.standing (ua_tag (before ++ after)) (ua_tag (before ++ f ∷ after))
     (ua_removed before f after (omega arith)) in
     both_fading (view x (before ++ after)) (view x (before ++ f ∷ after)) (view y to_y) x y (before ++ after) to_y fades
     (both_lost (view x (before ++ f ∷ after)) (view y to_y) x y before f after to_y h)

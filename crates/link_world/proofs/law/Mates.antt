@@ -5,11 +5,11 @@ use Rattle.link_world.proofs.law.Core.{Tagged, Kind, Numbered}
 use Rattle.link_world.proofs.law.Core.Kind.{Sabm, Disc, Ua, Dm, IsNumbered}
 
 abbrev pub numbered : Kind → Option Numbered
-numbered Sabm = None
+numbered (Sabm modulus) = None
 numbered Disc = None
 numbered Ua = None
 numbered (Dm answers) = None
-numbered (IsNumbered n) = Some n
+numbered (IsNumbered modulus n) = Some n
 
 -- an I or S frame of one set-up
 abbrev pub of_mate : ℕ → Tagged → Option Numbered

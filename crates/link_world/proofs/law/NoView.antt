@@ -4,6 +4,7 @@ use Rattle.link_world.proofs.law.Core.{End, SetUp, Tagged, set_ups, era, count}
 use Rattle.link_world.proofs.law.Views.{View}
 use Rattle.link_world.proofs.law.Options.{if_all}
 use Rattle.link_world.proofs.law.Exchanges.{Fades, by_fading}
+use Rattle.link_world.proofs.law.Moduli.{moduli_blind, moduli_unseen}
 use Rattle.link_world.proofs.law.Invariant.{MatesAgree, Numbers, Packets, Hears, BothHear}
 
 pub mates_blind : (u : Option View) (era count : ℕ) → MatesAgree None u era count
@@ -13,14 +14,14 @@ pub mates_unseen : (v u : Option View) (era count : ℕ) → MatesAgree v u era 
 mates_unseen v u era count h = record { last = h.last; each_other = if_all v (λ a. Unit {0}) (λ a. tt) }
 
 pub numbers_blind :
-    (u : Option View) (fs : List Tagged) (xs : List SetUp) (own : ℕ) (ys : List SetUp) (k : ℕ)
-    → Numbers None u fs xs own ys k
-numbers_blind u fs xs own ys k = record { counts = tt; acks = tt; infos = tt; sent = tt }
+    (u : Option View) (fs : List Tagged) (xs : List SetUp) (own : ℕ) (ys : List SetUp) (windows : ℕ → ℕ)
+    → Numbers None u fs xs own ys windows
+numbers_blind u fs xs own ys windows = record { counts = tt; acks = tt; infos = tt; sent = tt }
 
 pub numbers_unseen :
-    (v u : Option View) (fs : List Tagged) (xs : List SetUp) (own : ℕ) (ys : List SetUp) (k : ℕ)
-    → Numbers v u fs xs own ys k → Numbers v None fs xs own ys k
-numbers_unseen v u fs xs own ys k h = record {
+    (v u : Option View) (fs : List Tagged) (xs : List SetUp) (own : ℕ) (ys : List SetUp) (windows : ℕ → ℕ)
+    → Numbers v u fs xs own ys windows → Numbers v None fs xs own ys windows
+numbers_unseen v u fs xs own ys windows h = record {
   counts = h.counts;
   acks = h.acks;
   infos = h.infos;
@@ -47,8 +48,9 @@ hears_blind v u x y to_x to_y h = record {
   one_exchange = h.one_exchange;
   mates = mates_blind u (era y) (count y);
   keeps = h.keeps;
-  numbers = numbers_blind u to_x (set_ups x) (era x) (set_ups y) y.window;
+  numbers = numbers_blind u to_x (set_ups x) (era x) (set_ups y) y.windows;
   packets = packets_blind v to_x x.ended (set_ups x) (set_ups y) h.packets;
+  moduli = moduli_blind v u x y to_x h.moduli;
 }
 
 -- y sees nothing now
@@ -59,8 +61,9 @@ hears_unseen v u x y to_x to_y h = record {
   one_exchange = h.one_exchange;
   mates = mates_unseen v u (era y) (count y) h.mates;
   keeps = h.keeps;
-  numbers = numbers_unseen v u to_x (set_ups x) (era x) (set_ups y) y.window h.numbers;
+  numbers = numbers_unseen v u to_x (set_ups x) (era x) (set_ups y) y.windows h.numbers;
   packets = h.packets;
+  moduli = moduli_unseen v u x y to_x h.moduli;
 }
 
 pub both_blind :

@@ -1,12 +1,14 @@
 -- The places of a link between two events: as many as the window, and nothing in the first; by REJ nothing in any.
-use Rattle.std.proofs.Common.{◌≡◌, ℕ, zero, suc, ◌+◌, ◌-◌, ◌≤◌, List, [], ◌∷◌, ◌++◌, length, drop, replicate, Option, Some, None, refl, sym, ap, ◌∙◌, arith, length-append, length-drop, length-set}
+use Rattle.std.proofs.Common.{◌≡◌, ℕ, zero, suc, ◌+◌, ◌-◌, ◌≤◌, Bool, true, false, ◌==◌, if◌then◌else◌, ◌⊎◌, subst, List, [], ◌∷◌, ◌++◌, length, drop, replicate, Option, Some, None, refl, sym, ap, ◌∙◌, arith, length-append, length-drop, length-set}
 use Rattle.std.proofs.lemmas.List.{length-replicate, drop-replicate, replicate-append-replicate, get_or-set_other}
 use Rattle.selective_reject.specs.declared.packet.Packet.{Packet}
 use Rattle.selective_reject.specs.declared.place.Place.{Place}
 use Rattle.selective_reject.specs.declared.window.Mode.{Mode}
 use Rattle.selective_reject.specs.declared.window.Mode.TheVariants.{Rej as RejMode, Srej as SrejMode}
-use Rattle.selective_reject.specs.Incoming.{Incoming}
+use Rattle.selective_reject.specs.Incoming.{Incoming, empty_incoming}
 use Rattle.selective_reject.specs.Places.{empty_place, packet_at, with_packet, filled_place, place_at, asked}
+use Rattle.link_machine.specs.declared.params.Params.{Params}
+use Rattle.link_machine.specs.Params.{window_in}
 use Rattle.link_machine.specs.Acts.{run, before_gap, moved_on}
 
 pub record IsFit (i : Incoming) : Type 0 where
@@ -144,4 +146,57 @@ fit_new modulus window mode positive = record {
   first = first_of_empty window;
   positive = positive;
   in_order = λ rej. refl;
+}
+
+-- each window takes a frame
+pub record HasRoom (p : Params) : Type 0 where
+  pub narrow : 1 ≤ p.window
+  pub wide : 1 ≤ p.wide_window
+
+pub room_in : (p : Params) (modulus : ℕ) → HasRoom p → 1 ≤ window_in modulus p
+room_in p modulus h = go (modulus == 128)
+  where
+    go : (b : Bool) → 1 ≤ (if b then p.wide_window else p.window)
+    go true = h.wide
+    go false = h.narrow
+
+-- a modulus is 8 or 128
+abbrev pub IsModulus : ℕ → Type 0
+IsModulus modulus = (modulus ≡ 8) ⊎ (modulus ≡ 128)
+
+-- what a link keeps of its partner's packets, by its parameters
+pub record IsSound (p : Params) (i : Incoming) : Type 0 where
+  pub fit : IsFit i
+  pub mode : i.mode ≡ p.mode
+  pub modulus : IsModulus i.modulus
+  pub room : HasRoom p
+
+-- a link that begins anew in a modulus
+pub sound_new :
+    (p : Params) (modulus : ℕ) → IsModulus modulus → HasRoom p
+    → IsSound p (empty_incoming modulus (window_in modulus p) p.mode)
+sound_new p modulus is room = record {
+  fit = fit_new modulus (window_in modulus p) p.mode (room_in p modulus room);
+  mode = refl;
+  modulus = is;
+  room = room;
+}
+
+-- and one that begins anew in its own
+pub sound_anew : (p : Params) (i : Incoming) → IsSound p i → IsSound p (empty_incoming i.modulus i.window i.mode)
+sound_anew p i s = record {
+  fit = fit_new i.modulus i.window i.mode s.fit.positive;
+  mode = s.mode;
+  modulus = s.modulus;
+  room = s.room;
+}
+
+-- its places change
+pub sound_same :
+    (p : Params) (i j : Incoming) → IsFit j → j.mode ≡ i.mode → j.modulus ≡ i.modulus → IsSound p i → IsSound p j
+sound_same p i j fit mode modulus s = record {
+  fit = fit;
+  mode = mode ∙ s.mode;
+  modulus = subst IsModulus (sym modulus) s.modulus;
+  room = s.room;
 }

@@ -4,7 +4,7 @@ use Rattle.std.specs.List.{AllByRecursion as Each}
 use Rattle.std.proofs.lemmas.List.{length_push}
 use Rattle.std.proofs.lemmas.Bool.{false≢true}
 use Rattle.selective_reject.specs.declared.packet.Packet.{Packet}
-use Rattle.link_world.proofs.law.Core.{End, Running, SetUp, Stored, Tagged, Numbered, IsPrefixOf, set_ups, era, count, given_in, got_in}
+use Rattle.link_world.proofs.law.Core.{End, Running, SetUp, Stored, Tagged, Numbered, IsPrefixOf, set_ups, era, count, given_in, got_in, modulus_in}
 use Rattle.link_world.proofs.law.Core.Numbered.{Info}
 use Rattle.link_world.proofs.law.Core.Standing.{Up}
 use Rattle.link_world.proofs.law.CoreMoves.{now, numbered_to, got_more, first_origin, storing}
@@ -20,6 +20,7 @@ use Rattle.link_world.proofs.law.Losing.{lose_keeps}
 use Rattle.link_world.proofs.law.Growing.{last_changes, got_grows, got_stays, given_opened, origins_before, origins_pushed}
 use Rattle.link_world.proofs.law.Upward.{front_of_mate}
 use Rattle.link_world.proofs.law.UpSending.{UpInvariant, got_as_mate, seen_of_own}
+use Rattle.link_world.proofs.law.Moduli.{moduli_up}
 use Rattle.link_world.proofs.law.CoreLaw.{GotOf}
 use Rattle.link_world.proofs.law.Invariant.{Keeps, WasSent}
 
@@ -28,7 +29,7 @@ pub record IsNext (x y : End) (r : Running) (packet : Packet) (stored : List Sto
     (to_x to_y : List Tagged) : Type 0 where
   pub given : slice_get (given_in (set_ups y) r.set_up.mate) r.vr ≡ Some packet
   pub sent : IfSome (view y to_y) (λ b. (r.vr < b.top) × Each (λ (s : Stored). s.number < b.top) stored)
-  pub infos : InfosFit r.set_up.mate (held (r.vr + 1) stored) to_x (r.vr + 1) y.window
+  pub infos : InfosFit r.set_up.mate (held (r.vr + 1) stored) to_x (r.vr + 1) (y.windows x.modulus)
   pub carried : Each (λ (s : Stored). slice_get (given_in (set_ups y) r.set_up.mate) s.number ≡ Some s.packet) stored
 
 -- how many packets x got is V(R)
@@ -57,6 +58,12 @@ acks_of_got x y r s to_x to_y h more sent =
     (if_both (view y to_y) (λ b. b.mate ≡ era x) (λ b. r.vr < b.top) (λ b. (b.mate ≡ era x) × (r.vr < b.top))
     (λ b is lt. (is, lt)) (seen_of_own x y r to_x to_y h) sent)
     h.y_hears.numbers.acks
+
+-- the mate of x has the modulus of x, where it was opened
+own_modulus :
+    (x y : End) (r : Running) (to_x to_y : List Tagged) → r.set_up.mate < count y → UpInvariant x y r to_x to_y
+    → modulus_in (set_ups y) r.set_up.mate ≡ r.set_up.modulus
+own_modulus x y r to_x to_y opened h = h.x_hears.moduli.mate opened ∙ sym h.x_hears.moduli.own
 
 -- the packet with number V(R) is got
 pub got_keeps :
@@ -89,8 +96,8 @@ got_keeps x y r packet stored to_x to_y next h =
           acks = h.x_hears.numbers.acks;
           infos = next.infos;
           sent = if_both (view y to_y) (λ b. (r.vr < b.top) × Each (λ (s : Stored). s.number < b.top) stored)
-              (λ b. WasSent (view_up r) to_x b.top)
-              (λ b. WasSent (view_up s) to_x b.top)
+              (λ b. WasSent (view_up x.modulus r) to_x b.top)
+              (λ b. WasSent (view_up x.modulus s) to_x b.top)
               (λ b n w. record { stored = n.1; under_way = w.under_way }) next.sent h.x_hears.numbers.sent;
         };
         packets = record {
@@ -104,8 +111,10 @@ got_keeps x y r packet stored to_x to_y next h =
           own = subst (λ (q : SetUp). IfSome q.origin (λ a. a ≡ mate)) (sym last) refl;
           earlier = h.x_hears.packets.earlier;
         };
+        moduli = moduli_up (view y to_y) x y r s to_x refl refl
+            (own_modulus x y r to_x to_y (given_opened ys mate r.vr packet next.given) h) h.x_hears.moduli;
       };
-      y_hears = last_changes (view y to_y) x y r s to_x to_y (prefix_same r.set_up.given) (le_refl r.top)
+      y_hears = last_changes (view y to_y) x y r s to_x to_y (prefix_same r.set_up.given) (le_refl r.top) refl
           (acks_of_got x y r s to_x to_y h more
           (if_weaker (view y to_y) (λ b. (r.vr < b.top) × Each (λ (s : Stored). s.number < b.top) stored)
           (λ b. r.vr < b.top) (λ b n. n.0) next.sent))
@@ -139,25 +148,25 @@ own_origin x y r to_x to_y h =
 
 -- The front frame has the packet with number V(R), which is got.
 pub accept_front_keeps :
-    (x y : End) (r : Running) (tag nr : ℕ) (packet : Packet) (rest to_y : List Tagged)
-    → UpInvariant x y r (numbered_to tag (Info r.vr nr packet) ∷ rest) to_y
+    (x y : End) (r : Running) (tag m nr : ℕ) (packet : Packet) (rest to_y : List Tagged)
+    → UpInvariant x y r (numbered_to tag m (Info r.vr nr packet) ∷ rest) to_y
     → UpInvariant x y (got_more packet (first_origin r.set_up.origin tag) r.stored r) rest to_y
-accept_front_keeps x y r tag nr packet rest to_y h =
+accept_front_keeps x y r tag m nr packet rest to_y h =
     let n : Numbered = Info r.vr nr packet in
-    let f = numbered_to tag n in
+    let f = numbered_to tag m n in
     let mate = r.set_up.mate in
     let ys = set_ups y in
-    let is : tag ≡ mate = front_of_mate x y r tag n rest to_y h in
+    let is : tag ≡ mate = front_of_mate x y r tag m n rest to_y h in
     let of : of_mate mate f ≡ Some n = of_mate_same mate f is in
     let behind : UpInvariant x y r rest to_y = lose_keeps (now (Up r) x) y [] f rest to_y h in
     let next : IsNext x y r packet r.stored rest to_y = record {
       given = ap (λ t. slice_get (given_in ys t) r.vr) (sym is) ∙ h.x_hears.packets.carries.0;
-      sent = if_weaker (view y to_y) (λ b. WasSent (view_up r) (f ∷ rest) b.top)
+      sent = if_weaker (view y to_y) (λ b. WasSent (view_up x.modulus r) (f ∷ rest) b.top)
           (λ b. (r.vr < b.top) × Each (λ (s : Stored). s.number < b.top) r.stored)
           (λ b w. (info_below_of b.top r.vr nr packet (of_mate mate f) of w.under_way.0, w.stored))
           h.x_hears.numbers.sent;
       infos = infos_higher mate (info_next (held r.vr r.stored) (of_mate mate f)) (held (r.vr + 1) r.stored) r.vr
-          (r.vr + 1) y.window rest
+          (r.vr + 1) (y.windows x.modulus) rest
           (le_trans (held_next r.vr r.stored) (info_next_of (held r.vr r.stored) r.vr nr packet (of_mate mate f) of))
           (omega arith) h.x_hears.numbers.infos.1;
       carried = h.x_hears.packets.stored;
@@ -192,14 +201,14 @@ take_stored_keeps x y r before s after to_x to_y is number some h =
     let next : IsNext x y r s.packet (before ++ after) to_x to_y = record {
       given = ap (λ t. slice_get (given_in ys mate) t) (sym number)
           ∙ each_at (λ (t : Stored). slice_get (given_in ys mate) t.number ≡ Some t.packet) before s after kept;
-      sent = if_weaker (view y to_y) (λ b. WasSent (view_up r) to_x b.top)
+      sent = if_weaker (view y to_y) (λ b. WasSent (view_up x.modulus r) to_x b.top)
           (λ b. (r.vr < b.top) × Each (λ (t : Stored). t.number < b.top) (before ++ after))
           (λ b w.
           let below = subst (λ ss. Each (λ (t : Stored). t.number < b.top) ss) is w.stored in
           let here : s.number < b.top = each_at (λ (t : Stored). t.number < b.top) before s after below in
           (omega arith, each_removed (λ (t : Stored). t.number < b.top) before s after below))
           h.x_hears.numbers.sent;
-      infos = infos_higher mate (held r.vr r.stored) (held (r.vr + 1) (before ++ after)) r.vr (r.vr + 1) y.window to_x
+      infos = infos_higher mate (held r.vr r.stored) (held (r.vr + 1) (before ++ after)) r.vr (r.vr + 1) (y.windows x.modulus) to_x
           lower (omega arith) h.x_hears.numbers.infos;
       carried = each_removed (λ (t : Stored). slice_get (given_in ys mate) t.number ≡ Some t.packet) before s after
           kept;
@@ -229,7 +238,7 @@ acks_of_same x y r s to_x to_y h same =
 stored_keeps :
     (x y : End) (r : Running) (stored : List Stored) (to_x to_y : List Tagged) → r.set_up.mate < count y
     → IfSome (view y to_y) (λ b. Each (λ (s : Stored). s.number < b.top) stored)
-    → InfosFit r.set_up.mate (held r.vr stored) to_x r.vr y.window
+    → InfosFit r.set_up.mate (held r.vr stored) to_x r.vr (y.windows x.modulus)
     → Each (λ (s : Stored). slice_get (given_in (set_ups y) r.set_up.mate) s.number ≡ Some s.packet) stored
     → UpInvariant x y r to_x to_y → UpInvariant x y (storing stored (Some r.set_up.mate) r) to_x to_y
 stored_keeps x y r stored to_x to_y opened sent infos carried h =
@@ -252,7 +261,7 @@ stored_keeps x y r stored to_x to_y opened sent infos carried h =
           acks = h.x_hears.numbers.acks;
           infos = infos;
           sent = if_both (view y to_y) (λ b. Each (λ (s : Stored). s.number < b.top) stored)
-              (λ b. WasSent (view_up r) to_x b.top) (λ b. WasSent (view_up s) to_x b.top)
+              (λ b. WasSent (view_up x.modulus r) to_x b.top) (λ b. WasSent (view_up x.modulus s) to_x b.top)
               (λ b n w. record { stored = n; under_way = w.under_way }) sent h.x_hears.numbers.sent;
         };
         packets = record {
@@ -265,8 +274,10 @@ stored_keeps x y r stored to_x to_y opened sent infos carried h =
           own = subst (λ (q : SetUp). IfSome q.origin (λ a. a ≡ mate)) (sym last) refl;
           earlier = h.x_hears.packets.earlier;
         };
+        moduli = moduli_up (view y to_y) x y r s to_x refl refl
+            (own_modulus x y r to_x to_y opened h) h.x_hears.moduli;
       };
-      y_hears = last_changes (view y to_y) x y r s to_x to_y (prefix_same r.set_up.given) (le_refl r.top)
+      y_hears = last_changes (view y to_y) x y r s to_x to_y (prefix_same r.set_up.given) (le_refl r.top) refl
           (acks_of_same x y r s to_x to_y h refl) h.y_hears;
     }
 
@@ -278,19 +289,19 @@ held_with vr (t ∷ before) s after = let rest = held_with vr before s after in 
 
 -- The front frame has a packet that comes before its turn, which is stored.
 pub store_front_keeps :
-    (x y : End) (r : Running) (tag ns nr : ℕ) (packet : Packet) (before after : List Stored) (rest to_y : List Tagged)
-    → r.stored ≡ before ++ after → UpInvariant x y r (numbered_to tag (Info ns nr packet) ∷ rest) to_y
+    (x y : End) (r : Running) (tag m ns nr : ℕ) (packet : Packet) (before after : List Stored) (rest to_y : List Tagged)
+    → r.stored ≡ before ++ after → UpInvariant x y r (numbered_to tag m (Info ns nr packet) ∷ rest) to_y
     → UpInvariant x y
     (storing (before ++ record { number = ns; packet = packet } ∷ after) (first_origin r.set_up.origin tag) r)
     rest to_y
-store_front_keeps x y r tag ns nr packet before after rest to_y is_stored h =
+store_front_keeps x y r tag m ns nr packet before after rest to_y is_stored h =
     let n : Numbered = Info ns nr packet in
-    let f = numbered_to tag n in
+    let f = numbered_to tag m n in
     let mate = r.set_up.mate in
     let ys = set_ups y in
     let s : Stored = record { number = ns; packet = packet } in
     let stored : List Stored = before ++ s ∷ after in
-    let is : tag ≡ mate = front_of_mate x y r tag n rest to_y h in
+    let is : tag ≡ mate = front_of_mate x y r tag m n rest to_y h in
     let of : of_mate mate f ≡ Some n = of_mate_same mate f is in
     let reach = held r.vr r.stored in
     let same : held r.vr r.stored ≡ held r.vr (before ++ after) = ap (held r.vr) is_stored in
@@ -303,13 +314,13 @@ store_front_keeps x y r tag ns nr packet before after rest to_y is_stored h =
     subst (λ o. UpInvariant x y (storing stored o r) rest to_y)
     (sym (origin_is mate tag r.set_up.origin is (own_origin x y r rest to_y behind)))
     (stored_keeps x y r stored rest to_y (given_opened ys mate ns packet there)
-    (if_weaker (view y to_y) (λ b. WasSent (view_up r) (f ∷ rest) b.top)
+    (if_weaker (view y to_y) (λ b. WasSent (view_up x.modulus r) (f ∷ rest) b.top)
     (λ b. Each (λ (t : Stored). t.number < b.top) stored)
     (λ b w. each_inserted (λ (t : Stored). t.number < b.top) before s after
     (info_below_of b.top ns nr packet (of_mate mate f) of w.under_way.0)
     (subst (λ ss. Each (λ (t : Stored). t.number < b.top) ss) is_stored w.stored))
     h.x_hears.numbers.sent)
-    (infos_higher mate (info_next reach (of_mate mate f)) (held r.vr stored) r.vr r.vr y.window rest
+    (infos_higher mate (info_next reach (of_mate mate f)) (held r.vr stored) r.vr r.vr (y.windows x.modulus) rest
     (omega arith) (le_refl r.vr) h.x_hears.numbers.infos.1)
     (each_inserted (λ (t : Stored). slice_get (given_in ys mate) t.number ≡ Some t.packet) before s after there
     (subst (λ ss. Each (λ (t : Stored). slice_get (given_in ys mate) t.number ≡ Some t.packet) ss) is_stored

@@ -7,7 +7,7 @@ use Rattle.ax25_frames.specs.declared.frame.U.TheVariants.{Sabm as SabmFrame, Sa
 use Rattle.selective_reject.specs.declared.packet.Packet.{Packet}
 use Rattle.link_machine.specs.declared.state.LinkState.TheVariants.{Idle as IdleState, Calling as CallingState, Up as UpState, Releasing as ReleasingState}
 use Rattle.link_machine.specs.declared.acts.Told.TheVariants.{Given}
-use Rattle.link_machine.specs.Sent.{Sent, sent_kind}
+use Rattle.link_machine.specs.Sent.{Sent, SentIn, sent_in, sent_kind}
 use Rattle.link_machine.specs.Sent.Sent.{InfoSent, SuperSent, SetupSent}
 use Rattle.link_world.proofs.law.Core.{End, SetUp as CoreSetUp, Tagged as CoreTagged}
 use Rattle.link_world.proofs.law.Core.Standing.{Idle, Calling, Releasing}
@@ -18,13 +18,14 @@ use Rattle.link_world.specs.Flight.{Tagged, is_answer, set_up_of}
 use Rattle.link_world.specs.Recorded.{RecordedEnd, told_of, tagged}
 
 abbrev pub core_set_up : SetUp → CoreSetUp
-core_set_up q = record { given = q.given; got = q.got; mate = q.mate; origin = q.accepted }
+core_set_up q =
+    record { given = q.given; got = q.got; modulus = q.modulus; mate = q.mate; origin = q.accepted }
 
 abbrev pub core_set_ups : List SetUp → List CoreSetUp
 core_set_ups qs = map core_set_up qs
 
 abbrev pub core_tagged : Tagged → CoreTagged
-core_tagged f = core_sent f.answers f.set_up f.sent
+core_tagged f = core_sent f.answers f.set_up (sent_in f.modulus f.sent)
 
 abbrev pub core_flight : List Tagged → List CoreTagged
 core_flight fs = map core_tagged fs
@@ -40,19 +41,19 @@ pub data Shown (r : RecordedEnd) : End → Type 0 where
   ShownReleasing : r.machine.control.state ≡ ReleasingState → r.machine.outgoing.packets ≡ [] → r.waiting ≡ []
       → Shown r (now Releasing (end_behind r.machine (core_set_ups r.set_ups)))
 
--- UA answers, DM may, and no other frame does; SABME is never sent
+-- UA answers, DM may, and no other frame does
 abbrev pub AnswersAsSent : Bool → Sent → Type 0
 AnswersAsSent answers (InfoSent number nr packet) = answers ≡ false
 AnswersAsSent answers (SuperSent which command nr flag) = answers ≡ false
 AnswersAsSent answers (SetupSent SabmFrame flag) = answers ≡ false
-AnswersAsSent answers (SetupSent SabmeFrame flag) = ⊥
+AnswersAsSent answers (SetupSent SabmeFrame flag) = answers ≡ false
 AnswersAsSent answers (SetupSent DiscFrame flag) = answers ≡ false
 AnswersAsSent answers (SetupSent DmFrame flag) = ⊤
 AnswersAsSent answers (SetupSent UaFrame flag) = answers ≡ true
 
 -- a frame is written as it was sent
-pub record IsWritten (modulus : ℕ) (f : Tagged) : Type 0 where
-  pub kind : f.frame.kind ≡ sent_kind modulus f.sent
+pub record IsWritten (f : Tagged) : Type 0 where
+  pub kind : f.frame.kind ≡ sent_kind f.modulus f.sent
   pub answers : AnswersAsSent f.answers f.sent
 
 last_of_more :
@@ -71,17 +72,18 @@ getting_all packets c = record c { got = c.got ++ packets }
 
 -- packets that were told as given are those that the last set-up got
 pub told_given :
-    (mate : ℕ) (waiting : List Packet) (qs : List SetUp) (c : SetUp) (packets : List Packet)
-    → fold (told_of mate waiting) (qs ++ c ∷ []) (map Given packets) ≡ qs ++ getting_all packets c ∷ []
-told_given mate waiting qs c [] = ap (λ t. qs ++ record c { got = t } ∷ []) (sym (append-nil c.got))
-told_given mate waiting qs c (p ∷ packets) =
-    ap (λ t. fold (told_of mate waiting) t (map Given packets)) (change_last-push (getting p) qs c)
-    ∙ told_given mate waiting qs (getting p c) packets
+    (next : SetUp) (qs : List SetUp) (c : SetUp) (packets : List Packet)
+    → fold (told_of next) (qs ++ c ∷ []) (map Given packets) ≡ qs ++ getting_all packets c ∷ []
+told_given next qs c [] = ap (λ t. qs ++ record c { got = t } ∷ []) (sym (append-nil c.got))
+told_given next qs c (p ∷ packets) =
+    ap (λ t. fold (told_of next) t (map Given packets)) (change_last-push (getting p) qs c)
+    ∙ told_given next qs (getting p c) packets
     ∙ ap (λ t. qs ++ record c { got = t } ∷ []) (append_assoc c.got (p ∷ []) packets)
 
 -- only UA and DM are read as answers
 pub kind_by :
-    (on_ask : Bool) (modulus : ℕ) (s : Sent) → kind_of (on_ask && is_answer (sent_kind modulus s)) s ≡ kind_of on_ask s
+    (on_ask : Bool) (modulus : ℕ) (s : Sent)
+    → kind_of (on_ask && is_answer (sent_kind modulus s)) modulus s ≡ kind_of on_ask modulus s
 kind_by on_ask modulus (InfoSent number nr packet) = refl
 kind_by on_ask modulus (SuperSent which command nr flag) = refl
 kind_by true modulus (SetupSent SabmFrame flag) = refl
@@ -103,16 +105,18 @@ up_tag modulus n (SetupSent which flag) = omega arith
 
 -- what an end that is up has sent, with its tags
 pub flight_of_up :
-    (on_ask : Bool) (r : RecordedEnd) (n : ℕ) (sent : List Sent) → r.machine.control.state ≡ UpState
+    (on_ask : Bool) (r : RecordedEnd) (n : ℕ) (sent : List SentIn) → r.machine.control.state ≡ UpState
     → length r.set_ups ≡ n + 1
     → core_flight (map (tagged on_ask r) sent) ≡ cores_sent on_ask n sent
 flight_of_up on_ask r n [] up count = refl
 flight_of_up on_ask r n (s ∷ sent) up count =
-    let modulus : ℕ = r.machine.incoming.modulus in
-    let tag : set_up_of (sent_kind modulus s) r.machine.control.state (length r.set_ups) ≡ n =
-    ap (λ t. set_up_of (sent_kind modulus s) t (length r.set_ups)) up
-    ∙ ap (set_up_of (sent_kind modulus s) UpState) count ∙ up_tag modulus n s in
-    ap (λ t. record { tag = t; kind = kind_of (on_ask && is_answer (sent_kind modulus s)) s } ∷ core_flight
-    (map (tagged on_ask r) sent)) tag
-    ∙ ap (λ k. record { tag = n; kind = k } ∷ core_flight (map (tagged on_ask r) sent)) (kind_by on_ask modulus s)
+    let tag : set_up_of (sent_kind s.modulus s.frame) r.machine.control.state (length r.set_ups) ≡ n =
+    ap (λ t. set_up_of (sent_kind s.modulus s.frame) t (length r.set_ups)) up
+    ∙ ap (set_up_of (sent_kind s.modulus s.frame) UpState) count ∙ up_tag s.modulus n s.frame in
+    ap (λ t. record {
+      tag = t;
+      kind = kind_of (on_ask && is_answer (sent_kind s.modulus s.frame)) s.modulus s.frame;
+    } ∷ core_flight (map (tagged on_ask r) sent)) tag
+    ∙ ap (λ k. record { tag = n; kind = k } ∷ core_flight (map (tagged on_ask r) sent))
+    (kind_by on_ask s.modulus s.frame)
     ∙ ap (λ t. core_sent on_ask n s ∷ t) (flight_of_up on_ask r n sent up count)

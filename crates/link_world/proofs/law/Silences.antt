@@ -17,12 +17,12 @@ use Rattle.link_world.proofs.law.Invariant.{OfSetUp, IsCurrentCall, OriginUnder,
 silent_by :
     (count mate tag : ℕ) (k : Kind) → count ≤ mate → OfSetUp count tag k
     → IsSilent mate (record { tag = tag; kind = k })
-silent_by count mate tag Sabm le h = of_mate_none mate (record { tag = tag; kind = Sabm }) refl
+silent_by count mate tag (Sabm modulus) le h = of_mate_none mate (record { tag = tag; kind = (Sabm modulus) }) refl
 silent_by count mate tag Disc le h = of_mate_none mate (record { tag = tag; kind = Disc }) refl
 silent_by count mate tag Ua le h = of_mate_none mate (record { tag = tag; kind = Ua }) refl
 silent_by count mate tag (Dm answers) le h = of_mate_none mate (record { tag = tag; kind = Dm answers }) refl
-silent_by count mate tag (IsNumbered n) le h =
-    of_mate_other mate (record { tag = tag; kind = IsNumbered n }) (λ e. omega arith)
+silent_by count mate tag (IsNumbered modulus n) le h =
+    of_mate_other mate (record { tag = tag; kind = IsNumbered modulus n }) (λ e. omega arith)
 
 -- no I or S frame is of a set-up that its sender has not opened
 pub silent_of_unopened :
@@ -32,8 +32,9 @@ silent_of_unopened count mate fs le h =
     each_weaker (λ f. OfSetUp count f.tag f.kind) (IsSilent mate) (λ f o. silent_by count mate f.tag f.kind le o) fs h
 
 -- nothing is stored, and nothing under way has a number
-pub sent_of_silent : (mate top : ℕ) (fs : List Tagged) → Each (IsSilent mate) fs → WasSent (view_fresh mate) fs top
-sent_of_silent mate top fs silent = record {
+pub sent_of_silent :
+    (modulus mate top : ℕ) (fs : List Tagged) → Each (IsSilent mate) fs → WasSent (view_fresh modulus mate) fs top
+sent_of_silent modulus mate top fs silent = record {
   stored = tt;
   under_way = each_weaker (IsSilent mate) (λ f. InfoBelow top (of_mate mate f))
       (λ f is. info_below_silent top (of_mate mate f) is) fs silent;
@@ -53,18 +54,18 @@ ua_tag_of_each P [] h = tt
 ua_tag_of_each P (f ∷ fs) h = go f.kind h.0 (ua_tag_of_each P fs h.1)
   where
     go : (k : Kind) → P f.tag → IfSome (ua_tag fs) P → IfSome (ua_by k f.tag (ua_tag fs)) P
-    go Sabm here rest = rest
+    go (Sabm modulus) here rest = rest
     go Disc here rest = rest
     go Ua here rest = here
     go (Dm answers) here rest = rest
-    go (IsNumbered n) here rest = rest
+    go (IsNumbered modulus n) here rest = rest
 
 no_call_by : (count other tag : ℕ) (k : Kind) → sabm_of k ≡ 0 → IsCurrentCall count tag k → IsCurrentCall other tag k
-no_call_by count other tag Sabm h c = absurd (omega arith)
+no_call_by count other tag (Sabm modulus) h c = absurd (omega arith)
 no_call_by count other tag Disc h c = tt
 no_call_by count other tag Ua h c = tt
 no_call_by count other tag (Dm answers) h c = tt
-no_call_by count other tag (IsNumbered n) h c = tt
+no_call_by count other tag (IsNumbered modulus n) h c = tt
 
 -- without a SABM any set-up may come next
 pub no_calls :
@@ -75,11 +76,11 @@ no_calls count other (f ∷ fs) h c =
     (no_call_by count other f.tag f.kind (omega arith) c.0, no_calls count other fs (omega arith) c.1)
 
 of_set_up_by : (count more tag : ℕ) (k : Kind) → count ≤ more → OfSetUp count tag k → OfSetUp more tag k
-of_set_up_by count more tag Sabm le h = tt
+of_set_up_by count more tag (Sabm modulus) le h = tt
 of_set_up_by count more tag Disc le h = tt
 of_set_up_by count more tag Ua le h = tt
 of_set_up_by count more tag (Dm answers) le h = tt
-of_set_up_by count more tag (IsNumbered n) le h = le_trans h le
+of_set_up_by count more tag (IsNumbered modulus n) le h = le_trans h le
 
 -- another set-up is opened
 pub of_more_set_ups :
@@ -90,11 +91,11 @@ of_more_set_ups count more fs le h =
     (λ f o. of_set_up_by count more f.tag f.kind le o) fs h
 
 call_of_last : (count tag era : ℕ) (k : Kind) → IsCurrentCall count tag k → tag ≤ era → era < count → sabm_of k ≡ 0
-call_of_last count tag era Sabm c le lt = absurd (omega arith)
+call_of_last count tag era (Sabm modulus) c le lt = absurd (omega arith)
 call_of_last count tag era Disc c le lt = refl
 call_of_last count tag era Ua c le lt = refl
 call_of_last count tag era (Dm answers) c le lt = refl
-call_of_last count tag era (IsNumbered n) c le lt = refl
+call_of_last count tag era (IsNumbered modulus n) c le lt = refl
 
 -- no SABM of an end that is up is under way
 pub no_calls_of_up :
@@ -137,16 +138,16 @@ ended_of_all P e h = go e.standing e.ended h
 
 -- an end whose last set-up is over, and which waits for no UA, sees nothing
 pub blind_of_down :
-    (s : Standing) (ended : List SetUp) (ua : Option ℕ) → length (with_running s ended) ≤ length ended → ua ≡ None
-    → view_by s ua ≡ None
-blind_of_down Idle ended ua le none = refl
-blind_of_down (Calling waiting) ended ua le none = ap (view_by (Calling waiting)) none
-blind_of_down (Up r) ended ua le none = absurd (omega (arith, length_last ended r.set_up))
-blind_of_down Releasing ended ua le none = refl
+    (modulus : ℕ) (s : Standing) (ended : List SetUp) (ua : Option ℕ)
+    → length (with_running s ended) ≤ length ended → ua ≡ None → view_by modulus s ua ≡ None
+blind_of_down modulus Idle ended ua le none = refl
+blind_of_down modulus (Calling waiting) ended ua le none = ap (view_by modulus (Calling waiting)) none
+blind_of_down modulus (Up r) ended ua le none = absurd (omega (arith, length_last ended r.set_up))
+blind_of_down modulus Releasing ended ua le none = refl
 
 -- what holds of the set-up that a UA names is what a calling end sees
 pub if_calling :
-    (P : View → Type 0) (waiting : List Packet) (o : Option ℕ) → IfSome o (λ tag. P (view_fresh tag))
-    → IfSome (view_by (Calling waiting) o) P
-if_calling P waiting None h = tt
-if_calling P waiting (Some tag) h = h
+    (P : View → Type 0) (modulus : ℕ) (waiting : List Packet) (o : Option ℕ)
+    → IfSome o (λ tag. P (view_fresh modulus tag)) → IfSome (view_by modulus (Calling waiting) o) P
+if_calling P modulus waiting None h = tt
+if_calling P modulus waiting (Some tag) h = h

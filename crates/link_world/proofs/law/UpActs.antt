@@ -13,7 +13,8 @@ use Rattle.link_machine.specs.declared.state.LinkState.TheVariants.{Up as UpStat
 use Rattle.link_machine.specs.Machine.{t1_ticks, t3_ticks}
 use Rattle.link_machine.specs.declared.acts.Told.{Told}
 use Rattle.selective_reject.specs.Incoming.{Incoming}
-use Rattle.link_machine.specs.Sent.{Sent, infos_from}
+use Rattle.link_machine.specs.declared.params.Params.{Params}
+use Rattle.link_machine.specs.Sent.{Sent, SentIn, sent_in, all_sent_in, infos_from}
 use Rattle.link_machine.specs.Sent.Sent.{InfoSent, SuperSent, SetupSent}
 use Rattle.link_machine.specs.Turn.{Turn, Act, changing, setting, sending}
 use Rattle.link_machine.specs.Acts.{to_send, in_window, flush, send_packets, awaiting, nothing_due, report, respond_ready, answer_poll, poll, polling, reject, with_rej, gone_back, behind_poll, recover, acknowledged, timed_anew, timed_by}
@@ -28,8 +29,8 @@ use Rattle.link_world.proofs.law.UpSending.{UpInvariant, get_behind, send_kept_k
 use Rattle.link_world.proofs.law.Invariant.{Keeps, Invariant}
 
 -- packets as I frames under way
-abbrev pub infos_under_way : ℕ → ℕ → ℕ → List Packet → List Tagged
-infos_under_way tag number nr packets = cores_sent false tag (infos_from number nr packets)
+abbrev pub infos_under_way : (modulus tag number nr : ℕ) → List Packet → List Tagged
+infos_under_way modulus tag number nr packets = cores_sent false tag (all_sent_in modulus (infos_from number nr packets))
 
 first_of_part :
     (ahead : ℕ) (kept : List Packet) (p : Packet) (rest : List Packet) → drop ahead kept ≡ p ∷ rest
@@ -48,11 +49,11 @@ next_goes_out :
     (x y : End) (r : Running) (p : Packet) (rest : List Packet) (to_x to_y : List Tagged)
     → drop (r.vs - r.va) r.kept ≡ p ∷ rest → r.vs - r.va < x.window → UpInvariant x y r to_x to_y
     → UpInvariant x y (sending_from r.va (r.vs + 1) (max r.top (r.vs + 1)) r.kept r) to_x
-    (to_y ++ of_end x (IsNumbered (Info r.vs r.vr p)) ∷ [])
+    (to_y ++ of_end x (IsNumbered x.modulus (Info r.vs r.vr p)) ∷ [])
 next_goes_out x y r p rest to_x to_y part window h =
     let k : Keeps r x.window = h.x_hears.keeps in
     let order = k.order in
-    set_vs_keeps x y (sent_number r.vs r) (r.vs + 1) to_x (to_y ++ of_end x (IsNumbered (Info r.vs r.vr p)) ∷ [])
+    set_vs_keeps x y (sent_number r.vs r) (r.vs + 1) to_x (to_y ++ of_end x (IsNumbered x.modulus (Info r.vs r.vr p)) ∷ [])
     (omega arith)
     (send_kept_keeps x y r r.vs p to_x to_y order (omega arith) (first_of_part (r.vs - r.va) r.kept p rest part) h)
 
@@ -63,41 +64,46 @@ pub run_goes_out :
     → UpInvariant x y r to_x to_y
     → UpInvariant x y
     (sending_from r.va (r.vs + length (p ∷ ps)) (max r.top (r.vs + length (p ∷ ps))) r.kept r) to_x
-    (to_y ++ infos_under_way (era x) r.vs r.vr (p ∷ ps))
+    (to_y ++ infos_under_way x.modulus (era x) r.vs r.vr (p ∷ ps))
 run_goes_out x y r p [] rest to_x to_y part window h =
     next_goes_out x y r p ([] ++ rest) to_x to_y part (omega arith) h
 run_goes_out x y r p (q ∷ qs) rest to_x to_y part window h =
     let k : Keeps r x.window = h.x_hears.keeps in
     let order = k.order in
-    let f = of_end x (IsNumbered (Info r.vs r.vr p)) in
+    let f = of_end x (IsNumbered x.modulus (Info r.vs r.vr p)) in
     let s = sending_from r.va (r.vs + 1) (max r.top (r.vs + 1)) r.kept r in
     let further : r.vs + 1 - r.va ≡ r.vs - r.va + 1 = omega arith in
     let next : drop (s.vs - s.va) s.kept ≡ q ∷ (qs ++ rest) =
     ap (λ t. drop t r.kept) further ∙ next_of_part (r.vs - r.va) r.kept p (q ∷ (qs ++ rest)) part in
     let more = run_goes_out x y s q qs rest to_x (to_y ++ f ∷ []) next (omega arith)
     (next_goes_out x y r p ((q ∷ qs) ++ rest) to_x to_y part (omega arith) h) in
-    let list = append_assoc to_y (f ∷ []) (infos_under_way (era x) (r.vs + 1) r.vr (q ∷ qs)) in
+    let list = append_assoc to_y (f ∷ []) (infos_under_way x.modulus (era x) (r.vs + 1) r.vr (q ∷ qs)) in
     let vs : r.vs + 1 + length (q ∷ qs) ≡ r.vs + length (p ∷ (q ∷ qs)) = omega arith in
     let top : max (max r.top (r.vs + 1)) (r.vs + 1 + length (q ∷ qs)) ≡ max r.top (r.vs + length (p ∷ (q ∷ qs))) =
     omega arith in
     subst (λ t. UpInvariant x y (sending_from r.va (r.vs + length (p ∷ (q ∷ qs))) t r.kept r) to_x
-    (to_y ++ infos_under_way (era x) r.vs r.vr (p ∷ (q ∷ qs)))) top
+    (to_y ++ infos_under_way x.modulus (era x) r.vs r.vr (p ∷ (q ∷ qs)))) top
     (subst (λ t. UpInvariant x y
     (sending_from r.va t (max (max r.top (r.vs + 1)) (r.vs + 1 + length (q ∷ qs))) r.kept r) to_x
-    (to_y ++ infos_under_way (era x) r.vs r.vr (p ∷ (q ∷ qs)))) vs
+    (to_y ++ infos_under_way x.modulus (era x) r.vs r.vr (p ∷ (q ∷ qs)))) vs
     (subst (λ t. UpInvariant x y
     (sending_from r.va (r.vs + 1 + length (q ∷ qs)) (max (max r.top (r.vs + 1)) (r.vs + 1 + length (q ∷ qs)))
     r.kept r) to_x t) list more))
 
 -- a link that is up sends I and S frames, up to the DISC that ends it
-abbrev pub SentFits : Bool → Sent → Type 0
-SentFits answers (InfoSent number nr packet) = ⊤
-SentFits answers (SuperSent which command nr flag) = ⊤
-SentFits answers (SetupSent which flag) = ⊥
+abbrev pub IsNumberedSent : Sent → Type 0
+IsNumberedSent (InfoSent number nr packet) = ⊤
+IsNumberedSent (SuperSent which command nr flag) = ⊤
+IsNumberedSent (SetupSent which flag) = ⊥
 
-pub infos_fit : (answers : Bool) (number nr : ℕ) (ps : List Packet) → Each (SentFits answers) (infos_from number nr ps)
-infos_fit answers number nr [] = tt
-infos_fit answers number nr (p ∷ ps) = (tt, infos_fit answers (number + 1) nr ps)
+abbrev pub SentFits : Bool → SentIn → Type 0
+SentFits answers s = IsNumberedSent s.frame
+
+pub infos_fit :
+    (answers : Bool) (modulus number nr : ℕ) (ps : List Packet)
+    → Each (SentFits answers) (all_sent_in modulus (infos_from number nr ps))
+infos_fit answers modulus number nr [] = tt
+infos_fit answers modulus number nr (p ∷ ps) = (tt, infos_fit answers modulus (number + 1) nr ps)
 
 -- A link that is up, in the middle of an event: the set-ups that ended, the one that is open, whether a UA or DM sent
 -- now answers a SABM or DISC, what was told so far, and what is kept of the partner's packets.
@@ -106,12 +112,14 @@ pub record Progress : Type 0 where
   pub open_now : SetUp
   pub answers : Bool
   pub told : List Told
+  pub params : Params
   pub incoming : Incoming
 
 -- what is under way from it is what was, and what it has sent
 pub record IsUp (y : End) (to_x to_y : List Tagged) (g : Progress) (turn : Turn) : Type 0 where
   pub state : turn.now.control.state ≡ UpState
   pub told : turn.told ≡ g.told
+  pub params : turn.now.params ≡ g.params
   pub incoming : turn.now.incoming ≡ g.incoming
   pub fits : Each (SentFits g.answers) turn.sent
   pub holds : Invariant (between (up_end turn.now g.ended g.open_now) y to_x
@@ -119,7 +127,7 @@ pub record IsUp (y : End) (to_x to_y : List Tagged) (g : Progress) (turn : Turn)
 
 -- what was sent, with one frame more
 pub sent_one :
-    (answers : Bool) (tag : ℕ) (to_y : List Tagged) (sent : List Sent) (s : Sent)
+    (answers : Bool) (tag : ℕ) (to_y : List Tagged) (sent : List SentIn) (s : SentIn)
     → (to_y ++ cores_sent answers tag sent) ++ core_sent answers tag s ∷ []
     ≡ to_y ++ cores_sent answers tag (sent ++ s ∷ [])
 sent_one answers tag to_y sent s =
@@ -128,7 +136,7 @@ sent_one answers tag to_y sent s =
 
 -- what was sent, with more frames
 pub sent_more :
-    (answers : Bool) (tag : ℕ) (to_y : List Tagged) (sent more : List Sent)
+    (answers : Bool) (tag : ℕ) (to_y : List Tagged) (sent more : List SentIn)
     → (to_y ++ cores_sent answers tag sent) ++ cores_sent answers tag more
     ≡ to_y ++ cores_sent answers tag (sent ++ more)
 sent_more answers tag to_y sent more =
@@ -136,11 +144,13 @@ sent_more answers tag to_y sent more =
     ∙ ap (λ t. to_y ++ t) (sym (map-append (core_sent answers tag) sent more))
 
 -- I frames are no answers
-infos_same : (answers : Bool) (tag number nr : ℕ) (ps : List Packet)
-    → cores_sent false tag (infos_from number nr ps) ≡ cores_sent answers tag (infos_from number nr ps)
-infos_same answers tag number nr [] = refl
-infos_same answers tag number nr (p ∷ ps) =
-    ap (λ t. core_sent false tag (InfoSent number nr p) ∷ t) (infos_same answers tag (number + 1) nr ps)
+infos_same : (answers : Bool) (modulus tag number nr : ℕ) (ps : List Packet)
+    → infos_under_way modulus tag number nr ps
+    ≡ cores_sent answers tag (all_sent_in modulus (infos_from number nr ps))
+infos_same answers modulus tag number nr [] = refl
+infos_same answers modulus tag number nr (p ∷ ps) =
+    ap (λ t. core_sent false tag (sent_in modulus (InfoSent number nr p)) ∷ t)
+    (infos_same answers modulus tag (number + 1) nr ps)
 
 awaiting_by : (b : Bool) (c d : Control) → d.state ≡ c.state → (if b then d else c).state ≡ c.state
 awaiting_by true c d is = is
@@ -177,14 +187,16 @@ packets_go_out y to_x to_y g turn p ps is h =
     record {
       state = awaiting_state (nothing_due m.control) ∙ h.state;
       told = h.told;
+      params = h.params;
       incoming = h.incoming;
       fits = each_append (SentFits g.answers) turn.sent
-          (infos_from o.vs m.incoming.vr (p ∷ ps)) h.fits
-          (infos_fit g.answers o.vs m.incoming.vr (p ∷ ps));
+          (all_sent_in m.incoming.modulus (infos_from o.vs m.incoming.vr (p ∷ ps))) h.fits
+          (infos_fit g.answers m.incoming.modulus o.vs m.incoming.vr (p ∷ ps));
       holds = subst (λ t. UpInvariant x y s to_x t)
           (ap (λ t. (to_y ++ cores_sent g.answers tag turn.sent) ++ t)
-          (infos_same g.answers tag o.vs m.incoming.vr (p ∷ ps))
-          ∙ sent_more g.answers tag to_y turn.sent (infos_from o.vs m.incoming.vr (p ∷ ps)))
+          (infos_same g.answers m.incoming.modulus tag o.vs m.incoming.vr (p ∷ ps))
+          ∙ sent_more g.answers tag to_y turn.sent
+          (all_sent_in m.incoming.modulus (infos_from o.vs m.incoming.vr (p ∷ ps))))
           (run_goes_out x y r p ps rest to_x (to_y ++ cores_sent g.answers tag turn.sent) part window h.holds);
     }
 
@@ -225,6 +237,7 @@ setting_keeps change same to_x y to_y g turn h =
     record {
       state = same turn.now.control ∙ h.state;
       told = h.told;
+      params = h.params;
       incoming = h.incoming;
       fits = h.fits;
       holds =
@@ -240,14 +253,15 @@ sending_super_keeps which command flag to_x is y to_y g turn h =
     let x = end_behind m g.ended in
     let r = running_of m g.open_now in
     let tag : ℕ = length g.ended in
-    let s : Sent = SuperSent which command m.incoming.vr flag in
+    let s : SentIn = sent_in m.incoming.modulus (SuperSent which command m.incoming.vr flag) in
     let gone : UpInvariant x y r to_x ((to_y ++ cores_sent g.answers tag turn.sent) ++ core_sent g.answers tag s ∷ []) =
-    subst (λ n. UpInvariant x y r to_x ((to_y ++ cores_sent g.answers tag turn.sent) ++ of_end x (IsNumbered n) ∷
+    subst (λ n. UpInvariant x y r to_x ((to_y ++ cores_sent g.answers tag turn.sent) ++ of_end x (IsNumbered x.modulus n) ∷
     []))
     (sym (is m.incoming.vr)) (send_super_keeps x y r to_x (to_y ++ cores_sent g.answers tag turn.sent) h.holds) in
     record {
       state = h.state;
       told = h.told;
+      params = h.params;
       incoming = h.incoming;
       fits = each_pushed (SentFits g.answers) turn.sent s
           h.fits tt;
@@ -291,6 +305,7 @@ gone_back_keeps to_x y to_y g turn h =
     record {
       state = h.state;
       told = h.told;
+      params = h.params;
       incoming = h.incoming;
       fits = h.fits;
       holds = set_vs_keeps (end_behind m g.ended) y
@@ -332,17 +347,18 @@ timed_by_state some all c = awaiting_by (some && not c.poll) c (timed_anew all c
 
 -- the front frame acknowledges
 pub acknowledged_keeps :
-    (tag nr : ℕ) (n : Numbered) (rest : List Tagged) → Acknowledges n nr
-    → KeepsUp (numbered_to tag n ∷ rest) (changing (acknowledged nr))
-acknowledged_keeps tag nr n rest is y to_y g turn h =
+    (tag k nr : ℕ) (n : Numbered) (rest : List Tagged) → Acknowledges n nr
+    → KeepsUp (numbered_to tag k n ∷ rest) (changing (acknowledged nr))
+acknowledged_keeps tag k nr n rest is y to_y g turn h =
     let m = turn.now in
     record {
       state = timed_by_state (nat_lt m.outgoing.va nr) (nr == m.outgoing.top) m.control ∙ h.state;
       told = h.told;
+      params = h.params;
       incoming = h.incoming;
       fits = h.fits;
       holds = ack_front_keeps (end_behind m g.ended) y
-          (running_of m g.open_now) tag nr n rest
+          (running_of m g.open_now) tag k nr n rest
           (to_y ++ cores_sent g.answers (length g.ended) turn.sent) is h.holds;
     }
 
@@ -353,6 +369,7 @@ pub passed_over :
 passed_over y f rest to_y g turn h = record {
   state = h.state;
   told = h.told;
+  params = h.params;
   incoming = h.incoming;
   fits = h.fits;
   holds = lose_keeps (up_end turn.now g.ended g.open_now) y [] f

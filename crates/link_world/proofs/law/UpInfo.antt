@@ -11,7 +11,7 @@ use Rattle.selective_reject.specs.Places.{is_full, with_packet, missing, asked}
 use Rattle.selective_reject.specs.Incoming.{Incoming}
 use Rattle.link_machine.specs.declared.acts.Told.TheVariants.{Given}
 use Rattle.link_machine.specs.Machine.{Machine, named, ahead_of_vr}
-use Rattle.link_machine.specs.Sent.{Sent}
+use Rattle.link_machine.specs.Sent.{SentIn, all_sent_in}
 use Rattle.link_machine.specs.Sent.Sent.{SuperSent}
 use Rattle.link_machine.specs.Turn.{Turn, changing, setting}
 use Rattle.link_machine.specs.Acts.{acknowledged, answer_poll, reject, owing, with_rej, run_with, moved_on, give, stored, ask, srej_for}
@@ -53,8 +53,9 @@ pub record HasHeard (y : End) (rest to_y : List Tagged) (tag : ℕ) (accepts : B
 -- the windows of a hearer in this mode, and of the sender, fit the modulus
 pub record WindowsOf (i : Incoming) (y : End) : Type 0 where
   pub own : i.window < i.modulus
-  pub sender : y.window < i.modulus
-  pub halves : i.mode ≡ SrejMode → (i.window + i.window ≤ i.modulus) × (y.window + y.window ≤ i.modulus)
+  pub sender : y.windows i.modulus < i.modulus
+  pub halves : i.mode ≡ SrejMode
+      → (i.window + i.window ≤ i.modulus) × (y.windows i.modulus + y.windows i.modulus ≤ i.modulus)
 
 -- nothing is got
 pub heard_nothing :
@@ -71,6 +72,7 @@ heard_nothing y f rest to_y tag g turn fit h =
       up = record {
         state = behind.state;
         told = behind.told ∙ sym (append-nil g.told);
+        params = behind.params;
         incoming = behind.incoming;
         fits = behind.fits;
         holds = subst (λ t. Invariant (between (up_end turn.now g.ended (record q { got = t })) y rest
@@ -117,41 +119,43 @@ given_to y rest to_y tag g turn packets fit told incoming h = record {
 
 -- by REJ: the next in sequence
 sequence_heard :
-    (y : End) (tag nr : ℕ) (packet : Packet) (rest to_y : List Tagged) (g : Progress) (turn : Turn) (ns : ℕ)
+    (y : End) (tag c nr : ℕ) (packet : Packet) (rest to_y : List Tagged) (g : Progress) (turn : Turn) (ns : ℕ)
     → turn.now.incoming.mode ≡ RejMode → IsFit turn.now.incoming → ns ≡ turn.now.incoming.vr
-    → IsUp y (numbered_to tag (Info ns nr packet) ∷ rest) to_y g turn
+    → IsUp y (numbered_to tag c (Info ns nr packet) ∷ rest) to_y g turn
     → HasHeard y rest to_y tag true g (give (packet ∷ []) turn)
-sequence_heard y tag nr packet rest to_y g turn ns mode fit is h =
+sequence_heard y tag c nr packet rest to_y g turn ns mode fit is h =
     let m = turn.now in
     let under_way = to_y ++ cores_sent g.answers (length g.ended) turn.sent in
     let front = subst (λ n. Invariant (between (up_end m g.ended g.open_now) y
-    (numbered_to tag (Info n nr packet) ∷ rest) under_way)) is h.holds in
+    (numbered_to tag c (Info n nr packet) ∷ rest) under_way)) is h.holds in
     given_to y rest to_y tag g turn (packet ∷ []) (fit_behind_one m.incoming mode fit) h.told h.incoming (record {
       state = h.state;
       told = ap (λ t. t ++ Given packet ∷ []) h.told;
+      params = h.params;
       incoming = refl;
       fits = h.fits;
-      holds = one_taken y m g.ended g.open_now tag nr packet rest under_way fit.first front;
+      holds = one_taken y m g.ended g.open_now tag c nr packet rest under_way fit.first front;
     })
 
 -- by SREJ: the next in sequence, and those stored that follow it
 run_heard :
-    (y : End) (tag nr : ℕ) (packet : Packet) (rest to_y : List Tagged) (g : Progress) (turn : Turn) (ns : ℕ)
+    (y : End) (tag c nr : ℕ) (packet : Packet) (rest to_y : List Tagged) (g : Progress) (turn : Turn) (ns : ℕ)
     → turn.now.incoming.mode ≡ SrejMode → IsFit turn.now.incoming → ns ≡ turn.now.incoming.vr
-    → IsUp y (numbered_to tag (Info ns nr packet) ∷ rest) to_y g turn
+    → IsUp y (numbered_to tag c (Info ns nr packet) ∷ rest) to_y g turn
     → HasHeard y rest to_y tag true g (give (run_with packet turn.now) turn)
-run_heard y tag nr packet rest to_y g turn ns mode fit is h =
+run_heard y tag c nr packet rest to_y g turn ns mode fit is h =
     let m = turn.now in
     let under_way = to_y ++ cores_sent g.answers (length g.ended) turn.sent in
     let front = subst (λ n. Invariant (between (up_end m g.ended g.open_now) y
-    (numbered_to tag (Info n nr packet) ∷ rest) under_way)) is h.holds in
+    (numbered_to tag c (Info n nr packet) ∷ rest) under_way)) is h.holds in
     given_to y rest to_y tag g turn (run_with packet m) (fit_behind_run m.incoming packet mode fit) h.told h.incoming
     (record {
       state = h.state;
       told = ap (λ t. t ++ map Given (run_with packet m)) h.told;
+      params = h.params;
       incoming = refl;
       fits = h.fits;
-      holds = run_with_taken y m g.ended g.open_now tag nr packet rest under_way fit.first front;
+      holds = run_with_taken y m g.ended g.open_now tag c nr packet rest under_way fit.first front;
     })
 
 -- SREJ goes out for some numbers below one that is stored
@@ -160,30 +164,32 @@ srejs_go_out :
     (answers : Bool) (to_x to_y : List Tagged)
     → r.stored ≡ before ++ s ∷ after → s.number ≡ r.vr + k → Each (λ j. j < k) js → UpInvariant x y r to_x to_y
     → UpInvariant x y r to_x (to_y ++ cores_sent answers (length x.ended)
-    (map (λ j. SuperSent SrejFrame false (r.vr + j) false) js))
+    (all_sent_in x.modulus (map (λ j. SuperSent SrejFrame false (r.vr + j) false) js)))
 srejs_go_out x y r k before s after [] answers to_x to_y is number below h =
     subst (λ t. UpInvariant x y r to_x t) (sym (append-nil to_y)) h
 srejs_go_out x y r k before s after (j ∷ js) answers to_x to_y is number below h =
-    let f = of_end x (IsNumbered (Srej (r.vr + j))) in
+    let f = of_end x (IsNumbered x.modulus (Srej (r.vr + j))) in
     let here : j < k = below.0 in
     let one = send_srej_keeps x y r (r.vr + j) before s after to_x to_y is (omega arith) (omega arith) h in
     subst (λ t. UpInvariant x y r to_x t)
     (append_assoc to_y (f ∷ []) (cores_sent answers (length x.ended)
-    (map (λ i. SuperSent SrejFrame false (r.vr + i) false) js)))
+    (all_sent_in x.modulus (map (λ i. SuperSent SrejFrame false (r.vr + i) false) js))))
     (srejs_go_out x y r k before s after js answers to_x (to_y ++ f ∷ []) is number below.1 one)
 
-srejs_fit : (answers : Bool) (m : Machine) (js : List ℕ) → Each (SentFits answers) (map (srej_for m) js)
-srejs_fit answers m [] = tt
-srejs_fit answers m (j ∷ js) = (tt, srejs_fit answers m js)
+srejs_fit :
+    (answers : Bool) (modulus : ℕ) (m : Machine) (js : List ℕ)
+    → Each (SentFits answers) (all_sent_in modulus (map (srej_for m) js))
+srejs_fit answers modulus m [] = tt
+srejs_fit answers modulus m (j ∷ js) = (tt, srejs_fit answers modulus m js)
 
 -- by SREJ: a packet that comes before its turn is stored, and what is missing before it is asked for
 stored_heard :
-    (y : End) (tag nr : ℕ) (packet : Packet) (rest to_y : List Tagged) (g : Progress) (turn : Turn) (ns k : ℕ)
+    (y : End) (tag c nr : ℕ) (packet : Packet) (rest to_y : List Tagged) (g : Progress) (turn : Turn) (ns k : ℕ)
     → turn.now.incoming.mode ≡ SrejMode → IsFit turn.now.incoming → ns ≡ turn.now.incoming.vr + k → 1 ≤ k
     → k < turn.now.incoming.window → is_full turn.now.incoming.places k ≡ false
-    → IsUp y (numbered_to tag (Info ns nr packet) ∷ rest) to_y g turn
+    → IsUp y (numbered_to tag c (Info ns nr packet) ∷ rest) to_y g turn
     → HasHeard y rest to_y tag true g (ask k (changing (stored k packet) turn))
-stored_heard y tag nr packet rest to_y g turn ns k mode fit is some within empty h =
+stored_heard y tag c nr packet rest to_y g turn ns k mode fit is some within empty h =
     let m = turn.now in
     let i = m.incoming in
     let x = end_behind m g.ended in
@@ -198,7 +204,7 @@ stored_heard y tag nr packet rest to_y g turn ns k mode fit is some within empty
     let front : UpInvariant x y (storing (pl.before ++ s ∷ pl.after) (first_origin q.origin tag) r) rest under_way =
     subst (λ n. UpInvariant x y (storing (pl.before ++ record { number = n; packet = packet } ∷ pl.after)
     (first_origin q.origin tag) r) rest under_way) is
-    (store_front_keeps x y r tag ns nr packet pl.before pl.after rest under_way pl.was h.holds) in
+    (store_front_keeps x y r tag c ns nr packet pl.before pl.after rest under_way pl.was h.holds) in
     let with_got : UpInvariant x y (record r { stored = pl.before ++ s ∷ pl.after; set_up = q1 }) rest under_way =
     subst (λ t. UpInvariant x y (record r
     { stored = pl.before ++ s ∷ pl.after; set_up = record q { got = t; origin = first_origin q.origin tag } })
@@ -209,7 +215,7 @@ stored_heard y tag nr packet rest to_y g turn ns k mode fit is some within empty
     refl refl (missing_below places k) with_got in
     let same : pl.before ++ s ∷ pl.after ≡ stored_from i.vr (asked places k) =
     sym pl.is ∙ sym (stored_asked i.vr k places) in
-    let sent : List Sent = map (srej_for (stored k packet m)) (missing places k) in
+    let sent : List SentIn = all_sent_in i.modulus (map (srej_for (stored k packet m)) (missing places k)) in
     let all : UpInvariant x y (record r {
       stored =
           stored_from i.vr (asked places k);
@@ -233,9 +239,10 @@ stored_heard y tag nr packet rest to_y g turn ns k mode fit is some within empty
       up = record {
         state = h.state;
         told = h.told ∙ sym (append-nil g.told);
+        params = h.params;
         incoming = refl;
         fits = each_append (SentFits g.answers) turn.sent sent h.fits
-            (srejs_fit g.answers (stored k packet m) (missing places k));
+            (srejs_fit g.answers i.modulus (stored k packet m) (missing places k));
         holds = all;
       };
     }
@@ -251,18 +258,18 @@ behind_info flag y rest to_y tag accepts g turn h =
 
 -- by REJ
 by_rej_heard :
-    (y : End) (tag ns nr : ℕ) (packet : Packet) (rest to_y : List Tagged) (g : Progress) (turn : Turn) (flag : Bool)
+    (y : End) (tag c ns nr : ℕ) (packet : Packet) (rest to_y : List Tagged) (g : Progress) (turn : Turn) (flag : Bool)
     → WindowsOf turn.now.incoming y → turn.now.incoming.mode ≡ RejMode → IsFit turn.now.incoming
-    → IsUp y (numbered_to tag (Info ns nr packet) ∷ rest) to_y g turn
+    → IsUp y (numbered_to tag c (Info ns nr packet) ∷ rest) to_y g turn
     → HasHeard y rest to_y tag (ahead_of_vr (ns % turn.now.incoming.modulus) turn.now == 0) g
     (hear_info_by_rej (ns % turn.now.incoming.modulus) flag packet turn)
-by_rej_heard y tag ns nr packet rest to_y g turn flag windows mode fit h = go (distance == 0) refl
+by_rej_heard y tag c ns nr packet rest to_y g turn flag windows mode fit h = go (distance == 0) refl
   where
     i : Incoming
     i = turn.now.incoming
 
     f : Tagged
-    f = numbered_to tag (Info ns nr packet)
+    f = numbered_to tag c (Info ns nr packet)
 
     distance : ℕ
     distance = ahead_of_vr (ns % turn.now.incoming.modulus) turn.now
@@ -274,13 +281,13 @@ by_rej_heard y tag ns nr packet rest to_y g turn flag windows mode fit h = go (d
         → HasHeard y rest to_y tag b g (if b then take_in_sequence flag packet turn else refuse_out_of_sequence flag
         turn)
     go true is =
-        let named_by = ns_by_rej i.modulus (end_behind turn.now g.ended) y (running_of turn.now g.open_now) tag ns nr
+        let named_by = ns_by_rej i.modulus (end_behind turn.now g.ended) y (running_of turn.now g.open_now) tag c ns nr
         packet rest
         (to_y ++ cores_sent g.answers (length g.ended) turn.sent) windows.sender h.holds in
         behind_info flag y rest to_y tag true g (setting (with_rej false) taken)
         (heard_then y rest to_y tag true g taken (setting (with_rej false) taken)
         (λ p up. setting_keeps (with_rej false) (λ c. refl) rest y to_y p taken up)
-        (sequence_heard y tag nr packet rest to_y g turn ns mode fit (named_by.0 (eqb-true distance 0 is)) h))
+        (sequence_heard y tag c nr packet rest to_y g turn ns mode fit (named_by.0 (eqb-true distance 0 is)) h))
     go false is = by_reject turn.now.control.rej
       where
         by_reject : (b : Bool)
@@ -292,20 +299,20 @@ by_rej_heard y tag ns nr packet rest to_y g turn flag windows mode fit h = go (d
 
 -- by SREJ
 by_srej_heard :
-    (y : End) (tag ns nr : ℕ) (packet : Packet) (rest to_y : List Tagged) (g : Progress) (turn : Turn) (flag : Bool)
+    (y : End) (tag c ns nr : ℕ) (packet : Packet) (rest to_y : List Tagged) (g : Progress) (turn : Turn) (flag : Bool)
     → WindowsOf turn.now.incoming y → turn.now.incoming.mode ≡ SrejMode → IsFit turn.now.incoming
-    → IsUp y (numbered_to tag (Info ns nr packet) ∷ rest) to_y g turn
+    → IsUp y (numbered_to tag c (Info ns nr packet) ∷ rest) to_y g turn
     → let k = ahead_of_vr (ns % turn.now.incoming.modulus) turn.now in
     HasHeard y rest to_y tag ((k == 0) || (nat_lt k turn.now.incoming.window && not
     (is_full turn.now.incoming.places k))) g
     (hear_info_by_srej (ns % turn.now.incoming.modulus) flag packet turn)
-by_srej_heard y tag ns nr packet rest to_y g turn flag windows mode fit h = go (k == 0) refl
+by_srej_heard y tag c ns nr packet rest to_y g turn flag windows mode fit h = go (k == 0) refl
   where
     i : Incoming
     i = turn.now.incoming
 
     f : Tagged
-    f = numbered_to tag (Info ns nr packet)
+    f = numbered_to tag c (Info ns nr packet)
 
     k : ℕ
     k = ahead_of_vr (ns % turn.now.incoming.modulus) turn.now
@@ -314,7 +321,7 @@ by_srej_heard y tag ns nr packet rest to_y g turn flag windows mode fit h = go (
     fits = nat_lt k i.window && not (is_full i.places k)
 
     named_by : (i.vr ≤ ns → k ≡ ns - i.vr) × (ns < i.vr → i.window ≤ k)
-    named_by = ns_by_srej i.modulus (end_behind turn.now g.ended) y (running_of turn.now g.open_now) tag ns nr packet
+    named_by = ns_by_srej i.modulus (end_behind turn.now g.ended) y (running_of turn.now g.open_now) tag c ns nr packet
         rest
         (to_y ++ cores_sent g.answers (length g.ended) turn.sent) (windows.halves mode).0 (windows.halves mode).1
         h.holds
@@ -334,7 +341,7 @@ by_srej_heard y tag ns nr packet rest to_y g turn flag windows mode fit h = go (
         let positive = fit.positive in
         let place = in_window (omega arith) in
         behind_info flag y rest to_y tag true g (give (run_with packet turn.now) turn)
-        (run_heard y tag nr packet rest to_y g turn ns mode fit (omega arith) h)
+        (run_heard y tag c nr packet rest to_y g turn ns mode fit (omega arith) h)
     go false is = by_fit fits refl
       where
         by_fit : (c : Bool) → fits ≡ c
@@ -345,7 +352,7 @@ by_srej_heard y tag ns nr packet rest to_y g turn flag windows mode fit h = go (
             let within : k < i.window = ltb-true k i.window parts.0 in
             let some : k ≡ 0 → ⊥ = eqb-false k 0 is in
             behind_info flag y rest to_y tag true g (ask k (changing (stored k packet) turn))
-            (stored_heard y tag nr packet rest to_y g turn ns k mode fit (in_window within) (omega arith) within
+            (stored_heard y tag c nr packet rest to_y g turn ns k mode fit (in_window within) (omega arith) within
             (not-true (is_full i.places k) parts.1) h)
         by_fit false ok =
             heard_nothing y f rest to_y tag g (answer_poll flag (setting owing turn)) (subst IsFit h.incoming fit)
@@ -354,37 +361,37 @@ by_srej_heard y tag ns nr packet rest to_y g turn flag windows mode fit h = go (
 
 -- by either
 by_mode_heard :
-    (y : End) (tag ns nr : ℕ) (packet : Packet) (rest to_y : List Tagged) (g : Progress) (turn : Turn) (flag : Bool)
+    (y : End) (tag c ns nr : ℕ) (packet : Packet) (rest to_y : List Tagged) (g : Progress) (turn : Turn) (flag : Bool)
     (mode : Mode)
     → WindowsOf turn.now.incoming y → turn.now.incoming.mode ≡ mode → IsFit turn.now.incoming
-    → IsUp y (numbered_to tag (Info ns nr packet) ∷ rest) to_y g turn
+    → IsUp y (numbered_to tag c (Info ns nr packet) ∷ rest) to_y g turn
     → let k = ahead_of_vr (ns % turn.now.incoming.modulus) turn.now in
     HasHeard y rest to_y tag (accepts_by mode turn.now.incoming.window (is_full turn.now.incoming.places k) k) g
     (hear_info_by mode (ns % turn.now.incoming.modulus) flag packet turn)
-by_mode_heard y tag ns nr packet rest to_y g turn flag RejMode windows mode fit h =
-    by_rej_heard y tag ns nr packet rest to_y g turn flag windows mode fit h
-by_mode_heard y tag ns nr packet rest to_y g turn flag SrejMode windows mode fit h =
-    by_srej_heard y tag ns nr packet rest to_y g turn flag windows mode fit h
+by_mode_heard y tag c ns nr packet rest to_y g turn flag RejMode windows mode fit h =
+    by_rej_heard y tag c ns nr packet rest to_y g turn flag windows mode fit h
+by_mode_heard y tag c ns nr packet rest to_y g turn flag SrejMode windows mode fit h =
+    by_srej_heard y tag c ns nr packet rest to_y g turn flag windows mode fit h
 
 -- An I frame as it is heard.
 pub hear_info_heard :
-    (y : End) (tag ns nr : ℕ) (packet : Packet) (rest to_y : List Tagged) (g : Progress) (turn : Turn)
+    (y : End) (tag c ns nr : ℕ) (packet : Packet) (rest to_y : List Tagged) (g : Progress) (turn : Turn)
     (command flag : Bool)
     → WindowsOf turn.now.incoming y → IsFit turn.now.incoming
-    → IsUp y (numbered_to tag (Info ns nr packet) ∷ rest) to_y g turn
+    → IsUp y (numbered_to tag c (Info ns nr packet) ∷ rest) to_y g turn
     → let i = turn.now.incoming in
     let k = ahead_of_vr (ns % i.modulus) turn.now in
     HasHeard y rest to_y tag (accepts_by i.mode i.window (is_full i.places k) k) g
     (hear_up command (InfoKind (ns % i.modulus) (nr % i.modulus) flag packet.pid packet.octets) turn)
-hear_info_heard y tag ns nr packet rest to_y g turn command flag windows fit h =
+hear_info_heard y tag c ns nr packet rest to_y g turn command flag windows fit h =
     let m = turn.now in
     let i = m.incoming in
     let k = ahead_of_vr (ns % i.modulus) m in
     let accepts = accepts_by i.mode i.window (is_full i.places k) k in
-    let read : IsRead m nr = nr_is_read y tag (Info ns nr packet) nr rest to_y g turn refl windows.own h in
-    let acked = acknowledged_keeps tag nr (Info ns nr packet) rest refl y to_y g turn h in
+    let read : IsRead m nr = nr_is_read y tag c (Info ns nr packet) nr rest to_y g turn refl windows.own h in
+    let acked = acknowledged_keeps tag c nr (Info ns nr packet) rest refl y to_y g turn h in
     subst (λ t. HasHeard y rest to_y tag accepts g t)
     (sym (cond-true _ (hear_info (named (nr % i.modulus) m) (ns % i.modulus) flag packet turn) _ read.valid))
     (subst (λ n. HasHeard y rest to_y tag accepts g (hear_info n (ns % i.modulus) flag packet turn)) (sym read.named_is)
-    (by_mode_heard y tag ns nr packet rest to_y g (changing (acknowledged nr) turn) flag i.mode windows refl fit
+    (by_mode_heard y tag c ns nr packet rest to_y g (changing (acknowledged nr) turn) flag i.mode windows refl fit
     acked))

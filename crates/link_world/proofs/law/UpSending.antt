@@ -38,17 +38,18 @@ got_of_own x y r to_x to_y h = h.x_hears.numbers.counts
 -- x sends an I or S frame whose numbers fit
 pub sent_numbered_keeps :
     (x y : End) (r : Running) (n : Numbered) (to_x to_y : List Tagged)
-    → Carries (set_ups (now (Up r) x)) (era x) (IsNumbered n)
-    → NumbersOfOne (view y to_y) (Some (view_up r)) to_y (of_end x (IsNumbered n)) (set_ups (now (Up r) x)) x.window
-    → UpInvariant x y r to_x to_y → UpInvariant x y r to_x (to_y ++ of_end x (IsNumbered n) ∷ [])
+    → Carries (set_ups (now (Up r) x)) (era x) (IsNumbered x.modulus n)
+    → NumbersOfOne (view y to_y) (Some (view_up x.modulus r)) to_y (of_end x (IsNumbered x.modulus n)) (set_ups (now (Up r) x)) x.windows
+    → UpInvariant x y r to_x to_y → UpInvariant x y r to_x (to_y ++ of_end x (IsNumbered x.modulus n) ∷ [])
 sent_numbered_keeps x y r n to_x to_y carries numbers h =
     let one = h.x_hears.one_exchange in
     let other = h.y_hears.one_exchange in
-    let f = of_end x (IsNumbered n) in
+    let f = of_end x (IsNumbered x.modulus n) in
     let opened : length x.ended < count (now (Up r) x) = omega (arith, length_last x.ended r.set_up) in
-    subst (λ t. BothHear (Some (view_up r)) t (now (Up r) x) y to_x (to_y ++ f ∷ [])) (sym (view_sent y to_y f refl))
-    (both_sent (Some (view_up r)) (view y to_y) (now (Up r) x) y to_x to_y (IsNumbered n) opened tt (omega arith)
-    (omega arith) carries numbers h)
+    subst (λ t. BothHear (Some (view_up x.modulus r)) t (now (Up r) x) y to_x (to_y ++ f ∷ [])) (sym (view_sent y to_y f refl))
+    (both_sent (Some (view_up x.modulus r)) (view y to_y) (now (Up r) x) y to_x to_y (IsNumbered x.modulus n) opened tt
+    (omega arith) (omega arith) carries
+    (sym h.x_hears.moduli.own ∙ ap (λ (q : SetUp). q.modulus) (sym (at_last x.ended r.set_up))) tt numbers h)
 
 super_acks :
     (top vr : ℕ) (got : ℕ) (o : Option Numbered) → o ≡ Some (Super vr) → vr ≡ got
@@ -71,9 +72,9 @@ got_as_mate x y r to_x to_y mate h is =
 -- RR, RNR and REJ carry N(R) = V(R)
 pub send_super_keeps :
     (x y : End) (r : Running) (to_x to_y : List Tagged)
-    → UpInvariant x y r to_x to_y → UpInvariant x y r to_x (to_y ++ of_end x (IsNumbered (Super r.vr)) ∷ [])
+    → UpInvariant x y r to_x to_y → UpInvariant x y r to_x (to_y ++ of_end x (IsNumbered x.modulus (Super r.vr)) ∷ [])
 send_super_keeps x y r to_x to_y h =
-    let f = of_end x (IsNumbered (Super r.vr)) in
+    let f = of_end x (IsNumbered x.modulus (Super r.vr)) in
     let xs = set_ups (now (Up r) x) in
     let own = seen_of_own x y r to_x to_y h in
     sent_numbered_keeps x y r (Super r.vr) to_x to_y tt (record {
@@ -84,10 +85,10 @@ send_super_keeps x y r to_x to_y h =
           (of_mate_same b.mate f (sym is)) (got_as_mate x y r to_x to_y b.mate h is))
           own;
       infos = if_weaker (view y to_y) (λ b. b.mate ≡ era x)
-          (λ b. InfosFit b.mate (held b.vr b.stored) to_y b.vr x.window
-          → InfosFit b.mate (held b.vr b.stored) (to_y ++ f ∷ []) b.vr x.window)
-          (λ b is c. infos_pushed_other b.mate (held b.vr b.stored) b.vr x.window to_y f
-          (λ n. super_infos b.vr x.window n r.vr (of_mate b.mate f) (of_mate_same b.mate f (sym is))) c)
+          (λ b. InfosFit b.mate (held b.vr b.stored) to_y b.vr (x.windows b.modulus)
+          → InfosFit b.mate (held b.vr b.stored) (to_y ++ f ∷ []) b.vr (x.windows b.modulus))
+          (λ b is c. infos_pushed_other b.mate (held b.vr b.stored) b.vr (x.windows b.modulus) to_y f
+          (λ n. super_infos b.vr (x.windows b.modulus) n r.vr (of_mate b.mate f) (of_mate_same b.mate f (sym is))) c)
           own;
       sent = if_weaker (view y to_y) (λ b. b.mate ≡ era x) (λ b. InfoBelow r.top (of_mate b.mate f))
           (λ b is. super_below r.top r.vr (of_mate b.mate f) (of_mate_same b.mate f (sym is))) own;
@@ -109,13 +110,13 @@ pub send_srej_keeps :
     (x y : End) (r : Running) (n : ℕ) (before : List Stored) (s : Stored) (after : List Stored)
     (to_x to_y : List Tagged)
     → r.stored ≡ before ++ s ∷ after → r.vr ≤ n → n < s.number
-    → UpInvariant x y r to_x to_y → UpInvariant x y r to_x (to_y ++ of_end x (IsNumbered (Srej n)) ∷ [])
+    → UpInvariant x y r to_x to_y → UpInvariant x y r to_x (to_y ++ of_end x (IsNumbered x.modulus (Srej n)) ∷ [])
 send_srej_keeps x y r n before s after to_x to_y is low high h =
-    let f = of_end x (IsNumbered (Srej n)) in
+    let f = of_end x (IsNumbered x.modulus (Srej n)) in
     let xs = set_ups (now (Up r) x) in
     let own = seen_of_own x y r to_x to_y h in
     let below : IfSome (view y to_y) (λ b. n < b.top) =
-    if_weaker (view y to_y) (λ b. WasSent (view_up r) to_x b.top) (λ b. n < b.top)
+    if_weaker (view y to_y) (λ b. WasSent (view_up x.modulus r) to_x b.top) (λ b. n < b.top)
     (λ b w. le_trans high (lower s.number b.top (each_at (λ (t : Stored). t.number < b.top) before s after
     (subst (λ ss. Each (λ (t : Stored). t.number < b.top) ss) is w.stored)))) h.x_hears.numbers.sent in
     sent_numbered_keeps x y r (Srej n) to_x to_y tt (record {
@@ -127,10 +128,10 @@ send_srej_keeps x y r n before s after to_x to_y is low high h =
           (omega arith) under)
           own below;
       infos = if_weaker (view y to_y) (λ b. b.mate ≡ era x)
-          (λ b. InfosFit b.mate (held b.vr b.stored) to_y b.vr x.window
-          → InfosFit b.mate (held b.vr b.stored) (to_y ++ f ∷ []) b.vr x.window)
-          (λ b is' c. infos_pushed_other b.mate (held b.vr b.stored) b.vr x.window to_y f
-          (λ m. srej_infos b.vr x.window m n (of_mate b.mate f) (of_mate_same b.mate f (sym is'))) c)
+          (λ b. InfosFit b.mate (held b.vr b.stored) to_y b.vr (x.windows b.modulus)
+          → InfosFit b.mate (held b.vr b.stored) (to_y ++ f ∷ []) b.vr (x.windows b.modulus))
+          (λ b is' c. infos_pushed_other b.mate (held b.vr b.stored) b.vr (x.windows b.modulus) to_y f
+          (λ m. srej_infos b.vr (x.windows b.modulus) m n (of_mate b.mate f) (of_mate_same b.mate f (sym is'))) c)
           own;
       sent = if_weaker (view y to_y) (λ b. b.mate ≡ era x) (λ b. InfoBelow r.top (of_mate b.mate f))
           (λ b is'. srej_below r.top n (of_mate b.mate f) (of_mate_same b.mate f (sym is'))) own;
@@ -176,14 +177,22 @@ seen_vr x y r to_x to_y h =
     (omega arith, omega arith))
     h.y_hears.numbers.counts h.x_hears.mates.each_other
 
+-- y counts in the modulus of x, where both see each other
+seen_window :
+    (x y : End) (r : Running) (to_x to_y : List Tagged) → UpInvariant x y r to_x to_y
+    → IfSome (view y to_y) (λ b. x.window ≡ x.windows b.modulus)
+seen_window x y r to_x to_y h =
+    if_weaker (view y to_y) (λ b. b.modulus ≡ x.modulus) (λ b. x.window ≡ x.windows b.modulus)
+    (λ b is. h.x_hears.moduli.window ∙ ap x.windows (sym is)) h.y_hears.moduli.same
+
 -- An I frame that was counted as sent goes out, the first time or again: its number is in the window, and it has its
 -- packet.
 pub send_info_keeps :
     (x y : End) (r : Running) (n : ℕ) (packet : Packet) (to_x to_y : List Tagged)
     → r.va ≤ n → n < r.top → slice_get r.set_up.given n ≡ Some packet
-    → UpInvariant x y r to_x to_y → UpInvariant x y r to_x (to_y ++ of_end x (IsNumbered (Info n r.vr packet)) ∷ [])
+    → UpInvariant x y r to_x to_y → UpInvariant x y r to_x (to_y ++ of_end x (IsNumbered x.modulus (Info n r.vr packet)) ∷ [])
 send_info_keeps x y r n packet to_x to_y low high there h =
-    let f = of_end x (IsNumbered (Info n r.vr packet)) in
+    let f = of_end x (IsNumbered x.modulus (Info n r.vr packet)) in
     let xs = set_ups (now (Up r) x) in
     let k : Keeps r x.window = h.x_hears.keeps in
     let own = seen_of_own x y r to_x to_y h in
@@ -196,19 +205,27 @@ send_info_keeps x y r n packet to_x to_y low high there h =
           (λ b is. info_acks b.top n r.vr (length (got_in xs b.mate)) packet (of_mate b.mate f)
           (of_mate_same b.mate f (sym is)) (got_as_mate x y r to_x to_y b.mate h is))
           own;
-      infos = if_both (view y to_y) (λ b. (b.mate ≡ era x) × (r.va ≤ b.vr) × (b.vr ≤ r.top)) (λ b. WasSent b to_y r.top)
-          (λ b. InfosFit b.mate (held b.vr b.stored) to_y b.vr x.window
-          → InfosFit b.mate (held b.vr b.stored) (to_y ++ f ∷ []) b.vr x.window)
+      infos = if_both (view y to_y)
+          (λ b. (b.mate ≡ era x) × (r.va ≤ b.vr) × (b.vr ≤ r.top) × (x.window ≡ x.windows b.modulus))
+          (λ b. WasSent b to_y r.top)
+          (λ b. InfosFit b.mate (held b.vr b.stored) to_y b.vr (x.windows b.modulus)
+          → InfosFit b.mate (held b.vr b.stored) (to_y ++ f ∷ []) b.vr (x.windows b.modulus))
           (λ b order w c.
           let window = k.window in
           let va : r.va ≤ b.vr = order.1 in
-          infos_pushed b.mate (held b.vr b.stored) b.vr x.window r.top to_y f
+          let own : x.window ≡ x.windows b.modulus = order.3 in
+          infos_pushed b.mate (held b.vr b.stored) b.vr (x.windows b.modulus) r.top to_y f
           (held_within r.top b.vr b.stored order.2 w.stored) w.under_way
-          (λ m within. info_infos b.vr x.window m n r.vr packet (of_mate b.mate f)
+          (λ m within. info_infos b.vr (x.windows b.modulus) m n r.vr packet (of_mate b.mate f)
           (of_mate_same b.mate f (sym order.0)) (omega arith) (omega arith)) c)
-          (if_both (view y to_y) (λ b. b.mate ≡ era x) (λ b. (r.va ≤ b.vr) × (b.vr ≤ r.top))
-          (λ b. (b.mate ≡ era x) × (r.va ≤ b.vr) × (b.vr ≤ r.top))
-          (λ b is order. (is, order.0, order.1)) own (seen_vr x y r to_x to_y h))
+          (if_both (view y to_y) (λ b. (b.mate ≡ era x) × (x.window ≡ x.windows b.modulus))
+          (λ b. (r.va ≤ b.vr) × (b.vr ≤ r.top))
+          (λ b. (b.mate ≡ era x) × (r.va ≤ b.vr) × (b.vr ≤ r.top) × (x.window ≡ x.windows b.modulus))
+          (λ b is order. (is.0, order.0, order.1, is.1))
+          (if_both (view y to_y) (λ b. b.mate ≡ era x) (λ b. x.window ≡ x.windows b.modulus)
+          (λ b. (b.mate ≡ era x) × (x.window ≡ x.windows b.modulus)) (λ b is k. (is, k)) own
+          (seen_window x y r to_x to_y h))
+          (seen_vr x y r to_x to_y h))
           h.y_hears.numbers.sent;
       sent = if_weaker (view y to_y) (λ b. b.mate ≡ era x) (λ b. InfoBelow r.top (of_mate b.mate f))
           (λ b is. info_below r.top n r.vr packet (of_mate b.mate f) (of_mate_same b.mate f (sym is)) high) own;
@@ -225,7 +242,7 @@ get_behind (suc a) n (x ∷ xs) =
 pub send_kept_keeps :
     (x y : End) (r : Running) (n : ℕ) (packet : Packet) (to_x to_y : List Tagged) → r.va ≤ n → n < r.va + x.window
     → slice_get r.kept (n - r.va) ≡ Some packet → UpInvariant x y r to_x to_y
-    → UpInvariant x y (sent_number n r) to_x (to_y ++ of_end x (IsNumbered (Info n r.vr packet)) ∷ [])
+    → UpInvariant x y (sent_number n r) to_x (to_y ++ of_end x (IsNumbered x.modulus (Info n r.vr packet)) ∷ [])
 send_kept_keeps x y r n packet to_x to_y low high kept h =
     let k : Keeps r x.window = h.x_hears.keeps in
     let window = k.window in

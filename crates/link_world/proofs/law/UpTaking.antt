@@ -80,45 +80,45 @@ first_is_some (Some a) tag = refl
 
 -- The front frame has the packet with number V(R), whose place is empty.
 pub next_taken :
-    (y : End) (m : Machine) (ended : List SetUp) (q : SetUp) (tag nr : ℕ) (packet : Packet) (rest to_y : List Tagged)
+    (y : End) (m : Machine) (ended : List SetUp) (q : SetUp) (tag k nr : ℕ) (packet : Packet) (rest to_y : List Tagged)
     → packet_at m.incoming.places 0 ≡ None
-    → Invariant (between (up_end m ended q) y (numbered_to tag (Info m.incoming.vr nr packet) ∷ rest) to_y)
+    → Invariant (between (up_end m ended q) y (numbered_to tag k (Info m.incoming.vr nr packet) ∷ rest) to_y)
     → UpInvariant (end_behind m ended) y
     (got_so_far (m.incoming.vr + 1) (stored_from (m.incoming.vr + 1) (drop 1 m.incoming.places))
     (got_by (packet ∷ []) (first_origin q.origin tag) q) (running_of m q)) rest to_y
-next_taken y m ended q tag nr packet rest to_y none h =
+next_taken y m ended q tag k nr packet rest to_y none h =
     subst (λ ss. UpInvariant (end_behind m ended) y
     (got_so_far (m.incoming.vr + 1) ss (got_by (packet ∷ []) (first_origin q.origin tag) q) (running_of m q)) rest
     to_y)
     (sym (stored_first_empty m.incoming.vr m.incoming.places none))
-    (accept_front_keeps (end_behind m ended) y (running_of m q) tag nr packet rest to_y h)
+    (accept_front_keeps (end_behind m ended) y (running_of m q) tag k nr packet rest to_y h)
 
 -- so by REJ, where V(R) moves on by one
 pub one_taken :
-    (y : End) (m : Machine) (ended : List SetUp) (q : SetUp) (tag nr : ℕ) (packet : Packet) (rest to_y : List Tagged)
+    (y : End) (m : Machine) (ended : List SetUp) (q : SetUp) (tag k nr : ℕ) (packet : Packet) (rest to_y : List Tagged)
     → packet_at m.incoming.places 0 ≡ None
-    → Invariant (between (up_end m ended q) y (numbered_to tag (Info m.incoming.vr nr packet) ∷ rest) to_y)
+    → Invariant (between (up_end m ended q) y (numbered_to tag k (Info m.incoming.vr nr packet) ∷ rest) to_y)
     → Invariant (between (up_end (record m { incoming = moved_on 1 m.incoming }) ended
     (got_by (packet ∷ []) (first_origin q.origin tag) q)) y rest to_y)
-one_taken y m ended q tag nr packet rest to_y none h =
+one_taken y m ended q tag k nr packet rest to_y none h =
     let i = m.incoming in
     subst (λ ss. UpInvariant (end_behind m ended) y
     (got_so_far (i.vr + 1) ss (got_by (packet ∷ []) (first_origin q.origin tag) q) (running_of m q)) rest to_y)
-    (sym (stored_behind (i.vr + 1) 1 (drop 1 i.places))) (next_taken y m ended q tag nr packet rest to_y none h)
+    (sym (stored_behind (i.vr + 1) 1 (drop 1 i.places))) (next_taken y m ended q tag k nr packet rest to_y none h)
 
 -- and by SREJ, where V(R) moves on behind those stored that follow
 pub run_with_taken :
-    (y : End) (m : Machine) (ended : List SetUp) (q : SetUp) (tag nr : ℕ) (packet : Packet) (rest to_y : List Tagged)
+    (y : End) (m : Machine) (ended : List SetUp) (q : SetUp) (tag k nr : ℕ) (packet : Packet) (rest to_y : List Tagged)
     → packet_at m.incoming.places 0 ≡ None
-    → Invariant (between (up_end m ended q) y (numbered_to tag (Info m.incoming.vr nr packet) ∷ rest) to_y)
+    → Invariant (between (up_end m ended q) y (numbered_to tag k (Info m.incoming.vr nr packet) ∷ rest) to_y)
     → Invariant (between (up_end (record m { incoming = moved_on (length (run_with packet m)) m.incoming }) ended
     (got_by (run_with packet m) (first_origin q.origin tag) q)) y rest to_y)
-run_with_taken y m ended q tag nr packet rest to_y none h =
+run_with_taken y m ended q tag k nr packet rest to_y none h =
     let i = m.incoming in
     let more : List Packet = run (drop 1 i.places) in
     let q1 = got_by (packet ∷ []) (first_origin q.origin tag) q in
     let all = run_taken (end_behind m ended) y (running_of m q) (i.vr + 1) q1 (drop 1 i.places) rest to_y
-    (first_is_some q.origin tag) (next_taken y m ended q tag nr packet rest to_y none h) in
+    (first_is_some q.origin tag) (next_taken y m ended q tag k nr packet rest to_y none h) in
     let further : i.vr + 1 + length more ≡ i.vr + length (packet ∷ more) = omega arith in
     let behind : 1 + length more ≡ length (packet ∷ more) = omega arith in
     let places : drop (length more) (drop 1 i.places) ≡ drop (length (packet ∷ more)) i.places =

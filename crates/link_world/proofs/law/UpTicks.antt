@@ -1,5 +1,5 @@
 -- A tick of an end that is up.
-use Rattle.std.proofs.Common.{◌≡◌, ℕ, Bool, true, false, if◌then◌else◌, List, [], ◌∷◌, ◌++◌, length, map, Option, Some, None, refl, sym, ap, ◌∙◌, subst, append_assoc}
+use Rattle.std.proofs.Common.{◌≡◌, ℕ, Bool, true, false, if◌then◌else◌, List, [], ◌∷◌, ◌++◌, length, map, Option, Some, None, inl, refl, sym, ap, ◌∙◌, subst, append_assoc}
 use Rattle.std.specs.List.{AllByRecursion as Each, fold}
 use Rattle.std.proofs.lemmas.Bool.{cond-false}
 use Rattle.std.proofs.lemmas.List.{map-append}
@@ -7,6 +7,9 @@ use Rattle.ax25_frames.specs.declared.frame.U.TheVariants.{Dm as DmFrame}
 use Rattle.link_machine.specs.declared.state.LinkState.{LinkState}
 use Rattle.link_machine.specs.declared.state.LinkState.TheVariants.{Up as UpState}
 use Rattle.link_machine.specs.declared.acts.Told.TheVariants.{Ended}
+use Rattle.link_machine.specs.Params.{window_in}
+use Rattle.selective_reject.specs.Incoming.{empty_incoming}
+use Rattle.link_machine.specs.Sent.{SentIn, sent_in}
 use Rattle.link_machine.specs.Sent.Sent.{SetupSent}
 use Rattle.link_machine.specs.Turn.{Turn, begin, setting}
 use Rattle.link_machine.specs.Acts.{poll}
@@ -17,17 +20,18 @@ use Rattle.link_world.proofs.law.Core.Kind.{Dm}
 use Rattle.link_world.proofs.law.Core.Standing.{Idle}
 use Rattle.link_world.proofs.law.CoreMoves.{now, of_end}
 use Rattle.link_world.proofs.law.CoreOf.{cores_sent, end_behind, up_end}
-use Rattle.link_world.specs.SetUps.{SetUp}
+use Rattle.link_world.specs.SetUps.{SetUp, opened}
 use Rattle.link_world.specs.Recorded.{RecordedEnd, told_of, tagged}
 use Rattle.link_world.specs.Recorded.Happening.{Ticks}
 use Rattle.link_world.proofs.law.Each.{each_append}
+use Rattle.link_world.proofs.law.PlacesFit.{IsSound, sound_new}
 use Rattle.link_world.proofs.law.Standings.{leave_to_idle_keeps}
 use Rattle.link_world.proofs.law.Kept.{send_dm_keeps}
 use Rattle.link_world.proofs.law.UpActs.{IsUp, Progress, setting_keeps, respond_ready_keeps, poll_keeps, choice_keeps}
 use Rattle.link_world.proofs.law.Invariant.{Invariant}
 use Rattle.link_world.proofs.law.Shown.{core_set_up, core_set_ups, IsWritten}
 use Rattle.link_world.proofs.law.Settling.{Outcome, end_with, all_of_last, length_of_last, numbered_written}
-use Rattle.link_world.proofs.law.Outcomes.{same_kind, idle_outcome, outcome_behind, setup_behind_flight, setup_written}
+use Rattle.link_world.proofs.law.Outcomes.{idle_outcome, outcome_behind, setup_behind_flight, setup_written}
 use Rattle.link_world.proofs.law.UpEvents.{Keeps, UpEnd, up_begins, up_ends, progress_of}
 
 -- an act by the state, of a link that is up
@@ -70,6 +74,9 @@ spent_outcome r ended last waiting y to_x to_y turn u h spent =
     subst (λ t. Keeps (Ticks waiting) r y to_x to_y (settled t)) (sym (ap (λ b. if b then gone else stays) spent))
     outcome
   where
+    own : ℕ
+    own = turn.now.incoming.modulus
+
     gone : Turn
     gone = record {
       now = record turn.now {
@@ -82,8 +89,9 @@ spent_outcome r ended last waiting y to_x to_y turn u h spent =
           t3 = None;
         };
         outgoing = Rattle.selective_reject.specs.Outgoing.empty_outgoing;
+        incoming = empty_incoming 8 (window_in 8 turn.now.params) turn.now.params.mode;
       };
-      sent = turn.sent ++ SetupSent DmFrame false ∷ [];
+      sent = turn.sent ++ sent_in own (SetupSent DmFrame false) ∷ [];
       told = turn.told ++ Ended Rattle.link_machine.specs.declared.acts.Why.TheVariants.Failed ∷ [];
     }
 
@@ -106,25 +114,25 @@ spent_outcome r ended last waiting y to_x to_y turn u h spent =
     under_way = to_y ++ cores_sent false n turn.sent
 
     left : Invariant (between idle y to_x under_way)
-    left = subst (λ qs. Invariant (between (now Idle (end_behind turn.now qs)) y to_x under_way))
+    left = subst (λ qs. Invariant (between (now Idle (end_behind gone.now qs)) y to_x under_way))
         (sym (all_of_last ended last))
-        (leave_to_idle_keeps (up_end turn.now (core_set_ups ended) (core_set_up last)) y to_x under_way h.holds)
+        (leave_to_idle_keeps (up_end turn.now (core_set_ups ended) (core_set_up last)) y 8 to_x under_way h.holds)
+
+    dm : List SentIn
+    dm = sent_in own (SetupSent DmFrame false) ∷ []
 
     outcome : Keeps (Ticks waiting) r y to_x to_y (settled gone)
-    outcome alone = outcome_behind (Ticks waiting) r y to_x to_y false r.machine.incoming gone all []
-        (ap (λ t. fold (told_of 0 r.waiting) r.set_ups
+    outcome alone = outcome_behind (Ticks waiting) r y to_x to_y false r.machine.params gone all []
+        (ap (λ t. fold (told_of (opened 0 8 r.waiting)) r.set_ups
         (t ++ Ended Rattle.link_machine.specs.declared.acts.Why.TheVariants.Failed ∷ [])) h.told ∙ u.set_ups) refl
-        (idle_outcome y to_x to_y false r.machine.incoming gone.now all (turn.sent ++ SetupSent DmFrame false ∷ [])
-        (cores_sent false n turn.sent ++ of_end idle (Dm false) ∷ []) refl refl
-        (subst Rattle.link_world.proofs.law.PlacesFit.IsFit (sym h.incoming) u.fit)
-        (subst (λ i. Rattle.link_world.proofs.law.Settling.IsSameKind i r.machine.incoming) (sym h.incoming)
-        (same_kind r.machine.incoming))
-        (setup_behind_flight false e n turn.sent DmFrame false tt (length_of_last ended last) h.fits)
-        (subst (λ fs. Each (IsWritten gone.now.incoming.modulus) fs)
-        (sym (map-append (tagged false e) turn.sent (SetupSent DmFrame false ∷ [])))
-        (each_append (IsWritten gone.now.incoming.modulus) (map (tagged false e) turn.sent)
-        (map (tagged false e) (SetupSent DmFrame false ∷ []))
-        (numbered_written false e turn.sent h.fits) (setup_written false e DmFrame false tt)))
+        (idle_outcome y to_x to_y false r.machine.params gone.now all (turn.sent ++ dm)
+        (cores_sent false n turn.sent ++ of_end idle (Dm false) ∷ []) refl refl h.params
+        (subst (λ q. IsSound r.machine.params (empty_incoming 8 (window_in 8 q) q.mode)) (sym h.params)
+        (sound_new r.machine.params 8 (inl refl) u.sound.room))
+        (setup_behind_flight false e n turn.sent own DmFrame false tt (length_of_last ended last) h.fits)
+        (subst (λ fs. Each IsWritten fs) (sym (map-append (tagged false e) turn.sent dm))
+        (each_append IsWritten (map (tagged false e) turn.sent) (map (tagged false e) dm)
+        (numbered_written false e turn.sent h.fits) (setup_written false e own DmFrame false tt)))
         (subst (λ fs. Invariant (between idle y to_x fs))
         (append_assoc to_y (cores_sent false n turn.sent) (of_end idle (Dm false) ∷ []))
         (send_dm_keeps idle y to_x under_way left)))
@@ -136,7 +144,7 @@ tick_ends :
     → IsUp y to_x to_y (progress_of r ended last false) turn → Keeps (Ticks waiting) r y to_x to_y (settled turn)
 tick_ends r ended last waiting y to_x to_y turn u h =
     up_ends (Ticks waiting) r y to_x to_y (progress_of r ended last false) ended last (ended ++ last ∷ []) turn refl
-    refl refl u.fit (same_kind r.machine.incoming) u.set_ups refl h
+    refl refl refl u.sound u.set_ups refl h
 
 polls :
     (r : RecordedEnd) (ended : List SetUp) (last : SetUp) (waiting : Bool) (y : End) (to_x to_y : List CoreTagged)

@@ -1,18 +1,20 @@
 -- x is up, and its own numbers change: V(A), V(S), the number behind the highest that was sent, and the packets it
 -- keeps.
-use Rattle.std.proofs.Common.{◌≡◌, ℕ, ◌+◌, ◌-◌, ◌<◌, ◌≤◌, max, List, ◌∷◌, Option, Some, length, drop, arith, ap, ◌∙◌, le_trans, le_refl}
+use Rattle.std.proofs.Common.{◌≡◌, ℕ, ◌+◌, ◌-◌, ◌<◌, ◌≤◌, max, List, ◌∷◌, Option, Some, length, drop, arith, ap, refl, ◌∙◌, subst, le_trans, le_refl}
 use Rattle.std.proofs.lemmas.List.{drop-drop}
 use Rattle.selective_reject.specs.declared.packet.Packet.{Packet}
-use Rattle.link_world.proofs.law.Core.{End, Running, Stored, Tagged, Numbered, set_ups, count, got_in}
+use Rattle.link_world.proofs.law.Core.{End, Running, Stored, Tagged, Numbered, set_ups, count, got_in, modulus_in}
 use Rattle.link_world.proofs.law.Core.Numbered.{Info, Super, Srej}
 use Rattle.link_world.proofs.law.Core.Standing.{Up}
 use Rattle.link_world.proofs.law.CoreMoves.{now, sending_from, numbered_to, acknowledged_to, Acknowledges}
 use Rattle.link_world.proofs.law.Mates.{of_mate, of_mate_same}
-use Rattle.link_world.proofs.law.Each.{each_weaker}
+use Rattle.link_world.proofs.law.Each.{each_weaker, each_last}
 use Rattle.link_world.proofs.law.AckChain.{AcksRise, AckHolds, ack_next, acks_higher, acks_rising, acks_start, acks_advanced}
 use Rattle.link_world.proofs.law.InfoChain.{InfoBelow, info_below_higher}
 use Rattle.link_world.proofs.law.Views.{View, view, view_up}
 use Rattle.link_world.proofs.law.Options.{if_weaker}
+use Rattle.link_world.proofs.law.CoreLaw.{OriginAlike}
+use Rattle.link_world.proofs.law.Moduli.{moduli_up}
 use Rattle.link_world.proofs.law.Invariant.{Keeps, WasSent, Invariant}
 
 -- a higher top
@@ -41,8 +43,8 @@ own_numbers_keep x y r va vs top kept to_x to_y keeps le acks h = record {
       counts = h.x_hears.numbers.counts;
       acks = acks;
       infos = h.x_hears.numbers.infos;
-      sent = if_weaker (view y to_y) (λ b. WasSent (view_up r) to_x b.top)
-          (λ b. WasSent (view_up (sending_from va vs top kept r)) to_x b.top)
+      sent = if_weaker (view y to_y) (λ b. WasSent (view_up x.modulus r) to_x b.top)
+          (λ b. WasSent (view_up x.modulus (sending_from va vs top kept r)) to_x b.top)
           (λ b s. record { stored = s.stored; under_way = s.under_way }) h.x_hears.numbers.sent;
     };
     packets = record {
@@ -53,6 +55,8 @@ own_numbers_keep x y r va vs top kept to_x to_y keeps le acks h = record {
       own = h.x_hears.packets.own;
       earlier = h.x_hears.packets.earlier;
     };
+    moduli = moduli_up (view y to_y) x y r (sending_from va vs top kept r) to_x refl refl
+        (each_last (OriginAlike (set_ups y)) x.ended r.set_up h.x_hears.moduli.origins) h.x_hears.moduli;
   };
   y_hears = record {
     tags = h.y_hears.tags;
@@ -67,6 +71,15 @@ own_numbers_keep x y r va vs top kept to_x to_y keeps le acks h = record {
           (λ b s. sent_higher b to_y r.top top le s) h.y_hears.numbers.sent;
     };
     packets = h.y_hears.packets;
+    moduli = record {
+      window = h.y_hears.moduli.window;
+      own = h.y_hears.moduli.own;
+      frames = h.y_hears.moduli.frames;
+      calls = h.y_hears.moduli.calls;
+      same = h.y_hears.moduli.same;
+      mate = h.y_hears.moduli.mate;
+      origins = h.y_hears.moduli.origins;
+    };
   };
 }
 
@@ -106,13 +119,23 @@ raise_top_keeps x y r top to_x to_y le window given h =
 
 -- An I or S frame under way to an end that is up is of its mate.
 pub front_of_mate :
-    (x y : End) (r : Running) (tag : ℕ) (n : Numbered) (rest to_y : List Tagged)
-    → Invariant (record { x = now (Up r) x; y = y; to_x = numbered_to tag n ∷ rest; to_y = to_y }) → tag ≡ r.set_up.mate
-front_of_mate x y r tag n rest to_y h =
+    (x y : End) (r : Running) (tag m : ℕ) (n : Numbered) (rest to_y : List Tagged)
+    → Invariant (record { x = now (Up r) x; y = y; to_x = numbered_to tag m n ∷ rest; to_y = to_y }) → tag ≡ r.set_up.mate
+front_of_mate x y r tag m n rest to_y h =
     let above : r.set_up.mate ≤ tag = h.x_hears.tags.rise.0 in
     let opened : tag < count y = h.x_hears.tags.of_set_up.0 in
     let last : count y ≤ r.set_up.mate + 1 = h.x_hears.mates.last in
     omega arith
+
+-- and it is written in the modulus of the end
+pub front_modulus :
+    (x y : End) (r : Running) (tag m : ℕ) (n : Numbered) (rest to_y : List Tagged)
+    → Invariant (record { x = now (Up r) x; y = y; to_x = numbered_to tag m n ∷ rest; to_y = to_y }) → m ≡ x.modulus
+front_modulus x y r tag m n rest to_y h =
+    let is : tag ≡ r.set_up.mate = front_of_mate x y r tag m n rest to_y h in
+    let opened : tag < count y = h.x_hears.tags.of_set_up.0 in
+    h.x_hears.moduli.frames.0 ∙ ap (modulus_in (set_ups y)) is
+    ∙ h.x_hears.moduli.mate (subst (λ k. k < count y) is opened)
 
 acknowledging :
     (mate top nr n : ℕ) (f : Numbered) (o : Option Numbered) → Acknowledges f nr → o ≡ Some f
@@ -123,15 +146,15 @@ acknowledging mate top nr n (Srej a) o is same = absurd is
 
 -- The front frame acknowledges: V(A) is its N(R), and the packets below are no longer kept. The frame stays in front.
 pub ack_front_keeps :
-    (x y : End) (r : Running) (tag nr : ℕ) (n : Numbered) (rest to_y : List Tagged) → Acknowledges n nr
-    → Invariant (record { x = now (Up r) x; y = y; to_x = numbered_to tag n ∷ rest; to_y = to_y })
-    → Invariant (record { x = now (Up (acknowledged_to nr r)) x; y = y; to_x = numbered_to tag n ∷ rest; to_y = to_y })
-ack_front_keeps x y r tag nr n rest to_y is h =
-    let f : Tagged = numbered_to tag n in
+    (x y : End) (r : Running) (tag m nr : ℕ) (n : Numbered) (rest to_y : List Tagged) → Acknowledges n nr
+    → Invariant (record { x = now (Up r) x; y = y; to_x = numbered_to tag m n ∷ rest; to_y = to_y })
+    → Invariant (record { x = now (Up (acknowledged_to nr r)) x; y = y; to_x = numbered_to tag m n ∷ rest; to_y = to_y })
+ack_front_keeps x y r tag m nr n rest to_y is h =
+    let f : Tagged = numbered_to tag m n in
     let k : Keeps r x.window = h.x_hears.keeps in
     let mate = r.set_up.mate in
     let got = length (got_in (set_ups y) mate) in
-    let of : of_mate mate f ≡ Some n = of_mate_same mate f (front_of_mate x y r tag n rest to_y h) in
+    let of : of_mate mate f ≡ Some n = of_mate_same mate f (front_of_mate x y r tag m n rest to_y h) in
     let says = acknowledging mate r.top nr nr n (of_mate mate f) is of in
     let acks : AcksRise mate nr (f ∷ rest) got r.top =
     acks_advanced mate r.va got r.top f rest nr says.0 (says.1 r.va) (says.1 nr) h.x_hears.numbers.acks in

@@ -1,9 +1,11 @@
 -- No N(R) that an end reads is invalid, so no link is reset by a number.
-use Rattle.std.proofs.Common.{◌≡◌, ℕ, ◌-◌, ◌%◌, ◌<◌, ◌≤◌, true, List, [], ◌∷◌, refl, ap, ◌∙◌, subst}
+use Rattle.std.proofs.Common.{◌≡◌, ℕ, ◌-◌, ◌%◌, ◌<◌, ◌≤◌, true, List, [], ◌∷◌, Option, Some, None, refl, ap, sym, ◌∙◌, subst}
 use Rattle.std.proofs.lemmas.Bool.{le-leb}
+use Rattle.std.specs.List.{AllByRecursion as Each}
+use Rattle.ax25_frames.specs.declared.frame.Frame.{Frame}
 use Rattle.selective_reject.specs.Numbers.{ahead}
 use Rattle.link_machine.specs.declared.params.Params.{Params}
-use Rattle.link_machine.specs.Machine.{Machine}
+use Rattle.link_machine.specs.Machine.{Machine, is_valid}
 use Rattle.link_machine.specs.Sent.{Sent, sent_kind}
 use Rattle.link_machine.specs.Sent.Sent.{InfoSent, SuperSent, SetupSent}
 use Rattle.link_world.proofs.law.Core.{End, Tagged as CoreTagged, Numbered, between}
@@ -13,12 +15,14 @@ use Rattle.link_world.proofs.law.CoreOf.{super_of, running_of, end_behind, up_en
 use Rattle.link_world.specs.SetUps.{SetUp}
 use Rattle.link_world.specs.Flight.{Tagged}
 use Rattle.link_world.specs.Recorded.{RecordedEnd}
-use Rattle.link_world.specs.World.{Side, World}
-use Rattle.link_world.specs.Law.{names_valid, reads_valid, hears_valid}
+use Rattle.link_world.specs.World.{Side, World, read_in}
+use Rattle.link_world.specs.Law.{names_valid, read_names_valid, reads_valid, hears_valid}
 use Rattle.link_world.specs.Windows.{WindowsFit}
 use Rattle.link_world.specs.declared.event.Event.{Event}
 use Rattle.link_world.specs.declared.event.Event.TheVariants.{Connect, Send, Disconnect, Tick, Hear, Lose}
 use Rattle.link_world.proofs.law.Deciding.{nr_of, nr_is_named}
+use Rattle.link_world.proofs.law.Upward.{front_modulus}
+use Rattle.link_world.proofs.law.EndSteps.{kind_of_up, read_frame_as, read_frame_same}
 use Rattle.link_world.proofs.law.UpHearing.{nr_of_super}
 use Rattle.link_world.proofs.law.Invariant.{Invariant}
 use Rattle.link_world.proofs.law.Shown.{core_set_up, core_set_ups, core_flight, core_tagged, Shown, IsWritten}
@@ -26,32 +30,32 @@ use Rattle.link_world.proofs.law.Shown.Shown.{ShownIdle, ShownCalling, ShownUp, 
 use Rattle.link_world.proofs.law.WorldSteps.{ShowsWorld, windows_of}
 
 valid_by :
-    (m : Machine) (ended : List SetUp) (last : SetUp) (y : End) (tag : ℕ) (n : Numbered) (nr : ℕ)
-    (rest to_y : List CoreTagged) → nr_of n ≡ nr
-    → m.incoming.modulus ≡ 8 → m.incoming.window < m.incoming.modulus
-    → Invariant (between (up_end m (core_set_ups ended) (core_set_up last)) y (numbered_to tag n ∷ rest) to_y)
-    → Rattle.link_machine.specs.Machine.is_valid (nr % 8) m ≡ true
-valid_by m ended last y tag n nr rest to_y is modulus fits inv =
-    let named_by = nr_is_named m.incoming.modulus (end_behind m (core_set_ups ended)) y
-    (running_of m (core_set_up last)) tag n rest to_y fits inv in
-    subst (λ k. Rattle.link_machine.specs.Machine.is_valid (nr % k) m ≡ true) modulus
+    (m : Machine) (ended : List SetUp) (last : SetUp) (y : End) (tag k : ℕ) (n : Numbered) (nr : ℕ)
+    (rest to_y : List CoreTagged) → nr_of n ≡ nr → m.incoming.window < m.incoming.modulus
+    → Invariant (between (up_end m (core_set_ups ended) (core_set_up last)) y (numbered_to tag k n ∷ rest) to_y)
+    → is_valid (nr % k) m ≡ true
+valid_by m ended last y tag k n nr rest to_y is fits inv =
+    let x = end_behind m (core_set_ups ended) in
+    let r = running_of m (core_set_up last) in
+    let named_by = nr_is_named m.incoming.modulus x y r tag k n rest to_y fits inv in
+    subst (λ c. is_valid (nr % c) m ≡ true) (sym (front_modulus x y r tag k n rest to_y inv))
     (le-leb _ _ (subst (λ t. ahead m.incoming.modulus m.outgoing.va (t % m.incoming.modulus) ≤ m.outgoing.top -
     m.outgoing.va) is named_by.0))
 
 names_by :
     (m : Machine) (ended : List SetUp) (last : SetUp) (y : End) (f : Tagged) (sent : Sent) (rest to_y : List CoreTagged)
-    → m.incoming.modulus ≡ 8 → m.incoming.window < m.incoming.modulus
+    → m.incoming.window < m.incoming.modulus
     → Invariant (between (up_end m (core_set_ups ended) (core_set_up last)) y
     (core_tagged (record f { sent = sent }) ∷ rest) to_y)
-    → names_valid m (sent_kind 8 sent) ≡ true
-names_by m ended last y f (InfoSent ns nr packet) rest to_y modulus fits inv =
-    valid_by m ended last y f.set_up (Info ns nr packet) nr rest to_y refl modulus fits inv
-names_by m ended last y f (SuperSent which command nr flag) rest to_y modulus fits inv =
-    valid_by m ended last y f.set_up (super_of which nr flag) nr rest to_y (nr_of_super which nr flag) modulus fits inv
-names_by m ended last y f (SetupSent which flag) rest to_y modulus fits inv = refl
+    → names_valid m (sent_kind f.modulus sent) ≡ true
+names_by m ended last y f (InfoSent ns nr packet) rest to_y fits inv =
+    valid_by m ended last y f.set_up f.modulus (Info ns nr packet) nr rest to_y refl fits inv
+names_by m ended last y f (SuperSent which command nr flag) rest to_y fits inv =
+    valid_by m ended last y f.set_up f.modulus (super_of which nr flag) nr rest to_y (nr_of_super which nr flag) fits inv
+names_by m ended last y f (SetupSent which flag) rest to_y fits inv = refl
 
 reads_by :
-    (a b : Params) (r : RecordedEnd) (towards : List Tagged) (far : Side) → WindowsFit 8 a b
+    (a b : Params) (r : RecordedEnd) (towards : List Tagged) (far : Side) → WindowsFit a b
     → ShowsWorld a b (record { a = record { end = r; towards = towards }; b = far })
     → reads_valid r.machine.control.state r.machine towards ≡ true
 reads_by a b r towards far fit s = go s.x s.near s.holds towards s.near_written refl
@@ -60,26 +64,36 @@ reads_by a b r towards far fit s = go s.x s.near s.holds towards s.near_written 
     w = record { a = record { end = r; towards = towards }; b = far }
 
     go : (x : End) → Shown r x → Invariant (between x s.y (core_flight towards) (core_flight far.towards))
-        → (ts : List Tagged)
-        → Rattle.std.specs.List.AllByRecursion (IsWritten 8) towards → towards ≡ ts
+        → (ts : List Tagged) → Each IsWritten towards → towards ≡ ts
         → reads_valid r.machine.control.state r.machine ts ≡ true
     go x (ShownIdle state packets waiting) inv ts written is = ap (λ t. reads_valid t r.machine ts) state
     go x (ShownCalling state waiting) inv ts written is = ap (λ t. reads_valid t r.machine ts) state
     go x (ShownUp ended last l state waiting) inv [] written is = ap (λ t. reads_valid t r.machine []) state
     go x (ShownUp ended last l state waiting) inv (f ∷ rest) written is =
-        let own = windows_of a b w fit s in
-        let all : Rattle.std.specs.List.AllByRecursion (IsWritten 8) (f ∷ rest) =
-        subst (λ fs. Rattle.std.specs.List.AllByRecursion (IsWritten 8) fs) is written in
-        ap (λ t. reads_valid t r.machine (f ∷ rest)) state ∙ ap (names_valid r.machine) all.0.kind
-        ∙ names_by r.machine ended last s.y f f.sent (core_flight rest) (core_flight far.towards) s.near_like.modulus
-        own.own
-        (subst (λ fs. Invariant (between (up_end r.machine (core_set_ups ended) (core_set_up last)) s.y
-        (core_flight fs) (core_flight far.towards))) is inv)
+        ap (λ t. reads_valid t r.machine (f ∷ rest)) state ∙ by_read (read_in r.machine.incoming.modulus f) refl
+      where
+        one : IsWritten f
+        one = (subst (λ fs. Each IsWritten fs) is written).0
+
+        front : Invariant (between (up_end r.machine (core_set_ups ended) (core_set_up last)) s.y
+            (core_flight (f ∷ rest)) (core_flight far.towards))
+        front = subst (λ fs. Invariant (between (up_end r.machine (core_set_ups ended) (core_set_up last)) s.y
+            (core_flight fs) (core_flight far.towards))) is inv
+
+        by_read : (o : Option Frame) → read_in r.machine.incoming.modulus f ≡ o → read_names_valid r.machine o ≡ true
+        by_read None read = refl
+        by_read (Some frame) read =
+            ap (names_valid r.machine)
+            (kind_of_up r.machine ended last frame.kind f.modulus f.sent f.set_up f.answers s.y (core_flight rest)
+            (core_flight far.towards) (read_frame_as r.machine.incoming.modulus f frame one read)
+            (read_frame_same r.machine.incoming.modulus f frame one read) front)
+            ∙ names_by r.machine ended last s.y f f.sent (core_flight rest) (core_flight far.towards)
+            (windows_of a b w fit s).own front
     go x (ShownReleasing state packets waiting) inv ts written is = ap (λ t. reads_valid t r.machine ts) state
 
 -- what the near end reads
 pub near_valid :
-    (a b : Params) (w : World) (event : Event) → WindowsFit 8 a b → ShowsWorld a b w → hears_valid event w ≡ true
+    (a b : Params) (w : World) (event : Event) → WindowsFit a b → ShowsWorld a b w → hears_valid event w ≡ true
 near_valid a b w (Connect e) fit s = refl
 near_valid a b w (Send e packet) fit s = refl
 near_valid a b w (Disconnect e) fit s = refl

@@ -1,15 +1,16 @@
 -- The law of two links: in every quiet run from a new world whose windows fit, what each set-up got is a prefix of what
--- the other end was given in its origin, origins rise strictly, all that a set-up acted on is of one set-up of the
+-- the other end was given in its origin, which has the same modulus, origins rise strictly, all that a set-up acted on is of one set-up of the
 -- other end, and no number is invalid.
-use Rattle.std.proofs.Common.{◌≡◌, true, List, [], ◌∷◌}
+use Rattle.std.proofs.Common.{◌≡◌, true, List, [], ◌∷◌, Option, Some, None, refl}
 use Rattle.std.specs.Prelude.{IsTrue}
 use Rattle.std.specs.List.{AllByRecursion as Each}
+use Rattle.ax25_frames.specs.declared.frame.Frame.{Frame}
 use Rattle.link_machine.specs.declared.params.Params.{Params}
 use Rattle.link_machine.specs.Step.{step as link_step}
 use Rattle.link_world.specs.Recorded.{RecordedEnd, seen}
 use Rattle.link_world.specs.Recorded.Happening.{Connects, Sends, Disconnects, Ticks, Hears}
 use Rattle.link_world.specs.Flight.{Tagged}
-use Rattle.link_world.specs.World.{Side, World, near_step, seen_from, end_of, step, run, new_world}
+use Rattle.link_world.specs.World.{Side, World, read_in, hearing_as, turn_of, near_step, seen_from, end_of, step, run, new_world}
 use Rattle.link_world.specs.Quiet.{IsQuietRun}
 use Rattle.link_world.specs.Windows.{WindowsFit}
 use Rattle.link_world.specs.Origin.{GotInOrder}
@@ -37,11 +38,15 @@ hear_acted :
     → let w : World = record { a = record { end = r; towards = towards }; b = far } in
     ShowsWorld a b w → ActedWorld w → ActedWorld (near_step (Hear e) w)
 hear_acted a b r [] far e s h = record { near = h.near; far = h.far }
-hear_acted a b r (f ∷ rest) far e s h = record {
-  near = acted_behind (Hears f) r (link_step r.machine (seen (Hears f)))
-      (acted_hears r s.x s.y f _ _ s.near s.near_written.0 s.holds h.near);
-  far = h.far;
-}
+hear_acted a b r (f ∷ rest) far e s h = record { near = go (read_in r.machine.incoming.modulus f) refl; far = h.far }
+  where
+    go : (o : Option Frame) → read_in r.machine.incoming.modulus f ≡ o
+        → Each ActedOnMate (turn_of (hearing_as f o) r).now.set_ups
+    go None is = h.near
+    go (Some frame) is =
+        let heard = Hears (record f { frame = frame }) in
+        acted_behind heard r (link_step r.machine (seen heard))
+        (acted_hears r s.x s.y f frame _ _ s.near s.near_written.0 is s.holds h.near)
 
 near_acted :
     (a b : Params) (w : World) (event : Event) → ShowsWorld a b w → ActedWorld w → ActedWorld (near_step event w)
@@ -74,7 +79,7 @@ step_acted a b w event s h = go (end_of event)
         (near_acted b a (seen_from B w) event (shows_mirror a b w s) (acted_mirror w h))
 
 run_acted :
-    (a b : Params) (w : World) (events : List Event) → WindowsFit 8 a b → IsQuietRun w events → ShowsWorld a b w
+    (a b : Params) (w : World) (events : List Event) → WindowsFit a b → IsQuietRun w events → ShowsWorld a b w
     → ActedWorld w → ActedWorld (run w events)
 run_acted a b w [] fit quiet s h = h
 run_acted a b w (event ∷ events) fit quiet s h =
@@ -82,7 +87,7 @@ run_acted a b w (event ∷ events) fit quiet s h =
 
 -- what an end reads in an event
 step_valid :
-    (a b : Params) (w : World) (event : Event) → WindowsFit 8 a b → ShowsWorld a b w
+    (a b : Params) (w : World) (event : Event) → WindowsFit a b → ShowsWorld a b w
     → IsTrue (hears_valid event (seen_from (end_of event) w))
 step_valid a b w event fit s = go (end_of event)
   where
@@ -91,7 +96,7 @@ step_valid a b w event fit s = go (end_of event)
     go B = near_valid b a (seen_from B w) event (fit_mirror a b fit) (shows_mirror a b w s)
 
 run_valid :
-    (a b : Params) (w : World) (events : List Event) → WindowsFit 8 a b → IsQuietRun w events → ShowsWorld a b w
+    (a b : Params) (w : World) (events : List Event) → WindowsFit a b → IsQuietRun w events → ShowsWorld a b w
     → NumbersAreValid w events
 run_valid a b w [] fit quiet s = tt
 run_valid a b w (event ∷ events) fit quiet s = (
