@@ -16,26 +16,26 @@ loop-place-preserved c =
     let fits : length xs ≤ most = let room = c.self.invariant.1 in let size = ap length same in let capacity = c.loop-place.invariant.1 in omega arith in
     elim c.match-get.branch [
       | in-Some+in_ok-copy+in-None-1 w ↦ (
-          ap (λ b. b.items) (w.places-is ∙ w.push_back.ensures.items)
-              ∙ ap (λ x. keep_last most (ps ++ x ∷ [])) w.in_ok-copy.ensures
-              ∙ kept_next most place ps xs w.in-Some.place.now c.loop-place.invariant.0
-              (ap (λ ys. slice_get ys place) (sym same) ∙ sym c.get.ensures ∙ ap option_copied w.in-Some.is) fits,
-          ap (λ b. b.capacity) (w.places-is ∙ w.push_back.ensures.items) ∙ c.loop-place.invariant.1,
-        )
+        ap (λ b. b.items) (w.places-is ∙ w.push_back.ensures.items)
+            ∙ ap (λ x. keep_last most (ps ++ x ∷ [])) w.in_ok-copy.ensures
+            ∙ kept_next most place ps xs w.in-Some.place.now c.loop-place.invariant.0
+            (ap (λ ys. slice_get ys place) (sym same) ∙ sym c.get.ensures ∙ ap option_copied w.in-Some.is) fits,
+        ap (λ b. b.capacity) (w.places-is ∙ w.push_back.ensures.items) ∙ c.loop-place.invariant.1,
+      )
       | in-Some+in_ok-copy+in-Some+in-None-1 w ↦ (
-          ap (λ b. b.items) (w.places-is ∙ w.push_back.ensures.items)
-              ∙ ap (λ x. keep_last most (ps ++ x ∷ [])) w.in_ok-copy.ensures
-              ∙ kept_next most place ps xs w.in-Some.place.now c.loop-place.invariant.0
-              (ap (λ ys. slice_get ys place) (sym same) ∙ sym c.get.ensures ∙ ap option_copied w.in-Some.is) fits,
-          ap (λ b. b.capacity) (w.places-is ∙ w.push_back.ensures.items) ∙ c.loop-place.invariant.1,
-        )
+        ap (λ b. b.items) (w.places-is ∙ w.push_back.ensures.items)
+            ∙ ap (λ x. keep_last most (ps ++ x ∷ [])) w.in_ok-copy.ensures
+            ∙ kept_next most place ps xs w.in-Some.place.now c.loop-place.invariant.0
+            (ap (λ ys. slice_get ys place) (sym same) ∙ sym c.get.ensures ∙ ap option_copied w.in-Some.is) fits,
+        ap (λ b. b.capacity) (w.places-is ∙ w.push_back.ensures.items) ∙ c.loop-place.invariant.1,
+      )
       | in-Some+in_ok-copy+in-Some+in-Some-push_back-2 w ↦ (
-          ap (λ b. b.items) (w.places-is ∙ w.push_back.ensures.items)
-              ∙ ap (λ x. keep_last most (ps ++ x ∷ [])) w.in_ok-copy.ensures
-              ∙ kept_next most place ps xs w.in-Some.place.now c.loop-place.invariant.0
-              (ap (λ ys. slice_get ys place) (sym same) ∙ sym c.get.ensures ∙ ap option_copied w.in-Some.is) fits,
-          ap (λ b. b.capacity) (w.places-is ∙ w.push_back.ensures.items) ∙ c.loop-place.invariant.1,
-        )
+        ap (λ b. b.items) (w.places-is ∙ w.push_back.ensures.items)
+            ∙ ap (λ x. keep_last most (ps ++ x ∷ [])) w.in_ok-copy.ensures
+            ∙ kept_next most place ps xs w.in-Some.place.now c.loop-place.invariant.0
+            (ap (λ ys. slice_get ys place) (sym same) ∙ sym c.get.ensures ∙ ap option_copied w.in-Some.is) fits,
+        ap (λ b. b.capacity) (w.places-is ∙ w.push_back.ensures.items) ∙ c.loop-place.invariant.1,
+      )
       | in_default w ↦
           let end = c.len-place-end.ensures.len in
           let before = c.loop-place-test.true in
