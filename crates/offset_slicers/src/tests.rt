@@ -73,3 +73,49 @@ fn each_offset_gives_one_bit_at_the_end_of_each_of_its_windows(rt: HostRuntime) 
         assert_eq!(rt; slicer.position(), u64::from(offset) + 40);
     }
 }
+
+/// The bits of known windows that follow so many samples behind a skip.
+fn hears_windows_behind(slicer: &mut Slicer, silent: u64) -> bool {
+    for _ in 0..silent {
+        if slicer.position() >= 1000 || slicer.push(0).is_some() {
+            return false;
+        }
+    }
+    for (window, bit) in [(SPACE, false), (SPACE_ON, true), (MARK_ON, false)] {
+        for (place, sample) in window.into_iter().enumerate() {
+            let want = if place == 7 { Some(bit) } else { None };
+            if slicer.position() >= 1000 || slicer.push(sample) != want {
+                return false;
+            }
+        }
+    }
+    true
+}
+
+#[test]
+fn after_a_skip_the_first_window_of_the_offset_is_heard_from_mark(rt: HostRuntime) {
+    // The offset, the samples before the skip, where it goes, and the samples before the next window there.
+    let table = [
+        (0, 0, 0, 0),
+        (0, 0, 1, 7),
+        (3, 20, 20, 7),
+        (3, 20, 27, 0),
+        (7, 25, 40, 7),
+        (5, 8, 98, 3),
+    ];
+    for (offset, before, to, silent) in table {
+        assert!(rt; offset < 8);
+        let mut slicer = Slicer::new(offset);
+        for _ in 0..before {
+            assert!(rt; slicer.position() < 1000);
+            slicer.push(-32768);
+        }
+        assert!(rt; slicer.position() <= to && to <= 1000);
+        slicer.skip(to);
+        assert_eq!(rt; slicer.position(), to);
+        assert!(rt;
+            hears_windows_behind(&mut slicer, silent),
+            "offset {offset}, to {to}"
+        );
+    }
+}
