@@ -44,11 +44,10 @@ unsigned_abs-sample_at level sample small =
     let most : level * unsigned_abs sample ≤ level * 10000 = mul-le-mul_left level small in
     omega (arith, ints, p.1, p.2, unsigned_abs-mul (pos level) sample)
 
--- From level 10 on rounding changes a sample by at most a tenth of the level: here ten thousand times as much.
-pub sample_at-close : (level : ℕ) (sample : ℤ) → 10 ≤ level
-    → unsigned_abs (pos 10000 *ℤ sample_at level sample -ℤ pos level *ℤ sample) ≤ 1000 * level
-sample_at-close level sample least =
-    let p = parts level sample in omega (arith, ints, p.1, p.2)
+-- rounding changes a sample by less than one: here ten thousand times as much
+pub sample_at-close : (level : ℕ) (sample : ℤ)
+    → unsigned_abs (pos 10000 *ℤ sample_at level sample -ℤ pos level *ℤ sample) < 10000
+sample_at-close level sample = let p = parts level sample in omega (arith, ints, p.1, p.2)
 
 -- silence is silence at each level
 pub at_level-silence : (level count : ℕ) → at_level level (replicate count (pos 0)) ≡ replicate count (pos 0)

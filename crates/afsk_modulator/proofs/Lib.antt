@@ -3,3 +3,4 @@ pub mod LevelLemmas
 pub mod WaveLemmas
 pub mod Examples
 pub mod SignalLemmas
+pub mod LoudnessLemmas

@@ -92,7 +92,7 @@ octets-clusters : (ends : List TrueEnd) → map (λ c. c.octets) (map cluster_of
 octets-clusters [] = refl
 octets-clusters (e ∷ ends) = ap (λ os. e.octets ∷ os) (octets-clusters ends)
 
-all_transmissions : (received : List Received) → AllByRecursion IsReceived received → All IsTransmission (transmissions_of received)
+pub all_transmissions : (received : List Received) → AllByRecursion IsReceived received → All IsTransmission (transmissions_of received)
 all_transmissions [] good k d l = absurd (omega arith)
 all_transmissions (r ∷ received) good zero d l = good.0.transmission
 all_transmissions (r ∷ received) good (suc k) d l = all_transmissions received good.1 k d (omega arith)

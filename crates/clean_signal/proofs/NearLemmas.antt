@@ -43,7 +43,7 @@ near_carries (r ∷ received) x (good, others) (gap, part, rest, whole, silence,
 
 -- ---- signals at a level
 
-length-at_level : (level : ℕ) (w : List ℤ) → length (at_level level w) ≡ length w
+pub length-at_level : (level : ℕ) (w : List ℤ) → length (at_level level w) ≡ length w
 unfolding at_level
 length-at_level level w = length-map w (sample_at level)
 
@@ -55,12 +55,19 @@ at_level-near level w least = record {
   close = λ i below.
       let same : distance level (get_or w i (pos 0)) (sample_at level (get_or w i (pos 0))) ≡ distance level (get_or w i (pos 0)) (get_or (map (sample_at level) w) i (pos 0))
       = ap (distance level (get_or w i (pos 0))) (sym (get_or-map (sample_at level) w i (pos 0) (pos 0) below)) in
-      omega (arith, same, sample_at-close level (get_or w i (pos 0)) least);
+      omega (arith, same, sample_at-close level (get_or w i (pos 0)));
 }
 
 part_near : (level : ℕ) (t : Transmission) → 10 ≤ level → IsNear level (wave (line (body_of t))) (at_level level (transmission t.frames t.opening t.closing))
 unfolding transmission
 part_near level t least = at_level-near level (wave (line (body_of t))) least
+
+-- a clean transmission is near its own wave
+pub clean-near : (t : Transmission) → IsNear 10000 (wave (line (body_of t))) (transmission t.frames t.opening t.closing)
+unfolding transmission
+clean-near t =
+    subst (λ (x : List ℤ). IsNear 10000 (wave (line (body_of t))) x) (at_level-full (wave (line (body_of t))))
+    (at_level-near 10000 (wave (line (body_of t))) (omega arith))
 
 sent_at-good : (level : ℕ) (transmissions : List Transmission) → IsLevel level → AllByRecursion IsTransmission transmissions
     → AllByRecursion IsReceived (sent_at level transmissions)

@@ -1,58 +1,69 @@
 -- Octets and transmissions, one draw after another.
-use Rattle.std.proofs.Common.{◌≡◌, ℕ, zero, suc, ◌+◌, ◌-◌, ◌%◌, ◌<◌, ◌≤◌, List, [], ◌∷◌, ◌++◌, length, map, refl, ap, sym, ◌∙◌, arith, append_assoc, append-nil, length-append}
+use Rattle.std.proofs.Common.{◌≡◌, Bool, true, false, ℕ, zero, suc, ◌+◌, ◌-◌, ◌%◌, ◌<◌, ◌≤◌, List, [], ◌∷◌, ◌++◌, length, map, refl, ap, sym, ◌∙◌, arith, append_assoc, append-nil, length-append}
 use Rattle.rand_pcg.specs.Lcg.{Lcg}
 use Rattle.rand_pcg.specs.Pcg.{pcg32}
 use Rattle.std.proofs.Math.Nat.{mod-lt}
 use Rattle.std.specs.List.{All}
+use Rattle.std.proofs.lemmas.List.Elements.{recursion_from_All}
 use Rattle.hdlc_framer.specs.Frames.{IsFrame}
 use Rattle.afsk_modulator.specs.Signal.{Transmission}
 use Rattle.clean_signal.specs.GoodTransmission.{IsTransmission}
+use Rattle.clean_signal.specs.NearSignal.{IsReceived}
+use Rattle.clean_signal.proofs.Law.{all_transmissions}
 use Rattle.tnc_words.specs.declared.command.LoopWords.{LoopWords}
 use Rattle.tnc_loop.specs.Words.{generator_of, behind, word_at, words}
-use Rattle.tnc_loop.specs.Drawn.{length_drawn, octets_drawn, transmission_drawn, behind_transmission, transmissions_drawn, drawn}
+use Rattle.tnc_loop.specs.Drawn.{length_drawn, octets_drawn, transmission_drawn, behind_transmission, heard_of, behind_heard, all_heard, heard_drawn, received_drawn, drawn}
 
-abbrev octet_of : ℕ → ℕ
+abbrev pub octet_of : ℕ → ℕ
 octet_of word = word % 256
 
--- these octets were drawn of so many, and what is left to draw completes them
-pub record HasDrawn (initial now : Lcg) (count place : ℕ) (octets : List ℕ) : Type 0 where
-  pub parts : octets ++ map (λ word. word % 256) (words (count - place) now) ≡ map (λ word. word % 256) (words count initial)
-  pub behind : behind (count - place) now ≡ behind count initial
-  pub counted : length octets ≡ place
+-- what f makes of words, one word after another
+module _ {X : Type 0} (f : ℕ → X) where
+  -- these were drawn of so many, and what is left to draw completes them
+  pub record HasDrawn (initial now : Lcg) (count place : ℕ) (items : List X) : Type 0 where
+    pub parts : items ++ map f (words (count - place) now) ≡ map f (words count initial)
+    pub behind : behind (count - place) now ≡ behind count initial
+    pub counted : length items ≡ place
 
-pub has_drawn_none : (initial : Lcg) (count : ℕ) (octets : List ℕ) → octets ≡ [] → HasDrawn initial initial count 0 octets
-has_drawn_none initial count octets none =
-    let all : count - 0 ≡ count = omega arith in
-    record {
-      parts = ap (λ os. os ++ map octet_of (words (count - 0) initial)) none ∙ ap (λ n. map octet_of (words n initial)) all;
-      behind = ap (λ n. behind n initial) all;
-      counted = ap length none;
-    }
+  pub has_drawn_none : (initial : Lcg) (count : ℕ) (items : List X) → items ≡ [] → HasDrawn initial initial count 0 items
+  has_drawn_none initial count items none =
+      let all : count - 0 ≡ count = omega arith in
+      record {
+        parts = ap (λ os. os ++ map f (words (count - 0) initial)) none ∙ ap (λ n. map f (words n initial)) all;
+        behind = ap (λ n. behind n initial) all;
+        counted = ap length none;
+      }
 
-pub has_drawn_more : (initial was now : Lcg) (count place word : ℕ) (octets more : List ℕ) → HasDrawn initial was count place octets → place < count
-    → (word, now) ≡ pcg32 was → more ≡ octets ++ word % 256 ∷ [] → HasDrawn initial now count (place + 1) more
-has_drawn_more initial was now count place word octets more h below drawn what =
-    let left : ℕ = count - (place + 1) in
-    let fewer : count - place ≡ suc left = omega arith in
-    record {
-      parts = ap (λ os. os ++ map octet_of (words left now)) what
-          ∙ append_assoc octets (word % 256 ∷ []) (map octet_of (words left now))
-          ∙ ap (λ (p : ℕ × Lcg). octets ++ (octet_of p.0 ∷ map octet_of (words left p.1))) drawn
-          ∙ ap (λ n. octets ++ map octet_of (words n was)) (sym fewer)
-          ∙ h.parts;
-      behind = ap (λ (p : ℕ × Lcg). behind left p.1) drawn ∙ ap (λ n. behind n was) (sym fewer) ∙ h.behind;
-      counted = (let l : length more ≡ length (octets ++ word % 256 ∷ []) = ap length what in let m = length-append octets (word % 256 ∷ []) in let c = h.counted in omega arith);
-    }
+  pub has_drawn_more : (initial was now : Lcg) (count place word : ℕ) (items more : List X)
+      → HasDrawn initial was count place items → place < count → (word, now) ≡ pcg32 was → more ≡ items ++ f word ∷ []
+      → HasDrawn initial now count (place + 1) more
+  has_drawn_more initial was now count place word items more h below drawn what =
+      let left : ℕ = count - (place + 1) in
+      let fewer : count - place ≡ suc left = omega arith in
+      record {
+        parts = ap (λ os. os ++ map f (words left now)) what
+            ∙ append_assoc items (f word ∷ []) (map f (words left now))
+            ∙ ap (λ (p : ℕ × Lcg). items ++ (f p.0 ∷ map f (words left p.1))) drawn
+            ∙ ap (λ n. items ++ map f (words n was)) (sym fewer)
+            ∙ h.parts;
+        behind = ap (λ (p : ℕ × Lcg). behind left p.1) drawn ∙ ap (λ n. behind n was) (sym fewer) ∙ h.behind;
+        counted =
+            (let l : length more ≡ length (items ++ f word ∷ []) = ap length what in
+            let m = length-append items (f word ∷ []) in
+            let c = h.counted in
+            omega arith);
+      }
 
--- all are drawn
-pub has_drawn_all : (initial now : Lcg) (count place : ℕ) (octets : List ℕ) → HasDrawn initial now count place octets → place ≡ count
-    → (octets ≡ map (λ word. word % 256) (words count initial)) × (length octets ≡ count) × (now ≡ behind count initial)
-has_drawn_all initial now count place octets h end =
-    let none : count - place ≡ 0 = omega arith in (
-      sym (append-nil octets) ∙ ap (λ n. octets ++ map octet_of (words n now)) (sym none) ∙ h.parts,
-      h.counted ∙ end,
-      ap (λ n. behind n now) (sym none) ∙ h.behind,
-    )
+  -- all are drawn
+  pub has_drawn_all : (initial now : Lcg) (count place : ℕ) (items : List X) → HasDrawn initial now count place items
+      → place ≡ count
+      → (items ≡ map f (words count initial)) × (length items ≡ count) × (now ≡ behind count initial)
+  has_drawn_all initial now count place items h end =
+      let none : count - place ≡ 0 = omega arith in (
+        sym (append-nil items) ∙ ap (λ n. items ++ map f (words n now)) (sym none) ∙ h.parts,
+        h.counted ∙ end,
+        ap (λ n. behind n now) (sym none) ∙ h.behind,
+      )
 
 -- ---- a transmission
 
@@ -92,7 +103,7 @@ module _ (g0 g1 g2 g3 g4 : Lcg) (length : ℕ) (first : g1 ≡ behind 1 g0) (sec
 
 -- ---- all that is drawn can be sent
 
-length-words : (count : ℕ) (g : Lcg) → length (words count g) ≡ count
+pub length-words : (count : ℕ) (g : Lcg) → length (words count g) ≡ count
 length-words zero g = refl
 length-words (suc count) g = ap suc (length-words count (pcg32 g).1)
 
@@ -125,11 +136,37 @@ is_transmission : (g : Lcg) → IsTransmission (transmission_drawn g)
 unfolding transmission_drawn
 is_transmission g = record { frames = one_frame (octets_drawn g) (frame_drawn g); opening = omega arith; closing = omega arith }
 
-transmissions_good : (count : ℕ) (g : Lcg) → All IsTransmission (transmissions_drawn count g)
-transmissions_good zero g k d l = absurd (omega arith)
-transmissions_good (suc count) g zero d l = is_transmission g
-transmissions_good (suc count) g (suc k) d l = transmissions_good count (behind_transmission g) k d (omega arith)
+-- transmissions that are received at phases and levels of the law
+is_received : (rough : Bool) (g h : Lcg) → IsReceived (heard_of rough (transmission_drawn g) h).received
+unfolding heard_of
+is_received true g h =
+    let phase : word_at 0 h % 6 < 6 = mod-lt (word_at 0 h) (omega arith) in
+    let level : word_at 1 h % 29000 < 29000 = mod-lt (word_at 1 h) (omega arith) in
+    record {
+      transmission = is_transmission g;
+      phase = record { below = omega arith; sixth = omega arith };
+      least = omega arith;
+      most = omega arith;
+    }
+is_received false g h = record {
+  transmission = is_transmission g;
+  phase = record { below = omega arith; sixth = omega arith };
+  least = omega arith;
+  most = omega arith;
+}
+
+all_received : (rough : Bool) (count : ℕ) (g : Lcg) → All IsReceived (map (λ h. h.received) (all_heard rough count g))
+all_received rough zero g k d l = absurd (omega arith)
+all_received rough (suc count) g zero d l = is_received rough g (behind_transmission g)
+all_received rough (suc count) g (suc k) d l =
+    all_received rough count (behind_heard rough (transmission_drawn g) (behind_transmission g)) k d (omega arith)
+
+pub received_good : (words : LoopWords) → All IsReceived (received_drawn words)
+unfolding received_drawn heard_drawn
+received_good words = all_received words.rough words.frames (generator_of words.seed)
 
 pub drawn_good : (words : LoopWords) → All IsTransmission (drawn words)
 unfolding drawn
-drawn_good words = transmissions_good words.frames (generator_of words.seed)
+drawn_good words =
+    all_transmissions (received_drawn words)
+    (recursion_from_All IsReceived (received_drawn words) (received_good words))

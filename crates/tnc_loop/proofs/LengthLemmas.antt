@@ -11,13 +11,15 @@ use Rattle.hdlc_framer.specs.Stuffing.{stuffed}
 use Rattle.hdlc_framer.proofs.BitLemmas.{length-sent_bits}
 use Rattle.hdlc_framer.proofs.FrameEnds.{length-with_fcs}
 use Rattle.hdlc_framer.proofs.StuffingLemmas.{stuffed_is}
-use Rattle.afsk_modulator.specs.Signal.{samples_of, signal}
+use Rattle.afsk_modulator.specs.Signal.{Transmission, samples_of, signal}
 use Rattle.clean_signal.specs.GoodTransmission.{sample_count}
 use Rattle.clean_signal.proofs.CarriedFrames.{length-flags}
 use Rattle.clean_signal.proofs.WaveLemmas.{length-samples_of}
 use Rattle.tnc_words.specs.declared.command.LoopWords.{LoopWords}
 use Rattle.tnc_loop.specs.Words.{generator_of, word_at}
-use Rattle.tnc_loop.specs.Drawn.{length_drawn, octets_drawn, transmission_drawn, behind_transmission, transmissions_drawn, drawn}
+use Rattle.tnc_loop.specs.Drawn.{length_drawn, octets_drawn, transmission_drawn, behind_transmission, heard_of, behind_heard, all_heard, heard_drawn}
+use Rattle.tnc_loop.specs.Held.{sent_of}
+use Rattle.tnc_loop.proofs.HeardLemmas.{transmission-heard}
 use Rattle.tnc_loop.proofs.DrawingLemmas.{length-octets_drawn, length_drawn-most}
 
 -- inserted zeros at most double a list
@@ -52,19 +54,23 @@ transmission-most g =
     let frame = frame_bits-most (octets_drawn g) in
     omega arith
 
-transmissions-most : (count : ℕ) (g : Lcg) → length (signal (transmissions_drawn count g)) ≤ 131072 * count
+transmissions-most : (rough : Bool) (count : ℕ) (g : Lcg) → length (signal (sent_of (all_heard rough count g))) ≤ 131072 * count
 unfolding signal
-transmissions-most zero g = omega arith
-transmissions-most (suc count) g =
-    let all : length (signal (transmissions_drawn (suc count) g)) ≡ sample_count (transmission_drawn g) + length (signal (transmissions_drawn count (behind_transmission g)))
-    = ap length (flat_map-cons samples_of (transmission_drawn g) (transmissions_drawn count (behind_transmission g)))
-    ∙ length-append (samples_of (transmission_drawn g)) (signal (transmissions_drawn count (behind_transmission g)))
-    ∙ ap (λ n. n + length (signal (transmissions_drawn count (behind_transmission g)))) (length-samples_of (transmission_drawn g)) in
-    let first = transmission-most g in
-    let rest = transmissions-most count (behind_transmission g) in
-    omega arith
+transmissions-most rough zero g = omega arith
+transmissions-most rough (suc count) g =
+    let t : Transmission = transmission_drawn g in
+    let next : Lcg = behind_heard rough t (behind_transmission g) in
+    let others : List Transmission = sent_of (all_heard rough count next) in
+    let first : Transmission = (heard_of rough t (behind_transmission g)).received.transmission in
+    let all : length (signal (first ∷ others)) ≡ sample_count t + length (signal others)
+    = ap length (flat_map-cons samples_of first others)
+    ∙ length-append (samples_of first) (signal others)
+    ∙ ap (λ u. length (samples_of u) + length (signal others)) (transmission-heard rough t (behind_transmission g))
+    ∙ ap (λ n. n + length (signal others)) (length-samples_of t) in
+    omega (arith, all, transmission-most g, transmissions-most rough count next)
 
 -- a bank takes them all
-pub signal_fits : (words : LoopWords) → words.frames ≤ 65535 → length (signal (drawn words)) < 2 ^ 48
-unfolding drawn
-signal_fits words few = let most = transmissions-most words.frames (generator_of words.seed) in omega arith
+pub signal_fits : (words : LoopWords) → words.frames ≤ 65535 → length (signal (sent_of (heard_drawn words))) < 2 ^ 48
+unfolding heard_drawn
+signal_fits words few =
+    let most = transmissions-most words.rough words.frames (generator_of words.seed) in omega arith

@@ -1,4 +1,6 @@
 pub mod DrawingLemmas
+pub mod RoughLemmas
+pub mod HeardLemmas
 pub mod SendingLemmas
 pub mod LengthLemmas
 pub mod SummaryLemmas

@@ -1,10 +1,13 @@
 -- Transmissions that are sent, one more at a time.
-use Rattle.std.proofs.Common.{◌≡◌, ℕ, suc, ◌+◌, ◌-◌, ◌*◌, ◌<◌, ◌≤◌, ◌^◌, List, [], ◌∷◌, ◌++◌, length, inl, inr, zero, ap, sym, subst, ◌∙◌, arith, append_assoc, append-nil, length-append}
+use Rattle.std.proofs.Common.{◌≡◌, ℕ, ℤ, suc, ◌+◌, ◌-◌, ◌*◌, ◌<◌, ◌≤◌, ◌^◌, List, [], ◌∷◌, ◌++◌, length, inl, inr, zero, refl, ap, sym, subst, ◌∙◌, arith, append_assoc, append-nil, length-append}
+use Rattle.std.specs.List.{flat_map}
+use Rattle.std.proofs.lemmas.List.Concat.{flat_map-append}
 use Rattle.rand_pcg.specs.Lcg.{Lcg}
 use Rattle.afsk_modulator.specs.Signal.{Transmission, samples_of, signal}
 use Rattle.afsk_modulator.specs.Transmission.{IsFirstBadLength}
 use Rattle.clean_signal.specs.declared.true_end.TrueEnd.{TrueEnd}
 use Rattle.clean_signal.specs.GoodTransmission.{sample_count}
+use Rattle.clean_signal.specs.NearSignal.{Received}
 use Rattle.clean_signal.specs.TrueEnds.{end_of, ends_of, true_ends}
 use Rattle.clean_signal.proofs.EndLemmas.{true_ends-push, single_end}
 use Rattle.clean_signal.proofs.WaveLemmas.{length-samples_of, signal-push}
@@ -12,9 +15,21 @@ use Rattle.tnc_words.specs.declared.command.LoopWords.{LoopWords}
 use Rattle.tnc_loop.specs.declared.drawing.Drawn.{Drawn}
 use Rattle.tnc_loop.specs.declared.sending.Sent.{Sent}
 use Rattle.tnc_loop.specs.Words.{generator_of}
-use Rattle.tnc_loop.specs.Drawn.{transmission_drawn, behind_transmission, transmissions_drawn, drawn}
-use Rattle.tnc_loop.specs.Held.{drawn_as, HasSent, IsGood}
+use Rattle.tnc_loop.specs.Drawn.{Heard, transmission_drawn, behind_transmission, heard_of, behind_heard, all_heard, heard_drawn}
+use Rattle.tnc_loop.specs.Held.{drawn_as, sent_of, HasSent, IsGood}
+use Rattle.tnc_loop.proofs.HeardLemmas.{transmission-heard}
 use Rattle.tnc_loop.proofs.LengthLemmas.{signal_fits}
+
+samples-push : (heard : List Heard) (one : Heard) → flat_map (λ h. h.samples) (heard ++ one ∷ []) ≡ flat_map (λ h. h.samples) heard ++ one.samples
+samples-push heard one =
+    flat_map-append (λ h. h.samples) heard (one ∷ []) ∙ ap (λ xs. flat_map (λ h. h.samples) heard ++ xs) (append-nil one.samples)
+
+sent_of-push : (heard : List Heard) (one : Heard) → sent_of (heard ++ one ∷ []) ≡ sent_of heard ++ one.received.transmission ∷ []
+sent_of-push [] one = refl
+sent_of-push (h ∷ heard) one = ap (λ ts. h.received.transmission ∷ ts) (sent_of-push heard one)
+
+length-signal-push : (ts : List Transmission) (t : Transmission) → length (signal (ts ++ t ∷ [])) ≡ length (signal ts) + sample_count t
+length-signal-push ts t = ap length (signal-push ts t) ∙ length-append (signal ts) (samples_of t) ∙ ap (λ n. length (signal ts) + n) (length-samples_of t)
 
 -- a frame that is drawn has no bad length
 pub no_bad_length : (octets : List ℕ) (frames : List (List ℕ)) (index : ℕ) → frames ≡ octets ∷ [] → 15 ≤ length octets → length octets ≤ 1000
@@ -27,9 +42,10 @@ no_bad_length octets frames index is least most first = go index (subst (λ f. I
 
 -- ---- one transmission more
 
-module _ (was now : Sent) (d : Drawn) (good : IsGood d) (samples : now.samples.items ≡ was.samples.items ++ samples_of (drawn_as d)) where
+module _ (was now : Sent) (d : Drawn) (good : IsGood d) (heard : List ℤ) (size : length heard ≡ sample_count (drawn_as d))
+    (samples : now.samples.items ≡ was.samples.items ++ heard) where
   count : length now.samples.items ≡ length was.samples.items + sample_count (drawn_as d)
-  count = ap length samples ∙ length-append was.samples.items (samples_of (drawn_as d)) ∙ ap (λ n. length was.samples.items + n) (length-samples_of (drawn_as d))
+  count = ap length samples ∙ length-append was.samples.items heard ∙ ap (λ n. length was.samples.items + n) size
 
   whole : end_of (length was.samples.items + d.silence + 64 * d.opening) d.octets + 64 * (d.closing - 1) ≡ length now.samples.items
   whole = single_end d.silence d.opening d.closing (length was.samples.items) d.octets good.closing ∙ sym count
@@ -40,60 +56,73 @@ module _ (was now : Sent) (d : Drawn) (good : IsGood d) (samples : now.samples.i
 
   pub sent_more : (end : ℕ) → end ≡ length now.samples.items - 64 * (d.closing - 1)
       → now.ends.items ≡ was.ends.items ++ record { end = end; octets = d.octets } ∷ []
-      → (before : List Transmission) → HasSent was before → HasSent now (before ++ drawn_as d ∷ [])
-  sent_more end is ends before h =
+      → (before : List Heard) (received : Received) → received.transmission ≡ drawn_as d → HasSent was before
+      → HasSent now (before ++ record { received = received; samples = heard } ∷ [])
+  sent_more end is ends before received this h =
       let true_end : ℕ = end_of (length was.samples.items + d.silence + 64 * d.opening) d.octets in
       let same : end ≡ true_end = (let all = whole in omega arith) in
+      let one : Heard = record { received = received; samples = heard } in
+      let sent : sent_of (before ++ one ∷ []) ≡ sent_of before ++ drawn_as d ∷ [] = sent_of-push before one ∙ ap (λ t. sent_of before ++ t ∷ []) this in
       record {
-        samples = samples ∙ ap (λ x. x ++ samples_of (drawn_as d)) h.samples ∙ sym (signal-push before (drawn_as d));
-        ends = ends ∙ ap (λ e. was.ends.items ++ one e ∷ []) same
-            ∙ ap (λ es. es ++ one true_end ∷ []) h.ends
-            ∙ ap (λ n. true_ends before ++ ends_of n (drawn_as d)) (ap length h.samples)
-            ∙ sym (true_ends-push before (drawn_as d));
+        samples = samples ∙ ap (λ x. x ++ heard) h.samples ∙ sym (samples-push before one);
+        count = count ∙ ap (λ n. n + sample_count (drawn_as d)) h.count ∙ sym (length-signal-push (sent_of before) (drawn_as d))
+            ∙ ap (λ ts. length (signal ts)) (sym sent);
+        ends = ends ∙ ap (λ e. was.ends.items ++ end_at e ∷ []) same
+            ∙ ap (λ es. es ++ end_at true_end ∷ []) h.ends
+            ∙ ap (λ n. true_ends (sent_of before) ++ ends_of n (drawn_as d)) h.count
+            ∙ sym (true_ends-push (sent_of before) (drawn_as d))
+            ∙ ap true_ends (sym sent);
       }
     where
-      one : ℕ → TrueEnd
-      one e = record { end = e; octets = d.octets }
+      end_at : ℕ → TrueEnd
+      end_at e = record { end = e; octets = d.octets }
 
 -- ---- all of them
 
 -- so many transmissions were drawn and sent, and what is left to draw completes them
 pub record HasSentSome (words : LoopWords) (place : ℕ) (generator : Lcg) (sent : Sent) : Type 0 where
-  pub done : List Transmission
+  pub done : List Heard
   pub has : HasSent sent done
-  pub parts : done ++ transmissions_drawn (words.frames - place) generator ≡ drawn words
+  pub parts : done ++ all_heard words.rough (words.frames - place) generator ≡ heard_drawn words
 
 pub sent_none : (words : LoopWords) (generator : Lcg) (sent : Sent) → generator ≡ generator_of words.seed → sent.samples.items ≡ [] → sent.ends.items ≡ []
     → HasSentSome words 0 generator sent
-unfolding signal drawn
+unfolding signal heard_drawn
 sent_none words generator sent is samples ends = record {
   done = [];
-  has = record { samples = samples; ends = ends };
-  parts = (let all : words.frames - 0 ≡ words.frames = omega arith in ap (λ n. transmissions_drawn n generator) all ∙ ap (transmissions_drawn words.frames) is);
+  has = record { samples = samples; count = ap length samples; ends = ends };
+  parts =
+      (let all : words.frames - 0 ≡ words.frames = omega arith in
+      ap (λ n. all_heard words.rough n generator) all ∙ ap (all_heard words.rough words.frames) is);
 }
 
-pub sent_next : (words : LoopWords) (place : ℕ) (was now : Lcg) (before after : Sent) (d : Drawn) → HasSentSome words place was before → place < words.frames
-    → drawn_as d ≡ transmission_drawn was → now ≡ behind_transmission was
-    → ((ts : List Transmission) → HasSent before ts → HasSent after (ts ++ drawn_as d ∷ []))
+pub sent_next : (words : LoopWords) (place : ℕ) (was drew now : Lcg) (before after : Sent) (d : Drawn) (samples : List ℤ)
+    → HasSentSome words place was before → place < words.frames
+    → drawn_as d ≡ transmission_drawn was → drew ≡ behind_transmission was
+    → samples ≡ (heard_of words.rough (drawn_as d) drew).samples → now ≡ behind_heard words.rough (drawn_as d) drew
+    → ((heard : List Heard) (received : Received) → received.transmission ≡ drawn_as d → HasSent before heard
+    → HasSent after (heard ++ record { received = received; samples = samples } ∷ []))
     → HasSentSome words (place + 1) now after
-sent_next words place was now before after d h below is behind more =
+sent_next words place was drew now before after d samples h below is behind are next more =
     let left : ℕ = words.frames - (place + 1) in
     let fewer : words.frames - place ≡ suc left = omega arith in
+    let one : Heard = heard_of words.rough (drawn_as d) drew in
+    let same : record { received = one.received; samples = samples } ≡ one = ap (λ xs. record { received = one.received; samples = xs }) are in
     record {
-      done = h.done ++ drawn_as d ∷ [];
-      has = more h.done h.has;
-      parts = append_assoc h.done (drawn_as d ∷ []) (transmissions_drawn left now)
-          ∙ ap (λ t. h.done ++ (t ∷ transmissions_drawn left now)) is
-          ∙ ap (λ g. h.done ++ (transmission_drawn was ∷ transmissions_drawn left g)) behind
-          ∙ ap (λ n. h.done ++ transmissions_drawn n was) (sym fewer)
+      done = h.done ++ one ∷ [];
+      has = subst (λ x. HasSent after (h.done ++ x ∷ [])) same (more h.done one.received (transmission-heard words.rough (drawn_as d) drew) h.has);
+      parts = append_assoc h.done (one ∷ []) (all_heard words.rough left now)
+          ∙ (λ i. h.done ++ (heard_of words.rough (is i) (behind i) ∷ all_heard words.rough left ((next ∙ (λ j. behind_heard words.rough (is j) (behind j))) i)))
+          ∙ ap (λ n. h.done ++ all_heard words.rough n was) (sym fewer)
           ∙ h.parts;
     }
 
-pub sent_all : (words : LoopWords) (place : ℕ) (generator : Lcg) (sent : Sent) → HasSentSome words place generator sent → words.frames ≤ place → HasSent sent (drawn words)
+pub sent_all : (words : LoopWords) (place : ℕ) (generator : Lcg) (sent : Sent) → HasSentSome words place generator sent → words.frames ≤ place
+    → HasSent sent (heard_drawn words)
 sent_all words place generator sent h past =
     let none : words.frames - place ≡ 0 = omega arith in
-    let all : h.done ≡ drawn words = sym (append-nil h.done) ∙ ap (λ n. h.done ++ transmissions_drawn n generator) (sym none) ∙ h.parts in
+    let all : h.done ≡ heard_drawn words = sym (append-nil h.done) ∙ ap (λ n. h.done ++ all_heard words.rough n generator) (sym none) ∙ h.parts in
     subst (HasSent sent) all h.has
 
-pub sent_fits : (words : LoopWords) (sent : Sent) → HasSent sent (drawn words) → words.frames ≤ 65535 → length sent.samples.items < 2 ^ 48
-sent_fits words sent h few = let same : length sent.samples.items ≡ length (signal (drawn words)) = ap length h.samples in let fits = signal_fits words few in omega arith
+pub sent_fits : (words : LoopWords) (sent : Sent) → HasSent sent (heard_drawn words) → words.frames ≤ 65535 → length sent.samples.items < 2 ^ 48
+sent_fits words sent h few = omega (arith, h.count, signal_fits words few)

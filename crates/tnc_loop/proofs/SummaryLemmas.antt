@@ -7,18 +7,16 @@ use Rattle.std.proofs.lemmas.List.{drop_more, drop_all}
 use Rattle.std.proofs.lemmas.List.Elements.{All-head, All-tail}
 use Rattle.frame_merge.specs.declared.candidate.Candidate.{Candidate}
 use Rattle.frame_merge.specs.Merged.{frames_of as frames_heard, merged}
-use Rattle.afsk_modulator.specs.Signal.{signal}
 use Rattle.slicer_bank.proofs.OneList.{one_list}
 use Rattle.clean_signal.specs.declared.true_end.TrueEnd.{TrueEnd}
 use Rattle.clean_signal.specs.GoodTransmission.{frames_of}
 use Rattle.clean_signal.specs.Stray.{is_sent, NoStray}
 use Rattle.clean_signal.specs.TrueEnds.{true_ends}
-use Rattle.clean_signal.proofs.Law.{clean_law}
+use Rattle.tnc_loop.proofs.HeardLemmas.{drawn_law}
 use Rattle.tnc_words.specs.declared.command.LoopWords.{LoopWords}
-use Rattle.tnc_loop.specs.Drawn.{drawn}
+use Rattle.tnc_loop.specs.Drawn.{drawn, samples_drawn}
 use Rattle.tnc_loop.specs.Strays.{strays, first_stray}
 use Rattle.tnc_loop.specs.Summary.{summary, clean_summary, IsSummary, IsFirstStray}
-use Rattle.tnc_loop.proofs.DrawingLemmas.{drawn_good}
 
 -- past the last item no octet is left
 pub octets_end : (items : List Candidate) (i : ℕ) → length items ≤ i → concat (frames_heard (drop i items)) ≡ []
@@ -34,14 +32,14 @@ octets_next items i item below is =
 pub one_summary : (words : LoopWords) (text other : List ℕ) → IsSummary words text → IsSummary words other → text ≡ other
 one_summary words text other h k =
     h.is
-    ∙ ap (λ items. summary words.frames (frames_heard (merged items)) (length (strays (true_ends (drawn words)) items))) (one_list (signal (drawn words)) h.candidates k.candidates h.are k.are)
+    ∙ ap (λ items. summary words.frames (frames_heard (merged items)) (length (strays (true_ends (drawn words)) items))) (one_list (samples_drawn words) h.candidates k.candidates h.are k.are)
     ∙ sym k.is
 
 -- and at most one first stray
 pub one_stray : (words : LoopWords) (octets other : List ℕ) → IsFirstStray words octets → IsFirstStray words other → octets ≡ other
 one_stray words octets other h k =
     let same : Some octets ≡ Some other =
-    sym h.is ∙ ap (first_stray (true_ends (drawn words))) (one_list (signal (drawn words)) h.candidates k.candidates h.are k.are) ∙ k.is in
+    sym h.is ∙ ap (first_stray (true_ends (drawn words))) (one_list (samples_drawn words) h.candidates k.candidates h.are k.are) ∙ k.is in
     cc
 
 -- ---- where nothing is stray
@@ -53,11 +51,11 @@ no_strays ends (item ∷ items) all =
     ∙ no_strays ends items (All-tail (λ i. is_sent ends i ≡ true) item items all)
 
 -- the summary is that of the frames that were made
-pub clean_text : (words : LoopWords) (text : List ℕ) → IsSummary words text → NoStray (drawn words) (signal (drawn words)) → text ≡ clean_summary words
+pub clean_text : (words : LoopWords) (text : List ℕ) → IsSummary words text → NoStray (drawn words) (samples_drawn words) → text ≡ clean_summary words
 clean_text words text h clear =
     let all : All (λ item. is_sent (true_ends (drawn words)) item ≡ true) h.candidates = λ k d l. clear (get_or h.candidates k d) (h.are.each k d l).0 in
     h.is
-    ∙ ap (λ heard. summary words.frames heard (length (strays (true_ends (drawn words)) h.candidates))) (clean_law (drawn words) (drawn_good words) clear h.candidates h.are)
+    ∙ ap (λ heard. summary words.frames heard (length (strays (true_ends (drawn words)) h.candidates))) (drawn_law words clear h.candidates h.are)
     ∙ ap (λ items. summary words.frames (frames_of (drawn words)) (length items)) (no_strays (true_ends (drawn words)) h.candidates all)
 
 -- ---- what is written

@@ -5,21 +5,21 @@ use Rattle.std.specs.List.{All}
 use Rattle.frame_merge.specs.declared.candidate.Candidate.{Candidate}
 use Rattle.frame_merge.specs.Merged.{frames_of as frames_heard, merged}
 use Rattle.slicer_bank.specs.Candidates.{AreCandidates}
-use Rattle.afsk_modulator.specs.Signal.{signal}
 use Rattle.clean_signal.specs.declared.true_end.TrueEnd.{TrueEnd}
 use Rattle.clean_signal.specs.TrueEnds.{true_ends}
 use Rattle.clean_signal.specs.Stray.{is_sent}
 use Rattle.clean_signal.proofs.Law.{no_stray_of}
 use Rattle.tnc_words.specs.declared.command.LoopWords.{LoopWords}
 use Rattle.tnc_loop.specs.declared.sending.Sent.{Sent}
-use Rattle.tnc_loop.specs.Drawn.{drawn}
+use Rattle.tnc_loop.specs.Drawn.{heard_drawn, drawn, samples_drawn}
 use Rattle.tnc_loop.specs.Held.{HasSent, HasFound}
 use Rattle.tnc_loop.specs.Strays.{is_stray, strays, first_stray}
 use Rattle.tnc_loop.specs.Summary.{summary, IsSummary}
 
 -- the candidates of what was sent are those of the signal
-pub are_of : (words : LoopWords) (sent : Sent) (x : List ℤ) (items : List Candidate) → HasSent sent (drawn words) → x ≡ sent.samples.items
-    → AreCandidates x items → AreCandidates (signal (drawn words)) items
+pub are_of : (words : LoopWords) (sent : Sent) (x : List ℤ) (items : List Candidate) → HasSent sent (heard_drawn words) → x ≡ sent.samples.items
+    → AreCandidates x items → AreCandidates (samples_drawn words) items
+unfolding samples_drawn
 are_of words sent x items h is are = subst (λ (y : List ℤ). AreCandidates y items) (is ∙ h.samples) are
 
 -- where no first stray is found, all are sent
@@ -34,15 +34,15 @@ all_sent ends (item ∷ items) none = go (is_sent ends item) refl none (all_sent
     go false is rest others k d l = absurd (true≢false (ap is_some rest))
 
 pub has_found : (words : LoopWords) (ends : List TrueEnd) (items : List Candidate) (stray : Option (List ℕ)) → ends ≡ true_ends (drawn words)
-    → AreCandidates (signal (drawn words)) items → stray ≡ first_stray ends items → HasFound words stray
+    → AreCandidates (samples_drawn words) items → stray ≡ first_stray ends items → HasFound words stray
 has_found words ends items (Some octets) are_ends are is =
     record { candidates = items; are = are; is = ap (λ es. first_stray es items) (sym are_ends) ∙ sym is }
 has_found words ends items None are_ends are is =
-    no_stray_of (drawn words) (signal (drawn words)) items are
+    no_stray_of (drawn words) (samples_drawn words) items are
     (all_sent (true_ends (drawn words)) items (ap (λ es. first_stray es items) (sym are_ends) ∙ sym is))
 
 pub is_summary : (words : LoopWords) (ends : List TrueEnd) (items heard : List Candidate) (text : List ℕ) (count : ℕ) → ends ≡ true_ends (drawn words)
-    → AreCandidates (signal (drawn words)) items → heard ≡ merged items → count ≡ length (strays ends items) → text ≡ summary words.frames (frames_heard heard) count
+    → AreCandidates (samples_drawn words) items → heard ≡ merged items → count ≡ length (strays ends items) → text ≡ summary words.frames (frames_heard heard) count
     → IsSummary words text
 is_summary words ends items heard text count are_ends are is counted what = record {
   candidates = items;

@@ -1,10 +1,13 @@
 -- The transmissions that loop draws: each has one frame of 15 to 1000 octets, after at most 63 silent samples, between
--- 2 to 5 flags and 1 to 3.
-use Rattle.std.specs.Prelude.{ℕ, zero, suc, ◌+◌, ◌%◌, List, [], ◌∷◌, map}
+-- 2 to 5 flags and 1 to 3. And their samples: those of a clean signal, or rough ones.
+use Rattle.std.specs.Prelude.{ℕ, zero, suc, ◌+◌, ◌%◌, ℤ, Bool, List, [], ◌∷◌, map, if◌then◌else◌}
+use Rattle.std.specs.List.{flat_map}
 use Rattle.rand_pcg.specs.Lcg.{Lcg}
-use Rattle.afsk_modulator.specs.Signal.{Transmission}
+use Rattle.afsk_modulator.specs.Signal.{Transmission, samples_of}
+use Rattle.clean_signal.specs.NearSignal.{Received, transmissions_of}
 use Rattle.tnc_words.specs.declared.command.LoopWords.{LoopWords}
 use Rattle.tnc_loop.specs.Words.{generator_of, behind, word_at, words}
+use Rattle.tnc_loop.specs.Rough.{rough_received, rough_samples, behind_rough}
 
 -- how many octets the next frame has
 abbrev pub length_drawn : Lcg → ℕ
@@ -27,12 +30,41 @@ transmission_drawn generator = record {
 unfoldable pub behind_transmission : Lcg → Lcg
 behind_transmission generator = behind (length_drawn generator) (behind 4 generator)
 
--- so many transmissions, one after another
-abbrev pub transmissions_drawn : ℕ → Lcg → List Transmission
-transmissions_drawn zero generator = []
-transmissions_drawn (suc count) generator =
-    transmission_drawn generator ∷ transmissions_drawn count (behind_transmission generator)
+-- a transmission as it is received, with the samples that are heard of it
+pub record Heard : Type 0 where
+  pub received : Received
+  pub samples : List ℤ
 
--- the transmissions of a seed, as many as the words ask for
+-- With `rough` they are drawn next, and else they are those of a clean signal, from phase 0 on at the full level.
+unfoldable pub heard_of : Bool → Transmission → Lcg → Heard
+heard_of rough t generator =
+    if rough then record { received = rough_received t generator; samples = rough_samples t generator }
+    else record {
+      received = record { transmission = t; phase = 0; level = 10000 };
+      samples = samples_of t;
+    }
+
+-- the generator behind them
+unfoldable pub behind_heard : Bool → Transmission → Lcg → Lcg
+behind_heard rough t generator = if rough then behind_rough t generator else generator
+
+-- so many transmissions, one after another
+abbrev pub all_heard : Bool → ℕ → Lcg → List Heard
+all_heard rough zero generator = []
+all_heard rough (suc count) generator =
+    heard_of rough (transmission_drawn generator) (behind_transmission generator)
+    ∷ all_heard rough count (behind_heard rough (transmission_drawn generator) (behind_transmission generator))
+
+-- as many as the words ask for, from their seed
+unfoldable pub heard_drawn : LoopWords → List Heard
+heard_drawn words = all_heard words.rough words.frames (generator_of words.seed)
+
+-- the transmissions of words, as they are received, without phases and levels, and all their samples in order
+unfoldable pub received_drawn : LoopWords → List Received
+received_drawn words = map (λ heard. heard.received) (heard_drawn words)
+
 unfoldable pub drawn : LoopWords → List Transmission
-drawn words = transmissions_drawn words.frames (generator_of words.seed)
+drawn words = transmissions_of (received_drawn words)
+
+unfoldable pub samples_drawn : LoopWords → List ℤ
+samples_drawn words = flat_map (λ heard. heard.samples) (heard_drawn words)

@@ -1,12 +1,14 @@
 -- What the code keeps of what it draws and sends, and what that stands for. No public clause cites it.
-use Rattle.std.specs.Prelude.{◌≡◌, ℕ, ◌≤◌, List, [], ◌∷◌, length, Option, Some, None}
+use Rattle.std.specs.Prelude.{◌≡◌, ℕ, ◌≤◌, List, [], ◌∷◌, length, map, Option, Some, None}
+use Rattle.std.specs.List.{flat_map}
 use Rattle.afsk_modulator.specs.Signal.{Transmission, signal}
+use Rattle.clean_signal.specs.NearSignal.{transmissions_of}
 use Rattle.clean_signal.specs.TrueEnds.{true_ends}
 use Rattle.clean_signal.specs.Stray.{NoStray}
 use Rattle.tnc_words.specs.declared.command.LoopWords.{LoopWords}
 use Rattle.tnc_loop.specs.declared.drawing.Drawn.{Drawn}
 use Rattle.tnc_loop.specs.declared.sending.Sent.{Sent}
-use Rattle.tnc_loop.specs.Drawn.{drawn}
+use Rattle.tnc_loop.specs.Drawn.{Heard, drawn, samples_drawn}
 use Rattle.tnc_loop.specs.Summary.{IsFirstStray}
 
 -- the transmission that was drawn
@@ -21,12 +23,17 @@ pub record IsGood (drawn : Drawn) : Type 0 where
   pub least : 15 ≤ length drawn.octets
   pub most : length drawn.octets ≤ 1000
 
--- these transmissions were sent
-pub record HasSent (sent : Sent) (transmissions : List Transmission) : Type 0 where
-  pub samples : sent.samples.items ≡ signal transmissions
-  pub ends : sent.ends.items ≡ true_ends transmissions
+-- the transmissions of what is heard
+abbrev pub sent_of : List Heard → List Transmission
+sent_of heard = transmissions_of (map (λ h. h.received) heard)
+
+-- these were sent: as many samples as a clean signal of them has
+pub record HasSent (sent : Sent) (heard : List Heard) : Type 0 where
+  pub samples : sent.samples.items ≡ flat_map (λ h. h.samples) heard
+  pub count : length sent.samples.items ≡ length (signal (sent_of heard))
+  pub ends : sent.ends.items ≡ true_ends (sent_of heard)
 
 -- what was found among the candidates: the first stray one, or that none is stray
 abbrev pub HasFound : LoopWords → Option (List ℕ) → Type 0
 HasFound words (Some octets) = IsFirstStray words octets
-HasFound words None = NoStray (drawn words) (signal (drawn words))
+HasFound words None = NoStray (drawn words) (samples_drawn words)

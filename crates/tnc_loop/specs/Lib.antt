@@ -1,4 +1,5 @@
 pub mod Words
+pub mod Rough
 pub mod Drawn
 pub mod Strays
 pub mod Summary

@@ -7,12 +7,11 @@ use Rattle.tnc_base.specs.Hash.{fnv_1a}
 use Rattle.frame_merge.specs.declared.candidate.Candidate.{Candidate}
 use Rattle.frame_merge.specs.Merged.{frames_of as frames_heard, merged}
 use Rattle.slicer_bank.specs.Candidates.{AreCandidates}
-use Rattle.afsk_modulator.specs.Signal.{signal}
 use Rattle.clean_signal.specs.declared.true_end.TrueEnd.{TrueEnd}
 use Rattle.clean_signal.specs.GoodTransmission.{frames_of}
 use Rattle.clean_signal.specs.TrueEnds.{true_ends}
 use Rattle.tnc_words.specs.declared.command.LoopWords.{LoopWords}
-use Rattle.tnc_loop.specs.Drawn.{drawn}
+use Rattle.tnc_loop.specs.Drawn.{drawn, samples_drawn}
 use Rattle.tnc_loop.specs.Strays.{strays, first_stray}
 
 -- a hash in 16 lower-case hexadecimal digits
@@ -34,15 +33,15 @@ clean_summary words = summary words.frames (frames_of (drawn words)) 0
 abbrev pub summary_of : ℕ → List TrueEnd → List Candidate → List ℕ
 summary_of made ends candidates = summary made (frames_heard (merged candidates)) (length (strays ends candidates))
 
--- The text is the summary of the candidates of the signal that was drawn. Samples have one list of candidates, so words
+-- The text is the summary of the candidates of the samples that were drawn. Samples have one list of candidates, so words
 -- have one summary.
 pub record IsSummary (words : LoopWords) (text : List ℕ) : Type 0 where
   pub candidates : List Candidate
-  pub are : AreCandidates (signal (drawn words)) candidates
+  pub are : AreCandidates (samples_drawn words) candidates
   pub is : text ≡ summary_of words.frames (true_ends (drawn words)) candidates
 
--- the first candidate of that signal, by end and then offset, that is no frame that was sent has these octets
+-- the first candidate of those samples, by end and then offset, that is no frame that was sent has these octets
 pub record IsFirstStray (words : LoopWords) (octets : List ℕ) : Type 0 where
   pub candidates : List Candidate
-  pub are : AreCandidates (signal (drawn words)) candidates
+  pub are : AreCandidates (samples_drawn words) candidates
   pub is : first_stray (true_ends (drawn words)) candidates ≡ Some octets

@@ -1,12 +1,11 @@
-//! The word loop: from a seed to a signal, and back to the frames that are heard in it.
+//! The word loop: from a seed to samples, and back to the frames that are heard in them.
 ghost use Rattle.std.specs.Prelude.{◌≡◌, ◌++◌, List, ℕ, Some, Err, OnOk, OnErr, IsErrOf};
 ghost use Rattle.tnc_base.specs.Faults.{HasRisen};
 ghost use Rattle.tnc_base.specs.Streams.{WrotePart};
-ghost use Rattle.afsk_modulator.specs.Signal.{signal};
 ghost use Rattle.clean_signal.specs.GoodTransmission.{frames_of};
 ghost use Rattle.clean_signal.specs.MergedFrames.{MergesTo};
 ghost use Rattle.clean_signal.specs.Stray.{NoStray};
-ghost use Rattle.tnc_loop.specs.Drawn.{drawn};
+ghost use Rattle.tnc_loop.specs.Drawn.{drawn, samples_drawn};
 ghost use Rattle.tnc_loop.specs.Summary.{IsSummary, IsFirstStray, clean_summary};
 
 use crate::fault::LoopFault;
@@ -15,16 +14,17 @@ use std::alloc::Global;
 use tnc_base::Sink;
 use tnc_words::LoopWords;
 
-/// Draws frames from the seed, sends each as a transmission of its own, hears the signal, and writes the summary. Where
-/// a candidate of the signal is no frame that was made, the first such is told behind the summary.
+/// Draws frames from the seed, sends each as a transmission of its own, hears the samples, and writes the summary. If a
+/// candidate of the samples is no frame that was made, the first such is told after the summary. With `rough` each
+/// transmission has a start phase and a level of its own, noise before it, and errors within a tenth of its level.
 pub fn loop_back<O: Sink>(alloc: Global, words: LoopWords, output: &mut O) -> Result<(), LoopFault>
-    // what is written, and what then holds of the signal
+    // what is written, and what then holds of the samples
     ensures done { (before : List ℕ) → O.written output.old ≡ Some before
         → OnOk result ((text : List ℕ) × IsSummary words text × (O.written output.new ≡ Some (before ++ text))) }
     ensures same { (before : List ℕ) → O.written output.old ≡ Some before
         → OnOk result (O.written output.new ≡ Some (before ++ clean_summary words)) }
-    ensures no_stray { OnOk result (NoStray (drawn words) (signal (drawn words))) }
-    ensures clean { OnOk result (MergesTo (frames_of (drawn words)) (signal (drawn words))) }
+    ensures no_stray { OnOk result (NoStray (drawn words) (samples_drawn words)) }
+    ensures clean { OnOk result (MergesTo (frames_of (drawn words)) (samples_drawn words)) }
     ensures faultless { OnOk result (O.faults output.new ≡ O.faults output.old) }
 
     // the stray candidate that is told, and what was written before

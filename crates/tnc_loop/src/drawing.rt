@@ -51,7 +51,7 @@ pub(crate) fn draw(alloc: Global, generator: &mut Lcg64Xsh32) -> Result<Drawn, O
 }
 
 /// A number below `bound`, from one word.
-fn below(generator: &mut Lcg64Xsh32, bound: u16) -> u16
+pub(crate) fn below(generator: &mut Lcg64Xsh32, bound: u16) -> u16
     requires { 0 < bound }
     ensures value { result ≡ word_at 0 generator.old % bound }
     ensures bound { result < bound }

@@ -7,19 +7,30 @@ use std::test::Fail;
 use tnc_base::{MemSink, Octets, OutOfMemory};
 use tnc_words::LoopWords;
 
-// Counts and hash of another program.
+// Counts and hashes of another program.
 #[test]
 fn twenty_frames_of_seed_seven_are_heard(rt: HostRuntime) -> Result<(), Fail> {
-    let mut output = MemSink::new(rt.alloc(), 1000, Vec::new(rt.alloc()))?;
-    let words = LoopWords {
-        seed: 7,
-        frames: 20,
-        rough: false,
-    };
-    let done = loop_back(rt.alloc(), words, &mut output);
-    assert!(rt; done.is_ok());
-    let summary = b"frames 20\nheard 20\nstray 0\nhash 3c053d315c843125\n";
-    assert_eq!(rt; output.written(), summary.as_slice());
+    let table: [(bool, &[u8]); 2] = [
+        (
+            false,
+            b"frames 20\nheard 20\nstray 0\nhash 3c053d315c843125\n",
+        ),
+        (
+            true,
+            b"frames 20\nheard 20\nstray 0\nhash a3787c7f30285198\n",
+        ),
+    ];
+    for (rough, summary) in table {
+        let mut output = MemSink::new(rt.alloc(), 1000, Vec::new(rt.alloc()))?;
+        let words = LoopWords {
+            seed: 7,
+            frames: 20,
+            rough,
+        };
+        let done = loop_back(rt.alloc(), words, &mut output);
+        assert!(rt; done.is_ok());
+        assert_eq!(rt; output.written(), summary);
+    }
     Ok(())
 }
 

@@ -1,11 +1,9 @@
 use Rattle.std.proofs.Common.{◌≡◌, ◌++◌, List, ℕ, Some, string_bytes, subst, ap, ◌∙◌}
 use Rattle.tnc_base.specs.Streams.{WrotePart}
-use Rattle.afsk_modulator.specs.Signal.{signal}
 use Rattle.clean_signal.specs.Stray.{NoStray}
-use Rattle.clean_signal.proofs.Law.{clean_law}
-use Rattle.tnc_loop.specs.Drawn.{drawn}
+use Rattle.tnc_loop.proofs.HeardLemmas.{drawn_law}
+use Rattle.tnc_loop.specs.Drawn.{drawn, samples_drawn}
 use Rattle.tnc_loop.specs.Held.{HasFound}
-use Rattle.tnc_loop.proofs.DrawingLemmas.{drawn_good}
 use Rattle.tnc_loop.proofs.SummaryLemmas.{one_summary, clean_text, wrote_all}
 use Rattle.tnc_loop.proofs.command.loop_back.Goals as goal
 
@@ -16,14 +14,14 @@ returns-in-Err-default-clause-cut g c = λ before text was is.
 
 pub returns-in-Ok-None-clause-same : goal.returns-in-Ok-None-clause-same
 returns-in-Ok-None-clause-same g c = λ before was.
-    let clear : NoStray (drawn c.args.words) (signal (drawn c.args.words)) = subst (HasFound c.args.words) c.in-Ok-None.is-1 c.in_ok-told.ensures.stray in
+    let clear : NoStray (drawn c.args.words) (samples_drawn c.args.words) = subst (HasFound c.args.words) c.in-Ok-None.is-1 c.in_ok-told.ensures.stray in
     c.in-Ok-None.ensures.appends before was
     ∙ ap (λ text. Some (before ++ text)) (c.as_bytes.ensures.value ∙ clean_text c.args.words (string_bytes c.in_ok-told.told.summary) c.in_ok-told.ensures.summary clear)
 
 pub returns-in-Ok-None-clause-clean : goal.returns-in-Ok-None-clause-clean
 returns-in-Ok-None-clause-clean g c =
-    let clear : NoStray (drawn c.args.words) (signal (drawn c.args.words)) = subst (HasFound c.args.words) c.in-Ok-None.is-1 c.in_ok-told.ensures.stray in
-    clean_law (drawn c.args.words) (drawn_good c.args.words) clear
+    let clear : NoStray (drawn c.args.words) (samples_drawn c.args.words) = subst (HasFound c.args.words) c.in-Ok-None.is-1 c.in_ok-told.ensures.stray in
+    drawn_law c.args.words clear
 
 pub returns-clause-cut : goal.returns-clause-cut
 returns-clause-cut g c = λ before text was is.

@@ -1,7 +1,6 @@
 use Rattle.std.proofs.Common.{[], length, ap, ◌∙◌, string_bytes}
 use Rattle.slicer_bank.specs.Candidates.{AreCandidates}
-use Rattle.afsk_modulator.specs.Signal.{signal}
-use Rattle.tnc_loop.specs.Drawn.{drawn}
+use Rattle.tnc_loop.specs.Drawn.{drawn, received_drawn, samples_drawn}
 use Rattle.tnc_loop.specs.Strays.{strays, first_stray}
 use Rattle.tnc_loop.proofs.ToldLemmas.{are_of, has_found, is_summary}
 use Rattle.tnc_loop.proofs.telling.tell_drawn.Goals as goal
@@ -10,8 +9,9 @@ pub merge-requires-clause-order : goal.merge-requires-clause-order
 merge-requires-clause-order c = (c.in_ok-candidates.ensures.found [] c.in_ok-bank.ensures.stands_for).1.order
 
 pub returns-clause-summary : goal.returns-clause-summary
+unfolding drawn received_drawn
 returns-clause-summary c =
-    let are : AreCandidates (signal (drawn c.args.words)) c.in_ok-candidates.candidates.items =
+    let are : AreCandidates (samples_drawn c.args.words) c.in_ok-candidates.candidates.items =
     are_of c.args.words c.in_ok-sent.sent c.deref.result.now c.in_ok-candidates.candidates.items c.in_ok-sent.ensures.sent c.deref.ensures.value
     (c.in_ok-candidates.ensures.found [] c.in_ok-bank.ensures.stands_for).1 in
     is_summary c.args.words c.deref-4.result.now c.in_ok-candidates.candidates.items c.deref-6.result.now (string_bytes c.in_ok-summary.field-0) c.count_strays-stray_count.result
@@ -21,8 +21,9 @@ returns-clause-summary c =
     c.in_ok-summary.ensures
 
 pub returns-clause-stray : goal.returns-clause-stray
+unfolding drawn received_drawn
 returns-clause-stray c =
-    let are : AreCandidates (signal (drawn c.args.words)) c.in_ok-candidates.candidates.items =
+    let are : AreCandidates (samples_drawn c.args.words) c.in_ok-candidates.candidates.items =
     are_of c.args.words c.in_ok-sent.sent c.deref.result.now c.in_ok-candidates.candidates.items c.in_ok-sent.ensures.sent c.deref.ensures.value
     (c.in_ok-candidates.ensures.found [] c.in_ok-bank.ensures.stands_for).1 in
     has_found c.args.words c.deref-2.result.now c.in_ok-candidates.candidates.items c.in_ok-stray.stray

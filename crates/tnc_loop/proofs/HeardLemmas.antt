@@ -1,0 +1,114 @@
+-- What is heard of the transmissions that are drawn: as much as of clean ones, and near it.
+use Rattle.std.proofs.Common.{◌≡◌, ℕ, zero, suc, ℤ, pos, Bool, true, false, List, ◌++◌, length, map, replicate, refl, ap, sym, ◌∙◌, arith, append_assoc, length-append}
+use Rattle.std.specs.List.{flat_map}
+use Rattle.std.proofs.lemmas.List.{length-map, length-replicate}
+use Rattle.std.proofs.lemmas.List.Concat.{flat_map-cons}
+use Rattle.rand_pcg.specs.Lcg.{Lcg}
+use Rattle.tone_table.specs.declared.tone.Tone.TheVariants.{Mark}
+use Rattle.tone_table.specs.Wave.{wave_from}
+use Rattle.nrzi_bits.specs.Line.{line}
+use Rattle.offset_slicers.specs.Near.{IsNear}
+use Rattle.afsk_modulator.specs.Transmission.{transmission, transmission_at}
+use Rattle.afsk_modulator.specs.Signal.{Transmission, samples_of}
+use Rattle.clean_signal.specs.GoodTransmission.{body_of, sample_count, frames_of}
+use Rattle.clean_signal.specs.MergedFrames.{MergesTo}
+use Rattle.clean_signal.specs.NearSignal.{Received, IsNearAll}
+use Rattle.clean_signal.specs.Stray.{NoStray}
+use Rattle.clean_signal.proofs.Law.{near_law}
+use Rattle.clean_signal.proofs.NearLemmas.{clean-near}
+use Rattle.clean_signal.proofs.WaveLemmas.{length-wave_from}
+use Rattle.nrzi_bits.proofs.LineLemmas.{length-line_from}
+use Rattle.tnc_words.specs.declared.command.LoopWords.{LoopWords}
+use Rattle.tnc_loop.specs.Words.{generator_of, behind, words}
+use Rattle.tnc_loop.specs.Rough.{level_drawn, noise_of, rough_samples, rough_received, exact_samples, with_errors, behind_rough}
+use Rattle.tnc_loop.specs.Drawn.{Heard, heard_of, behind_heard, all_heard, transmission_drawn, behind_transmission, heard_drawn, received_drawn, drawn, samples_drawn}
+use Rattle.tnc_loop.proofs.DrawingLemmas.{length-words, received_good}
+use Rattle.tnc_loop.proofs.RoughLemmas.{with_errors-near}
+
+-- samples as long as the silence, and then samples near the wave
+pub record IsHeard (h : Heard) : Type 0 where
+  pub gap : List ℤ
+  pub part : List ℤ
+  pub whole : h.samples ≡ gap ++ part
+  pub silence : length gap ≡ h.received.transmission.silence
+  pub near : IsNear h.received.level (wave_from h.received.phase (line (body_of h.received.transmission))) part
+
+length-noise : (count : ℕ) (g : Lcg) → length (map noise_of (words count g)) ≡ count
+length-noise count g = length-map (words count g) noise_of ∙ length-words count g
+
+is_heard : (rough : Bool) (t : Transmission) (g : Lcg) → IsHeard (heard_of rough t g)
+unfolding heard_of rough_samples transmission_at
+is_heard true t g = record {
+  gap = map noise_of (words t.silence (behind 2 g));
+  part = with_errors (level_drawn g) (exact_samples (rough_received t g)) (behind t.silence (behind 2 g));
+  whole = refl;
+  silence = length-noise t.silence (behind 2 g);
+  near = with_errors-near (level_drawn g) _ (behind t.silence (behind 2 g)) (omega arith);
+}
+is_heard false t g = record {
+  gap = replicate t.silence (pos 0);
+  part = transmission t.frames t.opening t.closing;
+  whole = refl;
+  silence = length-replicate t.silence (pos 0);
+  near = clean-near t;
+}
+
+pub transmission-heard : (rough : Bool) (t : Transmission) (g : Lcg) → (heard_of rough t g).received.transmission ≡ t
+unfolding heard_of
+transmission-heard true t g = refl
+transmission-heard false t g = refl
+
+-- as many samples as a clean transmission has
+pub length-heard : (rough : Bool) (t : Transmission) (g : Lcg) → length (heard_of rough t g).samples ≡ sample_count t
+length-heard rough t g =
+    let h : Heard = heard_of rough t g in
+    let is = is_heard rough t g in
+    let r : Received = h.received in
+    let same : sample_count r.transmission ≡ sample_count t = ap sample_count (transmission-heard rough t g) in
+    omega (arith, ap length is.whole, length-append is.gap is.part, is.silence, is.near.size, length-wave_from r.phase (line (body_of r.transmission)), length-line_from Mark (body_of r.transmission))
+
+all_near : (rough : Bool) (count : ℕ) (g : Lcg)
+    → IsNearAll (map (λ h. h.received) (all_heard rough count g)) (flat_map (λ h. h.samples) (all_heard rough count g))
+all_near rough zero g = tt
+all_near rough (suc count) g =
+    let t : Transmission = transmission_drawn g in
+    let first : Heard = heard_of rough t (behind_transmission g) in
+    let is = is_heard rough t (behind_transmission g) in
+    let others : List Heard = all_heard rough count (behind_heard rough t (behind_transmission g)) in
+    let rest : List ℤ = flat_map (λ h. h.samples) others in (
+      is.gap,
+      is.part,
+      rest,
+      flat_map-cons (λ h. h.samples) first others ∙ ap (λ xs. xs ++ rest) is.whole ∙ append_assoc is.gap is.part rest,
+      is.silence,
+      is.near,
+      all_near rough count (behind_heard rough t (behind_transmission g)),
+    )
+
+-- what is heard is near what was drawn
+pub drawn_near : (words : LoopWords) → IsNearAll (received_drawn words) (samples_drawn words)
+unfolding received_drawn samples_drawn heard_drawn
+drawn_near words = all_near words.rough words.frames (generator_of words.seed)
+
+-- so it gives the frames that were drawn, where none is stray
+pub drawn_law : (words : LoopWords) → NoStray (drawn words) (samples_drawn words) → MergesTo (frames_of (drawn words)) (samples_drawn words)
+unfolding drawn
+drawn_law words = near_law (received_drawn words) (samples_drawn words) (received_good words) (drawn_near words)
+
+-- ---- each of both ways
+
+pub samples-rough : (rough : Bool) (t : Transmission) (g : Lcg) → rough ≡ true → rough_samples t g ≡ (heard_of rough t g).samples
+unfolding heard_of
+samples-rough rough t g is = ap (λ b. (heard_of b t g).samples) (sym is)
+
+pub samples-clean : (rough : Bool) (t : Transmission) (g : Lcg) → rough ≡ false → samples_of t ≡ (heard_of rough t g).samples
+unfolding heard_of
+samples-clean rough t g is = ap (λ b. (heard_of b t g).samples) (sym is)
+
+pub behind-rough : (rough : Bool) (t : Transmission) (g : Lcg) → rough ≡ true → behind_rough t g ≡ behind_heard rough t g
+unfolding behind_heard
+behind-rough rough t g is = ap (λ b. behind_heard b t g) (sym is)
+
+pub behind-clean : (rough : Bool) (t : Transmission) (g : Lcg) → rough ≡ false → g ≡ behind_heard rough t g
+unfolding behind_heard
+behind-clean rough t g is = ap (λ b. behind_heard b t g) (sym is)

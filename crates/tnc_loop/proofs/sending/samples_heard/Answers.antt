@@ -1,0 +1,25 @@
+use Rattle.std.proofs.Common.{◌≡◌, List, ℤ, IfOk, OnOk, subst, rules}
+use Rattle.rand_pcg.specs.Lcg.{Lcg}
+use Rattle.tnc_loop.specs.Held.{drawn_as}
+use Rattle.tnc_loop.proofs.HeardLemmas.{samples-rough, samples-clean, behind-rough, behind-clean}
+use Rattle.tnc_loop.proofs.sending.samples_heard.Goals as goal
+
+pub returns-then-rough-clause-samples : goal.returns-then-rough-clause-samples
+returns-then-rough-clause-samples c =
+    subst (λ (xs : List ℤ). IfOk c.rough_samples.result (λ samples. samples.items ≡ xs))
+    (samples-rough c.args.rough (drawn_as c.args.drawn.now) c.args.generator.now c.if-rough.true) c.rough_samples.ensures.samples
+
+pub returns-then-rough-clause-behind : goal.returns-then-rough-clause-behind
+returns-then-rough-clause-behind c =
+    subst (λ (g : Lcg). OnOk c.rough_samples.result (c.rough_samples.new.generator ≡ g))
+    (behind-rough c.args.rough (drawn_as c.args.drawn.now) c.args.generator.now c.if-rough.true) c.rough_samples.ensures.behind
+
+pub returns-else-rough-clause-samples : goal.returns-else-rough-clause-samples
+returns-else-rough-clause-samples c =
+    subst (λ (xs : List ℤ). IfOk c.samples_of.result (λ samples. samples.items ≡ xs))
+    (samples-clean c.args.rough (drawn_as c.args.drawn.now) c.args.generator.now c.if-rough.false) c.samples_of.ensures
+
+pub returns-else-rough-clause-behind : goal.returns-else-rough-clause-behind
+returns-else-rough-clause-behind c =
+    let same = behind-clean c.args.rough (drawn_as c.args.drawn.now) c.args.generator.now c.if-rough.false in
+    search (rules, same)
