@@ -2,6 +2,8 @@
 use Rattle.std.specs.Prelude.{◌≡◌, ℕ, ◌+◌, ◌≤◌, ◌⊎◌, ◌&&◌, Bool, true, List, length, map, count_by, All, Option, Some, None, Result, Ok, Err, ◌++◌, false}
 use Rattle.std.specs.List.{AllByRecursion as Each}
 use Rattle.ax25_frames.specs.FrameOctets.{CanWrite}
+use Rattle.ax25_frames.specs.declared.fault.FrameFault.{FrameFault}
+use Rattle.ax25_frames.specs.declared.fault.FrameFault.TheVariants.{Address, NoControl, NoPid, UnknownControl, InfoTooLong, StrayInfo, Memory as OutOfRoom}
 use Rattle.selective_reject.specs.declared.packet.Packet.{Packet}
 use Rattle.link_machine.specs.declared.acts.SentFrame.{SentFrame}
 use Rattle.link_machine.specs.declared.acts.Told.{Told}
@@ -30,6 +32,16 @@ use Rattle.link_world.specs.World.{Side, World, near_step, near_turn, step, told
 use Rattle.link_world.specs.Quiet.{is_alone}
 use Rattle.link_world.specs.Faults.{near_cause, cause}
 use Rattle.link_world.specs.StandsFor.{all_in_flight}
+
+-- octets were not read for want of memory
+abbrev pub is_memory : FrameFault → Bool
+is_memory (Address fault) = false
+is_memory (NoControl at) = false
+is_memory (NoPid at) = false
+is_memory (UnknownControl octet) = false
+is_memory (InfoTooLong len) = false
+is_memory (StrayInfo at) = false
+is_memory OutOfRoom = true
 
 -- a packet is no longer than N1
 abbrev pub IsShort : Packet → Type 0

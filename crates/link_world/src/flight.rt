@@ -4,6 +4,7 @@ ghost use Rattle.ax25_frames.specs.ControlField.{IsNumbered};
 ghost use Rattle.ax25_frames.specs.FrameOctets.{CanWrite, control_of};
 ghost use Rattle.link_world.specs.Flight.{asks, is_answer};
 ghost use Rattle.link_world.specs.Reading.{frame_read};
+ghost use Rattle.link_world.specs.Held.{is_memory};
 
 use ax25_frames::{Frame, FrameFault, Kind, Modulus, U, read_frame, write_frame};
 use link_machine::SentFrame;
@@ -33,10 +34,17 @@ impl InFlight {
         let octets = write_frame(alloc, &self.sent.frame, self.sent.modulus)?;
         match read_frame(alloc, octets.as_slice(), modulus) {
             Ok(frame) => Ok(Some(frame)),
-            Err(FrameFault::Memory) => Err(OutOfMemory),
+            Err(fault) if is_memory(&fault) => Err(OutOfMemory),
             Err(_) => Ok(None),
         }
     }
+}
+
+/// Whether memory was not given.
+fn is_memory(fault: &FrameFault) -> bool
+    ensures { result ≡ is_memory fault.now }
+{
+    matches!(fault, FrameFault::Memory)
 }
 
 /// Whether the frame asks for an answer: SABM, SABME or DISC (AX.25 2.2 section 4.3.3).

@@ -1,6 +1,7 @@
 //! Two links and the frames in flight between them.
 ghost use Rattle.std.specs.Prelude.{◌≡◌, ℕ, ◌+◌, ◌-◌, ◌^◌, ◌⊎◌, ◌↔◌, ◌≤◌, min, length, false, Ok, Err, Some, None, IfOk, IfErr, OnOk, OnErr};
 ghost use Rattle.std.specs.Result.{IsErrOf};
+ghost use Rattle.link_machine.specs.Params.{HasWindows, IsRefusedWindow};
 ghost use Rattle.link_world.specs.Held.{stop_of};
 
 use crate::end::End;
@@ -9,6 +10,7 @@ use crate::fault::WorldFault;
 use crate::happening::happen;
 use crate::side::Side;
 use link_machine::{NewFault, Params, Told};
+use selective_reject::check_window;
 use std::alloc::Global;
 use std::marker::Model;
 
@@ -39,7 +41,6 @@ impl Model for World {
 }
 
 impl World {
-    ghost use Rattle.link_machine.specs.Params.{HasWindows, IsRefusedWindow};
     ghost use Rattle.link_world.specs.StandsFor.{IsAlike};
     ghost use Rattle.link_world.specs.World.{World as State, first_world, step, told_by, towards, end_of};
     ghost use Rattle.link_world.specs.Faults.{cause_in, is_there};
@@ -54,8 +55,14 @@ impl World {
         ensures bad_window { (window : ℕ) → IsErrOf result (NewFault.BadWindow window)
             ↔ IsRefusedWindow a window ⊎ (HasWindows a × IsRefusedWindow b window) }
     {
-        let a = Side::new(alloc, a, End::A.path())?;
-        let b = Side::new(alloc, b, End::B.path())?;
+        check_windows(&a)?;
+        check_windows(&b)?;
+        let Ok(a) = Side::new(alloc, a, End::A.path()) else {
+            return Err(NewFault::Memory);
+        };
+        let Ok(b) = Side::new(alloc, b, End::B.path()) else {
+            return Err(NewFault::Memory);
+        };
         Ok(World {
             alloc,
             a,
@@ -110,6 +117,21 @@ impl World {
             End::B => self.b.towards.len(),
         }
     }
+}
+
+/// Refuses the first window of an end that does not fit its modulus.
+fn check_windows(params: &Params) -> Result<(), NewFault>
+    ensures windows { OnOk result (HasWindows params.now) }
+    ensures bad_window { (window : ℕ) → IsErrOf result (NewFault.BadWindow window)
+        ↔ IsRefusedWindow params.now window }
+{
+    if let Err(bad) = check_window(8, params.window, params.mode) {
+        return Err(NewFault::BadWindow { window: bad.window });
+    }
+    if let Err(bad) = check_window(128, params.wide_window, params.mode) {
+        return Err(NewFault::BadWindow { window: bad.window });
+    }
+    Ok(())
 }
 
 /// The number of the event that found the channel not quiet, by what it answered.
