@@ -105,12 +105,11 @@ made event h number w near_old far_old near far back done told is free both link
 -- what was sent does not fly: the event was not quiet
 pub noisy :
     (event : Event) (h : Happening) (number : ℕ) (w : World) (near_old far_old : HeldSide)
-    (back behind : List InFlight) (done : Done)
-    (fault : WorldFault)
+    (back : List InFlight) (done : Done) (fault : WorldFault)
     → IsAsked event h w back done → refused_by event w.a.end.machine ≡ None → StandForBoth near_old far_old w
-    → Stayed done number far_old.towards.items back behind fault
+    → Stayed done number far_old.towards.items back fault
     → near_cause number event w ≡ Some fault
-noisy event h number w near_old far_old back behind done fault is free both stayed =
+noisy event h number w near_old far_old back done fault is free both stayed =
     cause_is number event w None false is.there free
     (sym (may_fly-sends_alone event h w far_old.towards.items back done is both.of_far.towards) ∙ stayed.noisy)
     ∙ ap Some (sym stayed.answers)

@@ -1,3 +1,4 @@
+pub mod Rereading
 pub mod Growth
 pub mod ActGrowth
 pub mod HearingGrowth

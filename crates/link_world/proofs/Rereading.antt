@@ -1,7 +1,8 @@
 -- A frame that is written in one modulus and read in another, in octets: what it is read as, and that it is read as
 -- nothing else.
-use Rattle.std.proofs.Common.{◌≡◌, ℕ, ◌+◌, ◌*◌, ◌/◌, ◌%◌, ◌<◌, ◌≤◌, Bool, true, false, ◌==◌, nat_lt, if◌then◌else◌, List, [], ◌∷◌, ◌++◌, length, Option, Some, None, refl, sym, ap, ◌∙◌, arith}
-use Rattle.std.specs.Prelude.{All}
+use Rattle.std.proofs.Common.{◌≡◌, ℕ, ◌+◌, ◌*◌, ◌/◌, ◌%◌, ◌<◌, ◌≤◌, Bool, true, false, ◌==◌, nat_lt, if◌then◌else◌, List, [], ◌∷◌, ◌++◌, length, drop, Option, Some, None, ◌⊎◌, inl, inr, refl, sym, ap, ◌∙◌, subst, arith}
+use Rattle.std.specs.Prelude.{All, Result, Ok, Err, IfOk, IfErr}
+use Rattle.std.proofs.lemmas.List.Elements.{All-drop}
 use Rattle.std.proofs.lemmas.Bool.{eqb-true, eqb-false, ltb-true, ltb-false}
 use Rattle.ax25_address.specs.AddressField.{bit}
 use Rattle.ax25_frames.specs.declared.frame.Modulus.{Modulus}
@@ -12,8 +13,12 @@ use Rattle.ax25_frames.specs.declared.frame.S.{S}
 use Rattle.ax25_frames.specs.declared.frame.U.TheVariants.{Sabm, Sabme, Disc, Dm, Ua}
 use Rattle.ax25_frames.specs.declared.frame.W.TheVariants.{Frmr, Xid, Test}
 use Rattle.ax25_frames.specs.ControlField.{supervisory_code}
-use Rattle.ax25_frames.specs.FrameOctets.{IsKind, body_octets}
-use Rattle.link_world.specs.Reading.{is_odd, kind_read, read_narrow, info_read_wide}
+use Rattle.ax25_address.proofs.OneReading.{BeginsWithPath-same}
+use Rattle.ax25_frames.specs.declared.frame.Frame.{Frame}
+use Rattle.ax25_frames.specs.declared.fault.FrameFault.{FrameFault}
+use Rattle.ax25_frames.specs.declared.fault.FrameFault.TheVariants.{Memory}
+use Rattle.ax25_frames.specs.FrameOctets.{IsKind, IsFrame, body_octets}
+use Rattle.link_world.specs.Reading.{is_odd, kind_read, frame_read, with_kind, read_narrow, info_read_wide}
 
 -- octets that are read as a kind
 pub record IsKindOf (read : Modulus) (body : List ℕ) (kind : Kind) : Type 0 where
@@ -193,3 +198,79 @@ read_by OneTwentyEight Eight (Ui flag pid rest) is octets =
     record { kind_is = record { numbered = tt; fits = tt }; spelling = refl }
 read_by OneTwentyEight Eight (Other which flag rest) is octets =
     record { kind_is = record { numbered = tt; fits = tt }; spelling = refl }
+
+-- what is read of the octets of a frame, where they are read as one frame at most
+pub record IsReading (read : Modulus) (octets : List ℕ) (answer : Result Frame FrameFault) : Type 0 where
+  pub frame : IfOk answer (λ g. IsFrame g read octets)
+  pub each_frame : (g : Frame) → IsFrame g read octets → (answer ≡ Ok g) ⊎ (answer ≡ Err Memory)
+
+-- the octets behind the address are read as the kind
+body_read :
+    (written read : Modulus) (frame : Frame) (octets : List ℕ) (is : IsFrame frame written octets)
+    → All (λ o. o < 256) octets → IsReadBy read (drop is.len octets) (kind_read written read frame.kind)
+body_read written read frame octets is low =
+    subst (λ b. IsReadBy read b (kind_read written read frame.kind)) (sym is.body)
+    (read_by written read frame.kind is.kind
+    (subst (All (λ o. o < 256)) is.body (All-drop (λ o. o < 256) is.len octets low)))
+
+-- where a kind is read, so is the frame
+frame_by :
+    (written read : Modulus) (frame : Frame) (octets : List ℕ) → IsFrame frame written octets
+    → All (λ o. o < 256) octets → (kind : Kind) → kind_read written read frame.kind ≡ Some kind
+    → IsFrame (record frame { kind = kind }) read octets
+frame_by written read frame octets is low kind e =
+    let body : IsKindOf read (drop is.len octets) kind =
+    subst (IsReadBy read (drop is.len octets)) e (body_read written read frame octets is low) in
+    record { len = is.len; path = is.path; kind = body.kind_is; body = body.spelling }
+
+-- and where none is read, there is no frame
+none_by :
+    (written read : Modulus) (frame g : Frame) (octets : List ℕ) → IsFrame frame written octets
+    → All (λ o. o < 256) octets → kind_read written read frame.kind ≡ None → IsFrame g read octets → ⊥
+none_by written read frame g octets is low e h =
+    let none : (kind : Kind) → IsKindOf read (drop is.len octets) kind → ⊥ =
+    subst (IsReadBy read (drop is.len octets)) e (body_read written read frame octets is low) in
+    let same : h.len ≡ is.len = (BeginsWithPath-same octets g.path frame.path h.len is.len h.path is.path).1 in
+    none g.kind (record { kind_is = h.kind; spelling = ap (λ n. drop n octets) (sym same) ∙ h.body })
+
+some_same : (g h : Frame) (answer : Result Frame FrameFault) → answer ≡ Ok g → answer ≡ Ok h → Some h ≡ Some g
+some_same g h answer one other = subst (λ a. IfOk a (λ x. Some x ≡ Some g)) (sym one ∙ other) refl
+
+ok_is_no_err : (g : Frame) (fault : FrameFault) (answer : Result Frame FrameFault) → answer ≡ Ok g → answer ≡ Err fault → ⊥
+ok_is_no_err g fault answer one other = subst (λ a. IfErr a (λ x. ⊥)) (sym one ∙ other) tt
+
+-- a frame that is read is the one that the modulus makes of it
+pub reads_frame :
+    (written read : Modulus) (frame g : Frame) (octets : List ℕ) (answer : Result Frame FrameFault)
+    → IsFrame frame written octets → All (λ o. o < 256) octets → IsReading read octets answer → answer ≡ Ok g
+    → Some g ≡ frame_read written read frame
+reads_frame written read frame g octets answer is low reading ok = go (kind_read written read frame.kind) refl
+  where
+    go : (o : Option Kind) → kind_read written read frame.kind ≡ o → Some g ≡ with_kind frame o
+    go None e = absurd (none_by written read frame g octets is low e
+        (subst (λ a. IfOk a (λ x. IsFrame x read octets)) ok reading.frame))
+    go (Some kind) e = elim (reading.each_frame (record frame { kind = kind })
+        (frame_by written read frame octets is low kind e)) [
+      | inl same ↦ some_same (record frame { kind = kind }) g answer same ok
+      | inr memory ↦ absurd (ok_is_no_err g Memory answer ok memory)
+    ]
+
+fault_same :
+    (fault other : FrameFault) (answer : Result Frame FrameFault) → answer ≡ Err fault → answer ≡ Err other → fault ≡ other
+fault_same fault other answer one two = subst (λ a. IfErr a (λ x. fault ≡ x)) (sym one ∙ two) refl
+
+-- and one that is refused, for another cause than memory, is none
+pub reads_none :
+    (written read : Modulus) (frame : Frame) (fault : FrameFault) (octets : List ℕ) (answer : Result Frame FrameFault)
+    → IsFrame frame written octets → All (λ o. o < 256) octets → IsReading read octets answer → answer ≡ Err fault
+    → (fault ≡ Memory → ⊥) → None ≡ frame_read written read frame
+reads_none written read frame fault octets answer is low reading err other =
+    go (kind_read written read frame.kind) refl
+  where
+    go : (o : Option Kind) → kind_read written read frame.kind ≡ o → None ≡ with_kind frame o
+    go None e = refl
+    go (Some kind) e = elim (reading.each_frame (record frame { kind = kind })
+        (frame_by written read frame octets is low kind e)) [
+      | inl same ↦ absurd (ok_is_no_err (record frame { kind = kind }) fault answer same err)
+      | inr memory ↦ absurd (other (fault_same fault Memory answer err memory))
+    ]

@@ -1,5 +1,5 @@
 -- What a request, a tick, a frame heard and a frame lost make of two sides.
-use Rattle.std.proofs.Common.{◌≡◌, ℕ, suc, ◌<◌, Bool, true, false, List, [], ◌∷◌, length, drop, refl, sym, ◌∙◌, ap, subst, arith, Some, None, Result, Ok, Err}
+use Rattle.std.proofs.Common.{◌≡◌, ℕ, suc, ◌+◌, ◌<◌, Bool, true, false, List, [], ◌∷◌, ◌++◌, length, drop, refl, sym, ◌∙◌, ap, subst, arith, Some, None, Result, Ok, Err}
 use Rattle.std.specs.Prelude.{Option, remove, slice_index_or}
 use Rattle.std.proofs.lemmas.Bool.{lt-ltb}
 use Rattle.std.proofs.lemmas.List.{append-nil, length-map}
@@ -9,10 +9,11 @@ use Rattle.link_machine.specs.declared.machine.Machine.{Machine as HeldLink}
 use Rattle.link_machine.specs.Done.{Done}
 use Rattle.link_machine.specs.Event.{Event as LinkEvent}
 use Rattle.link_machine.specs.Event.Event.{Hear as LinkHear}
-use Rattle.link_machine.specs.Machine.{Machine}
+use Rattle.link_machine.specs.Machine.{Machine, modulus_named}
 use Rattle.link_machine.specs.StandsFor.{StandsFor as LinkStandsFor}
 use Rattle.link_machine.specs.Step.{step, done_of, refusal_of}
 use Rattle.ax25_frames.specs.declared.frame.Frame.{Frame}
+use Rattle.ax25_frames.specs.declared.frame.Modulus.{Modulus}
 use Rattle.link_world.specs.declared.end.End.{End}
 use Rattle.link_world.specs.declared.event.Event.TheVariants.{Hear, Lose}
 use Rattle.link_world.specs.declared.fault.WorldFault.{WorldFault}
@@ -20,10 +21,12 @@ use Rattle.link_world.specs.declared.flight.InFlight.{InFlight}
 use Rattle.link_world.specs.declared.request.Request.{Request}
 use Rattle.link_world.specs.declared.request.Request.TheVariants.{Connect as ConnectRequest, Send as SendRequest, Disconnect as DisconnectRequest, Tick as TickRequest}
 use Rattle.link_world.specs.declared.side.Side.{Side as HeldSide}
-use Rattle.link_world.specs.Flight.{Tagged, asks}
-use Rattle.link_world.specs.Recorded.{RecordedEnd, seen, hears_ask}
+use Rattle.link_world.specs.Reading.{frame_read}
+use Rattle.link_world.specs.Quiet.{is_alone}
+use Rattle.link_world.specs.Flight.{Tagged, asks, asks_in, answers_in}
+use Rattle.link_world.specs.Recorded.{RecordedEnd, EndTurn, no_turn, seen, hears_ask}
 use Rattle.link_world.specs.Recorded.Happening.{Hears}
-use Rattle.link_world.specs.World.{Side, World}
+use Rattle.link_world.specs.World.{Side, World, read_in, hearing_as, turn_of, near_turn}
 use Rattle.link_world.specs.Faults.{refused_by, near_cause}
 use Rattle.link_world.specs.StandsFor.{in_flight, all_in_flight}
 use Rattle.link_world.specs.Held.{event_of, happening_of, seen_of, StandForBoth, MadeStep, Flew, Stayed}
@@ -84,90 +87,151 @@ asked_made request end number w near_old far_old near far done told both steps f
 
 -- it finds the channel not quiet
 pub asked_noisy :
-    (request : Request) (end : End) (number : ℕ) (w : World) (near_old near far_old : HeldSide)
-    (behind : List InFlight) (done : Done)
+    (request : Request) (end : End) (number : ℕ) (w : World) (near_old near far_old : HeldSide) (done : Done)
     (fault : WorldFault)
     → StandForBoth near_old far_old w → Steps (seen_of request) near_old.link near.link done
     → refusal_of w.a.end.machine (seen_of request) ≡ None
-    → Stayed done number far_old.towards.items near_old.towards.items behind fault
+    → Stayed done number far_old.towards.items near_old.towards.items fault
     → near_cause number (event_of request end) w ≡ Some fault
-asked_noisy request end number w near_old near far_old behind done fault both steps free stayed =
-    noisy (event_of request end) (happening_of request) number w near_old far_old near_old.towards.items behind done
+asked_noisy request end number w near_old near far_old done fault both steps free stayed =
+    noisy (event_of request end) (happening_of request) number w near_old far_old near_old.towards.items done
     fault
     (is_asked request end w near_old.towards.items done both.of_near.towards
     (steps.does w.a.end.machine both.of_near.link))
     (is_free request end w.a.end.machine free) both stayed
 
--- The frame at the front, where there is one, is what the end hears.
-pub record IsHeard (end : End) (w : World) (heard : InFlight) (back : List InFlight) (done : Done) : Type 0 where
+-- The frame at the front, where there is one, is what the end hears, as its link reads it.
+pub record IsHeard (end : End) (w : World) (frame : Frame) (back : List InFlight) (done : Done) : Type 0 where
   pub tagged : Tagged
-  pub frame : heard.frame ≡ tagged.frame
-  pub asked : IsAsked (Hear end) (Hears tagged) w back done
+  pub asked : IsAsked (Hear end) (Hears (record tagged { frame = frame })) w back done
+
+-- what is read of a frame in flight is what is read of it with its tags
+read_tagged :
+    (modulus : ℕ) (heard : InFlight) (tag : Tagged) (named : Modulus) (o : Option Frame) → heard ≡ in_flight tag
+    → named ≡ modulus_named modulus → frame_read heard.sent.modulus named heard.sent.frame ≡ o → read_in modulus tag ≡ o
+read_tagged modulus heard tag named o is same read =
+    ap (λ m. frame_read (modulus_named tag.modulus) m tag.frame) (sym same)
+    ∙ ap (λ (f : InFlight). frame_read f.sent.modulus named f.sent.frame) (sym is) ∙ read
+
+first_of :
+    (tag : Tagged) (tags : List Tagged) (items : List InFlight) (heard : InFlight) → items ≡ all_in_flight (tag ∷ tags)
+    → heard ≡ slice_index_or items 0 heard → heard ≡ in_flight tag
+first_of tag tags items heard e first = first ∙ ap (λ xs. slice_index_or xs 0 heard) e
 
 -- the first frame of a list is what is heard
 heard_at :
     (end : End) (r : RecordedEnd) (tags : List Tagged) (b : Side) (items : List InFlight) (heard : InFlight)
-    (done : Done)
+    (named : Modulus) (frame : Frame) (done : Done)
     → items ≡ all_in_flight tags → 0 < length items → heard ≡ slice_index_or items 0 heard
-    → done ≡ done_of (step r.machine (LinkHear heard.frame))
-    → IsHeard end (record { a = record { end = r; towards = tags }; b = b }) heard (drop 1 items) done
-heard_at end r [] b items heard done e some first does = absurd (let n : length items ≡ 0 = ap length e in omega arith)
-heard_at end r (tag ∷ tags) b items heard done e some first does =
-    let frame : heard.frame ≡ tag.frame =
-    ap (λ (f : InFlight). f.frame) (first ∙ ap (λ xs. slice_index_or xs 0 heard) e) in
+    → named ≡ modulus_named r.machine.incoming.modulus → frame_read heard.sent.modulus named heard.sent.frame ≡ Some frame
+    → done ≡ done_of (step r.machine (LinkHear frame))
+    → IsHeard end (record { a = record { end = r; towards = tags }; b = b }) frame (drop 1 items) done
+heard_at end r [] b items heard named frame done e some first same read does =
+    absurd (let n : length items ≡ 0 = ap length e in omega arith)
+heard_at end r (tag ∷ tags) b items heard named frame done e some first same read does =
+    let reads = read_tagged r.machine.incoming.modulus heard tag named (Some frame) (first_of tag tags items heard e first)
+    same read in
     record {
       tagged = tag;
-      frame = frame;
       asked = record {
-        turn = refl;
+        turn = ap (λ o. turn_of (hearing_as tag o) r) reads;
         there = lt-ltb 0 (suc (length tags)) (omega arith);
         behind = ap (drop 1) e;
-        does = does ∙ ap (λ f. done_of (step r.machine (LinkHear f))) frame;
+        does = does;
       };
     }
 
+-- the modulus of a link is that of each machine that it stands for
+same_modulus :
+    (link : HeldLink) (m : Machine) → LinkStandsFor link m
+    → modulus_named link.incoming.modulus ≡ modulus_named m.incoming.modulus
+same_modulus link m stands = ap modulus_named stands.incoming.modulus
+
+-- what an end reads of the frame at its front
+pub record ReadsFront (near : HeldSide) (heard : InFlight) (o : Option Frame) : Type 0 where
+  pub some : 0 < length near.towards.items
+  pub first : heard ≡ slice_index_or near.towards.items 0 heard
+  pub read : frame_read heard.sent.modulus (modulus_named near.link.incoming.modulus) heard.sent.frame ≡ o
+
 -- the first frame in flight is what the end hears
 is_heard :
-    (end : End) (w : World) (near far : HeldSide) (heard : InFlight) (done : Done) (behind : HeldLink)
-    → StandForBoth near far w → Steps (LinkHear heard.frame) near.link behind done → 0 < length near.towards.items
-    → heard ≡ slice_index_or near.towards.items 0 heard → IsHeard end w heard (drop 1 near.towards.items) done
-is_heard end w near far heard done behind both steps some first =
-    heard_at end w.a.end w.a.towards w.b near.towards.items heard done both.of_near.towards some first
+    (end : End) (w : World) (near far : HeldSide) (heard : InFlight) (frame : Frame) (done : Done) (behind : HeldLink)
+    → StandForBoth near far w → Steps (LinkHear frame) near.link behind done → ReadsFront near heard (Some frame)
+    → IsHeard end w frame (drop 1 near.towards.items) done
+is_heard end w near far heard frame done behind both steps front =
+    heard_at end w.a.end w.a.towards w.b near.towards.items heard (modulus_named near.link.incoming.modulus) frame done
+    both.of_near.towards front.some front.first (same_modulus near.link w.a.end.machine both.of_near.link) front.read
     (steps.does w.a.end.machine both.of_near.link)
 
 -- what the link sent on hearing it flies
 pub heard_made :
-    (end : End) (number : ℕ) (w : World) (near_old far_old near far : HeldSide) (heard : InFlight) (done : Done)
-    (told : List Told)
-    → StandForBoth near_old far_old w → Steps (LinkHear heard.frame) near_old.link near.link done → 0 < length
-    near_old.towards.items
-    → heard ≡ slice_index_or near_old.towards.items 0 heard → near.towards.items ≡ drop 1 near_old.towards.items
+    (end : End) (number : ℕ) (w : World) (near_old far_old near far : HeldSide) (heard : InFlight) (frame : Frame)
+    (done : Done) (told : List Told)
+    → StandForBoth near_old far_old w → Steps (LinkHear frame) near_old.link near.link done
+    → ReadsFront near_old heard (Some frame) → near.towards.items ≡ drop 1 near_old.towards.items
     → far.link ≡ far_old.link
-    → Flew done (asks heard.frame.kind) far_old.towards.items (drop 1 near_old.towards.items) far.towards.items told
+    → Flew done (asks frame.kind) far_old.towards.items (drop 1 near_old.towards.items) far.towards.items told
     → MadeStep (Hear end) number w near far told
-heard_made end number w near_old far_old near far heard done told both steps some first stays same flew =
-    let is = is_heard end w near_old far_old heard done near.link both steps some first in
-    let P : Frame → Type 0 = λ f. LinkStandsFor near.link (step w.a.end.machine (LinkHear f)).now in
-    let Q : Frame → Type 0 = λ f. Flew done (asks f.kind) far_old.towards.items (drop 1 near_old.towards.items)
-    far.towards.items told in
-    made (Hear end) (Hears is.tagged) number w near_old far_old near far (drop 1 near_old.towards.items) done told
-    is.asked refl both
-    (subst P is.frame (steps.stands w.a.end.machine both.of_near.link)) stays same (subst Q is.frame flew)
+heard_made end number w near_old far_old near far heard frame done told both steps front stays same flew =
+    let is = is_heard end w near_old far_old heard frame done near.link both steps front in
+    made (Hear end) (Hears (record is.tagged { frame = frame })) number w near_old far_old near far
+    (drop 1 near_old.towards.items) done told is.asked refl both (steps.stands w.a.end.machine both.of_near.link) stays
+    same flew
 
 -- what it sent finds the channel not quiet
 pub heard_noisy :
-    (end : End) (number : ℕ) (w : World) (near_old near far_old : HeldSide) (heard : InFlight)
-    (behind : List InFlight) (done : Done)
-    (fault : WorldFault)
-    → StandForBoth near_old far_old w → Steps (LinkHear heard.frame) near_old.link near.link done → 0 < length
-    near_old.towards.items
-    → heard ≡ slice_index_or near_old.towards.items 0 heard
-    → Stayed done number far_old.towards.items (drop 1 near_old.towards.items) behind fault
+    (end : End) (number : ℕ) (w : World) (near_old near far_old : HeldSide) (heard : InFlight) (frame : Frame)
+    (done : Done) (fault : WorldFault)
+    → StandForBoth near_old far_old w → Steps (LinkHear frame) near_old.link near.link done
+    → ReadsFront near_old heard (Some frame)
+    → Stayed done number far_old.towards.items (drop 1 near_old.towards.items) fault
     → near_cause number (Hear end) w ≡ Some fault
-heard_noisy end number w near_old near far_old heard behind done fault both steps some first stayed =
-    let is = is_heard end w near_old far_old heard done near.link both steps some first in
-    noisy (Hear end) (Hears is.tagged) number w near_old far_old (drop 1 near_old.towards.items) behind done fault
-    is.asked refl both stayed
+heard_noisy end number w near_old near far_old heard frame done fault both steps front stayed =
+    let is = is_heard end w near_old far_old heard frame done near.link both steps front in
+    noisy (Hear end) (Hears (record is.tagged { frame = frame })) number w near_old far_old
+    (drop 1 near_old.towards.items) done fault is.asked refl both stayed
+
+-- a frame that the link refuses is passed over
+passed_at :
+    (end : End) (number : ℕ) (r : RecordedEnd) (tags : List Tagged) (b : Side) (near_old far near : HeldSide)
+    (heard : InFlight) → let w : World = record { a = record { end = r; towards = tags }; b = b } in
+    StandForBoth near_old far w → ReadsFront near_old heard None → near.link ≡ near_old.link
+    → near.towards.items ≡ drop 1 near_old.towards.items → MadeStep (Hear end) number w near far []
+passed_at end number r [] b near_old far near heard both front same stays =
+    absurd (let some = front.some in let n : length near_old.towards.items ≡ 0 = ap length both.of_near.towards in
+    omega arith)
+passed_at end number r (tag ∷ tags) b near_old far near heard both front same stays =
+    let w : World = record { a = record { end = r; towards = tag ∷ tags }; b = b } in
+    let reads : read_in r.machine.incoming.modulus tag ≡ None =
+    read_tagged r.machine.incoming.modulus heard tag (modulus_named near_old.link.incoming.modulus) None
+    (first_of tag tags near_old.towards.items heard both.of_near.towards front.first)
+    (same_modulus near_old.link r.machine both.of_near.link) front.read in
+    let turn : near_turn (Hear end) w ≡ no_turn r = ap (λ o. turn_of (hearing_as tag o) r) reads in
+    record {
+      free = cause_is number (Hear end) w None true (lt-ltb 0 (suc (length tags)) (omega arith)) refl
+          (ap (λ (t : EndTurn). is_alone (asks_in t.sent) (asks_in b.towards + answers_in tags)) turn);
+      stands = record {
+        of_near = record {
+          link = let P : EndTurn → Type 0 = λ t. LinkStandsFor near.link t.now.machine in
+              subst P (sym turn) (let Q : HeldLink → Type 0 = λ l. LinkStandsFor l r.machine in
+              subst Q (sym same) both.of_near.link);
+          towards = stays ∙ ap (drop 1) both.of_near.towards;
+        };
+        of_far = record {
+          link = both.of_far.link;
+          towards = both.of_far.towards ∙ ap all_in_flight (sym (append-nil b.towards))
+              ∙ ap (λ (t : EndTurn). all_in_flight (b.towards ++ t.sent)) (sym turn);
+        };
+      };
+      tells = ap (λ (t : EndTurn). t.told) (sym turn);
+    }
+
+pub passed_made :
+    (end : End) (number : ℕ) (w : World) (near_old far near : HeldSide) (heard : InFlight)
+    → StandForBoth near_old far w → ReadsFront near_old heard None → near.link ≡ near_old.link
+    → near.towards.items ≡ drop 1 near_old.towards.items → MadeStep (Hear end) number w near far []
+passed_made end number w near_old far near heard both front same stays =
+    passed_at end number w.a.end w.a.towards w.b near_old far near heard both front same stays
 
 -- no such frame is in flight
 count_of : (near : HeldSide) (w : World) → near.towards.items ≡ all_in_flight w.a.towards → length near.towards.items
@@ -197,18 +261,6 @@ lost_made end index number w near_old far near both there same lost =
       };
       tells = refl;
     }
-
--- room for frames changes neither the link nor the frames
-pub roomy :
-    (near far behind : HeldSide) (w : World) → StandForBoth near far w → behind.link ≡ far.link
-    → behind.towards.items ≡ far.towards.items → StandForBoth near behind w
-roomy near far behind w both link towards = record {
-  of_near = both.of_near;
-  of_far = record {
-    link = let P : HeldLink → Type 0 = λ l. LinkStandsFor l w.b.end.machine in subst P (sym link) both.of_far.link;
-    towards = towards ∙ both.of_far.towards;
-  };
-}
 
 -- what was taken was not refused
 pub not_refused : {T : Type 0} (answer : Result T LinkFault) (done : T) (refused : Option LinkFault)

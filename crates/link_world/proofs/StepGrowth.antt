@@ -1,4 +1,4 @@
--- How much a link sends in one event: its window of I frames at most, as many SREJ, and two more.
+-- Each event keeps a link.
 use Rattle.std.proofs.Common.{◌≡◌, ℕ, ◌≤◌, Bool, true, false, ◌==◌, nat_lt, nat_le, if◌then◌else◌, [], ◌∷◌, ◌++◌, length, inl, inr, refl, sym, arith, Option, Some, None}
 use Rattle.std.specs.Bool.{⊤}
 use Rattle.std.proofs.lemmas.Bool.{false≢true, ltb-false}
@@ -22,9 +22,10 @@ use Rattle.link_machine.specs.Ticks.{runs_out, lowered, with_t1, with_t2, with_t
 use Rattle.link_machine.specs.Event.{Event}
 use Rattle.link_machine.specs.Event.Event.{Connect, Send, Disconnect, Hear, Tick}
 use Rattle.link_machine.specs.Step.{refusal_of, row, settle_in, settled, step}
-use Rattle.link_world.proofs.Growth.{IsShort, IsModulus, IsCounting, in_another, with_packets, Grows, Sends, still, one, either, both, wider}
-use Rattle.link_world.proofs.ActGrowth.{respond_ready_sends, poll_sends, settle_sends}
-use Rattle.link_world.proofs.HearingGrowth.{emptied_in, setting_sends, hear_sends}
+use Rattle.link_world.specs.Held.{IsShort, IsModulus, IsCounting}
+use Rattle.link_world.proofs.Growth.{in_another, with_packets, GoesOn, Keeps, still, one, either, both}
+use Rattle.link_world.proofs.ActGrowth.{respond_ready_keeps, poll_keeps, settle_keeps}
+use Rattle.link_world.proofs.HearingGrowth.{emptied_in, setting_keeps, hear_keeps}
 use Rattle.link_world.proofs.law.Each.{each_pushed}
 
 -- the modulus in which a link calls
@@ -35,86 +36,75 @@ called_is p = go p.wide
     go true = inr refl
     go false = inl refl
 
--- sends at most one frame
-t2_out_sends : (state : LinkState) → Sends 1 (t2_out state)
-t2_out_sends Idle = λ t low. still 1 t t low refl
-t2_out_sends Calling = λ t low. still 1 t t low refl
-t2_out_sends Up = respond_ready_sends false
-t2_out_sends Releasing = λ t low. still 1 t t low refl
+t2_out_keeps : (state : LinkState) → Keeps (t2_out state)
+t2_out_keeps Idle = λ t low. still t t low refl
+t2_out_keeps Calling = λ t low. still t t low refl
+t2_out_keeps Up = respond_ready_keeps false
+t2_out_keeps Releasing = λ t low. still t t low refl
 
--- sends at most one frame
-call_again_sends : Sends 1 call_again
-call_again_sends = λ t low.
-    either (is_spent t.now.control) 1 t (end_call Failed t) _ (still 1 t (end_call Failed t) (emptied_in t.now 8 (inl refl) low) refl)
+call_again_keeps : Keeps call_again
+call_again_keeps = λ t low.
+    either (is_spent t.now.control) t (end_call Failed t) _ (still t (end_call Failed t) (emptied_in t.now 8 (inl refl) low) refl)
     (one t _ t.now.incoming.modulus (SetupSent (calling_frame (is_wide t.now)) true) low low.modulus_is tt refl)
 
--- sends at most one frame
-release_again_sends : Sends 1 release_again
-release_again_sends = λ t low.
-    either (is_spent t.now.control) 1 t (end_call Failed t) _ (still 1 t (end_call Failed t) (emptied_in t.now 8 (inl refl) low) refl)
+release_again_keeps : Keeps release_again
+release_again_keeps = λ t low.
+    either (is_spent t.now.control) t (end_call Failed t) _ (still t (end_call Failed t) (emptied_in t.now 8 (inl refl) low) refl)
     (one t _ t.now.incoming.modulus (SetupSent Disc true) low low.modulus_is tt refl)
 
--- sends at most one frame
-poll_again_sends : Sends 1 poll_again
-poll_again_sends = λ t low.
-    either (is_spent t.now.control) 1 t _ _ (one t _ t.now.incoming.modulus (SetupSent Dm false)
+poll_again_keeps : Keeps poll_again
+poll_again_keeps = λ t low.
+    either (is_spent t.now.control) t _ _ (one t _ t.now.incoming.modulus (SetupSent Dm false)
     (emptied_in t.now 8 (inl refl) low) low.modulus_is tt refl)
-    (both 0 1 (setting retried) poll (setting_sends retried) poll_sends t low)
+    (both (setting retried) poll (setting_keeps retried) poll_keeps t low)
 
--- sends at most one frame
-t1_out_sends : (state : LinkState) → Sends 1 (t1_out state)
-t1_out_sends Idle = λ t low. still 1 t t low refl
-t1_out_sends Calling = call_again_sends
-t1_out_sends Up = poll_again_sends
-t1_out_sends Releasing = release_again_sends
+t1_out_keeps : (state : LinkState) → Keeps (t1_out state)
+t1_out_keeps Idle = λ t low. still t t low refl
+t1_out_keeps Calling = call_again_keeps
+t1_out_keeps Up = poll_again_keeps
+t1_out_keeps Releasing = release_again_keeps
 
--- sends at most one frame
-t3_out_sends : (state : LinkState) → Sends 1 (t3_out state)
-t3_out_sends Idle = λ t low. still 1 t t low refl
-t3_out_sends Calling = λ t low. still 1 t t low refl
-t3_out_sends Up = both 0 1 (setting unretried) poll (setting_sends unretried) poll_sends
-t3_out_sends Releasing = λ t low. still 1 t t low refl
+t3_out_keeps : (state : LinkState) → Keeps (t3_out state)
+t3_out_keeps Idle = λ t low. still t t low refl
+t3_out_keeps Calling = λ t low. still t t low refl
+t3_out_keeps Up = both (setting unretried) poll (setting_keeps unretried) poll_keeps
+t3_out_keeps Releasing = λ t low. still t t low refl
 
--- sends at most one frame
-tick_t2_of_sends : (timer : Option ℕ) → Sends 1 (tick_t2_of timer)
-tick_t2_of_sends None = λ t low. still 1 t t low refl
-tick_t2_of_sends (Some left) = λ t low.
-    either (runs_out left) 1 t _ _
-    (both 0 1 (setting (with_t2 None)) (t2_out t.now.control.state) (setting_sends (with_t2 None))
-    (t2_out_sends t.now.control.state) t low)
-    (still 1 t (setting (with_t2 (lowered left)) t) low refl)
+tick_t2_of_keeps : (timer : Option ℕ) → Keeps (tick_t2_of timer)
+tick_t2_of_keeps None = λ t low. still t t low refl
+tick_t2_of_keeps (Some left) = λ t low.
+    either (runs_out left) t _ _
+    (both (setting (with_t2 None)) (t2_out t.now.control.state) (setting_keeps (with_t2 None))
+    (t2_out_keeps t.now.control.state) t low)
+    (still t (setting (with_t2 (lowered left)) t) low refl)
 
--- sends at most one frame
-tick_t3_of_sends : (timer : Option ℕ) → Sends 1 (tick_t3_of timer)
-tick_t3_of_sends None = λ t low. still 1 t t low refl
-tick_t3_of_sends (Some left) = λ t low.
-    either (runs_out left) 1 t _ _
-    (both 0 1 (setting (with_t3 None)) (t3_out t.now.control.state) (setting_sends (with_t3 None))
-    (t3_out_sends t.now.control.state) t low)
-    (still 1 t (setting (with_t3 (lowered left)) t) low refl)
+tick_t3_of_keeps : (timer : Option ℕ) → Keeps (tick_t3_of timer)
+tick_t3_of_keeps None = λ t low. still t t low refl
+tick_t3_of_keeps (Some left) = λ t low.
+    either (runs_out left) t _ _
+    (both (setting (with_t3 None)) (t3_out t.now.control.state) (setting_keeps (with_t3 None))
+    (t3_out_keeps t.now.control.state) t low)
+    (still t (setting (with_t3 (lowered left)) t) low refl)
 
--- sends at most one frame
-tick_t1_of_sends : (timer : Option ℕ) (waiting : Bool) → Sends 1 (tick_t1_of timer waiting)
-tick_t1_of_sends None waiting = λ t low. tick_t3_of_sends t.now.control.t3 t low
-tick_t1_of_sends (Some left) true = λ t low. still 1 t t low refl
-tick_t1_of_sends (Some left) false = λ t low.
-    either (runs_out left) 1 t _ _
-    (both 0 1 (setting (with_t1 None)) (t1_out t.now.control.state) (setting_sends (with_t1 None))
-    (t1_out_sends t.now.control.state) t low)
-    (still 1 t (setting (with_t1 (lowered left)) t) low refl)
+tick_t1_of_keeps : (timer : Option ℕ) (waiting : Bool) → Keeps (tick_t1_of timer waiting)
+tick_t1_of_keeps None waiting = λ t low. tick_t3_of_keeps t.now.control.t3 t low
+tick_t1_of_keeps (Some left) true = λ t low. still t t low refl
+tick_t1_of_keeps (Some left) false = λ t low.
+    either (runs_out left) t _ _
+    (both (setting (with_t1 None)) (t1_out t.now.control.state) (setting_keeps (with_t1 None))
+    (t1_out_keeps t.now.control.state) t low)
+    (still t (setting (with_t1 (lowered left)) t) low refl)
 
--- sends at most two frames
-tick_up : (waiting : Bool) → Sends 2 (λ t. tick_t1 waiting (tick_t2 t))
+tick_up : (waiting : Bool) → Keeps (λ t. tick_t1 waiting (tick_t2 t))
 tick_up waiting =
-    both 1 1 tick_t2 (tick_t1 waiting) (λ t low. tick_t2_of_sends t.now.control.t2 t low)
-    (λ t low. tick_t1_of_sends t.now.control.t1 waiting t low)
+    both tick_t2 (tick_t1 waiting) (λ t low. tick_t2_of_keeps t.now.control.t2 t low)
+    (λ t low. tick_t1_of_keeps t.now.control.t1 waiting t low)
 
--- sends at most two frames
-tick_in_sends : (state : LinkState) (waiting : Bool) → Sends 2 (tick_in state waiting)
-tick_in_sends Idle waiting = λ t low. still 2 t t low refl
-tick_in_sends Calling waiting = tick_up waiting
-tick_in_sends Up waiting = tick_up waiting
-tick_in_sends Releasing waiting = tick_up waiting
+tick_in_keeps : (state : LinkState) (waiting : Bool) → Keeps (tick_in state waiting)
+tick_in_keeps Idle waiting = λ t low. still t t low refl
+tick_in_keeps Calling waiting = tick_up waiting
+tick_in_keeps Up waiting = tick_up waiting
+tick_in_keeps Releasing waiting = tick_up waiting
 
 -- an event brings no packet that is too long
 abbrev pub BringsShort : Event → Type 0
@@ -124,34 +114,30 @@ BringsShort Disconnect = ⊤
 BringsShort (Hear frame) = ⊤
 BringsShort (Tick waiting) = ⊤
 
-connect_sends : Sends 1 connect
-connect_sends = λ t low.
+connect_keeps : Keeps connect
+connect_keeps = λ t low.
     let modulus = called_modulus t.now.params in
     let is = called_is t.now.params in
     one t (connect t) modulus (SetupSent (calling_frame (modulus == 128)) true)
-    (in_another t.now.params t.now.incoming.modulus t.now.incoming.window modulus t.now.outgoing.packets is low) is tt refl
+    (in_another t.now.incoming.modulus modulus t.now.outgoing.packets is low) is tt refl
 
--- sends at most a window of frames and one more
-row_sends : (event : Event) → BringsShort event → Sends 128 (row event)
-row_sends Connect brings = λ t low. wider 1 128 t (connect t) (omega arith) (connect_sends t low)
-row_sends (Send packet) brings = λ t low. still 128 t (changing (joined packet) t)
-    (with_packets t.now.params t.now.incoming.modulus t.now.incoming.window t.now.outgoing.packets
+row_keeps : (event : Event) → BringsShort event → Keeps (row event)
+row_keeps Connect brings = λ t low. (connect_keeps t low)
+row_keeps (Send packet) brings = λ t low. still t (changing (joined packet) t)
+    (with_packets t.now.incoming.modulus t.now.outgoing.packets
     (t.now.outgoing.packets ++ packet ∷ []) (each_pushed IsShort t.now.outgoing.packets packet low.short brings) low) refl
-row_sends Disconnect brings = λ t low. still 128 t (setting quitting t) low refl
-row_sends (Hear frame) brings = hear_sends (is_command_of frame.path.role frame.kind) frame.kind
-row_sends (Tick waiting) brings = λ t low. wider 2 128 t (tick waiting t) (omega arith)
-    (tick_in_sends t.now.control.state waiting t low)
+row_keeps Disconnect brings = λ t low. still t (setting quitting t) low refl
+row_keeps (Hear frame) brings = hear_keeps (is_command_of frame.path.role frame.kind) frame.kind
+row_keeps (Tick waiting) brings = λ t low. (tick_in_keeps t.now.control.state waiting t low)
 
--- sends at most a window of frames and one more
-settle_in_sends : (state : LinkState) → Sends 128 (settle_in state)
-settle_in_sends Idle = λ t low. still 128 t t low refl
-settle_in_sends Calling = λ t low. still 128 t t low refl
-settle_in_sends Up = settle_sends
-settle_in_sends Releasing = λ t low. still 128 t t low refl
+settle_in_keeps : (state : LinkState) → Keeps (settle_in state)
+settle_in_keeps Idle = λ t low. still t t low refl
+settle_in_keeps Calling = λ t low. still t t low refl
+settle_in_keeps Up = settle_keeps
+settle_in_keeps Releasing = λ t low. still t t low refl
 
--- sends at most a window of frames and one more
-settled_sends : Sends 128 settled
-settled_sends = λ t low. settle_in_sends t.now.control.state t low
+settled_keeps : Keeps settled
+settled_keeps = λ t low. settle_in_keeps t.now.control.state t low
 
 short_by :
     (packet : Packet) (closed full : Bool) (state : LinkState) (quit : Bool)
@@ -177,12 +163,12 @@ brings_short m Disconnect e = tt
 brings_short m (Hear frame) e = tt
 brings_short m (Tick waiting) e = tt
 
--- an event sends at most 256 frames, each good, and the link goes on counting
-pub step_grows : (m : Machine) (event : Event) → IsCounting m → Grows 256 (begin m) (step m event)
+-- an event sends good frames, and the link goes on counting
+pub step_keeps : (m : Machine) (event : Event) → IsCounting m → GoesOn (begin m) (step m event)
 unfolding step
-step_grows m event low = go (is_some (refusal_of m event)) refl
+step_keeps m event low = go (is_some (refusal_of m event)) refl
   where
     go : (b : Bool) → is_some (refusal_of m event) ≡ b
-        → Grows 256 (begin m) (if b then begin m else settled (row event (begin m)))
-    go true e = still 256 (begin m) (begin m) low refl
-    go false e = both 128 128 (row event) settled (row_sends event (brings_short m event e)) settled_sends (begin m) low
+        → GoesOn (begin m) (if b then begin m else settled (row event (begin m)))
+    go true e = still (begin m) (begin m) low refl
+    go false e = both (row event) settled (row_keeps event (brings_short m event e)) settled_keeps (begin m) low

@@ -3,29 +3,27 @@ use Rattle.std.proofs.Common.{◌≡◌, ℕ, ◌+◌, Bool, suc, List, [], ◌�
 use Rattle.std.specs.Prelude.{count_by, fold, cond, remove}
 use Rattle.std.proofs.lemmas.List.{map-append, take-map, drop-map}
 use Rattle.std.proofs.lemmas.Simd.{map-map}
-use Rattle.ax25_frames.specs.declared.frame.Frame.{Frame}
-use Rattle.link_machine.specs.Sent.{Sent, frame_of, frames_of}
+use Rattle.link_machine.specs.declared.acts.SentFrame.{SentFrame}
+use Rattle.link_machine.specs.Sent.{SentIn, sent_frame, sent_frames}
 use Rattle.link_world.specs.declared.flight.InFlight.{InFlight}
 use Rattle.link_world.specs.Flight.{Tagged, asks, asks_in, answers_in}
 use Rattle.link_world.specs.Recorded.{RecordedEnd, tagged}
 use Rattle.link_world.specs.Untagged.{frames}
-use Rattle.link_world.specs.StandsFor.{in_flight, all_in_flight}
+use Rattle.link_world.specs.StandsFor.{sent_tagged, in_flight, all_in_flight}
 use Rattle.link_world.specs.Held.{flying, asking, answering, asking_frames}
 
 -- frames that are tagged are the frames that were sent
 pub frames-tagged :
-    (on_ask : Bool) (r : RecordedEnd) (sent : List Sent)
-    → frames (map (tagged on_ask r) sent) ≡ frames_of r.machine.incoming.modulus r.machine.path sent
-frames-tagged on_ask r sent = map-map (λ (f : Tagged). f.frame) (tagged on_ask r) sent
+    (on_ask : Bool) (r : RecordedEnd) (sent : List SentIn)
+    → frames (map (tagged on_ask r) sent) ≡ sent_frames r.machine.path sent
+frames-tagged on_ask r sent = map-map sent_tagged (tagged on_ask r) sent
 
 -- and fly as such
 pub all_in_flight-tagged :
-    (on_ask : Bool) (r : RecordedEnd) (sent : List Sent)
-    → all_in_flight (map (tagged on_ask r) sent) ≡ map (flying on_ask)
-    (frames_of r.machine.incoming.modulus r.machine.path sent)
+    (on_ask : Bool) (r : RecordedEnd) (sent : List SentIn)
+    → all_in_flight (map (tagged on_ask r) sent) ≡ map (flying on_ask) (sent_frames r.machine.path sent)
 all_in_flight-tagged on_ask r sent =
-    map-map in_flight (tagged on_ask r) sent
-    ∙ sym (map-map (flying on_ask) (frame_of r.machine.incoming.modulus r.machine.path) sent)
+    map-map in_flight (tagged on_ask r) sent ∙ sym (map-map (flying on_ask) (sent_frame r.machine.path) sent)
 
 -- a fold of the images
 fold-map : {X Y A : Type 0} (g : A → Y → A) (f : X → Y) (a : A) (xs : List X) → fold g a (map f xs) ≡ fold
@@ -38,17 +36,17 @@ pub count_by-map : {X Y : Type 0} (p : Y → Bool) (f : X → Y) (xs : List X) �
     (λ x. p (f x)) xs
 count_by-map p f xs = fold-map (λ a y. a + cond (p y) 1 0) f 0 xs
 
--- SABM and DISC are counted alike with tags and in flight
+-- SABM, SABME and DISC are counted alike with tags and in flight
 pub asks_in-flight : (tags : List Tagged) → asks_in tags ≡ asking (all_in_flight tags)
-asks_in-flight tags = sym (count_by-map (λ (f : InFlight). asks f.frame.kind) in_flight tags)
+asks_in-flight tags = sym (count_by-map (λ (f : InFlight). asks f.sent.frame.kind) in_flight tags)
 
 -- so are answers
 pub answers_in-flight : (tags : List Tagged) → answers_in tags ≡ answering (all_in_flight tags)
 answers_in-flight tags = sym (count_by-map (λ (f : InFlight). f.answers) in_flight tags)
 
--- and SABM and DISC as frames
+-- and SABM, SABME and DISC as frames
 pub asks_in-frames : (tags : List Tagged) → asks_in tags ≡ asking_frames (frames tags)
-asks_in-frames tags = sym (count_by-map (λ (f : Frame). asks f.kind) (λ (f : Tagged). f.frame) tags)
+asks_in-frames tags = sym (count_by-map (λ (f : SentFrame). asks f.frame.kind) sent_tagged tags)
 
 -- the images of a list without one item
 pub map-remove : {X Y : Type 0} (f : X → Y) (xs : List X) (index : ℕ) → map f (remove xs index) ≡ remove (map f xs)

@@ -1,10 +1,11 @@
 -- No step depends on the tags: the world without its tags makes the step of the world without its tags.
-use Rattle.std.proofs.Common.{◌≡◌, List, [], ◌∷◌, ◌++◌, ◌∙◌, ap}
+use Rattle.std.proofs.Common.{◌≡◌, List, [], ◌∷◌, ◌++◌, ◌∙◌, ap, Option, Some, None}
 use Rattle.std.specs.Prelude.{remove}
 use Rattle.std.proofs.lemmas.List.{map-append}
 use Rattle.ax25_frames.specs.declared.frame.Frame.{Frame}
+use Rattle.link_machine.specs.declared.acts.SentFrame.{SentFrame}
 use Rattle.link_machine.specs.Machine.{Machine}
-use Rattle.link_machine.specs.Sent.{frames_of}
+use Rattle.link_machine.specs.Sent.{sent_frames}
 use Rattle.link_machine.specs.Step.{step as link_step}
 use Rattle.link_world.specs.declared.end.End.{End}
 use Rattle.link_world.specs.declared.end.End.TheVariants.{A, B}
@@ -13,21 +14,22 @@ use Rattle.link_world.specs.declared.event.Event.TheVariants.{Connect, Send, Dis
 use Rattle.link_world.specs.Flight.{Tagged}
 use Rattle.link_world.specs.Recorded.{RecordedEnd, Happening, end_turn, seen, hears_ask}
 use Rattle.link_world.specs.Recorded.Happening.{Connects, Sends, Disconnects, Ticks, Hears}
-use Rattle.link_world.specs.World.{Side, World, seen_from, end_of, near_step, step}
-use Rattle.link_world.specs.Untagged.{UntaggedWorld, frames, untagged, untagged_from, untagged_near_step, untagged_step}
+use Rattle.link_world.specs.World.{Side, World, read_in, hearing_as, turn_of, seen_from, end_of, near_step, step}
+use Rattle.link_world.specs.StandsFor.{sent_tagged}
+use Rattle.link_world.specs.Untagged.{UntaggedWorld, hear_frame, link_turn, frames, untagged, untagged_from, untagged_near_step, untagged_step}
 use Rattle.link_world.proofs.TagLemmas.{frames-tagged, map-remove}
 
 -- frames that are sent go behind the others
 frames-sent :
     (h : Happening) (r : RecordedEnd) (ahead : List Tagged)
     → let turn = link_step r.machine (seen h) in
-    frames (ahead ++ (end_turn h r).sent) ≡ frames ahead ++ frames_of turn.now.incoming.modulus turn.now.path turn.sent
+    frames (ahead ++ (end_turn h r).sent) ≡ frames ahead ++ sent_frames turn.now.path turn.sent
 frames-sent h r ahead =
     let turn = link_step r.machine (seen h) in
-    map-append (λ (f : Tagged). f.frame) ahead (end_turn h r).sent
+    map-append sent_tagged ahead (end_turn h r).sent
     ∙ ap (λ fs. frames ahead ++ fs) (frames-tagged (hears_ask h) (end_turn h r).now turn.sent)
 
-abbrev world_of : Machine → Machine → List Frame → List Frame → UntaggedWorld
+abbrev world_of : Machine → Machine → List SentFrame → List SentFrame → UntaggedWorld
 world_of a b to_a to_b = record {
   a = record { machine = a; towards = to_a };
   b = record
@@ -36,28 +38,37 @@ world_of a b to_a to_b = record {
 
 -- a request or a tick
 asked :
-    (h : Happening) (w : World) (to_a : List Frame)
+    (h : Happening) (w : World) (to_a : List SentFrame)
     → let turn = link_step w.a.end.machine (seen h) in
     world_of turn.now w.b.end.machine to_a (frames (w.b.towards ++ (end_turn h w.a.end).sent))
-    ≡ world_of turn.now w.b.end.machine to_a (frames w.b.towards ++ frames_of turn.now.incoming.modulus turn.now.path
-    turn.sent)
+    ≡ world_of turn.now w.b.end.machine to_a (frames w.b.towards ++ sent_frames turn.now.path turn.sent)
 asked h w to_a =
     let turn = link_step w.a.end.machine (seen h) in
     ap (λ fs. world_of turn.now w.b.end.machine to_a fs) (frames-sent h w.a.end w.b.towards)
 
 -- nothing is sent
-nothing_sent : (a b : Machine) (to_a : List Frame) (tags : List Tagged) → world_of a b to_a (frames (tags ++ [])) ≡
+nothing_sent : (a b : Machine) (to_a : List SentFrame) (tags : List Tagged) → world_of a b to_a (frames (tags ++ [])) ≡
     world_of a b to_a (frames tags ++ [])
-nothing_sent a b to_a tags = ap (λ fs. world_of a b to_a fs) (map-append (λ (t : Tagged). t.frame) tags [])
+nothing_sent a b to_a tags = ap (λ fs. world_of a b to_a fs) (map-append sent_tagged tags [])
 
--- the frame at the front is heard, where there is one
+-- the frame at the front is heard, where there is one and it is not refused
 heard :
     (end : End) (r : RecordedEnd) (tags : List Tagged) (b : Side)
     → let w : World = record { a = record { end = r; towards = tags }; b = b } in
     untagged (near_step (Hear end) w) ≡ untagged_near_step (Hear end) (untagged w)
 heard end r [] b = nothing_sent r.machine b.end.machine [] b.towards
-heard end r (tag ∷ tags) b = asked (Hears tag) (record { a = record { end = r; towards = tag ∷ tags }; b = b })
-    (frames tags)
+heard end r (tag ∷ tags) b = go (read_in r.machine.incoming.modulus tag)
+  where
+    w : World
+    w = record { a = record { end = r; towards = tag ∷ tags }; b = b }
+
+    go : (o : Option Frame)
+        → world_of (turn_of (hearing_as tag o) r).now.machine b.end.machine (frames tags)
+        (frames (b.towards ++ (turn_of (hearing_as tag o) r).sent))
+        ≡ (let turn = link_turn (hear_frame o) r.machine in
+        world_of turn.now b.end.machine (frames tags) (frames b.towards ++ sent_frames turn.now.path turn.sent))
+    go None = nothing_sent r.machine b.end.machine (frames tags) b.towards
+    go (Some frame) = asked (Hears (record tag { frame = frame })) w (frames tags)
 
 -- each event, seen from its end
 near : (event : Event) (w : World) → untagged (near_step event w) ≡ untagged_near_step event (untagged w)
@@ -68,7 +79,7 @@ near (Tick end waiting) w = asked (Ticks waiting) w (frames w.a.towards)
 near (Hear end) w = heard end w.a.end w.a.towards w.b
 near (Lose end index) w =
     ap (λ fs. world_of w.a.end.machine w.b.end.machine fs (frames (w.b.towards ++ [])))
-    (map-remove (λ (t : Tagged). t.frame) w.a.towards index)
+    (map-remove sent_tagged w.a.towards index)
     ∙ nothing_sent w.a.end.machine w.b.end.machine (remove (frames w.a.towards) index) w.b.towards
 
 -- seen from either end

@@ -14,6 +14,7 @@ pub mod Views
 pub mod Invariant
 pub mod Options
 pub mod Exchanges
+pub mod Moduli
 pub mod NoView
 pub mod Losing
 pub mod Sending
@@ -41,6 +42,8 @@ pub mod UpEvents
 pub mod UpChanges
 pub mod Called
 pub mod UpTicks
+pub mod Calls
+pub mod Readings
 pub mod IdleEvents
 pub mod DownTicks
 pub mod CallingEvents

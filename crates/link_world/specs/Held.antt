@@ -1,6 +1,11 @@
 -- What a world keeps in one event. No public clause speaks of this.
-use Rattle.std.specs.Prelude.{◌≡◌, ℕ, ◌+◌, ◌≤◌, ◌⊎◌, ◌&&◌, Bool, true, List, map, count_by, All, Option, Some, None, Result, Ok, Err, ◌++◌, false}
-use Rattle.ax25_frames.specs.declared.frame.Frame.{Frame}
+use Rattle.std.specs.Prelude.{◌≡◌, ℕ, ◌+◌, ◌≤◌, ◌⊎◌, ◌&&◌, Bool, true, List, length, map, count_by, All, Option, Some, None, Result, Ok, Err, ◌++◌, false}
+use Rattle.std.specs.List.{AllByRecursion as Each}
+use Rattle.ax25_frames.specs.FrameOctets.{CanWrite}
+use Rattle.ax25_frames.specs.declared.fault.FrameFault.{FrameFault}
+use Rattle.ax25_frames.specs.declared.fault.FrameFault.TheVariants.{Address, NoControl, NoPid, UnknownControl, InfoTooLong, StrayInfo, Memory as OutOfRoom}
+use Rattle.selective_reject.specs.declared.packet.Packet.{Packet}
+use Rattle.link_machine.specs.declared.acts.SentFrame.{SentFrame}
 use Rattle.link_machine.specs.declared.acts.Told.{Told}
 use Rattle.link_machine.specs.Done.{Done}
 use Rattle.link_machine.specs.declared.fault.LinkFault.{LinkFault}
@@ -8,7 +13,6 @@ use Rattle.link_machine.specs.declared.fault.LinkFault.TheVariants.{WrongState, 
 use Rattle.link_machine.specs.declared.machine.Machine.{Machine as HeldLink}
 use Rattle.link_machine.specs.Machine.{Machine}
 use Rattle.link_machine.specs.StandsFor.{StandsFor as LinkStandsFor}
-use Rattle.link_machine.specs.Held.{HasNumbersBelow}
 use Rattle.link_machine.specs.Event.{Event as LinkEvent}
 use Rattle.link_machine.specs.Event.Event.{Connect as LinkConnect, Send as LinkSend, Disconnect as LinkDisconnect, Tick as LinkTick}
 use Rattle.link_world.specs.declared.end.End.{End}
@@ -29,24 +33,45 @@ use Rattle.link_world.specs.Quiet.{is_alone}
 use Rattle.link_world.specs.Faults.{near_cause, cause}
 use Rattle.link_world.specs.StandsFor.{all_in_flight}
 
--- the most frames that a link sends in one event
-abbrev pub most_frames : ℕ
-most_frames = 16
+-- octets were not read for want of memory
+abbrev pub is_memory : FrameFault → Bool
+is_memory (Address fault) = false
+is_memory (NoControl at) = false
+is_memory (NoPid at) = false
+is_memory (UnknownControl octet) = false
+is_memory (InfoTooLong len) = false
+is_memory (StrayInfo at) = false
+is_memory OutOfRoom = true
 
--- a link that counts modulo 8, with a window below 8: it stands for some machine
-pub record IsCounting (link : HeldLink) : Type 0 where
+-- a packet is no longer than N1
+abbrev pub IsShort : Packet → Type 0
+IsShort packet = length packet.octets ≤ 256
+
+abbrev pub IsModulus : ℕ → Type 0
+IsModulus modulus = (modulus ≡ 8) ⊎ (modulus ≡ 128)
+
+-- the modulus is 8 or 128, and no packet that waits is too long
+pub record Counts (modulus : ℕ) (packets : List Packet) : Type 0 where
+  pub modulus_is : IsModulus modulus
+  pub short : Each IsShort packets
+
+abbrev pub IsCounting : Machine → Type 0
+IsCounting m = Counts m.incoming.modulus m.outgoing.packets
+
+-- a link stands for a machine that does so
+pub record IsRunning (link : HeldLink) : Type 0 where
   pub machine : Machine
   pub stands : LinkStandsFor link machine
-  pub modulus : link.incoming.modulus ≡ 8
-  pub window : link.incoming.window ≤ 7
+  pub counts : IsCounting machine
 
-abbrev pub HasLowNumbers : InFlight → Type 0
-HasLowNumbers f = HasNumbersBelow 8 f.frame.kind
+-- a frame in flight may be written
+abbrev pub CanFly : InFlight → Type 0
+CanFly f = CanWrite f.sent.modulus f.sent.frame
 
 -- what holds of each side between two events
 pub record IsSide (side : HeldSide) : Type 0 where
-  pub link : IsCounting side.link
-  pub numbers : All HasLowNumbers side.towards.items
+  pub link : IsRunning side.link
+  pub frames : All CanFly side.towards.items
 
 pub record AreSides (near far : HeldSide) : Type 0 where
   pub of_near : IsSide near
@@ -82,20 +107,20 @@ seen_of DisconnectRequest = LinkDisconnect
 seen_of (TickRequest waiting) = LinkTick waiting
 
 -- frames that a link sent, as they are in flight
-abbrev pub flying : Bool → Frame → InFlight
-flying on_ask frame = record { frame = frame; answers = on_ask && is_answer frame.kind }
+abbrev pub flying : Bool → SentFrame → InFlight
+flying on_ask sent = record { sent = sent; answers = on_ask && is_answer sent.frame.kind }
 
-abbrev pub asking_frames : List Frame → ℕ
-asking_frames frames = count_by (λ (f : Frame). asks f.kind) frames
+abbrev pub asking_frames : List SentFrame → ℕ
+asking_frames frames = count_by (λ (f : SentFrame). asks f.frame.kind) frames
 
 abbrev pub asking : List InFlight → ℕ
-asking frames = count_by (λ (f : InFlight). asks f.frame.kind) frames
+asking frames = count_by (λ (f : InFlight). asks f.sent.frame.kind) frames
 
 abbrev pub answering : List InFlight → ℕ
 answering frames = count_by (λ (f : InFlight). f.answers) frames
 
 -- whether the frames may be sent, where these are in flight to the other end and back
-abbrev pub may_fly : List Frame → List InFlight → List InFlight → Bool
+abbrev pub may_fly : List SentFrame → List InFlight → List InFlight → Bool
 may_fly frames ahead back = is_alone (asking_frames frames) (asking ahead + answering back)
 
 abbrev pub world_fault_of : LinkFault → WorldFault
@@ -117,9 +142,8 @@ pub record Flew (done : Done) (on_ask : Bool) (ahead back behind : List InFlight
   pub tells : told ≡ done.told
 
 -- they did not, since the channel was not quiet
-pub record Stayed (done : Done) (number : ℕ) (ahead back behind : List InFlight) (fault : WorldFault) : Type 0 where
+pub record Stayed (done : Done) (number : ℕ) (ahead back : List InFlight) (fault : WorldFault) : Type 0 where
   pub noisy : may_fly done.frames ahead back ≡ false
-  pub towards : behind ≡ ahead
   pub answers : fault ≡ NotQuiet number
 
 -- at which event the world stops, by what that answered
@@ -133,13 +157,12 @@ stop_by Memory = None
 abbrev pub IsRefusal : Event → ℕ → World → WorldFault → Type 0
 IsRefusal event number w fault = (fault ≡ Memory) ⊎ (near_cause number event w ≡ Some fault)
 
--- A refusal changes no frame in flight. Where the channel was not quiet the link has made its step; else it is as it
--- was.
-pub record IsKept (number : ℕ) (fault : WorldFault) (near_old far_old near far : HeldSide) : Type 0 where
+-- a refusal changes nothing but the room for frames
+pub record IsKept (near_old far_old near far : HeldSide) : Type 0 where
+  pub near_link : near.link ≡ near_old.link
+  pub far_link : far.link ≡ far_old.link
   pub near_towards : near.towards.items ≡ near_old.towards.items
   pub far_towards : far.towards.items ≡ far_old.towards.items
-  pub far_link : far.link ≡ far_old.link
-  pub near_link : (fault ≡ NotQuiet number) ⊎ (near.link ≡ near_old.link)
 
 -- of two sides, that of an end
 abbrev pub side_at : End → HeldSide → HeldSide → HeldSide
@@ -154,15 +177,6 @@ pub record MadeStepOf (event : Event) (number : ℕ) (w : World) (a b : HeldSide
 
 abbrev pub IsRefusalOf : Event → ℕ → World → WorldFault → Type 0
 IsRefusalOf event number w fault = (fault ≡ Memory) ⊎ (cause number w event ≡ Some fault)
-
-pub record LinksKept (a_old b_old a b : HeldSide) : Type 0 where
-  pub of_a : a.link ≡ a_old.link
-  pub of_b : b.link ≡ b_old.link
-
-pub record AreKept (number : ℕ) (fault : WorldFault) (a_old b_old a b : HeldSide) : Type 0 where
-  pub towards_a : a.towards.items ≡ a_old.towards.items
-  pub towards_b : b.towards.items ≡ b_old.towards.items
-  pub links : (fault ≡ NotQuiet number) ⊎ LinksKept a_old b_old a b
 
 -- at which event the world stops, by what an event answered
 abbrev pub stop_of : {T : Type 0} → Result T WorldFault → Option ℕ

@@ -36,3 +36,10 @@ pub record StandsFor (held : HeldWorld) (w : World) : Type 0 where
   pub links : LinksStandFor held w
   pub towards_a : held.a.towards.items ≡ all_in_flight w.a.towards
   pub towards_b : held.b.towards.items ≡ all_in_flight w.b.towards
+
+-- nothing has changed but how many calls there were, and at which the world stopped
+pub record IsAlike (before behind : HeldWorld) : Type 0 where
+  pub link_of_a : behind.a.link ≡ before.a.link
+  pub link_of_b : behind.b.link ≡ before.b.link
+  pub towards_a : behind.a.towards.items ≡ before.a.towards.items
+  pub towards_b : behind.b.towards.items ≡ before.b.towards.items

@@ -7,7 +7,7 @@ use link_machine::LinkFault;
 use thiserror::Error;
 use tnc_base::OutOfMemory;
 
-/// Why an event is refused. No frame in flight is then added, heard or lost.
+/// Why an event is refused. The links and the frames in flight are then as they were.
 #[derive(Clone, Copy, Debug, PartialEq, Eq, Error)]
 pub enum WorldFault {
     /// No frame is in flight towards the end, or none with that index.
@@ -16,7 +16,7 @@ pub enum WorldFault {
     /// The link refuses the request, for another cause than memory.
     #[error("refused by the link: {0}")]
     Link(LinkFault),
-    /// SABM or DISC would be sent while an earlier one of that end, or an answer to one, is in flight. The world has
+    /// SABM, SABME or DISC would be sent while an earlier one of that end, or an answer to one, is in flight. The world has
     /// stopped: every later event is refused so.
     #[error("event {index} enters a channel that is not quiet")]
     NotQuiet {

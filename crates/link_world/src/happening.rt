@@ -1,11 +1,10 @@
 //! One event at an end, and what it changes there and on the way to the partner.
-ghost use Rattle.std.specs.Prelude.{◌≡◌, ℕ, ◌+◌, ◌≤◌, false, drop, length, Err, IfOk, IfErr};
-ghost use Rattle.std.specs.VecDeque.{deque_len, deque_capacity};
+ghost use Rattle.std.specs.Prelude.{◌≡◌, ℕ, ◌≤◌, ◌⊎◌, false, drop, length, Err, IfOk, IfErr, OnErr};
 ghost use Rattle.link_world.specs.declared.event.Event.TheVariants.{Hear, Lose};
 ghost use Rattle.link_world.specs.declared.end.End.{End as AnyEnd};
 ghost use Rattle.link_world.specs.World.{World as State, end_of};
 ghost use Rattle.link_world.specs.Faults.{is_there};
-ghost use Rattle.link_world.specs.Held.{event_of, side_at, IsSide, AreSides, StandForBoth, MadeStep, IsRefusal, IsKept, MadeStepOf, IsRefusalOf, AreKept, Flew, Stayed, asking_frames};
+ghost use Rattle.link_world.specs.Held.{event_of, side_at, IsSide, AreSides, StandForBoth, MadeStep, IsRefusal, IsKept, MadeStepOf, IsRefusalOf, Flew, Stayed, asking_frames};
 
 use crate::end::End;
 use crate::event::Event;
@@ -13,8 +12,7 @@ use crate::fault::WorldFault;
 use crate::flight::asks;
 use crate::request::Request;
 use crate::side::Side;
-use ax25_frames::Frame;
-use link_machine::{Acts, Told};
+use link_machine::{Acts, SentFrame, Told};
 use std::alloc::Global;
 
 /// Lets the event with this number happen at its end.
@@ -31,7 +29,7 @@ pub(crate) fn happen(
     ensures refused { (w : State) → StandForBoth a.old b.old w → IfErr result (IsRefusalOf event number w) }
     ensures nothing_there { is_there event (length (side_at (end_of event) a.old b.old).towards.items) ≡ false
         → result ≡ Err WorldFault.NothingThere }
-    ensures kept { IfErr result (λ fault. AreKept number fault a.old b.old a.new b.new) }
+    ensures kept { OnErr result (IsKept a.old b.old a.new b.new) }
     ensures formed { AreSides a.new b.new }
 {
     match event.end() {
@@ -54,7 +52,7 @@ fn happen_near(
     ensures refused { (w : State) → StandForBoth near.old far.old w → IfErr result (IsRefusal event number w) }
     ensures nothing_there { is_there event (length near.old.towards.items) ≡ false
         → result ≡ Err WorldFault.NothingThere }
-    ensures kept { IfErr result (λ fault. IsKept number fault near.old far.old near.new far.new) }
+    ensures kept { OnErr result (IsKept near.old far.old near.new far.new) }
     ensures formed { AreSides near.new far.new }
 {
     match event {
@@ -62,12 +60,12 @@ fn happen_near(
         Event::Send(_, packet) => take(near, far, Request::Send(packet), number),
         Event::Disconnect(_) => take(near, far, Request::Disconnect, number),
         Event::Tick(_, waiting) => take(near, far, Request::Tick(waiting), number),
-        Event::Hear(_) => hear(near, far, number),
+        Event::Hear(_) => hear(alloc, near, far, number),
         Event::Lose(_, index) => lose(alloc, near, far, index, number),
     }
 }
 
-/// Lets the end's link take a request or a tick.
+/// Lets the end's link take a request or a tick. A copy takes it, and becomes the link once its frames are on their way.
 fn take(
     near: &mut Side,
     far: &mut Side,
@@ -79,12 +77,14 @@ fn take(
         → IfOk result (λ told. MadeStep (event_of request end) number w near.new far.new told.items) }
     ensures refused { (w : State) (end : AnyEnd) → StandForBoth near.old far.old w
         → IfErr result (IsRefusal (event_of request end) number w) }
-    ensures kept { IfErr result (λ fault. IsKept number fault near.old far.old near.new far.new) }
+    ensures kept { OnErr result (IsKept near.old far.old near.new far.new) }
     ensures formed { AreSides near.new far.new }
 {
-    far.make_room()?;
-    let acts = request.ask(&mut near.link)?;
-    deliver(near, far, acts, 0, false, number)
+    let mut link = near.link.copy()?;
+    let acts = request.ask(&mut link)?;
+    let told = deliver(near, far, acts, 0, false, number)?;
+    near.link = link;
+    Ok(told)
 }
 
 /// Loses a frame in flight towards the end.
@@ -101,7 +101,7 @@ fn lose(
     ensures refused { (w : State) (end : AnyEnd) → StandForBoth near.old far.now w
         → IfErr result (IsRefusal (Lose end index) number w) }
     ensures nothing_there { length near.old.towards.items ≤ index → result ≡ Err WorldFault.NothingThere }
-    ensures kept { IfErr result (λ fault. IsKept number fault near.old far.now near.new far.now) }
+    ensures kept { OnErr result (IsKept near.old far.now near.new far.now) }
     ensures formed { IsSide near.new }
 {
     if near.towards.remove(index).is_none() {
@@ -110,34 +110,40 @@ fn lose(
     Ok(Vec::new(alloc))
 }
 
-/// Lets the end hear the frame at the front. Where that is refused, the frame stays there.
-fn hear(near: &mut Side, far: &mut Side, number: u64) -> Result<Vec<Told>, WorldFault>
+/// Lets the end hear the frame at the front, as its link reads it; one that it refuses is passed over. A copy of the link
+/// hears it, and becomes the link once its frames are on their way.
+fn hear(
+    alloc: Global,
+    near: &mut Side,
+    far: &mut Side,
+    number: u64,
+) -> Result<Vec<Told>, WorldFault>
     requires { AreSides near.old far.old }
     ensures step { (w : State) (end : AnyEnd) → StandForBoth near.old far.old w
         → IfOk result (λ told. MadeStep (Hear end) number w near.new far.new told.items) }
     ensures refused { (w : State) (end : AnyEnd) → StandForBoth near.old far.old w
         → IfErr result (IsRefusal (Hear end) number w) }
     ensures nothing_there { length near.old.towards.items ≡ 0 → result ≡ Err WorldFault.NothingThere }
-    ensures kept { IfErr result (λ fault. IsKept number fault near.old far.old near.new far.new) }
+    ensures kept { OnErr result (IsKept near.old far.old near.new far.new) }
     ensures formed { AreSides near.new far.new }
 {
     let Some(heard) = near.towards.front() else {
         return Err(WorldFault::NothingThere);
     };
-    far.make_room()?;
-    let on_ask = asks(&heard.frame.kind);
-    let acts = near.link.frame(&heard.frame)?;
-    match deliver(near, far, acts, 1, on_ask, number) {
-        Ok(told) => {
-            let _ = near.towards.pop_front();
-            Ok(told)
-        }
-        Err(fault) => Err(fault),
-    }
+    let Some(frame) = heard.read_in(alloc, near.link.modulus())? else {
+        let _ = near.towards.pop_front();
+        return Ok(Vec::new(alloc));
+    };
+    let mut link = near.link.copy()?;
+    let acts = link.frame(&frame)?;
+    let told = deliver(near, far, acts, 1, asks(&frame.kind), number)?;
+    let _ = near.towards.pop_front();
+    near.link = link;
+    Ok(told)
 }
 
-/// Sends what a link sent on its way to `far`, where `heard` of the frames towards `near` were heard. A SABM or DISC is
-/// refused unless it is alone.
+/// Sends what a link sent on its way to `far`, where `heard` of the frames towards `near` were heard. A SABM, SABME or DISC
+/// is refused unless it is alone.
 fn deliver(
     near: &Side,
     far: &mut Side,
@@ -146,24 +152,28 @@ fn deliver(
     on_ask: bool,
     number: u64,
 ) -> Result<Vec<Told>, WorldFault>
-    requires { deque_len far.old.towards + length acts.frames ≤ deque_capacity far.old.towards }
     ensures flew { IfOk result (λ told.
         Flew acts on_ask far.old.towards.items (drop heard near.now.towards.items) far.new.towards.items told.items) }
-    ensures stayed { IfErr result
-        (Stayed acts number far.old.towards.items (drop heard near.now.towards.items) far.new.towards.items) }
+    ensures stayed { IfErr result (λ fault. (fault ≡ WorldFault.Memory)
+        ⊎ Stayed acts number far.old.towards.items (drop heard near.now.towards.items) fault) }
+    ensures towards { OnErr result (far.new.towards.items ≡ far.old.towards.items) }
     ensures link { far.new.link ≡ far.old.link }
 {
     let sent = asking_frames(&acts.frames);
     if sent > 0 && sent + far.asking() + near.answering(heard) != 1 {
         return Err(WorldFault::NotQuiet { index: number });
     }
+    far.make_room(acts.frames.len())?;
     far.append(acts.frames, on_ask);
     Ok(acts.told)
 }
 
-/// How many SABM and DISC are among the frames.
-fn asking_frames(frames: &[Frame]) -> usize
+/// How many SABM, SABME and DISC are among the frames.
+fn asking_frames(frames: &[SentFrame]) -> usize
     ensures { result ≡ asking_frames frames.now }
 {
-    frames.iter().filter(|frame| asks(&frame.kind)).count()
+    frames
+        .iter()
+        .filter(|sent| asks(&sent.frame.kind))
+        .count()
 }

@@ -2,20 +2,16 @@
 ghost use Rattle.std.specs.Prelude.{◌≡◌, ℕ, ◌+◌, ◌≤◌, ◌↔◌, ◌++◌, [], ◌⊎◌, true, false, map, drop, length, IfOk, IfErr, OnOk, OnErr};
 ghost use Rattle.std.specs.Result.{IsErrOf};
 ghost use Rattle.std.specs.VecDeque.{deque_len, deque_capacity};
-ghost use Rattle.selective_reject.specs.Window.{IsBadWindow};
+ghost use Rattle.link_machine.specs.Params.{IsRefusedWindow};
 ghost use Rattle.link_world.specs.World.{new_side};
-ghost use Rattle.link_world.specs.Held.{IsSide, StandsForSide, flying, asking, answering, most_frames};
+ghost use Rattle.link_world.specs.Held.{IsSide, StandsForSide, flying, asking, answering};
 
 use crate::flight::{InFlight, asks, is_answer};
 use ax25_address::Path;
-use ax25_frames::Frame;
-use link_machine::{Link, NewFault, Params};
+use link_machine::{Link, NewFault, Params, SentFrame};
 use std::alloc::Global;
 use std::collections::VecDeque;
 use tnc_base::OutOfMemory;
-
-/// The most frames that a link sends in one event: its window of I frames, as many SREJ, and a few more.
-const MOST_FRAMES: usize = 16;
 
 /// An end's link, and the frames in flight towards it, the earliest first.
 #[derive(Drop)]
@@ -30,7 +26,7 @@ impl Side {
         ensures stands_for { IfOk result (λ side. StandsForSide side (new_side path params)) }
         ensures formed { IfOk result IsSide }
         ensures bad_window { (window : ℕ) → IsErrOf result (NewFault.BadWindow window)
-            ↔ ((window ≡ params.window) × IsBadWindow 8 params.window params.mode) }
+            ↔ IsRefusedWindow params window }
     {
         match Link::new(alloc, params, path) {
             Ok(link) => Ok(Side {
@@ -41,21 +37,21 @@ impl Side {
         }
     }
 
-    /// Takes room for what an event may send towards it.
-    pub(crate) fn make_room(&mut self) -> Result<(), OutOfMemory>
+    /// Takes room for so many more frames towards it.
+    pub(crate) fn make_room(&mut self, count: usize) -> Result<(), OutOfMemory>
         ensures link { self.new.link ≡ self.old.link }
         ensures towards { self.new.towards.items ≡ self.old.towards.items }
-        ensures room { OnOk result (deque_len self.new.towards + most_frames ≤ deque_capacity self.new.towards) }
+        ensures room { OnOk result (deque_len self.new.towards + count ≤ deque_capacity self.new.towards) }
     {
-        self.towards.reserve(MOST_FRAMES)?;
+        self.towards.reserve(count)?;
         Ok(())
     }
 
-    /// How many SABM and DISC are in flight towards it.
+    /// How many SABM, SABME and DISC are in flight towards it.
     pub(crate) fn asking(&self) -> usize
         ensures { result ≡ asking self.now.towards.items }
     {
-        self.towards.iter().filter(|f| asks(&f.frame.kind)).count()
+        self.towards.iter().filter(|f| asks(&f.sent.frame.kind)).count()
     }
 
     /// How many answers to one are in flight towards it, behind the first `heard` frames.
@@ -70,14 +66,14 @@ impl Side {
     }
 
     /// Puts the frames behind those in flight towards it.
-    pub(crate) fn append(&mut self, frames: Vec<Frame>, on_ask: bool)
+    pub(crate) fn append(&mut self, frames: Vec<SentFrame>, on_ask: bool)
         requires { deque_len self.old.towards + length frames.items ≤ deque_capacity self.old.towards }
         ensures link { self.new.link ≡ self.old.link }
         ensures towards { self.new.towards.items ≡ self.old.towards.items ++ map (flying on_ask) frames.items }
     {
-        for frame in frames {
-            let answers = on_ask && is_answer(&frame.kind);
-            self.towards.push_back_reserved(InFlight { frame, answers });
+        for sent in frames {
+            let answers = on_ask && is_answer(&sent.frame.kind);
+            self.towards.push_back_reserved(InFlight { sent, answers });
         }
     }
 }

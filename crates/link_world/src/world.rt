@@ -1,6 +1,7 @@
 //! Two links and the frames in flight between them.
 ghost use Rattle.std.specs.Prelude.{◌≡◌, ℕ, ◌+◌, ◌-◌, ◌^◌, ◌⊎◌, ◌↔◌, ◌≤◌, min, length, false, Ok, Err, Some, None, IfOk, IfErr, OnOk, OnErr};
 ghost use Rattle.std.specs.Result.{IsErrOf};
+ghost use Rattle.link_machine.specs.Params.{HasWindows, IsRefusedWindow};
 ghost use Rattle.link_world.specs.Held.{stop_of};
 
 use crate::end::End;
@@ -40,7 +41,7 @@ impl Model for World {
 }
 
 impl World {
-    ghost use Rattle.selective_reject.specs.Window.{IsBadWindow, IsWindow};
+    ghost use Rattle.link_world.specs.StandsFor.{IsAlike};
     ghost use Rattle.link_world.specs.World.{World as State, first_world, step, told_by, towards, end_of};
     ghost use Rattle.link_world.specs.Faults.{cause_in, is_there};
     ghost use Rattle.link_world.specs.StandsFor.{StandsFor};
@@ -52,15 +53,10 @@ impl World {
         ensures stands_for { IfOk result (λ world. StandsFor world (first_world a b)) }
         ensures running { IfOk result (λ world. (world.calls ≡ 0) × (world.stopped ≡ None)) }
         ensures bad_window { (window : ℕ) → IsErrOf result (NewFault.BadWindow window)
-            ↔ ((window ≡ a.window) × IsBadWindow 8 a.window a.mode)
-            ⊎ (IsWindow 8 a.window a.mode × (window ≡ b.window) × IsBadWindow 8 b.window b.mode) }
+            ↔ IsRefusedWindow a window ⊎ (HasWindows a × IsRefusedWindow b window) }
     {
-        if let Err(bad) = check_window(8, a.window, a.mode) {
-            return Err(NewFault::BadWindow { window: bad.window });
-        }
-        if let Err(bad) = check_window(8, b.window, b.mode) {
-            return Err(NewFault::BadWindow { window: bad.window });
-        }
+        check_windows(&a)?;
+        check_windows(&b)?;
         let Ok(a) = Side::new(alloc, a, End::A.path()) else {
             return Err(NewFault::Memory);
         };
@@ -77,13 +73,16 @@ impl World {
     }
 
     /// Makes an event of one end, and answers what the end was told. The refusals come in the order of [`WorldFault`],
-    /// and after each no frame in flight was added, heard or lost. A refused request and want of memory leave the link
-    /// as it was. Once the channel was not quiet the world has stopped, and refuses every event alike.
+    /// and each leaves both links and all frames in flight as they were. Once the channel was not quiet the world has
+    /// stopped, and refuses every event alike.
     pub fn apply(&mut self, event: Event) -> Result<Vec<Told>, WorldFault>
         // Where the links and the frames stand for a world, the event is the step of that world.
         ensures stands_for { (w : State) → StandsFor self.old w → OnOk result (StandsFor self.new (step w event)) }
         ensures told { (w : State) → StandsFor self.old w → IfOk result (λ told. told.items ≡ told_by w event) }
         ensures unchanged { (w : State) → StandsFor self.old w → OnErr result (StandsFor self.new w) }
+
+        // What is refused leaves the links, the frames in flight and the one to be heard as they were.
+        ensures kept { OnErr result (IsAlike self.old self.new) }
 
         // It is refused exactly where there is a cause, or memory was not given.
         ensures refused { (w : State) (fault : WorldFault) → StandsFor self.old w
@@ -118,6 +117,21 @@ impl World {
             End::B => self.b.towards.len(),
         }
     }
+}
+
+/// Refuses the first window of an end that does not fit its modulus.
+fn check_windows(params: &Params) -> Result<(), NewFault>
+    ensures windows { OnOk result (HasWindows params.now) }
+    ensures bad_window { (window : ℕ) → IsErrOf result (NewFault.BadWindow window)
+        ↔ IsRefusedWindow params.now window }
+{
+    if let Err(bad) = check_window(8, params.window, params.mode) {
+        return Err(NewFault::BadWindow { window: bad.window });
+    }
+    if let Err(bad) = check_window(128, params.wide_window, params.mode) {
+        return Err(NewFault::BadWindow { window: bad.window });
+    }
+    Ok(())
 }
 
 /// The number of the event that found the channel not quiet, by what it answered.
