@@ -5,7 +5,6 @@ use Rattle.std.proofs.lemmas.Bool.{cases_lt}
 use Rattle.tnc_base.specs.Streams.{WrotePart}
 use Rattle.frame_merge.specs.Merged.{merged}
 use Rattle.slicer_bank.proofs.SomeList.{some_list}
-use Rattle.afsk_modulator.specs.Signal.{signal}
 use Rattle.clean_signal.specs.TrueEnds.{true_ends}
 use Rattle.tnc_words.specs.declared.command.Command.{Command}
 use Rattle.tnc_words.specs.declared.command.Command.TheVariants.{Decode, Encode, Show, Loop}
@@ -24,7 +23,7 @@ use Rattle.tnc_encode.specs.Encoded.{encoded, encoded_before}
 use Rattle.tnc_encode.proofs.EncodedLemmas.{part_before}
 use Rattle.tnc_loop.specs.declared.fault.LoopFault.{LoopFault}
 use Rattle.tnc_loop.specs.declared.fault.LoopFault.TheVariants.{Stray as LoopStray, Memory as LoopMemory, Write as LoopWrite}
-use Rattle.tnc_loop.specs.Drawn.{drawn}
+use Rattle.tnc_loop.specs.Drawn.{drawn, samples_drawn}
 use Rattle.tnc_loop.specs.Summary.{IsSummary, summary_of}
 use Rattle.tnc_main.specs.declared.status.Status.{Status}
 use Rattle.tnc_main.specs.declared.stop.Stop.{Stop}
@@ -41,7 +40,7 @@ some_decoded words octets =
 
 pub some_summary : (words : LoopWords) → (text : List ℕ) × IsSummary words text
 some_summary words =
-    let found = some_list (signal (drawn words)) in
+    let found = some_list (samples_drawn words) in
     (summary_of words.frames (true_ends (drawn words)) found.0, record { candidates = found.0; are = found.1; is = refl })
 
 -- a text begins itself

@@ -9,11 +9,10 @@ use Rattle.tnc_decode.specs.Audio.{audio_fault}
 use Rattle.tnc_decode.specs.Decoded.{IsDecoded}
 use Rattle.tnc_encode.specs.Encoded.{encoded, encoded_before, encode_fault}
 use Rattle.tnc_show.specs.Shown.{IsShown, show_fault}
-use Rattle.afsk_modulator.specs.Signal.{signal}
 use Rattle.clean_signal.specs.GoodTransmission.{frames_of}
 use Rattle.clean_signal.specs.MergedFrames.{MergesTo}
 use Rattle.clean_signal.specs.Stray.{NoStray}
-use Rattle.tnc_loop.specs.Drawn.{drawn}
+use Rattle.tnc_loop.specs.Drawn.{drawn, samples_drawn}
 use Rattle.tnc_loop.specs.Summary.{IsSummary, IsFirstStray}
 
 -- a command has these octets to read, of those that its input has left: loop reads none
@@ -63,5 +62,5 @@ pub record IsFaultless (command : Command) (octets : List ℕ) : Type 0 where
 
 -- no candidate of what a loop sent to itself is stray, and what it heard is what it made, in order
 pub record HeardAsMade (words : LoopWords) : Type 0 where
-  pub no_stray : NoStray (drawn words) (signal (drawn words))
-  pub heard : MergesTo (frames_of (drawn words)) (signal (drawn words))
+  pub no_stray : NoStray (drawn words) (samples_drawn words)
+  pub heard : MergesTo (frames_of (drawn words)) (samples_drawn words)
