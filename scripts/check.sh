@@ -174,6 +174,12 @@ loops() {
         && cmp -s "$room/output" <(printf 'frames 20\nheard 20\nstray 0\nhash 3c053d315c843125\n')
 }
 
+# A loop on a signal that is not clean.
+loops_roughly() {
+    answers 0 "" loop --seed 7 --frames 20 --rough </dev/null \
+        && cmp -s "$room/output" <(printf 'frames 20\nheard 20\nstray 0\nhash a3787c7f30285198\n')
+}
+
 # The frames that Dire Wolf's atest hears in a WAV file, as lines of hexadecimal digits.
 heard_by_atest() {
     atest -B 1200 -h "$1" | sed 's/\x1b\[[0-9;]*[A-Za-z]//g' | awk '
@@ -235,7 +241,8 @@ for raw in samples/*.raw; do
     else
         skip "WAV files of $raw" sox
     fi
-    for words in "" --join "--silence 5" "--opening 2 --closing 1" "--join --silence 1001 --closing 9"; do
+    for words in "" --join "--silence 5" "--opening 2 --closing 1" "--join --silence 1001 --closing 9" "--level 10" \
+        "--level 32767"; do
         check "encode $words of $of.frames, and back" comes_back "$of.frames" $words
         check "encode --wav $words of $of.frames, and back" comes_back_from_wav "$of.frames" $words
     done
@@ -249,6 +256,7 @@ for frames in samples/*.frames; do
     if has sox atest; then
         check "encode of $frames, heard by atest" is_heard_by_atest "$frames"
         check "encode --join of $frames, heard by atest" is_heard_by_atest "$frames" --join
+        check "encode --level 10 of $frames, heard by atest" is_heard_by_atest "$frames" --level 10
     else
         skip "encode of $frames, heard by atest" "sox or atest"
     fi
@@ -278,12 +286,13 @@ check "a line with an odd digit" is_bad_line 0 "odd line" 9c6
 check "a line of 14 octets" is_bad_line 0 "short line" 9c6e988a9a40e0ac9664848484e1
 check "a line of 1025 octets" is_bad_line 0 "long line" "$(printf '%02050d' 0)"
 check "a loop" loops
+check "a rough loop" loops_roughly
 
 # Words that are refused, and streams that fail.
 check "a word that is no command" is_refused decod
 check "no word" is_refused
 for words in "decode --rate 48000" "decode --wav=yes" "decode recording.raw" "decode --help" "--version" \
-    "encode --opening 1" "encode --silence 1000001" "show --modulo 16" "loop --seed 7" "loop --seed 7 --frames 1001"; do
+    "encode --opening 1" "encode --silence 1000001" "encode --level 9" "encode --level 32768" "show --modulo 16" "loop --seed 7" "loop --seed 7 --frames 1001"; do
     check "$words" is_refused $words
 done
 check "decode to a full disk" cannot_write decode <samples/direwolf-clean.raw
