@@ -160,7 +160,8 @@ fn deliver(
     ensures link { far.new.link ≡ far.old.link }
 {
     let sent = asking_frames(&acts.frames);
-    if sent > 0 && sent + far.asking() + near.answering(heard) != 1 {
+    let ahead = far.asking().saturating_add(near.answering(heard));
+    if sent > 0 && sent.saturating_add(ahead) != 1 {
         return Err(WorldFault::NotQuiet { index: number });
     }
     far.make_room(acts.frames.len())?;

@@ -1,24 +1,68 @@
-use Rattle.std.proofs.Common.{rules, ◌≡◌, ℕ, ◌≤◌, ◌⊎◌, false, drop, length, Err, IfOk, IfErr, OnErr, ◌+◌, ◌-◌, ◌*◌, ◌<◌, ◌/◌, ◌%◌, Bool, true, nat_eq, nat_lt, List, [], ◌∷◌, ◌++◌, slice_index_or, slice_set, bit_and, bit_or, Fits, w8, w32, w64, Bor, MutBor}
-use Rattle.link_world.specs.declared.event.Event.TheVariants.{Hear, Lose}
-use Rattle.link_world.specs.declared.end.End.{End as AnyEnd}
-use Rattle.link_world.specs.World.{World as State}
-use Rattle.link_world.specs.World.{end_of}
-use Rattle.link_world.specs.Faults.{is_there}
-use Rattle.link_world.specs.Held.{event_of, side_at, IsSide, AreSides, StandForBoth, MadeStep, IsRefusal, IsKept, MadeStepOf, IsRefusalOf, Flew, Stayed, asking_frames}
+use Rattle.std.proofs.Common.{◌≡◌, false, sym, subst, inl, inr, refl, rules, tests}
+use Rattle.link_machine.specs.declared.machine.Machine.{Machine as HeldLink}
+use Rattle.link_machine.specs.StandsFor.{StandsFor as LinkStandsFor}
+use Rattle.link_machine.specs.Step.{refusal_of}
+use Rattle.link_world.specs.declared.side.Side.{Side as HeldSide}
+use Rattle.link_world.specs.Held.{event_of, seen_of, IsRefusal}
+use Rattle.link_world.proofs.Counting.{Steps, near_formed, far_formed}
+use Rattle.link_world.proofs.Sides.{asked_made, asked_noisy, not_refused}
 use Rattle.link_world.proofs.happening.take.Goals as goal
 
--- src/happening.rt:84:16
 pub returns-in_err-acts-clause-refused : goal.returns-in_err-acts-clause-refused
-returns-in_err-acts-clause-refused c = ?
+returns-in_err-acts-clause-refused c = λ w end both.
+    let copied : c.in_ok-link.link ≡ c.args.near.now.link = c.in_ok-link.ensures in
+    let stands : LinkStandsFor c.in_ok-link.link w.a.end.machine =
+    subst (λ (l : HeldLink). LinkStandsFor l w.a.end.machine) (sym copied) both.of_near.link in
+    let cause = c.in_err-acts.ensures.fault w.a.end.machine stands in
+    search (rules, tests)
 
--- src/happening.rt:85:16
 pub returns-in_err-told-clause-refused : goal.returns-in_err-told-clause-refused
-returns-in_err-told-clause-refused c = ?
+returns-in_err-told-clause-refused c = λ w end both.
+    let event = seen_of c.args.request in
+    let copied : c.in_ok-link.link ≡ c.args.near.now.link = c.in_ok-link.ensures in
+    let steps : Steps event c.args.near.now.link c.ask.new.link c.in_ok-acts.acts =
+    subst (λ (l : HeldLink). Steps event l c.ask.new.link c.in_ok-acts.acts) copied
+    (record { does = c.in_ok-acts.ensures.step; stands = c.in_ok-acts.ensures.stands_for }) in
+    let near : HeldSide = record { link = c.ask.new.link; towards = c.args.near.now.towards } in
+    let stands : LinkStandsFor c.in_ok-link.link w.a.end.machine =
+    subst (λ (l : HeldLink). LinkStandsFor l w.a.end.machine) (sym copied) both.of_near.link in
+    let free =
+    not_refused c.ask.result c.in_ok-acts.acts (refusal_of w.a.end.machine event)
+    (λ fault e. c.ask.ensures.refused w.a.end.machine fault stands e) c.in_ok-acts.was in
+    let cause : IsRefusal (event_of c.args.request end) c.args.number w c.in_err-told.field-0.0 =
+    elim c.in_err-told.ensures.stayed [
+      | inl memory ↦ inl memory
+      | inr stayed ↦ inr (asked_noisy c.args.request end c.args.number w c.args.near.now near c.args.far.now
+          c.in_ok-acts.acts c.in_err-told.field-0.0 both steps free stayed)
+    ] in
+    search (rules, tests)
 
--- src/happening.rt:69:1
 pub returns-clause-step : goal.returns-clause-step
-returns-clause-step c = ?
+returns-clause-step c = λ w end both.
+    let event = seen_of c.args.request in
+    let copied : c.in_ok-link.link ≡ c.args.near.now.link = c.in_ok-link.ensures in
+    let steps : Steps event c.args.near.now.link c.ask.new.link c.in_ok-acts.acts =
+    subst (λ (l : HeldLink). Steps event l c.ask.new.link c.in_ok-acts.acts) copied
+    (record { does = c.in_ok-acts.ensures.step; stands = c.in_ok-acts.ensures.stands_for }) in
+    let near : HeldSide = record { link = c.ask.new.link; towards = c.args.near.now.towards } in
+    let stands : LinkStandsFor c.in_ok-link.link w.a.end.machine =
+    subst (λ (l : HeldLink). LinkStandsFor l w.a.end.machine) (sym copied) both.of_near.link in
+    let free =
+    not_refused c.ask.result c.in_ok-acts.acts (refusal_of w.a.end.machine event)
+    (λ fault e. c.ask.ensures.refused w.a.end.machine fault stands e) c.in_ok-acts.was in
+    asked_made c.args.request end c.args.number w c.args.near.now c.args.far.now near c.deliver.new.far c.in_ok-acts.acts
+    c.in_ok-told.told.items both steps free refl c.in_ok-told.ensures.link c.in_ok-told.ensures.flew
 
--- src/happening.rt:69:1
 pub returns-clause-formed : goal.returns-clause-formed
-returns-clause-formed c = ?
+returns-clause-formed c =
+    let event = seen_of c.args.request in
+    let copied : c.in_ok-link.link ≡ c.args.near.now.link = c.in_ok-link.ensures in
+    let steps : Steps event c.args.near.now.link c.ask.new.link c.in_ok-acts.acts =
+    subst (λ (l : HeldLink). Steps event l c.ask.new.link c.in_ok-acts.acts) copied
+    (record { does = c.in_ok-acts.ensures.step; stands = c.in_ok-acts.ensures.stands_for }) in
+    let near : HeldSide = record { link = c.ask.new.link; towards = c.args.near.now.towards } in
+    record {
+      of_near = near_formed event c.args.near.now near c.in_ok-acts.acts c.requires.of_near steps c.requires.of_near.frames;
+      of_far = far_formed event false c.args.near.now near c.args.far.now c.deliver.new.far c.in_ok-acts.acts
+          c.requires.of_near c.requires.of_far steps c.in_ok-told.ensures.link c.in_ok-told.ensures.flew.towards;
+    }
