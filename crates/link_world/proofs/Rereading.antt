@@ -251,9 +251,9 @@ reads_frame written read frame g octets answer is low reading ok = go (kind_read
         (subst (λ a. IfOk a (λ x. IsFrame x read octets)) ok reading.frame))
     go (Some kind) e = elim (reading.each_frame (record frame { kind = kind })
         (frame_by written read frame octets is low kind e)) [
-      | inl same ↦ some_same (record frame { kind = kind }) g answer same ok
-      | inr memory ↦ absurd (ok_is_no_err g Memory answer ok memory)
-    ]
+          | inl same ↦ some_same (record frame { kind = kind }) g answer same ok
+          | inr memory ↦ absurd (ok_is_no_err g Memory answer ok memory)
+        ]
 
 fault_same :
     (fault other : FrameFault) (answer : Result Frame FrameFault) → answer ≡ Err fault → answer ≡ Err other → fault ≡ other
@@ -271,6 +271,6 @@ reads_none written read frame fault octets answer is low reading err other =
     go None e = refl
     go (Some kind) e = elim (reading.each_frame (record frame { kind = kind })
         (frame_by written read frame octets is low kind e)) [
-      | inl same ↦ absurd (ok_is_no_err (record frame { kind = kind }) fault answer same err)
-      | inr memory ↦ absurd (other (fault_same fault Memory answer err memory))
-    ]
+          | inl same ↦ absurd (ok_is_no_err (record frame { kind = kind }) fault answer same err)
+          | inr memory ↦ absurd (other (fault_same fault Memory answer err memory))
+        ]

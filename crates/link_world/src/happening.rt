@@ -173,8 +173,5 @@ fn deliver(
 fn asking_frames(frames: &[SentFrame]) -> usize
     ensures { result ≡ asking_frames frames.now }
 {
-    frames
-        .iter()
-        .filter(|sent| asks(&sent.frame.kind))
-        .count()
+    frames.iter().filter(|sent| asks(&sent.frame.kind)).count()
 }

@@ -51,7 +51,10 @@ impl Side {
     pub(crate) fn asking(&self) -> usize
         ensures { result ≡ asking self.now.towards.items }
     {
-        self.towards.iter().filter(|f| asks(&f.sent.frame.kind)).count()
+        self.towards
+            .iter()
+            .filter(|f| asks(&f.sent.frame.kind))
+            .count()
     }
 
     /// How many answers to one are in flight towards it, behind the first `heard` frames.

@@ -117,8 +117,7 @@ windows_of a b w fit s =
       own = subst (λ k. k < i.modulus) (sym own) (window_below a i.modulus is fit.of_a);
       sender = subst (λ k. k < i.modulus) (sym sender) (window_below b i.modulus is fit.of_b);
       halves = λ mode. let half = fit.halves (inl (sym (s.near_sound.mode ∙ ap (λ (p : Params). p.mode) s.near_params)
-          ∙ mode)) in
-          (
+          ∙ mode)) in (
             subst (λ k. k + k ≤ i.modulus) (sym own) (window_half a i.modulus is half.0),
             subst (λ k. k + k ≤ i.modulus) (sym sender) (window_half b i.modulus is half.1),
           );
