@@ -5,11 +5,11 @@
   scripts/nearness.py NAME.raw ..     for others, each beside its NAME.frames
 
 A transmission is near where at some place, from one of the six phases at which a bit can begin and at some level, each
-sample is within a tenth of that level of the wave of two flags, the frame and a flag. Nothing is shared with the program:
-each frame is looked for by a plain comparison of both tones in every window, at all eight offsets. A row tells how many
-frames there are, how many were found so, and how many are near. For those found it tells the error that would have to be
-allowed in place of a tenth, as a share of the level: the least and the median over the frames, from any of the 48 phases.
-Last it tells how many windows are within a tenth where each window may begin at a phase of its own."""
+sample is within a tenth of that level of the wave of two flags, the frame and a flag, on a line that stands at mark. Nothing
+is shared with the program: each frame is looked for by a plain comparison of both tones in every window, at all eight
+offsets. A row tells how many frames there are, how many were found so, and how many are near; and how many would be, if the
+wave might begin at any of the 48 phases and the line stand at either tone. For those found it tells the least error that
+would then have to be allowed in place of a tenth, as a share of the level: the least and the median over the frames."""
 import array
 import cmath
 import glob
@@ -106,44 +106,38 @@ def level_of(samples):
     return math.sqrt(2 * sum(x * x for x in samples) / len(samples))
 
 
-def error_of(samples, wave, level):
-    """The greatest distance of a sample from the wave at a level, as a share of it."""
-    return max(abs(10000 * x - level * w) for x, w in zip(samples, wave)) / (10000 * level)
-
-
-def own_windows(samples, tones, level):
-    """How many windows are within a tenth, each from a phase of its own."""
-    waves = {tone: [wave_of([tone], phase) for phase in range(48)] for tone in (MARK, SPACE)}
-    count = 0
-    for k, tone in enumerate(tones):
-        window = samples[WINDOW * k:WINDOW * (k + 1)]
-        count += any(error_of(window, wave, level) <= 0.1 for wave in waves[tone])
-    return count
+def error_of(samples, wave, level, least):
+    """The greatest distance of a sample from the wave at a level, as a share of it, or `least` if that is less."""
+    most = 0
+    for x, w in zip(samples, wave):
+        most = max(most, abs(10000 * x - level * w))
+        if most >= least * 10000 * level:
+            return least
+    return most / (10000 * level)
 
 
 def frame_row(samples, heard, octets):
-    """Whether a frame is near, the least error that it asks for, and its windows within a tenth; nothing if not found."""
+    """Whether a frame is near, and the least error that it asks for from any phase and tone; nothing if not found."""
     tones = tones_of(FLAG + FLAG + frame_bits(octets) + FLAG)
     sent = bits_of(tones)
     waves = [wave_of(tones, phase) for phase in range(48)]
-    near, least, best = False, math.inf, None
+    others = [wave_of([MARK + SPACE - tone for tone in tones], phase) for phase in range(48)]
+    near, least = False, math.inf
     for offset, bits in enumerate(heard):
         place = bits.find(sent)
         while place >= 0:
             start = offset + WINDOW * place
             part = samples[start:start + WINDOW * len(tones)]
             near = near or any(level_within(part, wave) for wave in waves[::8])
-            error = min(error_of(part, wave, level_of(part)) for wave in waves)
-            if error < least:
-                least, best = error, part
+            level = level_of(part)
+            for wave in waves + others:
+                least = error_of(part, wave, level, least)
             place = bits.find(sent, place + 1)
-    if best is None:
-        return None
-    return near, least, own_windows(best, tones, level_of(best)), len(tones)
+    return None if math.isinf(least) else (near, least)
 
 
 def main(names):
-    print(f"{'recording':22}{'frames':>7}{'found':>7}{'near':>6}{'least':>8}{'median':>8}{'own windows':>18}")
+    print(f"{'recording':22}{'frames':>7}{'found':>7}{'near':>6}{'any start':>11}{'least':>8}{'median':>8}")
     for name in names:
         samples = array.array("h")
         with open(name, "rb") as raw:
@@ -162,9 +156,8 @@ def main(names):
             print(f"{label:22}{len(frames):7}{0:7}{0:6}")
             continue
         shares = [row[1] for row in rows]
-        windows = f"{sum(row[2] for row in rows)} of {sum(row[3] for row in rows)}"
-        print(f"{label:22}{len(frames):7}{len(rows):7}{sum(row[0] for row in rows):6}{min(shares):8.2f}"
-              f"{statistics.median(shares):8.2f}{windows:>18}")
+        print(f"{label:22}{len(frames):7}{len(rows):7}{sum(row[0] for row in rows):6}"
+              f"{sum(error <= 0.1 for error in shares):11}{min(shares):8.2f}{statistics.median(shares):8.2f}")
 
 
 if __name__ == "__main__":
