@@ -1,28 +1,34 @@
 -- Worked examples of two links, by computation.
-use Rattle.std.specs.Prelude.{◌≡◌, ℕ, true, false, List, [], ◌∷◌, ◌++◌, map, replicate, length, refl, Some}
+use Rattle.std.specs.Prelude.{◌≡◌, ℕ, true, false, List, [], ◌∷◌, ◌++◌, map, replicate, length, refl, Some, None}
 use Rattle.selective_reject.specs.declared.packet.Packet.{Packet}
 use Rattle.selective_reject.specs.declared.window.Mode.{Mode}
 use Rattle.selective_reject.specs.declared.window.Mode.TheVariants.{Rej, Srej}
 use Rattle.selective_reject.specs.Numbers.{ahead}
 use Rattle.selective_reject.specs.Places.{missing, asked}
 use Rattle.link_machine.specs.declared.acts.Told.TheVariants.{Opened, Ended}
-use Rattle.link_machine.specs.declared.acts.Why.TheVariants.{Reset}
+use Rattle.link_machine.specs.declared.acts.Why.TheVariants.{Reset, Refused}
 use Rattle.link_machine.specs.declared.params.Params.{Params}
 use Rattle.link_machine.specs.Sent.{Sent}
 use Rattle.link_machine.specs.Sent.Sent.{InfoSent, SuperSent, SetupSent}
 use Rattle.link_machine.specs.Step.{step as link_step}
 use Rattle.ax25_frames.specs.declared.frame.S.TheVariants.{Rr as RrFrame, Rej as RejFrame, Srej as SrejFrame}
-use Rattle.ax25_frames.specs.declared.frame.U.TheVariants.{Sabm}
+use Rattle.ax25_frames.specs.declared.frame.U.TheVariants.{Sabm, Dm}
+use Rattle.ax25_frames.specs.declared.frame.Kind.TheVariants.{Info, Super}
+use Rattle.ax25_frames.specs.declared.frame.Modulus.TheVariants.{Eight, OneTwentyEight}
 use Rattle.link_world.specs.declared.end.End.{End}
 use Rattle.link_world.specs.declared.end.End.TheVariants.{A, B}
 use Rattle.link_world.specs.declared.event.Event.{Event}
 use Rattle.link_world.specs.declared.event.Event.TheVariants.{Connect, Send, Tick, Hear, Lose}
+use Rattle.link_world.specs.Reading.{kind_read}
 use Rattle.link_world.specs.Flight.{Tagged}
 use Rattle.link_world.specs.World.{World, first_world, run, towards, told_by}
 use Rattle.link_world.specs.Quiet.{is_quiet, is_quiet_to_send}
 
 abbrev params : Mode → ℕ → Params
-params mode window = record { mode = mode; window = window }
+params mode window = record { mode = mode; window = window; wide = false; wide_window = 32 }
+
+abbrev wide_params : Params
+wide_params = record { mode = Rej; window = 4; wide = true; wide_window = 127 }
 
 abbrev from_first : Mode → ℕ → List Event → World
 from_first mode window events = run (first_world (params mode window) (params mode window)) events
@@ -62,6 +68,7 @@ pub got_by_rej :
     ≡ record {
       given = [];
       got = map packet (0 ∷ 1 ∷ 2 ∷ 3 ∷ 4 ∷ 5 ∷ 6 ∷ 7 ∷ 8 ∷ 9 ∷ []);
+      modulus = 8;
       mate = 0;
       acted_on = replicate 13 0;
       accepted = Some 0;
@@ -123,3 +130,57 @@ is_not_quiet = refl
 pub is_still_quiet : is_quiet (from_first Rej 4 (Connect A ∷ replicate 298 (Tick A false))) (Tick A false) ≡ true
 unfolding link_step
 is_still_quiet = refl
+
+-- A calls modulo 128 and B modulo 8, at once: B declines SABME, A passes over SABM, and its call is refused.
+abbrev crossing : List Event
+crossing = Connect A ∷ Connect B ∷ Hear B ∷ Hear A ∷ []
+
+abbrev crossed : List Event → World
+crossed events = run (first_world wide_params (params Rej 4)) events
+
+-- B declines
+pub declines_wide : sent_to A (crossed crossing) ≡ SetupSent Dm true ∷ []
+unfolding link_step
+declines_wide = refl
+
+-- A is told that its call is refused
+pub refused_wide : told_by (crossed crossing) (Hear A) ≡ Ended Refused ∷ []
+unfolding link_step
+refused_wide = refl
+
+-- B calls again, and A is up
+abbrev called_again : List Event
+called_again = crossing ++ Hear A ∷ replicate 300 (Tick B false)
+
+pub opens_narrow : told_by (crossed called_again) (Hear A) ≡ Opened false ∷ []
+unfolding link_step
+opens_narrow = refl
+
+-- and so is B, both modulo 8
+pub opens_own : told_by (crossed (called_again ++ Hear A ∷ [])) (Hear B) ≡ Opened true ∷ []
+unfolding link_step
+opens_own = refl
+
+pub modulus_of_a : (crossed (called_again ++ Hear A ∷ Hear B ∷ [])).a.end.machine.incoming.modulus ≡ 8
+unfolding link_step
+modulus_of_a = refl
+
+pub modulus_of_b : (crossed (called_again ++ Hear A ∷ Hear B ∷ [])).b.end.machine.incoming.modulus ≡ 8
+unfolding link_step
+modulus_of_b = refl
+
+-- An I frame of modulus 8 with N(S) 3, N(R) 2 and three octets behind it, read modulo 128, and the other way round.
+pub info_read_as_wide :
+    kind_read Eight OneTwentyEight (Info 3 2 false 240 (5 ∷ 6 ∷ [])) ≡ Some (Info 35 120 false 5 (6 ∷ []))
+info_read_as_wide = refl
+
+pub info_read_as_narrow :
+    kind_read OneTwentyEight Eight (Info 35 120 false 5 (6 ∷ [])) ≡ Some (Info 3 2 false 240 (5 ∷ 6 ∷ []))
+info_read_as_narrow = refl
+
+-- an RR of either is refused in the other
+pub rr_refused : kind_read Eight OneTwentyEight (Super RrFrame 2 false) ≡ None
+rr_refused = refl
+
+pub wide_rr_refused : kind_read OneTwentyEight Eight (Super RrFrame 2 false) ≡ None
+wide_rr_refused = refl

@@ -10,4 +10,5 @@ pub mod Counting
 pub mod Examples
 pub mod Sides
 pub mod ErrorLemmas
+pub mod WindowLemmas
 pub mod law

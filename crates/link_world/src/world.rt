@@ -10,7 +10,7 @@ use crate::fault::WorldFault;
 use crate::happening::happen;
 use crate::side::Side;
 use link_machine::{NewFault, Params, Told};
-use selective_reject::check_window;
+use selective_reject::{BadWindow, check_window};
 use std::alloc::Global;
 use std::marker::Model;
 
@@ -55,8 +55,12 @@ impl World {
         ensures bad_window { (window : ℕ) → IsErrOf result (NewFault.BadWindow window)
             ↔ IsRefusedWindow a window ⊎ (HasWindows a × IsRefusedWindow b window) }
     {
-        check_windows(&a)?;
-        check_windows(&b)?;
+        if let Err(BadWindow { window }) = check_windows(&a) {
+            return Err(NewFault::BadWindow { window });
+        }
+        if let Err(BadWindow { window }) = check_windows(&b) {
+            return Err(NewFault::BadWindow { window });
+        }
         let Ok(a) = Side::new(alloc, a, End::A.path()) else {
             return Err(NewFault::Memory);
         };
@@ -120,18 +124,13 @@ impl World {
 }
 
 /// Refuses the first window of an end that does not fit its modulus.
-fn check_windows(params: &Params) -> Result<(), NewFault>
+fn check_windows(params: &Params) -> Result<(), BadWindow>
     ensures windows { OnOk result (HasWindows params.now) }
-    ensures bad_window { (window : ℕ) → IsErrOf result (NewFault.BadWindow window)
+    ensures bad_window { (window : ℕ) → IsErrOf result (record { window = window })
         ↔ IsRefusedWindow params.now window }
 {
-    if let Err(bad) = check_window(8, params.window, params.mode) {
-        return Err(NewFault::BadWindow { window: bad.window });
-    }
-    if let Err(bad) = check_window(128, params.wide_window, params.mode) {
-        return Err(NewFault::BadWindow { window: bad.window });
-    }
-    Ok(())
+    check_window(8, params.window, params.mode)?;
+    check_window(128, params.wide_window, params.mode)
 }
 
 /// The number of the event that found the channel not quiet, by what it answered.

@@ -3,7 +3,7 @@ use super::*;
 use crate::flight::InFlight;
 use crate::laws::{prefix_law, tags_do_not_matter};
 use End::{A, B};
-use ax25_frames::text_of;
+use ax25_frames::{Modulus, text_of};
 use selective_reject::{Mode, Packet};
 use std::collections::VecDeque;
 use std::test::Fail;
@@ -68,7 +68,7 @@ fn tell(alloc: Global, told: &[Told], text: &mut String) -> Result<(), Fail> {
 /// The lines of the frames in flight, each with a comma.
 fn show(alloc: Global, towards: &VecDeque<InFlight>, text: &mut String) -> Result<(), Fail> {
     for each in towards {
-        text.push_str(text_of(alloc, &each.frame)?.as_str())?;
+        text.push_str(text_of(alloc, &each.sent.frame)?.as_str())?;
         text.push_str(",")?;
     }
     Ok(())
@@ -102,8 +102,8 @@ fn world_behind(alloc: Global, params: Params, before: &[Happens]) -> Result<Wor
 
 fn by_rej(window: u8) -> Params {
     Params {
-        mode: Mode::Rej,
         window,
+        ..Params::default()
     }
 }
 
@@ -167,7 +167,7 @@ fn rej_sends_again_from_the_lost_frame_on(rt: HostRuntime) -> Result<(), Fail> {
 fn srej_sends_the_lost_frame_again(rt: HostRuntime) -> Result<(), Fail> {
     let params = Params {
         mode: Mode::Srej,
-        window: 4,
+        ..Params::default()
     };
     let before = [
         Connect(A),
@@ -268,15 +268,86 @@ fn a_repeat_is_not_quiet(rt: HostRuntime) -> Result<(), Fail> {
     Ok(())
 }
 
+/// A calls modulo 128 and B modulo 8, at once. B declines SABME, A passes over SABM, and is refused. B calls again, and
+/// both are up modulo 8.
+#[test]
+fn a_wide_and_a_narrow_call_cross(rt: HostRuntime) -> Result<(), Fail> {
+    let wide = Params {
+        wide: true,
+        ..Params::default()
+    };
+    let mut world = World::new(rt.alloc(), wide, Params::default())?;
+    let exchange = [
+        (Connect(A), "", "", "A>B SABME cmd f=1,"),
+        (Connect(B), "", "B>A SABM cmd f=1,", "A>B SABME cmd f=1,"),
+        (Hear(B, 1), "", "B>A SABM cmd f=1,B>A DM rsp f=1,", ""),
+        (Hear(A, 1), "", "B>A DM rsp f=1,", ""),
+        (Hear(A, 1), "ended Refused,", "", ""),
+        (Ticks(B, 300), "", "B>A SABM cmd f=1,", ""),
+        (Hear(A, 1), "opened,", "", "A>B UA rsp f=1,"),
+        (Hear(B, 1), "opened by us,", "", ""),
+    ];
+    for (happens, told, to_a, to_b) in exchange {
+        let (is_told, is_to_a, is_to_b) = row(rt.alloc(), &mut world, happens)?;
+        assert_eq!(rt; is_told.as_str(), told);
+        assert_eq!(rt; is_to_a.as_str(), to_a);
+        assert_eq!(rt; is_to_b.as_str(), to_b);
+    }
+    assert!(rt; world.a.link.modulus() == Modulus::Eight);
+    assert!(rt; world.b.link.modulus() == Modulus::Eight);
+    Ok(())
+}
+
+/// 130 packets modulo 128 by REJ with a window of 127: N(S) 0 to 126 go out, and 127, 0 and 1 once all are acknowledged.
+#[test]
+fn a_wide_window_is_sent_whole(rt: HostRuntime) -> Result<(), Fail> {
+    let wide = Params {
+        wide: true,
+        wide_window: 127,
+        ..Params::default()
+    };
+    let mut world = world_behind(rt.alloc(), wide, &[Connect(A), Hear(B, 1), Hear(A, 1)])?;
+    let mut text = String::new(rt.alloc());
+    for octet in 0..130 {
+        happen(rt.alloc(), &mut world, Send(A, octet), &mut text)?;
+    }
+    assert_eq!(rt; world.flight(B), 127);
+    happen(rt.alloc(), &mut world, Hear(B, 127), &mut text)?;
+    let exchange = [
+        (Ticks(B, 29), "", "", ""),
+        (Ticks(B, 1), "", "B>A RR rsp nr=127 f=0,", ""),
+        (
+            Hear(A, 1),
+            "",
+            "",
+            "A>B I cmd ns=127 nr=0 p=0 pid=f0 len=1 7f,A>B I cmd ns=0 nr=0 p=0 pid=f0 len=1 80,\
+                A>B I cmd ns=1 nr=0 p=0 pid=f0 len=1 81,",
+        ),
+        (Hear(B, 3), "given 127,given 128,given 129,", "", ""),
+    ];
+    for (happens, told, to_a, to_b) in exchange {
+        let (is_told, is_to_a, is_to_b) = row(rt.alloc(), &mut world, happens)?;
+        assert_eq!(rt; is_told.as_str(), told);
+        assert_eq!(rt; is_to_a.as_str(), to_a);
+        assert_eq!(rt; is_to_b.as_str(), to_b);
+    }
+    Ok(())
+}
+
 #[test]
 fn windows_are_refused(rt: HostRuntime) -> Result<(), Fail> {
     let large = Params {
         mode: Mode::Srej,
         window: 5,
+        ..Params::default()
     };
-    for (a, b) in [(large, by_rej(1)), (by_rej(1), large)] {
+    let wide = Params {
+        wide_window: 128,
+        ..Params::default()
+    };
+    for (a, b, bad) in [(large, wide, 5), (by_rej(1), large, 5), (wide, large, 128)] {
         match World::new(rt.alloc(), a, b) {
-            Err(NewFault::BadWindow { window }) => assert_eq!(rt; window, 5),
+            Err(NewFault::BadWindow { window }) => assert_eq!(rt; window, bad),
             _ => assert!(rt; false),
         }
     }
