@@ -66,6 +66,13 @@ impl AgwIn {
         answer(self.bad, message)
     }
 
+    /// The length of the body that was too long, where a header told one.
+    pub fn failed(&self) -> Option<u32>
+        ensures { (stream : List ℕ) → StandsFor self.now stream → result ≡ bad_length_in stream }
+    {
+        self.bad
+    }
+
     // Takes an octet of a stream that is not bad.
     fn take(&mut self, octet: u8) -> Result<Option<AgwMessage>, OutOfMemory>
         ensures taken { OnOk result (self.new ≡ taken self.old octet) }

@@ -80,6 +80,13 @@ impl Access {
         self.parameters.set(param);
     }
 
+    /// The parameters as they are set, also while a transmission goes on with others.
+    pub fn parameters(&self) -> Parameters
+        ensures { (channel : Channel) → StandsFor self.now channel → result ≡ channel.parameters }
+    {
+        self.parameters
+    }
+
     /// A tick of 10 ms, where `busy` says whether another station is heard. At rest it decides whether a transmission
     /// begins, and that begins at once. Frames that wait when the frame before them ends join it, up to eight.
     pub fn tick(&mut self, busy: bool) -> AirTick

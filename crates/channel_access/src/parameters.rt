@@ -17,13 +17,18 @@ pub enum Param {
     FullDuplex(bool),
 }
 
-/// All of them.
+/// All of them, as [`Param`] names them.
 #[derive(Clone, Copy, Debug)]
-pub(crate) struct Parameters {
+pub struct Parameters {
+    /// TXDELAY, in units of 10 ms.
     pub tx_delay: u8,
+    /// P.
     pub persist: u8,
+    /// The slot time, in units of 10 ms.
     pub slot_time: u8,
+    /// TXtail, in units of 10 ms.
     pub tx_tail: u8,
+    /// Full duplex.
     pub full_duplex: bool,
 }
 

@@ -55,3 +55,4 @@ pub mod Conclusion
 pub mod WorldLaw
 pub mod ActedOn
 pub mod ValidNumbers
+pub mod ChangesLaw

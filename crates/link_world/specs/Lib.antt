@@ -8,6 +8,7 @@ pub mod Quiet
 pub mod Windows
 pub mod Origin
 pub mod Law
+pub mod Changes
 pub mod Faults
 pub mod StandsFor
 pub mod Held

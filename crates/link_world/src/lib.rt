@@ -19,5 +19,5 @@ mod world;
 pub use end::End;
 pub use event::Event;
 pub use fault::WorldFault;
-pub use laws::{prefix_law, tags_do_not_matter};
+pub use laws::{changes_law, prefix_law, tags_do_not_matter};
 pub use world::World;

@@ -1,7 +1,8 @@
 -- What contracts see of a ring and its ends: to which ring each belongs, the published list, what a reader knows and read.
-use Rattle.std.specs.Prelude.{◌≡◌, ℕ, List, [], ◌∷◌, ◌++◌, ℤ}
+use Rattle.std.specs.Prelude.{◌≡◌, ℕ, ◌-◌, ◌^◌, ◌<◌, List, [], ◌∷◌, ◌++◌, ℤ}
 use Rattle.atomic_table.specs.Seated.{TableId}
 use Rattle.sample_ring.specs.declared.got.Got.{Got}
+use Rattle.sample_ring.specs.declared.got.Got.TheVariants.{Item, Gap, Empty, End}
 use Rattle.sample_ring.specs.declared.view.Entry.{Entry}
 use Rattle.sample_ring.specs.declared.view.Track.{Track}
 use Rattle.sample_ring.specs.declared.ring.Ring.{Ring}
@@ -73,6 +74,13 @@ pub record IsNew (reader : Reader) : Type 0 where
 -- loaded, and with the result as its answer
 abbrev pub AddsRead : ℕ → Reader → Got → Reader → Type 0
 AddsRead len before result after = (e : Entry) × (e.at ≡ position_of before) × (e.known ≡ known_by before) × (reads_of after ≡ reads_of before ++ e ∷ []) × (result ≡ answer len e)
+
+-- The answer is of this position. A sample's position is below 2^48 - 1, and a gap goes forward to a position below 2^48.
+abbrev pub GoesForward : ℕ → Got → Type 0
+GoesForward position (Item at sample) = (at ≡ position) × (at < 2 ^ 48 - 1)
+GoesForward position (Gap from to) = (from ≡ position) × (from < to) × (to < 2 ^ 48)
+GoesForward position (Empty at) = (at ≡ position) × (at < 2 ^ 48 - 1)
+GoesForward position (End total) = (total ≡ position) × (total < 2 ^ 48 - 1)
 
 -- the published list of a closed ring, and the records of the readers that it was handed
 abbrev pub listed : History → List ℤ

@@ -22,7 +22,7 @@ pub struct Reader {
 }
 
 impl Reader {
-    ghost use Rattle.sample_ring.specs.Ends.{ring_id, ring_len, reader_ring, note_ring, position_of, known_by, reads_of, count_of, AddsRead};
+    ghost use Rattle.sample_ring.specs.Ends.{ring_id, ring_len, reader_ring, note_ring, position_of, known_by, reads_of, count_of, AddsRead, GoesForward};
     ghost use Rattle.sample_ring.specs.Record.{next};
 
     /// Reads at the next position, by one load of its cell and, where that is not yet written, one of the end word.
@@ -32,6 +32,7 @@ impl Reader {
         ensures ring { reader_ring self.new ≡ reader_ring self.old }
         ensures read { AddsRead (ring_len ring.now) self.old result self.new }
         ensures moves { position_of self.new ≡ next result }
+        ensures forward { GoesForward (position_of self.old) result }
         ensures known { known_by self.new ≡ known_by self.old }
         ensures empty { (p : ℕ) → result ≡ Got.Empty p → known_by self.old ≤ p }
     {

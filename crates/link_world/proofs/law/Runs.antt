@@ -59,7 +59,7 @@ near_hear a b r (f ∷ rest) far e fit alone called s = go (read_in r.machine.in
         (called_by r.machine.control.state (is_sabm f.frame.kind) (asks_in far.towards) called)
 
 -- an event of the near end
-near_shows :
+pub near_shows :
     (a b : Params) (w : World) (event : Event) → WindowsFit a b → sends_alone w event ≡ true
     → called_alone w event ≡ true
     → ShowsWorld a b w → ShowsWorld a b (near_step event w)

@@ -30,7 +30,7 @@ pub record ActedWorld (w : World) : Type 0 where
   pub near : Each ActedOnMate w.a.end.set_ups
   pub far : Each ActedOnMate w.b.end.set_ups
 
-acted_mirror : (w : World) → ActedWorld w → ActedWorld (seen_from B w)
+pub acted_mirror : (w : World) → ActedWorld w → ActedWorld (seen_from B w)
 acted_mirror w h = record { near = h.far; far = h.near }
 
 hear_acted :
@@ -48,7 +48,7 @@ hear_acted a b r (f ∷ rest) far e s h = record { near = go (read_in r.machine.
         acted_behind heard r (link_step r.machine (seen heard))
         (acted_hears r s.x s.y f frame _ _ s.near s.near_written.0 is s.holds h.near)
 
-near_acted :
+pub near_acted :
     (a b : Params) (w : World) (event : Event) → ShowsWorld a b w → ActedWorld w → ActedWorld (near_step event w)
 near_acted a b w (Connect e) s h = record {
   near = acted_behind Connects w.a.end (link_step w.a.end.machine (seen Connects)) h.near;
@@ -70,7 +70,7 @@ near_acted a b w (Tick e waiting) s h = record {
 near_acted a b w (Hear e) s h = hear_acted a b w.a.end w.a.towards w.b e s h
 near_acted a b w (Lose e index) s h = record { near = h.near; far = h.far }
 
-step_acted : (a b : Params) (w : World) (event : Event) → ShowsWorld a b w → ActedWorld w → ActedWorld (step w event)
+pub step_acted : (a b : Params) (w : World) (event : Event) → ShowsWorld a b w → ActedWorld w → ActedWorld (step w event)
 step_acted a b w event s h = go (end_of event)
   where
     go : (e : Name) → ActedWorld (seen_from e (near_step event (seen_from e w)))
@@ -86,7 +86,7 @@ run_acted a b w (event ∷ events) fit quiet s h =
     run_acted a b (step w event) events fit quiet.1 (step_shows a b w event fit quiet.0 s) (step_acted a b w event s h)
 
 -- what an end reads in an event
-step_valid :
+pub step_valid :
     (a b : Params) (w : World) (event : Event) → WindowsFit a b → ShowsWorld a b w
     → IsTrue (hears_valid event (seen_from (end_of event) w))
 step_valid a b w event fit s = go (end_of event)
@@ -104,7 +104,7 @@ run_valid a b w (event ∷ events) fit quiet s = (
   run_valid a b (step w event) events fit quiet.1 (step_shows a b w event fit quiet.0 s),
 )
 
-in_order : (near far : RecordedEnd) → GotPrefixes near far → Each ActedOnMate near.set_ups → GotInOrder near far
+pub in_order : (near far : RecordedEnd) → GotPrefixes near far → Each ActedOnMate near.set_ups → GotInOrder near far
 in_order near far got acted = record {
   prefixes = got.prefixes;
   origins_rise = got.origins_rise;
