@@ -77,7 +77,7 @@ candidates_none x = record {
 }
 
 -- each of one list and each later one, each of the other, and each of the one before each of the other
-AllPairs-append : (R : Candidate → Candidate → Type 0) (xs ys : List Candidate) → AllPairs R xs → AllPairs R ys
+pub AllPairs-append : (R : Candidate → Candidate → Type 0) (xs ys : List Candidate) → AllPairs R xs → AllPairs R ys
     → ((i j : ℕ) (d : Candidate) → i < length xs → j < length ys → R (get_or xs i d) (get_or ys j d)) → AllPairs R (xs ++ ys)
 AllPairs-append R xs ys a b across i j d ij jl =
     let len = length-append xs ys in

@@ -5,18 +5,22 @@ use Rattle.std.proofs.lemmas.List.{get_or_push, get_or_append_left, length_push}
 use Rattle.tone_table.specs.declared.tone.Tone.{Tone}
 use Rattle.offset_slicers.specs.Windows.{tones_at}
 use Rattle.offset_slicers.proofs.WindowLemmas.{length-tones_at}
-use Rattle.slicer_bank.specs.Held.{HeldLane, LaneStandsFor, LanesStandFor}
+use Rattle.std.specs.List.{All}
+use Rattle.std.proofs.lemmas.List.Elements.{All-nil, All-cons, All-append}
+use Rattle.slicer_bank.specs.Held.{HeldLane, AsksFor, LaneStandsFor, LanesStandFor}
 
--- so many lanes that have taken nothing
-pub record AreFresh (n : ℕ) (lanes : List HeldLane) : Type 0 where
+-- so many lanes that have taken nothing, and listen for so many flags in a row
+pub record AreFresh (flags n : ℕ) (lanes : List HeldLane) : Type 0 where
   pub count : length lanes ≡ n
   pub each : (k : ℕ) (d : HeldLane) → k < n → LaneStandsFor (get_or lanes k d) []
+  pub asks : All (AsksFor flags) lanes
 
-pub fresh_none : AreFresh 0 []
-fresh_none = record { count = omega arith; each = λ k d l. absurd (omega arith) }
+pub fresh_none : (flags : ℕ) → AreFresh flags 0 []
+fresh_none flags = record { count = omega arith; each = λ k d l. absurd (omega arith); asks = All-nil (AsksFor flags) }
 
-pub fresh_more : (n : ℕ) (lanes : List HeldLane) (lane : HeldLane) → AreFresh n lanes → LaneStandsFor lane [] → AreFresh (n + 1) (lanes ++ lane ∷ [])
-fresh_more n lanes lane h stands = record {
+pub fresh_more : (flags n : ℕ) (lanes : List HeldLane) (lane : HeldLane) → AreFresh flags n lanes → LaneStandsFor lane [] → AsksFor flags lane → AreFresh flags (n + 1) (lanes ++ lane ∷ [])
+fresh_more flags n lanes lane h stands asks = record {
+  asks = All-append (AsksFor flags) lanes (lane ∷ []) h.asks (All-cons (AsksFor flags) lane [] asks (All-nil (AsksFor flags)));
   count = length_push lanes lane ∙ ap (λ t. t + 1) h.count;
   each = λ k d l. elim (cases_lt k n) [
     | inl lt ↦ subst (λ t. LaneStandsFor t []) (sym (get_or_append_left lanes (lane ∷ []) d k (let e = h.count in omega arith))) (h.each k d lt)
@@ -32,5 +36,5 @@ tones_of_none offset = empty (tones_at offset []) (length-tones_at offset [] ∙
     empty [] h = refl
     empty (t ∷ tones) h = absurd (omega arith)
 
-pub stand_fresh : (n : ℕ) (lanes : List HeldLane) → n ≡ 8 → AreFresh n lanes → LanesStandFor lanes []
-stand_fresh n lanes all h k d l = subst (LaneStandsFor (get_or lanes k d)) (sym (tones_of_none k)) (h.each k d (omega arith))
+pub stand_fresh : (flags n : ℕ) (lanes : List HeldLane) → n ≡ 8 → AreFresh flags n lanes → LanesStandFor lanes []
+stand_fresh flags n lanes all h k d l = subst (LaneStandsFor (get_or lanes k d)) (sym (tones_of_none k)) (h.each k d (omega arith))

@@ -11,3 +11,17 @@ pub mod MergingLemmas
 pub mod MergedLemmas
 pub mod FewKept
 pub mod DecoderLemmas
+pub mod OwnLemmas
+pub mod GatheringLemmas
+pub mod BusyLemmas
+pub mod FeedLemmas
+pub mod StretchLemmas
+pub mod RingJobLemmas
+pub mod RingBusyLemmas
+pub mod OrderingLemmas
+pub mod GatherLemmas
+pub mod ReaderLemmas
+pub mod TurnLemmas
+pub mod MarkLemmas
+pub mod RingMergingLemmas
+pub mod RingBankLemmas

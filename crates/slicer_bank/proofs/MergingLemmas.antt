@@ -51,7 +51,7 @@ next_can_be_put initial now all items left rest count item h is each =
     subst CanBePut (ap (λ t. get_or t (length items) item) (sym whole) ∙ get_or-append_seam items item rest item) (each (length items) item within)
 
 -- a list that strictly rises is in order
-rising_strictly : (items : List Candidate) → AllPairs (λ item later. standing item < standing later) items → IsNonDecreasingBy standing items
+pub rising_strictly : (items : List Candidate) → AllPairs (λ item later. standing item < standing later) items → IsNonDecreasingBy standing items
 rising_strictly items h i j d ij jl = elim (cases_eq i j) [
   | inl same ↦ let e : standing (get_or items i d) ≡ standing (get_or items j d) = ap (λ t. standing (get_or items t d)) same in omega arith
   | inr other ↦ let below = h i j d (omega arith) jl in omega arith

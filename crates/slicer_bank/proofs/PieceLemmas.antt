@@ -5,7 +5,7 @@ use Rattle.std.specs.List.{All}
 use Rattle.std.proofs.Math.Seq.{drop-append_seam, take-append_seam}
 use Rattle.frame_merge.specs.declared.candidate.Candidate.{Candidate}
 use Rattle.slicer_bank.specs.Candidates.{AreCandidatesBehind}
-use Rattle.slicer_bank.specs.Held.{HeldLane, LanesStandFor, last_seven}
+use Rattle.slicer_bank.specs.Held.{HeldLane, AsksFor, LanesStandFor, last_seven}
 use Rattle.slicer_bank.specs.Heard.{HearsMore}
 use Rattle.slicer_bank.specs.Merging.{CanBePut}
 use Rattle.slicer_bank.proofs.HeardLemmas.{hears_none, hears_join}
@@ -22,6 +22,7 @@ pub record PieceHeard (position end : ℕ) (piece rest : List ℤ) (initial lane
   pub rest_is : rest ≡ drop (end - position) piece
   pub count : length lanes ≡ 8
   pub bounds : All CanBePut before → All CanBePut after
+  pub asks : (flags : ℕ) → All (AsksFor flags) initial → All (AsksFor flags) lanes
   pub heard : Hears position (take 7 piece) (take (end - position) (drop 7 piece)) initial lanes before after
 
 pub piece_none : (position : ℕ) (piece : List ℤ) (lanes : List HeldLane) (found : List Candidate) → length lanes ≡ 8 → PieceHeard position position piece piece lanes lanes found found
@@ -32,6 +33,7 @@ piece_none position piece lanes found count =
       rest_is = ap (λ n. drop n piece) (sym none);
       count = count;
       bounds = λ h. h;
+      asks = λ flags h. h;
       heard = λ x size seven s.
           let empty : take (position - position) (drop 7 piece) ≡ [] = ap (λ n. take n (drop 7 piece)) none in
           (subst (LanesStandFor lanes) (sym (ap (λ t. x ++ t) empty ∙ append-nil x)) s, subst (λ t. HearsMore x t found found) (sym empty) (hears_none x found));
@@ -42,10 +44,11 @@ pub piece_more : (position end : ℕ) (piece rest window : List ℤ) (initial ol
     → PieceHeard position end piece rest initial old before found
     → length new ≡ 8
     → (All CanBePut found → All CanBePut after)
+    → ((flags : ℕ) → All (AsksFor flags) old → All (AsksFor flags) new)
     → ((x : List ℤ) (sample : ℤ) → length x + 1 ≡ end + 1 → window ≡ last_seven x ++ sample ∷ [] → LanesStandFor old x
     → LanesStandFor new (x ++ sample ∷ []) × HearsMore x (sample ∷ []) found after)
     → PieceHeard position (end + 1) piece (drop 1 rest) initial new before after
-piece_more position end piece rest window initial old new before found after inside is h count bounds step =
+piece_more position end piece rest window initial old new before found after inside is h count bounds asks step =
     let begun = h.begun in
     let index : ℕ = end - position in
     let next : end + 1 - position ≡ index + 1 = omega arith in
@@ -55,6 +58,7 @@ piece_more position end piece rest window initial old new before found after ins
       rest_is = ap (drop 1) h.rest_is ∙ drop-drop 1 index piece ∙ ap (λ n. drop n piece) (sym next);
       count = count;
       bounds = λ each. bounds (h.bounds each);
+      asks = λ flags ask. asks flags (h.asks flags ask);
       heard = λ x size seven s.
           let more : List ℤ = drop 7 piece in
           let sample : ℤ = get_or more index (pos 0) in

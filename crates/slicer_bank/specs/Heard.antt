@@ -1,9 +1,12 @@
 -- What is heard of one window and of some samples.
-use Rattle.std.specs.Prelude.{◌≡◌, ℕ, ℤ, List, [], ◌∷◌, ◌++◌, length, map, Bool}
-use Rattle.std.specs.List.{All}
+use Rattle.std.specs.Prelude.{◌≡◌, ℕ, ◌+◌, ◌*◌, ◌<◌, ◌≤◌, ℤ, List, [], ◌∷◌, ◌++◌, length, map, Bool, Some, slice_index_or}
+use Rattle.std.specs.List.{All, AllPairs, Contains}
 use Rattle.hdlc_framer.specs.Frames.{EndsFrame}
 use Rattle.frame_merge.specs.declared.candidate.Candidate.{Candidate}
-use Rattle.slicer_bank.specs.Candidates.{AreCandidatesBehind}
+use Rattle.offset_slicers.specs.Windows.{windows_in, tones_at}
+use Rattle.slicer_bank.specs.Candidates.{IsCandidate, AreCandidatesBehind}
+use Rattle.slicer_bank.specs.Held.{HeldLane, LaneStandsFor, last_seven}
+use Rattle.slicer_bank.specs.Merging.{CanBePut}
 
 -- a frame that ends at a place, as the lane of an offset hears it
 abbrev pub candidate_at : ℕ → ℕ → List ℕ → Candidate
@@ -21,3 +24,40 @@ pub record HearsMore (x more : List ℤ) (before after : List Candidate) : Type 
   pub heard : List Candidate
   pub found : after ≡ before ++ heard
   pub are : AreCandidatesBehind (length x) (x ++ more) heard
+
+-- the items are the candidates of one offset that end with one of its windows, from a window's number to below another's,
+-- each once and in order
+pub record AreOfWindows (offset first next : ℕ) (x : List ℤ) (items : List Candidate) : Type 0 where
+  pub each : All (λ item. IsCandidate x item × (item.offset ≡ offset) × (offset + 8 * first < item.end) × (item.end ≤ offset + 8 * next)) items
+  pub whole : (item : Candidate) → IsCandidate x item → item.offset ≡ offset → offset + 8 * first < item.end → item.end ≤ offset + 8 * next → Contains items item
+  pub order : AllPairs (λ item later. item.end < later.end) items
+
+-- what a lane finds in samples is followed by all that it hears in more of them
+pub record LaneHearsMore (offset : ℕ) (x more : List ℤ) (before after : List Candidate) : Type 0 where
+  pub heard : List Candidate
+  pub found : after ≡ before ++ heard
+  pub are : AreOfWindows offset (windows_in offset (length x)) (windows_in offset (length (x ++ more))) (x ++ more) heard
+
+-- the lane of an offset, which had taken `position` samples with `seven` as the last, has taken these, too, and added what
+-- it heard in them
+abbrev pub LaneHears : ℕ → ℕ → List ℤ → List ℤ → HeldLane → HeldLane → List Candidate → List Candidate → Type 0
+LaneHears offset position seven more initial lane before after = (x : List ℤ) → length x ≡ position → seven ≡ last_seven x → LaneStandsFor initial (tones_at offset x)
+    → LaneStandsFor lane (tones_at offset (x ++ more)) × LaneHearsMore offset x more before after
+
+-- each lane keeps what it heard in samples behind a position
+abbrev pub LanesKeep : ℕ → List ℤ → List HeldLane → Type 0
+LanesKeep position x lanes = (offset : ℕ) (d : HeldLane) (items : List Candidate) → offset < 8 → (slice_index_or lanes offset d).heard ≡ Some items
+    → AreOfWindows offset (windows_in offset position) (windows_in offset (length x)) x items
+
+-- what each lane keeps can be put into a merger
+abbrev pub LanesKeepFit : List HeldLane → Type 0
+LanesKeepFit lanes = (offset : ℕ) (d : HeldLane) (items : List Candidate) → offset < 8 → (slice_index_or lanes offset d).heard ≡ Some items → All CanBePut items
+
+-- two lanes are the same but for what they keep of what they heard
+pub record AreAlike (lane other : HeldLane) : Type 0 where
+  pub before : lane.before ≡ other.before
+  pub deframer : lane.deframer ≡ other.deframer
+
+-- and so are the lanes of two banks, each for each
+abbrev pub LanesAreAlike : List HeldLane → List HeldLane → Type 0
+LanesAreAlike lanes others = (offset : ℕ) (d : HeldLane) → offset < 8 → AreAlike (slice_index_or lanes offset d) (slice_index_or others offset d)

@@ -1,19 +1,27 @@
 -- What the bank of eight lanes keeps, and what that stands for.
-use Rattle.std.specs.Prelude.{◌≡◌, ℕ, ◌<◌, ℤ, pos, List, ◌++◌, length, drop, replicate, Bool, false, slice_index_or}
+use Rattle.std.specs.Prelude.{◌≡◌, ℕ, ◌<◌, ℤ, pos, List, ◌++◌, length, drop, replicate, Bool, false, Option, slice_index_or}
+use Rattle.std.specs.List.{All}
 use Rattle.tone_table.specs.declared.tone.Tone.{Tone}
 use Rattle.nrzi_bits.specs.Line.{bits_of, last_tone}
 use Rattle.offset_slicers.specs.Windows.{tones_at}
-use Rattle.hdlc_framer.specs.Held.{Held as HeldDeframer, StandsFor as DeframerStandsFor}
+use Rattle.hdlc_framer.specs.Held.{Held as HeldDeframer, StandsFor as DeframerStandsFor, flags_asked}
+use Rattle.frame_merge.specs.declared.candidate.Candidate.{Candidate}
 
--- the tone of the last window, and the deframer of the bits
+-- the tone of the last window, the deframer of the bits, and what the lane heard in a job of its own; nothing if the job
+-- wanted memory
 pub record HeldLane : Type 0 where
   pub before : Tone
   pub deframer : HeldDeframer
+  pub heard : Option (List Candidate)
 
 -- the lane has taken windows of these tones
 pub record LaneStandsFor (held : HeldLane) (tones : List Tone) : Type 0 where
   pub before : held.before ≡ last_tone tones
   pub deframer : DeframerStandsFor held.deframer (bits_of tones)
+
+-- the lane listens for so many flags in a row
+abbrev pub AsksFor : ℕ → HeldLane → Type 0
+AsksFor flags held = flags_asked held.deframer ≡ flags
 
 -- each lane has taken the windows at its offset that lie in these samples
 abbrev pub LanesStandFor : List HeldLane → List ℤ → Type 0
@@ -32,11 +40,13 @@ pub record HeldBank : Type 0 where
   pub lanes : List HeldLane
   pub recent : List ℤ
   pub position : ℕ
+  pub flags : ℕ
   pub spent : Bool
 
--- the bank has taken these samples, and every growth that it wanted was given
+-- the bank has taken these samples, its lanes listen for as many flags as it does, and every growth that it wanted was given
 pub record StandsFor (held : HeldBank) (x : List ℤ) : Type 0 where
   pub spent : held.spent ≡ false
   pub count : held.position ≡ length x
   pub recent : held.recent ≡ last_seven x
   pub lanes : LanesStandFor held.lanes x
+  pub asks : All (AsksFor held.flags) held.lanes

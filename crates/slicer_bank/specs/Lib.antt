@@ -1,6 +1,14 @@
 pub mod Candidates
 pub mod Held
-pub mod Heard
+pub mod Busy
 pub mod Merging
+pub mod Heard
 pub mod MergedItems
 pub mod HeldDecoder
+pub mod Stretches
+pub mod HeardOnRing
+pub mod RingTurns
+pub mod RingLanes
+pub mod StretchLanes
+pub mod RingJobs
+pub mod RingMerging

@@ -1,14 +1,20 @@
 //! The decoder: samples in blocks in, each frame that is heard in them once and in order out.
 
-ghost use Rattle.std.specs.Prelude.{◌≡◌, ◌+◌, ◌<◌, ◌≤◌, ◌^◌, ℤ, List, [], ◌++◌, length, true, false, IfOk, OnOk, OnErr, IsErr};
-ghost use Rattle.slicer_bank.specs.HeldDecoder.{StandsFor};
+ghost use Rattle.std.specs.Prelude.{◌≡◌, ◌+◌, ◌<◌, ◌≤◌, ◌^◌, ℤ, List, [], ◌++◌, length, replicate, true, false, IfOk, OnOk, OnErr, IsErr};
+ghost use Rattle.std.specs.List.{All};
+ghost use Rattle.slicer_bank.specs.Candidates.{AreCandidatesBehind};
+ghost use Rattle.slicer_bank.specs.Held.{HeldBank, StandsFor as BankStandsFor};
+ghost use Rattle.slicer_bank.specs.HeldDecoder.{HaveTaken, StandsFor};
+ghost use Rattle.slicer_bank.specs.Merging.{CanBePut};
 ghost use Rattle.slicer_bank.specs.MergedItems.{AreMergedBetween};
 
 use crate::bank::Bank;
+use crate::gate::Gate;
 use crate::merging::{OFFSETS, merge_block};
 use frame_merge::{Candidate, Merger};
 use std::alloc::Global;
 use std::marker::Model;
+use std::thread::Threads;
 use tnc_base::OutOfMemory;
 
 /// A [`Bank`] and a [`Merger`]: `new`, then `block` for each block of samples, then `finish`. It keeps what can still be
@@ -68,16 +74,60 @@ impl Decoder {
         if self.spent {
             return Err(OutOfMemory);
         }
-        match merge_block(&mut self.bank, &mut self.merger, self.position, block) {
-            Ok(items) => {
-                self.position += block.len() as u64;
-                Ok(items)
-            }
-            Err(refusal) => {
-                self.spent = true;
-                Err(refusal)
-            }
+        self.spent = true;
+        let found = self.bank.feed(block)?;
+        self.settle(found, block.len())
+    }
+
+    /// Does what [`Decoder::block`] does, with the lanes on two threads, as [`Bank::feed_threads`] has them.
+    pub fn block_threads<R: Threads + Sync, G: Gate>(
+        &mut self,
+        rt: &R,
+        block: &[i16],
+        gate: &G,
+    ) -> Result<Vec<Candidate>, OutOfMemory>
+        requires few { length block.now ≤ 2048 }
+        requires room { self.old.position + length block.now < 2 ^ 48 }
+        requires unfinished { self.old.finished ≡ false }
+        ensures given { IfOk result (λ items. (x : List ℤ) → StandsFor self.old x
+            → StandsFor self.new (x ++ block.now)
+            × AreMergedBetween (length x) (length (x ++ block.now)) (x ++ block.now) items.items) }
+        ensures position { OnOk result (self.new.position ≡ self.old.position + length block.now) }
+        ensures stays { OnErr result (self.new.position ≡ self.old.position) }
+        ensures unfinished { self.new.finished ≡ false }
+        ensures fails { self.old.spent ≡ true → IsErr result }
+        ensures spent { OnErr result (self.new.spent ≡ true) }
+    {
+        if self.spent {
+            return Err(OutOfMemory);
         }
+        self.spent = true;
+        let found = self.bank.feed_threads(rt, block, gate)?;
+        self.settle(found, block.len())
+    }
+
+    /// Gives the items that a block of `count` samples settles, in which the bank found these candidates. The decoder is
+    /// spent until then.
+    fn settle(&mut self, found: Vec<Candidate>, count: usize) -> Result<Vec<Candidate>, OutOfMemory>
+        requires room { self.old.position + count < 2 ^ 48 }
+        requires items { All CanBePut found.items }
+        requires spent { self.old.spent ≡ true }
+        requires marks { self.old.merger.marks ≡ replicate 8 self.old.position }
+        requires bank { self.old.bank.position ≡ self.old.position + count }
+        ensures given { IfOk result (λ items. (before : HeldBank) (x y : List ℤ) → self.old.finished ≡ false
+            → length x ≡ self.old.position → length y ≡ count
+            → (BankStandsFor before x → BankStandsFor self.old.bank (x ++ y) × AreCandidatesBehind (length x) (x ++ y) found.items)
+            → HaveTaken before self.old.merger x
+            → StandsFor self.new (x ++ y) × AreMergedBetween (length x) (length (x ++ y)) (x ++ y) items.items) }
+        ensures position { OnOk result (self.new.position ≡ self.old.position + count) }
+        ensures stays { OnErr result (self.new.position ≡ self.old.position) }
+        ensures finished { self.new.finished ≡ self.old.finished }
+        ensures spent { OnErr result (self.new.spent ≡ true) }
+    {
+        let items = merge_block(&mut self.merger, self.position, count, found)?;
+        self.position += count as u64;
+        self.spent = false;
+        Ok(items)
     }
 
     /// Gives the rest of the items: the samples have ended.

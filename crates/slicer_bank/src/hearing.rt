@@ -1,11 +1,12 @@
 //! What the lanes hear: in a block of samples, in a piece of it, and in one window.
 
-ghost use Rattle.std.specs.Prelude.{◌≡◌, ◌+◌, ◌-◌, ◌<◌, ◌≤◌, ◌^◌, ℤ, List, [], ◌∷◌, ◌++◌, length, take, drop, IfOk, OnOk};
+ghost use Rattle.std.specs.Prelude.{◌≡◌, ℕ, ◌+◌, ◌-◌, ◌<◌, ◌≤◌, ◌^◌, ℤ, List, [], ◌∷◌, ◌++◌, length, take, drop, IfOk, OnOk};
 ghost use Rattle.std.specs.List.{All};
 ghost use Rattle.tone_table.specs.declared.tone.Tone.{Tone};
 ghost use Rattle.nrzi_bits.specs.Line.{bits_of};
 ghost use Rattle.offset_slicers.specs.Decision.{tone_of};
-ghost use Rattle.slicer_bank.specs.Held.{LaneStandsFor, LanesStandFor, last_seven};
+ghost use Rattle.hdlc_framer.specs.Held.{flags_asked};
+ghost use Rattle.slicer_bank.specs.Held.{AsksFor, LaneStandsFor, LanesStandFor, last_seven};
 ghost use Rattle.slicer_bank.specs.Candidates.{AreCandidatesBehind};
 ghost use Rattle.slicer_bank.specs.Heard.{HearsMore, Adds};
 ghost use Rattle.slicer_bank.specs.Merging.{CanBePut};
@@ -32,6 +33,7 @@ pub(crate) fn hear_block(
         → LanesStandFor lanes.new (x ++ block.now) × (recent.new ≡ last_seven (x ++ block.now))
         × AreCandidatesBehind position (x ++ block.now) found.items) }
     ensures bounds { IfOk result (λ found. All CanBePut found.items) }
+    ensures asks { OnOk result ((flags : ℕ) → All (AsksFor flags) lanes.old → All (AsksFor flags) lanes.new) }
 {
     let mut found = Vec::new(alloc);
     let (first, _) = block.split_at(block.len().min(7));
@@ -61,6 +63,7 @@ fn hear_first(
         → recent.now ≡ last_seven x → LanesStandFor lanes.old x
         → LanesStandFor lanes.new (x ++ first.now) × HearsMore x first.now found.old.items found.new.items) }
     ensures bounds { OnOk result (All CanBePut found.old.items → All CanBePut found.new.items) }
+    ensures asks { OnOk result ((flags : ℕ) → All (AsksFor flags) lanes.old → All (AsksFor flags) lanes.new) }
 {
     let bridge = bridge(recent, first);
     hear_piece(alloc, lanes, position, &bridge[..7 + first.len()], found)?;
@@ -68,7 +71,7 @@ fn hear_first(
 }
 
 /// Keeps the last seven samples of those before a block and the block.
-fn keep_last(recent: &mut [i16; 7], block: &[i16])
+pub(crate) fn keep_last(recent: &mut [i16; 7], block: &[i16])
     ensures { (x : List ℤ) → recent.old ≡ last_seven x → recent.new ≡ last_seven (x ++ block.now) }
 {
     if block.len() < 7 {
@@ -80,7 +83,7 @@ fn keep_last(recent: &mut [i16; 7], block: &[i16])
 }
 
 /// Seven samples and what follows them.
-fn bridge(recent: &[i16; 7], first: &[i16]) -> [i16; 14]
+pub(crate) fn bridge(recent: &[i16; 7], first: &[i16]) -> [i16; 14]
     requires { length first.now ≤ 7 }
     ensures { take (7 + length first.now) result ≡ recent.now ++ first.now }
 {
@@ -108,6 +111,7 @@ fn hear_piece(
         → LanesStandFor lanes.new (x ++ drop 7 piece.now)
         × HearsMore x (drop 7 piece.now) found.old.items found.new.items) }
     ensures bounds { OnOk result (All CanBePut found.old.items → All CanBePut found.new.items) }
+    ensures asks { OnOk result ((flags : ℕ) → All (AsksFor flags) lanes.old → All (AsksFor flags) lanes.new) }
 {
     let mut end = position;
     let mut rest = piece;
@@ -134,6 +138,7 @@ fn hear_window(
         → window.now ≡ last_seven x ++ sample ∷ [] → LanesStandFor lanes.old x
         → LanesStandFor lanes.new (x ++ sample ∷ []) × HearsMore x (sample ∷ []) found.old.items found.new.items) }
     ensures bounds { OnOk result (All CanBePut found.old.items → All CanBePut found.new.items) }
+    ensures asks { OnOk result ((flags : ℕ) → All (AsksFor flags) lanes.old → All (AsksFor flags) lanes.new) }
 {
     if end < 8 {
         return Ok(());
@@ -151,7 +156,7 @@ fn hear_window(
 }
 
 /// Gives a lane its next window, which ends at `end`, and adds to `found` the frame that ends with it.
-fn hear(
+pub(crate) fn hear(
     alloc: Global,
     lane: &mut Lane,
     offset: u8,
@@ -166,6 +171,7 @@ fn hear(
     ensures found { OnOk result ((tones : List Tone) → LaneStandsFor lane.old tones
         → Adds offset end (bits_of (tones ++ tone_of window.now ∷ [])) found.old.items found.new.items) }
     ensures bounds { OnOk result (All CanBePut found.old.items → All CanBePut found.new.items) }
+    ensures asks { flags_asked lane.new.deframer ≡ flags_asked lane.old.deframer }
 {
     if !lane.push(window) {
         return Ok(());

@@ -1,13 +1,18 @@
 //! One lane: the rule of the line and the deframer of its bits.
 
-ghost use Rattle.std.specs.Prelude.{◌≡◌, ℕ, List, [], ◌∷◌, ◌++◌, length, true, IfOk};
+ghost use Rattle.std.specs.Prelude.{◌≡◌, ◌↔◌, ℕ, ◌≤◌, ℤ, List, [], ◌∷◌, ◌++◌, length, true, Some, IfOk, OnOk, IsTrue};
+ghost use Rattle.std.specs.List.{All};
 ghost use Rattle.tone_table.specs.declared.tone.Tone.{Tone};
 ghost use Rattle.nrzi_bits.specs.Line.{bits_of};
 ghost use Rattle.offset_slicers.specs.Decision.{tone_of};
 ghost use Rattle.hdlc_framer.specs.Frames.{IsFrame, EndsFrame};
-ghost use Rattle.hdlc_framer.specs.Held.{HoldsFrame};
-ghost use Rattle.slicer_bank.specs.Held.{LaneStandsFor, LanesStandFor};
+ghost use Rattle.hdlc_framer.specs.Carrier.{HoldsCarrier};
+ghost use Rattle.hdlc_framer.specs.Held.{HoldsFrame, flags_asked};
+ghost use Rattle.slicer_bank.specs.Busy.{HearsCarrier};
+ghost use Rattle.slicer_bank.specs.Heard.{AreAlike};
+ghost use Rattle.slicer_bank.specs.Held.{AsksFor, LaneStandsFor, LanesStandFor};
 
+use frame_merge::Candidate;
 use hdlc_framer::{Deframer, Event};
 use nrzi_bits::NrziIn;
 use offset_slicers::decide;
@@ -18,28 +23,35 @@ use tnc_base::OutOfMemory;
 /// One lane for each offset of a bit.
 pub(crate) const LANES: u64 = 8;
 
-/// The rule of inverted NRZ for the windows of one offset, and the deframer of the bits that it gives.
+/// The rule of inverted NRZ for the windows of one offset, and the deframer of the bits that it gives. A job on a thread of
+/// its own leaves in `heard` what the lane heard, or `None` if memory ran out.
 #[derive(Drop)]
 pub(crate) struct Lane {
     line: NrziIn,
     deframer: Deframer,
+    pub(crate) heard: Option<Vec<Candidate>>,
 }
 
 impl Model for Lane {
+    ghost use Rattle.std.specs.Prelude.{option_map};
     ghost use Rattle.slicer_bank.specs.Held.{HeldLane};
 
     ghost Value = { HeldLane };
 
-    ghost view = { λ s. record { before = s.line; deframer = s.deframer } };
+    ghost view = { λ s. record { before = s.line; deframer = s.deframer; heard = option_map (λ v. v.items) s.heard } };
 }
 
 impl Lane {
-    pub(crate) fn new() -> Lane
+    /// A lane that has taken nothing, and listens for so many flags in a row.
+    pub(crate) fn listening(flags: u8) -> Lane
+        requires { (1 ≤ flags) × (flags ≤ 8) }
         ensures stands_for { LaneStandsFor result [] }
+        ensures asks { AsksFor flags result }
     {
         Lane {
             line: NrziIn::new(),
-            deframer: Deframer::new(),
+            deframer: Deframer::listening(flags),
+            heard: None,
         }
     }
 
@@ -53,6 +65,7 @@ impl Lane {
         ensures frame { (tones : List Tone) (octets : List ℕ) → LaneStandsFor self.old tones
             → EndsFrame (bits_of (tones ++ tone_of window.now ∷ [])) octets
             → (result ≡ true) × HoldsFrame self.new.deframer octets }
+        ensures asks { flags_asked self.new.deframer ≡ flags_asked self.old.deframer }
     {
         let bit = self.line.step(decide(window));
         self.deframer.push(bit) == Event::Frame
@@ -65,16 +78,48 @@ impl Lane {
     {
         self.deframer.octets()
     }
+
+    /// Whether the bits of the windows hold a carrier of as many flags as the lane listens for.
+    pub(crate) fn busy(&self) -> bool
+        ensures { (tones : List Tone) → LaneStandsFor self.now tones
+            → (IsTrue result ↔ HoldsCarrier (flags_asked self.now.deframer) (bits_of tones)) }
+    {
+        self.deframer.busy()
+    }
+
+    /// What the lane heard in its last job, which it keeps no more.
+    pub(crate) fn take_heard(&mut self) -> Result<Vec<Candidate>, OutOfMemory>
+        ensures heard { IfOk result (λ heard. self.old.heard ≡ Some heard.items) }
+        ensures alike { AreAlike self.new self.old }
+    {
+        self.heard.take().ok_or(OutOfMemory)
+    }
 }
 
-/// The eight lanes, which have taken nothing.
-pub(crate) fn new_lanes(alloc: Global) -> Result<Vec<Lane>, OutOfMemory>
+/// The eight lanes, which have taken nothing and listen for so many flags in a row.
+pub(crate) fn new_lanes(alloc: Global, flags: u8) -> Result<Vec<Lane>, OutOfMemory>
+    requires { (1 ≤ flags) × (flags ≤ 8) }
     ensures count { IfOk result (λ lanes. length lanes.items ≡ 8) }
     ensures stand_for { IfOk result (λ lanes. LanesStandFor lanes.items []) }
+    ensures ask { IfOk result (λ lanes. All (AsksFor flags) lanes.items) }
 {
     let mut lanes = Vec::new(alloc);
     for _ in 0..LANES {
-        lanes.push(Lane::new())?;
+        lanes.push(Lane::listening(flags))?;
     }
     Ok(lanes)
+}
+
+/// Whether the bits of some lane hold a carrier.
+pub(crate) fn is_some_busy(lanes: &[Lane]) -> bool
+    requires { length lanes.now ≡ 8 }
+    ensures { (flags : ℕ) (x : List ℤ) → LanesStandFor lanes.now x → All (AsksFor flags) lanes.now
+        → (IsTrue result ↔ HearsCarrier flags x) }
+{
+    for lane in lanes {
+        if lane.busy() {
+            return true;
+        }
+    }
+    false
 }

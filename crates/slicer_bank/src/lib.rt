@@ -6,19 +6,37 @@
 //! samples: it does not matter in which blocks they came.
 #![tactic(auto)]
 
+mod advance;
 mod bank;
 mod decoder;
 mod existence;
+mod gate;
+mod gathering;
 mod hearing;
+mod job;
 mod lane;
 mod laws;
 mod merging;
+mod ordering;
+mod ring_bank;
+mod ring_lane;
+mod ring_lanes;
+mod ring_merging;
+mod ring_turn;
+mod stretch_hearing;
+mod stretch_lane;
 
+pub use advance::{Advance, LaneGap};
 pub use bank::Bank;
 pub use decoder::Decoder;
 pub use existence::some_list_of_candidates;
+pub use gate::{Gate, OpenGate};
 pub use laws::{blocks_join, items_are_all, items_join, one_list_of_candidates};
 pub use merging::merge;
+pub use ring_bank::RingBank;
+pub use ring_merging::{merge_advance, nothing_is_merged};
 
+#[cfg(test)]
+mod thread_tests;
 #[cfg(test)]
 mod worked_signal;

@@ -6,11 +6,12 @@ ghost use Rattle.frame_merge.specs.declared.candidate.Candidate.{Candidate};
 ghost use Rattle.frame_merge.specs.Held.{StandsFor};
 ghost use Rattle.frame_merge.specs.Merged.{merged};
 ghost use Rattle.frame_merge.specs.Order.{standing};
+ghost use Rattle.slicer_bank.specs.Candidates.{AreCandidatesBehind};
+ghost use Rattle.slicer_bank.specs.Held.{HeldBank, StandsFor as BankStandsFor};
 ghost use Rattle.slicer_bank.specs.HeldDecoder.{HaveTaken};
 ghost use Rattle.slicer_bank.specs.MergedItems.{AreMergedBetween};
 ghost use Rattle.slicer_bank.specs.Merging.{CanBePut};
 
-use crate::bank::Bank;
 use frame_merge::{Candidate, Merger};
 use std::alloc::Global;
 use tnc_base::OutOfMemory;
@@ -30,32 +31,31 @@ pub fn merge(alloc: Global, candidates: Vec<Candidate>) -> Result<Vec<Candidate>
     merger.take_ready()
 }
 
-/// Gives a block to a bank that has taken `position` samples, and what it hears to a merger whose lanes are marked there.
-/// Tells the items that are settled by the block.
+/// Gives what a bank heard in a block of `count` samples to a merger whose lanes are marked at `position`, where the block
+/// began. Tells the items that are settled by the block.
 pub(crate) fn merge_block(
-    bank: &mut Bank,
     merger: &mut Merger,
     position: u64,
-    block: &[i16],
+    count: usize,
+    found: Vec<Candidate>,
 ) -> Result<Vec<Candidate>, OutOfMemory>
-    requires room { position + length block.now < 2 ^ 48 }
-    requires position { bank.old.position ≡ position }
+    requires room { position + count < 2 ^ 48 }
+    requires items { All CanBePut found.items }
     requires marks { merger.old.marks ≡ replicate 8 position }
-    ensures given { IfOk result (λ ready. (x : List ℤ) → length x ≡ position → HaveTaken bank.old merger.old x
-        → HaveTaken bank.new merger.new (x ++ block.now)
-        × AreMergedBetween (length x) (length (x ++ block.now)) (x ++ block.now) ready.items) }
-    ensures position { OnOk result (bank.new.position ≡ position + length block.now) }
-    ensures marks { OnOk result (merger.new.marks ≡ replicate 8 (position + length block.now)) }
+    ensures given { IfOk result (λ ready. (before after : HeldBank) (x y : List ℤ) → length x ≡ position → length y ≡ count
+        → (BankStandsFor before x → BankStandsFor after (x ++ y) × AreCandidatesBehind (length x) (x ++ y) found.items)
+        → HaveTaken before merger.old x
+        → HaveTaken after merger.new (x ++ y) × AreMergedBetween (length x) (length (x ++ y)) (x ++ y) ready.items) }
+    ensures marks { OnOk result (merger.new.marks ≡ replicate 8 (position + count)) }
 {
-    let found = bank.feed(block)?;
     put_all(merger, found)?;
-    merger.mark_all(position + block.len() as u64);
+    merger.mark_all(position + count as u64);
     let ready = merger.take_ready()?;
     Ok(ready)
 }
 
 /// Puts candidates into a merger of eight lanes, in their order. None of them ends below the mark of its lane.
-fn put_all(merger: &mut Merger, items: Vec<Candidate>) -> Result<(), OutOfMemory>
+pub(crate) fn put_all(merger: &mut Merger, items: Vec<Candidate>) -> Result<(), OutOfMemory>
     requires marks { length merger.old.marks ≡ 8 }
     requires items { All CanBePut items.items }
     ensures stands_for { OnOk result ((puts given : List Candidate) → StandsFor merger.old puts given → StandsFor merger.new (puts ++ items.items) given) }

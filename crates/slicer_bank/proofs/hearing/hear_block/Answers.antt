@@ -32,3 +32,6 @@ pub returns-clause-bounds : goal.returns-clause-bounds
 returns-clause-bounds c =
     let none : All CanBePut c.new-found.result.items = subst (All CanBePut) (sym c.new-found.ensures.items) (All-nil CanBePut) in
     c.in_ok-hear_piece.ensures.bounds (c.in_ok-hear_first.ensures.bounds none)
+
+pub returns-clause-asks : goal.returns-clause-asks
+returns-clause-asks c = λ flags h. c.in_ok-hear_piece.ensures.asks flags (c.in_ok-hear_first.ensures.asks flags h)

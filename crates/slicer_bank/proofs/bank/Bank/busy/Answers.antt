@@ -1,0 +1,14 @@
+use Rattle.std.proofs.Common.{ℤ, List, sym, subst}
+use Rattle.std.specs.Prelude.{◌↔◌, IsTrue}
+use Rattle.std.specs.List.{All}
+use Rattle.slicer_bank.specs.Busy.{HearsCarrier}
+use Rattle.slicer_bank.specs.Held.{HeldBank, AsksFor, LanesStandFor, StandsFor}
+use Rattle.slicer_bank.proofs.bank.Bank.busy.Goals as goal
+
+pub returns : goal.returns
+returns c =
+    let P : HeldBank → Type 0 = λ now. (x : List ℤ) → StandsFor now x → IsTrue c.is_some_busy.result ↔ HearsCarrier now.flags x in
+    subst P c.self.view_is (λ x h.
+    c.is_some_busy.ensures c.self.inside.flags x
+    (subst (λ lanes. LanesStandFor lanes x) (sym c.deref.ensures.value) h.lanes)
+    (subst (All (AsksFor c.self.inside.flags)) (sym c.deref.ensures.value) h.asks))

@@ -1,0 +1,9 @@
+use Rattle.std.proofs.Common.{ℕ, ℤ, ◌<◌, List}
+use Rattle.std.specs.List.{All}
+use Rattle.offset_slicers.specs.Windows.{bits}
+use Rattle.hdlc_framer.specs.Carrier.{HoldsCarrier}
+use Rattle.slicer_bank.specs.Held.{AsksFor, LanesStandFor}
+use Rattle.slicer_bank.proofs.lane.is_some_busy.Given as goal
+
+abbrev pub invariant-loop-lane : goal.invariant-loop-lane
+invariant-loop-lane l = (flags : ℕ) (x : List ℤ) → LanesStandFor l.lanes x → All (AsksFor flags) l.lanes → (k : ℕ) → k < l.lane-index → HoldsCarrier flags (bits k x) → ⊥

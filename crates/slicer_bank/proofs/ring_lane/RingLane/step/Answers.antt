@@ -1,0 +1,39 @@
+use Rattle.std.proofs.Common.{◌≡◌, ◌+◌, ℤ, rules, refl, sym, subst, to_z, of_z}
+use Rattle.std.proofs.lemmas.Bool.{true≢false}
+use Rattle.std.proofs.lemmas.Int.{to_z-of_z}
+use Rattle.std.proofs.lemmas.List.{append-nil}
+use mir.Syntax.{w16}
+use Rattle.sample_ring.specs.declared.got.Got.{Got}
+use Rattle.sample_ring.specs.declared.got.Got.TheVariants.{Item}
+use Rattle.slicer_bank.specs.Stretches.{Stretch, with_sample}
+use Rattle.slicer_bank.specs.StretchLanes.{StretchStandsFor, HearsSample}
+use Rattle.slicer_bank.proofs.ring_lane.RingLane.step.Goals as goal
+
+pub returns-in_ok-hear-in-Item-clause-took : goal.returns-in_ok-hear-in-Item-clause-took
+returns-in_ok-hear-in-Item-clause-took c =
+    let got : Got = Item c.in-Item.at c.in-Item.sample in
+    let stored : to_z w16 (of_z w16 c.in-Item.sample) ≡ c.in-Item.sample = to_z-of_z w16 c.in-Item.sample (search rules) in
+    let read = c.in-Item.ensures.read in
+    let heard : HearsSample c.args.self.now.lane c.in-Item.sample (c.in-Item.at + 1) c.args.self.now.found.items c.hear.new.found.items
+    = subst (λ (z : ℤ). HearsSample c.args.self.now.lane z (c.in-Item.at + 1) c.args.self.now.found.items c.hear.new.found.items) stored c.in_ok-hear-in-Item.ensures.found in
+    let stands : (s : Stretch) → StretchStandsFor c.args.self.now.lane s → StretchStandsFor c.hear.new.lane (with_sample s c.in-Item.sample)
+    = subst (λ (z : ℤ). (s : Stretch) → StretchStandsFor c.args.self.now.lane s → StretchStandsFor c.hear.new.lane (with_sample s z)) stored c.hear.ensures.stands_for in (
+      got,
+      refl,
+      record {
+        entry = read.0;
+        is = read.4;
+        read = read.3;
+        forward = c.in-Item.ensures.forward;
+        position = c.in-Item.ensures.moves;
+        gaps = sym (append-nil c.args.self.now.gaps.items);
+        ended = refl;
+        stands = stands;
+        octets = heard.octets;
+        one = heard.one;
+        only = λ e. absurd (true≢false e);
+        found = heard.found;
+        each = heard.each;
+        whole = heard.whole;
+      },
+    )
