@@ -1,0 +1,6 @@
+pub mod JointRun
+pub mod LinkSteps
+pub mod HeardInOrder
+pub mod LinkOfCalls
+pub mod StationsLaw
+pub mod Owners

@@ -1,0 +1,29 @@
+//! Laws on two stations. A law is the contract of a function that does nothing.
+ghost use Rattle.channel_bench.specs.StationsLaw.{FollowingLaw, StationsLaw};
+ghost use Rattle.channel_bench.specs.Owners.{OwnersAreTold};
+
+/// The law on any two stations. A joint run is a list of steps, each of one of two stations that began new: what comes from
+/// a host, a frame that is heard, or a tick. It is heard in order if, in each direction, a list of pairs that rises in
+/// both numbers joins each heard frame that was an event of a link with a frame that a link of the other station queued
+/// before, equal but for the H bits of repeaters. Then each link of two calls keeps the order, if the windows of its ends
+/// fit each other, each SABM, SABME and DISC of it enters a quiet channel, also one that finds the transmit queue full, and
+/// an idle end hears SABM or SABME only while none of its own is in flight. In each set-up, what one side was given by the
+/// other is, packet for packet, a prefix of what the other's host gave in one set-up of its own, its origin, and origins
+/// rise strictly. Both ends follow the links of the stations: each event finds the machine of the station's link, and is
+/// told what that tells its owner.
+pub fn stations_law()
+    ensures { StationsLaw }
+{}
+
+/// The two ends of a link follow the links of the stations, whether the channel is quiet or not, over every joint run that is
+/// heard in order: each event finds an end with the machine of its station's link and tells it what that link tells, and
+/// after the run the machines are those of the links, or idle if there is none.
+pub fn ends_follow()
+    ensures { FollowingLaw }
+{}
+
+/// What a link tells in an event goes to its owner, one message each and in order, and to nobody else. So what an end got in
+/// [`stations_law`] are the data messages that the owner of the station's link was sent.
+pub fn owners_are_told()
+    ensures { OwnersAreTold }
+{}

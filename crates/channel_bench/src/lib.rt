@@ -1,0 +1,9 @@
+//! Two stations that hear each other (AX.25 2.2 section 6). What is promised: over every joint run of two stations in which
+//! what their links hear was sent before, and is heard in order and once, each link whose windows fit and whose channel is
+//! quiet when it is set up or ended keeps the law of two links. In each set-up a host is given a prefix of what its
+//! partner's host gave in one set-up of its own, packet for packet, and these set-ups come in order (`stations_law`).
+#![tactic(auto)]
+
+mod laws;
+
+pub use laws::{ends_follow, owners_are_told, stations_law};

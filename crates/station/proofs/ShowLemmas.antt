@@ -1,0 +1,31 @@
+-- A station behind what it shows to a connection.
+use Rattle.std.specs.Prelude.{◌≡◌, ℕ, List, refl}
+use Rattle.std.proofs.Common.{◌∙◌, ap}
+use Rattle.station.specs.declared.connection.Connection.{Connection as HeldConnection}
+use Rattle.station.specs.declared.connection.Reader.{Reader}
+use Rattle.station.specs.declared.connection.Reader.TheVariants.{KissReader, AgwReader}
+use Rattle.station.specs.declared.host_event.PortKind.{PortKind}
+use Rattle.station.specs.declared.host_event.PortKind.TheVariants.{Kiss, Agw}
+use Rattle.station.specs.declared.parts.Parts.{Parts}
+use Rattle.station.specs.Connections.{Connection}
+use Rattle.station.specs.Heard.{showing_to, with_shown}
+use Rattle.station.specs.HeldConnections.{kind_of}
+use Rattle.station.specs.StandsFor.{Reads, Shows, StandsForConnection}
+use Rattle.station.specs.Turn.{Out, Turn}
+
+-- a reader reads a stream of its own kind
+pub kind_read : (reader : Reader) (kind : PortKind) (stream : List ℕ) → Reads reader kind stream → kind_of reader ≡ kind
+kind_read (KissReader reader) Kiss stream h = refl
+kind_read (KissReader reader) Agw stream h = absurd h
+kind_read (AgwReader reader) Kiss stream h = absurd h
+kind_read (AgwReader reader) Agw stream h = refl
+
+pub shows_shown : (parts : Parts) (old new : Out) (turn : Turn) (held : HeldConnection) (connection : Connection) (from to octets : List ℕ) → Shows parts old turn → StandsForConnection held connection → new ≡ with_shown (kind_of held.reader) held.id held.raw from to octets old → Shows parts new (showing_to from to octets connection turn)
+shows_shown parts old new turn held connection from to octets shows stands shown = record {
+  holds = shows.holds;
+  gave = shown
+      ∙ ap (λ kind. with_shown kind held.id held.raw from to octets old) (kind_read held.reader connection.kind connection.stream stands.reader)
+      ∙ ap (λ id. with_shown connection.kind id held.raw from to octets old) stands.id
+      ∙ ap (λ raw. with_shown connection.kind connection.id raw from to octets old) stands.raw
+      ∙ ap (λ (out : Out). with_shown connection.kind connection.id connection.raw from to octets out) shows.gave;
+}

@@ -1,0 +1,20 @@
+use Rattle.std.specs.Prelude.{◌≡◌, ℕ, List, IfOk}
+use Rattle.std.proofs.Common.{◌∙◌, ap, subst}
+use Rattle.agwpe_port.specs.Messages.{spelling}
+use Rattle.station.specs.AgwKinds.{disconnect_kind}
+use Rattle.station.specs.AgwRequests.{refused_reply}
+use Rattle.station.specs.CallFields.{field_text, sent_back}
+use Rattle.station.specs.HostMessages.{to_host, disconnected_text}
+use Rattle.station.proofs.calling.refusal.Goals as goal
+
+pub returns : goal.returns
+returns c =
+    let message = c.args.message.now in
+    let remote : List ℕ = c.sent_back-remote.result in
+    let local : List ℕ = c.sent_back-local.result in
+    let text : c.deref.result.now ≡ disconnected_text (field_text remote) = c.deref.ensures.value ∙ c.in_ok-text.ensures ∙ ap disconnected_text c.text_of.ensures.text in
+    let same : spelling (to_host disconnect_kind 0 remote local c.deref.result.now) ≡ spelling (refused_reply message) =
+    ap (λ (body : List ℕ). spelling (to_host disconnect_kind 0 remote local body)) text
+    ∙ ap (λ (field : List ℕ). spelling (to_host disconnect_kind 0 field local (disconnected_text (field_text field)))) c.sent_back-remote.ensures
+    ∙ ap (λ (field : List ℕ). spelling (to_host disconnect_kind 0 (sent_back message.to) field (disconnected_text (field_text (sent_back message.to))))) c.sent_back-local.ensures in
+    subst (λ (wanted : List ℕ). IfOk c.message.result (λ octets. octets ≡ wanted)) same c.message.ensures

@@ -1,0 +1,15 @@
+use Rattle.std.specs.Prelude.{◌≡◌, ℕ, List, Result, Ok, Err, IfOk}
+use Rattle.tnc_base.specs.declared.fault.OutOfMemory.{OutOfMemory}
+use Rattle.ax25_frames.specs.declared.frame.Frame.{Frame}
+use Rattle.ax25_frames.specs.declared.frame.Modulus.{Modulus}
+use Rattle.ax25_frames.specs.FrameOctets.{IsWrittenFrame}
+use Rattle.station.specs.FrameSpelling.{frame_octets}
+use Rattle.station.proofs.FrameLemmas.{frame_spelled}
+use Rattle.station.proofs.frames.written.Goals as goal
+
+spelled_result : (modulus : Modulus) (frame : Frame) (result : Result (List ℕ) OutOfMemory) → IfOk result (IsWrittenFrame frame modulus) → IfOk result (λ octets. octets ≡ frame_octets modulus frame)
+spelled_result modulus frame (Ok octets) h = frame_spelled modulus frame octets h
+spelled_result modulus frame (Err fault) h = tt
+
+pub returns-clause-octets : goal.returns-clause-octets
+returns-clause-octets c = spelled_result c.args.modulus c.args.frame.now c.write_frame.result c.write_frame.ensures.written

@@ -1,0 +1,8 @@
+use Rattle.std.specs.Prelude.{ℕ, ◌<◌, IfSome}
+use Rattle.slab.specs.Slab.{get}
+use Rattle.station.specs.HasFew.{HasFew}
+use Rattle.station.proofs.link_table.LinkTable.hold_few.Given as goal
+
+-- the links so far hold few packets
+abbrev pub invariant-loop-key : goal.invariant-loop-key
+invariant-loop-key l = (k : ℕ) → k < l.key → IfSome (get l.self-inside.slab k) (HasFew l.id)

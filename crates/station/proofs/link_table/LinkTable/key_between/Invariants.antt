@@ -1,0 +1,8 @@
+use Rattle.std.specs.Prelude.{◌≡◌, ℕ, ◌<◌, false}
+use Rattle.slab.specs.Slab.{get}
+use Rattle.station.specs.HeldLinks.{is_held_between}
+use Rattle.station.proofs.link_table.LinkTable.key_between.Given as goal
+
+-- no link so far is between the calls
+abbrev pub invariant-loop-key : goal.invariant-loop-key
+invariant-loop-key l = (k : ℕ) → k < l.key → is_held_between l.local l.remote (get l.self-inside.slab k) ≡ false

@@ -1,0 +1,14 @@
+use Rattle.std.specs.Prelude.{◌≡◌, take}
+use Rattle.station.specs.AgwRequests.{AreAnswered}
+use Rattle.station.specs.Held.{ids_in}
+use Rattle.station.specs.StandsFor.{Shows}
+use Rattle.station.specs.Turn.{Turn}
+use Rattle.station.proofs.parts.Parts.answer_all.Given as goal
+
+-- the messages so far are answered
+abbrev pub invariant-loop-message : goal.invariant-loop-message
+invariant-loop-message l = record {
+  step : (turn : Turn) → Shows l.fn.self l.fn.out turn → (behind : Turn) × AreAnswered l.id (take l.message-index l.messages) turn behind × Shows l.self l.out behind;
+  ids : ids_in l.self ≡ ids_in l.fn.self;
+  closed : l.out.closed ≡ l.fn.out.closed;
+}

@@ -1,0 +1,43 @@
+use Rattle.std.specs.Prelude.{◌≡◌, Option, Some, None, refl}
+use Rattle.std.proofs.Common.{◌∙◌, subst}
+use Rattle.std.proofs.lemmas.Result.{on_ok_weaker}
+use Rattle.ax25_frames.specs.ControlField.{IsNumbered}
+use Rattle.ax25_frames.specs.FrameOctets.{control_of}
+use Rattle.ax25_frames.specs.declared.frame.Frame.{Frame}
+use Rattle.ax25_frames.specs.declared.frame.Modulus.{Modulus}
+use Rattle.link_machine.specs.Event.Event.{Hear}
+use Rattle.station.specs.Heard.{IsReadAs, link_modulus}
+use Rattle.station.specs.LinkEvents.{event_at}
+use Rattle.station.specs.Links.{link_at}
+use Rattle.station.specs.TableSteps.{place_at}
+use Rattle.station.proofs.EventLemmas.{places-at}
+use Rattle.station.proofs.HearLemmas.{same_modulus}
+use Rattle.station.proofs.parts.Parts.hear_at.Goals as goal
+
+pub link_event-requires : goal.link_event-requires
+link_event-requires c =
+    let frame = c.in-Some.frame in
+    let is : IsReadAs c.modulus-modulus.result c.args.octets.now (Some frame) = subst (λ (reading : Option Frame). IsReadAs c.modulus-modulus.result c.args.octets.now reading) c.in-Some.is c.in_ok-frame.ensures in
+    subst (λ (modulus : Modulus). IsNumbered modulus (control_of frame.kind)) c.modulus-modulus.ensures is.kind.numbered
+
+pub returns-in-Some-clause-heard : goal.returns-in-Some-clause-heard
+returns-in-Some-clause-heard c = λ turn shows.
+    let frame = c.in-Some.frame in
+    let octets = c.args.octets.now in
+    let key = c.args.key in
+    let links = c.args.self.now.links in
+    let modulus : c.modulus-modulus.result ≡ link_modulus (link_at key turn.now.links) =
+    c.modulus-modulus.ensures ∙ same_modulus (place_at key links) (link_at key turn.now.links) (places-at links.places turn.now.links.places key shows.holds.links.places) in
+    let is : IsReadAs c.modulus-modulus.result octets (Some frame) = subst (λ (reading : Option Frame). IsReadAs c.modulus-modulus.result octets reading) c.in-Some.is c.in_ok-frame.ensures in
+    on_ok_weaker c.link_event.result (λ s. (event_at key (Hear frame) turn, (Some frame, subst (λ (m : Modulus). IsReadAs m octets (Some frame)) modulus is, refl), s))
+    (c.link_event.ensures.shows turn shows)
+
+pub returns-in-None-clause-heard : goal.returns-in-None-clause-heard
+returns-in-None-clause-heard c = λ turn shows.
+    let octets = c.args.octets.now in
+    let key = c.args.key in
+    let links = c.args.self.now.links in
+    let modulus : c.modulus-modulus.result ≡ link_modulus (link_at key turn.now.links) =
+    c.modulus-modulus.ensures ∙ same_modulus (place_at key links) (link_at key turn.now.links) (places-at links.places turn.now.links.places key shows.holds.links.places) in
+    let is : IsReadAs c.modulus-modulus.result octets None = subst (λ (reading : Option Frame). IsReadAs c.modulus-modulus.result octets reading) c.in-None.is c.in_ok-frame.ensures in
+    (turn, (None, subst (λ (m : Modulus). IsReadAs m octets None) modulus is, refl), shows)

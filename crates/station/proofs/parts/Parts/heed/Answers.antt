@@ -1,0 +1,19 @@
+use Rattle.std.specs.Prelude.{◌==◌}
+use Rattle.std.proofs.Common.{sym, subst}
+use Rattle.std.proofs.lemmas.Bool.{cond-true, eq-eqb}
+use Rattle.channel_access.specs.declared.parameters.Param.{Param}
+use Rattle.kiss_port.specs.declared.item.KissItem.{KissItem}
+use Rattle.station.specs.Kiss.{heeding, param_of, with_param}
+use Rattle.station.specs.StandsFor.{Shows}
+use Rattle.station.specs.Turn.{Turn, changing}
+use Rattle.station.proofs.parts.Parts.heed.Goals as goal
+
+pub returns-then-port-eq0-clause-shows : goal.returns-then-port-eq0-clause-shows
+returns-then-port-eq0-clause-shows c = λ turn shows.
+    let new = c.set.new.self in
+    let out = c.args.out.now in
+    let port = c.in-Set.port in
+    let act : Turn = changing (with_param (param_of c.in-Set.command c.in-Set.value)) turn in
+    let set : Shows new out act = subst (λ (param : Param). Shows new out (changing (with_param param) turn)) c.param_of.ensures (c.set.ensures.shows out turn shows) in
+    subst (λ (item : KissItem). Shows new out (heeding item turn)) (sym c.in-Set.is)
+    (subst (λ (behind : Turn). Shows new out behind) (sym (cond-true (port == 0) act turn (eq-eqb port 0 c.if-port-eq0.true))) set)

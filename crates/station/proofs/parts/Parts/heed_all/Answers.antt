@@ -1,0 +1,21 @@
+use Rattle.std.specs.Prelude.{◌≡◌, ◌+◌, take}
+use Rattle.std.proofs.Common.{sym, ◌∙◌, ap, subst}
+use Rattle.kiss_port.specs.declared.item.KissItem.{KissItem}
+use Rattle.station.specs.Kiss.{heeding, heeding_all}
+use Rattle.station.specs.StandsFor.{Shows}
+use Rattle.station.specs.Turn.{Turn}
+use Rattle.station.proofs.TurnLemmas.{in_order-more}
+use Rattle.station.proofs.parts.Parts.heed_all.Goals as goal
+
+pub loop-item-preserved : goal.loop-item-preserved
+loop-item-preserved c = record {
+  shows = λ turn shows.
+      let items = c.args.items.now in
+      let i = c.loop-item.item-index in
+      let before : Turn = heeding_all (take i items) turn in
+      let more : heeding_all (take (i + 1) items) turn ≡ heeding c.item-item.result before =
+      in_order-more heeding items i c.item-item.result turn c.loop-item-test.true ∙ ap (λ (item : KissItem). heeding item before) (sym c.item-item.is) in
+      subst (λ (behind : Turn). Shows c.heed.new.self c.heed.new.out behind) (sym more) (c.in_ok-heed.ensures.shows before (c.loop-item.invariant.shows turn shows));
+  ids = c.in_ok-heed.ensures.ids ∙ c.loop-item.invariant.ids;
+  closed = c.in_ok-heed.ensures.closed ∙ c.loop-item.invariant.closed;
+}

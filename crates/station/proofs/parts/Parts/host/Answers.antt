@@ -1,0 +1,7 @@
+use Rattle.std.proofs.Common.{subst}
+use Rattle.station.specs.declared.host_event.HostEvent.{HostEvent}
+use Rattle.station.specs.Held.{JoinsAnew}
+use Rattle.station.proofs.parts.Parts.host.Goals as goal
+
+pub join-requires : goal.join-requires
+join-requires c = subst (λ (event : HostEvent). JoinsAnew event c.args.self.now) c.in-Joined.is c.requires

@@ -1,0 +1,61 @@
+use Rattle.std.specs.Prelude.{◌≡◌, ℕ, nat_lt, length, List, [], ◌∷◌, ◌++◌, true, false, map, refl}
+use Rattle.std.proofs.Common.{sym, ◌∙◌, ap, subst, arith}
+use Rattle.std.proofs.lemmas.Bool.{cond-true, cond-false}
+use Rattle.std.proofs.lemmas.Bool.Decides.{nat_tests}
+use Rattle.std.proofs.lemmas.List.{map-append}
+use Rattle.std.proofs.lemmas.Result.{on_ok_weaker}
+use Rattle.station.specs.declared.connection.Connection.{Connection as HeldConnection}
+use Rattle.station.specs.Held.{ids_in, without_ids}
+use Rattle.station.specs.Host.{with_host}
+use Rattle.station.specs.StandsFor.{StandsForConnection, Shows}
+use Rattle.station.specs.Turn.{Out, Turn, changing, closing}
+use Rattle.station.proofs.JoinLemmas.{shows_joined, ids_closed}
+use Rattle.station.proofs.Standing.{AllZip-length}
+use Rattle.station.proofs.parts.Parts.join.Goals as goal
+
+pub returns-then-len-ge-MOST_CONNECTIONS-clause-shows : goal.returns-then-len-ge-MOST_CONNECTIONS-clause-shows
+returns-then-len-ge-MOST_CONNECTIONS-clause-shows c = λ turn shows.
+    let id = c.args.id in
+    let same = AllZip-length StandsForConnection c.args.self.now.connections.items turn.now.connections shows.holds.connections in
+    let full : nat_lt (length turn.now.connections) 64 ≡ false = grind (arith, nat_tests, c.len.ensures, c.args.self.now.connections.ok) in
+    on_ok_weaker c.close.result (λ e. subst (λ (behind : Turn). Shows c.args.self.now c.close.new.self behind)
+    (sym (cond-false (nat_lt (length turn.now.connections) 64) (changing (with_host id c.args.kind) turn) (closing id turn) full))
+    (record { holds = shows.holds; gave = e ∙ ap (λ (out : Out). record out { closed = out.closed ++ id ∷ [] }) shows.gave })) c.close.ensures
+
+pub returns-then-len-ge-MOST_CONNECTIONS-clause-ids : goal.returns-then-len-ge-MOST_CONNECTIONS-clause-ids
+returns-then-len-ge-MOST_CONNECTIONS-clause-ids c =
+    let id = c.args.id in
+    on_ok_weaker c.close.result (λ e none. ids_closed id (ids_in c.args.self.now) c.close.new.self.closed c.requires
+    (ap (λ (out : Out). out.closed) e ∙ ap (λ (gone : List ℕ). gone ++ id ∷ []) none)) c.close.ensures
+
+pub returns-clause-shows : goal.returns-clause-shows
+returns-clause-shows c = λ turn shows.
+    let id = c.args.id in
+    let parts = c.args.self.now in
+    let same = AllZip-length StandsForConnection parts.connections.items turn.now.connections shows.holds.connections in
+    let room : nat_lt (length turn.now.connections) 64 ≡ true = grind (arith, nat_tests, c.len.ensures, parts.connections.ok) in
+    let held : HeldConnection = record { id = id; raw = false; reader = c.new_reader.result } in
+    let joined = shows_joined parts c.args.out.now turn c.push.new.self.items held c.args.kind shows c.requires refl c.new_reader.ensures c.in_ok-push.ensures.items in
+    subst (λ (behind : Turn). Shows (record parts { connections = c.push.new.self }) c.args.out.now behind)
+    (sym (cond-true (nat_lt (length turn.now.connections) 64) (changing (with_host id c.args.kind) turn) (closing id turn) room))
+    (record {
+      holds = record {
+        parameters = shows.holds.parameters;
+        digi = shows.holds.digi;
+        connections = joined.0;
+        ids = joined.1;
+        registrations = shows.holds.registrations;
+        links = shows.holds.links;
+        channel = shows.holds.channel;
+        dropped = shows.holds.dropped;
+      };
+      gave = shows.gave;
+    })
+
+pub returns-clause-ids : goal.returns-clause-ids
+returns-clause-ids c = λ none.
+    let id = c.args.id in
+    let held : HeldConnection = record { id = id; raw = false; reader = c.new_reader.result } in
+    ap (λ (items : List HeldConnection). map (λ (connection : HeldConnection). connection.id) items) c.in_ok-push.ensures.items
+    ∙ map-append (λ (connection : HeldConnection). connection.id) c.args.self.now.connections.items (held ∷ [])
+    ∙ sym (ap (λ (gone : List ℕ). without_ids gone (ids_in c.args.self.now ++ id ∷ [])) none)

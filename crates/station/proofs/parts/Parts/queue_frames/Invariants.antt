@@ -1,0 +1,14 @@
+use Rattle.std.specs.Prelude.{◌≡◌, take}
+use Rattle.station.specs.Held.{ids_in}
+use Rattle.station.specs.LinkEvents.{queueing_frames}
+use Rattle.station.specs.StandsFor.{Shows}
+use Rattle.station.specs.Turn.{Turn}
+use Rattle.station.proofs.parts.Parts.queue_frames.Given as goal
+
+-- the frames so far are queued
+abbrev pub invariant-loop-sent : goal.invariant-loop-sent
+invariant-loop-sent l = record {
+  shows : (turn : Turn) → Shows l.fn.self l.fn.out turn → Shows l.self l.out (queueing_frames l.key (take l.sent-index l.frames) turn);
+  ids : ids_in l.self ≡ ids_in l.fn.self;
+  closed : l.out.closed ≡ l.fn.out.closed;
+}

@@ -1,0 +1,50 @@
+-- What the code keeps of a station. Public clauses cite `IsAdmitted`, `Takes`, `ids_of` and the field `spent` alone.
+use Rattle.std.specs.Prelude.{◌≡◌, ◌≢◌, ℕ, ◌<◌, ◌≤◌, ◌==◌, Bool, not, List, [], ◌∷◌, ◌++◌, length, map, filter, All, Any, IfSome}
+use Rattle.station.specs.declared.host_event.HostEvent.{HostEvent}
+use Rattle.station.specs.declared.host_event.HostEvent.TheVariants.{Joined, Bytes, Left}
+use Rattle.station.specs.declared.parts.Parts.{Parts}
+use Rattle.station.specs.HasFew.{HasFew}
+use Rattle.station.specs.State.{most_waiting}
+
+pub record Held : Type 0 where
+  pub parts : Parts
+  -- memory was wanted and not given
+  pub spent : Bool
+
+-- the ids of the connections, in the order in which they joined
+abbrev pub ids_in : Parts → List ℕ
+ids_in parts = map (λ connection. connection.id) parts.connections.items
+
+abbrev pub ids_of : Held → List ℕ
+ids_of held = ids_in held.parts
+
+-- the station takes octets of the connection
+pub record Takes (id : ℕ) (held : Held) : Type 0 where
+  pub queue : length held.parts.channel.waiting < most_waiting
+  pub links : All (λ place. IfSome place (HasFew id)) held.parts.links.places
+
+-- the connection is there
+abbrev pub IsThere : ℕ → Held → Type 0
+IsThere id held = Any (λ other. other ≡ id) (ids_of held)
+
+-- a connection joins under a new id, and its octets come, at most 4096 and where they are taken, until it leaves
+abbrev pub IsAdmitted : HostEvent → Held → Type 0
+IsAdmitted (Joined id kind) held = All (λ other. other ≢ id) (ids_of held)
+IsAdmitted (Bytes id octets) held = IsThere id held × (length octets ≤ 4096) × Takes id held
+IsAdmitted (Left id) held = IsThere id held
+
+-- the ids behind an event, of which these are closed
+abbrev pub without_ids : List ℕ → List ℕ → List ℕ
+without_ids [] ids = ids
+without_ids (closed ∷ others) ids = without_ids others (filter (λ id. not (id == closed)) ids)
+
+abbrev pub ids_behind : HostEvent → List ℕ → List ℕ → List ℕ
+ids_behind (Joined id kind) closed ids = without_ids closed (ids ++ id ∷ [])
+ids_behind (Bytes id octets) closed ids = without_ids closed ids
+ids_behind (Left id) closed ids = without_ids (id ∷ []) ids
+
+-- the id of a connection that joins is new
+abbrev pub JoinsAnew : HostEvent → Parts → Type 0
+JoinsAnew (Joined id kind) parts = All (λ other. other ≢ id) (ids_in parts)
+JoinsAnew (Bytes id octets) parts = Unit {0}
+JoinsAnew (Left id) parts = Unit {0}

@@ -1,0 +1,66 @@
+-- What comes from a host program: it joins, its octets come, and it leaves.
+use Rattle.std.specs.Prelude.{◌≡◌, ℕ, nat_lt, if◌then◌else◌, List, [], ◌∷◌, ◌++◌, length, drop, Option, Some, None}
+use Rattle.agwpe_port.specs.declared.message.AgwMessage.{AgwMessage}
+use Rattle.agwpe_port.specs.Messages.{messages_in, bad_length_in}
+use Rattle.kiss_port.specs.declared.item.KissItem.{KissItem}
+use Rattle.kiss_port.specs.Items.{items_in}
+use Rattle.station.specs.declared.host_event.HostEvent.{HostEvent}
+use Rattle.station.specs.declared.host_event.HostEvent.TheVariants.{Joined, Bytes, Left}
+use Rattle.station.specs.declared.host_event.PortKind.{PortKind}
+use Rattle.station.specs.declared.host_event.PortKind.TheVariants.{Kiss, Agw}
+use Rattle.station.specs.AgwRequests.{AreAnswered}
+use Rattle.station.specs.Connections.{Connection, most_connections, new_connection, connection_of, with_connection}
+use Rattle.station.specs.Kiss.{heeding_all}
+use Rattle.station.specs.Leaving.{leaving}
+use Rattle.station.specs.State.{StationState}
+use Rattle.station.specs.Turn.{Turn, Act, changing, closing}
+
+-- ---- it joins
+
+abbrev pub with_host : ℕ → PortKind → StationState → StationState
+with_host id kind s = record s { connections = s.connections ++ new_connection id kind ∷ [] }
+
+-- one that would be the 65th is closed
+abbrev pub joining : ℕ → PortKind → Act
+joining id kind turn =
+    if nat_lt (length turn.now.connections) most_connections then changing (with_host id kind) turn else closing id turn
+
+-- ---- its octets
+
+abbrev pub with_octets : List ℕ → Connection → Connection
+with_octets octets connection = record connection { stream = connection.stream ++ octets }
+
+abbrev pub taking : ℕ → List ℕ → Act
+taking id octets = changing (λ s. record s { connections = with_connection id (with_octets octets) s.connections })
+
+-- the items that end in the octets behind a stream
+abbrev pub new_items : List ℕ → List ℕ → List KissItem
+new_items stream octets = drop (length (items_in stream)) (items_in (stream ++ octets))
+
+abbrev pub new_messages : List ℕ → List ℕ → List AgwMessage
+new_messages stream octets = drop (length (messages_in stream)) (messages_in (stream ++ octets))
+
+-- behind a header that tells too long a body, the connection is closed and has left
+abbrev pub ending : ℕ → Option ℕ → Act
+ending id None turn = turn
+ending id (Some len) turn = leaving id (closing id turn)
+
+abbrev pub AreTakenBy : PortKind → Connection → List ℕ → Turn → Turn → Type 0
+AreTakenBy Kiss connection octets before after =
+    after ≡ heeding_all (new_items connection.stream octets) (taking connection.id octets before)
+AreTakenBy Agw connection octets before after =
+    (answered : Turn)
+    × AreAnswered connection.id (new_messages connection.stream octets) (taking connection.id octets before) answered
+    × (after ≡ ending connection.id (bad_length_in (connection.stream ++ octets)) answered)
+
+-- the octets of a connection that is there
+abbrev pub AreTaken : Option Connection → List ℕ → Turn → Turn → Type 0
+AreTaken None octets before after = after ≡ before
+AreTaken (Some connection) octets before after = AreTakenBy connection.kind connection octets before after
+
+-- ---- each event
+
+abbrev pub IsHostTurn : HostEvent → Turn → Turn → Type 0
+IsHostTurn (Joined id kind) before after = after ≡ joining id kind before
+IsHostTurn (Bytes id octets) before after = AreTaken (connection_of id before.now.connections) octets before after
+IsHostTurn (Left id) before after = after ≡ leaving id before

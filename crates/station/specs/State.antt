@@ -1,0 +1,53 @@
+-- The state of a station: what host programs have asked for, its links, and its channel.
+use Rattle.std.specs.Prelude.{◌≡◌, ℕ, ◌+◌, ◌<◌, ◌≤◌, nat_lt, if◌then◌else◌, List, [], length, All, Option, Some, IfSome}
+use Rattle.ax25_address.specs.Callsign.{Callsign}
+use Rattle.link_machine.specs.declared.params.Params.{Params}
+use Rattle.channel_access.specs.Channel.{Channel, new_channel}
+use Rattle.station.specs.declared.config.Config.{Config}
+use Rattle.station.specs.declared.registration.Registration.{Registration}
+use Rattle.station.specs.Connections.{Connection}
+use Rattle.station.specs.Links.{Link, Links, no_links}
+
+pub record StationState : Type 0 where
+  -- of each link: REJ or SREJ, and the window
+  pub parameters : Params
+  -- the call that the station repeats for
+  pub digi : Option Callsign
+  pub connections : List Connection
+  pub registrations : List Registration
+  pub links : Links
+  pub channel : Channel
+  -- how many frames found the transmit queue full
+  pub dropped : ℕ
+
+abbrev pub new_station : Config → ℕ → StationState
+new_station config seed = record {
+  parameters = config.params;
+  digi = config.digi;
+  connections = [];
+  registrations = [];
+  links = no_links;
+  channel = new_channel seed;
+  dropped = 0;
+}
+
+-- a count that stays at the greatest number of 64 bits
+abbrev pub one_more : ℕ → ℕ
+one_more count = if nat_lt count 0xffffffffffffffff then count + 1 else count
+
+-- a connection gives more octets only while each of its links holds at most so many packets
+abbrev pub most_held : ℕ
+most_held = 512
+
+-- and while fewer frames than this wait to be sent
+abbrev pub most_waiting : ℕ
+most_waiting = 100
+
+-- a link that is of the connection holds few packets
+abbrev pub HoldsFew : ℕ → Link → Type 0
+HoldsFew id link = link.owner ≡ Some id → length link.machine.outgoing.packets ≤ most_held
+
+-- the station takes octets of the connection
+pub record Accepts (id : ℕ) (s : StationState) : Type 0 where
+  pub queue : length s.channel.waiting < most_waiting
+  pub links : All (λ place. IfSome place (HoldsFew id)) s.links.places

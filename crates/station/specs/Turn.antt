@@ -1,0 +1,69 @@
+-- One call of a station, act by act: what the station is after the acts so far, and what they gave.
+use Rattle.std.specs.Prelude.{ℕ, nat_lt, if◌then◌else◌, List, [], ◌∷◌, ◌++◌, length, Option, Some, None}
+use Rattle.channel_access.specs.Channel.{with_frame}
+use Rattle.station.specs.declared.host_out.Piece.{Piece}
+use Rattle.station.specs.State.{StationState, one_more}
+
+-- what is sent to connections, which of them are closed, and the link frames that joined the transmit queue
+pub record Out : Type 0 where
+  pub pieces : List Piece
+  pub closed : List ℕ
+  pub queued : List (List ℕ)
+
+pub record Turn : Type 0 where
+  pub now : StationState
+  pub out : Out
+
+abbrev pub Act : Type 0
+Act = Turn → Turn
+
+-- before any act
+abbrev pub begin : StationState → Turn
+begin s = record { now = s; out = record { pieces = []; closed = []; queued = [] } }
+
+-- no act
+abbrev pub nothing : Act
+nothing turn = turn
+
+-- acts one after another
+abbrev pub in_order : List Act → Act
+in_order [] turn = turn
+in_order (act ∷ acts) turn = in_order acts (act turn)
+
+-- an act that gives nothing
+abbrev pub changing : (StationState → StationState) → Act
+changing change turn = record turn { now = change turn.now }
+
+-- octets for a connection
+abbrev pub with_piece : ℕ → List ℕ → Out → Out
+with_piece id octets out = record out { pieces = out.pieces ++ (record { id = id; octets = octets }) ∷ [] }
+
+abbrev pub sending : ℕ → List ℕ → Act
+sending id octets turn = record turn { out = with_piece id octets turn.out }
+
+-- a connection is closed
+abbrev pub closing : ℕ → Act
+closing id turn = record turn { out = record turn.out { closed = turn.out.closed ++ id ∷ [] } }
+
+-- a frame is told of where it is a link's
+abbrev pub told_of : Option ℕ → List ℕ → List (List ℕ)
+told_of None octets = []
+told_of (Some key) octets = octets ∷ []
+
+abbrev pub entering : Option ℕ → List ℕ → Act
+entering link octets turn = record {
+  now = record turn.now { channel = with_frame link octets turn.now.channel };
+  out = record turn.out { queued = turn.out.queued ++ told_of link octets };
+}
+
+abbrev pub dropping : Act
+dropping turn = record turn { now = record turn.now { dropped = one_more turn.now.dropped } }
+
+-- the most frames that wait to be sent
+abbrev pub capacity : ℕ
+capacity = 256
+
+-- a frame joins the transmit queue, for the link of a key or for none, or is dropped where 256 wait
+abbrev pub queueing : Option ℕ → List ℕ → Act
+queueing link octets turn =
+    if nat_lt (length turn.now.channel.waiting) capacity then entering link octets turn else dropping turn

@@ -1,0 +1,24 @@
+//! The connections of host programs.
+
+use agwpe_port::AgwIn;
+use kiss_port::KissIn;
+
+/// What reads the octets of a connection.
+#[derive(Drop)]
+pub enum Reader {
+    /// Of KISS.
+    KissReader(KissIn),
+    /// Of AGWPE.
+    AgwReader(AgwIn),
+}
+
+/// A connection that is there.
+#[derive(Drop)]
+pub struct Connection {
+    /// Its id.
+    pub id: u32,
+    /// Whether it is sent each frame that is heard.
+    pub raw: bool,
+    /// What has read its octets so far.
+    pub reader: Reader,
+}

@@ -1,0 +1,237 @@
+//! A frame that is heard.
+ghost use Rattle.std.specs.Prelude.{◌&&◌, nat_lt, count_by, is_some, ◌≡◌, ℕ, ◌<◌, ◌↔◌, not, Some, None, OnOk, IfOk, IsTrue};
+ghost use Rattle.ax25_address.specs.FramePath.{BeginsWithPath, way_back};
+ghost use Rattle.ax25_address.specs.declared.path.Role.TheVariants.{Command};
+ghost use Rattle.ax25_frames.specs.ControlField.{IsNumbered};
+ghost use Rattle.ax25_frames.specs.FrameOctets.{control_of};
+ghost use Rattle.ax25_frames.specs.declared.frame.Modulus.TheVariants.{Eight};
+ghost use Rattle.channel_access.specs.Waiting.{HasFrameLength};
+ghost use Rattle.station.specs.Heard.{IsReadAs, IsHeard, IsRepeatedFor, AreOctetsHeard, AreHeardAt, IsHeardAnew, waits_for_repeater, makes_link, is_command_to_set_up};
+ghost use Rattle.station.specs.Held.{ids_in};
+ghost use Rattle.station.specs.Registrations.{registrar};
+ghost use Rattle.station.specs.HeldFrames.{IsUnread};
+ghost use Rattle.station.specs.StandsFor.{Shows};
+ghost use Rattle.station.specs.Turn.{Turn};
+
+use crate::host_out::HostOut;
+use crate::link_event::LinkEvent;
+use crate::new_links::NO_LAYER_3;
+use crate::parts::Parts;
+use agwpe_port::call_text;
+use ax25_address::{Call, Path, Role, read_path, reversed};
+use ax25_frames::{Frame, FrameFault, Kind, Modulus, U, read_frame};
+use digipeater::repeat;
+use std::alloc::Global;
+use tnc_base::{Octets, OutOfMemory};
+
+impl Parts {
+    /// Shows a frame to hosts, and repeats it or hands it to its link.
+    pub(crate) fn hear(
+        &mut self,
+        alloc: Global,
+        out: &mut HostOut,
+        octets: &[u8],
+    ) -> Result<(), OutOfMemory>
+        requires { HasFrameLength octets.now }
+        ensures heard { (turn : Turn) → Shows self.old out.old turn → OnOk result ((behind : Turn)
+            × IsHeard octets.now turn behind × Shows self.new out.new behind) }
+        ensures ids { OnOk result (ids_in self.new ≡ ids_in self.old) }
+    {
+        match read_path(octets) {
+            Ok((path, _)) => self.hear_along(alloc, out, &path, octets),
+            Err(_) => self.show(alloc, out, [0; 10], [0; 10], octets),
+        }
+    }
+
+    /// The same, where the frame begins with this path.
+    fn hear_along(
+        &mut self,
+        alloc: Global,
+        out: &mut HostOut,
+        path: &Path,
+        octets: &[u8],
+    ) -> Result<(), OutOfMemory>
+        requires { HasFrameLength octets.now }
+        ensures heard { (turn : Turn) (len : ℕ) → BeginsWithPath octets.now path.now len → Shows self.old out.old turn
+            → OnOk result ((behind : Turn) × IsHeard octets.now turn behind × Shows self.new out.new behind) }
+        ensures ids { OnOk result (ids_in self.new ≡ ids_in self.old) }
+    {
+        self.show(
+            alloc,
+            out,
+            call_text(&path.source),
+            call_text(&path.dest),
+            octets,
+        )?;
+        if waits_for_repeater(path) {
+            self.repeat(alloc, out, octets)
+        } else {
+            self.hear_octets(alloc, out, path, octets)
+        }
+    }
+
+    /// Queues a frame as the station repeats it, where it is the station's turn.
+    fn repeat(&mut self, alloc: Global, out: &mut HostOut, octets: &[u8]) -> Result<(), OutOfMemory>
+        requires { HasFrameLength octets.now }
+        ensures repeated { (turn : Turn) → Shows self.old out.old turn → OnOk result ((behind : Turn)
+            × IsRepeatedFor turn.now.digi octets.now turn behind × Shows self.new out.new behind) }
+        ensures ids { OnOk result (ids_in self.new ≡ ids_in self.old) }
+    {
+        let Some(call) = self.digi else {
+            return Ok(());
+        };
+        let mut copy = octets.to_vec(alloc)?;
+        if !repeat(&mut copy, &call) {
+            return Ok(());
+        }
+        let repeated = Octets::from_slice(alloc, &copy)?;
+        self.queue(alloc, out, None, repeated)
+    }
+
+    /// Hands a frame on this path, which waits for no repeater, to the link of its calls.
+    fn hear_octets(
+        &mut self,
+        alloc: Global,
+        out: &mut HostOut,
+        path: &Path,
+        octets: &[u8],
+    ) -> Result<(), OutOfMemory>
+        ensures heard { (turn : Turn) → Shows self.old out.old turn → OnOk result ((behind : Turn)
+            × AreOctetsHeard path.now octets.now turn behind × Shows self.new out.new behind) }
+        ensures ids { OnOk result (ids_in self.new ≡ ids_in self.old) }
+    {
+        match self.links.key_between(&path.dest, &path.source) {
+            Some(key) => self.hear_at(alloc, out, key, octets),
+            None => self.hear_unlinked(alloc, out, octets),
+        }
+    }
+
+    /// Hands a frame to the link of a key, which tells the modulus.
+    fn hear_at(
+        &mut self,
+        alloc: Global,
+        out: &mut HostOut,
+        key: u32,
+        octets: &[u8],
+    ) -> Result<(), OutOfMemory>
+        ensures heard { (turn : Turn) → Shows self.old out.old turn → OnOk result ((behind : Turn)
+            × AreHeardAt (Some key) octets.now turn behind × Shows self.new out.new behind) }
+        ensures ids { OnOk result (ids_in self.new ≡ ids_in self.old) }
+    {
+        let modulus = self.links.modulus(key);
+        match frame_in(alloc, octets, modulus)? {
+            Some(frame) => self.link_event(alloc, out, key, LinkEvent::Hear(frame)),
+            None => Ok(()),
+        }
+    }
+
+    /// Hands a frame whose calls have no link to one that is made for it.
+    fn hear_unlinked(
+        &mut self,
+        alloc: Global,
+        out: &mut HostOut,
+        octets: &[u8],
+    ) -> Result<(), OutOfMemory>
+        ensures heard { (turn : Turn) → Shows self.old out.old turn → OnOk result ((behind : Turn)
+            × AreHeardAt None octets.now turn behind × Shows self.new out.new behind) }
+        ensures ids { OnOk result (ids_in self.new ≡ ids_in self.old) }
+    {
+        match frame_in(alloc, octets, Modulus::Eight)? {
+            Some(frame) => self.hear_anew(alloc, out, frame),
+            None => Ok(()),
+        }
+    }
+
+    /// Hands a frame to a link that is made for it, where its destination is registered.
+    fn hear_anew(
+        &mut self,
+        alloc: Global,
+        out: &mut HostOut,
+        frame: Frame,
+    ) -> Result<(), OutOfMemory>
+        requires { IsNumbered Eight (control_of frame.kind) }
+        ensures heard { (turn : Turn) → Shows self.old out.old turn → OnOk result ((behind : Turn)
+            × IsHeardAnew (registrar frame.path.dest turn.now.registrations) frame turn behind
+            × Shows self.new out.new behind) }
+        ensures ids { OnOk result (ids_in self.new ≡ ids_in self.old) }
+    {
+        let (dest, source) = ends_of(&frame);
+        let Some(id) = self.registrar(&dest) else {
+            return Ok(());
+        };
+        if !self.may_make(&frame) {
+            return Ok(());
+        }
+        let back = back_from(&frame);
+        let key = self.make_link(alloc, id, NO_LAYER_3, dest, source, back)?;
+        self.link_event(alloc, out, key, LinkEvent::Hear(frame))
+    }
+
+    /// Whether a link is made for a frame.
+    fn may_make(&self, frame: &Frame) -> bool
+        ensures { result ≡ (makes_link frame.now.kind && nat_lt (count_by is_some self.now.links.places) 64) }
+    {
+        makes_link(frame) && self.links.has_room()
+    }
+}
+
+/// What octets are read as.
+fn frame_in(alloc: Global, octets: &[u8], modulus: Modulus) -> Result<Option<Frame>, OutOfMemory>
+    ensures { IfOk result (IsReadAs modulus octets.now) }
+{
+    match read_frame(alloc, octets, modulus) {
+        Ok(frame) => Ok(Some(frame)),
+        Err(fault) => unread(fault),
+    }
+}
+
+/// No frame, but where memory was wanted.
+fn unread(fault: FrameFault) -> Result<Option<Frame>, OutOfMemory>
+    ensures { IsUnread fault result }
+{
+    match fault {
+        FrameFault::Memory => Err(OutOfMemory),
+        _ => Ok(None),
+    }
+}
+
+/// Whether some repeater has not repeated the frame.
+fn waits_for_repeater(path: &Path) -> bool
+    ensures { result ≡ waits_for_repeater path.now }
+{
+    path.repeaters.as_slice().iter().any(|hop| !hop.done)
+}
+
+/// The destination and the source of a frame.
+fn ends_of(frame: &Frame) -> (Call, Call)
+    ensures { result ≡ (frame.now.path.dest, frame.now.path.source) }
+{
+    (frame.path.dest, frame.path.source)
+}
+
+/// The way back from a frame.
+fn back_from(frame: &Frame) -> Path
+    ensures { result ≡ way_back frame.now.path Command }
+{
+    reversed(&frame.path, Role::Command)
+}
+
+/// Whether such a frame makes a link where there is none.
+fn makes_link(frame: &Frame) -> bool
+    ensures { result ≡ makes_link frame.now.kind }
+{
+    match &frame.kind {
+        Kind::Info { .. } | Kind::Super { .. } => true,
+        Kind::Setup { which, .. } => is_command_to_set_up(*which),
+        Kind::Ui { .. } | Kind::Other { .. } => false,
+    }
+}
+
+fn is_command_to_set_up(which: U) -> bool
+    ensures { result ≡ is_command_to_set_up which }
+{
+    match which {
+        U::Sabm | U::Sabme | U::Disc => true,
+        U::Dm | U::Ua => false,
+    }
+}

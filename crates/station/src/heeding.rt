@@ -1,0 +1,115 @@
+//! What KISS asks of a station.
+ghost use Rattle.std.specs.Prelude.{◌≡◌, ◌≤◌, ◌↔◌, length, IsTrue, OnOk};
+ghost use Rattle.channel_access.specs.Channel.{Channel, with_setting};
+ghost use Rattle.channel_access.specs.StandsFor.{StandsFor as StandsForChannel};
+ghost use Rattle.station.specs.AgwRequests.{queueing_raw, is_frame_length};
+ghost use Rattle.station.specs.Held.{ids_in};
+ghost use Rattle.station.specs.Kiss.{heeding, heeding_all, param_of, with_param};
+ghost use Rattle.station.specs.StandsFor.{Shows};
+ghost use Rattle.station.specs.Turn.{Out, Turn, changing};
+
+use crate::host_out::HostOut;
+use crate::parts::Parts;
+use channel_access::Param;
+use kiss_port::KissItem;
+use std::alloc::Global;
+use tnc_base::{Octets, OutOfMemory};
+
+impl Parts {
+    /// What the items of a connection ask, one after another.
+    pub(crate) fn heed_all(
+        &mut self,
+        alloc: Global,
+        out: &mut HostOut,
+        items: &[KissItem],
+    ) -> Result<(), OutOfMemory>
+        ensures shows { (turn : Turn) → Shows self.old out.old turn
+            → OnOk result (Shows self.new out.new (heeding_all items.now turn)) }
+        ensures ids { OnOk result (ids_in self.new ≡ ids_in self.old) }
+        ensures closed { OnOk result (out.new.closed ≡ out.old.closed) }
+    {
+        for item in items {
+            self.heed(alloc, out, item)?;
+        }
+        Ok(())
+    }
+
+    /// What an item asks. All but frames and parameters of port 0 is passed over.
+    fn heed(&mut self, alloc: Global, out: &mut HostOut, item: &KissItem) -> Result<(), OutOfMemory>
+        ensures shows { (turn : Turn) → Shows self.old out.old turn
+            → OnOk result (Shows self.new out.new (heeding item.now turn)) }
+        ensures ids { OnOk result (ids_in self.new ≡ ids_in self.old) }
+        ensures closed { OnOk result (out.new.closed ≡ out.old.closed) }
+    {
+        match item {
+            KissItem::Frame { port, octets } => {
+                if *port != 0 {
+                    return Ok(());
+                }
+                self.queue_raw(alloc, out, octets.as_slice())
+            }
+            KissItem::Set {
+                port,
+                command,
+                value,
+            } => {
+                if *port == 0 {
+                    self.set(param_of(*command, *value));
+                }
+                Ok(())
+            }
+            KissItem::Hardware { .. }
+            | KissItem::Return
+            | KissItem::TooLong { .. }
+            | KissItem::Other { .. } => Ok(()),
+        }
+    }
+
+    /// Queues octets of a host where they have the length of a frame.
+    pub(crate) fn queue_raw(
+        &mut self,
+        alloc: Global,
+        out: &mut HostOut,
+        octets: &[u8],
+    ) -> Result<(), OutOfMemory>
+        ensures shows { (turn : Turn) → Shows self.old out.old turn
+            → OnOk result (Shows self.new out.new (queueing_raw octets.now turn)) }
+        ensures ids { OnOk result (ids_in self.new ≡ ids_in self.old) }
+        ensures closed { OnOk result (out.new.closed ≡ out.old.closed) }
+    {
+        if !is_frame_length(octets) {
+            return Ok(());
+        }
+        let frame = Octets::from_slice(alloc, octets)?;
+        self.queue(alloc, out, None, frame)
+    }
+
+    /// Sets a parameter of the channel.
+    fn set(&mut self, param: Param)
+        ensures shows { (out : Out) (turn : Turn) → Shows self.old out turn
+            → Shows self.new out (changing (with_param param) turn) }
+        ensures ids { ids_in self.new ≡ ids_in self.old }
+    {
+        self.channel.set(param);
+    }
+}
+
+/// Whether octets are as long as a frame without its check sequence.
+fn is_frame_length(octets: &[u8]) -> bool
+    ensures { result ≡ is_frame_length octets.now }
+{
+    15 <= octets.len() && octets.len() <= 1024
+}
+
+/// The parameter that a command sets.
+fn param_of(command: u8, value: u8) -> Param
+    ensures { result ≡ param_of command value }
+{
+    match command {
+        1 => Param::TxDelay(value),
+        2 => Param::Persist(value),
+        3 => Param::SlotTime(value),
+        4 => Param::TxTail(value),
+        _ => Param::FullDuplex(value != 0),
+    }
+}

@@ -1,0 +1,34 @@
+//! What comes from host programs, event by event.
+ghost use Rattle.std.specs.Prelude.{◌≡◌, [], OnOk};
+ghost use Rattle.station.specs.Held.{ids_in, ids_behind, JoinsAnew};
+ghost use Rattle.station.specs.Host.{IsHostTurn};
+ghost use Rattle.station.specs.StandsFor.{Shows};
+ghost use Rattle.station.specs.Turn.{Turn};
+
+use crate::host_event::HostEvent;
+use crate::host_out::HostOut;
+use crate::parts::Parts;
+use std::alloc::Global;
+use tnc_base::OutOfMemory;
+
+impl Parts {
+    /// An event of a connection.
+    pub(crate) fn host(
+        &mut self,
+        alloc: Global,
+        out: &mut HostOut,
+        event: HostEvent,
+    ) -> Result<(), OutOfMemory>
+        requires { JoinsAnew event self.old }
+        ensures step { (turn : Turn) → Shows self.old out.old turn → OnOk result ((behind : Turn)
+            × IsHostTurn event turn behind × Shows self.new out.new behind) }
+        ensures ids { OnOk result (out.old.closed ≡ []
+            → ids_in self.new ≡ ids_behind event out.new.closed (ids_in self.old)) }
+    {
+        match event {
+            HostEvent::Joined { id, kind } => self.join(alloc, out, id, kind),
+            HostEvent::Bytes { id, octets } => self.take(alloc, out, id, octets.as_slice()),
+            HostEvent::Left { id } => self.leave(alloc, out, id),
+        }
+    }
+}

@@ -1,0 +1,56 @@
+//! Connections that join and leave.
+ghost use Rattle.std.specs.Prelude.{◌≡◌, ◌≢◌, [], ◌∷◌, ◌++◌, All, OnOk};
+ghost use Rattle.station.specs.Held.{ids_in, without_ids};
+ghost use Rattle.station.specs.Host.{joining};
+ghost use Rattle.station.specs.HeldConnections.{kind_of};
+ghost use Rattle.station.specs.StandsFor.{Reads, Shows};
+ghost use Rattle.station.specs.Turn.{Turn};
+
+use crate::connection::{Connection, Reader};
+use crate::host_event::PortKind;
+use crate::host_out::HostOut;
+use crate::parts::Parts;
+use agwpe_port::AgwIn;
+use kiss_port::KissIn;
+use std::alloc::Global;
+use tnc_base::OutOfMemory;
+
+/// The most connections at a time.
+const MOST_CONNECTIONS: usize = 64;
+
+impl Parts {
+    /// A connection joins under a new id, or is closed at once where 64 are there.
+    pub(crate) fn join(
+        &mut self,
+        alloc: Global,
+        out: &mut HostOut,
+        id: u32,
+        kind: PortKind,
+    ) -> Result<(), OutOfMemory>
+        requires { All (λ other. other ≢ id) (ids_in self.old) }
+        ensures shows { (turn : Turn) → Shows self.old out.old turn
+            → OnOk result (Shows self.new out.new (joining id kind turn)) }
+        ensures ids { OnOk result (out.old.closed ≡ []
+            → ids_in self.new ≡ without_ids out.new.closed (ids_in self.old ++ id ∷ [])) }
+    {
+        if self.connections.len() >= MOST_CONNECTIONS {
+            return out.close(id);
+        }
+        self.connections.push(Connection {
+            id,
+            raw: false,
+            reader: new_reader(alloc, kind),
+        })?;
+        Ok(())
+    }
+}
+
+/// What reads a connection that speaks so.
+fn new_reader(alloc: Global, kind: PortKind) -> Reader
+    ensures { Reads result kind [] }
+{
+    match kind {
+        PortKind::Kiss => Reader::KissReader(KissIn::new(alloc)),
+        PortKind::Agw => Reader::AgwReader(AgwIn::new(alloc)),
+    }
+}

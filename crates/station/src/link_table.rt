@@ -1,0 +1,192 @@
+//! The links by their keys.
+ghost use Rattle.std.specs.Prelude.{◌≡◌, ℕ, ◌<◌, ◌≤◌, ◌↔◌, List, [], All, IfOk, OnOk, IfSome, IsTrue, replicate, position, count_by, is_some, nat_lt, slice_set, Some, None};
+ghost use Rattle.std.specs.Option.{option_copied, option_or};
+ghost use Rattle.link_machine.specs.Step.{step, done_of};
+ghost use Rattle.station.specs.HasFew.{HasFew};
+ghost use Rattle.station.specs.HeldLinks.{is_held_between};
+ghost use Rattle.station.specs.LinkRequests.{event_of, held_modulus, HasNumbers, stepped_link};
+ghost use Rattle.station.specs.Leaving.{without_owner};
+ghost use Rattle.station.specs.Links.{Link, Links};
+ghost use Rattle.station.specs.Monitored.{modulus_between};
+ghost use Rattle.station.specs.StandsFor.{StandsForLinks};
+ghost use Rattle.station.specs.TableSteps.{place_at, HasAt, IsSetAt, settled_at};
+
+use crate::link_event::{LinkEvent, no_acts};
+use crate::owned_link::OwnedLink;
+use ax25_address::Call;
+use ax25_frames::Modulus;
+use link_machine::Acts;
+use slab::Slab;
+use std::alloc::Global;
+use std::marker::Model;
+use tnc_base::OutOfMemory;
+
+/// The most links at a time.
+pub(crate) const MOST_LINKS: u32 = 64;
+
+/// The links of a station. A key is the number of a place.
+#[derive(Drop)]
+pub struct LinkTable {
+    slab: Slab<OwnedLink>,
+}
+
+impl Model for LinkTable {
+    ghost use Rattle.station.specs.HeldLinks.{HeldLinks, places_of, IsTable};
+
+    ghost Value = { HeldLinks };
+
+    ghost view = { λ table. record { places = places_of table.slab; next = table.slab.vacant_key } };
+
+    ghost invariant = { λ table. IsTable table.slab };
+}
+
+impl LinkTable {
+    /// No link. All memory is taken here. A slab that has more places than were asked for would give other keys, and is
+    /// refused as memory that was not given.
+    pub(crate) fn new(alloc: Global) -> Result<LinkTable, OutOfMemory>
+        ensures { IfOk result (λ table. table ≡ record { places = replicate MOST_LINKS None; next = 0 }) }
+    {
+        let slab = Slab::with_capacity(alloc, MOST_LINKS as usize)?;
+        if slab.capacity() != MOST_LINKS as usize {
+            return Err(OutOfMemory);
+        }
+        Ok(LinkTable { slab })
+    }
+
+    /// Whether each link of the connection holds at most 512 packets.
+    pub(crate) fn hold_few(&self, id: u32) -> bool
+        ensures { IsTrue result ↔ All (λ place. IfSome place (HasFew id)) self.now.places }
+    {
+        for key in 0..MOST_LINKS {
+            if let Some(link) = self.slab.get(key as usize)
+                && !link.has_few(id)
+            {
+                return false;
+            }
+        }
+        true
+    }
+
+    /// The key of the link between two calls.
+    pub(crate) fn key_between(&self, local: &Call, remote: &Call) -> Option<u32>
+        ensures { result ≡ position (is_held_between local.now remote.now) self.now.places }
+    {
+        for key in 0..MOST_LINKS {
+            if let Some(link) = self.slab.get(key as usize)
+                && link.is_between(local, remote)
+            {
+                return Some(key);
+            }
+        }
+        None
+    }
+
+    /// How many links there are.
+    pub(crate) fn len(&self) -> u32
+        ensures count { result ≡ count_by is_some self.now.places }
+        ensures most { result ≤ 64 }
+    {
+        self.slab.len() as u32
+    }
+
+    /// Whether there is room for one more.
+    pub(crate) fn has_room(&self) -> bool
+        ensures { result ≡ nat_lt (count_by is_some self.now.places) 64 }
+    {
+        self.len() < MOST_LINKS
+    }
+
+    /// Puts a link under the key that was freed last, or under one that no link has had, and tells the key.
+    pub(crate) fn insert(&mut self, link: OwnedLink) -> u32
+        requires { count_by is_some self.old.places < 64 }
+        ensures next { result ≡ self.old.next }
+        ensures within { result < 64 }
+        ensures vacant { place_at result self.old ≡ None }
+        ensures places { self.new.places ≡ slice_set self.old.places result (Some link) }
+        ensures there { place_at result self.new ≡ Some link }
+    {
+        self.slab.insert_reserved(link) as u32
+    }
+
+    /// The link of a key.
+    pub(crate) fn get(&self, key: u32) -> Option<&OwnedLink>
+        ensures { option_copied result ≡ place_at key self.now }
+    {
+        self.slab.get(key as usize)
+    }
+
+    /// The modulus of the link that a key has; 8 where it has none.
+    pub(crate) fn modulus(&self, key: u32) -> Modulus
+        ensures { result ≡ held_modulus (place_at key self.now) }
+    {
+        match self.get(key) {
+            Some(link) => link.machine.modulus(),
+            None => Modulus::Eight,
+        }
+    }
+
+    /// The modulus of the link from one call to another, else of the link the other way round, else 8.
+    pub(crate) fn modulus_between(&self, first: &Call, second: &Call) -> Modulus
+        ensures { (links : Links) → StandsForLinks self.now links
+            → result ≡ modulus_between first.now second.now links }
+    {
+        match self.key_of_both(first, second) {
+            Some(key) => self.modulus(key),
+            None => Modulus::Eight,
+        }
+    }
+
+    /// The key of the link from one call to another, or else of the link the other way round.
+    fn key_of_both(&self, first: &Call, second: &Call) -> Option<u32>
+        ensures { result ≡ option_or (position (is_held_between first.now second.now) self.now.places)
+            (position (is_held_between second.now first.now) self.now.places) }
+    {
+        match self.key_between(first, second) {
+            Some(key) => Some(key),
+            None => self.key_between(second, first),
+        }
+    }
+
+    /// The event of the link that a key has.
+    pub(crate) fn take(
+        &mut self,
+        alloc: Global,
+        key: u32,
+        event: LinkEvent,
+    ) -> Result<Acts, OutOfMemory>
+        requires { HasNumbers event (place_at key self.old) }
+        ensures acts { (link : Link) → HasAt key self.old link
+            → IfOk result (λ acts. acts ≡ done_of (step link.machine (event_of event))) }
+        ensures stands_for { (link : Link) → HasAt key self.old link
+            → OnOk result (IsSetAt key self.old self.new (stepped_link (event_of event) link)) }
+    {
+        let Some(link) = self.slab.get_mut(key as usize) else {
+            return Ok(no_acts(alloc));
+        };
+        link.take(alloc, event)
+    }
+
+    /// The link of a key has no owner any more.
+    pub(crate) fn disown(&mut self, key: u32)
+        ensures { (link : Link) → HasAt key self.old link → IsSetAt key self.old self.new (without_owner link) }
+    {
+        let Some(link) = self.slab.get_mut(key as usize) else {
+            return;
+        };
+        link.disown();
+    }
+
+    /// Removes the link of a key where it is idle.
+    pub(crate) fn settle(&mut self, key: u32)
+        ensures { (link : Link) → HasAt key self.old link
+            → self.new ≡ settled_at key self.old link.machine.control.state }
+    {
+        let Some(link) = self.slab.get(key as usize) else {
+            return;
+        };
+        if !link.is_idle() {
+            return;
+        }
+        self.slab.remove(key as usize);
+    }
+}

@@ -1,0 +1,96 @@
+//! The parts of a station, and the transmit queue that all of them share.
+ghost use Rattle.std.specs.Prelude.{◌≡◌, ℕ, ◌<◌, ◌≤◌, ◌↔◌, List, [], ◌∷◌, ◌++◌, length, IfOk, OnOk, IsTrue, Option, Some, None};
+ghost use Rattle.channel_access.specs.Waiting.{HasFrameLength};
+ghost use Rattle.channel_access.specs.Channel.{Channel, with_frame};
+ghost use Rattle.channel_access.specs.StandsFor.{StandsFor as StandsForChannel};
+
+use crate::config::Config;
+use crate::connection::Connection;
+use crate::host_out::HostOut;
+use crate::link_table::LinkTable;
+use crate::registration::Registration;
+use ax25_address::Call;
+use channel_access::Access;
+use link_machine::Params;
+use std::alloc::Global;
+use tnc_base::{Octets, OutOfMemory};
+
+/// How many frames may wait to be sent.
+const CAPACITY: usize = 256;
+
+/// What a station keeps.
+#[derive(Drop)]
+pub struct Parts {
+    /// The mode and the window of each link.
+    pub parameters: Params,
+    /// The call of the digipeater, where the station is one.
+    pub digi: Option<Call>,
+    /// The connections, in the order in which they joined.
+    pub connections: Vec<Connection>,
+    /// The calls that are registered.
+    pub registrations: Vec<Registration>,
+    /// The links.
+    pub links: LinkTable,
+    /// The transmit queue and the channel.
+    pub channel: Access,
+    /// How many frames found the queue full.
+    pub dropped: u64,
+}
+
+impl Parts {
+    ghost use Rattle.station.specs.State.{StationState, new_station};
+    ghost use Rattle.station.specs.Turn.{Turn, queueing};
+    ghost use Rattle.station.specs.Held.{ids_in};
+    ghost use Rattle.station.specs.StandsFor.{AreParts, Shows};
+
+    /// The parts of a new station.
+    pub(crate) fn new(alloc: Global, config: Config, seed: u64) -> Result<Parts, OutOfMemory>
+        ensures parts { IfOk result (λ parts. AreParts parts (new_station config seed)) }
+        ensures no_connection { IfOk result (λ parts. parts.connections.items ≡ []) }
+    {
+        Ok(Parts {
+            parameters: config.params,
+            digi: config.digi,
+            connections: Vec::new(alloc),
+            registrations: Vec::new(alloc),
+            links: LinkTable::new(alloc)?,
+            channel: Access::new(alloc, seed)?,
+            dropped: 0,
+        })
+    }
+
+    /// Puts a frame into the transmit queue, for the link of a key or for none, or drops it where the queue is full.
+    pub(crate) fn queue(
+        &mut self,
+        alloc: Global,
+        out: &mut HostOut,
+        link: Option<u32>,
+        octets: Octets,
+    ) -> Result<(), OutOfMemory>
+        requires { HasFrameLength octets }
+        ensures shows { (turn : Turn) → Shows self.old out.old turn
+            → OnOk result (Shows self.new out.new (queueing link octets turn)) }
+        ensures ids { OnOk result (ids_in self.new ≡ ids_in self.old) }
+        ensures closed { OnOk result (out.new.closed ≡ out.old.closed) }
+    {
+        if self.channel.len() >= CAPACITY {
+            self.dropped = self.dropped.saturating_add(1);
+            return Ok(());
+        }
+        out.tell_queued(alloc, link, &octets)?;
+        enter(&mut self.channel, link, octets);
+        Ok(())
+    }
+}
+
+/// Puts a frame behind all others, where there is room.
+fn enter(channel: &mut Access, link: Option<u32>, octets: Octets)
+    requires length { HasFrameLength octets }
+    requires room { length channel.old.waiting < 256 }
+    ensures { (before : Channel) → StandsForChannel channel.old before
+        → StandsForChannel channel.new (with_frame link octets before) }
+{
+    match channel.queue(link, octets) {
+        Ok(()) | Err(_) => {}
+    }
+}

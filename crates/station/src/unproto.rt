@@ -1,0 +1,111 @@
+//! Unnumbered frames that hosts send.
+ghost use Rattle.std.specs.Prelude.{◌≡◌, [], Some, drop, OnOk};
+ghost use Rattle.station.specs.AgwRequests.{queueing_raw, sending_unnumbered};
+ghost use Rattle.station.specs.Held.{ids_in};
+ghost use Rattle.station.specs.HeldRoutes.{route_held};
+ghost use Rattle.station.specs.Routes.{behind_repeaters, repeaters_in, route_in};
+ghost use Rattle.station.specs.StandsFor.{Shows};
+ghost use Rattle.station.specs.Turn.{Turn};
+
+use crate::frames::written;
+use crate::host_out::HostOut;
+use crate::new_links::{NO_LAYER_3, pid_or};
+use crate::parts::Parts;
+use crate::routes::{Route, behind_repeaters, repeaters_in, route_in};
+use agwpe_port::AgwMessage;
+use arrayvec::ArrayVec;
+use ax25_frames::{Frame, Kind, Modulus};
+use std::alloc::Global;
+use tnc_base::{Octets, OutOfMemory};
+
+/// The most octets that an unnumbered frame carries.
+const MOST_INFORMATION: usize = 937;
+
+impl Parts {
+    /// K: queues the octets of a body past its first, where they have the length of a frame.
+    pub(crate) fn send_raw(
+        &mut self,
+        alloc: Global,
+        out: &mut HostOut,
+        message: &AgwMessage,
+    ) -> Result<(), OutOfMemory>
+        ensures shows { (turn : Turn) → Shows self.old out.old turn
+            → OnOk result (Shows self.new out.new (queueing_raw (drop 1 message.now.body) turn)) }
+        ensures ids { OnOk result (ids_in self.new ≡ ids_in self.old) }
+        ensures closed { OnOk result (out.new.closed ≡ out.old.closed) }
+    {
+        let body = message.body.as_slice();
+        if body.is_empty() {
+            return Ok(());
+        }
+        self.queue_raw(alloc, out, &body[1..])
+    }
+
+    /// M: an unnumbered frame between the calls of a message.
+    pub(crate) fn send_unproto(
+        &mut self,
+        alloc: Global,
+        out: &mut HostOut,
+        message: &AgwMessage,
+    ) -> Result<(), OutOfMemory>
+        ensures shows { (turn : Turn) → Shows self.old out.old turn → OnOk result (Shows self.new out.new
+            (sending_unnumbered message.now.pid message.now.body
+            (route_in message.now.from message.now.to (Some [])) turn)) }
+        ensures ids { OnOk result (ids_in self.new ≡ ids_in self.old) }
+        ensures closed { OnOk result (out.new.closed ≡ out.old.closed) }
+    {
+        let route = route_in(&message.from, &message.to, Some(ArrayVec::new()));
+        self.send_unnumbered(alloc, out, message.pid, message.body.as_slice(), route)
+    }
+
+    /// V: the same by way of the repeaters that the body begins with.
+    pub(crate) fn send_unproto_via(
+        &mut self,
+        alloc: Global,
+        out: &mut HostOut,
+        message: &AgwMessage,
+    ) -> Result<(), OutOfMemory>
+        ensures shows { (turn : Turn) → Shows self.old out.old turn → OnOk result (Shows self.new out.new
+            (sending_unnumbered message.now.pid (behind_repeaters message.now.body)
+            (route_in message.now.from message.now.to (repeaters_in message.now.body)) turn)) }
+        ensures ids { OnOk result (ids_in self.new ≡ ids_in self.old) }
+        ensures closed { OnOk result (out.new.closed ≡ out.old.closed) }
+    {
+        let body = message.body.as_slice();
+        let route = route_in(&message.from, &message.to, repeaters_in(body));
+        self.send_unnumbered(alloc, out, message.pid, behind_repeaters(body), route)
+    }
+
+    /// Queues an unnumbered frame of information along a route. Ignored where there is none, or the information is
+    /// too long.
+    fn send_unnumbered(
+        &mut self,
+        alloc: Global,
+        out: &mut HostOut,
+        pid: u8,
+        information: &[u8],
+        route: Option<Route>,
+    ) -> Result<(), OutOfMemory>
+        ensures shows { (turn : Turn) → Shows self.old out.old turn → OnOk result (Shows self.new out.new
+            (sending_unnumbered pid information.now (route_held route) turn)) }
+        ensures ids { OnOk result (ids_in self.new ≡ ids_in self.old) }
+        ensures closed { OnOk result (out.new.closed ≡ out.old.closed) }
+    {
+        let Some(route) = route else {
+            return Ok(());
+        };
+        if information.len() > MOST_INFORMATION {
+            return Ok(());
+        }
+        let frame = Frame {
+            path: route.path(),
+            kind: Kind::Ui {
+                flag: false,
+                pid: pid_or(NO_LAYER_3, pid),
+                octets: Octets::from_slice(alloc, information)?,
+            },
+        };
+        let octets = written(alloc, &frame, Modulus::Eight)?;
+        self.queue(alloc, out, None, octets)
+    }
+}

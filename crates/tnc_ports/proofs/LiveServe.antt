@@ -1,0 +1,207 @@
+-- Facts on serving as a whole.
+use Rattle.std.specs.Prelude.{Bool, true, false, Contains, ℤ, Option, Some, None, ◌==◌, nat_lt, if◌then◌else◌, zero, suc, Result, Ok, Err, is_err, OnOk, All, replicate}
+use Rattle.std.proofs.Common.{◌≡◌, ◌≢◌, ℕ, ◌+◌, ◌-◌, ◌<◌, ◌≤◌, ⊎_elim, List, [], ◌∷◌, ◌++◌, get_or, length, map, refl, sym, ap, subst, inl, inr, ◌∙◌, arith}
+use Rattle.std.proofs.lemmas.List.{append-nil, get_or-replicate, length-map}
+use Rattle.std.proofs.lemmas.List.Elements.{All-head, All-tail, Contains-append_cases}
+use Rattle.std.proofs.lemmas.Option.{slice_get_past}
+use Rattle.std.proofs.Math.ListN.{get_or-map}
+use Rattle.sample_ring.specs.declared.got.Got.{Got}
+use Rattle.sample_ring.specs.declared.got.Got.TheVariants.{Item, Gap, Empty, End}
+use Rattle.sample_ring.specs.declared.reader.Reader.{Reader}
+use Rattle.sample_ring.specs.declared.view.Entry.{Entry}
+use Rattle.sample_ring.specs.declared.view.Track.{Track}
+use Rattle.sample_ring.specs.Cells.{lap_of, sample_of}
+use Rattle.sample_ring.specs.Ends.{record_of}
+use Rattle.sample_ring.specs.Record.{answer, next, Stands, StandsAs, StandsIn, Tiles}
+use Rattle.slicer_bank.specs.HeardOnRing.{lane_of}
+use Rattle.slicer_bank.specs.RingLanes.{HeldRingBank, answers_of, answers_in, positions_in, Listens}
+use Rattle.slicer_bank.specs.RingMerging.{HasMerged}
+use Rattle.slicer_bank.specs.RingTurns.{MeetsEnd}
+use Rattle.tnc_base.specs.Faults.{HasRisen}
+use Rattle.tnc_ports.specs.declared.looping.LoopEnd.{LoopEnd}
+use Rattle.tnc_ports.specs.declared.looping.LoopEnd.TheVariants.{Done as LoopDone, Memory, WriteFault as LoopFault}
+use Rattle.std.proofs.lemmas.Bool.{false≢true}
+use Rattle.tnc_ports.specs.declared.records.Listen.{Listen}
+use Rattle.tnc_ports.specs.declared.serving.ServeEnd.{ServeEnd}
+use Rattle.tnc_ports.specs.declared.serving.ServeEnd.TheVariants.{Memory as NoMemory}
+use Rattle.tnc_ports.specs.declared.pumping.PumpEnd.{PumpEnd}
+use Rattle.tnc_ports.specs.declared.pumping.PumpEnd.TheVariants.{InputEnd, ReadFault, TooLong}
+use Rattle.tnc_ports.specs.declared.serve_words.ServeWords.{ServeWords}
+use Rattle.tnc_ports.specs.Sampled.{Live, new_live, HaveEnded}
+use Rattle.tnc_ports.specs.declared.turning.Turning.{Turning}
+use Rattle.tnc_ports.specs.HeldHosts.{StandsFor}
+use Rattle.tnc_ports.specs.Hosts.{new_hosts}
+use Rattle.tnc_ports.specs.SampledHeld.{AreMarkedWithin, StandsForLive}
+use Rattle.tnc_ports.specs.SampledRun.{Outside, IsCutInReading, IsLooped, AllIsWritten}
+use Rattle.tnc_ports.specs.ServeRun.{InputSide, ReadFaults, ring_cells, answers_of_record, LanesStandIn, end_of, OnlyListens, HasOpened, HasServed, IsServed}
+use Rattle.tnc_ports.specs.SampledPump.{IsClosed}
+use Rattle.tnc_ports.proofs.LiveTold.{tells_nothing}
+
+pub read_faults : (end : PumpEnd) (before after : InputSide) → (end ≡ ReadFault → HasRisen before.faults after.faults) → (end ≢ ReadFault → after.faults ≡ before.faults) → ReadFaults end before after
+read_faults InputEnd before after h g = g (λ e. cc e)
+read_faults ReadFault before after h g = h refl
+read_faults TooLong before after h g = g (λ e. cc e)
+
+-- ---- before the first turn
+
+pub marked_at_start : (positions : List ℕ) → AreMarkedWithin (replicate 8 0) positions
+marked_at_start positions lane lt = zero_first (get_or (replicate 8 0) lane 0) (get_or positions lane 0) (get_or-replicate 8 lane 0 0 lt)
+  where
+    zero_first : (a b : ℕ) → a ≡ 0 → a ≤ b
+    zero_first a b e = omega (arith, e)
+
+pub first_stands : (words : ServeWords) (turning : Turning) (len : ℕ) (bank : HeldRingBank) → StandsFor turning.hosts [] (new_hosts words.config words.seed)
+    → HasMerged turning.merger (replicate 8 []) → turning.merger.marks ≡ replicate 8 0 → turning.ticks ≡ 0
+    → answers_in len bank ≡ replicate 8 [] → Listens len bank → StandsForLive turning len bank (new_live words)
+first_stands words turning len bank hosts merged marks ticks new listens = record {
+  hosts = hosts;
+  ticks = ticks;
+  merged = merged;
+  marks = subst (λ m. AreMarkedWithin m (positions_in bank)) (sym marks) (marked_at_start (positions_in bank));
+  eight = refl;
+  lanes = new;
+  listens = listens;
+  passed = omega arith;
+}
+
+pub nothing_looped : (words : ServeWords) (lanes : List (List Got)) (start : Outside) → lanes ≡ replicate 8 [] → IsLooped words Memory lanes start start
+nothing_looped words lanes start same =
+    let cut : IsCutInReading (new_live words) (new_live words) = record {
+      lanes = replicate 8 [];
+      more = λ lane lt. ([], sym (append-nil (lane_of (replicate 8 []) lane)));
+      is = refl;
+    } in
+    let all : AllIsWritten (new_live words) start start = record {
+      output = λ was e. e ∙ ap Some (sym (append-nil was));
+      report = λ was e. e ∙ ap Some (sym (append-nil was));
+      no_output_fault = refl;
+      no_report_fault = refl;
+    } in (
+      new_live words,
+      record {
+        run = record { count = 0; last = new_live words; turns = refl; cut = inl cut };
+        lanes = sym same;
+        told = inr (tells_nothing start);
+        stay = record { listens = refl; faults = omega arith };
+      },
+      inl all,
+    )
+
+-- ---- the records
+
+-- the position that an answer was asked at
+at_of : Got → ℕ
+at_of (Item at sample) = at
+at_of (Gap from to) = from
+at_of (Empty at) = at
+at_of (End total) = total
+
+either_at : (c : Bool) (x y : Got) (at : ℕ) → at_of x ≡ at → at_of y ≡ at → at_of (if c then x else y) ≡ at
+either_at true x y at a b = a
+either_at false x y at a b = b
+
+without_gap : Entry → Got
+without_gap e = if e.last == e.at + 1 then End e.at else Empty e.at
+
+without_item : ℕ → Entry → Got
+without_item len e = if nat_lt (e.at + 1) (lap_of e.cell) then Gap e.at (lap_of e.cell - len) else without_gap e
+
+answer_at : (len : ℕ) (e : Entry) → at_of (answer len e) ≡ e.at
+unfolding at_of without_gap without_item
+answer_at len e =
+    either_at (lap_of e.cell == e.at + 1) (Item e.at (sample_of e.cell)) (without_item len e) e.at refl
+    (either_at (nat_lt (e.at + 1) (lap_of e.cell)) (Gap e.at (lap_of e.cell - len)) (without_gap e) e.at refl
+    (either_at (e.last == e.at + 1) (End e.at) (Empty e.at) e.at refl refl))
+
+-- past the last published sample a reader stays
+stays : (len known : ℕ) (published : List ℤ) (got : Got) → at_of got ≡ length published → StandsAs len published true known got → next got ≡ length published
+unfolding at_of
+stays len known published (Item at sample) e s = absurd (let n : Some sample ≡ None = sym s ∙ slice_get_past published at (omega (arith, e)) in cc n)
+stays len known published (Gap from to) e s = absurd (let a = s.0 in let b = s.2 in omega (arith, e, a, b))
+stays len known published (Empty at) e s = e
+stays len known published (End total) e s = e
+
+stays_on : (len from to : ℕ) (published : List ℤ) (reads : List Entry) → All (Stands len published true) reads → Tiles len from reads to → from ≡ length published → to ≡ length published
+stays_on len from to published [] stands tiles is = sym tiles ∙ is
+stays_on len from to published (e ∷ reads) stands tiles is =
+    stays_on len (next (answer len e)) to published reads (All-tail (Stands len published true) e reads stands) tiles.1
+    (stays len e.known published (answer len e) (answer_at len e ∙ tiles.0 ∙ is) (All-head (Stands len published true) e reads stands))
+
+only_one : (x y : Got) → Contains (x ∷ []) y → x ≡ y
+only_one x y (zero, lt, e) = e
+only_one x y (suc k, lt, e) = absurd (omega arith)
+
+end_at : (len from to : ℕ) (published : List ℤ) (reads : List Entry) → All (Stands len published true) reads → Tiles len from reads to → MeetsEnd (map (answer len) reads) → to ≡ length published
+end_at len from to published [] stands tiles (total, (k, lt, e)) = absurd (omega arith)
+end_at len from to published (e ∷ reads) stands tiles (total, c) =
+    let rest = All-tail (Stands len published true) e reads stands in
+    ⊎_elim
+    (λ (h : Contains (answer len e ∷ []) (End total)).
+    let last : answer len e ≡ End total = only_one (answer len e) (End total) h in
+    let s : StandsAs len published true e.known (End total) = subst (StandsAs len published true e.known) last (All-head (Stands len published true) e reads stands) in
+    stays_on len (next (answer len e)) to published reads rest tiles.1 (ap next last ∙ sym s.1))
+    (λ (h : Contains (map (answer len) reads) (End total)). end_at len (next (answer len e)) to published reads rest tiles.1 (total, h))
+    (Contains-append_cases (answer len e ∷ []) (map (answer len) reads) (End total) c)
+
+-- each record that meets the end is read to the last published sample
+ends_whole : (published : List ℤ) (records : List Track) → All (StandsIn ring_cells published true) records → HaveEnded (map answers_of_record records)
+    → All (λ track. track.at ≡ length published) records
+ends_whole published records stand ended = λ k d lt.
+    let track = get_or records k d in
+    let s = stand k d lt in
+    let m : MeetsEnd (answers_of_record track) =
+    subst MeetsEnd (get_or-map answers_of_record records k d) (ended k (answers_of_record d) (subst (λ n. k < n) (sym (length-map records answers_of_record)) lt)) in
+    end_at ring_cells 0 track.at published track.reads s.stands s.tiles m
+
+map_tracks : (readers : List Reader) → map (answers_of ring_cells) readers ≡ map answers_of_record (map record_of readers)
+map_tracks [] = refl
+map_tracks (reader ∷ readers) = ap (λ xs. answers_of ring_cells reader ∷ xs) (map_tracks readers)
+
+pub lanes_stand : (published : List ℤ) (readers : List Reader) (records : List Track) → records ≡ map record_of readers → All (StandsIn ring_cells published true) records
+    → LanesStandIn published (map (answers_of ring_cells) readers)
+lanes_stand published readers records is stand = record {
+  records = records;
+  answers = map_tracks readers ∙ ap (map answers_of_record) (sym is);
+  stand = stand;
+  whole = λ ended. ends_whole published records stand (subst HaveEnded (map_tracks readers ∙ ap (map answers_of_record) (sym is)) ended);
+}
+
+-- ---- by how serving ends
+
+pub served : (words : ServeWords) (loop : LoopEnd) (pump : PumpEnd) (end : ServeEnd) (input left : InputSide) (before after : Outside) → end ≡ end_of loop pump
+    → HasServed words end input left before after → IsServed words end input left before after
+served words LoopDone InputEnd end input left before after e h = subst (λ r. IsServed words r input left before after) (sym e) (subst (λ r. HasServed words r input left before after) e h)
+served words LoopDone ReadFault end input left before after e h = subst (λ r. IsServed words r input left before after) (sym e) (subst (λ r. HasServed words r input left before after) e h)
+served words LoopDone TooLong end input left before after e h = subst (λ r. IsServed words r input left before after) (sym e) (subst (λ r. HasServed words r input left before after) e h)
+served words Memory pump end input left before after e h = subst (λ r. IsServed words r input left before after) (sym e) (inr (subst (λ r. HasServed words r input left before after) e h))
+served words LoopFault pump end input left before after e h = subst (λ r. IsServed words r input left before after) (sym e) (subst (λ r. HasServed words r input left before after) e h)
+
+-- ---- the ports
+
+-- the ports are opened where listening is no error
+pub has_opened : {T E : Type 0} → (words : ServeWords) (before after : Outside) (r : Result T E) (failed : Bool) → failed ≡ is_err r → failed ≡ false
+    → ((was : List Listen) → before.listens ≡ Some was → OnOk r (after.listens ≡ Some (was ++ (record { kiss = words.kiss; agw = words.agw }) ∷ [])))
+    → OnlyListens before after → HasOpened words before after
+has_opened words before after (Ok v) failed e f opens only = record { opened = opens; only = only }
+has_opened words before after (Err x) failed e f opens only = absurd (false≢true (sym f ∙ e))
+
+pub no_ring : (words : ServeWords) (input : InputSide) (before after : Outside) → HasOpened words before after → IsServed words NoMemory input input before after
+no_ring words input before after h = inl (record { opens = h; unread = refl })
+
+pub all_served : (words : ServeWords) (loop : LoopEnd) (end : ServeEnd) (len : ℕ) (bank : HeldRingBank) (input left : InputSide) (before opened after : Outside)
+    → HasOpened words before opened → IsLooped words loop (answers_in len bank) opened after → IsClosed loop end (answers_in ring_cells bank) input left → len ≡ ring_cells
+    → IsServed words end input left before after
+all_served words loop end len bank input left before opened after opens looped closed cells =
+    served words loop closed.pump end input left before after closed.ends (record {
+      open_ports = opened;
+      opens = opens;
+      loop = loop;
+      lanes = answers_in len bank;
+      looped = looped;
+      pump = closed.pump;
+      published = closed.published;
+      pumped = closed.pumped;
+      faults = closed.faults;
+      stand = subst (λ n. LanesStandIn closed.published (answers_in n bank)) (sym cells) closed.stand;
+      ends = closed.ends;
+    })

@@ -1,0 +1,35 @@
+-- Answers that can't be the same.
+use Rattle.std.specs.Prelude.{◌≡◌, Bool, true, false, is_ok, Result, Ok, Err, OnOk, refl}
+use Rattle.std.proofs.Common.{sym, ◌∙◌, ap}
+use Rattle.std.proofs.lemmas.Bool.{true≢false, false≢true}
+use Rattle.tnc_ports.specs.declared.outgoing.AppendFault.{AppendFault}
+use Rattle.tnc_ports.specs.declared.outgoing.AppendFault.TheVariants.{Full, Memory}
+
+pub ok_or_err : {T E : Type 0} (r : Result T E) (x : T) (e : E) → r ≡ Ok x → r ≡ Err e → ⊥
+ok_or_err r x e is_ok_one is_err_one = true≢false (sym (ap is_ok is_ok_one) ∙ ap is_ok is_err_one)
+
+err_same : {T E : Type 0} (a b : E) → (let r : Result T E = Err a in r ≡ Err b) → a ≡ b
+err_same a b same = cc
+
+pub err_again : {T U E : Type 0} (r : Result T E) (a b : E) → r ≡ Err a → (let same : Result U E = Err a in same ≡ Err b) → r ≡ Err b
+err_again r a b is same = let e : a ≡ b = err_same a b same in is ∙ ap (λ x. Err x) e
+
+pub err_there : {T U E : Type 0} (r : Result T E) (a b : E) → r ≡ Err a → r ≡ Err b → (let other : Result U E = Err a in other ≡ Err b)
+err_there r a b is too = let same : a ≡ b = err_same a b (sym is ∙ too) in ap (λ x. Err x) same
+
+abbrev pub is_full : {T : Type 0} → Result T AppendFault → Bool
+is_full (Ok x) = false
+is_full (Err Full) = true
+is_full (Err Memory) = false
+
+pub memory_or_full : {T : Type 0} (r : Result T AppendFault) (fault : AppendFault) → r ≡ Err fault → fault ≡ Memory → r ≡ Err Full → ⊥
+memory_or_full r fault is memory full = false≢true (sym (ap is_full (is ∙ ap (λ f. Err f) memory)) ∙ ap is_full full)
+
+-- what follows where there is a value
+pub on_ok_two : {T E P Q R : Type 0} (r : Result T E) → (P → Q → R) → OnOk r P → OnOk r Q → OnOk r R
+on_ok_two (Ok x) f p q = f p q
+on_ok_two (Err e) f p q = tt
+
+pub on_ok_three : {T E P Q R S : Type 0} (r : Result T E) → (P → Q → R → S) → OnOk r P → OnOk r Q → OnOk r R → OnOk r S
+on_ok_three (Ok x) f p q t = f p q t
+on_ok_three (Err e) f p q t = tt

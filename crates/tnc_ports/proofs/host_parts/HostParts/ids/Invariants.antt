@@ -1,0 +1,7 @@
+-- The ids so far.
+use Rattle.std.proofs.Common.{◌≡◌, take}
+use Rattle.tnc_ports.specs.HostTurns.{ids_of_lines}
+use Rattle.tnc_ports.proofs.host_parts.HostParts.ids.Given as goal
+
+abbrev pub invariant-loop-line : goal.invariant-loop-line
+invariant-loop-line l = l.ids.items ≡ ids_of_lines (take l.line-index l.self.lines.items)

@@ -1,0 +1,7 @@
+-- None so far.
+use Rattle.std.proofs.Common.{◌≡◌, ℕ, ◌<◌, get_or}
+use Rattle.tnc_ports.specs.declared.line.Line.{Line}
+use Rattle.tnc_ports.proofs.lines.place_of.Given as goal
+
+abbrev pub invariant-loop-at : goal.invariant-loop-at
+invariant-loop-at l = (k : ℕ) (d : Line) → k < l.at → (get_or l.lines k d).id ≡ l.id → ⊥

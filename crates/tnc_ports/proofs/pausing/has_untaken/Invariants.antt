@@ -1,0 +1,8 @@
+-- None so far.
+use Rattle.std.proofs.Common.{◌≡◌, false, take}
+use Rattle.std.specs.List.{list_any}
+use Rattle.tnc_ports.specs.HostTurns.{is_from}
+use Rattle.tnc_ports.proofs.pausing.has_untaken.Given as goal
+
+abbrev pub invariant-loop-one : goal.invariant-loop-one
+invariant-loop-one l = list_any (is_from l.id) (take l.one-index l.untaken) ≡ false

@@ -1,0 +1,6 @@
+use Rattle.std.proofs.Common.{◌≡◌, take}
+use Rattle.tnc_ports.specs.ReportText.{report_text}
+use Rattle.tnc_ports.proofs.report_lines.text_of_lines.Given as goal
+
+abbrev pub invariant-loop-line : goal.invariant-loop-line
+invariant-loop-line l = l.text.items ≡ report_text (take l.line-index l.lines)

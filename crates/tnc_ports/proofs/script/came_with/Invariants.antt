@@ -1,0 +1,7 @@
+-- Those that joined so far.
+use Rattle.std.proofs.Common.{◌≡◌, ◌++◌, take}
+use Rattle.tnc_ports.specs.Scripts.{joined_in}
+use Rattle.tnc_ports.proofs.script.came_with.Given as goal
+
+abbrev pub invariant-loop-event : goal.invariant-loop-event
+invariant-loop-event l = l.all.items ≡ l.fn.came ++ joined_in (take l.event-index l.events)

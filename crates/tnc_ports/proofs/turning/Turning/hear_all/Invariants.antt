@@ -1,0 +1,13 @@
+-- The frames so far.
+use Rattle.std.proofs.Common.{◌≡◌, take}
+use Rattle.tnc_ports.specs.Hosts.{Hosts}
+use Rattle.tnc_ports.specs.SampledHeld.{Keeps, HearsFrames}
+use Rattle.tnc_ports.specs.SampledWrites.{stream_of}
+use Rattle.tnc_ports.proofs.turning.Turning.hear_all.Given as goal
+
+abbrev pub invariant-loop-item : goal.invariant-loop-item
+invariant-loop-item g l =
+    ((hosts : Hosts) → Keeps l.initial.self.hosts hosts
+    → HearsFrames (take l.item-index l.items) l.initial.self l.self hosts
+    (stream_of g.E.Sink.written g.E.Sink.faults l.initial.report) (stream_of g.E.Sink.written g.E.Sink.faults l.report))
+    × (l.self.words ≡ l.initial.self.words) × (l.self.merger ≡ l.initial.self.merger) × (l.self.ticks ≡ l.initial.self.ticks)

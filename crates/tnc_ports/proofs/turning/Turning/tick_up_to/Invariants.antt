@@ -1,0 +1,15 @@
+-- The ticks so far.
+use Rattle.std.proofs.Common.{◌≡◌, ℕ, ◌+◌, ◌<◌, ◌≤◌}
+use Rattle.tnc_ports.specs.Sampled.{Live}
+use Rattle.tnc_ports.specs.SampledHeld.{Keeps, TicksAll}
+use Rattle.tnc_ports.specs.SampledWrites.{stream_of}
+use Rattle.tnc_ports.proofs.turning.Turning.tick_up_to.Given as goal
+
+abbrev pub invariant-loop-tick : goal.invariant-loop-tick
+invariant-loop-tick g l =
+    ((live : Live) → Keeps l.initial.self.hosts live.hosts → l.initial.self.ticks ≡ live.ticks
+    → (count : ℕ) × (l.tick ≡ live.ticks + count) × (0 < count → l.tick ≤ l.tick-end)
+    × TicksAll l.busy count l.initial.self l.self live
+    (stream_of g.O.Sink.written g.O.Sink.faults l.initial.output) (stream_of g.O.Sink.written g.O.Sink.faults l.output)
+    (stream_of g.E.Sink.written g.E.Sink.faults l.initial.report) (stream_of g.E.Sink.written g.E.Sink.faults l.report))
+    × (l.self.words ≡ l.initial.self.words) × (l.self.merger ≡ l.initial.self.merger)

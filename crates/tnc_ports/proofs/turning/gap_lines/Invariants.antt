@@ -1,0 +1,6 @@
+use Rattle.std.proofs.Common.{◌≡◌, map, take}
+use Rattle.tnc_ports.specs.Sampled.{gap_line}
+use Rattle.tnc_ports.proofs.turning.gap_lines.Given as goal
+
+abbrev pub invariant-loop-gap : goal.invariant-loop-gap
+invariant-loop-gap l = l.lines.items ≡ map gap_line (take l.gap-index l.gaps)

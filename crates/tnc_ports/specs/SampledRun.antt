@@ -1,0 +1,183 @@
+-- A run of a live station: turns until every lane has met the end of the ring, or until memory is wanted; and what the
+-- outside then tells of it.
+use Rattle.std.specs.Prelude.{◌≡◌, ℕ, zero, suc, ◌+◌, ◌<◌, ◌≤◌, ◌⊎◌, Bool, true, false, List, [], ◌∷◌, ◌++◌, length, map, Option, Some, None}
+use Rattle.std.specs.List.{flat_map}
+use Rattle.frame_merge.specs.declared.candidate.Candidate.{Candidate}
+use Rattle.sample_ring.specs.declared.got.Got.{Got}
+use Rattle.slicer_bank.specs.HeardOnRing.{lane_of}
+use Rattle.tnc_base.specs.Faults.{HasRisen}
+use Rattle.tnc_base.specs.Streams.{WrotePart}
+use Rattle.tnc_ports.specs.declared.records.Listen.{Listen}
+use Rattle.tnc_ports.specs.declared.serve_words.ServeWords.{ServeWords}
+use Rattle.tnc_ports.specs.declared.looping.LoopEnd.{LoopEnd}
+use Rattle.tnc_ports.specs.declared.looping.LoopEnd.TheVariants.{Done, Memory, WriteFault}
+use Rattle.tnc_ports.specs.AskedPorts.{poll_of, send_of, taken_of}
+use Rattle.tnc_ports.specs.Hosts.{Hosts, is_among}
+use Rattle.tnc_ports.specs.HostTurns.{Asked}
+use Rattle.tnc_ports.specs.ReportText.{output_octets, report_text}
+use Rattle.tnc_ports.specs.Sampled.{Live, new_live, with_hosts, HaveEnded, LanesReadOn, AreDue, AreHeard, HearsAll, MakesTicks, MakesAll, IsTurn}
+use Rattle.tnc_ports.specs.Sockets.{Poll, Send, has_come}
+
+-- ---- a whole run
+
+-- so many turns, each from what the one before it left, in which some lane does not meet the end of the ring
+abbrev pub AreTurns : ServeWords → ℕ → Live → Live → Type 0
+AreTurns words zero before after = after ≡ before
+AreTurns words (suc count) before after =
+    (between : Live) × IsTurn words false before between × AreTurns words count between after
+
+-- A run ends with the first turn in which every lane meets the end of the ring.
+pub record IsRun (words : ServeWords) (live : Live) : Type 0 where
+  pub count : ℕ
+  pub last : Live
+  pub turns : AreTurns words count (new_live words) last
+  pub over : IsTurn words true last live
+  pub ended : HaveEnded live.lanes
+
+-- ---- a run that is cut short
+
+-- a turn in which lanes read on, and nothing more came to pass
+pub record IsCutInReading (before after : Live) : Type 0 where
+  pub lanes : List (List Got)
+  pub more : (lane : ℕ) → lane < 8 → (reads : List Got) × (lane_of lanes lane ≡ lane_of before.lanes lane ++ reads)
+  pub is : after ≡ record before { lanes = lanes }
+
+-- a turn in which the first of the frames that are due are heard
+pub record IsCutInHearing (words : ServeWords) (before after : Live) : Type 0 where
+  pub ended : Bool
+  pub read : Live
+  pub reads : LanesReadOn ended before read
+  pub items : List Candidate
+  pub others : List Candidate
+  pub due : AreDue ended before.lanes read.lanes (items ++ others)
+  pub hosts : Hosts
+  pub hears : AreHeard words.monitor items read.hosts hosts
+  pub is : after ≡ with_hosts hosts read
+
+-- a turn in which all of them are heard, and the first of the ticks are made
+pub record IsCutInTicking (words : ServeWords) (before after : Live) : Type 0 where
+  pub ended : Bool
+  pub heard : Live
+  pub hears : HearsAll words ended before heard
+  pub count : ℕ
+  pub makes : MakesTicks words count heard after
+
+-- a turn that is cut short: when it reads, hears, ticks, or serves its hosts
+abbrev pub IsCutTurn : ServeWords → Live → Live → Type 0
+IsCutTurn words before after =
+    IsCutInReading before after ⊎ IsCutInHearing words before after ⊎ IsCutInTicking words before after
+    ⊎ ((ended : Bool) × MakesAll words ended before after)
+
+-- Whole turns, and then a turn that is cut short.
+pub record IsCutRun (words : ServeWords) (live : Live) : Type 0 where
+  pub count : ℕ
+  pub last : Live
+  pub turns : AreTurns words count (new_live words) last
+  pub cut : IsCutTurn words last live
+
+-- ---- what the outside tells
+
+-- what the ports, the output and the report tell of the calls so far, and how often they failed
+pub record Outside : Type 0 where
+  pub listens : Option (List Listen)
+  pub polls : Option (List Poll)
+  pub sends : Option (List Send)
+  pub sent_to : ℕ → Option (List ℕ)
+  pub is_shut : ℕ → Option Bool
+  pub port_faults : ℕ
+  pub output : Option (List ℕ)
+  pub output_faults : ℕ
+  pub report : Option (List ℕ)
+  pub report_faults : ℕ
+
+abbrev pub outside_by : {P O E : Type 0} → (P → Option (List Listen)) → (P → Option (List Poll)) → (P → Option (List Send)) → (P → ℕ → Option (List ℕ)) → (P → ℕ → Option Bool) → (P → ℕ)
+    → (O → Option (List ℕ)) → (O → ℕ) → (E → Option (List ℕ)) → (E → ℕ) → P → O → E → Outside
+outside_by listens polls sends sent is_shut port_faults written faults reported report_faults ports output report = record {
+  listens = listens ports;
+  polls = polls ports;
+  sends = sends ports;
+  sent_to = sent ports;
+  is_shut = is_shut ports;
+  port_faults = port_faults ports;
+  output = written output;
+  output_faults = faults output;
+  report = reported report;
+  report_faults = report_faults report;
+}
+
+-- what is told grows by these
+abbrev pub GrowsBy : {A : Type 0} → List A → Option (List A) → Option (List A) → Type 0
+GrowsBy {A} more before after = (was : List A) → before ≡ Some was → after ≡ Some (was ++ more)
+
+-- the sends of turns, the first of which makes the poll of a number, counted from 1
+abbrev pub sends_from : ℕ → List Asked → List Send
+sends_from poll [] = []
+sends_from poll (asked ∷ turns) = map (send_of poll) asked.offers ++ sends_from (poll + 1) turns
+
+-- the octets that a connection took
+abbrev pub octets_to : ℕ → List Asked → List ℕ
+octets_to id turns = flat_map (λ asked. taken_of id asked.offers) turns
+
+-- the first of the turns that shuts a connection finds that it had come, where these polls were made before
+abbrev pub IsShutHavingCome : ℕ → List Poll → List Asked → Type 0
+IsShutHavingCome id polls [] = ⊥
+IsShutHavingCome id polls (asked ∷ turns) =
+    ((is_among id asked.shut ≡ true) × (has_come id (polls ++ poll_of asked ∷ []) ≡ true))
+    ⊎ ((is_among id asked.shut ≡ false) × IsShutHavingCome id (polls ++ poll_of asked ∷ []) turns)
+
+-- The ports tell the polls, the sends and the octets that each connection took, turn by turn. A connection that a turn
+-- shut is shut, and one that no turn shut is as it was.
+pub record PortsTell (turns : List Asked) (before after : Outside) : Type 0 where
+  pub polls : GrowsBy (map poll_of turns) before.polls after.polls
+  pub sends : (was : List Poll) → before.polls ≡ Some was
+      → GrowsBy (sends_from (length was + 1) turns) before.sends after.sends
+  pub sent_to : (id : ℕ) → GrowsBy (octets_to id turns) (before.sent_to id) (after.sent_to id)
+  pub shut : (id : ℕ) (was : List Poll) (told : Bool) → before.polls ≡ Some was → IsShutHavingCome id was turns
+      → before.is_shut id ≡ Some told → after.is_shut id ≡ Some true
+  pub not_shut : (id : ℕ) → is_among id (flat_map (λ asked. asked.shut) turns) ≡ false
+      → after.is_shut id ≡ before.is_shut id
+
+-- the ports did not listen, and their count of faults did not fall
+pub record PortsStay (before after : Outside) : Type 0 where
+  pub listens : after.listens ≡ before.listens
+  pub faults : before.port_faults ≤ after.port_faults
+
+-- The output is the samples of the ticks, the report is its lines, and no write failed.
+pub record AllIsWritten (live : Live) (before after : Outside) : Type 0 where
+  pub output : GrowsBy (output_octets live.sent) before.output after.output
+  pub report : GrowsBy (report_text live.hosts.report) before.report after.report
+  pub no_output_fault : after.output_faults ≡ before.output_faults
+  pub no_report_fault : after.report_faults ≡ before.report_faults
+
+-- A write failed, and the output and the report are first parts of these.
+pub record PartIsWritten (live : Live) (before after : Outside) : Type 0 where
+  pub output : (was : List ℕ) → before.output ≡ Some was → WrotePart was (output_octets live.sent) after.output
+  pub report : (was : List ℕ) → before.report ≡ Some was → WrotePart was (report_text live.hosts.report) after.report
+  pub failed : HasRisen before.output_faults after.output_faults ⊎ HasRisen before.report_faults after.report_faults
+
+-- ---- the loop
+
+-- a whole run, whose lanes were answered this
+pub record IsWhole (words : ServeWords) (answers : List (List Got)) (live : Live) (before after : Outside) : Type 0 where
+  pub run : IsRun words live
+  pub lanes : live.lanes ≡ answers
+  pub told : PortsTell live.asked before after
+  pub stay : PortsStay before after
+
+-- One that is cut short. It is not said what the ports tell where it is cut after its last ticks.
+pub record IsCut (words : ServeWords) (answers : List (List Got)) (live : Live) (before after : Outside) : Type 0 where
+  pub run : IsCutRun words live
+  pub lanes : live.lanes ≡ answers
+  pub told : ((ended : Bool) × MakesAll words ended run.last live) ⊎ PortsTell live.asked before after
+  pub stay : PortsStay before after
+
+-- The loop by how it ends: all of a whole run is written; or after a write that failed the run went on to its end; or
+-- memory was wanted, and the run is cut short.
+abbrev pub IsLooped : ServeWords → LoopEnd → List (List Got) → Outside → Outside → Type 0
+IsLooped words Done answers before after =
+    (live : Live) × IsWhole words answers live before after × AllIsWritten live before after
+IsLooped words WriteFault answers before after =
+    (live : Live) × IsWhole words answers live before after × PartIsWritten live before after
+IsLooped words Memory answers before after =
+    (live : Live) × IsCut words answers live before after
+    × (AllIsWritten live before after ⊎ PartIsWritten live before after)

@@ -1,0 +1,110 @@
+-- A live station as a whole: it listens, a pump publishes the samples of its input in a ring, and a run reads them there.
+use Rattle.std.specs.Prelude.{◌≡◌, ℕ, ℤ, ◌≤◌, ◌⊎◌, true, List, [], ◌∷◌, length, map, All, Option, Some}
+use Rattle.sample_ring.specs.declared.got.Got.{Got}
+use Rattle.sample_ring.specs.declared.view.Track.{Track}
+use Rattle.sample_ring.specs.Record.{StandsIn, answer}
+use Rattle.tnc_base.specs.Faults.{HasRisen}
+use Rattle.tnc_ports.specs.declared.pumping.PumpEnd.{PumpEnd}
+use Rattle.tnc_ports.specs.declared.pumping.PumpEnd.TheVariants.{InputEnd, ReadFault as PumpFailed, TooLong as InputTooLong}
+use Rattle.tnc_ports.specs.declared.serving.ServeEnd.{ServeEnd}
+use Rattle.tnc_ports.specs.declared.serving.ServeEnd.TheVariants.{Done, TooLong, Memory, ReadFault, WriteFault, NoPort}
+use Rattle.tnc_ports.specs.declared.serve_words.ServeWords.{ServeWords}
+use Rattle.tnc_ports.specs.declared.looping.LoopEnd.{LoopEnd}
+use Rattle.tnc_ports.specs.declared.looping.LoopEnd.TheVariants.{Done as LoopDone, Memory as LoopMemory, WriteFault as LoopFault}
+use Rattle.tnc_ports.specs.Pumped.{IsPumped}
+use Rattle.tnc_ports.specs.Sampled.{HaveEnded}
+use Rattle.tnc_ports.specs.SampledRun.{Outside, GrowsBy, IsLooped}
+
+-- ---- what the lanes were answered, and what was published
+
+-- the cells of the ring
+abbrev pub ring_cells : ℕ
+ring_cells = 65536
+
+-- all that a reader was answered
+abbrev pub answers_of_record : Track → List Got
+answers_of_record track = map (answer ring_cells) track.reads
+
+-- The records of the lanes' readers stand in the published list: each sample is that of its position, and each gap is a
+-- part that was overwritten. Where every lane has met the end, samples and gaps tile the whole list.
+pub record LanesStandIn (published : List ℤ) (lanes : List (List Got)) : Type 0 where
+  pub records : List Track
+  pub answers : lanes ≡ map answers_of_record records
+  pub stand : All (StandsIn ring_cells published true) records
+  pub whole : HaveEnded lanes → All (λ track. track.at ≡ length published) records
+
+-- ---- serving
+
+-- how serving ends by the ends of the loop and of the pump, of which the loop's counts first
+abbrev pub end_of : LoopEnd → PumpEnd → ServeEnd
+end_of LoopDone InputEnd = Done
+end_of LoopDone PumpFailed = ReadFault
+end_of LoopDone InputTooLong = TooLong
+end_of LoopMemory pump = Memory
+end_of LoopFault pump = WriteFault
+
+-- The ports are lent, and do nothing but listen; nothing is written.
+pub record OnlyListens (before after : Outside) : Type 0 where
+  pub polls : after.polls ≡ before.polls
+  pub sends : after.sends ≡ before.sends
+  pub sent_to : (id : ℕ) → after.sent_to id ≡ before.sent_to id
+  pub is_shut : (id : ℕ) → after.is_shut id ≡ before.is_shut id
+  pub faults : before.port_faults ≤ after.port_faults
+  pub output : after.output ≡ before.output
+  pub output_faults : after.output_faults ≡ before.output_faults
+  pub report : after.report ≡ before.report
+  pub report_faults : after.report_faults ≡ before.report_faults
+
+-- the ports of the words are opened
+pub record HasOpened (words : ServeWords) (before after : Outside) : Type 0 where
+  pub opened : GrowsBy ((record { kiss = words.kiss; agw = words.agw }) ∷ []) before.listens after.listens
+  pub only : OnlyListens before after
+
+-- the ports could not be opened
+pub record HasNoPort (before after : Outside) : Type 0 where
+  pub listens : after.listens ≡ before.listens
+  pub only : OnlyListens before after
+  pub failed : HasRisen before.port_faults after.port_faults
+
+-- What is read of the input, and how often reading failed.
+pub record InputSide : Type 0 where
+  pub left : Option (List ℕ)
+  pub faults : ℕ
+
+abbrev pub input_by : {I : Type 0} → (I → Option (List ℕ)) → (I → ℕ) → I → InputSide
+input_by left faults input = record { left = left input; faults = faults input }
+
+-- reading failed exactly where the pump says so
+abbrev pub ReadFaults : PumpEnd → InputSide → InputSide → Type 0
+ReadFaults InputEnd before after = after.faults ≡ before.faults
+ReadFaults PumpFailed before after = HasRisen before.faults after.faults
+ReadFaults InputTooLong before after = after.faults ≡ before.faults
+
+-- The ports are opened. The pump publishes the samples of what it reads of the input, and beside it the loop's lanes read
+-- what is published.
+pub record HasServed (words : ServeWords) (end : ServeEnd) (input left : InputSide) (before after : Outside) : Type 0 where
+  pub open_ports : Outside
+  pub opens : HasOpened words before open_ports
+  pub loop : LoopEnd
+  pub lanes : List (List Got)
+  pub looped : IsLooped words loop lanes open_ports after
+  pub pump : PumpEnd
+  pub published : List ℤ
+  pub pumped : (octets : List ℕ) → input.left ≡ Some octets → IsPumped octets left.left published pump
+  pub faults : ReadFaults pump input left
+  pub stand : LanesStandIn published lanes
+  pub ends : end ≡ end_of loop pump
+
+-- without memory for the ring nothing is read
+pub record HasNoRing (words : ServeWords) (input left : InputSide) (before after : Outside) : Type 0 where
+  pub opens : HasOpened words before after
+  pub unread : left ≡ input
+
+abbrev pub IsServed : ServeWords → ServeEnd → InputSide → InputSide → Outside → Outside → Type 0
+IsServed words Done input left before after = HasServed words Done input left before after
+IsServed words TooLong input left before after = HasServed words TooLong input left before after
+IsServed words Memory input left before after =
+    HasNoRing words input left before after ⊎ HasServed words Memory input left before after
+IsServed words ReadFault input left before after = HasServed words ReadFault input left before after
+IsServed words WriteFault input left before after = HasServed words WriteFault input left before after
+IsServed words NoPort input left before after = (left ≡ input) × HasNoPort before after

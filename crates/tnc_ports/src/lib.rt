@@ -1,0 +1,61 @@
+//! The live side of a station: the sockets of host programs, the sound that comes in, and the turns that join both.
+//!
+//! A pump reads the sound and publishes its samples in a ring. Beside it the station's turns take the samples from
+//! there, and in each turn poll the sockets once and offer each host the rest of one piece. The sockets and the threads
+//! are behind two traits, so that all of this also runs in memory. What is promised: what the pump publishes is the
+//! samples of what it read; a host is sent its pieces whole and in order; a paused host gives no octets.
+#![tactic(auto)]
+
+mod delivering;
+mod host_parts;
+mod host_side;
+mod id_range;
+mod line;
+mod lines;
+mod live;
+mod looping;
+mod mem_live;
+mod mem_ports;
+mod monitor;
+mod offering;
+mod outgoing;
+mod pausing;
+mod ports;
+mod pumping;
+mod real_live;
+mod real_ports;
+mod records;
+mod report_line;
+mod report_lines;
+mod script;
+mod sending;
+mod serve_words;
+mod serving;
+mod shutting;
+mod spawner;
+mod taking;
+mod telling;
+mod turning;
+mod untaken;
+mod writing;
+
+pub use host_parts::HostParts;
+pub use host_side::HostSide;
+pub use id_range::IdRange;
+pub use line::Line;
+pub use live::Live;
+pub use looping::{LoopEnd, station_loop};
+pub use mem_live::{MemLive, MemSpawner};
+pub use mem_ports::MemPorts;
+pub use outgoing::{AppendFault, Outgoing};
+pub use ports::{PollFault, Ports};
+pub use pumping::{PumpEnd, Pumped, pump};
+pub use real_live::{RealLive, RealSpawner};
+pub use real_ports::RealPorts;
+pub use records::{Came, Listen, PollRecord, Taken};
+pub use report_line::ReportLine;
+pub use sending::{OfferFault, offer};
+pub use serve_words::ServeWords;
+pub use serving::{ServeEnd, serve};
+pub use spawner::Spawner;
+pub use untaken::Untaken;

@@ -1,0 +1,53 @@
+//! A live side in memory.
+ghost use Rattle.std.specs.Prelude.{◌≡◌, ◌-◌, ◌^◌, All};
+ghost use Rattle.tnc_ports.specs.Sockets.{IsWholePiece};
+ghost use Rattle.tnc_ports.specs.Scripts.{new_ports};
+
+use crate::live::Live;
+use crate::mem_ports::MemPorts;
+use crate::spawner::Spawner;
+use station::HostEvent;
+use std::alloc::Global;
+
+/// Runs the pump to its end before the other job, in one thread.
+#[derive(Clone, Copy, Debug, Drop)]
+pub struct MemSpawner;
+
+impl Spawner for MemSpawner {
+    fn at_once(&self) -> bool {
+        false
+    }
+}
+
+/// Sockets in memory, and jobs one after the other.
+pub type MemLive = Live<MemPorts, MemSpawner>;
+
+impl Live<MemPorts, MemSpawner> {
+    /// Gives each event of the script at the poll of its number. The calls of `listen`, `poll` and `send` whose numbers,
+    /// counted together from 0, are in `failing` fail.
+    pub fn new(alloc: Global, script: Vec<(u64, HostEvent)>, failing: Vec<u64>) -> MemLive
+        requires { All (λ entry. IsWholePiece entry.1) script.items }
+        ensures { result.ports ≡ new_ports script.items failing.items (2 ^ 64 - 1) }
+    {
+        Live {
+            ports: MemPorts::new(alloc, script, failing, usize::MAX),
+            spawner: MemSpawner,
+        }
+    }
+
+    /// The same, where each send takes at most `takes` octets.
+    pub fn taking(
+        alloc: Global,
+        script: Vec<(u64, HostEvent)>,
+        failing: Vec<u64>,
+        takes: u32,
+    ) -> MemLive
+        requires { All (λ entry. IsWholePiece entry.1) script.items }
+        ensures { result.ports ≡ new_ports script.items failing.items takes }
+    {
+        Live {
+            ports: MemPorts::new(alloc, script, failing, takes as usize),
+            spawner: MemSpawner,
+        }
+    }
+}

@@ -1,0 +1,18 @@
+//! The live side of the system.
+
+use crate::live::Live;
+use crate::real_ports::RealPorts;
+use crate::spawner::Spawner;
+
+/// Runs two jobs at once, one of them in a thread of its own.
+#[derive(Clone, Copy, Debug, Drop)]
+pub struct RealSpawner;
+
+impl Spawner for RealSpawner {
+    fn at_once(&self) -> bool {
+        true
+    }
+}
+
+/// The sockets and threads of the system.
+pub type RealLive = Live<RealPorts, RealSpawner>;

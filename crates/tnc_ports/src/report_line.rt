@@ -1,0 +1,16 @@
+//! The report of a live station.
+
+use tnc_base::Octets;
+
+/// A line of the report.
+#[derive(Debug, Drop)]
+pub enum ReportLine {
+    /// A lane lost the samples from one place up to another, since they were overwritten before it read them.
+    GapLine { lane: usize, from: u64, to: u64 },
+    /// A connection was shut.
+    ClosedLine { id: u32 },
+    /// A frame was received: its text.
+    ReceivedLine { text: Octets },
+    /// A frame was sent: its text.
+    SentLine { text: Octets },
+}
