@@ -6,7 +6,7 @@
 The audio is the shipped recordings without noise, one after another. Each program runs five times on it, and the best
 run counts. Printed are seconds of audio a second of processor time, the peak memory, and the time against that of tnc.
 A peer that is not installed is left out, and said so. The plain decoder is bench/plain_decoder.c, built here with
-cc -O2; it works on the whole input, as tnc does. The audio of multimon-ng is resampled for it beforehand."""
+cc -O2; it reads its input whole, of which tnc keeps nothing. The audio of multimon-ng is resampled for it beforehand."""
 import subprocess
 import tempfile
 

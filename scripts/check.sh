@@ -63,8 +63,27 @@ cannot_read() {
     answers 4 "" "$@" </ && [ ! -s "$room/output" ]
 }
 
+# 9600 samples of silence: as many come out, and no report.
+hears_nothing() {
+    head -c 19200 /dev/zero >"$room/silence"
+    answers 0 "" serve --kiss 18100 --agw 18101 <"$room/silence" && cmp -s "$room/output" "$room/silence"
+}
+
+# One port for both kinds of host is taken already.
+has_no_port() {
+    answers 10 "tnc: no port" serve --kiss 18100 --agw 18100 </dev/null && [ ! -s "$room/output" ]
+}
+
+# OPTION..: what two stations carry to each other's hosts is what these gave.
+stations_agree() {
+    scripts/check_serve.py --tnc "$tnc" --octets 1500 "$@" >"$room/told" || { cat "$room/told"; return 1; }
+}
+
 # The raw PCM in a file, as sox is told of it.
 pcm=(-t raw -r 9600 -e signed -b 16 -c 1)
+
+# The head of a WAV file of 9600 samples a second that was written into a pipe, as printf has it.
+head_of_pipe='RIFF\x24\xf0\xff\x7fWAVEfmt \x10\0\0\0\x01\0\x01\0\x80\x25\0\0\0\x4b\0\0\x02\0\x10\0data\0\xf0\xff\x7f'
 
 # RECORDING: the frames of a recording, in order and no others.
 decodes() {
@@ -88,9 +107,63 @@ decodes_resampled() {
         && sox -q "$room/48000.wav" "${pcm[@]}" - | "$tnc" decode | cmp -s - "$1.frames"
 }
 
+# RECORDING SIZE: the same where the input comes in pieces of so many octets.
+decodes_pieces() {
+    dd status=none ibs=64K obs="$2" if="$1.raw" | "$tnc" decode | cmp -s - "$1.frames"
+}
+
 # RECORDING: the same by way of a KISS file, back to sound and to lines.
 decodes_through_kiss() {
     "$tnc" decode --kiss <"$1.raw" | "$tnc" encode --kiss | "$tnc" decode | cmp -s - "$1.frames"
+}
+
+# FILE: the output in $room/output is that of this file, within ten seconds.
+becomes() {
+    local turn
+    for turn in {1..100}; do
+        if cmp -s "$room/output" "$1"; then return; fi
+        sleep 0.1
+    done
+    return 1
+}
+
+# FRAMES WORDS..: of sound that comes out of a pipe which stays open, each frame is written before the next one is sent.
+decodes_at_once() {
+    local program line at_once=0
+    mkfifo "$room/pipe"
+    "$tnc" decode "${@:2}" <"$room/pipe" >"$room/output" &
+    program=$!
+    exec 3>"$room/pipe"
+    : >"$room/sent.raw"
+    while read -r line; do
+        "$tnc" encode <<<"$line" | tee -a "$room/sent.raw" >&3
+        "$tnc" decode "${@:2}" <"$room/sent.raw" >"$room/expected"
+        becomes "$room/expected" || at_once=1
+    done < <(head -n 3 "$1")
+    exec 3>&-
+    wait "$program" || at_once=1
+    rm "$room/pipe"
+    return "$at_once"
+}
+
+# The peak memory of decode on what comes, in KiB.
+peak_of_decode() {
+    /usr/bin/time -f %M "$tnc" decode "$@" 2>&1 >/dev/null
+}
+
+# MINUTES: a recording over and over, four times a minute, which is a little longer.
+sound_of() {
+    local turn
+    for ((turn = 0; turn < 4 * $1; turn++)); do cat samples/direwolf-clean.raw; done
+}
+
+# HEAD WORDS..: of an hour of sound behind a head decode takes the memory that it takes of a minute, to a few pages of the
+# system's, and less than 4 MiB.
+keeps_no_sound() {
+    local minute hour
+    minute=$({ printf "$1"; sound_of 1; } | peak_of_decode "${@:2}")
+    hour=$({ printf "$1"; sound_of 60; } | peak_of_decode "${@:2}")
+    [ "$hour" -lt 4096 ] && [ "$((hour - minute))" -lt 512 ]
 }
 
 # FRAMES WORDS..: lines of frames come back from the sound that encode makes of them.
@@ -156,8 +229,8 @@ is_cut_short() {
 # A WAV file of 44100 samples a second: told, at the last octet of the rate.
 is_other_rate() {
     "$tnc" encode --wav <samples/direwolf-clean.frames >"$room/whole.wav"
-    { head -c 24 "$room/whole.wav"; printf '\x44\xac\0\0'; tail -c +29 "$room/whole.wav"; } \
-        | answers 2 "tnc: bad input: bad format 3 value 44100 at 27" decode --wav && [ ! -s "$room/output" ]
+    { head -c 24 "$room/whole.wav"; printf '\x44\xac\0\0'; tail -c +29 "$room/whole.wav"; } >"$room/other.wav"
+    answers 2 "tnc: bad input: bad format 3 value 44100 at 27" decode --wav <"$room/other.wav" && [ ! -s "$room/output" ]
 }
 
 # PLACE FLAW LINE: a bad line behind a good one, told at its place, and the frame before it is sent.
@@ -233,6 +306,9 @@ for raw in samples/*.raw; do
     of=${raw%.raw}
     check "decode of $raw" decodes "$of"
     check "decode --kiss of $raw, and back" decodes_through_kiss "$of"
+    for size in 1 3 2047 4097; do
+        check "decode of $raw in pieces of $size" decodes_pieces "$of" "$size"
+    done
     if has sox; then
         check "decode --wav of $raw" decodes_wav "$of"
         check "decode --wav of $raw out of a pipe" decodes_piped_wav "$of"
@@ -250,6 +326,14 @@ for raw in samples/*.raw; do
 done
 check "C0 and DB in KISS" escapes
 check "decode and show of samples/direwolf-clean.raw" shows_stored_text
+check "decode of a pipe that stays open" decodes_at_once samples/direwolf-clean.frames
+check "decode --kiss of a pipe that stays open" decodes_at_once samples/direwolf-clean.frames --kiss
+if has /usr/bin/time; then
+    check "the memory of decode" keeps_no_sound ""
+    check "the memory of decode --wav" keeps_no_sound "$head_of_pipe" --wav
+else
+    skip "the memory of decode" time
+fi
 
 # Other people's programs on what encode sends.
 for frames in samples/*.frames; do
@@ -287,6 +371,18 @@ check "a line of 14 octets" is_bad_line 0 "short line" 9c6e988a9a40e0ac966484848
 check "a line of 1025 octets" is_bad_line 0 "long line" "$(printf '%02050d' 0)"
 check "a loop" loops
 check "a rough loop" loops_roughly
+
+# Live stations: one whose air is silence, one that cannot have its ports, and two that hear each other and carry text both
+# ways between their host programs.
+check "a station that hears nothing" hears_nothing
+check "a station without its ports" has_no_port
+if has python3; then
+    check "two stations" stations_agree
+    check "two stations by SREJ, a fifth of the transmissions lost" stations_agree --mode srej --loss 20
+    check "two stations modulo 128, half duplex, some lost" stations_agree --wide --half --loss 10
+else
+    skip "two stations" python3
+fi
 
 # Words that are refused, and streams that fail.
 check "a word that is no command" is_refused decod

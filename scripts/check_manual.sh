@@ -22,10 +22,14 @@ needed_beside() {
         "loop --seed") echo "--frames 0" ;;
         "loop --frames") echo "--seed 0" ;;
         loop*) echo "--seed 0 --frames 0" ;;
+        "serve --kiss") echo "--agw 18101" ;;
+        "serve --agw") echo "--kiss 18100" ;;
+        serve*) echo "--kiss 18100 --agw 18101" ;;
     esac
 }
 
-# WORDS..: the program refuses these words, or takes them, with nothing to read (which is no WAV file: status 2).
+# WORDS..: the program refuses these words, or takes them, with nothing to read (which is no WAV file: status 2). Not
+# everybody may open every port (status 10).
 is_refused() {
     local status=0
     "$tnc" "$@" </dev/null >/dev/null 2>&1 || status=$?
@@ -34,7 +38,7 @@ is_refused() {
 is_taken() {
     local status=0
     "$tnc" "$@" </dev/null >/dev/null 2>&1 || status=$?
-    [ "$status" = 0 ] || [[ $status = 2 && " $* " = *" --wav "* ]]
+    [ "$status" = 0 ] || [[ $status = 2 && " $* " = *" --wav "* ]] || [[ $status = 10 && $1 = serve ]]
 }
 
 # The number after a number of any length, and the one before, which is no number before 0.
@@ -58,6 +62,16 @@ takes() {
         is_taken "$1" $beside "$2" "$number" || fault "$1 $2 $number is refused"
         is_taken "$1" $beside "$2=00$number" || fault "$1 $2=00$number is refused"
     done
+}
+# COMMAND OPTION TAKEN..: the words that an option takes, and not in capitals with more behind them.
+takes_words() {
+    local beside word
+    beside=$(needed_beside "$1" "$2")
+    for word in "${@:3}"; do
+        is_taken "$1" $beside "$2" "$word" || fault "$1 $2 $word is refused"
+        is_refused "$1" $beside "$2" "$word!" || fault "$1 $2 $word! is taken"
+    done
+    is_refused "$1" $beside "$2" || fault "$1 $2 is taken without its word"
 }
 does_not_take() {
     local beside number
@@ -83,7 +97,7 @@ known=$(sed -n 's/.*Command::new(alloc, "\([a-z]*\)").*/\1/p' crates/tnc_words/s
 [ "$(sort <<<"$commands")" = "$(sort <<<"$known")" ] || fault "its commands are" $commands "and the program's" $known
 
 # Each option of the program is on the page.
-options=$(sed -n 's/.*\(flag\|option\|needed\)(alloc, "\([a-z]*\)").*/--\2/p' crates/tnc_words/src/options.rt | sort -u)
+options=$(sed -n 's/.*\(flag\|option\|needed\)(alloc, "\([a-z-]*\)").*/--\2/p' crates/tnc_words/src/options.rt | sort -u)
 on_page=$(cut -d '|' -f 2 <<<"$entries" | cut -d ' ' -f 1 | sort -u)
 [ "$options" = "$on_page" ] || fault "its options are" $on_page "and the program's" $options
 
@@ -97,6 +111,14 @@ for command in $commands; do
         if [ -z "$entry" ]; then
             is_refused "$command" $beside "$option" || fault "$command $option is taken, and not on the page"
             is_refused "$command" $beside "$option" 8 || fault "$command $option 8 is taken, and not on the page"
+            continue
+        elif [[ $entry == *"|$option name|"* && $text =~ ([a-z]+)\ or\ ([a-z]+)\;\ ([a-z]+)\ where ]]; then
+            takes_words "$command" "$option" "${BASH_REMATCH[1]}" "${BASH_REMATCH[2]}"
+            [ "${BASH_REMATCH[3]}" = "${BASH_REMATCH[1]}" ] || fault "$command $option has another default"
+            continue
+        elif [[ $entry == *"|$option call|"* ]]; then
+            takes_words "$command" "$option" N7LEM N7LEM-15
+            does_not_take "$command" "$option" N7LEM-16 TOOLONGX ""
             continue
         elif [[ $entry != *"|$option n|"* ]]; then
             is_taken "$command" $beside "$option" || fault "$command $option is refused"
@@ -119,8 +141,8 @@ for command in $commands; do
         # the default, or that there is none
         if [[ $text =~ \;\ ([0-9]+)\ where\ it\ is\ not\ given ]]; then
             given=samples/minimodem-clean.frames
-            "$tnc" "$command" <$given >"$room/without"
-            "$tnc" "$command" "$option" "${BASH_REMATCH[1]}" <$given | cmp -s - "$room/without" \
+            "$tnc" "$command" $beside <$given >"$room/without"
+            "$tnc" "$command" $beside "$option" "${BASH_REMATCH[1]}" <$given | cmp -s - "$room/without" \
                 || fault "$command $option has another default"
         elif [[ $text == *"It has to be given."* ]]; then
             is_refused "$command" $beside || fault "$command does not need $option"

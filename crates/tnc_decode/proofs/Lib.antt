@@ -1,4 +1,8 @@
-pub mod MergingLemmas
+pub mod WavFaults
+pub mod AudioLemmas
+pub mod SettledLemmas
+pub mod ReceiverLemmas
 pub mod DecodedLemmas
+pub mod DecodingLemmas
+pub mod EndedLemmas
 pub mod PrintingLemmas
-pub mod WavLemmas

@@ -4,7 +4,7 @@ use Rattle.std.specs.List.{flat_map}
 use Rattle.std.proofs.lemmas.List.{drop_more, drop_all}
 use Rattle.frame_merge.specs.declared.candidate.Candidate.{Candidate}
 use Rattle.tnc_words.specs.declared.command.FrameForm.{FrameForm}
-use Rattle.tnc_decode.specs.Decoded.{frames_of}
+use Rattle.frame_merge.specs.Merged.{frames_of}
 use Rattle.tnc_decode.specs.Printing.{print, printed}
 
 -- past the last item nothing is left to print

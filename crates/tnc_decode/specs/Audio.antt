@@ -1,11 +1,12 @@
 -- Audio in its two forms: raw PCM, which is signed 16-bit samples with the low octet first, and a WAV file of them.
-use Rattle.std.specs.Prelude.{ℕ, ℤ, List, Option, Some, None, Result, Ok, Err}
+use Rattle.std.specs.Prelude.{ℕ, ◌+◌, nat_lt, if◌then◌else◌, ℤ, List, length, take, Option, Some, None, option_map, Result, Ok, Err}
+use Rattle.std.specs.Option.{option_or}
 use Rattle.wav_file.specs.declared.fault.WavFault.{WavFault}
-use Rattle.wav_file.specs.Reading.{samples_in, verdict_of}
+use Rattle.wav_file.specs.Reading.{fault_in, samples_in, verdict_of}
 use Rattle.wav_file.specs.Samples.{samples}
 use Rattle.tnc_forms.specs.declared.fault.InputFault.{InputFault}
-use Rattle.tnc_forms.specs.declared.fault.InputFault.TheVariants.{Wav as BadWav}
-use Rattle.tnc_forms.specs.Faults.{fault_within}
+use Rattle.tnc_forms.specs.declared.fault.InputFault.TheVariants.{TooLong, Wav as BadWav}
+use Rattle.tnc_forms.specs.Reading.{input_limit}
 use Rattle.tnc_words.specs.declared.command.AudioForm.{AudioForm}
 use Rattle.tnc_words.specs.declared.command.AudioForm.TheVariants.{Raw, Wav}
 
@@ -23,6 +24,15 @@ abbrev pub form_fault : AudioForm → List ℕ → Option InputFault
 form_fault Raw octets = None
 form_fault Wav octets = fault_in_verdict (verdict_of octets)
 
--- why an input is refused
+-- the fault at which reading stops before the end of an input: in a WAV file each but that it is cut short
+abbrev pub stopping_fault : AudioForm → List ℕ → Option InputFault
+stopping_fault Raw octets = None
+stopping_fault Wav octets = option_map BadWav (fault_in octets)
+
+-- Why an input is refused: for the first fault that reading it meets. Of an input that is too long, one octet more than
+-- an input may have is read.
 abbrev pub audio_fault : AudioForm → List ℕ → Option InputFault
-audio_fault form octets = fault_within octets (form_fault form octets)
+audio_fault form octets =
+    if nat_lt input_limit (length octets)
+    then option_or (stopping_fault form (take (input_limit + 1) octets)) (Some TooLong)
+    else form_fault form octets

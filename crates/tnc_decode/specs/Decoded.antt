@@ -1,15 +1,11 @@
 -- What decode makes of the octets of its input.
-use Rattle.std.specs.Prelude.{◌≡◌, ℕ, List, map}
+use Rattle.std.specs.Prelude.{◌≡◌, ℕ, List}
 use Rattle.frame_merge.specs.declared.candidate.Candidate.{Candidate}
-use Rattle.frame_merge.specs.Merged.{merged}
+use Rattle.frame_merge.specs.Merged.{merged, frames_of}
 use Rattle.slicer_bank.specs.Candidates.{AreCandidates}
 use Rattle.tnc_words.specs.declared.command.DecodeWords.{DecodeWords}
 use Rattle.tnc_decode.specs.Audio.{samples_of}
 use Rattle.tnc_decode.specs.Printing.{print}
-
--- the frames of candidates
-abbrev pub frames_of : List Candidate → List (List ℕ)
-frames_of items = map (λ item. item.octets) items
 
 -- The text is the print of the merged candidates of the input's samples. Samples have one list of candidates, so an
 -- input has one text.

@@ -1,4 +1,8 @@
 pub mod Audio
 pub mod Printing
 pub mod Decoded
-pub mod Merging
+pub mod Taken
+pub mod Settled
+pub mod Written
+pub mod Held
+pub mod Ended

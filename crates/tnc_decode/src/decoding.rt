@@ -1,23 +1,31 @@
-//! The word decode: from audio to the frames that are heard in it.
-ghost use Rattle.std.specs.Prelude.{◌≡◌, ◌≤◌, ◌<◌, ◌+◌, ◌++◌, List, ℕ, Some, None, [], length, drop, OnOk, IfOk, IfErr, IsErrOf, ◌⊎◌};
+//! The word decode: from audio to the frames that are heard in it, block after block.
+ghost use Rattle.std.specs.Prelude.{◌≡◌, ◌≤◌, ◌<◌, ◌+◌, ◌++◌, List, ℕ, Some, None, Err, [], length, drop, OnOk, OnErr, IsErrOf, ◌⊎◌};
 ghost use Rattle.tnc_base.specs.Faults.{HasRisen};
 ghost use Rattle.tnc_base.specs.Streams.{WrotePart};
 ghost use Rattle.tnc_forms.specs.declared.fault.InputFault.{InputFault};
 ghost use Rattle.tnc_forms.specs.Reading.{input_limit};
-ghost use Rattle.tnc_decode.specs.Audio.{audio_fault, form_fault};
+ghost use Rattle.tnc_decode.specs.Audio.{audio_fault};
 ghost use Rattle.tnc_decode.specs.Decoded.{IsDecoded};
+ghost use Rattle.tnc_decode.specs.Ended.{IsEnded};
+ghost use Rattle.tnc_decode.specs.Settled.{IsSettled};
+ghost use Rattle.tnc_decode.specs.Taken.{WereRead};
+ghost use Rattle.tnc_decode.specs.Written.{WroteMost};
 
-use crate::audio::read_audio;
-use crate::hearing::hear;
-use crate::printing::print;
+use crate::receiver::{BLOCK, Receiver};
 use std::alloc::Global;
-use tnc_base::{OutOfMemory, Sink, Source};
-use tnc_forms::{Fault, InputFault, read_all};
+use std::thread::Threads;
+use tnc_base::{Sink, Source};
+use tnc_forms::{Fault, InputFault};
 use tnc_words::DecodeWords;
 
-/// Reads the input to its end, and then writes the frames that are heard in it. Where it is a WAV file with a fault, what
-/// stands before the fault is heard, and the fault is told.
-pub fn decode<I: Source, O: Sink>(
+/// The most octets of an input.
+const INPUT_LIMIT: u64 = 1 << 40;
+
+/// Reads the input in blocks, and writes the frames that each block settles. Keeps one block and the decoder, however
+/// long the input is. A fault of a WAV file's head ends the reading; a file that is cut short is heard to its end. If the
+/// words ask for threads, the lanes of the decoder work on two, and all that is written is the same.
+pub fn decode<R: Threads + Sync, I: Source, O: Sink>(
+    rt: &R,
     alloc: Global,
     words: DecodeWords,
     input: &mut I,
@@ -43,35 +51,55 @@ pub fn decode<I: Source, O: Sink>(
     ensures stops { (octets : List ℕ) → I.left input.old ≡ Some octets
         → IsErrOf result (Fault.Input InputFault.TooLong) → I.left input.new ≡ Some (drop (input_limit + 1) octets) }
 
-    // each other fault, and what stands after it
-    ensures read { IsErrOf result Fault.Read → HasRisen (I.faults input.old) (I.faults input.new) }
-    ensures write { IsErrOf result Fault.Write → HasRisen (O.faults output.old) (O.faults output.new) }
+    // each other fault, and what was written before it of the octets read
+    ensures settled { (octets before : List ℕ) → I.left input.old ≡ Some octets → O.written output.old ≡ Some before
+        → (result ≡ Err (Fault.Input InputFault.TooLong)) ⊎ (result ≡ Err Fault.Read)
+        → (read text : List ℕ) × WereRead octets (I.left input.new) read × IsSettled words read text
+        × (O.written output.new ≡ Some (before ++ text)) }
+    ensures most { (octets before : List ℕ) → I.left input.old ≡ Some octets → O.written output.old ≡ Some before
+        → IsErrOf result Fault.Write
+        → (read : List ℕ) × WereRead octets (I.left input.new) read × WroteMost words read before (O.written output.new) }
+    ensures part { (octets before : List ℕ) → I.left input.old ≡ Some octets → O.written output.old ≡ Some before
+        → result ≡ Err Fault.Memory
+        → (read front rest text more : List ℕ) × WereRead octets (I.left input.new) read × (read ≡ front ++ rest)
+        × IsSettled words front text × IsDecoded words read (text ++ more) × (O.written output.new ≡ Some (before ++ text)) }
     ensures cut { (octets before text : List ℕ) → I.left input.old ≡ Some octets
         → O.written output.old ≡ Some before → IsDecoded words octets text
-        → IsErrOf result Fault.Write → WrotePart before text (O.written output.new) }
-    ensures unwritten { (result ≡ Err (Fault.Input InputFault.TooLong)) ⊎ ((result ≡ Err Fault.Memory) ⊎ (result ≡ Err Fault.Read))
-        → output.new ≡ output.old }
+        → OnErr result (WrotePart before text (O.written output.new)) }
+    ensures read { IsErrOf result Fault.Read → HasRisen (I.faults input.old) (I.faults input.new) }
+    ensures write { IsErrOf result Fault.Write → HasRisen (O.faults output.old) (O.faults output.new) }
 {
-    let octets = read_all(alloc, input)?;
-    let (text, fault) = decoded_text(alloc, words, &octets)?;
-    match (output.write(&text), fault) {
-        (Err(_), _) => Err(Fault::Write),
-        (Ok(()), None) => Ok(()),
-        (Ok(()), Some(fault)) => Err(Fault::Input(fault)),
-    }
+    decode_blocks(rt, alloc, words, input, output)
 }
 
-/// The print of the frames that are heard in octets, and what is wrong with these.
-fn decoded_text(
+/// The same, with what holds at each end as one fact.
+fn decode_blocks<R: Threads + Sync, I: Source, O: Sink>(
+    rt: &R,
     alloc: Global,
     words: DecodeWords,
-    octets: &[u8],
-) -> Result<(Vec<u8>, Option<InputFault>), OutOfMemory>
-    requires { length octets.now ≤ input_limit }
-    ensures text { IfOk result (λ made. IsDecoded words octets.now made.0.items) }
-    ensures fault { IfOk result (λ made. made.1 ≡ form_fault words.audio octets.now) }
+    input: &mut I,
+    output: &mut O,
+) -> Result<(), Fault>
+    ensures ended { (octets : List ℕ) → I.left input.old ≡ Some octets
+        → IsEnded words octets (I.left input.new) (O.written output.old) (O.written output.new) result }
+    ensures faultless { OnOk result ((I.faults input.new ≡ I.faults input.old) × (O.faults output.new ≡ O.faults output.old)) }
+    ensures read { IsErrOf result Fault.Read → HasRisen (I.faults input.old) (I.faults input.new) }
+    ensures write { IsErrOf result Fault.Write → HasRisen (O.faults output.old) (O.faults output.new) }
 {
-    let audio = read_audio(alloc, words.audio, octets)?;
-    let items = hear(alloc, &audio.samples)?;
-    Ok((print(alloc, words.frames, &items)?, audio.fault))
+    let mut receiver = Receiver::new(alloc, words)?;
+    let mut buffer = [0; BLOCK];
+    let mut total: u64 = 0;
+    'reading: while total <= INPUT_LIMIT {
+        let room = (BLOCK as u64).min(INPUT_LIMIT + 1 - total) as usize;
+        let Ok(count) = input.read(&mut buffer[..room]) else {
+            return Err(Fault::Read);
+        };
+        if count == 0 {
+            receiver.end(output)?;
+            return Ok(());
+        }
+        receiver.hear(rt, &buffer[..count], output)?;
+        total += count as u64;
+    }
+    Err(Fault::Input(InputFault::TooLong))
 }

@@ -5,10 +5,11 @@
 
 mod audio;
 mod decoding;
-mod hearing;
 mod printing;
+mod receiver;
 
-pub use audio::{Audio, read_audio};
 pub use decoding::decode;
-pub use hearing::{hear, merge};
 pub use printing::print;
+
+#[cfg(test)]
+mod tests;

@@ -1,6 +1,6 @@
 //! Heard frames as text.
 ghost use Rattle.std.specs.Prelude.{◌≡◌, ◌++◌, IfOk, OnOk};
-ghost use Rattle.tnc_decode.specs.Decoded.{frames_of};
+ghost use Rattle.frame_merge.specs.Merged.{frames_of};
 ghost use Rattle.tnc_decode.specs.Printing.{print, printed};
 
 use frame_merge::Candidate;

@@ -11,13 +11,20 @@ ghost use Rattle.tnc_loop.specs.Summary.{IsSummary, IsFirstStray, clean_summary}
 use crate::fault::LoopFault;
 use crate::telling::tell_drawn;
 use std::alloc::Global;
+use std::thread::Threads;
 use tnc_base::Sink;
 use tnc_words::LoopWords;
 
 /// Draws frames from the seed, sends each as a transmission of its own, hears the samples, and writes the summary. If a
 /// candidate of the samples is no frame that was made, the first such is told after the summary. With `rough` each
-/// transmission has a start phase and a level of its own, noise before it, and errors within a tenth of its level.
-pub fn loop_back<O: Sink>(alloc: Global, words: LoopWords, output: &mut O) -> Result<(), LoopFault>
+/// transmission has a start phase and a level of its own, noise before it, and errors within a tenth of its level. With
+/// `threads` the lanes that hear work on two threads, and all that is told is the same.
+pub fn loop_back<R: Threads + Sync, O: Sink>(
+    rt: &R,
+    alloc: Global,
+    words: LoopWords,
+    output: &mut O,
+) -> Result<(), LoopFault>
     // what is written, and what then holds of the samples
     ensures done { (before : List ℕ) → O.written output.old ≡ Some before
         → OnOk result ((text : List ℕ) × IsSummary words text × (O.written output.new ≡ Some (before ++ text))) }
@@ -39,7 +46,7 @@ pub fn loop_back<O: Sink>(alloc: Global, words: LoopWords, output: &mut O) -> Re
         → OnErr result (WrotePart before text (O.written output.new)) }
     ensures unwritten { result ≡ Err LoopFault.Memory → output.new ≡ output.old }
 {
-    let told = tell_drawn(alloc, words)?;
+    let told = tell_drawn(rt, alloc, words)?;
     match (output.write(told.summary.as_bytes()), told.stray) {
         (Err(_), _) => Err(LoopFault::Write),
         (Ok(()), None) => Ok(()),

@@ -21,15 +21,18 @@ fn twenty_frames_of_seed_seven_are_heard(rt: HostRuntime) -> Result<(), Fail> {
         ),
     ];
     for (rough, summary) in table {
-        let mut output = MemSink::new(rt.alloc(), 1000, Vec::new(rt.alloc()))?;
-        let words = LoopWords {
-            seed: 7,
-            frames: 20,
-            rough,
-        };
-        let done = loop_back(rt.alloc(), words, &mut output);
-        assert!(rt; done.is_ok());
-        assert_eq!(rt; output.written(), summary);
+        for threads in [false, true] {
+            let mut output = MemSink::new(rt.alloc(), 1000, Vec::new(rt.alloc()))?;
+            let words = LoopWords {
+                seed: 7,
+                frames: 20,
+                rough,
+                threads,
+            };
+            let done = loop_back(&rt, rt.alloc(), words, &mut output);
+            assert!(rt; done.is_ok());
+            assert_eq!(rt; output.written(), summary, "with threads: {threads}");
+        }
     }
     Ok(())
 }
@@ -39,11 +42,13 @@ fn twenty_frames_of_seed_seven_are_heard(rt: HostRuntime) -> Result<(), Fail> {
 fn no_frame_is_heard_of_none(rt: HostRuntime) -> Result<(), Fail> {
     let mut output = MemSink::new(rt.alloc(), 1000, Vec::new(rt.alloc()))?;
     let done = loop_back(
+        &rt,
         rt.alloc(),
         LoopWords {
             seed: 7,
             frames: 0,
             rough: false,
+            threads: false,
         },
         &mut output,
     );
@@ -57,11 +62,13 @@ fn no_frame_is_heard_of_none(rt: HostRuntime) -> Result<(), Fail> {
 fn an_output_that_fails_is_told(rt: HostRuntime) -> Result<(), Fail> {
     let mut output = MemSink::new(rt.alloc(), 1000, [0].to_vec(rt.alloc())?)?;
     let done = loop_back(
+        &rt,
         rt.alloc(),
         LoopWords {
             seed: 7,
             frames: 1,
             rough: false,
+            threads: false,
         },
         &mut output,
     );

@@ -1,11 +1,15 @@
 -- What is said of a command can be said of an equal one.
-use Rattle.std.proofs.Common.{◌≡◌, ℕ, List, Option, Result, refl, sym, subst, ap}
+use Rattle.std.proofs.Common.{◌≡◌, ℕ, List, Option, None, Result, refl, sym, subst, ap}
+use Rattle.std.specs.Prelude.{OnOk}
+use Rattle.tnc_forms.specs.declared.fault.Fault.{Fault}
 use Rattle.tnc_words.specs.declared.command.Command.{Command}
-use Rattle.tnc_words.specs.declared.command.Command.TheVariants.{Decode, Encode, Show, Loop}
+use Rattle.tnc_words.specs.declared.command.Command.TheVariants.{Decode, Encode, Show, Loop, Serve}
 use Rattle.tnc_words.specs.declared.command.LoopWords.{LoopWords}
 use Rattle.tnc_main.specs.declared.stop.Stop.{Stop}
 use Rattle.tnc_main.specs.Commands.{Reads, Strays, fault_of}
-use Rattle.tnc_main.specs.Stops.{status_of}
+use Rattle.tnc_main.specs.Parts.{WritesAtEnd}
+use Rattle.tnc_main.specs.Stops.{end_of, status_of}
+use Rattle.tnc_main.proofs.Ends.{if_ok}
 use Rattle.tnc_main.proofs.Writing.{Written}
 use Rattle.tnc_loop.specs.Summary.{IsFirstStray}
 
@@ -20,11 +24,20 @@ module _ (command other : Command) (is : command ≡ other) where
   pub same_fault : (octets : List ℕ) → fault_of command octets ≡ fault_of other octets
   same_fault octets = ap (λ c. fault_of c octets) is
 
+  pub no_fault : (octets : List ℕ) (r : Result (Unit {0}) Stop) (end : Result (Unit {0}) Fault) → r ≡ end_of end
+      → OnOk end (fault_of other octets ≡ None) → OnOk r (fault_of command octets ≡ None)
+  no_fault octets r end same =
+      subst (λ c. OnOk end (fault_of other octets ≡ None) → OnOk r (fault_of c octets ≡ None)) (sym is)
+      (if_ok r end same {P = fault_of other octets ≡ None} {Q = fault_of other octets ≡ None} (λ none. none))
+
+  pub last : WritesAtEnd command → WritesAtEnd other
+  last = subst (λ c. WritesAtEnd c) is
+
   -- what the other one wrote is what this one wrote, at the status of its end
-  pub written : (octets before : List ℕ) (now : Option (List ℕ)) (r end : Result (Unit {0}) Stop) → r ≡ end
-      → Written other octets before now (status_of end) → Written command octets before now (status_of r)
-  written octets before now r end same h =
-      subst (λ c. Written c octets before now (status_of r)) (sym is) (subst (λ e. Written other octets before now (status_of e)) (sym same) h)
+  pub written : (octets before : List ℕ) (left now : Option (List ℕ)) (r end : Result (Unit {0}) Stop) → r ≡ end
+      → Written other octets before left now (status_of end) → Written command octets before left now (status_of r)
+  written octets before left now r end same h =
+      subst (λ c. Written c octets before left now (status_of r)) (sym is) (subst (λ e. Written other octets before left now (status_of e)) (sym same) h)
 
 -- only a loop hears what is stray
 pub stray_of_loop : (command : Command) (frame : List ℕ) → Strays command frame
@@ -33,3 +46,4 @@ stray_of_loop (Decode words) frame h = absurd h
 stray_of_loop (Encode words) frame h = absurd h
 stray_of_loop (Show words) frame h = absurd h
 stray_of_loop (Loop words) frame h = (words, refl, h)
+stray_of_loop (Serve options) frame h = absurd h

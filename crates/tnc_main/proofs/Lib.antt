@@ -2,9 +2,12 @@ pub mod Ends
 pub mod Statuses
 pub mod Jobs
 pub mod Writing
+pub mod DecodeWriting
 pub mod Telling
 pub mod CommandLemmas
 pub mod TextLemmas
 pub mod PcmRoundTrip
 pub mod SentFrames
 pub mod RoundTrip
+pub mod ServingLemmas
+pub mod LiveRuns

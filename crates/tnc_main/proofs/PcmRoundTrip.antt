@@ -1,5 +1,5 @@
 -- What is written of the samples of a signal is read as these samples, as raw PCM and as a WAV file.
-use Rattle.std.proofs.Common.{◌≡◌, ℕ, ◌+◌, ◌*◌, ◌<◌, ◌≤◌, ℤ, pos, List, [], ◌∷◌, ◌++◌, length, get_or, length-append, replicate, All, Ok, refl, ap, ◌∙◌, arith, of_z}
+use Rattle.std.proofs.Common.{◌≡◌, ℕ, ◌+◌, ◌*◌, ◌≤◌, ℤ, pos, List, [], ◌∷◌, ◌++◌, length, get_or, length-append, replicate, All, Ok, refl, ap, ◌∙◌, arith, of_z}
 use Rattle.std.specs.Prelude.{unsigned_abs}
 use Rattle.std.specs.Int.{cast_signed, from_le_bytes, to_le_bytes}
 use Rattle.std.specs.List.{AllByRecursion, range_with_len}

@@ -1,6 +1,7 @@
 -- What encode writes is heard by decode.
-use Rattle.std.proofs.Common.{◌≡◌, ℕ, ◌≤◌, Bool, true, false, true≢false, ℤ, List, All, length, nat_lt, Option, Some, None, refl, sym, subst, ap, ◌∙◌, le-ltb}
+use Rattle.std.proofs.Common.{◌≡◌, ℕ, ◌+◌, ◌≤◌, Bool, true, false, true≢false, ℤ, List, All, length, take, nat_lt, Option, Some, None, refl, sym, subst, ap, ◌∙◌, le-ltb}
 use Rattle.std.specs.Prelude.{is_some, if◌then◌else◌}
+use Rattle.std.specs.Option.{option_or}
 use Rattle.std.proofs.lemmas.Bool.{ltb-false}
 use Rattle.afsk_modulator.specs.Modulation.{IsLevel}
 use Rattle.clean_signal.specs.GoodTransmission.{frames_of as all_frames}
@@ -14,7 +15,7 @@ use Rattle.tnc_words.specs.declared.command.EncodeWords.{EncodeWords}
 use Rattle.tnc_forms.specs.declared.fault.InputFault.{InputFault}
 use Rattle.tnc_forms.specs.declared.fault.InputFault.TheVariants.{LongWav, TooLong}
 use Rattle.tnc_forms.specs.Reading.{input_limit}
-use Rattle.tnc_decode.specs.Audio.{audio_fault, fault_in_verdict, form_fault, samples_of}
+use Rattle.tnc_decode.specs.Audio.{audio_fault, fault_in_verdict, form_fault, samples_of, stopping_fault}
 use Rattle.tnc_decode.specs.Decoded.{IsDecoded}
 use Rattle.tnc_decode.specs.Printing.{print}
 use Rattle.tnc_encode.specs.Frames.{form_fault as frames_fault, frames_of}
@@ -65,7 +66,7 @@ module _ (encode : EncodeWords) (decode : DecodeWords) (octets : List ℕ) (none
   pub taken : length (encoded encode octets) ≤ input_limit → audio_fault decode.audio (encoded encode octets) ≡ None
   unfolding encoded
   taken short =
-      ap (λ b. if b then Some TooLong else form_fault decode.audio (encoded encode octets)) (le-ltb input_limit (length (encoded encode octets)) short)
+      ap (λ b. if b then option_or (stopping_fault decode.audio (take (input_limit + 1) (encoded encode octets))) (Some TooLong) else form_fault decode.audio (encoded encode octets)) (le-ltb input_limit (length (encoded encode octets)) short)
       ∙ ap (λ form. form_fault form (encoded encode octets)) same ∙ written_good encode.audio (signal_of encode frames) (wav_fits encode octets none)
 
   same_samples : IsLevel encode.level → samples_of decode.audio (encoded encode octets) ≡ signal_of encode frames

@@ -3,7 +3,7 @@ use Rattle.std.proofs.Common.{◌≡◌, ◌≢◌, ℕ, zero, suc, Result, Ok, 
 use Rattle.std.specs.Prelude.{IsOk, List}
 use Rattle.tnc_forms.specs.declared.fault.InputFault.{InputFault}
 use Rattle.tnc_main.specs.declared.status.Status.{Status}
-use Rattle.tnc_main.specs.declared.status.Status.TheVariants.{Done, BadWords, BadInput, Memory as NoMemory, ReadFault, WriteFault, Stray as HeardStray}
+use Rattle.tnc_main.specs.declared.status.Status.TheVariants.{Done, BadWords, BadInput, Memory as NoMemory, ReadFault, WriteFault, Stray as HeardStray, NoPort}
 use Rattle.tnc_main.specs.declared.stop.Stop.{Stop}
 use Rattle.tnc_main.specs.declared.stop.Stop.TheVariants.{Input, Stray, Memory, Read, Write}
 use Rattle.tnc_main.specs.Status.{code_of}
@@ -17,7 +17,8 @@ status_at (suc (suc zero)) = BadInput
 status_at (suc (suc (suc zero))) = NoMemory
 status_at (suc (suc (suc (suc zero)))) = ReadFault
 status_at (suc (suc (suc (suc (suc zero))))) = WriteFault
-status_at (suc (suc (suc (suc (suc (suc n)))))) = HeardStray
+status_at (suc (suc (suc (suc (suc (suc zero)))))) = HeardStray
+status_at (suc (suc (suc (suc (suc (suc (suc n))))))) = NoPort
 
 status_at-code : (status : Status) → status_at (code_of status) ≡ status
 unfolding status_at
@@ -28,6 +29,7 @@ status_at-code NoMemory = refl
 status_at-code ReadFault = refl
 status_at-code WriteFault = refl
 status_at-code HeardStray = refl
+status_at-code NoPort = refl
 
 -- a status is known by its code
 pub one_status : (status other : Status) → code_of status ≡ code_of other → status ≡ other
@@ -89,6 +91,17 @@ module _ (end : Result (Unit {0}) Stop) (status : Status) (ends : EndsAs end sta
       go (Err Memory) e = absurd (omega arith)
       go (Err Read) e = refl
       go (Err Write) e = absurd (omega arith)
+
+  pub at_no_port : code_of status ≡ 10 → ⊥
+  at_no_port is = go end (own_code end status 10 ends is (λ e. omega arith) (λ e. omega arith))
+    where
+      go : (r : Result (Unit {0}) Stop) → code_of (status_of r) ≡ 10 → ⊥
+      go (Ok x) e = omega arith
+      go (Err (Input fault)) e = omega arith
+      go (Err (Stray frame)) e = omega arith
+      go (Err Memory) e = omega arith
+      go (Err Read) e = omega arith
+      go (Err Write) e = omega arith
 
   pub at_stray : code_of status ≡ 6 → (frame : List ℕ) × (end ≡ Err (Stray frame))
   at_stray is = go end (own_code end status 6 ends is (λ e. omega arith) (λ e. omega arith))

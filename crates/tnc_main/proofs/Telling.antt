@@ -1,5 +1,5 @@
 -- What a run leaves, why it ends, and what it tells, by how its command ends.
-use Rattle.std.proofs.Common.{◌≡◌, ℕ, ◌<◌, ◌+◌, List, [], ◌++◌, length, drop, Option, Some, None, Result, Ok, Err, IfErr, inl, inr, append-nil, refl, sym, subst, ap, ◌∙◌}
+use Rattle.std.proofs.Common.{◌≡◌, ℕ, ◌+◌, List, [], ◌++◌, drop, Option, Some, None, Result, Ok, Err, IfErr, inl, inr, append-nil, refl, sym, subst, ap, ◌∙◌}
 use Rattle.std.specs.Prelude.{OnOk, ◌⊎◌}
 use Rattle.tnc_base.specs.Streams.{WrotePart}
 use Rattle.tnc_words.specs.declared.command.Command.{Command}
@@ -19,28 +19,26 @@ use Rattle.tnc_main.specs.Stops.{EndsAs, status_of}
 module _ (command : Command) (octets : List ℕ) (left : Option (List ℕ)) where
   leaves_own : (end : Result (Unit {0}) Stop) → OnOk end (Reads command left [])
       → ((fault : InputFault) → end ≡ Err (Input fault) → fault_of command octets ≡ Some fault)
-      → (input_limit < length octets → fault_of command octets ≡ Some TooLong)
       → (end ≡ Err (Input TooLong) → Reads command left (drop (input_limit + 1) octets))
       → Leaves command octets (status_of end) left
-  leaves_own (Ok x) all bad long stops = all
-  leaves_own (Err (Input fault)) all bad long stops = λ over.
-      let both : Some fault ≡ Some TooLong = sym (bad fault refl) ∙ long over in
+  leaves_own (Ok x) all bad stops = all
+  leaves_own (Err (Input fault)) all bad stops = λ long.
+      let both : Some fault ≡ Some TooLong = sym (bad fault refl) ∙ long in
       let same : fault ≡ TooLong = cc both in
       stops (ap (λ f. Err (Input f)) same)
-  leaves_own (Err (Stray frame)) all bad long stops = tt
-  leaves_own (Err Memory) all bad long stops = tt
-  leaves_own (Err Read) all bad long stops = tt
-  leaves_own (Err Write) all bad long stops = tt
+  leaves_own (Err (Stray frame)) all bad stops = tt
+  leaves_own (Err Memory) all bad stops = tt
+  leaves_own (Err Read) all bad stops = tt
+  leaves_own (Err Write) all bad stops = tt
 
   pub leaves : (end : Result (Unit {0}) Stop) (status : Status) → EndsAs end status → OnOk end (Reads command left [])
       → ((fault : InputFault) → end ≡ Err (Input fault) → fault_of command octets ≡ Some fault)
-      → (input_limit < length octets → fault_of command octets ≡ Some TooLong)
       → (end ≡ Err (Input TooLong) → Reads command left (drop (input_limit + 1) octets))
       → Leaves command octets status left
-  leaves end status (inl same) all bad long stops =
-      subst (λ s. Leaves command octets s left) (sym same) (leaves_own end all bad long stops)
-  leaves end status (inr (told, inl is)) all bad long stops = subst (λ s. Leaves command octets s left) (sym is) tt
-  leaves end status (inr (told, inr is)) all bad long stops = subst (λ s. Leaves command octets s left) (sym is) tt
+  leaves end status (inl same) all bad stops =
+      subst (λ s. Leaves command octets s left) (sym same) (leaves_own end all bad stops)
+  leaves end status (inr (told, inl is)) all bad stops = subst (λ s. Leaves command octets s left) (sym is) tt
+  leaves end status (inr (told, inr is)) all bad stops = subst (λ s. Leaves command octets s left) (sym is) tt
 
 module _ (command : Command) (octets : List ℕ) where
   caused_own : (end : Result (Unit {0}) Stop) → OnOk end (fault_of command octets ≡ None)

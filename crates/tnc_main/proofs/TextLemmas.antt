@@ -6,31 +6,32 @@ use Rattle.clean_signal.specs.MergedFrames.{MergesTo}
 use Rattle.clean_signal.specs.NearSignal.{Received, transmissions_of}
 use Rattle.clean_signal.proofs.Law.{near_law}
 use Rattle.tnc_words.specs.declared.command.Command.{Command}
-use Rattle.tnc_words.specs.declared.command.Command.TheVariants.{Decode, Encode, Show, Loop}
+use Rattle.tnc_words.specs.declared.command.Command.TheVariants.{Decode, Encode, Show, Loop, Serve}
 use Rattle.tnc_words.specs.declared.command.DecodeWords.{DecodeWords}
 use Rattle.tnc_forms.specs.declared.fault.InputFault.TheVariants.{TooLong}
 use Rattle.tnc_forms.specs.Faults.{hex_fault}
 use Rattle.tnc_forms.specs.Reading.{input_limit}
-use Rattle.tnc_decode.specs.Audio.{form_fault, samples_of}
+use Rattle.tnc_decode.specs.Audio.{samples_of}
 use Rattle.tnc_decode.specs.Decoded.{IsDecoded}
 use Rattle.tnc_decode.specs.Printing.{print}
 use Rattle.tnc_encode.specs.Encoded.{encode_fault, first_of, length_fault, samples_sent}
 use Rattle.tnc_encode.specs.Frames.{form_fault as frames_fault}
 use Rattle.tnc_main.specs.Clean.{IsNearlyClean}
 use Rattle.tnc_main.specs.Commands.{Reads, fault_of}
+use Rattle.tnc_main.specs.Parts.{WritesAtEnd}
 
--- an input with too many octets is refused for that
-pub long_fault : (command : Command) (left : Option (List ℕ)) (octets : List ℕ) → Reads command left octets → input_limit < length octets
-    → fault_of command octets ≡ Some TooLong
+-- an input with too many octets is refused for that by a command that reads all of it first
+pub long_fault : (command : Command) (left : Option (List ℕ)) (octets : List ℕ) → WritesAtEnd command → Reads command left octets
+    → input_limit < length octets → fault_of command octets ≡ Some TooLong
 unfolding encode_fault
-long_fault (Decode words) left octets read long =
-    ap (λ b. if b then Some TooLong else form_fault words.audio octets) (lt-ltb input_limit (length octets) long)
-long_fault (Encode words) left octets read long =
+long_fault (Decode words) left octets last read long = absurd last
+long_fault (Encode words) left octets last read long =
     ap (λ b. if b then Some TooLong else first_of (frames_fault words.frames octets) (length_fault words.audio (length (samples_sent words octets))))
     (lt-ltb input_limit (length octets) long)
-long_fault (Show words) left octets read long =
+long_fault (Show words) left octets last read long =
     ap (λ b. if b then Some TooLong else hex_fault 0 octets) (lt-ltb input_limit (length octets) long)
-long_fault (Loop words) left octets read long = let none : length octets ≡ 0 = ap length read in absurd (omega arith)
+long_fault (Loop words) left octets last read long = let none : length octets ≡ 0 = ap length read in absurd (omega arith)
+long_fault (Serve options) left octets last read long = absurd last
 
 -- what decode makes of samples whose merged candidates are these frames
 pub merged_text : (words : DecodeWords) (frames : List (List ℕ)) (octets text : List ℕ) → MergesTo frames (samples_of words.audio octets)

@@ -1,9 +1,9 @@
--- What each command makes of its input, and why it refuses it. These commands make one text of their input and end.
-use Rattle.std.specs.Prelude.{◌≡◌, ℕ, ◌<◌, ◌≤◌, List, [], Option, Some, None, length}
+-- What each command makes of its input, and why it refuses it. A live command does not make one text of its input: `serve`
+-- is none of these.
+use Rattle.std.specs.Prelude.{◌≡◌, ℕ, List, [], Option, Some, None}
 use Rattle.tnc_forms.specs.declared.fault.InputFault.{InputFault}
-use Rattle.tnc_forms.specs.Reading.{input_limit}
 use Rattle.tnc_words.specs.declared.command.Command.{Command}
-use Rattle.tnc_words.specs.declared.command.Command.TheVariants.{Decode, Encode, Show, Loop}
+use Rattle.tnc_words.specs.declared.command.Command.TheVariants.{Decode, Encode, Show, Loop, Serve}
 use Rattle.tnc_words.specs.declared.command.LoopWords.{LoopWords}
 use Rattle.tnc_decode.specs.Audio.{audio_fault}
 use Rattle.tnc_decode.specs.Decoded.{IsDecoded}
@@ -15,12 +15,13 @@ use Rattle.clean_signal.specs.Stray.{NoStray}
 use Rattle.tnc_loop.specs.Drawn.{drawn, samples_drawn}
 use Rattle.tnc_loop.specs.Summary.{IsSummary, IsFirstStray}
 
--- a command has these octets to read, of those that its input has left: loop reads none
+-- a command has these octets to read, of those that its input has left: loop reads none, and serve is no such command
 abbrev pub Reads : Command → Option (List ℕ) → List ℕ → Type 0
 Reads (Decode words) left octets = left ≡ Some octets
 Reads (Encode words) left octets = left ≡ Some octets
 Reads (Show words) left octets = left ≡ Some octets
 Reads (Loop words) left octets = octets ≡ []
+Reads (Serve options) left octets = ⊥
 
 -- the text is what a command makes of octets; each has one text
 abbrev pub Makes : Command → List ℕ → List ℕ → Type 0
@@ -28,6 +29,7 @@ Makes (Decode words) octets text = IsDecoded words octets text
 Makes (Encode words) octets text = text ≡ encoded words octets
 Makes (Show words) octets text = IsShown words octets text
 Makes (Loop words) octets text = IsSummary words text
+Makes (Serve options) octets text = ⊥
 
 -- why a command refuses octets: with those of loop nothing is wrong
 abbrev pub fault_of : Command → List ℕ → Option InputFault
@@ -35,6 +37,7 @@ fault_of (Decode words) octets = audio_fault words.audio octets
 fault_of (Encode words) octets = encode_fault words octets
 fault_of (Show words) octets = show_fault octets
 fault_of (Loop words) octets = None
+fault_of (Serve options) octets = None
 
 -- the text is what a command makes of octets that are not too many, before it refuses them
 abbrev pub MakesUpToFault : Command → List ℕ → List ℕ → Type 0
@@ -42,11 +45,7 @@ MakesUpToFault (Decode words) octets text = IsDecoded words octets text
 MakesUpToFault (Encode words) octets text = text ≡ encoded_before words octets
 MakesUpToFault (Show words) octets text = IsShown words octets text
 MakesUpToFault (Loop words) octets text = ⊥
-
--- the text is what a command writes of octets before it refuses them: nothing of too many
-pub record MakesBefore (command : Command) (octets text : List ℕ) : Type 0 where
-  pub too_many : input_limit < length octets → text ≡ []
-  pub up_to_fault : length octets ≤ input_limit → MakesUpToFault command octets text
+MakesUpToFault (Serve options) octets text = ⊥
 
 -- the first stray candidate of what a command sent to itself has these octets
 abbrev pub Strays : Command → List ℕ → Type 0
@@ -54,6 +53,7 @@ Strays (Decode words) octets = ⊥
 Strays (Encode words) octets = ⊥
 Strays (Show words) octets = ⊥
 Strays (Loop words) octets = IsFirstStray words octets
+Strays (Serve options) octets = ⊥
 
 -- nothing is wrong with the octets of a command, nor with what it sends to itself
 pub record IsFaultless (command : Command) (octets : List ℕ) : Type 0 where

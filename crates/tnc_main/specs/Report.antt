@@ -13,6 +13,9 @@ use Rattle.tnc_main.specs.declared.stop.Stop.TheVariants.{Input, Stray, Memory, 
 abbrev pub bad_words_line : List ℕ
 bad_words_line = codes "tnc: bad words" ++ 10 ∷ []
 
+abbrev pub no_port_line : List ℕ
+no_port_line = codes "tnc: no port" ++ 10 ∷ []
+
 -- what is wrong with a line
 abbrev pub name_of_flaw : LineFlaw → List ℕ
 name_of_flaw LongLine = codes "long line"
@@ -32,7 +35,7 @@ wav_text (NoFormat place) = codes "no format" ++ at_place place
 wav_text (BadFormat place field value) = codes "bad format " ++ (decimal field ++ (codes " value " ++ (decimal value ++ at_place place)))
 wav_text (Truncated place) = codes "truncated" ++ at_place place
 
--- what is wrong with an input: one that is too long shows at the octet behind the 2^40th, and a WAV file to be written
+-- what is wrong with an input: one that is too long shows at the octet after the 2^40th, and a WAV file to be written
 -- that is too long at its count of samples
 abbrev pub input_text : InputFault → List ℕ
 input_text TooLong = codes "too long at 1099511627776" ++ 10 ∷ []

@@ -1,16 +1,23 @@
 -- A run of a command that makes one text of its input and ends: what stands on its output and its report at each status.
-use Rattle.std.specs.Prelude.{◌≡◌, ℕ, ⊤, ◌+◌, ◌<◌, ◌⊎◌, List, [], ◌++◌, length, drop, Option, Some, None}
+use Rattle.std.specs.Prelude.{◌≡◌, ℕ, ⊤, ◌+◌, List, [], drop, Option, Some, None}
 use Rattle.tnc_words.specs.declared.command.Command.{Command}
-use Rattle.tnc_words.specs.Commands.{Asks}
+use Rattle.tnc_words.specs.declared.command.ServeOptions.{ServeOptions}
+use Rattle.tnc_words.specs.Commands.{Asks, IsServe}
 use Rattle.tnc_forms.specs.declared.fault.InputFault.{InputFault}
+use Rattle.tnc_forms.specs.declared.fault.InputFault.TheVariants.{TooLong}
 use Rattle.tnc_forms.specs.Reading.{input_limit}
 use Rattle.tnc_main.specs.declared.status.Status.{Status}
-use Rattle.tnc_main.specs.declared.status.Status.TheVariants.{Done, BadWords, BadInput, Memory, ReadFault, WriteFault, Stray}
+use Rattle.tnc_main.specs.declared.status.Status.TheVariants.{Done, BadWords, BadInput, Memory, ReadFault, WriteFault, Stray, NoPort}
 use Rattle.tnc_main.specs.declared.stop.Stop.{Stop}
-use Rattle.tnc_main.specs.Commands.{Makes, MakesBefore, Reads, Strays, fault_of}
+use Rattle.tnc_main.specs.Commands.{Makes, Reads, Strays, fault_of}
+use Rattle.tnc_main.specs.Parts.{Begins, HasAtMemory, HasAtWriteFault, MakesAtReadFault, MakesBefore, MakesPart}
 use Rattle.tnc_main.specs.Report.{input_line, line_of, stray_line}
 use Rattle.tnc_main.specs.Status.{code_of}
 use Rattle.tnc_main.specs.Stops.{IsStopOf}
+
+-- The words ask for no live command.
+abbrev pub AskNoServe : List (List ℕ) → Type 0
+AskNoServe words = (options : ServeOptions) → ¬ IsServe words options
 
 -- The words ask for nothing.
 abbrev pub AskNothing : List (List ℕ) → Type 0
@@ -29,29 +36,23 @@ pub record Job (words : List (List ℕ)) (left : Option (List ℕ)) (code : ℕ)
 abbrev pub Leaves : Command → List ℕ → Status → Option (List ℕ) → Type 0
 Leaves command octets Done left = Reads command left []
 Leaves command octets BadWords left = ⊥
-Leaves command octets BadInput left = input_limit < length octets → Reads command left (drop (input_limit + 1) octets)
+Leaves command octets BadInput left = fault_of command octets ≡ Some TooLong → Reads command left (drop (input_limit + 1) octets)
 Leaves command octets Memory left = ⊤
 Leaves command octets ReadFault left = ⊤
 Leaves command octets WriteFault left = ⊤
 Leaves command octets Stray left = ⊤
+Leaves command octets NoPort left = ⊥
 
--- one text begins another
-abbrev pub Begins : List ℕ → List ℕ → Type 0
-Begins part text = (rest : List ℕ) × (text ≡ part ++ rest)
-
--- nothing, or a first part of what a command makes of octets
-abbrev pub MakesPart : Command → List ℕ → List ℕ → Type 0
-MakesPart command octets part = (part ≡ []) ⊎ ((text : List ℕ) × Makes command octets text × Begins part text)
-
--- The text is what a run adds to its output when it ends with a status.
-abbrev pub Writes : Command → List ℕ → Status → List ℕ → Type 0
-Writes command octets Done text = Makes command octets text
-Writes command octets BadWords text = ⊥
-Writes command octets BadInput text = MakesBefore command octets text
-Writes command octets Memory text = MakesPart command octets text
-Writes command octets ReadFault text = text ≡ []
-Writes command octets WriteFault text = MakesPart command octets text
-Writes command octets Stray text = Makes command octets text
+-- The text is what a run adds to its output when it ends with a status and has this left of its input.
+abbrev pub Writes : Command → List ℕ → Option (List ℕ) → Status → List ℕ → Type 0
+Writes command octets left Done text = Makes command octets text
+Writes command octets left BadWords text = ⊥
+Writes command octets left BadInput text = MakesBefore command octets left text
+Writes command octets left Memory text = MakesPart command octets text × HasAtMemory command octets left text
+Writes command octets left ReadFault text = MakesPart command octets text × MakesAtReadFault command octets left text
+Writes command octets left WriteFault text = MakesPart command octets text × HasAtWriteFault command octets left text
+Writes command octets left Stray text = Makes command octets text
+Writes command octets left NoPort text = ⊥
 
 -- Why a run ends with a status, where that lies in the octets or in what the command sent to itself.
 abbrev pub IsCaused : Command → List ℕ → Status → Type 0
@@ -62,6 +63,7 @@ IsCaused command octets Memory = ⊤
 IsCaused command octets ReadFault = ⊤
 IsCaused command octets WriteFault = ⊤
 IsCaused command octets Stray = (frame : List ℕ) × Strays command frame
+IsCaused command octets NoPort = ⊥
 
 -- The line is what a run adds to its report when it ends with a status: it names the cause, which is there.
 abbrev pub Tells : Command → List ℕ → Status → List ℕ → Type 0
@@ -72,3 +74,4 @@ Tells command octets Memory line = line ≡ []
 Tells command octets ReadFault line = line ≡ []
 Tells command octets WriteFault line = (stop : Stop) × IsStopOf command octets stop × Begins line (line_of stop)
 Tells command octets Stray line = (frame : List ℕ) × Strays command frame × (line ≡ stray_line frame)
+Tells command octets NoPort line = ⊥

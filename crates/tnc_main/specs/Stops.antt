@@ -6,7 +6,7 @@ use Rattle.tnc_loop.specs.declared.fault.LoopFault.{LoopFault}
 use Rattle.tnc_loop.specs.declared.fault.LoopFault.TheVariants.{Stray as LoopStray, Memory as LoopMemory, Write as LoopWrite}
 use Rattle.afsk_modulator.specs.Modulation.{IsLevel}
 use Rattle.tnc_words.specs.declared.command.Command.{Command}
-use Rattle.tnc_words.specs.declared.command.Command.TheVariants.{Decode, Encode, Show, Loop}
+use Rattle.tnc_words.specs.declared.command.Command.TheVariants.{Decode, Encode, Show, Loop, Serve}
 use Rattle.tnc_main.specs.declared.status.Status.{Status}
 use Rattle.tnc_main.specs.declared.status.Status.TheVariants.{Done, BadInput, Memory as NoMemory, ReadFault, WriteFault, Stray as HeardStray}
 use Rattle.tnc_main.specs.declared.stop.Stop.{Stop}
@@ -62,9 +62,10 @@ abbrev pub end_of_loop : Result (Unit {0}) LoopFault → Result (Unit {0}) Stop
 end_of_loop (Ok nothing) = Ok nothing
 end_of_loop (Err fault) = Err (stop_of_loop fault)
 
--- the flags of encode can be sent, at its level
+-- a command that makes one text of its input, and the flags of encode can be sent, at its level
 abbrev pub CanRun : Command → Type 0
 CanRun (Decode words) = ⊤
 CanRun (Encode words) = (2 ≤ words.opening) × (1 ≤ words.closing) × IsLevel words.level
 CanRun (Show words) = ⊤
 CanRun (Loop words) = ⊤
+CanRun (Serve options) = ⊥

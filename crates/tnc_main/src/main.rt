@@ -1,12 +1,13 @@
-//! The program of the modem: it takes the words of a command line and works from one stream of octets to another. All
-//! that it does is one call over streams that are handed in, whose contract says what each exit status stands for and
-//! which octets are written.
+//! The program of the modem: it takes the words of a command line and works from one stream of octets to another, and as
+//! a live station also with the hosts that connect to its ports. All that it does is one call over streams and ports that
+//! are handed in, whose contract says what each exit status stands for and which octets are written.
 #![tactic(auto)]
 
 mod laws;
 mod performing;
 mod program;
 mod report;
+mod serving;
 mod status;
 mod stop;
 
@@ -16,8 +17,9 @@ use std::env;
 use std::io::{self, ErrorKind};
 use std::process::ExitCode;
 use tnc_base::{RealSink, RealSource};
+use tnc_ports::{Live, RealPorts, RealSpawner};
 
-/// The words after the program's name. Where one is no text they are none at all, which is no command either.
+/// The words after the program's name. If any is no text, there are none, which is no command either.
 fn given_words(rt: &HostRuntime) -> io::Result<Vec<String>> {
     match env::args(rt) {
         Ok(words) => Ok(words.skip(1).collect(rt.alloc())?),
@@ -33,7 +35,19 @@ fn main(rt: HostRuntime) -> ExitCode {
     let mut input = RealSource::new(rt.stdin());
     let mut output = RealSink::new(rt.stdout());
     let mut report = RealSink::new(rt.stderr());
-    ExitCode::from(run(rt.alloc(), &words, &mut input, &mut output, &mut report))
+    let mut live = Live {
+        ports: RealPorts::new(rt.alloc()),
+        spawner: RealSpawner,
+    };
+    ExitCode::from(run(
+        &rt,
+        rt.alloc(),
+        &words,
+        &mut input,
+        &mut output,
+        &mut report,
+        &mut live,
+    ))
 }
 
 #[cfg(test)]

@@ -1,15 +1,17 @@
-//! A command, done.
+//! A command that makes one text of its input, done.
 ghost use Rattle.std.specs.Prelude.{◌≡◌, ◌+◌, ◌++◌, ◌⊎◌, List, ℕ, Some, None, [], Err, drop, OnOk, IsErrOf};
 ghost use Rattle.tnc_base.specs.Faults.{HasRisen};
 ghost use Rattle.tnc_words.specs.declared.command.LoopWords.{LoopWords};
 ghost use Rattle.tnc_forms.specs.declared.fault.InputFault.{InputFault};
 ghost use Rattle.tnc_forms.specs.Reading.{input_limit};
 ghost use Rattle.tnc_main.specs.Commands.{HeardAsMade, Reads, Strays, fault_of};
+ghost use Rattle.tnc_main.specs.Parts.{WritesAtEnd};
 ghost use Rattle.tnc_main.specs.Runs.{Writes};
 ghost use Rattle.tnc_main.specs.Stops.{CanRun, status_of};
 
 use crate::stop::{Stop, ended, ended_loop};
 use std::alloc::Global;
+use std::thread::Threads;
 use tnc_base::{Sink, Source};
 use tnc_decode::decode;
 use tnc_encode::encode;
@@ -18,8 +20,9 @@ use tnc_loop::loop_back;
 use tnc_show::show;
 use tnc_words::Command;
 
-/// Does what a command asks for.
-pub(crate) fn perform<I: Source, O: Sink>(
+/// Does what a command asks for that is not live.
+pub(crate) fn perform<R: Threads + Sync, I: Source, O: Sink>(
+    rt: &R,
     alloc: Global,
     command: Command,
     input: &mut I,
@@ -35,9 +38,9 @@ pub(crate) fn perform<I: Source, O: Sink>(
     ensures unread { (words : LoopWords) → command ≡ Command.Loop words → input.new ≡ input.old }
     ensures written { (octets before : List ℕ) → Reads command (I.left input.old) octets
         → O.written output.old ≡ Some before
-        → (text : List ℕ) × Writes command octets (status_of result) text
+        → (text : List ℕ) × Writes command octets (I.left input.new) (status_of result) text
         × (O.written output.new ≡ Some (before ++ text)) }
-    ensures unwritten { (result ≡ Err (Stop.Input InputFault.TooLong)) ⊎ (result ≡ Err Stop.Read)
+    ensures unwritten { WritesAtEnd command → (result ≡ Err (Stop.Input InputFault.TooLong)) ⊎ (result ≡ Err Stop.Read)
         → output.new ≡ output.old }
     ensures heard_as_made { (words : LoopWords) → command ≡ Command.Loop words → OnOk result (HeardAsMade words) }
 
@@ -53,9 +56,10 @@ pub(crate) fn perform<I: Source, O: Sink>(
     ensures write { IsErrOf result Stop.Write → HasRisen (O.faults output.old) (O.faults output.new) }
 {
     match command {
-        Command::Decode(words) => ended(decode(alloc, words, input, output)),
+        Command::Decode(words) => ended(decode(rt, alloc, words, input, output)),
         Command::Encode(words) => ended(encode(alloc, words, input, output)),
         Command::Show(words) => ended(show(alloc, words, input, output)),
-        Command::Loop(words) => ended_loop(loop_back(alloc, words, output)),
+        Command::Loop(words) => ended_loop(loop_back(rt, alloc, words, output)),
+        Command::Serve(_) => unreachable!(),
     }
 }

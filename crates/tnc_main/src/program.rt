@@ -1,31 +1,41 @@
 //! The program as one call: from the words of a command line, over streams that are handed in, to an exit status.
-ghost use Rattle.std.specs.Prelude.{◌≡◌, ◌⊎◌, ◌<◌, ◌++◌, IfErr, IsErrAnd, Err, ℕ, List, Some, length, map, string_bytes};
+ghost use Rattle.std.specs.Prelude.{◌≡◌, ◌⊎◌, ◌<◌, ◌≤◌, ◌++◌, IfErr, IsErrAnd, Err, ℕ, List, Some, length, map, string_bytes};
 ghost use Rattle.tnc_base.specs.Faults.{HasRisen};
 ghost use Rattle.tnc_base.specs.Streams.{WrotePart};
 ghost use Rattle.clean_signal.specs.GoodTransmission.{frames_of};
 ghost use Rattle.clean_signal.specs.NearSignal.{Received, transmissions_of};
 ghost use Rattle.tnc_words.specs.declared.command.DecodeWords.{DecodeWords};
 ghost use Rattle.tnc_words.specs.declared.command.LoopWords.{LoopWords};
-ghost use Rattle.tnc_words.specs.Commands.{IsLoop};
+ghost use Rattle.tnc_words.specs.declared.command.ServeOptions.{ServeOptions};
+ghost use Rattle.tnc_words.specs.Commands.{Asks, IsLoop, IsServe};
 ghost use Rattle.tnc_forms.specs.Reading.{input_limit};
 ghost use Rattle.tnc_decode.specs.Audio.{samples_of};
 ghost use Rattle.tnc_decode.specs.Printing.{print};
 ghost use Rattle.tnc_loop.specs.Summary.{IsFirstStray};
+ghost use Rattle.tnc_ports.specs.SampledRun.{outside_by};
+ghost use Rattle.tnc_ports.specs.ServeRun.{input_by};
 ghost use Rattle.tnc_main.specs.declared.status.Status.{Status};
 ghost use Rattle.tnc_main.specs.declared.stop.Stop.{Stop};
 ghost use Rattle.tnc_main.specs.Clean.{IsNearlyClean};
 ghost use Rattle.tnc_main.specs.Commands.{HeardAsMade, IsFaultless};
+ghost use Rattle.tnc_main.specs.Parts.{WritesAtEnd};
 ghost use Rattle.tnc_main.specs.Report.{bad_words_line, line_of};
-ghost use Rattle.tnc_main.specs.Runs.{AskNothing, IsCaused, Job, Leaves, Tells, Writes};
+ghost use Rattle.tnc_main.specs.Runs.{AskNoServe, AskNothing, IsCaused, Job, Leaves, Tells, Writes};
+ghost use Rattle.tnc_main.specs.Serving.{RunsLive};
 ghost use Rattle.tnc_main.specs.Status.{code_of};
 ghost use Rattle.tnc_main.specs.Stops.{EndsAs, IsTold};
 
 use crate::performing::perform;
 use crate::report::{BAD_WORDS, of_input, of_stray, told};
+use crate::serving::{serve, serve_words};
 use crate::status::Status;
 use crate::stop::Stop;
 use std::alloc::Global;
+use std::net::Net;
+use std::sync::Wait;
+use std::thread::Threads;
 use tnc_base::{OutOfMemory, Sink, Source};
+use tnc_ports::{Live, Ports, Spawner};
 use tnc_words::{Command, WordsFault, read_words};
 
 /// Does what `words`, those after the program's name, ask for, and answers the exit status:
@@ -36,32 +46,46 @@ use tnc_words::{Command, WordsFault, read_words};
 /// | 1 | The words ask for nothing. Nothing was read or written. | Corrects the command line. |
 /// | 2 | The input breaks the rules of its form. The report names what is wrong, and where. | Corrects the input. |
 /// | 3 | Memory ran out. The output may be cut. | Runs it again with more memory. |
-/// | 4 | The input failed. | Looks at where it comes from. |
+/// | 4 | The input failed. `decode` has written the frames that had ended before. | Looks at where it comes from. |
 /// | 5 | The output or the report failed, and may be cut. | Looks at where it goes to. |
 /// | 6 | A loop heard a frame that it did not send. The report names it. | Reports the seed: the receiver was fooled. |
+/// | 10 | A live station could not open its ports. | Ends what listens there, or names other ports. |
 ///
-/// A command that lives on, and does not make one text of its input, is no `Job`: it gets a clause of its own.
-pub fn run<I: Source, O: Sink, E: Sink>(
+/// A command that makes one text of its input is a `Job`, and the clauses that speak of a job say all of it. `serve` is a
+/// live command and no job: `served` and `complete_served` speak of it alone. All other clauses hold of both kinds, or say
+/// of which.
+pub fn run<
+    Rt: Threads + Wait + Net + Sync,
+    I: Source + Send,
+    O: Sink,
+    E: Sink,
+    N: Ports,
+    W: Spawner,
+>(
+    rt: &Rt,
     alloc: Global,
     words: &[String],
     input: &mut I,
     output: &mut O,
     report: &mut E,
+    live: &mut Live<N, W>,
 ) -> u8
-    // what the words may be: where they ask for nothing, neither input nor output is touched
+    // what the words may be: where they ask for nothing, nothing is touched but the report, and no port is opened but by serve
     ensures bad_words { result ≡ 1 → AskNothing (map string_bytes words.now) }
     ensures refused { AskNothing (map string_bytes words.now) → (input.new ≡ input.old) × (output.new ≡ output.old)
         × ((result ≡ 1) ⊎ ((result ≡ 3) ⊎ (result ≡ 5))) }
+    ensures ports_alone { AskNoServe (map string_bytes words.now) → live.new ≡ live.old }
 
     // what each command reads and writes
     ensures read { (job : Job (map string_bytes words.now) (I.left input.old) result)
         → Leaves job.command job.octets job.status (I.left input.new) }
     ensures written { (job : Job (map string_bytes words.now) (I.left input.old) result) → (before : List ℕ)
-        → O.written output.old ≡ Some before → (text : List ℕ) × Writes job.command job.octets job.status text
-        × (O.written output.new ≡ Some (before ++ text)) }
-    ensures unwritten { result ≡ 4 → output.new ≡ output.old }
+        → O.written output.old ≡ Some before → (text : List ℕ)
+        × Writes job.command job.octets (I.left input.new) job.status text × (O.written output.new ≡ Some (before ++ text)) }
+    ensures unwritten { (command : Command) → Asks (map string_bytes words.now) command → WritesAtEnd command
+        → result ≡ 4 → output.new ≡ output.old }
     ensures too_long { (job : Job (map string_bytes words.now) (I.left input.old) result)
-        → input_limit < length job.octets → result ≡ 2 → output.new ≡ output.old }
+        → WritesAtEnd job.command → input_limit < length job.octets → result ≡ 2 → output.new ≡ output.old }
     ensures heard { (job : Job (map string_bytes words.now) (I.left input.old) result) → (decode : DecodeWords)
         → (received : List Received) → (before : List ℕ) → job.command ≡ Command.Decode decode
         → IsNearlyClean (samples_of decode.audio job.octets) received → O.written output.old ≡ Some before
@@ -69,21 +93,29 @@ pub fn run<I: Source, O: Sink, E: Sink>(
         → O.written output.new ≡ Some (before ++ print decode.frames (frames_of (transmissions_of received))) }
     ensures looped { (loop : LoopWords) → IsLoop (map string_bytes words.now) loop
         → (input.new ≡ input.old) × (result ≡ 0 → HeardAsMade loop) }
+    ensures served { (options : ServeOptions) → IsServe (map string_bytes words.now) options
+        → (status : Status) × (result ≡ code_of status)
+        × RunsLive options status (input_by I.left I.faults input.old) (input_by I.left I.faults input.new)
+        (outside_by N.listens N.polls N.sends N.sent N.is_shut N.faults O.written O.faults E.written E.faults live.old.ports output.old report.old)
+        (outside_by N.listens N.polls N.sends N.sent N.is_shut N.faults O.written O.faults E.written E.faults live.new.ports output.new report.new) }
 
     // each status and its cause
     ensures known { (status : Status) × (result ≡ code_of status) }
     ensures cause { (job : Job (map string_bytes words.now) (I.left input.old) result)
         → IsCaused job.command job.octets job.status }
-    ensures faultless { result ≡ 0
-        → (I.faults input.new ≡ I.faults input.old) × (O.faults output.new ≡ O.faults output.old) }
+    ensures faultless { result ≡ 0 → (I.faults input.new ≡ I.faults input.old)
+        × (O.faults output.new ≡ O.faults output.old) × (E.faults report.new ≡ E.faults report.old) }
     ensures read_fault { result ≡ 4 → HasRisen (I.faults input.old) (I.faults input.new) }
     ensures write_fault { result ≡ 5
         → HasRisen (O.faults output.old) (O.faults output.new) ⊎ HasRisen (E.faults report.old) (E.faults report.new) }
     ensures stray { result ≡ 6 → (loop : LoopWords) × IsLoop (map string_bytes words.now) loop
         × ((frame : List ℕ) × IsFirstStray loop frame) }
+    ensures no_port { result ≡ 10 → (options : ServeOptions) × IsServe (map string_bytes words.now) options
+        × HasRisen (N.faults live.old.ports) (N.faults live.new.ports) }
 
-    // what is told
-    ensures silent { (result ≡ 0) ⊎ ((result ≡ 3) ⊎ (result ≡ 4)) → report.new ≡ report.old }
+    // what is told; a live command tells more while it runs
+    ensures silent { AskNoServe (map string_bytes words.now) → (result ≡ 0) ⊎ ((result ≡ 3) ⊎ (result ≡ 4))
+        → report.new ≡ report.old }
     ensures told { (job : Job (map string_bytes words.now) (I.left input.old) result) → (before : List ℕ)
         → E.written report.old ≡ Some before → (line : List ℕ) × Tells job.command job.octets job.status line
         × (E.written report.new ≡ Some (before ++ line)) }
@@ -92,15 +124,23 @@ pub fn run<I: Source, O: Sink, E: Sink>(
         → (result ≡ 1 → E.written report.new ≡ Some (before ++ bad_words_line))
         × (result ≡ 5 → WrotePart before bad_words_line (E.written report.new)) }
 
-    // completeness: good words, an input without a fault, and no fault of a stream
+    // completeness: good words, an input without a fault, and no fault of the outside
     ensures complete { (job : Job (map string_bytes words.now) (I.left input.old) result)
         → IsFaultless job.command job.octets → ¬ HasRisen (I.faults input.old) (I.faults input.new)
         → ¬ HasRisen (O.faults output.old) (O.faults output.new)
         → ¬ HasRisen (E.faults report.old) (E.faults report.new) → (result ≡ 0) ⊎ (result ≡ 3) }
+    ensures complete_served { (options : ServeOptions) → IsServe (map string_bytes words.now) options
+        → (octets : List ℕ) → I.left input.old ≡ Some octets → length octets ≤ input_limit
+        → ¬ HasRisen (I.faults input.old) (I.faults input.new) → ¬ HasRisen (O.faults output.old) (O.faults output.new)
+        → ¬ HasRisen (E.faults report.old) (E.faults report.new)
+        → ¬ HasRisen (N.faults live.old.ports) (N.faults live.new.ports) → (result ≡ 0) ⊎ (result ≡ 3) }
 {
     match read_words(alloc, words) {
+        Ok(Command::Serve(options)) => {
+            serve(rt, alloc, serve_words(options), input, output, report, live)
+        }
         Ok(command) => {
-            let end = perform(alloc, command, input, output);
+            let end = perform(rt, alloc, command, input, output);
             explained(alloc, end, report).code()
         }
         Err(WordsFault::Refused) => told(report, BAD_WORDS, Status::BadWords).code(),
@@ -126,11 +166,11 @@ fn explained<E: Sink>(alloc: Global, end: Result<(), Stop>, report: &mut E) -> S
     match end {
         Ok(()) => Status::Done,
         Err(Stop::Input(fault)) => match of_input(alloc, fault) {
-            Ok(line) => told(report, line.as_bytes(), Status::BadInput),
+            Ok(line) => told(report, &line, Status::BadInput),
             Err(OutOfMemory) => Status::Memory,
         },
         Err(Stop::Stray(octets)) => match of_stray(alloc, octets.as_slice()) {
-            Ok(line) => told(report, line.as_bytes(), Status::Stray),
+            Ok(line) => told(report, &line, Status::Stray),
             Err(OutOfMemory) => Status::Memory,
         },
         Err(Stop::Memory) => Status::Memory,

@@ -12,16 +12,20 @@ use tnc_forms::{InputFault, LineFault, LineFlaw};
 use wav_file::WavFault;
 
 /// The words are no command.
-pub(crate) const BAD_WORDS: &[u8] = b"tnc: bad words\n";
+pub(crate) const BAD_WORDS: &str = "tnc: bad words\n";
+
+/// The input has more than 2^40 octets.
+pub(crate) const TOO_LONG: &str = "tnc: bad input: too long at 1099511627776\n";
+
+/// The ports of a live station could not be opened.
+pub(crate) const NO_PORT: &str = "tnc: no port\n";
 
 /// The line for an input that breaks the rules of its form.
 pub(crate) fn of_input(alloc: Global, fault: InputFault) -> Result<String, OutOfMemory>
     ensures { IfOk result (λ line. string_bytes line ≡ input_line fault) }
 {
     match fault {
-        InputFault::TooLong => {
-            Ok(format!(in alloc; "tnc: bad input: too long at 1099511627776\n")?)
-        }
+        InputFault::TooLong => Ok(String::from_str(alloc, TOO_LONG)?),
         InputFault::Line(LineFault { flaw, place }) => {
             let name = name_of(flaw);
             Ok(format!(in alloc; "tnc: bad input: {name} at {place}\n")?)
@@ -69,7 +73,7 @@ pub(crate) fn of_stray(alloc: Global, octets: &[u8]) -> Result<String, OutOfMemo
 }
 
 /// Reports the line, and answers the status that it explains, or a write fault where the report can't be written.
-pub(crate) fn told<E: Sink>(report: &mut E, line: &[u8], status: Status) -> Status
+pub(crate) fn told<E: Sink>(report: &mut E, line: &str, status: Status) -> Status
     requires { status ≢ Status.WriteFault }
     ensures status { (result ≡ status) ⊎ (result ≡ Status.WriteFault) }
     ensures line { (before : List ℕ) → E.written report.old ≡ Some before
@@ -77,8 +81,9 @@ pub(crate) fn told<E: Sink>(report: &mut E, line: &[u8], status: Status) -> Stat
     ensures cut { (before : List ℕ) → E.written report.old ≡ Some before
         → result ≡ Status.WriteFault → WrotePart before line.now (E.written report.new) }
     ensures fault { result ≡ Status.WriteFault → HasRisen (E.faults report.old) (E.faults report.new) }
+    ensures faultless { (E.faults report.new ≡ E.faults report.old) ⊎ (result ≡ Status.WriteFault) }
 {
-    match report.write(line) {
+    match report.write(line.as_bytes()) {
         Ok(()) => status,
         Err(_) => Status::WriteFault,
     }

@@ -18,6 +18,8 @@ pub(crate) enum Status {
     WriteFault,
     /// The loop heard a frame that it did not send.
     Stray,
+    /// The ports of a live station could not be opened.
+    NoPort,
 }
 
 impl Status {
@@ -35,6 +37,7 @@ impl Status {
             Status::ReadFault => 4,
             Status::WriteFault => 5,
             Status::Stray => 6,
+            Status::NoPort => 10,
         }
     }
 }

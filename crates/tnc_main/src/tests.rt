@@ -1,10 +1,15 @@
 use crate::program::run;
 use std::alloc::Global;
+use std::net::Net;
+use std::sync::Wait;
 use std::test::Fail;
+use std::thread::Threads;
 use tnc_base::{MemSink, MemSource};
+use tnc_ports::MemLive;
 
 mod audio;
 mod lines;
+mod live;
 
 /// A SABM with P from N7LEM to NJ7P: the shortest legal frame.
 const SHORTEST: &str = "9c946ea04040e09c6e988a9a40613f";
@@ -15,15 +20,18 @@ struct Outcome {
     status: u8,
     output: Vec<u8>,
     report: Vec<u8>,
+    /// How often ports were opened.
+    listens: usize,
 }
 
-/// A run over memory whose input comes in pieces of seven octets. The numbers are those of the reads, the writes and the
-/// reports that fail.
-fn run_failing(
+/// A run over memory whose input comes in pieces of seven octets, and to whose ports no host connects. The numbers are
+/// those of the reads, the writes, the reports and the calls of the ports that fail.
+fn run_live<R: Threads + Wait + Net + Sync>(
+    rt: &R,
     alloc: Global,
     words: &[&str],
     input: &[u8],
-    [reads, writes, reports]: [&[u64]; 3],
+    [reads, writes, reports, calls]: [&[u64]; 4],
 ) -> Result<Outcome, Fail> {
     let mut given = Vec::new(alloc);
     for word in words {
@@ -32,17 +40,43 @@ fn run_failing(
     let mut input = MemSource::new(input.to_vec(alloc)?, 7, reads.to_vec(alloc)?);
     let mut output = MemSink::new(alloc, 200_000, writes.to_vec(alloc)?)?;
     let mut report = MemSink::new(alloc, 200, reports.to_vec(alloc)?)?;
-    let status = run(alloc, &given, &mut input, &mut output, &mut report);
+    let mut live = MemLive::new(alloc, Vec::new(alloc), calls.to_vec(alloc)?);
+    let status = run(
+        rt,
+        alloc,
+        &given,
+        &mut input,
+        &mut output,
+        &mut report,
+        &mut live,
+    );
     Ok(Outcome {
         status,
         output: output.written().to_vec(alloc)?,
         report: report.written().to_vec(alloc)?,
+        listens: live.ports.listens().len(),
     })
 }
 
+/// A run over memory without ports. The numbers are those of the reads, the writes and the reports that fail.
+fn run_failing<R: Threads + Wait + Net + Sync>(
+    rt: &R,
+    alloc: Global,
+    words: &[&str],
+    input: &[u8],
+    [reads, writes, reports]: [&[u64]; 3],
+) -> Result<Outcome, Fail> {
+    run_live(rt, alloc, words, input, [reads, writes, reports, &[]])
+}
+
 /// A run over memory in which nothing fails.
-fn run_over(alloc: Global, words: &[&str], input: &[u8]) -> Result<Outcome, Fail> {
-    run_failing(alloc, words, input, [&[], &[], &[]])
+fn run_over<R: Threads + Wait + Net + Sync>(
+    rt: &R,
+    alloc: Global,
+    words: &[&str],
+    input: &[u8],
+) -> Result<Outcome, Fail> {
+    run_failing(rt, alloc, words, input, [&[], &[], &[]])
 }
 
 // Each row: the words, the input, what fails, the status, how many octets are written, and the report.
@@ -58,7 +92,7 @@ fn each_status_has_its_cause_and_its_line(rt: HostRuntime) -> Result<(), Fail> {
         (&["loop", "--seed", "7"], b"", [&[], &[], &[]], 1, 0, bad),
         (&["decod"], b"", [&[], &[], &[0]], 5, 0, ""),
         (&["decode"], b"", [&[0], &[], &[]], 4, 0, ""),
-        (&["decode"], b"12345678", [&[1], &[0], &[0]], 4, 0, ""),
+        (&["decode"], b"12345678", [&[1], &[1], &[0]], 4, 0, ""),
         (&["encode"], frame, [&[2], &[], &[]], 4, 0, ""),
         (&["show"], frame, [&[2], &[], &[]], 4, 0, ""),
         (&["decode"], b"", [&[], &[0], &[]], 5, 0, ""),
@@ -85,7 +119,7 @@ fn each_status_has_its_cause_and_its_line(rt: HostRuntime) -> Result<(), Fail> {
         (&["encode"], b"", [&[], &[0], &[0]], 0, 0, ""),
     ];
     for (words, input, failing, status, octets, line) in table {
-        let got = run_failing(rt.alloc(), words, input, failing)?;
+        let got = run_failing(&rt, rt.alloc(), words, input, failing)?;
         assert_eq!(rt;
             (got.status, got.output.len()),
             (status, octets),
@@ -102,7 +136,7 @@ fn each_status_has_its_cause_and_its_line(rt: HostRuntime) -> Result<(), Fail> {
 
 #[test]
 fn a_loop_tells_what_it_heard(rt: HostRuntime) -> Result<(), Fail> {
-    let got = run_over(rt.alloc(), &["loop", "--seed", "7", "--frames=0"], b"")?;
+    let got = run_over(&rt, rt.alloc(), &["loop", "--seed", "7", "--frames=0"], b"")?;
     assert_eq!(rt;
         got.output.as_slice(),
         b"frames 0\nheard 0\nstray 0\nhash cbf29ce484222325\n".as_slice()

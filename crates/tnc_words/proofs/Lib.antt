@@ -1,3 +1,5 @@
 pub mod Bounds
 pub mod Found
+pub mod OneNumber
+pub mod OneLink
 pub mod OneCommand

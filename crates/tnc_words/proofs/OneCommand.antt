@@ -1,5 +1,5 @@
 -- Words ask for one command.
-use Rattle.std.proofs.Common.{◌≡◌, ℕ, false, Option, Some, None, List, ◌∷◌, codes, refl, sym, ap, ◌∙◌, arith}
+use Rattle.std.proofs.Common.{◌≡◌, ℕ, ◌+◌, ◌*◌, false, Option, Some, None, List, ◌∷◌, codes, refl, sym, ap, ◌∙◌, arith}
 use Rattle.std.proofs.lemmas.Bool.{eqb-false}
 use Rattle.std.proofs.Math.Dec.{eqb}
 use Rattle.clap.specs.Words.{Row, Text}
@@ -7,28 +7,17 @@ use Rattle.ax25_frames.specs.ControlField.{numbers}
 use Rattle.ax25_frames.specs.declared.frame.Modulus.{Modulus}
 use Rattle.ax25_frames.specs.declared.frame.Modulus.TheVariants.{Eight, OneTwentyEight}
 use Rattle.tnc_words.specs.declared.command.Command.{Command}
-use Rattle.tnc_words.specs.declared.command.Command.TheVariants.{Decode, Encode, Show, Loop}
+use Rattle.tnc_words.specs.declared.command.Command.TheVariants.{Decode, Encode, Show, Loop, Serve}
 use Rattle.tnc_words.specs.declared.command.DecodeWords.{DecodeWords}
 use Rattle.tnc_words.specs.declared.command.EncodeWords.{EncodeWords}
 use Rattle.tnc_words.specs.declared.command.ShowWords.{ShowWords}
 use Rattle.tnc_words.specs.declared.command.LoopWords.{LoopWords}
-use Rattle.tnc_words.specs.Commands.{Asks, IsDecode, IsEncode, IsShow, IsLoop, first_word}
-use Rattle.tnc_words.specs.Commands.{HasDecodeOptions, HasEncodeOptions, HasShowOptions, HasLoopOptions}
+use Rattle.tnc_words.specs.declared.command.ServeOptions.{ServeOptions}
+use Rattle.tnc_words.specs.Commands.{Asks, IsDecode, IsEncode, IsShow, IsLoop, IsServe, first_word}
+use Rattle.tnc_words.specs.Commands.{HasDecodeOptions, HasEncodeOptions, HasShowOptions, HasLoopOptions, HasServeOptions}
 use Rattle.tnc_words.specs.Numbers.{GivesNumber, HasNumber}
-
--- ---- an option has one value
-
--- an option that was given has one number
-given_number : (text : Option Text) (least greatest number other : ℕ) → GivesNumber text least greatest number
-    → GivesNumber text least greatest other → number ≡ other
-given_number None least greatest number other h k = absurd h
-given_number (Some text) least greatest number other h k = sym h.0.value ∙ k.0.value
-
--- an option has one number
-pub one_number : (text : Option Text) (default least greatest number other : ℕ)
-    → HasNumber text default least greatest number → HasNumber text default least greatest other → number ≡ other
-one_number None default least greatest number other h k = h ∙ sym k
-one_number (Some text) default least greatest number other h k = sym h.0.value ∙ k.0.value
+use Rattle.tnc_words.proofs.OneLink.{one_call, one_params}
+use Rattle.tnc_words.proofs.OneNumber.{given_number, one_number}
 
 eight_is_not : (n : ℕ) → n ≡ 128 → 8 ≡ n → ⊥
 eight_is_not n is same = omega arith
@@ -45,8 +34,9 @@ one_modulus OneTwentyEight OneTwentyEight h = refl
 one_decode_options : (found : List Row) (decode other : DecodeWords) → HasDecodeOptions found decode
     → HasDecodeOptions found other → decode ≡ other
 one_decode_options found decode other h k =
-    ap (λ v. record { audio = v; frames = decode.frames }) (h.audio ∙ sym k.audio)
-    ∙ ap (λ v. record { audio = other.audio; frames = v }) (h.frames ∙ sym k.frames)
+    ap (λ v. record decode { audio = v }) (h.audio ∙ sym k.audio)
+    ∙ ap (λ v. record decode { audio = other.audio; frames = v }) (h.frames ∙ sym k.frames)
+    ∙ ap (λ v. record other { threads = v }) (h.threads ∙ sym k.threads)
 
 one_encode_options : (found : List Row) (encode other : EncodeWords) → HasEncodeOptions found encode
     → HasEncodeOptions found other → encode ≡ other
@@ -78,7 +68,27 @@ one_loop_options : (found : List Row) (run other : LoopWords) → HasLoopOptions
 one_loop_options found run other h k =
     ap (λ v. record run { seed = v }) (given_number _ _ _ _ _ h.seed k.seed)
     ∙ ap (λ v. record run { seed = other.seed; frames = v }) (given_number _ _ _ _ _ h.frames k.frames)
-    ∙ ap (λ v. record other { rough = v }) (h.rough ∙ sym k.rough)
+    ∙ ap (λ v. record run { seed = other.seed; frames = other.frames; rough = v }) (h.rough ∙ sym k.rough)
+    ∙ ap (λ v. record other { threads = v }) (h.threads ∙ sym k.threads)
+
+one_serve_options : (found : List Row) (serve other : ServeOptions) → HasServeOptions found serve
+    → HasServeOptions found other → serve ≡ other
+one_serve_options found serve other h k =
+    let kiss = other.kiss in
+    let agw = other.agw in
+    let seed = other.seed in
+    let params = other.params in
+    let digi = other.digi in
+    ap (λ v. record serve { kiss = v }) (given_number _ _ _ _ _ h.kiss k.kiss)
+    ∙ ap (λ v. record serve { kiss = kiss; agw = v }) (given_number _ _ _ _ _ h.agw k.agw)
+    ∙ ap (λ v. record serve { kiss = kiss; agw = agw; seed = v }) (one_number _ _ _ _ _ _ h.seed k.seed)
+    ∙ ap (λ v. record serve { kiss = kiss; agw = agw; seed = seed; params = v })
+    (one_params found serve.params other.params h.params.said k.params.said)
+    ∙ ap (λ v. record serve { kiss = kiss; agw = agw; seed = seed; params = params; digi = v })
+    (one_call _ serve.digi other.digi h.digi k.digi)
+    ∙ ap (λ v. record serve { kiss = kiss; agw = agw; seed = seed; params = params; digi = digi; dcd = v })
+    (one_number _ _ _ _ _ _ h.dcd k.dcd)
+    ∙ ap (λ v. record other { monitor = v }) (h.monitor ∙ sym k.monitor)
 
 -- ---- words give one set of options
 
@@ -96,17 +106,22 @@ one_show words show other h k = one_show_options _ show other h.options k.option
 pub one_loop : (words : List Text) (run other : LoopWords) → IsLoop words run → IsLoop words other → run ≡ other
 one_loop words run other h k = one_loop_options _ run other h.options k.options
 
+pub one_serve : (words : List Text) (serve other : ServeOptions) → IsServe words serve → IsServe words other
+    → serve ≡ other
+one_serve words serve other h k = one_serve_options _ serve other h.options k.options
+
 -- ---- words ask for one command
 
-abbrev pub first_code : Option Text → ℕ
-first_code (Some (code ∷ codes)) = code
-first_code _ = 0
+-- the first two letters as one number
+abbrev pub first_letters : Option Text → ℕ
+first_letters (Some (first ∷ second ∷ rest)) = 256 * first + second
+first_letters _ = 0
 
--- words that begin with one name do not begin with another where already the first letters differ, as those of the four
--- commands do
+-- words that begin with one name do not begin with another where already the first two letters differ, as those of the
+-- five commands do
 pub apart : (words : List Text) (name other : Text) → first_word words ≡ Some name → first_word words ≡ Some other
-    → eqb (first_code (Some name)) (first_code (Some other)) ≡ false → ⊥
-apart words name other h k differ = eqb-false _ _ differ (ap first_code (sym h ∙ k))
+    → eqb (first_letters (Some name)) (first_letters (Some other)) ≡ false → ⊥
+apart words name other h k differ = eqb-false _ _ differ (ap first_letters (sym h ∙ k))
 
 -- words that name decode, and are no decode, ask for nothing
 pub no_decode : (words : List Text) → first_word words ≡ Some (codes "decode")
@@ -115,6 +130,7 @@ no_decode words is h (Decode decode) k = h decode k
 no_decode words is h (Encode encode) k = apart words _ _ is k.named refl
 no_decode words is h (Show show) k = apart words _ _ is k.named refl
 no_decode words is h (Loop run) k = apart words _ _ is k.named refl
+no_decode words is h (Serve serve) k = apart words _ _ is k.named refl
 
 -- words ask for one command
 pub one_command : (words : List Text) (command other : Command) → Asks words command → Asks words other
@@ -123,15 +139,24 @@ one_command words (Decode decode) (Decode other) h k = ap Decode (one_decode wor
 one_command words (Decode decode) (Encode encode) h k = absurd (apart words _ _ h.named k.named refl)
 one_command words (Decode decode) (Show show) h k = absurd (apart words _ _ h.named k.named refl)
 one_command words (Decode decode) (Loop run) h k = absurd (apart words _ _ h.named k.named refl)
+one_command words (Decode decode) (Serve serve) h k = absurd (apart words _ _ h.named k.named refl)
 one_command words (Encode encode) (Decode decode) h k = absurd (apart words _ _ h.named k.named refl)
 one_command words (Encode encode) (Encode other) h k = ap Encode (one_encode words encode other h k)
 one_command words (Encode encode) (Show show) h k = absurd (apart words _ _ h.named k.named refl)
 one_command words (Encode encode) (Loop run) h k = absurd (apart words _ _ h.named k.named refl)
+one_command words (Encode encode) (Serve serve) h k = absurd (apart words _ _ h.named k.named refl)
 one_command words (Show show) (Decode decode) h k = absurd (apart words _ _ h.named k.named refl)
 one_command words (Show show) (Encode encode) h k = absurd (apart words _ _ h.named k.named refl)
 one_command words (Show show) (Show other) h k = ap Show (one_show words show other h k)
 one_command words (Show show) (Loop run) h k = absurd (apart words _ _ h.named k.named refl)
+one_command words (Show show) (Serve serve) h k = absurd (apart words _ _ h.named k.named refl)
 one_command words (Loop run) (Decode decode) h k = absurd (apart words _ _ h.named k.named refl)
 one_command words (Loop run) (Encode encode) h k = absurd (apart words _ _ h.named k.named refl)
 one_command words (Loop run) (Show show) h k = absurd (apart words _ _ h.named k.named refl)
 one_command words (Loop run) (Loop other) h k = ap Loop (one_loop words run other h k)
+one_command words (Loop run) (Serve serve) h k = absurd (apart words _ _ h.named k.named refl)
+one_command words (Serve serve) (Decode decode) h k = absurd (apart words _ _ h.named k.named refl)
+one_command words (Serve serve) (Encode encode) h k = absurd (apart words _ _ h.named k.named refl)
+one_command words (Serve serve) (Show show) h k = absurd (apart words _ _ h.named k.named refl)
+one_command words (Serve serve) (Loop run) h k = absurd (apart words _ _ h.named k.named refl)
+one_command words (Serve serve) (Serve other) h k = ap Serve (one_serve words serve other h k)

@@ -3,14 +3,16 @@ use Rattle.std.specs.Prelude.{◌≡◌, ◌^◌, ◌-◌, List, [], Option, Som
 use Rattle.clap.specs.Words.{Row, Text, first_of}
 use Rattle.ax25_frames.specs.ControlField.{numbers}
 use Rattle.tnc_words.specs.declared.command.Command.{Command}
-use Rattle.tnc_words.specs.declared.command.Command.TheVariants.{Decode, Encode, Show, Loop}
+use Rattle.tnc_words.specs.declared.command.Command.TheVariants.{Decode, Encode, Show, Loop, Serve}
 use Rattle.tnc_words.specs.declared.command.DecodeWords.{DecodeWords}
 use Rattle.tnc_words.specs.declared.command.EncodeWords.{EncodeWords}
 use Rattle.tnc_words.specs.declared.command.ShowWords.{ShowWords}
 use Rattle.tnc_words.specs.declared.command.LoopWords.{LoopWords}
-use Rattle.tnc_words.specs.Options.{decode_faults, encode_faults, show_faults, loop_faults}
-use Rattle.tnc_words.specs.Options.{decode_rows, encode_rows, show_rows, loop_rows, is_used}
+use Rattle.tnc_words.specs.declared.command.ServeOptions.{ServeOptions}
+use Rattle.tnc_words.specs.Options.{decode_faults, encode_faults, show_faults, loop_faults, serve_faults}
+use Rattle.tnc_words.specs.Options.{decode_rows, encode_rows, show_rows, loop_rows, serve_rows, is_used}
 use Rattle.tnc_words.specs.Forms.{audio_form, frame_form}
+use Rattle.tnc_words.specs.Links.{HasCall, HasParams}
 use Rattle.tnc_words.specs.Numbers.{GivesNumber, HasNumber}
 
 abbrev pub first_word : List Text → Option Text
@@ -20,6 +22,7 @@ first_word words = slice_get words 0
 pub record HasDecodeOptions (found : List Row) (decode : DecodeWords) : Type 0 where
   pub audio : decode.audio ≡ audio_form found
   pub frames : decode.frames ≡ frame_form found
+  pub threads : decode.threads ≡ is_used (codes "threads") found
 
 -- decode with these options
 pub record IsDecode (words : List Text) (decode : DecodeWords) : Type 0 where
@@ -59,6 +62,7 @@ pub record HasLoopOptions (found : List Row) (loop : LoopWords) : Type 0 where
   pub seed : GivesNumber (first_of (codes "seed") found) 0 (2 ^ 64 - 1) loop.seed
   pub frames : GivesNumber (first_of (codes "frames") found) 0 1000 loop.frames
   pub rough : loop.rough ≡ is_used (codes "rough") found
+  pub threads : loop.threads ≡ is_used (codes "threads") found
 
 -- loop with these options
 pub record IsLoop (words : List Text) (loop : LoopWords) : Type 0 where
@@ -66,9 +70,27 @@ pub record IsLoop (words : List Text) (loop : LoopWords) : Type 0 where
   pub taken : loop_faults words ≡ []
   pub options : HasLoopOptions (loop_rows words) loop
 
+-- The options of serve. Its ports have no default. If no other number was given, the seed is 1, and a channel is busy
+-- from the third flag in a row on.
+pub record HasServeOptions (found : List Row) (serve : ServeOptions) : Type 0 where
+  pub kiss : GivesNumber (first_of (codes "kiss") found) 1 65535 serve.kiss
+  pub agw : GivesNumber (first_of (codes "agw") found) 1 65535 serve.agw
+  pub seed : HasNumber (first_of (codes "seed") found) 1 0 (2 ^ 64 - 1) serve.seed
+  pub params : HasParams found serve.params
+  pub digi : HasCall (first_of (codes "digi") found) serve.digi
+  pub dcd : HasNumber (first_of (codes "dcd") found) 3 1 8 serve.dcd
+  pub monitor : serve.monitor ≡ is_used (codes "monitor") found
+
+-- serve with these options
+pub record IsServe (words : List Text) (serve : ServeOptions) : Type 0 where
+  pub named : first_word words ≡ Some (codes "serve")
+  pub taken : serve_faults words ≡ []
+  pub options : HasServeOptions (serve_rows words) serve
+
 -- what the words ask for
 abbrev pub Asks : List Text → Command → Type 0
 Asks words (Decode decode) = IsDecode words decode
 Asks words (Encode encode) = IsEncode words encode
 Asks words (Show show) = IsShow words show
 Asks words (Loop loop) = IsLoop words loop
+Asks words (Serve serve) = IsServe words serve

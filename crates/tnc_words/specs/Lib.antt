@@ -1,4 +1,5 @@
 pub mod Options
 pub mod Numbers
 pub mod Forms
+pub mod Links
 pub mod Commands

@@ -22,9 +22,9 @@ needed_rule name = record (option_rule name) { required = true }
 abbrev pub with_forms : App → App
 with_forms app = with_rule (with_rule app (flag_rule (codes "wav"))) (flag_rule (codes "kiss"))
 
--- decode [--wav] [--kiss]
+-- decode [--wav] [--kiss] [--threads]
 abbrev pub decode_app : App
-decode_app = with_forms (new_app (codes "decode"))
+decode_app = with_rule (with_forms (new_app (codes "decode"))) (flag_rule (codes "threads"))
 
 -- [--opening n] [--closing n] [--silence n] [--level n]
 abbrev pub with_numbers : App → App
@@ -40,10 +40,32 @@ encode_app = with_numbers (with_rule (with_forms (new_app (codes "encode"))) (fl
 abbrev pub show_app : App
 show_app = with_rule (new_app (codes "show")) (option_rule (codes "modulo"))
 
--- loop --seed n --frames n [--rough]
+-- loop --seed n --frames n [--rough] [--threads]
 abbrev pub loop_app : App
-loop_app = with_rule (with_rule (with_rule (new_app (codes "loop"))
-    (needed_rule (codes "seed"))) (needed_rule (codes "frames"))) (flag_rule (codes "rough"))
+loop_app = with_rule (with_rule (with_rule (with_rule (new_app (codes "loop"))
+    (needed_rule (codes "seed"))) (needed_rule (codes "frames"))) (flag_rule (codes "rough"))) (flag_rule (codes "threads"))
+
+-- --kiss n --agw n
+abbrev pub with_ports : App → App
+with_ports app = with_rule (with_rule app (needed_rule (codes "kiss"))) (needed_rule (codes "agw"))
+
+-- [--mode rej or srej] [--window n]
+abbrev pub with_window : App → App
+with_window app = with_rule (with_rule app (option_rule (codes "mode"))) (option_rule (codes "window"))
+
+-- [--wide] [--wide-window n]
+abbrev pub with_wide_window : App → App
+with_wide_window app = with_rule (with_rule app (flag_rule (codes "wide"))) (option_rule (codes "wide-window"))
+
+-- [--digi call] [--dcd n] [--monitor]
+abbrev pub with_station : App → App
+with_station app = with_rule (with_rule (with_rule app
+    (option_rule (codes "digi"))) (option_rule (codes "dcd"))) (flag_rule (codes "monitor"))
+
+-- serve --kiss n --agw n [--seed n] [--mode rej or srej] [--window n] [--wide] [--wide-window n] [--digi call] [--dcd n]
+-- [--monitor]
+abbrev pub serve_app : App
+serve_app = with_station (with_wide_window (with_window (with_rule (with_ports (new_app (codes "serve"))) (option_rule (codes "seed")))))
 
 -- Why clap refuses words, of which the first is the command's own: nothing where it takes them.
 unfoldable pub decode_faults : List Text → Kinds
@@ -58,6 +80,9 @@ show_faults words = fault_of show_app words
 unfoldable pub loop_faults : List Text → Kinds
 loop_faults words = fault_of loop_app words
 
+unfoldable pub serve_faults : List Text → Kinds
+serve_faults words = fault_of serve_app words
+
 -- What clap finds in words for a command's options.
 unfoldable pub decode_rows : List Text → List Row
 decode_rows words = matches_of decode_app words
@@ -70,6 +95,9 @@ show_rows words = matches_of show_app words
 
 unfoldable pub loop_rows : List Text → List Row
 loop_rows words = matches_of loop_app words
+
+unfoldable pub serve_rows : List Text → List Row
+serve_rows words = matches_of serve_app words
 
 -- whether a value was given by the words, and not by default
 abbrev pub is_from_words : Option ValueSource → Bool

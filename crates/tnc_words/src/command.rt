@@ -1,5 +1,7 @@
 //! What words can ask for.
+use ax25_address::Call;
 use ax25_frames::Modulus;
+use link_machine::Params;
 
 /// How samples come and go: raw PCM, or a WAV file.
 #[derive(Clone, Copy, Debug, PartialEq, Eq)]
@@ -30,6 +32,8 @@ pub enum Command {
     Show(ShowWords),
     /// Frames that are drawn, sent and received again.
     Loop(LoopWords),
+    /// A station on the air, with ports for host programs.
+    Serve(ServeOptions),
 }
 
 /// The options of `decode`.
@@ -39,6 +43,8 @@ pub struct DecodeWords {
     pub audio: AudioForm,
     /// The form of the frames that go out.
     pub frames: FrameForm,
+    /// The lanes work on threads of their own.
+    pub threads: bool,
 }
 
 /// The options of `encode`.
@@ -76,4 +82,25 @@ pub struct LoopWords {
     pub frames: u16,
     /// Each frame has a phase, a level and noise of its own, and not the exact signal.
     pub rough: bool,
+    /// The lanes work on threads of their own.
+    pub threads: bool,
+}
+
+/// The options of `serve`.
+#[derive(Clone, Copy, Debug, PartialEq, Eq)]
+pub struct ServeOptions {
+    /// The TCP port for KISS hosts, 1 to 65,535.
+    pub kiss: u16,
+    /// The TCP port for AGWPE hosts, 1 to 65,535.
+    pub agw: u16,
+    /// What the random numbers of channel access are drawn from.
+    pub seed: u64,
+    /// What new links are made with. Each window fits its modulus.
+    pub params: Params,
+    /// The call for which frames are repeated, where any are.
+    pub digi: Option<Call>,
+    /// From how many flags in a row on the channel is busy, 1 to 8.
+    pub dcd: u8,
+    /// Each frame that is heard or sent is reported in a line.
+    pub monitor: bool,
 }

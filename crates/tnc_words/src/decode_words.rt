@@ -8,7 +8,7 @@ use crate::command::DecodeWords;
 use crate::fault::WordsFault;
 use crate::forms::{audio_form, frame_form};
 use crate::options::decode_command;
-use crate::parsing::parsed;
+use crate::parsing::{has_flag, parsed};
 use clap::ArgMatches;
 use std::alloc::Global;
 
@@ -30,5 +30,6 @@ fn decode_options(found: &ArgMatches) -> DecodeWords
     DecodeWords {
         audio: audio_form(found),
         frames: frame_form(found),
+        threads: has_flag(found, "threads"),
     }
 }

@@ -11,14 +11,18 @@ mod encode_words;
 mod fault;
 mod forms;
 mod laws;
+mod link_words;
 mod loop_words;
 mod number;
 mod options;
 mod parsing;
 mod reading;
+mod serve_words;
 mod show_words;
 
-pub use command::{AudioForm, Command, DecodeWords, EncodeWords, FrameForm, LoopWords, ShowWords};
+pub use command::{
+    AudioForm, Command, DecodeWords, EncodeWords, FrameForm, LoopWords, ServeOptions, ShowWords,
+};
 pub use fault::WordsFault;
 pub use laws::one_command;
 pub use reading::read_words;

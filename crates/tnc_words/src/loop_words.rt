@@ -44,5 +44,6 @@ fn loop_options(found: &ArgMatches) -> Option<LoopWords>
         seed: number_within(text_of(found, "seed")?, SEED)?,
         frames: number_within(text_of(found, "frames")?, FRAMES)? as u16,
         rough: has_flag(found, "rough"),
+        threads: has_flag(found, "threads"),
     })
 }

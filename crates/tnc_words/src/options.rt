@@ -1,17 +1,18 @@
 //! The commands as `clap` is told of them.
 ghost use Rattle.std.specs.Prelude.{◌≡◌, IfOk, false};
 ghost use Rattle.clap.specs.Words.{app_of, rule_of, with_rule};
-ghost use Rattle.tnc_words.specs.Options.{decode_app, encode_app, show_app, loop_app};
-ghost use Rattle.tnc_words.specs.Options.{flag_rule, needed_rule, option_rule, with_forms, with_numbers};
+ghost use Rattle.tnc_words.specs.Options.{decode_app, encode_app, show_app, loop_app, serve_app};
+ghost use Rattle.tnc_words.specs.Options.{flag_rule, needed_rule, option_rule, with_forms, with_numbers, with_ports, with_station, with_wide_window, with_window};
 
 use clap::{Arg, ArgAction, Command};
 use std::alloc::{AllocError, Global};
 
-/// `decode` with its two flags.
+/// `decode` with its three flags.
 pub(crate) fn decode_command<'a>(alloc: Global) -> Result<Command<'a>, AllocError>
     ensures { IfOk result (λ command. app_of command ≡ decode_app) }
 {
-    forms(alloc, Command::new(alloc, "decode"))
+    let command = forms(alloc, Command::new(alloc, "decode"))?;
+    with(command, flag(alloc, "threads"))
 }
 
 /// `encode` with its three flags and its four numbers.
@@ -40,14 +41,59 @@ pub(crate) fn show_command<'a>(alloc: Global) -> Result<Command<'a>, AllocError>
     with(Command::new(alloc, "show"), option(alloc, "modulo"))
 }
 
-/// `loop` with its two numbers, both of which it needs, and its flag.
+/// `loop` with its two numbers, both of which it needs, and its two flags.
 pub(crate) fn loop_command<'a>(alloc: Global) -> Result<Command<'a>, AllocError>
     ensures { IfOk result (λ command. app_of command ≡ loop_app) }
 {
     let command = Command::new(alloc, "loop");
     let command = with(command, needed(alloc, "seed"))?;
     let command = with(command, needed(alloc, "frames"))?;
-    with(command, flag(alloc, "rough"))
+    let command = with(command, flag(alloc, "rough"))?;
+    with(command, flag(alloc, "threads"))
+}
+
+/// `serve` with its two ports, both of which it needs, and what may be said of its station.
+pub(crate) fn serve_command<'a>(alloc: Global) -> Result<Command<'a>, AllocError>
+    ensures { IfOk result (λ command. app_of command ≡ serve_app) }
+{
+    let command = ports(alloc, Command::new(alloc, "serve"))?;
+    let command = with(command, option(alloc, "seed"))?;
+    let command = window(alloc, command)?;
+    let command = wide_window(alloc, command)?;
+    station(alloc, command)
+}
+
+/// A command with two ports.
+fn ports<'a>(alloc: Global, command: Command<'a>) -> Result<Command<'a>, AllocError>
+    ensures { IfOk result (λ longer. app_of longer ≡ with_ports (app_of command.entry)) }
+{
+    let command = with(command, needed(alloc, "kiss"))?;
+    with(command, needed(alloc, "agw"))
+}
+
+/// A command with the mode of links and their window.
+fn window<'a>(alloc: Global, command: Command<'a>) -> Result<Command<'a>, AllocError>
+    ensures { IfOk result (λ longer. app_of longer ≡ with_window (app_of command.entry)) }
+{
+    let command = with(command, option(alloc, "mode"))?;
+    with(command, option(alloc, "window"))
+}
+
+/// A command with the flag for calls modulo 128 and the window of these.
+fn wide_window<'a>(alloc: Global, command: Command<'a>) -> Result<Command<'a>, AllocError>
+    ensures { IfOk result (λ longer. app_of longer ≡ with_wide_window (app_of command.entry)) }
+{
+    let command = with(command, flag(alloc, "wide"))?;
+    with(command, option(alloc, "wide-window"))
+}
+
+/// A command with a repeater's call, a number of flags and the monitor.
+fn station<'a>(alloc: Global, command: Command<'a>) -> Result<Command<'a>, AllocError>
+    ensures { IfOk result (λ longer. app_of longer ≡ with_station (app_of command.entry)) }
+{
+    let command = with(command, option(alloc, "digi"))?;
+    let command = with(command, option(alloc, "dcd"))?;
+    with(command, flag(alloc, "monitor"))
 }
 
 /// A command with the flags for the forms of samples and frames.

@@ -8,6 +8,7 @@ use crate::decode_words::read_decode;
 use crate::encode_words::read_encode;
 use crate::fault::WordsFault;
 use crate::loop_words::read_loop;
+use crate::serve_words::read_serve;
 use crate::show_words::read_show;
 use std::alloc::Global;
 
@@ -25,6 +26,7 @@ pub fn read_words(alloc: Global, words: &[String]) -> Result<Command, WordsFault
         "encode" => Ok(Command::Encode(read_encode(alloc, words)?)),
         "show" => Ok(Command::Show(read_show(alloc, words)?)),
         "loop" => Ok(Command::Loop(read_loop(alloc, words)?)),
+        "serve" => Ok(Command::Serve(read_serve(alloc, words)?)),
         _ => Err(WordsFault::Refused),
     }
 }

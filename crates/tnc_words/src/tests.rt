@@ -1,22 +1,42 @@
 use super::{
-    AudioForm, Command, DecodeWords, EncodeWords, FrameForm, LoopWords, ShowWords, WordsFault,
-    one_command, read_words,
+    AudioForm, Command, DecodeWords, EncodeWords, FrameForm, LoopWords, ServeOptions, ShowWords,
+    WordsFault, one_command, read_words,
 };
+use ax25_address::Call;
 use ax25_frames::Modulus;
+use link_machine::Params;
+use selective_reject::Mode;
 use std::alloc::Global;
 use std::test::Fail;
 
-// What these words ask for.
-fn asked(alloc: Global, words: &[&str]) -> Result<Result<Command, WordsFault>, Fail> {
+fn given(alloc: Global, words: &[&str]) -> Result<Vec<String>, Fail> {
     let mut given = Vec::new(alloc);
     for word in words {
         given.push(String::from_str(alloc, word)?)?;
     }
-    Ok(read_words(alloc, &given))
+    Ok(given)
+}
+
+// What these words ask for.
+fn asked(alloc: Global, words: &[&str]) -> Result<Result<Command, WordsFault>, Fail> {
+    Ok(read_words(alloc, &given(alloc, words)?))
+}
+
+// Whether these words are refused.
+fn is_refused(alloc: Global, words: &[&str]) -> Result<bool, Fail> {
+    match read_words(alloc, &given(alloc, words)?) {
+        Err(WordsFault::Refused) => Ok(true),
+        Err(WordsFault::Memory) => Ok(false),
+        Ok(_) => Ok(false),
+    }
 }
 
 fn decode(audio: AudioForm, frames: FrameForm) -> Command {
-    Command::Decode(DecodeWords { audio, frames })
+    Command::Decode(DecodeWords {
+        audio,
+        frames,
+        threads: false,
+    })
 }
 
 // From lines to raw samples.
@@ -67,6 +87,7 @@ fn loop_of(seed: u64, frames: u16) -> Command {
         seed,
         frames,
         rough: false,
+        threads: false,
     })
 }
 
@@ -75,12 +96,206 @@ fn rough_loop(seed: u64, frames: u16) -> Command {
         seed,
         frames,
         rough: true,
+        threads: false,
     })
+}
+
+// What the least words of serve ask for.
+const SERVE: ServeOptions = ServeOptions {
+    kiss: 8001,
+    agw: 8000,
+    seed: 1,
+    params: Params {
+        mode: Mode::Rej,
+        window: 4,
+        wide: false,
+        wide_window: 32,
+    },
+    digi: None,
+    dcd: 3,
+    monitor: false,
+};
+
+// The least words of serve and more.
+fn serve_words<'a>(alloc: Global, more: &[&'a str]) -> Result<Vec<&'a str>, Fail> {
+    let mut words = Vec::new(alloc);
+    for word in ["serve", "--kiss", "8001", "--agw=8000"] {
+        words.push(word)?;
+    }
+    for word in more {
+        words.push(*word)?;
+    }
+    Ok(words)
+}
+
+#[test]
+fn good_words_of_serve_are_its_options(rt: HostRuntime) -> Result<(), Fail> {
+    let call = Call::parse("N7LEM-1")?;
+    let params = SERVE.params;
+    let srej = Params {
+        mode: Mode::Srej,
+        ..params
+    };
+    let table: [(&[&str], ServeOptions); 18] = [
+        (&[], SERVE),
+        (&["--"], SERVE),
+        (&["--seed", "0"], ServeOptions { seed: 0, ..SERVE }),
+        (
+            &["--seed=18446744073709551615"],
+            ServeOptions {
+                seed: 18_446_744_073_709_551_615,
+                ..SERVE
+            },
+        ),
+        (&["--mode", "rej"], SERVE),
+        (
+            &["--mode=srej"],
+            ServeOptions {
+                params: srej,
+                ..SERVE
+            },
+        ),
+        (
+            &["--window", "7"],
+            ServeOptions {
+                params: Params {
+                    window: 7,
+                    ..params
+                },
+                ..SERVE
+            },
+        ),
+        (
+            &["--window=001"],
+            ServeOptions {
+                params: Params {
+                    window: 1,
+                    ..params
+                },
+                ..SERVE
+            },
+        ),
+        (
+            &["--wide"],
+            ServeOptions {
+                params: Params {
+                    wide: true,
+                    ..params
+                },
+                ..SERVE
+            },
+        ),
+        (
+            &["--wide-window", "127"],
+            ServeOptions {
+                params: Params {
+                    wide_window: 127,
+                    ..params
+                },
+                ..SERVE
+            },
+        ),
+        (
+            &["--wide-window=64", "--mode", "srej", "--wide"],
+            ServeOptions {
+                params: Params {
+                    mode: Mode::Srej,
+                    window: 4,
+                    wide: true,
+                    wide_window: 64,
+                },
+                ..SERVE
+            },
+        ),
+        (
+            &["--digi", "N7LEM-1"],
+            ServeOptions {
+                digi: Some(call),
+                ..SERVE
+            },
+        ),
+        (
+            &["--digi=n7lem-1"],
+            ServeOptions {
+                digi: Some(call),
+                ..SERVE
+            },
+        ),
+        (&["--dcd", "1"], ServeOptions { dcd: 1, ..SERVE }),
+        (&["--dcd=8"], ServeOptions { dcd: 8, ..SERVE }),
+        (&["--dcd", "003"], SERVE),
+        (
+            &["--monitor"],
+            ServeOptions {
+                monitor: true,
+                ..SERVE
+            },
+        ),
+        (
+            &["--monitor", "--seed", "7", "--dcd", "2"],
+            ServeOptions {
+                seed: 7,
+                dcd: 2,
+                monitor: true,
+                ..SERVE
+            },
+        ),
+    ];
+    for (more, want) in table {
+        let words = serve_words(rt.alloc(), more)?;
+        assert_eq!(rt;
+            asked(rt.alloc(), &words)?,
+            Ok(Command::Serve(want)),
+            "of {more:?}"
+        );
+    }
+    Ok(())
+}
+
+#[test]
+fn other_words_of_serve_are_refused(rt: HostRuntime) -> Result<(), Fail> {
+    let table: [&[&str]; 28] = [
+        &["x"],
+        &["--kiss", "8002"],
+        &["--help"],
+        &["--seed", "18446744073709551616"],
+        &["--seed", "+1"],
+        &["--mode"],
+        &["--mode", "REJ"],
+        &["--mode", "srej "],
+        &["--mode="],
+        &["--window", "0"],
+        &["--window", "8"],
+        &["--window", "256"],
+        &["--window", "260"],
+        &["--window", "5", "--mode", "srej"],
+        &["--wide=true"],
+        &["--wide-window", "0"],
+        &["--wide-window", "128"],
+        &["--wide-window", "65", "--mode", "srej"],
+        &["--wide", "8"],
+        &["--digi", ""],
+        &["--digi", "N7LEM-16"],
+        &["--digi", "TOOLONG"],
+        &["--digi", "N7/LEM"],
+        &["--dcd", "0"],
+        &["--dcd", "9"],
+        &["--dcd", "x"],
+        &["--monitor=1"],
+        &["--threads"],
+    ];
+    for more in table {
+        assert!(rt;
+            is_refused(rt.alloc(), &serve_words(rt.alloc(), more)?)?,
+            "of {more:?}"
+        );
+    }
+    Ok(())
 }
 
 #[test]
 fn good_words_ask_for_a_command(rt: HostRuntime) -> Result<(), Fail> {
-    let table: [(&[&str], Command); 33] = [
+    let table: [(&[&str], Command); 35] = [
         (&["decode"], decode(AudioForm::Raw, FrameForm::Hex)),
         (&["decode", "--"], decode(AudioForm::Raw, FrameForm::Hex)),
         (&["decode", "--wav"], decode(AudioForm::Wav, FrameForm::Hex)),
@@ -163,6 +378,23 @@ fn good_words_ask_for_a_command(rt: HostRuntime) -> Result<(), Fail> {
             &["loop", "--seed=0", "--rough", "--frames=0", "--"],
             rough_loop(0, 0),
         ),
+        (
+            &["decode", "--threads", "--wav"],
+            Command::Decode(DecodeWords {
+                audio: AudioForm::Wav,
+                frames: FrameForm::Hex,
+                threads: true,
+            }),
+        ),
+        (
+            &["loop", "--seed", "7", "--threads", "--frames", "20"],
+            Command::Loop(LoopWords {
+                seed: 7,
+                frames: 20,
+                rough: false,
+                threads: true,
+            }),
+        ),
     ];
     one_command();
     for (words, want) in table {
@@ -173,7 +405,7 @@ fn good_words_ask_for_a_command(rt: HostRuntime) -> Result<(), Fail> {
 
 #[test]
 fn other_words_are_refused(rt: HostRuntime) -> Result<(), Fail> {
-    let table: [&[&str]; 81] = [
+    let table: [&[&str]; 92] = [
         &[],
         &[""],
         &["decod"],
@@ -255,13 +487,20 @@ fn other_words_are_refused(rt: HostRuntime) -> Result<(), Fail> {
         &["loop", "--seed", "7", "--frames", "1", "--level", "10"],
         &["encode", "--rough"],
         &["loop", "--help"],
+        &["decode", "--threads", "--threads"],
+        &["decode", "--threads=2"],
+        &["encode", "--threads"],
+        &["loop", "--seed", "7", "--frames", "1", "--threads=2"],
+        &["serve"],
+        &["serve", "--kiss", "8001"],
+        &["serve", "--agw", "8000"],
+        &["serve", "--kiss", "0", "--agw", "8000"],
+        &["serve", "--kiss", "8001", "--agw", "65536"],
+        &["serve", "--kiss", "65536", "--agw", "1"],
+        &["serve", "8001", "8000"],
     ];
     for words in table {
-        assert_eq!(rt;
-            asked(rt.alloc(), words)?,
-            Err(WordsFault::Refused),
-            "of {words:?}"
-        );
+        assert!(rt; is_refused(rt.alloc(), words)?, "of {words:?}");
     }
     Ok(())
 }

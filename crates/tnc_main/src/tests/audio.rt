@@ -1,6 +1,6 @@
 //! What `encode` sends and `decode` hears.
 
-use super::{SHORTEST, run_over};
+use super::{SHORTEST, run_failing, run_over};
 use std::test::Fail;
 
 /// The shortest frame in two lines.
@@ -11,7 +11,7 @@ const SHORT_FLAGS: &[&str] = &["encode", "--opening", "2", "--closing=1"];
 
 #[test]
 fn the_shortest_frame_is_the_known_wave(rt: HostRuntime) -> Result<(), Fail> {
-    let got = run_over(rt.alloc(), SHORT_FLAGS, SHORTEST.as_bytes())?;
+    let got = run_over(&rt, rt.alloc(), SHORT_FLAGS, SHORTEST.as_bytes())?;
     let begins = [
         0x00, 0x00, 0xba, 0x26, 0x1c, 0x0a, 0xe9, 0xdb, 0x78, 0xec, 0xfe, 0x1e, 0x9f, 0x1b, 0x38,
         0xe8,
@@ -19,7 +19,7 @@ fn the_shortest_frame_is_the_known_wave(rt: HostRuntime) -> Result<(), Fail> {
     assert_eq!(rt; (got.status, got.output.len()), (0, 2592));
     assert!(rt; got.output.starts_with(&begins));
     let words = ["encode", "--silence=5", "--opening", "2", "--closing=1"];
-    let later = run_over(rt.alloc(), &words, SHORTEST.as_bytes())?;
+    let later = run_over(&rt, rt.alloc(), &words, SHORTEST.as_bytes())?;
     assert_eq!(rt; (later.status, later.output.len()), (0, 2602));
     assert!(rt; later.output.starts_with(&[0; 10]));
     assert!(rt; later.output.ends_with(&got.output));
@@ -48,14 +48,33 @@ fn what_is_sent_is_heard(rt: HostRuntime) -> Result<(), Fail> {
         (&["encode", "--wav"], &["decode", "--wav"], "", 44),
     ];
     for (words, back, lines, octets) in table {
-        let sent = run_over(alloc, words, lines.as_bytes())?;
+        let sent = run_over(&rt, alloc, words, lines.as_bytes())?;
         assert_eq!(rt;
             (sent.status, sent.output.len()),
             (0, octets),
             "of {words:?}"
         );
-        let heard = run_over(alloc, back, &sent.output)?;
+        let heard = run_over(&rt, alloc, back, &sent.output)?;
         assert_eq!(rt; heard.output.as_slice(), lines.as_bytes(), "of {words:?}");
+    }
+    Ok(())
+}
+
+// Each row: the read that fails, and how many frames had ended before it. The first ends within 1296 samples.
+#[test]
+fn a_failed_read_keeps_the_frames_before_it(rt: HostRuntime) -> Result<(), Fail> {
+    let alloc = rt.alloc();
+    let sent = run_over(&rt, alloc, SHORT_FLAGS, TWICE.as_bytes())?.output;
+    let line = SHORTEST.len() + 1;
+    let table: [(u64, usize); 3] = [(0, 0), (300, 0), (500, 1)];
+    for (read, frames) in table {
+        let got = run_failing(&rt, alloc, &["decode"], &sent, [&[read], &[], &[]])?;
+        assert_eq!(rt; got.status, 4, "at {read}");
+        assert_eq!(rt;
+            got.output.as_slice(),
+            &TWICE.as_bytes()[..frames * line],
+            "at {read}"
+        );
     }
     Ok(())
 }
@@ -64,8 +83,8 @@ fn what_is_sent_is_heard(rt: HostRuntime) -> Result<(), Fail> {
 fn kiss_frames_come_and_go(rt: HostRuntime) -> Result<(), Fail> {
     let alloc = rt.alloc();
     let lines = format!(in alloc; "{SHORTEST}\n{SHORTEST}c0db\n")?;
-    let sent = run_over(alloc, &["encode"], lines.as_bytes())?;
-    let kiss = run_over(alloc, &["decode", "--kiss"], &sent.output)?;
+    let sent = run_over(&rt, alloc, &["encode"], lines.as_bytes())?;
+    let kiss = run_over(&rt, alloc, &["decode", "--kiss"], &sent.output)?;
     assert!(rt; kiss.output.starts_with(&[0xc0, 0x00, 0x9c, 0x94]));
     assert!(rt; kiss.output.ends_with(&[0x3f, 0xdb, 0xdc, 0xdb, 0xdd, 0xc0]));
     // Frames of other ports, and what is no frame, are not sent.
@@ -73,9 +92,9 @@ fn kiss_frames_come_and_go(rt: HostRuntime) -> Result<(), Fail> {
     for octet in [0x10, 0xc0, 0x00, 0x41, 0xc0, 0x01, 0x32, 0xc0] {
         stream.push(octet)?;
     }
-    let again = run_over(alloc, &["encode", "--kiss"], &stream)?;
+    let again = run_over(&rt, alloc, &["encode", "--kiss"], &stream)?;
     assert_eq!(rt; again.output.as_slice(), sent.output.as_slice());
-    let nothing = run_over(alloc, &["encode", "--kiss"], &[0xc0, 0x00, 0x41])?;
+    let nothing = run_over(&rt, alloc, &["encode", "--kiss"], &[0xc0, 0x00, 0x41])?;
     assert_eq!(rt; (nothing.status, nothing.output.len()), (0, 0));
     Ok(())
 }
@@ -85,7 +104,7 @@ fn kiss_frames_come_and_go(rt: HostRuntime) -> Result<(), Fail> {
 fn a_wav_file_is_heard_up_to_its_fault(rt: HostRuntime) -> Result<(), Fail> {
     let alloc = rt.alloc();
     let words = ["encode", "--wav", "--opening", "2", "--closing=1"];
-    let whole = run_over(alloc, &words, SHORTEST.as_bytes())?.output;
+    let whole = run_over(&rt, alloc, &words, SHORTEST.as_bytes())?.output;
     let table: [(usize, &[(usize, u8)], u8, bool, &str); 6] = [
         (2636, &[], 0, true, ""),
         (2635, &[], 2, true, "tnc: bad input: truncated at 2635\n"),
@@ -115,7 +134,7 @@ fn a_wav_file_is_heard_up_to_its_fault(rt: HostRuntime) -> Result<(), Fail> {
                 *changed = *octet;
             }
         }
-        let got = run_over(alloc, &["decode", "--wav"], &file)?;
+        let got = run_over(&rt, alloc, &["decode", "--wav"], &file)?;
         let line = format!(in alloc; "{SHORTEST}\n")?;
         let want = if is_heard { line.as_str() } else { "" };
         assert_eq!(rt;
@@ -130,13 +149,13 @@ fn a_wav_file_is_heard_up_to_its_fault(rt: HostRuntime) -> Result<(), Fail> {
 
 #[test]
 fn what_is_cut_off_or_no_signal_gives_no_line(rt: HostRuntime) -> Result<(), Fail> {
-    let whole = run_over(rt.alloc(), SHORT_FLAGS, SHORTEST.as_bytes())?.output;
+    let whole = run_over(&rt, rt.alloc(), SHORT_FLAGS, SHORTEST.as_bytes())?.output;
     let mut loud = Vec::new(rt.alloc());
     for _ in 0..64 {
         loud.extend_from_slice(&i16::MIN.to_le_bytes())?;
     }
     for input in [whole.as_slice().get(..2560).unwrap_or(&[]), &loud] {
-        let got = run_over(rt.alloc(), &["decode"], input)?;
+        let got = run_over(&rt, rt.alloc(), &["decode"], input)?;
         assert_eq!(rt; (got.status, got.output.len()), (0, 0));
     }
     Ok(())

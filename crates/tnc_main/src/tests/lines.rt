@@ -33,7 +33,7 @@ fn lines_are_read_or_refused_at_their_place(rt: HostRuntime) -> Result<(), Fail>
         ("00\n", 0, 2, "tnc: bad input: short line at 0\n"),
     ];
     for (lines, octets, status, report) in table {
-        let got = run_over(alloc, &["encode"], lines.as_bytes())?;
+        let got = run_over(&rt, alloc, &["encode"], lines.as_bytes())?;
         assert_eq!(rt;
             (got.status, got.output.len()),
             (status, octets),
@@ -41,7 +41,7 @@ fn lines_are_read_or_refused_at_their_place(rt: HostRuntime) -> Result<(), Fail>
         );
         assert_eq!(rt; got.report.as_slice(), report.as_bytes(), "of {lines:?}");
         // No WAV file is written for an input with a bad line.
-        let wav = run_over(alloc, &["encode", "--wav"], lines.as_bytes())?;
+        let wav = run_over(&rt, alloc, &["encode", "--wav"], lines.as_bytes())?;
         let size = if status == 0 {
             octets.saturating_add(44)
         } else {
@@ -62,10 +62,10 @@ fn a_line_has_at_most_2048_octets(rt: HostRuntime) -> Result<(), Fail> {
     let mut longest = Vec::new(rt.alloc());
     longest.resize(2048, b'f')?;
     longest.extend_from_slice(b"\r\n")?;
-    let good = run_over(rt.alloc(), &words, &longest)?;
+    let good = run_over(&rt, rt.alloc(), &words, &longest)?;
     assert_eq!(rt; (good.status, good.report.len()), (0, 0));
     longest.resize(2048 + 4097, b'z')?;
-    let got = run_over(rt.alloc(), &words, &longest)?;
+    let got = run_over(&rt, rt.alloc(), &words, &longest)?;
     assert_eq!(rt; got.status, 2);
     assert_eq!(rt; got.output.as_slice(), good.output.as_slice());
     assert_eq!(rt;
@@ -86,11 +86,11 @@ fn frames_are_shown_in_the_modulus_that_is_asked_for(rt: HostRuntime) -> Result<
         (&["show", "--modulo", "0128"], many),
     ];
     for (words, input) in table {
-        let got = run_over(rt.alloc(), words, input.as_bytes())?;
+        let got = run_over(&rt, rt.alloc(), words, input.as_bytes())?;
         assert_eq!(rt; got.status, 0, "of {words:?}");
         assert_eq!(rt; got.output.as_slice(), line.as_bytes(), "of {words:?}");
     }
-    let bad = run_over(rt.alloc(), &["show"], b"9c\n\nzz\n")?;
+    let bad = run_over(&rt, rt.alloc(), &["show"], b"9c\n\nzz\n")?;
     assert_eq!(rt; bad.status, 2);
     assert_eq!(rt; bad.output.as_slice(), b"! short at 1\n".as_slice());
     assert_eq!(rt;

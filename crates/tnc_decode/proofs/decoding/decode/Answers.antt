@@ -1,17 +1,33 @@
-use Rattle.std.proofs.Common.{◌≡◌, sym, subst, ◌∙◌}
-use Rattle.tnc_base.specs.Streams.{WrotePart}
-use Rattle.tnc_forms.specs.declared.fault.InputFault.TheVariants.{TooLong}
-use Rattle.tnc_decode.proofs.DecodedLemmas.{same_text, not_too_long}
+use Rattle.tnc_decode.proofs.EndedLemmas.{to_end, to_good, to_decoded, to_bad, to_decoded_before, to_stops, to_settled, to_most, to_part, to_cut}
 use Rattle.tnc_decode.proofs.decoding.decode.Goals as goal
 
-pub returns-in-Err-default-clause-cut : goal.returns-in-Err-default-clause-cut
-returns-in-Err-default-clause-cut g c = λ octets before text left was is_text fault.
-    let same : c.deref-2.result.now ≡ text =
-    c.deref-2.ensures.value ∙ same_text c.args.words octets c.in_ok-text.text.items text c.deref.result.now
-    (c.deref.ensures.value ∙ c.in_ok-octets.ensures.whole octets left) c.in_ok-text.ensures.text is_text in
-    subst (λ t. WrotePart before t (g.O.Sink.written c.write.new.self)) same (c.in-Err-default.ensures.partly before was)
+pub returns-clause-end : goal.returns-clause-end
+returns-clause-end g c = λ octets left. to_end c.args.words octets _ _ _ c.decode_blocks.result (c.decode_blocks.ensures.ended octets left)
+
+pub returns-clause-good : goal.returns-clause-good
+returns-clause-good g c = λ octets left. to_good c.args.words octets _ _ _ c.decode_blocks.result (c.decode_blocks.ensures.ended octets left)
+
+pub returns-clause-decoded : goal.returns-clause-decoded
+returns-clause-decoded g c = λ octets before left was. to_decoded c.args.words octets _ _ _ c.decode_blocks.result (c.decode_blocks.ensures.ended octets left) before was
+
+pub returns-clause-bad : goal.returns-clause-bad
+returns-clause-bad g c = λ octets fault left is. to_bad c.args.words octets _ _ _ c.decode_blocks.result (c.decode_blocks.ensures.ended octets left) fault is
+
+pub returns-clause-decoded_before : goal.returns-clause-decoded_before
+returns-clause-decoded_before g c = λ octets before fault left was short is.
+    to_decoded_before c.args.words octets _ _ _ c.decode_blocks.result (c.decode_blocks.ensures.ended octets left) before fault was short is
 
 pub returns-clause-stops : goal.returns-clause-stops
-returns-clause-stops g c = λ octets left is.
-    let long : c.in-Ok-Some.fault ≡ TooLong = cc is in
-    absurd (not_too_long c.args.words.audio c.deref.result.now c.in-Ok-Some.fault (sym c.in_ok-text.ensures.fault ∙ c.in-Ok-Some.is-1) long)
+returns-clause-stops g c = λ octets left is. to_stops c.args.words octets _ _ _ c.decode_blocks.result (c.decode_blocks.ensures.ended octets left) is
+
+pub returns-clause-settled : goal.returns-clause-settled
+returns-clause-settled g c = λ octets before left was is. to_settled c.args.words octets _ _ _ c.decode_blocks.result (c.decode_blocks.ensures.ended octets left) before was is
+
+pub returns-clause-most : goal.returns-clause-most
+returns-clause-most g c = λ octets before left was is. to_most c.args.words octets _ _ _ c.decode_blocks.result (c.decode_blocks.ensures.ended octets left) before was is
+
+pub returns-clause-part : goal.returns-clause-part
+returns-clause-part g c = λ octets before left was is. to_part c.args.words octets _ _ _ c.decode_blocks.result (c.decode_blocks.ensures.ended octets left) before was is
+
+pub returns-clause-cut : goal.returns-clause-cut
+returns-clause-cut g c = λ octets before text left was d. to_cut c.args.words octets _ _ _ c.decode_blocks.result (c.decode_blocks.ensures.ended octets left) before text was d

@@ -1,6 +1,6 @@
 -- The frames so far.
 use Rattle.std.proofs.Common.{◌≡◌, ◌++◌, drop}
-use Rattle.tnc_decode.specs.Decoded.{frames_of}
+use Rattle.frame_merge.specs.Merged.{frames_of}
 use Rattle.tnc_decode.specs.Printing.{print}
 use Rattle.tnc_decode.proofs.printing.print.Given as goal
 

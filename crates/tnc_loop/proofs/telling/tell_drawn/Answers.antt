@@ -1,4 +1,4 @@
-use Rattle.std.proofs.Common.{[], length, ap, ◌∙◌, string_bytes}
+use Rattle.std.proofs.Common.{length, ap, ◌∙◌, string_bytes}
 use Rattle.slicer_bank.specs.Candidates.{AreCandidates}
 use Rattle.tnc_loop.specs.Drawn.{drawn, received_drawn, samples_drawn}
 use Rattle.tnc_loop.specs.Strays.{strays, first_stray}
@@ -6,14 +6,14 @@ use Rattle.tnc_loop.proofs.ToldLemmas.{are_of, has_found, is_summary}
 use Rattle.tnc_loop.proofs.telling.tell_drawn.Goals as goal
 
 pub merge-requires-clause-order : goal.merge-requires-clause-order
-merge-requires-clause-order c = (c.in_ok-candidates.ensures.found [] c.in_ok-bank.ensures.stands_for).1.order
+merge-requires-clause-order g c = c.in_ok-candidates.ensures.are.order
 
 pub returns-clause-summary : goal.returns-clause-summary
 unfolding drawn received_drawn
-returns-clause-summary c =
+returns-clause-summary g c =
     let are : AreCandidates (samples_drawn c.args.words) c.in_ok-candidates.candidates.items =
     are_of c.args.words c.in_ok-sent.sent c.deref.result.now c.in_ok-candidates.candidates.items c.in_ok-sent.ensures.sent c.deref.ensures.value
-    (c.in_ok-candidates.ensures.found [] c.in_ok-bank.ensures.stands_for).1 in
+    c.in_ok-candidates.ensures.are in
     is_summary c.args.words c.deref-4.result.now c.in_ok-candidates.candidates.items c.deref-6.result.now (string_bytes c.in_ok-summary.field-0) c.count_strays-stray_count.result
     (c.deref-4.ensures.value ∙ c.in_ok-sent.ensures.sent.ends) are
     (c.deref-6.ensures.value ∙ c.in_ok-heard.ensures)
@@ -22,10 +22,10 @@ returns-clause-summary c =
 
 pub returns-clause-stray : goal.returns-clause-stray
 unfolding drawn received_drawn
-returns-clause-stray c =
+returns-clause-stray g c =
     let are : AreCandidates (samples_drawn c.args.words) c.in_ok-candidates.candidates.items =
     are_of c.args.words c.in_ok-sent.sent c.deref.result.now c.in_ok-candidates.candidates.items c.in_ok-sent.ensures.sent c.deref.ensures.value
-    (c.in_ok-candidates.ensures.found [] c.in_ok-bank.ensures.stands_for).1 in
+    c.in_ok-candidates.ensures.are in
     has_found c.args.words c.deref-2.result.now c.in_ok-candidates.candidates.items c.in_ok-stray.stray
     (c.deref-2.ensures.value ∙ c.in_ok-sent.ensures.sent.ends) are
     (c.in_ok-stray.ensures ∙ ap (λ items. first_stray c.deref-2.result.now items) c.deref-3.ensures.value)

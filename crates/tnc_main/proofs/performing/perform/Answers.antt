@@ -1,14 +1,16 @@
-use Rattle.std.proofs.Common.{◌≡◌, [], inl, inr, refl, sym, subst, ap, ◌∙◌}
+use Rattle.std.proofs.Common.{◌≡◌, [], Some, Err, inl, inr, refl, sym, subst, ap, ◌∙◌}
 use Rattle.tnc_words.specs.declared.command.Command.TheVariants.{Decode, Encode, Show, Loop}
+use Rattle.tnc_forms.specs.declared.fault.Fault.TheVariants.{Input as OfInput}
 use Rattle.tnc_forms.specs.declared.fault.InputFault.TheVariants.{TooLong}
 use Rattle.tnc_encode.specs.Encoded.{encoded, encoded_before}
 use Rattle.tnc_main.specs.Commands.{HeardAsMade}
 use Rattle.tnc_main.specs.Stops.{end_of, end_of_loop}
 use Rattle.tnc_main.proofs.Ends.{if_ok, if_input, loop_ok, loop_no_input, on_ok, both_ok, on_fault}
 use Rattle.tnc_forms.proofs.Ends.{map_ok}
-use Rattle.tnc_main.proofs.CommandLemmas.{reads, reads_back, same_fault, written}
+use Rattle.tnc_main.proofs.CommandLemmas.{reads, reads_back, same_fault, no_fault, last as last_of, written}
 use Rattle.tnc_main.proofs.TextLemmas.{long_fault}
-use Rattle.tnc_main.proofs.Writing.{some_decoded, some_summary, nothing_written, part_written, reader_writes, loop_writes}
+use Rattle.tnc_main.proofs.Writing.{some_summary, nothing_written, part_written, at_memory, at_read, at_write, of_many, reader_writes, loop_writes}
+use Rattle.tnc_main.proofs.DecodeWriting.{at_memory as memory_decoded, at_read as read_decoded, at_write as write_decoded, of_many as of_many_decoded}
 use Rattle.tnc_main.proofs.performing.perform.Goals as goal
 
 -- ---- decode
@@ -29,26 +31,33 @@ returns-in-Decode-clause-heard_as_made g c = λ words same. let both : Decode c.
 
 pub returns-in-Decode-clause-good : goal.returns-in-Decode-clause-good
 returns-in-Decode-clause-good g c = λ octets read.
-    if_ok c.ended.result c.decode.result c.ended.ensures (λ none. same_fault c.args.command (Decode c.in-Decode.words) c.in-Decode.is octets ∙ none) (c.decode.ensures.good octets (reads c.args.command (Decode c.in-Decode.words) c.in-Decode.is _ octets read))
+    no_fault c.args.command (Decode c.in-Decode.words) c.in-Decode.is octets c.ended.result c.decode.result c.ended.ensures
+    (c.decode.ensures.good octets (reads c.args.command (Decode c.in-Decode.words) c.in-Decode.is _ octets read))
 
 pub returns-in-Decode-clause-bad : goal.returns-in-Decode-clause-bad
 returns-in-Decode-clause-bad g c = λ octets fault read is.
     same_fault c.args.command (Decode c.in-Decode.words) c.in-Decode.is octets ∙ c.decode.ensures.bad octets fault (reads c.args.command (Decode c.in-Decode.words) c.in-Decode.is _ octets read) (if_input c.ended.result c.decode.result c.ended.ensures fault is)
 
+pub returns-in-Decode-clause-unwritten : goal.returns-in-Decode-clause-unwritten
+returns-in-Decode-clause-unwritten g c = λ last. absurd (last_of c.args.command (Decode c.in-Decode.words) c.in-Decode.is last)
+
 pub returns-in-Decode-clause-written : goal.returns-in-Decode-clause-written
 returns-in-Decode-clause-written g c = λ octets before read was.
-    let left = reads c.args.command (Decode c.in-Decode.words) c.in-Decode.is _ octets read in
-    written c.args.command (Decode c.in-Decode.words) c.in-Decode.is octets before _ c.ended.result (end_of c.decode.result) c.ended.ensures
-    (reader_writes (Decode c.in-Decode.words) octets before (g.O.Sink.written c.decode.new.output) c.decode.result
+    let words = c.in-Decode.words in
+    let end = c.decode.result in
+    let left_now = g.I.Source.left c.decode.new.input in
+    let now = g.O.Sink.written c.decode.new.output in
+    let left = reads c.args.command (Decode words) c.in-Decode.is _ octets read in
+    written c.args.command (Decode words) c.in-Decode.is octets before left_now now c.ended.result (end_of end) c.ended.ensures
+    (reader_writes (Decode words) octets before left_now now end
     (c.decode.ensures.decoded octets before left was)
-    (λ fault. c.decode.ensures.bad octets fault left)
-    (long_fault (Decode c.in-Decode.words) _ octets left)
     (λ fault few. c.decode.ensures.decoded_before octets before fault left was few)
-    (λ which. ap g.O.Sink.written (c.decode.ensures.unwritten (elim which [ inl long ↦ inl long | inr read_end ↦ inr (inr read_end) ])) ∙ was)
-    (λ memory. nothing_written (Decode c.in-Decode.words) octets before _ (ap g.O.Sink.written (c.decode.ensures.unwritten (inr (inl memory))) ∙ was))
-    (λ write.
-    let text = some_decoded c.in-Decode.words octets in
-    part_written (Decode c.in-Decode.words) octets before _ text.0 text.1 (c.decode.ensures.cut octets before text.0 left was text.1 write)))
+    (λ fault over is.
+    of_many_decoded words octets before left_now now (λ text d. on_fault end is (c.decode.ensures.cut octets before text left was d)) fault over (c.decode.ensures.bad octets fault left is)
+    (λ long. c.decode.ensures.settled octets before left was (inl (is ∙ ap (λ f. Err (OfInput f)) long))))
+    (λ is. memory_decoded words octets before left_now now (λ text d. on_fault end is (c.decode.ensures.cut octets before text left was d)) (c.decode.ensures.part octets before left was is))
+    (λ is. read_decoded words octets before left_now now (λ text d. on_fault end is (c.decode.ensures.cut octets before text left was d)) (c.decode.ensures.settled octets before left was (inr is)))
+    (λ is. write_decoded words octets before left_now now (λ text d. on_fault end is (c.decode.ensures.cut octets before text left was d)) (c.decode.ensures.most octets before left was is)))
 
 -- ---- encode
 
@@ -68,7 +77,8 @@ returns-in-Encode-clause-heard_as_made g c = λ words same. let both : Encode c.
 
 pub returns-in-Encode-clause-good : goal.returns-in-Encode-clause-good
 returns-in-Encode-clause-good g c = λ octets read.
-    if_ok c.ended-in-Encode.result c.encode.result c.ended-in-Encode.ensures (λ none. same_fault c.args.command (Encode c.in-Encode.words) c.in-Encode.is octets ∙ none) (c.encode.ensures.good octets (reads c.args.command (Encode c.in-Encode.words) c.in-Encode.is _ octets read))
+    no_fault c.args.command (Encode c.in-Encode.words) c.in-Encode.is octets c.ended-in-Encode.result c.encode.result c.ended-in-Encode.ensures
+    (c.encode.ensures.good octets (reads c.args.command (Encode c.in-Encode.words) c.in-Encode.is _ octets read))
 
 pub returns-in-Encode-clause-bad : goal.returns-in-Encode-clause-bad
 returns-in-Encode-clause-bad g c = λ octets fault read is.
@@ -76,18 +86,23 @@ returns-in-Encode-clause-bad g c = λ octets fault read is.
 
 pub returns-in-Encode-clause-written : goal.returns-in-Encode-clause-written
 returns-in-Encode-clause-written g c = λ octets before read was.
-    let left = reads c.args.command (Encode c.in-Encode.words) c.in-Encode.is _ octets read in
-    written c.args.command (Encode c.in-Encode.words) c.in-Encode.is octets before _ c.ended-in-Encode.result (end_of c.encode.result) c.ended-in-Encode.ensures
-    (reader_writes (Encode c.in-Encode.words) octets before (g.O.Sink.written c.encode.new.output) c.encode.result
+    let command = Encode c.in-Encode.words in
+    let left_now = g.I.Source.left c.encode.new.input in
+    let now = g.O.Sink.written c.encode.new.output in
+    let left = reads c.args.command command c.in-Encode.is _ octets read in
+    written c.args.command command c.in-Encode.is octets before left_now now c.ended-in-Encode.result (end_of c.encode.result) c.ended-in-Encode.ensures
+    (reader_writes command octets before left_now now c.encode.result
     (map_ok c.encode.result (λ h. (encoded c.in-Encode.words octets, refl, h)) (c.encode.ensures.encoded octets before left was))
-    (λ fault. c.encode.ensures.bad octets fault left)
-    (long_fault (Encode c.in-Encode.words) _ octets left)
     (λ fault few is. (encoded_before c.in-Encode.words octets, refl, c.encode.ensures.encoded_before octets before fault left was few is))
-    (λ which. ap g.O.Sink.written (c.encode.ensures.unwritten which) ∙ was)
-    (λ memory. part_written (Encode c.in-Encode.words) octets before _ (encoded c.in-Encode.words octets) refl
-    (on_fault c.encode.result memory (c.encode.ensures.cut octets before left was)))
-    (λ write. part_written (Encode c.in-Encode.words) octets before _ (encoded c.in-Encode.words octets) refl
-    (on_fault c.encode.result write (c.encode.ensures.cut octets before left was))))
+    (λ fault over is.
+    let both : Some fault ≡ Some TooLong = sym (c.encode.ensures.bad octets fault left is) ∙ long_fault command _ octets tt left over in
+    let same : fault ≡ TooLong = cc both in
+    of_many command tt octets before left_now now over (ap g.O.Sink.written (c.encode.ensures.unwritten (inl (is ∙ ap (λ f. Err (OfInput f)) same))) ∙ was))
+    (λ memory. at_memory command tt octets before left_now now
+    (part_written command tt octets before left_now now (encoded c.in-Encode.words octets) refl (on_fault c.encode.result memory (c.encode.ensures.cut octets before left was))))
+    (λ is. at_read command tt octets before left_now now (ap g.O.Sink.written (c.encode.ensures.unwritten (inr is)) ∙ was))
+    (λ write. at_write command tt octets before left_now now
+    (part_written command tt octets before left_now now (encoded c.in-Encode.words octets) refl (on_fault c.encode.result write (c.encode.ensures.cut octets before left was)))))
 
 -- ---- show
 
@@ -107,7 +122,8 @@ returns-in-Show-clause-heard_as_made g c = λ words same. let both : Show c.in-S
 
 pub returns-in-Show-clause-good : goal.returns-in-Show-clause-good
 returns-in-Show-clause-good g c = λ octets read.
-    if_ok c.ended-in-Show.result c.show.result c.ended-in-Show.ensures (λ none. same_fault c.args.command (Show c.in-Show.words) c.in-Show.is octets ∙ none) (c.show.ensures.good octets (reads c.args.command (Show c.in-Show.words) c.in-Show.is _ octets read))
+    no_fault c.args.command (Show c.in-Show.words) c.in-Show.is octets c.ended-in-Show.result c.show.result c.ended-in-Show.ensures
+    (c.show.ensures.good octets (reads c.args.command (Show c.in-Show.words) c.in-Show.is _ octets read))
 
 pub returns-in-Show-clause-bad : goal.returns-in-Show-clause-bad
 returns-in-Show-clause-bad g c = λ octets fault read is.
@@ -115,18 +131,24 @@ returns-in-Show-clause-bad g c = λ octets fault read is.
 
 pub returns-in-Show-clause-written : goal.returns-in-Show-clause-written
 returns-in-Show-clause-written g c = λ octets before read was.
-    let left = reads c.args.command (Show c.in-Show.words) c.in-Show.is _ octets read in
-    written c.args.command (Show c.in-Show.words) c.in-Show.is octets before _ c.ended-in-Show.result (end_of c.show.result) c.ended-in-Show.ensures
-    (reader_writes (Show c.in-Show.words) octets before (g.O.Sink.written c.show.new.output) c.show.result
+    let command = Show c.in-Show.words in
+    let left_now = g.I.Source.left c.show.new.input in
+    let now = g.O.Sink.written c.show.new.output in
+    let left = reads c.args.command command c.in-Show.is _ octets read in
+    written c.args.command command c.in-Show.is octets before left_now now c.ended-in-Show.result (end_of c.show.result) c.ended-in-Show.ensures
+    (reader_writes command octets before left_now now c.show.result
     (c.show.ensures.shown octets before left was)
-    (λ fault. c.show.ensures.bad octets fault left)
-    (long_fault (Show c.in-Show.words) _ octets left)
     (λ fault few. c.show.ensures.shown_before octets before fault left was few)
-    (λ which. ap g.O.Sink.written (c.show.ensures.unwritten (elim which [ inl long ↦ inl long | inr read_end ↦ inr (inr read_end) ])) ∙ was)
-    (λ memory. nothing_written (Show c.in-Show.words) octets before _ (ap g.O.Sink.written (c.show.ensures.unwritten (inr (inl memory))) ∙ was))
+    (λ fault over is.
+    let both : Some fault ≡ Some TooLong = sym (c.show.ensures.bad octets fault left is) ∙ long_fault command _ octets tt left over in
+    let same : fault ≡ TooLong = cc both in
+    of_many command tt octets before left_now now over (ap g.O.Sink.written (c.show.ensures.unwritten (inl (is ∙ ap (λ f. Err (OfInput f)) same))) ∙ was))
+    (λ memory. at_memory command tt octets before left_now now
+    (nothing_written command tt octets before left_now now (ap g.O.Sink.written (c.show.ensures.unwritten (inr (inl memory))) ∙ was)))
+    (λ is. at_read command tt octets before left_now now (ap g.O.Sink.written (c.show.ensures.unwritten (inr (inr is))) ∙ was))
     (λ write.
     let text = c.show.ensures.cut_text octets before left was write in
-    part_written (Show c.in-Show.words) octets before _ text.0 text.1 text.2))
+    at_write command tt octets before left_now now (part_written command tt octets before left_now now text.0 text.1 text.2)))
 
 -- ---- loop
 
@@ -145,12 +167,16 @@ returns-in-Loop-clause-heard_as_made g c = λ words same.
 
 pub returns-in-Loop-clause-written : goal.returns-in-Loop-clause-written
 returns-in-Loop-clause-written g c = λ octets before read was.
-    written c.args.command (Loop c.in-Loop.words) c.in-Loop.is octets before _ c.ended_loop.result (end_of_loop c.loop_back.result) c.ended_loop.ensures
-    (loop_writes (Loop c.in-Loop.words) octets before (g.O.Sink.written c.loop_back.new.output) c.loop_back.result
+    let command = Loop c.in-Loop.words in
+    let left_now = g.I.Source.left c.args.input.now in
+    let now = g.O.Sink.written c.loop_back.new.output in
+    written c.args.command command c.in-Loop.is octets before left_now now c.ended_loop.result (end_of_loop c.loop_back.result) c.ended_loop.ensures
+    (loop_writes command octets before left_now now c.loop_back.result
     (c.loop_back.ensures.done before was)
     (λ frame. c.loop_back.ensures.done_before frame before was)
-    (λ memory. nothing_written (Loop c.in-Loop.words) octets before _ (ap g.O.Sink.written (c.loop_back.ensures.unwritten memory) ∙ was))
+    (λ memory. at_memory command tt octets before left_now now
+    (nothing_written command tt octets before left_now now (ap g.O.Sink.written (c.loop_back.ensures.unwritten memory) ∙ was)))
     (λ write.
     let text = some_summary c.in-Loop.words in
-    part_written (Loop c.in-Loop.words) octets before _ text.0 text.1
-    (on_fault c.loop_back.result write (c.loop_back.ensures.cut before text.0 was text.1))))
+    at_write command tt octets before left_now now
+    (part_written command tt octets before left_now now text.0 text.1 (on_fault c.loop_back.result write (c.loop_back.ensures.cut before text.0 was text.1)))))

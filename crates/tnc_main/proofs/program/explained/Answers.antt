@@ -9,7 +9,7 @@ pub returns-in-Ok-of_stray-clause-told : goal.returns-in-Ok-of_stray-clause-told
 returns-in-Ok-of_stray-clause-told g c = λ before was which.
     let written : g.E.Sink.written c.told-in-Ok-of_stray.new.report ≡ Some (before ++ stray_line c.in-Err-Stray.octets) =
     elim (c.told-in-Ok-of_stray.ensures.line before was) [
-      | inl whole ↦ whole ∙ ap (λ line. Some (before ++ line)) (c.as_bytes-in-Ok-of_stray.ensures.value ∙ c.in-Ok-of_stray.ensures ∙ ap stray_line c.as_slice.ensures.list)
+      | inl whole ↦ whole ∙ ap (λ line. Some (before ++ line)) (c.deref-in-Ok-of_stray.ensures ∙ c.in-Ok-of_stray.ensures ∙ ap stray_line c.as_slice.ensures.list)
       | inr fault ↦
           elim which [
             | inl bad ↦ let both : BadInput ≡ WriteFault = sym bad ∙ fault in cc both

@@ -1,22 +1,24 @@
-use Rattle.std.proofs.Common.{◌≡◌, ◌++◌, Some, None, Err, map, string_bytes, inl, inr, sym, subst, ap, ◌∙◌, arith, true≢false}
+use Rattle.std.proofs.Common.{rules, ◌≡◌, [], ◌++◌, Some, None, Err, map, string_bytes, append-nil, inl, inr, refl, sym, subst, ap, ◌∙◌, arith, true≢false}
 use Rattle.std.specs.Prelude.{is_some}
-use Rattle.tnc_words.specs.declared.command.Command.TheVariants.{Decode, Loop}
-use Rattle.tnc_words.specs.Commands.{Asks}
+use Rattle.tnc_words.specs.declared.command.Command.TheVariants.{Decode, Loop, Serve}
+use Rattle.tnc_words.specs.Commands.{Asks, IsServe}
 use Rattle.tnc_words.proofs.OneCommand.{one_command}
 use Rattle.tnc_forms.specs.declared.fault.InputFault.TheVariants.{TooLong}
 use Rattle.tnc_forms.proofs.Ends.{at_ok}
-use Rattle.tnc_main.specs.declared.status.Status.TheVariants.{Done, WriteFault}
+use Rattle.tnc_main.specs.declared.status.Status.TheVariants.{Done, Memory as NoMemory, WriteFault}
 use Rattle.tnc_main.specs.declared.stop.Stop.TheVariants.{Input}
 use Rattle.tnc_main.specs.Commands.{Makes, Strays, fault_of}
 use Rattle.tnc_main.specs.Runs.{IsCaused, Leaves, Tells, Writes}
 use Rattle.tnc_main.specs.Status.{code_of}
-use Rattle.tnc_main.specs.Stops.{status_of}
-use Rattle.tnc_main.proofs.Statuses.{at_bad_input, at_done, at_stray, one_status, status_done}
-use Rattle.tnc_main.proofs.CommandLemmas.{stray_of_loop}
+use Rattle.tnc_main.specs.Stops.{CanRun, status_of}
+use Rattle.tnc_main.proofs.Statuses.{at_bad_input, at_done, at_read_fault, at_stray, one_status, status_done}
+use Rattle.tnc_main.proofs.CommandLemmas.{last as last_of, stray_of_loop}
 use Rattle.tnc_main.proofs.Jobs.{same_command, reads, for_job}
 use Rattle.tnc_main.proofs.TextLemmas.{long_fault, near_text}
 use Rattle.tnc_main.proofs.Writing.{told_writes}
+use Rattle.tnc_main.proofs.DecodeWriting.{unread}
 use Rattle.tnc_main.proofs.Telling.{caused, ends_well, leaves, tells}
+use Rattle.tnc_main.proofs.LiveRuns.{complete as complete_live, faultless as faultless_live, no_bad_words, no_job, no_port as no_port_live, no_stray, not_live, read_fault as read_fault_live, served as served_live, write_fault as write_fault_live}
 use Rattle.tnc_main.proofs.program.run.Goals as goal
 
 -- ---- a command
@@ -27,26 +29,34 @@ returns-in-Ok-clause-read g c = λ job.
     for_job (map string_bytes c.args.words.now) (g.I.Source.left c.args.input.now) c.code.result c.in-Ok.command c.explained.result c.in-Ok.ensures.asks c.code.ensures job (λ command status. Leaves command job.octets status (g.I.Source.left c.perform-end.new.input))
     (leaves c.in-Ok.command job.octets _ c.perform-end.result c.explained.result c.explained.ensures.ends
     (c.perform-end.ensures.end job.octets mine) (λ fault is. c.perform-end.ensures.bad job.octets fault mine is)
-    (long_fault c.in-Ok.command _ job.octets mine) (c.perform-end.ensures.stops job.octets mine))
+    (c.perform-end.ensures.stops job.octets mine))
 
 pub returns-in-Ok-clause-written : goal.returns-in-Ok-clause-written
 returns-in-Ok-clause-written g c = λ job before was.
     let mine = reads (map string_bytes c.args.words.now) (g.I.Source.left c.args.input.now) c.code.result c.in-Ok.command c.explained.result c.in-Ok.ensures.asks c.code.ensures job in
     let made = c.perform-end.ensures.written job.octets before mine was in (
       made.0,
-      for_job (map string_bytes c.args.words.now) (g.I.Source.left c.args.input.now) c.code.result c.in-Ok.command c.explained.result c.in-Ok.ensures.asks c.code.ensures job (λ command status. Writes command job.octets status made.0)
-          (told_writes c.in-Ok.command job.octets made.0 c.perform-end.result c.explained.result c.explained.ensures.ends made.1),
+      for_job (map string_bytes c.args.words.now) (g.I.Source.left c.args.input.now) c.code.result c.in-Ok.command c.explained.result c.in-Ok.ensures.asks c.code.ensures job (λ command status. Writes command job.octets (g.I.Source.left c.perform-end.new.input) status made.0)
+          (told_writes c.in-Ok.command job.octets _ made.0 c.perform-end.result c.explained.result c.explained.ensures.ends
+          (λ fault is. c.perform-end.ensures.bad job.octets fault mine is) c.perform-end.ensures.stray made.1),
       made.2,
     )
 
+pub returns-in-Ok-clause-unwritten : goal.returns-in-Ok-clause-unwritten
+returns-in-Ok-clause-unwritten g c = λ command asks at_end four.
+    let same = one_command (map string_bytes c.args.words.now) command c.in-Ok.command asks c.in-Ok.ensures.asks in
+    c.perform-end.ensures.unwritten (last_of command c.in-Ok.command same at_end)
+    (inr (at_read_fault c.perform-end.result c.explained.result c.explained.ensures.ends (sym c.code.ensures ∙ four)))
+
 pub returns-in-Ok-clause-too_long : goal.returns-in-Ok-clause-too_long
-returns-in-Ok-clause-too_long g c = λ job over two.
+returns-in-Ok-clause-too_long g c = λ job at_end over two.
     let mine = reads (map string_bytes c.args.words.now) (g.I.Source.left c.args.input.now) c.code.result c.in-Ok.command c.explained.result c.in-Ok.ensures.asks c.code.ensures job in
+    let last = last_of job.command c.in-Ok.command (same_command (map string_bytes c.args.words.now) (g.I.Source.left c.args.input.now) c.code.result c.in-Ok.command c.explained.result c.in-Ok.ensures.asks c.code.ensures job) at_end in
     let bad = at_bad_input c.perform-end.result c.explained.result c.explained.ensures.ends (sym c.code.ensures ∙ two) in
     let both : Some bad.0 ≡ Some TooLong =
-    sym (c.perform-end.ensures.bad job.octets bad.0 mine bad.1) ∙ long_fault c.in-Ok.command _ job.octets mine over in
+    sym (c.perform-end.ensures.bad job.octets bad.0 mine bad.1) ∙ long_fault c.in-Ok.command _ job.octets last mine over in
     let same : bad.0 ≡ TooLong = cc both in
-    c.perform-end.ensures.unwritten (inl (bad.1 ∙ ap (λ fault. Err (Input fault)) same))
+    c.perform-end.ensures.unwritten last (inl (bad.1 ∙ ap (λ fault. Err (Input fault)) same))
 
 pub returns-in-Ok-clause-heard : goal.returns-in-Ok-clause-heard
 returns-in-Ok-clause-heard g c = λ job decode received before is clean was zero.
@@ -55,7 +65,7 @@ returns-in-Ok-clause-heard g c = λ job decode received before is clean was zero
     let done : Done ≡ status_of c.perform-end.result =
     sym (status_done c.perform-end.result (at_done c.perform-end.result c.explained.result c.explained.ensures.ends (sym c.code.ensures ∙ zero))) in
     let decoded : Makes c.in-Ok.command job.octets made.0 =
-    subst (λ status. Writes c.in-Ok.command job.octets status made.0) (sym done) made.1 in
+    subst (λ status. Writes c.in-Ok.command job.octets (g.I.Source.left c.perform-end.new.input) status made.0) (sym done) made.1 in
     let text : Makes (Decode decode) job.octets made.0 =
     subst (λ command. Makes command job.octets made.0) (sym (same_command (map string_bytes c.args.words.now) (g.I.Source.left c.args.input.now) c.code.result c.in-Ok.command c.explained.result c.in-Ok.ensures.asks c.code.ensures job) ∙ is) decoded in
     made.2 ∙ ap (λ t. Some (before ++ t)) (near_text decode received job.octets made.0 clean text)
@@ -113,4 +123,61 @@ returns-in-Err-Refused-clause-bad_words_told g c = λ before nothing was. (
     | inr fault ↦ let code : c.code-in-Err-Refused.result ≡ 5 = c.code-in-Err-Refused.ensures ∙ ap code_of fault in absurd (omega arith)
   ],
   λ five. c.told.ensures.cut before was (one_status c.told.result WriteFault (sym c.code-in-Err-Refused.ensures ∙ five)),
+)
+
+pub returns-in-Err-Refused-clause-cause : goal.returns-in-Err-Refused-clause-cause
+returns-in-Err-Refused-clause-cause g c = λ job.
+    absurd (c.read_words.ensures.refused (c.in-Err-Refused.is ∙ ap Err c.in-Err-Refused.field-0-is) job.command job.asked)
+
+-- ---- no memory for the words
+
+pub returns-in-Err-Memory-clause-written : goal.returns-in-Err-Memory-clause-written
+returns-in-Err-Memory-clause-written g c = λ job before was.
+    let memory = one_status job.status NoMemory (sym job.ends ∙ c.code-in-Err-Memory.ensures) in
+    let left = g.I.Source.left c.args.input.now in (
+      [],
+      subst (λ status. Writes job.command job.octets left status []) (sym memory) (inl refl, unread job.command job.octets left job.reads),
+      was ∙ ap Some (sym (append-nil before)),
+    )
+
+pub returns-in-Err-Memory-clause-cause : goal.returns-in-Err-Memory-clause-cause
+returns-in-Err-Memory-clause-cause g c = λ job.
+    let memory = one_status job.status NoMemory (sym job.ends ∙ c.code-in-Err-Memory.ensures) in
+    subst (λ status. IsCaused job.command job.octets status) (sym memory) tt
+
+-- ---- a live command
+
+pub returns-in-Ok-Serve-clause-served : goal.returns-in-Ok-Serve-clause-served
+returns-in-Ok-Serve-clause-served g c =
+    let asks : IsServe (map string_bytes c.args.words.now) c.in-Ok-Serve.options = search rules in
+    served_live _ _ _ asks _ c.serve_words.ensures _ _ _ _ c.serve.ensures
+
+pub returns-in-Ok-Serve-clause-cause : goal.returns-in-Ok-Serve-clause-cause
+returns-in-Ok-Serve-clause-cause g c = λ job.
+    let asks : IsServe (map string_bytes c.args.words.now) c.in-Ok-Serve.options = search rules in
+    absurd (no_job _ _ _ _ asks job)
+
+pub returns-in-Ok-Serve-clause-complete_served : goal.returns-in-Ok-Serve-clause-complete_served
+returns-in-Ok-Serve-clause-complete_served g c = λ options asked.
+    let asks : IsServe (map string_bytes c.args.words.now) c.in-Ok-Serve.options = search rules in
+    complete_live _ _ _ asks _ c.serve_words.ensures _ _ _ _ c.serve.ensures
+
+pub returns-in-Ok-clause-served : goal.returns-in-Ok-clause-served
+returns-in-Ok-clause-served g c = λ options asked.
+    let can : CanRun c.in-Ok.command = search rules in
+    absurd (not_live _ _ options can c.in-Ok.ensures.asks asked)
+
+pub returns-in-Err-Refused-clause-served : goal.returns-in-Err-Refused-clause-served
+returns-in-Err-Refused-clause-served g c = λ options asked.
+    absurd (c.read_words.ensures.refused (c.in-Err-Refused.is ∙ ap Err c.in-Err-Refused.field-0-is) (Serve options) asked)
+
+pub returns-in-Err-Refused-clause-complete_served : goal.returns-in-Err-Refused-clause-complete_served
+returns-in-Err-Refused-clause-complete_served g c = λ options asked.
+    absurd (c.read_words.ensures.refused (c.in-Err-Refused.is ∙ ap Err c.in-Err-Refused.field-0-is) (Serve options) asked)
+
+pub returns-in-Err-Memory-clause-served : goal.returns-in-Err-Memory-clause-served
+returns-in-Err-Memory-clause-served g c = λ options asked. (
+  NoMemory,
+  c.code-in-Err-Memory.ensures,
+  inl (record { memory = refl; unread = refl; untouched = refl }),
 )

@@ -1,0 +1,228 @@
+-- Audio, one octet more at a time.
+use Rattle.std.proofs.Common.{◌≡◌, ℕ, ◌+◌, ◌<◌, ◌≤◌, ℤ, List, [], ◌∷◌, ◌++◌, length, take, drop, get_or, refl, ap, sym, subst, ◌∙◌, arith, append_assoc}
+use Rattle.std.proofs.lemmas.List.{append-nil, take_more, take-append-drop}
+use Rattle.std.specs.Prelude.{Option, Some, None, Result, Ok, Err, option_map}
+use Rattle.std.specs.Result.{result_err}
+use Rattle.wav_file.specs.declared.fault.WavFault.{WavFault}
+use Rattle.wav_file.specs.Chunks.{chunks}
+use Rattle.wav_file.specs.Held.{Held as HeldFile, StandsFor as FileStandsFor, rest_reading}
+use Rattle.wav_file.specs.Reading.{Reading, reading, samples_in, fault_in, given, verdict_of}
+use Rattle.wav_file.specs.Samples.{sample_of, samples}
+use Rattle.tnc_forms.specs.declared.fault.InputFault.{InputFault}
+use Rattle.tnc_forms.specs.declared.fault.InputFault.TheVariants.{Wav as BadWav}
+use Rattle.tnc_words.specs.declared.command.AudioForm.{AudioForm}
+use Rattle.tnc_words.specs.declared.command.AudioForm.TheVariants.{Raw, Wav}
+use Rattle.tnc_decode.specs.declared.audio.Audio.{Audio}
+use Rattle.tnc_decode.specs.declared.audio.Audio.TheVariants.{Pcm, File}
+use Rattle.tnc_decode.specs.Audio.{samples_of, stopping_fault, form_fault, fault_in_verdict}
+use Rattle.tnc_decode.specs.Held.{odd_octet, HasTaken}
+use Rattle.tnc_decode.proofs.WavFaults.{fault_stays, silent_before}
+
+-- ---- raw PCM
+
+-- octets that begin with a sample
+even_more : (before octets : List ℕ) → None ≡ odd_octet before
+    → (samples (before ++ octets) ≡ samples before ++ samples octets) × (odd_octet octets ≡ odd_octet (before ++ octets))
+even_more [] octets e = (refl, refl)
+even_more (low ∷ []) octets e = absurd cc
+even_more (low ∷ high ∷ rest) octets e = let more = even_more rest octets e in (ap (λ t. sample_of low high ∷ t) more.0, more.1)
+
+-- octets whose first ends a sample that has begun
+odd_more : (before octets : List ℕ) (low high : ℕ) → Some low ≡ odd_octet before
+    → (samples (before ++ high ∷ octets) ≡ samples before ++ sample_of low high ∷ samples octets)
+    × (odd_octet octets ≡ odd_octet (before ++ high ∷ octets))
+odd_more [] octets low high e = absurd cc
+odd_more (first ∷ []) octets low high e = let same : first ≡ low = cc in (ap (λ t. sample_of t high ∷ samples octets) same, refl)
+odd_more (first ∷ second ∷ rest) octets low high e = let more = odd_more rest octets low high e in (ap (λ t. sample_of first second ∷ t) more.0, more.1)
+
+-- what raw PCM has taken, and what it gave
+abbrev pub TakesPcm : Option ℕ → Option ℕ → List ℕ → List ℤ → Type 0
+TakesPcm low now octets found = (before : List ℕ) → low ≡ odd_octet before
+    → (now ≡ odd_octet (before ++ octets)) × (samples (before ++ octets) ≡ samples before ++ found)
+
+pub pcm_none : (low : Option ℕ) → TakesPcm low low [] []
+pcm_none low before e = (e ∙ ap odd_octet (sym (append-nil before)), ap samples (append-nil before) ∙ sym (append-nil (samples before)))
+
+-- as the code has it: with the samples that were found before and those that it appends
+pub even_given : (octets : List ℕ) (low now : Option ℕ) (was found : List ℤ) → low ≡ None → now ≡ odd_octet octets
+    → found ≡ was ++ samples octets → was ≡ [] → TakesPcm low now octets found
+even_given octets low now was found none odd is empty before e =
+    let more = even_more before octets (sym none ∙ e) in (
+      odd ∙ more.1,
+      more.0 ∙ ap (λ t. samples before ++ t) (sym (is ∙ ap (λ t. t ++ samples octets) empty)),
+    )
+
+pub odd_given : (octets rest : List ℕ) (low : Option ℕ) (first : ℕ) (now : Option ℕ) (was one found : List ℤ) → 1 ≤ length octets → rest ≡ drop 1 octets
+    → low ≡ Some first → now ≡ odd_octet rest → found ≡ one ++ samples rest → one ≡ was ++ sample_of first (get_or octets 0 0) ∷ [] → was ≡ []
+    → TakesPcm low now octets found
+odd_given [] rest low first now was one found some is waits odd all appended empty before e = absurd (omega arith)
+odd_given (high ∷ octets) rest low first now was one found some is waits odd all appended empty before e =
+    let more = odd_more before octets first high (sym waits ∙ e) in
+    let begin : one ≡ sample_of first high ∷ [] = appended ∙ ap (λ t. t ++ sample_of first high ∷ []) empty in (
+      odd ∙ ap odd_octet is ∙ more.1,
+      more.0 ∙ ap (λ t. samples before ++ t) (sym (all ∙ ap (λ t. one ++ samples t) is ∙ ap (λ t. t ++ samples octets) begin)),
+    )
+
+-- octets by twos: the samples so far and those of the rest are all, and the odd octet is that of the rest
+pub record PairsOn (octets rest : List ℕ) (was found : List ℤ) : Type 0 where
+  pub samples : found ++ samples rest ≡ was ++ samples octets
+  pub odd : odd_octet rest ≡ odd_octet octets
+  pub few : length found + length rest ≤ length was + length octets
+
+-- it is audio
+pub pcm_takes : (low now : Option ℕ) (octets : List ℕ) (found : List ℤ) → TakesPcm low now octets found
+    → (form : AudioForm) (before : List ℕ) → HasTaken form (Pcm low) before
+    → HasTaken form (Pcm now) (before ++ octets) × (samples_of form (before ++ octets) ≡ samples_of form before ++ found)
+pcm_takes low now octets found takes Raw before h = takes before h
+pcm_takes low now octets found takes Wav before h = absurd h
+
+-- ---- a WAV file
+
+module _ (form : AudioForm) (before : List ℕ) (octet : ℕ) (file next : HeldFile) (result : Result (Option ℤ) WavFault)
+    (stands : (octets : List ℕ) → FileStandsFor file octets → FileStandsFor next (octets ++ octet ∷ []))
+    (gives : (octets : List ℕ) → FileStandsFor file octets → samples_in (octets ++ octet ∷ []) ≡ samples_in octets ++ given result)
+    (shows : (octets : List ℕ) → FileStandsFor file octets → fault_in (octets ++ octet ∷ []) ≡ result_err result) where
+  pub file_takes : (sample : Option ℤ) → result ≡ Ok sample → HasTaken form (File file) before
+      → HasTaken form (File next) (before ++ octet ∷ []) × (samples_of form (before ++ octet ∷ []) ≡ samples_of form before ++ given (Ok sample))
+  file_takes sample is h = by_form form h
+    where
+      by_form : (form : AudioForm) → HasTaken form (File file) before
+          → HasTaken form (File next) (before ++ octet ∷ []) × (samples_of form (before ++ octet ∷ []) ≡ samples_of form before ++ given (Ok sample))
+      by_form Raw h = absurd h
+      by_form Wav h = ((stands before h.0, shows before h.0 ∙ ap result_err is), gives before h.0 ∙ ap (λ r. samples_in before ++ given r) is)
+
+  pub file_stops : (fault : WavFault) → result ≡ Err fault → HasTaken form (File file) before
+      → stopping_fault form (before ++ octet ∷ []) ≡ Some (BadWav fault)
+  file_stops fault is h = by_form form h
+    where
+      by_form : (form : AudioForm) → HasTaken form (File file) before → stopping_fault form (before ++ octet ∷ []) ≡ Some (BadWav fault)
+      by_form Raw h = absurd h
+      by_form Wav h = ap (option_map BadWav) (shows before h.0 ∙ ap result_err is)
+
+-- what ends here
+pub pcm_verdict : (form : AudioForm) (octets : List ℕ) (low : Option ℕ) → HasTaken form (Pcm low) octets → form_fault form octets ≡ None
+pcm_verdict Raw octets low h = refl
+pcm_verdict Wav octets low h = absurd h
+
+pub file_verdict : (form : AudioForm) (octets : List ℕ) (file : HeldFile) (verdict : Result (Unit {0}) WavFault)
+    → ((octets : List ℕ) → FileStandsFor file octets → verdict ≡ verdict_of octets) → HasTaken form (File file) octets
+    → fault_in_verdict verdict ≡ form_fault form octets
+file_verdict Raw octets file verdict is h = absurd h
+file_verdict Wav octets file verdict is h = ap fault_in_verdict (is octets h.0)
+
+-- ---- faults
+
+-- a fault at which reading stops stops it where more follows, too
+pub stops_still : (form : AudioForm) (octets more : List ℕ) (fault : InputFault) → stopping_fault form octets ≡ Some fault → stopping_fault form (octets ++ more) ≡ Some fault
+stops_still Raw octets more fault e = absurd cc
+stops_still Wav octets more fault e = by_fault (fault_in octets) refl e
+  where
+    by_fault : (shown : Option WavFault) → fault_in octets ≡ shown → option_map BadWav shown ≡ Some fault → option_map BadWav (fault_in (octets ++ more)) ≡ Some fault
+    by_fault None is k = absurd cc
+    by_fault (Some wav) is k = ap (option_map BadWav) (fault_stays octets more wav is) ∙ k
+
+-- where it shows there is no sample
+pub stops_silent : (form : AudioForm) (octets : List ℕ) (fault : InputFault) → stopping_fault form octets ≡ Some fault → samples_of form octets ≡ []
+stops_silent Raw octets fault e = absurd cc
+stops_silent Wav octets fault e = by_fault (fault_in octets) refl e
+  where
+    by_fault : (shown : Option WavFault) → fault_in octets ≡ shown → option_map BadWav shown ≡ Some fault → samples_in octets ≡ []
+    by_fault None is k = absurd cc
+    by_fault (Some wav) is k = silent_before octets wav is
+
+-- what was taken shows none
+pub none_stops : (form : AudioForm) (audio : Audio) (octets : List ℕ) → HasTaken form audio octets → stopping_fault form octets ≡ None
+none_stops Raw audio octets h = refl
+none_stops Wav (Pcm low) octets h = absurd h
+none_stops Wav (File file) octets h = ap (option_map BadWav) h.1
+
+-- and it is what is wrong with the form
+pub stops_form : (form : AudioForm) (octets : List ℕ) (fault : InputFault) → stopping_fault form octets ≡ Some fault → form_fault form octets ≡ Some fault
+stops_form Raw octets fault e = absurd cc
+stops_form Wav octets fault e = by_fault (fault_in octets) refl e
+  where
+    by_fault : (shown : Option WavFault) → fault_in octets ≡ shown → option_map BadWav shown ≡ Some fault → form_fault Wav octets ≡ Some fault
+    by_fault None is k = absurd cc
+    by_fault (Some wav) is k = rw is k
+
+-- ---- samples of a first part
+
+samples_begin : (octets more : List ℕ) → (rest : List ℤ) × (samples (octets ++ more) ≡ samples octets ++ rest)
+samples_begin [] more = (samples more, refl)
+samples_begin (low ∷ []) [] = ([], refl)
+samples_begin (low ∷ []) (high ∷ more) = (samples (low ∷ high ∷ more), refl)
+samples_begin (low ∷ high ∷ octets) more = let h = samples_begin octets more in (h.0, ap (λ t. sample_of low high ∷ t) h.1)
+
+-- the samples of what was taken are the first of those with more behind it
+pub begins_with : (form : AudioForm) (audio : Audio) (octets more : List ℕ) → HasTaken form audio octets
+    → (rest : List ℤ) × (samples_of form (octets ++ more) ≡ samples_of form octets ++ rest)
+begins_with Raw audio octets more h = samples_begin octets more
+begins_with Wav (Pcm low) octets more h = absurd h
+begins_with Wav (File file) octets more h = ((rest_reading (length octets) file.part file.unit more).heard, ap (λ (r : Reading). r.heard) (h.0.rest more))
+
+-- of a new file nothing has come
+pub new_file : (file : HeldFile) → FileStandsFor file [] → HasTaken Wav (File file) []
+unfolding reading chunks
+new_file file h = (h, refl)
+
+-- ---- a block
+
+-- audio has taken so many octets of a block since, and these are the samples that end in them
+pub record TakesOn (initial now : Audio) (octets : List ℕ) (count : ℕ) (found : List ℤ) : Type 0 where
+  pub takes : (form : AudioForm) (before : List ℕ) → HasTaken form initial before
+      → HasTaken form now (before ++ take count octets) × (samples_of form (before ++ take count octets) ≡ samples_of form before ++ found)
+  pub few : length found ≤ count
+
+pub takes_none : (audio : Audio) (octets : List ℕ) (found : List ℤ) → found ≡ [] → TakesOn audio audio octets 0 found
+takes_none audio octets found none = record {
+  takes = λ form before h. (
+    subst (HasTaken form audio) (sym (append-nil before)) h,
+    ap (samples_of form) (append-nil before) ∙ sym (append-nil (samples_of form before)) ∙ ap (λ t. samples_of form before ++ t) (sym none),
+  );
+  few = (let l : length found ≡ 0 = ap length none in omega arith);
+}
+
+-- one octet more of the block
+pub octet_more : (octets before : List ℕ) (count : ℕ) → count < length octets
+    → before ++ take (count + 1) octets ≡ (before ++ take count octets) ++ get_or octets count 0 ∷ []
+octet_more octets before count below =
+    ap (λ t. before ++ t) (take_more octets count 0 below) ∙ sym (append_assoc before (take count octets) (get_or octets count 0 ∷ []))
+
+pub takes_more : (initial was now : Audio) (octets : List ℕ) (count : ℕ) (found more : List ℤ) → count < length octets
+    → TakesOn initial was octets count found
+    → ((form : AudioForm) (before : List ℕ) → HasTaken form was before → HasTaken form now (before ++ get_or octets count 0 ∷ []))
+    → ((form : AudioForm) (before : List ℕ) (front : List ℤ) → HasTaken form was before → samples_of form before ≡ front ++ found
+    → samples_of form (before ++ get_or octets count 0 ∷ []) ≡ front ++ more)
+    → length more ≤ length found + 1
+    → TakesOn initial now octets (count + 1) more
+takes_more initial was now octets count found more below h takes samples few = record {
+  takes = λ form before k.
+      let so_far = h.takes form before k in
+      let longer = octet_more octets before count below in (
+        subst (HasTaken form now) (sym longer) (takes form (before ++ take count octets) so_far.0),
+        ap (samples_of form) longer ∙ samples form (before ++ take count octets) (samples_of form before) so_far.0 so_far.1,
+      );
+  few = (let l = h.few in omega arith);
+}
+
+-- a fault at an octet of the block stops at the block
+pub stops_within : (initial was : Audio) (octets : List ℕ) (count : ℕ) (found : List ℤ) (fault : InputFault) → count < length octets
+    → TakesOn initial was octets count found
+    → ((form : AudioForm) (before : List ℕ) → HasTaken form was before → stopping_fault form (before ++ get_or octets count 0 ∷ []) ≡ Some fault)
+    → (form : AudioForm) (before : List ℕ) → HasTaken form initial before → stopping_fault form (before ++ octets) ≡ Some fault
+stops_within initial was octets count found fault below h stops form before k =
+    let so_far = h.takes form before k in
+    let here = stops form (before ++ take count octets) so_far.0 in
+    let all : before ++ octets ≡ ((before ++ take count octets) ++ get_or octets count 0 ∷ []) ++ drop (count + 1) octets
+    = ap (λ t. before ++ t) (sym (take-append-drop (count + 1) octets)) ∙ sym (append_assoc before (take (count + 1) octets) (drop (count + 1) octets))
+    ∙ ap (λ t. t ++ drop (count + 1) octets) (octet_more octets before count below) in
+    ap (stopping_fault form) all ∙ stops_still form ((before ++ take count octets) ++ get_or octets count 0 ∷ []) (drop (count + 1) octets) fault here
+
+-- what is wrong with a form is wrong with a WAV file
+pub form_is_wav : (form : AudioForm) (octets : List ℕ) (fault : InputFault) → form_fault form octets ≡ Some fault → (wav : WavFault) × (fault ≡ BadWav wav)
+form_is_wav Raw octets fault e = absurd cc
+form_is_wav Wav octets fault e = by_verdict (verdict_of octets) e
+  where
+    by_verdict : (verdict : Result (Unit {0}) WavFault) → fault_in_verdict verdict ≡ Some fault → (wav : WavFault) × (fault ≡ BadWav wav)
+    by_verdict (Ok x) k = absurd cc
+    by_verdict (Err wav) k = let same : BadWav wav ≡ fault = cc k in (wav, sym same)

@@ -1,5 +1,0 @@
-use Rattle.tnc_decode.proofs.MergingLemmas.{HasPut}
-use Rattle.tnc_decode.proofs.hearing.put_all.Given as goal
-
-abbrev pub invariant-loop-item : goal.invariant-loop-item
-invariant-loop-item l = HasPut l.initial.merger l.merger l.fn.items.items l.yielded l.item-iterator.rest.items l.item-iterator.rest.len

@@ -1,0 +1,70 @@
+//! The shortest transmission as raw PCM, from sources that cut it in several ways.
+
+use crate::decode;
+use std::alloc::{AllocError, Global};
+use std::test::Fail;
+use tnc_base::{MemSink, MemSource};
+use tnc_forms::Fault;
+use tnc_words::{AudioForm, DecodeWords, FrameForm};
+
+/// The tones of a SABM from N7LEM to NJ7P between two flags and one, 162 bits in all, M for mark and S for space.
+const TONES: &[u8; 162] =
+    b"SSSSSSSMSSSSSSSMSMMMMSMMSMMSSMSSMMMMSSSMSMSMSSMMSMSMSMMSMSMSMSSMSMSMSSSSMSSSSMSSMMMMSSSMSMSSSMSSMMSSMSMMSSMMMSMMSMSMSMMSSMSMSSSMMMMMMSSMSMMMSSMSSSMSSSSSSMSSSSSSSM";
+
+/// A cycle of a sine wave of amplitude 10000 in 48 steps.
+const SINE: [i16; 48] = [
+    0, 1305, 2588, 3827, 5000, 6088, 7071, 7934, 8660, 9239, 9659, 9914, 10000, 9914, 9659, 9239,
+    8660, 7934, 7071, 6088, 5000, 3827, 2588, 1305, 0, -1305, -2588, -3827, -5000, -6088, -7071,
+    -7934, -8660, -9239, -9659, -9914, -10000, -9914, -9659, -9239, -8660, -7934, -7071, -6088,
+    -5000, -3827, -2588, -1305,
+];
+
+/// The line of its frame.
+const LINE: &[u8; 31] = b"9c946ea04040e09c6e988a9a40613f\n";
+
+const WORDS: DecodeWords = DecodeWords {
+    audio: AudioForm::Raw,
+    frames: FrameForm::Hex,
+    threads: false,
+};
+
+/// The octets of the samples, eight samples a tone: mark is 6 steps a sample, space 11.
+fn recording(alloc: Global) -> Result<Vec<u8>, AllocError> {
+    let mut octets = Vec::new(alloc);
+    let mut phase = 0usize;
+    for tone in TONES {
+        let step = if *tone == b'M' { 6 } else { 11 };
+        for _ in 0..8 {
+            octets.extend_from_slice(&SINE[phase % 48].to_le_bytes())?;
+            phase = (phase % 48 + step) % 48;
+        }
+    }
+    Ok(octets)
+}
+
+#[test]
+fn a_recording_gives_one_line_however_its_source_cuts_it(rt: HostRuntime) -> Result<(), Fail> {
+    for (piece, threads) in [(1, false), (3, false), (4095, false), (4095, true)] {
+        let mut octets = recording(rt.alloc())?;
+        octets.push(0)?;
+        let mut input = MemSource::new(octets, piece, Vec::new(rt.alloc()));
+        let mut output = MemSink::new(rt.alloc(), 1000, Vec::new(rt.alloc()))?;
+        let words = DecodeWords { threads, ..WORDS };
+        let end = decode(&rt, rt.alloc(), words, &mut input, &mut output);
+        assert!(rt; end.is_ok());
+        assert!(rt; output.written() == LINE.as_slice(), "in pieces of {piece}");
+    }
+    Ok(())
+}
+
+// The frame ends at sample 1294 of 1296.
+#[test]
+fn a_frame_is_written_before_the_input_fails(rt: HostRuntime) -> Result<(), Fail> {
+    let octets = recording(rt.alloc())?;
+    let mut input = MemSource::new(octets, 4095, vec![in rt.alloc(); 2; 1]?);
+    let mut output = MemSink::new(rt.alloc(), 1000, Vec::new(rt.alloc()))?;
+    let end = decode(&rt, rt.alloc(), WORDS, &mut input, &mut output);
+    assert!(rt; matches!(end, Err(Fault::Read)));
+    assert!(rt; output.written() == LINE.as_slice());
+    Ok(())
+}

@@ -1,0 +1,106 @@
+-- What of its text a command writes when it does not end well. Decode writes while it reads, and each other command when
+-- its input has ended.
+use Rattle.std.specs.Prelude.{◌≡◌, ℕ, ⊤, ◌≤◌, ◌<◌, ◌-◌, ◌⊎◌, List, [], ◌++◌, length, Option, Some}
+use Rattle.tnc_forms.specs.declared.fault.InputFault.{InputFault}
+use Rattle.tnc_forms.specs.declared.fault.InputFault.TheVariants.{TooLong}
+use Rattle.tnc_forms.specs.Reading.{input_limit}
+use Rattle.tnc_words.specs.declared.command.Command.{Command}
+use Rattle.tnc_words.specs.declared.command.Command.TheVariants.{Decode, Encode, Show, Loop, Serve}
+use Rattle.tnc_words.specs.declared.command.DecodeWords.{DecodeWords}
+use Rattle.tnc_decode.specs.Audio.{audio_fault}
+use Rattle.tnc_decode.specs.Decoded.{IsDecoded}
+use Rattle.tnc_decode.specs.Settled.{IsPrintBelow, IsSettled, sample_count}
+use Rattle.tnc_decode.specs.Taken.{WereRead}
+use Rattle.tnc_main.specs.Commands.{Makes, MakesUpToFault, fault_of}
+
+-- a command writes nothing before its input has ended
+abbrev pub WritesAtEnd : Command → Type 0
+WritesAtEnd (Decode words) = ⊥
+WritesAtEnd (Encode words) = ⊤
+WritesAtEnd (Show words) = ⊤
+WritesAtEnd (Loop words) = ⊤
+WritesAtEnd (Serve options) = ⊥
+
+-- one text begins another
+abbrev pub Begins : List ℕ → List ℕ → Type 0
+Begins part text = (rest : List ℕ) × (text ≡ part ++ rest)
+
+-- nothing, or a first part of what a command makes of octets
+abbrev pub MakesPart : Command → List ℕ → List ℕ → Type 0
+MakesPart command octets part = (part ≡ []) ⊎ ((text : List ℕ) × Makes command octets text × Begins part text)
+
+-- ---- decode, by the octets that it took from its input
+
+-- the text is the print of the frames that the octets read settle
+pub record SettledByRead (words : DecodeWords) (octets : List ℕ) (left : Option (List ℕ)) (text : List ℕ) : Type 0 where
+  pub read : List ℕ
+  pub taken : WereRead octets left read
+  pub settled : IsSettled words read text
+
+-- The text is the print of the frames that a first part of the octets read settles. It is a first part of what the octets
+-- read are decoded to.
+pub record SettledByPart (words : DecodeWords) (octets : List ℕ) (left : Option (List ℕ)) (text : List ℕ) : Type 0 where
+  pub read : List ℕ
+  pub front : List ℕ
+  pub whole : List ℕ
+  pub taken : WereRead octets left read
+  pub parts : Begins front read
+  pub settled : IsSettled words front text
+  pub decoded : IsDecoded words read whole
+  pub part : Begins text whole
+
+-- The text is a first part of what the octets read are decoded to. Each frame that ends more than 2048 samples before the
+-- end of their samples is whole in it.
+pub record MostOfRead (words : DecodeWords) (octets : List ℕ) (left : Option (List ℕ)) (text : List ℕ) : Type 0 where
+  pub read : List ℕ
+  pub early : List ℕ
+  pub whole : List ℕ
+  pub taken : WereRead octets left read
+  pub settled : IsPrintBelow (sample_count words read - 2048) words read early
+  pub decoded : IsDecoded words read whole
+  pub has_early : Begins early text
+  pub part : Begins text whole
+
+-- ---- each command
+
+-- The text is what a command writes of too many octets. A WAV file can be refused for its head before it is too long.
+abbrev pub MakesOfTooMany : Command → List ℕ → Option (List ℕ) → List ℕ → Type 0
+MakesOfTooMany (Decode words) octets left text = audio_fault words.audio octets ≡ Some TooLong → SettledByRead words octets left text
+MakesOfTooMany (Encode words) octets left text = text ≡ []
+MakesOfTooMany (Show words) octets left text = text ≡ []
+MakesOfTooMany (Loop words) octets left text = text ≡ []
+MakesOfTooMany (Serve options) octets left text = ⊥
+
+-- the text is what a command writes of octets before it refuses them
+pub record MakesBefore (command : Command) (octets : List ℕ) (left : Option (List ℕ)) (text : List ℕ) : Type 0 where
+  pub part : MakesPart command octets text
+  pub too_many : input_limit < length octets → MakesOfTooMany command octets left text
+  pub up_to_fault : length octets ≤ input_limit → MakesUpToFault command octets text
+
+-- a command refuses the octets, and has written this text before
+abbrev pub IsRefused : Command → List ℕ → Option (List ℕ) → List ℕ → Type 0
+IsRefused command octets left text = (fault : InputFault) × (fault_of command octets ≡ Some fault) × MakesBefore command octets left text
+
+-- the text is what a command has written when its input fails
+abbrev pub MakesAtReadFault : Command → List ℕ → Option (List ℕ) → List ℕ → Type 0
+MakesAtReadFault (Decode words) octets left text = SettledByRead words octets left text
+MakesAtReadFault (Encode words) octets left text = text ≡ []
+MakesAtReadFault (Show words) octets left text = text ≡ []
+MakesAtReadFault (Loop words) octets left text = text ≡ []
+MakesAtReadFault (Serve options) octets left text = ⊥
+
+-- How much a first part has at least when memory runs out. It can also run out when a refusal is to be told.
+abbrev pub HasAtMemory : Command → List ℕ → Option (List ℕ) → List ℕ → Type 0
+HasAtMemory (Decode words) octets left text = SettledByPart words octets left text ⊎ IsRefused (Decode words) octets left text
+HasAtMemory (Encode words) octets left text = ⊤
+HasAtMemory (Show words) octets left text = ⊤
+HasAtMemory (Loop words) octets left text = ⊤
+HasAtMemory (Serve options) octets left text = ⊥
+
+-- How much a first part has at least when the output fails. The report can also fail when a refusal is to be told.
+abbrev pub HasAtWriteFault : Command → List ℕ → Option (List ℕ) → List ℕ → Type 0
+HasAtWriteFault (Decode words) octets left text = MostOfRead words octets left text ⊎ IsRefused (Decode words) octets left text
+HasAtWriteFault (Encode words) octets left text = ⊤
+HasAtWriteFault (Show words) octets left text = ⊤
+HasAtWriteFault (Loop words) octets left text = ⊤
+HasAtWriteFault (Serve options) octets left text = ⊥

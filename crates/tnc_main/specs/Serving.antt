@@ -1,0 +1,88 @@
+-- A run of a live command: what a station is asked for, how its serving ends, and what is told last.
+use Rattle.std.specs.Prelude.{◌≡◌, ◌⊎◌, ℕ, List, Option, Some, None}
+use Rattle.tnc_base.specs.Faults.{HasRisen}
+use Rattle.tnc_base.specs.Streams.{WrotePart}
+use Rattle.tnc_words.specs.declared.command.ServeOptions.{ServeOptions}
+use Rattle.tnc_forms.specs.declared.fault.InputFault.TheVariants.{TooLong as InputTooLong}
+use Rattle.tnc_ports.specs.declared.serve_words.ServeWords.{ServeWords}
+use Rattle.tnc_ports.specs.declared.serving.ServeEnd.{ServeEnd}
+use Rattle.tnc_ports.specs.declared.serving.ServeEnd.TheVariants.{Done, TooLong, Memory, ReadFault, WriteFault, NoPort}
+use Rattle.tnc_ports.specs.SampledRun.{Outside, GrowsBy}
+use Rattle.tnc_ports.specs.ServeRun.{InputSide, IsServed}
+use Rattle.tnc_main.specs.declared.status.Status.{Status}
+use Rattle.tnc_main.specs.declared.status.Status.TheVariants.{Done as WellDone, BadInput, Memory as NoMemory, ReadFault as InputFailed, WriteFault as OutputFailed, NoPort as PortsFailed}
+use Rattle.tnc_main.specs.Report.{input_line, no_port_line}
+
+-- the ports, the station and the report that the options ask for
+abbrev pub words_of : ServeOptions → ServeWords
+words_of options = record {
+  kiss = options.kiss;
+  agw = options.agw;
+  seed = options.seed;
+  config = record { params = options.params; digi = options.digi };
+  dcd = options.dcd;
+  monitor = options.monitor;
+}
+
+-- the status of an end
+abbrev pub status_of_end : ServeEnd → Status
+status_of_end Done = WellDone
+status_of_end TooLong = BadInput
+status_of_end Memory = NoMemory
+status_of_end ReadFault = InputFailed
+status_of_end WriteFault = OutputFailed
+status_of_end NoPort = PortsFailed
+
+-- the last line of the report, where an end has one
+abbrev pub last_line : ServeEnd → Option (List ℕ)
+last_line Done = None
+last_line TooLong = Some (input_line InputTooLong)
+last_line Memory = None
+last_line ReadFault = None
+last_line WriteFault = None
+last_line NoPort = Some no_port_line
+
+-- ---- what is told last
+
+-- but for its report the outside is as it was
+abbrev pub StaysButReport : Outside → Outside → Type 0
+StaysButReport before after = after ≡ record before { report = after.report; report_faults = after.report_faults }
+
+-- the report has a line more
+pub record HasLineMore (line : List ℕ) (before after : Outside) : Type 0 where
+  pub told : GrowsBy line before.report after.report
+  pub faultless : after.report_faults ≡ before.report_faults
+  pub others : StaysButReport before after
+
+-- the report failed, and has a first part of a line
+pub record LacksLine (line : List ℕ) (before after : Outside) : Type 0 where
+  pub part : (was : List ℕ) → before.report ≡ Some was → WrotePart was line after.report
+  pub failed : HasRisen before.report_faults after.report_faults
+  pub others : StaysButReport before after
+
+-- A line is told with its status, or it could not be written, which is a write fault. Where there is none, nothing is told.
+abbrev pub IsToldAs : Option (List ℕ) → Status → Status → Outside → Outside → Type 0
+IsToldAs None own status before after = (status ≡ own) × (after ≡ before)
+IsToldAs (Some line) own status before after =
+    ((status ≡ own) × HasLineMore line before after) ⊎ ((status ≡ OutputFailed) × LacksLine line before after)
+
+-- ---- a run
+
+-- A station was served until an end, and the end was told last.
+pub record Serves (words : ServeWords) (status : Status) (input left : InputSide) (before after : Outside) : Type 0 where
+  pub end : ServeEnd
+  -- what the outside told when serving had ended
+  pub between : Outside
+  pub served : IsServed words end input left before between
+  pub told : IsToldAs (last_line end) (status_of_end end) status between after
+
+-- there was no memory for the words, and nothing was done
+pub record HasNotBegun (status : Status) (input left : InputSide) (before after : Outside) : Type 0 where
+  pub memory : status ≡ NoMemory
+  pub unread : left ≡ input
+  pub untouched : after ≡ before
+
+-- The options are those of a live command: a station was served as they ask for it, or there was no memory to begin.
+abbrev pub RunsLive : ServeOptions → Status → InputSide → InputSide → Outside → Outside → Type 0
+RunsLive options status input left before after =
+    HasNotBegun status input left before after ⊎ Serves (words_of options) status input left before after

@@ -1,0 +1,80 @@
+//! The command `serve`: a station on the air, until its input ends.
+ghost use Rattle.std.specs.Prelude.{◌≡◌, ◌≤◌, ℕ};
+ghost use Rattle.link_machine.specs.Params.{IsRefusedWindow};
+ghost use Rattle.tnc_ports.specs.SampledRun.{Outside, outside_by};
+ghost use Rattle.tnc_ports.specs.ServeRun.{input_by};
+ghost use Rattle.tnc_main.specs.declared.status.Status.{Status};
+ghost use Rattle.tnc_main.specs.Serving.{IsToldAs, Serves, last_line, status_of_end, words_of};
+ghost use Rattle.tnc_main.specs.Status.{code_of};
+
+use crate::report::{NO_PORT, TOO_LONG, told};
+use crate::status::Status;
+use station::Config;
+use std::alloc::Global;
+use std::net::Net;
+use std::sync::Wait;
+use std::thread::Threads;
+use tnc_base::{Sink, Source};
+use tnc_ports::{Live, Ports, ServeEnd, ServeWords, Spawner};
+use tnc_words::ServeOptions;
+
+/// Serves hosts until the input ends, tells how that ended, and answers the exit status. It may wait for the input.
+pub fn serve<
+    Rt: Threads + Wait + Net + Sync,
+    I: Source + Send,
+    O: Sink,
+    E: Sink,
+    N: Ports,
+    W: Spawner,
+>(
+    rt: &Rt,
+    alloc: Global,
+    words: ServeWords,
+    input: &mut I,
+    output: &mut O,
+    report: &mut E,
+    live: &mut Live<N, W>,
+) -> u8
+    requires window { (window : ℕ) → ¬ IsRefusedWindow words.config.params window }
+    requires dcd { (1 ≤ words.dcd) × (words.dcd ≤ 8) }
+    ensures { (status : Status) × (result ≡ code_of status)
+        × Serves words status (input_by I.left I.faults input.old) (input_by I.left I.faults input.new)
+        (outside_by N.listens N.polls N.sends N.sent N.is_shut N.faults O.written O.faults E.written E.faults live.old.ports output.old report.old)
+        (outside_by N.listens N.polls N.sends N.sent N.is_shut N.faults O.written O.faults E.written E.faults live.new.ports output.new report.new) }
+{
+    let end = tnc_ports::serve(rt, alloc, words, input, output, report, live);
+    tell_end(end, report).code()
+}
+
+/// The status of an end, with the line that explains it.
+fn tell_end<E: Sink>(end: ServeEnd, report: &mut E) -> Status
+    ensures { (between : Outside) → between.report ≡ E.written report.old → between.report_faults ≡ E.faults report.old
+        → IsToldAs (last_line end) (status_of_end end) result between
+        (record between { report = E.written report.new; report_faults = E.faults report.new }) }
+{
+    match end {
+        ServeEnd::Done => Status::Done,
+        ServeEnd::TooLong => told(report, TOO_LONG, Status::BadInput),
+        ServeEnd::Memory => Status::Memory,
+        ServeEnd::ReadFault => Status::ReadFault,
+        ServeEnd::WriteFault => Status::WriteFault,
+        ServeEnd::NoPort => told(report, NO_PORT, Status::NoPort),
+    }
+}
+
+/// What a live station is asked for by its options.
+pub(crate) fn serve_words(options: ServeOptions) -> ServeWords
+    ensures { result ≡ words_of options }
+{
+    ServeWords {
+        kiss: options.kiss,
+        agw: options.agw,
+        seed: options.seed,
+        config: Config {
+            params: options.params,
+            digi: options.digi,
+        },
+        dcd: options.dcd,
+        monitor: options.monitor,
+    }
+}

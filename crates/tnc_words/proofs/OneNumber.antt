@@ -1,0 +1,16 @@
+-- An option has one number.
+use Rattle.std.proofs.Common.{◌≡◌, ℕ, Option, Some, None, sym, ◌∙◌}
+use Rattle.clap.specs.Words.{Text}
+use Rattle.tnc_words.specs.Numbers.{GivesNumber, HasNumber}
+
+-- an option that was given has one number
+pub given_number : (text : Option Text) (least greatest number other : ℕ) → GivesNumber text least greatest number
+    → GivesNumber text least greatest other → number ≡ other
+given_number None least greatest number other h k = absurd h
+given_number (Some text) least greatest number other h k = sym h.0.value ∙ k.0.value
+
+-- an option has one number
+pub one_number : (text : Option Text) (default least greatest number other : ℕ)
+    → HasNumber text default least greatest number → HasNumber text default least greatest other → number ≡ other
+one_number None default least greatest number other h k = h ∙ sym k
+one_number (Some text) default least greatest number other h k = sym h.0.value ∙ k.0.value

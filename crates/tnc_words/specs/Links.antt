@@ -1,0 +1,39 @@
+-- What options say of links and of the station's call: a mode by its name, windows that fit it, and a call.
+use Rattle.std.specs.Prelude.{◌≡◌, List, Option, Some, None, codes}
+use Rattle.clap.specs.Words.{Row, Text, first_of}
+use Rattle.ax25_address.specs.Callsign.{Callsign}
+use Rattle.ax25_address.specs.CallText.{IsCallText}
+use Rattle.selective_reject.specs.declared.window.Mode.{Mode}
+use Rattle.selective_reject.specs.declared.window.Mode.TheVariants.{Rej, Srej}
+use Rattle.link_machine.specs.declared.params.Params.{Params}
+use Rattle.link_machine.specs.Params.{HasWindows}
+use Rattle.tnc_words.specs.Numbers.{HasNumber}
+use Rattle.tnc_words.specs.Options.{is_used}
+
+-- a mode's name
+abbrev pub mode_name : Mode → Text
+mode_name Rej = codes "rej"
+mode_name Srej = codes "srej"
+
+-- the mode that an option names, or REJ where it was not given
+abbrev pub HasMode : Option Text → Mode → Type 0
+HasMode None mode = mode ≡ Rej
+HasMode (Some text) mode = text ≡ mode_name mode
+
+-- What the options say of links. If no other was given, the mode is REJ, the window 4, calls are modulo 8, and the window
+-- modulo 128 is 32.
+pub record SaysParams (found : List Row) (params : Params) : Type 0 where
+  pub mode : HasMode (first_of (codes "mode") found) params.mode
+  pub window : HasNumber (first_of (codes "window") found) 4 0 255 params.window
+  pub wide : params.wide ≡ is_used (codes "wide") found
+  pub wide_window : HasNumber (first_of (codes "wide-window") found) 32 0 255 params.wide_window
+
+-- these are the parameters of links, and each window fits its modulus in the mode
+pub record HasParams (found : List Row) (params : Params) : Type 0 where
+  pub said : SaysParams found params
+  pub fit : HasWindows params
+
+-- the call that an option spells, or none where it was not given
+abbrev pub HasCall : Option Text → Option Callsign → Type 0
+HasCall None call = call ≡ None
+HasCall (Some text) call = (spelled : Callsign) × IsCallText text spelled × (call ≡ Some spelled)

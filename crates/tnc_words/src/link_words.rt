@@ -1,0 +1,84 @@
+//! What the words say of links and of the station's call.
+ghost use Rattle.std.specs.Prelude.{◌≡◌, IfSome, IsNone, IsTrue, IsFalse, Option, option_map};
+ghost use Rattle.clap.specs.Words.{found_of, rows_of};
+ghost use Rattle.ax25_address.specs.Callsign.{Callsign};
+ghost use Rattle.selective_reject.specs.declared.window.Mode.{Mode};
+ghost use Rattle.link_machine.specs.declared.params.Params.{Params};
+ghost use Rattle.link_machine.specs.Params.{HasWindows};
+ghost use Rattle.tnc_words.specs.Links.{HasCall, HasMode, HasParams, SaysParams};
+
+use crate::number::{Bounds, number_or_default};
+use crate::parsing::{has_flag, text_of};
+use ax25_address::Call;
+use clap::ArgMatches;
+use link_machine::Params;
+use selective_reject::{Mode, check_window};
+
+/// The windows, before it is asked whether they fit.
+const WINDOW: Bounds = Bounds {
+    least: 0,
+    greatest: 255,
+};
+
+/// The parameters of links among what was found. `None` also where a window does not fit its modulus.
+pub(crate) fn link_params(found: &ArgMatches) -> Option<Params>
+    ensures params { IfSome result (HasParams (rows_of (found_of found.now))) }
+    ensures none { IsNone result → (params : Params) → ¬ HasParams (rows_of (found_of found.now)) params }
+{
+    let params = params_said(found)?;
+    if !has_windows(params) {
+        return None;
+    }
+    Some(params)
+}
+
+/// The same, whether the windows fit or not.
+fn params_said(found: &ArgMatches) -> Option<Params>
+    ensures params { IfSome result (SaysParams (rows_of (found_of found.now))) }
+    ensures none { IsNone result → (params : Params) → ¬ SaysParams (rows_of (found_of found.now)) params }
+{
+    Some(Params {
+        mode: mode(text_of(found, "mode"))?,
+        window: number_or_default(text_of(found, "window"), 4, WINDOW)? as u8,
+        wide: has_flag(found, "wide"),
+        wide_window: number_or_default(text_of(found, "wide-window"), 32, WINDOW)? as u8,
+    })
+}
+
+/// Whether each window fits its modulus in the mode.
+fn has_windows(params: Params) -> bool
+    ensures yes { IsTrue result → HasWindows params }
+    ensures no { IsFalse result → ¬ HasWindows params }
+{
+    check_window(8, params.window, params.mode).is_ok()
+        && check_window(128, params.wide_window, params.mode).is_ok()
+}
+
+/// The mode with the name in a text, or REJ where there is no text.
+fn mode(text: Option<&str>) -> Option<Mode>
+    ensures mode { IfSome result (HasMode (option_map (λ t. t.now) text.entry)) }
+    ensures none { IsNone result → (mode : Mode) → ¬ HasMode (option_map (λ t. t.now) text.entry) mode }
+{
+    let Some(text) = text else {
+        return Some(Mode::Rej);
+    };
+    match text {
+        "rej" => Some(Mode::Rej),
+        "srej" => Some(Mode::Srej),
+        _ => None,
+    }
+}
+
+/// The call of a text, or no call where there is no text. `None` where a text is no call.
+pub(crate) fn call_said(text: Option<&str>) -> Option<Option<Call>>
+    ensures call { IfSome result (HasCall (option_map (λ t. t.now) text.entry)) }
+    ensures none { IsNone result → (call : Option Callsign) → ¬ HasCall (option_map (λ t. t.now) text.entry) call }
+{
+    let Some(text) = text else {
+        return Some(None);
+    };
+    match Call::parse(text) {
+        Ok(call) => Some(Some(call)),
+        Err(_) => None,
+    }
+}

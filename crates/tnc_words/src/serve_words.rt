@@ -1,0 +1,62 @@
+//! `serve` and its options.
+ghost use Rattle.std.specs.Prelude.{◌≡◌, Some, IfOk, IfSome, IsErrOf, IsNone, codes, map, string_bytes};
+ghost use Rattle.clap.specs.Words.{found_of, rows_of};
+ghost use Rattle.tnc_words.specs.declared.command.ServeOptions.{ServeOptions};
+ghost use Rattle.tnc_words.specs.Commands.{HasServeOptions, IsServe, first_word};
+
+use crate::command::ServeOptions;
+use crate::fault::WordsFault;
+use crate::link_words::{call_said, link_params};
+use crate::number::{Bounds, number_or_default, number_within};
+use crate::options::serve_command;
+use crate::parsing::{has_flag, parsed, text_of};
+use clap::ArgMatches;
+use std::alloc::Global;
+
+/// The ports of TCP.
+const PORT: Bounds = Bounds {
+    least: 1,
+    greatest: 65_535,
+};
+
+/// The seeds.
+const SEED: Bounds = Bounds {
+    least: 0,
+    greatest: u64::MAX,
+};
+
+/// How many flags in a row make a channel busy.
+const FLAGS: Bounds = Bounds {
+    least: 1,
+    greatest: 8,
+};
+
+/// `serve` and its options, behind its own word.
+pub(crate) fn read_serve(alloc: Global, words: &[String]) -> Result<ServeOptions, WordsFault>
+    requires { first_word (map string_bytes words.now) ≡ Some (codes "serve") }
+    ensures taken { IfOk result (IsServe (map string_bytes words.now)) }
+    ensures refused { IsErrOf result WordsFault.Refused
+        → (serve : ServeOptions) → ¬ IsServe (map string_bytes words.now) serve }
+{
+    let found = parsed(serve_command(alloc)?, words)?;
+    match serve_options(&found) {
+        Some(serve) => Ok(serve),
+        None => Err(WordsFault::Refused),
+    }
+}
+
+/// The options of `serve` among what was found.
+fn serve_options(found: &ArgMatches) -> Option<ServeOptions>
+    ensures options { IfSome result (HasServeOptions (rows_of (found_of found.now))) }
+    ensures none { IsNone result → (serve : ServeOptions) → ¬ HasServeOptions (rows_of (found_of found.now)) serve }
+{
+    Some(ServeOptions {
+        kiss: number_within(text_of(found, "kiss")?, PORT)? as u16,
+        agw: number_within(text_of(found, "agw")?, PORT)? as u16,
+        seed: number_or_default(text_of(found, "seed"), 1, SEED)?,
+        params: link_params(found)?,
+        digi: call_said(text_of(found, "digi"))?,
+        dcd: number_or_default(text_of(found, "dcd"), 3, FLAGS)? as u8,
+        monitor: has_flag(found, "monitor"),
+    })
+}
