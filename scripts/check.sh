@@ -166,6 +166,11 @@ keeps_no_sound() {
     [ "$hour" -lt 4096 ] && [ "$((hour - minute))" -lt 512 ]
 }
 
+# Recordings out of pipes that are cut at random, with threads and without, give their frames.
+hears_alike_however_cut() {
+    scripts/check_cuts.py --tnc "$tnc" >"$room/told" || { cat "$room/told"; return 1; }
+}
+
 # FRAMES WORDS..: lines of frames come back from the sound that encode makes of them.
 comes_back() {
     "$tnc" encode "${@:2}" <"$1" | "$tnc" decode | cmp -s - "$1"
@@ -328,6 +333,11 @@ check "C0 and DB in KISS" escapes
 check "decode and show of samples/direwolf-clean.raw" shows_stored_text
 check "decode of a pipe that stays open" decodes_at_once samples/direwolf-clean.frames
 check "decode --kiss of a pipe that stays open" decodes_at_once samples/direwolf-clean.frames --kiss
+if has python3; then
+    check "decode of pipes that are cut at random" hears_alike_however_cut
+else
+    skip "decode of pipes that are cut at random" python3
+fi
 if has /usr/bin/time; then
     check "the memory of decode" keeps_no_sound ""
     check "the memory of decode --wav" keeps_no_sound "$head_of_pipe" --wav

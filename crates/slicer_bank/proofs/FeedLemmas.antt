@@ -8,10 +8,11 @@ use Rattle.frame_merge.specs.declared.candidate.Candidate.{Candidate}
 use Rattle.slicer_bank.specs.Candidates.{AreCandidatesBehind}
 use Rattle.std.proofs.Common.{◌<◌, Some, get_or}
 use Rattle.nrzi_bits.specs.Line.{bits_of}
-use Rattle.hdlc_framer.specs.Held.{StandsFor as DeframerStandsFor}
-use Rattle.offset_slicers.specs.Windows.{tones_at, windows_in}
-use Rattle.slicer_bank.specs.Held.{HeldBank, HeldLane, LaneStandsFor, StandsFor, LanesStandFor, AsksFor, last_seven}
-use Rattle.slicer_bank.specs.Heard.{AreOfWindows, LanesKeep, LanesAreAlike}
+use Rattle.hdlc_framer.specs.Held.{StandsFor as DeframerStandsFor, flags_asked}
+use Rattle.offset_slicers.specs.Windows.{tones_at}
+use Rattle.slicer_bank.specs.Held.{HeldBank, HeldLane, StandsFor, LanesStandFor, AsksFor, last_seven}
+use Rattle.slicer_bank.specs.Heard.{HearsAlone, LanesKeep, LanesAreAlike}
+use Rattle.slicer_bank.specs.Merging.{CanBePut}
 
 -- the lanes that were lent come back as they were left
 pub given_back : (n : ℕ) (lanes before : List HeldLane) → n ≡ length lanes → take n (lanes ++ drop (length lanes) before) ≡ lanes
@@ -50,11 +51,15 @@ module _ {V : Type 0} (items_of : V → List Candidate) (was new : HeldBank) (le
   fed result heard same counts hears asks =
       by_result result counts (subst (λ r. IfOk r Hears) (sym same) hears) (subst (λ r. OnOk r ((flags : ℕ) → All (AsksFor flags) lent → All (AsksFor flags) back)) (sym same) asks)
 
+-- what a lane does in its job: it hears a block by itself
+pub record DidJob (position : ℕ) (seven block : List ℤ) (offset : ℕ) (was lane : HeldLane) : Type 0 where
+  pub heard : HearsAlone offset position seven block was lane
+  pub fit : (items : List Candidate) → lane.heard ≡ Some items → All CanBePut items
+  pub asks : flags_asked lane.deframer ≡ flags_asked was.deframer
+
 -- lanes that heard a block each by itself, and then gave what they heard
 module _ (position : ℕ) (old mid new : List HeldLane) (recent block : List ℤ)
-    (each : (k : ℕ) (d : HeldLane) → k < 8 → (x : List ℤ) (items : List Candidate) → (get_or mid k d).heard ≡ Some items → length x ≡ position → recent ≡ last_seven x
-    → LaneStandsFor (get_or old k d) (tones_at k x)
-    → LaneStandsFor (get_or mid k d) (tones_at k (x ++ block)) × AreOfWindows k (windows_in k position) (windows_in k (length (x ++ block))) (x ++ block) items)
+    (each : (k : ℕ) (d : HeldLane) → k < 8 → HearsAlone k position recent block (get_or old k d) (get_or mid k d))
     (kept : (k : ℕ) (d : HeldLane) → k < 8 → (items : List Candidate) × ((get_or mid k d).heard ≡ Some items))
     (alike : LanesAreAlike new mid)
     (x : List ℤ) (size : length x ≡ position) (is : recent ≡ last_seven x) (stand : LanesStandFor old x) where
@@ -70,13 +75,11 @@ module _ (position : ℕ) (old mid new : List HeldLane) (recent block : List ℤ
 
 -- what the lanes heard in a block, gathered
 pub gathered : {V E : Type 0} (items_of : V → List Candidate) (position : ℕ) (old mid new : List HeldLane) (recent after block : List ℤ)
-    → ((k : ℕ) (d : HeldLane) → k < 8 → (x : List ℤ) (items : List Candidate) → (get_or mid k d).heard ≡ Some items → length x ≡ position → recent ≡ last_seven x
-    → LaneStandsFor (get_or old k d) (tones_at k x)
-    → LaneStandsFor (get_or mid k d) (tones_at k (x ++ block)) × AreOfWindows k (windows_in k position) (windows_in k (length (x ++ block))) (x ++ block) items)
+    → ((k : ℕ) (d : HeldLane) → k < 8 → HearsAlone k position recent block (get_or old k d) (get_or mid k d))
     → ((x : List ℤ) → recent ≡ last_seven x → after ≡ last_seven (x ++ block))
     → (result : Result V E)
     → OnOk result ((k : ℕ) (d : HeldLane) → k < 8 → (items : List Candidate) × ((get_or mid k d).heard ≡ Some items))
-    → LanesAreAlike new mid
+    → OnOk result (LanesAreAlike new mid)
     → IfOk result (λ found. (at : ℕ) (x : List ℤ) → LanesKeep at x mid → AreCandidatesBehind at x (items_of found))
     → IfOk result (λ found. (x : List ℤ) → length x ≡ position → recent ≡ last_seven x → LanesStandFor old x
     → LanesStandFor new (x ++ block) × (after ≡ last_seven (x ++ block)) × AreCandidatesBehind position (x ++ block) (items_of found))

@@ -1,21 +1,20 @@
--- What is heard of one window, of one sample, and of more samples.
-use Rattle.std.proofs.Common.{◌≡◌, ℕ, ◌+◌, ◌*◌, ◌/◌, ◌%◌, ◌-◌, ◌<◌, ◌≤◌, ℤ, List, [], ◌∷◌, ◌++◌, Bool, length, get_or, map, ap, sym, ◌∙◌, arith, append_assoc, refl, subst, inl, inr, set, length-append, get_or-set_same, get_or-set_other}
+-- What is heard of one window, and of one sample more.
+use Rattle.std.proofs.Common.{◌≡◌, ℕ, ◌+◌, ◌<◌, ℤ, List, [], ◌∷◌, ◌++◌, Bool, length, map, ap, sym, ◌∙◌, arith, refl, subst}
 use Rattle.std.specs.List.{All}
 use Rattle.std.proofs.lemmas.List.{append-nil, length_push}
 use Rattle.std.proofs.lemmas.List.Elements.{All-nil, All-cons, All-head}
-use Rattle.std.proofs.lemmas.Bool.{cases_eq}
-use Rattle.tone_table.specs.declared.tone.Tone.{Tone}
-use Rattle.nrzi_bits.specs.Line.{bits_of}
-use Rattle.offset_slicers.specs.Decision.{tone_of}
-use Rattle.offset_slicers.specs.Windows.{bits, tones_at, windows_in, EndsWindow}
-use Rattle.offset_slicers.proofs.SlicerLemmas.{tones_at-push_none}
+use Rattle.offset_slicers.specs.Windows.{bits, EndsWindow}
 use Rattle.hdlc_framer.specs.Frames.{EndsFrame}
 use Rattle.frame_merge.specs.declared.candidate.Candidate.{Candidate}
 use Rattle.slicer_bank.specs.Candidates.{IsCandidate, AreCandidatesBehind}
-use Rattle.slicer_bank.specs.Held.{HeldLane, LaneStandsFor, LanesStandFor, last_seven}
-use Rattle.slicer_bank.specs.Heard.{candidate_at, Adds, HearsMore}
-use Rattle.slicer_bank.proofs.CandidateLemmas.{candidates_none, candidates_join, candidate_at_last, ends_with_last, end_within}
-use Rattle.slicer_bank.proofs.SevenLemmas.{tones_at-seven}
+use Rattle.slicer_bank.specs.Heard.{candidate_at, Adds}
+use Rattle.slicer_bank.proofs.CandidateLemmas.{candidate_at_last, ends_with_last, end_within}
+
+-- what was found is followed by the candidates that end in these samples, past those before them
+pub record HearsMore (x more : List ℤ) (before after : List Candidate) : Type 0 where
+  pub heard : List Candidate
+  pub found : after ≡ before ++ heard
+  pub are : AreCandidatesBehind (length x) (x ++ more) heard
 
 -- a lane at which no frame ends adds nothing
 pub adds_nothing : (offset end : ℕ) (b : List Bool) (before : List Candidate) → ((o : List ℕ) → EndsFrame b o → ⊥) → Adds offset end b before before
@@ -102,11 +101,7 @@ module _ (offset : ℕ) (x : List ℤ) (sample : ℤ) (small : offset < 8) (wind
           subst (λ t. AreCandidatesBehind (length x) all (map (candidate_at (length all) offset) t)) (sym one)
           (one_heard o ends (λ other e. let same : o ∷ rest ≡ other ∷ [] = whole other e in cc))
 
--- before the eighth sample no window ends
-pub lanes_wait : (lanes : List HeldLane) (x : List ℤ) (sample : ℤ) → length x + 1 < 8 → LanesStandFor lanes x → LanesStandFor lanes (x ++ sample ∷ [])
-lanes_wait lanes x sample few h k d small = subst (LaneStandsFor (get_or lanes k d)) (sym (tones_at-push_none k x sample (omega arith))) (h k d small)
-
--- and nothing is heard
+-- before the eighth sample no window ends, and nothing is heard
 pub nothing_heard : (x : List ℤ) (sample : ℤ) (found : List Candidate) → length x + 1 < 8 → HearsMore x (sample ∷ []) found found
 nothing_heard x sample found few =
     let all : List ℤ = x ++ sample ∷ [] in
@@ -120,57 +115,3 @@ nothing_heard x sample found few =
         order = λ i j d ij jl. absurd (omega arith);
       };
     }
-
--- a window goes to the lane of its offset, and the others have none
-pub lanes_take : (lanes : List HeldLane) (x : List ℤ) (sample : ℤ) (offset k : ℕ) (was lane : HeldLane) → length lanes ≡ 8 → offset < 8
-    → length x + 1 ≡ offset + 8 * (k + 1) → LanesStandFor lanes x
-    → (LaneStandsFor (get_or lanes offset was) (tones_at offset x) → LaneStandsFor lane (tones_at offset x ++ tone_of (last_seven x ++ sample ∷ []) ∷ []))
-    → LanesStandFor (set lanes offset lane) (x ++ sample ∷ [])
-lanes_take lanes x sample offset k was lane count small ends h takes j d below = elim (cases_eq j offset) [
-  | inl e ↦
-      (let within : offset < length lanes = omega arith in
-      let took : LaneStandsFor lane (tones_at offset (x ++ sample ∷ [])) = subst (LaneStandsFor lane) (sym (tones_at-seven offset k x sample ends small)) (takes (h offset was small)) in
-      subst (λ t. LaneStandsFor (get_or (set lanes offset lane) t d) (tones_at t (x ++ sample ∷ []))) (sym e)
-      (subst (λ t. LaneStandsFor t (tones_at offset (x ++ sample ∷ []))) (sym (get_or-set_same lanes offset lane d within)) took))
-  | inr ne ↦
-      (let none : windows_in j (length x + 1) ≡ windows_in j (length x) = omega arith in
-      subst (λ t. LaneStandsFor t (tones_at j (x ++ sample ∷ []))) (sym (get_or-set_other lanes offset j lane d ne))
-      (subst (LaneStandsFor (get_or lanes j d)) (sym (tones_at-push_none j x sample none)) (h j d below)))
-]
-
--- a window that ends with a sample, given to the lane of its offset
-pub window_taken : (lanes : List HeldLane) (x : List ℤ) (sample : ℤ) (end place offset : ℕ) (was lane : HeldLane) (window : List ℤ) (before after : List Candidate)
-    → length lanes ≡ 8 → length x + 1 ≡ end → 8 ≤ end → place ≡ offset → offset ≡ end % 8 → window ≡ last_seven x ++ sample ∷ [] → LanesStandFor lanes x
-    → ((tones : List Tone) → LaneStandsFor (get_or lanes place was) tones → LaneStandsFor lane (tones ++ tone_of window ∷ []))
-    → ((tones : List Tone) → LaneStandsFor (get_or lanes place was) tones → Adds offset end (bits_of (tones ++ tone_of window ∷ [])) before after)
-    → LanesStandFor (set lanes place lane) (x ++ sample ∷ []) × HearsMore x (sample ∷ []) before after
-unfolding bits
-window_taken lanes x sample end place offset was lane window before after count at late same here is h takes adds =
-    let k : ℕ = (end - place) / 8 - 1 in
-    let small : place < 8 = omega arith in
-    let ends : length x + 1 ≡ place + 8 * (k + 1) = omega arith in
-    let tones : tones_at place x ++ tone_of window ∷ [] ≡ tones_at place (x ++ sample ∷ [])
-    = ap (λ w. tones_at place x ++ tone_of w ∷ []) is ∙ sym (tones_at-seven place k x sample ends small) in
-    let all : Adds place end (bits_of (tones_at place (x ++ sample ∷ []))) before after
-    = subst (λ t. Adds place end (bits_of t) before after) tones
-    (subst (λ o. Adds o end (bits_of (tones_at place x ++ tone_of window ∷ [])) before after) (sym same) (adds (tones_at place x) (h place was small))) in (
-      lanes_take lanes x sample place k was lane count small ends h (λ s. subst (λ w. LaneStandsFor lane (tones_at place x ++ tone_of w ∷ [])) is (takes (tones_at place x) s)),
-      lane_hears place x sample small (k, length_push x sample ∙ ends) end before after (sym at) all,
-    )
-
--- what is heard of no samples
-pub hears_none : (x : List ℤ) (found : List Candidate) → HearsMore x [] found found
-hears_none x found = record {
-  heard = [];
-  found = sym (append-nil found);
-  are = subst (λ t. AreCandidatesBehind (length x) t []) (sym (append-nil x)) (candidates_none x);
-}
-
--- what is heard of some samples, and then of more
-pub hears_join : (x a b : List ℤ) (before mid after : List Candidate) → HearsMore x a before mid → HearsMore (x ++ a) b mid after → HearsMore x (a ++ b) before after
-hears_join x a b before mid after h more = record {
-  heard = h.heard ++ more.heard;
-  found = more.found ∙ ap (λ t. t ++ more.heard) h.found ∙ append_assoc before h.heard more.heard;
-  are = subst (λ t. AreCandidatesBehind (length x) t (h.heard ++ more.heard)) (append_assoc x a b)
-      (candidates_join (length x) (x ++ a) b h.heard more.heard (omega (arith, length-append x a)) h.are more.are);
-}

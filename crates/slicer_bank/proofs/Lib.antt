@@ -2,7 +2,6 @@ pub mod LaneLemmas
 pub mod CandidateLemmas
 pub mod SevenLemmas
 pub mod HeardLemmas
-pub mod PieceLemmas
 pub mod OneList
 pub mod FreshLanes
 pub mod FrameDecided
@@ -13,13 +12,14 @@ pub mod FewKept
 pub mod DecoderLemmas
 pub mod OwnLemmas
 pub mod GatheringLemmas
+pub mod BankGatheringLemmas
 pub mod BusyLemmas
 pub mod FeedLemmas
 pub mod StretchLemmas
 pub mod RingJobLemmas
 pub mod RingBusyLemmas
 pub mod OrderingLemmas
-pub mod GatherLemmas
+pub mod RingGatheringLemmas
 pub mod ReaderLemmas
 pub mod TurnLemmas
 pub mod MarkLemmas

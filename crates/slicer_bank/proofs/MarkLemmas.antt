@@ -4,7 +4,7 @@ use Rattle.std.proofs.lemmas.Bool.{cases_eq}
 use Rattle.std.proofs.lemmas.List.{length-set}
 use Rattle.frame_merge.specs.declared.candidate.Candidate.{Candidate}
 use Rattle.frame_merge.specs.Held.{Held, StandsFor}
-use Rattle.slicer_bank.proofs.GatherLemmas.{same_list}
+use Rattle.slicer_bank.proofs.GatheringLemmas.{same_list}
 
 -- so many lanes are marked at their positions
 pub record HasMarked (initial now : Held) (positions : List ℕ) (n : ℕ) : Type 0 where

@@ -6,9 +6,9 @@ use Rattle.offset_slicers.specs.Windows.{bits, EndsWindow}
 use Rattle.hdlc_framer.proofs.FrameEnds.{one_frame}
 use Rattle.frame_merge.specs.declared.candidate.Candidate.{Candidate}
 use Rattle.slicer_bank.specs.Candidates.{AreCandidates}
-use Rattle.slicer_bank.specs.Heard.{HearsMore, candidate_at}
+use Rattle.slicer_bank.specs.Heard.{candidate_at}
 use Rattle.slicer_bank.proofs.CandidateLemmas.{candidates_none, candidates_join}
-use Rattle.slicer_bank.proofs.HeardLemmas.{adds_nothing, adds_one, lane_hears, nothing_heard}
+use Rattle.slicer_bank.proofs.HeardLemmas.{HearsMore, adds_nothing, adds_one, lane_hears, nothing_heard}
 use Rattle.slicer_bank.proofs.FrameDecided.{frame_or_none}
 
 -- a window of one offset ends with the last of eight samples or more

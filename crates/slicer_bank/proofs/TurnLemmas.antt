@@ -1,9 +1,11 @@
 -- A turn of eight lanes: what each of them made of it is what all of them made.
-use Rattle.std.proofs.Common.{◌≡◌, ◌≢◌, ℕ, zero, suc, ◌+◌, ◌^◌, ◌<◌, ◌≤◌, ◌↔◌, List, [], ◌∷◌, ◌++◌, ⊎_elim, inl, inr, Bool, true, false, ◌&&◌, refl, ap, sym, ◌∙◌, arith, subst, length, get_or, map, take, drop}
-use Rattle.std.specs.List.{All, AllPairs, Contains, flat_map, list_all}
+use Rattle.std.proofs.Common.{◌≡◌, ℕ, zero, suc, ◌+◌, ◌-◌, ◌*◌, ◌/◌, ◌%◌, ◌^◌, ◌<◌, ◌≤◌, ◌↔◌, List, [], ◌∷◌, ◌++◌, ⊎_elim, inl, inr, Bool, true, false, ◌&&◌, refl, ap, sym, ◌∙◌, arith, subst, length, get_or, map, take, drop}
+use Rattle.std.specs.List.{All, flat_map, list_all}
+use Rattle.std.specs.List.Sorted.{IsPermutation, IsNonDecreasingBy}
 use Rattle.std.proofs.lemmas.Bool.{cases_lt, false≢true}
-use Rattle.std.proofs.lemmas.List.{length-map, get_or-map, map-append, get_or_append_left, length_push}
-use Rattle.std.proofs.lemmas.List.Elements.{All-nil, All-append, All-head, All-tail, Contains-append_left, Contains-append_right}
+use Rattle.std.proofs.lemmas.List.{length-map, get_or-map, get_or_default, map-append, get_or_append_left, length_push}
+use Rattle.std.proofs.lemmas.List.Elements.{All-nil, All-head, All-tail}
+use Rattle.std.proofs.lemmas.List.Sorted.{Contains-permutation, All-permutation}
 use Rattle.std.proofs.Math.Seq.{get_or-append_seam, take-append_seam}
 use Rattle.atomic_table.specs.Seated.{TableId}
 use Rattle.hdlc_framer.specs.Held.{flags_asked}
@@ -13,8 +15,6 @@ use Rattle.sample_ring.specs.declared.view.Track.{Track}
 use Rattle.sample_ring.specs.Ends.{position_of, reads_of, reader_ring, record_of}
 use Rattle.sample_ring.specs.Record.{answer}
 use Rattle.frame_merge.specs.declared.candidate.Candidate.{Candidate}
-use Rattle.frame_merge.specs.Order.{standing, in_order}
-use Rattle.frame_merge.proofs.Ordering.{All-in_order}
 use Rattle.slicer_bank.specs.declared.advance.LaneGap.{LaneGap}
 use Rattle.slicer_bank.specs.declared.ring_lane.RingLane.{RingLane}
 use Rattle.slicer_bank.specs.HeardOnRing.{IsHeardIn, IsHeardOnRing, AreHeardSince, lane_of, lane_positions}
@@ -24,9 +24,8 @@ use Rattle.slicer_bank.specs.RingLanes.{answers_of, answers_by, readers_of, Lane
 use Rattle.slicer_bank.specs.RingTurns.{IsReading, MeetsEnd, gaps_of, gaps_from, AreGrown, AreLonger, IsTurn, Leads, BringsOnRing, AreForward}
 use Rattle.slicer_bank.specs.StretchLanes.{StretchStandsFor}
 use Rattle.slicer_bank.specs.Stretches.{position_after, last_stretch}
-use Rattle.slicer_bank.proofs.CandidateLemmas.{AllPairs-append}
-use Rattle.slicer_bank.proofs.GatherLemmas.{found_by, gaps_by, ended_by, same_list, some_lane}
-use Rattle.slicer_bank.proofs.OrderingLemmas.{Apart, strictly_in_order, contains_in_order}
+use Rattle.slicer_bank.proofs.GatheringLemmas.{IsOfLane, flat_all, flat_contains, same_list, some_of, stands_in_order}
+use Rattle.slicer_bank.proofs.RingGatheringLemmas.{found_by, gaps_by, ended_by}
 use Rattle.slicer_bank.proofs.StretchLemmas.{heard_within, heard_shorter, leads_up, leads_below, leads_position}
 
 -- ---- lists
@@ -48,15 +47,6 @@ choose P d (suc n) f =
             subst (P k) (sym at) (subst (λ i. P i last.0) (sym e) last.1)
       ],
     )
-
-flat_all : {X Y : Type 0} (P : Y → Type 0) (f : X → List Y) (xs : List X) → ((k : ℕ) (d : X) → k < length xs → All P (f (get_or xs k d))) → All P (flat_map f xs)
-flat_all P f [] h = All-nil P
-flat_all P f (x ∷ xs) h = All-append P (f x) (flat_map f xs) (h 0 x (omega arith)) (flat_all P f xs (λ k d l. h (suc k) d (omega arith)))
-
-flat_contains : {X Y : Type 0} (f : X → List Y) (xs : List X) (k : ℕ) (d : X) (y : Y) → k < length xs → Contains (f (get_or xs k d)) y → Contains (flat_map f xs) y
-flat_contains f [] k d y l c = absurd (omega arith)
-flat_contains f (x ∷ xs) zero d y l c = Contains-append_left (f x) (flat_map f xs) y c
-flat_contains f (x ∷ xs) (suc k) d y l c = Contains-append_right (f x) (flat_map f xs) y (flat_contains f xs k d y (omega arith) c)
 
 -- the gaps of lanes, told lane by lane
 flat_gaps : (first : ℕ) (lanes : List RingLane) (reads : List (List Got)) → length reads ≡ length lanes
@@ -95,6 +85,14 @@ all_ended (x ∷ lanes) (r ∷ reads) e h =
     both a m zero d l = m
     both a m (suc k) d l = a k d (omega arith)
 
+-- what is heard in a stretch ends with a window of its offset
+at_window : (answers : List Got) (item : Candidate) → item.offset < 8 → IsHeardIn answers item → (windows : ℕ) × (item.end ≡ item.offset + 8 * windows)
+at_window answers item small h =
+    let begin : ℕ = h.stretch.begin in
+    let offset : ℕ = item.offset in
+    let end = h.ends.end_of in
+    ((begin + (8 + offset - begin % 8) % 8) / 8 + (h.index + 1), omega arith)
+
 -- ---- lanes and their readers
 
 reader_at : (lanes : List RingLane) (k : ℕ) (d : RingLane) (e : Reader) → k < length lanes → get_or (readers_of lanes) k e ≡ (get_or lanes k d).reader
@@ -132,7 +130,7 @@ are_ready ring lanes eight place taken rings k d l =
 pub rings_stay : (ring : TableId) (lanes : List RingLane) → length lanes ≡ 8 → LanesStay ring lanes → All (λ reader. reader_ring reader ≡ ring) (readers_of lanes)
 rings_stay ring lanes eight stay k e l =
     let n = length-map lanes (λ lane. lane.reader) in
-    let d : RingLane = some_lane lanes (omega arith) in
+    let d : RingLane = some_of lanes (omega arith) in
     ap (λ (r : Reader). reader_ring r) (reader_at lanes k d e (omega arith)) ∙ (stay k d (omega arith)).0
 
 -- lanes that were lent come back as they were left
@@ -146,7 +144,7 @@ module _ (ring : TableId) (len : ℕ) (old mid new : List RingLane) (eight_old :
     (advanced : (k : ℕ) (d : RingLane) → k < 8 → Advanced len (get_or old k d) (get_or mid k d))
     (alike : (k : ℕ) (d : RingLane) → k < 8 → IsAlike (get_or mid k d) (get_or new k d)) where
   d0 : RingLane
-  d0 = some_lane old (omega arith)
+  d0 = some_of old (omega arith)
 
   pub lanes_stay : LanesStay ring new
   lanes_stay k d l =
@@ -184,11 +182,6 @@ module _ (ring : TableId) (len : ℕ) (old mid new : List RingLane) (eight_old :
       gaps : (d : RingLane) → gaps_by (get_or mid k d) ≡ gaps_of k a
       met : (d : RingLane) → (ended_by (get_or mid k d) ≡ true) ↔ MeetsEnd a
 
-    at_any : (xs : List RingLane) (k : ℕ) (a b : RingLane) → k < length xs → get_or xs k a ≡ get_or xs k b
-    at_any [] k a b l = absurd (omega arith)
-    at_any (x ∷ xs) zero a b l = refl
-    at_any (x ∷ xs) (suc k) a b l = at_any xs k a b (omega arith)
-
     of_lane : (k : ℕ) → k < 8 → (a : List Got) × OfLane k a
     of_lane k l =
         let m = made k d0 l in (
@@ -197,8 +190,8 @@ module _ (ring : TableId) (len : ℕ) (old mid new : List RingLane) (eight_old :
             within = l;
             longer = answers_at len new k d0 (omega arith) ∙ answers_now k l ∙ ap (λ a. a ++ m.answers) (sym (answers_at len old k d0 (omega arith)));
             reading = m.reading;
-            gaps = λ d. ap gaps_by (at_any mid k d d0 (omega arith)) ∙ m.on.gaps ∙ ap (λ o. gaps_of o m.answers) (ready k d0 l).place;
-            met = λ d. subst (λ (b : Bool). (b ≡ true) ↔ MeetsEnd m.answers) (ap ended_by (at_any mid k d0 d (omega arith))) m.met;
+            gaps = λ d. ap gaps_by (get_or_default mid k d d0 (omega arith)) ∙ m.on.gaps ∙ ap (λ o. gaps_of o m.answers) (ready k d0 l).place;
+            met = λ d. subst (λ (b : Bool). (b ≡ true) ↔ MeetsEnd m.answers) (ap ended_by (get_or_default mid k d0 d (omega arith))) m.met;
           },
         )
 
@@ -268,21 +261,21 @@ module _ (ring : TableId) (len : ℕ) (old mid new : List RingLane) (eight_old :
     of_place k d l =
         let in8 : k < 8 = omega arith in
         let m = made k d0 in8 in
-        subst (λ (x : RingLane). All (λ item. (item.offset ≡ k) × (position_of (get_or old k d0).reader < item.end) × (item.end ≤ position_of (get_or mid k d0).reader)) (found_by x)) (at_any mid k d0 d l)
+        subst (λ (x : RingLane). All (λ item. (item.offset ≡ k) × (position_of (get_or old k d0).reader < item.end) × (item.end ≤ position_of (get_or mid k d0).reader)) (found_by x)) (get_or_default mid k d0 d l)
         (λ i e il. let p = m.on.places.each i e il in (p.0 ∙ (ready k d0 in8).place, p.1, p.2))
 
-    pub are_past : All (λ item. get_or (map position_of (readers_of old)) item.offset 0 < item.end) (in_order (flat_map found_by mid))
+    pub are_past : All (λ item. get_or (map position_of (readers_of old)) item.offset 0 < item.end) (flat_map found_by mid)
     are_past =
         let P : Candidate → Type 0 = λ item. get_or (map position_of (readers_of old)) item.offset 0 < item.end in
-        All-in_order P (flat_map found_by mid) (flat_all P found_by mid (λ k d l i e il.
+        flat_all P found_by mid (λ k d l i e il.
         let p = of_place k d l i e il in
         let at : get_or (map position_of (readers_of old)) (get_or (found_by (get_or mid k d)) i e).offset 0 ≡ position_of (get_or old k d0).reader
         = ap (λ o. get_or (map position_of (readers_of old)) o 0) p.0 ∙ position_at old k d0 (omega arith) in
         let past = p.1 in
-        omega arith))
+        omega arith)
 
-    pub can_be_put : All CanBePut (in_order (flat_map found_by mid))
-    can_be_put = All-in_order CanBePut (flat_map found_by mid) (flat_all CanBePut found_by mid (λ k d l i e il.
+    pub can_be_put : All CanBePut (flat_map found_by mid)
+    can_be_put = flat_all CanBePut found_by mid (λ k d l i e il.
         let p = of_place k d l i e il in
         let o = p.0 in
         let past = p.1 in
@@ -293,22 +286,7 @@ module _ (ring : TableId) (len : ℕ) (old mid new : List RingLane) (eight_old :
           lane = omega arith;
           end = ⊎_elim (λ (same : position_of (get_or old k d0).reader ≡ position_of (get_or mid k d0).reader). absurd (omega arith)) (λ (below : position_of (get_or mid k d0).reader < 2 ^ 48). omega arith)
               (leads_below (position_of (get_or old k d0).reader) m.answers (position_of (get_or mid k d0).reader) m.on.forward);
-        }))
-
-    -- no two of them stand alike
-    apart_from : (first : ℕ) (xs : List RingLane) → ((k : ℕ) (d : RingLane) → k < length xs → All (λ item. item.offset ≡ first + k) (found_by (get_or xs k d)))
-        → ((k : ℕ) (d : RingLane) → k < length xs → AllPairs (λ item later. item.end < later.end) (found_by (get_or xs k d))) → first + length xs ≤ 8 → Apart (flat_map found_by xs)
-    apart_from first [] places rising le = λ i j d ij jl. absurd (omega arith)
-    apart_from first (x ∷ xs) places rising le =
-        let rest : Apart (flat_map found_by xs)
-        = apart_from (first + 1) xs (λ k d l i e il. places (suc k) d (omega arith) i e il ∙ (let z : first + suc k ≡ first + 1 + k = omega arith in z)) (λ k d l. rising (suc k) d (omega arith)) (omega arith) in
-        let later : All (λ item. (first < item.offset) × (item.offset < 8)) (flat_map found_by xs)
-        = flat_all (λ item. (first < item.offset) × (item.offset < 8)) found_by xs (λ k d l i e il. let o = places (suc k) d (omega arith) i e il in (omega arith, omega arith)) in
-        let mine : All (λ item. item.offset ≡ first + 0) x.found.items = places 0 x (omega arith) in
-        AllPairs-append (λ a b. standing a ≢ standing b) x.found.items (flat_map found_by xs)
-        (λ i j d ij jl. let a = mine i d (omega arith) in let b = mine j d jl in let lt = rising 0 x (omega arith) i j d ij jl in λ e. omega arith)
-        rest
-        (λ i j d il jl. let a = mine i d il in let b = later j d jl in let b0 = b.0 in let b1 = b.1 in λ e. omega arith)
+        })
 
     module _ (flags : ℕ) (h : LanesListen len flags old) where
       before : (k : ℕ) (l : k < 8) → LaneListens len flags k (get_or old k d0)
@@ -352,13 +330,27 @@ module _ (ring : TableId) (len : ℕ) (old mid new : List RingLane) (eight_old :
                 })
           ]
 
-      heard_since : AreHeardSince (answers_by len old) (answers_by len new) (in_order (flat_map found_by mid))
-      heard_since =
+      -- a lane hears at the ends of its windows
+      of_windows : (k : ℕ) (d : RingLane) → k < 8 → IsOfLane k (found_by (get_or mid k d))
+      of_windows k d l =
+          subst (λ (x : RingLane). IsOfLane k (found_by x)) (get_or_default mid k d0 d (omega arith))
+          record {
+            each = λ i e il.
+                let place = (of_place k d0 (omega arith) i e il).0 in
+                let ends = at_window (lane_of (answers_by len new) k) (get_or (found_by (get_or mid k d0)) i e) (omega arith) ((heard_at k l).each i e il) in (
+                  place,
+                  (ends.0, ends.1 ∙ ap (λ o. o + 8 * ends.0) place),
+                );
+            rising = (made k d0 l).on.places.rising;
+          }
+
+      heard_since : (items : List Candidate) → IsPermutation (flat_map found_by mid) items → IsNonDecreasingBy (λ item. item.end) items → AreHeardSince (answers_by len old) (answers_by len new) items
+      heard_since items moved rises =
           let P : Candidate → Type 0 = λ item. IsHeardOnRing (answers_by len new) item × (¬ IsHeardOnRing (answers_by len old) item) in
           record {
-            each = All-in_order P (flat_map found_by mid) (flat_all P found_by mid (λ k d l.
+            each = All-permutation P (flat_map found_by mid) items moved (flat_all P found_by mid (λ k d l.
                 let in8 : k < 8 = omega arith in
-                subst (λ (x : RingLane). All P (found_by x)) (at_any mid k d0 d l) (λ i e il.
+                subst (λ (x : RingLane). All P (found_by x)) (get_or_default mid k d0 d l) (λ i e il.
                 let p = of_place k d0 l i e il in
                 let item : Candidate = get_or (found_by (get_or mid k d0)) i e in (
                   record { offset = (let o = p.0 in let z : item.offset < 8 = omega arith in z); heard = subst (λ o. IsHeardIn (lane_of (answers_by len new) o) item) (sym p.0) ((heard_at k in8).each i e il) },
@@ -366,11 +358,9 @@ module _ (ring : TableId) (len : ℕ) (old mid new : List RingLane) (eight_old :
                 ))));
             whole = λ item now not.
                 let l = now.offset in
-                contains_in_order (flat_map found_by mid) item
+                Contains-permutation (flat_map found_by mid) items item moved
                 (flat_contains found_by mid item.offset d0 item (omega arith) ((heard_at item.offset l).whole item refl now.heard (is_past item now not l)));
-            order = strictly_in_order (flat_map found_by mid)
-                (apart_from 0 mid (λ k d l i e il. (of_place k d l i e il).0 ∙ (let z : k ≡ 0 + k = omega arith in z))
-                (λ k d l. subst (λ (x : RingLane). AllPairs (λ item later. item.end < later.end) (found_by x)) (at_any mid k d0 d l) (made k d0 (omega arith)).on.places.rising) (omega arith));
+            order = stands_in_order found_by mid items eight_mid of_windows moved rises;
           }
 
       positions_lead : map position_of (readers_of new) ≡ lane_positions (answers_by len new)
@@ -383,12 +373,12 @@ module _ (ring : TableId) (len : ℕ) (old mid new : List RingLane) (eight_old :
           position_at new k d0 (omega arith) ∙ sym (leads_position (lane_of (answers_by len new) k) (position_of (get_or new k d0).reader) (new_lead k in8))
           ∙ sym (get_or-map position_after (answers_by len new) k [] 0 (omega arith)))
 
-      pub brings : (positions : List ℕ) (candidates : List Candidate) → positions ≡ map (λ lane. position_of lane.reader) mid → candidates ≡ in_order (flat_map found_by mid)
-          → BringsOnRing (answers_by len old) (answers_by len new) positions candidates
-      brings positions candidates stand found = record {
+      pub brings : (positions : List ℕ) (items : List Candidate) → positions ≡ map (λ lane. position_of lane.reader) mid → IsPermutation (flat_map found_by mid) items
+          → IsNonDecreasingBy (λ item. item.end) items → BringsOnRing (answers_by len old) (answers_by len new) positions items
+      brings positions items stand moved rises = record {
         reads = chosen.0;
         longer = longer;
         lead = λ lane l. (position_of (get_or new lane d0).reader, new_lead lane l);
         stand = stand_there positions stand ∙ positions_lead;
-        heard = subst (AreHeardSince (answers_by len old) (answers_by len new)) (sym found) heard_since;
+        heard = heard_since items moved rises;
       }

@@ -4,7 +4,7 @@ use Rattle.std.specs.List.{All, AllPairs, Contains}
 use Rattle.hdlc_framer.specs.Frames.{EndsFrame}
 use Rattle.frame_merge.specs.declared.candidate.Candidate.{Candidate}
 use Rattle.offset_slicers.specs.Windows.{windows_in, tones_at}
-use Rattle.slicer_bank.specs.Candidates.{IsCandidate, AreCandidatesBehind}
+use Rattle.slicer_bank.specs.Candidates.{IsCandidate}
 use Rattle.slicer_bank.specs.Held.{HeldLane, LaneStandsFor, last_seven}
 use Rattle.slicer_bank.specs.Merging.{CanBePut}
 
@@ -18,12 +18,6 @@ pub record Adds (offset end : ℕ) (bits : List Bool) (before after : List Candi
   pub found : after ≡ before ++ map (candidate_at end offset) octets
   pub each : All (λ o. EndsFrame bits o) octets
   pub whole : (o : List ℕ) → EndsFrame bits o → octets ≡ o ∷ []
-
--- what was found is followed by the candidates that end in these samples, behind those before them
-pub record HearsMore (x more : List ℤ) (before after : List Candidate) : Type 0 where
-  pub heard : List Candidate
-  pub found : after ≡ before ++ heard
-  pub are : AreCandidatesBehind (length x) (x ++ more) heard
 
 -- the items are the candidates of one offset that end with one of its windows, from a window's number to below another's,
 -- each once and in order
@@ -43,6 +37,13 @@ pub record LaneHearsMore (offset : ℕ) (x more : List ℤ) (before after : List
 abbrev pub LaneHears : ℕ → ℕ → List ℤ → List ℤ → HeldLane → HeldLane → List Candidate → List Candidate → Type 0
 LaneHears offset position seven more initial lane before after = (x : List ℤ) → length x ≡ position → seven ≡ last_seven x → LaneStandsFor initial (tones_at offset x)
     → LaneStandsFor lane (tones_at offset (x ++ more)) × LaneHearsMore offset x more before after
+
+-- the lane of an offset, which had taken `position` samples with `seven` as the last, heard a block by itself and keeps what it heard
+abbrev pub HearsAlone : ℕ → ℕ → List ℤ → List ℤ → HeldLane → HeldLane → Type 0
+HearsAlone offset position seven block was lane = (x : List ℤ) (items : List Candidate) → lane.heard ≡ Some items → length x ≡ position
+    → seven ≡ last_seven x → LaneStandsFor was (tones_at offset x)
+    → LaneStandsFor lane (tones_at offset (x ++ block))
+    × AreOfWindows offset (windows_in offset position) (windows_in offset (length (x ++ block))) (x ++ block) items
 
 -- each lane keeps what it heard in samples behind a position
 abbrev pub LanesKeep : ℕ → List ℤ → List HeldLane → Type 0

@@ -1,6 +1,7 @@
 -- What one read, and one turn of reads, make of a lane.
 use Rattle.std.specs.Prelude.{◌≡◌, ℕ, ◌<◌, ◌≤◌, ◌↔◌, Bool, true, false, List, [], ◌∷◌, ◌++◌, length, map, slice_index_or}
 use Rattle.std.specs.List.{All, AllPairs, Contains, flat_map, list_all}
+use Rattle.std.specs.List.Sorted.{IsPermutation, IsNonDecreasingBy}
 use Rattle.atomic_table.specs.Seated.{TableId}
 use Rattle.hdlc_framer.specs.Held.{flags_asked}
 use Rattle.sample_ring.specs.declared.got.Got.{Got}
@@ -9,7 +10,6 @@ use Rattle.sample_ring.specs.declared.view.Entry.{Entry}
 use Rattle.sample_ring.specs.Ends.{GoesForward, position_of, reads_of, reader_ring}
 use Rattle.sample_ring.specs.Record.{answer, next}
 use Rattle.frame_merge.specs.declared.candidate.Candidate.{Candidate}
-use Rattle.frame_merge.specs.Order.{in_order}
 use Rattle.slicer_bank.specs.declared.advance.LaneGap.{LaneGap}
 use Rattle.slicer_bank.specs.declared.ring_lane.RingLane.{RingLane}
 use Rattle.slicer_bank.specs.Heard.{candidate_at}
@@ -115,11 +115,12 @@ pub record IsAlike (before after : RingLane) : Type 0 where
   pub ended : after.ended ≡ before.ended
   pub spent : after.spent ≡ before.spent
 
--- what eight lanes found, and how far they came
+-- what eight lanes found, by the ends, and how far they came
 pub record IsGathered (lanes : List RingLane) (positions : List ℕ) (candidates : List Candidate) (gaps : List LaneGap) (ended : Bool) : Type 0 where
   pub spent : All (λ lane. lane.spent ≡ false) lanes
   pub stand : positions ≡ map (λ lane. position_of lane.reader) lanes
-  pub found : candidates ≡ in_order (flat_map (λ lane. lane.found.items) lanes)
+  pub found : IsPermutation (flat_map (λ lane. lane.found.items) lanes) candidates
+  pub rising : IsNonDecreasingBy (λ item. item.end) candidates
   pub told : gaps ≡ flat_map (λ lane. lane.gaps.items) lanes
   pub over : ended ≡ list_all (λ lane. lane.ended) lanes
 

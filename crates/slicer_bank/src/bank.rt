@@ -8,8 +8,7 @@ ghost use Rattle.slicer_bank.specs.Candidates.{AreCandidatesBehind};
 ghost use Rattle.slicer_bank.specs.Merging.{CanBePut};
 
 use crate::gate::Gate;
-use crate::gathering::hear_block_threads;
-use crate::hearing::hear_block;
+use crate::gathering::{hear_block, hear_block_threads};
 use crate::lane::{Lane, is_some_busy, new_lanes};
 use frame_merge::Candidate;
 use std::alloc::Global;

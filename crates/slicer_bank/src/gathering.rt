@@ -1,13 +1,13 @@
-//! The lanes on several threads: each hears by itself, and what they heard becomes one list.
+//! The lanes over a block: each hears it by itself, and what they heard becomes one list. So they can work one after
+//! another, or on threads.
 
 ghost use Rattle.std.specs.Prelude.{◌≡◌, ℕ, ◌+◌, ◌<◌, ◌^◌, ℤ, List, ◌++◌, length, IfOk, OnOk, Some, slice_index_or};
 ghost use Rattle.std.specs.List.{All};
-ghost use Rattle.offset_slicers.specs.Windows.{windows_in, tones_at};
 ghost use Rattle.frame_merge.specs.declared.candidate.Candidate.{Candidate};
 ghost use Rattle.hdlc_framer.specs.Held.{flags_asked};
-ghost use Rattle.slicer_bank.specs.Held.{AsksFor, LaneStandsFor, LanesStandFor, last_seven};
+ghost use Rattle.slicer_bank.specs.Held.{AsksFor, LanesStandFor, last_seven};
 ghost use Rattle.slicer_bank.specs.Candidates.{AreCandidatesBehind};
-ghost use Rattle.slicer_bank.specs.Heard.{AreOfWindows, LanesAreAlike, LanesKeep, LanesKeepFit};
+ghost use Rattle.slicer_bank.specs.Heard.{HearsAlone, LanesAreAlike, LanesKeep, LanesKeepFit};
 ghost use Rattle.slicer_bank.specs.Merging.{CanBePut};
 
 use crate::gate::Gate;
@@ -23,8 +23,31 @@ use tnc_base::OutOfMemory;
 /// One thread is started beside the caller's, so that four lanes run on each. More threads cost more than they give.
 const JOBS: usize = 2;
 
-/// Does what [`hear_block`](crate::hearing::hear_block) does, with the lanes on two threads. The gate is told as each lane
-/// starts.
+/// Gives the lanes, which have taken `position` samples with `recent` as the last seven, a block, and tells what they
+/// hear in it.
+pub(crate) fn hear_block(
+    alloc: Global,
+    lanes: &mut [Lane],
+    recent: &mut [i16; 7],
+    position: u64,
+    block: &[i16],
+) -> Result<Vec<Candidate>, OutOfMemory>
+    requires lanes { length lanes.old ≡ 8 }
+    requires room { position + length block.now < 2 ^ 48 }
+    ensures lanes { length lanes.new ≡ 8 }
+    ensures found { IfOk result (λ found. (x : List ℤ) → length x ≡ position
+        → recent.old ≡ last_seven x → LanesStandFor lanes.old x
+        → LanesStandFor lanes.new (x ++ block.now) × (recent.new ≡ last_seven (x ++ block.now))
+        × AreCandidatesBehind position (x ++ block.now) found.items) }
+    ensures bounds { IfOk result (λ found. All CanBePut found.items) }
+    ensures asks { OnOk result ((flags : ℕ) → All (AsksFor flags) lanes.old → All (AsksFor flags) lanes.new) }
+{
+    hear_in_turn(alloc, lanes, recent, position, block);
+    keep_last(recent, block);
+    gather(alloc, lanes)
+}
+
+/// Does what [`hear_block`] does, with the lanes on two threads. The gate is told as each lane starts.
 pub(crate) fn hear_block_threads<R: Threads + Sync, G: Gate>(
     rt: &R,
     alloc: Global,
@@ -44,13 +67,30 @@ pub(crate) fn hear_block_threads<R: Threads + Sync, G: Gate>(
     ensures bounds { IfOk result (λ found. All CanBePut found.items) }
     ensures asks { OnOk result ((flags : ℕ) → All (AsksFor flags) lanes.old → All (AsksFor flags) lanes.new) }
 {
-    hear_each(rt, alloc, lanes, recent, position, block, gate);
+    hear_on_threads(rt, alloc, lanes, recent, position, block, gate);
     keep_last(recent, block);
     gather(alloc, lanes)
 }
 
-/// Runs the job of each lane.
-fn hear_each<R: Threads + Sync, G: Gate>(
+/// Runs the job of each lane, one after another.
+fn hear_in_turn(alloc: Global, lanes: &mut [Lane], recent: &[i16; 7], position: u64, block: &[i16])
+    requires lanes { length lanes.old ≡ 8 }
+    requires room { position + length block.now < 2 ^ 48 }
+    ensures lanes { length lanes.new ≡ 8 }
+    ensures heard { (offset : ℕ) (d : _) → offset < 8
+        → HearsAlone offset position recent.now block.now (slice_index_or lanes.old offset d) (slice_index_or lanes.new offset d) }
+    ensures bounds { LanesKeepFit lanes.new }
+    ensures asks { (offset : ℕ) (d : _) → offset < 8
+        → flags_asked (slice_index_or lanes.new offset d).deframer ≡ flags_asked (slice_index_or lanes.old offset d).deframer }
+{
+    for offset in 0..8u8 {
+        let lane = &mut lanes[usize::from(offset)];
+        hear_alone(alloc, lane, offset, recent, position, block);
+    }
+}
+
+/// Runs the job of each lane, those of four lanes on a thread of their own.
+fn hear_on_threads<R: Threads + Sync, G: Gate>(
     rt: &R,
     alloc: Global,
     lanes: &mut [Lane],
@@ -62,11 +102,8 @@ fn hear_each<R: Threads + Sync, G: Gate>(
     requires lanes { length lanes.old ≡ 8 }
     requires room { position + length block.now < 2 ^ 48 }
     ensures lanes { length lanes.new ≡ 8 }
-    ensures heard { (offset : ℕ) (d : _) → offset < 8 → (x : List ℤ) (items : List Candidate)
-        → (slice_index_or lanes.new offset d).heard ≡ Some items → length x ≡ position
-        → recent.now ≡ last_seven x → LaneStandsFor (slice_index_or lanes.old offset d) (tones_at offset x)
-        → LaneStandsFor (slice_index_or lanes.new offset d) (tones_at offset (x ++ block.now))
-        × AreOfWindows offset (windows_in offset position) (windows_in offset (length (x ++ block.now))) (x ++ block.now) items }
+    ensures heard { (offset : ℕ) (d : _) → offset < 8
+        → HearsAlone offset position recent.now block.now (slice_index_or lanes.old offset d) (slice_index_or lanes.new offset d) }
     ensures bounds { LanesKeepFit lanes.new }
     ensures asks { (offset : ℕ) (d : _) → offset < 8
         → flags_asked (slice_index_or lanes.new offset d).deframer ≡ flags_asked (slice_index_or lanes.old offset d).deframer }
@@ -77,10 +114,7 @@ fn hear_each<R: Threads + Sync, G: Gate>(
         JOBS,
         &|index, lane: &mut Lane|
             requires { (index < 8) × (position + length block.now < 2 ^ 48) }
-            ensures heard { (x : List ℤ) (items : List Candidate) → lane.new.heard ≡ Some items → length x ≡ position
-                → recent.entry.now ≡ last_seven x → LaneStandsFor lane.old (tones_at index x)
-                → LaneStandsFor lane.new (tones_at index (x ++ block.entry.now))
-                × AreOfWindows index (windows_in index position) (windows_in index (length (x ++ block.entry.now))) (x ++ block.entry.now) items }
+            ensures heard { HearsAlone index position recent.entry.now block.entry.now lane.old lane.new }
             ensures bounds { (items : List Candidate) → lane.new.heard ≡ Some items → All CanBePut items }
             ensures asks { flags_asked lane.new.deframer ≡ flags_asked lane.old.deframer }
         {
@@ -95,7 +129,7 @@ fn hear_each<R: Threads + Sync, G: Gate>(
 fn gather(alloc: Global, lanes: &mut [Lane]) -> Result<Vec<Candidate>, OutOfMemory>
     requires lanes { length lanes.old ≡ 8 }
     ensures lanes { length lanes.new ≡ 8 }
-    ensures alike { LanesAreAlike lanes.new lanes.old }
+    ensures alike { OnOk result (LanesAreAlike lanes.new lanes.old) }
     ensures kept { OnOk result ((offset : ℕ) (d : _) → offset < 8 → (items : List Candidate) × ((slice_index_or lanes.old offset d).heard ≡ Some items)) }
     ensures found { IfOk result (λ found. (position : ℕ) (x : List ℤ) → LanesKeep position x lanes.old → AreCandidatesBehind position x found.items) }
     ensures bounds { IfOk result (λ found. LanesKeepFit lanes.old → All CanBePut found.items) }

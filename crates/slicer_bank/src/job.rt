@@ -6,7 +6,7 @@ ghost use Rattle.offset_slicers.specs.Windows.{windows_in, tones_at};
 ghost use Rattle.frame_merge.specs.declared.candidate.Candidate.{Candidate};
 ghost use Rattle.hdlc_framer.specs.Held.{flags_asked};
 ghost use Rattle.slicer_bank.specs.Held.{LaneStandsFor, last_seven};
-ghost use Rattle.slicer_bank.specs.Heard.{AreOfWindows, LaneHears};
+ghost use Rattle.slicer_bank.specs.Heard.{AreOfWindows, HearsAlone, LaneHears};
 ghost use Rattle.slicer_bank.specs.Merging.{CanBePut};
 
 use crate::hearing::{bridge, hear};
@@ -27,10 +27,7 @@ pub(crate) fn hear_alone(
 )
     requires lane { offset < 8 }
     requires room { position + length block.now < 2 ^ 48 }
-    ensures heard { (x : List ℤ) (items : List Candidate) → lane.new.heard ≡ Some items → length x ≡ position
-        → recent.now ≡ last_seven x → LaneStandsFor lane.old (tones_at offset x)
-        → LaneStandsFor lane.new (tones_at offset (x ++ block.now))
-        × AreOfWindows offset (windows_in offset position) (windows_in offset (length (x ++ block.now))) (x ++ block.now) items }
+    ensures heard { HearsAlone offset position recent.now block.now lane.old lane.new }
     ensures bounds { (items : List Candidate) → lane.new.heard ≡ Some items → All CanBePut items }
     ensures asks { flags_asked lane.new.deframer ≡ flags_asked lane.old.deframer }
 {

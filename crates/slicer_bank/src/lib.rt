@@ -17,7 +17,6 @@ mod job;
 mod lane;
 mod laws;
 mod merging;
-mod ordering;
 mod ring_bank;
 mod ring_lane;
 mod ring_lanes;

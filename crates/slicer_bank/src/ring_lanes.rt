@@ -10,7 +10,6 @@ ghost use Rattle.slicer_bank.specs.RingLanes.{answers_by, readers_of, LanesListe
 
 use crate::advance::Advance;
 use crate::gate::Gate;
-use crate::ordering::in_order;
 use crate::ring_lane::RingLane;
 use sample_ring::{Reader, Ring};
 use std::alloc::Global;
@@ -71,7 +70,8 @@ pub(crate) fn advance_each<R: Threads + Sync, G: Gate>(
     );
 }
 
-/// What the lanes found in a turn. If one of them wanted memory, so does this.
+/// What the lanes found in a turn, in order: each of them hears at ends of its own, so the ends alone say the order. If one
+/// of them wanted memory, so does this.
 pub(crate) fn gather(alloc: Global, lanes: &mut [RingLane]) -> Result<Advance, OutOfMemory>
     requires lanes { length lanes.old ≡ 8 }
     ensures lanes { length lanes.new ≡ 8 }
@@ -89,9 +89,10 @@ pub(crate) fn gather(alloc: Global, lanes: &mut [RingLane]) -> Result<Advance, O
         positions[index] = lane.reader.at();
         ended = ended && lane.ended;
     }
+    candidates.sort_unstable_by_key(|item| item.end);
     Ok(Advance {
         positions,
-        candidates: in_order(alloc, candidates)?,
+        candidates,
         gaps,
         ended,
     })

@@ -1,5 +1,8 @@
-use Rattle.slicer_bank.proofs.GatheringLemmas.{Gathered}
+use Rattle.std.proofs.Common.{◌≡◌, take}
+use Rattle.std.specs.List.{flat_map}
+use Rattle.slicer_bank.proofs.GatheringLemmas.{Visited}
+use Rattle.slicer_bank.proofs.BankGatheringLemmas.{GaveHeard, heard_by}
 use Rattle.slicer_bank.proofs.gathering.gather.Given as goal
 
 abbrev pub invariant-loop-index : goal.invariant-loop-index
-invariant-loop-index l = Gathered l.index l.initial.lanes l.lanes l.found.items
+invariant-loop-index l = Visited GaveHeard l.initial.lanes l.lanes l.index × (l.found.items ≡ flat_map heard_by (take l.index l.initial.lanes))

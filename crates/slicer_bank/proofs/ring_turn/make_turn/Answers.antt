@@ -1,10 +1,11 @@
-use Rattle.std.proofs.Common.{List, map, sym, subst}
-use Rattle.std.specs.List.{All}
+use Rattle.std.proofs.Common.{◌<◌, get_or, map}
+use Rattle.std.specs.List.{flat_map}
+use Rattle.std.proofs.lemmas.List.Sorted.{All-permutation}
 use Rattle.sample_ring.specs.Ends.{ring_id, ring_len, position_of}
 use Rattle.frame_merge.specs.declared.candidate.Candidate.{Candidate}
 use Rattle.slicer_bank.specs.Merging.{CanBePut}
-use Rattle.slicer_bank.specs.RingTurns.{ArePast}
 use Rattle.slicer_bank.specs.RingLanes.{readers_of}
+use Rattle.slicer_bank.proofs.RingGatheringLemmas.{found_by}
 use Rattle.slicer_bank.proofs.TurnLemmas.{are_grown, is_turn, lanes_listen, brings, stand_there, are_forward, can_be_put, are_past}
 use Rattle.slicer_bank.proofs.ring_turn.make_turn.Goals as goal
 
@@ -32,7 +33,7 @@ pub returns-clause-heard : goal.returns-clause-heard
 returns-clause-heard g c = λ flags h.
     let made = c.in_ok-advance.ensures.gathered in
     brings (ring_id c.args.ring.now) (ring_len c.args.ring.now) c.args.lanes.now c.advance_each.new.lanes c.gather.new.lanes c.requires.lanes c.advance_each.ensures.lanes c.gather.ensures.lanes c.requires.ready
-    c.advance_each.ensures.advanced c.gather.ensures.alike made.spent flags h c.in_ok-advance.advance.positions c.in_ok-advance.advance.candidates.items made.stand made.found
+    c.advance_each.ensures.advanced c.gather.ensures.alike made.spent flags h c.in_ok-advance.advance.positions c.in_ok-advance.advance.candidates.items made.stand made.found made.rising
 
 pub returns-clause-positions : goal.returns-clause-positions
 returns-clause-positions g c =
@@ -49,13 +50,13 @@ returns-clause-forward g c =
 pub returns-clause-bounds : goal.returns-clause-bounds
 returns-clause-bounds g c =
     let made = c.in_ok-advance.ensures.gathered in
-    subst (λ (items : List Candidate). All CanBePut items) (sym made.found)
+    All-permutation CanBePut (flat_map found_by c.advance_each.new.lanes) c.in_ok-advance.advance.candidates.items made.found
     (can_be_put (ring_id c.args.ring.now) (ring_len c.args.ring.now) c.args.lanes.now c.advance_each.new.lanes c.gather.new.lanes c.requires.lanes c.advance_each.ensures.lanes c.gather.ensures.lanes c.requires.ready
     c.advance_each.ensures.advanced c.gather.ensures.alike made.spent)
 
 pub returns-clause-past : goal.returns-clause-past
 returns-clause-past g c =
     let made = c.in_ok-advance.ensures.gathered in
-    subst (λ (items : List Candidate). ArePast (map position_of (readers_of c.args.lanes.now)) items) (sym made.found)
+    All-permutation (λ (item : Candidate). get_or (map position_of (readers_of c.args.lanes.now)) item.offset 0 < item.end) (flat_map found_by c.advance_each.new.lanes) c.in_ok-advance.advance.candidates.items made.found
     (are_past (ring_id c.args.ring.now) (ring_len c.args.ring.now) c.args.lanes.now c.advance_each.new.lanes c.gather.new.lanes c.requires.lanes c.advance_each.ensures.lanes c.gather.ensures.lanes c.requires.ready
     c.advance_each.ensures.advanced c.gather.ensures.alike made.spent)
