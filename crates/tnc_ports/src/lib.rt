@@ -59,3 +59,6 @@ pub use serve_words::ServeWords;
 pub use serving::{ServeEnd, serve};
 pub use spawner::Spawner;
 pub use untaken::Untaken;
+
+#[cfg(test)]
+mod tests;

@@ -203,3 +203,6 @@ fn end_of(end: LoopEnd, pump: PumpEnd) -> ServeEnd
         (LoopEnd::Done, PumpEnd::TooLong) => ServeEnd::TooLong,
     }
 }
+
+#[cfg(test)]
+mod tests;

@@ -1,0 +1,43 @@
+//! Sockets on loopback.
+
+use crate::tests::script::names;
+use crate::{Ports, RealPorts};
+use std::io::{Read, Write};
+use std::net::{Ipv4Addr, SocketAddr, TcpListener, TcpStream};
+use std::test::Fail;
+
+/// A port that nobody listens on.
+fn free_port(rt: &HostRuntime) -> Result<u16, Fail> {
+    let listener = TcpListener::bind(rt, SocketAddr::from((Ipv4Addr::LOCALHOST, 0)))?;
+    Ok(listener.local_addr()?.port())
+}
+
+/// The events of the first poll that gives some, of so many.
+fn polled(rt: &HostRuntime, ports: &mut RealPorts, paused: &[u32]) -> Result<String, Fail> {
+    for _ in 0..200 {
+        let events = ports.poll(rt, 10, paused)?;
+        if !events.is_empty() {
+            return Ok(names(rt.alloc(), &events)?);
+        }
+    }
+    Ok(String::new(rt.alloc()))
+}
+
+#[test]
+fn hosts_connect_on_loopback(rt: HostRuntime) -> Result<(), Fail> {
+    let mut ports = RealPorts::new(rt.alloc());
+    assert!(rt; ports.poll(&rt, 0, &[]).is_err());
+    let (kiss, agw) = (free_port(&rt)?, free_port(&rt)?);
+    ports.listen(&rt, kiss, agw)?;
+    let mut host = TcpStream::connect(&rt, SocketAddr::from((Ipv4Addr::LOCALHOST, agw)))?;
+    host.write_all(b"12345")?;
+    assert_eq!(rt; polled(&rt, &mut ports, &[1])?.as_str(), "J1 ");
+    assert_eq!(rt; polled(&rt, &mut ports, &[])?.as_str(), "B1 ");
+    assert_eq!(rt; ports.send(&rt, 1, b"67"), Ok(2));
+    let mut answer = [0; 2];
+    host.read_exact(&mut answer)?;
+    assert_eq!(rt; answer.as_slice(), b"67".as_slice());
+    ports.shut(1);
+    assert!(rt; ports.send(&rt, 1, b"8").is_err());
+    Ok(())
+}
