@@ -7,7 +7,7 @@ use Rattle.std.proofs.lemmas.Grind.{flat_map-append}
 use Rattle.std.proofs.lemmas.List.{append-nil, length-append}
 use Rattle.tnc_base.specs.Faults.{HasRisen, next_count}
 use Rattle.station.specs.declared.host_event.HostEvent.{HostEvent}
-use Rattle.tnc_ports.specs.AskedPorts.{Told, IsAsked, AreOffered, AreShut, send_of, taken_of, poll_wait}
+use Rattle.tnc_ports.specs.AskedPorts.{Told, AreUnasked, IsAsked, AreOffered, AreShut, send_of, taken_of, poll_wait}
 use Rattle.tnc_ports.specs.HostTurns.{Asked, Offer}
 use Rattle.tnc_ports.specs.Hosts.{is_among}
 use Rattle.tnc_ports.specs.Sockets.{Poll, Send, MayCome, has_come}
@@ -25,6 +25,22 @@ offered_nothing t = record {
   later = omega arith;
   failed = λ some. absurd (some refl);
 }
+
+-- nothing more was sent
+pub offered_still : (offers : List Offer) (failing : List ℕ) (t a b : Told) → AreOffered offers failing t a
+    → b.polls ≡ a.polls → b.sends ≡ a.sends → ((id : ℕ) → b.sent id ≡ a.sent id) → ((id : ℕ) → b.is_shut id ≡ a.is_shut id) → a.faults ≤ b.faults
+    → AreOffered offers failing t b
+offered_still offers failing t a b before polled sends sent shut later = record {
+  polled = polled ∙ before.polled;
+  sends = λ polls sofar p s. sends ∙ before.sends polls sofar p s;
+  sent = λ id octets s. sent id ∙ before.sent id octets s;
+  shut = λ id. shut id ∙ before.shut id;
+  later = let e = before.later in omega (arith, later);
+  failed = λ some. risen_later t.faults t.faults a.faults b.faults (omega arith) (before.failed some) later;
+}
+
+pub unasked : (t : Told) → AreUnasked t t
+unasked t = record { polled = refl; sends = refl; sent = λ id. refl; shut = λ id. refl; later = omega arith }
 
 map_snoc : {A B : Type 0} (f : A → B) (xs : List A) (x : A) → map f (xs ++ x ∷ []) ≡ map f xs ++ f x ∷ []
 map_snoc f [] x = refl

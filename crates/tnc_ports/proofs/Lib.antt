@@ -23,3 +23,10 @@ pub mod ResultLemmas
 pub mod SentLemmas
 pub mod RangeLemmas
 pub mod GivenLemmas
+pub mod KeptLemmas
+pub mod ServedLemmas
+pub mod StepLemmas
+pub mod LiveKept
+pub mod LiveAccounts
+pub mod LiveGaps
+pub mod LiveServed

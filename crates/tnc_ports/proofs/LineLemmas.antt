@@ -2,7 +2,7 @@
 use Rattle.std.specs.Prelude.{◌≡◌, ℕ, zero, suc, ◌+◌, ◌<◌, ◌≤◌, ◌==◌, ◌||◌, Bool, true, false, List, [], ◌∷◌, ◌++◌, length, take, cond, find, Option, Some, None, refl}
 use Rattle.std.specs.List.{list_any}
 use Rattle.std.proofs.Common.{sym, ◌∙◌, ap, arith, get_or, set}
-use Rattle.std.proofs.lemmas.Bool.{cond-true, cond-false, eq-eqb, ne_eqb, or_left, or_right}
+use Rattle.std.proofs.lemmas.Bool.{cond-true, cond-false, eqb-true, eq-eqb, ne_eqb, or_left, or_right}
 use Rattle.tnc_ports.specs.declared.line.Line.{Line}
 use Rattle.tnc_ports.specs.Hosts.{is_line_of, line_of, with_waiting}
 
@@ -41,6 +41,15 @@ names_step : (b : Bool) (line : Line) (waiting : List (List ℕ)) (other : ℕ) 
     → list_any (is_line_of other) (cond b (record line { waiting = waiting } ∷ lines) (line ∷ rest)) ≡ list_any (is_line_of other) (line ∷ lines)
 names_step true line waiting other lines rest same = refl
 names_step false line waiting other lines rest same = ap (λ b. (line.id == other) || b) same
+
+id_step : (b : Bool) (id : ℕ) (one line : Line) (rest : Option Line) → cond b (Some one) rest ≡ Some line → (b ≡ true → one.id ≡ id) → (rest ≡ Some line → line.id ≡ id) → line.id ≡ id
+id_step true id one line rest found here later = let same : one ≡ line = cc in ap (λ (l : Line). l.id) (sym same) ∙ here refl
+id_step false id one line rest found here later = later found
+
+-- whose line it is
+pub found_id : (id : ℕ) (lines : List Line) (line : Line) → line_of id lines ≡ Some line → line.id ≡ id
+found_id id [] line found = absurd (cc)
+found_id id (one ∷ lines) line found = id_step (one.id == id) id one line (line_of id lines) found (λ is. eqb-true one.id id is) (found_id id lines line)
 
 -- a line with other pieces is the same connection's
 pub waiting_names : (id other : ℕ) (waiting : List (List ℕ)) (lines : List Line) → list_any (is_line_of other) (with_waiting id waiting lines) ≡ list_any (is_line_of other) lines

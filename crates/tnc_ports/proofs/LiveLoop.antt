@@ -14,10 +14,12 @@ use Rattle.tnc_ports.specs.HostTurns.{Asked}
 use Rattle.tnc_ports.specs.ReportText.{output_octets, report_text}
 use Rattle.tnc_ports.specs.Sampled.{Live, new_live, HaveEnded, IsTurn, MakesAll}
 use Rattle.tnc_ports.specs.SampledHeld.{StandsForLive, Turns, IsCutOff, Runs, output_of, report_of, told_in}
-use Rattle.tnc_ports.specs.SampledRun.{Outside, AreTurns, IsRun, IsCutRun, IsCutTurn, PortsTell, PortsStay, AllIsWritten, PartIsWritten, IsWhole, IsCut, IsLooped}
+use Rattle.tnc_ports.specs.SampledRun.{Outside, AreTurns, IsRun, IsCutRun, IsCutTurn, IsCutInServing, PortsTell, PortsStay, AllIsWritten, PartIsWritten, IsWhole, IsCut, IsLooped}
 use Rattle.tnc_ports.specs.SampledWrites.{Stream, WritesMore}
 use Rattle.tnc_ports.proofs.LiveSteps.{turns_more}
-use Rattle.tnc_ports.proofs.LiveTold.{tells_nothing, tells_more}
+use Rattle.tnc_ports.proofs.LiveAccounts.{are_sent, are_shut, accounted_cut}
+use Rattle.tnc_ports.proofs.LiveServed.{IsAccountedFor, IsServed, served_run, served_cut, all_told}
+use Rattle.tnc_ports.proofs.LiveTold.{tells_nothing, tells_more, tells_still}
 use Rattle.tnc_ports.proofs.LiveWrites.{no_write, writes_more}
 
 stay_stay : (x y z : Outside) → PortsStay x y → z.listens ≡ y.listens → y.port_faults ≤ z.port_faults → PortsStay x z
@@ -50,7 +52,7 @@ runs_more words a b len old bank start x y h t same listens later = record {
   stands = t.goes_on refl;
   words_kept = same ∙ h.words_kept;
   writes = writes_more false a.failed b.failed (new_live words) h.live t.next (output_of start) (output_of x) (output_of y) (report_of start) (report_of x) (report_of y) h.writes t.writes;
-  told = subst (λ xs. PortsTell xs start y) (sym t.asks) (tells_more h.live.asked t.asked start x y h.told t.tells);
+  told = subst (λ xs. PortsTell xs start y) (sym t.asks) (tells_more h.live.asked t.asked start x y h.stay.faults later h.told t.tells);
   stay = stay_stay start x y h.stay listens later;
 }
 
@@ -89,21 +91,27 @@ whole : (words : ServeWords) (a b : Turning) (len : ℕ) (old bank : HeldRingBan
     → (t : Turns true a b len bank h.live (output_of x) (output_of y) (report_of x) (report_of y) (told_in x) (told_in y))
     → y.listens ≡ x.listens → x.port_faults ≤ y.port_faults
     → IsWhole words (answers_in len bank) t.next start y × WritesMore false b.failed (new_live words) t.next (output_of start) (output_of y) (report_of start) (report_of y)
-whole words a b len old bank start x y h t listens later = (
-  record {
-    run = record {
+whole words a b len old bank start x y h t listens later =
+    let run : IsRun words t.next = record {
       count = h.count;
       last = h.live;
       turns = h.turns;
       over = subst (λ w. IsTurn w true h.live t.next) h.words_kept t.turn;
       ended = t.over refl;
-    };
-    lanes = sym t.lanes;
-    told = subst (λ xs. PortsTell xs start y) (sym t.asks) (tells_more h.live.asked t.asked start x y h.told t.tells);
-    stay = stay_stay start x y h.stay listens later;
-  },
-  writes_more false a.failed b.failed (new_live words) h.live t.next (output_of start) (output_of x) (output_of y) (report_of start) (report_of x) (report_of y) h.writes t.writes,
-)
+    } in
+    let served = served_run words t.next run in (
+      record {
+        run = run;
+        lanes = sym t.lanes;
+        told = subst (λ xs. PortsTell xs start y) (sym t.asks) (tells_more h.live.asked t.asked start x y h.stay.faults later h.told t.tells);
+        stay = stay_stay start x y h.stay listens later;
+        sends = are_sent t.next.asked t.next.hosts served.accounted;
+        shuts = are_shut t.next.asked t.next.hosts served.accounted;
+        all_shut = all_told words t.next run;
+        gaps = served.gaps;
+      },
+      writes_more false a.failed b.failed (new_live words) h.live t.next (output_of start) (output_of x) (output_of y) (report_of start) (report_of x) (report_of y) h.writes t.writes,
+    )
 
 pub loop_done : (words : ServeWords) (a b : Turning) (len : ℕ) (old bank : HeldRingBank) (start x y : Outside)
     → (h : Runs words a len old start x)
@@ -130,33 +138,48 @@ pub loop_memory : (words : ServeWords) (a b : Turning) (len : ℕ) (old bank : H
     → IsCutOff a b len bank h.live (output_of x) (output_of y) (report_of x) (report_of y) (told_in x) (told_in y)
     → y.listens ≡ x.listens → x.port_faults ≤ y.port_faults → IsLooped words Memory (answers_in len bank) start y
 loop_memory words a b len old bank start x y h t listens later =
-    let all = writes_more false a.failed b.failed (new_live words) h.live t.next (output_of start) (output_of x) (output_of y) (report_of start) (report_of x) (report_of y) h.writes t.writes in (
+    let all = writes_more false a.failed b.failed (new_live words) h.live t.next (output_of start) (output_of x) (output_of y) (report_of start) (report_of x) (report_of y) h.writes t.writes in
+    let run : IsCutRun words t.next = record {
+      count = h.count;
+      last = h.live;
+      turns = h.turns;
+      cut = subst (λ w. IsCutTurn w h.live t.next) h.words_kept t.cut;
+    } in
+    let served = served_cut words t.next run in (
       t.next,
-      record {
-        run = record {
-          count = h.count;
-          last = h.live;
-          turns = h.turns;
-          cut = subst (λ w. IsCutTurn w h.live t.next) h.words_kept t.cut;
-        };
-        lanes = sym t.lanes;
-        told = elim t.tells [
-          | inl m ↦ inl (m.0, subst (λ w. MakesAll w m.0 h.live t.next) h.words_kept m.1)
-          | inr e ↦ inr (subst (λ xs. PortsTell xs start y) (sym t.asks) (same_told h.live.asked start x y e h.told))
-        ];
-        stay = stay_stay start x y h.stay listens later;
-      },
+      elim t.tells [
+        | inl none ↦ record {
+          run = run;
+          lanes = sym t.lanes;
+          turns = t.next.asked;
+          reached = t.next.hosts;
+          asked = inl (refl, refl);
+          told = subst (λ xs. PortsTell xs start y) (sym t.asks) (tells_still h.live.asked start x y h.stay.faults h.told none);
+          stay = stay_stay start x y h.stay listens later;
+          sends = are_sent t.next.asked t.next.hosts served.0;
+          shuts = are_shut t.next.asked t.next.hosts served.0;
+          gaps = served.1;
+        }
+        | inr some ↦
+            let asked = some.0 in
+            let reached = some.1 in
+            let cut : IsCutInServing words h.live t.next asked reached = subst (λ w. IsCutInServing w h.live t.next asked reached) h.words_kept some.2 in
+            let all = accounted_cut t.next.asked asked t.next.hosts reached cut.part served.0 in
+            record {
+              run = run;
+              lanes = sym t.lanes;
+              turns = t.next.asked ++ asked ∷ [];
+              reached = reached;
+              asked = inr (asked, cut, refl);
+              told = subst (λ xs. PortsTell (xs ++ asked ∷ []) start y) (sym t.asks) (tells_more h.live.asked asked start x y h.stay.faults later h.told some.3);
+              stay = stay_stay start x y h.stay listens later;
+              sends = are_sent (t.next.asked ++ asked ∷ []) reached all;
+              shuts = are_shut (t.next.asked ++ asked ∷ []) reached all;
+              gaps = served.1;
+            }
+      ],
       either b.failed t.next start y (written b.failed words t.next start y all),
     )
-  where
-    same_told : (turns : List Asked) (s u v : Outside) → told_in v ≡ told_in u → PortsTell turns s u → PortsTell turns s v
-    same_told turns s u v e p = record {
-      polls = λ was q. ap (λ (w : Told). w.polls) e ∙ p.polls was q;
-      sends = λ was q sends r. ap (λ (w : Told). w.sends) e ∙ p.sends was q sends r;
-      sent_to = λ id was q. ap (λ (w : Told). w.sent id) e ∙ p.sent_to id was q;
-      shut = λ id was told q r b. ap (λ (w : Told). w.is_shut id) e ∙ p.shut id was told q r b;
-      not_shut = λ id none. ap (λ (w : Told). w.is_shut id) e ∙ p.not_shut id none;
-    }
 
 -- ---- whether a turn was the last
 

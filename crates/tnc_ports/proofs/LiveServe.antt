@@ -32,9 +32,11 @@ use Rattle.tnc_ports.specs.declared.turning.Turning.{Turning}
 use Rattle.tnc_ports.specs.HeldHosts.{StandsFor}
 use Rattle.tnc_ports.specs.Hosts.{new_hosts}
 use Rattle.tnc_ports.specs.SampledHeld.{AreMarkedWithin, StandsForLive}
-use Rattle.tnc_ports.specs.SampledRun.{Outside, IsCutInReading, IsLooped, AllIsWritten}
+use Rattle.tnc_ports.specs.SampledRun.{Outside, IsCutInReading, IsCutRun, IsLooped, AllIsWritten}
 use Rattle.tnc_ports.specs.ServeRun.{InputSide, ReadFaults, ring_cells, answers_of_record, LanesStandIn, end_of, OnlyListens, HasOpened, HasServed, IsServed}
 use Rattle.tnc_ports.specs.SampledPump.{IsClosed}
+use Rattle.tnc_ports.proofs.LiveAccounts.{are_sent, are_shut}
+use Rattle.tnc_ports.proofs.LiveServed.{served_cut}
 use Rattle.tnc_ports.proofs.LiveTold.{tells_nothing}
 
 pub read_faults : (end : PumpEnd) (before after : InputSide) → (end ≡ ReadFault → HasRisen before.faults after.faults) → (end ≢ ReadFault → after.faults ≡ before.faults) → ReadFaults end before after
@@ -71,6 +73,8 @@ nothing_looped words lanes start same =
       more = λ lane lt. ([], sym (append-nil (lane_of (replicate 8 []) lane)));
       is = refl;
     } in
+    let run : IsCutRun words (new_live words) = record { count = 0; last = new_live words; turns = refl; cut = inl cut } in
+    let served = served_cut words (new_live words) run in
     let all : AllIsWritten (new_live words) start start = record {
       output = λ was e. e ∙ ap Some (sym (append-nil was));
       report = λ was e. e ∙ ap Some (sym (append-nil was));
@@ -79,10 +83,16 @@ nothing_looped words lanes start same =
     } in (
       new_live words,
       record {
-        run = record { count = 0; last = new_live words; turns = refl; cut = inl cut };
+        run = run;
         lanes = sym same;
-        told = inr (tells_nothing start);
+        turns = [];
+        reached = (new_live words).hosts;
+        asked = inl (refl, refl);
+        told = tells_nothing start;
         stay = record { listens = refl; faults = omega arith };
+        sends = are_sent [] (new_live words).hosts served.0;
+        shuts = are_shut [] (new_live words).hosts served.0;
+        gaps = served.1;
       },
       inl all,
     )

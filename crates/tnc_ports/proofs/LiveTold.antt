@@ -1,16 +1,19 @@
 -- What the ports tell turn by turn, they tell of all turns.
-use Rattle.std.specs.Prelude.{Bool, true, false, Option, Some, ◌||◌}
-use Rattle.std.proofs.Common.{◌≡◌, ◌⊎◌, inl, inr, ℕ, suc, ◌+◌, ◌≤◌, rules, List, [], ◌∷◌, ◌++◌, length, map, refl, sym, ap, subst, ◌∙◌, arith, append_assoc, length-append}
+use Rattle.std.specs.Prelude.{Bool, true, false, Option, Some, ◌||◌, ◌≢◌, All}
+use Rattle.std.proofs.Common.{◌≡◌, ◌⊎◌, inl, inr, ℕ, zero, suc, ◌+◌, ◌≤◌, rules, List, [], ◌∷◌, ◌++◌, length, map, refl, sym, ap, subst, ◌∙◌, arith, append_assoc, length-append}
 use Rattle.std.specs.List.{list_any, flat_map}
 use Rattle.std.proofs.lemmas.List.{append-nil, map-append}
 use Rattle.std.proofs.lemmas.Bool.{false≢true}
+use Rattle.std.proofs.lemmas.List.Elements.{All-append}
 use Rattle.std.proofs.lemmas.Grind.{flat_map-append}
-use Rattle.tnc_ports.specs.AskedPorts.{poll_of, send_of, taken_of, Told, IsAsked}
+use Rattle.tnc_ports.specs.AskedPorts.{poll_of, send_of, taken_of, Told, AreUnasked, IsAsked}
 use Rattle.tnc_ports.specs.Hosts.{is_among}
 use Rattle.tnc_ports.specs.HostTurns.{Asked}
 use Rattle.tnc_ports.specs.SampledHeld.{told_in}
-use Rattle.tnc_ports.specs.SampledRun.{Outside, GrowsBy, sends_from, octets_to, IsShutHavingCome, PortsTell}
-use Rattle.tnc_ports.specs.Sockets.{Poll, Send, has_come, is_joining_of}
+use Rattle.tnc_ports.specs.SampledRun.{Outside, GrowsBy, sends_from, PortsTell}
+use Rattle.tnc_ports.specs.ServedHosts.{octets_to, IsShutHavingCome}
+use Rattle.tnc_ports.specs.Sockets.{Poll, Send, MayCome, has_come, is_joining_of}
+use Rattle.tnc_ports.proofs.AskedLemmas.{risen_later}
 
 sends-more : (n : ℕ) (turns : List Asked) (asked : Asked) → sends_from n (turns ++ asked ∷ []) ≡ sends_from n turns ++ map (send_of (n + length turns)) asked.offers
 sends-more n [] asked =
@@ -77,11 +80,39 @@ tells_nothing x = record {
   sent_to = λ id was e. e ∙ ap Some (sym (append-nil was));
   shut = λ id was told e h b. absurd h;
   not_shut = λ id none. refl;
+  may_come = λ k d lt. absurd (omega (arith, lt));
+  failed = λ some. absurd (some refl);
 }
 
-pub tells_more : (turns : List Asked) (asked : Asked) (x y z : Outside) → PortsTell turns x y → IsAsked asked (told_in y) (told_in z) → PortsTell (turns ++ asked ∷ []) x z
-unfolding shut_in
-tells_more turns asked x y z h g = record {
+-- nothing more was told
+pub tells_still : (turns : List Asked) (x y z : Outside) → x.port_faults ≤ y.port_faults → PortsTell turns x y → AreUnasked (told_in y) (told_in z) → PortsTell turns x z
+tells_still turns x y z sofar h g = record {
+  polls = λ was e. g.polled ∙ h.polls was e;
+  sends = λ was e sends es. g.sends ∙ h.sends was e sends es;
+  sent_to = λ id was e. g.sent id ∙ h.sent_to id was e;
+  shut = λ id was told e s b. g.shut id ∙ h.shut id was told e s b;
+  not_shut = λ id none. g.shut id ∙ h.not_shut id none;
+  may_come = h.may_come;
+  failed = λ some. risen_later x.port_faults x.port_faults y.port_faults z.port_faults (omega arith) (h.failed some) g.later;
+}
+
+all_failed : List Asked → List ℕ
+all_failed turns = flat_map (λ (asked : Asked). asked.failed) turns
+
+failed_more : (turns : List Asked) (asked : Asked) → all_failed (turns ++ asked ∷ []) ≡ all_failed turns ++ asked.failed
+unfolding all_failed
+failed_more turns asked =
+    flat_map-append (λ (one : Asked). one.failed) turns (asked ∷ []) ∙ ap (λ ids. flat_map (λ (one : Asked). one.failed) turns ++ ids) (append-nil asked.failed)
+
+-- some failed before the last turn, or in it
+some_failed : (before last all : List ℕ) → all ≡ before ++ last → all ≢ [] → (before ≢ []) ⊎ (last ≢ [])
+some_failed [] last all is some = inr (λ none. some (is ∙ none))
+some_failed (id ∷ before) last all is some = inl (λ none. cc none)
+
+pub tells_more : (turns : List Asked) (asked : Asked) (x y z : Outside) → x.port_faults ≤ y.port_faults → y.port_faults ≤ z.port_faults
+    → PortsTell turns x y → IsAsked asked (told_in y) (told_in z) → PortsTell (turns ++ asked ∷ []) x z
+unfolding shut_in all_failed
+tells_more turns asked x y z sofar later h g = record {
   polls = λ was e.
       g.polled (was ++ map poll_of turns) (h.polls was e)
       ∙ ap Some (append_assoc was (map poll_of turns) (poll_of asked ∷ []) ∙ ap (λ p. was ++ p) (sym (map-append poll_of turns (asked ∷ []))));
@@ -109,12 +140,21 @@ tells_more turns asked x y z h g = record {
       ap (λ xs. is_among id (shut_in turns ++ xs)) (sym (append-nil asked.shut)) ∙ ap (is_among id) (sym (flat_map-append (λ (a : Asked). a.shut) turns (asked ∷ []))) ∙ none in
       let both = or_false (is_among id (shut_in turns)) (is_among id asked.shut) (sym (among-append id (shut_in turns) asked.shut) ∙ parted) in
       g.others id both.1 ∙ h.not_shut id both.0;
+  may_come = All-append (λ (one : Asked). All (MayCome one.paused) one.events) turns (asked ∷ []) h.may_come (only asked g.may_come);
+  failed = λ some. elim (some_failed (all_failed turns) asked.failed (all_failed (turns ++ asked ∷ [])) (failed_more turns asked) some) [
+    | inl before ↦ risen_later x.port_faults x.port_faults y.port_faults z.port_faults (omega arith) (h.failed before) later
+    | inr now ↦ risen_later x.port_faults y.port_faults z.port_faults z.port_faults sofar (g.failed now) (omega arith)
+  ];
 }
   where
     stays_shut : (id : ℕ) (among : Bool) → y.is_shut id ≡ Some true → (is_among id asked.shut ≡ true → z.is_shut id ≡ Some true)
         → (is_among id asked.shut ≡ false → z.is_shut id ≡ Some true) → is_among id asked.shut ≡ among → z.is_shut id ≡ Some true
     stays_shut id true was now later e = now e
     stays_shut id false was now later e = later e
+
+    only : (one : Asked) → All (MayCome one.paused) one.events → All (λ (each : Asked). All (MayCome each.paused) each.events) (one ∷ [])
+    only one p zero d lt = p
+    only one p (suc k) d lt = absurd (omega (arith, lt))
 
     length_map_polls : (xs : List Asked) → length (map poll_of xs) ≡ length xs
     length_map_polls [] = refl

@@ -8,13 +8,16 @@ use Rattle.slicer_bank.specs.HeardOnRing.{IsBusyOnRing, least_position}
 use Rattle.slicer_bank.specs.RingLanes.{HeldRingBank, answers_in, positions_in, Listens}
 use Rattle.slicer_bank.specs.RingMerging.{HasMerged}
 use Rattle.tnc_ports.specs.declared.turning.Turning.{Turning}
-use Rattle.tnc_ports.specs.AskedPorts.{Told}
+use Rattle.tnc_ports.specs.declared.serve_words.ServeWords.{ServeWords}
+use Rattle.tnc_ports.specs.AskedPorts.{Told, AreUnasked, IsAsked}
+use Rattle.tnc_ports.specs.CutPart.{HasCutPart}
 use Rattle.tnc_ports.specs.Hosts.{Hosts}
 use Rattle.tnc_ports.specs.HostTurns.{Asked}
 use Rattle.tnc_ports.specs.Sampled.{Live, HaveEnded, with_hosts, AreDue, AreHeard, AreTicked, HearsAll, MakesTicks, MakesAll, ServesHosts, IsTurn}
 use Rattle.tnc_ports.specs.SampledHeld.{Keeps, AreMarkedWithin, StandsForLive, HearsFrames, HearsSome, Ticks, TicksAll, ServesAll, Reads, Turns, IsCutOff}
-use Rattle.tnc_ports.specs.SampledRun.{IsCutTurn, IsCutInReading, IsCutInHearing, IsCutInTicking}
+use Rattle.tnc_ports.specs.SampledRun.{IsCutTurn, IsCutInReading, IsCutInHearing, IsCutInTicking, IsCutInServing}
 use Rattle.tnc_ports.specs.SampledWrites.{Stream, WritesMore}
+use Rattle.tnc_ports.proofs.AskedLemmas.{unasked}
 use Rattle.tnc_ports.proofs.LiveSteps.{IsTickedTo, ticked_to}
 use Rattle.tnc_ports.proofs.LiveWrites.{writes_more, writes_report, no_write}
 
@@ -152,7 +155,7 @@ cut_reading before a len bank live o r0 r1 told cut failed same = record {
   lanes = refl;
   writes = writes_nothing before.failed a.failed live (record live { lanes = answers_in len bank }) o o r0 r1 failed refl same refl refl;
   asks = refl;
-  tells = inr refl;
+  tells = inl (unasked told);
 }
 
 pub cut_hearing : (ended : Bool) (least : ℕ) (items : List Candidate) (before a b : Turning) (len : ℕ) (bank : HeldRingBank) (live : Live) (o r0 r1 r2 : Stream) (told : Told)
@@ -181,7 +184,7 @@ cut_hearing ended least items before a b len bank live o r0 r1 r2 told reads hea
           (writes_report before.failed a.failed live reads.read o r0 r1 (ap (λ (l : Live). l.sent) reads.reads.is) reads.writes)
           (writes_report a.failed b.failed reads.read next o r1 r2 refl h.writes);
       asks = ap (λ (l : Live). l.asked) reads.reads.is;
-      tells = inr refl;
+      tells = inl (unasked told);
     }
 
 pub cut_ticking : (ended busy : Bool) (least : ℕ) (items : List Candidate) (before a b c : Turning) (len : ℕ) (old bank : HeldRingBank) (live : Live) (o o' r0 r1 r2 r3 : Stream) (told : Told)
@@ -214,8 +217,13 @@ cut_ticking ended busy least items before a b c len old bank live o o' r0 r1 r2 
       writes = writes_more before.failed b.failed c.failed live heard t.2.next o o o' r0 r2 r3
           (heard_writes ended least items before a b len bank live o r0 r1 r2 reads h) t.2.writes;
       asks = to.asked ∙ ap (λ (l : Live). l.asked) reads.reads.is;
-      tells = inr refl;
+      tells = inl (unasked told);
     }
+
+in_serving : (words : ServeWords) (ended : Bool) (before made : Live) (told told' : Told) → MakesAll words ended before made → HasCutPart made.hosts told told'
+    → AreUnasked told told' ⊎ ((asked : Asked) × (reached : Hosts) × IsCutInServing words before made asked reached × IsAsked asked told told')
+in_serving words ended before made told told' makes (inl none) = inl none
+in_serving words ended before made told told' makes (inr some) = inr (some.0, some.1, record { ended = ended; makes = makes; part = some.2 }, some.3)
 
 pub cut_serving : (ended busy : Bool) (least : ℕ) (items : List Candidate) (before a b c d : Turning) (len : ℕ) (old bank : HeldRingBank) (live : Live) (o o' r0 r1 r2 r3 r4 : Stream) (told told' : Told)
     → StandsForLive before len old live
@@ -225,9 +233,9 @@ pub cut_serving : (ended busy : Bool) (least : ℕ) (items : List Candidate) (be
     → ((n : ℕ) → Listens n bank → IsTrue busy ↔ IsBusyOnRing bank.flags (answers_in n bank))
     → bank.flags ≡ before.words.dcd
     → a.words ≡ before.words → b.words ≡ a.words → a.ticks ≡ before.ticks → b.ticks ≡ a.ticks
-    → d.failed ≡ c.failed → r4 ≡ r3
+    → d.failed ≡ c.failed → r4 ≡ r3 → ((hosts : Hosts) → Keeps c.hosts hosts → HasCutPart hosts told told')
     → IsCutOff before d len bank live o o' r0 r4 told told'
-cut_serving ended busy least items before a b c d len old bank live o o' r0 r1 r2 r3 r4 told told' stands reads hear tick carrier flags wa wb ta tb failed same =
+cut_serving ended busy least items before a b c d len old bank live o o' r0 r1 r2 r3 r4 told told' stands reads hear tick carrier flags wa wb ta tb failed same cut =
     let h = hear reads.read.hosts reads.keeps in
     let heard : Live = with_hosts h.next reads.read in
     let at : reads.read.ticks ≡ live.ticks = read_ticks ended least items before a len bank live r0 r1 reads in
@@ -247,5 +255,5 @@ cut_serving ended busy least items before a b c d len old bank live o o' r0 r1 r
           (heard_writes ended least items before a b len bank live o r0 r1 r2 reads h) t.writes)
           (writes_nothing c.failed d.failed t.next t.next o' o' r3 r4 failed refl same refl refl);
       asks = to.asked ∙ ap (λ (l : Live). l.asked) reads.reads.is;
-      tells = inl (ended, makes);
+      tells = in_serving before.words ended live t.next told told' makes (cut t.next.hosts t.keeps);
     }

@@ -8,17 +8,15 @@ use Rattle.std.proofs.lemmas.List.{append-nil, take-append-drop}
 use Rattle.std.proofs.lemmas.List.Folds.{list_any-append}
 use Rattle.station.specs.declared.config.Config.{Config}
 use Rattle.station.specs.declared.host_event.HostEvent.{HostEvent}
-use Rattle.station.specs.declared.host_event.HostEvent.TheVariants.{Joined, Bytes, Left}
-use Rattle.station.specs.declared.host_event.PortKind.{PortKind}
 use Rattle.station.specs.declared.host_out.Piece.{Piece}
-use Rattle.station.specs.Turn.{Turn, Out}
+use Rattle.station.specs.Turn.{Turn}
 use Rattle.tnc_ports.specs.declared.line.Line.{Line}
-use Rattle.tnc_ports.specs.declared.untaken.Untaken.{Untaken}
-use Rattle.tnc_ports.specs.AskedPorts.{taken_of}
-use Rattle.tnc_ports.specs.Hosts.{Hosts, new_hosts, without, closing, cutting, waiting_too, with_waiting, fits, appending, appending_to, closing_all, delivering, line_of, is_line_of, is_among, is_there, was_there, IsDelivered, HaveLeft, FirstHasLeft, AllHaveLeft, IsStep}
-use Rattle.tnc_ports.specs.HostTurns.{Asked, Offer, Offering, InOrder, IsTried, AreTried, AreTaken, HasJoined, HasLeft, IsTaken, IsOffered, IsOfferedTo, Takes, Fails, IsHostPart, joining, holding, ids_of_lines}
+use Rattle.tnc_ports.specs.Hosts.{Hosts, new_hosts, waiting_too, with_waiting, line_of, is_among, was_there, IsStep}
+use Rattle.tnc_ports.specs.HostTurns.{Asked, IsHostPart, joining}
 use Rattle.tnc_ports.specs.SentSoFar.{octets_for, IsLeft, IsSentOf, AreSentInOrder, IsOrderly}
 use Rattle.tnc_ports.specs.Waiting.{octets_of, with_piece, front_of, after_sending, behind}
+use Rattle.tnc_ports.proofs.KeptLemmas.{IsKeptByStep, IsKeptByTaking, IsKeptByPart, sending, kept_step, kept_part}
+use Rattle.tnc_ports.proofs.LineLemmas.{found_id}
 
 -- ---- the line of a connection
 
@@ -32,16 +30,7 @@ none_or_some line same = let P : Option Line → Type 0 = λ o. is_none_of o in 
 some_same : (a b : Line) → Some a ≡ Some b → a ≡ b
 some_same a b same = cc
 
-found_id : (id : ℕ) (lines : List Line) (line : Line) → line_of id lines ≡ Some line → line.id ≡ id
-found_id id [] line found = absurd (none_or_some line found)
-found_id id (one ∷ lines) line found = elim (cases_Bool (one.id == id)) [
-  | inl is ↦
-      let same : Some one ≡ Some line = sym (cond-true (one.id == id) (Some one) (line_of id lines) is) ∙ found in
-      sym (ap (λ (l : Line). l.id) (some_same one line same)) ∙ eqb-true one.id id is
-  | inr isnt ↦ found_id id lines line (sym (cond-false (one.id == id) (Some one) (line_of id lines) isnt) ∙ found)
-]
-
-no_line_without : (id : ℕ) (lines : List Line) → line_of id (filter (λ line. not (line.id == id)) lines) ≡ None
+pub no_line_without : (id : ℕ) (lines : List Line) → line_of id (filter (λ line. not (line.id == id)) lines) ≡ None
 no_line_without id [] = refl
 no_line_without id (line ∷ lines) = elim (cases_Bool (line.id == id)) [
   | inl is ↦ ap (λ b. line_of id (cond (not b) (line ∷ filter (λ one. not (one.id == id)) lines) (filter (λ one. not (one.id == id)) lines))) is ∙ no_line_without id lines
@@ -50,7 +39,7 @@ no_line_without id (line ∷ lines) = elim (cases_Bool (line.id == id)) [
       ∙ cond-false (line.id == id) (Some line) (line_of id (filter (λ one. not (one.id == id)) lines)) isnt ∙ no_line_without id lines
 ]
 
-other_line_without : (id other : ℕ) (lines : List Line) → (other ≡ id → ⊥) → line_of other (filter (λ line. not (line.id == id)) lines) ≡ line_of other lines
+pub other_line_without : (id other : ℕ) (lines : List Line) → (other ≡ id → ⊥) → line_of other (filter (λ line. not (line.id == id)) lines) ≡ line_of other lines
 other_line_without id other [] differs = refl
 other_line_without id other (line ∷ lines) differs = elim (cases_Bool (line.id == id)) [
   | inl is ↦
@@ -62,7 +51,7 @@ other_line_without id other (line ∷ lines) differs = elim (cases_Bool (line.id
       ∙ ap (λ rest. cond (line.id == other) (Some line) rest) (other_line_without id other lines differs)
 ]
 
-waiting_line : (id : ℕ) (waiting : List (List ℕ)) (lines : List Line) (line : Line) → line_of id lines ≡ Some line → line_of id (with_waiting id waiting lines) ≡ Some (record line { waiting = waiting })
+pub waiting_line : (id : ℕ) (waiting : List (List ℕ)) (lines : List Line) (line : Line) → line_of id lines ≡ Some line → line_of id (with_waiting id waiting lines) ≡ Some (record line { waiting = waiting })
 waiting_line id waiting [] line found = absurd (none_or_some line found)
 waiting_line id waiting (one ∷ lines) line found = elim (cases_Bool (one.id == id)) [
   | inl is ↦
@@ -75,7 +64,7 @@ waiting_line id waiting (one ∷ lines) line found = elim (cases_Bool (one.id ==
       ∙ waiting_line id waiting lines line (sym (cond-false (one.id == id) (Some one) (line_of id lines) isnt) ∙ found)
 ]
 
-other_waiting_line : (id other : ℕ) (waiting : List (List ℕ)) (lines : List Line) → (other ≡ id → ⊥) → line_of other (with_waiting id waiting lines) ≡ line_of other lines
+pub other_waiting_line : (id other : ℕ) (waiting : List (List ℕ)) (lines : List Line) → (other ≡ id → ⊥) → line_of other (with_waiting id waiting lines) ≡ line_of other lines
 other_waiting_line id other waiting [] differs = refl
 other_waiting_line id other waiting (one ∷ lines) differs = elim (cases_Bool (one.id == id)) [
   | inl is ↦
@@ -112,7 +101,7 @@ octets_of-append : (pieces : List (List ℕ)) (piece : List ℕ) → octets_of (
 octets_of-append [] piece = append-nil piece
 octets_of-append (one ∷ pieces) piece = ap (λ more. one ++ more) (octets_of-append pieces piece) ∙ sym (append_assoc one (octets_of pieces) piece)
 
-octets_of-with_piece : (piece : List ℕ) (pieces : List (List ℕ)) → octets_of (with_piece piece pieces) ≡ octets_of pieces ++ piece
+pub octets_of-with_piece : (piece : List ℕ) (pieces : List (List ℕ)) → octets_of (with_piece piece pieces) ≡ octets_of pieces ++ piece
 octets_of-with_piece [] pieces = sym (append-nil (octets_of pieces))
 octets_of-with_piece (octet ∷ octets) pieces = octets_of-append pieces (octet ∷ octets)
 
@@ -124,7 +113,7 @@ take_none : (count : ℕ) → take {A = ℕ} count [] ≡ []
 take_none zero = refl
 take_none (suc count) = refl
 
-octets_of-sent : (count : ℕ) (waiting : List (List ℕ)) → octets_of waiting ≡ take count (front_of waiting) ++ octets_of (after_sending count waiting)
+pub octets_of-sent : (count : ℕ) (waiting : List (List ℕ)) → octets_of waiting ≡ take count (front_of waiting) ++ octets_of (after_sending count waiting)
 octets_of-sent count [] = sym (ap (λ xs. xs ++ []) (take_none count))
 octets_of-sent count (piece ∷ pieces) =
     ap (λ p. p ++ octets_of pieces) (sym (take-append-drop count piece)) ∙ append_assoc (take count piece) (drop count piece) (octets_of pieces)
@@ -157,12 +146,12 @@ orderly_without id came lines appended sent o = record {
 }
 
 -- what waits for one connection changes, and so does what was appended for it and what it was sent
-changed : (id : ℕ) (line : Line) (waiting : List (List ℕ)) (more taken : Piece) (came : List ℕ) (lines : List Line) (appended sent next_appended next_sent : List Piece)
+changed : (id : ℕ) (line : Line) (waiting : List (List ℕ)) (came : List ℕ) (lines : List Line) (appended sent next_appended next_sent : List Piece)
     → line_of id lines ≡ Some line
     → ((other : ℕ) → (other ≡ id → ⊥) → (octets_for other next_appended ≡ octets_for other appended) × (octets_for other next_sent ≡ octets_for other sent))
     → ((rest : List ℕ) → octets_for id appended ≡ octets_for id sent ++ rest → rest ≡ octets_of line.waiting → octets_for id next_appended ≡ octets_for id next_sent ++ octets_of waiting)
     → AreSentInOrder came lines appended sent → AreSentInOrder came (with_waiting id waiting lines) next_appended next_sent
-changed id line waiting more taken came lines appended sent next_appended next_sent found others here o = record {
+changed id line waiting came lines appended sent next_appended next_sent found others here o = record {
   first = λ other. elim (cases_eq other id) [
     | inl same ↦
         let f = o.first id in
@@ -204,77 +193,13 @@ orderly_piece piece line hosts found o =
     let same : line.id ≡ id = found_id id hosts.lines line found in
     let waiting : List (List ℕ) = with_piece piece.octets line.waiting in
     subst (λ n. AreSentInOrder hosts.came (with_waiting n waiting hosts.lines) (hosts.appended ++ piece ∷ []) hosts.sent) (sym same)
-    (changed id line waiting piece piece hosts.came hosts.lines hosts.appended hosts.sent (hosts.appended ++ piece ∷ []) hosts.sent found
+    (changed id line waiting hosts.came hosts.lines hosts.appended hosts.sent (hosts.appended ++ piece ∷ []) hosts.sent found
     (λ other differs. (not_for id other piece refl differs hosts.appended, refl))
     (λ rest parts left.
     for_itself id piece refl hosts.appended ∙ ap (λ a. a ++ piece.octets) (parts ∙ ap (λ r. octets_for id hosts.sent ++ r) left)
     ∙ append_assoc (octets_for id hosts.sent) (octets_of line.waiting) piece.octets
     ∙ ap (λ more. octets_for id hosts.sent ++ more) (sym (octets_of-with_piece piece.octets line.waiting)))
     o)
-
-orderly_appending_to : (line : Option Line) (piece : Piece) (hosts : Hosts) → line_of piece.id hosts.lines ≡ line → IsOrderly hosts → IsOrderly (appending_to line piece hosts)
-orderly_appending_to None piece hosts found o = o
-orderly_appending_to (Some line) piece hosts found o = elim (cases_Bool (fits piece.octets line.waiting)) [
-  | inl is ↦ subst IsOrderly (sym (cond-true (fits piece.octets line.waiting) (waiting_too piece line hosts) (cutting line.id hosts) is)) (orderly_piece piece line hosts found o)
-  | inr isnt ↦
-      subst IsOrderly (sym (cond-false (fits piece.octets line.waiting) (waiting_too piece line hosts) (cutting line.id hosts) isnt))
-      (orderly_without line.id hosts.came hosts.lines hosts.appended hosts.sent o)
-]
-
-orderly_appending : (closed : List ℕ) (pieces : List Piece) (hosts : Hosts) → IsOrderly hosts → IsOrderly (appending closed pieces hosts)
-orderly_appending closed [] hosts o = o
-orderly_appending closed (piece ∷ pieces) hosts o =
-    orderly_appending closed pieces (if is_among piece.id closed then hosts else appending_to (line_of piece.id hosts.lines) piece hosts)
-    (elim (cases_Bool (is_among piece.id closed)) [
-      | inl is ↦ subst IsOrderly (sym (cond-true (is_among piece.id closed) hosts (appending_to (line_of piece.id hosts.lines) piece hosts) is)) o
-      | inr isnt ↦
-          subst IsOrderly (sym (cond-false (is_among piece.id closed) hosts (appending_to (line_of piece.id hosts.lines) piece hosts) isnt))
-          (orderly_appending_to (line_of piece.id hosts.lines) piece hosts refl o)
-    ])
-
-orderly_closing_all : (ids : List ℕ) (hosts : Hosts) → IsOrderly hosts → IsOrderly (closing_all ids hosts)
-orderly_closing_all [] hosts o = o
-orderly_closing_all (id ∷ ids) hosts o =
-    orderly_closing_all ids (if is_there id hosts then closing id hosts else without id hosts)
-    (elim (cases_Bool (is_there id hosts)) [
-      | inl is ↦ subst IsOrderly (sym (cond-true (is_there id hosts) (closing id hosts) (without id hosts) is)) (orderly_without id hosts.came hosts.lines hosts.appended hosts.sent o)
-      | inr isnt ↦ subst IsOrderly (sym (cond-false (is_there id hosts) (closing id hosts) (without id hosts) isnt)) (orderly_without id hosts.came hosts.lines hosts.appended hosts.sent o)
-    ])
-
-orderly_delivered : (step : Turn → Turn → Type 0) (before after : Hosts) → IsDelivered step before after → IsOrderly before → IsOrderly after
-orderly_delivered step before after d o =
-    subst IsOrderly (sym d.delivered)
-    (orderly_closing_all d.out.closed (appending d.out.closed d.out.pieces (record before { station = d.next })) (orderly_appending d.out.closed d.out.pieces (record before { station = d.next }) o))
-
-orderly_some_left : (count : ℕ) (before after : Hosts) → HaveLeft count before after → IsOrderly before → IsOrderly after
-orderly_some_left zero before after left o = subst IsOrderly (sym left) o
-orderly_some_left (suc count) before after left o =
-    let between : Hosts = left.0 in
-    let first = left.2 in
-    let so_far : IsOrderly between = orderly_some_left count before between left.1 o in
-    orderly_delivered _ (without first.id between) after first.told (orderly_without first.id between.came between.lines between.appended between.sent so_far)
-
-pub orderly_left : (before after : Hosts) → AllHaveLeft before after → IsOrderly before → IsOrderly after
-orderly_left before after left o = orderly_some_left left.count before after left.have_left o
-
-pub orderly_step : (step : Turn → Turn → Type 0) (before after : Hosts) → IsStep step before after → IsOrderly before → IsOrderly after
-orderly_step step before after s o = orderly_left s.between after s.leave (orderly_delivered step before s.between s.delivers o)
-
--- ---- what comes
-
-orderly_in_order : {A S : Type 0} (of : S → Hosts) (step : A → S → S → Type 0) → ((x : A) (before after : S) → step x before after → IsOrderly (of before) → IsOrderly (of after))
-    → (xs : List A) (before after : S) → InOrder step xs before after → IsOrderly (of before) → IsOrderly (of after)
-orderly_in_order of step keeps [] before after run o = subst (λ s. IsOrderly (of s)) (sym run) o
-orderly_in_order of step keeps (x ∷ xs) before after run o = orderly_in_order of step keeps xs run.0 after run.2 (keeps x before run.0 run.1 o)
-
-orderly_taken : (id : ℕ) (octets : List ℕ) (before after : Hosts) → AreTaken id octets before after → IsOrderly before → IsOrderly after
-orderly_taken id octets before after taken o = elim taken [
-  | inl over ↦ subst IsOrderly (sym over.1) o
-  | inr rest ↦ elim rest [
-    | inl waits ↦ subst IsOrderly (sym waits.2) o
-    | inr goes ↦ orderly_step _ before after goes.2 o
-  ]
-]
 
 abbrev is_empty : List ℕ → Type 0
 is_empty [] = Unit {0}
@@ -315,56 +240,46 @@ orderly_joining id hosts new o =
           (before.0, other_line_appended other hosts.lines line (or_parts (id == other) false parts.1).0 ∙ before.1);
     }
 
-orderly_event : (event : HostEvent) (before after : Hosts) → IsTaken event before after → IsOrderly before → IsOrderly after
-orderly_event (Joined id kind) before after taken o = elim taken [
-  | inl was ↦ subst IsOrderly (sym was.1) o
-  | inr new ↦ orderly_step _ (joining id before) after new.1 (orderly_joining id before new.0 o)
-]
-orderly_event (Bytes id octets) before after taken o = orderly_taken id octets before after taken o
-orderly_event (Left id) before after taken o = elim taken [
-  | inl nobody ↦ subst IsOrderly (sym nobody.1) o
-  | inr there ↦ orderly_step _ (without id before) after there.1 (orderly_without id before.came before.lines before.appended before.sent o)
-]
-
 -- ---- what is sent
 
-orderly_sent : (line : Line) (before after : Offering) → line_of line.id before.hosts.lines ≡ Some line → Takes line before after → IsOrderly before.hosts → IsOrderly after.hosts
-orderly_sent line before after found t o =
+orderly_sent : (line : Line) (count : ℕ) (hosts : Hosts) → line_of line.id hosts.lines ≡ Some line → IsOrderly hosts → IsOrderly (sending line count hosts)
+orderly_sent line count hosts found o =
     let id : ℕ = line.id in
-    let taken : Piece = record { id = id; octets = take t.took (front_of line.waiting) } in
-    let waiting : List (List ℕ) = after_sending t.took line.waiting in
-    let hosts : Hosts = before.hosts in
-    subst IsOrderly (sym t.rest)
-    (changed id line waiting taken taken hosts.came hosts.lines hosts.appended hosts.sent hosts.appended (hosts.sent ++ taken ∷ []) found
+    let taken : Piece = record { id = id; octets = take count (front_of line.waiting) } in
+    let waiting : List (List ℕ) = after_sending count line.waiting in
+    changed id line waiting hosts.came hosts.lines hosts.appended hosts.sent hosts.appended (hosts.sent ++ taken ∷ []) found
     (λ other differs. (refl, not_for id other taken refl differs hosts.sent))
     (λ rest parts left.
-    parts ∙ ap (λ r. octets_for id hosts.sent ++ r) (left ∙ octets_of-sent t.took line.waiting)
+    parts ∙ ap (λ r. octets_for id hosts.sent ++ r) (left ∙ octets_of-sent count line.waiting)
     ∙ sym (append_assoc (octets_for id hosts.sent) taken.octets (octets_of waiting)) ∙ ap (λ s. s ++ octets_of waiting) (sym (for_itself id taken refl hosts.sent)))
-    o)
+    o
 
-orderly_offered_to : (id : ℕ) (line : Option Line) (before after : Offering) → line_of id before.hosts.lines ≡ line → IsOfferedTo line before after → IsOrderly before.hosts → IsOrderly after.hosts
-orderly_offered_to id None before after found offered o = subst (λ (s : Offering). IsOrderly s.hosts) (sym offered) o
-orderly_offered_to id (Some line) before after found offered o =
-    let same : line.id ≡ id = found_id id before.hosts.lines line found in
-    elim offered [
-      | inl nothing ↦ subst (λ (s : Offering). IsOrderly s.hosts) (sym nothing.1) o
-      | inr rest ↦ elim rest [
-        | inl takes ↦ orderly_sent line before after (ap (λ n. line_of n before.hosts.lines) same ∙ found) takes.1 o
-        | inr fails ↦ orderly_left (cutting line.id before.hosts) after.hosts fails.1.leave (orderly_without line.id before.hosts.came before.hosts.lines before.hosts.appended before.hosts.sent o)
-      ]
-    ]
+-- ---- each step, and the part of a turn
 
-orderly_offered : (id : ℕ) (before after : Offering) → IsOffered id before after → IsOrderly before.hosts → IsOrderly after.hosts
-orderly_offered id before after offered o = orderly_offered_to id (line_of id before.hosts.lines) before after refl offered o
+pub orderly_by_step : IsKeptByStep IsOrderly
+orderly_by_step = record {
+  stepped = λ hosts station o. o;
+  left = λ id hosts o. orderly_without id hosts.came hosts.lines hosts.appended hosts.sent o;
+  shut = λ id hosts there o. orderly_without id hosts.came hosts.lines hosts.appended hosts.sent o;
+  leaving = λ ids hosts o. o;
+  piece = λ piece line hosts found fit o. orderly_piece piece line hosts found o;
+}
 
--- ---- the part of a turn
+pub orderly_by_part : (events : List HostEvent) → IsKeptByPart events IsOrderly
+orderly_by_part events = record {
+  taking = record {
+    steps = orderly_by_step;
+    untaken = λ untaken hosts o. o;
+    joined = λ id hosts joins new o. orderly_joining id hosts new o;
+  };
+  sent = λ line count hosts found o. orderly_sent line count hosts found o;
+}
+
+pub orderly_step : (step : Turn → Turn → Type 0) (before after : Hosts) → IsStep step before after → IsOrderly before → IsOrderly after
+orderly_step step before after s o = kept_step IsOrderly orderly_by_step step before after s o
 
 pub orderly_part : (asked : Asked) (before after : Hosts) → IsHostPart asked before after → IsOrderly before → IsOrderly after
-orderly_part asked before after p o =
-    let tried : IsOrderly p.tried = orderly_in_order (λ hosts. hosts) IsTried (λ one b a. orderly_taken one.id one.octets b a) before.untaken (record before { untaken = [] }) p.tried p.tries o in
-    let taken : IsOrderly p.taken = orderly_in_order (λ hosts. hosts) IsTaken orderly_event asked.events p.tried p.taken p.takes tried in
-    let offered : IsOrderly p.offered.hosts = orderly_in_order (λ (s : Offering). s.hosts) IsOffered orderly_offered (ids_of_lines p.taken.lines) (record { hosts = p.taken; offers = []; failed = [] }) p.offered p.offers taken in
-    subst IsOrderly (sym p.done) offered
+orderly_part asked before after p o = subst IsOrderly (sym p.done) (kept_part asked IsOrderly before after p (orderly_by_part asked.events) o)
 
 -- nobody came yet
 pub orderly_new : (config : Config) (seed : ℕ) → IsOrderly (new_hosts config seed)

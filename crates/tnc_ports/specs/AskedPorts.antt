@@ -38,6 +38,14 @@ told_by polls sends sent is_shut faults ports = record {
   faults = faults ports;
 }
 
+-- there was no poll and no send, and nobody was shut
+pub record AreUnasked (before after : Told) : Type 0 where
+  pub polled : after.polls ≡ before.polls
+  pub sends : after.sends ≡ before.sends
+  pub sent : (id : ℕ) → after.sent id ≡ before.sent id
+  pub shut : (id : ℕ) → after.is_shut id ≡ before.is_shut id
+  pub later : before.faults ≤ after.faults
+
 -- since a poll there were these sends, and these that failed
 pub record AreOffered (offers : List Offer) (failing : List ℕ) (before after : Told) : Type 0 where
   pub polled : after.polls ≡ before.polls

@@ -7,11 +7,15 @@ pub mod IdRanges
 pub mod Hosts
 pub mod HostTurns
 pub mod SentSoFar
+pub mod StepShuts
 pub mod AskedPorts
+pub mod CutPart
 pub mod HeldHosts
 pub mod ReportText
 pub mod SampledFrames
+pub mod ServedHosts
 pub mod Sampled
+pub mod ReportedGaps
 pub mod SampledRun
 pub mod SampledWrites
 pub mod SampledHeld

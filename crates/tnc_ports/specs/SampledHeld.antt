@@ -7,13 +7,13 @@ use Rattle.slicer_bank.specs.RingLanes.{HeldRingBank, answers_in, positions_in, 
 use Rattle.slicer_bank.specs.RingMerging.{HasMerged}
 use Rattle.tnc_ports.specs.declared.serve_words.ServeWords.{ServeWords}
 use Rattle.tnc_ports.specs.declared.turning.Turning.{Turning}
-use Rattle.tnc_ports.specs.AskedPorts.{Told, IsAsked}
+use Rattle.tnc_ports.specs.AskedPorts.{Told, AreUnasked, IsAsked}
 use Rattle.tnc_ports.specs.HeldHosts.{HeldHosts, StandsFor}
 use Rattle.tnc_ports.specs.Hosts.{Hosts}
 use Rattle.tnc_ports.specs.HostTurns.{Asked, IsHostPart}
-use Rattle.tnc_ports.specs.Sampled.{Live, new_live, HaveEnded, LanesReadOn, AreDue, AreHeard, IsTicked, AreTicked, IsTurn, MakesAll, tick_samples}
+use Rattle.tnc_ports.specs.Sampled.{Live, new_live, HaveEnded, LanesReadOn, AreDue, AreHeard, IsTicked, AreTicked, IsTurn, tick_samples}
 use Rattle.tnc_ports.specs.SampledFrames.{IsFrameHeard}
-use Rattle.tnc_ports.specs.SampledRun.{IsCutTurn, AreTurns, Outside, PortsTell, PortsStay}
+use Rattle.tnc_ports.specs.SampledRun.{IsCutTurn, IsCutInServing, AreTurns, Outside, PortsTell, PortsStay}
 use Rattle.tnc_ports.specs.SampledWrites.{Stream, Puts, ReportsMore, WritesMore}
 
 -- the hosts' side stands for the hosts, and all that it reported is put to the report
@@ -118,7 +118,8 @@ pub record IsCutOff (before after : Turning) (len : ℕ) (bank : HeldRingBank) (
   pub lanes : answers_in len bank ≡ next.lanes
   pub writes : WritesMore before.failed after.failed live next output output' report report'
   pub asks : next.asked ≡ live.asked
-  pub tells : ((ended : Bool) × MakesAll before.words ended live next) ⊎ (told' ≡ told)
+  pub tells : AreUnasked told told'
+      ⊎ ((asked : Asked) × (reached : Hosts) × IsCutInServing before.words live next asked reached × IsAsked asked told told')
 
 -- ---- all turns so far
 

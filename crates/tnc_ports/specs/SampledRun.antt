@@ -1,6 +1,6 @@
 -- A run of a live station: turns until every lane has met the end of the ring, or until memory is wanted; and what the
 -- outside then tells of it.
-use Rattle.std.specs.Prelude.{◌≡◌, ℕ, zero, suc, ◌+◌, ◌<◌, ◌≤◌, ◌⊎◌, Bool, true, false, List, [], ◌∷◌, ◌++◌, length, map, Option, Some, None}
+use Rattle.std.specs.Prelude.{◌≡◌, ◌≢◌, ℕ, zero, suc, ◌+◌, ◌<◌, ◌≤◌, ◌⊎◌, Bool, true, false, List, [], ◌∷◌, ◌++◌, All, length, map, Option, Some, None}
 use Rattle.std.specs.List.{flat_map}
 use Rattle.frame_merge.specs.declared.candidate.Candidate.{Candidate}
 use Rattle.sample_ring.specs.declared.got.Got.{Got}
@@ -11,12 +11,15 @@ use Rattle.tnc_ports.specs.declared.records.Listen.{Listen}
 use Rattle.tnc_ports.specs.declared.serve_words.ServeWords.{ServeWords}
 use Rattle.tnc_ports.specs.declared.looping.LoopEnd.{LoopEnd}
 use Rattle.tnc_ports.specs.declared.looping.LoopEnd.TheVariants.{Done, Memory, WriteFault}
-use Rattle.tnc_ports.specs.AskedPorts.{poll_of, send_of, taken_of}
+use Rattle.tnc_ports.specs.AskedPorts.{poll_of, send_of}
+use Rattle.tnc_ports.specs.CutPart.{IsCutPart}
 use Rattle.tnc_ports.specs.Hosts.{Hosts, is_among}
 use Rattle.tnc_ports.specs.HostTurns.{Asked}
+use Rattle.tnc_ports.specs.ReportedGaps.{AreAllGaps, AreFirstGaps}
 use Rattle.tnc_ports.specs.ReportText.{output_octets, report_text}
 use Rattle.tnc_ports.specs.Sampled.{Live, new_live, with_hosts, HaveEnded, LanesReadOn, AreDue, AreHeard, HearsAll, MakesTicks, MakesAll, IsTurn}
-use Rattle.tnc_ports.specs.Sockets.{Poll, Send, has_come}
+use Rattle.tnc_ports.specs.ServedHosts.{octets_to, ids_shut, IsShutHavingCome, AreSentInTurns, AreShutInTurns}
+use Rattle.tnc_ports.specs.Sockets.{Poll, Send, MayCome}
 
 -- ---- a whole run
 
@@ -114,19 +117,9 @@ abbrev pub sends_from : ℕ → List Asked → List Send
 sends_from poll [] = []
 sends_from poll (asked ∷ turns) = map (send_of poll) asked.offers ++ sends_from (poll + 1) turns
 
--- the octets that a connection took
-abbrev pub octets_to : ℕ → List Asked → List ℕ
-octets_to id turns = flat_map (λ asked. taken_of id asked.offers) turns
-
--- the first of the turns that shuts a connection finds that it had come, where these polls were made before
-abbrev pub IsShutHavingCome : ℕ → List Poll → List Asked → Type 0
-IsShutHavingCome id polls [] = ⊥
-IsShutHavingCome id polls (asked ∷ turns) =
-    ((is_among id asked.shut ≡ true) × (has_come id (polls ++ poll_of asked ∷ []) ≡ true))
-    ⊎ ((is_among id asked.shut ≡ false) × IsShutHavingCome id (polls ++ poll_of asked ∷ []) turns)
-
 -- The ports tell the polls, the sends and the octets that each connection took, turn by turn. A connection that a turn
--- shut is shut, and one that no turn shut is as it was.
+-- shut is shut, and one that no turn shut is as it was. What came are whole pieces, none of a connection that was paused.
+-- A send that failed is a fault of theirs.
 pub record PortsTell (turns : List Asked) (before after : Outside) : Type 0 where
   pub polls : GrowsBy (map poll_of turns) before.polls after.polls
   pub sends : (was : List Poll) → before.polls ≡ Some was
@@ -134,8 +127,9 @@ pub record PortsTell (turns : List Asked) (before after : Outside) : Type 0 wher
   pub sent_to : (id : ℕ) → GrowsBy (octets_to id turns) (before.sent_to id) (after.sent_to id)
   pub shut : (id : ℕ) (was : List Poll) (told : Bool) → before.polls ≡ Some was → IsShutHavingCome id was turns
       → before.is_shut id ≡ Some told → after.is_shut id ≡ Some true
-  pub not_shut : (id : ℕ) → is_among id (flat_map (λ asked. asked.shut) turns) ≡ false
-      → after.is_shut id ≡ before.is_shut id
+  pub not_shut : (id : ℕ) → is_among id (ids_shut turns) ≡ false → after.is_shut id ≡ before.is_shut id
+  pub may_come : All (λ asked. All (MayCome asked.paused) asked.events) turns
+  pub failed : flat_map (λ asked. asked.failed) turns ≢ [] → HasRisen before.port_faults after.port_faults
 
 -- the ports did not listen, and their count of faults did not fall
 pub record PortsStay (before after : Outside) : Type 0 where
@@ -157,19 +151,43 @@ pub record PartIsWritten (live : Live) (before after : Outside) : Type 0 where
 
 -- ---- the loop
 
--- a whole run, whose lanes were answered this
+-- A whole run, whose lanes were answered this. The pieces for each connection were appended in order, and what it was
+-- sent is a first part of them. The sockets are told of each connection that was shut, and the report names exactly these.
 pub record IsWhole (words : ServeWords) (answers : List (List Got)) (live : Live) (before after : Outside) : Type 0 where
   pub run : IsRun words live
   pub lanes : live.lanes ≡ answers
   pub told : PortsTell live.asked before after
   pub stay : PortsStay before after
+  pub sends : AreSentInTurns live.asked live.hosts
+  pub shuts : AreShutInTurns live.asked live.hosts
+  pub all_shut : live.hosts.to_shut ≡ []
+  pub gaps : AreAllGaps live
 
--- One that is cut short. It is not said what the ports tell where it is cut after its last ticks.
+-- A turn that has made its ticks is cut short when it serves its hosts: the ports were asked so.
+pub record IsCutInServing (words : ServeWords) (before made : Live) (asked : Asked) (reached : Hosts) : Type 0 where
+  pub ended : Bool
+  pub makes : MakesAll words ended before made
+  pub part : IsCutPart asked made.hosts reached
+
+-- The ports were asked so turn by turn, and these are the hosts that the sends leave: in the whole turns alone, or in the
+-- turn too that is cut short.
+abbrev pub AreAskedInTurns : ServeWords → Live → Live → List Asked → Hosts → Type 0
+AreAskedInTurns words last live turns reached =
+    ((turns ≡ live.asked) × (reached ≡ live.hosts))
+    ⊎ ((asked : Asked) × IsCutInServing words last live asked reached × (turns ≡ live.asked ++ asked ∷ []))
+
+-- A run that is cut short. What each connection was sent is a first part of what was appended for it here too.
 pub record IsCut (words : ServeWords) (answers : List (List Got)) (live : Live) (before after : Outside) : Type 0 where
   pub run : IsCutRun words live
   pub lanes : live.lanes ≡ answers
-  pub told : ((ended : Bool) × MakesAll words ended run.last live) ⊎ PortsTell live.asked before after
+  pub turns : List Asked
+  pub reached : Hosts
+  pub asked : AreAskedInTurns words run.last live turns reached
+  pub told : PortsTell turns before after
   pub stay : PortsStay before after
+  pub sends : AreSentInTurns turns reached
+  pub shuts : AreShutInTurns turns reached
+  pub gaps : AreFirstGaps live
 
 -- The loop by how it ends: all of a whole run is written; or after a write that failed the run went on to its end; or
 -- memory was wanted, and the run is cut short.

@@ -12,6 +12,7 @@ ghost use Rattle.link_machine.specs.Params.{IsRefusedWindow};
 ghost use Rattle.station.specs.Monitored.{modulus_between};
 ghost use Rattle.tnc_ports.specs.declared.report_line.ReportLine.{ReportLine};
 ghost use Rattle.tnc_ports.specs.AskedPorts.{IsAsked, taken_of, told_by};
+ghost use Rattle.tnc_ports.specs.CutPart.{HasCutPart};
 ghost use Rattle.tnc_ports.specs.HeldHosts.{StandsFor};
 ghost use Rattle.tnc_ports.specs.Hosts.{Hosts, new_hosts, reporting, IsHeardStep, IsTickStep};
 ghost use Rattle.tnc_ports.specs.HostTurns.{Asked, IsHostPart};
@@ -113,13 +114,16 @@ impl HostSide {
 
     /// The part of a turn that is for hosts: polls once, with a wait of 10 ms, takes what waits and then what came, and
     /// offers each connection the rest of its front piece, once. A poll that fails counts as no events. The sockets are
-    /// told of each connection that was shut since the last part. Fails only for want of memory, and is then spent.
+    /// told of each connection that was shut since the last part. Fails only for want of memory, and is then spent; the
+    /// part is cut short then, before the poll, after it, or between two connections.
     pub fn part<R: Net, N: Ports>(&mut self, rt: &R, ports: &mut N) -> Result<(), OutOfMemory>
         ensures part { (hosts : Hosts) (printed : List ReportLine) → StandsFor self.old printed hosts → IfOk result (λ _.
             (asked : Asked) × (next : Hosts) × IsHostPart asked hosts next × StandsFor self.new printed next
             × ((id : ℕ) → octets_for id next.sent ≡ octets_for id hosts.sent ++ taken_of id asked.offers)
             × IsAsked asked (told_by N.polls N.sends N.sent N.is_shut N.faults ports.old)
             (told_by N.polls N.sends N.sent N.is_shut N.faults ports.new)) }
+        ensures cut { (hosts : Hosts) (printed : List ReportLine) → StandsFor self.old printed hosts → OnErr result (HasCutPart hosts
+            (told_by N.polls N.sends N.sent N.is_shut N.faults ports.old) (told_by N.polls N.sends N.sent N.is_shut N.faults ports.new)) }
         ensures listens { N.listens ports.new ≡ N.listens ports.old }
         ensures later { N.faults ports.old ≤ N.faults ports.new }
         ensures spent { OnErr result (self.new.spent ≡ true) }
@@ -187,6 +191,7 @@ fn polled<R: Net, N: Ports>(
     ensures events { IfOk result (λ events. All (MayCome paused.now) events.items) }
     ensures polled { (before : List Poll) → N.polls ports.old ≡ Some before → IfOk result (λ events. N.polls ports.new
         ≡ Some (before ++ (record { wait = 10; paused = paused.now; events = events.items }) ∷ [])) }
+    ensures unpolled { OnErr result (N.polls ports.new ≡ N.polls ports.old) }
     ensures listens { N.listens ports.new ≡ N.listens ports.old }
     ensures shut { (id : ℕ) → N.is_shut ports.new id ≡ N.is_shut ports.old id }
     ensures sent { (id : ℕ) → N.sent ports.new id ≡ N.sent ports.old id }

@@ -1,10 +1,10 @@
 //! What is sent to connections in a turn: each is offered the rest of one piece.
-ghost use Rattle.std.specs.Prelude.{◌≡◌, ◌≤◌, List, [], IfOk, OnOk};
+ghost use Rattle.std.specs.Prelude.{◌≡◌, ◌≤◌, ℕ, List, [], ◌++◌, IfOk, OnOk, OnErr};
 ghost use Rattle.tnc_ports.specs.declared.report_line.ReportLine.{ReportLine};
 ghost use Rattle.tnc_ports.specs.AskedPorts.{Told, AreOffered, AreShut, told_by};
 ghost use Rattle.tnc_ports.specs.HeldHosts.{AreParts, IsAtRest};
 ghost use Rattle.tnc_ports.specs.Hosts.{Hosts};
-ghost use Rattle.tnc_ports.specs.HostTurns.{Offering, IsOffered, InOrder, ids_of_lines};
+ghost use Rattle.tnc_ports.specs.HostTurns.{Offer, Offering, IsOffered, InOrder, ids_of_lines};
 
 use crate::host_parts::HostParts;
 use crate::lines::place_of;
@@ -27,6 +27,11 @@ impl HostParts {
             → OnOk result ((next : Offering)
             × InOrder IsOffered (ids_of_lines hosts.lines) (record { hosts = hosts; offers = []; failed = [] }) next
             × AreParts self.new printed next.hosts
+            × AreOffered next.offers next.failed (told_by N.polls N.sends N.sent N.is_shut N.faults ports.old)
+            (told_by N.polls N.sends N.sent N.is_shut N.faults ports.new)) }
+        ensures cut { (printed : List ReportLine) (hosts : Hosts) → AreParts self.old printed hosts
+            → OnErr result ((first others : List ℕ) × (next : Offering) × (ids_of_lines hosts.lines ≡ first ++ others)
+            × InOrder IsOffered first (record { hosts = hosts; offers = []; failed = [] }) next
             × AreOffered next.offers next.failed (told_by N.polls N.sends N.sent N.is_shut N.faults ports.old)
             (told_by N.polls N.sends N.sent N.is_shut N.faults ports.new)) }
         ensures rest { OnOk result (IsAtRest self.new) }
@@ -65,6 +70,9 @@ impl HostParts {
             → AreOffered before.offers before.failed start (told_by N.polls N.sends N.sent N.is_shut N.faults ports.old)
             → OnOk result ((next : Offering) × IsOffered id before next × AreParts self.new printed next.hosts
             × AreOffered next.offers next.failed start (told_by N.polls N.sends N.sent N.is_shut N.faults ports.new)) }
+        ensures cut { (offers : List Offer) (failing : List ℕ) (start : Told)
+            → AreOffered offers failing start (told_by N.polls N.sends N.sent N.is_shut N.faults ports.old)
+            → OnErr result (AreOffered offers failing start (told_by N.polls N.sends N.sent N.is_shut N.faults ports.new)) }
         ensures rest { OnOk result (IsAtRest self.new) }
         ensures listens { N.listens ports.new ≡ N.listens ports.old }
         ensures later { N.faults ports.old ≤ N.faults ports.new }

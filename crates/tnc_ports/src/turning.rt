@@ -12,6 +12,7 @@ ghost use Rattle.slicer_bank.specs.HeardOnRing.{IsBusyOnRing};
 ghost use Rattle.slicer_bank.specs.RingLanes.{readers_in, answers_in};
 ghost use Rattle.station.specs.Heard.{IsPathOf};
 ghost use Rattle.tnc_ports.specs.AskedPorts.{told_by};
+ghost use Rattle.tnc_ports.specs.CutPart.{HasCutPart};
 ghost use Rattle.tnc_ports.specs.declared.report_line.ReportLine.{ReportLine};
 ghost use Rattle.tnc_ports.specs.HeldHosts.{StandsFor};
 ghost use Rattle.tnc_ports.specs.Hosts.{Hosts};
@@ -231,6 +232,8 @@ impl Turning {
         ensures served { (hosts : Hosts) → Keeps self.old.hosts hosts
             → OnOk result (ServesAll self.old self.new hosts
             (stream_of E.written E.faults report.old) (stream_of E.written E.faults report.new)
+            (told_by N.polls N.sends N.sent N.is_shut N.faults ports.old) (told_by N.polls N.sends N.sent N.is_shut N.faults ports.new)) }
+        ensures cut { (hosts : Hosts) → Keeps self.old.hosts hosts → OnErr result (HasCutPart hosts
             (told_by N.polls N.sends N.sent N.is_shut N.faults ports.old) (told_by N.polls N.sends N.sent N.is_shut N.faults ports.new)) }
         ensures unwritten { OnErr result ((report.new ≡ report.old) × (self.new.failed ≡ self.old.failed)) }
         ensures rest { (self.new.words ≡ self.old.words) × (self.new.merger ≡ self.old.merger) × (self.new.ticks ≡ self.old.ticks) }

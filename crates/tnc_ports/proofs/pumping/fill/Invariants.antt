@@ -1,4 +1,4 @@
-use Rattle.std.proofs.Common.{◌≡◌, ◌≤◌, ◌+◌, ◌-◌, ◌*◌, ◌^◌, List, ℕ, Some, length}
+use Rattle.std.proofs.Common.{◌≡◌, ◌≤◌, ◌+◌, ◌-◌, ◌*◌, List, ℕ, Some, length}
 use Rattle.sample_ring.specs.Ends.{writer_ring, published_by}
 use Rattle.tnc_ports.specs.OddOctet.{count_of}
 use Rattle.tnc_ports.specs.Pumped.{most_input}

@@ -1,4 +1,4 @@
-use Rattle.std.proofs.Common.{◌≡◌, take, subst, arith}
+use Rattle.std.proofs.Common.{subst, arith}
 use Rattle.tnc_ports.specs.HeldHosts.{Moves}
 use Rattle.tnc_ports.specs.Hosts.{closing_all}
 use Rattle.tnc_ports.proofs.DeliverLemmas.{close_more, gone_more}

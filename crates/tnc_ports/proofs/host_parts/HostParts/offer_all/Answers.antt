@@ -1,7 +1,9 @@
-use Rattle.std.proofs.Common.{◌≡◌, List, ℕ, length, take, [], sym, ap, subst, ◌∙◌, arith}
+use Rattle.std.proofs.Common.{◌≡◌, List, ℕ, ◌++◌, take, drop, [], sym, ap, subst, ◌∙◌, arith}
+use Rattle.std.proofs.lemmas.List.{take-append-drop}
 use Rattle.tnc_ports.specs.HostTurns.{Offering, InOrder, IsOffered, ids_of_lines}
 use Rattle.tnc_ports.proofs.AskedLemmas.{offered_nothing}
 use Rattle.tnc_ports.proofs.LineLemmas.{take_end}
+use Rattle.tnc_ports.proofs.LiveSteps.{on_err}
 use Rattle.tnc_ports.proofs.OfferLemmas.{offers_more}
 use Rattle.tnc_ports.proofs.host_parts.HostParts.offer_all.Goals as goal
 
@@ -12,6 +14,16 @@ loop-id-preserved g c = record {
   listens = c.in_ok-offer_to.ensures.listens ∙ c.loop-id.invariant.listens;
   later = let before = c.loop-id.invariant.later in let now = c.in_ok-offer_to.ensures.later in omega (arith, before, now);
 }
+
+pub returns-in_err-offer_to-clause-cut : goal.returns-in_err-offer_to-clause-cut
+returns-in_err-offer_to-clause-cut g c = λ printed hosts h.
+    let ids : List ℕ = c.deref-id-items.result.now in
+    let parts : take c.loop-id.id-index ids ++ drop c.loop-id.id-index ids ≡ ids_of_lines hosts.lines =
+    take-append-drop c.loop-id.id-index ids ∙ c.deref-id-items.ensures.value ∙ c.in_ok-ids.ensures ∙ ap ids_of_lines (sym h.lines) in
+    let start : Offering = record { hosts = hosts; offers = []; failed = [] } in
+    let o = c.loop-id.invariant.offers printed start h (offered_nothing _) in
+    on_err c.from_residual-in_err-offer_to.result _
+    (take c.loop-id.id-index ids, drop c.loop-id.id-index ids, o.0, sym parts, o.1, c.in_err-offer_to.ensures.cut o.0.offers o.0.failed _ o.3)
 
 pub returns-clause-offers : goal.returns-clause-offers
 returns-clause-offers g c = λ printed hosts h.

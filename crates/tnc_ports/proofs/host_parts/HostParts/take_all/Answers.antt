@@ -1,4 +1,4 @@
-use Rattle.std.proofs.Common.{◌≡◌, ◌++◌, ◌∷◌, [], All, suc, sym, ap, subst, ◌∙◌, append_assoc, arith}
+use Rattle.std.proofs.Common.{◌++◌, ◌∷◌, [], All, suc, sym, ap, subst, ◌∙◌, append_assoc, arith}
 use Rattle.tnc_ports.specs.HostTurns.{IsTaken}
 use Rattle.tnc_ports.specs.Sockets.{IsWholePiece}
 use Rattle.tnc_ports.proofs.TakeLemmas.{runs_more}

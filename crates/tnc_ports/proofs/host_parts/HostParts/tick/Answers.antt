@@ -1,4 +1,4 @@
-use Rattle.std.proofs.Common.{◌≡◌, refl, ap}
+use Rattle.std.proofs.Common.{◌≡◌, ap}
 use Rattle.station.specs.State.{StationState}
 use Rattle.station.specs.StandsFor.{StandsFor as StandsForStation}
 use Rattle.station.specs.Ticks.{ticking}

@@ -1,6 +1,6 @@
-use Rattle.std.proofs.Common.{ap, ◌∙◌}
+use Rattle.std.proofs.Common.{ap, inr, ◌∙◌}
 use Rattle.tnc_ports.specs.ReportText.{report_text}
-use Rattle.tnc_ports.proofs.LiveSteps.{serves_all}
+use Rattle.tnc_ports.proofs.LiveSteps.{serves_all, on_err}
 use Rattle.tnc_ports.proofs.turning.Turning.serve_hosts.Goals as goal
 
 pub returns-clause-served : goal.returns-clause-served
@@ -9,3 +9,8 @@ returns-clause-served g c = λ hosts keeps.
     keeps c.in_ok-part.ensures.part c.take_lines-lines.ensures.taken
     (c.deref-2.ensures.value ∙ c.in_ok-text.ensures ∙ ap report_text c.deref.ensures.value)
     c.put.ensures
+
+pub returns-in_err-text-clause-cut : goal.returns-in_err-text-clause-cut
+returns-in_err-text-clause-cut g c = λ hosts keeps.
+    let given = c.in_ok-part.ensures.part hosts hosts.report keeps in
+    on_err c.from_residual-in_err-text.result _ (inr (given.0, given.1, inr (inr given.2), given.5))

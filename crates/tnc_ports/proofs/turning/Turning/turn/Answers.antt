@@ -42,7 +42,8 @@ returns-in_err-serve_hosts-clause-cut g c = λ live stands.
     (λ hosts keeps. hears_same c.deref.result.now c.in_ok-due.due.items.items c.read.new.self c.hear_all.new.self hosts _ _ c.deref.ensures.value (c.in_ok-hear_all.ensures.heard hosts keeps))
     c.in_ok-tick_up_to.ensures.ticked c.busy.ensures (c.in_ok-due.ensures.flags ∙ c.requires.flags)
     c.in_ok-due.ensures.rest.0 c.in_ok-hear_all.ensures.rest.0 c.in_ok-due.ensures.rest.2 c.in_ok-hear_all.ensures.rest.2
-    c.in_err-serve_hosts.ensures.unwritten.1 (ap (stream_of g.E.Sink.written g.E.Sink.faults) c.in_err-serve_hosts.ensures.unwritten.0))
+    c.in_err-serve_hosts.ensures.unwritten.1 (ap (stream_of g.E.Sink.written g.E.Sink.faults) c.in_err-serve_hosts.ensures.unwritten.0)
+    c.in_err-serve_hosts.ensures.cut)
 
 pub returns-clause-turned : goal.returns-clause-turned
 returns-clause-turned g c = λ live stands.

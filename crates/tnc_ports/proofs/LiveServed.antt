@@ -1,0 +1,124 @@
+-- What a run did for the hosts: the account of its turns.
+use Rattle.std.specs.Prelude.{◌≡◌, ◌⊎◌, ℕ, zero, suc, ◌<◌, Bool, true, false, List, [], ◌∷◌, ◌++◌, map, replicate, refl}
+use Rattle.std.proofs.Common.{sym, ◌∙◌, ap, subst, arith, inl, inr}
+use Rattle.frame_merge.specs.declared.candidate.Candidate.{Candidate}
+use Rattle.slicer_bank.specs.HeardOnRing.{lane_of}
+use Rattle.slicer_bank.specs.RingTurns.{gaps_of}
+use Rattle.tnc_ports.specs.declared.serve_words.ServeWords.{ServeWords}
+use Rattle.tnc_ports.specs.Hosts.{Hosts, new_hosts}
+use Rattle.tnc_ports.specs.HostTurns.{Asked, IsHostPart}
+use Rattle.tnc_ports.specs.ReportedGaps.{gaps_in, AreAllGaps, AreFirstGaps}
+use Rattle.tnc_ports.specs.Sampled.{Live, new_live, with_hosts, gap_line, LanesReadOn, AreHeard, HearsAll, AreTicked, MakesTicks, MakesAll, ServesHosts, IsTurn}
+use Rattle.tnc_ports.specs.SampledRun.{AreTurns, IsRun, IsCutInReading, IsCutInHearing, IsCutInTicking, IsCutTurn, IsCutRun}
+use Rattle.tnc_ports.proofs.KeptLemmas.{kept_part}
+use Rattle.tnc_ports.proofs.LiveAccounts.{IsAccounted, accounted_new, accounted_relined, accounted_by_frames, accounted_part}
+use Rattle.tnc_ports.proofs.LiveGaps.{TellsGaps, gaps_by_frames, gaps_by_part, gaps_closed, read_gaps, first_gaps, cut_gaps}
+use Rattle.tnc_ports.proofs.LiveKept.{IsKeptByFrames, kept_heard, kept_ticks}
+use Rattle.tnc_ports.proofs.LiveSteps.{ticked_to}
+use Rattle.tnc_ports.proofs.SentLemmas.{orderly_new}
+use Rattle.tnc_ports.proofs.ServedLemmas.{sound_new}
+
+abbrev pub IsAccountedFor : Live → Type 0
+IsAccountedFor live = IsAccounted live.asked live.hosts
+
+-- so far, with all gaps
+pub record IsServed (live : Live) : Type 0 where
+  pub accounted : IsAccountedFor live
+  pub gaps : AreAllGaps live
+
+no_gaps : (name lane count : ℕ) → [] ≡ gaps_of name (lane_of (replicate count []) lane)
+no_gaps name lane zero = refl
+no_gaps name zero (suc count) = refl
+no_gaps name (suc lane) (suc count) = no_gaps name lane count
+
+served_new : (words : ServeWords) → IsServed (new_live words)
+served_new words = record {
+  accounted = accounted_new (new_hosts words.config words.seed) (orderly_new words.config words.seed) (sound_new words.config words.seed)
+      (λ id. omega arith) refl refl;
+  gaps = λ lane lt. no_gaps lane lane 8;
+}
+
+-- ---- each part of a turn
+
+served_reading : (ended : Bool) (before after : Live) → LanesReadOn ended before after → IsServed before → IsServed after
+served_reading ended before after r h = record {
+  accounted = subst IsAccountedFor (sym r.is)
+      (accounted_relined before.asked (before.hosts.report ++ map gap_line r.gaps) before.hosts (gaps_closed before.hosts.report r.gaps) h.accounted);
+  gaps = read_gaps ended before after r h.gaps;
+}
+
+-- the hosts go on, and the lanes stay
+with_gaps : (live next : Live) → next.lanes ≡ live.lanes → AreAllGaps live → ((lane : ℕ) → gaps_in lane next.hosts.report ≡ gaps_in lane live.hosts.report) → AreAllGaps next
+with_gaps live next lanes h same = λ lane lt. same lane ∙ h lane lt ∙ ap (λ ls. gaps_of lane (lane_of ls lane)) (sym lanes)
+
+served_heard : (monitor : Bool) (items : List Candidate) (read : Live) (hosts : Hosts) → AreHeard monitor items read.hosts hosts → IsServed read → IsServed (with_hosts hosts read)
+served_heard monitor items read hosts heard h = record {
+  accounted = kept_heard (IsAccounted read.asked) (accounted_by_frames read.asked) monitor items read.hosts hosts heard h.accounted;
+  gaps = with_gaps read (with_hosts hosts read) refl h.gaps
+      (kept_heard (TellsGaps (λ lane. gaps_in lane read.hosts.report)) (gaps_by_frames (λ lane. gaps_in lane read.hosts.report)) monitor items read.hosts hosts heard (λ lane. refl));
+}
+
+served_hearing : (words : ServeWords) (ended : Bool) (before after : Live) → HearsAll words ended before after → IsServed before → IsServed after
+served_hearing words ended before after t h =
+    subst IsServed (sym t.is) (served_heard words.monitor t.items t.read t.hosts t.hears (served_reading ended before t.read t.reads h))
+
+served_ticks : (monitor busy : Bool) (count : ℕ) (before after : Live) → AreTicked monitor busy count before after → IsServed before → IsServed after
+served_ticks monitor busy count before after ticked h =
+    let to = ticked_to monitor busy count before after ticked in
+    record {
+      accounted = subst (λ asked. IsAccounted asked after.hosts) (sym to.asked) (kept_ticks (IsAccounted before.asked) (accounted_by_frames before.asked) monitor busy count before after ticked h.accounted);
+      gaps = with_gaps before after to.lanes h.gaps
+          (kept_ticks (TellsGaps (λ lane. gaps_in lane before.hosts.report)) (gaps_by_frames (λ lane. gaps_in lane before.hosts.report)) monitor busy count before after ticked (λ lane. refl));
+    }
+
+pub served_making : (words : ServeWords) (ended : Bool) (before after : Live) → MakesAll words ended before after → IsServed before → IsServed after
+served_making words ended before after m h =
+    served_ticks words.monitor m.makes.busy m.count m.heard after m.makes.made (served_hearing words ended before m.heard m.hears h)
+
+part_gaps : (asked : Asked) (before after : Hosts) → IsHostPart asked before after → (lane : ℕ) → gaps_in lane after.report ≡ gaps_in lane before.report
+part_gaps asked before after p =
+    let kept : TellsGaps (λ lane. gaps_in lane before.report) p.offered.hosts = kept_part asked (TellsGaps (λ lane. gaps_in lane before.report)) before after p (gaps_by_part (λ lane. gaps_in lane before.report) asked.events) (λ lane. refl) in
+    λ lane. ap (λ (h : Hosts). gaps_in lane h.report) p.done ∙ kept lane
+
+served_hosts : (before after : Live) → ServesHosts before after → IsServed before → IsServed after
+served_hosts before after s h = subst IsServed (sym s.is) (record {
+  accounted = accounted_part before.asked s.asked before.hosts s.hosts s.part h.accounted;
+  gaps = with_gaps before (record before { hosts = s.hosts; asked = before.asked ++ s.asked ∷ [] }) refl h.gaps (part_gaps s.asked before.hosts s.hosts s.part);
+})
+
+served_turn : (words : ServeWords) (ended : Bool) (before after : Live) → IsTurn words ended before after → IsServed before → IsServed after
+served_turn words ended before after t h = served_hosts t.made after t.serves (served_making words ended before t.made t.makes h)
+
+served_turns : (words : ServeWords) (count : ℕ) (before after : Live) → AreTurns words count before after → IsServed before → IsServed after
+served_turns words zero before after turns h = subst IsServed (sym turns) h
+served_turns words (suc count) before after turns h = served_turns words count turns.0 after turns.2 (served_turn words false before turns.0 turns.1 h)
+
+-- ---- a run
+
+pub served_run : (words : ServeWords) (live : Live) → IsRun words live → IsServed live
+served_run words live r = served_turn words true r.last live r.over (served_turns words r.count (new_live words) r.last r.turns (served_new words))
+
+-- after a turn the sockets are told of all that were shut
+pub all_told : (words : ServeWords) (live : Live) → IsRun words live → live.hosts.to_shut ≡ []
+all_told words live r =
+    ap (λ (l : Live). l.hosts.to_shut) r.over.serves.is ∙ ap (λ (h : Hosts). h.to_shut) r.over.serves.part.done
+
+cut_turn : (words : ServeWords) (before after : Live) → IsCutTurn words before after → IsServed before → IsAccountedFor after × AreFirstGaps after
+cut_turn words before after cut h = elim cut [
+  | inl reading ↦
+      subst (λ (l : Live). IsAccountedFor l × AreFirstGaps l) (sym reading.is) (h.accounted, cut_gaps before reading.lanes reading.more h.gaps)
+  | inr rest ↦ elim rest [
+    | inl hearing ↦
+        let heard = served_heard words.monitor hearing.items hearing.read hearing.hosts hearing.hears (served_reading hearing.ended before hearing.read hearing.reads h) in
+        subst (λ (l : Live). IsAccountedFor l × AreFirstGaps l) (sym hearing.is) (heard.accounted, first_gaps (with_hosts hearing.hosts hearing.read) heard.gaps)
+    | inr more ↦ elim more [
+      | inl ticking ↦
+          let ticked = served_ticks words.monitor ticking.makes.busy ticking.count ticking.heard after ticking.makes.made (served_hearing words ticking.ended before ticking.heard ticking.hears h) in
+          (ticked.accounted, first_gaps after ticked.gaps)
+      | inr serving ↦ let made = served_making words serving.0 before after serving.1 h in (made.accounted, first_gaps after made.gaps)
+    ]
+  ]
+]
+
+pub served_cut : (words : ServeWords) (live : Live) → IsCutRun words live → IsAccountedFor live × AreFirstGaps live
+served_cut words live r = cut_turn words r.last live r.cut (served_turns words r.count (new_live words) r.last r.turns (served_new words))

@@ -1,0 +1,29 @@
+-- The gaps that a report tells, beside those that the lanes were told of.
+use Rattle.std.specs.Prelude.{◌≡◌, ℕ, ◌<◌, ◌==◌, if◌then◌else◌, List, [], ◌∷◌, ◌++◌}
+use Rattle.std.specs.List.{flat_map}
+use Rattle.slicer_bank.specs.declared.advance.LaneGap.{LaneGap}
+use Rattle.slicer_bank.specs.HeardOnRing.{lane_of}
+use Rattle.slicer_bank.specs.RingTurns.{gaps_of}
+use Rattle.tnc_ports.specs.declared.report_line.ReportLine.{ReportLine}
+use Rattle.tnc_ports.specs.declared.report_line.ReportLine.TheVariants.{GapLine, ClosedLine, ReceivedLine, SentLine}
+use Rattle.tnc_ports.specs.Sampled.{Live}
+
+-- the gap of a lane that a line of the report tells
+abbrev pub gap_by : ℕ → ReportLine → List LaneGap
+gap_by lane (GapLine other from to) = if other == lane then (record { lane = other; from = from; to = to }) ∷ [] else []
+gap_by lane (ClosedLine id) = []
+gap_by lane (ReceivedLine text) = []
+gap_by lane (SentLine text) = []
+
+-- all gaps of a lane that a report tells, in order
+abbrev pub gaps_in : ℕ → List ReportLine → List LaneGap
+gaps_in lane lines = flat_map (gap_by lane) lines
+
+-- the report tells of each lane all gaps that it was told of
+abbrev pub AreAllGaps : Live → Type 0
+AreAllGaps live = (lane : ℕ) → lane < 8 → gaps_in lane live.hosts.report ≡ gaps_of lane (lane_of live.lanes lane)
+
+-- or the first of them
+abbrev pub AreFirstGaps : Live → Type 0
+AreFirstGaps live = (lane : ℕ) → lane < 8
+    → (more : List LaneGap) × (gaps_of lane (lane_of live.lanes lane) ≡ gaps_in lane live.hosts.report ++ more)
