@@ -8,7 +8,8 @@ process against the time that goes by, the median of slices of five seconds. How
 strace in a run of its own, and what one costs is measured by bench/threads.c; so their share is told apart.
 Latency: from the moment at which the last sample of a frame's closing flag is handed to the station to that at which a host
 has the frame; and from the moment at which a host has sent a frame, the channel being free and the persistence 255, to that
-at which the first sample of the transmission is read. Medians and greatest of so many frames."""
+at which the first sample of the transmission is read; and from two questions at once to the second answer. Medians and
+greatest of so many frames."""
 import argparse
 import os
 import random
@@ -23,6 +24,7 @@ import time
 from measuring import RATE, TOP, compiled, installed
 
 sys.path.insert(0, f"{TOP}/scripts")
+from agwpe import Message, written  # noqa: E402
 from air import TICK, Agw, Kiss, Station  # noqa: E402
 
 FRAME = bytes.fromhex("82a0a4a64040609c6e988a9a406103f068656c6c6f")
@@ -181,6 +183,36 @@ def to_air(tnc, frames):
     return found
 
 
+def in_a_row(tnc, rounds):
+    """Seconds from two questions in one write to the second answer, after questions and answers one by one, when the host's
+    system acknowledges late; one for each round."""
+    paced = Paced(tnc)
+    line = paced.station.connect(paced.station.agw)
+    ask, size, found = written(Message("R")), 44, []
+
+    def feed():
+        while rounds > len(found):
+            paced.hear(bytes(TICK))
+
+    def wait(count):
+        while count > 0:
+            count -= len(line.recv(min(count, 4096)))
+
+    feeder = threading.Thread(target=feed)
+    feeder.start()
+    while len(found) < rounds:
+        for _ in range(20):
+            line.sendall(ask)
+            wait(size)
+        began = time.monotonic()
+        line.sendall(ask * 2)
+        wait(2 * size)
+        found.append(time.monotonic() - began)
+    feeder.join()
+    paced.end()
+    return found
+
+
 def tell(name, seconds, wanted):
     """A line on latencies."""
     if not seconds:
@@ -212,6 +244,7 @@ def main():
               f" without them {', '.join(f'{100 * (share - part):.2f}' for share in shares)} %")
     tell("air to host", to_host(given.tnc, given.frames), given.frames)
     tell("host to air", to_air(given.tnc, given.frames), given.frames)
+    tell("answers in a row", in_a_row(given.tnc, given.frames // 2), given.frames // 2)
 
 
 main()

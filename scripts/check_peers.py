@@ -2,10 +2,11 @@
 """Checks `tnc serve` against Dire Wolf at the other end of the sound: connected sessions by REJ and SREJ, modulo 8 and 128,
 called by either end, all at once and at the pace of sound, while parts of long transmissions are lost.
 
-  scripts/check_peers.py [--tnc PROGRAM] [--packets N] [--seed N] [--only N] [--log FOLDER]
+  scripts/check_peers.py [--tnc PROGRAM] [--packets N] [--seed N] [--only N] [--times] [--log FOLDER]
 
 In a session the host of each station gives so many packets, and the host of the other one has to get just these; then the
-end that called disconnects. It prints a line a session and ends with status 0 where all is well."""
+end that called disconnects. It prints a line for each session that failed, or for all, and ends with status 0 where all is
+well."""
 import argparse
 import collections
 import itertools
@@ -28,9 +29,10 @@ def wanted(words):
     """The options."""
     reader = argparse.ArgumentParser()
     reader.add_argument("--tnc", default="bin/tnc")
-    reader.add_argument("--packets", type=int, default=20)
+    reader.add_argument("--packets", type=int, default=12)
     reader.add_argument("--seed", type=int, default=1)
     reader.add_argument("--only", type=int)
+    reader.add_argument("--times", action="store_true")
     reader.add_argument("--log")
     return reader.parse_args(words)
 
@@ -149,7 +151,8 @@ def main(words):
         thread.join()
     failed = len(numbers) - len(answers)
     for number, (line, wrong, report, log) in sorted(answers.items()):
-        print(line)
+        if wrong or given.times:
+            print(line)
         for it in wrong:
             print(f"FAILED: {it}")
         if given.log:
