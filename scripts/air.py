@@ -14,20 +14,21 @@ import time
 TICK = 192  # octets of a tick: 96 samples of 16 bits
 
 
-def free_port(given=set()):
-    """A port of this machine that nobody has, each once; below those that the system gives to whoever asks for any."""
+def free_port(kept=[]):
+    """A port of this machine that nobody has. No script of this folder is given it as long as this one runs: a name that only
+    one of them can have is kept for it. It is below those that the system gives to whoever asks for any."""
     while True:
         port = random.SystemRandom().randrange(20000, 32000)
-        if port in given:
-            continue
-        given.add(port)
-        with socket.socket() as it:
-            it.setsockopt(socket.SOL_SOCKET, socket.SO_REUSEADDR, 1)
-            try:
+        name = socket.socket(socket.AF_UNIX)
+        try:
+            name.bind(f"\0sigwolleth port {port}")
+            with socket.socket() as it:
+                it.setsockopt(socket.SOL_SOCKET, socket.SO_REUSEADDR, 1)
                 it.bind(("127.0.0.1", port))
-                return port
-            except OSError:
-                pass
+            kept.append(name)
+            return port
+        except OSError:
+            name.close()
 
 
 def connect(port):
