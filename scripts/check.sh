@@ -319,6 +319,12 @@ else
     skip "sessions with Dire Wolf" "python3 or direwolf"
 fi
 
+# The commands of docs/OPERATING.md, at the pace of sound too.
+if has python3; then
+    scripts/check_operating.py "$tnc" >"$room/operating" 2>&1 &
+    operating=$!
+fi
+
 # Recordings, and back from their frames.
 for raw in samples/*.raw; do
     of=${raw%.raw}
@@ -424,9 +430,11 @@ done
 check "the manual page and the program agree" scripts/check_manual.sh "$tnc"
 if has python3; then
     check "the documents show what the program prints" scripts/check_readme.py "$tnc"
+    check_started "what OPERATING.md shows" "$operating" "$room/operating"
     check "scores within their bounds" scripts/scores.py --check --tnc "$tnc"
 else
     skip "the documents show what the program prints" python3
+    skip "what OPERATING.md shows" python3
     skip "scores within their bounds" python3
 fi
 

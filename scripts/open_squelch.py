@@ -3,9 +3,10 @@
 
   scripts/open_squelch.py [--tnc PROGRAM] [--minutes N] [--dcd N ..] [--level N] [--seed N]
 
-The station hears white noise for so many minutes of sound, and always has a frame to send; its persistence is 255 and its
-TXDELAY 0, so that nothing but a busy channel holds it back. A line tells how many transmissions it made, before how many of
-them it had to wait, and how long."""
+The station hears white noise for so many minutes of sound, and always has frames to send; its persistence is 255 and its
+TXDELAY 0, so that nothing but a busy channel holds it back. It sends eight frames in a transmission, and the next one follows
+at once if the channel is free: what is silent is a wait. A line tells how many transmissions it made, before how many of them
+it had to wait, and how long."""
 import argparse
 import array
 import random
@@ -13,7 +14,9 @@ import random
 from air import TICK, Kiss, Station, read_all
 
 FRAME = bytes.fromhex("82a0a4a64040609c6e988a9a406103f0")
-STEP = 20  # ticks at a time
+STEP = 50  # ticks at a time
+EACH = 8  # frames in a transmission
+BITS = 152  # of a frame with its flag, or a few more
 
 
 def noise(draws, level):
@@ -21,29 +24,33 @@ def noise(draws, level):
     return array.array("h", (max(-32767, min(32767, round(draws.gauss(0, level)))) for _ in range(60 * 9600))).tobytes()
 
 
-def waits(tnc, dcd, minutes, level, seed):
-    """The ticks that it waited before each transmission."""
+def keyed(station, heard, draws, steps):
+    """Whether something is sent, tick for tick."""
+    for _ in range(steps):
+        at = draws.randrange((len(heard) - STEP * TICK) // 2) * 2
+        station.program.stdin.write(heard[at : at + STEP * TICK])
+        sent = read_all(station.program.stdout, STEP * TICK)
+        yield from (any(sent[tick : tick + TICK]) for tick in range(0, len(sent), TICK))
+
+
+def measured(tnc, dcd, minutes, level, seed):
+    """How many transmissions it made, and the ticks of each wait."""
     draws = random.Random(seed)
-    station = Station(tnc, "--seed", seed, "--dcd", dcd)
+    station = Station(tnc, "--seed", seed, "--dcd", dcd, "--monitor")
     host = Kiss(station)
     for command, value in ((1, 0), (2, 255), (3, 0), (4, 0)):
         host.send(bytes([value]), command=command)
-    for _ in range(8):
-        host.send(FRAME)
-    heard, found, silent, sending = noise(draws, level), [], 0, False
-    for _ in range(minutes * 6000 // STEP):
-        at = draws.randrange(len(heard) - STEP * TICK) // 2 * 2
-        station.program.stdin.write(heard[at : at + STEP * TICK])
-        sent = read_all(station.program.stdout, STEP * TICK)
-        for tick in range(0, len(sent), TICK):
-            keyed = any(sent[tick : tick + TICK])
-            if keyed and not sending:
-                found.append(silent)
+    queued, sending, waits, silent = 0, 0, [], 0
+    for tick, sends in enumerate(keyed(station, noise(draws, level), draws, minutes * 6000 // STEP)):
+        if tick % STEP == 0:
+            for _ in range(5 * EACH + sending * 12 // BITS - queued):
                 host.send(FRAME)
-            silent = 0 if keyed else silent + 1
-            sending = keyed
-    station.end()
-    return found
+                queued += 1
+        if sends and silent and sending:
+            waits.append(silent)
+        sending, silent = sending + sends, 0 if sends else silent + 1
+    frames = station.end()[2].count("tx ")
+    return frames / EACH, waits
 
 
 def main():
@@ -55,12 +62,12 @@ def main():
     reader.add_argument("--seed", type=int, default=1)
     given = reader.parse_args()
     for dcd in given.dcd:
-        found = waits(given.tnc, dcd, given.minutes, given.level, given.seed)
-        waited = [it for it in found if it > 0]
-        mean = sum(found) / len(found) / 100 if found else float("nan")
-        longest = max(found, default=0) / 100
-        print(f"dcd {dcd}: {len(found)} transmissions in {given.minutes} minutes, {len(waited)} of them after a wait;"
-              f" a wait of {mean:.2f} s on average, {longest:.2f} s at most")
+        made, waits = measured(given.tnc, dcd, given.minutes, given.level, given.seed)
+        mean, longest = sum(waits) / max(made, 1) / 100, max(waits, default=0) / 100
+        print(
+            f"dcd {dcd}: {made:.0f} transmissions in {given.minutes} minutes, {100 * len(waits) / max(made, 1):.2f} % of them"
+            f" after a wait; {mean:.2f} s on average, {longest:.2f} s at most", flush=True,
+        )
 
 
 main()
