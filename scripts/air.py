@@ -3,47 +3,67 @@
 The samples that one station sends are the samples that the other one hears, a few ticks later. A transmission can be lost
 whole: its samples are heard as silence.
 """
+import os
 import random
-import selectors
 import socket
 import struct
 import subprocess
+import tempfile
 import time
 
 TICK = 192  # octets of a tick: 96 samples of 16 bits
 
 
-def free_port():
-    """A port of this machine that nobody listens on."""
-    with socket.socket() as it:
-        it.bind(("127.0.0.1", 0))
-        return it.getsockname()[1]
+def free_port(kept=[]):
+    """A port of this machine that nobody has. No script of this folder is given it as long as this one runs: a name that only
+    one of them can have is kept for it. It is below those that the system gives to whoever asks for any."""
+    while True:
+        port = random.SystemRandom().randrange(20000, 32000)
+        name = socket.socket(socket.AF_UNIX)
+        try:
+            name.bind(f"\0sigwolleth port {port}")
+            with socket.socket() as it:
+                it.setsockopt(socket.SOL_SOCKET, socket.SO_REUSEADDR, 1)
+                it.bind(("127.0.0.1", port))
+            kept.append(name)
+            return port
+        except OSError:
+            name.close()
+
+
+def connect(port):
+    """A socket to a port of a program that opens it as it starts."""
+    for _ in range(500):
+        try:
+            return socket.create_connection(("127.0.0.1", port), timeout=10)
+        except OSError:
+            time.sleep(0.02)
+    raise RuntimeError(f"nobody listens on port {port}")
 
 
 class Station:
-    """A running `tnc serve`."""
+    """A running `tnc serve`. Its report is kept in a file, so that it may be of any length."""
 
     def __init__(self, tnc, *words):
         self.kiss, self.agw = free_port(), free_port()
         words = [tnc, "serve", "--kiss", str(self.kiss), "--agw", str(self.agw), *map(str, words)]
-        pipe = subprocess.PIPE
-        self.program = subprocess.Popen(words, stdin=pipe, stdout=pipe, stderr=pipe, bufsize=0)
+        pipe, self.report_file = subprocess.PIPE, tempfile.TemporaryFile()
+        self.program = subprocess.Popen(words, stdin=pipe, stdout=pipe, stderr=self.report_file, bufsize=0)
 
     def connect(self, port):
-        """A socket to one of its ports. The program opens them as it starts."""
-        for _ in range(200):
-            try:
-                return socket.create_connection(("127.0.0.1", port), timeout=10)
-            except OSError:
-                time.sleep(0.02)
-        raise RuntimeError("the station does not listen")
+        """A socket to one of its ports."""
+        return connect(port)
 
     def end(self):
         """Ends its sound, and tells its exit status and its report."""
         self.program.stdin.close()
         rest = self.program.stdout.read()
-        report = self.program.stderr.read()
-        return self.program.wait(), rest, report.decode()
+        return self.program.wait(), rest, self.report()
+
+    def report(self):
+        """What it has reported so far."""
+        file = self.report_file.fileno()
+        return os.pread(file, os.fstat(file).st_size, 0).decode()
 
 
 def read_all(pipe, count):
@@ -161,6 +181,6 @@ class Kiss:
                 self.input += part
         except BlockingIOError:
             pass
-        parts = [it for it in self.input.split(b"\xc0") if it]
+        parts = [it for it in self.input.split(b"\xc0")[:-1] if it]
         plain = [it.replace(b"\xdb\xdc", b"\xc0").replace(b"\xdb\xdd", b"\xdb") for it in parts]
         return [it[1:] for it in plain if it[0] == 0]

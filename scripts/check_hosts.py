@@ -1,0 +1,815 @@
+#!/usr/bin/env python3
+"""Checks how `tnc serve` treats host programs: each message of AGWPE and each KISS command that docs/HOSTS.md names, by
+clients of this script's own, and then other people's programs where they are installed.
+
+  scripts/check_hosts.py [--tnc PROGRAM] [--only NAME] [--times]
+
+Each check has two fresh stations whose sound reaches each other. It prints what failed and what was left out, and ends with
+status 0 where all is well."""
+import argparse
+import concurrent.futures
+import os
+import random
+import re
+import shutil
+import struct
+import subprocess
+import sys
+import tempfile
+import time
+import traceback
+
+from agwpe import Message, read_all, repeaters, written
+from air import Air, Kiss, Station, free_port
+
+LIMIT = 120 * 100  # ticks that a check may wait for one thing
+RAW = bytes.fromhex("82a0a4a64040609c6e988a9a406103f0") + b"hello"
+
+
+class Client:
+    """An AGWPE host of this script's own. What it gets has to be spelled as messages are, octet for octet."""
+
+    def __init__(self, station, call=""):
+        self.socket = station.connect(station.agw)
+        self.socket.setblocking(False)
+        self.call, self.messages, self.waiting, self.input, self.ended = call, [], b"", b"", False
+
+    def octets(self, octets):
+        """Sends any octets."""
+        self.waiting += octets
+        self.pump()
+
+    def send(self, kind, to="", body=b"", pid=0, source=None, port=0):
+        self.octets(written(Message(kind, self.call if source is None else source, to, body, pid, port)))
+
+    def pump(self):
+        """Sends what waits as far as it goes, and takes in whole messages."""
+        try:
+            while self.waiting and not self.ended:
+                self.waiting = self.waiting[self.socket.send(self.waiting) :]
+        except BlockingIOError:
+            pass
+        except OSError:
+            self.ended = True
+        try:
+            while not self.ended:
+                part = self.socket.recv(65536)
+                self.input += part
+                self.ended = not part
+        except BlockingIOError:
+            pass
+        except OSError:
+            self.ended = True
+        found, rest = read_all(self.input)
+        same(b"".join(map(written, found)), self.input[: len(self.input) - len(rest)])
+        self.messages += found
+        self.input = rest
+
+    def take(self, kind=None):
+        """The messages of a kind so far, or all, which are then gone."""
+        found = [it for it in self.messages if kind in (None, it.kind)]
+        self.messages = [it for it in self.messages if it not in found]
+        return found
+
+
+def same(is_so, wanted):
+    if is_so != wanted:
+        raise AssertionError(f"it is {is_so!r} and not {wanted!r}")
+
+
+class World:
+    """Two fresh stations whose sound reaches each other, and their hosts."""
+
+    def __init__(self, tnc, *words):
+        self.stations = [Station(tnc, "--seed", "1", *words), Station(tnc, "--seed", "2", *words)]
+        self.air = Air(*self.stations)
+        self.hosts, self.pause, self.limit = [], 0, LIMIT
+        for station in self.stations:
+            kiss = self.kiss(station)
+            kiss.send(b"\x05", command=1)
+            kiss.socket.close()
+        self.go(5)
+
+    def client(self, at, call="", register=True):
+        """An AGWPE host of station 0 or 1, which registers a call."""
+        host = Client(self.stations[at], call)
+        self.hosts.append(host)
+        if call and register:
+            host.send("X")
+            same(self.one(host, "X"), Message("X", call, body=b"\1"))
+        return host
+
+    def kiss(self, station):
+        return Kiss(station if isinstance(station, Station) else self.stations[station])
+
+    def until(self, what, holds):
+        """Lets the air go on until something holds."""
+        ends = self.air.ticks + self.limit
+        while not holds():
+            if self.air.ticks > ends:
+                raise AssertionError(f"waited in vain: {what}")
+            self.go(1)
+
+    def go(self, steps):
+        """Lets the air go on."""
+        for _ in range(steps):
+            self.air.step()
+            for host in self.hosts:
+                host.pump()
+            time.sleep(self.pause)
+
+    def one(self, host, kind):
+        """The next message of a kind, alone."""
+        self.until(f"{host.call or 'a host'} has {kind}", lambda: any(it.kind == kind for it in host.messages))
+        found = host.take(kind)
+        same(len(found), 1)
+        return found[0]
+
+    def quiet(self, host, steps=20):
+        """Nothing more comes to a host for a while."""
+        self.go(steps)
+        same(host.take(), [])
+
+    def ask(self, host, kind, **more):
+        """The answer to a question."""
+        host.send(kind, **more)
+        return self.one(host, kind)
+
+    def frames(self, kiss, count):
+        """The frames that a KISS host was sent, exactly so many."""
+        self.until(f"{count} frames", lambda: len(kiss.frames()) >= count)
+        self.go(10)
+        same(len(kiss.frames()), count)
+        return kiss.frames()
+
+    def linked(self, a, b):
+        """Two hosts get a link."""
+        a.send("C", b.call)
+        same(self.one(a, "C"), Message("C", b.call, a.call, f"*** CONNECTED With Station {b.call}\r".encode()))
+        same(self.one(b, "C"), Message("C", a.call, b.call, f"*** CONNECTED To Station {a.call}\r".encode()))
+
+    def unlinked(self, a, b):
+        """Both are told the end of their link."""
+        for host, other in ((a, b), (b, a)):
+            text = f"*** DISCONNECTED From Station {other.call}\r".encode()
+            same(self.one(host, "d"), Message("d", other.call, host.call, text))
+
+    def data(self, host, count):
+        """So many octets of a link, and the PIDs that they came with."""
+        got, pids = b"", set()
+        while len(got) < count:
+            self.until("data", lambda: any(it.kind == "D" for it in host.messages))
+            for message in host.take("D"):
+                got += message.body
+                pids.add(message.pid)
+        return got, pids
+
+    def end(self, closed=0):
+        """Ends both stations: nothing is reported but so many `closed` lines, of the first one."""
+        for at, station in enumerate(self.stations):
+            status, _, report = station.end()
+            lines = report.splitlines()
+            wanted = closed if at == 0 else 0
+            same((status, len(lines), all(re.fullmatch(r"closed \d+", it) for it in lines)), (0, wanted, True))
+
+
+def call_field(call):
+    """The seven octets of a call in a frame, but for the marks in the last."""
+    name, _, number = call.partition("-")
+    return bytes(ord(it) << 1 for it in name.ljust(6)) + bytes([0x60 | int(number or 0) << 1])
+
+
+def ui_frame(source, to, info, pid=0xF0, via=()):
+    """A UI frame, command, F = 0."""
+    calls = [call_field(it) for it in (to, source, *via)]
+    calls[0] = calls[0][:6] + bytes([calls[0][6] | 0x80])
+    calls[-1] = calls[-1][:6] + bytes([calls[-1][6] | 1])
+    return b"".join(calls) + bytes([3, pid]) + info
+
+
+def little(number, octets=4):
+    return number.to_bytes(octets, "little")
+
+
+def answers(tnc):
+    """R, G, g, y and Y are answered, also for port 255; P and kinds that are none are passed over."""
+    world = World(tnc)
+    host = world.client(0)
+    for port in (0, 1, 255):
+        same(world.ask(host, "R", port=port), Message("R", body=little(1, 8)))
+        same(world.ask(host, "G", port=port), Message("G", body=b"1;Port1 sound card;\0"))
+        same(world.ask(host, "g", port=port), Message("g", body=bytes([0, 255, 5, 2, 63, 10, 4, 0, 1, 0, 0, 0])))
+        same(world.ask(host, "y", port=port), Message("y", body=little(0)))
+        host.send("Y", "N1CALL", source="N0CALL", port=port)
+        same(world.one(host, "Y"), Message("Y", "N0CALL", "N1CALL", little(0)))
+    host.send("P", body=b"user".ljust(255, b"\0") + b"word".ljust(255, b"\0"))
+    for kind in "HUISTZaz0\0\xff":
+        host.send(kind, body=b"what?")
+    world.quiet(host)
+    world.end()
+
+
+def settings(tnc):
+    """What KISS sets is what g tells; another port's settings are passed over."""
+    world = World(tnc, "--window", "7")
+    host, kiss = world.client(0), world.kiss(0)
+    for command, value in ((1, 7), (2, 128), (3, 20), (4, 9), (5, 1), (6, 1), (0x11, 99), (0x22, 99)):
+        kiss.send(bytes([value]), command=command)
+    kiss.send(b"", command=2)
+    world.go(5)
+    same(world.ask(host, "g"), Message("g", body=bytes([0, 255, 7, 9, 128, 20, 7, 0, 1, 0, 0, 0])))
+    world.end()
+
+
+def registers(tnc):
+    """X and x: a call belongs to one host, until it gives it back or leaves."""
+    world = World(tnc)
+    one, other = world.client(0), world.client(0)
+
+    def asks(host, call, answer):
+        host.send("X", source=call)
+        same(world.one(host, "X"), Message("X", call, body=answer))
+
+    asks(one, "N0CALL", b"\1")
+    asks(one, "N0CALL", b"\1")
+    asks(other, "N0CALL", b"\0")
+    asks(other, "N0CALL-15", b"\1")
+    for bad in ("", "N0CALL-16", "TOOLONGX", "N0-CALL", "N 0CA"):
+        asks(one, bad, b"\0")
+    other.send("x", source="N0CALL")
+    asks(other, "N0CALL", b"\0")
+    one.send("x", source="N0CALL")
+    world.go(5)
+    asks(other, "N0CALL", b"\1")
+    other.socket.close()
+    world.hosts.remove(other)
+    world.go(10)
+    asks(one, "N0CALL", b"\1")
+    asks(one, "N0CALL-15", b"\1")
+    world.end()
+
+
+def sends_unproto(tnc):
+    """M and V: the frames that the other station hears, octet for octet; what does not fit is passed over."""
+    world = World(tnc)
+    host, far = world.client(0), world.kiss(1)
+    for pid, sent in ((0, 0xF0), (0xCF, 0xCF)):
+        host.send("M", "APRS", b"hello", pid, "N0CALL-1")
+    for count in range(9):
+        calls = [f"R{it}-{it}" for it in range(count)]
+        host.send("V", "APRS", repeaters(calls) + b"via", 0, "N0CALL", port=255)
+    wanted = [ui_frame("N0CALL-1", "APRS", b"hello", pid) for pid in (0xF0, 0xCF)]
+    wanted += [ui_frame("N0CALL", "APRS", b"via", 0xF0, [f"R{it}-{it}" for it in range(count)]) for count in range(9)]
+    same(world.frames(far, len(wanted)), wanted)
+    host.send("V", "APRS", bytes([9]) + bytes(90), 0, "N0CALL")
+    host.send("V", "APRS", bytes([2]) + bytes(19), 0, "N0CALL")
+    host.send("V", "APRS", b"", 0, "N0CALL")
+    host.send("M", "APRS", b"x", 0, "no call")
+    host.send("M", "", b"x", 0, "N0CALL")
+    host.send("M", "APRS", bytes(938), 0, "N0CALL")
+    host.send("M", "APRS", bytes(937), 0, "N0CALL")
+    same(world.frames(far, len(wanted) + 1)[-1], ui_frame("N0CALL", "APRS", bytes(937)))
+    same(host.take(), [])
+    world.end()
+
+
+def raw_frames(tnc):
+    """K and k: frames as they are, to the air and from it."""
+    world = World(tnc)
+    host, far, kiss = world.client(0), world.client(1), world.kiss(1)
+    far.send("k")
+    long = RAW + bytes(1024 - len(RAW))
+    for body in (b"\0" + RAW, b"\x13" + long, b"\0" + RAW[:14], b"\0" + long + b"\0", b"", b"\0"):
+        host.send("K", body=body)
+    same(world.frames(kiss, 2), [RAW, long])
+    wanted = [Message("K", "N7LEM", "APRS", b"\0" + it) for it in (RAW, long)]
+    world.until("two raw frames", lambda: len(far.messages) == 2)
+    same(far.take(), wanted)
+    far.send("k")
+    world.go(5)
+    host.send("K", body=b"\0" + RAW)
+    same(len(world.frames(kiss, 3)), 3)
+    same(far.take(), [])
+    odd = bytes([1] * 20)
+    far.send("k")
+    world.go(5)
+    host.send("K", body=b"\0" + odd)
+    same(world.one(far, "K"), Message("K", "", "", b"\0" + odd))
+    world.end()
+
+
+def carries(tnc, *words):
+    """C, D, d, Y, y: a link, what goes over it, and who is told."""
+    world = World(tnc, *words)
+    a, b, third = world.client(0, "AAAA"), world.client(1, "BBBB-7"), world.client(1, "CCCC")
+    world.linked(a, b)
+    same(world.ask(a, "g").body[7], 1)
+    texts = [random.Random(1).randbytes(1500), random.Random(2).randbytes(700)]
+    a.send("D", b.call, texts[0], 0xF0)
+    b.send("D", a.call, texts[1][:256], 0xF0)
+    b.send("D", a.call, b"", 0xF0)
+    b.send("D", a.call, texts[1][256:], 0xCC)
+    a.send("Y", b.call)
+    same(world.one(a, "Y"), Message("Y", "AAAA", "BBBB-7", little(6)))
+    world.until("frames wait", lambda: struct.unpack("<I", world.ask(a, "y").body)[0] > 0)
+    same(world.data(b, 1500), (texts[0], {0xF0}))
+    same(world.data(a, 700), (texts[1], {0xF0, 0xCC}))
+    world.go(100)
+    a.send("Y", b.call)
+    same(world.one(a, "Y").body, little(0))
+    b.send("d", a.call)
+    world.unlinked(a, b)
+    same(world.ask(a, "g").body[7], 0)
+    for host in (a, b):
+        host.send("D", "BBBB-7", b"late", 0xF0)
+        host.send("d", "BBBB-7")
+    for host in (a, b, third):
+        world.quiet(host)
+    world.end()
+
+
+def connects_with_pid(tnc):
+    """c: the PID of data whose own is 0."""
+    world = World(tnc)
+    a, b = world.client(0, "AAAA"), world.client(1, "BBBB")
+    for pid, came in ((0xCF, 0xCF), (0, 0xF0)):
+        a.send("c", "BBBB", pid=pid)
+        same(world.one(a, "C").source, "BBBB")
+        same(world.one(b, "C").source, "AAAA")
+        a.send("D", "BBBB", b"plain", 0)
+        same(world.data(b, 5), (b"plain", {came}))
+        a.send("D", "BBBB", b"named", 0x08)
+        same(world.data(b, 5), (b"named", {0x08}))
+        b.send("D", "AAAA", b"back", 0)
+        same(world.data(a, 4), (b"back", {0xF0}))
+        a.send("d", "BBBB")
+        world.unlinked(a, b)
+    world.end()
+
+
+def connects_by_repeater(tnc):
+    """v: two hosts of one station, by way of the other one, which repeats."""
+    world = World(tnc, "--digi", "DIGI-1")
+    a, b = world.client(0, "AAAA"), world.client(0, "BBBB")
+    a.send("v", "BBBB", repeaters(["DIGI-1"]))
+    same(world.one(a, "C").body, b"*** CONNECTED With Station BBBB\r")
+    same(world.one(b, "C").body, b"*** CONNECTED To Station AAAA\r")
+    a.send("D", "BBBB", b"there", 0xF0)
+    same(world.data(b, 5), (b"there", {0xF0}))
+    b.send("D", "AAAA", b"and back", 0xF0)
+    same(world.data(a, 8), (b"and back", {0xF0}))
+    b.send("d", "AAAA")
+    world.unlinked(a, b)
+    world.end()
+
+
+def refuses_calls(tnc):
+    """C, v and c that are refused are answered by d, the calls as they came."""
+    world = World(tnc)
+    a, other = world.client(0, "AAAA"), world.client(0, "CCCC")
+    del other
+    bad = [
+        ("C", "no call", "AAAA", b""), ("C", "", "AAAA", b""), ("C", "BBBB", "A B", b""), ("C", "BBBB", "CCCC", b""),
+        ("C", "BBBB", "DDDD", b""), ("c", "BBBB-16", "AAAA", b""), ("v", "BBBB", "AAAA", b""),
+        ("v", "BBBB", "AAAA", bytes([9]) + bytes(90)), ("v", "BBBB", "AAAA", bytes([1]) + bytes(9)),
+        ("v", "BBBB", "AAAA", bytes([1]) + b"NO CALL".ljust(10, b"\0")),
+    ]
+    for kind, to, source, body in bad:
+        a.send(kind, to, body, source=source)
+        text = f"*** DISCONNECTED From Station {to}\r".encode()
+        same(world.one(a, "d"), Message("d", to, source, text))
+    a.send("C", "bbbb", source="cccc")
+    same(world.one(a, "d"), Message("d", "BBBB", "CCCC", b"*** DISCONNECTED From Station BBBB\r"))
+    a.send("C", "BBBB")
+    a.send("C", "BBBB")
+    same(world.one(a, "d"), Message("d", "BBBB", "AAAA", b"*** DISCONNECTED From Station BBBB\r"))
+    world.end()
+
+
+def has_links_for_64(tnc):
+    """A 65th link is refused; one of them that nobody answers ends as a link does."""
+    world = World(tnc)
+    a = world.client(0, "AAAA")
+    for at in range(64):
+        a.send("C", f"B{at}")
+    same(world.ask(a, "g").body[7], 64)
+    same(a.take(), [])
+    a.send("C", "B64")
+    same(world.one(a, "d"), Message("d", "B64", "AAAA", b"*** DISCONNECTED From Station B64\r"))
+    world.end()
+
+
+def is_refused_by_nobody(tnc):
+    """A call that no host has registered is not answered, and ends after the retries; a called host's station refuses
+    nothing. A host that leaves ends its links."""
+    world = World(tnc)
+    a, b = world.client(0, "AAAA"), world.client(1, "BBBB")
+    a.send("C", "NOBODY")
+    same(world.one(a, "d"), Message("d", "NOBODY", "AAAA", b"*** DISCONNECTED From Station NOBODY\r"))
+    world.linked(a, b)
+    a.socket.close()
+    world.hosts.remove(a)
+    same(world.one(b, "d").body, b"*** DISCONNECTED From Station AAAA\r")
+    world.end()
+
+
+def takes_pieces(tnc):
+    """Messages that come octet by octet, or many at once, are the same messages."""
+    world = World(tnc)
+    host, far = world.client(0), world.kiss(1)
+    message = written(Message("M", "N0CALL", "APRS", b"pieces"))
+    for at in range(len(message)):
+        host.octets(message[at : at + 1])
+        world.go(1)
+    host.octets(message * 5 + message[:20])
+    world.go(3)
+    host.octets(message[20:] + written(Message("R")))
+    same(world.frames(far, 7), [ui_frame("N0CALL", "APRS", b"pieces")] * 7)
+    same(world.one(host, "R").body, little(1, 8))
+    world.end()
+
+
+def closes(tnc):
+    """A header that tells more than 4096 octets closes its host, and no other; 4096 are taken."""
+    world = World(tnc)
+    good, bad = world.client(0), world.client(0)
+    good.send("P", body=bytes(4096))
+    bad.octets(written(Message("P"))[:28] + little(4097) + little(0))
+    world.until("closed", lambda: bad.ended)
+    same(world.ask(good, "R").body, little(1, 8))
+    world.end(closed=1)
+
+
+def has_room_for_64(tnc):
+    """A 65th host is closed at once; after one has left, there is room for another."""
+    world = World(tnc)
+    hosts = [world.client(0) for _ in range(32)] + [world.kiss(0) for _ in range(32)]
+    world.go(10)
+    late = world.client(0)
+    world.until("closed", lambda: late.ended)
+    world.hosts.remove(late)
+    same(world.ask(hosts[0], "R").body, little(1, 8))
+    hosts[40].socket.close()
+    world.go(20)
+    same(world.ask(world.client(0), "R").body, little(1, 8))
+    world.end(closed=1)
+
+
+def is_flooded(tnc):
+    """A host that reads nothing is closed when more than 262,144 octets wait for it; another one is served on."""
+    world = World(tnc)
+    good, bad = world.client(0), Client.__new__(Client)
+    import socket
+
+    bad.socket = socket.socket()
+    bad.socket.setsockopt(socket.SOL_SOCKET, socket.SO_RCVBUF, 2048)
+    bad.socket.connect(("127.0.0.1", world.stations[0].agw))
+    bad.socket.setblocking(False)
+    ask = written(Message("G")) * 1000
+    closed = False
+    for _ in range(1000):
+        try:
+            bad.socket.send(ask)
+        except BlockingIOError:
+            pass
+        except OSError:
+            closed = True
+            break
+        world.go(1)
+    same(closed, True)
+    same(world.ask(good, "R").body, little(1, 8))
+    world.end(closed=1)
+
+
+def speaks_kiss(tnc):
+    """KISS: frames both ways, each once, with the octets that are written as two; other ports and commands are passed over."""
+    world = World(tnc)
+    near, far, also = world.kiss(0), world.kiss(1), world.kiss(1)
+    odd = ui_frame("N0CALL", "APRS", b"\xc0\xdb\xdc\xdd\xdb\xc0")
+    near.send(RAW)
+    near.send(odd)
+    for command in (0x10, 0xF0, 0x0C, 0x0E, 0x07):
+        near.send(RAW, command=command)
+    near.send(RAW[:14])
+    near.send(RAW + bytes(1025 - len(RAW)))
+    near.socket.sendall(b"\xc0\xc0\xc0\xff\xc0\0" + RAW[:3] + b"\xdb\x41\xc0")
+    near.send(RAW + b"last")
+    for host in (far, also):
+        wanted = [RAW, odd, RAW[:3], RAW + b"last"][:2] + [RAW + b"last"]
+        same(world.frames(host, 3), wanted)
+    same(near.frames(), [])
+    world.end()
+
+
+def repeats(tnc):
+    """--digi: the other station's KISS host is sent what this one repeats."""
+    world = World(tnc, "--digi", "DIGI-1")
+    near, far = world.kiss(0), world.kiss(1)
+    near.send(ui_frame("N0CALL", "APRS", b"please", via=["DIGI-1", "WIDE2-1"]))
+    same(world.frames(far, 1), [ui_frame("N0CALL", "APRS", b"please", via=["DIGI-1", "WIDE2-1"])])
+    repeated = ui_frame("N0CALL", "APRS", b"please", via=["DIGI-1", "WIDE2-1"])
+    repeated = repeated[:20] + bytes([repeated[20] | 0x80]) + repeated[21:]
+    same(world.frames(near, 1), [repeated])
+    world.end()
+
+
+def is_logged(tnc):
+    """scripts/agw_log.py between a host and the station: it passes every octet on, and lists each message in words."""
+    with Programs(tnc) as it:
+        station = it.world.stations[0]
+        port = free_port()
+        folder = os.path.dirname(os.path.abspath(__file__))
+        log = it.start(sys.executable, f"{folder}/agw_log.py", str(port), str(station.agw))
+        direct, station.agw = station.agw, port
+        host = it.world.client(0, "AAAA")
+        host.send("M", "APRS", b"hello", 0xCF)
+        same(it.world.ask(host, "R").body, little(1, 8))
+        station.agw = direct
+        lines = [
+            " 1 > X (register) from AAAA", " 1 < X (registered) from AAAA 1 octets: 01",
+            " 1 > M (send a UI frame) from AAAA to APRS pid cf 5 octets: hello",
+            " 1 > R (which version?) from AAAA", " 1 < R (version) 8 octets: 0100000000000000",
+        ]
+        for line in lines:
+            it.until(log, line + "\n")
+        it.world.end()
+
+
+OWN = [
+    answers, settings, registers, sends_unproto, raw_frames, carries, connects_with_pid, connects_by_repeater, refuses_calls,
+    has_links_for_64, is_refused_by_nobody, takes_pieces, closes, has_room_for_64, is_flooded, speaks_kiss, repeats,
+    is_logged,
+]
+
+
+class Program:
+    """Somebody else's program, in a fresh folder, whose print is read as it comes."""
+
+    def __init__(self, *words, files=(), display=""):
+        self.home = tempfile.TemporaryDirectory(prefix="host-")
+        for name, text in files:
+            with open(f"{self.home.name}/{name}", "w") as file:
+                file.write(text)
+        self.log = open(f"{self.home.name}/log", "w+b")
+        self.program = subprocess.Popen(
+            words, cwd=self.home.name, env={**os.environ, "HOME": self.home.name, "DISPLAY": display}, stdin=subprocess.PIPE,
+            stdout=self.log, stderr=self.log, bufsize=0,
+        )
+
+    def say(self, line):
+        self.program.stdin.write(line.encode() + b"\n")
+
+    def text(self):
+        """What it has printed so far."""
+        file = self.log.fileno()
+        return os.pread(file, os.fstat(file).st_size, 0).decode(errors="replace")
+
+    def end(self):
+        self.program.terminate()
+        try:
+            self.program.wait(5)
+        except subprocess.TimeoutExpired:
+            self.program.kill()
+            self.program.wait()
+        self.program.stdin.close()
+        text = self.text()
+        self.log.close()
+        self.home.cleanup()
+        return text
+
+
+class Programs:
+    """A world that goes at ten times the pace of sound, and programs in it, which are ended in any case."""
+
+    def __init__(self, tnc, *words):
+        self.world = World(tnc, *words)
+        self.world.pause, self.world.limit = 0.005, 10 * LIMIT
+        self.programs = []
+
+    def __enter__(self):
+        return self
+
+    def __exit__(self, *fault):
+        for program in self.programs:
+            text = program.end()
+            if fault[0]:
+                print(text[-2000:])
+
+    def start(self, *words, **more):
+        self.programs.append(Program(*words, **more))
+        return self.programs[-1]
+
+    def until(self, program, text):
+        """Goes on until a program has printed a text."""
+        began = time.monotonic()
+        while text not in program.text():
+            if time.monotonic() - began > 60:
+                raise AssertionError(f"waited in vain for {text!r} of {program.program.args[0]}")
+            self.world.go(1)
+
+
+def with_appserver(tnc, *words):
+    """Dire Wolf's `appserver`: a caller is welcomed, asks who is there, lets it send 20 packets, and leaves."""
+    with Programs(tnc, *words) as it:
+        port = it.world.stations[1].agw
+        server = it.start("appserver", "-h", "127.0.0.1", "-p", str(port), "BBBB")
+        a = it.world.client(0, "AAAA")
+        it.world.go(100)
+        a.send("C", "BBBB")
+        it.world.until("connected", lambda: a.take("C"))
+        told = b""
+
+        def until(text):
+            nonlocal told
+
+            def holds():
+                nonlocal told
+                told += b"".join(message.body for message in a.take("D"))
+                return text in told
+
+            it.world.until(text.decode(), holds)
+            told = told.split(text)[1]
+
+        until(b"Welcome!  Type ? for list of commands")
+        a.send("D", "BBBB", b"who\r", 0xF0)
+        until(b"AAAA")
+        a.send("D", "BBBB", b"test 5 60\r", 0xF0)
+        until(b"000005 abcdefgh")
+        until(b"bytes/sec")
+        a.send("D", "BBBB", b"bye\r", 0xF0)
+        it.world.until("disconnected", lambda: a.take("d"))
+        it.until(server, "End session 0")
+        it.world.end()
+
+
+def with_appserver_wide(tnc):
+    """The same by SREJ and modulo 128."""
+    with_appserver(tnc, "--mode", "srej", "--wide")
+
+
+def with_aclients(tnc):
+    """Dire Wolf's `aclients` at both stations: each counts and shows what its station hears."""
+    with Programs(tnc) as it:
+        words = [f"127.0.0.1:{station.agw}=S{at}" for at, station in enumerate(it.world.stations)]
+        clients = it.start("aclients", *words)
+        it.until(clients, "Client 0 now connected")
+        it.until(clients, "Client 1 now connected")
+        it.world.go(20)
+        near, far = it.world.kiss(0), it.world.kiss(1)
+        near.send(ui_frame("N0CALL-1", "APRS", b"from the first"))
+        it.until(clients, "N0CALL-1>APRS:from the first")
+        far.send(ui_frame("N0CALL-2", "APRS", b"from the second"))
+        it.until(clients, "N0CALL-2>APRS:from the second")
+        it.world.end()
+
+
+def with_kissutil(tnc):
+    """Dire Wolf's `kissutil` at both stations: frames and settings."""
+    with Programs(tnc) as it:
+        ports = [str(station.kiss) for station in it.world.stations]
+        one, other = (it.start("kissutil", "-h", "127.0.0.1", "-p", port) for port in ports)
+        host = it.world.client(0)
+        it.world.go(100)
+        for command in ("d 7", "p 128", "s 20", "t 9", "f 1"):
+            one.say(command)
+        it.world.until("settings", lambda: it.world.ask(host, "g").body[2:6] == bytes([7, 9, 128, 20]))
+        one.say("N0CALL-1>APRS,WIDE1-1:hello")
+        it.until(other, "N0CALL-1>APRS,WIDE1-1:hello")
+        other.say("N0CALL-2>APRS:and back")
+        it.until(one, "N0CALL-2>APRS:and back")
+        it.world.end()
+
+
+APRX = """mycall W1AW-1
+<logging>
+pidfile aprx.pid
+rflog rf.log
+aprxlog aprx.log
+erlangfile aprx.state
+</logging>
+<interface>
+tcp-device 127.0.0.1 {} KISS
+callsign W1AW-1
+tx-ok true
+</interface>
+<digipeater>
+transmitter W1AW-1
+<source>
+source W1AW-1
+relay-type digipeated
+</source>
+</digipeater>
+"""
+
+
+def with_aprx(tnc):
+    """`aprx` as a digipeater: a frame by way of WIDE1-1 comes back repeated, and one by way of nobody does not."""
+    with Programs(tnc) as it:
+        aprx = it.start("aprx", "-i", "-f", "aprx.conf", files=[("aprx.conf", APRX.format(it.world.stations[1].kiss))])
+        del aprx
+        near = it.world.kiss(0)
+        it.world.go(200)
+        near.send(ui_frame("N7LEM", "APRS", b"!4903.50N/07201.75W-no way"))
+        near.send(ui_frame("N7LEM", "APRS", b"!4903.50N/07201.75W-please", via=["WIDE1-1"]))
+        it.world.until("a frame", lambda: near.frames())
+        it.world.go(200)
+        same([frame[-6:] for frame in near.frames()], [b"please"])
+        same(near.frames()[0][14:20], call_field("W1AW-1")[:6])
+        it.world.end()
+
+
+XASTIR = """STATION_CALLSIGN:N0CALL-5
+DEVICE0_TYPE:12
+DEVICE0_HOST:127.0.0.1
+DEVICE0_SPEED:{}
+DEVICE0_UNPROTO1:WIDE1-1,WIDE2-1
+DEVICE0_TXMT:1
+DEVICE0_RELAY_DIGIPEAT:0
+DEVICE0_RECONN:1
+DEVICE0_ONSTARTUP:1
+TNC_LOG_DATA:1
+"""
+
+
+def display(programs):
+    """A screen for a program that wants one; its name."""
+    screen = programs.start("Xvfb", "-displayfd", "1", "-screen", "0", "800x600x16", "-nolisten", "tcp")
+    programs.until(screen, "\n")
+    return ":" + screen.text().split()[0]
+
+
+def with_xastir(tnc):
+    """`xastir` over AGWPE, on a screen that nobody sees: its position goes out to port 255, and it logs what is heard."""
+    with Programs(tnc) as it:
+        screen = display(it)
+        files = [("xastir.cnf", XASTIR.format(it.world.stations[0].agw))]
+        xastir = it.start("sh", "-c", "mkdir config; mv xastir.cnf config; exec xastir -c .", files=files, display=screen)
+        far = it.world.kiss(1)
+        sent = ui_frame("N0CALL-5", "APX218", b"", via=["WIDE1-1", "WIDE2-1"])
+        it.world.until("a position", lambda: far.frames())
+        frame = far.frames()[0]
+        same((frame[7:30], frame[30:31]), (sent[7:30], b"="))
+        far.send(ui_frame("N7LEM", "APRS", b"!4903.50N/07201.75W-hello", via=["WIDE1-1"]))
+        log = f"{xastir.home.name}/logs/tnc.log"
+
+        def is_logged():
+            return os.path.exists(log) and "N7LEM>APRS,WIDE1-1:!4903.50N/07201.75W-hello" in open(log).read()
+
+        it.world.until("a line in its log", is_logged)
+        it.world.end()
+
+
+OTHERS = {
+    "appserver": [with_appserver, with_appserver_wide],
+    "aclients": [with_aclients],
+    "kissutil": [with_kissutil],
+    "aprx": [with_aprx],
+    "xastir": [with_xastir],
+}
+
+
+def carries_by_srej(tnc):
+    """The same by SREJ."""
+    carries(tnc, "--mode", "srej")
+
+
+def carries_wide(tnc):
+    """The same modulo 128."""
+    carries(tnc, "--wide")
+
+
+def run(check, tnc, times):
+    """Runs one check; whether it holds."""
+    began = time.monotonic()
+    try:
+        check(tnc)
+    except Exception:  # whatever goes wrong is a failed check
+        print(f"FAILED: {check.__name__}: {check.__doc__}\n{traceback.format_exc(limit=-4)}")
+        return False
+    if times:
+        print(f"{check.__name__}: {time.monotonic() - began:.1f} s")
+    return True
+
+
+def main():
+    reader = argparse.ArgumentParser()
+    reader.add_argument("--tnc", default="bin/tnc")
+    reader.add_argument("--only")
+    reader.add_argument("--times", action="store_true")
+    given = reader.parse_args()
+    checks = [*OWN, carries_by_srej, carries_wide]
+    os.environ["PATH"] += ":/usr/sbin"
+    for program, those in OTHERS.items():
+        if shutil.which(program) and (program != "xastir" or shutil.which("Xvfb")):
+            checks += those
+        else:
+            print(f"skipped: {program} as a host ({program} is not installed)")
+    if given.only:
+        checks = [check for check in checks if given.only in check.__name__]
+    with concurrent.futures.ThreadPoolExecutor(6) as pool:
+        results = list(pool.map(lambda check: run(check, given.tnc, given.times), checks))
+    return 0 if all(results) else 1
+
+
+if __name__ == "__main__":
+    sys.exit(main())

@@ -1,0 +1,115 @@
+"""A Dire Wolf with an air of pipes in the place of its sound card, beside a live station. For the checks.
+
+Dire Wolf hears standard input. What it sends goes to an ALSA device that writes into a named pipe: a whole transmission at
+once, after which Dire Wolf waits as long as it takes on the air. So the air has to keep the pace of sound."""
+import os
+import subprocess
+import tempfile
+import time
+
+from air import TICK, connect, free_port, read_all
+
+CARD = 'pcm.air {{ type file slave.pcm null file "{}" format raw }}\n'
+SETTINGS = """ADEVICE stdin air
+ARATE 9600
+CHANNEL 0
+MODEM 1200
+TXDELAY 20
+TXTAIL 5
+MYCALL {call}
+AGWPORT {agw}
+KISSPORT {kiss}
+"""
+
+
+class DireWolf:
+    """A running `direwolf` in a fresh folder."""
+
+    def __init__(self, call, *settings):
+        self.kiss, self.agw = free_port(), free_port()
+        self.home = tempfile.TemporaryDirectory(prefix="direwolf-")
+        pipe = f"{self.home.name}/sent"
+        os.mkfifo(pipe)
+        self.write(".asoundrc", CARD.format(pipe))
+        self.write("direwolf.conf", SETTINGS.format(call=call, agw=self.agw, kiss=self.kiss) + "\n".join(settings) + "\n")
+        self.sent = os.open(pipe, os.O_RDONLY | os.O_NONBLOCK)
+        self.queue = b""
+        self.log = open(f"{self.home.name}/log", "w+b")
+        self.program = subprocess.Popen(
+            ["direwolf", "-t", "0", "-q", "d", "-c", "direwolf.conf"],
+            cwd=self.home.name, env={**os.environ, "HOME": self.home.name},
+            stdin=subprocess.PIPE, stdout=self.log, stderr=self.log, bufsize=0,
+        )
+
+    def write(self, name, text):
+        with open(f"{self.home.name}/{name}", "w") as file:
+            file.write(text)
+
+    def connect(self, port):
+        """A socket to one of its ports."""
+        return connect(port)
+
+    def take(self, count):
+        """So many octets of the sound that it sends now, or silence."""
+        try:
+            while part := os.read(self.sent, 65536):
+                self.queue += part
+        except BlockingIOError:
+            pass
+        part, self.queue = self.queue[:count], self.queue[count:]
+        return part.ljust(count, b"\0")
+
+    def end(self):
+        """Ends it, and tells what it printed."""
+        self.program.stdin.close()
+        try:
+            self.program.wait(5)
+        except subprocess.TimeoutExpired:
+            self.program.kill()
+            self.program.wait()
+        os.close(self.sent)
+        self.log.seek(0)
+        text = self.log.read().decode(errors="replace")
+        self.log.close()
+        self.home.cleanup()
+        return text
+
+
+class Damage:
+    """What reaches the other side: of each long transmission a tenth of a second is missing, at a drawn place."""
+
+    def __init__(self, draws, wanted=True):
+        self.draws, self.wanted, self.since, self.at, self.count = draws, wanted, 0, 80, 0
+
+    def heard(self, ticks):
+        out = []
+        for at in range(0, len(ticks), TICK):
+            tick = ticks[at : at + TICK]
+            if not any(tick):
+                self.since = 0
+            elif self.since == 0:
+                self.at = self.draws.randrange(80, 300)
+            self.since += any(tick)
+            gone = self.wanted and self.at <= self.since < self.at + 10
+            self.count += gone and self.since == self.at
+            out.append(bytes(TICK) if gone else tick)
+        return b"".join(out)
+
+
+class PacedAir:
+    """Carries the samples of a station and a Dire Wolf to each other at the pace of sound."""
+
+    def __init__(self, station, wolf, draws, damage=True, ticks=2):
+        self.station, self.wolf, self.count = station, wolf, ticks * TICK
+        self.to_wolf, self.to_station = Damage(draws, damage), Damage(draws, damage)
+        self.ticks, self.began = 0, time.monotonic()
+
+    def step(self):
+        """A few ticks, and the time that they take."""
+        self.station.program.stdin.write(self.to_station.heard(self.wolf.take(self.count)))
+        sent = read_all(self.station.program.stdout, self.count)
+        self.wolf.program.stdin.write(self.to_wolf.heard(sent))
+        self.ticks += self.count // TICK
+        ahead = self.ticks / 100 - (time.monotonic() - self.began)
+        if ahead > 0:
+            time.sleep(ahead)

@@ -1,0 +1,79 @@
+#!/usr/bin/env python3
+"""Two stations on one machine whose sound reaches each other, at the pace of sound: to try host programs without a radio.
+
+  scripts/two_stations.py [--tnc PROGRAM] [--kiss N N] [--agw N N] [--loss PERCENT] [--seconds N] [WORD..]
+
+The first station has the first port of each pair, the second one the second. WORDS after `--` go to both, as `-- --mode srej`.
+Of so many percent of the transmissions nothing arrives. A line tells the ports, and each frame that a station hears or has
+sent is one more. It runs until it is stopped, or for so many seconds."""
+import argparse
+import random
+import subprocess
+import sys
+import threading
+import time
+
+from air import TICK, Loss, read_all
+
+STEP = 2  # ticks at a time
+
+
+def started(given, at):
+    """One of the stations, with its lines as lines of this program's output."""
+    words = [given.tnc, "serve", "--kiss", str(given.kiss[at]), "--agw", str(given.agw[at]), "--seed", str(at + 1)]
+    pipe = subprocess.PIPE
+    program = subprocess.Popen([*words, "--monitor", *given.words], stdin=pipe, stdout=pipe, stderr=pipe, bufsize=0)
+
+    def lines():
+        for line in program.stderr:
+            print(f"{at + 1} {line.decode().rstrip()}", flush=True)
+
+    teller = threading.Thread(target=lines, daemon=True)
+    teller.start()
+    return program, teller
+
+
+def carry(stations, losses, seconds):
+    """Lets each hear what the other one sends."""
+    heard = [bytes(STEP * TICK)] * 2
+    began, steps = time.monotonic(), 0
+    while not seconds or steps * STEP < 100 * seconds:
+        for (program, _), sound in zip(stations, heard):
+            program.stdin.write(sound)
+        sent = [read_all(program.stdout, STEP * TICK) for program, _ in stations]
+        heard = [losses[1].heard(sent[1]), losses[0].heard(sent[0])]
+        steps += 1
+        ahead = steps * STEP / 100 - (time.monotonic() - began)
+        if ahead > 0:
+            time.sleep(ahead)
+
+
+def main():
+    reader = argparse.ArgumentParser()
+    reader.add_argument("--tnc", default="bin/tnc")
+    reader.add_argument("--kiss", type=int, nargs=2, default=[8001, 8011])
+    reader.add_argument("--agw", type=int, nargs=2, default=[8000, 8010])
+    reader.add_argument("--loss", type=int, default=0)
+    reader.add_argument("--seconds", type=float, default=0)
+    reader.add_argument("words", nargs="*")
+    given = reader.parse_args()
+    stations = [started(given, at) for at in range(2)]
+    draws = random.Random()
+    for at in range(2):
+        print(f"{at + 1} kiss {given.kiss[at]} agw {given.agw[at]}", flush=True)
+    try:
+        carry(stations, [Loss(given.loss, draws) for _ in range(2)], given.seconds)
+    except (KeyboardInterrupt, RuntimeError, OSError) as fault:
+        if str(fault):
+            print(fault, flush=True)
+    status = 0
+    for program, teller in stations:
+        program.stdin.close()
+        program.stdout.read()
+        status = program.wait() or status
+        teller.join()
+    return status
+
+
+if __name__ == "__main__":
+    sys.exit(main())
