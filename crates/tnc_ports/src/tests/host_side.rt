@@ -6,6 +6,7 @@ use crate::{HostSide, MemLive, MemPorts, ReportLine};
 use link_machine::Params;
 use station::{Config, PortKind};
 use std::alloc::Global;
+use std::net::Net;
 use std::test::Fail;
 use tnc_base::OutOfMemory;
 
@@ -18,21 +19,70 @@ fn frame() -> &'static [u8]
     FRAME
 }
 
-/// A station that no host has joined.
-fn new_side(alloc: Global) -> Result<HostSide, Fail> {
-    let params = Params::default();
-    Ok(HostSide::new(alloc, Config { params, digi: None }, 7)?)
+/// A station over sockets in memory.
+#[derive(Drop)]
+struct Desk {
+    alloc: Global,
+    side: HostSide,
+    ports: MemPorts,
 }
 
-/// The frame is heard so often.
-fn hear(side: &mut HostSide, times: u32) -> Result<(), OutOfMemory> {
-    for _ in 0..times {
-        side.hear(frame())?;
+impl Desk {
+    fn new(alloc: Global, live: MemLive) -> Result<Desk, Fail> {
+        let params = Params::default();
+        let side = HostSide::new(alloc, Config { params, digi: None }, 7)?;
+        let ports = live.ports;
+        Ok(Desk { alloc, side, ports })
     }
-    Ok(())
+
+    /// The frame is heard so often.
+    fn hear(&mut self, times: u32) -> Result<(), OutOfMemory> {
+        for _ in 0..times {
+            self.side.hear(frame())?;
+        }
+        Ok(())
+    }
+
+    /// A turn for each of these numbers, before which the frame is heard so often.
+    fn turns<R: Net>(&mut self, rt: &R, frames: &[u32]) -> Result<(), OutOfMemory> {
+        for times in frames {
+            self.hear(*times)?;
+            self.side.part(rt, &mut self.ports)?;
+        }
+        Ok(())
+    }
+
+    /// The sends as text: after which poll, to which connection, and how many octets were offered.
+    fn sends(&self) -> Result<String, OutOfMemory> {
+        let mut text = String::new(self.alloc);
+        for send in self.ports.sends() {
+            write!(text, "{}:{}:{} ", send.polls, send.id, send.offered)?;
+        }
+        Ok(text)
+    }
+
+    /// The polls as text: how long each waits, and how many ids it pauses.
+    fn polls(&self) -> Result<String, OutOfMemory> {
+        let mut text = String::new(self.alloc);
+        for poll in self.ports.polls() {
+            write!(text, "{}:{} ", poll.wait_ms, poll.paused.len())?;
+        }
+        Ok(text)
+    }
+
+    /// The ids of the `closed` lines that were not taken yet.
+    fn closed(&mut self) -> Result<String, OutOfMemory> {
+        let mut text = String::new(self.alloc);
+        for line in &self.side.take_lines() {
+            if let ReportLine::ClosedLine { id } = line {
+                write!(text, "{id} ")?;
+            }
+        }
+        Ok(text)
+    }
 }
 
-/// Host 5 joins, and again later; host 2 joins and goes.
+/// Host 5 joins, and again later; host 2 joins, and goes at the fourth poll.
 fn two_hosts(alloc: Global) -> Result<Script, OutOfMemory> {
     let mut script = Script::new(alloc);
     script.joins(0, 5, PortKind::Kiss)?;
@@ -42,73 +92,26 @@ fn two_hosts(alloc: Global) -> Result<Script, OutOfMemory> {
     Ok(script)
 }
 
-/// The sends as text: after which poll, to which connection, and how many octets were offered.
-fn sends(alloc: Global, ports: &MemPorts) -> Result<String, OutOfMemory> {
-    let mut text = String::new(alloc);
-    for send in ports.sends() {
-        write!(text, "{}:{}:{} ", send.polls, send.id, send.offered)?;
-    }
-    Ok(text)
-}
-
-/// The polls as text: how long each waits, and how many ids it pauses.
-fn polls(alloc: Global, ports: &MemPorts) -> Result<String, OutOfMemory> {
-    let mut text = String::new(alloc);
-    for poll in ports.polls() {
-        write!(text, "{}:{} ", poll.wait_ms, poll.paused.len())?;
-    }
-    Ok(text)
-}
-
-/// The ids of the `closed` lines that were not taken yet.
-fn closed(alloc: Global, side: &mut HostSide) -> Result<String, OutOfMemory> {
-    let mut text = String::new(alloc);
-    for line in &side.take_lines() {
-        if let ReportLine::ClosedLine { id } = line {
-            write!(text, "{id} ")?;
-        }
-    }
-    Ok(text)
-}
-
 #[test]
 fn a_turn_offers_each_host_one_piece(rt: HostRuntime) -> Result<(), Fail> {
     let alloc = rt.alloc();
-    let mut ports = two_hosts(alloc)?.failing(&[])?.ports;
-    let mut side = new_side(alloc)?;
-    side.part(&rt, &mut ports)?;
-    hear(&mut side, 2)?;
-    side.part(&rt, &mut ports)?;
-    assert_eq!(rt; sends(alloc, &ports)?.as_str(), "2:5:19 2:2:19 ");
-    assert_eq!(rt; polls(alloc, &ports)?.as_str(), "10:0 10:0 ");
+    let mut desk = Desk::new(alloc, two_hosts(alloc)?.failing(&[])?)?;
+    desk.turns(&rt, &[0, 2])?;
+    assert_eq!(rt; desk.sends()?.as_str(), "2:5:19 2:2:19 ");
+    assert_eq!(rt; desk.polls()?.as_str(), "10:0 10:0 ");
     Ok(())
 }
 
-/// Turns with two frames after the first and one after the third.
-fn four_turns(
-    rt: &HostRuntime,
-    side: &mut HostSide,
-    ports: &mut MemPorts,
-) -> Result<(), OutOfMemory> {
-    side.part(rt, ports)?;
-    hear(side, 2)?;
-    side.part(rt, ports)?;
-    side.part(rt, ports)?;
-    hear(side, 1)?;
-    side.part(rt, ports)
-}
-
-// Calls 4 and 5 of the sockets fail: the third poll, and a send to host 5. Host 2 leaves at the fourth poll.
+// Calls 4 and 5 of the sockets fail: the third poll, and a send to host 5.
 #[test]
 fn a_host_whose_send_fails_is_shut(rt: HostRuntime) -> Result<(), Fail> {
     let alloc = rt.alloc();
-    let mut ports = two_hosts(alloc)?.failing(&[4, 5])?.ports;
-    let mut side = new_side(alloc)?;
-    four_turns(&rt, &mut side, &mut ports)?;
-    assert_eq!(rt; closed(alloc, &mut side)?.as_str(), "5 ");
-    assert_eq!(rt; closed(alloc, &mut side)?.as_str(), "");
-    assert_eq!(rt; sends(alloc, &ports)?.as_str(), "2:5:19 2:2:19 3:2:19 ");
-    assert_eq!(rt; came(alloc, &ports)?.as_str(), "5:shut 2:open 5:shut ");
+    let mut desk = Desk::new(alloc, two_hosts(alloc)?.failing(&[4, 5])?)?;
+    desk.turns(&rt, &[0, 2, 0, 1])?;
+    assert_eq!(rt; desk.closed()?.as_str(), "5 ");
+    assert_eq!(rt; desk.closed()?.as_str(), "");
+    assert_eq!(rt; desk.sends()?.as_str(), "2:5:19 2:2:19 3:2:19 ");
+    assert_eq!(rt; came(alloc, &desk.ports)?.as_str(), "5:shut 2:open 5:shut ");
     Ok(())
 }
 
@@ -116,21 +119,29 @@ fn a_host_whose_send_fails_is_shut(rt: HostRuntime) -> Result<(), Fail> {
 #[test]
 fn a_host_that_takes_nothing_is_shut_when_its_buffer_is_full(rt: HostRuntime) -> Result<(), Fail> {
     let alloc = rt.alloc();
-    let mut ports = two_hosts(alloc)?.taking(0).ports;
-    let mut side = new_side(alloc)?;
-    side.part(&rt, &mut ports)?;
-    hear(&mut side, 13_797)?;
-    side.part(&rt, &mut ports)?;
-    assert_eq!(rt; sends(alloc, &ports)?.as_str(), "2:5:19 2:2:19 ");
-    assert_eq!(rt; closed(alloc, &mut side)?.as_str(), "");
-    hear(&mut side, 1)?;
-    assert_eq!(rt; closed(alloc, &mut side)?.as_str(), "5 2 ");
+    let mut desk = Desk::new(alloc, two_hosts(alloc)?.taking(0))?;
+    desk.turns(&rt, &[0, 13_797])?;
+    assert_eq!(rt; desk.sends()?.as_str(), "2:5:19 2:2:19 ");
+    assert_eq!(rt; desk.closed()?.as_str(), "");
+    desk.hear(1)?;
+    assert_eq!(rt; desk.closed()?.as_str(), "5 2 ");
     Ok(())
 }
 
 #[test]
 fn a_tick_without_frames_is_silent(rt: HostRuntime) -> Result<(), Fail> {
-    let air = new_side(rt.alloc())?.tick(false)?;
+    let alloc = rt.alloc();
+    let mut desk = Desk::new(alloc, Script::new(alloc).taking(0))?;
+    let air = desk.side.tick(false)?;
     assert!(rt; air.samples == [0; 96] && !air.began);
+    Ok(())
+}
+
+#[test]
+fn a_line_is_noted(rt: HostRuntime) -> Result<(), Fail> {
+    let alloc = rt.alloc();
+    let mut desk = Desk::new(alloc, Script::new(alloc).taking(0))?;
+    desk.side.note(ReportLine::ClosedLine { id: 9 })?;
+    assert_eq!(rt; desk.closed()?.as_str(), "9 ");
     Ok(())
 }

@@ -7,6 +7,15 @@ use std::net::Net;
 use std::test::Fail;
 use tnc_base::OutOfMemory;
 
+/// Pieces that wait.
+fn waiting_of(alloc: Global, pieces: &[&[u8]]) -> Result<Outgoing, Fail> {
+    let mut waiting = Outgoing::new(alloc)?;
+    for piece in pieces {
+        waiting.append(piece)?;
+    }
+    Ok(waiting)
+}
+
 /// The sends as text: which connection was offered how many octets, and how many it took.
 fn sends(alloc: Global, ports: &MemPorts) -> Result<String, OutOfMemory> {
     let mut text = String::new(alloc);
@@ -37,11 +46,7 @@ fn offers<R: Net>(
 fn pieces_are_offered_one_by_one(rt: HostRuntime) -> Result<(), Fail> {
     let alloc = rt.alloc();
     let mut ports = Script::new(alloc).taking(3).ports;
-    let mut waiting = Outgoing::new(alloc)?;
-    waiting.append(b"12345")?;
-    waiting.append(b"")?;
-    waiting.append(b"67")?;
-    waiting.append(&[0; 4096])?;
+    let mut waiting = waiting_of(alloc, &[b"12345", b"", b"67", &[0; 4096]])?;
     assert_eq!(rt; offers(&rt, alloc, &mut ports, &mut waiting, 4), 0);
     assert_eq!(rt;
         sends(alloc, &ports)?.as_str(),
@@ -54,8 +59,7 @@ fn pieces_are_offered_one_by_one(rt: HostRuntime) -> Result<(), Fail> {
 fn a_failed_offer_takes_nothing(rt: HostRuntime) -> Result<(), Fail> {
     let alloc = rt.alloc();
     let mut ports = Script::new(alloc).failing(&[0])?.ports;
-    let mut waiting = Outgoing::new(alloc)?;
-    waiting.append(b"12345")?;
+    let mut waiting = waiting_of(alloc, &[b"12345"])?;
     assert_eq!(rt; offers(&rt, alloc, &mut ports, &mut waiting, 2), 1);
     assert_eq!(rt; sends(alloc, &ports)?.as_str(), "7:5:5 ");
     assert!(rt; waiting.is_empty());
