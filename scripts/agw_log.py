@@ -25,20 +25,20 @@ class Log:
 
 
 def carry(log, number, source, sink, from_host):
-    """Passes octets on one way, each at once, and lists the messages in them; then ends the other side's input."""
+    """Lists the messages that come one way, and passes their octets on at once; then ends the other side's input."""
     rest, mark = b"", ">" if from_host else "<"
     try:
         while part := source.recv(65536):
-            sink.sendall(part)
             messages, rest = read_all(rest + part)
             for message in messages:
                 log.say(number, f"{mark} {in_words(message, from_host)}")
+            sink.sendall(part)
         if rest:
             log.say(number, f"{mark} {len(rest)} octets that are no whole message")
+        log.say(number, f"{mark} ended")
         sink.shutdown(socket.SHUT_WR)
     except OSError as error:
         log.say(number, f"{mark} {error}")
-    log.say(number, f"{mark} ended")
 
 
 def serve(log, number, host, tnc):
@@ -68,6 +68,7 @@ def main():
     given = reader.parse_args()
     log, number = Log(), 0
     with socket.create_server(("127.0.0.1", given.listen)) as listener:
+        log.say(number, f"listens on {given.listen}, for the TNC on {given.port}")
         while True:
             host, _ = listener.accept()
             number += 1

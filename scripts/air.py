@@ -33,7 +33,7 @@ def free_port(kept=[]):
 
 def connect(port):
     """A socket to a port of a program that opens it as it starts."""
-    for _ in range(500):
+    for _ in range(5000):
         try:
             return socket.create_connection(("127.0.0.1", port), timeout=10)
         except OSError:

@@ -1,6 +1,7 @@
 #!/usr/bin/env bash
 # The end-to-end checks: the built program on recordings that other people's programs made, and other people's programs
-# on what it makes. They run after the proofs, in about two minutes.
+# on what it makes. They run after the proofs, in less than two minutes. What goes at the pace of sound, or with programs
+# that have clocks of their own, is in scripts/check_live.sh.
 #   scripts/check.sh [PROGRAM]       builds the program and checks it, or checks the one that is named
 set -euo pipefail
 cd "$(dirname "$0")/.."
@@ -77,15 +78,6 @@ has_no_port() {
 # OPTION..: what two stations carry to each other's hosts is what these gave.
 stations_agree() {
     scripts/check_serve.py --tnc "$tnc" --octets 1500 "$@" >"$room/told" || { cat "$room/told"; return 1; }
-}
-
-# Says how a script's checks went that was started before: NAME, its number, and the file of what it prints.
-check_started() {
-    local status=0
-    wait "$2" || status=$?
-    cat "$3"
-    skipped=$((skipped + $(grep -c '^skipped: ' "$3" || true)))
-    check "$1" [ "$status" = 0 ]
 }
 
 # The raw PCM in a file, as sox is told of it.
@@ -315,21 +307,6 @@ is_heard_by_multimon() {
         | heard_by_multimon | cmp -s - "$room/readable.text"
 }
 
-# Sessions with Dire Wolf at the other end of the sound: at the pace of sound, so beside all that follows.
-peers=
-if has python3 direwolf; then
-    scripts/check_peers.py --tnc "$tnc" >"$room/peers" 2>&1 &
-    peers=$!
-else
-    skip "sessions with Dire Wolf" "python3 or direwolf"
-fi
-
-# The commands of docs/OPERATING.md, at the pace of sound too.
-if has python3; then
-    scripts/check_operating.py "$tnc" >"$room/operating" 2>&1 &
-    operating=$!
-fi
-
 # Recordings, and back from their frames.
 for raw in samples/*.raw; do
     of=${raw%.raw}
@@ -414,11 +391,10 @@ if has python3; then
     check "two stations" stations_agree
     check "two stations by SREJ, a fifth of the transmissions lost" stations_agree --mode srej --loss 20
     check "two stations modulo 128, half duplex, some lost" stations_agree --wide --half --loss 10
-    scripts/check_hosts.py --tnc "$tnc" >"$room/hosts" 2>&1 &
-    check_started "host programs" $! "$room/hosts"
+    check "hosts that send each message" scripts/check_hosts.py --tnc "$tnc"
 else
     skip "two stations" python3
-    skip "host programs" python3
+    skip "hosts that send each message" python3
 fi
 
 # Words that are refused, and streams that fail.
@@ -440,16 +416,10 @@ done
 check "the manual page and the program agree" scripts/check_manual.sh "$tnc"
 if has python3; then
     check "the documents show what the program prints" scripts/check_readme.py "$tnc"
-    check_started "what OPERATING.md shows" "$operating" "$room/operating"
     check "scores within their bounds" scripts/scores.py --check --tnc "$tnc"
 else
     skip "the documents show what the program prints" python3
-    skip "what OPERATING.md shows" python3
     skip "scores within their bounds" python3
-fi
-
-if [ -n "$peers" ]; then
-    check_started "sessions with Dire Wolf" "$peers" "$room/peers"
 fi
 
 echo "$passed passed, $failed failed, $skipped skipped"

@@ -1,11 +1,12 @@
 #!/usr/bin/env python3
 """Checks how `tnc serve` treats host programs: each message of AGWPE and each KISS command that docs/HOSTS.md names, by
-clients of this script's own, and then other people's programs where they are installed.
+clients of this script's own; or, with --programs, by other people's programs where they are installed.
 
-  scripts/check_hosts.py [--tnc PROGRAM] [--only NAME] [--times]
+  scripts/check_hosts.py [--tnc PROGRAM] [--programs] [--only NAME] [--times]
 
-Each check has two fresh stations whose sound reaches each other. It prints what failed and what was left out, and ends with
-status 0 where all is well."""
+Each check has two fresh stations whose sound reaches each other. This script's own clients go in step with the sound, which
+is the only clock then; other programs have clocks of their own, and are waited for. It prints what failed and what was left
+out, and ends with status 0 where all is well."""
 import argparse
 import concurrent.futures
 import os
@@ -513,32 +514,9 @@ def repeats(tnc):
     world.end()
 
 
-def is_logged(tnc):
-    """scripts/agw_log.py between a host and the station: it passes every octet on, and lists each message in words."""
-    with Programs(tnc) as it:
-        station = it.world.stations[0]
-        port = free_port()
-        folder = os.path.dirname(os.path.abspath(__file__))
-        log = it.start(sys.executable, f"{folder}/agw_log.py", str(port), str(station.agw))
-        direct, station.agw = station.agw, port
-        host = it.world.client(0, "AAAA")
-        host.send("M", "APRS", b"hello", 0xCF)
-        same(it.world.ask(host, "R").body, little(1, 8))
-        station.agw = direct
-        lines = [
-            " 1 > X (register) from AAAA", " 1 < X (registered) from AAAA 1 octets: 01",
-            " 1 > M (send a UI frame) from AAAA to APRS pid cf 5 octets: hello",
-            " 1 > R (which version?) from AAAA", " 1 < R (version) 8 octets: 0100000000000000",
-        ]
-        for line in lines:
-            it.until(log, line + "\n")
-        it.world.end()
-
-
 OWN = [
     answers, settings, registers, sends_unproto, raw_frames, carries, connects_with_pid, connects_by_repeater, refuses_calls,
     has_links_for_64, is_refused_by_nobody, takes_pieces, closes, has_room_for_64, is_flooded, speaks_kiss, repeats,
-    is_logged,
 ]
 
 
@@ -768,6 +746,28 @@ OTHERS = {
 }
 
 
+def is_logged(tnc):
+    """scripts/agw_log.py between a host and the station: it passes every octet on, and lists each message in words."""
+    with Programs(tnc) as it:
+        station = it.world.stations[0]
+        port = free_port()
+        folder = os.path.dirname(os.path.abspath(__file__))
+        log = it.start(sys.executable, f"{folder}/agw_log.py", str(port), str(station.agw))
+        direct, station.agw = station.agw, port
+        host = it.world.client(0, "AAAA")
+        host.send("M", "APRS", b"hello", 0xCF)
+        same(it.world.ask(host, "R").body, little(1, 8))
+        station.agw = direct
+        lines = [
+            " 1 > X (register) from AAAA", " 1 < X (registered) from AAAA 1 octets: 01",
+            " 1 > M (send a UI frame) from AAAA to APRS pid cf 5 octets: hello",
+            " 1 > R (which version?) from AAAA", " 1 < R (version) 8 octets: 0100000000000000",
+        ]
+        for line in lines:
+            it.until(log, line + "\n")
+        it.world.end()
+
+
 def carries_by_srej(tnc):
     """The same by SREJ."""
     carries(tnc, "--mode", "srej")
@@ -791,19 +791,26 @@ def run(check, tnc, times):
     return True
 
 
-def main():
-    reader = argparse.ArgumentParser()
-    reader.add_argument("--tnc", default="bin/tnc")
-    reader.add_argument("--only")
-    reader.add_argument("--times", action="store_true")
-    given = reader.parse_args()
-    checks = [*OWN, carries_by_srej, carries_wide]
+def with_programs():
+    """The checks with other programs than this script, those that are installed."""
+    checks = [is_logged]
     os.environ["PATH"] += ":/usr/sbin"
     for program, those in OTHERS.items():
         if shutil.which(program) and (program != "xastir" or shutil.which("Xvfb")):
             checks += those
         else:
             print(f"skipped: {program} as a host ({program} is not installed)")
+    return checks
+
+
+def main():
+    reader = argparse.ArgumentParser()
+    reader.add_argument("--tnc", default="bin/tnc")
+    reader.add_argument("--only")
+    reader.add_argument("--programs", action="store_true")
+    reader.add_argument("--times", action="store_true")
+    given = reader.parse_args()
+    checks = with_programs() if given.programs else [*OWN, carries_by_srej, carries_wide]
     if given.only:
         checks = [check for check in checks if given.only in check.__name__]
     with concurrent.futures.ThreadPoolExecutor(6) as pool:

@@ -14,7 +14,7 @@ import random
 from air import TICK, Kiss, Station, read_all
 
 FRAME = bytes.fromhex("82a0a4a64040609c6e988a9a406103f0")
-STEP = 50  # ticks at a time
+STEP = 2  # ticks at a time
 EACH = 8  # frames in a transmission
 BITS = 152  # of a frame with its flag, or a few more
 

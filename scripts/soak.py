@@ -227,7 +227,7 @@ class Pair:
             self.ends[0].send("C")
             self.called = True
         for end in self.ends:
-            if end.up and self.draws.random() < 0.01:
+            if end.up and self.draws.random() < 0.002:
                 end.give(self.draws)
             elif self.draws.random() < 0.0005:
                 end.stalls_until = ticks + self.draws.randrange(60) * SECOND

@@ -13,7 +13,7 @@ import sys
 import threading
 import time
 
-from air import TICK, Loss, read_all
+from air import TICK, Loss, connect, read_all
 
 STEP = 2  # ticks at a time
 
@@ -60,7 +60,9 @@ def main():
     stations = [started(given, at) for at in range(2)]
     draws = random.Random()
     for at in range(2):
-        print(f"{at + 1} kiss {given.kiss[at]} agw {given.agw[at]}", flush=True)
+        if stations[at][0].poll() is None:
+            connect(given.agw[at]).close()
+            print(f"{at + 1} kiss {given.kiss[at]} agw {given.agw[at]}", flush=True)
     try:
         carry(stations, [Loss(given.loss, draws) for _ in range(2)], given.seconds)
     except (KeyboardInterrupt, RuntimeError, OSError) as fault:

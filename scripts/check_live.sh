@@ -1,0 +1,34 @@
+#!/usr/bin/env bash
+# The checks of the live TNC that need a clock: sessions with a Dire Wolf at the other end of the sound, other people's
+# programs as hosts, and the commands that docs/OPERATING.md and docs/HOSTS.md show. They are run by hand before a release, on
+# a machine that has a processor to spare, and take about a minute and a half.
+#   scripts/check_live.sh [PROGRAM]      bin/tnc, where no other is named
+set -uo pipefail
+cd "$(dirname "$0")/.."
+tnc=$(realpath "${1:-bin/tnc}")
+failed=0
+
+# NAME COMMAND..: runs a command, and says how it went.
+check() {
+    local began=$SECONDS
+    if "${@:2}"; then
+        echo "$1: fine, $((SECONDS - began)) s"
+    else
+        failed=$((failed + 1))
+        echo "FAILED: $1"
+    fi
+}
+
+if command -v direwolf >/dev/null; then
+    check "sessions with Dire Wolf" scripts/check_peers.py --tnc "$tnc"
+else
+    echo "skipped: sessions with Dire Wolf (direwolf is not installed)"
+fi
+check "other people's programs as hosts" scripts/check_hosts.py --programs --tnc "$tnc"
+check "the commands of docs/OPERATING.md and docs/HOSTS.md" scripts/check_operating.py "$tnc"
+if command -v systemd-analyze >/dev/null; then
+    check "the service of systemd" systemd-analyze verify --man=no systemd/tnc.service
+else
+    echo "skipped: the service of systemd (systemd-analyze is not installed)"
+fi
+[ "$failed" = 0 ]
