@@ -5,7 +5,11 @@ use link_machine::{NewFault, Params};
 use selective_reject::Mode;
 use std::test::Fail;
 
+mod absurd_frames;
 mod calls_and_data;
+mod desk;
+mod public_calls;
+mod random_octets;
 mod requests;
 
 #[test]

@@ -1,10 +1,10 @@
 //! Calls of hosts, the data that they give to links, and disconnects.
 ghost use Rattle.channel_access.specs.Waiting.{HasFrameLength};
 
+use super::desk::field;
 use crate::{Config, HostOut, Parts, Registration, Station};
 use agwpe_port::AgwMessage;
 use ax25_address::Call;
-use ax25_frames::Modulus;
 use link_machine::Params;
 use std::alloc::Global;
 use std::test::Fail;
@@ -85,17 +85,6 @@ fn ua() -> &'static [u8]
     ensures { HasFrameLength result.now }
 {
     UA
-}
-
-/// A call field.
-fn field(text: &str) -> [u8; 10] {
-    let mut field = [0; 10];
-    for (place, octet) in text.as_bytes().iter().enumerate() {
-        if place < 10 {
-            field[place] = *octet;
-        }
-    }
-    field
 }
 
 /// The octets of d from one call to another, with the text of the first.
@@ -295,29 +284,5 @@ fn only_the_owner_gives_and_disconnects(rt: HostRuntime) -> Result<(), Fail> {
     for frame in &frames {
         assert_eq!(rt; frame.as_slice(), DISC);
     }
-    Ok(())
-}
-
-#[test]
-fn a_monitor_reads_in_the_modulus_of_the_link(rt: HostRuntime) -> Result<(), Fail> {
-    let params = Params {
-        wide: true,
-        ..Params::default()
-    };
-    let mut tried = Tried::new(rt.alloc(), params)?;
-    tried.ask(1, CALL, ENDS, b"")?;
-    let table = [
-        ("N7LEM", "NJ7P", Modulus::OneTwentyEight),
-        ("NJ7P", "N7LEM", Modulus::OneTwentyEight),
-        ("N7LEM", "AAAA", Modulus::Eight),
-    ];
-    for (first, second, want) in table {
-        let links = &tried.parts.links;
-        let modulus = links.modulus_between(&Call::parse(first)?, &Call::parse(second)?);
-        assert!(rt; modulus == want);
-    }
-    let station = Station::new(rt.alloc(), Config { params, digi: None }, 7)?;
-    let modulus = station.modulus(&Call::parse("N7LEM")?, &Call::parse("NJ7P")?);
-    assert!(rt; modulus == Modulus::Eight);
     Ok(())
 }

@@ -1,9 +1,6 @@
 //! What hosts ask by octets.
-ghost use Rattle.channel_access.specs.Waiting.{HasFrameLength};
-
-use crate::{Config, Connection, HostOut, Parts, PortKind, Reader};
-use agwpe_port::AgwIn;
-use kiss_port::KissIn;
+use super::desk::{Desk, message};
+use crate::PortKind;
 use link_machine::Params;
 use std::alloc::Global;
 use std::test::Fail;
@@ -14,83 +11,7 @@ const UA: &[u8] = b"\x82\x82\x82\x82\x40\x40\x60\x84\x84\x84\x84\x40\x40\xe1\x73
 /// RR from BBBB to AAAA, which acknowledges three frames.
 const RR: &[u8] = b"\x82\x82\x82\x82\x40\x40\x60\x84\x84\x84\x84\x40\x40\xe1\x61";
 
-fn ua() -> &'static [u8]
-    ensures { HasFrameLength result.now }
-{
-    UA
-}
-
-fn rr() -> &'static [u8]
-    ensures { HasFrameLength result.now }
-{
-    RR
-}
-
-/// A station with the AGWPE connections 1 and 2 and the KISS connection 3, and what it gave.
-#[derive(Drop)]
-struct Desk {
-    alloc: Global,
-    parts: Parts,
-    out: HostOut,
-}
-
 impl Desk {
-    fn new(alloc: Global) -> Result<Desk, Fail> {
-        let params = Params::default();
-        let parts = Parts::new(alloc, Config { params, digi: None }, 7)?;
-        let out = HostOut::new(alloc);
-        let mut desk = Desk { alloc, parts, out };
-        desk.enter(1, Reader::AgwReader(AgwIn::new(alloc)))?;
-        desk.enter(2, Reader::AgwReader(AgwIn::new(alloc)))?;
-        desk.enter(3, Reader::KissReader(KissIn::new(alloc)))?;
-        Ok(desk)
-    }
-
-    fn enter(&mut self, id: u32, reader: Reader) -> Result<(), Fail> {
-        let raw = false;
-        self.parts.connections.push(Connection { id, raw, reader })?;
-        Ok(())
-    }
-
-    /// A connection joins, where no other one has the id.
-    fn join(&mut self, id: u32) -> Result<(), Fail> {
-        match self.parts.place_of(id) {
-            Some(_) => {}
-            None => self
-                .parts
-                .join(self.alloc, &mut self.out, id, PortKind::Kiss)?,
-        }
-        Ok(())
-    }
-
-    /// Octets of a connection.
-    fn take(&mut self, id: u32, octets: &[u8]) -> Result<(), Fail> {
-        self.parts.take(self.alloc, &mut self.out, id, octets)?;
-        Ok(())
-    }
-
-    /// A message of a connection.
-    fn ask(&mut self, id: u32, kind: u8, ends: [&str; 2], body: &[u8]) -> Result<(), Fail> {
-        let octets = message(self.alloc, kind, ends, body)?;
-        self.take(id, &octets)
-    }
-
-    /// What it gave since the last look.
-    fn look(&mut self) -> HostOut {
-        let out = HostOut::new(self.alloc);
-        std::mem::replace(&mut self.out, out)
-    }
-
-    /// The octets for connections since the last look.
-    fn told(&mut self) -> Result<Vec<u8>, Fail> {
-        let pieces = self.look().pieces;
-        let mut octets = Vec::new(self.alloc);
-        for piece in &pieces {
-            octets.extend_from_slice(piece.octets.as_slice())?;
-        }
-        Ok(octets)
-    }
-
     /// Whether the octets since the last look end with a message.
     fn tells(&mut self, kind: u8, ends: [&str; 2], body: &[u8]) -> Result<bool, Fail> {
         let want = message(self.alloc, kind, ends, body)?;
@@ -109,19 +30,6 @@ impl Desk {
     }
 }
 
-/// The octets of a message.
-fn message(alloc: Global, kind: u8, [from, to]: [&str; 2], body: &[u8]) -> Result<Vec<u8>, Fail> {
-    let mut octets = Vec::new(alloc);
-    octets.extend_from_slice(&[0, 0, 0, 0, kind, 0, 0, 0])?;
-    octets.extend_from_slice(&field(from))?;
-    octets.extend_from_slice(&field(to))?;
-    let len = u16::try_from(body.len()).unwrap_or(0);
-    octets.extend_from_slice(&len.to_le_bytes())?;
-    octets.extend_from_slice(&[0; 6])?;
-    octets.extend_from_slice(body)?;
-    Ok(octets)
-}
-
 /// So many times an octet.
 fn filled(alloc: Global, octet: u8, len: usize) -> Result<Vec<u8>, Fail> {
     let mut octets = Vec::new(alloc);
@@ -129,17 +37,6 @@ fn filled(alloc: Global, octet: u8, len: usize) -> Result<Vec<u8>, Fail> {
         octets.push(octet)?;
     }
     Ok(octets)
-}
-
-/// A call field.
-fn field(text: &str) -> [u8; 10] {
-    let mut field = [0; 10];
-    for (place, octet) in text.as_bytes().iter().enumerate() {
-        if place < 10 {
-            field[place] = *octet;
-        }
-    }
-    field
 }
 
 /// AAAA registers and calls BBBB, gives 600 octets, and ends the call.
@@ -155,12 +52,12 @@ fn whole_call(alloc: Global) -> Result<Vec<u8>, Fail> {
 #[test]
 fn a_whole_call_in_one_piece(rt: HostRuntime) -> Result<(), Fail> {
     let alloc = rt.alloc();
-    let mut desk = Desk::new(alloc)?;
+    let mut desk = Desk::new(alloc, Params::default())?;
     desk.take(1, &whole_call(alloc)?)?;
     assert_eq!(rt; desk.lens()?.as_slice(), [15].as_slice());
-    desk.parts.hear(alloc, &mut desk.out, ua())?;
+    desk.hear(UA)?;
     assert_eq!(rt; desk.lens()?.as_slice(), [272, 272, 104].as_slice());
-    desk.parts.hear(alloc, &mut desk.out, rr())?;
+    desk.hear(RR)?;
     assert_eq!(rt; desk.lens()?.as_slice(), [15].as_slice());
     Ok(())
 }
@@ -169,13 +66,13 @@ fn a_whole_call_in_one_piece(rt: HostRuntime) -> Result<(), Fail> {
 fn tells_how_a_whole_call_goes(rt: HostRuntime) -> Result<(), Fail> {
     let alloc = rt.alloc();
     let back = ["BBBB", "AAAA"];
-    let mut desk = Desk::new(alloc)?;
+    let mut desk = Desk::new(alloc, Params::default())?;
     desk.take(1, &whole_call(alloc)?)?;
     assert!(rt; desk.tells(b'X', ["AAAA", ""], b"\x01")?);
-    desk.parts.hear(alloc, &mut desk.out, ua())?;
+    desk.hear(UA)?;
     assert!(rt; desk.tells(b'C', back, b"*** CONNECTED With Station BBBB\r")?);
-    desk.parts.hear(alloc, &mut desk.out, rr())?;
-    desk.parts.hear(alloc, &mut desk.out, ua())?;
+    desk.hear(RR)?;
+    desk.hear(UA)?;
     assert!(rt; desk.tells(b'd', back, b"*** DISCONNECTED From Station BBBB\r")?);
     Ok(())
 }
@@ -185,10 +82,10 @@ fn a_whole_call_cut_at_every_octet(rt: HostRuntime) -> Result<(), Fail> {
     let alloc = rt.alloc();
     let octets = whole_call(alloc)?;
     for cut in 0..octets.len() {
-        let mut desk = Desk::new(alloc)?;
+        let mut desk = Desk::new(alloc, Params::default())?;
         desk.take(1, &octets[..cut])?;
         desk.take(1, &octets[cut..])?;
-        desk.parts.hear(alloc, &mut desk.out, ua())?;
+        desk.hear(UA)?;
         assert_eq!(rt; desk.out.queued.len(), 4);
         assert_eq!(rt; desk.out.pieces.len(), 3);
     }
@@ -205,7 +102,7 @@ fn tells_of_itself(rt: HostRuntime) -> Result<(), Fail> {
         (b'y', b"\0\0\0\0"),
     ];
     for (kind, body) in table {
-        let mut desk = Desk::new(rt.alloc())?;
+        let mut desk = Desk::new(rt.alloc(), Params::default())?;
         desk.ask(1, kind, ["", ""], b"")?;
         let want = message(rt.alloc(), kind, ["", ""], body)?;
         assert_eq!(rt; desk.told()?.as_slice(), want.as_slice());
@@ -215,7 +112,7 @@ fn tells_of_itself(rt: HostRuntime) -> Result<(), Fail> {
 
 #[test]
 fn tells_what_kiss_has_set(rt: HostRuntime) -> Result<(), Fail> {
-    let mut desk = Desk::new(rt.alloc())?;
+    let mut desk = Desk::new(rt.alloc(), Params::default())?;
     desk.take(
         3,
         b"\xc0\x01\x1e\xc0\x02\xff\xc0\x03\x05\xc0\x04\x07\xc0\x11\x63\xc0",
@@ -240,7 +137,7 @@ fn sends_frames_that_fit(rt: HostRuntime) -> Result<(), Fail> {
         (b'V', 92, 0),
     ];
     for (kind, len, want) in table {
-        let mut desk = Desk::new(alloc)?;
+        let mut desk = Desk::new(alloc, Params::default())?;
         desk.ask(1, kind, ["AAAA", "BBBB"], &filled(alloc, 9, len)?)?;
         assert_eq!(rt; desk.parts.channel.len(), want);
     }
@@ -250,7 +147,7 @@ fn sends_frames_that_fit(rt: HostRuntime) -> Result<(), Fail> {
 #[test]
 fn sends_by_way_of_repeaters(rt: HostRuntime) -> Result<(), Fail> {
     let ends = ["AAAA", "BBBB"];
-    let mut desk = Desk::new(rt.alloc())?;
+    let mut desk = Desk::new(rt.alloc(), Params::default())?;
     desk.ask(1, b'V', ends, b"\x01WIDE1-1\0\0\0A")?;
     assert_eq!(rt; desk.parts.channel.len(), 1);
     desk.ask(1, b'V', ends, b"\x01WIDE1-16\0\0A")?;
@@ -271,7 +168,7 @@ fn a_call_is_registered_once(rt: HostRuntime) -> Result<(), Fail> {
         (2, b'X', "AAAA", b"\x01"),
         (1, b'X', "A-A", b"\0"),
     ];
-    let mut desk = Desk::new(rt.alloc())?;
+    let mut desk = Desk::new(rt.alloc(), Params::default())?;
     for (id, kind, call, body) in table {
         desk.ask(id, kind, [call, ""], b"")?;
         let mut want = Vec::new(rt.alloc());
@@ -285,9 +182,9 @@ fn a_call_is_registered_once(rt: HostRuntime) -> Result<(), Fail> {
 
 #[test]
 fn a_65th_connection_is_closed(rt: HostRuntime) -> Result<(), Fail> {
-    let mut desk = Desk::new(rt.alloc())?;
+    let mut desk = Desk::new(rt.alloc(), Params::default())?;
     for id in 4..66 {
-        desk.join(id)?;
+        desk.join(id, PortKind::Kiss)?;
     }
     assert_eq!(rt; desk.out.closed.as_slice(), [65].as_slice());
     assert_eq!(rt; desk.parts.connections.len(), 64);
@@ -296,7 +193,7 @@ fn a_65th_connection_is_closed(rt: HostRuntime) -> Result<(), Fail> {
 
 #[test]
 fn too_long_a_body_closes(rt: HostRuntime) -> Result<(), Fail> {
-    let mut desk = Desk::new(rt.alloc())?;
+    let mut desk = Desk::new(rt.alloc(), Params::default())?;
     let mut octets = filled(rt.alloc(), 0, 28)?;
     octets.extend_from_slice(b"\x01\x10\0\0\0\0\0\0\0")?;
     desk.take(1, &octets)?;
@@ -308,7 +205,7 @@ fn too_long_a_body_closes(rt: HostRuntime) -> Result<(), Fail> {
 #[test]
 fn a_call_is_free_once_its_connection_left(rt: HostRuntime) -> Result<(), Fail> {
     let alloc = rt.alloc();
-    let mut desk = Desk::new(alloc)?;
+    let mut desk = Desk::new(alloc, Params::default())?;
     desk.ask(1, b'X', ["AAAA", ""], b"")?;
     desk.take(1, &filled(alloc, 0, 20)?)?;
     desk.parts.leave(alloc, &mut desk.out, 1)?;
@@ -322,9 +219,9 @@ fn a_call_is_free_once_its_connection_left(rt: HostRuntime) -> Result<(), Fail> 
 #[test]
 fn shows_raw_frames_until_asked_again(rt: HostRuntime) -> Result<(), Fail> {
     let alloc = rt.alloc();
-    let mut desk = Desk::new(alloc)?;
+    let mut desk = Desk::new(alloc, Params::default())?;
     for want in [1, 2, 1] {
-        desk.parts.hear(alloc, &mut desk.out, ua())?;
+        desk.hear(UA)?;
         assert_eq!(rt; desk.out.pieces.len(), want);
         desk.told()?;
         desk.ask(2, b'k', ["", ""], b"")?;
@@ -341,7 +238,7 @@ fn counts_the_packets_of_two_calls(rt: HostRuntime) -> Result<(), Fail> {
         (2, ["AAAA", "BBBB"], 3),
         (1, ["BBBB", "AAAA"], 0),
     ];
-    let mut desk = Desk::new(alloc)?;
+    let mut desk = Desk::new(alloc, Params::default())?;
     desk.take(1, &whole_call(alloc)?)?;
     desk.told()?;
     for (id, ends, count) in table {
