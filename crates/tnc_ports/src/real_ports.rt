@@ -278,6 +278,8 @@ fn join(
     {
         return Ok(());
     }
+    // Each piece goes out at once: the system would gather pieces, and a host that reads two at a time may break.
+    let _ = stream.set_nodelay(true);
     sockets.push(Socket {
         id,
         stream,
