@@ -42,13 +42,15 @@ def connect(port):
 
 
 class Station:
-    """A running `tnc serve`. Its report is kept in a file, so that it may be of any length."""
+    """A running `tnc serve`. Its report is kept in a file, so that it may be of any length, and Ctrl-C does not reach it."""
 
     def __init__(self, tnc, *words):
         self.kiss, self.agw = free_port(), free_port()
         words = [tnc, "serve", "--kiss", str(self.kiss), "--agw", str(self.agw), *map(str, words)]
         pipe, self.report_file = subprocess.PIPE, tempfile.TemporaryFile()
-        self.program = subprocess.Popen(words, stdin=pipe, stdout=pipe, stderr=self.report_file, bufsize=0)
+        self.program = subprocess.Popen(
+            words, stdin=pipe, stdout=pipe, stderr=self.report_file, bufsize=0, start_new_session=True
+        )
 
     def connect(self, port):
         """A socket to one of its ports."""

@@ -1,8 +1,8 @@
 #!/usr/bin/env python3
 """Checks `tnc serve` as a whole: two stations joined by an air of pipes, with host programs on their ports.
 
-  scripts/check_serve.py [--tnc PROGRAM] [--octets N] [--loss PERCENT] [--mode rej|srej] [--wide] [--seed N]
-                         [--half] [--ticks N]
+  scripts/check_serve.py [--tnc PROGRAM] [--octets N] [--loss PERCENT] [--mode rej|srej] [--wide] [--wide-window N]
+                         [--half] [--seed N] [--ticks N]
 
 A connected session: A calls B, both send so many octets, and A disconnects once both have got all. What each host gets has
 to be what the other one gave. It prints one line and ends with status 0 where all is well.
@@ -25,6 +25,7 @@ def wanted(words):
     reader.add_argument("--loss", type=int, default=0)
     reader.add_argument("--mode", default="rej")
     reader.add_argument("--wide", action="store_true")
+    reader.add_argument("--wide-window", type=int, default=32)
     reader.add_argument("--half", action="store_true")
     reader.add_argument("--seed", type=int, default=1)
     reader.add_argument("--ticks", type=int, default=5)
@@ -35,7 +36,7 @@ class Session:
     """One connected session over the air of two stations."""
 
     def __init__(self, given):
-        words = ["--mode", given.mode, *(["--wide"] if given.wide else [])]
+        words = ["--mode", given.mode, "--wide-window", given.wide_window, *(["--wide"] if given.wide else [])]
         self.a = Station(given.tnc, "--seed", given.seed, *words)
         self.b = Station(given.tnc, "--seed", given.seed + 1, *words)
         self.air = Air(self.a, self.b, given.ticks, given.loss, given.seed)
@@ -82,6 +83,8 @@ class Session:
         def have_all():
             for at, host in enumerate(self.hosts):
                 got[at] += b"".join(host.take("D"))
+                if host.take("d"):
+                    raise RuntimeError(f"disconnected after {len(got[0])} and {len(got[1])} octets")
             return len(got[0]) >= len(self.texts[1]) and len(got[1]) >= len(self.texts[0])
 
         self.until("all octets", have_all)

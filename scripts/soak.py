@@ -9,7 +9,7 @@ connections at a time. Looked at are: that no octet of a link comes to another c
 in order and once, from one place on in each set-up; that replies are well formed; that a host that reads is never closed;
 that memory stays below its bound and does not grow; and that the report has `closed` lines alone.
 
-It prints a line a minute and ends with status 0 where all is well."""
+It prints a line a minute and ends with status 0 where all is well. Ctrl-C ends it before its time."""
 import argparse
 import array
 import operator
@@ -514,6 +514,8 @@ def main(words):
         soak.run()
     except Fault as fault:
         wrong.append(f"after {soak.ticks} ticks: {fault}")
+    except KeyboardInterrupt:
+        print("ended before its time")
     wrong += soak.ends()
     for fault in wrong:
         print(f"FAILED: {fault}")
