@@ -1,6 +1,7 @@
 pub mod JointRun
 pub mod LinkSteps
 pub mod HeardInOrder
+pub mod InFlight
 pub mod LinkOfCalls
 pub mod StationsLaw
 pub mod Owners
