@@ -4,6 +4,8 @@ mod Addresses
 mod Queues
 mod Tables
 mod Standing
+mod Framed
+mod Controls
 mod Tags
 mod Acts
 mod Along

@@ -22,6 +22,7 @@ use Rattle.link_world.specs.Flight.{Tagged}
 use Rattle.link_world.specs.Reading.{frame_read, kind_read, with_kind}
 use Rattle.link_world.proofs.Rereading.{reads_frame}
 use Rattle.channel_bench.specs.HeardInOrder.{AreAlikeButForH}
+use Rattle.channel_bench.specs.InFlight.{LinkFrame}
 use Rattle.channel_bench.proofs.Addresses.{IsHeardAgain, heard_again}
 use Rattle.channel_bench.proofs.Tags.{IsTagged}
 
@@ -46,8 +47,8 @@ pub record IsReread (f : Tagged) (read : Modulus) (frame : Frame) : Type 0 where
   pub role : as_read.path.role ≡ frame.path.role
 
 pub reread :
-    (local remote : Callsign) (f : Tagged) (heard queued : List ℕ) (read : Modulus) (frame : Frame)
-    → IsTagged local remote f queued → AreAlikeButForH heard queued → All (λ octet. octet < 256) heard
+    (local remote : Callsign) (f : Tagged) (heard : List ℕ) (queued : LinkFrame) (read : Modulus) (frame : Frame)
+    → IsTagged local remote f queued → AreAlikeButForH heard queued.octets → All (λ octet. octet < 256) heard
     → IsFrame frame read heard → IsReread f read frame
 reread local remote f heard queued read frame tag alike low is =
     go (kind_read (modulus_named f.modulus) read f.frame.kind) refl
@@ -56,7 +57,7 @@ reread local remote f heard queued read frame tag alike low is =
     written = modulus_named f.modulus
 
     again : IsHeardAgain written f.frame heard alike.path_heard
-    again = heard_again written f.frame heard queued tag.path tag.spelled alike
+    again = heard_again written f.frame heard queued.octets tag.path tag.spelled alike
 
     sent : Frame
     sent = record { path = alike.path_heard; kind = f.frame.kind }
