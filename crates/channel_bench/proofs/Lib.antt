@@ -20,3 +20,5 @@ mod Examples
 mod ExampleOrder
 mod OwnerLemmas
 mod Growing
+mod Ways
+mod MatchedOrder

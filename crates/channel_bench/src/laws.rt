@@ -1,5 +1,6 @@
 //! Laws on two stations. A law is the contract of a function that does nothing.
 ghost use Rattle.channel_bench.specs.StationsLaw.{FollowingLaw, StationsLaw};
+ghost use Rattle.channel_bench.specs.MatchedLaw.{MatchedInOrder};
 ghost use Rattle.channel_bench.specs.Owners.{OwnersAreTold};
 
 /// The law on any two stations. A joint run is a list of steps, each of one of two stations that began new: what comes from
@@ -26,4 +27,10 @@ pub fn ends_follow()
 /// [`stations_law`] are the data messages that the owner of the station's link was sent.
 pub fn owners_are_told()
     ensures { OwnersAreTold }
+{}
+
+/// In a run in which each heard frame is matched with one in flight that has the same octets, the matches are the list of pairs
+/// that [`stations_law`] asks for: what the links of each station hear was sent before, and is heard in order and once.
+pub fn matched_in_order()
+    ensures { MatchedInOrder }
 {}

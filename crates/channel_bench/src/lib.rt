@@ -6,4 +6,4 @@
 
 mod laws;
 
-pub use laws::{ends_follow, owners_are_told, stations_law};
+pub use laws::{ends_follow, matched_in_order, owners_are_told, stations_law};
