@@ -29,6 +29,7 @@ use Rattle.channel_bench.specs.StationsLaw.{IsMachineOf}
 use Rattle.channel_bench.specs.InFlight.{LinkFrame}
 use Rattle.channel_bench.proofs.Framed.{framed, framed-append, length-framed}
 use Rattle.channel_bench.proofs.Flights.{RiseFrom, flight, flight_own, flight_others, kept_first, marks, marks_from_rest}
+use Rattle.channel_bench.proofs.LinkKinds.{IsLinkKind}
 use Rattle.channel_bench.proofs.Queues.{HasStepped, link_stepped, octets_of}
 use Rattle.channel_bench.proofs.Standing.{IsGoodLink, IsTable, between_calls, chosen_calls, calls_chosen, good_stepped, good_at, own_table, other_table}
 use Rattle.channel_bench.proofs.Tables.{chosen_at, not_both}
@@ -290,6 +291,50 @@ asked_asking e w machine (LinkHear frame) asked is = absurd asked
 asked_asking e w machine (LinkTick waiting) asked is =
     turn_asking (Ticks waiting) w.a.end (step w.a.end.machine (LinkTick waiting))
     ∙ ap (λ m. map asks_when_sent (step m (LinkTick waiting)).sent) is
+
+-- what is heard is the frame in front, as it is read
+pub record FrontRead (frame : Frame) (w : World) : Type 0 where
+  pub front : Tagged
+  pub rest : List Tagged
+  pub as_read : Frame
+  pub towards : w.a.towards ≡ front ∷ rest
+  pub reading : read_in w.a.end.machine.incoming.modulus front ≡ Some as_read
+  pub kind : as_read.kind ≡ frame.kind
+  pub of_link : IsLinkKind frame.kind
+
+abbrev pub ReadsFront : LinkEvent → World → Type 0
+ReadsFront LinkConnect w = ⊤
+ReadsFront (LinkSend packet) w = ⊤
+ReadsFront LinkDisconnect w = ⊤
+ReadsFront (LinkHear frame) w = FrontRead frame w
+ReadsFront (LinkTick waiting) w = ⊤
+
+pub asked_reads : (event : LinkEvent) (w : World) → IsAsked event → ReadsFront event w
+asked_reads LinkConnect w asked = tt
+asked_reads (LinkSend packet) w asked = tt
+asked_reads LinkDisconnect w asked = tt
+asked_reads (LinkHear frame) w asked = absurd asked
+asked_reads (LinkTick waiting) w asked = tt
+
+-- the machine after it
+pub asked_next :
+    (e : End) (w : World) (machine : Machine) (event : LinkEvent) → IsAsked event → w.a.end.machine ≡ machine
+    → (near_turn (event_at_end e event) w).now.machine ≡ (step machine event).now
+asked_next e w machine LinkConnect asked is = ap (λ m. (step m LinkConnect).now) is
+asked_next e w machine (LinkSend packet) asked is = ap (λ m. (step m (LinkSend packet)).now) is
+asked_next e w machine LinkDisconnect asked is = ap (λ m. (step m LinkDisconnect).now) is
+asked_next e w machine (LinkHear frame) asked is = absurd asked
+asked_next e w machine (LinkTick waiting) asked is = ap (λ m. (step m (LinkTick waiting)).now) is
+
+pub heard_next :
+    (e : End) (f : Tagged) (g : Frame) (rest : List Tagged) (w : World) (machine : Machine) (frame : Frame)
+    → w.a.towards ≡ f ∷ rest → read_in w.a.end.machine.incoming.modulus f ≡ Some g
+    → step w.a.end.machine (LinkHear g) ≡ step machine (LinkHear frame)
+    → (near_turn (event_at_end e (LinkHear frame)) w).now.machine ≡ (step machine (LinkHear frame)).now
+heard_next e f g rest w machine frame front read same =
+    ap (λ ts. (turn_of (hearing_first w.a.end.machine.incoming.modulus ts) w.a.end).now.machine) front
+    ∙ ap (λ o. (turn_of (hearing_as f o) w.a.end).now.machine) read
+    ∙ ap (λ (t : LinkTurn). t.now) same
 
 pub heard_asking :
     (e : End) (f : Tagged) (g : Frame) (rest : List Tagged) (w : World) (machine : Machine) (frame : Frame)

@@ -15,7 +15,7 @@ use Rattle.station.specs.Turn.{Turn, Act, in_order}
 use Rattle.channel_bench.specs.HeardInOrder.{Pair}
 use Rattle.channel_bench.specs.LinkOfCalls.{Pairs, heard_at, marks_from, event_at_end, makes, changes_by, all_changes_by, FollowsAll}
 use Rattle.channel_bench.specs.LinkSteps.{LinkStep, steps_along}
-use Rattle.channel_bench.proofs.Acts.{Setting, Holds, is_asking, asks_when_sent}
+use Rattle.channel_bench.proofs.Acts.{Setting, Holds, ReadsFront, is_asking, asks_when_sent}
 
 -- ---- changes as their end sees them
 
@@ -97,6 +97,9 @@ pub record FollowsNear (e : End) (back : List Tagged) (step : LinkStep) (w : Wor
   pub asking :
       map is_asking (near_turn (event_at_end e step.event) w).sent
       ≡ map asks_when_sent (link_turn step.link.machine step.event).sent
+  -- what its machine is then
+  pub next : (near_turn (event_at_end e step.event) w).now.machine ≡ (link_turn step.link.machine step.event).now
+  pub reads : ReadsFront step.event w
 
 abbrev pub AllFollowNear : End → List Tagged → List Pair → ℕ → List LinkStep → World → Type 0
 AllFollowNear e back pairs earlier [] w = ⊤

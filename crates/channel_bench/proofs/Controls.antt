@@ -1,6 +1,6 @@
 -- SABM, SABME, DISC, UA and DM told by their control octet: the one behind the address is that of the frame as it is read.
 use Rattle.std.proofs.Common.{◌≡◌, ◌≢◌, ℕ, zero, suc, ◌+◌, ◌-◌, ◌*◌, ◌<◌, ◌==◌, ◌%◌, Bool, true, false, ◌||◌, List, [], ◌∷◌, ◌++◌, length, map, take, drop, cond, get_or, Option, Some, refl, sym, ap, ◌∙◌, subst, arith, inl, inr}
-use Rattle.std.proofs.lemmas.Bool.{cases_eq, eq-eqb, ne_eqb}
+use Rattle.std.proofs.lemmas.Bool.{cases_eq, eq-eqb, ne_eqb, or_from}
 use Rattle.std.proofs.lemmas.List.{append_assoc, take-append-drop, length-drop, drop-drop}
 use Rattle.ax25_address.specs.AddressField.{bit, ssid_octet, IsField}
 use Rattle.ax25_address.specs.Callsign.{Callsign, padded}
@@ -144,25 +144,21 @@ past_path octets path len h =
 
 -- ---- what it tells
 
-or_false : (a b : Bool) → a ≡ false → b ≡ false → (a || b) ≡ false
-or_false true b h k = absurd (cc)
-or_false false b h k = k
-
 -- the control octets of I and S frames are none of these: their lowest two bits are not both 1
 no_control :
     (n : ℕ) → n ≢ 47 → n ≢ 63 → n ≢ 111 → n ≢ 127 → n ≢ 67 → n ≢ 83 → is_ask_control (Some n) ≡ false
 no_control n a b c d e f =
-    or_false (is_control_of sabm n) (is_control_of sabme n || is_control_of disc n)
-    (or_false (n == 47) (n == 63) (ne_eqb n 47 a) (ne_eqb n 63 b))
-    (or_false (is_control_of sabme n) (is_control_of disc n)
-    (or_false (n == 111) (n == 127) (ne_eqb n 111 c) (ne_eqb n 127 d))
-    (or_false (n == 67) (n == 83) (ne_eqb n 67 e) (ne_eqb n 83 f)))
+    or_from (is_control_of sabm n) (is_control_of sabme n || is_control_of disc n)
+    (or_from (n == 47) (n == 63) (ne_eqb n 47 a) (ne_eqb n 63 b))
+    (or_from (is_control_of sabme n) (is_control_of disc n)
+    (or_from (n == 111) (n == 127) (ne_eqb n 111 c) (ne_eqb n 127 d))
+    (or_from (n == 67) (n == 83) (ne_eqb n 67 e) (ne_eqb n 83 f)))
 
 no_answer : (n : ℕ) → n ≢ 99 → n ≢ 115 → n ≢ 15 → n ≢ 31 → is_answer_control (Some n) ≡ false
 no_answer n a b c d =
-    or_false (is_control_of ua n) (is_control_of dm n)
-    (or_false (n == 99) (n == 115) (ne_eqb n 99 a) (ne_eqb n 115 b))
-    (or_false (n == 15) (n == 31) (ne_eqb n 15 c) (ne_eqb n 31 d))
+    or_from (is_control_of ua n) (is_control_of dm n)
+    (or_from (n == 99) (n == 115) (ne_eqb n 99 a) (ne_eqb n 115 b))
+    (or_from (n == 15) (n == 31) (ne_eqb n 15 c) (ne_eqb n 31 d))
 
 record TellsNothing (n : ℕ) : Type 0 where
   ask : is_ask_control (Some n) ≡ false

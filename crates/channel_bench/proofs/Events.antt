@@ -22,7 +22,7 @@ use Rattle.station.specs.Ticks.{ticking_at, ticking_links, waits}
 use Rattle.station.specs.Turn.{Turn, changing}
 use Rattle.channel_bench.specs.LinkSteps.{LinkStep, link_step, steps_for, steps_at, ticks_at, tick_steps, given_up, gives_up_at, leaving_steps, sends_at, data_steps, disconnect_steps}
 use Rattle.channel_bench.specs.StationsLaw.{first_chosen, IsMachineOf}
-use Rattle.channel_bench.proofs.Acts.{Setting, Holds, IsAsked, own_asked, own_machine, asked_told, asked_stays, asked_asking, other_event, still_holds}
+use Rattle.channel_bench.proofs.Acts.{Setting, Holds, IsAsked, own_asked, own_machine, asked_told, asked_stays, asked_asking, asked_next, asked_reads, other_event, still_holds}
 use Rattle.channel_bench.proofs.Along.{FollowsNear, Kept, Goes, goes_along}
 use Rattle.channel_bench.proofs.Standing.{IsGoodLink, IsTable, between_calls, owner_table, made_table, made_other, made_at}
 
@@ -39,6 +39,8 @@ follows_asked e back step w machine asked back_is = record {
   told = asked_told e w step.link.machine step.event asked machine;
   stays = asked_stays e step.event w.a.towards back asked back_is;
   asking = asked_asking e w step.link.machine step.event asked machine;
+  next = asked_next e w step.link.machine step.event asked machine;
+  reads = asked_reads step.event w asked;
 }
 
 -- ---- an event at a key

@@ -34,7 +34,7 @@ use Rattle.channel_bench.specs.InFlight.{LinkFrame, is_ask}
 use Rattle.channel_bench.specs.LinkOfCalls.{event_at_end}
 use Rattle.channel_bench.specs.LinkSteps.{LinkStep, link_step, steps_for, steps_at, hears_at, new_steps, anew_steps, reading_steps, key_steps, path_steps, by_path_steps, heard_steps}
 use Rattle.channel_bench.specs.StationsLaw.{first_chosen}
-use Rattle.channel_bench.proofs.Acts.{Setting, Holds, marks_of, still_holds, own_machine, own_heard, heard_told, heard_asking, is_asking, asks_when_sent, other_event}
+use Rattle.channel_bench.proofs.Acts.{Setting, Holds, marks_of, still_holds, own_machine, own_heard, heard_told, heard_asking, heard_next, FrontRead, is_asking, asks_when_sent, other_event}
 use Rattle.channel_bench.proofs.Addresses.{heard_again}
 use Rattle.channel_bench.proofs.Along.{Kept, makes_near}
 use Rattle.channel_bench.proofs.Events.{meant, MayMake, made_own, made_another}
@@ -72,6 +72,8 @@ HeardBy true s e stays turn key link frame made w =
     × (drop 1 made.a.towards ≡ stays)
     × (map is_asking (near_turn (event_at_end e (LinkHear frame)) made).sent
     ≡ map asks_when_sent (step link.machine (LinkHear frame)).sent)
+    × ((near_turn (event_at_end e (LinkHear frame)) made).now.machine ≡ (step link.machine (LinkHear frame)).now)
+    × FrontRead frame made
 HeardBy false s e stays turn key link frame made w = Holds s stays (event_at key (LinkHear frame) turn) w
 
 heard_at_link :
@@ -97,6 +99,16 @@ heard_at_link s e octets back stays turn key link path len frame made w low (Own
       heard_told e f again.as_read later made link.machine frame H.back_is read same,
       ap (drop 1) H.back_is,
       heard_asking e f again.as_read later made link.machine frame H.back_is read same,
+      heard_next e f again.as_read later made link.machine frame H.back_is read same,
+      record {
+        front = f;
+        rest = later;
+        as_read = again.as_read;
+        towards = H.back_is;
+        reading = read;
+        kind = again.kind;
+        of_link = again.of_link;
+      },
     )
 heard_at_link s e octets back stays turn key link path len frame made w low (Own f later queued alike tag caused)
     begins local remote is at own another false chosen =
@@ -121,7 +133,7 @@ by_choice :
     (s : Setting) (e : End) (stays : List Tagged) (turn : Turn) (key : ℕ) (link : Link) (frame : Frame)
     (anew : Option Path) (w : World) (b : Bool) → HeardBy b s e stays turn key link frame (makes_near anew w) w
     → Kept s e stays (event_at key (LinkHear frame) turn) (cond b (link_step anew key (LinkHear frame) turn link ∷ []) []) w
-by_choice s e stays turn key link frame anew w true h = (h.0, (record { machine = h.1; told = h.2; stays = h.3; asking = h.4 }, tt))
+by_choice s e stays turn key link frame anew w true h = (h.0, (record { machine = h.1; told = h.2; stays = h.3; asking = h.4; next = h.5; reads = h.6 }, tt))
 by_choice s e stays turn key link frame anew w false h = (h, tt)
 
 pub there_goes :

@@ -42,46 +42,56 @@ not_other : (e : End) → e ≡ other e → ⊥
 not_other A e = cc
 not_other B e = cc
 
-step_near :
-    (e : End) (l r : Callsign) (pa pb : Params) (n : ℕ) (sa sb : StationState) (qa qb : List LinkFrame)
+-- whatever pairs the frames that it queues have, if none of them is heard in this step
+pub step_rising :
+    (e : End) (l r : Callsign) (pa pb : Params) (n : ℕ) (sb : StationState) (qa qb : List LinkFrame)
     (out_pairs back_pairs : List Pair) (w : World) (full : List Step) (step : Step)
-    → Between l r pa pb n sa sb qa qb out_pairs back_pairs w → step.before ≡ sa → step.station ≡ e
-    → slice_get full n ≡ Some step → frames_at (other e) (take n full) ≡ qb → AreHeardInOrder (other e) full out_pairs
+    (h : Between l r pa pb n step.before sb qa qb out_pairs back_pairs w) → RiseFrom (n + 1) 0 h.out.rest
+    → step.station ≡ e → slice_get full n ≡ Some step → frames_at (other e) (take n full) ≡ qb
     → AreHeardInOrder e full back_pairs
     → Stepped e (hears_ask step.input) l r pa pb n sb qa qb out_pairs back_pairs w step.after (steps_of (is_between l r) step)
-step_near e l r pa pb n sa sb qa qb out_pairs back_pairs w full step between before station is queue out_order back_order =
-    let h : Between l r pa pb n step.before sb qa qb out_pairs back_pairs w =
-    subst (λ s. Between l r pa pb n s sb qa qb out_pairs back_pairs w) (sym before) between in
-    takes e (hears_ask step.input) l r pa pb n step.before sb qa qb out_pairs back_pairs w h
-    (none_rises (other e) full out_pairs l r qa n w.b.towards step out_order is
-    (λ octets hears. not_other e (sym station ∙ hears.station)) h.out)
+step_rising e l r pa pb n sb qa qb out_pairs back_pairs w full step h rises station is queue back_order =
+    takes e (hears_ask step.input) l r pa pb n step.before sb qa qb out_pairs back_pairs w h rises
     step.input step.after step.turn step.octets
     (λ never. none_heard e full back_pairs r l qb n w.a.towards step back_order is
     (λ octets hears. never octets hears.input hears.event) h.back)
     (λ octets off some.
     let hears : HearsLinkFrame e step octets = record { station = station; input = off; event = some } in
-    popped_by (setting_of (hears_ask step.input) l r pa pb n step.before sb qa qb out_pairs back_pairs w h) e full back_pairs qb n w.a.towards step octets
-    h.back.done h.back.rest h.back.tags back_order is hears
+    popped_by (setting_of (hears_ask step.input) l r pa pb n step.before sb qa qb out_pairs back_pairs w h) e full back_pairs qb n
+    w.a.towards step octets h.back.done h.back.rest h.back.tags back_order is hears
     (λ asking. off_air_asks step.input octets off ∙ asking) queue h.back.split h.back.rises h.back.below h.back.before
     h.back.tagged h.back.ahead (back_order.all n step octets is hears))
 
+pub step_near :
+    (e : End) (l r : Callsign) (pa pb : Params) (n : ℕ) (sb : StationState) (qa qb : List LinkFrame)
+    (out_pairs back_pairs : List Pair) (w : World) (full : List Step) (step : Step)
+    → Between l r pa pb n step.before sb qa qb out_pairs back_pairs w → step.station ≡ e
+    → slice_get full n ≡ Some step → frames_at (other e) (take n full) ≡ qb → AreHeardInOrder (other e) full out_pairs
+    → AreHeardInOrder e full back_pairs
+    → Stepped e (hears_ask step.input) l r pa pb n sb qa qb out_pairs back_pairs w step.after (steps_of (is_between l r) step)
+step_near e l r pa pb n sb qa qb out_pairs back_pairs w full step h station is queue out_order back_order =
+    step_rising e l r pa pb n sb qa qb out_pairs back_pairs w full step h
+    (none_rises (other e) full out_pairs l r qa n w.b.towards step out_order is
+    (λ octets hears. not_other e (sym station ∙ hears.station)) h.out)
+    station is queue back_order
+
 -- ---- a step of either
 
-mirror :
+pub mirror :
     (l r : Callsign) (pa pb : Params) (n : ℕ) (sa sb : StationState) (qa qb : List LinkFrame)
     (out_pairs back_pairs : List Pair) (w : World) → Between l r pa pb n sa sb qa qb out_pairs back_pairs w
     → Between r l pb pa n sb sa qb qa back_pairs out_pairs (seen_from B w)
 mirror l r pa pb n sa sb qa qb out_pairs back_pairs w h = record { near = h.far; far = h.near; out = h.back; back = h.out }
 
-record StepDone (calls : Calls) (pairs : Pairs) (a b : Params) (n : ℕ) (st : Stations) (past : List Step) (counts : Counts)
+pub record StepDone (calls : Calls) (pairs : Pairs) (a b : Params) (n : ℕ) (st : Stations) (past : List Step) (counts : Counts)
     (w : World) (step : Step) (e : End) : Type 0 where
-  between : let next = with_state e step.after.now st in
+  pub between : let next = with_state e step.after.now st in
       Between calls.a calls.b a b (n + 1) next.a next.b (frames_at A past ++ at_end A e (framed (hears_ask step.input) step.after.out.queued))
       (frames_at B past ++ at_end B e (framed (hears_ask step.input) step.after.out.queued)) pairs.at_b pairs.at_a
       (run_changes w (all_changes_by e pairs (count_at e counts) (steps_of (link_at_end calls e) step)))
-  follows : FollowsAll e pairs (count_at e counts) (steps_of (link_at_end calls e) step) w
+  pub follows : FollowsAll e pairs (count_at e counts) (steps_of (link_at_end calls e) step) w
 
-step_done :
+pub step_done :
     (calls : Calls) (pairs : Pairs) (a b : Params) (n : ℕ) (st : Stations) (past full : List Step) (counts : Counts)
     (w : World) (step : Step) (e : End)
     → Between calls.a calls.b a b n st.a st.b (frames_at A past) (frames_at B past) pairs.at_b pairs.at_a w
@@ -93,8 +103,10 @@ step_done calls pairs a b n st past full counts w step A h station before is tak
     let qa = frames_at A past in
     let qb = frames_at B past in
     let steps = steps_of (link_at_end calls A) step in
+    let now : Between calls.a calls.b a b n step.before st.b qa qb pairs.at_b pairs.at_a w =
+    subst (λ s. Between calls.a calls.b a b n s st.b qa qb pairs.at_b pairs.at_a w) (sym before) h in
     let done : Stepped A (hears_ask step.input) calls.a calls.b a b n st.b qa qb pairs.at_b pairs.at_a w step.after steps =
-    step_near A calls.a calls.b a b n st.a st.b qa qb pairs.at_b pairs.at_a w full step h before station is
+    step_near A calls.a calls.b a b n st.b qa qb pairs.at_b pairs.at_a w full step now station is
     (ap (frames_at B) taken) heard_b heard_a in
     let world : near_all A pairs.at_b (length qa) steps w ≡ run_changes w (all_changes_by A pairs (length qa) steps) =
     sym (changes_seen A pairs (length qa) steps w) in
@@ -111,9 +123,11 @@ step_done calls pairs a b n st past full counts w step B h station before is tak
     let qa = frames_at A past in
     let qb = frames_at B past in
     let steps = steps_of (link_at_end calls B) step in
+    let now : Between calls.b calls.a b a n step.before st.a qb qa pairs.at_a pairs.at_b (seen_from B w) =
+    subst (λ s. Between calls.b calls.a b a n s st.a qb qa pairs.at_a pairs.at_b (seen_from B w)) (sym before)
+    (mirror calls.a calls.b a b n st.a st.b qa qb pairs.at_b pairs.at_a w h) in
     let done : Stepped B (hears_ask step.input) calls.b calls.a b a n st.a qb qa pairs.at_a pairs.at_b (seen_from B w) step.after steps =
-    step_near B calls.b calls.a b a n st.b st.a qb qa pairs.at_a pairs.at_b (seen_from B w) full step
-    (mirror calls.a calls.b a b n st.a st.b qa qb pairs.at_b pairs.at_a w h) before station is
+    step_near B calls.b calls.a b a n st.a qb qa pairs.at_a pairs.at_b (seen_from B w) full step now station is
     (ap (frames_at A) taken) heard_a heard_b in
     let world : near_all B pairs.at_a (length qb) steps (seen_from B w)
     ≡ seen_from B (run_changes w (all_changes_by B pairs (length qb) steps)) =
@@ -154,7 +168,7 @@ count_b B on queued before counts is =
     let same = length-framed on queued in
     omega arith
 
-get_seam : (past : List Step) (step : Step) (rest : List Step) → slice_get (past ++ step ∷ rest) (length past) ≡ Some step
+pub get_seam : (past : List Step) (step : Step) (rest : List Step) → slice_get (past ++ step ∷ rest) (length past) ≡ Some step
 get_seam past step rest =
     let more : length (step ∷ rest) ≡ suc (length rest) = refl in
     let size = length-append past (step ∷ rest) in
@@ -220,7 +234,7 @@ length_replicate : (n : ℕ) → length (replicate n (let none : Option Link = N
 length_replicate zero = refl
 length_replicate (suc n) = ap suc (length_replicate n)
 
-new_side :
+pub new_side :
     (l r : Callsign) (config : Config) (seed : ℕ) (local remote : Callsign)
     → SideHolds l r config.params (new_station config seed) (new_machine (path_between local remote) config.params)
 new_side l r config seed local remote =
@@ -260,7 +274,7 @@ from_zero : (ps : List Pair) → HeadFrom 0 0 ps
 from_zero [] = tt
 from_zero (p ∷ ps) = (omega arith, omega arith)
 
-new_sent : (l r : Callsign) (pairs : List Pair) → AllPairs RiseBoth pairs → Sent l r [] pairs 0 []
+pub new_sent : (l r : Callsign) (pairs : List Pair) → AllPairs RiseBoth pairs → Sent l r [] pairs 0 []
 new_sent l r pairs rise =
     let rises = rises_of 0 0 pairs rise (from_zero pairs) in
     record {

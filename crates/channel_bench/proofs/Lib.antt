@@ -4,6 +4,7 @@ mod Addresses
 mod Queues
 mod Tables
 mod Standing
+mod LinkKinds
 mod Framed
 mod Controls
 mod Tags
@@ -18,7 +19,19 @@ mod Runs
 mod JointLaw
 mod Examples
 mod ExampleOrder
+mod MatchedExample
 mod OwnerLemmas
+mod Asking
 mod Growing
 mod Ways
 mod MatchedOrder
+mod Counts
+mod NearQuiet
+mod Naming
+mod BenchQuiet
+mod Calm
+mod QuietRuns
+mod CalmRuns
+mod QuietJoint
+mod MatchedLaws
+mod SeenLemmas

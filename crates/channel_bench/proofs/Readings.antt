@@ -1,6 +1,6 @@
 -- What a station reads of a frame of a link that it hears: the kind that its modulus makes of the one that was sent, in the
 -- same role.
-use Rattle.std.proofs.Common.{◌≡◌, ℕ, ◌<◌, List, drop, Option, Some, None, refl, sym, ap, ◌∙◌, inl}
+use Rattle.std.proofs.Common.{◌≡◌, ℕ, ◌<◌, List, drop, Option, Some, None, refl, sym, ap, ◌∙◌, subst, inl}
 use Rattle.std.specs.Prelude.{All, Result, Ok}
 use Rattle.ax25_address.specs.Callsign.{Callsign}
 use Rattle.ax25_address.specs.declared.path.Path.{Path}
@@ -24,6 +24,7 @@ use Rattle.link_world.proofs.Rereading.{reads_frame}
 use Rattle.channel_bench.specs.HeardInOrder.{AreAlikeButForH}
 use Rattle.channel_bench.specs.InFlight.{LinkFrame}
 use Rattle.channel_bench.proofs.Addresses.{IsHeardAgain, heard_again}
+use Rattle.channel_bench.proofs.LinkKinds.{IsLinkKind, read_link_kind}
 use Rattle.channel_bench.proofs.Tags.{IsTagged}
 
 -- octets are one frame at most
@@ -45,6 +46,7 @@ pub record IsReread (f : Tagged) (read : Modulus) (frame : Frame) : Type 0 where
   pub reading : frame_read (modulus_named f.modulus) read f.frame ≡ Some as_read
   pub kind : as_read.kind ≡ frame.kind
   pub role : as_read.path.role ≡ frame.path.role
+  pub of_link : IsLinkKind frame.kind
 
 pub reread :
     (local remote : Callsign) (f : Tagged) (heard : List ℕ) (queued : LinkFrame) (read : Modulus) (frame : Frame)
@@ -78,6 +80,8 @@ reread local remote f heard queued read frame tag alike low is =
           reading = ap (with_kind f.frame) e;
           kind = sym (ap (λ (x : Frame). x.kind) same);
           role = sym (ap (λ (p : Path). p.role) again.paths) ∙ sym (ap (λ (x : Frame). x.path.role) same);
+          of_link = subst IsLinkKind (sym (ap (λ (x : Frame). x.kind) same))
+              (read_link_kind written read f.frame.kind kind tag.of_link e);
         }
 
 -- a link looks at the role and the kind of a frame alone

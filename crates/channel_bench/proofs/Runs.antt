@@ -92,7 +92,7 @@ rise_next n (p ∷ ps) other rises =
     above : (k m : ℕ) → k ≤ m → m ≢ k → k + 1 ≤ m
     above k m h ne = elim (cases_eq m k) [ inl e ↦ absurd (ne e) | inr less ↦ omega arith ]
 
-each_right : (P : Pair → Type 0) (xs ys : List Pair) → Each P (xs ++ ys) → Each P ys
+pub each_right : (P : Pair → Type 0) (xs ys : List Pair) → Each P (xs ++ ys) → Each P ys
 each_right P [] ys h = h
 each_right P (x ∷ xs) ys h = each_right P xs ys h.1
 
@@ -138,10 +138,10 @@ pub record Popped (s : Setting) (octets : List ℕ) (queue : List LinkFrame) (pa
   pub sent : Sent s.remote s.local queue pairs (n + 1) stays
 
 -- a frame past the end
-abbrev nothing : LinkFrame
+abbrev pub nothing : LinkFrame
 nothing = one_framed false []
 
-tag_of :
+pub tag_of :
     (l r : Callsign) (tags : List (Option Tagged)) (queue : List LinkFrame) (k : ℕ) → AreTags l r tags queue → k < length queue
     → IsTag l r (tag_at tags k) (get_or queue k nothing)
 tag_of l r [] [] k h within = absurd (omega arith)

@@ -22,6 +22,7 @@ use Rattle.channel_bench.proofs.Addresses.{IsGoodPath, frame_spelled}
 use Rattle.channel_bench.specs.InFlight.{LinkFrame}
 use Rattle.channel_bench.proofs.Flights.{AreNone}
 use Rattle.channel_bench.proofs.Framed.{one_framed, framed}
+use Rattle.channel_bench.proofs.LinkKinds.{IsLinkKind, sent_link_kind}
 use Rattle.channel_bench.proofs.Queues.{octets_of}
 
 -- a frame of the link from one call to another
@@ -31,8 +32,10 @@ pub record IsTagged (local remote : Callsign) (f : Tagged) (queued : LinkFrame) 
   pub source : f.frame.path.source ≡ local
   pub dest : f.frame.path.dest ≡ remote
   pub kind : IsKind (modulus_named f.modulus) f.frame.kind
-  -- it answers only in a step that hears SABM, SABME or DISC
+  -- only UA and DM answer, in a step that hears SABM, SABME or DISC
   pub cause : f.answers ≡ true → queued.on_ask ≡ true
+  pub answer : f.answers ≡ true → is_answer f.frame.kind ≡ true
+  pub of_link : IsLinkKind f.frame.kind
 
 -- a frame between other calls
 abbrev pub IsOther : Callsign → Callsign → List ℕ → Type 0
@@ -118,6 +121,8 @@ own_tags l r on on_ask now (s ∷ sent) (x ∷ first) rest caused good source de
       dest = dest;
       kind = kind_by s.modulus s.frame all.0.modulus all.0.short;
       cause = λ answers. caused (and_parts on_ask (is_answer (tagged on_ask now s).frame.kind) answers).0;
+      answer = λ answers. (and_parts on_ask (is_answer (tagged on_ask now s).frame.kind) answers).1;
+      of_link = sent_link_kind s.modulus s.frame;
     }) (own_tags l r on on_ask now sent first rest caused good source dest all.1 tail)
 
 -- no tags

@@ -3,6 +3,8 @@ pub mod LinkSteps
 pub mod HeardInOrder
 pub mod InFlight
 pub mod MatchedLaw
+pub mod HostsAsk
+pub mod SetUpsSeen
 pub mod LinkOfCalls
 pub mod StationsLaw
 pub mod Owners

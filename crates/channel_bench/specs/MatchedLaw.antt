@@ -65,9 +65,9 @@ IsOfNoHost (LinkTick waiting) = Unit {0}
 
 abbrev pub IsEventOfCaller : End → LinkStep → Type 0
 IsEventOfCaller A step = DropsNoAsk step
-IsEventOfCaller B step = IsOfNoHost step.event
+IsEventOfCaller B step = DropsNoAsk step × IsOfNoHost step.event
 
--- Hosts of A alone connect and disconnect, and no SABM, SABME or DISC of A is dropped.
+-- Of the link of two calls: hosts of A alone connect and disconnect, and no SABM, SABME or DISC finds a transmit queue full.
 abbrev pub OnlyACalls : Calls → List Step → Type 0
 OnlyACalls calls [] = Unit {0}
 OnlyACalls calls (step ∷ steps) =
