@@ -22,6 +22,8 @@ mod ExampleOrder
 mod MatchedExample
 mod OwnerLemmas
 mod Asking
+mod Dropping
+mod CallerLaws
 mod Growing
 mod Ways
 mod MatchedOrder

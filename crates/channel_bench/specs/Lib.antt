@@ -4,6 +4,7 @@ pub mod HeardInOrder
 pub mod InFlight
 pub mod MatchedLaw
 pub mod HostsAsk
+pub mod CallerLaw
 pub mod SetUpsSeen
 pub mod LinkOfCalls
 pub mod StationsLaw

@@ -1,5 +1,6 @@
 //! Laws on two stations. A law is the contract of a function that does nothing.
 ghost use Rattle.channel_bench.specs.StationsLaw.{FollowingLaw, StationsLaw};
+ghost use Rattle.channel_bench.specs.CallerLaw.{CallerLaw};
 ghost use Rattle.channel_bench.specs.HostsAsk.{HostsAskNothing};
 ghost use Rattle.channel_bench.specs.MatchedLaw.{MatchedInOrder, MatchedLaw};
 ghost use Rattle.channel_bench.specs.Owners.{OwnersAreTold};
@@ -57,4 +58,10 @@ pub fn set_ups_law()
 /// In a step in which no host program sends C, v, c or d, and none leaves, no event of a link is a connect or a disconnect.
 pub fn hosts_ask_nothing()
     ensures { HostsAskNothing }
+{}
+
+/// [`matched_law`] in the terms of host programs: no host of B sends C, v, c or d or leaves, and both stations have dropped no
+/// frame when the run ends. Then each link keeps the order.
+pub fn caller_law()
+    ensures { CallerLaw }
 {}
