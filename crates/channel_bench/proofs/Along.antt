@@ -10,12 +10,12 @@ use Rattle.link_world.specs.declared.end.End.TheVariants.{A, B}
 use Rattle.link_world.specs.Changes.{Change, changed, run_changes, near_made, near_kept}
 use Rattle.link_world.specs.Changes.Change.{Makes, Keeps}
 use Rattle.link_world.specs.Flight.{Tagged}
-use Rattle.link_world.specs.World.{World, near_turn, seen_from, other}
+use Rattle.link_world.specs.World.{World, near_turn, seen_from, other, staying}
 use Rattle.station.specs.Turn.{Turn, Act, in_order}
 use Rattle.channel_bench.specs.HeardInOrder.{Pair}
 use Rattle.channel_bench.specs.LinkOfCalls.{Pairs, heard_at, marks_from, event_at_end, makes, changes_by, all_changes_by, FollowsAll}
 use Rattle.channel_bench.specs.LinkSteps.{LinkStep, steps_along}
-use Rattle.channel_bench.proofs.Acts.{Setting, Holds}
+use Rattle.channel_bench.proofs.Acts.{Setting, Holds, ReadsFront, is_asking, asks_when_sent}
 
 -- ---- changes as their end sees them
 
@@ -65,7 +65,7 @@ made_seen : (e : End) (path : Path) (w : World) → seen_from e (changed w (Make
 made_seen A path w = refl
 made_seen B path w = refl
 
-by_seen :
+pub by_seen :
     (e : End) (pairs : Pairs) (n : ℕ) (step : LinkStep) (anew : Option Path) (w : World)
     → seen_from e (run_changes w (makes e anew ++ Keeps (event_at_end e step.event)
     (marks_from (heard_at (other e) pairs) (n + step.first) step.joined) ∷ []))
@@ -88,35 +88,47 @@ changes_seen e pairs n (step ∷ steps) w =
     ∙ ap (near_all e (heard_at (other e) pairs) n steps) (by_seen e pairs n step step.anew w)
 
 -- an end follows its link, as it sees the world itself
-pub record FollowsNear (e : End) (step : LinkStep) (w : World) : Type 0 where
+pub record FollowsNear (e : End) (back : List Tagged) (step : LinkStep) (w : World) : Type 0 where
   pub machine : w.a.end.machine ≡ step.link.machine
   pub told : (near_turn (event_at_end e step.event) w).told ≡ (link_turn step.link.machine step.event).told
+  -- what stays in flight back to it
+  pub stays : staying (event_at_end e step.event) w.a.towards ≡ back
+  -- which of the frames sent are SABM, SABME or DISC
+  pub asking :
+      map is_asking (near_turn (event_at_end e step.event) w).sent
+      ≡ map asks_when_sent (link_turn step.link.machine step.event).sent
+  -- what its machine is then
+  pub next : (near_turn (event_at_end e step.event) w).now.machine ≡ (link_turn step.link.machine step.event).now
+  pub reads : ReadsFront step.event w
 
-abbrev pub AllFollowNear : End → List Pair → ℕ → List LinkStep → World → Type 0
-AllFollowNear e pairs earlier [] w = ⊤
-AllFollowNear e pairs earlier (step ∷ steps) w =
-    FollowsNear e step (makes_near step.anew w) × AllFollowNear e pairs earlier steps (near_by e pairs earlier step w)
+abbrev pub AllFollowNear : End → List Tagged → List Pair → ℕ → List LinkStep → World → Type 0
+AllFollowNear e back pairs earlier [] w = ⊤
+AllFollowNear e back pairs earlier (step ∷ steps) w =
+    FollowsNear e back step (makes_near step.anew w)
+    × AllFollowNear e back pairs earlier steps (near_by e pairs earlier step w)
 
 follow-append :
-    (e : End) (pairs : List Pair) (n : ℕ) (first second : List LinkStep) (w : World) → AllFollowNear e pairs n first w
-    → AllFollowNear e pairs n second (near_all e pairs n first w) → AllFollowNear e pairs n (first ++ second) w
-follow-append e pairs n [] second w h k = k
-follow-append e pairs n (step ∷ first) second w h k = (h.0, follow-append e pairs n first second (near_by e pairs n step w) h.1 k)
+    (e : End) (back : List Tagged) (pairs : List Pair) (n : ℕ) (first second : List LinkStep) (w : World)
+    → AllFollowNear e back pairs n first w → AllFollowNear e back pairs n second (near_all e pairs n first w)
+    → AllFollowNear e back pairs n (first ++ second) w
+follow-append e back pairs n [] second w h k = k
+follow-append e back pairs n (step ∷ first) second w h k =
+    (h.0, follow-append e back pairs n first second (near_by e pairs n step w) h.1 k)
 
-makes_seen : (e : End) (anew : Option Path) (w : World) → seen_from e (run_changes w (makes e anew)) ≡ makes_near anew (seen_from e w)
+pub makes_seen : (e : End) (anew : Option Path) (w : World) → seen_from e (run_changes w (makes e anew)) ≡ makes_near anew (seen_from e w)
 makes_seen e None w = refl
 makes_seen e (Some path) w = made_seen e path w
 
 pub follow_seen :
-    (e : End) (pairs : Pairs) (n : ℕ) (steps : List LinkStep) (w : World)
-    → AllFollowNear e (heard_at (other e) pairs) n steps (seen_from e w) → FollowsAll e pairs n steps w
-follow_seen e pairs n [] w h = tt
-follow_seen e pairs n (step ∷ steps) w h =
-    let here : FollowsNear e step (seen_from e (run_changes w (makes e step.anew))) =
-    subst (FollowsNear e step) (sym (makes_seen e step.anew w)) h.0 in (
+    (e : End) (back : List Tagged) (pairs : Pairs) (n : ℕ) (steps : List LinkStep) (w : World)
+    → AllFollowNear e back (heard_at (other e) pairs) n steps (seen_from e w) → FollowsAll e pairs n steps w
+follow_seen e back pairs n [] w h = tt
+follow_seen e back pairs n (step ∷ steps) w h =
+    let here : FollowsNear e back step (seen_from e (run_changes w (makes e step.anew))) =
+    subst (FollowsNear e back step) (sym (makes_seen e step.anew w)) h.0 in (
       record { machine = here.machine; told = here.told },
-      follow_seen e pairs n steps (run_changes w (changes_by e pairs n step))
-          (subst (AllFollowNear e (heard_at (other e) pairs) n steps) (sym (by_seen e pairs n step step.anew w)) h.1),
+      follow_seen e back pairs n steps (run_changes w (changes_by e pairs n step))
+          (subst (AllFollowNear e back (heard_at (other e) pairs) n steps) (sym (by_seen e pairs n step step.anew w)) h.1),
     )
 
 -- ---- acts one after another
@@ -125,7 +137,7 @@ follow_seen e pairs n (step ∷ steps) w h =
 abbrev pub Kept : Setting → End → List Tagged → Turn → List LinkStep → World → Type 0
 Kept s e back after steps w =
     Holds s back after (near_all e (s.done ++ s.rest) (length s.earlier) steps w)
-    × AllFollowNear e (s.done ++ s.rest) (length s.earlier) steps w
+    × AllFollowNear e back (s.done ++ s.rest) (length s.earlier) steps w
 
 -- what an act does to the link keeps what holds
 abbrev pub Goes : Setting → End → List Tagged → Turn → List LinkStep → Turn → Type 0
@@ -141,7 +153,7 @@ goes_on s e back turn between after first second one two w h =
     let before = one w h in
     let then = two (near_all e pairs n first w) before.0 in (
       subst (Holds s back after) (sym (near_all-append e pairs n first second w)) then.0,
-      follow-append e pairs n first second w before.1 then.1,
+      follow-append e back pairs n first second w before.1 then.1,
     )
 
 pub goes_along :

@@ -20,15 +20,28 @@ use Rattle.station.specs.Links.{Link, IsNewKey, is_between, link_at, most_links,
 use Rattle.station.specs.Registrations.{is_number}
 use Rattle.station.specs.Ticks.{ticking_at, ticking_links, waits}
 use Rattle.station.specs.Turn.{Turn, changing}
-use Rattle.channel_bench.specs.LinkSteps.{link_step, steps_for, steps_at, ticks_at, tick_steps, given_up, gives_up_at, leaving_steps, sends_at, data_steps, disconnect_steps}
+use Rattle.channel_bench.specs.LinkSteps.{LinkStep, link_step, steps_for, steps_at, ticks_at, tick_steps, given_up, gives_up_at, leaving_steps, sends_at, data_steps, disconnect_steps}
 use Rattle.channel_bench.specs.StationsLaw.{first_chosen, IsMachineOf}
-use Rattle.channel_bench.proofs.Acts.{Setting, Holds, IsAsked, own_asked, own_machine, asked_told, other_event, still_holds}
-use Rattle.channel_bench.proofs.Along.{Kept, Goes, goes_along}
+use Rattle.channel_bench.proofs.Acts.{Setting, Holds, IsAsked, own_asked, own_machine, asked_told, asked_stays, asked_asking, asked_next, asked_reads, other_event, still_holds}
+use Rattle.channel_bench.proofs.Along.{FollowsNear, Kept, Goes, goes_along}
 use Rattle.channel_bench.proofs.Standing.{IsGoodLink, IsTable, between_calls, owner_table, made_table, made_other, made_at}
 
 -- the links that are meant
 abbrev pub meant : Setting → Option Link → Bool
 meant s = is_between s.local s.remote
+
+-- its end follows, where nothing is heard
+follows_asked :
+    (e : End) (back : List Tagged) (step : LinkStep) (w : World) → w.a.end.machine ≡ step.link.machine → IsAsked step.event
+    → w.a.towards ≡ back → FollowsNear e back step w
+follows_asked e back step w machine asked back_is = record {
+  machine = machine;
+  told = asked_told e w step.link.machine step.event asked machine;
+  stays = asked_stays e step.event w.a.towards back asked back_is;
+  asking = asked_asking e w step.link.machine step.event asked machine;
+  next = asked_next e w step.link.machine step.event asked machine;
+  reads = asked_reads step.event w asked;
+}
 
 -- ---- an event at a key
 
@@ -42,7 +55,7 @@ act_goes s e back key event turn asked w H = by_place (link_at key turn.now.link
     by_choice link at true is =
         let machine = own_machine s back turn w key link H at is in (
           own_asked s e back turn w key link event asked H at is,
-          (record { machine = machine; told = asked_told e w link.machine event asked machine }, tt),
+          (follows_asked e back (link_step None key event turn link) w machine asked H.back_is, tt),
         )
     by_choice link at false is = (other_event s back turn w key link event H at is, tt)
 
@@ -197,7 +210,7 @@ made_asked s e back turn key link path after event asked may new after_is w H =
         let made = made_own s back turn w key link path after H may is new after_is in
         let machine = own_machine s back after (near_made path w) key link made at is in (
           own_asked s e back after (near_made path w) key link event asked made at is,
-          (record { machine = machine; told = asked_told e (near_made path w) link.machine event asked machine }, tt),
+          (follows_asked e back (link_step (Some path) key event after link) (near_made path w) machine asked made.back_is, tt),
         )
     go false is =
         (other_event s back after w key link event (made_another s back turn w key link after H may is after_is) at is, tt)

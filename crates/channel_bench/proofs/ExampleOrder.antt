@@ -204,7 +204,7 @@ heard_at_a = record {
 default_windows : HasWindows default_params
 default_windows = ((omega arith, omega arith), (omega arith, omega arith))
 
-fits : WindowsFit default_params default_params
+pub fits : WindowsFit default_params default_params
 fits = record {
   of_a = default_windows;
   of_b = default_windows;

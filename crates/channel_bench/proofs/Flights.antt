@@ -165,7 +165,7 @@ marks_rest done rest bound first (suc count) h low =
     ap (λ b. b ∷ marks (done ++ rest) (first + 1) count) (named_rest done rest bound first h low)
     ∙ ap (λ bs. is_named rest first ∷ bs) (marks_rest done rest bound (first + 1) count h (omega arith))
 
-marks_as_map : (ps : List Pair) (first from count : ℕ) → map (λ k. is_named ps (first + k)) (range_with_len from count) ≡ marks ps (first + from) count
+pub marks_as_map : (ps : List Pair) (first from count : ℕ) → map (λ k. is_named ps (first + k)) (range_with_len from count) ≡ marks ps (first + from) count
 marks_as_map ps first from zero = refl
 marks_as_map ps first from (suc count) =
     let next : first + (from + 1) ≡ first + from + 1 = omega arith in

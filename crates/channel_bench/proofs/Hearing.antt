@@ -1,6 +1,6 @@
 -- A frame that is heard keeps what holds of a link between two calls: as an event of that link it is the frame in front of
 -- those in flight, and as an event of another it is not among them.
-use Rattle.std.proofs.Common.{◌≡◌, ℕ, ◌<◌, Bool, true, false, List, [], ◌∷◌, length, arith, cond, Option, Some, None, is_some, refl, sym, ap, ◌∙◌, subst, inl, inr}
+use Rattle.std.proofs.Common.{◌≡◌, ℕ, ◌<◌, Bool, true, false, List, [], ◌∷◌, length, drop, arith, cond, Option, Some, None, is_some, refl, sym, ap, ◌∙◌, subst, inl, inr}
 use Rattle.std.specs.Prelude.{All, MatchBool, map, is_none}
 use Rattle.std.proofs.lemmas.List.{get_or-set_same}
 use Rattle.ax25_address.specs.Callsign.{Callsign}
@@ -17,7 +17,7 @@ use Rattle.link_machine.specs.Machine.{Machine, new_machine, modulus_named}
 use Rattle.link_machine.specs.Step.{step}
 use Rattle.link_world.specs.declared.end.End.{End}
 use Rattle.link_world.specs.Changes.{near_made, near_kept}
-use Rattle.link_world.specs.Flight.{Tagged}
+use Rattle.link_world.specs.Flight.{Tagged, asks}
 use Rattle.link_world.specs.World.{World, near_turn, read_in}
 use Rattle.digipeater.specs.Repeated.{repeated}
 use Rattle.station.specs.declared.host_event.PortKind.{PortKind}
@@ -30,13 +30,15 @@ use Rattle.station.specs.NewLinks.{making, idle_link, no_layer_3}
 use Rattle.station.specs.Registrations.{registrar}
 use Rattle.station.specs.Turn.{Out, Turn, in_order, changing}
 use Rattle.channel_bench.specs.HeardInOrder.{AreAlikeButForH, with_none_done}
+use Rattle.channel_bench.specs.InFlight.{LinkFrame, is_ask}
 use Rattle.channel_bench.specs.LinkOfCalls.{event_at_end}
 use Rattle.channel_bench.specs.LinkSteps.{LinkStep, link_step, steps_for, steps_at, hears_at, new_steps, anew_steps, reading_steps, key_steps, path_steps, by_path_steps, heard_steps}
 use Rattle.channel_bench.specs.StationsLaw.{first_chosen}
-use Rattle.channel_bench.proofs.Acts.{Setting, Holds, marks_of, still_holds, own_machine, own_heard, heard_told, other_event}
+use Rattle.channel_bench.proofs.Acts.{Setting, Holds, marks_of, still_holds, own_machine, own_heard, heard_told, heard_asking, heard_next, FrontRead, is_asking, asks_when_sent, other_event}
 use Rattle.channel_bench.proofs.Addresses.{heard_again}
 use Rattle.channel_bench.proofs.Along.{Kept, makes_near}
 use Rattle.channel_bench.proofs.Events.{meant, MayMake, made_own, made_another}
+use Rattle.channel_bench.proofs.Controls.{ask_heard}
 use Rattle.channel_bench.proofs.Messages.{IsStill, still, still_both, raw_still}
 use Rattle.channel_bench.proofs.Readings.{reread, hears_same}
 use Rattle.channel_bench.proofs.Standing.{chosen_calls, calls_chosen, made_at}
@@ -46,8 +48,8 @@ use Rattle.channel_bench.proofs.ValidCalls.{heard_good, none_by_position, at_pos
 
 -- what is heard leaves the frames in flight: it is the front one, or one of another link
 pub data Pop (s : Setting) (octets : List ℕ) : List Tagged → List Tagged → Type 0 where
-  Own : (f : Tagged) → (stays : List Tagged) → (queued : List ℕ) → AreAlikeButForH octets queued
-      → IsTagged s.remote s.local f queued → Pop s octets (f ∷ stays) stays
+  Own : (f : Tagged) → (stays : List Tagged) → (queued : LinkFrame) → AreAlikeButForH octets queued.octets
+      → IsTagged s.remote s.local f queued → (is_ask octets ≡ true → s.on_ask ≡ true) → Pop s octets (f ∷ stays) stays
   Another : (stays : List Tagged) → (queued : List ℕ) → AreAlikeButForH octets queued → IsOther s.remote s.local queued
       → Pop s octets stays stays
 
@@ -67,6 +69,11 @@ HeardBy true s e stays turn key link frame made w =
     (near_kept (event_at_end e (LinkHear frame)) (marks_of s turn (event_at key (LinkHear frame) turn)) made)
     × (made.a.end.machine ≡ link.machine)
     × ((near_turn (event_at_end e (LinkHear frame)) made).told ≡ (step link.machine (LinkHear frame)).told)
+    × (drop 1 made.a.towards ≡ stays)
+    × (map is_asking (near_turn (event_at_end e (LinkHear frame)) made).sent
+    ≡ map asks_when_sent (step link.machine (LinkHear frame)).sent)
+    × ((near_turn (event_at_end e (LinkHear frame)) made).now.machine ≡ (step link.machine (LinkHear frame)).now)
+    × FrontRead frame made
 HeardBy false s e stays turn key link frame made w = Holds s stays (event_at key (LinkHear frame) turn) w
 
 heard_at_link :
@@ -76,7 +83,7 @@ heard_at_link :
     → IsFrame frame (modulus_named link.machine.incoming.modulus) octets → link_at key turn.now.links ≡ Some link
     → (meant s (Some link) ≡ true → Holds s back turn made) → (meant s (Some link) ≡ false → Holds s back turn w)
     → (b : Bool) → meant s (Some link) ≡ b → HeardBy b s e stays turn key link frame made w
-heard_at_link s e octets back stays turn key link path len frame made w low (Own f later queued alike tag)
+heard_at_link s e octets back stays turn key link path len frame made w low (Own f later queued alike tag caused)
     begins local remote is at own another true chosen =
     let H = own chosen in
     let again = reread s.remote s.local f octets queued (modulus_named link.machine.incoming.modulus) frame tag alike low is in
@@ -85,13 +92,27 @@ heard_at_link s e octets back stays turn key link path len frame made w low (Own
     ap (λ (m : Machine). read_in m.incoming.modulus f) machine ∙ again.reading in
     let same : step made.a.end.machine (LinkHear again.as_read) ≡ step link.machine (LinkHear frame) =
     ap (λ m. step m (LinkHear again.as_read)) machine ∙ hears_same link.machine again.as_read frame again.kind again.role in (
-      own_heard s e f again.as_read later turn made key link frame H at chosen read same,
+      own_heard s e f again.as_read later turn made key link frame
+          (λ asking. caused (ask_heard (modulus_named link.machine.incoming.modulus) octets frame is (ap asks (sym again.kind) ∙ asking)))
+          H at chosen read same,
       machine,
       heard_told e f again.as_read later made link.machine frame H.back_is read same,
+      ap (drop 1) H.back_is,
+      heard_asking e f again.as_read later made link.machine frame H.back_is read same,
+      heard_next e f again.as_read later made link.machine frame H.back_is read same,
+      record {
+        front = f;
+        rest = later;
+        as_read = again.as_read;
+        towards = H.back_is;
+        reading = read;
+        kind = again.kind;
+        of_link = again.of_link;
+      },
     )
-heard_at_link s e octets back stays turn key link path len frame made w low (Own f later queued alike tag)
+heard_at_link s e octets back stays turn key link path len frame made w low (Own f later queued alike tag caused)
     begins local remote is at own another false chosen =
-    let again = heard_again (modulus_named f.modulus) f.frame octets queued tag.path tag.spelled alike in
+    let again = heard_again (modulus_named f.modulus) f.frame octets queued.octets tag.path tag.spelled alike in
     let same : path ≡ alike.path_heard = (BeginsWithPath-same octets path alike.path_heard len alike.len begins alike.heard_begins).0 in
     absurd (not_both (meant s (Some link)) (calls_chosen s.local s.remote link
     (local ∙ ap (λ (p : Path). p.dest) same ∙ same_dest alike.path_heard f.frame.path again.paths ∙ tag.dest)
@@ -112,7 +133,7 @@ by_choice :
     (s : Setting) (e : End) (stays : List Tagged) (turn : Turn) (key : ℕ) (link : Link) (frame : Frame)
     (anew : Option Path) (w : World) (b : Bool) → HeardBy b s e stays turn key link frame (makes_near anew w) w
     → Kept s e stays (event_at key (LinkHear frame) turn) (cond b (link_step anew key (LinkHear frame) turn link ∷ []) []) w
-by_choice s e stays turn key link frame anew w true h = (h.0, (record { machine = h.1; told = h.2 }, tt))
+by_choice s e stays turn key link frame anew w true h = (h.0, (record { machine = h.1; told = h.2; stays = h.3; asking = h.4; next = h.5; reads = h.6 }, tt))
 by_choice s e stays turn key link frame anew w false h = (h, tt)
 
 pub there_goes :

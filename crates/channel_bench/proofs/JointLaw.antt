@@ -1,6 +1,6 @@
 -- The law on any two stations: over a joint run that is heard in order, the two ends of a link follow it, so that the law of
 -- two links is the law of what the stations did.
-use Rattle.std.proofs.Common.{◌≡◌, ℕ, zero, suc, ◌+◌, ◌<◌, ◌≤◌, List, [], ◌∷◌, ◌++◌, length, take, replicate, Option, Some, None, refl, sym, ap, ◌∙◌, subst, arith}
+use Rattle.std.proofs.Common.{◌≡◌, ℕ, zero, suc, ◌+◌, ◌<◌, ◌≤◌, Bool, List, [], ◌∷◌, ◌++◌, length, take, replicate, Option, Some, None, refl, sym, ap, ◌∙◌, subst, arith}
 use Rattle.std.specs.Prelude.{AllPairs, slice_get}
 use Rattle.std.specs.Bool.{⊤}
 use Rattle.std.specs.List.{AllByRecursion as Each}
@@ -17,138 +17,158 @@ use Rattle.link_world.specs.World.{World, seen_from, other}
 use Rattle.station.specs.declared.config.Config.{Config}
 use Rattle.station.specs.Links.{Link, is_between, most_links}
 use Rattle.station.specs.State.{StationState, new_station}
-use Rattle.channel_bench.specs.JointRun.{Step, Stations, new_stations, state_of, with_state, stepped, IsJointRun, all_stepped, at_end, queued_at}
-use Rattle.channel_bench.specs.HeardInOrder.{Pair, RiseBoth, HearsLinkFrame, AreHeardInOrder}
+use Rattle.channel_bench.specs.JointRun.{Input, Step, Stations, new_stations, state_of, with_state, stepped, IsJointRun, all_stepped, at_end}
+use Rattle.channel_bench.specs.HeardInOrder.{Pair, RiseBoth, IsOffAir, HearsLinkFrame, AreHeardInOrder}
+use Rattle.channel_bench.specs.InFlight.{LinkFrame, hears_ask, is_ask}
+use Rattle.channel_bench.specs.JointRun.Input.{FromHost, OffAir, OfClock}
 use Rattle.channel_bench.specs.LinkOfCalls.{Calls, Pairs, Counts, link_at_end, count_at, with_more, all_changes_by, changes_from, changes_of, FollowsAll, FollowsThrough, path_between, first_world}
 use Rattle.channel_bench.specs.LinkSteps.{steps_of}
 use Rattle.channel_bench.specs.StationsLaw.{IsMachineOf, AreEndsOf, FollowingLaw, StationsLaw}
 use Rattle.channel_bench.proofs.Along.{near_all, changes_seen, follow_seen, run_changes-append}
 use Rattle.channel_bench.proofs.Flights.{RiseFrom, flight_past}
+use Rattle.channel_bench.proofs.Framed.{framed, length-framed, frames_at, frames_more}
 use Rattle.channel_bench.proofs.Runs.{SideHolds, Sent, Between, Stepped, none_rises, none_heard, popped_by, setting_of, takes}
 use Rattle.channel_bench.proofs.Standing.{IsGoodPlace}
 use Rattle.channel_bench.proofs.Tables.{NotChosen, none_chosen, one_of_none}
 
 -- ---- a step of one station, in its run
 
+off_air_asks : (input : Input) (octets : List ℕ) → IsOffAir input octets → hears_ask input ≡ is_ask octets
+off_air_asks (FromHost event) octets off = absurd off
+off_air_asks (OffAir heard) octets off = ap is_ask off
+off_air_asks (OfClock busy) octets off = absurd off
+
 not_other : (e : End) → e ≡ other e → ⊥
 not_other A e = cc
 not_other B e = cc
 
-step_near :
-    (e : End) (l r : Callsign) (pa pb : Params) (n : ℕ) (sa sb : StationState) (qa qb : List (List ℕ))
+-- whatever pairs the frames that it queues have, if none of them is heard in this step
+pub step_rising :
+    (e : End) (l r : Callsign) (pa pb : Params) (n : ℕ) (sb : StationState) (qa qb : List LinkFrame)
     (out_pairs back_pairs : List Pair) (w : World) (full : List Step) (step : Step)
-    → Between l r pa pb n sa sb qa qb out_pairs back_pairs w → step.before ≡ sa → step.station ≡ e
-    → slice_get full n ≡ Some step → queued_at (other e) (take n full) ≡ qb → AreHeardInOrder (other e) full out_pairs
+    (h : Between l r pa pb n step.before sb qa qb out_pairs back_pairs w) → RiseFrom (n + 1) 0 h.out.rest
+    → step.station ≡ e → slice_get full n ≡ Some step → frames_at (other e) (take n full) ≡ qb
     → AreHeardInOrder e full back_pairs
-    → Stepped e l r pa pb n sb qa qb out_pairs back_pairs w step.after (steps_of (is_between l r) step)
-step_near e l r pa pb n sa sb qa qb out_pairs back_pairs w full step between before station is queue out_order back_order =
-    let h : Between l r pa pb n step.before sb qa qb out_pairs back_pairs w =
-    subst (λ s. Between l r pa pb n s sb qa qb out_pairs back_pairs w) (sym before) between in
-    takes e l r pa pb n step.before sb qa qb out_pairs back_pairs w h
-    (none_rises (other e) full out_pairs l r qa n w.b.towards step out_order is
-    (λ octets hears. not_other e (sym station ∙ hears.station)) h.out)
+    → Stepped e (hears_ask step.input) l r pa pb n sb qa qb out_pairs back_pairs w step.after (steps_of (is_between l r) step)
+step_rising e l r pa pb n sb qa qb out_pairs back_pairs w full step h rises station is queue back_order =
+    takes e (hears_ask step.input) l r pa pb n step.before sb qa qb out_pairs back_pairs w h rises
     step.input step.after step.turn step.octets
     (λ never. none_heard e full back_pairs r l qb n w.a.towards step back_order is
     (λ octets hears. never octets hears.input hears.event) h.back)
     (λ octets off some.
     let hears : HearsLinkFrame e step octets = record { station = station; input = off; event = some } in
-    popped_by (setting_of l r pa pb n step.before sb qa qb out_pairs back_pairs w h) e full back_pairs qb n w.a.towards step octets
-    h.back.done h.back.rest h.back.tags back_order is hears queue h.back.split h.back.rises h.back.below h.back.before
+    popped_by (setting_of (hears_ask step.input) l r pa pb n step.before sb qa qb out_pairs back_pairs w h) e full back_pairs qb n
+    w.a.towards step octets h.back.done h.back.rest h.back.tags back_order is hears
+    (λ asking. off_air_asks step.input octets off ∙ asking) queue h.back.split h.back.rises h.back.below h.back.before
     h.back.tagged h.back.ahead (back_order.all n step octets is hears))
+
+pub step_near :
+    (e : End) (l r : Callsign) (pa pb : Params) (n : ℕ) (sb : StationState) (qa qb : List LinkFrame)
+    (out_pairs back_pairs : List Pair) (w : World) (full : List Step) (step : Step)
+    → Between l r pa pb n step.before sb qa qb out_pairs back_pairs w → step.station ≡ e
+    → slice_get full n ≡ Some step → frames_at (other e) (take n full) ≡ qb → AreHeardInOrder (other e) full out_pairs
+    → AreHeardInOrder e full back_pairs
+    → Stepped e (hears_ask step.input) l r pa pb n sb qa qb out_pairs back_pairs w step.after (steps_of (is_between l r) step)
+step_near e l r pa pb n sb qa qb out_pairs back_pairs w full step h station is queue out_order back_order =
+    step_rising e l r pa pb n sb qa qb out_pairs back_pairs w full step h
+    (none_rises (other e) full out_pairs l r qa n w.b.towards step out_order is
+    (λ octets hears. not_other e (sym station ∙ hears.station)) h.out)
+    station is queue back_order
 
 -- ---- a step of either
 
-mirror :
-    (l r : Callsign) (pa pb : Params) (n : ℕ) (sa sb : StationState) (qa qb : List (List ℕ))
+pub mirror :
+    (l r : Callsign) (pa pb : Params) (n : ℕ) (sa sb : StationState) (qa qb : List LinkFrame)
     (out_pairs back_pairs : List Pair) (w : World) → Between l r pa pb n sa sb qa qb out_pairs back_pairs w
     → Between r l pb pa n sb sa qb qa back_pairs out_pairs (seen_from B w)
 mirror l r pa pb n sa sb qa qb out_pairs back_pairs w h = record { near = h.far; far = h.near; out = h.back; back = h.out }
 
-record StepDone (calls : Calls) (pairs : Pairs) (a b : Params) (n : ℕ) (st : Stations) (past : List Step) (counts : Counts)
+pub record StepDone (calls : Calls) (pairs : Pairs) (a b : Params) (n : ℕ) (st : Stations) (past : List Step) (counts : Counts)
     (w : World) (step : Step) (e : End) : Type 0 where
-  between : let next = with_state e step.after.now st in
-      Between calls.a calls.b a b (n + 1) next.a next.b (queued_at A past ++ at_end A e step.after.out.queued)
-      (queued_at B past ++ at_end B e step.after.out.queued) pairs.at_b pairs.at_a
+  pub between : let next = with_state e step.after.now st in
+      Between calls.a calls.b a b (n + 1) next.a next.b (frames_at A past ++ at_end A e (framed (hears_ask step.input) step.after.out.queued))
+      (frames_at B past ++ at_end B e (framed (hears_ask step.input) step.after.out.queued)) pairs.at_b pairs.at_a
       (run_changes w (all_changes_by e pairs (count_at e counts) (steps_of (link_at_end calls e) step)))
-  follows : FollowsAll e pairs (count_at e counts) (steps_of (link_at_end calls e) step) w
+  pub follows : FollowsAll e pairs (count_at e counts) (steps_of (link_at_end calls e) step) w
 
-step_done :
+pub step_done :
     (calls : Calls) (pairs : Pairs) (a b : Params) (n : ℕ) (st : Stations) (past full : List Step) (counts : Counts)
     (w : World) (step : Step) (e : End)
-    → Between calls.a calls.b a b n st.a st.b (queued_at A past) (queued_at B past) pairs.at_b pairs.at_a w
+    → Between calls.a calls.b a b n st.a st.b (frames_at A past) (frames_at B past) pairs.at_b pairs.at_a w
     → step.station ≡ e → step.before ≡ state_of e st → slice_get full n ≡ Some step → take n full ≡ past
-    → counts.a ≡ length (queued_at A past) → counts.b ≡ length (queued_at B past)
+    → counts.a ≡ length (frames_at A past) → counts.b ≡ length (frames_at B past)
     → AreHeardInOrder A full pairs.at_a → AreHeardInOrder B full pairs.at_b
     → StepDone calls pairs a b n st past counts w step e
 step_done calls pairs a b n st past full counts w step A h station before is taken ca cb heard_a heard_b =
-    let qa = queued_at A past in
-    let qb = queued_at B past in
+    let qa = frames_at A past in
+    let qb = frames_at B past in
     let steps = steps_of (link_at_end calls A) step in
-    let done : Stepped A calls.a calls.b a b n st.b qa qb pairs.at_b pairs.at_a w step.after steps =
-    step_near A calls.a calls.b a b n st.a st.b qa qb pairs.at_b pairs.at_a w full step h before station is
-    (ap (queued_at B) taken) heard_b heard_a in
+    let now : Between calls.a calls.b a b n step.before st.b qa qb pairs.at_b pairs.at_a w =
+    subst (λ s. Between calls.a calls.b a b n s st.b qa qb pairs.at_b pairs.at_a w) (sym before) h in
+    let done : Stepped A (hears_ask step.input) calls.a calls.b a b n st.b qa qb pairs.at_b pairs.at_a w step.after steps =
+    step_near A calls.a calls.b a b n st.b qa qb pairs.at_b pairs.at_a w full step now station is
+    (ap (frames_at B) taken) heard_b heard_a in
     let world : near_all A pairs.at_b (length qa) steps w ≡ run_changes w (all_changes_by A pairs (length qa) steps) =
     sym (changes_seen A pairs (length qa) steps w) in
     record {
-      between = subst (λ k. Between calls.a calls.b a b (n + 1) step.after.now st.b (qa ++ step.after.out.queued) (qb ++ [])
+      between = subst (λ k. Between calls.a calls.b a b (n + 1) step.after.now st.b (qa ++ framed (hears_ask step.input) step.after.out.queued) (qb ++ [])
           pairs.at_b pairs.at_a (run_changes w (all_changes_by A pairs k steps))) (sym ca)
-          (subst (λ q. Between calls.a calls.b a b (n + 1) step.after.now st.b (qa ++ step.after.out.queued) q
+          (subst (λ q. Between calls.a calls.b a b (n + 1) step.after.now st.b (qa ++ framed (hears_ask step.input) step.after.out.queued) q
           pairs.at_b pairs.at_a (run_changes w (all_changes_by A pairs (length qa) steps))) (sym (append-nil qb))
-          (subst (Between calls.a calls.b a b (n + 1) step.after.now st.b (qa ++ step.after.out.queued) qb pairs.at_b pairs.at_a)
+          (subst (Between calls.a calls.b a b (n + 1) step.after.now st.b (qa ++ framed (hears_ask step.input) step.after.out.queued) qb pairs.at_b pairs.at_a)
           world done.between));
-      follows = subst (λ k. FollowsAll A pairs k steps w) (sym ca) (follow_seen A pairs (length qa) steps w done.follows);
+      follows = subst (λ k. FollowsAll A pairs k steps w) (sym ca) (follow_seen A done.stays pairs (length qa) steps w done.follows);
     }
 step_done calls pairs a b n st past full counts w step B h station before is taken ca cb heard_a heard_b =
-    let qa = queued_at A past in
-    let qb = queued_at B past in
+    let qa = frames_at A past in
+    let qb = frames_at B past in
     let steps = steps_of (link_at_end calls B) step in
-    let done : Stepped B calls.b calls.a b a n st.a qb qa pairs.at_a pairs.at_b (seen_from B w) step.after steps =
-    step_near B calls.b calls.a b a n st.b st.a qb qa pairs.at_a pairs.at_b (seen_from B w) full step
-    (mirror calls.a calls.b a b n st.a st.b qa qb pairs.at_b pairs.at_a w h) before station is
-    (ap (queued_at A) taken) heard_a heard_b in
+    let now : Between calls.b calls.a b a n step.before st.a qb qa pairs.at_a pairs.at_b (seen_from B w) =
+    subst (λ s. Between calls.b calls.a b a n s st.a qb qa pairs.at_a pairs.at_b (seen_from B w)) (sym before)
+    (mirror calls.a calls.b a b n st.a st.b qa qb pairs.at_b pairs.at_a w h) in
+    let done : Stepped B (hears_ask step.input) calls.b calls.a b a n st.a qb qa pairs.at_a pairs.at_b (seen_from B w) step.after steps =
+    step_near B calls.b calls.a b a n st.a qb qa pairs.at_a pairs.at_b (seen_from B w) full step now station is
+    (ap (frames_at A) taken) heard_a heard_b in
     let world : near_all B pairs.at_a (length qb) steps (seen_from B w)
     ≡ seen_from B (run_changes w (all_changes_by B pairs (length qb) steps)) =
     sym (changes_seen B pairs (length qb) steps w) in
     let next : World = run_changes w (all_changes_by B pairs (length qb) steps) in
-    let there : Between calls.b calls.a b a (n + 1) step.after.now st.a (qb ++ step.after.out.queued) qa pairs.at_a pairs.at_b
+    let there : Between calls.b calls.a b a (n + 1) step.after.now st.a (qb ++ framed (hears_ask step.input) step.after.out.queued) qa pairs.at_a pairs.at_b
     (seen_from B next) =
-    subst (Between calls.b calls.a b a (n + 1) step.after.now st.a (qb ++ step.after.out.queued) qa pairs.at_a pairs.at_b)
+    subst (Between calls.b calls.a b a (n + 1) step.after.now st.a (qb ++ framed (hears_ask step.input) step.after.out.queued) qa pairs.at_a pairs.at_b)
     world done.between in
-    let back : Between calls.a calls.b a b (n + 1) st.a step.after.now qa (qb ++ step.after.out.queued) pairs.at_b pairs.at_a next =
+    let back : Between calls.a calls.b a b (n + 1) st.a step.after.now qa (qb ++ framed (hears_ask step.input) step.after.out.queued) pairs.at_b pairs.at_a next =
     record { near = there.far; far = there.near; out = there.back; back = there.out } in
     record {
-      between = subst (λ k. Between calls.a calls.b a b (n + 1) st.a step.after.now (qa ++ []) (qb ++ step.after.out.queued)
+      between = subst (λ k. Between calls.a calls.b a b (n + 1) st.a step.after.now (qa ++ []) (qb ++ framed (hears_ask step.input) step.after.out.queued)
           pairs.at_b pairs.at_a (run_changes w (all_changes_by B pairs k steps))) (sym cb)
-          (subst (λ q. Between calls.a calls.b a b (n + 1) st.a step.after.now q (qb ++ step.after.out.queued)
+          (subst (λ q. Between calls.a calls.b a b (n + 1) st.a step.after.now q (qb ++ framed (hears_ask step.input) step.after.out.queued)
           pairs.at_b pairs.at_a next) (sym (append-nil qa)) back);
       follows = subst (λ k. FollowsAll B pairs k steps w) (sym cb)
-          (follow_seen B pairs (length qb) steps w done.follows);
+          (follow_seen B done.stays pairs (length qb) steps w done.follows);
     }
 
 -- ---- all steps
 
-queued_more :
-    (e : End) (past : List Step) (step : Step)
-    → queued_at e (past ++ step ∷ []) ≡ queued_at e past ++ at_end e step.station step.after.out.queued
-queued_more e [] step = append-nil (at_end e step.station step.after.out.queued)
-queued_more e (first ∷ past) step =
-    ap (λ q. at_end e first.station first.after.out.queued ++ q) (queued_more e past step)
-    ∙ sym (append_assoc (at_end e first.station first.after.out.queued) (queued_at e past)
-    (at_end e step.station step.after.out.queued))
+pub count_a :
+    (e : End) (on : Bool) (queued : List (List ℕ)) (before : List LinkFrame) (counts : Counts) → counts.a ≡ length before
+    → (with_more e (length queued) counts).a ≡ length (before ++ at_end A e (framed on queued))
+count_a A on queued before counts is =
+    let size = length-append before (framed on queued) in
+    let same = length-framed on queued in
+    omega arith
+count_a B on queued before counts is = is ∙ sym (ap length (append-nil before))
 
-count_a :
-    (e : End) (queued before : List (List ℕ)) (counts : Counts) → counts.a ≡ length before
-    → (with_more e (length queued) counts).a ≡ length (before ++ at_end A e queued)
-count_a A queued before counts is = let size = length-append before queued in omega arith
-count_a B queued before counts is = is ∙ sym (ap length (append-nil before))
+pub count_b :
+    (e : End) (on : Bool) (queued : List (List ℕ)) (before : List LinkFrame) (counts : Counts) → counts.b ≡ length before
+    → (with_more e (length queued) counts).b ≡ length (before ++ at_end B e (framed on queued))
+count_b A on queued before counts is = is ∙ sym (ap length (append-nil before))
+count_b B on queued before counts is =
+    let size = length-append before (framed on queued) in
+    let same = length-framed on queued in
+    omega arith
 
-count_b :
-    (e : End) (queued before : List (List ℕ)) (counts : Counts) → counts.b ≡ length before
-    → (with_more e (length queued) counts).b ≡ length (before ++ at_end B e queued)
-count_b A queued before counts is = is ∙ sym (ap length (append-nil before))
-count_b B queued before counts is = let size = length-append before queued in omega arith
-
-get_seam : (past : List Step) (step : Step) (rest : List Step) → slice_get (past ++ step ∷ rest) (length past) ≡ Some step
+pub get_seam : (past : List Step) (step : Step) (rest : List Step) → slice_get (past ++ step ∷ rest) (length past) ≡ Some step
 get_seam past step rest =
     let more : length (step ∷ rest) ≡ suc (length rest) = refl in
     let size = length-append past (step ∷ rest) in
@@ -163,9 +183,9 @@ record RunDone (calls : Calls) (pairs : Pairs) (st : Stations) (counts : Counts)
 run_done :
     (calls : Calls) (pairs : Pairs) (a b : Params) (full past rest : List Step) (st : Stations) (counts : Counts) (w : World)
     → full ≡ past ++ rest → IsJointRun st rest
-    → counts.a ≡ length (queued_at A past) → counts.b ≡ length (queued_at B past)
+    → counts.a ≡ length (frames_at A past) → counts.b ≡ length (frames_at B past)
     → AreHeardInOrder A full pairs.at_a → AreHeardInOrder B full pairs.at_b
-    → Between calls.a calls.b a b (length past) st.a st.b (queued_at A past) (queued_at B past) pairs.at_b pairs.at_a w
+    → Between calls.a calls.b a b (length past) st.a st.b (frames_at A past) (frames_at B past) pairs.at_b pairs.at_a w
     → RunDone calls pairs st counts w rest
 run_done calls pairs a b full past [] st counts w is run ca cb heard_a heard_b h = record {
   ends = record { at_a = h.near.table.machine_is; at_b = h.far.table.machine_is };
@@ -173,6 +193,7 @@ run_done calls pairs a b full past [] st counts w is run ca cb heard_a heard_b h
 }
 run_done calls pairs a b full past (step ∷ rest) st counts w is run ca cb heard_a heard_b h =
     let e = step.station in
+    let on = hears_ask step.input in
     let queued = step.after.out.queued in
     let made = steps_of (link_at_end calls e) step in
     let changes = all_changes_by e pairs (count_at e counts) made in
@@ -183,19 +204,19 @@ run_done calls pairs a b full past (step ∷ rest) st counts w is run ca cb hear
     let taken : take (length past) full ≡ past = ap (take (length past)) is ∙ take-append_seam past (step ∷ rest) in
     let one : StepDone calls pairs a b (length past) st past counts w step e =
     step_done calls pairs a b (length past) st past full counts w step e h refl run.0 at taken ca cb heard_a heard_b in
-    let between : Between calls.a calls.b a b (length longer) (stepped step st).a (stepped step st).b (queued_at A longer)
-    (queued_at B longer) pairs.at_b pairs.at_a next =
-    subst (λ n. Between calls.a calls.b a b n (stepped step st).a (stepped step st).b (queued_at A longer)
-    (queued_at B longer) pairs.at_b pairs.at_a next) (sym (length-append past (step ∷ [])))
+    let between : Between calls.a calls.b a b (length longer) (stepped step st).a (stepped step st).b (frames_at A longer)
+    (frames_at B longer) pairs.at_b pairs.at_a next =
+    subst (λ n. Between calls.a calls.b a b n (stepped step st).a (stepped step st).b (frames_at A longer)
+    (frames_at B longer) pairs.at_b pairs.at_a next) (sym (length-append past (step ∷ [])))
     (subst (λ q. Between calls.a calls.b a b (length past + 1) (stepped step st).a (stepped step st).b q
-    (queued_at B longer) pairs.at_b pairs.at_a next) (sym (queued_more A past step))
+    (frames_at B longer) pairs.at_b pairs.at_a next) (sym (frames_more A past step))
     (subst (λ q. Between calls.a calls.b a b (length past + 1) (stepped step st).a (stepped step st).b
-    (queued_at A past ++ at_end A e queued) q pairs.at_b pairs.at_a next) (sym (queued_more B past step)) one.between)) in
+    (frames_at A past ++ at_end A e (framed on queued)) q pairs.at_b pairs.at_a next) (sym (frames_more B past step)) one.between)) in
     let others : RunDone calls pairs (stepped step st) more next rest =
     run_done calls pairs a b full longer rest (stepped step st) more next
     (is ∙ sym (append_assoc past (step ∷ []) rest)) run.1
-    (count_a e queued (queued_at A past) counts ca ∙ sym (ap length (queued_more A past step)))
-    (count_b e queued (queued_at B past) counts cb ∙ sym (ap length (queued_more B past step)))
+    (count_a e on queued (frames_at A past) counts ca ∙ sym (ap length (frames_more A past step)))
+    (count_b e on queued (frames_at B past) counts cb ∙ sym (ap length (frames_more B past step)))
     heard_a heard_b between in
     record {
       ends = subst (λ (now : World). AreEndsOf calls now.a.end.machine now.b.end.machine (all_stepped rest (stepped step st)))
@@ -213,7 +234,7 @@ length_replicate : (n : ℕ) → length (replicate n (let none : Option Link = N
 length_replicate zero = refl
 length_replicate (suc n) = ap suc (length_replicate n)
 
-new_side :
+pub new_side :
     (l r : Callsign) (config : Config) (seed : ℕ) (local remote : Callsign)
     → SideHolds l r config.params (new_station config seed) (new_machine (path_between local remote) config.params)
 new_side l r config seed local remote =
@@ -253,7 +274,7 @@ from_zero : (ps : List Pair) → HeadFrom 0 0 ps
 from_zero [] = tt
 from_zero (p ∷ ps) = (omega arith, omega arith)
 
-new_sent : (l r : Callsign) (pairs : List Pair) → AllPairs RiseBoth pairs → Sent l r [] pairs 0 []
+pub new_sent : (l r : Callsign) (pairs : List Pair) → AllPairs RiseBoth pairs → Sent l r [] pairs 0 []
 new_sent l r pairs rise =
     let rises = rises_of 0 0 pairs rise (from_zero pairs) in
     record {

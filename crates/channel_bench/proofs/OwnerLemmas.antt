@@ -10,7 +10,7 @@ use Rattle.station.specs.Turn.{Turn, changing, queueing, entering, dropping, cap
 use Rattle.channel_bench.specs.Owners.{piece_of, pieces_to, OwnersAreTold}
 
 -- a frame that is queued is nothing to a host
-queued_pieces : (link : Option ℕ) (octets : List ℕ) (turn : Turn) → (queueing link octets turn).out.pieces ≡ turn.out.pieces
+pub queued_pieces : (link : Option ℕ) (octets : List ℕ) (turn : Turn) → (queueing link octets turn).out.pieces ≡ turn.out.pieces
 queued_pieces link octets turn = go (nat_lt (length turn.now.channel.waiting) capacity)
   where
     go : (b : Bool) → (cond b (entering link octets turn) (dropping turn)).out.pieces ≡ turn.out.pieces

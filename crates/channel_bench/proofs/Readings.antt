@@ -1,6 +1,6 @@
 -- What a station reads of a frame of a link that it hears: the kind that its modulus makes of the one that was sent, in the
 -- same role.
-use Rattle.std.proofs.Common.{◌≡◌, ℕ, ◌<◌, List, drop, Option, Some, None, refl, sym, ap, ◌∙◌, inl}
+use Rattle.std.proofs.Common.{◌≡◌, ℕ, ◌<◌, List, drop, Option, Some, None, refl, sym, ap, ◌∙◌, subst, inl}
 use Rattle.std.specs.Prelude.{All, Result, Ok}
 use Rattle.ax25_address.specs.Callsign.{Callsign}
 use Rattle.ax25_address.specs.declared.path.Path.{Path}
@@ -22,7 +22,9 @@ use Rattle.link_world.specs.Flight.{Tagged}
 use Rattle.link_world.specs.Reading.{frame_read, kind_read, with_kind}
 use Rattle.link_world.proofs.Rereading.{reads_frame}
 use Rattle.channel_bench.specs.HeardInOrder.{AreAlikeButForH}
+use Rattle.channel_bench.specs.InFlight.{LinkFrame}
 use Rattle.channel_bench.proofs.Addresses.{IsHeardAgain, heard_again}
+use Rattle.channel_bench.proofs.LinkKinds.{IsLinkKind, read_link_kind}
 use Rattle.channel_bench.proofs.Tags.{IsTagged}
 
 -- octets are one frame at most
@@ -44,10 +46,11 @@ pub record IsReread (f : Tagged) (read : Modulus) (frame : Frame) : Type 0 where
   pub reading : frame_read (modulus_named f.modulus) read f.frame ≡ Some as_read
   pub kind : as_read.kind ≡ frame.kind
   pub role : as_read.path.role ≡ frame.path.role
+  pub of_link : IsLinkKind frame.kind
 
 pub reread :
-    (local remote : Callsign) (f : Tagged) (heard queued : List ℕ) (read : Modulus) (frame : Frame)
-    → IsTagged local remote f queued → AreAlikeButForH heard queued → All (λ octet. octet < 256) heard
+    (local remote : Callsign) (f : Tagged) (heard : List ℕ) (queued : LinkFrame) (read : Modulus) (frame : Frame)
+    → IsTagged local remote f queued → AreAlikeButForH heard queued.octets → All (λ octet. octet < 256) heard
     → IsFrame frame read heard → IsReread f read frame
 reread local remote f heard queued read frame tag alike low is =
     go (kind_read (modulus_named f.modulus) read f.frame.kind) refl
@@ -56,7 +59,7 @@ reread local remote f heard queued read frame tag alike low is =
     written = modulus_named f.modulus
 
     again : IsHeardAgain written f.frame heard alike.path_heard
-    again = heard_again written f.frame heard queued tag.path tag.spelled alike
+    again = heard_again written f.frame heard queued.octets tag.path tag.spelled alike
 
     sent : Frame
     sent = record { path = alike.path_heard; kind = f.frame.kind }
@@ -77,6 +80,8 @@ reread local remote f heard queued read frame tag alike low is =
           reading = ap (with_kind f.frame) e;
           kind = sym (ap (λ (x : Frame). x.kind) same);
           role = sym (ap (λ (p : Path). p.role) again.paths) ∙ sym (ap (λ (x : Frame). x.path.role) same);
+          of_link = subst IsLinkKind (sym (ap (λ (x : Frame). x.kind) same))
+              (read_link_kind written read f.frame.kind kind tag.of_link e);
         }
 
 -- a link looks at the role and the kind of a frame alone

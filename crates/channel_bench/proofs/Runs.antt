@@ -1,9 +1,9 @@
 -- A joint run, step by step: the two ends of the link between two calls follow it.
-use Rattle.std.proofs.Common.{◌≡◌, ◌≢◌, ℕ, zero, suc, ◌+◌, ◌<◌, ◌≤◌, List, [], ◌∷◌, ◌++◌, length, take, Option, Some, None, get_or, refl, sym, ap, ◌∙◌, subst, arith, inl, inr}
+use Rattle.std.proofs.Common.{◌≡◌, ◌≢◌, ℕ, zero, suc, ◌+◌, ◌<◌, ◌≤◌, Bool, true, false, List, [], ◌∷◌, ◌++◌, length, take, Option, Some, None, get_or, refl, sym, ap, ◌∙◌, subst, arith, inl, inr}
 use Rattle.std.specs.Prelude.{slice_get, is_some}
 use Rattle.std.specs.List.{AllByRecursion as Each}
 use Rattle.std.proofs.lemmas.Bool.{cases_eq}
-use Rattle.std.proofs.lemmas.List.{append-nil, append_assoc, length-append}
+use Rattle.std.proofs.lemmas.List.{append-nil, append_assoc, length-append, length-map}
 use Rattle.std.proofs.lemmas.List.Elements.{All-from_recursion, recursion_from_All, All-contains}
 use Rattle.std.proofs.lemmas.Option.{slice_get_within, get_or_from_slice_get}
 use Rattle.ax25_address.specs.Callsign.{Callsign}
@@ -21,11 +21,13 @@ use Rattle.station.specs.Turn.{Turn, begin}
 use Rattle.channel_bench.specs.JointRun.{Input, IsTurn, HasOctets, Step, queued_at}
 use Rattle.channel_bench.specs.JointRun.Input.{FromHost, OffAir, OfClock}
 use Rattle.channel_bench.specs.HeardInOrder.{AreAlikeButForH, Pair, IsOffAir, HearsLinkFrame, IsHeardPair, HasPair, AreHeardInOrder}
+use Rattle.channel_bench.specs.InFlight.{LinkFrame, is_ask}
 use Rattle.channel_bench.specs.LinkSteps.{LinkStep, turn_steps}
 use Rattle.channel_bench.proofs.Acts.{Setting, Holds, still_holds}
 use Rattle.channel_bench.proofs.Along.{near_all, AllFollowNear, Kept}
 use Rattle.channel_bench.proofs.Events.{ticks_go}
 use Rattle.channel_bench.proofs.Flights.{RiseFrom, before_flight, tag_at, flight, rise_lower}
+use Rattle.channel_bench.proofs.Framed.{one_framed, framed, octets_in, octets_at, frames_at}
 use Rattle.channel_bench.proofs.Hearing.{Pop, heard_outcome}
 use Rattle.channel_bench.proofs.Hearing.Pop.{Own, Another}
 use Rattle.channel_bench.proofs.Hearing.Outcome.{Passed, Event}
@@ -42,7 +44,7 @@ pub record SideHolds (local remote : Callsign) (params : Params) (state : Statio
   pub end_params : machine.params ≡ params
 
 -- what is in flight from one end, before a step, when its station has queued this
-pub record Sent (local remote : Callsign) (queue : List (List ℕ)) (pairs : List Pair) (n : ℕ) (towards : List Tagged)
+pub record Sent (local remote : Callsign) (queue : List LinkFrame) (pairs : List Pair) (n : ℕ) (towards : List Tagged)
     : Type 0 where
   pub done : List Pair
   pub rest : List Pair
@@ -55,7 +57,7 @@ pub record Sent (local remote : Callsign) (queue : List (List ℕ)) (pairs : Lis
   pub ahead : towards ≡ flight tags rest
 
 -- both ends, seen from one of them
-pub record Between (l r : Callsign) (pa pb : Params) (n : ℕ) (sa sb : StationState) (qa qb : List (List ℕ))
+pub record Between (l r : Callsign) (pa pb : Params) (n : ℕ) (sa sb : StationState) (qa qb : List LinkFrame)
     (out_pairs back_pairs : List Pair) (w : World) : Type 0 where
   pub near : SideHolds l r pa sa w.a.end.machine
   pub far : SideHolds r l pb sb w.b.end.machine
@@ -65,7 +67,7 @@ pub record Between (l r : Callsign) (pa pb : Params) (n : ℕ) (sa sb : StationS
 -- ---- a step that hears nothing for a link
 
 pub sent_later :
-    (l r : Callsign) (queue : List (List ℕ)) (pairs : List Pair) (n : ℕ) (towards : List Tagged)
+    (l r : Callsign) (queue : List LinkFrame) (pairs : List Pair) (n : ℕ) (towards : List Tagged)
     (s : Sent l r queue pairs n towards) → RiseFrom (n + 1) 0 s.rest → Sent l r queue pairs (n + 1) towards
 sent_later l r queue pairs n towards s rises = record {
   done = s.done;
@@ -90,7 +92,7 @@ rise_next n (p ∷ ps) other rises =
     above : (k m : ℕ) → k ≤ m → m ≢ k → k + 1 ≤ m
     above k m h ne = elim (cases_eq m k) [ inl e ↦ absurd (ne e) | inr less ↦ omega arith ]
 
-each_right : (P : Pair → Type 0) (xs ys : List Pair) → Each P (xs ++ ys) → Each P ys
+pub each_right : (P : Pair → Type 0) (xs ys : List Pair) → Each P (xs ++ ys) → Each P ys
 each_right P [] ys h = h
 each_right P (x ∷ xs) ys h = each_right P xs ys h.1
 
@@ -106,7 +108,7 @@ hears_at_number hearer full n step p is h at =
     (same_step full n step h.step is (ap (slice_get full) (sym at) ∙ h.there)) h.hears
 
 pub none_rises :
-    (hearer : End) (full : List Step) (pairs : List Pair) (l r : Callsign) (queue : List (List ℕ)) (n : ℕ)
+    (hearer : End) (full : List Step) (pairs : List Pair) (l r : Callsign) (queue : List LinkFrame) (n : ℕ)
     (towards : List Tagged) (step : Step) → AreHeardInOrder hearer full pairs → slice_get full n ≡ Some step
     → ((octets : List ℕ) → HearsLinkFrame hearer step octets → ⊥) → (s : Sent l r queue pairs n towards)
     → RiseFrom (n + 1) 0 s.rest
@@ -119,7 +121,7 @@ none_rises hearer full pairs l r queue n towards step order is never s =
     (λ p h at. never h.octets (hears_at_number hearer full n step p is h at)) s.rest rest) s.rises
 
 pub none_heard :
-    (hearer : End) (full : List Step) (pairs : List Pair) (l r : Callsign) (queue : List (List ℕ)) (n : ℕ)
+    (hearer : End) (full : List Step) (pairs : List Pair) (l r : Callsign) (queue : List LinkFrame) (n : ℕ)
     (towards : List Tagged) (step : Step) → AreHeardInOrder hearer full pairs → slice_get full n ≡ Some step
     → ((octets : List ℕ) → HearsLinkFrame hearer step octets → ⊥) → Sent l r queue pairs n towards
     → Sent l r queue pairs (n + 1) towards
@@ -129,20 +131,29 @@ none_heard hearer full pairs l r queue n towards step order is never s =
 
 -- ---- a step that does
 
-pub record Popped (s : Setting) (octets : List ℕ) (queue : List (List ℕ)) (pairs : List Pair) (n : ℕ)
+pub record Popped (s : Setting) (octets : List ℕ) (queue : List LinkFrame) (pairs : List Pair) (n : ℕ)
     (towards : List Tagged) : Type 0 where
   pub stays : List Tagged
   pub pop : Pop s octets towards stays
   pub sent : Sent s.remote s.local queue pairs (n + 1) stays
 
-tag_of :
-    (l r : Callsign) (tags : List (Option Tagged)) (queue : List (List ℕ)) (k : ℕ) → AreTags l r tags queue → k < length queue
-    → IsTag l r (tag_at tags k) (get_or queue k [])
+-- a frame past the end
+abbrev pub nothing : LinkFrame
+nothing = one_framed false []
+
+pub tag_of :
+    (l r : Callsign) (tags : List (Option Tagged)) (queue : List LinkFrame) (k : ℕ) → AreTags l r tags queue → k < length queue
+    → IsTag l r (tag_at tags k) (get_or queue k nothing)
 tag_of l r [] [] k h within = absurd (omega arith)
-tag_of l r [] (octets ∷ rest) k h within = absurd h
+tag_of l r [] (queued ∷ rest) k h within = absurd h
 tag_of l r (tag ∷ tags) [] k h within = absurd h
-tag_of l r (tag ∷ tags) (octets ∷ rest) zero h within = h.0
-tag_of l r (tag ∷ tags) (octets ∷ rest) (suc k) h within = tag_of l r tags rest k h.1 (omega arith)
+tag_of l r (tag ∷ tags) (queued ∷ rest) zero h within = h.0
+tag_of l r (tag ∷ tags) (queued ∷ rest) (suc k) h within = tag_of l r tags rest k h.1 (omega arith)
+
+octets_get : (queue : List LinkFrame) (k : ℕ) → (get_or queue k nothing).octets ≡ get_or (octets_in queue) k []
+octets_get [] k = refl
+octets_get (f ∷ queue) zero = refl
+octets_get (f ∷ queue) (suc k) = octets_get queue k
 
 same_octets : (input : Input) (a b : List ℕ) → IsOffAir input a → IsOffAir input b → a ≡ b
 same_octets (FromHost event) a b h k = absurd h
@@ -150,10 +161,11 @@ same_octets (OffAir heard) a b h k = sym h ∙ k
 same_octets (OfClock busy) a b h k = absurd h
 
 by_tag :
-    (s : Setting) (octets queued : List ℕ) (o : Option Tagged) (stays : List Tagged) → AreAlikeButForH octets queued
-    → IsTag s.remote s.local o queued → Pop s octets (before_flight o stays) stays
-by_tag s octets queued None stays alike tag = Another stays queued alike tag
-by_tag s octets queued (Some f) stays alike tag = Own f stays queued alike tag
+    (s : Setting) (octets : List ℕ) (queued : LinkFrame) (o : Option Tagged) (stays : List Tagged)
+    → AreAlikeButForH octets queued.octets → IsTag s.remote s.local o queued → (is_ask octets ≡ true → s.on_ask ≡ true)
+    → Pop s octets (before_flight o stays) stays
+by_tag s octets queued None stays alike tag caused = Another stays queued.octets alike tag
+by_tag s octets queued (Some f) stays alike tag caused = Own f stays queued alike tag caused
 
 all_rise : (n m : ℕ) (ps : List Pair) (sent : ℕ) → n < m → RiseFrom m sent ps → Each (λ (p : Pair). p.heard ≢ n) ps
 all_rise n m [] sent less rises = tt
@@ -162,21 +174,22 @@ all_rise n m (p ∷ ps) sent less rises =
     ((λ e. absurd (omega arith)), all_rise n (p.heard + 1) ps (p.sent + 1) (omega arith) rises.2)
 
 pub popped_by :
-    (s : Setting) (hearer : End) (full : List Step) (pairs : List Pair) (queue : List (List ℕ)) (n : ℕ)
+    (s : Setting) (hearer : End) (full : List Step) (pairs : List Pair) (queue : List LinkFrame) (n : ℕ)
     (towards : List Tagged) (step : Step) (octets : List ℕ) (done rest : List Pair) (tags : List (Option Tagged))
     → AreHeardInOrder hearer full pairs → slice_get full n ≡ Some step → HearsLinkFrame hearer step octets
-    → queued_at (other hearer) (take n full) ≡ queue → pairs ≡ done ++ rest → RiseFrom n 0 rest
+    → (is_ask octets ≡ true → s.on_ask ≡ true)
+    → frames_at (other hearer) (take n full) ≡ queue → pairs ≡ done ++ rest → RiseFrom n 0 rest
     → Each (λ (p : Pair). p.sent < length queue) done → Each (λ (p : Pair). p.heard < n) done
     → AreTags s.remote s.local tags queue → towards ≡ flight tags rest → (found : HasPair pairs n)
     → Popped s octets queue pairs n towards
-popped_by s hearer full pairs queue n towards step octets done [] tags order is hears queue_is split rises below before tagged
+popped_by s hearer full pairs queue n towards step octets done [] tags order is hears caused queue_is split rises below before tagged
     ahead found =
     let others : Each (λ (p : Pair). p.heard ≢ n) done =
     each_weaker (λ (p : Pair). p.heard < n) (λ (p : Pair). p.heard ≢ n) (λ p less e. absurd (omega arith)) done before in
     absurd (All-contains (λ (p : Pair). p.heard ≢ n) pairs found.pair
     (All-from_recursion (λ (p : Pair). p.heard ≢ n) pairs
     (subst (λ ps. Each (λ (p : Pair). p.heard ≢ n) ps) (sym (split ∙ append-nil done)) others)) found.contains found.is)
-popped_by s hearer full pairs queue n towards step octets done (p ∷ ps) tags order is hears queue_is split rises below before
+popped_by s hearer full pairs queue n towards step octets done (p ∷ ps) tags order is hears caused queue_is split rises below before
     tagged ahead found = elim (cases_eq p.heard n) [
       | inr ne ↦
           let low = rises.0 in
@@ -195,17 +208,24 @@ popped_by s hearer full pairs queue n towards step octets done (p ∷ ps) tags o
           (each_right (IsHeardPair hearer full) done (p ∷ ps) (subst (λ qs. Each (IsHeardPair hearer full) qs) split all)).0 in
           let same : here.octets ≡ octets =
           same_octets step.input here.octets octets (hears_at_number hearer full n step p is here at).input hears.input in
-          let queued : slice_get queue p.sent ≡ Some here.queued =
-          ap (λ q. slice_get q p.sent) (sym queue_is ∙ ap (λ k. queued_at (other hearer) (take k full)) (sym at)) ∙ here.before in
-          let within : p.sent < length queue = slice_get_within queue p.sent here.queued queued in
-          let tag : IsTag s.remote s.local (tag_at tags p.sent) here.queued =
-          subst (IsTag s.remote s.local (tag_at tags p.sent)) (get_or_from_slice_get queue p.sent here.queued [] queued)
-          (tag_of s.remote s.local tags queue p.sent tagged within) in
+          let octets_are : octets_in queue ≡ queued_at (other hearer) (take n full) =
+          ap octets_in (sym queue_is) ∙ octets_at (other hearer) (take n full) in
+          let queued : slice_get (octets_in queue) p.sent ≡ Some here.queued =
+          ap (λ q. slice_get q p.sent) (octets_are ∙ ap (λ k. queued_at (other hearer) (take k full)) (sym at)) ∙ here.before in
+          let within : p.sent < length queue =
+          let less = slice_get_within (octets_in queue) p.sent here.queued queued in
+          let size : length (octets_in queue) ≡ length queue = length-map queue (λ (f : LinkFrame). f.octets) in
+          omega arith in
+          let frame : LinkFrame = get_or queue p.sent nothing in
+          let same_queued : here.queued ≡ frame.octets =
+          sym (get_or_from_slice_get (octets_in queue) p.sent here.queued [] queued) ∙ sym (octets_get queue p.sent) in
+          let tag : IsTag s.remote s.local (tag_at tags p.sent) frame = tag_of s.remote s.local tags queue p.sent tagged within in
           record {
             stays = flight tags ps;
             pop = subst (λ ts. Pop s octets ts (flight tags ps)) (sym ahead)
-                (by_tag s octets here.queued (tag_at tags p.sent) (flight tags ps)
-                (subst (λ o. AreAlikeButForH o here.queued) same here.alike) tag);
+                (by_tag s octets frame (tag_at tags p.sent) (flight tags ps)
+                (subst (λ o. AreAlikeButForH octets o) same_queued (subst (λ o. AreAlikeButForH o here.queued) same here.alike))
+                tag caused);
             sent = record {
               done = done ++ p ∷ [];
               rest = ps;
@@ -225,13 +245,14 @@ popped_by s hearer full pairs queue n towards step octets done (p ∷ ps) tags o
 -- ---- a step of one station, as its end sees it
 
 abbrev pub setting_of :
-    (l r : Callsign) (pa pb : Params) (n : ℕ) (sa sb : StationState) (qa qb : List (List ℕ))
+    (on : Bool) (l r : Callsign) (pa pb : Params) (n : ℕ) (sa sb : StationState) (qa qb : List LinkFrame)
     (out_pairs back_pairs : List Pair) (w : World) → Between l r pa pb n sa sb qa qb out_pairs back_pairs w → Setting
-setting_of l r pa pb n sa sb qa qb out_pairs back_pairs w h = record {
+setting_of on l r pa pb n sa sb qa qb out_pairs back_pairs w h = record {
   local = l;
   remote = r;
   params = pa;
   earlier = qa;
+  on_ask = on;
   done = h.out.done;
   rest = h.out.rest;
   heard = n;
@@ -241,10 +262,10 @@ setting_of l r pa pb n sa sb qa qb out_pairs back_pairs w h = record {
 }
 
 begins :
-    (l r : Callsign) (pa pb : Params) (n : ℕ) (sa sb : StationState) (qa qb : List (List ℕ))
+    (on : Bool) (l r : Callsign) (pa pb : Params) (n : ℕ) (sa sb : StationState) (qa qb : List LinkFrame)
     (out_pairs back_pairs : List Pair) (w : World) (h : Between l r pa pb n sa sb qa qb out_pairs back_pairs w)
-    → Holds (setting_of l r pa pb n sa sb qa qb out_pairs back_pairs w h) w.a.towards (begin sa) w
-begins l r pa pb n sa sb qa qb out_pairs back_pairs w h = record {
+    → Holds (setting_of on l r pa pb n sa sb qa qb out_pairs back_pairs w h) w.a.towards (begin sa) w
+begins on l r pa pb n sa sb qa qb out_pairs back_pairs w h = record {
   parameters = h.near.parameters;
   table = h.near.table;
   end_params = h.near.end_params;
@@ -256,12 +277,12 @@ begins l r pa pb n sa sb qa qb out_pairs back_pairs w h = record {
 }
 
 ends :
-    (l r : Callsign) (pa pb : Params) (n : ℕ) (sa sb : StationState) (qa qb : List (List ℕ))
+    (on : Bool) (l r : Callsign) (pa pb : Params) (n : ℕ) (sa sb : StationState) (qa qb : List LinkFrame)
     (out_pairs back_pairs : List Pair) (w : World) (h : Between l r pa pb n sa sb qa qb out_pairs back_pairs w)
     → RiseFrom (n + 1) 0 h.out.rest → (stays : List Tagged) → Sent r l qb back_pairs (n + 1) stays → (after : Turn)
-    → (next : World) → Holds (setting_of l r pa pb n sa sb qa qb out_pairs back_pairs w h) stays after next
-    → Between l r pa pb (n + 1) after.now sb (qa ++ after.out.queued) qb out_pairs back_pairs next
-ends l r pa pb n sa sb qa qb out_pairs back_pairs w h rises stays back after next H = record {
+    → (next : World) → Holds (setting_of on l r pa pb n sa sb qa qb out_pairs back_pairs w h) stays after next
+    → Between l r pa pb (n + 1) after.now sb (qa ++ framed on after.out.queued) qb out_pairs back_pairs next
+ends on l r pa pb n sa sb qa qb out_pairs back_pairs w h rises stays back after next H = record {
   near = record { parameters = H.parameters; table = H.table; end_params = H.end_params };
   far = record {
     parameters = h.far.parameters;
@@ -273,8 +294,8 @@ ends l r pa pb n sa sb qa qb out_pairs back_pairs w h rises stays back after nex
     rest = h.out.rest;
     split = h.out.split;
     rises = rises;
-    below = each_weaker (λ (p : Pair). p.sent < length qa) (λ (p : Pair). p.sent < length (qa ++ after.out.queued))
-        (λ p less. let size = length-append qa after.out.queued in omega arith) h.out.done h.out.below;
+    below = each_weaker (λ (p : Pair). p.sent < length qa) (λ (p : Pair). p.sent < length (qa ++ framed on after.out.queued))
+        (λ p less. let size = length-append qa (framed on after.out.queued) in omega arith) h.out.done h.out.below;
     before = each_weaker (λ (p : Pair). p.heard < n) (λ (p : Pair). p.heard < n + 1) (λ p less. omega arith) h.out.done h.out.before;
     tags = H.tags;
     tagged = H.tagged_as;
@@ -284,66 +305,71 @@ ends l r pa pb n sa sb qa qb out_pairs back_pairs w h rises stays back after nex
 }
 
 -- what a step comes to
-pub record Stepped (e : End) (l r : Callsign) (pa pb : Params) (n : ℕ) (sb : StationState) (qa qb : List (List ℕ))
+pub record Stepped (e : End) (on : Bool) (l r : Callsign) (pa pb : Params) (n : ℕ) (sb : StationState) (qa qb : List LinkFrame)
     (out_pairs back_pairs : List Pair) (w : World) (after : Turn) (steps : List LinkStep) : Type 0 where
-  pub between : Between l r pa pb (n + 1) after.now sb (qa ++ after.out.queued) qb out_pairs back_pairs
+  pub between : Between l r pa pb (n + 1) after.now sb (qa ++ framed on after.out.queued) qb out_pairs back_pairs
       (near_all e out_pairs (length qa) steps w)
-  pub follows : AllFollowNear e out_pairs (length qa) steps w
+  -- what stays in flight back to it
+  pub stays : List Tagged
+  pub left : (near_all e out_pairs (length qa) steps w).a.towards ≡ stays
+  pub follows : AllFollowNear e stays out_pairs (length qa) steps w
 
 finishes :
-    (e : End) (l r : Callsign) (pa pb : Params) (n : ℕ) (sa sb : StationState) (qa qb : List (List ℕ))
+    (e : End) (on : Bool) (l r : Callsign) (pa pb : Params) (n : ℕ) (sa sb : StationState) (qa qb : List LinkFrame)
     (out_pairs back_pairs : List Pair) (w : World) (h : Between l r pa pb n sa sb qa qb out_pairs back_pairs w)
     → RiseFrom (n + 1) 0 h.out.rest → (stays : List Tagged) → Sent r l qb back_pairs (n + 1) stays → (after : Turn)
     → (steps : List LinkStep)
-    → Kept (setting_of l r pa pb n sa sb qa qb out_pairs back_pairs w h) e stays after steps w
-    → Stepped e l r pa pb n sb qa qb out_pairs back_pairs w after steps
-finishes e l r pa pb n sa sb qa qb out_pairs back_pairs w h rises stays back after steps k = record {
-  between = subst (λ ps. Between l r pa pb (n + 1) after.now sb (qa ++ after.out.queued) qb out_pairs back_pairs
+    → Kept (setting_of on l r pa pb n sa sb qa qb out_pairs back_pairs w h) e stays after steps w
+    → Stepped e on l r pa pb n sb qa qb out_pairs back_pairs w after steps
+finishes e on l r pa pb n sa sb qa qb out_pairs back_pairs w h rises stays back after steps k = record {
+  between = subst (λ ps. Between l r pa pb (n + 1) after.now sb (qa ++ framed on after.out.queued) qb out_pairs back_pairs
       (near_all e ps (length qa) steps w)) (sym h.out.split)
-      (ends l r pa pb n sa sb qa qb out_pairs back_pairs w h rises stays back after
+      (ends on l r pa pb n sa sb qa qb out_pairs back_pairs w h rises stays back after
       (near_all e (h.out.done ++ h.out.rest) (length qa) steps w) k.0);
-  follows = subst (λ ps. AllFollowNear e ps (length qa) steps w) (sym h.out.split) k.1;
+  stays = stays;
+  left = subst (λ ps. (near_all e ps (length qa) steps w).a.towards ≡ stays) (sym h.out.split) k.0.back_is;
+  follows = subst (λ ps. AllFollowNear e stays ps (length qa) steps w) (sym h.out.split) k.1;
 }
 
 -- whatever the step takes
 pub takes :
-    (e : End) (l r : Callsign) (pa pb : Params) (n : ℕ) (sa sb : StationState) (qa qb : List (List ℕ))
+    (e : End) (on : Bool) (l r : Callsign) (pa pb : Params) (n : ℕ) (sa sb : StationState) (qa qb : List LinkFrame)
     (out_pairs back_pairs : List Pair) (w : World) (h : Between l r pa pb n sa sb qa qb out_pairs back_pairs w)
     → RiseFrom (n + 1) 0 h.out.rest → (input : Input) → (after : Turn) → (turn : IsTurn input (begin sa) after)
     → HasOctets input
     → (((octets : List ℕ) → IsOffAir input octets → turn_steps is_some input (begin sa) after turn ≢ [] → ⊥)
     → Sent r l qb back_pairs (n + 1) w.a.towards)
     → ((octets : List ℕ) → IsOffAir input octets → turn_steps is_some input (begin sa) after turn ≢ []
-    → Popped (setting_of l r pa pb n sa sb qa qb out_pairs back_pairs w h) octets qb back_pairs n w.a.towards)
-    → Stepped e l r pa pb n sb qa qb out_pairs back_pairs w after (turn_steps (is_between l r) input (begin sa) after turn)
-takes e l r pa pb n sa sb qa qb out_pairs back_pairs w h rises (FromHost event) after turn octets calm popped =
-    finishes e l r pa pb n sa sb qa qb out_pairs back_pairs w h rises w.a.towards (calm (λ o off some. off)) after
+    → Popped (setting_of on l r pa pb n sa sb qa qb out_pairs back_pairs w h) octets qb back_pairs n w.a.towards)
+    → Stepped e on l r pa pb n sb qa qb out_pairs back_pairs w after (turn_steps (is_between l r) input (begin sa) after turn)
+takes e on l r pa pb n sa sb qa qb out_pairs back_pairs w h rises (FromHost event) after turn octets calm popped =
+    finishes e on l r pa pb n sa sb qa qb out_pairs back_pairs w h rises w.a.towards (calm (λ o off some. off)) after
     (turn_steps (is_between l r) (FromHost event) (begin sa) after turn)
-    (host_goes (setting_of l r pa pb n sa sb qa qb out_pairs back_pairs w h) e w.a.towards event (begin sa) after turn w
-    (begins l r pa pb n sa sb qa qb out_pairs back_pairs w h))
-takes e l r pa pb n sa sb qa qb out_pairs back_pairs w h rises (OfClock busy) after turn octets calm popped =
-    let s = setting_of l r pa pb n sa sb qa qb out_pairs back_pairs w h in
-    let ticked = ticks_go s e w.a.towards (begin sa) w (begins l r pa pb n sa sb qa qb out_pairs back_pairs w h) in
+    (host_goes (setting_of on l r pa pb n sa sb qa qb out_pairs back_pairs w h) e w.a.towards event (begin sa) after turn w
+    (begins on l r pa pb n sa sb qa qb out_pairs back_pairs w h))
+takes e on l r pa pb n sa sb qa qb out_pairs back_pairs w h rises (OfClock busy) after turn octets calm popped =
+    let s = setting_of on l r pa pb n sa sb qa qb out_pairs back_pairs w h in
+    let ticked = ticks_go s e w.a.towards (begin sa) w (begins on l r pa pb n sa sb qa qb out_pairs back_pairs w h) in
     let steps = turn_steps (is_between l r) (OfClock busy) (begin sa) after turn in
-    finishes e l r pa pb n sa sb qa qb out_pairs back_pairs w h rises w.a.towards (calm (λ o off some. off)) after steps
+    finishes e on l r pa pb n sa sb qa qb out_pairs back_pairs w h rises w.a.towards (calm (λ o off some. off)) after steps
     (subst (λ t. Kept s e w.a.towards t steps w) (sym turn) (
       still_holds s w.a.towards (ticking_links (begin sa)) (ticking busy (begin sa)) (near_all e (s.done ++ s.rest) (length s.earlier) steps w)
           ticked.0 refl refl refl,
       ticked.1,
     ))
-takes e l r pa pb n sa sb qa qb out_pairs back_pairs w h rises (OffAir octets) after turn low calm popped =
-    let s = setting_of l r pa pb n sa sb qa qb out_pairs back_pairs w h in
-    let H : Holds s w.a.towards (begin sa) w = begins l r pa pb n sa sb qa qb out_pairs back_pairs w h in
+takes e on l r pa pb n sa sb qa qb out_pairs back_pairs w h rises (OffAir octets) after turn low calm popped =
+    let s = setting_of on l r pa pb n sa sb qa qb out_pairs back_pairs w h in
+    let H : Holds s w.a.towards (begin sa) w = begins on l r pa pb n sa sb qa qb out_pairs back_pairs w h in
     let own = turn_steps (is_between l r) (OffAir octets) (begin sa) after turn in
     let any = turn_steps is_some (OffAir octets) (begin sa) after turn in
     elim (heard_outcome s e octets (begin sa) after low H.parameters H.table.size turn) [
       | Passed calmly none none_any ↦
-          finishes e l r pa pb n sa sb qa qb out_pairs back_pairs w h rises w.a.towards
+          finishes e on l r pa pb n sa sb qa qb out_pairs back_pairs w h rises w.a.towards
           (calm (λ o off some. some none_any)) after own
           (subst (λ steps. Kept s e w.a.towards after steps w) (sym none)
           (still_goes s e w.a.towards (begin sa) after calmly w H))
       | Event goes some ↦
           let p = popped octets refl some in
-          finishes e l r pa pb n sa sb qa qb out_pairs back_pairs w h rises p.stays p.sent after own
+          finishes e on l r pa pb n sa sb qa qb out_pairs back_pairs w h rises p.stays p.sent after own
           (goes w w.a.towards p.stays p.pop H)
     ]

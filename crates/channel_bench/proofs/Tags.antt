@@ -1,8 +1,9 @@
 -- The frames that the links of a station have queued: each is a frame of the link between two calls, with its tags, or of
 -- another.
-use Rattle.std.proofs.Common.{◌≡◌, ℕ, suc, Bool, List, [], ◌∷◌, ◌++◌, length, map, Option, Some, None, refl, sym, ap, ◌∙◌, subst, arith, inl, inr}
+use Rattle.std.proofs.Common.{◌≡◌, ℕ, suc, Bool, true, List, [], ◌∷◌, ◌++◌, length, map, Option, Some, None, refl, sym, ap, ◌∙◌, subst, arith, inl, inr}
 use Rattle.std.specs.Bool.{⊤}
 use Rattle.std.specs.List.{AllByRecursion as Each}
+use Rattle.std.proofs.lemmas.Bool.{and_parts}
 use Rattle.ax25_address.specs.Callsign.{Callsign}
 use Rattle.ax25_address.specs.FramePath.{BeginsWithPath}
 use Rattle.ax25_address.specs.declared.path.Path.{Path}
@@ -12,51 +13,58 @@ use Rattle.link_machine.specs.declared.acts.SentFrame.{SentFrame}
 use Rattle.link_machine.specs.Machine.{modulus_named}
 use Rattle.link_machine.specs.Sent.{Sent, SentIn, sent_kind, sent_role, sent_frame, frame_of}
 use Rattle.link_machine.specs.Sent.Sent.{InfoSent, SuperSent, SetupSent}
-use Rattle.link_world.specs.Flight.{Tagged}
+use Rattle.link_world.specs.Flight.{Tagged, is_answer}
 use Rattle.link_world.specs.Held.{IsModulus}
 use Rattle.link_world.specs.Recorded.{RecordedEnd, tagged}
 use Rattle.link_world.proofs.Growth.{IsGood, IsShortSent}
 use Rattle.station.specs.FrameSpelling.{frame_octets, path_octets}
 use Rattle.channel_bench.proofs.Addresses.{IsGoodPath, frame_spelled}
+use Rattle.channel_bench.specs.InFlight.{LinkFrame}
 use Rattle.channel_bench.proofs.Flights.{AreNone}
+use Rattle.channel_bench.proofs.Framed.{one_framed, framed}
+use Rattle.channel_bench.proofs.LinkKinds.{IsLinkKind, sent_link_kind}
 use Rattle.channel_bench.proofs.Queues.{octets_of}
 
 -- a frame of the link from one call to another
-pub record IsTagged (local remote : Callsign) (f : Tagged) (octets : List ℕ) : Type 0 where
-  pub spelled : octets ≡ frame_octets (modulus_named f.modulus) f.frame
+pub record IsTagged (local remote : Callsign) (f : Tagged) (queued : LinkFrame) : Type 0 where
+  pub spelled : queued.octets ≡ frame_octets (modulus_named f.modulus) f.frame
   pub path : IsGoodPath f.frame.path
   pub source : f.frame.path.source ≡ local
   pub dest : f.frame.path.dest ≡ remote
   pub kind : IsKind (modulus_named f.modulus) f.frame.kind
+  -- only UA and DM answer, in a step that hears SABM, SABME or DISC
+  pub cause : f.answers ≡ true → queued.on_ask ≡ true
+  pub answer : f.answers ≡ true → is_answer f.frame.kind ≡ true
+  pub of_link : IsLinkKind f.frame.kind
 
 -- a frame between other calls
 abbrev pub IsOther : Callsign → Callsign → List ℕ → Type 0
 IsOther local remote octets =
     (path : Path) (len : ℕ) → BeginsWithPath octets path len → path.source ≡ local → path.dest ≡ remote → ⊥
 
-abbrev pub IsTag : Callsign → Callsign → Option Tagged → List ℕ → Type 0
-IsTag local remote None octets = IsOther local remote octets
-IsTag local remote (Some f) octets = IsTagged local remote f octets
+abbrev pub IsTag : Callsign → Callsign → Option Tagged → LinkFrame → Type 0
+IsTag local remote None queued = IsOther local remote queued.octets
+IsTag local remote (Some f) queued = IsTagged local remote f queued
 
-abbrev pub AreTags : Callsign → Callsign → List (Option Tagged) → List (List ℕ) → Type 0
+abbrev pub AreTags : Callsign → Callsign → List (Option Tagged) → List LinkFrame → Type 0
 AreTags local remote [] [] = ⊤
-AreTags local remote [] (octets ∷ rest) = ⊥
+AreTags local remote [] (queued ∷ rest) = ⊥
 AreTags local remote (tag ∷ tags) [] = ⊥
-AreTags local remote (tag ∷ tags) (octets ∷ rest) = IsTag local remote tag octets × AreTags local remote tags rest
+AreTags local remote (tag ∷ tags) (queued ∷ rest) = IsTag local remote tag queued × AreTags local remote tags rest
 
-pub tags_length : (l r : Callsign) (tags : List (Option Tagged)) (queue : List (List ℕ)) → AreTags l r tags queue → length tags ≡ length queue
+pub tags_length : (l r : Callsign) (tags : List (Option Tagged)) (queue : List LinkFrame) → AreTags l r tags queue → length tags ≡ length queue
 tags_length l r [] [] h = refl
-tags_length l r [] (octets ∷ rest) h = absurd h
+tags_length l r [] (queued ∷ rest) h = absurd h
 tags_length l r (tag ∷ tags) [] h = absurd h
-tags_length l r (tag ∷ tags) (octets ∷ rest) h = let e = tags_length l r tags rest h.1 in omega arith
+tags_length l r (tag ∷ tags) (queued ∷ rest) h = let e = tags_length l r tags rest h.1 in omega arith
 
 pub tags_append :
-    (l r : Callsign) (tags more : List (Option Tagged)) (queue others : List (List ℕ)) → AreTags l r tags queue
+    (l r : Callsign) (tags more : List (Option Tagged)) (queue others : List LinkFrame) → AreTags l r tags queue
     → AreTags l r more others → AreTags l r (tags ++ more) (queue ++ others)
 tags_append l r [] more [] others h k = k
-tags_append l r [] more (octets ∷ rest) others h k = absurd h
+tags_append l r [] more (queued ∷ rest) others h k = absurd h
 tags_append l r (tag ∷ tags) more [] others h k = absurd h
-tags_append l r (tag ∷ tags) more (octets ∷ rest) others h k = (h.0, tags_append l r tags more rest others h.1 k)
+tags_append l r (tag ∷ tags) more (queued ∷ rest) others h k = (h.0, tags_append l r tags more rest others h.1 k)
 
 -- a good frame is a kind of its modulus
 narrow_kind : (sent : Sent) → IsShortSent sent → IsKind (modulus_named 8) (sent_kind 8 sent)
@@ -78,17 +86,17 @@ good_in_role : (path : Path) (sent : Sent) → IsGoodPath path → IsGoodPath (r
 good_in_role path sent good = record { few = good.few; dest = good.dest; source = good.source; hops = good.hops }
 
 -- what the link sent: the first of it joined the queue
-pub record OwnTags (l r : Callsign) (sent : List Tagged) (first : List SentFrame) : Type 0 where
+pub record OwnTags (l r : Callsign) (on : Bool) (sent : List Tagged) (first : List SentFrame) : Type 0 where
   pub joined : List Tagged
   pub lost : List Tagged
   pub split : sent ≡ joined ++ lost
   pub count : length joined ≡ length first
-  pub tags : AreTags l r (map Some joined) (map octets_of first)
+  pub tags : AreTags l r (map Some joined) (framed on (map octets_of first))
 
 own_more :
-    (l r : Callsign) (f : Tagged) (sent : List Tagged) (x : SentFrame) (first : List SentFrame)
-    → IsTagged l r f (octets_of x) → OwnTags l r sent first → OwnTags l r (f ∷ sent) (x ∷ first)
-own_more l r f sent x first tag more = record {
+    (l r : Callsign) (on : Bool) (f : Tagged) (sent : List Tagged) (x : SentFrame) (first : List SentFrame)
+    → IsTagged l r f (one_framed on (octets_of x)) → OwnTags l r on sent first → OwnTags l r on (f ∷ sent) (x ∷ first)
+own_more l r on f sent x first tag more = record {
   joined = f ∷ more.joined;
   lost = more.lost;
   split = ap (λ fs. f ∷ fs) more.split;
@@ -97,22 +105,25 @@ own_more l r f sent x first tag more = record {
 }
 
 pub own_tags :
-    (l r : Callsign) (on_ask : Bool) (now : RecordedEnd) (sent : List SentIn) (first rest : List SentFrame)
-    → IsGoodPath now.machine.path → now.machine.path.source ≡ l → now.machine.path.dest ≡ r → Each IsGood sent
-    → map (sent_frame now.machine.path) sent ≡ first ++ rest → OwnTags l r (map (tagged on_ask now) sent) first
-own_tags l r on_ask now sent [] rest good source dest all is =
+    (l r : Callsign) (on on_ask : Bool) (now : RecordedEnd) (sent : List SentIn) (first rest : List SentFrame)
+    → (on_ask ≡ true → on ≡ true) → IsGoodPath now.machine.path → now.machine.path.source ≡ l → now.machine.path.dest ≡ r → Each IsGood sent
+    → map (sent_frame now.machine.path) sent ≡ first ++ rest → OwnTags l r on (map (tagged on_ask now) sent) first
+own_tags l r on on_ask now sent [] rest caused good source dest all is =
     record { joined = []; lost = map (tagged on_ask now) sent; split = refl; count = refl; tags = tt }
-own_tags l r on_ask now [] (x ∷ first) rest good source dest all is = absurd (cc)
-own_tags l r on_ask now (s ∷ sent) (x ∷ first) rest good source dest all is =
+own_tags l r on on_ask now [] (x ∷ first) rest caused good source dest all is = absurd (cc)
+own_tags l r on on_ask now (s ∷ sent) (x ∷ first) rest caused good source dest all is =
     let head : sent_frame now.machine.path s ≡ x = cc in
     let tail : map (sent_frame now.machine.path) sent ≡ first ++ rest = cc in
-    own_more l r (tagged on_ask now s) (map (tagged on_ask now) sent) x first (record {
+    own_more l r on (tagged on_ask now s) (map (tagged on_ask now) sent) x first (record {
       spelled = ap octets_of (sym head);
       path = good_in_role now.machine.path s.frame good;
       source = source;
       dest = dest;
       kind = kind_by s.modulus s.frame all.0.modulus all.0.short;
-    }) (own_tags l r on_ask now sent first rest good source dest all.1 tail)
+      cause = λ answers. caused (and_parts on_ask (is_answer (tagged on_ask now s).frame.kind) answers).0;
+      answer = λ answers. (and_parts on_ask (is_answer (tagged on_ask now s).frame.kind) answers).1;
+      of_link = sent_link_kind s.modulus s.frame;
+    }) (own_tags l r on on_ask now sent first rest caused good source dest all.1 tail)
 
 -- no tags
 abbrev pub no_tags : List SentFrame → List (Option Tagged)
@@ -135,14 +146,14 @@ other_frame l r path s good other = λ found len begins source dest.
 
 -- what another link sent
 pub other_tags :
-    (l r : Callsign) (path : Path) (sent : List SentIn) (first rest : List SentFrame) → IsGoodPath path
+    (l r : Callsign) (on : Bool) (path : Path) (sent : List SentIn) (first rest : List SentFrame) → IsGoodPath path
     → (path.source ≡ l → path.dest ≡ r → ⊥) → map (sent_frame path) sent ≡ first ++ rest
-    → AreTags l r (no_tags first) (map octets_of first)
-other_tags l r path sent [] rest good other is = tt
-other_tags l r path [] (x ∷ first) rest good other is = absurd (cc)
-other_tags l r path (s ∷ sent) (x ∷ first) rest good other is =
+    → AreTags l r (no_tags first) (framed on (map octets_of first))
+other_tags l r on path sent [] rest good other is = tt
+other_tags l r on path [] (x ∷ first) rest good other is = absurd (cc)
+other_tags l r on path (s ∷ sent) (x ∷ first) rest good other is =
     let head : sent_frame path s ≡ x = cc in
     let tail : map (sent_frame path) sent ≡ first ++ rest = cc in (
       subst (λ (f : SentFrame). IsOther l r (octets_of f)) head (other_frame l r path s good other),
-      other_tags l r path sent first rest good other tail,
+      other_tags l r on path sent first rest good other tail,
     )

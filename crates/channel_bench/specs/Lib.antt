@@ -1,6 +1,11 @@
 pub mod JointRun
 pub mod LinkSteps
 pub mod HeardInOrder
+pub mod InFlight
+pub mod MatchedLaw
+pub mod HostsAsk
+pub mod CallerLaw
+pub mod SetUpsSeen
 pub mod LinkOfCalls
 pub mod StationsLaw
 pub mod Owners

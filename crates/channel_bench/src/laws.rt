@@ -1,6 +1,10 @@
 //! Laws on two stations. A law is the contract of a function that does nothing.
 ghost use Rattle.channel_bench.specs.StationsLaw.{FollowingLaw, StationsLaw};
+ghost use Rattle.channel_bench.specs.CallerLaw.{CallerLaw};
+ghost use Rattle.channel_bench.specs.HostsAsk.{HostsAskNothing};
+ghost use Rattle.channel_bench.specs.MatchedLaw.{MatchedInOrder, MatchedLaw};
 ghost use Rattle.channel_bench.specs.Owners.{OwnersAreTold};
+ghost use Rattle.channel_bench.specs.SetUpsSeen.{SetUpsLaw};
 
 /// The law on any two stations. A joint run is a list of steps, each of one of two stations that began new: what comes from
 /// a host, a frame that is heard, or a tick. It is heard in order if, in each direction, a list of pairs that rises in
@@ -26,4 +30,38 @@ pub fn ends_follow()
 /// [`stations_law`] are the data messages that the owner of the station's link was sent.
 pub fn owners_are_told()
     ensures { OwnersAreTold }
+{}
+
+/// In a run in which each heard frame is matched with one in flight that has the same octets, the matches are the list of pairs
+/// that [`stations_law`] asks for: what the links of each station hear was sent before, and is heard in order and once.
+pub fn matched_in_order()
+    ensures { MatchedInOrder }
+{}
+
+/// The law on two stations of which one alone calls, over a run whose heard frames are matched as they are heard. What is in
+/// flight is counted as one can know it: a frame of a link from the moment at which it is queued until it is heard, a later one
+/// of its direction is heard, or it has passed. If each heard frame is matched with one in flight that has the same octets,
+/// each SABM, SABME and DISC that joins a transmit queue finds none of its station in flight, and no UA or DM that was sent on
+/// hearing one in flight to it, and the windows fit, then the link of two calls keeps the order of [`stations_law`], if hosts of
+/// A alone connect and disconnect it and none of its SABM, SABME and DISC finds a transmit queue full.
+pub fn matched_law()
+    ensures { MatchedLaw }
+{}
+
+/// The set-ups of which the laws speak are those that are seen at the stations. One begins when the link tells that it is open; it
+/// has the packets that were given in it, and those that the link told of, in order. This holds of each joint run that is heard
+/// in order, if hosts give packets only while the link is up and takes them.
+pub fn set_ups_law()
+    ensures { SetUpsLaw }
+{}
+
+/// In a step in which no host program sends C, v, c or d, and none leaves, no event of a link is a connect or a disconnect.
+pub fn hosts_ask_nothing()
+    ensures { HostsAskNothing }
+{}
+
+/// [`matched_law`] in the terms of host programs: no host of B sends C, v, c or d or leaves, and both stations have dropped no
+/// frame when the run ends. Then each link keeps the order.
+pub fn caller_law()
+    ensures { CallerLaw }
 {}

@@ -6,4 +6,7 @@
 
 mod laws;
 
-pub use laws::{ends_follow, owners_are_told, stations_law};
+pub use laws::{
+    caller_law, ends_follow, hosts_ask_nothing, matched_in_order, matched_law, owners_are_told,
+    set_ups_law, stations_law,
+};
