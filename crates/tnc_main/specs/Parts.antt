@@ -10,7 +10,7 @@ use Rattle.tnc_words.specs.declared.command.DecodeWords.{DecodeWords}
 use Rattle.tnc_decode.specs.Audio.{audio_fault}
 use Rattle.tnc_decode.specs.Decoded.{IsDecoded}
 use Rattle.tnc_decode.specs.Settled.{IsPrintBelow, IsSettled, sample_count}
-use Rattle.tnc_decode.specs.Taken.{WereRead}
+use Rattle.tnc_forms.specs.Taken.{WereRead}
 use Rattle.tnc_main.specs.Commands.{Makes, MakesUpToFault, fault_of}
 
 -- a command writes nothing before its input has ended
