@@ -7,7 +7,7 @@ use Rattle.tnc_forms.specs.Faults.{fault_in_line}
 use Rattle.tnc_forms.specs.HexFrames.{fault_of_lines, line_fault}
 use Rattle.tnc_forms.specs.LinesSoFar.{fault_so_far, known_lines}
 use Rattle.tnc_forms.specs.Streaming.{lines_form}
-use Rattle.tnc_forms.proofs.SoFarLemmas.{fault_none_yet, fault_some, frames_none, frames_whole, stays}
+use Rattle.tnc_forms.proofs.SoFarLemmas.{fault_none_yet, fault_some, frames_more, frames_none, frames_whole, stays}
 use Rattle.tnc_forms.proofs.StreamingLemmas.{IsForm}
 
 -- a bad line is no input that is too long
@@ -26,6 +26,7 @@ lines_are_form least = record {
   none = frames_none least;
   good = fault_none_yet least;
   whole = frames_whole least;
+  more = frames_more least;
   bad = stays least;
   not_long = so_far_not_long least;
   not_long_whole = λ octets fault is. line_not_long (line_fault least octets) fault is;

@@ -23,6 +23,7 @@ pub record IsForm (form : Form) : Type 0 where
   pub none : form.frames_so_far [] ≡ []
   pub good : form.fault_so_far [] ≡ None
   pub whole : (octets more : List ℕ) → form.fault_so_far octets ≡ None → (frames : List (List ℕ)) × (form.frames_of (octets ++ more) ≡ form.frames_so_far octets ++ frames)
+  pub more : (octets more : List ℕ) → form.fault_so_far octets ≡ None → (frames : List (List ℕ)) × (form.frames_so_far (octets ++ more) ≡ form.frames_so_far octets ++ frames)
   pub bad : (octets more : List ℕ) (fault : InputFault) → form.fault_so_far octets ≡ Some fault
       → (form.fault_so_far (octets ++ more) ≡ Some fault) × (form.fault_of (octets ++ more) ≡ Some fault)
       × (form.frames_so_far (octets ++ more) ≡ form.frames_so_far octets) × (form.frames_of (octets ++ more) ≡ form.frames_so_far octets)
