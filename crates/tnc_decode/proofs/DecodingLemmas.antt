@@ -15,7 +15,7 @@ use Rattle.tnc_decode.specs.Audio.{samples_of, form_fault, stopping_fault, audio
 use Rattle.tnc_decode.specs.Decoded.{IsDecoded}
 use Rattle.tnc_decode.specs.Held.{HasHeard, HasTaken, CutShort}
 use Rattle.tnc_decode.specs.Settled.{IsSettled}
-use Rattle.tnc_decode.specs.Taken.{WereRead}
+use Rattle.tnc_forms.specs.Taken.{WereRead}
 use Rattle.tnc_decode.specs.Written.{WroteMost}
 use Rattle.tnc_decode.proofs.AudioLemmas.{begins_with, none_stops, stops_silent, stops_still}
 use Rattle.tnc_decode.proofs.DecodedLemmas.{some_text, one_text, audio_fault_short, audio_fault_stops, audio_fault_too_long}

@@ -16,7 +16,7 @@ use Rattle.tnc_decode.specs.Decoded.{IsDecoded}
 use Rattle.tnc_decode.specs.Ended.{WroteAll, WroteSettled, WroteFirst, IsStopped, IsEnded}
 use Rattle.tnc_decode.specs.Held.{HasHeard, CutShort}
 use Rattle.tnc_decode.specs.Settled.{IsSettled}
-use Rattle.tnc_decode.specs.Taken.{WereRead}
+use Rattle.tnc_forms.specs.Taken.{WereRead}
 use Rattle.tnc_decode.specs.Written.{WroteMost}
 use Rattle.tnc_decode.proofs.AudioLemmas.{form_is_wav, stops_form}
 use Rattle.tnc_decode.proofs.DecodedLemmas.{some_text}

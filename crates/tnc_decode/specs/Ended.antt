@@ -11,7 +11,7 @@ use Rattle.tnc_words.specs.declared.command.DecodeWords.{DecodeWords}
 use Rattle.tnc_decode.specs.Audio.{audio_fault}
 use Rattle.tnc_decode.specs.Decoded.{IsDecoded}
 use Rattle.tnc_decode.specs.Settled.{IsSettled}
-use Rattle.tnc_decode.specs.Taken.{WereRead}
+use Rattle.tnc_forms.specs.Taken.{WereRead}
 use Rattle.tnc_decode.specs.Written.{WroteMost}
 
 -- the whole text was written

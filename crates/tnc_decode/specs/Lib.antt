@@ -1,7 +1,6 @@
 pub mod Audio
 pub mod Printing
 pub mod Decoded
-pub mod Taken
 pub mod Settled
 pub mod Written
 pub mod Held

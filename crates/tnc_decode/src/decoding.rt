@@ -8,7 +8,7 @@ ghost use Rattle.tnc_decode.specs.Audio.{audio_fault};
 ghost use Rattle.tnc_decode.specs.Decoded.{IsDecoded};
 ghost use Rattle.tnc_decode.specs.Ended.{IsEnded};
 ghost use Rattle.tnc_decode.specs.Settled.{IsSettled};
-ghost use Rattle.tnc_decode.specs.Taken.{WereRead};
+ghost use Rattle.tnc_forms.specs.Taken.{WereRead};
 ghost use Rattle.tnc_decode.specs.Written.{WroteMost};
 
 use crate::receiver::{BLOCK, Receiver};

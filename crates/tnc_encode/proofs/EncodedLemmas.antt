@@ -16,7 +16,7 @@ use Rattle.tnc_words.specs.declared.command.FrameForm.{FrameForm}
 use Rattle.tnc_words.specs.declared.command.FrameForm.TheVariants.{Hex, Kiss}
 use Rattle.tnc_words.specs.declared.command.EncodeWords.{EncodeWords}
 use Rattle.tnc_encode.specs.Frames.{form_fault}
-use Rattle.tnc_encode.specs.Encoded.{encoded, encoded_before, encode_fault, first_of, length_fault, samples_sent, written_as, written_before}
+use Rattle.tnc_encode.specs.Encoded.{encoded, encoded_before, fault_of_whole, first_of, length_fault, samples_sent, written_as, written_before}
 
 some_is_not_none : (fault : InputFault) → Some fault ≡ None → ⊥
 some_is_not_none fault e = true≢false (ap is_some e)
@@ -45,19 +45,19 @@ part_of Wav samples before now h = part_of_nothing before (written_as Wav sample
 
 module _ (words : EncodeWords) (input : List ℕ) where
   within : length input ≤ input_limit
-      → encode_fault words input ≡ first_of (form_fault words.frames input) (length_fault words.audio (length (samples_sent words input)))
-  unfolding encode_fault
+      → fault_of_whole words input ≡ first_of (form_fault words.frames input) (length_fault words.audio (length (samples_sent words input)))
+  unfolding fault_of_whole
   within short =
       ap (λ b. if b then Some TooLong else first_of (form_fault words.frames input) (length_fault words.audio (length (samples_sent words input))))
       (le-ltb input_limit (length input) short)
 
   -- an input without a fault of its form
   pub fault_of_length : length input ≤ input_limit → form_fault words.frames input ≡ None
-      → encode_fault words input ≡ length_fault words.audio (length (samples_sent words input))
+      → fault_of_whole words input ≡ length_fault words.audio (length (samples_sent words input))
   fault_of_length short none = within short ∙ ap (λ f. first_of f (length_fault words.audio (length (samples_sent words input)))) none
 
   -- and one with such a fault
-  pub fault_of_form : (fault : InputFault) → length input ≤ input_limit → form_fault words.frames input ≡ Some fault → encode_fault words input ≡ Some fault
+  pub fault_of_form : (fault : InputFault) → length input ≤ input_limit → form_fault words.frames input ≡ Some fault → fault_of_whole words input ≡ Some fault
   fault_of_form fault short is = within short ∙ ap (λ f. first_of f (length_fault words.audio (length (samples_sent words input)))) is
 
   pub encoded_is : written_as words.audio (samples_sent words input) ≡ encoded words input

@@ -2,6 +2,7 @@
 use Rattle.std.proofs.Common.{◌≡◌, ℕ, ◌+◌, ◌<◌, ◌≤◌, ◌==◌, nat_le, ◌&&◌, Bool, true, false, List, [], ◌∷◌, ◌++◌, length, take, get_or, ap, ◌∙◌, All, IfSome, Option, Some, None, inl, inr, refl, sym, arith}
 use Rattle.std.specs.Prelude.{if◌then◌else◌}
 use Rattle.std.specs.List.{cons_option, filter_map}
+use Rattle.std.specs.Option.{option_to_list}
 use Rattle.std.proofs.lemmas.Bool.{and_parts, leb-true}
 use Rattle.std.proofs.lemmas.List.{take_more}
 use Rattle.std.proofs.lemmas.List.Elements.{All-cons, All-nil, filter_map-append}
@@ -21,7 +22,7 @@ sendable : (octets : List ℕ) → 15 ≤ length octets → length octets ≤ 10
 sendable octets enough most = λ bad. elim bad [ inl few ↦ absurd (omega arith) | inr more ↦ absurd (omega arith) ]
 
 -- the frame of an item has the length of one
-item_sendable : (item : KissItem) → IfSome (frame_of item) IsSendable
+pub item_sendable : (item : KissItem) → IfSome (frame_of item) IsSendable
 item_sendable (Frame port octets) = go ((port == 0) && (nat_le 15 (length octets) && nat_le (length octets) 1024)) refl
   where
     go : (test : Bool) → (port == 0) && (nat_le 15 (length octets) && nat_le (length octets) 1024) ≡ test
@@ -65,3 +66,17 @@ module _ (octets : List ℕ) (index : ℕ) (below : index < length octets) (fram
 pub kiss_frames-none : kiss_frames [] ≡ []
 unfolding kiss_frames items_in
 kiss_frames-none = refl
+
+-- the frame of one item
+pub frame_of_one : (item : KissItem) → option_to_list (frame_of item) ≡ filter_map frame_of (item ∷ [])
+frame_of_one item = go (frame_of item)
+  where
+    go : (frame : Option (List ℕ)) → option_to_list frame ≡ cons_option frame []
+    go None = refl
+    go (Some octets) = refl
+
+-- one octet more, which ended these items
+pub kiss_frames-push : (before : List ℕ) (octet : ℕ) (items : List KissItem) → items_in (before ++ octet ∷ []) ≡ items_in before ++ items
+    → kiss_frames (before ++ octet ∷ []) ≡ kiss_frames before ++ filter_map frame_of items
+unfolding kiss_frames
+kiss_frames-push before octet items more = ap (filter_map frame_of) more ∙ filter_map-append frame_of (items_in before) items

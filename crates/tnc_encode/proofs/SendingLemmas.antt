@@ -58,11 +58,11 @@ module _ (words : EncodeWords) where
   unfolding own_octets octets_of
   own_octets-none = nothing_sent
 
-  own_octets-append : (fs gs : List (List ℕ)) → own_octets (fs ++ gs) ≡ own_octets fs ++ own_octets gs
+  pub own_octets-append : (fs gs : List (List ℕ)) → own_octets (fs ++ gs) ≡ own_octets fs ++ own_octets gs
   unfolding own_octets
   own_octets-append fs gs = ap octets_of (map-append own fs gs) ∙ octets_of-append (map own fs) (map own gs)
 
-  own_octets-one : (frame : List ℕ) → own_octets (frame ∷ []) ≡ pcm (samples_at_once words (frame ∷ []))
+  pub own_octets-one : (frame : List ℕ) → own_octets (frame ∷ []) ≡ pcm (samples_at_once words (frame ∷ []))
   unfolding own_octets
   own_octets-one frame = octets_of-one (frame ∷ [])
 

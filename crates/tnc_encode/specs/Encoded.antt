@@ -1,16 +1,18 @@
 -- What encode makes of the octets of its input.
-use Rattle.std.specs.Prelude.{ℕ, ℤ, nat_lt, List, [], ◌∷◌, ◌++◌, map, length, Option, Some, None, if◌then◌else◌}
+use Rattle.std.specs.Prelude.{ℕ, ℤ, nat_lt, Bool, true, List, [], ◌∷◌, ◌++◌, map, length, take, Option, Some, None, if◌then◌else◌}
 use Rattle.afsk_modulator.specs.Level.{at_level}
 use Rattle.afsk_modulator.specs.Signal.{Transmission, samples_of, signal_at}
 use Rattle.wav_file.specs.Head.{head_of}
 use Rattle.tnc_forms.specs.declared.fault.InputFault.{InputFault}
 use Rattle.tnc_forms.specs.declared.fault.InputFault.TheVariants.{LongWav}
 use Rattle.tnc_forms.specs.Faults.{fault_within}
+use Rattle.tnc_forms.specs.LinesSoFar.{fault_as_read}
 use Rattle.tnc_forms.specs.Pcm.{pcm}
+use Rattle.tnc_forms.specs.Reading.{input_limit}
 use Rattle.tnc_words.specs.declared.command.AudioForm.{AudioForm}
 use Rattle.tnc_words.specs.declared.command.AudioForm.TheVariants.{Raw, Wav}
 use Rattle.tnc_words.specs.declared.command.EncodeWords.{EncodeWords}
-use Rattle.tnc_encode.specs.Frames.{frames_of, form_fault}
+use Rattle.tnc_encode.specs.Frames.{form_fault, form_fault_so_far, frames_of, frames_so_far}
 
 -- frames that are sent at one go, as the words say
 abbrev pub sent_at_once : EncodeWords → List (List ℕ) → Transmission
@@ -69,7 +71,27 @@ abbrev pub first_of : Option InputFault → Option InputFault → Option InputFa
 first_of (Some fault) other = Some fault
 first_of None other = other
 
--- why an input is refused: it is too long, a line is bad, or what comes of it is too long for a WAV file
+-- Frames are kept until the input has ended: for a WAV file, whose head tells the count of the samples, and for one
+-- transmission. Otherwise each frame is sent as it comes.
+abbrev pub keeps_frames : AudioForm → Bool → Bool
+keeps_frames Raw join = join
+keeps_frames Wav join = true
+
+-- the octets that are written of octets before it is known whether more follow
+unfoldable pub encoded_so_far : EncodeWords → List ℕ → List ℕ
+encoded_so_far words octets =
+    if keeps_frames words.audio words.join then [] else pcm (signal_of words (frames_so_far words.frames octets))
+
+-- why an input is refused that is read whole: it is too long, a line is bad, or what comes of it is too long for a WAV file
+unfoldable pub fault_of_whole : EncodeWords → List ℕ → Option InputFault
+fault_of_whole words input =
+    fault_within input (first_of (form_fault words.frames input) (length_fault words.audio (length (samples_sent words input))))
+
+-- and of which each frame is sent as it comes: a line is bad, or else it is too long
+abbrev pub fault_of_pieces : EncodeWords → List ℕ → Option InputFault
+fault_of_pieces words input =
+    fault_as_read (form_fault_so_far words.frames (take input_limit input)) (form_fault words.frames input) input
+
 unfoldable pub encode_fault : EncodeWords → List ℕ → Option InputFault
 encode_fault words input =
-    fault_within input (first_of (form_fault words.frames input) (length_fault words.audio (length (samples_sent words input))))
+    if keeps_frames words.audio words.join then fault_of_whole words input else fault_of_pieces words input

@@ -8,6 +8,7 @@ use Rattle.kiss_port.specs.Items.{items_in}
 use Rattle.tnc_forms.specs.declared.fault.InputFault.{InputFault}
 use Rattle.tnc_forms.specs.Faults.{hex_fault}
 use Rattle.tnc_forms.specs.HexFrames.{frames_of as frames_of_lines}
+use Rattle.tnc_forms.specs.LinesSoFar.{fault_so_far as fault_of_lines_so_far, frames_so_far as frames_of_lines_so_far}
 use Rattle.tnc_words.specs.declared.command.FrameForm.{FrameForm}
 use Rattle.tnc_words.specs.declared.command.FrameForm.TheVariants.{Hex, Kiss}
 
@@ -34,3 +35,14 @@ frames_of Kiss octets = kiss_frames octets
 abbrev pub form_fault : FrameForm → List ℕ → Option InputFault
 form_fault Hex octets = hex_fault least_frame octets
 form_fault Kiss octets = None
+
+-- the frames of octets that are known before the input has ended: those of the lines that a line feed has ended, or of the
+-- items that a FEND has
+abbrev pub frames_so_far : FrameForm → List ℕ → List (List ℕ)
+frames_so_far Hex octets = frames_of_lines_so_far least_frame octets
+frames_so_far Kiss octets = kiss_frames octets
+
+-- what is known to be wrong with their form
+abbrev pub form_fault_so_far : FrameForm → List ℕ → Option InputFault
+form_fault_so_far Hex octets = fault_of_lines_so_far least_frame octets
+form_fault_so_far Kiss octets = None

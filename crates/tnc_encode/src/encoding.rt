@@ -1,5 +1,5 @@
 //! The word encode: from frames to audio.
-ghost use Rattle.std.specs.Prelude.{◌≡◌, ◌≢◌, ◌≤◌, ◌<◌, ◌+◌, ◌++◌, ◌⊎◌, All, List, ℕ, Some, None, [], length, drop, OnOk, OnErr, IfErr, IsErrOf};
+ghost use Rattle.std.specs.Prelude.{◌≡◌, ◌≢◌, ◌≤◌, ◌<◌, ◌+◌, ◌++◌, ◌⊎◌, All, List, ℕ, Some, None, [], true, false, length, take, drop, OnOk, OnErr, IfErr, IsErrOf};
 ghost use Rattle.tnc_base.specs.Faults.{HasRisen};
 ghost use Rattle.tnc_base.specs.Streams.{WrotePart};
 ghost use Rattle.afsk_modulator.specs.Modulation.{IsLevel};
@@ -7,11 +7,14 @@ ghost use Rattle.afsk_modulator.specs.Transmission.{IsBadLength};
 ghost use Rattle.wav_file.specs.Head.{head_of};
 ghost use Rattle.tnc_forms.specs.declared.fault.InputFault.{InputFault};
 ghost use Rattle.tnc_forms.specs.Pcm.{pcm};
-ghost use Rattle.tnc_forms.specs.Reading.{input_limit};
-ghost use Rattle.tnc_encode.specs.Encoded.{encode_fault, encoded, encoded_before, length_fault, samples_at_once, signal_of, written_as, written_before};
+ghost use Rattle.tnc_forms.specs.Reading.{input_limit, piece_limit};
+ghost use Rattle.tnc_forms.specs.Taken.{WereRead};
+ghost use Rattle.tnc_encode.specs.Encoded.{encode_fault, encoded, encoded_before, encoded_so_far, fault_of_whole, keeps_frames, length_fault, samples_at_once, signal_of, written_as, written_before};
+ghost use Rattle.tnc_encode.specs.Frames.{form_fault_so_far};
 
 use crate::counting::{count_samples, head};
 use crate::frames::read_frames;
+use crate::pieces::encode_pieces;
 use crate::sending::samples_at_once;
 use std::alloc::Global;
 use std::slice;
@@ -19,8 +22,9 @@ use tnc_base::{Octets, Sink, Source};
 use tnc_forms::{Fault, InputFault, read_all, write_pcm};
 use tnc_words::{AudioForm, EncodeWords};
 
-/// Reads the input to its end, and then writes the signal of its frames. Where a line is bad, the frames before it are
-/// sent as raw PCM, or no WAV file is written.
+/// Sends the frames of the input. Each frame is sent as it comes, in bounded memory, but for one transmission of all frames
+/// and for a WAV file: then the input is read to its end first. Where a line is bad, the frames before it are sent as raw
+/// PCM, or no WAV file is written.
 #[tactic(auto, unfolding(crate::specs::Encoded::encode_fault))]
 pub fn encode<I: Source, O: Sink>(
     alloc: Global,
@@ -48,10 +52,80 @@ pub fn encode<I: Source, O: Sink>(
     ensures encoded_before { (octets before : List ℕ) → (fault : InputFault) → I.left input.old ≡ Some octets
         → O.written output.old ≡ Some before → length octets ≤ input_limit
         → IsErrOf result (Fault.Input fault) → O.written output.new ≡ Some (before ++ encoded_before words octets) }
+    ensures encoded_of_many { (octets before : List ℕ) → (fault : InputFault) → I.left input.old ≡ Some octets
+        → O.written output.old ≡ Some before → input_limit < length octets
+        → IsErrOf result (Fault.Input fault)
+        → O.written output.new ≡ Some (before ++ encoded_so_far words (take input_limit octets)) }
     ensures stops { (octets : List ℕ) → I.left input.old ≡ Some octets
         → IsErrOf result (Fault.Input InputFault.TooLong) → I.left input.new ≡ Some (drop (input_limit + 1) octets) }
 
-    // each other fault, and what stands after it
+    // each other fault, and what was written before it of the octets read
+    ensures so_far { (octets before : List ℕ) → I.left input.old ≡ Some octets → O.written output.old ≡ Some before
+        → keeps_frames words.audio words.join ≡ false → IsErrOf result Fault.Read
+        → (read : List ℕ) × WereRead octets (I.left input.new) read × (form_fault_so_far words.frames read ≡ None)
+        × (O.written output.new ≡ Some (before ++ encoded_so_far words read)) }
+    ensures part { (octets before : List ℕ) → I.left input.old ≡ Some octets → O.written output.old ≡ Some before
+        → keeps_frames words.audio words.join ≡ false → IsErrOf result Fault.Memory
+        → (read front rest : List ℕ) × WereRead octets (I.left input.new) read × (read ≡ front ++ rest)
+        × (length rest ≤ piece_limit) × (form_fault_so_far words.frames front ≡ None)
+        × (O.written output.new ≡ Some (before ++ encoded_so_far words front)) }
+    ensures most { (octets before : List ℕ) → I.left input.old ≡ Some octets → O.written output.old ≡ Some before
+        → keeps_frames words.audio words.join ≡ false → IsErrOf result Fault.Write
+        → (read front rest more left_out : List ℕ) × WereRead octets (I.left input.new) read × (read ≡ front ++ rest)
+        × (length rest ≤ piece_limit) × (form_fault_so_far words.frames front ≡ None)
+        × (encoded words read ≡ (encoded_so_far words front ++ more) ++ left_out)
+        × (O.written output.new ≡ Some (before ++ (encoded_so_far words front ++ more))) }
+    ensures unwritten { keeps_frames words.audio words.join ≡ true
+        → (result ≡ Err (Fault.Input InputFault.TooLong)) ⊎ (result ≡ Err Fault.Read) → output.new ≡ output.old }
+    ensures cut { (octets before : List ℕ) → I.left input.old ≡ Some octets
+        → O.written output.old ≡ Some before
+        → OnErr result (WrotePart before (encoded words octets) (O.written output.new)) }
+    ensures read { IsErrOf result Fault.Read → HasRisen (I.faults input.old) (I.faults input.new) }
+    ensures write { IsErrOf result Fault.Write → HasRisen (O.faults output.old) (O.faults output.new) }
+{
+    if keeps_frames(words) {
+        encode_whole(alloc, words, input, output)
+    } else {
+        encode_pieces(alloc, words, input, output)
+    }
+}
+
+/// True if frames are kept until the input has ended.
+fn keeps_frames(words: EncodeWords) -> bool
+    ensures { result ≡ keeps_frames words.audio words.join }
+{
+    match words.audio {
+        AudioForm::Raw => words.join,
+        AudioForm::Wav => true,
+    }
+}
+
+/// Reads the input to its end, and then writes the signal of its frames.
+#[tactic(auto, unfolding(crate::specs::Encoded::fault_of_whole))]
+fn encode_whole<I: Source, O: Sink>(
+    alloc: Global,
+    words: EncodeWords,
+    input: &mut I,
+    output: &mut O,
+) -> Result<(), Fault>
+    requires opening { 2 ≤ words.opening }
+    requires closing { 1 ≤ words.closing }
+    requires level { IsLevel words.level }
+    ensures end { (octets : List ℕ) → I.left input.old ≡ Some octets
+        → OnOk result (I.left input.new ≡ Some []) }
+    ensures good { (octets : List ℕ) → I.left input.old ≡ Some octets
+        → OnOk result (fault_of_whole words octets ≡ None) }
+    ensures encoded { (octets before : List ℕ) → I.left input.old ≡ Some octets
+        → O.written output.old ≡ Some before
+        → OnOk result (O.written output.new ≡ Some (before ++ encoded words octets)) }
+    ensures faultless { OnOk result ((I.faults input.new ≡ I.faults input.old) × (O.faults output.new ≡ O.faults output.old)) }
+    ensures bad { (octets : List ℕ) → (fault : InputFault) → I.left input.old ≡ Some octets
+        → IsErrOf result (Fault.Input fault) → fault_of_whole words octets ≡ Some fault }
+    ensures encoded_before { (octets before : List ℕ) → (fault : InputFault) → I.left input.old ≡ Some octets
+        → O.written output.old ≡ Some before → length octets ≤ input_limit
+        → IsErrOf result (Fault.Input fault) → O.written output.new ≡ Some (before ++ encoded_before words octets) }
+    ensures stops { (octets : List ℕ) → I.left input.old ≡ Some octets
+        → IsErrOf result (Fault.Input InputFault.TooLong) → I.left input.new ≡ Some (drop (input_limit + 1) octets) }
     ensures read { IsErrOf result Fault.Read → HasRisen (I.faults input.old) (I.faults input.new) }
     ensures write { IsErrOf result Fault.Write → HasRisen (O.faults output.old) (O.faults output.new) }
     ensures cut { (octets before : List ℕ) → I.left input.old ≡ Some octets
@@ -74,11 +148,11 @@ fn encode_octets<O: Sink>(
     requires closing { 1 ≤ words.closing }
     requires level { IsLevel words.level }
     requires limit { length octets.now ≤ input_limit }
-    ensures good { OnOk result (encode_fault words octets.now ≡ None) }
+    ensures good { OnOk result (fault_of_whole words octets.now ≡ None) }
     ensures encoded { (before : List ℕ) → O.written output.old ≡ Some before
         → OnOk result (O.written output.new ≡ Some (before ++ encoded words octets.now)) }
     ensures bad { (fault : InputFault) → IsErrOf result (Fault.Input fault)
-        → (encode_fault words octets.now ≡ Some fault) × (fault ≢ InputFault.TooLong) }
+        → (fault_of_whole words octets.now ≡ Some fault) × (fault ≢ InputFault.TooLong) }
     ensures encoded_before { (before : List ℕ) → (fault : InputFault) → O.written output.old ≡ Some before
         → IsErrOf result (Fault.Input fault) → O.written output.new ≡ Some (before ++ encoded_before words octets.now) }
     ensures cut { (before : List ℕ) → O.written output.old ≡ Some before
@@ -224,7 +298,7 @@ fn send_all<O: Sink>(
 }
 
 /// Writes the frames of one transmission.
-fn send<O: Sink>(
+pub(crate) fn send<O: Sink>(
     alloc: Global,
     words: EncodeWords,
     frames: &[Octets],
@@ -238,6 +312,7 @@ fn send<O: Sink>(
         → OnOk result (O.written output.new ≡ Some (before ++ pcm (samples_at_once words frames.now))) }
     ensures cut { (before : List ℕ) → O.written output.old ≡ Some before
         → OnErr result (WrotePart before (pcm (samples_at_once words frames.now)) (O.written output.new)) }
+    ensures unwritten { IsErrOf result Fault.Memory → output.new ≡ output.old }
     ensures later { O.faults output.old ≤ O.faults output.new }
     ensures faultless { OnOk result (O.faults output.new ≡ O.faults output.old) }
     ensures write { IsErrOf result Fault.Write → HasRisen (O.faults output.old) (O.faults output.new) }

@@ -1,5 +1,5 @@
-//! Frames in their two forms.
-ghost use Rattle.std.specs.Prelude.{◌≡◌, ◌++◌, All, IfOk, OnOk};
+//! Frames of a whole input, in their two forms.
+ghost use Rattle.std.specs.Prelude.{◌≡◌, ◌++◌, All, IfOk, IfSome, OnOk};
 ghost use Rattle.std.specs.List.{filter_map};
 ghost use Rattle.std.specs.Option.{option_to_list};
 ghost use Rattle.afsk_modulator.specs.Transmission.{IsBadLength};
@@ -12,7 +12,7 @@ use tnc_forms::{InputFault, read_hex_frames};
 use tnc_words::FrameForm;
 
 /// The fewest octets of a frame.
-const LEAST: usize = 15;
+pub(crate) const LEAST: usize = 15;
 
 /// The most octets of a frame.
 const MOST: usize = 1024;
@@ -68,10 +68,21 @@ fn read_kiss_frames(alloc: Global, octets: &[u8]) -> Result<Vec<Octets>, OutOfMe
 fn take_frame(frames: &mut Vec<Octets>, item: Option<KissItem>) -> Result<(), OutOfMemory>
     ensures { OnOk result (frames.new.items ≡ frames.old.items ++ filter_map frame_of (option_to_list item)) }
 {
-    if let Some(frame) = item.and_then(frame_to_send) {
+    if let Some(frame) = frame_of_item(item) {
         frames.push(frame)?;
     }
     Ok(())
+}
+
+/// The frame of an item, if there is one, and it is to be sent.
+pub(crate) fn frame_of_item(item: Option<KissItem>) -> Option<Octets>
+    ensures frame { option_to_list result ≡ filter_map frame_of (option_to_list item) }
+    ensures size { IfSome result (λ octets. ¬ IsBadLength octets) }
+{
+    match item {
+        Some(item) => frame_to_send(item),
+        None => None,
+    }
 }
 
 /// The frame of an item, where it is data on port 0 and has the length of a frame.

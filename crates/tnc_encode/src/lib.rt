@@ -5,7 +5,9 @@
 
 mod counting;
 mod encoding;
+mod frame_in;
 mod frames;
+mod pieces;
 mod sending;
 
 pub use encoding::encode;

@@ -1,6 +1,6 @@
 -- What follows of a call's answer.
 use Rattle.std.proofs.Common.{◌≡◌, Result, Ok, Err, true≢false, sym, subst}
-use Rattle.std.specs.Prelude.{OnOk, OnErr, IfErr, IsErrAnd, IsOk}
+use Rattle.std.specs.Prelude.{OnOk, OnErr, IfOk, IfErr, IsErrAnd, IsOk}
 
 module _ {T E : Type 0} where
   pub at_ok : (r : Result T E) {P : Type 0} → OnOk r P → IsOk r → P
@@ -25,3 +25,11 @@ module _ {T E : Type 0} where
   pub map_err : (r : Result T E) {P Q : Type 0} → (P → Q) → OnErr r P → OnErr r Q
   map_err (Ok x) f h = tt
   map_err (Err e) f h = f h
+
+  pub if_ok : (r : Result T E) {P : Type 0} {Q R : T → Type 0} → OnOk r P → IfOk r Q → ((x : T) → P → Q x → R x) → IfOk r R
+  if_ok (Ok x) p q f = f x p q
+  if_ok (Err e) p q f = tt
+
+-- a fault that was handed on
+pub same_fault : {T E : Type 0} (a b : E) → ◌≡◌ {A = Result T E} (Err a) (Err b) → a ≡ b
+same_fault a b e = cc

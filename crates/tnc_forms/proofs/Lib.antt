@@ -4,5 +4,10 @@ pub mod WrittenParts
 pub mod LineLemmas
 pub mod LineTextLemmas
 pub mod HexFrameLemmas
+pub mod CutLemmas
+pub mod SoFarLemmas
+pub mod HeldLineLemmas
+pub mod StreamingLemmas
+pub mod LinesForm
 pub mod PcmLemmas
 pub mod ReadingLemmas

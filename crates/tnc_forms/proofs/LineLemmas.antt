@@ -16,7 +16,7 @@ place_behind : (place size : ℕ) → place + (size + 1) ≡ place + size + 1
 place_behind place size = omega arith
 
 -- one part, and more parts behind it
-lines_from-cons : (place : ℕ) (part : List ℕ) (parts : List (List ℕ)) → 0 < length parts
+pub lines_from-cons : (place : ℕ) (part : List ℕ) (parts : List (List ℕ)) → 0 < length parts
     → lines_from place (part ∷ parts) ≡ record { place = place; text = strip_carriage_return part } ∷ lines_from (place + length part + 1) parts
 lines_from-cons place part [] some = absurd (omega arith)
 lines_from-cons place part (next ∷ parts) some = refl
@@ -35,7 +35,7 @@ module _ (p : ℕ → Bool) (xs : List ℕ) where
   ]
 
   -- where it found none
-  none_passes : None ≡ position p xs → All (λ x. p x ≡ false) xs
+  pub none_passes : None ≡ position p xs → All (λ x. p x ≡ false) xs
   none_passes found = elim (cases_lt (position_or_len p xs) (length xs)) [
     | inl there ↦
         let some : Some (position_or_len p xs) ≡ None =

@@ -33,3 +33,12 @@ lines_behind input next = option_map_or (lines_at input) next []
 
 abbrev pub lines_of : List ℕ → List Line
 lines_of input = lines_at input 0
+
+-- the lines but the last: those that a line feed has ended
+abbrev pub ended_of : List Line → List Line
+ended_of [] = []
+ended_of (last ∷ []) = []
+ended_of (line ∷ next ∷ lines) = line ∷ ended_of (next ∷ lines)
+
+abbrev pub ended_lines : List ℕ → List Line
+ended_lines octets = ended_of (lines_of octets)

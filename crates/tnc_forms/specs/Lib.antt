@@ -2,5 +2,9 @@ pub mod Faults
 pub mod HexFrames
 pub mod HexLines
 pub mod HexPrint
+pub mod LinesSoFar
+pub mod HeldLine
+pub mod Streaming
+pub mod Taken
 pub mod Pcm
 pub mod Reading

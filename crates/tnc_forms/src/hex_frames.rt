@@ -67,14 +67,14 @@ fn line_at(input: &[u8], place: usize) -> (&[u8], Option<usize>)
 }
 
 /// The place of the first line feed.
-fn line_feed(octets: &[u8]) -> Option<usize>
+pub(crate) fn line_feed(octets: &[u8]) -> Option<usize>
     ensures { result ≡ position is_line_feed octets.now }
 {
     octets.iter().position(|octet| *octet == b'\n')
 }
 
 /// A line without the carriage return at its end.
-fn without_carriage_return(line: &[u8]) -> &[u8]
+pub(crate) fn without_carriage_return(line: &[u8]) -> &[u8]
     ensures { result.now ≡ strip_carriage_return line.now }
 {
     match line {

@@ -8,7 +8,7 @@ use std::alloc::Global;
 use tnc_base::{Octets, OutOfMemory};
 
 /// The most octets of a line.
-const LONGEST_LINE: usize = 2048;
+pub(crate) const LONGEST_LINE: usize = 2048;
 
 /// What a line holds.
 #[derive(Debug, Drop)]

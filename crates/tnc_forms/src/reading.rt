@@ -1,5 +1,5 @@
-//! An input read whole.
-ghost use Rattle.std.specs.Prelude.{◌≡◌, ◌≤◌, ◌+◌, ◌<◌, List, ℕ, Some, [], length, drop, IfOk, OnOk, IsErrOf};
+//! An input read whole, or piece by piece.
+ghost use Rattle.std.specs.Prelude.{◌≡◌, ◌≤◌, ◌+◌, ◌<◌, ◌++◌, List, ℕ, Some, [], length, take, drop, IfOk, OnOk, IsErrOf};
 ghost use Rattle.tnc_base.specs.Faults.{HasRisen};
 ghost use Rattle.tnc_forms.specs.declared.fault.InputFault.{InputFault};
 ghost use Rattle.tnc_forms.specs.Reading.{input_limit};
@@ -12,7 +12,7 @@ use tnc_base::Source;
 const INPUT_LIMIT: usize = 1 << 40;
 
 /// The most octets of one read.
-const PIECE: usize = 4096;
+pub const PIECE: usize = 4096;
 
 /// All octets of the input, read to its end. Reads at most 2^40 + 1 octets, and ends at the first read that fails.
 pub fn read_all<I: Source>(alloc: Global, input: &mut I) -> Result<Vec<u8>, Fault>
@@ -44,4 +44,31 @@ pub fn read_all<I: Source>(alloc: Global, input: &mut I) -> Result<Vec<u8>, Faul
         octets.extend_from_slice(&buffer[..count])?;
     }
     Err(Fault::Input(InputFault::TooLong))
+}
+
+/// Reads the next octets of an input of which so many have come, and answers how many: 0 at its end. Refuses an octet past
+/// the 2^40th.
+pub fn read_piece<I: Source>(input: &mut I, total: usize, buffer: &mut [u8]) -> Result<usize, Fault>
+    requires few { total ≤ input_limit }
+    requires room { 0 < length buffer.old }
+    ensures piece { (octets : List ℕ) → I.left input.old ≡ Some octets
+        → IfOk result (λ count. (rest : List ℕ) × (octets ≡ take count buffer.new ++ rest) × (I.left input.new ≡ Some rest)
+        × (count ≡ 0 → rest ≡ [])) }
+    ensures bound { IfOk result (λ count. (count ≤ length buffer.new) × (total + count ≤ input_limit)) }
+    ensures too_long { (octets : List ℕ) → I.left input.old ≡ Some octets → IsErrOf result (Fault.Input InputFault.TooLong)
+        → (total ≡ input_limit) × (0 < length octets) × (I.left input.new ≡ Some (drop 1 octets)) }
+    ensures kept { IsErrOf result Fault.Read → I.left input.new ≡ I.left input.old }
+    ensures later { I.faults input.old ≤ I.faults input.new }
+    ensures faultless { OnOk result (I.faults input.new ≡ I.faults input.old) }
+    ensures read { IsErrOf result Fault.Read → HasRisen (I.faults input.old) (I.faults input.new) }
+    ensures write { ¬ IsErrOf result Fault.Write }
+    ensures memory { ¬ IsErrOf result Fault.Memory }
+    ensures only { (fault : InputFault) → IsErrOf result (Fault.Input fault) → fault ≡ InputFault.TooLong }
+{
+    let room = buffer.len().min(INPUT_LIMIT - total).max(1);
+    match input.read(&mut buffer[..room]) {
+        Ok(count) if total + count > INPUT_LIMIT => Err(Fault::Input(InputFault::TooLong)),
+        Ok(count) => Ok(count),
+        Err(_) => Err(Fault::Read),
+    }
 }

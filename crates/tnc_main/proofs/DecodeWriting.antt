@@ -11,13 +11,14 @@ use Rattle.tnc_forms.specs.Reading.{input_limit}
 use Rattle.tnc_decode.specs.Audio.{audio_fault}
 use Rattle.tnc_decode.specs.Decoded.{IsDecoded}
 use Rattle.tnc_decode.specs.Settled.{IsSettled}
-use Rattle.tnc_decode.specs.Taken.{WereRead}
+use Rattle.tnc_forms.specs.Taken.{WereRead}
 use Rattle.tnc_decode.specs.Written.{WroteMost}
 use Rattle.tnc_main.specs.declared.status.Status.TheVariants.{BadInput, Memory as NoMemory, ReadFault, WriteFault}
 use Rattle.tnc_decode.proofs.DecodedLemmas.{some_text}
 use Rattle.tnc_decode.proofs.SettledLemmas.{settled_none}
 use Rattle.tnc_main.specs.Commands.{Reads}
 use Rattle.tnc_main.specs.Parts.{HasAtMemory, MakesPart}
+use Rattle.tnc_main.proofs.LinesWriting.{encode_unread, show_unread}
 use Rattle.tnc_main.proofs.Writing.{Written}
 
 module _ (words : DecodeWords) (octets before : List ℕ) (left now : Option (List ℕ)) (cut : (text : List ℕ) → IsDecoded words octets text → WrotePart before text now) where
@@ -95,7 +96,7 @@ unread (Decode words) octets left reads =
       decoded = whole.1;
       part = (whole.0, refl);
     })
-unread (Encode words) octets left reads = tt
-unread (Show words) octets left reads = tt
+unread (Encode words) octets left reads = encode_unread words octets left reads
+unread (Show words) octets left reads = show_unread words octets left reads
 unread (Loop words) octets left reads = tt
 unread (Serve options) octets left reads = absurd reads

@@ -1,5 +1,5 @@
 -- What the ends of commands say of the program's.
-use Rattle.std.proofs.Common.{◌≡◌, Result, Ok, Err, sym, subst, ◌∙◌}
+use Rattle.std.proofs.Common.{◌≡◌, Result, Ok, Err, refl, sym, subst, ◌∙◌}
 use Rattle.std.specs.Prelude.{OnOk, OnErr, List, ℕ}
 use Rattle.tnc_forms.specs.declared.fault.Fault.{Fault}
 use Rattle.tnc_forms.specs.declared.fault.Fault.TheVariants.{Input as OfInput, Memory as OfMemory, Read as OfRead, Write as OfWrite}
@@ -7,7 +7,7 @@ use Rattle.tnc_forms.specs.declared.fault.InputFault.{InputFault}
 use Rattle.tnc_loop.specs.declared.fault.LoopFault.{LoopFault}
 use Rattle.tnc_loop.specs.declared.fault.LoopFault.TheVariants.{Stray as LoopStray, Memory as LoopMemory, Write as LoopWrite}
 use Rattle.tnc_main.specs.declared.stop.Stop.{Stop}
-use Rattle.tnc_main.specs.declared.stop.Stop.TheVariants.{Input, Stray}
+use Rattle.tnc_main.specs.declared.stop.Stop.TheVariants.{Input, Read, Stray}
 use Rattle.tnc_main.specs.Stops.{end_of, end_of_loop}
 
 module _ (r : Result (Unit {0}) Stop) (end : Result (Unit {0}) Fault) (is : r ≡ end_of end) where
@@ -33,6 +33,16 @@ module _ (r : Result (Unit {0}) Stop) (end : Result (Unit {0}) Fault) (is : r �
       go (Err (OfInput other)) h = cc h
       go (Err OfMemory) h = cc h
       go (Err OfRead) h = cc h
+      go (Err OfWrite) h = cc h
+
+  pub if_read : r ≡ Err Read → end ≡ Err OfRead
+  if_read e = go end (sym is ∙ e)
+    where
+      go : (x : Result (Unit {0}) Fault) → end_of x ≡ Err Read → x ≡ Err OfRead
+      go (Ok x) h = cc h
+      go (Err (OfInput other)) h = cc h
+      go (Err OfMemory) h = cc h
+      go (Err OfRead) h = refl
       go (Err OfWrite) h = cc h
 
   pub no_stray : (frame : List ℕ) → r ≡ Err (Stray frame) → ⊥

@@ -2,6 +2,7 @@ pub mod Ends
 pub mod Statuses
 pub mod Jobs
 pub mod Writing
+pub mod LinesWriting
 pub mod DecodeWriting
 pub mod Telling
 pub mod CommandLemmas

@@ -19,7 +19,8 @@ use Rattle.tnc_decode.specs.Audio.{audio_fault, fault_in_verdict, form_fault, sa
 use Rattle.tnc_decode.specs.Decoded.{IsDecoded}
 use Rattle.tnc_decode.specs.Printing.{print}
 use Rattle.tnc_encode.specs.Frames.{form_fault as frames_fault, frames_of}
-use Rattle.tnc_encode.specs.Encoded.{encode_fault, encoded, first_of, length_fault, most_samples, samples_sent, signal_of, transmissions, written_as}
+use Rattle.tnc_encode.specs.Encoded.{encode_fault, encoded, fault_of_whole, first_of, keeps_frames, length_fault, most_samples, samples_sent, signal_of, transmissions, written_as}
+use Rattle.tnc_encode.proofs.EndedLemmas.{fault_kept}
 use Rattle.tnc_main.proofs.PcmRoundTrip.{IsSample, samples-pcm, samples-wav, signal_fits, wav_whole}
 use Rattle.tnc_main.proofs.SentFrames.{AreOctets, frames_of-fit, frames_sent, transmissions_good}
 use Rattle.tnc_main.proofs.TextLemmas.{merged_text}
@@ -43,10 +44,11 @@ few_samples Wav count none wav = by_count (nat_lt most_samples count) refl none
     by_count false is e = ltb-false most_samples count is
 
 wav_fits : (words : EncodeWords) (octets : List ℕ) → encode_fault words octets ≡ None → words.audio ≡ Wav → length (samples_sent words octets) ≤ most_samples
-unfolding encode_fault
+unfolding fault_of_whole
 wav_fits words octets none wav =
     let count : ℕ = length (samples_sent words octets) in
-    few_samples words.audio count (last_is_none (nat_lt input_limit (length octets)) (frames_fault words.frames octets) (length_fault words.audio count) none) wav
+    let kept : keeps_frames words.audio words.join ≡ true = ap (λ form. keeps_frames form words.join) wav in
+    few_samples words.audio count (last_is_none (nat_lt input_limit (length octets)) (frames_fault words.frames octets) (length_fault words.audio count) (sym (fault_kept words kept octets) ∙ none)) wav
 
 -- ---- samples
 

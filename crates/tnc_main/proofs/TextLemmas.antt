@@ -9,13 +9,13 @@ use Rattle.tnc_words.specs.declared.command.Command.{Command}
 use Rattle.tnc_words.specs.declared.command.Command.TheVariants.{Decode, Encode, Show, Loop, Serve}
 use Rattle.tnc_words.specs.declared.command.DecodeWords.{DecodeWords}
 use Rattle.tnc_forms.specs.declared.fault.InputFault.TheVariants.{TooLong}
-use Rattle.tnc_forms.specs.Faults.{hex_fault}
 use Rattle.tnc_forms.specs.Reading.{input_limit}
 use Rattle.tnc_decode.specs.Audio.{samples_of}
 use Rattle.tnc_decode.specs.Decoded.{IsDecoded}
 use Rattle.tnc_decode.specs.Printing.{print}
-use Rattle.tnc_encode.specs.Encoded.{encode_fault, first_of, length_fault, samples_sent}
+use Rattle.tnc_encode.specs.Encoded.{fault_of_whole, first_of, length_fault, samples_sent}
 use Rattle.tnc_encode.specs.Frames.{form_fault as frames_fault}
+use Rattle.tnc_encode.proofs.EndedLemmas.{fault_kept}
 use Rattle.tnc_main.specs.Clean.{IsNearlyClean}
 use Rattle.tnc_main.specs.Commands.{Reads, fault_of}
 use Rattle.tnc_main.specs.Parts.{WritesAtEnd}
@@ -23,13 +23,13 @@ use Rattle.tnc_main.specs.Parts.{WritesAtEnd}
 -- an input with too many octets is refused for that by a command that reads all of it first
 pub long_fault : (command : Command) (left : Option (List ℕ)) (octets : List ℕ) → WritesAtEnd command → Reads command left octets
     → input_limit < length octets → fault_of command octets ≡ Some TooLong
-unfolding encode_fault
+unfolding fault_of_whole
 long_fault (Decode words) left octets last read long = absurd last
 long_fault (Encode words) left octets last read long =
-    ap (λ b. if b then Some TooLong else first_of (frames_fault words.frames octets) (length_fault words.audio (length (samples_sent words octets))))
+    fault_kept words last octets
+    ∙ ap (λ b. if b then Some TooLong else first_of (frames_fault words.frames octets) (length_fault words.audio (length (samples_sent words octets))))
     (lt-ltb input_limit (length octets) long)
-long_fault (Show words) left octets last read long =
-    ap (λ b. if b then Some TooLong else hex_fault 0 octets) (lt-ltb input_limit (length octets) long)
+long_fault (Show words) left octets last read long = absurd last
 long_fault (Loop words) left octets last read long = let none : length octets ≡ 0 = ap length read in absurd (omega arith)
 long_fault (Serve options) left octets last read long = absurd last
 

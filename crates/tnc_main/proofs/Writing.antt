@@ -2,6 +2,7 @@
 use Rattle.std.proofs.Common.{◌≡◌, ℕ, ◌<◌, ◌≤◌, List, [], ◌++◌, length, Option, Some, Result, Ok, Err, inl, inr, append-nil, refl, sym, subst, ap, ◌∙◌, arith}
 use Rattle.std.specs.Prelude.{OnOk}
 use Rattle.std.proofs.lemmas.Bool.{cases_lt}
+use Rattle.std.proofs.lemmas.List.{append_cancel_left}
 use Rattle.tnc_base.specs.Streams.{WrotePart}
 use Rattle.slicer_bank.proofs.SomeList.{some_list}
 use Rattle.clean_signal.specs.TrueEnds.{true_ends}
@@ -11,6 +12,7 @@ use Rattle.tnc_words.specs.declared.command.LoopWords.{LoopWords}
 use Rattle.tnc_forms.specs.declared.fault.Fault.{Fault}
 use Rattle.tnc_forms.specs.declared.fault.Fault.TheVariants.{Input as OfInput, Memory as OfMemory, Read as OfRead, Write as OfWrite}
 use Rattle.tnc_forms.specs.declared.fault.InputFault.{InputFault}
+use Rattle.tnc_forms.specs.HexFrames.{frames_of as frames_of_lines}
 use Rattle.tnc_forms.specs.Reading.{input_limit}
 use Rattle.tnc_forms.proofs.WrittenParts.{wrote_all}
 use Rattle.tnc_encode.specs.Encoded.{encoded, encoded_before}
@@ -24,7 +26,7 @@ use Rattle.tnc_main.specs.declared.status.Status.TheVariants.{BadInput, Memory a
 use Rattle.tnc_main.specs.declared.stop.Stop.{Stop}
 use Rattle.tnc_main.specs.declared.stop.Stop.TheVariants.{Input, Stray, Memory, Read, Write}
 use Rattle.tnc_main.specs.Commands.{Makes, MakesUpToFault, Strays, fault_of}
-use Rattle.tnc_main.specs.Parts.{Begins, HasAtMemory, HasAtWriteFault, IsRefused, MakesAtReadFault, MakesOfTooMany, MakesPart, WritesAtEnd}
+use Rattle.tnc_main.specs.Parts.{Begins, HasAtMemory, HasAtWriteFault, IsRefused, MakesAtReadFault, MakesFirst, MakesPart, WritesAtEnd}
 use Rattle.tnc_main.specs.Runs.{Writes}
 use Rattle.tnc_main.specs.Stops.{EndsAs, end_of, end_of_loop, status_of}
 
@@ -38,16 +40,31 @@ some_summary words =
 pub begins_all : (text : List ℕ) → Begins text text
 begins_all text = ([], sym (append-nil text))
 
+-- what a command makes is what it makes of all frames
+pub makes_first : (command : Command) (octets text : List ℕ) → Makes command octets text → MakesFirst command octets text
+makes_first (Decode words) octets text h = h
+makes_first (Encode words) octets text h = h
+makes_first (Show words) octets text h = (frames_of_lines 0 octets, [], sym (append-nil (frames_of_lines 0 octets)), h)
+makes_first (Loop words) octets text h = h
+makes_first (Serve options) octets text h = absurd h
+
+-- a first part of that which was written is what was written
+pub part_made : (command : Command) (octets whole before text : List ℕ) (now : Option (List ℕ)) → MakesFirst command octets whole → WrotePart before whole now
+    → now ≡ Some (before ++ text) → MakesPart command octets text
+part_made command octets whole before text now makes part is =
+    let both : Some (before ++ part.0) ≡ Some (before ++ text) = sym part.3 ∙ is in
+    let same : before ++ part.0 ≡ before ++ text = cc both in
+    inr (whole, makes, (part.1, part.2 ∙ ap (λ p. p ++ part.1) (append_cancel_left before part.0 text same)))
+
 -- what is written before a fault is a first part of what would be written without it
-up_to_fault : (command : Command) (octets text : List ℕ) → MakesUpToFault command octets text
-    → (whole : List ℕ) × Makes command octets whole × Begins text whole
-up_to_fault (Decode words) octets text h = (text, h, begins_all text)
+up_to_fault : (command : Command) (octets text : List ℕ) → MakesUpToFault command octets text → MakesPart command octets text
+up_to_fault (Decode words) octets text h = inr (text, h, begins_all text)
 up_to_fault (Encode words) octets text h =
     let sent = encoded_before words octets in
     let part = part_before words octets [] (Some sent) (wrote_all [] sent (Some sent) refl) in
     let same : sent ≡ part.0 = cc part.3 in
-    (encoded words octets, refl, (part.1, part.2 ∙ ap (λ p. p ++ part.1) (sym (h ∙ same))))
-up_to_fault (Show words) octets text h = (text, h, begins_all text)
+    inr (encoded words octets, refl, (part.1, part.2 ∙ ap (λ p. p ++ part.1) (sym (h ∙ same))))
+up_to_fault (Show words) octets text h = inr (text, makes_first (Show words) octets text h, begins_all text)
 up_to_fault (Loop words) octets text h = absurd h
 up_to_fault (Serve options) octets text h = absurd h
 
@@ -56,29 +73,29 @@ up_to_fault (Serve options) octets text h = absurd h
 module _ (octets : List ℕ) (left : Option (List ℕ)) (text : List ℕ) where
   refused_memory : (command : Command) → IsRefused command octets left text → HasAtMemory command octets left text
   refused_memory (Decode words) h = inr h
-  refused_memory (Encode words) h = tt
-  refused_memory (Show words) h = tt
+  refused_memory (Encode words) h = inr (inr h)
+  refused_memory (Show words) h = inr h
   refused_memory (Loop words) h = tt
   refused_memory (Serve options) (fault, is, before) = cc is
 
   refused_write : (command : Command) → IsRefused command octets left text → HasAtWriteFault command octets left text
   refused_write (Decode words) h = inr h
-  refused_write (Encode words) h = tt
-  refused_write (Show words) h = tt
+  refused_write (Encode words) h = inr (inr h)
+  refused_write (Show words) h = inr h
   refused_write (Loop words) h = tt
   refused_write (Serve options) (fault, is, before) = cc is
 
   stray_memory : (command : Command) (frame : List ℕ) → Strays command frame → HasAtMemory command octets left text
   stray_memory (Decode words) frame h = absurd h
-  stray_memory (Encode words) frame h = tt
-  stray_memory (Show words) frame h = tt
+  stray_memory (Encode words) frame h = absurd h
+  stray_memory (Show words) frame h = absurd h
   stray_memory (Loop words) frame h = tt
   stray_memory (Serve options) frame h = absurd h
 
   stray_write : (command : Command) (frame : List ℕ) → Strays command frame → HasAtWriteFault command octets left text
   stray_write (Decode words) frame h = absurd h
-  stray_write (Encode words) frame h = tt
-  stray_write (Show words) frame h = tt
+  stray_write (Encode words) frame h = absurd h
+  stray_write (Show words) frame h = absurd h
   stray_write (Loop words) frame h = tt
   stray_write (Serve options) frame h = absurd h
 
@@ -95,9 +112,9 @@ module _ (command : Command) (octets : List ℕ) (left : Option (List ℕ)) (tex
   told_writes (Err (Input fault)) status (inr (told, inr is)) bad strays h =
       subst (λ s. Writes command octets left s text) (sym is) (h.part, refused_write octets left text command (fault, bad fault refl, h))
   told_writes (Err (Stray frame)) status (inr (told, inl is)) bad strays h =
-      subst (λ s. Writes command octets left s text) (sym is) (inr (text, h, begins_all text), stray_memory octets left text command frame (strays frame refl))
+      subst (λ s. Writes command octets left s text) (sym is) (inr (text, makes_first command octets text h, begins_all text), stray_memory octets left text command frame (strays frame refl))
   told_writes (Err (Stray frame)) status (inr (told, inr is)) bad strays h =
-      subst (λ s. Writes command octets left s text) (sym is) (inr (text, h, begins_all text), stray_write octets left text command frame (strays frame refl))
+      subst (λ s. Writes command octets left s text) (sym is) (inr (text, makes_first command octets text h, begins_all text), stray_write octets left text command frame (strays frame refl))
   told_writes (Err Memory) status (inr (told, which)) bad strays h = absurd told
   told_writes (Err Read) status (inr (told, which)) bad strays h = absurd told
   told_writes (Err Write) status (inr (told, which)) bad strays h = absurd told
@@ -126,7 +143,7 @@ module _ (command : Command) (octets before : List ℕ) (left now : Option (List
     | inl over ↦ long fault over refl
     | inr few ↦
         let h = told fault few refl in
-        (h.0, record { part = inr (up_to_fault command octets h.0 h.1); too_many = λ over. absurd (omega arith); up_to_fault = λ fits. h.1 }, h.2)
+        (h.0, record { part = up_to_fault command octets h.0 h.1; too_many = λ over. absurd (omega arith); up_to_fault = λ fits. h.1 }, h.2)
   ]
 
   -- of a loop
@@ -146,31 +163,24 @@ module _ (command : Command) (octets before : List ℕ) (left now : Option (List
 module _ (octets : List ℕ) (left : Option (List ℕ)) (text : List ℕ) where
   has_memory : (command : Command) → WritesAtEnd command → HasAtMemory command octets left text
   has_memory (Decode words) last = absurd last
-  has_memory (Encode words) last = tt
-  has_memory (Show words) last = tt
+  has_memory (Encode words) last = inr (inl last)
+  has_memory (Show words) last = absurd last
   has_memory (Loop words) last = tt
   has_memory (Serve options) last = absurd last
 
   has_write : (command : Command) → WritesAtEnd command → HasAtWriteFault command octets left text
   has_write (Decode words) last = absurd last
-  has_write (Encode words) last = tt
-  has_write (Show words) last = tt
+  has_write (Encode words) last = inr (inl last)
+  has_write (Show words) last = absurd last
   has_write (Loop words) last = tt
   has_write (Serve options) last = absurd last
 
 none_at_read : (octets : List ℕ) (left : Option (List ℕ)) (command : Command) → WritesAtEnd command → MakesAtReadFault command octets left []
 none_at_read octets left (Decode words) last = absurd last
-none_at_read octets left (Encode words) last = refl
-none_at_read octets left (Show words) last = refl
+none_at_read octets left (Encode words) last = inr (last, refl)
+none_at_read octets left (Show words) last = absurd last
 none_at_read octets left (Loop words) last = refl
 none_at_read octets left (Serve options) last = absurd last
-
-none_of_many : (octets : List ℕ) (left : Option (List ℕ)) (command : Command) → WritesAtEnd command → MakesOfTooMany command octets left []
-none_of_many octets left (Decode words) last = absurd last
-none_of_many octets left (Encode words) last = refl
-none_of_many octets left (Show words) last = refl
-none_of_many octets left (Loop words) last = refl
-none_of_many octets left (Serve options) last = absurd last
 
 module _ (command : Command) (last : WritesAtEnd command) (octets before : List ℕ) (left now : Option (List ℕ)) where
   abbrev pub WrittenPart : Type 0
@@ -180,7 +190,7 @@ module _ (command : Command) (last : WritesAtEnd command) (octets before : List 
   nothing_written is = ([], inl refl, is ∙ ap Some (sym (append-nil before)))
 
   pub part_written : (text : List ℕ) → Makes command octets text → WrotePart before text now → WrittenPart
-  part_written text makes part = (part.0, inr (text, makes, (part.1, part.2)), part.3)
+  part_written text makes part = (part.0, inr (text, makes_first command octets text makes, (part.1, part.2)), part.3)
 
   pub at_memory : WrittenPart → Written command octets before left now NoMemory
   at_memory h = (h.0, (h.1, has_memory octets left h.0 command last), h.2)
@@ -190,10 +200,3 @@ module _ (command : Command) (last : WritesAtEnd command) (octets before : List 
 
   pub at_read : now ≡ Some before → Written command octets before left now ReadFault
   at_read is = ([], (inl refl, none_at_read octets left command last), is ∙ ap Some (sym (append-nil before)))
-
-  pub of_many : input_limit < length octets → now ≡ Some before → Written command octets before left now BadInput
-  of_many over is = (
-    [],
-    record { part = inl refl; too_many = λ many. none_of_many octets left command last; up_to_fault = λ few. absurd (omega arith) },
-    is ∙ ap Some (sym (append-nil before)),
-  )

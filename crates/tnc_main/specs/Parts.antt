@@ -1,23 +1,28 @@
--- What of its text a command writes when it does not end well. Decode writes while it reads, and each other command when
--- its input has ended.
-use Rattle.std.specs.Prelude.{◌≡◌, ℕ, ⊤, ◌≤◌, ◌<◌, ◌-◌, ◌⊎◌, List, [], ◌++◌, length, Option, Some}
+-- What of its text a command writes when it does not end well. Decode, show, and encode that keeps no frames write while they
+-- read, and each other command when its input has ended.
+use Rattle.std.specs.Prelude.{◌≡◌, ℕ, ⊤, ◌≤◌, ◌<◌, ◌-◌, ◌⊎◌, true, false, List, [], ◌++◌, length, take, Option, Some, None}
 use Rattle.tnc_forms.specs.declared.fault.InputFault.{InputFault}
 use Rattle.tnc_forms.specs.declared.fault.InputFault.TheVariants.{TooLong}
-use Rattle.tnc_forms.specs.Reading.{input_limit}
+use Rattle.tnc_forms.specs.HexFrames.{frames_of as frames_of_lines}
+use Rattle.tnc_forms.specs.Reading.{input_limit, piece_limit}
+use Rattle.tnc_forms.specs.Taken.{WereRead}
 use Rattle.tnc_words.specs.declared.command.Command.{Command}
 use Rattle.tnc_words.specs.declared.command.Command.TheVariants.{Decode, Encode, Show, Loop, Serve}
 use Rattle.tnc_words.specs.declared.command.DecodeWords.{DecodeWords}
 use Rattle.tnc_decode.specs.Audio.{audio_fault}
 use Rattle.tnc_decode.specs.Decoded.{IsDecoded}
 use Rattle.tnc_decode.specs.Settled.{IsPrintBelow, IsSettled, sample_count}
-use Rattle.tnc_decode.specs.Taken.{WereRead}
-use Rattle.tnc_main.specs.Commands.{Makes, MakesUpToFault, fault_of}
+use Rattle.tnc_encode.specs.Encoded.{encoded, encoded_so_far, keeps_frames}
+use Rattle.tnc_encode.specs.Frames.{form_fault_so_far}
+use Rattle.tnc_loop.specs.Summary.{IsSummary}
+use Rattle.tnc_show.specs.Shown.{IsShownOfMany, IsShownSoFar, IsTextOf}
+use Rattle.tnc_main.specs.Commands.{MakesUpToFault, fault_of}
 
 -- a command writes nothing before its input has ended
 abbrev pub WritesAtEnd : Command → Type 0
 WritesAtEnd (Decode words) = ⊥
-WritesAtEnd (Encode words) = ⊤
-WritesAtEnd (Show words) = ⊤
+WritesAtEnd (Encode words) = keeps_frames words.audio words.join ≡ true
+WritesAtEnd (Show words) = ⊥
 WritesAtEnd (Loop words) = ⊤
 WritesAtEnd (Serve options) = ⊥
 
@@ -25,20 +30,57 @@ WritesAtEnd (Serve options) = ⊥
 abbrev pub Begins : List ℕ → List ℕ → Type 0
 Begins part text = (rest : List ℕ) × (text ≡ part ++ rest)
 
+-- the text is what a command makes of octets, or what show makes of their first frames
+abbrev pub MakesFirst : Command → List ℕ → List ℕ → Type 0
+MakesFirst (Decode words) octets text = IsDecoded words octets text
+MakesFirst (Encode words) octets text = text ≡ encoded words octets
+MakesFirst (Show words) octets text = (frames others : List (List ℕ)) × (frames_of_lines 0 octets ≡ frames ++ others) × IsTextOf words.modulus frames text
+MakesFirst (Loop words) octets text = IsSummary words text
+MakesFirst (Serve options) octets text = ⊥
+
 -- nothing, or a first part of what a command makes of octets
 abbrev pub MakesPart : Command → List ℕ → List ℕ → Type 0
-MakesPart command octets part = (part ≡ []) ⊎ ((text : List ℕ) × Makes command octets text × Begins part text)
+MakesPart command octets part = (part ≡ []) ⊎ ((text : List ℕ) × MakesFirst command octets text × Begins part text)
 
--- ---- decode, by the octets that it took from its input
+-- ---- a command that writes while it reads, by the octets that it took from its input
 
--- the text is the print of the frames that the octets read settle
-pub record SettledByRead (words : DecodeWords) (octets : List ℕ) (left : Option (List ℕ)) (text : List ℕ) : Type 0 where
+-- The text is what octets settle, whatever follows: of decode the frames that end in them, of encode the signal of the frames
+-- whose lines or KISS items have ended, of show the lines of these frames. No line of encode or show is bad.
+abbrev pub Settles : Command → List ℕ → List ℕ → Type 0
+Settles (Decode words) octets text = IsSettled words octets text
+Settles (Encode words) octets text = (form_fault_so_far words.frames octets ≡ None) × (text ≡ encoded_so_far words octets)
+Settles (Show words) octets text = IsShownSoFar words octets text
+Settles (Loop words) octets text = ⊥
+Settles (Serve options) octets text = ⊥
+
+-- the text is what the octets read settle
+pub record SettledByRead (command : Command) (octets : List ℕ) (left : Option (List ℕ)) (text : List ℕ) : Type 0 where
   pub read : List ℕ
   pub taken : WereRead octets left read
-  pub settled : IsSettled words read text
+  pub settled : Settles command read text
 
--- The text is the print of the frames that a first part of the octets read settles. It is a first part of what the octets
--- read are decoded to.
+-- The text is what a first part of the octets read settles, which lacks at most the last 4096 of them.
+pub record SettledByMost (command : Command) (octets : List ℕ) (left : Option (List ℕ)) (text : List ℕ) : Type 0 where
+  pub read : List ℕ
+  pub front : List ℕ
+  pub rest : List ℕ
+  pub taken : WereRead octets left read
+  pub parts : read ≡ front ++ rest
+  pub few : length rest ≤ piece_limit
+  pub settled : Settles command front text
+
+-- The text begins with what a first part of the octets read settles, which lacks at most the last 4096 of them. It is a first
+-- part of what the octets read make.
+pub record MostOfLines (command : Command) (octets : List ℕ) (left : Option (List ℕ)) (text : List ℕ) : Type 0 where
+  pub early : List ℕ
+  pub most : SettledByMost command octets left early
+  pub has_early : Begins early text
+  pub whole : List ℕ
+  pub made : MakesFirst command most.read whole
+  pub part : Begins text whole
+
+-- The text of decode is the print of the frames that a first part of the octets read settles. It is a first part of what the
+-- octets read are decoded to.
 pub record SettledByPart (words : DecodeWords) (octets : List ℕ) (left : Option (List ℕ)) (text : List ℕ) : Type 0 where
   pub read : List ℕ
   pub front : List ℕ
@@ -49,8 +91,8 @@ pub record SettledByPart (words : DecodeWords) (octets : List ℕ) (left : Optio
   pub decoded : IsDecoded words read whole
   pub part : Begins text whole
 
--- The text is a first part of what the octets read are decoded to. Each frame that ends more than 2048 samples before the
--- end of their samples is whole in it.
+-- The text of decode is a first part of what the octets read are decoded to. Each frame that ends more than 2048 samples before
+-- the end of their samples is whole in it.
 pub record MostOfRead (words : DecodeWords) (octets : List ℕ) (left : Option (List ℕ)) (text : List ℕ) : Type 0 where
   pub read : List ℕ
   pub early : List ℕ
@@ -63,11 +105,12 @@ pub record MostOfRead (words : DecodeWords) (octets : List ℕ) (left : Option (
 
 -- ---- each command
 
--- The text is what a command writes of too many octets. A WAV file can be refused for its head before it is too long.
+-- The text is what a command writes of too many octets: of lines, what the first 2^40 octets settle. A WAV file can be refused
+-- for its head before it is too long.
 abbrev pub MakesOfTooMany : Command → List ℕ → Option (List ℕ) → List ℕ → Type 0
-MakesOfTooMany (Decode words) octets left text = audio_fault words.audio octets ≡ Some TooLong → SettledByRead words octets left text
-MakesOfTooMany (Encode words) octets left text = text ≡ []
-MakesOfTooMany (Show words) octets left text = text ≡ []
+MakesOfTooMany (Decode words) octets left text = audio_fault words.audio octets ≡ Some TooLong → SettledByRead (Decode words) octets left text
+MakesOfTooMany (Encode words) octets left text = text ≡ encoded_so_far words (take input_limit octets)
+MakesOfTooMany (Show words) octets left text = IsShownOfMany words octets text
 MakesOfTooMany (Loop words) octets left text = text ≡ []
 MakesOfTooMany (Serve options) octets left text = ⊥
 
@@ -83,24 +126,26 @@ IsRefused command octets left text = (fault : InputFault) × (fault_of command o
 
 -- the text is what a command has written when its input fails
 abbrev pub MakesAtReadFault : Command → List ℕ → Option (List ℕ) → List ℕ → Type 0
-MakesAtReadFault (Decode words) octets left text = SettledByRead words octets left text
-MakesAtReadFault (Encode words) octets left text = text ≡ []
-MakesAtReadFault (Show words) octets left text = text ≡ []
+MakesAtReadFault (Decode words) octets left text = SettledByRead (Decode words) octets left text
+MakesAtReadFault (Encode words) octets left text = SettledByRead (Encode words) octets left text ⊎ (WritesAtEnd (Encode words) × (text ≡ []))
+MakesAtReadFault (Show words) octets left text = SettledByRead (Show words) octets left text
 MakesAtReadFault (Loop words) octets left text = text ≡ []
 MakesAtReadFault (Serve options) octets left text = ⊥
 
 -- How much a first part has at least when memory runs out. It can also run out when a refusal is to be told.
 abbrev pub HasAtMemory : Command → List ℕ → Option (List ℕ) → List ℕ → Type 0
 HasAtMemory (Decode words) octets left text = SettledByPart words octets left text ⊎ IsRefused (Decode words) octets left text
-HasAtMemory (Encode words) octets left text = ⊤
-HasAtMemory (Show words) octets left text = ⊤
+HasAtMemory (Encode words) octets left text =
+    SettledByMost (Encode words) octets left text ⊎ (WritesAtEnd (Encode words) ⊎ IsRefused (Encode words) octets left text)
+HasAtMemory (Show words) octets left text = SettledByMost (Show words) octets left text ⊎ IsRefused (Show words) octets left text
 HasAtMemory (Loop words) octets left text = ⊤
 HasAtMemory (Serve options) octets left text = ⊥
 
 -- How much a first part has at least when the output fails. The report can also fail when a refusal is to be told.
 abbrev pub HasAtWriteFault : Command → List ℕ → Option (List ℕ) → List ℕ → Type 0
 HasAtWriteFault (Decode words) octets left text = MostOfRead words octets left text ⊎ IsRefused (Decode words) octets left text
-HasAtWriteFault (Encode words) octets left text = ⊤
-HasAtWriteFault (Show words) octets left text = ⊤
+HasAtWriteFault (Encode words) octets left text =
+    MostOfLines (Encode words) octets left text ⊎ (WritesAtEnd (Encode words) ⊎ IsRefused (Encode words) octets left text)
+HasAtWriteFault (Show words) octets left text = MostOfLines (Show words) octets left text ⊎ IsRefused (Show words) octets left text
 HasAtWriteFault (Loop words) octets left text = ⊤
 HasAtWriteFault (Serve options) octets left text = ⊥

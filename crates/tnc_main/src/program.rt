@@ -46,7 +46,7 @@ use tnc_words::{Command, WordsFault, read_words};
 /// | 1 | The words ask for nothing. Nothing was read or written. | Corrects the command line. |
 /// | 2 | The input breaks the rules of its form. The report names what is wrong, and where. | Corrects the input. |
 /// | 3 | Memory ran out. The output may be cut. | Runs it again with more memory. |
-/// | 4 | The input failed. `decode` has written the frames that had ended before. | Looks at where it comes from. |
+/// | 4 | The input failed. What had ended in what was read is written. | Looks at where it comes from. |
 /// | 5 | The output or the report failed, and may be cut. | Looks at where it goes to. |
 /// | 6 | A loop heard a frame that it did not send. The report names it. | Reports the seed: the receiver was fooled. |
 /// | 10 | A live station could not open its ports. | Ends what listens there, or names other ports. |

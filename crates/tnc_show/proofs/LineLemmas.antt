@@ -1,8 +1,9 @@
 -- Octets have one line, and frames one text.
-use Rattle.std.proofs.Common.{◌≡◌, ℕ, ◌+◌, ◌<◌, ◌≤◌, List, [], ◌∷◌, ◌++◌, length, get_or, take, refl, sym, ap, subst, inl, inr, ◌∙◌}
-use Rattle.std.proofs.lemmas.List.{flat_map_more, take_all}
-use Rattle.std.proofs.lemmas.List.Elements.{all_zip_more}
-use Rattle.std.specs.Prelude.{Option, Some, None, Ok, Err}
+use Rattle.std.proofs.Common.{◌≡◌, ℕ, List, [], ◌∷◌, ◌++◌, refl, sym, ap, inl, inr, ◌∙◌}
+use Rattle.std.proofs.lemmas.Grind.{flat_map-append}
+use Rattle.std.proofs.lemmas.List.{append-nil}
+use Rattle.std.proofs.lemmas.List.Concat.{flat_map-cons}
+use Rattle.std.specs.Prelude.{Ok, Err}
 use Rattle.std.specs.List.{AllZip, flat_map}
 use Rattle.ax25_frames.specs.declared.frame.Modulus.{Modulus}
 use Rattle.ax25_frames.specs.declared.frame.Frame.{Frame}
@@ -13,13 +14,8 @@ use Rattle.ax25_frames.specs.FrameFault.{FollowsPath, ShowsFrameFault}
 use Rattle.ax25_frames.specs.FrameText.{text_of_frame, text_of_frame_fault}
 use Rattle.ax25_frames.proofs.FrameLemmas.{Reading, IsOneFrame, IsOneFrame-address, IsOneFrame-kind, IsOneFrame-fault}
 use Rattle.ax25_frames.proofs.Outcomes.{IsOneKind-outcome}
-use Rattle.tnc_forms.specs.declared.fault.InputFault.{InputFault}
-use Rattle.tnc_forms.specs.declared.fault.InputFault.TheVariants.{TooLong, Line}
-use Rattle.tnc_forms.specs.declared.line_fault.LineFault.{LineFault}
-use Rattle.tnc_forms.specs.Faults.{fault_in_line, hex_fault}
-use Rattle.tnc_forms.specs.HexFrames.{frames_of, line_fault}
-use Rattle.tnc_words.specs.declared.command.ShowWords.{ShowWords}
-use Rattle.tnc_show.specs.Shown.{IsLineOf, IsShown, IsTextOf, ended}
+use Rattle.tnc_forms.proofs.StreamingLemmas.{IsJoined}
+use Rattle.tnc_show.specs.Shown.{IsLineOf, IsTextOf, ended}
 
 ok : Frame → Reading
 ok frame = Ok frame
@@ -79,33 +75,23 @@ same_lines modulus (octets ∷ frames) (line ∷ lines) (other ∷ others) h g =
 pub same_text : (modulus : Modulus) (frames : List (List ℕ)) (text other : List ℕ) → IsTextOf modulus frames text → IsTextOf modulus frames other → text ≡ other
 same_text modulus frames text other h g = h.is ∙ ap (flat_map ended) (same_lines modulus frames h.lines g.lines h.each g.each) ∙ sym g.is
 
--- no frame has no line
-pub text_none : (modulus : Modulus) (frames : List (List ℕ)) (text : List ℕ) → text ≡ [] → IsTextOf modulus (take 0 frames) text
-text_none modulus frames text none = record { lines = []; each = tt; is = none }
+-- the line of one frame
+pub text_of_one : (modulus : Modulus) (octets line : List ℕ) → IsLineOf modulus octets line → IsTextOf modulus (octets ∷ []) (ended line)
+text_of_one modulus octets line h = record { lines = line ∷ []; each = (h, tt); is = sym (append-nil (ended line)) ∙ sym (flat_map-cons ended line []) }
 
--- the lines so far, and that of the next frame
-pub text_more : (modulus : Modulus) (frames : List (List ℕ)) (i : ℕ) (octets line text more : List ℕ) → IsTextOf modulus (take i frames) text
-    → i < length frames → octets ≡ get_or frames i octets → IsLineOf modulus octets line → more ≡ text ++ ended line → IsTextOf modulus (take (i + 1) frames) more
-text_more modulus frames i octets line text more h below is shows added = record {
-  lines = h.lines ++ line ∷ [];
-  each = all_zip_more (IsLineOf modulus) frames h.lines i octets line below is h.each shows;
-  is = added ∙ ap (λ t. t ++ ended line) h.is ∙ flat_map_more ended [] h.lines line;
+zipped_both : {A B : Type 0} (R : A → B → Type 0) (xs others : List A) (ys more : List B) → AllZip R xs ys → AllZip R others more → AllZip R (xs ++ others) (ys ++ more)
+zipped_both R [] others [] more h g = g
+zipped_both R [] others (y ∷ ys) more h g = absurd h
+zipped_both R (x ∷ xs) others [] more h g = absurd h
+zipped_both R (x ∷ xs) others (y ∷ ys) more h g = (h.0, zipped_both R xs others ys more h.1 g)
+
+-- texts of frames make a text of all of them
+pub texts_join : (modulus : Modulus) → IsJoined (IsTextOf modulus)
+texts_join modulus = record {
+  none = record { lines = []; each = tt; is = refl };
+  more = λ frames others text next h g. record {
+    lines = h.lines ++ g.lines;
+    each = zipped_both (IsLineOf modulus) frames others h.lines g.lines h.each g.each;
+    is = ap (λ t. t ++ next) h.is ∙ ap (λ t. flat_map ended h.lines ++ t) g.is ∙ sym (flat_map-append ended h.lines g.lines);
+  };
 }
-
--- the lines of all frames
-pub text_all : (modulus : Modulus) (frames : List (List ℕ)) (i : ℕ) (text : List ℕ) → IsTextOf modulus (take i frames) text → length frames ≤ i → IsTextOf modulus frames text
-text_all modulus frames i text h past = subst (λ f. IsTextOf modulus f text) (take_all i frames past) h
-
--- the text that was made of what was read is the text of the input
-pub made_text : (words : ShowWords) (octets read : List ℕ) (frames : List (List ℕ)) (made text : List ℕ) → read ≡ octets → frames ≡ frames_of 0 read → IsTextOf words.modulus frames made
-    → IsShown words octets text → made ≡ text
-made_text words octets read frames made text whole are h g =
-    same_text words.modulus (frames_of 0 octets) made text (subst (λ f. IsTextOf words.modulus f made) (are ∙ ap (frames_of 0) whole) h) g
-
--- no fault of a line is that of length
-pub not_too_long : (octets : List ℕ) (found : Option InputFault) (fault : InputFault) → found ≡ hex_fault 0 octets → found ≡ Some fault → fault ≡ TooLong → ⊥
-not_too_long octets found fault what is long = go (line_fault 0 octets) (sym what ∙ is)
-  where
-    go : (found : Option LineFault) → fault_in_line found ≡ Some fault → ⊥
-    go None e = cc e
-    go (Some bad) e = let same : Some (Line bad) ≡ Some TooLong = e ∙ ap Some long in cc same

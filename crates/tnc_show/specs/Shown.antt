@@ -1,5 +1,5 @@
 -- What show makes of the octets of its input: a line of text for each frame.
-use Rattle.std.specs.Prelude.{◌≡◌, ℕ, ◌⊎◌, List, [], ◌∷◌, ◌++◌, Option}
+use Rattle.std.specs.Prelude.{◌≡◌, ℕ, ◌⊎◌, List, [], ◌∷◌, ◌++◌, take, Option, None}
 use Rattle.std.specs.List.{AllZip, flat_map}
 use Rattle.ax25_frames.specs.declared.frame.Modulus.{Modulus}
 use Rattle.ax25_frames.specs.declared.frame.Frame.{Frame}
@@ -8,8 +8,10 @@ use Rattle.ax25_frames.specs.FrameOctets.{IsFrame}
 use Rattle.ax25_frames.specs.FrameFault.{ShowsFrameFault}
 use Rattle.ax25_frames.specs.FrameText.{text_of_frame, text_of_frame_fault}
 use Rattle.tnc_forms.specs.declared.fault.InputFault.{InputFault}
-use Rattle.tnc_forms.specs.Faults.{fault_within, hex_fault}
+use Rattle.tnc_forms.specs.Faults.{hex_fault}
 use Rattle.tnc_forms.specs.HexFrames.{frames_of}
+use Rattle.tnc_forms.specs.LinesSoFar.{fault_as_read, fault_so_far, frames_so_far}
+use Rattle.tnc_forms.specs.Reading.{input_limit}
 use Rattle.tnc_words.specs.declared.command.ShowWords.{ShowWords}
 
 -- the line is the text of the frame that the octets are
@@ -40,6 +42,26 @@ pub record IsTextOf (modulus : Modulus) (frames : List (List ℕ)) (text : List 
 abbrev pub IsShown : ShowWords → List ℕ → List ℕ → Type 0
 IsShown words octets text = IsTextOf words.modulus (frames_of 0 octets) text
 
--- why an input is refused
+-- The text is what octets show before it is known whether more follow: the lines of the frames whose lines have ended. None
+-- of these is bad.
+pub record IsShownSoFar (words : ShowWords) (octets text : List ℕ) : Type 0 where
+  pub good : fault_so_far 0 octets ≡ None
+  pub is : IsTextOf words.modulus (frames_so_far 0 octets) text
+
+-- The text is what is shown of the first 2^40 octets of an input that has more.
+abbrev pub IsShownOfMany : ShowWords → List ℕ → List ℕ → Type 0
+IsShownOfMany words octets text = IsTextOf words.modulus (frames_so_far 0 (take input_limit octets)) text
+
+-- The text is a first part of the lines of the first frames of an input.
+pub record IsShownPart (words : ShowWords) (octets part : List ℕ) : Type 0 where
+  pub frames : List (List ℕ)
+  pub others : List (List ℕ)
+  pub parts : frames_of 0 octets ≡ frames ++ others
+  pub text : List ℕ
+  pub is : IsTextOf words.modulus frames text
+  pub rest : List ℕ
+  pub begins : text ≡ part ++ rest
+
+-- Why an input is refused: for its first bad line, or else because it is too long.
 abbrev pub show_fault : List ℕ → Option InputFault
-show_fault octets = fault_within octets (hex_fault 0 octets)
+show_fault octets = fault_as_read (fault_so_far 0 (take input_limit octets)) (hex_fault 0 octets) octets

@@ -7,8 +7,8 @@ use tnc_base::{MemSink, MemSource};
 use tnc_forms::{Fault, InputFault, LineFault, LineFlaw};
 use tnc_words::ShowWords;
 
-/// What is written of an input, and how the command ends, where the source fails the reads and the sink the writes of
-/// these numbers.
+/// What is written of an input that comes in pieces of 31 octets, and how the command ends, where the source fails the
+/// reads and the sink the writes of these numbers.
 fn shown(
     alloc: Global,
     modulus: Modulus,
@@ -16,7 +16,7 @@ fn shown(
     reads: &[u64],
     writes: &[u64],
 ) -> Result<(Vec<u8>, Result<(), Fault>), Fail> {
-    let mut source = MemSource::new(input.to_vec(alloc)?, 100, reads.to_vec(alloc)?);
+    let mut source = MemSource::new(input.to_vec(alloc)?, 31, reads.to_vec(alloc)?);
     let mut sink = MemSink::new(alloc, 4096, writes.to_vec(alloc)?)?;
     let end = show(alloc, ShowWords { modulus }, &mut source, &mut sink);
     Ok((sink.written().to_vec(alloc)?, end))
@@ -148,14 +148,96 @@ fn long_lines(rt: HostRuntime) -> Result<(), Fail> {
     Ok(())
 }
 
+/// Lines and their texts.
+const LINES: [(&str, &str); 5] = [
+    ("00\n", "! bad character at 0\n"),
+    (
+        "9c946ea04040e09c6e988a9a40613f\n",
+        "N7LEM>NJ7P SABM cmd f=1\n",
+    ),
+    ("\r\n", ""),
+    ("9c\r\n", "! short at 1\n"),
+    (
+        "9c946ea04040e09c6e988a9a406163\n",
+        "N7LEM>NJ7P UA rsp f=0\n",
+    ),
+];
+
+/// These lines, so many times, and the text of those that end in the first octets of them.
+fn many_lines(alloc: Global, times: usize, octets: usize) -> Result<(String, String), Fail> {
+    let mut input = String::new(alloc);
+    let mut text = String::new(alloc);
+    for _ in 0..times {
+        for (line, shown) in LINES {
+            input.push_str(line)?;
+            if input.len() <= octets {
+                text.push_str(shown)?;
+            }
+        }
+    }
+    Ok((input, text))
+}
+
+// The read after so many pieces fails: the lines that ended in these stand written.
 #[test]
-fn faults_of_streams(rt: HostRuntime) -> Result<(), Fail> {
+fn a_failed_read_keeps_the_lines_before_it(rt: HostRuntime) -> Result<(), Fail> {
     let alloc = rt.alloc();
-    let (written, ended) = shown(alloc, Modulus::Eight, b"00\n", &[], &[0])?;
-    assert_eq!(rt; written.as_slice(), b"".as_slice());
-    assert_eq!(rt; ended, Err(Fault::Write));
-    let (written, ended) = shown(alloc, Modulus::Eight, b"00\n", &[1], &[])?;
-    assert_eq!(rt; written.as_slice(), b"".as_slice());
-    assert_eq!(rt; ended, Err(Fault::Read));
+    for read in 0..=50 {
+        let octets = read * 31;
+        let (input, text) = many_lines(alloc, 30, octets)?;
+        let (written, ended) = shown(alloc, Modulus::Eight, input.as_bytes(), &[read as u64], &[])?;
+        assert_eq!(rt; written.as_slice(), text.as_bytes(), "at {read}");
+        assert_eq!(rt; ended, Err(Fault::Read), "at {read}");
+    }
+    Ok(())
+}
+
+// Each piece ends a line that is shown, so the write of this number is that of this piece: what the pieces before it
+// brought stands written.
+#[test]
+fn a_failed_write_keeps_the_lines_before_it(rt: HostRuntime) -> Result<(), Fail> {
+    let alloc = rt.alloc();
+    for write in 0..=50 {
+        let (input, text) = many_lines(alloc, 30, write * 31)?;
+        let (written, ended) = shown(
+            alloc,
+            Modulus::Eight,
+            input.as_bytes(),
+            &[],
+            &[write as u64],
+        )?;
+        assert_eq!(rt; written.as_slice(), text.as_bytes(), "at {write}");
+        assert_eq!(rt; ended, Err(Fault::Write), "at {write}");
+    }
+    Ok(())
+}
+
+// Nothing is written of what ends no line, and so nothing fails.
+#[test]
+fn no_line_no_write(rt: HostRuntime) -> Result<(), Fail> {
+    for input in ["", "\n\r\n\n"] {
+        let (written, ended) = shown(rt.alloc(), Modulus::Eight, input.as_bytes(), &[], &[0])?;
+        assert_eq!(rt; written.len(), 0);
+        assert_eq!(rt; ended, Ok(()));
+    }
+    Ok(())
+}
+
+// A bad line ends the reading: a later read is not made, and so does not fail.
+#[test]
+fn nothing_is_read_after_a_bad_line(rt: HostRuntime) -> Result<(), Fail> {
+    let alloc = rt.alloc();
+    let mut long = String::from_str(alloc, "00\n")?;
+    for _ in 0..4000 {
+        long.push('4')?;
+    }
+    // The 67th read brings the octet at 2052, which is the 2050th of the line.
+    let (written, ended) = shown(alloc, Modulus::Eight, long.as_bytes(), &[67], &[])?;
+    assert_eq!(rt; written.as_slice(), b"! bad character at 0\n".as_slice());
+    assert_eq!(rt; ended, bad(LineFlaw::LongLine, 3));
+    let input = "00\nzz\n00\n00\n00\n00\n00\n00\n00\n00\n00\n00\n";
+    let (written, ended) = shown(alloc, Modulus::Eight, input.as_bytes(), &[1], &[])?;
+    assert_eq!(rt; written.as_slice(), b"! bad character at 0\n".as_slice());
+    assert_eq!(rt; ended, bad(LineFlaw::BadDigit, 3));
     Ok(())
 }

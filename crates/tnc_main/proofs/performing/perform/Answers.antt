@@ -3,13 +3,14 @@ use Rattle.tnc_words.specs.declared.command.Command.TheVariants.{Decode, Encode,
 use Rattle.tnc_forms.specs.declared.fault.Fault.TheVariants.{Input as OfInput}
 use Rattle.tnc_forms.specs.declared.fault.InputFault.TheVariants.{TooLong}
 use Rattle.tnc_encode.specs.Encoded.{encoded, encoded_before}
+use Rattle.tnc_main.specs.declared.status.Status.TheVariants.{Memory as NoMemory, ReadFault, WriteFault}
 use Rattle.tnc_main.specs.Commands.{HeardAsMade}
 use Rattle.tnc_main.specs.Stops.{end_of, end_of_loop}
-use Rattle.tnc_main.proofs.Ends.{if_ok, if_input, loop_ok, loop_no_input, on_ok, both_ok, on_fault}
+use Rattle.tnc_main.proofs.Ends.{if_ok, if_input, if_read, loop_ok, loop_no_input, on_ok, both_ok, on_fault}
 use Rattle.tnc_forms.proofs.Ends.{map_ok}
 use Rattle.tnc_main.proofs.CommandLemmas.{reads, reads_back, same_fault, no_fault, last as last_of, written}
-use Rattle.tnc_main.proofs.TextLemmas.{long_fault}
-use Rattle.tnc_main.proofs.Writing.{some_summary, nothing_written, part_written, at_memory, at_read, at_write, of_many, reader_writes, loop_writes}
+use Rattle.tnc_main.proofs.LinesWriting.{by_keeping, encode_at_memory, encode_at_read, encode_at_write, encode_of_many, show_at_memory, show_at_read, show_at_write, show_of_many}
+use Rattle.tnc_main.proofs.Writing.{Written, some_summary, nothing_written, part_written, at_memory, at_read, at_write, reader_writes, loop_writes}
 use Rattle.tnc_main.proofs.DecodeWriting.{at_memory as memory_decoded, at_read as read_decoded, at_write as write_decoded, of_many as of_many_decoded}
 use Rattle.tnc_main.proofs.performing.perform.Goals as goal
 
@@ -94,15 +95,30 @@ returns-in-Encode-clause-written g c = λ octets before read was.
     (reader_writes command octets before left_now now c.encode.result
     (map_ok c.encode.result (λ h. (encoded c.in-Encode.words octets, refl, h)) (c.encode.ensures.encoded octets before left was))
     (λ fault few is. (encoded_before c.in-Encode.words octets, refl, c.encode.ensures.encoded_before octets before fault left was few is))
-    (λ fault over is.
-    let both : Some fault ≡ Some TooLong = sym (c.encode.ensures.bad octets fault left is) ∙ long_fault command _ octets tt left over in
-    let same : fault ≡ TooLong = cc both in
-    of_many command tt octets before left_now now over (ap g.O.Sink.written (c.encode.ensures.unwritten (inl (is ∙ ap (λ f. Err (OfInput f)) same))) ∙ was))
-    (λ memory. at_memory command tt octets before left_now now
-    (part_written command tt octets before left_now now (encoded c.in-Encode.words octets) refl (on_fault c.encode.result memory (c.encode.ensures.cut octets before left was))))
-    (λ is. at_read command tt octets before left_now now (ap g.O.Sink.written (c.encode.ensures.unwritten (inr is)) ∙ was))
-    (λ write. at_write command tt octets before left_now now
-    (part_written command tt octets before left_now now (encoded c.in-Encode.words octets) refl (on_fault c.encode.result write (c.encode.ensures.cut octets before left was)))))
+    (λ fault over is. encode_of_many c.in-Encode.words octets before left_now now (on_fault c.encode.result is (c.encode.ensures.cut octets before left was)) over
+    (c.encode.ensures.encoded_of_many octets before fault left was over is))
+    (λ memory. by_keeping c.in-Encode.words (Written command octets before left_now now NoMemory)
+    (λ kept. at_memory command kept octets before left_now now
+    (part_written command kept octets before left_now now (encoded c.in-Encode.words octets) refl (on_fault c.encode.result memory (c.encode.ensures.cut octets before left was))))
+    (λ sent. encode_at_memory c.in-Encode.words octets before left_now now (on_fault c.encode.result memory (c.encode.ensures.cut octets before left was))
+    (c.encode.ensures.part octets before left was sent memory)))
+    (λ is. by_keeping c.in-Encode.words (Written command octets before left_now now ReadFault)
+    (λ kept. at_read command kept octets before left_now now (ap g.O.Sink.written (c.encode.ensures.unwritten kept (inr is)) ∙ was))
+    (λ sent. encode_at_read c.in-Encode.words octets before left_now now (on_fault c.encode.result is (c.encode.ensures.cut octets before left was))
+    (c.encode.ensures.so_far octets before left was sent is)))
+    (λ write. by_keeping c.in-Encode.words (Written command octets before left_now now WriteFault)
+    (λ kept. at_write command kept octets before left_now now
+    (part_written command kept octets before left_now now (encoded c.in-Encode.words octets) refl (on_fault c.encode.result write (c.encode.ensures.cut octets before left was))))
+    (λ sent. encode_at_write c.in-Encode.words octets before left_now now (on_fault c.encode.result write (c.encode.ensures.cut octets before left was))
+    (c.encode.ensures.most octets before left was sent write))))
+
+pub returns-in-Encode-clause-unwritten : goal.returns-in-Encode-clause-unwritten
+returns-in-Encode-clause-unwritten g c = λ last which.
+    c.encode.ensures.unwritten (last_of c.args.command (Encode c.in-Encode.words) c.in-Encode.is last)
+    (elim which [
+      | inl is ↦ inl (if_input c.ended-in-Encode.result c.encode.result c.ended-in-Encode.ensures TooLong is)
+      | inr is ↦ inr (if_read c.ended-in-Encode.result c.encode.result c.ended-in-Encode.ensures is)
+    ])
 
 -- ---- show
 
@@ -139,16 +155,17 @@ returns-in-Show-clause-written g c = λ octets before read was.
     (reader_writes command octets before left_now now c.show.result
     (c.show.ensures.shown octets before left was)
     (λ fault few. c.show.ensures.shown_before octets before fault left was few)
-    (λ fault over is.
-    let both : Some fault ≡ Some TooLong = sym (c.show.ensures.bad octets fault left is) ∙ long_fault command _ octets tt left over in
-    let same : fault ≡ TooLong = cc both in
-    of_many command tt octets before left_now now over (ap g.O.Sink.written (c.show.ensures.unwritten (inl (is ∙ ap (λ f. Err (OfInput f)) same))) ∙ was))
-    (λ memory. at_memory command tt octets before left_now now
-    (nothing_written command tt octets before left_now now (ap g.O.Sink.written (c.show.ensures.unwritten (inr (inl memory))) ∙ was)))
-    (λ is. at_read command tt octets before left_now now (ap g.O.Sink.written (c.show.ensures.unwritten (inr (inr is))) ∙ was))
-    (λ write.
-    let text = c.show.ensures.cut_text octets before left was write in
-    at_write command tt octets before left_now now (part_written command tt octets before left_now now text.0 text.1 text.2)))
+    (λ fault over is. show_of_many c.in-Show.words octets before left_now now (on_fault c.show.result is (c.show.ensures.cut octets before left was)) over
+    (c.show.ensures.shown_of_many octets before fault left was over is))
+    (λ memory. show_at_memory c.in-Show.words octets before left_now now (on_fault c.show.result memory (c.show.ensures.cut octets before left was))
+    (c.show.ensures.part octets before left was memory))
+    (λ is. show_at_read c.in-Show.words octets before left_now now (on_fault c.show.result is (c.show.ensures.cut octets before left was))
+    (c.show.ensures.so_far octets before left was is))
+    (λ write. show_at_write c.in-Show.words octets before left_now now (on_fault c.show.result write (c.show.ensures.cut octets before left was))
+    (c.show.ensures.most octets before left was write)))
+
+pub returns-in-Show-clause-unwritten : goal.returns-in-Show-clause-unwritten
+returns-in-Show-clause-unwritten g c = λ last. absurd (last_of c.args.command (Show c.in-Show.words) c.in-Show.is last)
 
 -- ---- loop
 

@@ -1,0 +1,98 @@
+-- What is known of frames in either form stays so, and their signals follow one another.
+use Rattle.std.proofs.Common.{◌≡◌, ℕ, ◌==◌, Bool, true, false, List, [], ◌∷◌, ◌++◌, Some, None, refl, sym, ap, ◌∙◌}
+use Rattle.std.specs.Prelude.{if◌then◌else◌}
+use Rattle.std.specs.List.{filter_map, flat_map}
+use Rattle.std.specs.Option.{option_to_list}
+use Rattle.std.proofs.lemmas.Grind.{flat_map-append}
+use Rattle.std.proofs.lemmas.List.Elements.{filter_map-append}
+use Rattle.kiss_port.specs.declared.item.KissItem.{KissItem}
+use Rattle.kiss_port.specs.Escapes.{fend, unescaped}
+use Rattle.kiss_port.specs.Items.{item_of, items_in}
+use Rattle.kiss_port.specs.Pieces.{onto_first, pieces}
+use Rattle.tnc_forms.specs.declared.fault.InputFault.{InputFault}
+use Rattle.tnc_forms.specs.Pcm.{pcm}
+use Rattle.tnc_forms.proofs.LinesForm.{lines_are_form}
+use Rattle.tnc_forms.proofs.StreamingLemmas.{IsForm, IsJoined}
+use Rattle.tnc_words.specs.declared.command.EncodeWords.{EncodeWords}
+use Rattle.tnc_words.specs.declared.command.FrameForm.{FrameForm}
+use Rattle.tnc_words.specs.declared.command.FrameForm.TheVariants.{Hex, Kiss}
+use Rattle.tnc_encode.specs.Encoded.{samples_at_once}
+use Rattle.tnc_encode.specs.Frames.{frame_of, kiss_frames}
+use Rattle.tnc_encode.specs.HeldFrames.{IsSignal, form_of}
+use Rattle.tnc_encode.proofs.FrameLemmas.{kiss_frames-none}
+use Rattle.tnc_encode.proofs.SendingLemmas.{own_octets, own_octets-all, own_octets-append, own_octets-none, own_octets-one}
+
+-- ---- KISS
+
+onto_first_of : (octet : ℕ) (cut more : List (List ℕ)) → (next : List (List ℕ)) × (onto_first octet (cut ++ more) ≡ onto_first octet cut ++ next)
+onto_first_of octet [] more = (onto_first octet more, refl)
+onto_first_of octet (piece ∷ others) more = (more, refl)
+
+-- the pieces of octets are the first
+first_pieces : (octets more : List ℕ) → (next : List (List ℕ)) × (pieces (octets ++ more) ≡ pieces octets ++ next)
+first_pieces [] more = (pieces more, refl)
+first_pieces (octet ∷ octets) more = by_end (octet == fend) (first_pieces octets more)
+  where
+    by_end : (b : Bool) → (next : List (List ℕ)) × (pieces (octets ++ more) ≡ pieces octets ++ next)
+        → (next : List (List ℕ)) × ((if b then [] ∷ pieces (octets ++ more) else onto_first octet (pieces (octets ++ more)))
+        ≡ (if b then [] ∷ pieces octets else onto_first octet (pieces octets)) ++ next)
+    by_end true (next, is) = (next, ap (λ cut. [] ∷ cut) is)
+    by_end false (next, is) =
+        let first = onto_first_of octet (pieces octets) next in
+        (first.0, ap (onto_first octet) is ∙ first.1)
+
+abbrev flat_of : List (List ℕ) → List KissItem
+flat_of cut = flat_map (λ piece. option_to_list (item_of (unescaped piece))) cut
+
+-- and so are their frames
+pub first_frames : (octets more : List ℕ) → (frames : List (List ℕ)) × (kiss_frames (octets ++ more) ≡ kiss_frames octets ++ frames)
+unfolding kiss_frames items_in
+first_frames octets more =
+    let next = first_pieces octets more in (
+      filter_map frame_of (flat_of next.0),
+      ap (λ cut. filter_map frame_of (flat_of cut)) next.1
+          ∙ ap (filter_map frame_of) (flat_map-append (λ piece. option_to_list (item_of (unescaped piece))) (pieces octets) next.0)
+          ∙ filter_map-append frame_of (flat_of (pieces octets)) (flat_of next.0),
+    )
+
+none_is_some : (fault : InputFault) → None ≡ Some fault → ⊥
+none_is_some fault e = cc e
+
+pub forms_stay : (form : FrameForm) → IsForm (form_of form)
+forms_stay Hex =
+    let lines = lines_are_form 15 in
+    record {
+      none = lines.none;
+      good = lines.good;
+      whole = lines.whole;
+      more = lines.more;
+      bad = lines.bad;
+      not_long = lines.not_long;
+      not_long_whole = lines.not_long_whole;
+    }
+forms_stay Kiss = record {
+  none = kiss_frames-none;
+  good = refl;
+  whole = λ octets more none. first_frames octets more;
+  more = λ octets more none. first_frames octets more;
+  bad = λ octets more fault is. absurd (none_is_some fault is);
+  not_long = λ octets fault is long. none_is_some fault is;
+  not_long_whole = λ octets fault is long. none_is_some fault is;
+}
+
+-- ---- signals
+
+module _ (words : EncodeWords) (apart : words.join ≡ false) where
+  pub signals_join : IsJoined (IsSignal words)
+  signals_join = record {
+    none = sym own_none ∙ own_octets-all words [] apart;
+    more = λ frames others text next h g.
+        ap (λ t. t ++ next) (h ∙ sym (own_octets-all words frames apart)) ∙ ap (λ t. own_octets words frames ++ t) (g ∙ sym (own_octets-all words others apart))
+        ∙ sym (own_octets-append words frames others) ∙ own_octets-all words (frames ++ others) apart;
+  }
+    where
+      own_none : own_octets words [] ≡ []
+      own_none = own_octets-none words
+
+  pub signal_one : (frame : List ℕ) → IsSignal words (frame ∷ []) (pcm (samples_at_once words (frame ∷ [])))
+  signal_one frame = sym (own_octets-one words frame) ∙ own_octets-all words (frame ∷ []) apart
