@@ -8,7 +8,6 @@ use tnc_base::{MemSink, MemSource};
 use tnc_ports::MemLive;
 
 mod audio;
-mod failing;
 mod lines;
 mod live;
 
