@@ -11,3 +11,4 @@ pub mod MergedLemmas
 pub mod LaneLemmas
 pub mod BankLemmas
 pub mod HearingLemmas
+pub mod SignalLemmas
