@@ -1,5 +1,5 @@
 -- A bank with one sample more, and what is heard with it.
-use Rattle.std.proofs.Common.{◌≡◌, ℕ, ◌+◌, ◌-◌, ◌*◌, ◌/◌, ◌%◌, ◌<◌, ◌≤◌, ℤ, List, [], ◌∷◌, ◌++◌, Option, None, Some, length, get_or, set, ap, sym, ◌∙◌, arith, subst, refl}
+use Rattle.std.proofs.Common.{◌≡◌, ℕ, ◌+◌, ◌-◌, ◌*◌, ◌/◌, ◌%◌, ◌<◌, ◌≤◌, ℤ, List, [], ◌∷◌, ◌++◌, Option, length, get_or, set, ap, sym, ◌∙◌, arith, subst}
 use Rattle.std.specs.Option.{option_to_list}
 use Rattle.std.proofs.lemmas.List.{length_push}
 use Rattle.tone_table.specs.declared.tone.Tone.{Tone}
@@ -8,7 +8,7 @@ use Rattle.frame_merge.specs.declared.candidate.Candidate.{Candidate}
 use Rattle.hf_modem.specs.Decision.{tone_of}
 use Rattle.hf_modem.specs.Windows.{EndsWindow, tones_at, bits}
 use Rattle.hf_modem.specs.Candidates.{AreCandidatesAfter}
-use Rattle.hf_modem.specs.Held.{HeldBank, HeldLane, LaneStandsFor, BankStandsFor, last_window}
+use Rattle.hf_modem.specs.Held.{HeldLane, LaneStandsFor, BankStandsFor, last_window}
 use Rattle.hf_modem.specs.Heard.{IsHeard}
 use Rattle.hf_modem.proofs.LastWindow.{tones_at-last}
 use Rattle.hf_modem.proofs.LaneLemmas.{lanes_none, lanes_more}

@@ -1,5 +1,5 @@
 -- A block, sample by sample, and what a decoder has taken with it and at the end.
-use Rattle.std.proofs.Common.{◌≡◌, ℕ, ◌+◌, ◌/◌, ◌^◌, ◌<◌, ◌≤◌, ℤ, get_or, List, [], ◌∷◌, ◌++◌, length, replicate, ap, sym, ◌∙◌, arith, subst, refl, append_assoc, length-append}
+use Rattle.std.proofs.Common.{◌≡◌, ℕ, ◌+◌, ◌/◌, ◌^◌, ◌<◌, ◌≤◌, ℤ, get_or, List, [], ◌∷◌, ◌++◌, length, replicate, ap, sym, ◌∙◌, arith, subst, append_assoc, length-append}
 use Rattle.std.specs.List.{All}
 use Rattle.std.proofs.lemmas.List.{append-nil, length-replicate, get_or-replicate}
 use Rattle.frame_merge.specs.declared.candidate.Candidate.{Candidate}

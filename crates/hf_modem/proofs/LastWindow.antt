@@ -1,5 +1,5 @@
 -- What one sample more changes: the window that ends with it, and the tones and bits of an offset.
-use Rattle.std.proofs.Common.{◌≡◌, ◌↔◌, ◌⊎◌, inl, inr, ℕ, ◌+◌, ◌-◌, ◌*◌, ◌/◌, ◌%◌, ◌<◌, ◌≤◌, ℤ, pos, List, [], ◌∷◌, ◌++◌, Bool, true, length, map, take, drop, set, nat_eq, refl, ap, sym, ◌∙◌, arith, length-append, length-drop, append_assoc}
+use Rattle.std.proofs.Common.{◌≡◌, ◌↔◌, ◌⊎◌, inl, inr, ℕ, ◌+◌, ◌-◌, ◌*◌, ◌/◌, ◌%◌, ◌<◌, ◌≤◌, ℤ, pos, List, [], ◌∷◌, ◌++◌, Bool, true, length, map, take, drop, set, nat_eq, ap, sym, ◌∙◌, arith, length-append, length-drop, append_assoc}
 use Rattle.std.specs.List.{copy_within}
 use Rattle.std.proofs.Math.Seq.{drop-append-add}
 use Rattle.std.proofs.lemmas.Bool.{cases_eq, eq-eqb, eqb-true}
@@ -10,7 +10,7 @@ use Rattle.std.specs.List.{range_with_len}
 use Rattle.tone_table.specs.declared.tone.Tone.{Tone}
 use Rattle.nrzi_bits.specs.Line.{bits_of}
 use Rattle.hf_modem.specs.Decision.{tone_of}
-use Rattle.hf_modem.specs.Windows.{windows_in, window_at, tones_at, bits, EndsWindow}
+use Rattle.hf_modem.specs.Windows.{windows_in, window_at, tones_at, bits}
 use Rattle.hf_modem.specs.Held.{silence, last_window}
 use Rattle.hf_modem.proofs.WindowLemmas.{length-tones_at, tones_at-append}
 

@@ -2,7 +2,7 @@
 use Rattle.std.specs.Prelude.{◌≡◌, ℕ, ◌-◌, ◌/◌, ◌^◌, ◌<◌, ℤ, List, length, Bool, false}
 use Rattle.frame_merge.specs.declared.candidate.Candidate.{Candidate}
 use Rattle.frame_merge.specs.Held.{Held as HeldMerger, StandsFor as MergerStandsFor}
-use Rattle.frame_merge.specs.Merged.{merged, below, not_below}
+use Rattle.frame_merge.specs.Merged.{merged, below}
 use Rattle.hf_modem.specs.Candidates.{AreCandidates}
 use Rattle.hf_modem.specs.Held.{HeldBank, BankStandsFor}
 

@@ -1,4 +1,4 @@
-use Rattle.std.proofs.Common.{◌≡◌, ◌+◌, ℤ, pos, List, [], ◌∷◌, ◌++◌, FitsSigned, get_or, length, take, ap, sym, ◌∙◌, arith, subst, refl, rules}
+use Rattle.std.proofs.Common.{◌+◌, ℤ, pos, List, [], ◌∷◌, ◌++◌, FitsSigned, get_or, length, take, ◌∙◌, arith, subst, refl, rules}
 use Rattle.std.specs.Option.{option_to_list}
 use Rattle.std.proofs.lemmas.Int.{to_z-of_z}
 use Rattle.std.proofs.lemmas.List.{take_more, take_all}

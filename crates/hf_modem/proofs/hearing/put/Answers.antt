@@ -1,4 +1,4 @@
-use Rattle.std.proofs.Common.{◌++◌, ap, sym, subst}
+use Rattle.std.proofs.Common.{◌++◌, sym, subst}
 use Rattle.std.specs.Option.{option_to_list}
 use Rattle.frame_merge.specs.Held.{StandsFor as MergerStandsFor}
 use Rattle.hf_modem.proofs.hearing.put.Goals as goal

@@ -1,4 +1,4 @@
-use Rattle.std.proofs.Common.{◌≡◌, ◌+◌, ◌*◌, ◌%◌, ◌++◌, [], ◌∷◌, List, Bool, false, take, ap, sym, ◌∙◌, refl, rules, arith}
+use Rattle.std.proofs.Common.{◌≡◌, ◌+◌, ◌*◌, ◌%◌, ◌++◌, [], ◌∷◌, List, false, take, ap, sym, ◌∙◌, rules, arith}
 use Rattle.std.proofs.lemmas.List.{take_more}
 use Rattle.tone_table.specs.declared.tone.Tone.{Tone}
 use Rattle.nrzi_bits.specs.Line.{line, last_tone}

@@ -1,4 +1,3 @@
-use Rattle.std.proofs.Common.{refl}
 use Rattle.hf_modem.proofs.SlicerLemmas.{stands_empty}
 use Rattle.hf_modem.proofs.slicer.HfSlicer.new.Goals as goal
 
