@@ -2,4 +2,5 @@ pub mod Options
 pub mod Numbers
 pub mod Forms
 pub mod Links
+pub mod Rates
 pub mod Commands

@@ -1,6 +1,6 @@
 use super::{
-    AudioForm, Command, DecodeWords, EncodeWords, FrameForm, LoopWords, Modem, ServeOptions,
-    ShowWords, WordsFault, one_command, read_words,
+    AudioForm, Command, DecodeWords, EncodeWords, FrameForm, LoopWords, Modem, Receiving, SampleRate,
+    ServeOptions, ShowWords, WordsFault, one_command, read_words,
 };
 use ax25_address::Call;
 use ax25_frames::Modulus;
@@ -31,11 +31,29 @@ fn is_refused(alloc: Global, words: &[&str]) -> Result<bool, Fail> {
     }
 }
 
+// Raw samples at 9600 a second.
+const NARROW: Receiving = Receiving::Standard {
+    rate: SampleRate::Narrow,
+};
+
 fn decode(audio: AudioForm, frames: FrameForm) -> Command {
     Command::Decode(DecodeWords {
         audio,
         frames,
         threads: false,
+        receiving: NARROW,
+    })
+}
+
+// At 48,000 samples a second, or what a WAV file tells.
+fn decode_wide(audio: AudioForm) -> Command {
+    Command::Decode(DecodeWords {
+        audio,
+        frames: FrameForm::Hex,
+        threads: false,
+        receiving: Receiving::Standard {
+            rate: SampleRate::Wide,
+        },
     })
 }
 
@@ -402,7 +420,17 @@ fn good_words_ask_for_a_command(rt: HostRuntime) -> Result<(), Fail> {
                 audio: AudioForm::Wav,
                 frames: FrameForm::Hex,
                 threads: true,
+                receiving: NARROW,
             }),
+        ),
+        (&["decode", "--rate", "48000"], decode_wide(AudioForm::Raw)),
+        (
+            &["decode", "--wav", "--rate=048000"],
+            decode_wide(AudioForm::Wav),
+        ),
+        (
+            &["decode", "--rate=9600"],
+            decode(AudioForm::Raw, FrameForm::Hex),
         ),
         (
             &["loop", "--seed", "7", "--threads", "--frames", "20"],
@@ -473,6 +501,11 @@ fn other_words_are_refused(rt: HostRuntime) -> Result<(), Fail> {
         &["decode", "--level", "10"],
         &["show", "x"],
         &["show", "--wav"],
+        &["decode", "--rate", "44100"],
+        &["decode", "--wav", "--rate", "44100"],
+        &["decode", "--rate"],
+        &["decode", "--rate", "9600", "--rate", "9600"],
+        &["encode", "--rate", "48000"],
         &["show", "--modulo"],
         &["show", "--modulo="],
         &["show", "--modulo", "7"],
