@@ -3,3 +3,4 @@ pub mod Found
 pub mod OneNumber
 pub mod OneLink
 pub mod OneCommand
+pub mod NoRate

@@ -1,6 +1,6 @@
 use super::{
-    AudioForm, Command, DecodeWords, EncodeWords, FrameForm, LoopWords, Modem, Receiving, SampleRate,
-    ServeOptions, ShowWords, WordsFault, one_command, read_words,
+    AudioForm, Command, DecodeWords, EncodeWords, FrameForm, LoopWords, Modem, Receiving,
+    SampleRate, ServeOptions, ShowWords, WordsFault, one_command, read_words,
 };
 use ax25_address::Call;
 use ax25_frames::Modulus;
@@ -54,6 +54,16 @@ fn decode_wide(audio: AudioForm) -> Command {
         receiving: Receiving::Standard {
             rate: SampleRate::Wide,
         },
+    })
+}
+
+// Raw samples of short wave.
+fn decode_hf() -> Command {
+    Command::Decode(DecodeWords {
+        audio: AudioForm::Raw,
+        frames: FrameForm::Hex,
+        threads: false,
+        receiving: Receiving::ShortWave,
     })
 }
 
@@ -330,7 +340,7 @@ fn other_words_of_serve_are_refused(rt: HostRuntime) -> Result<(), Fail> {
 
 #[test]
 fn good_words_ask_for_a_command(rt: HostRuntime) -> Result<(), Fail> {
-    let table: [(&[&str], Command); 36] = [
+    let table: [(&[&str], Command); 40] = [
         (&["decode"], decode(AudioForm::Raw, FrameForm::Hex)),
         (&["decode", "--"], decode(AudioForm::Raw, FrameForm::Hex)),
         (&["decode", "--wav"], decode(AudioForm::Wav, FrameForm::Hex)),
@@ -432,6 +442,7 @@ fn good_words_ask_for_a_command(rt: HostRuntime) -> Result<(), Fail> {
             &["decode", "--rate=9600"],
             decode(AudioForm::Raw, FrameForm::Hex),
         ),
+        (&["decode", "--hf", "--rate", "9600"], decode_hf()),
         (
             &["loop", "--seed", "7", "--threads", "--frames", "20"],
             Command::Loop(LoopWords {
@@ -451,7 +462,7 @@ fn good_words_ask_for_a_command(rt: HostRuntime) -> Result<(), Fail> {
 
 #[test]
 fn other_words_are_refused(rt: HostRuntime) -> Result<(), Fail> {
-    let table: [&[&str]; 92] = [
+    let table: [&[&str]; 99] = [
         &[],
         &[""],
         &["decod"],
@@ -501,6 +512,8 @@ fn other_words_are_refused(rt: HostRuntime) -> Result<(), Fail> {
         &["decode", "--level", "10"],
         &["show", "x"],
         &["show", "--wav"],
+        &["decode", "--hf", "--threads"],
+        &["decode", "--hf", "--rate", "48000"],
         &["decode", "--rate", "44100"],
         &["decode", "--wav", "--rate", "44100"],
         &["decode", "--rate"],
