@@ -19,7 +19,7 @@ use Rattle.station.specs.declared.host_event.PortKind.TheVariants.{Kiss, Agw}
 use Rattle.station.specs.AgwKinds.{data_kind, disconnect_kind}
 use Rattle.station.specs.AgwRequests.{IsCall, calls, called_route, own_key, giving_packet, packets_of, data_pid, answering_else, AreAnswered}
 use Rattle.station.specs.Connections.{Connection, connection_of}
-use Rattle.station.specs.Heard.{IsHeard, IsHeardBy, IsHeardAnew, IsHeardMaking, IsReadingHeardAnew, IsRepeatedFor, AreHeardAt, AreOctetsHeard, may_make, showing, source_field, destination_field, waits_for_repeater}
+use Rattle.station.specs.Heard.{IsHeard, IsHeardBy, IsHeardAnew, IsHeardMaking, IsReadingHeardAnew, IsRepeatedFor, AreHeardAt, AreOctetsHeard, may_make, shown_to_hosts, waits_for_repeater}
 use Rattle.station.specs.Host.{new_messages, taking, AreTaken, AreTakenBy, IsHostTurn}
 use Rattle.station.specs.Links.{Link, link_at, key_between, most_links}
 use Rattle.station.specs.NewLinks.{making, no_layer_3}
@@ -175,7 +175,7 @@ turn_asks :
     → AllOfNone (turn_steps chosen input before after turn)
 turn_asks chosen (FromHost event) before after turn none = host_asks chosen event before after none turn
 turn_asks chosen (OffAir octets) before after turn none =
-    by_path_asks chosen turn.path octets (showing (source_field turn.path) (destination_field turn.path) octets before) after turn.effect
+    by_path_asks chosen turn.path octets (shown_to_hosts turn.path octets turn.monitored before) after turn.effect
 turn_asks chosen (OfClock busy) before after turn none =
     along_asks ticking_at (ticks_at chosen)
     (λ key t. event_asks chosen None key (LinkTick (waits key t.now.channel.waiting)) t tt) (range_with_len 0 most_links) before

@@ -11,7 +11,7 @@ use Rattle.link_world.specs.declared.end.End.{End}
 use Rattle.link_world.specs.declared.end.End.TheVariants.{A, B}
 use Rattle.link_world.specs.World.{other}
 use Rattle.link_world.proofs.law.Each.{each_weaker, each_append}
-use Rattle.station.specs.Heard.{IsHeardBy, IsPathOf, showing, source_field, destination_field}
+use Rattle.station.specs.Heard.{IsHeardBy, IsPathOf, shown_to_hosts}
 use Rattle.station.specs.Turn.{Turn, begin}
 use Rattle.channel_bench.specs.HeardInOrder.{AreAlikeButForH, Pair, IsOffAir, HearsLinkFrame, AreHeardInOrder}
 use Rattle.channel_bench.specs.InFlight.{Moment, LinkFrame, OneWay, BothWays, IsMatched, AreMatched, hears_ask, nothing_sent, sent_by, steps_in, queueing_all, hearing_at, after_moment}
@@ -50,7 +50,7 @@ alike_turn :
 alike_turn (FromHost event) before after turn octets off some = absurd off
 alike_turn (OffAir heard) before after turn octets off some =
     subst (λ o. AreAlikeButForH o o) off
-    (alike_by turn.path heard (showing (source_field turn.path) (destination_field turn.path) heard before) after turn.reading
+    (alike_by turn.path heard (shown_to_hosts turn.path heard turn.monitored before) after turn.reading
     turn.effect some)
 alike_turn (OfClock busy) before after turn octets off some = absurd off
 
