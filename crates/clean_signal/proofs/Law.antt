@@ -25,10 +25,11 @@ use Rattle.clean_signal.proofs.EndLemmas.{Spaced, spaced, octets-true_ends_from}
 use Rattle.clean_signal.proofs.NearLemmas.{near_carries, signal_at-carries, signal_at-full}
 
 -- the candidates of a frame that was sent
-abbrev cluster_of : TrueEnd → Cluster
+abbrev pub cluster_of : TrueEnd → Cluster
 cluster_of e = record { low = e.end - 7; high = e.end + 7; octets = e.octets }
 
-apart : (ends : List TrueEnd) (place : ℕ) → Spaced place ends → AreApart (place + 7) (map cluster_of ends)
+-- clusters of frames that were sent are apart
+pub apart : (ends : List TrueEnd) (place : ℕ) → Spaced place ends → AreApart (place + 7) (map cluster_of ends)
 apart [] place spaces = tt
 apart (e ∷ ends) place spaces =
     let far = spaces.0 in
@@ -49,13 +50,15 @@ in_one item [] is = cc
 in_one item (e ∷ ends) is =
     elim (or_cases (is_of item e) (is_sent ends item) is) [ inl here ↦ inl (is_in item e here) | inr later ↦ inr (in_one item ends later) ]
 
-all_known : (items : List Candidate) (place : ℕ) (cs : List Cluster) → All (λ item. IsInOne cs item) items → Known [] place cs items
+-- where each item is in a cluster, all are known
+pub all_known : (items : List Candidate) (place : ℕ) (cs : List Cluster) → All (λ item. IsInOne cs item) items → Known [] place cs items
 all_known [] place cs all = tt
 all_known (item ∷ items) place cs all = (inr (All-head (λ i. IsInOne cs i) item items all), all_known items place cs (All-tail (λ i. IsInOne cs i) item items all))
 
 -- ---- each cluster has a candidate
 
-has_one : (items : List Candidate) (c : Cluster) (item : Candidate) → IsIn c item → Contains items item → HasOne items c
+-- a candidate of a cluster among the items
+pub has_one : (items : List Candidate) (c : Cluster) (item : Candidate) → IsIn c item → Contains items item → HasOne items c
 has_one [] c item is (k, within, there) = absurd (omega arith)
 has_one (first ∷ items) c item is (zero, within, there) = inl (subst (IsIn c) (sym there) is)
 has_one (first ∷ items) c item is (suc k, within, there) = inr (has_one items c item is (k, omega arith, there))
@@ -73,22 +76,23 @@ all_have_one x items (e ∷ ends) are ((offset, is), others) =
 -- ---- candidates in order rise
 
 rising_behind : (item : Candidate) (items : List Candidate) → AllPairs (λ a b. standing a < standing b) (item ∷ items)
-    → All (λ a. a.offset < 8) (item ∷ items) → Rising item.end items
+    → All (λ a. a.offset < 256) (item ∷ items) → Rising item.end items
 rising_behind item [] order small = tt
 rising_behind item (next ∷ items) order small =
     let less = order 0 1 item (omega arith) (omega arith) in
     let low = small 1 item (omega arith) in (
       omega arith,
-      rising_behind next items (λ i j d ij jl. order (suc i) (suc j) d (omega arith) (omega arith)) (All-tail (λ a. a.offset < 8) item (next ∷ items) small),
+      rising_behind next items (λ i j d ij jl. order (suc i) (suc j) d (omega arith) (omega arith)) (All-tail (λ a. a.offset < 256) item (next ∷ items) small),
     )
 
-rising : (items : List Candidate) → AllPairs (λ a b. standing a < standing b) items → All (λ a. a.offset < 8) items → Rising 0 items
+pub rising : (items : List Candidate) → AllPairs (λ a b. standing a < standing b) items → All (λ a. a.offset < 256) items → Rising 0 items
 rising [] order small = tt
 rising (item ∷ items) order small = (omega arith, rising_behind item items order small)
 
 -- ---- the law
 
-octets-clusters : (ends : List TrueEnd) → map (λ c. c.octets) (map cluster_of ends) ≡ map (λ e. e.octets) ends
+-- the octets of clusters are those of their frames
+pub octets-clusters : (ends : List TrueEnd) → map (λ c. c.octets) (map cluster_of ends) ≡ map (λ e. e.octets) ends
 octets-clusters [] = refl
 octets-clusters (e ∷ ends) = ap (λ os. e.octets ∷ os) (octets-clusters ends)
 
@@ -103,7 +107,7 @@ carried_law sent x good carries no_stray items are =
     let fits : AllByRecursion IsTransmission sent = recursion_from_All IsTransmission sent good in
     let cs : List Cluster = map cluster_of (true_ends sent) in
     let known : All (λ item. IsInOne cs item) items = λ k d l. in_one (get_or items k d) (true_ends sent) (no_stray (get_or items k d) (are.each k d l).0) in
-    let small : All (λ item. item.offset < 8) items = λ k d l. (are.each k d l).0.offset in
+    let small : All (λ item. item.offset < 256) items = λ k d l. let eight = (are.each k d l).0.offset in omega arith in
     merge_keeps items [] 7 0 cs tt (rising items are.order small) (all_known items 7 cs known)
     (apart (true_ends sent) 0 (spaced sent 0 0 (omega arith) fits))
     (all_have_one x items (true_ends sent) are (all_found sent [] x 0 fits carries refl))

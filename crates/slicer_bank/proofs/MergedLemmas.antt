@@ -82,7 +82,7 @@ pub nothing_kept : (position : ℕ) (x : List ℤ) (items : List Candidate) → 
 nothing_kept position x items far are =
     not_below_none position items (All-weaker (λ y. y.end < length x + 1) (λ y. y.end < position) (λ y l. omega arith) items (ends_within x items are))
 
-contains_passing : (p : Candidate → Bool) (xs : List Candidate) (item : Candidate) → Contains xs item → p item ≡ true → Contains (filter p xs) item
+pub contains_passing : (p : Candidate → Bool) (xs : List Candidate) (item : Candidate) → Contains xs item → p item ≡ true → Contains (filter p xs) item
 contains_passing p [] item (k, l, e) passes = absurd (omega arith)
 contains_passing p (x ∷ xs) item (zero, l, e) passes =
     subst (λ t. Contains (cond t (x ∷ filter p xs) (filter p xs)) item) (sym (ap p e ∙ passes)) (0, (let l : 0 < length (x ∷ filter p xs) = omega arith in l), e)
@@ -107,7 +107,7 @@ begins x y items all are whole =
     (late, same, ends_behind x y late behind)
 
 -- one stretch and the next are one stretch
-between_between : (from middle to : ℕ) (zs : List Candidate) → from ≤ middle → middle ≤ to → IsNonDecreasingBy (λ y. y.end) zs
+pub between_between : (from middle to : ℕ) (zs : List Candidate) → from ≤ middle → middle ≤ to → IsNonDecreasingBy (λ y. y.end) zs
     → between from middle zs ++ between middle to zs ≡ between from to zs
 between_between from middle to zs le more rises =
     append_cancel_left (below from zs) (between from middle zs ++ between middle to zs) (between from to zs)

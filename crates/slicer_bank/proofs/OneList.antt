@@ -5,10 +5,10 @@ use Rattle.frame_merge.specs.declared.candidate.Candidate.{Candidate}
 use Rattle.frame_merge.specs.Order.{standing}
 use Rattle.slicer_bank.specs.Candidates.{AreCandidates}
 
-abbrev Rises : List Candidate → Type 0
+abbrev pub Rises : List Candidate → Type 0
 Rises = AllPairs (λ item later. standing item < standing later)
 
-abbrev HasAll : List Candidate → List Candidate → Type 0
+abbrev pub HasAll : List Candidate → List Candidate → Type 0
 HasAll xs ys = (k : ℕ) (d : Candidate) → k < length xs → Contains ys (get_or xs k d)
 
 -- the head of one list is the head of the other
@@ -36,7 +36,8 @@ tail_has x xs ys rx has k d l = go (has (suc k) d (omega arith))
 tail_rises : (x : Candidate) (xs : List Candidate) → Rises (x ∷ xs) → Rises xs
 tail_rises x xs h i j d ij jl = h (suc i) (suc j) d (omega arith) (omega arith)
 
-same_list : (xs ys : List Candidate) → Rises xs → Rises ys → HasAll xs ys → HasAll ys xs → xs ≡ ys
+-- and so the whole lists are one
+pub same_list : (xs ys : List Candidate) → Rises xs → Rises ys → HasAll xs ys → HasAll ys xs → xs ≡ ys
 same_list [] [] rx ry a b = refl
 same_list [] (y ∷ ys) rx ry a b = let c = (b 0 y (omega arith)).1 in absurd (omega arith)
 same_list (x ∷ xs) [] rx ry a b = let c = (a 0 x (omega arith)).1 in absurd (omega arith)

@@ -36,6 +36,8 @@ pub use ring_bank::RingBank;
 pub use ring_merging::{merge_advance, nothing_is_merged};
 
 #[cfg(test)]
+mod meeting;
+#[cfg(test)]
 mod thread_tests;
 #[cfg(test)]
 mod worked_signal;

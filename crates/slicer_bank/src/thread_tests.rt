@@ -4,56 +4,12 @@ ghost use Rattle.std.specs.Prelude.{◌≤◌, ◌<◌, ◌^◌, length as count
 
 use crate::bank::Bank;
 use crate::decoder::Decoder;
-use crate::gate::Gate;
+use crate::meeting::Meeting;
 use crate::worked_signal::transmission;
 use std::alloc::Global;
-use std::sync::atomic::{AtomicU64, Ordering};
 use std::test::Fail;
-use std::thread;
 use std::thread::Threads;
 use tnc_base::OutOfMemory;
-
-/// How often a held lane looks for the other before it goes on.
-const LIMIT: u64 = 1_000_000;
-
-/// Holds lanes 0 and 7 each until the other has begun as often, and counts how often one gave up.
-#[derive(Drop)]
-struct Meeting {
-    first: AtomicU64,
-    last: AtomicU64,
-    given_up: AtomicU64,
-}
-
-impl Meeting {
-    fn new() -> Meeting {
-        Meeting {
-            first: AtomicU64::new(0),
-            last: AtomicU64::new(0),
-            given_up: AtomicU64::new(0),
-        }
-    }
-
-    fn hold(&self, own: &AtomicU64, other: &AtomicU64) {
-        let calls = own.fetch_add(1, Ordering::SeqCst).saturating_add(1);
-        for _ in 0..LIMIT {
-            if calls <= other.load(Ordering::SeqCst) {
-                return;
-            }
-            thread::yield_now();
-        }
-        self.given_up.fetch_add(1, Ordering::SeqCst);
-    }
-}
-
-impl Gate for Meeting {
-    fn begun(&self, lane: u8) {
-        match lane {
-            0 => self.hold(&self.first, &self.last),
-            7 => self.hold(&self.last, &self.first),
-            _ => {}
-        }
-    }
-}
 
 /// The ends and offsets of the candidates that a bank gives, on two threads if there is a gate.
 fn heard<R: Threads + Sync>(
@@ -145,9 +101,7 @@ fn two_threads_give_what_one_gives(rt: HostRuntime) -> Result<(), Fail> {
         );
     }
     // Fourteen blocks of 96 samples, one of each greater length, and each of them twice.
-    assert_eq!(rt; meeting.first.load(Ordering::SeqCst), 32);
-    assert_eq!(rt; meeting.last.load(Ordering::SeqCst), 32);
-    assert_eq!(rt; meeting.given_up.load(Ordering::SeqCst), 0);
+    assert_eq!(rt; meeting.counts(), [32, 32, 0]);
     Ok(())
 }
 

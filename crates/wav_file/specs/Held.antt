@@ -1,6 +1,6 @@
 -- What is kept of a file while its octets come: the part of the file that is under way. No public clause looks inside:
 -- they cite `StandsFor` alone.
-use Rattle.std.specs.Prelude.{◌≡◌, ℕ, ◌+◌, ◌-◌, ◌<◌, ◌≤◌, ◌==◌, ◌&&◌, not, nat_lt, nat_le, if◌then◌else◌, Bool, true, false, List, [], ◌∷◌, ◌++◌, length, take, drop, codes, slice_index, ℤ, Option, Some, None, Result, Ok, Err}
+use Rattle.std.specs.Prelude.{◌≡◌, ℕ, ◌+◌, ◌-◌, ◌<◌, ◌≤◌, ◌==◌, ◌&&◌, is_none, nat_lt, nat_le, if◌then◌else◌, Bool, true, false, List, [], ◌∷◌, ◌++◌, length, take, drop, codes, slice_index, ℤ, Option, Some, None, Result, Ok, Err}
 use Rattle.std.specs.Option.{option_to_list}
 use Rattle.std.specs.Str.{bytes_eq}
 use Rattle.byteorder.specs.Endian.{little_number}
@@ -10,6 +10,7 @@ use Rattle.wav_file.specs.declared.field.Field.{Field}
 use Rattle.wav_file.specs.declared.field.Field.TheVariants.{Format, Channels, Rate, ByteRate, Align, Bits}
 use Rattle.wav_file.specs.declared.part.Part.{Part}
 use Rattle.wav_file.specs.declared.part.Part.TheVariants.{Head, Chunk as AtChunk, Format as AtFormat, Data, Failed}
+use Rattle.wav_file.specs.declared.rates.Rates.{Rates}
 use Rattle.wav_file.specs.Place.{told_place}
 use Rattle.wav_file.specs.Chunks.{chunks, padded}
 use Rattle.wav_file.specs.Format.{number_of, width_of, accepts, field_fault}
@@ -17,6 +18,8 @@ use Rattle.wav_file.specs.Samples.{sample_of, samples}
 use Rattle.wav_file.specs.Reading.{Reading, failed, unless, difference, formatted, unformatted, endless_size, reading}
 
 pub record Held : Type 0 where
+  -- the rates that are read
+  pub rates : Rates
   -- the place of the next octet
   pub position : ℕ
   pub part : Part
@@ -26,9 +29,9 @@ pub record Held : Type 0 where
 -- what fits a part
 abbrev pub Fits : ℕ → Part → List ℕ → Type 0
 Fits position Head unit = (position < 12) × (length unit < 1)
-Fits position (AtChunk formatted skip) unit = length unit < 8
-Fits position (AtFormat field skip) unit = length unit < width_of field
-Fits position (Data left low) unit = length unit < 1
+Fits position (AtChunk rate skip) unit = length unit < 8
+Fits position (AtFormat field rate skip) unit = length unit < width_of field
+Fits position (Data rate left low) unit = length unit < 1
 Fits position (Failed fault) unit = length unit < 1
 
 -- ---- one octet more
@@ -46,32 +49,41 @@ abbrev pub after_head : ℕ → ℕ → Part
 after_head place octet =
     if nat_lt place 4 then (if slice_index (codes "RIFF") place == octet then Head else Failed (NotRiff place)) else
     if nat_lt place 8 then Head else
-    if slice_index (codes "WAVE") (place - 8) == octet then (if place == 11 then AtChunk false 0 else Head) else Failed (NotWave place)
+    if slice_index (codes "WAVE") (place - 8) == octet then (if place == 11 then AtChunk None 0 else Head) else Failed (NotWave place)
 
 -- a data chunk of this size begins
-abbrev pub data_begun : ℕ → Bool → ℕ → Part
-data_begun place formatted size =
-    if formatted then Data (if nat_lt size endless_size then Some size else None) None else Failed (NoFormat place)
+abbrev pub data_begun : ℕ → Option ℕ → ℕ → Part
+data_begun place None size = Failed (NoFormat place)
+data_begun place (Some rate) size = Data rate (if nat_lt size endless_size then Some size else None) None
 
 -- a format of this size begins
 abbrev pub format_begun : ℕ → ℕ → Part
-format_begun place size = if nat_lt size 16 then Failed (NoFormat place) else AtFormat Format (padded size - 16)
+format_begun place size = if nat_lt size 16 then Failed (NoFormat place) else AtFormat Format 0 (padded size - 16)
 
 -- behind a chunk's head, whose last octet has this place
-abbrev pub after_chunk_head : ℕ → Bool → List ℕ → ℕ → Part
-after_chunk_head place formatted name size =
-    if bytes_eq name (codes "data") then data_begun place formatted size else
-    if bytes_eq name (codes "fmt ") && not formatted then format_begun place size else
-    AtChunk formatted (padded size)
+abbrev pub after_chunk_head : ℕ → Option ℕ → List ℕ → ℕ → Part
+after_chunk_head place rate name size =
+    if bytes_eq name (codes "data") then data_begun place rate size else
+    if bytes_eq name (codes "fmt ") && is_none rate then format_begun place size else
+    AtChunk rate (padded size)
+
+-- the rate behind a field of this value
+abbrev pub rate_after : Field → ℕ → ℕ → ℕ
+rate_after Format rate value = rate
+rate_after Channels rate value = rate
+rate_after Rate rate value = value
+rate_after ByteRate rate value = rate
+rate_after Align rate value = rate
+rate_after Bits rate value = rate
 
 -- behind a field
-abbrev pub following : Option Field → ℕ → Part
-following (Some field) skip = AtFormat field skip
-following None skip = AtChunk true skip
+abbrev pub following : Option Field → ℕ → ℕ → Part
+following (Some field) rate skip = AtFormat field rate skip
+following None rate skip = AtChunk (Some rate) skip
 
-abbrev pub after_field : ℕ → Field → ℕ → ℕ → Part
-after_field place field skip value =
-    if accepts field value then following (next_of field) skip else Failed (BadFormat place (number_of field) value)
+abbrev pub after_field : Rates → ℕ → Field → ℕ → ℕ → ℕ → Part
+after_field rates place field rate skip value =
+    if accepts rates field value then following (next_of field) (rate_after field rate value) skip else Failed (BadFormat place (number_of field) value)
 
 pub record Step : Type 0 where
   pub part : Part
@@ -84,48 +96,56 @@ made held sample = record { part = held.part; unit = held.unit; sample = sample 
 abbrev pub to_part : Part → List ℕ → Step
 to_part part unit = record { part = part; unit = unit; sample = None }
 
-abbrev pub after_data_octet : Option ℕ → Option ℕ → ℕ → Part × Option ℤ
-after_data_octet left None octet = (Data left (Some octet), None)
-after_data_octet left (Some low) octet = (Data left None, Some (sample_of low octet))
+abbrev pub after_data_octet : ℕ → Option ℕ → Option ℕ → ℕ → Part × Option ℤ
+after_data_octet rate left None octet = (Data rate left (Some octet), None)
+after_data_octet rate left (Some low) octet = (Data rate left None, Some (sample_of low octet))
 
 -- behind an octet of the data, and the sample that ends with it
-abbrev pub after_data : Option ℕ → Option ℕ → ℕ → Part × Option ℤ
-after_data None low octet = after_data_octet None low octet
-after_data (Some left) low octet =
-    if left == 0 then (Data (Some left) low, None) else after_data_octet (Some (left - 1)) low octet
+abbrev pub after_data : ℕ → Option ℕ → Option ℕ → ℕ → Part × Option ℤ
+after_data rate None low octet = after_data_octet rate None low octet
+after_data rate (Some left) low octet =
+    if left == 0 then (Data rate (Some left) low, None) else after_data_octet rate (Some (left - 1)) low octet
 
 -- the step that an octet makes
-abbrev pub step_of : ℕ → Part → List ℕ → ℕ → Step
-step_of place Head unit octet = to_part (after_head place octet) unit
-step_of place (AtChunk formatted skip) unit octet =
-    if nat_lt 0 skip then to_part (AtChunk formatted (skip - 1)) unit else
-    if nat_lt (length unit) 7 then to_part (AtChunk formatted 0) (unit ++ octet ∷ []) else
-    to_part (after_chunk_head place formatted (take 4 (unit ++ octet ∷ [])) (little_number 4 (drop 4 (unit ++ octet ∷ [])))) []
-step_of place (AtFormat field skip) unit octet =
-    if nat_lt (length unit + 1) (width_of field) then to_part (AtFormat field skip) (unit ++ octet ∷ []) else
-    to_part (after_field place field skip (little_number (width_of field) (unit ++ octet ∷ []))) []
-step_of place (Data left low) unit octet =
-    record { part = (after_data left low octet).0; unit = unit; sample = (after_data left low octet).1 }
-step_of place (Failed fault) unit octet = to_part (Failed fault) unit
+abbrev pub step_of : Rates → ℕ → Part → List ℕ → ℕ → Step
+step_of rates place Head unit octet = to_part (after_head place octet) unit
+step_of rates place (AtChunk rate skip) unit octet =
+    if nat_lt 0 skip then to_part (AtChunk rate (skip - 1)) unit else
+    if nat_lt (length unit) 7 then to_part (AtChunk rate 0) (unit ++ octet ∷ []) else
+    to_part (after_chunk_head place rate (take 4 (unit ++ octet ∷ [])) (little_number 4 (drop 4 (unit ++ octet ∷ [])))) []
+step_of rates place (AtFormat field rate skip) unit octet =
+    if nat_lt (length unit + 1) (width_of field) then to_part (AtFormat field rate skip) (unit ++ octet ∷ []) else
+    to_part (after_field rates place field rate skip (little_number (width_of field) (unit ++ octet ∷ []))) []
+step_of rates place (Data rate left low) unit octet =
+    record { part = (after_data rate left low octet).0; unit = unit; sample = (after_data rate left low octet).1 }
+step_of rates place (Failed fault) unit octet = to_part (Failed fault) unit
 
 -- ---- what has come
 
 -- the fault that has shown in a part
 abbrev pub fault_of_part : Part → Option WavFault
 fault_of_part Head = None
-fault_of_part (AtChunk after_format skip) = None
-fault_of_part (AtFormat field skip) = None
-fault_of_part (Data left low) = None
+fault_of_part (AtChunk rate skip) = None
+fault_of_part (AtFormat field rate skip) = None
+fault_of_part (Data rate left low) = None
 fault_of_part (Failed fault) = Some fault
 
 -- is the data there to its end?
 abbrev pub whole_of_part : Part → Bool
 whole_of_part Head = false
-whole_of_part (AtChunk after_format skip) = false
-whole_of_part (AtFormat field skip) = false
-whole_of_part (Data None low) = true
-whole_of_part (Data (Some left) low) = left == 0
+whole_of_part (AtChunk rate skip) = false
+whole_of_part (AtFormat field rate skip) = false
+whole_of_part (Data rate None low) = true
+whole_of_part (Data rate (Some left) low) = left == 0
 whole_of_part (Failed fault) = false
+
+-- the rate of the format that was read
+abbrev pub rate_of_part : Part → Option ℕ
+rate_of_part Head = None
+rate_of_part (AtChunk rate skip) = rate
+rate_of_part (AtFormat field rate skip) = None
+rate_of_part (Data rate left low) = Some rate
+rate_of_part (Failed fault) = None
 
 -- what is answered to an octet
 abbrev pub answer_of : Option WavFault → Option ℤ → Result (Option ℤ) WavFault
@@ -151,37 +171,50 @@ widths_from ByteRate = 8
 widths_from Align = 4
 widths_from Bits = 2
 
-abbrev pub chunks_reading : Bool → ℕ → List ℕ → Reading
-chunks_reading false place octets = unformatted (chunks place octets)
-chunks_reading true place octets = formatted (chunks place octets)
+-- the rate that the fields from one on tell, behind fields that told a rate
+abbrev pub rate_told : Field → ℕ → List ℕ → ℕ
+rate_told Format rate octets = little_number 4 (drop 4 octets)
+rate_told Channels rate octets = little_number 4 (drop 2 octets)
+rate_told Rate rate octets = little_number 4 octets
+rate_told ByteRate rate octets = rate
+rate_told Align rate octets = rate
+rate_told Bits rate octets = rate
 
-abbrev pub head_reading : ℕ → List ℕ → Reading
-head_reading place octets =
+abbrev pub rate_from : Field → ℕ → List ℕ → Option ℕ
+rate_from field rate octets = if nat_lt (length octets) (widths_from field) then None else Some (rate_told field rate octets)
+
+abbrev pub chunks_reading : Rates → Option ℕ → ℕ → List ℕ → Reading
+chunks_reading rates None place octets = unformatted rates (chunks place octets)
+chunks_reading rates (Some rate) place octets = formatted (Some rate) (chunks place octets)
+
+abbrev pub head_reading : Rates → ℕ → List ℕ → Reading
+head_reading rates place octets =
     unless (difference NotRiff place (drop place (codes "RIFF")) octets)
     (unless (difference NotWave (8 + (place - 8)) (drop (place - 8) (codes "WAVE")) (drop (8 - place) octets))
-    (chunks_reading false 12 (drop (12 - place) octets)))
+    (chunks_reading rates None 12 (drop (12 - place) octets)))
 
-abbrev pub data_reading : Option ℕ → List ℕ → List ℕ → Reading
-data_reading None low octets = record { fault = None; heard = samples (low ++ octets); whole = true }
-data_reading (Some left) low octets = record { fault = None; heard = samples (low ++ take left octets); whole = nat_le left (length octets) }
+abbrev pub data_reading : ℕ → Option ℕ → List ℕ → List ℕ → Reading
+data_reading rate None low octets = record { fault = None; rate = Some rate; heard = samples (low ++ octets); whole = true }
+data_reading rate (Some left) low octets = record { fault = None; rate = Some rate; heard = samples (low ++ take left octets); whole = nat_le left (length octets) }
 
 -- how the rest of a file is read in a part, behind so many octets
-abbrev pub rest_reading : ℕ → Part → List ℕ → List ℕ → Reading
-rest_reading count Head unit octets = head_reading count octets
-rest_reading count (AtChunk formatted skip) unit octets = chunks_reading formatted (count + skip - length unit) (unit ++ drop skip octets)
-rest_reading count (AtFormat field skip) unit octets =
-    unless (field_fault (fields_from field) (count - length unit) (unit ++ octets))
-    (chunks_reading true (count + (widths_from field - length unit) + skip) (drop (widths_from field - length unit + skip) octets))
-rest_reading count (Data left low) unit octets = data_reading left (option_to_list low) octets
-rest_reading count (Failed fault) unit octets = failed fault
+abbrev pub rest_reading : Rates → ℕ → Part → List ℕ → List ℕ → Reading
+rest_reading rates count Head unit octets = head_reading rates count octets
+rest_reading rates count (AtChunk rate skip) unit octets = chunks_reading rates rate (count + skip - length unit) (unit ++ drop skip octets)
+rest_reading rates count (AtFormat field rate skip) unit octets =
+    unless (field_fault rates (fields_from field) (count - length unit) (unit ++ octets))
+    (formatted (rate_from field rate (unit ++ octets)) (chunks (count + (widths_from field - length unit) + skip) (drop (widths_from field - length unit + skip) octets)))
+rest_reading rates count (Data rate left low) unit octets = data_reading rate left (option_to_list low) octets
+rest_reading rates count (Failed fault) unit octets = failed fault
 
 -- a reading with samples before it
 abbrev pub behind : List ℤ → Reading → Reading
-behind before r = record { fault = r.fault; heard = before ++ r.heard; whole = r.whole }
+behind before r = record { fault = r.fault; rate = r.rate; heard = before ++ r.heard; whole = r.whole }
 
--- these octets of a file have come
-pub record StandsFor (held : Held) (octets : List ℕ) : Type 0 where
+-- these octets of a file have come to a reader of these rates
+pub record StandsFor (rates : Rates) (held : Held) (octets : List ℕ) : Type 0 where
+  pub takes : held.rates ≡ rates
   pub place : held.position ≡ told_place (length octets)
   pub enough : length held.unit ≤ length octets
   -- whatever comes, the file is read as the part reads the rest, behind the samples so far
-  pub rest : (more : List ℕ) → reading (octets ++ more) ≡ behind (reading octets).heard (rest_reading (length octets) held.part held.unit more)
+  pub rest : (more : List ℕ) → reading rates (octets ++ more) ≡ behind (reading rates octets).heard (rest_reading rates (length octets) held.part held.unit more)

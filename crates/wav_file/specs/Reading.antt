@@ -7,22 +7,25 @@ use Rattle.wav_file.specs.declared.fault.WavFault.{WavFault}
 use Rattle.wav_file.specs.declared.fault.WavFault.TheVariants.{NotRiff, NotWave, NoFormat, Truncated}
 use Rattle.wav_file.specs.Place.{told_place}
 use Rattle.wav_file.specs.Chunks.{Chunk, chunks}
-use Rattle.wav_file.specs.Format.{fields, field_fault}
+use Rattle.wav_file.specs.declared.rates.Rates.{Rates}
+use Rattle.wav_file.specs.Format.{fields, field_fault, rate_at_front}
 use Rattle.wav_file.specs.Samples.{samples}
 
 pub record Reading : Type 0 where
   -- the first fault, if one shows
   pub fault : Option WavFault
+  -- the rate of the samples, once the format was read
+  pub rate : Option ℕ
   pub heard : List ℤ
   -- the contents of the first data chunk are there to their end
   pub whole : Bool
 
 -- no fault shows, and the data has not come
 abbrev pub unfinished : Reading
-unfinished = record { fault = None; heard = []; whole = false }
+unfinished = record { fault = None; rate = None; heard = []; whole = false }
 
 abbrev pub failed : WavFault → Reading
-failed fault = record { fault = Some fault; heard = []; whole = false }
+failed fault = record { fault = Some fault; rate = None; heard = []; whole = false }
 
 -- a fault, or where none shows, the reading of what follows
 abbrev pub unless : Option WavFault → Reading → Reading
@@ -45,40 +48,44 @@ is_data chunk = bytes_eq chunk.name (codes "data")
 abbrev pub endless_size : ℕ
 endless_size = 0x7fff0000
 
--- the contents of a data chunk
-abbrev pub of_data : Chunk → Reading
-of_data chunk =
+-- the contents of a data chunk, at a rate
+abbrev pub of_data : Option ℕ → Chunk → Reading
+of_data rate chunk =
     if nat_lt chunk.size endless_size
-    then record { fault = None; heard = samples (take chunk.size chunk.behind); whole = nat_le chunk.size (length chunk.behind) }
-    else record { fault = None; heard = samples chunk.behind; whole = true }
+    then record { fault = None; rate = rate; heard = samples (take chunk.size chunk.behind); whole = nat_le chunk.size (length chunk.behind) }
+    else record { fault = None; rate = rate; heard = samples chunk.behind; whole = true }
 
--- chunks behind the format
-abbrev pub formatted : List Chunk → Reading
-formatted [] = unfinished
-formatted (chunk ∷ others) = if is_data chunk then of_data chunk else formatted others
+-- chunks behind the format, which names this rate
+abbrev pub formatted : Option ℕ → List Chunk → Reading
+formatted rate [] = record { fault = None; rate = rate; heard = []; whole = false }
+formatted rate (chunk ∷ others) = if is_data chunk then of_data rate chunk else formatted rate others
 
 -- a format, and the chunks behind it
-abbrev pub of_format : Chunk → List Chunk → Reading
-of_format chunk others =
+abbrev pub of_format : Rates → Chunk → List Chunk → Reading
+of_format rates chunk others =
     if nat_lt chunk.size 16 then failed (NoFormat (told_place (chunk.place + 7))) else
-    unless (field_fault fields (chunk.place + 8) chunk.behind) (formatted others)
+    unless (field_fault rates fields (chunk.place + 8) chunk.behind) (formatted (rate_at_front chunk.behind) others)
 
 -- chunks before the format; a data chunk among them shows at the last octet of its size
-abbrev pub unformatted : List Chunk → Reading
-unformatted [] = unfinished
-unformatted (chunk ∷ others) =
+abbrev pub unformatted : Rates → List Chunk → Reading
+unformatted rates [] = unfinished
+unformatted rates (chunk ∷ others) =
     if is_data chunk then failed (NoFormat (told_place (chunk.place + 7))) else
-    if is_format chunk then of_format chunk others else unformatted others
+    if is_format chunk then of_format rates chunk others else unformatted rates others
 
--- the octets of a file so far
-unfoldable pub reading : List ℕ → Reading
-reading octets =
+-- the octets of a file so far, as a reader of these rates reads them
+unfoldable pub reading : Rates → List ℕ → Reading
+reading rates octets =
     unless (difference NotRiff 0 (codes "RIFF") octets)
-    (unless (difference NotWave 8 (codes "WAVE") (drop 8 octets)) (unformatted (chunks 12 (drop 12 octets))))
+    (unless (difference NotWave 8 (codes "WAVE") (drop 8 octets)) (unformatted rates (chunks 12 (drop 12 octets))))
 
 -- the samples that octets of a file hold
-abbrev pub samples_in : List ℕ → List ℤ
-samples_in octets = (reading octets).heard
+abbrev pub samples_in : Rates → List ℕ → List ℤ
+samples_in rates octets = (reading rates octets).heard
+
+-- the rate of these samples: none until the sixteen octets of the format were read
+abbrev pub rate_in : Rates → List ℕ → Option ℕ
+rate_in rates octets = (reading rates octets).rate
 
 -- the samples that one octet gave
 abbrev pub given : Result (Option ℤ) WavFault → List ℤ
@@ -86,8 +93,8 @@ given (Ok sample) = option_to_list sample
 given (Err fault) = []
 
 -- the fault that shows in octets of a file, if one does
-abbrev pub fault_in : List ℕ → Option WavFault
-fault_in octets = (reading octets).fault
+abbrev pub fault_in : Rates → List ℕ → Option WavFault
+fault_in rates octets = (reading rates octets).fault
 
 -- What a file is worth whose last octet stands before a place: it is cut short where no fault shows and its data is not
 -- there to the end.
@@ -96,5 +103,5 @@ verdict_on place (Some fault) whole = Err fault
 verdict_on place None whole = if whole then Ok tt else Err (Truncated place)
 
 -- what a file of these octets is worth; where it is cut short, the fault names the number of octets
-abbrev pub verdict_of : List ℕ → Result (Unit {0}) WavFault
-verdict_of octets = verdict_on (told_place (length octets)) (reading octets).fault (reading octets).whole
+abbrev pub verdict_of : Rates → List ℕ → Result (Unit {0}) WavFault
+verdict_of rates octets = verdict_on (told_place (length octets)) (reading rates octets).fault (reading rates octets).whole

@@ -3,8 +3,9 @@
 ghost use Rattle.std.specs.Prelude.{◌≡◌, ◌≤◌, length};
 ghost use Rattle.byteorder.specs.Endian.{little_number};
 ghost use Rattle.wav_file.specs.Format.{number_of, width_of, accepts};
-ghost use Rattle.wav_file.specs.Held.{next_of};
+ghost use Rattle.wav_file.specs.Held.{next_of, rate_after};
 
+use crate::rates::Rates;
 use byteorder::{ByteOrder, LittleEndian};
 
 #[derive(Clone, Copy, Debug)]
@@ -53,17 +54,27 @@ impl Field {
         }
     }
 
-    // Is this what is read? The rate in octets is not looked at.
-    pub fn accepts(self, value: u32) -> bool
-        ensures { result ≡ accepts self value }
+    // Is this what a reader of these rates reads? The rate in octets is not looked at.
+    pub fn accepts(self, rates: Rates, value: u32) -> bool
+        ensures { result ≡ accepts rates self value }
     {
         match self {
             Field::Format => value == 1,
             Field::Channels => value == 1,
-            Field::Rate => value == 9600,
+            Field::Rate => rates.accept(value),
             Field::ByteRate => true,
             Field::Align => value == 2,
             Field::Bits => value == 16,
+        }
+    }
+
+    // The rate behind this field: its value, if it names the rate.
+    pub fn rate_after(self, rate: u32, value: u32) -> u32
+        ensures { result ≡ rate_after self rate value }
+    {
+        match self {
+            Field::Rate => value,
+            _ => rate,
         }
     }
 

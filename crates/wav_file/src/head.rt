@@ -1,6 +1,7 @@
 // The head of a WAV file.
 
 ghost use Rattle.std.specs.Prelude.{◌≡◌, ◌*◌, ◌≤◌, ◌↔◌, ◌++◌, ℕ, List, None, length, IsOk, IfOk, IfErr};
+ghost use Rattle.wav_file.specs.declared.rates.Rates.{Rates};
 ghost use Rattle.wav_file.specs.Head.{head_before, head_of};
 ghost use Rattle.wav_file.specs.Samples.{samples};
 ghost use Rattle.wav_file.specs.Reading.{samples_in, fault_in, verdict_of};
@@ -21,12 +22,12 @@ pub fn wav_head(count: u64) -> Result<[u8; 44], TooLong>
     ensures fits { IsOk result ↔ (count ≤ 2147483629) }
     ensures refused { IfErr result (λ fault. fault.count ≡ count) }
     // The octets behind it are samples.
-    ensures samples { IfOk result (λ head. (octets : List ℕ) → length octets ≤ 2 * count
-        → samples_in (head ++ octets) ≡ samples octets) }
-    ensures no_fault { IfOk result (λ head. (octets : List ℕ) → length octets ≤ 2 * count
-        → fault_in (head ++ octets) ≡ None) }
-    ensures whole { IfOk result (λ head. (octets : List ℕ) → length octets ≡ 2 * count
-        → verdict_of (head ++ octets) ≡ Ok tt) }
+    ensures samples { IfOk result (λ head. (rates : Rates) (octets : List ℕ) → length octets ≤ 2 * count
+        → samples_in rates (head ++ octets) ≡ samples octets) }
+    ensures no_fault { IfOk result (λ head. (rates : Rates) (octets : List ℕ) → length octets ≤ 2 * count
+        → fault_in rates (head ++ octets) ≡ None) }
+    ensures whole { IfOk result (λ head. (rates : Rates) (octets : List ℕ) → length octets ≡ 2 * count
+        → verdict_of rates (head ++ octets) ≡ Ok tt) }
 {
     if count > MOST_SAMPLES {
         return Err(TooLong { count });

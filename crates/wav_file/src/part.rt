@@ -7,6 +7,7 @@ ghost use Rattle.wav_file.specs.Samples.{sample_of};
 
 use crate::fault::WavFault;
 use crate::field::Field;
+use crate::rates::Rates;
 use byteorder::{ByteOrder, LittleEndian};
 
 // The first letters of a RIFF file, and the word behind its size.
@@ -24,19 +25,33 @@ const FORMAT_SIZE: u32 = 16;
 pub enum Part {
     // The twelve octets before the first chunk.
     Head,
-    // So many octets to be skipped, and then a chunk's head, which its own octets have not ended yet.
-    Chunk { formatted: bool, skip: u64 },
-    // A field of the format; so many octets of its chunk stand behind the last field.
-    Format { field: Field, skip: u64 },
-    // The first data chunk, with so many octets left, or none for data to the end of input, and the octet that begins a
-    // sample.
-    Data { left: Option<u32>, low: Option<u8> },
+    // So many octets to be skipped, and then a chunk's head, which its own octets have not ended yet. The rate is that of
+    // the format, which was read or not.
+    Chunk {
+        rate: Option<u32>,
+        skip: u64,
+    },
+    // A field of the format, behind fields that told a rate; so many octets of its chunk stand behind the last field.
+    Format {
+        field: Field,
+        rate: u32,
+        skip: u64,
+    },
+    // The first data chunk, with the samples' rate, so many octets left, or none for data to the end of input, and the
+    // octet that begins a sample.
+    Data {
+        rate: u32,
+        left: Option<u32>,
+        low: Option<u8>,
+    },
     // A fault has shown.
-    Failed { fault: WavFault },
+    Failed {
+        fault: WavFault,
+    },
 }
 
 impl Part {
-    ghost use Rattle.wav_file.specs.Held.{after_head, after_chunk_head, after_field, after_data, data_begun, format_begun, answer_of, fault_of_part, whole_of_part};
+    ghost use Rattle.wav_file.specs.Held.{after_head, after_chunk_head, after_field, after_data, data_begun, format_begun, answer_of, fault_of_part, rate_of_part, whole_of_part};
     ghost use Rattle.wav_file.specs.Reading.{verdict_on};
 
     // Behind an octet of the first twelve.
@@ -53,7 +68,7 @@ impl Part {
                 fault: WavFault::NotWave { at },
             },
             11 => Part::Chunk {
-                formatted: false,
+                rate: None,
                 skip: 0,
             },
             _ => Part::Head,
@@ -61,40 +76,52 @@ impl Part {
     }
 
     // Behind a chunk's head, whose last octet is at `at`.
-    pub fn after_chunk_head(at: u64, formatted: bool, head: &[u8]) -> Part
+    pub fn after_chunk_head(at: u64, rate: Option<u32>, head: &[u8]) -> Part
         requires { length head.now ≡ 8 }
-        ensures { result ≡ after_chunk_head at formatted (take 4 head.now) (little_number 4 (drop 4 head.now)) }
+        ensures { result ≡ after_chunk_head at rate (take 4 head.now) (little_number 4 (drop 4 head.now)) }
     {
         let (name, size) = head.split_at(4);
         let size = LittleEndian::read_u32(size);
         if name == b"data".as_slice() {
-            return Part::of_data(at, formatted, size);
+            return Part::of_data(at, rate, size);
         }
-        if name == b"fmt ".as_slice() && !formatted {
+        if name == b"fmt ".as_slice() && rate.is_none() {
             return Part::of_format(at, size);
         }
         Part::Chunk {
-            formatted,
+            rate,
             skip: padded(size),
         }
     }
 
     // Behind an octet of the data, and the sample that ends with it.
-    pub fn after_data(left: Option<u32>, low: Option<u8>, octet: u8) -> (Part, Option<i16>)
-        ensures { result ≡ after_data left low octet }
+    pub fn after_data(
+        rate: u32,
+        left: Option<u32>,
+        low: Option<u8>,
+        octet: u8,
+    ) -> (Part, Option<i16>)
+        ensures { result ≡ after_data rate left low octet }
     {
         if left == Some(0) {
-            return (Part::Data { left, low }, None);
+            return (Part::Data { rate, left, low }, None);
         }
         let left = left.map(|left| left - 1);
         match low {
             None => {
                 let low = Some(octet);
-                (Part::Data { left, low }, None)
+                (Part::Data { rate, left, low }, None)
             }
             Some(low) => {
                 let sample = sample(low, octet);
-                (Part::Data { left, low: None }, Some(sample))
+                (
+                    Part::Data {
+                        rate,
+                        left,
+                        low: None,
+                    },
+                    Some(sample),
+                )
             }
         }
     }
@@ -106,6 +133,17 @@ impl Part {
         match self {
             Part::Failed { fault } => Err(fault),
             _ => Ok(sample),
+        }
+    }
+
+    // The rate of the format that was read.
+    pub fn rate(self) -> Option<u32>
+        ensures { result ≡ rate_of_part self }
+    {
+        match self {
+            Part::Chunk { rate, .. } => rate,
+            Part::Data { rate, .. } => Some(rate),
+            _ => None,
         }
     }
 
@@ -123,15 +161,16 @@ impl Part {
         }
     }
 
-    fn of_data(at: u64, formatted: bool, size: u32) -> Part
-        ensures { result ≡ data_begun at formatted size }
+    fn of_data(at: u64, rate: Option<u32>, size: u32) -> Part
+        ensures { result ≡ data_begun at rate size }
     {
-        if !formatted {
+        let Some(rate) = rate else {
             return Part::Failed {
                 fault: WavFault::NoFormat { at },
             };
-        }
+        };
         Part::Data {
+            rate,
             left: (size < ENDLESS_SIZE).then_some(size),
             low: None,
         }
@@ -147,15 +186,23 @@ impl Part {
         }
         Part::Format {
             field: Field::Format,
+            rate: 0,
             skip: padded(size) - u64::from(FORMAT_SIZE),
         }
     }
 
-    // Behind a field of this value, whose last octet is at `at`.
-    pub fn after_field(at: u64, field: Field, skip: u64, value: u32) -> Part
-        ensures { result ≡ after_field at field skip value }
+    // Behind a field of this value, whose last octet is at `at`, for a reader of these rates.
+    pub fn after_field(
+        rates: Rates,
+        at: u64,
+        field: Field,
+        rate: u32,
+        skip: u64,
+        value: u32,
+    ) -> Part
+        ensures { result ≡ after_field rates at field rate skip value }
     {
-        if !field.accepts(value) {
+        if !field.accepts(rates, value) {
             let fault = WavFault::BadFormat {
                 at,
                 field: field.number(),
@@ -163,10 +210,11 @@ impl Part {
             };
             return Part::Failed { fault };
         }
+        let rate = field.rate_after(rate, value);
         match field.next() {
-            Some(field) => Part::Format { field, skip },
+            Some(field) => Part::Format { field, rate, skip },
             None => Part::Chunk {
-                formatted: true,
+                rate: Some(rate),
                 skip,
             },
         }

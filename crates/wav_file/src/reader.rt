@@ -6,6 +6,7 @@ ghost use Rattle.std.specs.Result.{result_err};
 use crate::fault::WavFault;
 use crate::field::Field;
 use crate::part::Part;
+use crate::rates::Rates;
 use arrayvec::ArrayVec;
 use std::marker::Model;
 
@@ -15,6 +16,7 @@ const UNIT: usize = 8;
 /// Reads a WAV file octet by octet, and takes no memory.
 #[derive(Drop)]
 pub struct WavIn {
+    rates: Rates,
     position: u64,
     part: Part,
     unit: ArrayVec<u8, UNIT>,
@@ -25,22 +27,37 @@ impl Model for WavIn {
 
     ghost Value = { Held };
 
-    ghost view = { λ w. record { position = w.position; part = w.part; unit = w.unit.items } };
+    ghost view = { λ w. record { rates = w.rates; position = w.position; part = w.part; unit = w.unit.items } };
 
     ghost invariant = { λ w. Fits w.position w.part w.unit.items };
 }
 
 impl WavIn {
     ghost use Rattle.wav_file.specs.declared.fault.WavFault.{WavFault};
+    ghost use Rattle.wav_file.specs.declared.rates.Rates.{Rates};
     ghost use Rattle.wav_file.specs.Held.{StandsFor, Fits, step_of, to_part, made};
-    ghost use Rattle.wav_file.specs.Reading.{samples_in, fault_in, given, verdict_of};
+    ghost use Rattle.wav_file.specs.Reading.{samples_in, fault_in, given, rate_in, verdict_of};
     ghost use Rattle.wav_file.specs.Place.{told_place};
 
-    /// A reader to which no octet has come.
+    /// A reader of files at 9600 samples a second, to which no octet has come.
     pub fn new() -> Self
-        ensures stands_for { StandsFor result [] }
+        ensures stands_for { StandsFor Rates.Narrow result [] }
+    {
+        WavIn::of_rates(Rates::Narrow)
+    }
+
+    /// A reader of files at 9600 or 48,000 samples a second, to which no octet has come. `rate` tells which it is.
+    pub fn any_rate() -> Self
+        ensures stands_for { StandsFor Rates.NarrowOrWide result [] }
+    {
+        WavIn::of_rates(Rates::NarrowOrWide)
+    }
+
+    fn of_rates(rates: Rates) -> Self
+        ensures stands_for { StandsFor rates result [] }
     {
         WavIn {
+            rates,
             position: 0,
             part: Part::Head,
             unit: ArrayVec::new(),
@@ -50,14 +67,14 @@ impl WavIn {
     /// Takes the next octet, and gives the sample that ends with it. A fault comes exactly at the octet at which it shows,
     /// and from then on at each later one.
     pub fn push(&mut self, octet: u8) -> Result<Option<i16>, WavFault>
-        ensures stands_for { (octets : List ℕ) → StandsFor self.old octets
-            → StandsFor self.new (octets ++ octet ∷ []) }
-        ensures sample { (octets : List ℕ) → StandsFor self.old octets
-            → samples_in (octets ++ octet ∷ []) ≡ samples_in octets ++ given result }
-        ensures fault { (octets : List ℕ) → StandsFor self.old octets
-            → fault_in (octets ++ octet ∷ []) ≡ result_err result }
-        ensures again { (octets : List ℕ) (fault : WavFault) → StandsFor self.old octets
-            → fault_in octets ≡ Some fault → result ≡ Err fault }
+        ensures stands_for { (rates : Rates) (octets : List ℕ) → StandsFor rates self.old octets
+            → StandsFor rates self.new (octets ++ octet ∷ []) }
+        ensures sample { (rates : Rates) (octets : List ℕ) → StandsFor rates self.old octets
+            → samples_in rates (octets ++ octet ∷ []) ≡ samples_in rates octets ++ given result }
+        ensures fault { (rates : Rates) (octets : List ℕ) → StandsFor rates self.old octets
+            → fault_in rates (octets ++ octet ∷ []) ≡ result_err result }
+        ensures again { (rates : Rates) (octets : List ℕ) (fault : WavFault) → StandsFor rates self.old octets
+            → fault_in rates octets ≡ Some fault → result ≡ Err fault }
     {
         let sample = self.take(octet);
         self.part.answer(sample)
@@ -66,18 +83,27 @@ impl WavIn {
     /// What a file is worth that ends here: the fault that showed, or `Truncated` exactly where the file ends before its
     /// data does.
     pub fn finish(&self) -> Result<(), WavFault>
-        ensures { (octets : List ℕ) → StandsFor self.now octets → result ≡ verdict_of octets }
+        ensures { (rates : Rates) (octets : List ℕ) → StandsFor rates self.now octets → result ≡ verdict_of rates octets }
     {
         self.part.verdict(self.position)
+    }
+
+    /// How many samples a second the file has: 9600, or 48,000 if the reader takes that. `None` exactly until the sixteen
+    /// octets of the format were read.
+    pub fn rate(&self) -> Option<u32>
+        ensures { (rates : Rates) (octets : List ℕ) → StandsFor rates self.now octets → result ≡ rate_in rates octets }
+    {
+        self.part.rate()
     }
 
     // Makes the step of an octet, and gives the sample that ends with it.
     fn take(&mut self, octet: u8) -> Option<i16>
         ensures fitted { Fits self.old.position self.old.part self.old.unit }
         ensures fits { Fits self.new.position self.new.part self.new.unit }
+        ensures rates { self.new.rates ≡ self.old.rates }
         ensures place { self.new.position ≡ told_place (self.old.position + 1) }
         ensures step { made self.new result
-            ≡ step_of self.old.position self.old.part self.old.unit octet }
+            ≡ step_of self.old.rates self.old.position self.old.part self.old.unit octet }
     {
         let at = self.position;
         let sample = match self.part {
@@ -85,16 +111,16 @@ impl WavIn {
                 self.part = Part::after_head(at, octet);
                 None
             }
-            Part::Chunk { formatted, skip } => {
-                self.take_of_chunk(formatted, skip, octet);
+            Part::Chunk { rate, skip } => {
+                self.take_of_chunk(rate, skip, octet);
                 None
             }
-            Part::Format { field, skip } => {
-                self.take_of_format(field, skip, octet);
+            Part::Format { field, rate, skip } => {
+                self.take_of_format(field, rate, skip, octet);
                 None
             }
-            Part::Data { left, low } => {
-                let (part, sample) = Part::after_data(left, low, octet);
+            Part::Data { rate, left, low } => {
+                let (part, sample) = Part::after_data(rate, left, low, octet);
                 self.part = part;
                 sample
             }
@@ -104,36 +130,38 @@ impl WavIn {
         sample
     }
 
-    fn take_of_chunk(&mut self, formatted: bool, skip: u64, octet: u8)
-        requires { self.old.part ≡ Part.Chunk formatted skip }
+    fn take_of_chunk(&mut self, rate: Option<u32>, skip: u64, octet: u8)
+        requires { self.old.part ≡ Part.Chunk rate skip }
+        ensures rates { self.new.rates ≡ self.old.rates }
         ensures place { self.new.position ≡ self.old.position }
         ensures step { to_part self.new.part self.new.unit
-            ≡ step_of self.old.position self.old.part self.old.unit octet }
+            ≡ step_of self.old.rates self.old.position self.old.part self.old.unit octet }
     {
         if skip > 0 {
             self.part = Part::Chunk {
-                formatted,
+                rate,
                 skip: skip - 1,
             };
             return;
         }
         self.unit.push(octet);
         if self.unit.is_full() {
-            self.part = Part::after_chunk_head(self.position, formatted, self.unit.as_slice());
+            self.part = Part::after_chunk_head(self.position, rate, self.unit.as_slice());
             self.unit.clear();
         }
     }
 
-    fn take_of_format(&mut self, field: Field, skip: u64, octet: u8)
-        requires { self.old.part ≡ Part.Format field skip }
+    fn take_of_format(&mut self, field: Field, rate: u32, skip: u64, octet: u8)
+        requires { self.old.part ≡ Part.Format field rate skip }
+        ensures rates { self.new.rates ≡ self.old.rates }
         ensures place { self.new.position ≡ self.old.position }
         ensures step { to_part self.new.part self.new.unit
-            ≡ step_of self.old.position self.old.part self.old.unit octet }
+            ≡ step_of self.old.rates self.old.position self.old.part self.old.unit octet }
     {
         self.unit.push(octet);
         if self.unit.len() == field.width() {
             let value = field.value(self.unit.as_slice());
-            self.part = Part::after_field(self.position, field, skip, value);
+            self.part = Part::after_field(self.rates, self.position, field, rate, skip, value);
             self.unit.clear();
         }
     }

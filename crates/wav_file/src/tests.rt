@@ -216,3 +216,18 @@ fn chunks_in_any_order_are_read(rt: HostRuntime) -> Result<(), Fail> {
     }
     Ok(())
 }
+
+#[test]
+fn the_rate_is_told_once_the_format_was_read(rt: HostRuntime) {
+    let mut wide = WRITTEN;
+    wide[24..28].copy_from_slice(b"\x80\xbb\0\0");
+    for (octets, rate) in [(WRITTEN, 9600), (wide, 48_000)] {
+        let mut reader = WavIn::any_rate();
+        for (place, octet) in octets.iter().enumerate() {
+            let want = if place < 36 { None } else { Some(rate) };
+            assert_eq!(rt; reader.rate(), want, "before the octet at {place}");
+            assert!(rt; reader.push(*octet).is_ok());
+        }
+        assert_eq!(rt; reader.finish(), Ok(()));
+    }
+}

@@ -8,51 +8,16 @@ ghost use Rattle.slicer_bank.specs.RingLanes.{readers_in};
 
 use super::RingBank;
 use crate::advance::{Advance, LaneGap};
-use crate::gate::{Gate, OpenGate};
+use crate::gate::OpenGate;
+use crate::meeting::Meeting;
 use crate::merging::OFFSETS;
 use crate::ring_merging::merge_advance;
 use crate::worked_signal::transmission;
 use frame_merge::{Candidate, Merger};
 use sample_ring::{Ring, RingFault, Writer};
 use std::alloc::Global;
-use std::sync::atomic::{AtomicU64, Ordering};
 use std::test::Fail;
-use std::thread;
 use std::thread::Threads;
-
-/// How often a held lane looks for the other before it goes on.
-const LIMIT: u64 = 1_000_000;
-
-/// Holds lanes 0 and 7 each until the other has begun, and counts how often one gave up.
-#[derive(Drop)]
-struct Meeting {
-    first: AtomicU64,
-    last: AtomicU64,
-    given_up: AtomicU64,
-}
-
-impl Meeting {
-    fn hold(&self, own: &AtomicU64, other: &AtomicU64) {
-        let calls = own.fetch_add(1, Ordering::SeqCst).saturating_add(1);
-        for _ in 0..LIMIT {
-            if calls <= other.load(Ordering::SeqCst) {
-                return;
-            }
-            thread::yield_now();
-        }
-        self.given_up.fetch_add(1, Ordering::SeqCst);
-    }
-}
-
-impl Gate for Meeting {
-    fn begun(&self, lane: u8) {
-        match lane {
-            0 => self.hold(&self.first, &self.last),
-            7 => self.hold(&self.last, &self.first),
-            _ => {}
-        }
-    }
-}
 
 /// A ring of so many cells, its writer, and a bank of its eight readers.
 fn with_bank(alloc: Global, len: u32) -> Result<(Ring, Writer, RingBank), RingFault>
@@ -139,15 +104,9 @@ fn heard<R: Threads + Sync>(
 fn lanes_of_two_threads_meet(rt: HostRuntime) -> Result<(), Fail> {
     let (ring, mut writer, mut bank) = with_bank(rt.alloc(), 64)?;
     publish_silence(&ring, &mut writer, 8)?;
-    let meeting = Meeting {
-        first: AtomicU64::new(0),
-        last: AtomicU64::new(0),
-        given_up: AtomicU64::new(0),
-    };
+    let meeting = Meeting::new();
     let advance = bank.advance(&rt, &ring, &meeting)?;
-    assert_eq!(rt; meeting.first.load(Ordering::SeqCst), 1);
-    assert_eq!(rt; meeting.last.load(Ordering::SeqCst), 1);
-    assert_eq!(rt; meeting.given_up.load(Ordering::SeqCst), 0);
+    assert_eq!(rt; meeting.counts(), [1, 1, 0]);
     assert!(rt; advance.positions == [8; 8] && !advance.ended);
     assert!(rt; advance.candidates.is_empty() && advance.gaps.is_empty());
     writer.end(&ring);

@@ -1,0 +1,6 @@
+pub mod StreamLemmas
+pub mod WideLemmas
+pub mod Visits
+pub mod WideSteps
+pub mod WideMerged
+pub mod WideLaw

@@ -1,0 +1,11 @@
+use Rattle.std.proofs.Common.{refl}
+use Rattle.wide_input.proofs.WideSteps.{taken_none}
+use Rattle.wide_input.proofs.wide_bank.WideBank.new.Goals as goal
+
+pub returns-clause-stands_for : goal.returns-clause-stands_for
+returns-clause-stands_for c = record {
+  spent = refl;
+  finished = refl;
+  count = refl;
+  taken = taken_none c.in_ok-new_streams.field-0.items c.in_ok-new.field-0 c.in_ok-new_streams.ensures.stand_for c.in_ok-new.ensures.stands_for;
+}

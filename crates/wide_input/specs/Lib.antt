@@ -1,0 +1,5 @@
+pub mod Streams
+pub mod Candidates
+pub mod MergedItems
+pub mod Stray
+pub mod Held

@@ -1,0 +1,22 @@
+//! Reception at 48,000 samples a second, which sound cards use: each fifth sample, from one of the first five on, is a
+//! stream of 9600 a second.
+//!
+//! A [`WideBank`] has a bank of eight lanes for each of the five streams. What the forty lanes hear is merged by the place
+//! where it ends, so each frame comes once, in order. The items of all samples are a definition over their list: it does
+//! not matter in which blocks the samples came.
+#![tactic(auto)]
+
+mod laws;
+mod stream;
+mod streams;
+mod wide_bank;
+
+pub use laws::{
+    near_stream_frames, one_list_of_wide_candidates, some_list_of_wide_candidates, streams_by_place,
+};
+pub use wide_bank::WideBank;
+
+#[cfg(test)]
+mod tests;
+#[cfg(test)]
+mod worked_signal;

@@ -1,0 +1,171 @@
+//! The five streams over a block: each hears its part by itself, so they can work one after another, or on threads.
+
+ghost use Rattle.std.specs.Prelude.{◌≡◌, ◌+◌, ◌<◌, ◌≤◌, ◌^◌, ◌/◌, ℕ, ℤ, List, [], ◌++◌, length, map, replicate, IfOk, OnOk, slice_index_or};
+ghost use Rattle.std.specs.List.{All};
+ghost use Rattle.frame_merge.specs.declared.candidate.Candidate.{Candidate};
+ghost use Rattle.frame_merge.specs.Held.{StandsFor as MergerStandsFor};
+ghost use Rattle.slicer_bank.specs.Merging.{CanBePut};
+ghost use Rattle.wide_input.specs.Candidates.{in_stream};
+ghost use Rattle.wide_input.specs.Streams.{least_count};
+ghost use Rattle.wide_input.specs.MergedItems.{AreWideMergedBetween};
+ghost use Rattle.wide_input.specs.Held.{HeldStream, HearsBlock, KeepsFit, StreamsStandFor, AreAlike, HaveTaken, HasFound, found_by, brought};
+
+use crate::stream::{STREAMS, Stream};
+use frame_merge::{Candidate, Merger};
+use slicer_bank::Gate;
+use std::alloc::Global;
+use std::thread;
+use std::thread::Threads;
+use tnc_base::OutOfMemory;
+
+/// One thread is started beside the caller's.
+const JOBS: usize = 2;
+
+/// The lanes of a stream, one for each offset of a bit.
+const OFFSETS: u8 = 8;
+
+/// The lanes of all streams.
+pub(crate) const LANES: u8 = 40;
+
+/// The five streams, which have taken nothing.
+pub(crate) fn new_streams(alloc: Global) -> Result<Vec<Stream>, OutOfMemory>
+    ensures count { IfOk result (λ streams. length streams.items ≡ 5) }
+    ensures stand_for { IfOk result (λ streams. StreamsStandFor streams.items []) }
+    ensures positions { IfOk result (λ streams. All (λ held. held.bank.position ≤ 0) streams.items) }
+{
+    let mut streams = Vec::new(alloc);
+    for number in 0..STREAMS {
+        streams.push(Stream::new(alloc, number as u8)?)?;
+    }
+    Ok(streams)
+}
+
+/// Runs the job of each stream, one after another.
+pub(crate) fn hear_in_turn(streams: &mut [Stream], position: u64, block: &[i16])
+    requires streams { length streams.old ≡ 5 }
+    requires positions { All (λ held. held.bank.position ≤ position) streams.old }
+    requires room { position + length block.now < 2 ^ 48 }
+    ensures streams { length streams.new ≡ 5 }
+    ensures heard { (number : ℕ) (d : HeldStream) → number < 5
+        → HearsBlock block.now (slice_index_or streams.old number d) (slice_index_or streams.new number d) }
+    ensures fits { All KeepsFit streams.new }
+    ensures positions { All (λ held. held.bank.position ≤ position + length block.now) streams.new }
+{
+    for stream in streams.iter_mut() {
+        stream.hear(block);
+    }
+}
+
+/// Runs the job of each stream, on two threads. The gate is told of each lane of a stream as the stream's job starts.
+pub(crate) fn hear_on_threads<R: Threads + Sync, G: Gate>(
+    rt: &R,
+    streams: &mut [Stream],
+    position: u64,
+    block: &[i16],
+    gate: &G,
+)
+    requires streams { length streams.old ≡ 5 }
+    requires positions { All (λ held. held.bank.position ≤ position) streams.old }
+    requires room { position + length block.now < 2 ^ 48 }
+    ensures streams { length streams.new ≡ 5 }
+    ensures heard { (number : ℕ) (d : HeldStream) → number < 5
+        → HearsBlock block.now (slice_index_or streams.old number d) (slice_index_or streams.new number d) }
+    ensures fits { All KeepsFit streams.new }
+    ensures positions { All (λ held. held.bank.position ≤ position + length block.now) streams.new }
+{
+    thread::for_each_mut(
+        rt,
+        streams,
+        JOBS,
+        &|index, stream: &mut Stream|
+            requires { (index < 5) × (stream.old.bank.position + length block.now < 2 ^ 48) }
+            ensures heard { HearsBlock block.entry.now stream.old stream.new }
+            ensures fits { KeepsFit stream.new }
+            ensures position { stream.new.bank.position ≤ stream.old.bank.position + length block.entry.now }
+        {
+            tell_lanes(gate, index as u8);
+            stream.hear(block);
+        },
+    );
+}
+
+/// Tells the gate of the lanes of a stream.
+fn tell_lanes<G: Gate>(gate: &G, number: u8)
+    requires { number < 5 }
+{
+    for offset in 0..OFFSETS {
+        gate.begun(OFFSETS * number + offset);
+    }
+}
+
+/// Puts what the streams heard into the lanes of a merger, stream by stream.
+pub(crate) fn put_found(streams: &mut [Stream], merger: &mut Merger) -> Result<(), OutOfMemory>
+    requires streams { length streams.old ≡ 5 }
+    requires fits { All KeepsFit streams.old }
+    requires marks { length merger.old.marks ≡ 40 }
+    ensures streams { length streams.new ≡ 5 }
+    ensures alike { OnOk result ((number : ℕ) (d : HeldStream) → number < 5
+        → AreAlike (slice_index_or streams.new number d) (slice_index_or streams.old number d)) }
+    ensures kept { OnOk result (All HasFound streams.old) }
+    ensures stands_for { OnOk result ((puts given : List Candidate) → MergerStandsFor merger.old puts given
+        → MergerStandsFor merger.new (puts ++ brought 0 (map found_by streams.old)) given) }
+    ensures marks { merger.new.marks ≡ merger.old.marks }
+{
+    for number in 0..STREAMS {
+        let found = streams[number].take_found()?;
+        put_stream(merger, number as u8, found)?;
+    }
+    Ok(())
+}
+
+/// Puts what one stream heard into its lanes.
+fn put_stream(merger: &mut Merger, number: u8, found: Vec<Candidate>) -> Result<(), OutOfMemory>
+    requires number { number < 5 }
+    requires fits { All CanBePut found.items }
+    requires marks { length merger.old.marks ≡ 40 }
+    ensures stands_for { OnOk result ((puts given : List Candidate) → MergerStandsFor merger.old puts given
+        → MergerStandsFor merger.new (puts ++ map (in_stream number) found.items) given) }
+    ensures marks { merger.new.marks ≡ merger.old.marks }
+{
+    for heard in found {
+        let item = Candidate {
+            end: heard.end,
+            offset: OFFSETS * number + heard.offset,
+            octets: heard.octets,
+        };
+        // No item is late, so want of memory is the one refusal.
+        let Ok(()) = merger.put(item) else {
+            return Err(OutOfMemory);
+        };
+    }
+    Ok(())
+}
+
+/// Gives what the streams heard in a block to a merger, whose lanes are then marked where the least stream stands: past
+/// `position` samples in all. Tells the items that are settled by the block.
+pub(crate) fn merge_found(
+    streams: &mut [Stream],
+    merger: &mut Merger,
+    position: u64,
+) -> Result<Vec<Candidate>, OutOfMemory>
+    requires streams { length streams.old ≡ 5 }
+    requires fits { All KeepsFit streams.old }
+    requires room { position < 2 ^ 48 }
+    requires lanes { length merger.old.marks ≡ 40 }
+    requires marks { All (λ mark. mark ≤ position / 5) merger.old.marks }
+    ensures given { IfOk result (λ ready. (before : List HeldStream) (x y : List ℤ) → length (x ++ y) ≡ position
+        → ((number : ℕ) (d : HeldStream) → number < 5
+        → HearsBlock y (slice_index_or before number d) (slice_index_or streams.old number d))
+        → HaveTaken before merger.old x
+        → HaveTaken streams.new merger.new (x ++ y)
+        × AreWideMergedBetween (least_count x) (least_count (x ++ y)) (x ++ y) ready.items) }
+    ensures streams { length streams.new ≡ 5 }
+    ensures marks { OnOk result (merger.new.marks ≡ replicate 40 (position / 5)) }
+    ensures positions { OnOk result ((most : ℕ) → All (λ held. held.bank.position ≤ most) streams.old
+        → All (λ held. held.bank.position ≤ most) streams.new) }
+{
+    put_found(streams, merger)?;
+    merger.mark_all(position / STREAMS as u64);
+    let ready = merger.take_ready()?;
+    Ok(ready)
+}
