@@ -1,0 +1,136 @@
+-- What one sample more changes: the window that ends with it, and the tones and bits of an offset.
+use Rattle.std.proofs.Common.{◌≡◌, ◌↔◌, ◌⊎◌, inl, inr, ℕ, ◌+◌, ◌-◌, ◌*◌, ◌/◌, ◌%◌, ◌<◌, ◌≤◌, ℤ, pos, List, [], ◌∷◌, ◌++◌, Bool, true, length, map, take, drop, set, nat_eq, ap, sym, ◌∙◌, arith, length-append, length-drop, append_assoc}
+use Rattle.std.specs.List.{copy_within}
+use Rattle.std.proofs.Math.Seq.{drop-append-add}
+use Rattle.std.proofs.lemmas.Bool.{cases_eq, eq-eqb, eqb-true}
+use Rattle.std.proofs.lemmas.List.{drop-append-le, drop-drop, take_all, take_more_set, length-set, length_push, length-replicate, append-nil}
+use Rattle.std.proofs.lemmas.List.Edits.{take-paste}
+use Rattle.std.proofs.lemmas.List.FromFn.{take-map-range_with_len, map-range_with_len_more}
+use Rattle.std.specs.List.{range_with_len}
+use Rattle.tone_table.specs.declared.tone.Tone.{Tone}
+use Rattle.nrzi_bits.specs.Line.{bits_of}
+use Rattle.hf_modem.specs.Decision.{tone_of}
+use Rattle.hf_modem.specs.Windows.{windows_in, window_at, tones_at, bits}
+use Rattle.hf_modem.specs.Held.{silence, last_window}
+use Rattle.hf_modem.proofs.WindowLemmas.{length-tones_at, tones_at-append}
+
+-- ---- the last 32 samples
+
+pub length-last_window : (x : List ℤ) → length (last_window x) ≡ 32
+length-last_window x = omega (arith, length-drop (length x) (silence ++ x), length-append silence x, length-replicate 32 (pos 0))
+
+-- with one sample more
+pub last_window-push : (x : List ℤ) (sample : ℤ) → last_window (x ++ sample ∷ []) ≡ drop 1 (last_window x) ++ sample ∷ []
+last_window-push x sample =
+    let inside : length x ≤ length (silence ++ x) = omega (arith, length-append silence x) in
+    let some : 1 ≤ length (last_window x) = omega (arith, length-last_window x) in
+    ap (λ n. drop n (silence ++ (x ++ sample ∷ []))) (length_push x sample)
+    ∙ ap (λ l. drop (length x + 1) l) (sym (append_assoc silence x (sample ∷ [])))
+    ∙ sym (drop-drop 1 (length x) ((silence ++ x) ++ sample ∷ []))
+    ∙ ap (drop 1) (drop-append-le (length x) (silence ++ x) (sample ∷ []) inside)
+    ∙ drop-append-le 1 (last_window x) (sample ∷ []) some
+
+-- without silence, where there are 32
+last_window_whole : (x : List ℤ) → 32 ≤ length x → last_window x ≡ drop (length x - 32) x
+last_window_whole x enough =
+    let at : length x ≡ length silence + (length x - 32) = omega (arith, length-replicate 32 (pos 0)) in
+    ap (λ n. drop n (silence ++ x)) at ∙ drop-append-add silence x (length x - 32)
+
+-- 32 samples of which the first has gone and a new one has come
+pub shifted : (window moved : List ℤ) (sample : ℤ) → length window ≡ 32 → length moved ≡ length window → moved ≡ copy_within window 1 32 0
+    → set moved 31 sample ≡ drop 1 window ++ sample ∷ []
+shifted window moved sample whole same is =
+    let rest : length (drop 1 window) ≡ 31 = omega (arith, length-drop 1 window) in
+    let size : length (set moved 31 sample) ≤ 31 + 1 = omega (arith, length-set moved 31 sample) in
+    sym (take_all (31 + 1) (set moved 31 sample) size)
+    ∙ take_more_set moved 31 sample (omega arith)
+    ∙ ap (λ w. take 31 w ++ sample ∷ []) is
+    ∙ ap (λ w. w ++ sample ∷ []) (take-paste window 0 (drop 1 window) 31 (omega arith) (omega arith))
+    ∙ ap (λ w. w ++ sample ∷ []) (take_all 31 (drop 1 window) (omega arith))
+
+-- ---- tones
+
+-- a sample that ends no window adds no tone
+pub tones_at-push_none : (offset : ℕ) (x : List ℤ) (sample : ℤ) → windows_in offset (length x + 1) ≡ windows_in offset (length x)
+    → tones_at offset (x ++ sample ∷ []) ≡ tones_at offset x
+tones_at-push_none offset x sample none =
+    let count : length (tones_at offset (x ++ sample ∷ [])) ≡ windows_in offset (length x)
+    = length-tones_at offset (x ++ sample ∷ []) ∙ ap (windows_in offset) (length_push x sample) ∙ none in
+    sym (tones_at-append offset x (sample ∷ []) ∙ take_all (windows_in offset (length x)) (tones_at offset (x ++ sample ∷ [])) (omega arith))
+
+-- a sample that ends a window adds the tone of that window
+pub tones_at-push_one : (offset : ℕ) (x : List ℤ) (sample : ℤ) → windows_in offset (length x + 1) ≡ windows_in offset (length x) + 1
+    → tones_at offset (x ++ sample ∷ [])
+    ≡ tones_at offset x ++ tone_of (window_at offset (x ++ sample ∷ []) (windows_in offset (length x))) ∷ []
+unfolding tones_at
+tones_at-push_one offset x sample one =
+    let all : List ℤ = x ++ sample ∷ [] in
+    let n : ℕ = windows_in offset (length x) in
+    let tone : ℕ → Tone = λ k. tone_of (window_at offset all k) in
+    let count : windows_in offset (length all) ≡ n + 1 = ap (windows_in offset) (length_push x sample) ∙ one in
+    let fits : n ≤ windows_in offset (length all) = omega arith in
+    ap (λ m. map tone (range_with_len 0 m)) count
+    ∙ map-range_with_len_more tone 0 n n (omega arith)
+    ∙ ap (λ tones. tones ++ tone n ∷ [])
+    (sym (take-map-range_with_len tone 0 (windows_in offset (length all)) n fits) ∙ sym (tones_at-append offset x (sample ∷ [])))
+
+-- ---- where a window of an offset ends
+
+-- no window ends, or one does and the windows are one more
+pub same_or_ends : (offset count : ℕ) → (windows_in offset (count + 1) ≡ windows_in offset count)
+    ⊎ ((k : ℕ) × (count + 1 ≡ offset + 32 * (k + 1)))
+same_or_ends offset count = elim (cases_eq (windows_in offset (count + 1)) (windows_in offset count)) [
+  | inl same ↦ inl same
+  | inr other ↦ inr (windows_in offset count, omega arith)
+]
+
+-- a window ends where so many samples, at least 32, leave the offset as the rest of a division by 32
+pub ends_by_rest : (offset count : ℕ) → offset < 32 → 32 ≤ count
+    → (nat_eq (count % 32) offset ≡ true) ↔ ((k : ℕ) × (count ≡ offset + 32 * (k + 1)))
+ends_by_rest offset count small enough = (
+  λ same. let rest : count % 32 ≡ offset = eqb-true (count % 32) offset same in (count / 32 - 1, omega arith),
+  λ ends. let size = ends.1 in eq-eqb (count % 32) offset (omega arith),
+)
+
+-- the window that ends with a sample
+window_last : (offset k : ℕ) (x : List ℤ) → length x ≡ offset + 32 * (k + 1) → window_at offset x k ≡ last_window x
+unfolding window_at
+window_last offset k x ends =
+    let at : offset + 32 * k ≡ length x - 32 = omega arith in
+    take_all 32 (drop (offset + 32 * k) x) (omega (arith, length-drop (offset + 32 * k) x))
+    ∙ ap (λ n. drop n x) at
+    ∙ sym (last_window_whole x (omega arith))
+
+-- the tones with the last sample of a window
+pub tones_at-last : (offset k : ℕ) (x : List ℤ) (sample : ℤ) → length x + 1 ≡ offset + 32 * (k + 1)
+    → tones_at offset (x ++ sample ∷ []) ≡ tones_at offset x ++ tone_of (last_window (x ++ sample ∷ [])) ∷ []
+tones_at-last offset k x sample ends =
+    let all : List ℤ = x ++ sample ∷ [] in
+    let size : length all ≡ length x + 1 = length_push x sample in
+    let count : windows_in offset (length x) ≡ k = omega arith in
+    tones_at-push_one offset x sample (omega arith)
+    ∙ ap (λ n. tones_at offset x ++ tone_of (window_at offset all n) ∷ []) count
+    ∙ ap (λ w. tones_at offset x ++ tone_of w ∷ []) (window_last offset k all (omega arith))
+
+-- the tones with a sample that ends no window
+pub tones_at-none : (offset : ℕ) (x : List ℤ) (sample : ℤ) → (((k : ℕ) × (length x + 1 ≡ offset + 32 * (k + 1))) → ⊥)
+    → tones_at offset (x ++ sample ∷ []) ≡ tones_at offset x
+tones_at-none offset x sample none = elim (same_or_ends offset (length x)) [
+  | inl same ↦ tones_at-push_none offset x sample same
+  | inr ends ↦ absurd (none ends)
+]
+
+-- ---- bits
+
+-- a sample that ends no window adds no bit
+pub bits-push_none : (offset : ℕ) (x : List ℤ) (sample : ℤ) → tones_at offset (x ++ sample ∷ []) ≡ tones_at offset x
+    → bits offset (x ++ sample ∷ []) ≡ bits offset x ++ []
+unfolding bits
+bits-push_none offset x sample none = ap bits_of none ∙ sym (append-nil (bits_of (tones_at offset x)))
+
+-- a sample that ends a window adds the bit of its tone
+pub bits-push_one : (offset : ℕ) (x : List ℤ) (sample : ℤ) (tone : Tone) (bit : Bool) → tones_at offset (x ++ sample ∷ []) ≡ tones_at offset x ++ tone ∷ []
+    → bits_of (tones_at offset x ++ tone ∷ []) ≡ bits_of (tones_at offset x) ++ bit ∷ []
+    → bits offset (x ++ sample ∷ []) ≡ bits offset x ++ bit ∷ []
+unfolding bits
+bits-push_one offset x sample tone bit tones more = ap bits_of tones ∙ more

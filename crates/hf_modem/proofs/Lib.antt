@@ -1,0 +1,14 @@
+pub mod DecisionLemmas
+pub mod WindowLemmas
+pub mod LastWindow
+pub mod WaveLemmas
+pub mod SlicerLemmas
+pub mod CandidateLemmas
+pub mod HeardLemmas
+pub mod OneList
+pub mod SomeList
+pub mod MergedLemmas
+pub mod LaneLemmas
+pub mod BankLemmas
+pub mod HearingLemmas
+pub mod SignalLemmas

@@ -1,0 +1,53 @@
+-- What a slicer, a lane and a bank of lanes keep, and what that stands for.
+use Rattle.std.specs.Prelude.{◌≡◌, ℕ, ◌<◌, ℤ, pos, List, ◌++◌, length, drop, replicate, slice_index_or}
+use Rattle.tone_table.specs.declared.tone.Tone.{Tone}
+use Rattle.nrzi_bits.specs.Line.{bits_of, last_tone}
+use Rattle.hdlc_framer.specs.Held.{Held as HeldDeframer, StandsFor as DeframerStandsFor}
+use Rattle.hf_modem.specs.Windows.{tones_at}
+
+-- what stands before the first sample
+abbrev pub silence : List ℤ
+silence = replicate 32 (pos 0)
+
+-- the last 32 of the samples, with silence before the first
+abbrev pub last_window : List ℤ → List ℤ
+last_window x = drop (length x) (silence ++ x)
+
+-- the offset, the number of samples, the last 32 of them, and the tone of the last whole window
+pub record HeldSlicer : Type 0 where
+  pub offset : ℕ
+  pub position : ℕ
+  pub recent : List ℤ
+  pub before : Tone
+
+-- the slicer has taken these samples
+pub record SlicerStandsFor (held : HeldSlicer) (x : List ℤ) : Type 0 where
+  pub count : held.position ≡ length x
+  pub recent : held.recent ≡ last_window x
+  pub before : held.before ≡ last_tone (tones_at held.offset x)
+
+-- the tone of the last window, and the deframer of the bits
+pub record HeldLane : Type 0 where
+  pub before : Tone
+  pub deframer : HeldDeframer
+
+-- the lane has taken windows of these tones
+pub record LaneStandsFor (held : HeldLane) (tones : List Tone) : Type 0 where
+  pub before : held.before ≡ last_tone tones
+  pub deframer : DeframerStandsFor held.deframer (bits_of tones)
+
+-- each lane has taken the windows at its offset that lie in these samples
+abbrev pub LanesStandFor : List HeldLane → List ℤ → Type 0
+LanesStandFor lanes x =
+    (offset : ℕ) (d : HeldLane) → offset < 32 → LaneStandsFor (slice_index_or lanes offset d) (tones_at offset x)
+
+pub record HeldBank : Type 0 where
+  pub lanes : List HeldLane
+  pub recent : List ℤ
+  pub position : ℕ
+
+-- the bank has taken these samples
+pub record BankStandsFor (held : HeldBank) (x : List ℤ) : Type 0 where
+  pub count : held.position ≡ length x
+  pub recent : held.recent ≡ last_window x
+  pub lanes : LanesStandFor held.lanes x

@@ -1,0 +1,11 @@
+pub mod Tones
+pub mod Wave
+pub mod Transmission
+pub mod Signal
+pub mod Decision
+pub mod Windows
+pub mod Candidates
+pub mod MergedItems
+pub mod Held
+pub mod HeldDecoder
+pub mod Heard
