@@ -2,14 +2,16 @@
 use Rattle.std.proofs.Common.{◌≡◌, ℕ, ◌+◌, ◌-◌, ◌^◌, ◌<◌, ◌≤◌, ℤ, List, [], ◌++◌, length, replicate, ap, sym, ◌∙◌, arith, subst, get_or, length-append}
 use Rattle.std.specs.Prelude.{All}
 use Rattle.std.specs.List.Sorted.{IsNonDecreasingBy}
+use Rattle.std.proofs.lemmas.List.Elements.{All-filter}
+use Rattle.channel_access.specs.Waiting.{HasFrameLength}
 use Rattle.frame_merge.specs.declared.candidate.Candidate.{Candidate}
 use Rattle.frame_merge.specs.Held.{Held as HeldMerger, StandsFor as MergerStandsFor, least}
 use Rattle.frame_merge.specs.Order.{in_order}
 use Rattle.frame_merge.specs.Merged.{merged, below}
-use Rattle.frame_merge.proofs.Merging.{merged-rising}
+use Rattle.frame_merge.proofs.Merging.{merged-rising, All-merged}
 use Rattle.frame_merge.proofs.Ordering.{rising_ends}
 use Rattle.frame_merge.proofs.Taking.{least-one}
-use Rattle.slicer_bank.specs.Candidates.{AreCandidates, AreCandidatesBehind}
+use Rattle.slicer_bank.specs.Candidates.{AreCandidates, AreCandidatesBehind, IsCandidate}
 use Rattle.slicer_bank.specs.Held.{HeldBank, StandsFor as BankStandsFor}
 use Rattle.slicer_bank.specs.MergedItems.{AreMergedBetween}
 use Rattle.slicer_bank.proofs.CandidateLemmas.{candidates_none, candidates_join}
@@ -82,3 +84,19 @@ module _ (x y : List ℤ) (before after : Ear) (put marked : HeldMerger) (found 
               (sym (below_more (mark_of x) h.candidates found (past_mark x y found both.1))) total;
         },
       )
+
+-- ---- lengths
+
+-- what is heard has the length of a frame
+abbrev IsOfLength : Candidate → Type 0
+IsOfLength item = HasFrameLength item.octets
+
+candidate_length : (x : List ℤ) (item : Candidate) → IsCandidate x item → IsOfLength item
+candidate_length x item h = let frame = h.ends.frame.2 in record { least = frame.least; most = frame.most }
+
+pub ready_lengths : (from to : ℕ) (x : List ℤ) (items : List Candidate) → AreMergedBetween from to x items
+    → All (λ item. HasFrameLength item.octets) items
+ready_lengths from to x items h =
+    subst (All IsOfLength) (sym h.is)
+    (All-filter _ IsOfLength (merged h.candidates)
+    (All-merged IsOfLength [] h.candidates (λ k d lt. candidate_length x _ (h.are.each k d lt).0)))

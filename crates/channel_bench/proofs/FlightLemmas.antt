@@ -1,5 +1,6 @@
 -- What is kept of the frames in flight, and moments one after another.
 use Rattle.std.proofs.Common.{◌≡◌, ℕ, ◌+◌, ◌<◌, Bool, true, false, ◌||◌, ◌&&◌, List, [], ◌∷◌, ◌++◌, length, map, drop, cond, Option, Some, None, refl, sym, ap, ◌∙◌}
+use Rattle.std.specs.Prelude.{is_some}
 use Rattle.std.specs.List.{list_any}
 use Rattle.std.proofs.lemmas.List.{drop-map, map-append}
 use Rattle.link_world.specs.declared.end.End.{End}
@@ -79,3 +80,13 @@ first_next sender on_ask (first ∷ frames) octets ways is =
     next_by (is_quiet_at sender first ways) (first_unquiet sender on_ask frames then_ways)
     (first_unquiet sender on_ask (frames ++ octets ∷ []) then_ways) (cond (is_quiet_at sender octets all) None (Some (count_of all + 1)))
     (count_of ways + 1) (first_next sender on_ask frames octets then_ways) is
+
+-- the first that finds no quiet channel, with a frame more
+pub first_more : (sender : End) (on_ask : Bool) (frames : List (List ℕ)) (octets : List ℕ) (ways : BothWays) (first next : Option ℕ)
+    → first ≡ first_unquiet sender on_ask frames ways
+    → next ≡ cond (is_some first || is_quiet_at sender octets (queueing_all sender on_ask frames ways)) first
+    (Some (count_of (queueing_all sender on_ask frames ways) + 1))
+    → next ≡ first_unquiet sender on_ask (frames ++ octets ∷ []) ways
+first_more sender on_ask frames octets ways None next h is = is ∙ sym (first_next sender on_ask frames octets ways (sym h))
+first_more sender on_ask frames octets ways (Some number) next h is =
+    is ∙ sym (first_stays sender on_ask frames octets ways number (sym h))

@@ -1,15 +1,21 @@
 -- Frames, messages and pieces one after another.
 use Rattle.std.proofs.Common.{◌≡◌, ℕ, ◌+◌, ◌<◌, List, [], ◌∷◌, ◌++◌, length, take, drop, get_or, Option, Some, None, refl, sym, ap, ◌∙◌, subst}
-use Rattle.std.specs.Prelude.{position, option_map}
+use Rattle.std.proofs.Common.{true}
+use Rattle.std.specs.Prelude.{is_some, position, option_map}
+use Rattle.std.proofs.lemmas.Bool.{false≢true}
 use Rattle.std.proofs.lemmas.List.{take_more}
 use Rattle.agwpe_port.specs.declared.message.AgwMessage.{AgwMessage}
 use Rattle.frame_merge.specs.declared.candidate.Candidate.{Candidate}
 use Rattle.link_world.specs.declared.end.End.{End}
 use Rattle.station.specs.declared.host_out.Piece.{Piece}
 use Rattle.channel_bench.specs.declared.matching.SentAt.{SentAt}
+use Rattle.channel_bench.specs.declared.shared.Shared.{Shared}
+use Rattle.channel_bench.specs.declared.side.Side.{Side}
 use Rattle.channel_bench.specs.declared.trouble.Trouble.{Trouble}
+use Rattle.channel_bench.specs.declared.trouble.Trouble.TheVariants.{Stray}
 use Rattle.channel_bench.specs.BenchState.{SideState, Near}
 use Rattle.channel_bench.specs.BenchSteps.{GoesOn, IsStep, IsHeardAs, IsHeardAt, AreHeardAt, is_match, match_of, told_piece, told_pieces, with_matched, with_stray}
+use Rattle.channel_bench.specs.HeldBench.{StandsForCommon, StandsForNear}
 use Rattle.channel_bench.specs.JointRun.Input.{OffAir}
 use Rattle.channel_bench.specs.HostProgram.{ProgramState, told, told_all}
 
@@ -81,9 +87,39 @@ pub match_made : (end : End) (item : Candidate) (number : ℕ) (n next : Near) �
     → IsStep end (OffAir item.octets) (Some number) (with_matched number n) next → IsHeardAt end item n next
 match_made end item number n next is step = subst (λ m. IsHeardAs end m item.octets n next) (sym is) step
 
--- the place of the first match among those that come after the last one
-pub match_at : (item : Candidate) (side : SideState) (place : Option ℕ) (rest : List SentAt) → rest ≡ drop side.matched side.towards
-    → place ≡ position (is_match item) rest → match_of item side ≡ option_map (λ k. side.matched + k) place
-match_at item side place rest is found =
-    ap (λ xs. option_map (λ k. side.matched + k) (position (is_match item) xs)) (sym is)
-    ∙ ap (option_map (λ k. side.matched + k)) (sym found)
+-- the number of the first match among those that come after the last one, by what the code keeps
+pub match_at : (item : Candidate) (side : SideState) (place : Option ℕ) (matched : ℕ) (towards : List SentAt) → matched ≡ side.matched
+    → towards ≡ side.towards → place ≡ position (is_match item) (drop matched towards)
+    → match_of item side ≡ option_map (λ k. matched + k) place
+match_at item side place matched towards number sent found =
+    sym (ap (option_map (λ k. matched + k)) found
+    ∙ (λ i. option_map (λ k. number i + k) (position (is_match item) (drop (number i) (sent i)))))
+
+-- once the run has ended, nothing more comes to pass
+pub heard_ended : (end : End) (item : Candidate) (n : Near) → is_some n.common.trouble ≡ true
+    → GoesOn n.common.trouble (IsHeardAt end item n n) (n ≡ n)
+heard_ended end item n ended = by n.common.trouble ended
+  where
+    by : (f : Option Trouble) → is_some f ≡ true → GoesOn f (IsHeardAt end item n n) (n ≡ n)
+    by None never = absurd (false≢true never)
+    by (Some trouble) is = refl
+
+pub heard_goes_on : (end : End) (item : Candidate) (n next : Near) → n.common.trouble ≡ None → IsHeardAt end item n next
+    → GoesOn n.common.trouble (IsHeardAt end item n next) (next ≡ n)
+heard_goes_on end item n next none h = subst (λ f. GoesOn f (IsHeardAt end item n next) (next ≡ n)) (sym none) h
+
+-- what both stations share after a stray
+pub stray_stands : (end : End) (side : Side) (before after : Shared) (n : Near) (octets : List ℕ) → StandsForNear end side before n
+    → after ≡ record before { trouble = Some (Stray octets) } → StandsForNear end side after (with_stray octets n)
+stray_stands end side before after n octets h is =
+    let shared = h.shared_is in
+    record {
+      side_is = h.side_is;
+      shared_is = subst (λ s. StandsForCommon s (with_stray octets n).common) (sym is) (record {
+        flight = shared.flight;
+        draws = shared.draws;
+        transmissions = shared.transmissions;
+        lost = shared.lost;
+        trouble = refl;
+      });
+    }

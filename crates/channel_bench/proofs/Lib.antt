@@ -53,3 +53,10 @@ mod BenchLemmas
 mod MessageLengths
 mod GiveLemmas
 mod TickLemmas
+mod LossLemmas
+mod HostSteps
+mod PieceLemmas
+mod HeardSteps
+mod AskLemmas
+mod PassLemmas
+mod TakeLemmas

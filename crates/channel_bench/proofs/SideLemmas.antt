@@ -1,5 +1,5 @@
 -- What a station of the bench stands for after its calls.
-use Rattle.std.proofs.Common.{◌≡◌, ℕ, ◌+◌, ◌<◌, ◌≤◌, Bool, true, false, List, [], ◌∷◌, ◌++◌, length, Option, Some, None, refl, sym, ap, ◌∙◌, subst}
+use Rattle.std.proofs.Common.{◌≡◌, ℕ, ◌+◌, ◌<◌, ◌≤◌, Bool, true, false, ℤ, List, [], ◌∷◌, ◌++◌, length, Option, Some, None, refl, sym, ap, ◌∙◌, subst}
 use Rattle.std.specs.Prelude.{All, MatchBool, ◌↔◌, IsTrue}
 use Rattle.agwpe_port.specs.Held.{StandsFor as AgwStandsFor}
 use Rattle.link_world.specs.declared.end.End.{End}
@@ -13,11 +13,13 @@ use Rattle.station.specs.StandsFor.{StandsFor as StationStandsFor}
 use Rattle.station.specs.State.{StationState}
 use Rattle.station.specs.Ticks.{ticking, air_of}
 use Rattle.station.specs.Turn.{Out, Turn, begin}
+use Rattle.channel_bench.specs.declared.matching.SentAt.{SentAt}
 use Rattle.channel_bench.specs.declared.shared.Shared.{Shared}
 use Rattle.channel_bench.specs.declared.side.Side.{Side}
 use Rattle.channel_bench.specs.BenchState.{SideState, Common, Near, ways_of}
 use Rattle.channel_bench.specs.BenchSteps.{MayCome, IsStep, IsTicking, IsTold, told_pieces, first_unquiet, trouble_of}
 use Rattle.channel_bench.specs.HeldBench.{EarStandsFor, StandsForSide, StandsForCommon, StandsForNear, StandsForWays}
+use Rattle.channel_bench.specs.HostProgram.{ProgramState}
 use Rattle.channel_bench.specs.InFlight.{BothWays, is_ask, hears_ask, hearing_at, queueing_all}
 use Rattle.channel_bench.specs.JointRun.Input.{FromHost, OffAir, OfClock}
 use Rattle.channel_bench.proofs.Loudness.{air_within}
@@ -45,6 +47,63 @@ stands_with end before after side next there h same station ids is = record {
   there = is;
   reader = subst (λ r. AgwStandsFor r side.stream) (sym same.reader) h.reader;
   program = same.program ∙ h.program;
+  ear = subst (λ e. EarStandsFor e side.samples) (sym same.ear) h.ear;
+  towards = ap (λ t. t.items) same.towards ∙ h.towards;
+  matched = same.matched ∙ h.matched;
+  air = same.air ∙ h.air;
+  loud = h.loud;
+  silenced = same.silenced ∙ h.silenced;
+}
+
+-- all but what it hears, and whether its transmission is lost, is as it was
+pub record KeepsStation (before after : Side) : Type 0 where
+  pub end : after.end ≡ before.end
+  pub station : after.station ≡ before.station
+  pub there : after.there ≡ before.there
+  pub reader : after.reader ≡ before.reader
+  pub program : after.program ≡ before.program
+  pub air : after.air ≡ before.air
+
+pub stands_kept : (end : End) (before after : Side) (side : SideState) → StandsForSide end before side → KeepsStation before after
+    → (samples : List ℤ) (towards : List SentAt) (matched : ℕ) (silenced : Bool) → EarStandsFor after.ear samples
+    → after.towards.items ≡ towards → after.matched ≡ matched → after.silenced ≡ silenced
+    → StandsForSide end after (record side { samples = samples; towards = towards; matched = matched; silenced = silenced })
+stands_kept end before after side h same samples towards matched silenced ear sent number lost = record {
+  end_is = same.end ∙ h.end_is;
+  station = subst (λ s. StationStandsFor s side.station) (sym same.station) h.station;
+  ids = ap ids_of same.station ∙ h.ids;
+  there = ap (λ t. t.items) same.there ∙ h.there;
+  reader = subst (λ r. AgwStandsFor r side.stream) (sym same.reader) h.reader;
+  program = same.program ∙ h.program;
+  ear = ear;
+  towards = sent;
+  matched = number;
+  air = same.air ∙ h.air;
+  loud = h.loud;
+  silenced = lost;
+}
+
+-- all but the host program is as it was
+pub record KeepsAllElse (before after : Side) : Type 0 where
+  pub end : after.end ≡ before.end
+  pub station : after.station ≡ before.station
+  pub there : after.there ≡ before.there
+  pub reader : after.reader ≡ before.reader
+  pub ear : after.ear ≡ before.ear
+  pub towards : after.towards ≡ before.towards
+  pub matched : after.matched ≡ before.matched
+  pub air : after.air ≡ before.air
+  pub silenced : after.silenced ≡ before.silenced
+
+pub stands_program : (end : End) (before after : Side) (side : SideState) (program : ProgramState) → StandsForSide end before side
+    → KeepsAllElse before after → after.program ≡ program → StandsForSide end after (record side { program = program })
+stands_program end before after side program h same is = record {
+  end_is = same.end ∙ h.end_is;
+  station = subst (λ s. StationStandsFor s side.station) (sym same.station) h.station;
+  ids = ap ids_of same.station ∙ h.ids;
+  there = ap (λ t. t.items) same.there ∙ h.there;
+  reader = subst (λ r. AgwStandsFor r side.stream) (sym same.reader) h.reader;
+  program = is;
   ear = subst (λ e. EarStandsFor e side.samples) (sym same.ear) h.ear;
   towards = ap (λ t. t.items) same.towards ∙ h.towards;
   matched = same.matched ∙ h.matched;

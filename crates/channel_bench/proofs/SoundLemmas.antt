@@ -4,6 +4,7 @@ use Rattle.std.specs.Prelude.{All}
 use Rattle.frame_merge.specs.declared.candidate.Candidate.{Candidate}
 use Rattle.slicer_bank.specs.MergedItems.{AreMergedBetween}
 use Rattle.rand_pcg.specs.Lcg.{Lcg}
+use Rattle.channel_access.specs.declared.air_tick.AirTick.{AirTick}
 use Rattle.link_world.specs.declared.end.End.TheVariants.{A, B}
 use Rattle.channel_bench.specs.declared.shared.Shared.{Shared}
 use Rattle.channel_bench.specs.BenchState.{SideState, Common, BenchState, near, with_near, ways_of}
@@ -21,6 +22,17 @@ reaching_within full sender hearer h = go (sender.silenced || (not full && sends
     go : (b : Bool) → All IsLoudAtMost (cond b (replicate 96 (pos 0)) sender.air.samples)
     go true = silence_within 96
     go false = h
+
+-- silence reaches it, or what is sent
+pub reaching_is : (full : Bool) (sender hearer : SideState) (silenced : Bool) (mine theirs : AirTick) (silent : Bool) (samples : List ℤ)
+    → silenced ≡ sender.silenced → mine ≡ sender.air → theirs ≡ hearer.air → silent ≡ (silenced || (not full && sends theirs))
+    → samples ≡ cond silent (replicate 96 (pos 0)) mine.samples → samples ≡ reaching full sender hearer
+unfolding reaching
+reaching_is full sender hearer silenced mine theirs silent samples own air other so is =
+    let silent_is : silent ≡ (sender.silenced || (not full && sends hearer.air)) =
+    so ∙ ap (λ b. b || (not full && sends theirs)) own ∙ ap (λ a. sender.silenced || (not full && sends a)) other in
+    is ∙ ap (λ b. cond b (replicate 96 (pos 0)) mine.samples) silent_is
+    ∙ ap (λ a. cond (sender.silenced || (not full && sends hearer.air)) (replicate 96 (pos 0)) a.samples) air
 
 -- the frames that are ready with 96 samples more
 pub ready_with : (x y : List ℤ) (items : List Candidate) → length y ≡ 96

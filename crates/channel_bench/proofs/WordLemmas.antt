@@ -76,3 +76,7 @@ noise_all noise exact initial now place noisy h past = (
   sym (append-nil noisy) ∙ ap (λ xs. noisy ++ with_words noise xs now) (sym (drop_all place exact past)) ∙ h.parts,
   ap (λ xs. after_words xs now) (sym (drop_all place exact past)) ∙ h.draws,
 )
+
+pub length-with_words : (noise : ℕ) (samples : List ℤ) (draws : Lcg) → length (with_words noise samples draws) ≡ length samples
+length-with_words noise [] draws = refl
+length-with_words noise (sample ∷ samples) draws = ap suc (length-with_words noise samples (after_word draws))

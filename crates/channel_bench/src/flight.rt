@@ -1,5 +1,5 @@
 //! What is in flight between the two stations, as far as one can see who does not know what will be heard.
-ghost use Rattle.std.specs.Prelude.{◌≡◌, ◌+◌, ◌-◌, ◌<◌, ◌^◌, IfOk, OnOk, Some};
+ghost use Rattle.std.specs.Prelude.{◌≡◌, ◌+◌, ◌-◌, ◌<◌, ◌^◌, ◌||◌, if◌then◌else◌, IfOk, OnOk, Some, is_some};
 ghost use Rattle.std.specs.List.{list_any};
 ghost use Rattle.channel_bench.specs.InFlight.{OneWay as WayState, BothWays, asks, answers, control_octet, hearing_at, in_flight, is_ask, is_control_of, is_quiet_at, is_quiet_for, is_ua_or_dm, nothing_sent, queueing_all, queueing_at, sent_by, with_front, with_queued, with_sent_by};
 ghost use Rattle.channel_bench.specs.BenchSteps.{first_unquiet, count_of};
@@ -168,13 +168,27 @@ impl Flight {
     {
         let mut first = None;
         for octets in frames {
-            let number = self.next_number()?;
-            if first.is_none() && !self.is_quiet(sender, octets.as_slice()) {
-                first = Some(number);
-            }
+            first = self.first_with(first, sender, octets.as_slice())?;
             self.queue(sender, on_ask, octets.as_slice())?;
         }
         Ok(first)
+    }
+
+    /// The number of the first that finds no quiet channel, with one frame more that is to join.
+    fn first_with(
+        &self,
+        first: Option<u64>,
+        sender: End,
+        octets: &[u8],
+    ) -> Result<Option<u64>, OutOfMemory>
+        ensures { (ways : BothWays) → StandsForWays self.now ways → IfOk result (λ next.
+            next ≡ (if is_some first || is_quiet_at sender octets.now ways then first else Some (count_of ways + 1))) }
+    {
+        if first.is_some() || self.is_quiet(sender, octets) {
+            return Ok(first);
+        }
+        let number = self.next_number()?;
+        Ok(Some(number))
     }
 
     /// A station hears the frame of a number.

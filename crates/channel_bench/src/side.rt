@@ -1,13 +1,14 @@
 //! A station of the bench, with its host program and what it hears.
-ghost use Rattle.std.specs.Prelude.{◌≡◌, ◌≢◌, ◌+◌, ◌<◌, ◌≤◌, ◌^◌, ◌↔◌, ℕ, IsTrue, List, [], ◌++◌, length, All, Any, None, IfOk, OnOk};
+ghost use Rattle.std.specs.Prelude.{◌≡◌, ◌≢◌, ◌+◌, ◌<◌, ◌≤◌, ◌^◌, ◌↔◌, ℕ, IsTrue, List, [], ◌++◌, length, All, Any, Some, None, IfOk, OnOk};
 ghost use Rattle.station.specs.Held.{without_ids};
 ghost use Rattle.std.specs.Bool.{IsFalse};
 ghost use Rattle.channel_access.specs.Waiting.{HasFrameLength};
 ghost use Rattle.station.specs.declared.host_event.HostEvent.{HostEvent};
+ghost use Rattle.station.specs.declared.host_event.PortKind.{PortKind};
 ghost use Rattle.channel_bench.specs.declared.words.BenchWords.{BenchWords};
-ghost use Rattle.channel_bench.specs.JointRun.Input.{FromHost};
+ghost use Rattle.channel_bench.specs.JointRun.Input.{FromHost, OffAir};
 ghost use Rattle.channel_bench.specs.BenchState.{SideState, Near, new_side, config_of};
-ghost use Rattle.channel_bench.specs.BenchSteps.{GoesOn, MayCome, IsStep, IsTold, IsTicking, IsHeardAt, AreHeardAt, told_piece, told_pieces, first_unquiet, trouble_of};
+ghost use Rattle.channel_bench.specs.BenchSteps.{GoesOn, MayCome, IsStep, IsTold, IsTicking, IsHeardAt, AreHeardAt, told_piece, told_pieces, first_unquiet, trouble_of, with_matched};
 ghost use Rattle.channel_bench.specs.BenchTick.{AreReady, IsGiven};
 ghost use Rattle.channel_bench.specs.Sounding.{passed_below, sent_in, with_loss, with_samples};
 ghost use Rattle.channel_bench.specs.HostProgram.{set_ups_of};
@@ -21,13 +22,10 @@ use crate::reading::read_messages;
 use crate::report::SetUp;
 use crate::requests::data;
 use crate::shared::Shared;
-use crate::trouble::Trouble;
 use agwpe_port::AgwIn;
-use channel_access::AirTick;
+use channel_access::{AirTick, Sent};
 use frame_merge::Candidate;
-use link_machine::NewFault;
 use link_world::End;
-use rand_core::utils::NextWord;
 use station::{Config, HostEvent, HostOut, Piece, PortKind, Station, TickOut};
 use std::alloc::Global;
 use tnc_base::{Octets, OutOfMemory};
@@ -66,22 +64,20 @@ impl Side {
     ghost use Rattle.channel_bench.specs.InFlight.{BothWays, queueing_all};
 
     /// A station to which nothing came yet.
-    #[tactic(none)]
     pub(crate) fn new(
         alloc: Global,
         end: End,
         config: Config,
         seed: u64,
     ) -> Result<Side, OutOfMemory>
-        requires { (w : BenchWords) × (config ≡ config_of w) }
         ensures { (w : BenchWords) → config ≡ config_of w → seed ≡ seed_at w end
             → IfOk result (λ side. StandsForSide end side (new_side w end)) }
     {
-        let station = match Station::new(alloc, config, seed) {
-            Ok(station) => station,
-            Err(NewFault::Memory) => return Err(OutOfMemory),
-            Err(NewFault::BadWindow { .. }) => unreachable!(),
+        // The windows fit, so want of memory is the one refusal.
+        let Ok(station) = Station::new(alloc, config, seed) else {
+            return Err(OutOfMemory);
         };
+        let ear = Ear::new(alloc)?;
         Ok(Side {
             alloc,
             end,
@@ -89,7 +85,7 @@ impl Side {
             there: Vec::new(alloc),
             reader: AgwIn::new(alloc),
             program: Program::new(alloc),
-            ear: Ear::new(alloc)?,
+            ear,
             towards: Vec::new(alloc),
             matched: 0,
             air: AirTick {
@@ -112,8 +108,17 @@ impl Side {
         is_among(&self.there, id) && self.station.accepts(id)
     }
 
+    /// No connection of the id is there.
+    fn is_new(&self, id: u32) -> bool
+        ensures may { (end : End) (side : SideState) (kind : PortKind) → StandsForSide end self.now side
+            → (IsTrue result ↔ MayCome (HostEvent.Joined id kind) side) }
+        ensures admitted { IsTrue result → (end : End) (side : SideState) (kind : PortKind) → StandsForSide end self.now side
+            → IsAdmitted (HostEvent.Joined id kind) self.now.station }
+    {
+        !is_among(&self.there, id)
+    }
+
     /// A connection joins, if none of its id is there.
-    #[tactic(none)]
     pub(crate) fn join(
         &mut self,
         shared: &mut Shared,
@@ -123,9 +128,25 @@ impl Side {
         requires { (end : End) × (n : Near) × StandsForNear end self.old shared.old n }
         ensures { (end : End) → OnOk result (MovesNear end (IsTold end (HostEvent.Joined id kind)) self.old self.new shared.old shared.new) }
     {
-        if is_among(&self.there, id) {
+        if !self.is_new(id) {
             return Ok(());
         }
+        self.enter(shared, id, kind)?;
+        Ok(())
+    }
+
+    /// A connection joins under a new id.
+    fn enter(
+        &mut self,
+        shared: &mut Shared,
+        id: u32,
+        kind: PortKind,
+    ) -> Result<(), OutOfMemory>
+        requires { IsAdmitted (HostEvent.Joined id kind) self.old.station }
+        ensures { (end : End) (n : Near) → StandsForNear end self.old shared.old n → n.common.trouble ≡ None
+            → OnOk result ((next : Near) × IsStep end (FromHost (HostEvent.Joined id kind)) None n next
+            × StandsForNear end self.new shared.new next) }
+    {
         self.there.push(id)?;
         let out = self.station.host(HostEvent::Joined { id, kind })?;
         leave_all(&mut self.there, &out.closed);
@@ -134,7 +155,6 @@ impl Side {
     }
 
     /// A connection says octets, if the station takes them.
-    #[tactic(none)]
     pub(crate) fn say(
         &mut self,
         shared: &mut Shared,
@@ -153,7 +173,6 @@ impl Side {
     }
 
     /// The host program gives the next piece of a text, if the station takes it.
-    #[tactic(none)]
     pub(crate) fn give(&mut self, shared: &mut Shared, text: &[u8]) -> Result<(), OutOfMemory>
         requires { (end : End) × (n : Near) × StandsForNear end self.old shared.old n }
         ensures { (end : End) (w : BenchWords) → text.now ≡ text_at w end
@@ -172,7 +191,6 @@ impl Side {
     }
 
     /// A connection says octets that the station takes.
-    #[tactic(none)]
     pub(crate) fn bring(
         &mut self,
         shared: &mut Shared,
@@ -191,7 +209,6 @@ impl Side {
     }
 
     /// The station ticks.
-    #[tactic(none)]
     pub(crate) fn tick(&mut self, shared: &mut Shared) -> Result<(), OutOfMemory>
         ensures { (end : End) (n : Near) → StandsForNear end self.old shared.old n → n.common.trouble ≡ None
             → OnOk result ((next : Near) × IsTicking end n next × StandsForNear end self.new shared.new next) }
@@ -204,7 +221,6 @@ impl Side {
     }
 
     /// A transmission that begins draws a word, and may be lost.
-    #[tactic(none)]
     pub(crate) fn draw_loss(&mut self, shared: &mut Shared, loss: u8) -> Result<(), OutOfMemory>
         ensures { (end : End) (n : Near) → StandsForNear end self.old shared.old n
             → OnOk result (StandsForNear end self.new shared.new (with_loss loss n)) }
@@ -212,13 +228,11 @@ impl Side {
         if !self.air.began {
             return Ok(());
         }
-        self.silenced = shared.draws.next_word() % 100 < u32::from(loss);
-        shared.count(self.silenced)?;
+        self.silenced = shared.draw_loss(loss)?;
         Ok(())
     }
 
     /// Samples of a tick reach it, and a frame was sent with them. Gives the frames that are ready.
-    #[tactic(none)]
     pub(crate) fn take_in(
         &mut self,
         tick: u64,
@@ -233,18 +247,12 @@ impl Side {
             × AreReady (side.samples ++ samples.now) items.items) }
         ensures lengths { IfOk result (λ items. All (λ item. HasFrameLength item.octets) items.items) }
     {
-        if let Some(sent) = &air.sent {
-            self.towards.push(SentAt {
-                octets: Octets::from_slice(self.alloc, sent.octets.as_slice())?,
-                end: TICK * tick + u64::from(sent.after),
-            })?;
-        }
+        note_sent(self.alloc, &mut self.towards, tick, &air.sent)?;
         let items = self.ear.listen(samples)?;
         Ok(items)
     }
 
     /// The station hears the frames that are ready, until something ends the run.
-    #[tactic(none)]
     pub(crate) fn hear_all(
         &mut self,
         shared: &mut Shared,
@@ -261,7 +269,6 @@ impl Side {
     }
 
     /// The station hears a frame that matches one that was sent, unless something has ended the run.
-    #[tactic(none)]
     fn hear(&mut self, shared: &mut Shared, item: &Candidate) -> Result<(), OutOfMemory>
         requires { HasFrameLength item.now.octets }
         ensures { (end : End) (n : Near) → StandsForNear end self.old shared.old n
@@ -272,15 +279,31 @@ impl Side {
             return Ok(());
         }
         let Some(place) = SentAt::first_match(&self.towards[self.matched..], item) else {
-            let octets = Octets::from_slice(self.alloc, item.octets.as_slice())?;
-            shared.trouble = Some(Trouble::Stray { octets });
+            shared.end_by_stray(self.alloc, item.octets.as_slice())?;
             return Ok(());
         };
         let number = self.matched + place;
+        self.hear_sent(shared, number, item.octets.as_slice())?;
+        Ok(())
+    }
+
+    /// The station hears the frame of a number.
+    fn hear_sent(
+        &mut self,
+        shared: &mut Shared,
+        number: usize,
+        octets: &[u8],
+    ) -> Result<(), OutOfMemory>
+        requires length { HasFrameLength octets.now }
+        requires number { number < length self.old.towards.items }
+        ensures { (end : End) (n : Near) → StandsForNear end self.old shared.old n → n.common.trouble ≡ None
+            → OnOk result ((next : Near) × IsStep end (OffAir octets.now) (Some number) (with_matched number n) next
+            × StandsForNear end self.new shared.new next) }
+    {
         self.matched = number + 1;
         shared.flight.hear(self.end, number);
-        let out = self.station.heard(item.octets.as_slice())?;
-        self.settle(shared, is_ask(item.octets.as_slice()), &out)?;
+        let out = self.station.heard(octets)?;
+        self.settle(shared, is_ask(octets), &out)?;
         Ok(())
     }
 
@@ -315,16 +338,26 @@ impl Side {
         ensures rest { (shared.new.draws ≡ shared.old.draws) × (shared.new.transmissions ≡ shared.old.transmissions)
             × (shared.new.lost ≡ shared.old.lost) }
     {
-        for piece in &out.pieces {
+        self.tell(&out.pieces)?;
+        shared.queue_all(self.end, on_ask, &out.queued)?;
+        Ok(())
+    }
+
+    /// The host program is told pieces, one after another.
+    fn tell(&mut self, pieces: &[Piece]) -> Result<(), OutOfMemory>
+        ensures told { (end : End) (side : SideState) → StandsForSide end self.old side
+            → OnOk result (StandsForSide end self.new (told_pieces pieces.now side)) }
+        ensures end { self.new.end ≡ self.old.end }
+    {
+        for piece in pieces {
             self.take(piece)?;
         }
-        shared.queue_all(self.end, on_ask, &out.queued)?;
         Ok(())
     }
 
     /// A piece for a connection. What others than the host program are sent is dropped.
     fn take(&mut self, piece: &Piece) -> Result<(), OutOfMemory>
-        ensures side { (end : End) (side : SideState) → StandsForSide end self.old side
+        ensures told { (end : End) (side : SideState) → StandsForSide end self.old side
             → OnOk result (StandsForSide end self.new (told_piece piece.now side)) }
         ensures end { self.new.end ≡ self.old.end }
     {
@@ -332,10 +365,30 @@ impl Side {
             return Ok(());
         }
         let messages = read_messages(self.alloc, &mut self.reader, piece.octets.as_slice())?;
-        for message in &messages {
-            self.program.hear(message)?;
-        }
+        self.program.hear_all(&messages)?;
         Ok(())
+    }
+}
+
+/// Notes a frame whose sending has ended in a tick, if one has.
+fn note_sent(
+    alloc: Global,
+    towards: &mut Vec<SentAt>,
+    tick: u64,
+    sent: &Option<Sent>,
+) -> Result<(), OutOfMemory>
+    requires { tick < 2 ^ 32 }
+    ensures noted { OnOk result (towards.new.items ≡ towards.old.items ++ sent_in tick sent.now) }
+    ensures kept { length towards.old.items ≤ length towards.new.items }
+{
+    match sent {
+        Some(sent) => {
+            let octets = Octets::from_slice(alloc, sent.octets.as_slice())?;
+            let end = TICK * tick + u64::from(sent.after);
+            towards.push(SentAt { octets, end })?;
+            Ok(())
+        }
+        None => Ok(()),
     }
 }
 

@@ -1,6 +1,6 @@
 use Rattle.std.proofs.Common.{◌<◌, ◌≤◌, ◌++◌, ◌∷◌, [], ℤ, pos, length, get_or, unsigned_abs, refl, ap, ◌∙◌, rules, arith}
 use Rattle.std.proofs.lemmas.Int.{ints}
-use Rattle.channel_bench.proofs.WordLemmas.{noise_none, noise_more, noise_all}
+use Rattle.channel_bench.proofs.WordLemmas.{length-with_words, noise_none, noise_more, noise_all}
 use Rattle.channel_bench.proofs.air.with_words.Goals as goal
 
 pub loop-sample-init : goal.loop-sample-init
@@ -20,6 +20,10 @@ loop-sample-preserved c =
 pub returns-clause-samples : goal.returns-clause-samples
 returns-clause-samples c =
     (noise_all c.args.noise c.args.samples.now c.args.draws.now c.loop-sample.draws c.loop-sample.sample-index c.loop-sample.heard.items c.loop-sample.invariant c.loop-sample-test.false).0
+
+pub returns-clause-length : goal.returns-clause-length
+returns-clause-length c =
+    ap length (returns-clause-samples c) ∙ length-with_words c.args.noise c.args.samples.now c.args.draws.now
 
 pub returns-clause-draws : goal.returns-clause-draws
 returns-clause-draws c =

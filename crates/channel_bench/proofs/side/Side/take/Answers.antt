@@ -1,0 +1,16 @@
+-- A piece of another connection is dropped, and the host program reads its own.
+use Rattle.std.proofs.Common.{refl, sym, subst}
+use Rattle.channel_bench.specs.HeldBench.{StandsForSide}
+use Rattle.channel_bench.proofs.PieceLemmas.{told_messages, told_other}
+use Rattle.channel_bench.proofs.side.Side.take.Goals as goal
+
+pub returns-then-piece-ne-PROGRAM-clause-told : goal.returns-then-piece-ne-PROGRAM-clause-told
+returns-then-piece-ne-PROGRAM-clause-told c = λ end side h.
+    subst (StandsForSide end c.args.self.now) (sym (told_other c.args.piece.now side c.if-piece-ne-PROGRAM.true)) h
+
+pub returns-clause-told : goal.returns-clause-told
+returns-clause-told c = λ end side h.
+    told_messages end c.args.self.now _ side c.args.piece.now c.in_ok-messages.messages.items h
+    (record { end = refl; station = refl; there = refl; ear = refl; towards = refl; matched = refl; air = refl; silenced = refl })
+    c.if-piece-ne-PROGRAM.false (c.in_ok-messages.ensures.stands_for side.stream h.reader) (c.in_ok-messages.ensures.messages side.stream h.reader)
+    c.in_ok-hear_all.ensures
