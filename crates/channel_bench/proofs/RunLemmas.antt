@@ -114,11 +114,11 @@ none_from (Some trouble) is = absurd (false≢true (sym is))
 -- what the run stands for, by the test of the code
 pub has_ended : (run : Run) (w : BenchWords) (bench : BenchState) (test : Bool) → StandsForRun run w bench → test ≡ is_some run.shared.trouble → test ≡ true
     → is_some bench.common.trouble ≡ true
-has_ended run w bench test h is yes = ap is_some (sym h.shared.trouble) ∙ sym is ∙ yes
+has_ended run w bench test h is true_is = ap is_some (sym h.shared.trouble) ∙ sym is ∙ true_is
 
 pub goes_on : (run : Run) (w : BenchWords) (bench : BenchState) (test : Bool) → StandsForRun run w bench → test ≡ is_some run.shared.trouble → test ≡ false
     → bench.common.trouble ≡ None
-goes_on run w bench test h is no = none_from bench.common.trouble (ap is_some (sym h.shared.trouble) ∙ sym is ∙ no)
+goes_on run w bench test h is false_is = none_from bench.common.trouble (ap is_some (sym h.shared.trouble) ∙ sym is ∙ false_is)
 
 -- what A makes of an end that is A, and B of one that is B
 pub moves_at_a : (part : End → Near → Near → Type 0) (end : End) (before after : Run) (w : BenchWords) (bench : BenchState) → end ≡ A

@@ -162,10 +162,21 @@ heard_made end octets number n out side before after heard small stands settled 
     step_made end (OffAir octets) (Some number) n (record { now = heard.0; out = out }) heard.1 small side after stands settled.flight settled.trouble
     (settled.draws ∙ draws) (settled.transmissions ∙ transmissions) (settled.lost ∙ lost)
 
+-- all but what it sends in the tick is as it was
+pub record KeepsBesidesAir (before after : Side) : Type 0 where
+  pub end : after.end ≡ before.end
+  pub station : after.station ≡ before.station
+  pub there : after.there ≡ before.there
+  pub reader : after.reader ≡ before.reader
+  pub program : after.program ≡ before.program
+  pub ear : after.ear ≡ before.ear
+  pub towards : after.towards ≡ before.towards
+  pub matched : after.matched ≡ before.matched
+  pub silenced : after.silenced ≡ before.silenced
+
 -- with what is sent in the tick
 pub ticks : (end : End) (busy : Bool) (n : Near) (after side : Side) (shared : Shared)
-    → (IsTrue busy ↔ HearsCarrier 1 n.side.samples) → after.air ≡ air_of busy n.side.station
-    → after ≡ record side { air = after.air }
+    → (IsTrue busy ↔ HearsCarrier 1 n.side.samples) → after.air ≡ air_of busy n.side.station → KeepsBesidesAir side after
     → (next : Near) × IsStep end (OfClock busy) None n next × StandsForNear end side shared next
     → (next : Near) × IsTicking end n next × StandsForNear end after shared next
 ticks end busy n after side shared carrier air same made =
@@ -174,20 +185,20 @@ ticks end busy n after side shared carrier air same made =
       record made.0 { side = now },
       record { busy = busy; carrier = carrier; next = made.0; step = made.1; is = refl },
       record {
-        side_is = subst (λ s. StandsForSide end s now) (sym same) (record {
-          end_is = h.end_is;
-          station = h.station;
-          ids = h.ids;
-          there = h.there;
-          reader = h.reader;
-          program = h.program;
-          ear = h.ear;
-          towards = h.towards;
-          matched = h.matched;
+        side_is = record {
+          end_is = same.end ∙ h.end_is;
+          station = subst (λ s. StationStandsFor s made.0.side.station) (sym same.station) h.station;
+          ids = ap ids_of same.station ∙ h.ids;
+          there = ap (λ t. t.items) same.there ∙ h.there;
+          reader = subst (λ r. AgwStandsFor r made.0.side.stream) (sym same.reader) h.reader;
+          program = same.program ∙ h.program;
+          ear = subst (λ e. EarStandsFor e made.0.side.samples) (sym same.ear) h.ear;
+          towards = ap (λ t. t.items) same.towards ∙ h.towards;
+          matched = same.matched ∙ h.matched;
           air = air;
           loud = air_within busy n.side.station;
-          silenced = h.silenced;
-        });
+          silenced = same.silenced ∙ h.silenced;
+        };
         shared_is = made.2.shared_is;
       },
     )

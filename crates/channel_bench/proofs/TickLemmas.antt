@@ -10,11 +10,10 @@ use Rattle.channel_bench.specs.declared.words.BenchWords.{BenchWords}
 use Rattle.channel_bench.specs.BenchState.{BenchState, SideState, Near, AtEnd, near, side_at, with_near}
 use Rattle.channel_bench.specs.BenchSteps.{GoesOn, IsHeardAt, AreHeardAt}
 use Rattle.channel_bench.specs.BenchTick.{Part, AreReady, IsListening, IsPart, ArePartsMade, IsTick, beginning, each_tick, parts_of}
-use Rattle.channel_bench.specs.BenchTick.Part.{Closes, Listens, Sounds}
-use Rattle.channel_bench.specs.HeldBench.{Unless, sounds}
-use Rattle.channel_bench.specs.Sounding.{sounding, ticked}
+use Rattle.channel_bench.specs.BenchTick.Part.{Closes, Listens}
+use Rattle.channel_bench.specs.HeldBench.{Unless, hears}
+use Rattle.channel_bench.specs.Sounding.{ticked}
 use Rattle.channel_bench.proofs.PartLemmas.{parts_append, parts_cons, parts_one, parts_stop}
-use Rattle.channel_bench.proofs.RunLemmas.{unless_made}
 
 -- nothing more comes to pass
 pub parts_ended : (w : BenchWords) (parts : List Part) (bench : BenchState) → is_some bench.common.trouble ≡ true → ArePartsMade w parts bench bench
@@ -47,16 +46,14 @@ listens end items bench next ready h = go bench.common.trouble refl
 pub keeps_b : (part : Near → Near → Type 0) (bench next : BenchState) → AtEnd A part bench next → next.b ≡ bench.b
 keeps_b part bench next h = ap (λ (b : BenchState). b.b) h.is
 
--- what both stations send reaches them, and is heard, and the tick ends
-pub sounds_made : (w : BenchWords) (bench sounded i j k : BenchState) (at_a at_b : List Candidate) → bench.common.trouble ≡ None
-    → sounded ≡ sounding w bench → AreReady sounded.a.samples at_a → AreReady sounded.b.samples at_b
-    → AtEnd A (AreHeardAt A at_a) sounded i → AtEnd B (AreHeardAt B at_b) i j → Unless (λ before after. after ≡ ticked before) j k
-    → ArePartsMade w sounds bench k
-sounds_made w bench sounded i j k at_a at_b none is ready_a ready_b a b closes =
-    let ready : AreReady i.b.samples at_b = subst (λ (s : SideState). AreReady s.samples at_b) (sym (keeps_b (AreHeardAt A at_a) sounded i a)) ready_b in
-    parts_cons w Sounds (Listens A ∷ Listens B ∷ Closes ∷ []) bench sounded k (unless_made (IsPart w Sounds) bench sounded none is)
-    (parts_cons w (Listens A) (Listens B ∷ Closes ∷ []) sounded i k (listens A at_a sounded i ready_a a)
-    (parts_cons w (Listens B) (Closes ∷ []) i j k (listens B at_b i j ready b) (parts_one w Closes j k closes)))
+-- what is ready is heard, and the tick ends
+pub hears_made : (w : BenchWords) (bench i j k : BenchState) (at_a at_b : List Candidate) → AreReady bench.a.samples at_a → AreReady bench.b.samples at_b
+    → AtEnd A (AreHeardAt A at_a) bench i → AtEnd B (AreHeardAt B at_b) i j → Unless (λ before after. after ≡ ticked before) j k
+    → ArePartsMade w hears bench k
+hears_made w bench i j k at_a at_b ready_a ready_b a b closes =
+    let ready : AreReady i.b.samples at_b = subst (λ (s : SideState). AreReady s.samples at_b) (sym (keeps_b (AreHeardAt A at_a) bench i a)) ready_b in
+    parts_cons w (Listens A) (Listens B ∷ Closes ∷ []) bench i k (listens A at_a bench i ready_a a)
+    (parts_cons w (Listens B) (Closes ∷ []) i j k (listens B at_b i j ready b) (parts_one w Closes j k closes))
 
 -- the first tick, and each later one
 pub tick_first : (w : BenchWords) (bench between next : BenchState) → bench.ticks ≡ 0 → ArePartsMade w (beginning w) bench between
@@ -68,4 +65,4 @@ tick_first w bench between next is begun made =
 pub tick_later : (w : BenchWords) (bench next : BenchState) → 0 < bench.ticks → ArePartsMade w each_tick bench next → IsTick w bench next
 unfolding IsTick
 tick_later w bench next past made =
-    subst (λ b. ArePartsMade w (cond b (beginning w ++ each_tick) each_tick) bench next) (sym (ne_eqb bench.ticks 0 (omega arith))) made
+    subst (λ b. ArePartsMade w (cond b (beginning w ++ each_tick) each_tick) bench next) (sym (ne_eqb bench.ticks 0 (λ e. omega (arith, past, e)))) made

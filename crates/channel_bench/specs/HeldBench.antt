@@ -107,8 +107,11 @@ Unless part before after = GoesOn before.common.trouble (part before after) (aft
 abbrev pub acts : List Part
 acts = Gives A ∷ AsksOrCalls ∷ Gives B ∷ Ticks A ∷ Ticks B ∷ []
 
+abbrev pub hears : List Part
+hears = Listens A ∷ Listens B ∷ Closes ∷ []
+
 abbrev pub sounds : List Part
-sounds = Sounds ∷ Listens A ∷ Listens B ∷ Closes ∷ []
+sounds = Sounds ∷ hears
 
 -- the samples that reach each station, and the words drawn for them
 abbrev pub reaching_b : BenchWords → BenchState → List ℤ

@@ -5,10 +5,10 @@ ghost use Rattle.channel_bench.specs.BenchRun.{is_over, report_of};
 ghost use Rattle.channel_access.specs.Waiting.{HasFrameLength};
 ghost use Rattle.station.specs.Held.{IsAdmitted};
 ghost use Rattle.station.specs.declared.host_event.HostEvent.{HostEvent};
-ghost use Rattle.channel_bench.specs.BenchState.{BenchState, SideState, AtEnd, new_bench};
+ghost use Rattle.channel_bench.specs.BenchState.{BenchState, SideState, AtEnd, config_of, new_bench};
 ghost use Rattle.channel_bench.specs.BenchSteps.{AreHeardAt, IsTold, IsTicking};
 ghost use Rattle.channel_bench.specs.BenchTick.{AreReady, ArePartsMade, IsAsked, IsAskedOrCalled, IsCalled, IsGiven, IsTick, beginning, each_tick, is_complete, joins, sets_duplex, sets_full_duplex};
-ghost use Rattle.channel_bench.specs.Sounding.{reaching, ticked, with_losses};
+ghost use Rattle.channel_bench.specs.Sounding.{reaching, sounding, ticked, with_losses};
 ghost use Rattle.channel_bench.specs.Words.{AreInRange};
 
 use crate::air::{SAMPLES, sends, with_noise};
@@ -63,22 +63,16 @@ struct Ready {
 }
 
 impl Run {
-    ghost use Rattle.channel_bench.specs.HeldBench.{StandsForRun, MovesRun, Unless, acts, sounds, reaching_a, reaching_b, with_both, with_noise_drawn};
+    ghost use Rattle.channel_bench.specs.HeldBench.{StandsForRun, MovesRun, Unless, acts, hears, sounds, reaching_a, reaching_b, with_both, with_noise_drawn};
 
     /// Before the first tick.
     pub(crate) fn new(alloc: Global, words: BenchWords) -> Result<Run, OutOfMemory>
         ensures stands_for { IfOk result (λ run. StandsForRun run words (new_bench words)) }
         ensures ticks { IfOk result (λ run. run.ticks ≡ 0) }
     {
-        let params = Params {
-            mode: Mode::Srej,
-            window: 4,
-            wide: words.wide,
-            wide_window: 32,
-        };
-        let config = Config { params, digi: None };
-        let a = Side::new(alloc, End::A, config, words.seed)?;
-        let b = Side::new(alloc, End::B, config, words.seed.wrapping_add(1))?;
+        let a = Side::new(alloc, End::A, config_of(&words), words.seed)?;
+        let seed = words.seed.wrapping_add(1);
+        let b = Side::new(alloc, End::B, config_of(&words), seed)?;
         let text_of_a = text(alloc, words.seed, TEXT_OF_A, words.octets)?;
         let text_of_b = text(alloc, words.seed, TEXT_OF_B, words.octets)?;
         Ok(Run {
@@ -263,9 +257,39 @@ impl Run {
         if self.shared.has_ended() {
             return Ok(());
         }
+        let ready = self.carry()?;
+        self.hear_both(&ready)?;
+        Ok(())
+    }
+
+    /// What both stations send reaches them. Gives the frames that are ready.
+    fn carry(&mut self) -> Result<Ready, OutOfMemory>
+        requires stands { (w : BenchWords) × (bench : BenchState) × StandsForRun self.old w bench × AreInRange w }
+        requires few { self.old.ticks < 2 ^ 32 }
+        ensures carried { (w : BenchWords) (bench : BenchState) → StandsForRun self.old w bench
+            → OnOk result (StandsForRun self.new w (sounding w bench)) }
+        ensures ready { (w : BenchWords) (bench : BenchState) → StandsForRun self.old w bench → IfOk result (λ ready.
+            AreReady (sounding w bench).a.samples ready.at_a.items × AreReady (sounding w bench).b.samples ready.at_b.items) }
+        ensures lengths { IfOk result (λ ready. All (λ item. HasFrameLength item.octets) ready.at_a.items
+            × All (λ item. HasFrameLength item.octets) ready.at_b.items) }
+        ensures ticks { self.new.ticks ≡ self.old.ticks }
+    {
         self.draw_losses()?;
         let both = self.add_noise()?;
         let ready = self.take_in(&both)?;
+        Ok(ready)
+    }
+
+    /// Both stations hear the frames that are ready, and the tick ends.
+    fn hear_both(&mut self, ready: &Ready) -> Result<(), OutOfMemory>
+        requires lengths { All (λ item. HasFrameLength item.octets) ready.now.at_a.items
+            × All (λ item. HasFrameLength item.octets) ready.now.at_b.items }
+        requires few { self.old.ticks < 2 ^ 32 }
+        ensures heard { (w : BenchWords) (bench : BenchState) → StandsForRun self.old w bench
+            → AreReady bench.a.samples ready.now.at_a.items → AreReady bench.b.samples ready.now.at_b.items
+            → OnOk result ((next : BenchState) × ArePartsMade w hears bench next × StandsForRun self.new w next) }
+        ensures count { OnOk result (self.new.ticks ≤ self.old.ticks + 1) }
+    {
         self.hear(End::A, &ready.at_a)?;
         self.hear(End::B, &ready.at_b)?;
         self.close();
@@ -417,8 +441,8 @@ impl Run {
             × All (λ item. HasFrameLength item.octets) ready.at_b.items) }
         ensures ticks { self.new.ticks ≡ self.old.ticks }
     {
-        let at_a = self.a.take_in(self.ticks, &self.b.air, &both.to_a)?;
-        let at_b = self.b.take_in(self.ticks, &self.a.air, &both.to_b)?;
+        let at_a = self.a.take_in(self.ticks, &self.b, &both.to_a)?;
+        let at_b = self.b.take_in(self.ticks, &self.a, &both.to_b)?;
         Ok(Ready { at_a, at_b })
     }
 
@@ -456,8 +480,7 @@ ghost use Rattle.channel_bench.specs.Sounding.{sends};
 
 /// The samples that one station sends the other, or silence if they do not reach it.
 fn reaching(full: bool, sender: &Side, hearer: &Side) -> [i16; SAMPLES]
-    ensures length { length result ≡ 96 }
-    ensures samples { (one other : End) (from to : SideState) → StandsForSide one sender.now from → StandsForSide other hearer.now to
+    ensures { (one other : End) (from to : SideState) → StandsForSide one sender.now from → StandsForSide other hearer.now to
         → result ≡ reaching full from to }
 {
     if is_silent(full, sender.silenced, &hearer.air) {
@@ -472,4 +495,17 @@ fn is_silent(full: bool, lost: bool, own: &AirTick) -> bool
     ensures { result ≡ (lost || (not full && sends own.now)) }
 {
     lost || (!full && sends(&own.samples))
+}
+
+/// What both stations are made with.
+fn config_of(words: &BenchWords) -> Config
+    ensures { result ≡ config_of words.now }
+{
+    let params = Params {
+        mode: Mode::Srej,
+        window: 4,
+        wide: words.wide,
+        wide_window: 32,
+    };
+    Config { params, digi: None }
 }

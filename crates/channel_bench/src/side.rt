@@ -1,5 +1,5 @@
 //! A station of the bench, with its host program and what it hears.
-ghost use Rattle.std.specs.Prelude.{◌≡◌, ◌≢◌, ◌+◌, ◌<◌, ◌≤◌, ◌^◌, ◌↔◌, ℕ, IsTrue, List, [], ◌++◌, length, All, Any, Some, None, IfOk, OnOk};
+ghost use Rattle.std.specs.Prelude.{◌≡◌, ◌≢◌, ◌==◌, not, filter, ◌+◌, ◌*◌, ◌<◌, ◌≤◌, ◌^◌, ◌↔◌, ℕ, IsTrue, List, [], ◌++◌, length, All, Any, Some, None, IfOk, OnOk};
 ghost use Rattle.station.specs.Held.{without_ids};
 ghost use Rattle.std.specs.Bool.{IsFalse};
 ghost use Rattle.channel_access.specs.Waiting.{HasFrameLength};
@@ -232,22 +232,22 @@ impl Side {
         Ok(())
     }
 
-    /// Samples of a tick reach it, and a frame was sent with them. Gives the frames that are ready.
+    /// Samples of a tick reach it, and the frame whose sending has ended at the sender. Gives the frames that are ready.
     pub(crate) fn take_in(
         &mut self,
         tick: u64,
-        air: &AirTick,
+        sender: &Side,
         samples: &[i16],
     ) -> Result<Vec<Candidate>, OutOfMemory>
         requires stands { (end : End) × (side : SideState) × StandsForSide end self.old side }
         requires tick { tick < 2 ^ 32 }
         requires samples { length samples.now ≡ 96 }
         ensures heard { (end : End) (side : SideState) → StandsForSide end self.old side → IfOk result (λ items.
-            StandsForSide end self.new (with_samples samples.now (sent_in tick air.now.sent) side)
+            StandsForSide end self.new (with_samples samples.now (sent_in tick sender.now.air.sent) side)
             × AreReady (side.samples ++ samples.now) items.items) }
         ensures lengths { IfOk result (λ items. All (λ item. HasFrameLength item.octets) items.items) }
     {
-        note_sent(self.alloc, &mut self.towards, tick, &air.sent)?;
+        note_sent(self.alloc, &mut self.towards, tick, &sender.air.sent)?;
         let items = self.ear.listen(samples)?;
         Ok(items)
     }
@@ -384,12 +384,20 @@ fn note_sent(
     match sent {
         Some(sent) => {
             let octets = Octets::from_slice(alloc, sent.octets.as_slice())?;
-            let end = TICK * tick + u64::from(sent.after);
+            let end = end_of(tick, sent.after);
             towards.push(SentAt { octets, end })?;
             Ok(())
         }
         None => Ok(()),
     }
+}
+
+/// The true end of a frame, so many samples after the beginning of a tick.
+fn end_of(tick: u64, after: u8) -> u64
+    requires { tick < 2 ^ 32 }
+    ensures { result ≡ 96 * tick + after }
+{
+    TICK * tick + u64::from(after)
 }
 
 /// The id is one of these.
@@ -405,6 +413,13 @@ fn leave_all(there: &mut Vec<u32>, closed: &[u32])
     ensures { there.new.items ≡ without_ids closed.now there.old.items }
 {
     for id in closed {
-        there.retain(|other| *other != *id);
+        leave(there, *id);
     }
+}
+
+/// The connection is there no longer.
+fn leave(there: &mut Vec<u32>, id: u32)
+    ensures { there.new.items ≡ filter (λ other. not (other == id)) there.old.items }
+{
+    there.retain(|other| *other != id);
 }

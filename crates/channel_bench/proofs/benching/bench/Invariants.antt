@@ -3,4 +3,4 @@ use Rattle.channel_bench.specs.HeldBench.{IsGoing}
 use Rattle.channel_bench.proofs.benching.bench.Given as goal
 
 abbrev pub invariant-loop : goal.invariant-loop
-invariant-loop l = IsGoing l.words l.counter l.run
+invariant-loop l = IsGoing l.fn.words l.counter l.run

@@ -14,7 +14,7 @@ pub with_noise-requires-clause-loud : goal.with_noise-requires-clause-loud
 with_noise-requires-clause-loud c =
     let bench = c.requires.1 in
     let h = c.requires.2 in
-    subst (All IsLoudAtMost) (sym (c.reaching-to_b.ensures.samples A B bench.a bench.b h.a h.b))
+    subst (All IsLoudAtMost) (sym (c.reaching-to_b.ensures A B bench.a bench.b h.a h.b))
     (reaching_within c.args.self.now.words.full bench.a bench.b h.a.loud)
 
 pub with_noise-requires-2-clause-noise : goal.with_noise-requires-2-clause-noise
@@ -24,13 +24,13 @@ pub with_noise-requires-2-clause-loud : goal.with_noise-requires-2-clause-loud
 with_noise-requires-2-clause-loud c =
     let bench = c.requires.1 in
     let h = c.requires.2 in
-    subst (All IsLoudAtMost) (sym (c.reaching-to_a.ensures.samples B A bench.b bench.a h.b h.a))
+    subst (All IsLoudAtMost) (sym (c.reaching-to_a.ensures B A bench.b bench.a h.b h.a))
     (reaching_within c.args.self.now.words.full bench.b bench.a h.b.loud)
 
 pub returns-clause-drawn : goal.returns-clause-drawn
 returns-clause-drawn c = λ w bench h.
-    noise_drawn c.args.self.now w bench c.reaching-to_a.result c.reaching-to_b.result c.with_noise-noisy_b.new.draws h
-    (c.reaching-to_b.ensures.samples A B bench.a bench.b h.a h.b) (c.reaching-to_a.ensures.samples B A bench.b bench.a h.b h.a)
+    noise_drawn c.args.self.now w bench c.reaching-to_a.result c.reaching-to_b.result c.with_noise.new.draws h
+    (c.reaching-to_b.ensures A B bench.a bench.b h.a h.b) (c.reaching-to_a.ensures B A bench.b bench.a h.b h.a)
     c.in_ok-noisy_b.ensures.draws _
     (record {
       words = refl;
@@ -46,10 +46,10 @@ returns-clause-drawn c = λ w bench h.
 
 pub returns-clause-samples : goal.returns-clause-samples
 returns-clause-samples c = λ w bench h.
-    let is_b = c.reaching-to_b.ensures.samples A B bench.a bench.b h.a h.b in
-    let is_a = c.reaching-to_a.ensures.samples B A bench.b bench.a h.b h.a in (
-      noisy_a c.args.self.now w bench c.reaching-to_a.result c.reaching-to_b.result c.with_noise-noisy_b.new.draws h is_b is_a c.in_ok-noisy_b.ensures.draws
+    let is_b = c.reaching-to_b.ensures A B bench.a bench.b h.a h.b in
+    let is_a = c.reaching-to_a.ensures B A bench.b bench.a h.b h.a in (
+      noisy_a c.args.self.now w bench c.reaching-to_a.result c.reaching-to_b.result c.with_noise.new.draws h is_b is_a c.in_ok-noisy_b.ensures.draws
           c.in_ok-noisy_a.noisy_a.items c.in_ok-noisy_a.ensures.samples,
-      noisy_b c.args.self.now w bench c.reaching-to_a.result c.reaching-to_b.result c.with_noise-noisy_b.new.draws h is_b is_a c.in_ok-noisy_b.ensures.draws
+      noisy_b c.args.self.now w bench c.reaching-to_a.result c.reaching-to_b.result c.with_noise.new.draws h is_b is_a c.in_ok-noisy_b.ensures.draws
           c.in_ok-noisy_b.noisy_b.items c.in_ok-noisy_b.ensures.samples,
     )

@@ -23,16 +23,16 @@ returns-then-not-accepts-clause-asked c = λ w bench h.
     (bench, unless_made (IsAskedOrCalled w) bench bench none
     (not_taken w bench bench c.accepts.result (c.accepts.ensures.accepts A bench.a [] h.a) c.if-not-accepts.true refl), h)
 
-pub returns-in_ok-ask-clause-asked : goal.returns-in_ok-ask-clause-asked
-returns-in_ok-ask-clause-asked c = λ w bench h.
+pub returns-then-is_complete-clause-asked : goal.returns-then-is_complete-clause-asked
+returns-then-is_complete-clause-asked c = λ w bench h.
     let none = goes_on c.args.self.now w bench c.has_ended.result h c.has_ended.ensures c.if-has_ended.false in
     let made = c.in_ok-ask.ensures.asked w bench h none in
     (made.0, unless_made (IsAskedOrCalled w) bench made.0 none
     (asked w bench made.0 c.accepts.result (c.accepts.ensures.accepts A bench.a [] h.a) c.if-not-accepts.false
     (sym (c.is_complete.ensures w bench h) ∙ c.if-is_complete.true) made.1), made.2)
 
-pub returns-in_ok-call-clause-asked : goal.returns-in_ok-call-clause-asked
-returns-in_ok-call-clause-asked c = λ w bench h.
+pub returns-then-calls-clause-asked : goal.returns-then-calls-clause-asked
+returns-then-calls-clause-asked c = λ w bench h.
     let none = goes_on c.args.self.now w bench c.has_ended.result h c.has_ended.ensures c.if-has_ended.false in
     let made = c.in_ok-call.ensures.called w bench h none in
     (made.0, unless_made (IsAskedOrCalled w) bench made.0 none

@@ -18,7 +18,7 @@ returns-in_ok-tick-in-A-clause-ticked c = λ w bench h.
     let none = goes_on run w bench c.has_ended.result h c.has_ended.ensures c.if-has_ended.false in
     made_at_a (λ e. IsTicking e) c.args.end run _ w bench c.in-A.is h
     (record { words = refl; b = refl; text_of_a = refl; text_of_b = refl; ticks = refl; closing = refl }) none
-    (c.in_ok-tick.ensures A  (near A bench) (near_a run w bench h) none)
+    (c.in_ok-tick-in-A.ensures A  (near A bench) (near_a run w bench h) none)
 
 pub returns-in_ok-tick-in-B-clause-ticked : goal.returns-in_ok-tick-in-B-clause-ticked
 returns-in_ok-tick-in-B-clause-ticked c = λ w bench h.

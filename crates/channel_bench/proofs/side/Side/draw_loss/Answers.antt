@@ -12,6 +12,6 @@ returns-then-not-self c = λ end n h.
 
 pub returns : goal.returns
 returns c = λ end n h.
-    loss_drawn end c.args.loss n c.args.self.now _ c.args.shared.now _ c.in_ok-self.self h (c.if-not-self.false)
+    loss_drawn end c.args.loss n c.args.self.now _ c.args.shared.now _ c.in_ok-self.field-0 h (c.if-not-self.false)
     (record { end = refl; station = refl; there = refl; reader = refl; program = refl; air = refl })
     refl refl refl refl c.in_ok-self.ensures.lost c.in_ok-self.ensures.counted

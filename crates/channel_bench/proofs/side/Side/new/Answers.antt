@@ -12,11 +12,11 @@ returns c = λ w config seed. record {
   station = subst (λ s. StandsFor c.in-Ok.station (new_station (config_of w) s)) seed
       (subst (λ k. StandsFor c.in-Ok.station (new_station k c.args.seed)) config c.in-Ok.ensures.stands_for);
   ids = c.in-Ok.ensures.no_ids;
-  there = c.new-there.ensures.items;
-  reader = c.new-reader.ensures;
-  program = c.new-program.ensures;
+  there = c.new-3.ensures.items;
+  reader = c.new-4.ensures.stands_for;
+  program = c.new-5.ensures;
   ear = c.in_ok-ear.ensures;
-  towards = c.new-towards.ensures.items;
+  towards = c.new-6.ensures.items;
   matched = refl;
   air = refl;
   loud = silence_within 96;
