@@ -1,5 +1,6 @@
 -- The run goes on until it is over, or something ends it, or it has taken too long.
 use Rattle.std.proofs.Common.{◌≡◌, ◌+◌, ◌<◌, ◌≤◌, ◌^◌, refl, sym, ◌∙◌, subst, arith}
+use Rattle.std.proofs.lemmas.Result.{err_from_is_err_and}
 use Rattle.channel_bench.specs.BenchRun.{AreTicks}
 use Rattle.channel_bench.specs.BenchState.{new_bench}
 use Rattle.channel_bench.specs.HeldBench.{HasMade}
@@ -52,4 +53,6 @@ returns-clause-fault c =
     }
 
 pub returns-in_err-advance-clause-fault : goal.returns-in_err-advance-clause-fault
-returns-in_err-advance-clause-fault c = ?
+returns-in_err-advance-clause-fault c =
+    let p = err_from_is_err_and c.from_residual-in_err-advance.result c.from_residual-in_err-advance.ensures.1 in
+    rw (p.1, p.2) (c.in_err-advance.ensures.fault c.args.words c.loop.counter c.loop.invariant)

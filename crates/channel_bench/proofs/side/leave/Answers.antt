@@ -1,7 +1,7 @@
 -- What is kept is not of the id.
-use Rattle.std.proofs.Common.{◌==◌, not, rules, tests}
-use Rattle.std.proofs.lemmas.List.Elements.{filter_from_retain}
+use Rattle.std.proofs.Common.{rules}
+use Rattle.std.proofs.lemmas.Fn.{filter_same}
 use Rattle.channel_bench.proofs.side.leave.Goals as goal
 
 pub returns : goal.returns
-returns c = filter_from_retain _ (λ other. not (other == c.args.id)) (λ p x b q k. search (rules, tests)) _ _ _ c.retain.ensures.filtered
+returns c = filter_same _ _ _ (λ x b f' k. search rules) _ _ c.retain.ensures.filtered
