@@ -39,19 +39,23 @@ past_mark : (x y : List ℤ) (found : List Candidate) → AreCandidatesBehind (l
     → All (λ item. mark_of x ≤ item.end) found
 past_mark x y found h k d l = let e = h.each k d l in let past = e.1 in omega arith
 
-rising_merged : (x : List ℤ) (items : List Candidate) → AreCandidates x items → IsNonDecreasingBy (λ y. y.end) (merged items)
+rising_merged : (x : List ℤ) (items : List Candidate) → AreCandidates x items
+    → IsNonDecreasingBy (λ y. y.end) (merged items)
 rising_merged x items are = merged-rising (λ y. y.end) [] items (rising_ends items (is_in_order x items are))
 
 module _ (x y : List ℤ) (before after : Ear) (put marked : HeldMerger) (found ready : List Candidate)
     (room : length (x ++ y) < 2 ^ 48)
-    (heard : BankStandsFor before.bank x → BankStandsFor after.bank (x ++ y) × AreCandidatesBehind (length x) (x ++ y) found)
+    (heard : BankStandsFor before.bank x
+    → BankStandsFor after.bank (x ++ y) × AreCandidatesBehind (length x) (x ++ y) found)
     (flags : after.bank.flags ≡ before.bank.flags)
     (count : after.count ≡ before.count + length y)
-    (puts : (puts given : List Candidate) → MergerStandsFor before.merger puts given → MergerStandsFor put (puts ++ found) given)
+    (puts : (puts given : List Candidate) → MergerStandsFor before.merger puts given
+    → MergerStandsFor put (puts ++ found) given)
     (mark : (puts given : List Candidate) → MergerStandsFor put puts given → MergerStandsFor marked puts given)
     (marks : marked.marks ≡ replicate 8 (mark_of (x ++ y)))
     (gives : (puts given : List Candidate) → MergerStandsFor marked puts given
-    → MergerStandsFor after.merger puts (given ++ ready) × (given ++ ready ≡ below (least marked.marks) (merged (in_order puts))))
+    → MergerStandsFor after.merger puts (given ++ ready) ×
+    (given ++ ready ≡ below (least marked.marks) (merged (in_order puts))))
     (stay : after.merger.marks ≡ marked.marks) where
   at : least marked.marks ≡ mark_of (x ++ y)
   at = ap least marks ∙ least-one 7 (mark_of (x ++ y)) (omega arith)
@@ -80,7 +84,8 @@ module _ (x y : List ℤ) (before after : Ear) (put marked : HeldMerger) (found 
         record {
           candidates = all;
           are = are;
-          is = next_is (mark_of x) (mark_of (x ++ y)) given ready (merged all) (omega (arith, size)) (rising_merged (x ++ y) all are)
+          is = next_is (mark_of x) (mark_of (x ++ y)) given ready (merged all) (omega (arith, size))
+              (rising_merged (x ++ y) all are)
               (sym (below_more (mark_of x) h.candidates found (past_mark x y found both.1))) total;
         },
       )

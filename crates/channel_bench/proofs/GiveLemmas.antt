@@ -12,13 +12,15 @@ use Rattle.channel_bench.specs.HostProgram.{ProgramState, data_octets, giving, n
 use Rattle.channel_bench.specs.Words.{text_at}
 use Rattle.channel_bench.proofs.SideLemmas.{KeepsAllElse, stands_program}
 
-module _ (w : BenchWords) (end : End) (n next : Near) (accepts : Bool) (exactly : IsTrue accepts ↔ AcceptsProgram n.side) where
+module _ (w : BenchWords) (end : End) (n next : Near) (accepts : Bool)
+    (exactly : IsTrue accepts ↔ AcceptsProgram n.side) where
   -- the station does not take it
   pub given_no : accepts ≡ false → IsGiven w end n n
   given_no is = record {
     accepts = accepts;
     exactly = exactly;
-    given = subst (λ b. MatchBool b (IsGivenPiece end (next_piece (text_at w end) n.side.program.running) n n) (n ≡ n)) (sym is) refl;
+    given = subst (λ b. MatchBool b (IsGivenPiece end (next_piece (text_at w end) n.side.program.running) n n)
+        (n ≡ n)) (sym is) refl;
   }
 
   -- there is nothing to give
@@ -26,7 +28,8 @@ module _ (w : BenchWords) (end : End) (n next : Near) (accepts : Bool) (exactly 
   given_none is none = record {
     accepts = accepts;
     exactly = exactly;
-    given = subst (λ b. MatchBool b (IsGivenPiece end (next_piece (text_at w end) n.side.program.running) n n) (n ≡ n)) (sym is)
+    given = subst (λ b. MatchBool b (IsGivenPiece end (next_piece (text_at w end) n.side.program.running) n n)
+        (n ≡ n)) (sym is)
         (subst (λ p. IsGivenPiece end p n n) (sym none) refl);
   }
 
@@ -36,20 +39,27 @@ module _ (w : BenchWords) (end : End) (n next : Near) (accepts : Bool) (exactly 
   given_yes octets is some said = record {
     accepts = accepts;
     exactly = exactly;
-    given = subst (λ b. MatchBool b (IsGivenPiece end (next_piece (text_at w end) n.side.program.running) n next) (next ≡ n)) (sym is)
+    given = subst (λ b. MatchBool b (IsGivenPiece end (next_piece (text_at w end) n.side.program.running) n next)
+        (next ≡ n)) (sym is)
         (subst (λ p. IsGivenPiece end p n next) (sym some) said);
   }
 
 -- the next piece of the text, by what the code keeps of the program
-pub piece_is : (w : BenchWords) (end : End) (n : Near) (held : ProgramState) (text : List ℕ) (piece : Option (List ℕ)) → text ≡ text_at w end
-    → held ≡ n.side.program → piece ≡ next_piece text held.running → next_piece (text_at w end) n.side.program.running ≡ piece
+pub piece_is : (w : BenchWords) (end : End) (n : Near) (held : ProgramState) (text : List ℕ) (piece : Option (List ℕ))
+    → text ≡ text_at w end
+    → held ≡ n.side.program → piece ≡ next_piece text held.running
+    → next_piece (text_at w end) n.side.program.running ≡ piece
 piece_is w end n held text piece is same next =
-    sym (next ∙ ap (λ t. next_piece t held.running) is ∙ ap (λ (p : ProgramState). next_piece (text_at w end) p.running) same)
+    sym (next ∙ ap (λ t. next_piece t held.running) is
+    ∙ ap (λ (p : ProgramState). next_piece (text_at w end) p.running) same)
 
 -- what the code keeps, with a piece given
-pub stands_giving : (end : End) (before after : Side) (shared : Shared) (n : Near) (octets : List ℕ) → StandsForNear end before shared n
-    → KeepsAllElse before after → after.program ≡ giving octets before.program → StandsForNear end after shared (with_giving octets n)
+pub stands_giving : (end : End) (before after : Side) (shared : Shared) (n : Near) (octets : List ℕ)
+    → StandsForNear end before shared n
+    → KeepsAllElse before after → after.program ≡ giving octets before.program
+    → StandsForNear end after shared (with_giving octets n)
 stands_giving end before after shared n octets h same given = record {
-  side_is = stands_program end before after n.side (giving octets n.side.program) h.side_is same (given ∙ ap (giving octets) h.side_is.program);
+  side_is = stands_program end before after n.side (giving octets n.side.program) h.side_is same
+      (given ∙ ap (giving octets) h.side_is.program);
   shared_is = h.shared_is;
 }

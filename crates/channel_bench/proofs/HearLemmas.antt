@@ -24,7 +24,8 @@ told_pieces_push : (pieces : List Piece) (piece : Piece) (side : SideState)
 told_pieces_push [] piece side = refl
 told_pieces_push (first ∷ pieces) piece side = told_pieces_push pieces piece (told_piece first side)
 
-pub told_pieces_more : (pieces : List Piece) (i : ℕ) (piece d : Piece) (side : SideState) → i < length pieces → piece ≡ get_or pieces i d
+pub told_pieces_more : (pieces : List Piece) (i : ℕ) (piece d : Piece) (side : SideState) → i < length pieces
+    → piece ≡ get_or pieces i d
     → told_pieces (take (i + 1) pieces) side ≡ told_piece piece (told_pieces (take i pieces) side)
 told_pieces_more pieces i piece d side within is =
     ap (λ xs. told_pieces xs side) (take_more pieces i d within)
@@ -36,7 +37,8 @@ told_all_push : (messages : List AgwMessage) (message : AgwMessage) (p : Program
 told_all_push [] message p = refl
 told_all_push (first ∷ messages) message p = told_all_push messages message (told first p)
 
-pub told_all_more : (messages : List AgwMessage) (i : ℕ) (message d : AgwMessage) (p : ProgramState) → i < length messages → message ≡ get_or messages i d
+pub told_all_more : (messages : List AgwMessage) (i : ℕ) (message d : AgwMessage) (p : ProgramState)
+    → i < length messages → message ≡ get_or messages i d
     → told_all (take (i + 1) messages) p ≡ told message (told_all (take i messages) p)
 told_all_more messages i message d p within is =
     ap (λ xs. told_all xs p) (take_more messages i d within)
@@ -53,25 +55,31 @@ push_by : (end : End) (first : Candidate) (items : List Candidate) (item : Candi
     → GoesOn between.common.trouble (IsHeardAt end item between next) (next ≡ between)
     → (t : Option Trouble) → n.common.trouble ≡ t
     → GoesOn t ((middle : Near) × IsHeardAt end first n middle × AreHeardAt end items middle between) (between ≡ n)
-    → GoesOn t ((middle : Near) × IsHeardAt end first n middle × AreHeardAt end (items ++ item ∷ []) middle next) (next ≡ n)
+    → GoesOn t ((middle : Near) × IsHeardAt end first n middle × AreHeardAt end (items ++ item ∷ []) middle next)
+    (next ≡ n)
 push_by end first items item n between next again made None is step = (step.0, step.1, again step.0 step.2)
 push_by end first items item n between next again made (Some trouble) is same =
-    over between.common.trouble trouble (IsHeardAt end item between next) (next ≡ between) (ap (λ (b : Near). b.common.trouble) same ∙ is) made ∙ same
+    over between.common.trouble trouble (IsHeardAt end item between next) (next ≡ between)
+    (ap (λ (b : Near). b.common.trouble) same ∙ is) made ∙ same
 
 heard_push : (end : End) (items : List Candidate) (item : Candidate) (n between next : Near)
     → AreHeardAt end items n between → GoesOn between.common.trouble (IsHeardAt end item between next) (next ≡ between)
     → AreHeardAt end (items ++ item ∷ []) n next
-heard_push end [] item n between next same made = go n.common.trouble (subst (λ (b : Near). GoesOn b.common.trouble (IsHeardAt end item b next) (next ≡ b)) same made)
+heard_push end [] item n between next same made = go n.common.trouble
+    (subst (λ (b : Near). GoesOn b.common.trouble (IsHeardAt end item b next) (next ≡ b)) same made)
   where
     go : (f : Option Trouble) → GoesOn f (IsHeardAt end item n next) (next ≡ n)
         → GoesOn f ((middle : Near) × IsHeardAt end item n middle × (next ≡ middle)) (next ≡ n)
     go None h = (next, h, refl)
     go (Some trouble) h = h
 heard_push end (first ∷ items) item n between next h made =
-    push_by end first items item n between next (λ middle rest. heard_push end items item middle between next rest made) made n.common.trouble refl h
+    push_by end first items item n between next
+    (λ middle rest. heard_push end items item middle between next rest made) made n.common.trouble refl h
 
-pub heard_more : (end : End) (items : List Candidate) (i : ℕ) (item d : Candidate) (n between next : Near) → i < length items → item ≡ get_or items i d
-    → AreHeardAt end (take i items) n between → GoesOn between.common.trouble (IsHeardAt end item between next) (next ≡ between)
+pub heard_more : (end : End) (items : List Candidate) (i : ℕ) (item d : Candidate) (n between next : Near)
+    → i < length items → item ≡ get_or items i d
+    → AreHeardAt end (take i items) n between
+    → GoesOn between.common.trouble (IsHeardAt end item between next) (next ≡ between)
     → AreHeardAt end (take (i + 1) items) n next
 heard_more end items i item d n between next within is h made =
     subst (λ xs. AreHeardAt end xs n next) (sym (take_more items i d within))
@@ -80,7 +88,8 @@ heard_more end items i item d n between next within is h made =
 
 -- ---- one frame
 
-pub stray_made : (end : End) (item : Candidate) (n : Near) → match_of item n.side ≡ None → IsHeardAt end item n (with_stray item.octets n)
+pub stray_made : (end : End) (item : Candidate) (n : Near) → match_of item n.side ≡ None
+    → IsHeardAt end item n (with_stray item.octets n)
 stray_made end item n is = subst (λ m. IsHeardAs end m item.octets n (with_stray item.octets n)) (sym is) refl
 
 pub match_made : (end : End) (item : Candidate) (number : ℕ) (n next : Near) → match_of item n.side ≡ Some number
@@ -88,7 +97,8 @@ pub match_made : (end : End) (item : Candidate) (number : ℕ) (n next : Near) �
 match_made end item number n next is step = subst (λ m. IsHeardAs end m item.octets n next) (sym is) step
 
 -- the number of the first match among those that come after the last one, by what the code keeps
-pub match_at : (item : Candidate) (side : SideState) (place : Option ℕ) (matched : ℕ) (towards : List SentAt) → matched ≡ side.matched
+pub match_at : (item : Candidate) (side : SideState) (place : Option ℕ) (matched : ℕ) (towards : List SentAt)
+    → matched ≡ side.matched
     → towards ≡ side.towards → place ≡ position (is_match item) (drop matched towards)
     → match_of item side ≡ option_map (λ k. matched + k) place
 match_at item side place matched towards number sent found =
@@ -109,7 +119,8 @@ pub heard_goes_on : (end : End) (item : Candidate) (n next : Near) → n.common.
 heard_goes_on end item n next none h = subst (λ f. GoesOn f (IsHeardAt end item n next) (next ≡ n)) (sym none) h
 
 -- what both stations share after a stray
-pub stray_stands : (end : End) (side : Side) (before after : Shared) (n : Near) (octets : List ℕ) → StandsForNear end side before n
+pub stray_stands : (end : End) (side : Side) (before after : Shared) (n : Near) (octets : List ℕ)
+    → StandsForNear end side before n
     → after ≡ record before { trouble = Some (Stray octets) } → StandsForNear end side after (with_stray octets n)
 stray_stands end side before after n octets h is =
     let shared = h.shared_is in

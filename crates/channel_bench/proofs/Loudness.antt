@@ -32,7 +32,8 @@ within-wave_from phase (tone ∷ tones) =
     All-append IsLoudAtMost (pure_window phase tone) (wave_from (next_phase phase tone) tones)
     (within-pure_window phase tone) (within-wave_from (next_phase phase tone) tones)
 
-within-transmission : (frames : List (List ℕ)) (opening closing : ℕ) → All IsLoudAtMost (transmission frames opening closing)
+within-transmission : (frames : List (List ℕ)) (opening closing : ℕ)
+    → All IsLoudAtMost (transmission frames opening closing)
 unfolding transmission
 within-transmission frames opening closing = within-wave_from 0 (line (body frames opening closing))
 

@@ -4,7 +4,8 @@ use Rattle.byteorder.specs.Endian.{little_bytes}
 use Rattle.agwpe_port.specs.declared.message.AgwMessage.{AgwMessage}
 use Rattle.agwpe_port.specs.Messages.{header_of, spelling}
 
-pub length-spelling : (m : AgwMessage) → length m.from ≡ 10 → length m.to ≡ 10 → length (spelling m) ≡ 36 + length m.body
+pub length-spelling : (m : AgwMessage) → length m.from ≡ 10 → length m.to ≡ 10
+    → length (spelling m) ≡ 36 + length m.body
 unfolding spelling
 length-spelling m from to =
     let size = little_bytes 4 (length m.body) in

@@ -32,11 +32,13 @@ HasPassed sender before below after =
     (ways : BothWays) → StandsForWays before ways
     → StandsForWays after (with_sent_by sender (with_front below (sent_by sender ways)) ways)
 
-module _ (before after : Run) (w : BenchWords) (bench : BenchState) (between : Flight) (of_a of_b : ℕ) (h : StandsForRun before w bench)
+module _ (before after : Run) (w : BenchWords) (bench : BenchState) (between : Flight) (of_a of_b : ℕ)
+    (h : StandsForRun before w bench)
     (same : IsSameRun before after) (ticks : after.ticks ≡ before.ticks + 1)
     (below_a : (end : End) (side : SideState) → StandsForSide end before.b side → of_a ≡ passed_below side)
     (below_b : (end : End) (side : SideState) → StandsForSide end before.a side → of_b ≡ passed_below side)
-    (first : HasPassed A before.shared.flight of_a between) (second : HasPassed B between of_b after.shared.flight) where
+    (first : HasPassed A before.shared.flight of_a between)
+    (second : HasPassed B between of_b after.shared.flight) where
   passing : ℕ → ℕ → BothWays → BothWays
   passing m n ways =
       let one = with_sent_by A (with_front m (sent_by A ways)) ways in
@@ -53,7 +55,8 @@ module _ (before after : Run) (w : BenchWords) (bench : BenchState) (between : F
   ways_ticked =
       ap (λ m. passing m of_b (ways_of bench.common)) (below_a B bench.b h.b)
       ∙ ap (λ n. passing (passed_below bench.b) n (ways_of bench.common)) (below_b A bench.a h.a)
-      ∙ sym (moments_two bench.common.moments (Passes A (passed_below bench.b)) (Passes B (passed_below bench.a)) nothing_sent)
+      ∙ sym (moments_two bench.common.moments (Passes A (passed_below bench.b))
+      (Passes B (passed_below bench.a)) nothing_sent)
 
   pub closed : StandsForRun after w (ticked bench)
   unfolding ticked

@@ -36,8 +36,10 @@ pub record KeepsStation (before after : Side) : Type 0 where
 
 -- it is the host program's, which reads the messages that end with it
 pub told_messages : (end : End) (before after : Side) (side : SideState) (piece : Piece) (messages : List AgwMessage)
-    → StandsForSide end before side → KeepsStation before after → piece.id ≡ 1 → AgwStandsFor after.reader (side.stream ++ piece.octets)
-    → messages_in (side.stream ++ piece.octets) ≡ messages_in side.stream ++ messages → after.program ≡ told_all messages before.program
+    → StandsForSide end before side → KeepsStation before after → piece.id ≡ 1
+    → AgwStandsFor after.reader (side.stream ++ piece.octets)
+    → messages_in (side.stream ++ piece.octets) ≡ messages_in side.stream ++ messages
+    → after.program ≡ told_all messages before.program
     → StandsForSide end after (told_piece piece side)
 told_messages end before after side piece messages h same own reader read told =
     let new : messages ≡ new_messages side.stream piece.octets =
@@ -48,7 +50,8 @@ told_messages end before after side piece messages h same own reader read told =
       ids = ap ids_of same.station ∙ h.ids;
       there = ap (λ t. t.items) same.there ∙ h.there;
       reader = reader;
-      program = told ∙ ap (λ ms. told_all ms before.program) new ∙ ap (told_all (new_messages side.stream piece.octets)) h.program;
+      program = told ∙ ap (λ ms. told_all ms before.program) new
+          ∙ ap (told_all (new_messages side.stream piece.octets)) h.program;
       ear = subst (λ e. EarStandsFor e side.samples) (sym same.ear) h.ear;
       towards = ap (λ t. t.items) same.towards ∙ h.towards;
       matched = same.matched ∙ h.matched;

@@ -64,10 +64,17 @@ pub record KeepsStation (before after : Side) : Type 0 where
   pub program : after.program ≡ before.program
   pub air : after.air ≡ before.air
 
-pub stands_kept : (end : End) (before after : Side) (side : SideState) → StandsForSide end before side → KeepsStation before after
+pub stands_kept : (end : End) (before after : Side) (side : SideState) → StandsForSide end before side
+    → KeepsStation before after
     → (samples : List ℤ) (towards : List SentAt) (matched : ℕ) (silenced : Bool) → EarStandsFor after.ear samples
     → after.towards.items ≡ towards → after.matched ≡ matched → after.silenced ≡ silenced
-    → StandsForSide end after (record side { samples = samples; towards = towards; matched = matched; silenced = silenced })
+    → StandsForSide end after (record side {
+      samples = samples;
+      towards = towards;
+      matched = matched;
+      silenced =
+          silenced;
+    })
 stands_kept end before after side h same samples towards matched silenced ear sent number lost = record {
   end_is = same.end ∙ h.end_is;
   station = subst (λ s. StationStandsFor s side.station) (sym same.station) h.station;
@@ -95,7 +102,8 @@ pub record KeepsAllElse (before after : Side) : Type 0 where
   pub air : after.air ≡ before.air
   pub silenced : after.silenced ≡ before.silenced
 
-pub stands_program : (end : End) (before after : Side) (side : SideState) (program : ProgramState) → StandsForSide end before side
+pub stands_program : (end : End) (before after : Side) (side : SideState) (program : ProgramState)
+    → StandsForSide end before side
     → KeepsAllElse before after → after.program ≡ program → StandsForSide end after (record side { program = program })
 stands_program end before after side program h same is = record {
   end_is = same.end ∙ h.end_is;
@@ -117,7 +125,8 @@ hearing_none A ways = refl
 hearing_none B ways = refl
 
 -- what the frames of a step are told of
-pub record HasSettled (sender : End) (on_ask : Bool) (frames : List (List ℕ)) (ways : BothWays) (before after : Shared) : Type 0 where
+pub record HasSettled (sender : End) (on_ask : Bool) (frames : List (List ℕ)) (ways : BothWays)
+    (before after : Shared) : Type 0 where
   pub flight : StandsForWays after.flight (queueing_all sender on_ask frames ways)
   pub trouble : after.trouble ≡ trouble_of (first_unquiet sender on_ask frames ways)
   pub draws : after.draws ≡ before.draws
@@ -127,7 +136,8 @@ pub record HasSettled (sender : End) (on_ask : Bool) (frames : List (List ℕ)) 
 -- an event of a host
 pub host_made : (end : End) (event : HostEvent) (n : Near) (out : Out) (side : Side) (before after : Shared)
     → (host : (next : StationState) × IsHostTurn event (begin n.side.station) (record { now = next; out = out }))
-    → StandsForSide end side (told_pieces out.pieces (record n.side { station = host.0; there = ids_behind event out.closed n.side.there }))
+    → StandsForSide end side (told_pieces out.pieces
+    (record n.side { station = host.0; there = ids_behind event out.closed n.side.there }))
     → HasSettled end false out.queued (ways_of n.common) before after → StandsForCommon before n.common
     → (next : Near) × IsStep end (FromHost event) None n next × StandsForNear end side after next
 host_made end event n out side before after host stands settled common =
@@ -159,7 +169,8 @@ pub heard_made : (end : End) (octets : List ℕ) (number : ℕ) (n : Near) (out 
     → before.draws ≡ n.common.draws → before.transmissions ≡ n.common.transmissions → before.lost ≡ n.common.lost
     → (next : Near) × IsStep end (OffAir octets) (Some number) n next × StandsForNear end side after next
 heard_made end octets number n out side before after heard small stands settled draws transmissions lost =
-    step_made end (OffAir octets) (Some number) n (record { now = heard.0; out = out }) heard.1 small side after stands settled.flight settled.trouble
+    step_made end (OffAir octets) (Some number) n
+    (record { now = heard.0; out = out }) heard.1 small side after stands settled.flight settled.trouble
     (settled.draws ∙ draws) (settled.transmissions ∙ transmissions) (settled.lost ∙ lost)
 
 -- all but what it sends in the tick is as it was
@@ -176,7 +187,8 @@ pub record KeepsBesidesAir (before after : Side) : Type 0 where
 
 -- with what is sent in the tick
 pub ticks : (end : End) (busy : Bool) (n : Near) (after side : Side) (shared : Shared)
-    → (IsTrue busy ↔ HearsCarrier 1 n.side.samples) → after.air ≡ air_of busy n.side.station → KeepsBesidesAir side after
+    → (IsTrue busy ↔ HearsCarrier 1 n.side.samples) → after.air ≡ air_of busy n.side.station
+    → KeepsBesidesAir side after
     → (next : Near) × IsStep end (OfClock busy) None n next × StandsForNear end side shared next
     → (next : Near) × IsTicking end n next × StandsForNear end after shared next
 ticks end busy n after side shared carrier air same made =
@@ -205,11 +217,23 @@ ticks end busy n after side shared carrier air same made =
 
 -- ---- what comes from hosts
 
-pub told_no : (end : End) (event : HostEvent) (n : Near) (may : Bool) → (IsTrue may ↔ MayCome event n.side) → may ≡ false → IsTold end event n n
+pub told_no : (end : End) (event : HostEvent) (n : Near) (may : Bool) → (IsTrue may ↔ MayCome event n.side)
+    → may ≡ false → IsTold end event n n
 told_no end event n may exactly is =
-    record { may = may; exactly = exactly; told = subst (λ b. MatchBool b (IsStep end (FromHost event) None n n) (n ≡ n)) (sym is) refl }
+    record {
+      may = may;
+      exactly = exactly;
+      told = subst
+          (λ b. MatchBool b (IsStep end (FromHost event) None n n) (n ≡ n)) (sym is) refl;
+    }
 
-pub told_yes : (end : End) (event : HostEvent) (n next : Near) (may : Bool) → (IsTrue may ↔ MayCome event n.side) → may ≡ true
+pub told_yes : (end : End) (event : HostEvent) (n next : Near) (may : Bool) → (IsTrue may ↔ MayCome event n.side)
+    → may ≡ true
     → IsStep end (FromHost event) None n next → IsTold end event n next
 told_yes end event n next may exactly is step =
-    record { may = may; exactly = exactly; told = subst (λ b. MatchBool b (IsStep end (FromHost event) None n next) (next ≡ n)) (sym is) step }
+    record {
+      may = may;
+      exactly = exactly;
+      told = subst
+          (λ b. MatchBool b (IsStep end (FromHost event) None n next) (next ≡ n)) (sym is) step;
+    }

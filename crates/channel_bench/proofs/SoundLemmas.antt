@@ -24,8 +24,10 @@ reaching_within full sender hearer h = go (sender.silenced || (not full && sends
     go false = h
 
 -- silence reaches it, or what is sent
-pub reaching_is : (full : Bool) (sender hearer : SideState) (silenced : Bool) (mine theirs : AirTick) (silent : Bool) (samples : List ℤ)
-    → silenced ≡ sender.silenced → mine ≡ sender.air → theirs ≡ hearer.air → silent ≡ (silenced || (not full && sends theirs))
+pub reaching_is : (full : Bool) (sender hearer : SideState) (silenced : Bool) (mine theirs : AirTick) (silent : Bool)
+    (samples : List ℤ)
+    → silenced ≡ sender.silenced → mine ≡ sender.air → theirs ≡ hearer.air
+    → silent ≡ (silenced || (not full && sends theirs))
     → samples ≡ cond silent (replicate 96 (pos 0)) mine.samples → samples ≡ reaching full sender hearer
 unfolding reaching
 reaching_is full sender hearer silenced mine theirs silent samples own air other so is =
@@ -51,7 +53,8 @@ pub record DrawsMore (before after : Shared) : Type 0 where
   pub lost : after.lost ≡ before.lost
   pub trouble : after.trouble ≡ before.trouble
 
-pub stands_drawing : (before after : Shared) (common : Common) (draws : Lcg) → StandsForCommon before common → DrawsMore before after
+pub stands_drawing : (before after : Shared) (common : Common) (draws : Lcg) → StandsForCommon before common
+    → DrawsMore before after
     → after.draws ≡ draws → StandsForCommon after (record common { draws = draws })
 stands_drawing before after common draws h same is = record {
   flight = subst (λ f. StandsForWays f (ways_of common)) (sym same.flight) h.flight;

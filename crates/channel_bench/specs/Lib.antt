@@ -9,7 +9,6 @@ pub mod SetUpsSeen
 pub mod LinkOfCalls
 pub mod StationsLaw
 pub mod Owners
-pub mod InFlight
 pub mod Words
 pub mod Report
 pub mod HostProgram

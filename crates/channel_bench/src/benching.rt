@@ -11,9 +11,9 @@ use crate::trouble::Trouble;
 use crate::words::BenchWords;
 use std::alloc::Global;
 
-/// The run of two stations that the words fix. It is over once A has sent d and both host programs were told d after it.
-/// What ends it before is a frame that is heard and matches none that was sent; SABM, SABME or DISC that finds no quiet
-/// channel; and the most ticks that it may take.
+/// Runs two stations joined by sound in one process, as the words say, until A has sent d (AGWPE) and both host
+/// programs were told d after it. Fails if a heard frame matches none that was sent, if SABM, SABME or DISC finds no
+/// quiet channel, if the run is not over after the most ticks that it may take, and for want of memory.
 pub fn bench(alloc: Global, words: BenchWords) -> Result<BenchReport, BenchFault>
     requires { AreInRange words }
     ensures over { IfOk result (IsOver words) }
@@ -34,7 +34,8 @@ pub fn bench(alloc: Global, words: BenchWords) -> Result<BenchReport, BenchFault
 /// Makes a tick, unless something ends the run.
 fn advance(run: &mut Run) -> Result<(), BenchFault>
     requires { (w : BenchWords) × (count : ℕ) × IsGoing w count run.old × AreInRange w × (count < 2 ^ 32) }
-    ensures made { (w : BenchWords) (count : ℕ) → IsGoing w count run.old → OnOk result (HasMade w (count + 1) run.new) }
+    ensures made { (w : BenchWords) (count : ℕ) → IsGoing w count run.old
+        → OnOk result (HasMade w (count + 1) run.new) }
     ensures fault { (w : BenchWords) (count : ℕ) → IsGoing w count run.old → IfErr result (IsFaultOf w) }
 {
     run.tick()?;

@@ -62,8 +62,8 @@ impl Ear {
         mark_after(self.count)
     }
 
-    /// Hears samples, and gives the frames that are ready with them. A bank takes fewer than 2^48 samples: past them memory
-    /// is wanted.
+    /// Hears samples, and gives the frames that are ready with them. A bank takes fewer than 2^48 samples: past them
+    /// memory is wanted.
     pub(crate) fn listen(&mut self, samples: &[i16]) -> Result<Vec<Candidate>, OutOfMemory>
         requires stands { (x : List ℤ) × EarStandsFor self.old x }
         requires samples { length samples.now ≡ 96 }

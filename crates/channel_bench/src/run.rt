@@ -165,7 +165,8 @@ impl Run {
     /// A KISS connection sets a station to full duplex.
     fn set_full_duplex(&mut self, end: End) -> Result<(), OutOfMemory>
         requires { (w : BenchWords) × (bench : BenchState) × StandsForRun self.old w bench }
-        ensures set { (w : BenchWords) → OnOk result (MovesRun w (ArePartsMade w (sets_full_duplex end)) self.old self.new) }
+        ensures set { (w : BenchWords) → OnOk result
+            (MovesRun w (ArePartsMade w (sets_full_duplex end)) self.old self.new) }
         ensures ticks { self.new.ticks ≡ self.old.ticks }
     {
         self.join(end, KISS, PortKind::Kiss)?;
@@ -269,7 +270,8 @@ impl Run {
         ensures carried { (w : BenchWords) (bench : BenchState) → StandsForRun self.old w bench
             → OnOk result (StandsForRun self.new w (sounding w bench)) }
         ensures ready { (w : BenchWords) (bench : BenchState) → StandsForRun self.old w bench → IfOk result (λ ready.
-            AreReady (sounding w bench).a.samples ready.at_a.items × AreReady (sounding w bench).b.samples ready.at_b.items) }
+            AreReady (sounding w bench).a.samples ready.at_a.items
+            × AreReady (sounding w bench).b.samples ready.at_b.items) }
         ensures lengths { IfOk result (λ ready. All (λ item. HasFrameLength item.octets) ready.at_a.items
             × All (λ item. HasFrameLength item.octets) ready.at_b.items) }
         ensures ticks { self.new.ticks ≡ self.old.ticks }
@@ -299,7 +301,8 @@ impl Run {
     /// A host program gives the next piece of its text, if its station takes it.
     fn give(&mut self, end: End) -> Result<(), OutOfMemory>
         requires { (w : BenchWords) × (bench : BenchState) × StandsForRun self.old w bench }
-        ensures given { (w : BenchWords) → OnOk result (MovesRun w (Unless (AtEnd end (IsGiven w end))) self.old self.new) }
+        ensures given { (w : BenchWords) → OnOk result
+            (MovesRun w (Unless (AtEnd end (IsGiven w end))) self.old self.new) }
         ensures ticks { self.new.ticks ≡ self.old.ticks }
     {
         if self.shared.has_ended() {
@@ -338,8 +341,9 @@ impl Run {
     /// A sends d.
     fn ask(&mut self) -> Result<(), OutOfMemory>
         requires { (octets : List ℕ) → length octets ≤ 4096 → IsAdmitted (HostEvent.Bytes 1 octets) self.old.a.station }
-        ensures asked { (w : BenchWords) (bench : BenchState) → StandsForRun self.old w bench → bench.common.trouble ≡ None
-            → OnOk result ((next : BenchState) × IsAsked bench next × StandsForRun self.new w next) }
+        ensures asked { (w : BenchWords) (bench : BenchState) → StandsForRun self.old w bench
+            → bench.common.trouble ≡ None → OnOk result ((next : BenchState) × IsAsked bench next
+            × StandsForRun self.new w next) }
         ensures ticks { self.new.ticks ≡ self.old.ticks }
     {
         let octets = disconnect(self.alloc, End::A)?;
@@ -353,8 +357,9 @@ impl Run {
     /// A sends C again.
     fn call(&mut self) -> Result<(), OutOfMemory>
         requires { (octets : List ℕ) → length octets ≤ 4096 → IsAdmitted (HostEvent.Bytes 1 octets) self.old.a.station }
-        ensures called { (w : BenchWords) (bench : BenchState) → StandsForRun self.old w bench → bench.common.trouble ≡ None
-            → OnOk result ((next : BenchState) × IsCalled bench next × StandsForRun self.new w next) }
+        ensures called { (w : BenchWords) (bench : BenchState) → StandsForRun self.old w bench
+            → bench.common.trouble ≡ None → OnOk result ((next : BenchState) × IsCalled bench next
+            × StandsForRun self.new w next) }
         ensures ticks { self.new.ticks ≡ self.old.ticks }
     {
         let octets = connect(self.alloc, End::A)?;
@@ -373,7 +378,8 @@ impl Run {
 
     /// A station ticks.
     fn tick_station(&mut self, end: End) -> Result<(), OutOfMemory>
-        ensures ticked { (w : BenchWords) → OnOk result (MovesRun w (Unless (AtEnd end (IsTicking end))) self.old self.new) }
+        ensures ticked { (w : BenchWords) → OnOk result
+            (MovesRun w (Unless (AtEnd end (IsTicking end))) self.old self.new) }
         ensures ticks { self.new.ticks ≡ self.old.ticks }
     {
         if self.shared.has_ended() {
@@ -409,18 +415,8 @@ impl Run {
     {
         let to_b = reaching(self.words.full, &self.a, &self.b);
         let to_a = reaching(self.words.full, &self.b, &self.a);
-        let noisy_b = with_noise(
-            self.alloc,
-            &mut self.shared.draws,
-            self.words.noise,
-            &to_b,
-        )?;
-        let noisy_a = with_noise(
-            self.alloc,
-            &mut self.shared.draws,
-            self.words.noise,
-            &to_a,
-        )?;
+        let noisy_b = with_noise(self.alloc, &mut self.shared.draws, self.words.noise, &to_b)?;
+        let noisy_a = with_noise(self.alloc, &mut self.shared.draws, self.words.noise, &to_a)?;
         Ok(Both {
             to_a: noisy_a,
             to_b: noisy_b,
@@ -449,7 +445,8 @@ impl Run {
     /// A station hears the frames that are ready.
     fn hear(&mut self, end: End, items: &[Candidate]) -> Result<(), OutOfMemory>
         requires { All (λ item. HasFrameLength item.octets) items.now }
-        ensures heard { (w : BenchWords) → OnOk result (MovesRun w (AtEnd end (AreHeardAt end items.now)) self.old self.new) }
+        ensures heard { (w : BenchWords) → OnOk result
+            (MovesRun w (AtEnd end (AreHeardAt end items.now)) self.old self.new) }
         ensures ticks { self.new.ticks ≡ self.old.ticks }
     {
         match end {
@@ -462,7 +459,8 @@ impl Run {
     /// The tick ends.
     fn close(&mut self)
         requires { self.old.ticks < 2 ^ 32 }
-        ensures closed { (w : BenchWords) → MovesRun w (Unless (λ before after. after ≡ ticked before)) self.old self.new }
+        ensures closed { (w : BenchWords)
+            → MovesRun w (Unless (λ before after. after ≡ ticked before)) self.old self.new }
         ensures count { self.new.ticks ≤ self.old.ticks + 1 }
     {
         if self.shared.has_ended() {
@@ -480,8 +478,8 @@ ghost use Rattle.channel_bench.specs.Sounding.{sends};
 
 /// The samples that one station sends the other, or silence if they do not reach it.
 fn reaching(full: bool, sender: &Side, hearer: &Side) -> [i16; SAMPLES]
-    ensures { (one other : End) (from to : SideState) → StandsForSide one sender.now from → StandsForSide other hearer.now to
-        → result ≡ reaching full from to }
+    ensures { (one other : End) (from to : SideState) → StandsForSide one sender.now from
+        → StandsForSide other hearer.now to → result ≡ reaching full from to }
 {
     if is_silent(full, sender.silenced, &hearer.air) {
         [0; SAMPLES]

@@ -112,8 +112,8 @@ impl Side {
     fn is_new(&self, id: u32) -> bool
         ensures may { (end : End) (side : SideState) (kind : PortKind) → StandsForSide end self.now side
             → (IsTrue result ↔ MayCome (HostEvent.Joined id kind) side) }
-        ensures admitted { IsTrue result → (end : End) (side : SideState) (kind : PortKind) → StandsForSide end self.now side
-            → IsAdmitted (HostEvent.Joined id kind) self.now.station }
+        ensures admitted { IsTrue result → (end : End) (side : SideState) (kind : PortKind)
+            → StandsForSide end self.now side → IsAdmitted (HostEvent.Joined id kind) self.now.station }
     {
         !is_among(&self.there, id)
     }
@@ -126,7 +126,8 @@ impl Side {
         kind: PortKind,
     ) -> Result<(), OutOfMemory>
         requires { (end : End) × (n : Near) × StandsForNear end self.old shared.old n }
-        ensures { (end : End) → OnOk result (MovesNear end (IsTold end (HostEvent.Joined id kind)) self.old self.new shared.old shared.new) }
+        ensures { (end : End) → OnOk result
+            (MovesNear end (IsTold end (HostEvent.Joined id kind)) self.old self.new shared.old shared.new) }
     {
         if !self.is_new(id) {
             return Ok(());
@@ -136,12 +137,7 @@ impl Side {
     }
 
     /// A connection joins under a new id.
-    fn enter(
-        &mut self,
-        shared: &mut Shared,
-        id: u32,
-        kind: PortKind,
-    ) -> Result<(), OutOfMemory>
+    fn enter(&mut self, shared: &mut Shared, id: u32, kind: PortKind) -> Result<(), OutOfMemory>
         requires { IsAdmitted (HostEvent.Joined id kind) self.old.station }
         ensures { (end : End) (n : Near) → StandsForNear end self.old shared.old n → n.common.trouble ≡ None
             → OnOk result ((next : Near) × IsStep end (FromHost (HostEvent.Joined id kind)) None n next
@@ -163,7 +159,8 @@ impl Side {
     ) -> Result<(), OutOfMemory>
         requires stands { (end : End) × (n : Near) × StandsForNear end self.old shared.old n }
         requires most { length octets ≤ 4096 }
-        ensures { (end : End) → OnOk result (MovesNear end (IsTold end (HostEvent.Bytes id octets)) self.old self.new shared.old shared.new) }
+        ensures { (end : End) → OnOk result
+            (MovesNear end (IsTold end (HostEvent.Bytes id octets)) self.old self.new shared.old shared.new) }
     {
         if !self.accepts(id) {
             return Ok(());
@@ -232,7 +229,8 @@ impl Side {
         Ok(())
     }
 
-    /// Samples of a tick reach it, and the frame whose sending has ended at the sender. Gives the frames that are ready.
+    /// Samples of a tick reach it, and the frame whose sending has ended at the sender. Gives the frames that are
+    /// ready.
     pub(crate) fn take_in(
         &mut self,
         tick: u64,
@@ -260,7 +258,8 @@ impl Side {
     ) -> Result<(), OutOfMemory>
         requires { All (λ item. HasFrameLength item.octets) items.now }
         ensures { (end : End) (n : Near) → StandsForNear end self.old shared.old n
-            → OnOk result ((next : Near) × AreHeardAt end items.now n next × StandsForNear end self.new shared.new next) }
+            → OnOk result ((next : Near) × AreHeardAt end items.now n next
+            × StandsForNear end self.new shared.new next) }
     {
         for item in items {
             self.hear(shared, item)?;

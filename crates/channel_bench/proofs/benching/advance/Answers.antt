@@ -4,7 +4,8 @@ use Rattle.channel_bench.proofs.BenchLemmas.{ended_by, made_more}
 use Rattle.channel_bench.proofs.benching.advance.Goals as goal
 
 pub tick-requires-clause-stands : goal.tick-requires-clause-stands
-tick-requires-clause-stands c = let going = c.requires.2 in (c.requires.0, going.made.bench, going.made.stands, c.requires.3)
+tick-requires-clause-stands c = let going = c.requires.2 in
+    (c.requires.0, going.made.bench, going.made.stands, c.requires.3)
 
 pub tick-requires-clause-few : goal.tick-requires-clause-few
 tick-requires-clause-few c = omega (arith, c.requires.2.made.few, c.requires.4)

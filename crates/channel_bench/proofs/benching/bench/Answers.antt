@@ -25,12 +25,14 @@ advance-requires c =
 
 pub loop-preserved : goal.loop-preserved
 loop-preserved c =
-    let made : HasMade c.args.words (c.loop.counter + 1) c.advance.new.run = c.in_ok-advance.ensures.made c.args.words c.loop.counter c.loop.invariant in
+    let made : HasMade c.args.words (c.loop.counter + 1) c.advance.new.run = c.in_ok-advance.ensures.made c.args.words
+    c.loop.counter c.loop.invariant in
     record { made = made; not_over = sym (c.is_over.ensures c.args.words made.bench made.stands) ∙ c.if-is_over.false }
 
 pub returns-then-is_over-clause-over : goal.returns-then-is_over-clause-over
 returns-then-is_over-clause-over c =
-    let made : HasMade c.args.words (c.loop.counter + 1) c.advance.new.run = c.in_ok-advance.ensures.made c.args.words c.loop.counter c.loop.invariant in
+    let made : HasMade c.args.words (c.loop.counter + 1) c.advance.new.run = c.in_ok-advance.ensures.made c.args.words
+    c.loop.counter c.loop.invariant in
     record {
       count = c.loop.counter + 1;
       bench = made.bench;

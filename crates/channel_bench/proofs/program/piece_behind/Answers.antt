@@ -8,7 +8,8 @@ pub returns-else-text-given-gt-MOST_OCTETS-clause-piece : goal.returns-else-text
 returns-else-text-given-gt-MOST_OCTETS-clause-piece c =
     let text = c.args.text.now in
     let given = c.args.given in
-    let short : length (drop given text) ≤ 256 = omega (arith, length-drop given text, c.if-text-given-gt-MOST_OCTETS.false) in
+    let short : length (drop given text) ≤ 256 = omega
+    (arith, length-drop given text, c.if-text-given-gt-MOST_OCTETS.false) in
     let all : take (length text - given) (drop given text) ≡ take 256 (drop given text) =
     take_rest text given ∙ sym (take_all 256 (drop given text) short) in
     ap Some all ∙ cond_below given (length text) (Some (take 256 (drop given text))) None c.if-given-text.false

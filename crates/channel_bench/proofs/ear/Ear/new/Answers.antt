@@ -5,4 +5,5 @@ use Rattle.channel_bench.proofs.ear.Ear.new.Goals as goal
 
 pub returns : goal.returns
 returns c =
-    ear_none _ c.in_ok-bank.ensures.stands_for c.in_ok-bank.ensures.flags refl c.in_ok-merger.ensures.marks c.in_ok-merger.ensures.stands_for
+    ear_none _ c.in_ok-bank.ensures.stands_for c.in_ok-bank.ensures.flags refl c.in_ok-merger.ensures.marks
+    c.in_ok-merger.ensures.stands_for

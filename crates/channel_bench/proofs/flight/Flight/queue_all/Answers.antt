@@ -18,11 +18,15 @@ loop-frame-preserved c =
     record {
       queued = λ ways h.
           subst (λ xs. StandsForWays c.queue.new.self (queueing_all c.args.sender c.args.on_ask xs ways)) (sym more)
-          (subst (StandsForWays c.queue.new.self) (sym (queueing_more c.args.sender c.args.on_ask (take i frames) octets ways))
-          (c.in_ok-queue.ensures (queueing_all c.args.sender c.args.on_ask (take i frames) ways) (c.loop-frame.invariant.queued ways h)));
+          (subst (StandsForWays c.queue.new.self)
+          (sym (queueing_more c.args.sender c.args.on_ask (take i frames) octets ways))
+          (c.in_ok-queue.ensures (queueing_all c.args.sender c.args.on_ask (take i frames) ways)
+          (c.loop-frame.invariant.queued ways h)));
       first = λ ways h.
-          first_more c.args.sender c.args.on_ask (take i frames) octets ways c.loop-frame.first c.in_ok-first.first (c.loop-frame.invariant.first ways h)
-          (c.in_ok-first.ensures (queueing_all c.args.sender c.args.on_ask (take i frames) ways) (c.loop-frame.invariant.queued ways h))
+          first_more c.args.sender c.args.on_ask (take i frames) octets ways c.loop-frame.first c.in_ok-first.first
+          (c.loop-frame.invariant.first ways h)
+          (c.in_ok-first.ensures (queueing_all c.args.sender c.args.on_ask (take i frames) ways)
+          (c.loop-frame.invariant.queued ways h))
           ∙ ap (λ xs. first_unquiet c.args.sender c.args.on_ask xs ways) (sym more);
     }
 
@@ -34,4 +38,5 @@ returns-clause-queued c = λ ways h.
 pub returns-clause-first : goal.returns-clause-first
 returns-clause-first c = λ ways h.
     c.loop-frame.invariant.first ways h
-    ∙ ap (λ xs. first_unquiet c.args.sender c.args.on_ask xs ways) (take_all c.loop-frame.frame-index c.args.frames.now c.loop-frame-test.false)
+    ∙ ap (λ xs. first_unquiet c.args.sender c.args.on_ask xs ways)
+    (take_all c.loop-frame.frame-index c.args.frames.now c.loop-frame-test.false)

@@ -8,5 +8,6 @@ use Rattle.channel_bench.proofs.flight.OneWay.answers.Goals as goal
 pub returns : goal.returns
 returns c = λ way h.
     let held = c.args.self.now in
-    c.some_answers.ensures ∙ ap (λ (xs : List Flags). list_any (λ (f : Flags). f.answers) (drop held.front xs)) c.deref.ensures.value
+    c.some_answers.ensures ∙ ap (λ (xs : List Flags). list_any (λ (f : Flags). f.answers) (drop held.front xs))
+    c.deref.ensures.value
     ∙ in_flight_any (λ (f : Flags). f.answers) held way h

@@ -8,5 +8,6 @@ use Rattle.channel_bench.proofs.flight.OneWay.asks.Goals as goal
 pub returns : goal.returns
 returns c = λ way h.
     let held = c.args.self.now in
-    c.some_asks.ensures ∙ ap (λ (xs : List Flags). list_any (λ (f : Flags). f.asks) (drop held.front xs)) c.deref.ensures.value
+    c.some_asks.ensures ∙ ap (λ (xs : List Flags). list_any (λ (f : Flags). f.asks) (drop held.front xs))
+    c.deref.ensures.value
     ∙ in_flight_any (λ (f : Flags). f.asks) held way h

@@ -48,8 +48,10 @@ pub returns-clause-samples : goal.returns-clause-samples
 returns-clause-samples c = λ w bench h.
     let is_b = c.reaching-to_b.ensures A B bench.a bench.b h.a h.b in
     let is_a = c.reaching-to_a.ensures B A bench.b bench.a h.b h.a in (
-      noisy_a c.args.self.now w bench c.reaching-to_a.result c.reaching-to_b.result c.with_noise.new.draws h is_b is_a c.in_ok-noisy_b.ensures.draws
+      noisy_a c.args.self.now w bench c.reaching-to_a.result c.reaching-to_b.result c.with_noise.new.draws h is_b is_a
+          c.in_ok-noisy_b.ensures.draws
           c.in_ok-noisy_a.noisy_a.items c.in_ok-noisy_a.ensures.samples,
-      noisy_b c.args.self.now w bench c.reaching-to_a.result c.reaching-to_b.result c.with_noise.new.draws h is_b is_a c.in_ok-noisy_b.ensures.draws
+      noisy_b c.args.self.now w bench c.reaching-to_a.result c.reaching-to_b.result c.with_noise.new.draws h is_b is_a
+          c.in_ok-noisy_b.ensures.draws
           c.in_ok-noisy_b.noisy_b.items c.in_ok-noisy_b.ensures.samples,
     )

@@ -18,8 +18,23 @@ pub returns-clause-called : goal.returns-clause-called
 returns-clause-called c = λ w bench h none.
     let run = c.args.self.now in
     let a = stands_program A run.a _ bench.a (calling bench.a.program) h.a
-    (record { end = refl; station = refl; there = refl; reader = refl; ear = refl; towards = refl; matched = refl; air = refl; silenced = refl })
+    (record {
+      end = refl;
+      station = refl;
+      there = refl;
+      reader = refl;
+      ear = refl;
+      towards = refl;
+      matched = refl;
+      air = refl;
+      silenced = refl;
+    })
     (c.call.ensures ∙ ap calling h.a.program) in
-    let made = c.in_ok-bring.ensures A (near A (with_calling bench)) (record { side_is = a; shared_is = h.shared }) none in
-    with_a (Says A (connect_octets A)) _ w (with_calling bench) h.words h.b h.text_of_a h.text_of_b h.ticks h.closing
-    (made.0, subst (λ o. IsStep A (FromHost (Bytes 1 o)) None (near A (with_calling bench)) made.0) c.in_ok-octets.ensures.spelled made.1, made.2)
+    let made = c.in_ok-bring.ensures A (near A (with_calling bench))
+    (record { side_is = a; shared_is = h.shared }) none in
+    with_a (Says A (connect_octets A)) _ w (with_calling bench) h.words h.b h.text_of_a h.text_of_b h.ticks h.closing (
+      made.0,
+      subst (λ o. IsStep A (FromHost (Bytes 1 o)) None (near A (with_calling bench)) made.0)
+          c.in_ok-octets.ensures.spelled made.1,
+      made.2,
+    )

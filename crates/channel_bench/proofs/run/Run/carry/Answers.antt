@@ -26,7 +26,8 @@ returns-clause-carried c = λ w bench h.
     let after : BenchState = with_losses w.loss bench in
     let lost = c.in_ok-draw_losses.ensures.lost w bench h in
     let samples = c.in_ok-both.ensures.samples w after lost in
-    subst (λ b. StandsForRun c.take_in.new.self w b) (sounded_is w bench both.to_a.items both.to_b.items samples.0 samples.1)
+    subst (λ b. StandsForRun c.take_in.new.self w b)
+    (sounded_is w bench both.to_a.items both.to_b.items samples.0 samples.1)
     (c.in_ok-ready.ensures.taken w (with_noise_drawn w after) (c.in_ok-both.ensures.drawn w after lost))
 
 pub returns-clause-ready : goal.returns-clause-ready

@@ -13,9 +13,12 @@ pub give-requires-in-B : goal.give-requires-in-B
 give-requires-in-B c = (B, near B c.requires.1, near_b c.args.self.now c.requires.0 c.requires.1 c.requires.2)
 
 pub returns-then-has_ended-clause-given : goal.returns-then-has_ended-clause-given
-returns-then-has_ended-clause-given c = λ w bench h.
-    (bench, unless_ended (AtEnd c.args.end (IsGiven w c.args.end)) bench
-    (has_ended c.args.self.now w bench c.has_ended.result h c.has_ended.ensures c.if-has_ended.true), h)
+returns-then-has_ended-clause-given c = λ w bench h. (
+  bench,
+  unless_ended (AtEnd c.args.end (IsGiven w c.args.end)) bench
+      (has_ended c.args.self.now w bench c.has_ended.result h c.has_ended.ensures c.if-has_ended.true),
+  h,
+)
 
 pub returns-in_ok-give-in-A-clause-given : goal.returns-in_ok-give-in-A-clause-given
 returns-in_ok-give-in-A-clause-given c = λ w bench h.
@@ -31,4 +34,5 @@ returns-in_ok-give-in-B-clause-given c = λ w bench h.
     let none = goes_on run w bench c.has_ended.result h c.has_ended.ensures c.if-has_ended.false in
     made_at_b (λ e. IsGiven w e) c.args.end run _ w bench c.in-B.is h
     (record { words = refl; a = refl; text_of_a = refl; text_of_b = refl; ticks = refl; closing = refl }) none
-    (c.in_ok-give-in-B.ensures B w (c.as_slice-in-B.ensures.list ∙ h.text_of_b) (near B bench) (near_b run w bench h) none)
+    (c.in_ok-give-in-B.ensures B w (c.as_slice-in-B.ensures.list ∙ h.text_of_b) (near B bench)
+    (near_b run w bench h) none)

@@ -15,9 +15,12 @@ set_full_duplex-requires-2 c =
 
 pub returns-then-not-self-clause-set : goal.returns-then-not-self-clause-set
 unfolding sets_duplex
-returns-then-not-self-clause-set c = λ w bench h.
-    (bench, subst (λ b. ArePartsMade w (cond b (sets_full_duplex A ++ sets_full_duplex B) []) bench bench)
-    (sym (ap (λ v. v.full) (sym h.words) ∙ c.if-not-self.true)) refl, h)
+returns-then-not-self-clause-set c = λ w bench h. (
+  bench,
+  subst (λ b. ArePartsMade w (cond b (sets_full_duplex A ++ sets_full_duplex B) []) bench bench)
+      (sym (ap (λ v. v.full) (sym h.words) ∙ c.if-not-self.true)) refl,
+  h,
+)
 
 pub returns-clause-set : goal.returns-clause-set
 unfolding sets_duplex

@@ -18,8 +18,10 @@ returns-clause-taken c = λ w bench h.
     let run = c.args.self.now in
     let at_a = c.in_ok-at_a.ensures.heard A bench.a h.a in
     let at_b = c.in_ok-at_b.ensures.heard B bench.b h.b in
-    let a = subst (λ y. StandsForSide A c.take_in.new.self (with_samples y (sent_in run.ticks run.b.air.sent) bench.a)) c.deref.ensures.value at_a.0 in
-    let b = subst (λ y. StandsForSide B c.take_in-2.new.self (with_samples y (sent_in run.ticks c.take_in.new.self.air.sent) bench.b))
+    let a = subst (λ y. StandsForSide A c.take_in.new.self
+    (with_samples y (sent_in run.ticks run.b.air.sent) bench.a)) c.deref.ensures.value at_a.0 in
+    let b = subst (λ y. StandsForSide B c.take_in-2.new.self
+    (with_samples y (sent_in run.ticks c.take_in.new.self.air.sent) bench.b))
     c.deref-2.ensures.value at_b.0 in
     both_taken run _ w bench c.args.both.now.to_a.items c.args.both.now.to_b.items h a b
     (record { words = refl; shared = refl; text_of_a = refl; text_of_b = refl; ticks = refl; closing = refl })

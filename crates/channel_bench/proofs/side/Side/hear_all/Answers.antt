@@ -17,12 +17,17 @@ loop-item-preserved c = λ end n h.
     let was = c.loop-item.invariant end n h in
     let made = c.in_ok-hear.ensures end was.0 was.2 in (
       made.0,
-      heard_more end c.args.items.now c.loop-item.item-index c.item-item.result c.item-item.result n was.0 made.0 c.loop-item-test.true c.item-item.is
+      heard_more end c.args.items.now c.loop-item.item-index c.item-item.result c.item-item.result n was.0 made.0
+          c.loop-item-test.true c.item-item.is
           was.1 made.1,
       made.2,
     )
 
 pub returns : goal.returns
 returns c = λ end n h.
-    let was = c.loop-item.invariant end n h in
-    (was.0, subst (λ xs. AreHeardAt end xs n was.0) (take_all c.loop-item.item-index c.args.items.now c.loop-item-test.false) was.1, was.2)
+    let was = c.loop-item.invariant end n h in (
+      was.0,
+      subst (λ xs. AreHeardAt end xs n was.0)
+          (take_all c.loop-item.item-index c.args.items.now c.loop-item-test.false) was.1,
+      was.2,
+    )

@@ -14,8 +14,10 @@ returns-clause-side c = λ end side h.
 pub returns-clause-flight : goal.returns-clause-flight
 returns-clause-flight c = λ ways h.
     let queued = c.deref-2.ensures.value ∙ ap (λ (o : Out). o.queued) c.out.view_is in
-    subst (λ e. StandsForWays c.queue_all.new.self.flight (queueing_all e c.args.on_ask c.args.out.now.queued ways)) c.tell.ensures.end
-    (subst (λ xs. StandsForWays c.queue_all.new.self.flight (queueing_all c.tell.new.self.end c.args.on_ask xs ways)) queued
+    subst (λ e. StandsForWays c.queue_all.new.self.flight (queueing_all e c.args.on_ask c.args.out.now.queued ways))
+    c.tell.ensures.end
+    (subst (λ xs. StandsForWays c.queue_all.new.self.flight
+    (queueing_all c.tell.new.self.end c.args.on_ask xs ways)) queued
     (c.in_ok-queue_all.ensures.flight ways h))
 
 pub returns-clause-trouble : goal.returns-clause-trouble

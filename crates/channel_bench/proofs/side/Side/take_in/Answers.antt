@@ -13,7 +13,8 @@ returns-clause-heard c = λ end side h.
     let y = c.args.samples.now in
     let heard = c.in_ok-items.ensures.heard side.samples h.ear in
     let sent = sent_in c.args.tick c.args.sender.now.air.sent in (
-      stands_kept end c.args.self.now _ side h (record { end = refl; station = refl; there = refl; reader = refl; program = refl; air = refl })
+      stands_kept end c.args.self.now _ side h
+          (record { end = refl; station = refl; there = refl; reader = refl; program = refl; air = refl })
           (side.samples ++ y) (side.towards ++ sent) side.matched side.silenced heard.0
           (c.in_ok-note_sent.ensures.noted ∙ ap (λ ts. ts ++ sent) h.towards) h.matched h.silenced,
       ready_with side.samples y c.in_ok-items.items.items c.requires.samples heard.1,
