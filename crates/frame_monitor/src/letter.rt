@@ -4,8 +4,8 @@ ghost use Rattle.frame_monitor.specs.MonitorText.{heard_letter, monitor_letter};
 
 use ax25_frames::Kind;
 
-/// The kind of the message that shows a frame: U for UI, I for I, S for any other that was heard, and T for each that this
-/// station has sent.
+/// The kind of the message that shows a frame: U for UI, I for I, S for any other that was heard, and T for each that
+/// this station has sent.
 pub fn monitor_letter(kind: &Kind, sent: bool) -> u8
     ensures { result ≡ monitor_letter sent kind.now }
 {

@@ -60,11 +60,11 @@ fn texts_of_frames(rt: HostRuntime) -> Result<(), Fail> {
 fn the_last_repeater_has_the_star(rt: HostRuntime) -> Result<(), Fail> {
     let alloc = rt.alloc();
     for (flags, want) in [
-        (["60", "60", "61"], " Via A,A,A <"),
-        (["e0", "60", "61"], " Via A*,A,A <"),
-        (["e0", "e0", "61"], " Via A,A*,A <"),
-        (["60", "60", "e1"], " Via A,A,A* <"),
-        (["e0", "e0", "e1"], " Via A,A,A* <"),
+        (["60", "60", "61"], "A,A,A"),
+        (["e0", "60", "61"], "A*,A,A"),
+        (["e0", "e0", "61"], "A,A*,A"),
+        (["60", "60", "e1"], "A,A,A*"),
+        (["e0", "e0", "e1"], "A,A,A*"),
     ] {
         let [one, two, three] = flags;
         let digits = format!(in alloc;
@@ -72,7 +72,10 @@ fn the_last_repeater_has_the_star(rt: HostRuntime) -> Result<(), Fail> {
         )?;
         let frame = read_frame(alloc, &hex::decode(alloc, digits.as_str())?, Modulus::Eight)?;
         let text = monitor_text(alloc, &frame, 0)?;
-        assert!(rt; text.as_slice().get(19..19 + want.len()) == Some(want.as_bytes()));
+        let want = format!(in alloc;
+            " 1:Fm N7LEM To NJ7P Via {want} <UI pid=F0 Len=0 P=0 >[00:00:00]\r\0"
+        )?;
+        assert_eq!(rt; text.as_slice(), want.as_bytes());
     }
     Ok(())
 }

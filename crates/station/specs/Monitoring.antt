@@ -32,4 +32,5 @@ monitor_pieces sent ticks (Some frame) connections =
 -- a frame is shown, heard or sent after so many ticks
 abbrev pub monitoring : Bool → ℕ → Option Frame → Act
 monitoring sent ticks frame turn =
-    record turn { out = record turn.out { pieces = turn.out.pieces ++ monitor_pieces sent ticks frame turn.now.connections } }
+    let pieces = monitor_pieces sent ticks frame turn.now.connections in
+    record turn { out = record turn.out { pieces = turn.out.pieces ++ pieces } }

@@ -1,5 +1,5 @@
--- A tick of 10 ms: of each link in the order of their keys, and then of the channel. A frame whose sending ends in it is
--- shown to hosts that monitor the channel.
+-- A tick of 10 ms: of each link in the order of their keys, and then of the channel. A frame whose sending ends in it
+-- is shown to hosts that monitor the channel.
 use Rattle.std.specs.Prelude.{◌≡◌, ℕ, Bool, true, List, map, Option, Some, None}
 use Rattle.std.specs.List.{range_with_len, list_any}
 use Rattle.ax25_address.specs.declared.path.Path.{Path}

@@ -12,6 +12,7 @@ returns c = record {
       let path = c.args.path.now in
       let modulus : c.modulus_between-modulus.result ≡ modulus_between path.dest path.source turn.now.links =
       c.modulus_between-modulus.ensures turn.now.links shows.holds.links in
-      on_ok_weaker c.monitor.result (λ p. (p.0, subst (λ (m : Modulus). IsReadAs m c.args.octets.now p.0) modulus p.1, p.2))
+      on_ok_weaker c.monitor.result
+      (λ p. (p.0, subst (λ (m : Modulus). IsReadAs m c.args.octets.now p.0) modulus p.1, p.2))
       (c.monitor.ensures.shows turn shows);
 }

@@ -1,6 +1,6 @@
 use Rattle.std.specs.Prelude.{◌≡◌, ◌+◌, ◌<◌, ℕ, List, length, take, Some}
 use Rattle.std.specs.List.{AllZip}
-use Rattle.std.proofs.Common.{sym, ap, subst, arith, get_or}
+use Rattle.std.proofs.Common.{sym, subst, arith, get_or}
 use Rattle.std.proofs.lemmas.List.{take_all}
 use Rattle.agwpe_port.specs.Messages.{spelling}
 use Rattle.station.specs.declared.connection.Connection.{Connection as HeldConnection}
