@@ -1,21 +1,18 @@
 -- A run of the bench, tick by tick.
-use Rattle.std.proofs.Common.{◌≡◌, ℕ, zero, suc, ◌+◌, ◌≤◌, Bool, true, false, Option, Some, None, refl, sym, ap, ◌∙◌, subst, add-one, arith}
+use Rattle.std.proofs.Common.{◌≡◌, ℕ, ◌+◌, ◌≤◌, Some, None, sym, subst, add-one, arith}
 use Rattle.channel_bench.specs.declared.run.Run.{Run}
 use Rattle.channel_bench.specs.declared.words.BenchWords.{BenchWords}
 use Rattle.channel_bench.specs.declared.trouble.Trouble.{Trouble}
 use Rattle.channel_bench.specs.BenchRun.{AreTicks, IsEndedBy, IsUnderWay}
-use Rattle.channel_bench.specs.BenchState.{BenchState, new_bench}
+use Rattle.channel_bench.specs.BenchState.{BenchState}
 use Rattle.channel_bench.specs.BenchTick.{IsTick}
 use Rattle.channel_bench.specs.HeldBench.{HasMade, IsGoing, StandsForRun}
 
-pub ticks_more : (w : BenchWords) (count : ℕ) (before bench : BenchState) → AreTicks w count before
+ticks_more : (w : BenchWords) (count : ℕ) (before bench : BenchState) → AreTicks w count before
     → IsUnderWay before → IsTick w before bench
     → AreTicks w (count + 1) bench
 ticks_more w count before bench h under tick = subst (λ n. AreTicks w n bench) (sym (add-one count))
     (before, h, under, tick)
-
-pub new_under_way : (w : BenchWords) → IsUnderWay (new_bench w)
-new_under_way w = record { no_trouble = refl; not_over = refl }
 
 -- a tick more, that nothing has ended
 pub made_more : (w : BenchWords) (count : ℕ) (before after : Run) (going : IsGoing w count before) (next : BenchState)

@@ -1,5 +1,5 @@
 -- An ear that hears more samples.
-use Rattle.std.proofs.Common.{◌≡◌, ℕ, ◌+◌, ◌-◌, ◌^◌, ◌<◌, ◌≤◌, ℤ, List, [], ◌++◌, length, replicate, ap, sym, ◌∙◌, arith, subst, get_or, length-append}
+use Rattle.std.proofs.Common.{◌≡◌, ℕ, ◌+◌, ◌^◌, ◌<◌, ◌≤◌, ℤ, List, [], ◌++◌, length, replicate, ap, sym, ◌∙◌, arith, subst, length-append}
 use Rattle.std.specs.Prelude.{All}
 use Rattle.std.specs.List.Sorted.{IsNonDecreasingBy}
 use Rattle.std.proofs.lemmas.List.Elements.{All-filter}
@@ -12,7 +12,7 @@ use Rattle.frame_merge.proofs.Merging.{merged-rising, All-merged}
 use Rattle.frame_merge.proofs.Ordering.{rising_ends}
 use Rattle.frame_merge.proofs.Taking.{least-one}
 use Rattle.slicer_bank.specs.Candidates.{AreCandidates, AreCandidatesBehind, IsCandidate}
-use Rattle.slicer_bank.specs.Held.{HeldBank, StandsFor as BankStandsFor}
+use Rattle.slicer_bank.specs.Held.{StandsFor as BankStandsFor}
 use Rattle.slicer_bank.specs.MergedItems.{AreMergedBetween}
 use Rattle.slicer_bank.proofs.CandidateLemmas.{candidates_none, candidates_join}
 use Rattle.slicer_bank.proofs.MergingLemmas.{in_order-strictly, is_in_order}

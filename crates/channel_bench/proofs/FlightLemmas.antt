@@ -1,5 +1,5 @@
 -- What is kept of the frames in flight, and moments one after another.
-use Rattle.std.proofs.Common.{◌≡◌, ℕ, ◌+◌, ◌<◌, Bool, true, false, ◌||◌, ◌&&◌, List, [], ◌∷◌, ◌++◌, length, map, drop, cond, Option, Some, None, refl, sym, ap, ◌∙◌}
+use Rattle.std.proofs.Common.{◌≡◌, ℕ, ◌+◌, Bool, true, false, ◌||◌, List, [], ◌∷◌, ◌++◌, map, drop, cond, Option, Some, None, refl, sym, ap, ◌∙◌}
 use Rattle.std.specs.Prelude.{is_some}
 use Rattle.std.specs.List.{list_any}
 use Rattle.std.proofs.lemmas.List.{drop-map, map-append}
@@ -57,7 +57,7 @@ stays_by : (b : Bool) (short long other : Option ℕ) (number : ℕ) → (short 
 stays_by true short long other number again h = again h
 stays_by false short long other number again h = h
 
-pub first_stays : (sender : End) (on_ask : Bool) (frames : List (List ℕ)) (octets : List ℕ) (ways : BothWays)
+first_stays : (sender : End) (on_ask : Bool) (frames : List (List ℕ)) (octets : List ℕ) (ways : BothWays)
     (number : ℕ)
     → first_unquiet sender on_ask frames ways ≡ Some number
     → first_unquiet sender on_ask (frames ++ octets ∷ []) ways ≡ Some number
@@ -74,7 +74,7 @@ next_by : (b : Bool) (short long other : Option ℕ) (number : ℕ) → (short �
 next_by true short long other number again h = again h
 next_by false short long other number again h = absurd (cc)
 
-pub first_next : (sender : End) (on_ask : Bool) (frames : List (List ℕ)) (octets : List ℕ) (ways : BothWays)
+first_next : (sender : End) (on_ask : Bool) (frames : List (List ℕ)) (octets : List ℕ) (ways : BothWays)
     → first_unquiet sender on_ask frames ways ≡ None
     → first_unquiet sender on_ask (frames ++ octets ∷ []) ways
     ≡ cond (is_quiet_at sender octets (queueing_all sender on_ask frames ways)) None

@@ -46,7 +46,6 @@ mod StepLemmas
 mod SideLemmas
 mod PartLemmas
 mod RunLemmas
-mod TestLemmas
 mod HearLemmas
 mod SoundLemmas
 mod BenchLemmas

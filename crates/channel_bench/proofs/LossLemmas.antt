@@ -1,8 +1,7 @@
 -- A transmission that begins draws a word, and may be lost.
-use Rattle.std.proofs.Common.{◌≡◌, ℕ, ◌+◌, Bool, true, false, ℤ, List, cond, refl, sym, ap, ◌∙◌, subst}
+use Rattle.std.proofs.Common.{◌≡◌, ℕ, ◌+◌, Bool, true, false, cond, sym, ap, ◌∙◌, subst}
 use Rattle.link_world.specs.declared.end.End.{End}
 use Rattle.link_world.specs.declared.end.End.TheVariants.{A, B}
-use Rattle.channel_bench.specs.declared.matching.SentAt.{SentAt}
 use Rattle.channel_bench.specs.declared.shared.Shared.{Shared}
 use Rattle.channel_bench.specs.declared.side.Side.{Side}
 use Rattle.channel_bench.specs.declared.run.Run.{Run}

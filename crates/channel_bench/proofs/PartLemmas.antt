@@ -14,7 +14,7 @@ over f trouble on stay is h = subst (λ g. GoesOn g on stay) is h
 stays : (f : Option Trouble) (trouble : Trouble) (on stay : Type 0) → f ≡ Some trouble → stay → GoesOn f on stay
 stays f trouble on stay is h = subst (λ g. GoesOn g on stay) (sym is) h
 
-pub parts_over : (w : BenchWords) (parts : List Part) (bench next : BenchState) (trouble : Trouble)
+parts_over : (w : BenchWords) (parts : List Part) (bench next : BenchState) (trouble : Trouble)
     → bench.common.trouble ≡ Some trouble → ArePartsMade w parts bench next → next ≡ bench
 parts_over w [] bench next trouble is h = h
 parts_over w (part ∷ parts) bench next trouble is h =

@@ -1,5 +1,5 @@
 -- What a station of the bench stands for after its calls.
-use Rattle.std.proofs.Common.{◌≡◌, ℕ, ◌+◌, ◌<◌, ◌≤◌, Bool, true, false, ℤ, List, [], ◌∷◌, ◌++◌, length, Option, Some, None, refl, sym, ap, ◌∙◌, subst}
+use Rattle.std.proofs.Common.{◌≡◌, ℕ, ◌<◌, Bool, true, false, ℤ, List, Some, None, refl, sym, ap, ◌∙◌, subst}
 use Rattle.std.specs.Prelude.{All, MatchBool, ◌↔◌, IsTrue}
 use Rattle.agwpe_port.specs.Held.{StandsFor as AgwStandsFor}
 use Rattle.link_world.specs.declared.end.End.{End}
@@ -16,11 +16,11 @@ use Rattle.station.specs.Turn.{Out, Turn, begin}
 use Rattle.channel_bench.specs.declared.matching.SentAt.{SentAt}
 use Rattle.channel_bench.specs.declared.shared.Shared.{Shared}
 use Rattle.channel_bench.specs.declared.side.Side.{Side}
-use Rattle.channel_bench.specs.BenchState.{SideState, Common, Near, ways_of}
+use Rattle.channel_bench.specs.BenchState.{SideState, Near, ways_of}
 use Rattle.channel_bench.specs.BenchSteps.{MayCome, IsStep, IsTicking, IsTold, told_pieces, first_unquiet, trouble_of}
 use Rattle.channel_bench.specs.HeldBench.{EarStandsFor, StandsForSide, StandsForCommon, StandsForNear, StandsForWays}
 use Rattle.channel_bench.specs.HostProgram.{ProgramState}
-use Rattle.channel_bench.specs.InFlight.{BothWays, is_ask, hears_ask, hearing_at, queueing_all}
+use Rattle.channel_bench.specs.InFlight.{BothWays, is_ask, hearing_at, queueing_all}
 use Rattle.channel_bench.specs.JointRun.Input.{FromHost, OffAir, OfClock}
 use Rattle.channel_bench.proofs.Loudness.{air_within}
 use Rattle.channel_bench.proofs.StepLemmas.{step_made}

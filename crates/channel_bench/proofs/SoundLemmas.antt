@@ -1,16 +1,15 @@
 -- What reaches the stations in a tick.
-use Rattle.std.proofs.Common.{◌≡◌, ℕ, ◌+◌, ◌-◌, ◌≤◌, Bool, true, false, ◌||◌, ◌&&◌, ℤ, pos, List, [], ◌∷◌, ◌++◌, length, replicate, not, cond, refl, sym, ap, ◌∙◌, subst, arith, length-append}
+use Rattle.std.proofs.Common.{◌≡◌, ◌-◌, Bool, true, false, ◌||◌, ◌&&◌, ℤ, pos, List, ◌++◌, length, replicate, not, cond, sym, ap, ◌∙◌, subst, arith, length-append}
 use Rattle.std.specs.Prelude.{All}
 use Rattle.frame_merge.specs.declared.candidate.Candidate.{Candidate}
 use Rattle.slicer_bank.specs.MergedItems.{AreMergedBetween}
 use Rattle.rand_pcg.specs.Lcg.{Lcg}
 use Rattle.channel_access.specs.declared.air_tick.AirTick.{AirTick}
-use Rattle.link_world.specs.declared.end.End.TheVariants.{A, B}
 use Rattle.channel_bench.specs.declared.shared.Shared.{Shared}
-use Rattle.channel_bench.specs.BenchState.{SideState, Common, BenchState, near, with_near, ways_of}
+use Rattle.channel_bench.specs.BenchState.{SideState, Common, ways_of}
 use Rattle.channel_bench.specs.HeldBench.{StandsForCommon, StandsForWays}
 use Rattle.channel_bench.specs.BenchTick.{AreReady}
-use Rattle.channel_bench.specs.Sounding.{mark_of, reaching, sends, with_loss, with_losses}
+use Rattle.channel_bench.specs.Sounding.{mark_of, reaching, sends}
 use Rattle.channel_bench.proofs.Loudness.{IsLoudAtMost, silence_within}
 
 -- no sample that reaches a station is louder than those that are sent
@@ -63,11 +62,3 @@ stands_drawing before after common draws h same is = record {
   lost = same.lost ∙ h.lost;
   trouble = same.trouble ∙ h.trouble;
 }
-
--- with the losses of both drawn, A's first
-pub both_losses : (loss : ℕ) (bench : BenchState)
-    → with_losses loss bench
-    ≡ with_near B (with_loss loss (near B (with_near A (with_loss loss (near A bench)) bench)))
-    (with_near A (with_loss loss (near A bench)) bench)
-unfolding with_losses
-both_losses loss bench = refl

@@ -1,17 +1,13 @@
 -- A step of a station of the bench, from what its call gave.
-use Rattle.std.proofs.Common.{◌≡◌, ℕ, ◌+◌, ◌<◌, Bool, true, false, List, [], ◌∷◌, ◌++◌, length, Option, Some, None, refl, sym, ap, ◌∙◌, subst}
-use Rattle.std.specs.Prelude.{All}
+use Rattle.std.proofs.Common.{◌≡◌, ℕ, Option, refl, sym, subst}
 use Rattle.link_world.specs.declared.end.End.{End}
-use Rattle.station.specs.declared.host_event.HostEvent.{HostEvent}
-use Rattle.station.specs.Turn.{Out, Turn, begin}
-use Rattle.station.specs.State.{StationState}
-use Rattle.channel_bench.specs.declared.flight.Flight.{Flight}
+use Rattle.station.specs.Turn.{Turn, begin}
 use Rattle.channel_bench.specs.declared.shared.Shared.{Shared}
 use Rattle.channel_bench.specs.declared.side.Side.{Side}
-use Rattle.channel_bench.specs.BenchState.{SideState, Common, Near, ways_of}
+use Rattle.channel_bench.specs.BenchState.{Near, ways_of}
 use Rattle.channel_bench.specs.BenchSteps.{IsStep, told_pieces, there_after, first_unquiet, trouble_of, stepped_common}
-use Rattle.channel_bench.specs.HeldBench.{StandsForSide, StandsForCommon, StandsForNear, StandsForWays}
-use Rattle.channel_bench.specs.InFlight.{BothWays, hears_ask, hearing_at, queueing_all, nothing_sent}
+use Rattle.channel_bench.specs.HeldBench.{StandsForSide, StandsForNear, StandsForWays}
+use Rattle.channel_bench.specs.InFlight.{hears_ask, hearing_at, queueing_all, nothing_sent}
 use Rattle.channel_bench.specs.InFlight.Moment.{Steps}
 use Rattle.channel_bench.specs.JointRun.{Input, IsTurn, HasOctets, Step}
 use Rattle.channel_bench.proofs.FlightLemmas.{moments_more}

@@ -1,5 +1,5 @@
 -- The parts of a tick from what the calls of the code made.
-use Rattle.std.proofs.Common.{◌≡◌, ℕ, ◌<◌, cond, arith, true, false, List, [], ◌∷◌, ◌++◌, Option, Some, None, refl, sym, ap, ◌∙◌, subst}
+use Rattle.std.proofs.Common.{◌≡◌, ◌<◌, cond, arith, true, List, [], ◌∷◌, ◌++◌, Option, Some, None, refl, sym, ap, ◌∙◌, subst}
 use Rattle.std.specs.Prelude.{is_some}
 use Rattle.std.proofs.lemmas.Bool.{false≢true, ne_eqb}
 use Rattle.frame_merge.specs.declared.candidate.Candidate.{Candidate}
@@ -9,7 +9,7 @@ use Rattle.channel_bench.specs.declared.trouble.Trouble.{Trouble}
 use Rattle.channel_bench.specs.declared.words.BenchWords.{BenchWords}
 use Rattle.channel_bench.specs.BenchState.{BenchState, SideState, Near, AtEnd, near, side_at, with_near}
 use Rattle.channel_bench.specs.BenchSteps.{GoesOn, IsHeardAt, AreHeardAt}
-use Rattle.channel_bench.specs.BenchTick.{Part, AreReady, IsListening, IsPart, ArePartsMade, IsTick, beginning, each_tick, parts_of}
+use Rattle.channel_bench.specs.BenchTick.{Part, AreReady, IsListening, ArePartsMade, IsTick, beginning, each_tick, parts_of}
 use Rattle.channel_bench.specs.BenchTick.Part.{Closes, Listens}
 use Rattle.channel_bench.specs.HeldBench.{Unless, hears}
 use Rattle.channel_bench.specs.Sounding.{ticked}
@@ -36,7 +36,7 @@ same_near A bench = refl
 same_near B bench = refl
 
 -- a station listens
-pub listens : (end : End) (items : List Candidate) (bench next : BenchState)
+listens : (end : End) (items : List Candidate) (bench next : BenchState)
     → AreReady (side_at end bench).samples items
     → AtEnd end (AreHeardAt end items) bench next → Unless (AtEnd end (IsListening end)) bench next
 listens end items bench next ready h = go bench.common.trouble refl
@@ -49,7 +49,7 @@ listens end items bench next ready h = go bench.common.trouble refl
         ∙ same_near end bench
 
 -- what A hears changes nothing of B
-pub keeps_b : (part : Near → Near → Type 0) (bench next : BenchState) → AtEnd A part bench next → next.b ≡ bench.b
+keeps_b : (part : Near → Near → Type 0) (bench next : BenchState) → AtEnd A part bench next → next.b ≡ bench.b
 keeps_b part bench next h = ap (λ (b : BenchState). b.b) h.is
 
 -- what is ready is heard, and the tick ends

@@ -1,5 +1,5 @@
 -- One tick of the bench, part by part: the hosts, the two stations, the channel, and what is heard.
-use Rattle.std.specs.Prelude.{◌≡◌, ℕ, ◌+◌, ◌==◌, ◌&&◌, not, Bool, true, IsTrue, ◌↔◌, MatchBool, if◌then◌else◌, List, [], ◌∷◌, ◌++◌, length, drop, ℤ, ◌-◌, Option, Some, None}
+use Rattle.std.specs.Prelude.{◌≡◌, ℕ, ◌+◌, ◌==◌, ◌&&◌, not, Bool, true, IsTrue, ◌↔◌, MatchBool, if◌then◌else◌, List, [], ◌∷◌, ◌++◌, length, ℤ, ◌-◌, Option, Some, None}
 use Rattle.frame_merge.specs.declared.candidate.Candidate.{Candidate}
 use Rattle.link_world.specs.declared.end.End.{End}
 use Rattle.link_world.specs.declared.end.End.TheVariants.{A, B}

@@ -1,9 +1,14 @@
 //! Worked runs.
+ghost use Rattle.std.specs.Prelude.{◌≤◌};
+ghost use Rattle.channel_bench.specs.Words.{AreInRange};
 
 use crate::{BenchReport, BenchWords, bench};
 use std::test::Fail;
 
-fn words(seed: u64, octets: u32) -> BenchWords {
+fn words(seed: u64, octets: u32) -> BenchWords
+    requires { octets ≤ 100000 }
+    ensures { AreInRange result }
+{
     BenchWords {
         seed,
         octets,

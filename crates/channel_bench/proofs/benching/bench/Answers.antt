@@ -1,5 +1,5 @@
 -- The run goes on until it is over, or something ends it, or it has taken too long.
-use Rattle.std.proofs.Common.{◌≡◌, ◌+◌, ◌<◌, ◌≤◌, ◌^◌, refl, sym, ◌∙◌, subst, arith}
+use Rattle.std.proofs.Common.{◌≡◌, ◌+◌, ◌<◌, ◌^◌, refl, sym, ◌∙◌, subst, arith}
 use Rattle.std.proofs.lemmas.Result.{err_from_is_err_and}
 use Rattle.channel_bench.specs.BenchRun.{AreTicks}
 use Rattle.channel_bench.specs.BenchState.{new_bench}

@@ -1,5 +1,5 @@
 -- One frame after another.
-use Rattle.std.proofs.Common.{◌≡◌, ◌+◌, ◌∙◌, ◌++◌, ◌∷◌, [], List, ℕ, sym, ap, subst, take, get_or}
+use Rattle.std.proofs.Common.{◌≡◌, ◌+◌, ◌∙◌, ◌++◌, ◌∷◌, [], sym, ap, subst, take, get_or}
 use Rattle.std.proofs.lemmas.List.{take_all, take_more}
 use Rattle.channel_bench.specs.BenchSteps.{first_unquiet}
 use Rattle.channel_bench.specs.HeldBench.{StandsForWays}

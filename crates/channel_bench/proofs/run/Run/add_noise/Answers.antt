@@ -1,5 +1,5 @@
 -- The noise of the samples towards B is drawn before that of those towards A.
-use Rattle.std.proofs.Common.{◌≡◌, ◌≤◌, refl, sym, ap, subst, ◌∙◌}
+use Rattle.std.proofs.Common.{◌≤◌, refl, sym, subst}
 use Rattle.std.specs.Prelude.{All}
 use Rattle.link_world.specs.declared.end.End.TheVariants.{A, B}
 use Rattle.channel_bench.proofs.Loudness.{IsLoudAtMost}

@@ -1,5 +1,5 @@
 -- The losses, the noise and the samples, one after another.
-use Rattle.std.proofs.Common.{List, subst}
+use Rattle.std.proofs.Common.{subst}
 use Rattle.channel_bench.specs.BenchState.{BenchState}
 use Rattle.channel_bench.specs.BenchTick.{AreReady}
 use Rattle.channel_bench.specs.HeldBench.{StandsForRun, with_noise_drawn}

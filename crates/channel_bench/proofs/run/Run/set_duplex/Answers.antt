@@ -1,5 +1,5 @@
 -- Both stations, or none.
-use Rattle.std.proofs.Common.{true, false, refl, sym, ap, ◌∙◌, subst, cond, [], ◌++◌}
+use Rattle.std.proofs.Common.{refl, sym, ap, ◌∙◌, subst, cond, [], ◌++◌}
 use Rattle.link_world.specs.declared.end.End.TheVariants.{A, B}
 use Rattle.channel_bench.specs.BenchTick.{ArePartsMade, sets_duplex, sets_full_duplex}
 use Rattle.channel_bench.proofs.PartLemmas.{parts_append}

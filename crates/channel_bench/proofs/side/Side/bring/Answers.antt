@@ -1,5 +1,5 @@
 -- The station makes the step of the octets, and the host program is told what comes of it.
-use Rattle.std.proofs.Common.{◌≡◌, refl, ap, ◌∙◌}
+use Rattle.std.proofs.Common.{refl, ap, ◌∙◌}
 use Rattle.station.specs.declared.host_event.HostEvent.{HostEvent}
 use Rattle.station.specs.declared.host_event.HostEvent.TheVariants.{Bytes}
 use Rattle.station.specs.Turn.{Out}

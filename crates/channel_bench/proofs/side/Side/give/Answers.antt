@@ -1,13 +1,10 @@
 -- The next piece is given if the station takes it, and there is one.
-use Rattle.std.proofs.Common.{◌≡◌, List, [], ℕ, Option, Some, None, refl, sym, ap, ◌∙◌, subst}
-use Rattle.link_world.specs.declared.end.End.{End}
+use Rattle.std.proofs.Common.{◌≡◌, List, [], ℕ, Some, None, refl, ap, ◌∙◌, subst}
 use Rattle.station.specs.declared.host_event.HostEvent.TheVariants.{Bytes}
-use Rattle.channel_bench.specs.BenchState.{Near}
 use Rattle.channel_bench.specs.BenchSteps.{IsStep}
 use Rattle.channel_bench.specs.BenchTick.{with_giving}
-use Rattle.channel_bench.specs.HostProgram.{data_octets, next_piece}
+use Rattle.channel_bench.specs.HostProgram.{data_octets}
 use Rattle.channel_bench.specs.JointRun.Input.{FromHost}
-use Rattle.channel_bench.specs.Words.{text_at}
 use Rattle.channel_bench.proofs.GiveLemmas.{given_no, given_none, given_yes, piece_is, stands_giving}
 use Rattle.channel_bench.proofs.side.Side.give.Goals as goal
 

@@ -1,5 +1,5 @@
 -- Nothing comes to pass if the run has ended; a frame without a match ends it; one with a match is heard.
-use Rattle.std.proofs.Common.{◌≡◌, ◌+◌, Some, None, refl, sym, ap, ◌∙◌, subst, drop}
+use Rattle.std.proofs.Common.{◌≡◌, ◌+◌, Some, None, sym, ap, ◌∙◌, subst, drop}
 use Rattle.std.specs.Prelude.{is_some, position}
 use Rattle.std.proofs.lemmas.List.{take_rest}
 use Rattle.channel_bench.specs.declared.trouble.Trouble.TheVariants.{Stray}

@@ -1,5 +1,5 @@
 -- One frame after another.
-use Rattle.std.proofs.Common.{sym, subst, take}
+use Rattle.std.proofs.Common.{sym, subst}
 use Rattle.std.proofs.lemmas.List.{take_all}
 use Rattle.channel_access.specs.Waiting.{HasFrameLength}
 use Rattle.frame_merge.specs.declared.candidate.Candidate.{Candidate}

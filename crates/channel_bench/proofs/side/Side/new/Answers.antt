@@ -1,5 +1,5 @@
 -- Nothing came yet.
-use Rattle.std.proofs.Common.{refl, subst, ◌∙◌, ap}
+use Rattle.std.proofs.Common.{refl, subst}
 use Rattle.station.specs.State.{new_station}
 use Rattle.station.specs.StandsFor.{StandsFor}
 use Rattle.channel_bench.specs.BenchState.{config_of}
