@@ -5,7 +5,6 @@ use Rattle.std.proofs.lemmas.List.{map-append}
 use Rattle.std.proofs.lemmas.List.Concat.{flat_map-cons}
 use Rattle.std.proofs.lemmas.List.Elements.{recursion_from_All}
 use Rattle.hdlc_framer.specs.BitOrder.{sent_bits}
-use Rattle.hdlc_framer.specs.Body.{body}
 use Rattle.hdlc_framer.specs.Counted.{stuffed_from}
 use Rattle.hdlc_framer.specs.Frames.{IsFrame, with_fcs, frame_bits}
 use Rattle.hdlc_framer.specs.Stuffing.{flag, stuffed}

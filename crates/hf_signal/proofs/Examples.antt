@@ -1,5 +1,5 @@
 -- Worked examples, computed on the definitions.
-use Rattle.std.proofs.Common.{◌≡◌, ◌*◌, ℕ, pos, negsuc, List, [], ◌∷◌, length, take, true, false, refl}
+use Rattle.std.proofs.Common.{◌≡◌, ℕ, pos, negsuc, List, [], ◌∷◌, take, true, false, refl}
 use Rattle.tone_table.specs.Sine.{quarter, half_wave, cycle_sample, wave_sample}
 use Rattle.hdlc_framer.specs.BitOrder.{octet_bits}
 use Rattle.hdlc_framer.specs.Body.{body}
@@ -7,8 +7,6 @@ use Rattle.hdlc_framer.specs.CheckSequence.{fcs_of}
 use Rattle.hdlc_framer.specs.Frames.{with_fcs, frame_bits}
 use Rattle.frame_merge.specs.declared.candidate.Candidate.{Candidate}
 use Rattle.afsk_modulator.specs.Level.{sample_at, at_level}
-use Rattle.afsk_modulator.specs.Signal.{Transmission}
-use Rattle.clean_signal.specs.declared.true_end.TrueEnd.{TrueEnd}
 use Rattle.hf_modem.specs.Wave.{pure_window}
 use Rattle.hf_modem.specs.Transmission.{hf_transmission}
 use Rattle.hf_signal.specs.TrueEnds.{true_ends}

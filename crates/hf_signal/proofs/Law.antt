@@ -1,5 +1,5 @@
 -- The law of signals near a clean one: from the candidates of the samples to clusters of them, and from there to the frames.
-use Rattle.std.proofs.Common.{◌≡◌, ℕ, zero, suc, ◌+◌, ◌-◌, ◌*◌, ◌/◌, ◌%◌, ◌<◌, ℤ, true, List, [], ◌∷◌, get_or, map, refl, ap, sym, subst, ◌∙◌, arith, inl, inr}
+use Rattle.std.proofs.Common.{◌≡◌, ℕ, zero, suc, ◌+◌, ◌-◌, ◌/◌, ◌<◌, ℤ, true, List, [], ◌∷◌, get_or, map, refl, ap, sym, subst, ◌∙◌, arith, inl, inr}
 use Rattle.std.specs.Prelude.{nat_lt, ◌&&◌}
 use Rattle.std.specs.List.{All, AllPairs, AllByRecursion, Contains}
 use Rattle.std.specs.Str.{bytes_eq}
@@ -8,7 +8,7 @@ use Rattle.std.proofs.lemmas.List.Elements.{recursion_from_All, All-head, All-ta
 use Rattle.std.proofs.lemmas.Slice.Eq.{bytes_eq-Decides}
 use Rattle.frame_merge.specs.declared.candidate.Candidate.{Candidate}
 use Rattle.frame_merge.specs.Order.{standing}
-use Rattle.hf_modem.specs.Candidates.{IsCandidate, AreCandidates, candidate_at, end_sample}
+use Rattle.hf_modem.specs.Candidates.{AreCandidates, candidate_at, end_sample}
 use Rattle.hf_modem.proofs.CandidateLemmas.{end_sample-is}
 use Rattle.afsk_modulator.specs.Signal.{Transmission}
 use Rattle.clean_signal.specs.declared.true_end.TrueEnd.{TrueEnd}

@@ -1,5 +1,5 @@
 -- Samples near a signal carry its transmissions, and what is sent at a level is near its wave.
-use Rattle.std.proofs.Common.{◌≡◌, ℕ, ◌*◌, ◌/◌, ◌<◌, ◌≤◌, ℤ, pos, List, [], ◌∷◌, ◌++◌, length, replicate, refl, ap, sym, subst, ◌∙◌, arith, append_assoc, length-append}
+use Rattle.std.proofs.Common.{◌≡◌, ℕ, ◌*◌, ◌/◌, ◌<◌, ◌≤◌, ℤ, pos, List, [], ◌∷◌, length, replicate, refl, subst, ◌∙◌, arith, append_assoc, length-append}
 use Rattle.std.specs.List.{AllByRecursion}
 use Rattle.std.proofs.lemmas.List.{length-replicate}
 use Rattle.std.proofs.lemmas.List.Concat.{flat_map-cons}
@@ -8,7 +8,7 @@ use Rattle.nrzi_bits.specs.Line.{line}
 use Rattle.hdlc_framer.specs.Body.{body}
 use Rattle.offset_slicers.specs.Near.{IsNear}
 use Rattle.afsk_modulator.specs.Signal.{Transmission}
-use Rattle.clean_signal.specs.GoodTransmission.{IsTransmission, body_of}
+use Rattle.clean_signal.specs.GoodTransmission.{body_of}
 use Rattle.clean_signal.specs.NearSignal.{Received, transmissions_of, sent_at}
 use Rattle.clean_signal.proofs.NearLemmas.{at_level-near}
 use Rattle.hf_modem.specs.Tones.{next_phase}

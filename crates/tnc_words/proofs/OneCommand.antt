@@ -56,7 +56,8 @@ one_encode_options found encode other h k =
     (one_number _ _ _ _ _ _ h.closing k.closing)
     ∙ ap (λ v. record encode { frames = frames; audio = audio; join = join; opening = opening; closing = closing; silence = v })
     (one_number _ _ _ _ _ _ h.silence k.silence)
-    ∙ ap (λ v. record other { level = v }) (one_number _ _ _ _ _ _ h.level k.level)
+    ∙ ap (λ v. record other { level = v; modem = encode.modem }) (one_number _ _ _ _ _ _ h.level k.level)
+    ∙ ap (λ v. record other { modem = v }) (h.modem ∙ sym k.modem)
 
 one_show_options : (found : List Row) (show other : ShowWords) → HasShowOptions found show
     → HasShowOptions found other → show ≡ other

@@ -11,7 +11,7 @@ use Rattle.tnc_words.specs.declared.command.LoopWords.{LoopWords}
 use Rattle.tnc_words.specs.declared.command.ServeOptions.{ServeOptions}
 use Rattle.tnc_words.specs.Options.{decode_faults, encode_faults, show_faults, loop_faults, serve_faults}
 use Rattle.tnc_words.specs.Options.{decode_rows, encode_rows, show_rows, loop_rows, serve_rows, is_used}
-use Rattle.tnc_words.specs.Forms.{audio_form, frame_form}
+use Rattle.tnc_words.specs.Forms.{audio_form, frame_form, modem}
 use Rattle.tnc_words.specs.Links.{HasCall, HasParams}
 use Rattle.tnc_words.specs.Numbers.{GivesNumber, HasNumber}
 
@@ -40,6 +40,7 @@ pub record HasEncodeOptions (found : List Row) (encode : EncodeWords) : Type 0 w
   pub closing : HasNumber (first_of (codes "closing") found) 2 1 10000 encode.closing
   pub silence : HasNumber (first_of (codes "silence") found) 0 0 1000000 encode.silence
   pub level : HasNumber (first_of (codes "level") found) 10000 10 32767 encode.level
+  pub modem : encode.modem ≡ modem found
 
 -- encode with these options
 pub record IsEncode (words : List Text) (encode : EncodeWords) : Type 0 where

@@ -32,9 +32,9 @@ with_numbers app = with_rule (with_rule (with_rule (with_rule app
     (option_rule (codes "opening"))) (option_rule (codes "closing")))
     (option_rule (codes "silence"))) (option_rule (codes "level"))
 
--- encode [--wav] [--kiss] [--join] [--opening n] [--closing n] [--silence n] [--level n]
+-- encode [--wav] [--kiss] [--join] [--hf] [--opening n] [--closing n] [--silence n] [--level n]
 abbrev pub encode_app : App
-encode_app = with_numbers (with_rule (with_forms (new_app (codes "encode"))) (flag_rule (codes "join")))
+encode_app = with_numbers (with_rule (with_rule (with_forms (new_app (codes "encode"))) (flag_rule (codes "join"))) (flag_rule (codes "hf")))
 
 -- show [--modulo n]
 abbrev pub show_app : App

@@ -64,6 +64,17 @@ pub struct EncodeWords {
     pub silence: u32,
     /// The peak of each tone, 10 to 32,767, which is full scale.
     pub level: u16,
+    /// The modem that sends.
+    pub modem: Modem,
+}
+
+/// How bits are sent.
+#[derive(Clone, Copy, Debug, PartialEq, Eq)]
+pub enum Modem {
+    /// Bell 202: 1200 bits a second, on VHF and UHF.
+    Bell202,
+    /// 300 bits a second and a shift of 200 Hz, on short wave.
+    ShortWave,
 }
 
 /// The option of `show`.

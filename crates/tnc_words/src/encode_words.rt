@@ -6,7 +6,7 @@ ghost use Rattle.tnc_words.specs.Commands.{HasEncodeOptions, IsEncode, first_wor
 
 use crate::command::EncodeWords;
 use crate::fault::WordsFault;
-use crate::forms::{audio_form, frame_form};
+use crate::forms::{audio_form, frame_form, modem};
 use crate::number::{Bounds, number_or_default};
 use crate::options::encode_command;
 use crate::parsing::{has_flag, parsed, text_of};
@@ -61,5 +61,6 @@ fn encode_options(found: &ArgMatches) -> Option<EncodeWords>
         closing: number_or_default(text_of(found, "closing"), 2, CLOSING)? as u16,
         silence: number_or_default(text_of(found, "silence"), 0, SILENCE)? as u32,
         level: number_or_default(text_of(found, "level"), 10_000, LEVEL)? as u16,
+        modem: modem(found),
     })
 }

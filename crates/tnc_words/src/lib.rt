@@ -21,7 +21,8 @@ mod serve_words;
 mod show_words;
 
 pub use command::{
-    AudioForm, Command, DecodeWords, EncodeWords, FrameForm, LoopWords, ServeOptions, ShowWords,
+    AudioForm, Command, DecodeWords, EncodeWords, FrameForm, LoopWords, Modem, ServeOptions,
+    ShowWords,
 };
 pub use fault::WordsFault;
 pub use laws::one_command;

@@ -15,12 +15,13 @@ pub(crate) fn decode_command<'a>(alloc: Global) -> Result<Command<'a>, AllocErro
     with(command, flag(alloc, "threads"))
 }
 
-/// `encode` with its three flags and its four numbers.
+/// `encode` with its four flags and its four numbers.
 pub(crate) fn encode_command<'a>(alloc: Global) -> Result<Command<'a>, AllocError>
     ensures { IfOk result (λ command. app_of command ≡ encode_app) }
 {
     let command = forms(alloc, Command::new(alloc, "encode"))?;
     let command = with(command, flag(alloc, "join"))?;
+    let command = with(command, flag(alloc, "hf"))?;
     numbers(alloc, command)
 }
 

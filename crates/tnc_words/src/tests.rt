@@ -1,6 +1,6 @@
 use super::{
-    AudioForm, Command, DecodeWords, EncodeWords, FrameForm, LoopWords, ServeOptions, ShowWords,
-    WordsFault, one_command, read_words,
+    AudioForm, Command, DecodeWords, EncodeWords, FrameForm, LoopWords, Modem, ServeOptions,
+    ShowWords, WordsFault, one_command, read_words,
 };
 use ax25_address::Call;
 use ax25_frames::Modulus;
@@ -49,6 +49,7 @@ fn encode(join: bool, opening: u16, closing: u16, silence: u32) -> Command {
         closing,
         silence,
         level: 10_000,
+        modem: Modem::Bell202,
     })
 }
 
@@ -62,6 +63,7 @@ fn encode_forms(frames: FrameForm, audio: AudioForm) -> Command {
         closing: 2,
         silence: 0,
         level: 10_000,
+        modem: Modem::Bell202,
     })
 }
 
@@ -75,6 +77,21 @@ fn encode_level(level: u16) -> Command {
         closing: 2,
         silence: 0,
         level,
+        modem: Modem::Bell202,
+    })
+}
+
+// With no other option, by the modem of short wave.
+fn encode_hf() -> Command {
+    Command::Encode(EncodeWords {
+        frames: FrameForm::Hex,
+        audio: AudioForm::Raw,
+        join: false,
+        opening: 75,
+        closing: 2,
+        silence: 0,
+        level: 10_000,
+        modem: Modem::ShortWave,
     })
 }
 
@@ -295,7 +312,7 @@ fn other_words_of_serve_are_refused(rt: HostRuntime) -> Result<(), Fail> {
 
 #[test]
 fn good_words_ask_for_a_command(rt: HostRuntime) -> Result<(), Fail> {
-    let table: [(&[&str], Command); 35] = [
+    let table: [(&[&str], Command); 36] = [
         (&["decode"], decode(AudioForm::Raw, FrameForm::Hex)),
         (&["decode", "--"], decode(AudioForm::Raw, FrameForm::Hex)),
         (&["decode", "--wav"], decode(AudioForm::Wav, FrameForm::Hex)),
@@ -344,6 +361,7 @@ fn good_words_ask_for_a_command(rt: HostRuntime) -> Result<(), Fail> {
         (&["encode", "--level", "10"], encode_level(10)),
         (&["encode", "--level=010000"], encode_level(10_000)),
         (&["encode", "--level=32767"], encode_level(32_767)),
+        (&["encode", "--hf"], encode_hf()),
         (&["show"], show(Modulus::Eight)),
         (&["show", "--modulo", "8"], show(Modulus::Eight)),
         (&["show", "--modulo=008"], show(Modulus::Eight)),
