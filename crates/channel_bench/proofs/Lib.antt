@@ -21,6 +21,7 @@ mod Examples
 mod ExampleOrder
 mod MatchedExample
 mod OwnerLemmas
+mod Pieces
 mod Asking
 mod Dropping
 mod CallerLaws

@@ -9,3 +9,4 @@ pub mod SetUpsSeen
 pub mod LinkOfCalls
 pub mod StationsLaw
 pub mod Owners
+pub mod ProgramsTold

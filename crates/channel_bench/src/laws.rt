@@ -4,6 +4,7 @@ ghost use Rattle.channel_bench.specs.CallerLaw.{CallerLaw};
 ghost use Rattle.channel_bench.specs.HostsAsk.{HostsAskNothing};
 ghost use Rattle.channel_bench.specs.MatchedLaw.{MatchedInOrder, MatchedLaw};
 ghost use Rattle.channel_bench.specs.Owners.{OwnersAreTold};
+ghost use Rattle.channel_bench.specs.ProgramsTold.{ProgramsAreTold};
 ghost use Rattle.channel_bench.specs.SetUpsSeen.{SetUpsLaw};
 
 /// The law on any two stations. A joint run is a list of steps, each of one of two stations that began new: what comes from
@@ -64,4 +65,10 @@ pub fn hosts_ask_nothing()
 /// frame when the run ends. Then each link keeps the order.
 pub fn caller_law()
     ensures { CallerLaw }
+{}
+
+/// Each C and D that a host program is sent in a step of a station is told by an event of a link that it owns, in the same order;
+/// no message of another act is one.
+pub fn programs_are_told()
+    ensures { ProgramsAreTold }
 {}

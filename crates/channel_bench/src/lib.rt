@@ -7,6 +7,6 @@
 mod laws;
 
 pub use laws::{
-    caller_law, ends_follow, hosts_ask_nothing, matched_in_order, matched_law, owners_are_told,
+    caller_law, ends_follow, hosts_ask_nothing, matched_in_order, matched_law, owners_are_told, programs_are_told,
     set_ups_law, stations_law,
 };
