@@ -4,9 +4,29 @@
 //! partner's host gave in one set-up of its own, packet for packet, and these set-ups come in order (`stations_law`).
 #![tactic(auto)]
 
+mod air;
+mod benching;
+mod ear;
+mod flight;
 mod laws;
+mod matching;
+mod program;
+mod reading;
+mod report;
+mod requests;
+mod run;
+mod shared;
+mod side;
+mod trouble;
+mod words;
 
 pub use laws::{
-    caller_law, ends_follow, hosts_ask_nothing, matched_in_order, matched_law, owners_are_told, programs_are_told,
+    bench_law, caller_law, ends_follow, hosts_ask_nothing, matched_in_order, matched_law, owners_are_told, programs_are_told,
     set_ups_law, stations_law,
 };
+pub use benching::bench;
+pub use report::{BenchFault, BenchReport, SetUp};
+pub use words::BenchWords;
+
+#[cfg(test)]
+mod tests;
