@@ -56,9 +56,11 @@ mod GiveLemmas
 mod TickLemmas
 mod RunOfParts
 mod Sounded
+mod CoreRun
 mod NotedRun
 mod GotOctets
 mod TurnWalks
 mod HostStreams
 mod HostsStay
+mod ProgramsAsk
 mod OrderLaws

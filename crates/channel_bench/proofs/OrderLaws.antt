@@ -10,9 +10,9 @@ use Rattle.link_world.proofs.law.ChangesLaw.{changes_law_holds}
 use Rattle.channel_bench.specs.declared.report.SetUp.{SetUp}
 use Rattle.channel_bench.specs.declared.words.BenchWords.{BenchWords}
 use Rattle.channel_bench.specs.BenchLaw.{BenchLaw}
-use Rattle.channel_bench.specs.BenchOrder.{set_up_of, steps_of_run, the_calls}
+use Rattle.channel_bench.specs.BenchOrder.{IsNoted, set_up_of, stations_of, steps_of_run, the_calls}
 use Rattle.channel_bench.specs.BenchRun.{IsOver}
-use Rattle.channel_bench.specs.BenchState.{config_of, params_of}
+use Rattle.channel_bench.specs.BenchState.{BenchState, config_of, params_of}
 use Rattle.channel_bench.specs.CallerLaw.{DroppedNothing}
 use Rattle.channel_bench.specs.HostProgram.{ProgramState, set_ups_of}
 use Rattle.channel_bench.specs.KeepsOrder.{GotInOrder, KeepsOrder}
@@ -21,10 +21,12 @@ use Rattle.channel_bench.specs.MatchedLaw.{pairs_in}
 use Rattle.channel_bench.specs.SetUpsSeen.{Seen, as_seen, set_ups_seen}
 use Rattle.channel_bench.specs.Words.{seed_at}
 use Rattle.channel_bench.proofs.CallerLaws.{caller_law_holds}
+use Rattle.channel_bench.proofs.CoreRun.{core_kept}
 use Rattle.channel_bench.proofs.GotOctets.{octets_in_order, seen_as}
 use Rattle.channel_bench.proofs.MatchedOrder.{matched_in_order_holds}
-use Rattle.channel_bench.proofs.NotedRun.{noted_kept, IsNotedAt}
-use Rattle.channel_bench.proofs.RunOfParts.{run_keeps}
+use Rattle.channel_bench.proofs.NotedRun.{noted_kept}
+use Rattle.channel_bench.proofs.ProgramsAsk.{AskLittle, asks_kept}
+use Rattle.channel_bench.proofs.RunOfParts.{ticks_keep}
 use Rattle.channel_bench.proofs.SeenLemmas.{set_ups_law_holds}
 
 -- the windows of both stations fit
@@ -59,10 +61,12 @@ bench_law_holds w report over h =
     let steps = steps_of_run bench in
     let config = config_of w in
     let pairs = pairs_in moments in
-    let noted = run_keeps w (IsNotedAt w) (noted_kept w) over.count bench over.ticks over.no_trouble in
+    let noted = ticks_keep w (λ (b : BenchState). IsNoted w b.common.moments (stations_of b)) (core_kept w (IsNoted w) (noted_kept w)) over.count bench over.ticks over.no_trouble in
+    let little = ticks_keep w (λ (b : BenchState). AskLittle b.common.moments (stations_of b)) (core_kept w AskLittle (asks_kept w)) over.count bench
+        over.ticks over.no_trouble in
     let order = matched_in_order_holds moments h.matched in
     let kept = caller_law_holds changes_law_holds config config (seed_at w A) (seed_at w B) moments noted.run h.matched noted.quiet (windows w)
-        h.asks (subst DroppedNothing (sym noted.now) h.dropped) the_calls in
+        little.asks (subst DroppedNothing (sym noted.now) h.dropped) the_calls in
     let seen = set_ups_law_holds config config (seed_at w A) (seed_at w B) steps pairs noted.run order.0 order.1 the_calls h.given in
     let world = world_of the_calls pairs config.params config.params steps in
     let at_a = saw bench.a.program world.a.end.set_ups (set_ups_seen the_calls A steps) h.seen_a seen.at_a in

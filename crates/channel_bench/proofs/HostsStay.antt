@@ -1,0 +1,209 @@
+-- The host programs of a bench: which connections they have, what has come from each, and that a step of a station changes no
+-- more of that than what comes in it.
+use Rattle.std.proofs.Common.{◌≡◌, ℕ, ◌≤◌, ◌==◌, Bool, true, false, List, [], ◌∷◌, ◌++◌, length, map, cond, nat_lt, Option, Some, None, refl, sym, ap, ◌∙◌, subst, arith}
+use Rattle.std.specs.Prelude.{find}
+use Rattle.std.specs.List.{AllByRecursion as Each}
+use Rattle.std.proofs.lemmas.Bool.{eqb-true}
+use Rattle.ax25_address.specs.Callsign.{Callsign}
+use Rattle.agwpe_port.specs.Messages.{bad_length_in, spelling}
+use Rattle.agwpe_port.specs.declared.message.AgwMessage.{AgwMessage}
+use Rattle.agwpe_port.proofs.WrittenLemmas.{IsWritten}
+use Rattle.kiss_port.specs.declared.item.KissItem.{KissItem}
+use Rattle.kiss_port.specs.declared.item.KissItem.TheVariants.{Frame as KissFrame, Set, Hardware, Return, TooLong, Other}
+use Rattle.link_world.proofs.law.Each.{each_append}
+use Rattle.station.specs.declared.host_event.PortKind.{PortKind}
+use Rattle.station.specs.declared.host_event.PortKind.TheVariants.{Kiss, Agw}
+use Rattle.station.specs.AgwRequests.{AreAnswered, IsAnswered, is_frame_length, queueing_raw}
+use Rattle.station.specs.Connections.{Connection, connection_of, most_connections, new_connection, with_connection}
+use Rattle.station.specs.Host.{AreTaken, AreTakenBy, ending, joining, new_items, new_messages, taking, with_host, with_octets}
+use Rattle.station.specs.Kiss.{heeding, heeding_all, param_of, with_param}
+use Rattle.station.specs.State.{StationState}
+use Rattle.station.specs.Ticks.{ticking, ticking_links}
+use Rattle.station.specs.Turn.{Turn, begin, capacity, changing, closing, dropping, entering, in_order, queueing}
+use Rattle.channel_bench.specs.BenchSteps.{program_id}
+use Rattle.channel_bench.specs.BenchTick.{kiss_id}
+use Rattle.channel_bench.proofs.HostStreams.{IsWhole, new_stream, none_bad, one_new, whole_more}
+use Rattle.channel_bench.proofs.TurnWalks.{Kept, KeptByActs, kept_by_acts}
+
+-- ---- the connections
+
+-- A connection of the bench: of the host program by AGWPE, and another by KISS. What came by AGWPE are whole messages.
+pub record IsHosts (c : Connection) : Type 0 where
+  pub kiss : c.id ≡ kiss_id → c.kind ≡ Kiss
+  pub program : c.id ≡ program_id → c.kind ≡ Agw
+  pub whole : c.kind ≡ Agw → IsWhole c.stream
+
+-- all that a station has, which repeats for nobody
+pub record HasHosts (s : StationState) : Type 0 where
+  pub connections : Each IsHosts s.connections
+  pub digi : s.digi ≡ None
+
+-- a step that no connection's octets come in changes none
+pub record SameHosts (before after : Turn) : Type 0 where
+  pub connections : after.now.connections ≡ before.now.connections
+  pub digi : after.now.digi ≡ before.now.digi
+
+pub same_hosts : Kept SameHosts
+same_hosts = kept_by_acts SameHosts (record {
+  same = λ t. record { connections = refl; digi = refl };
+  on = λ t u v h k. record { connections = k.connections ∙ h.connections; digi = k.digi ∙ h.digi };
+  tells = λ t pieces. record { connections = refl; digi = refl };
+  links = λ change t. record { connections = refl; digi = refl };
+  enters = λ key octets t. record { connections = refl; digi = refl };
+  drops = λ t. record { connections = refl; digi = refl };
+  registers = λ call id t. record { connections = refl; digi = refl };
+})
+
+pub still_has : (before after : Turn) → SameHosts before after → HasHosts before.now → HasHosts after.now
+still_has before after same h =
+    record { connections = subst (Each IsHosts) (sym same.connections) h.connections; digi = same.digi ∙ h.digi }
+
+-- ---- a connection that joins
+
+pub joins_hosts : (id : ℕ) (kind : PortKind) (s : StationState) → IsHosts (new_connection id kind) → HasHosts s → HasHosts (joining id kind (begin s)).now
+joins_hosts id kind s new h = go (nat_lt (length s.connections) most_connections)
+  where
+    go : (b : Bool) → HasHosts (cond b (changing (with_host id kind) (begin s)) (closing id (begin s))).now
+    go true = record {
+      connections = each_append IsHosts s.connections (new_connection id kind ∷ []) h.connections (new, tt);
+      digi = h.digi;
+    }
+    go false = h
+
+-- ---- octets that come
+
+-- the connection that a look-up finds
+pub found :
+    (P : Connection → Type 0) (id : ℕ) (connections : List Connection) (c : Connection) → Each P connections
+    → connection_of id connections ≡ Some c → P c × (c.id ≡ id)
+found P id [] c h is = absurd (cc)
+found P id (first ∷ connections) c h is = go (first.id == id) refl is (λ later. found P id connections c h.1 later)
+  where
+    go : (b : Bool) → (first.id == id) ≡ b → cond b (Some first) (connection_of id connections) ≡ Some c
+        → (connection_of id connections ≡ Some c → P c × (c.id ≡ id)) → P c × (c.id ≡ id)
+    go true same one rest =
+        let e : first ≡ c = cc in
+        subst (λ (x : Connection). P x × (x.id ≡ id)) e (h.0, eqb-true first.id id same)
+    go false same one rest = rest one
+
+-- the connection of an id, with octets more
+with_more :
+    (id : ℕ) (octets : List ℕ) (connections : List Connection) → ((c : Connection) → c.id ≡ id → IsHosts c → IsHosts (with_octets octets c))
+    → Each IsHosts connections → Each IsHosts (with_connection id (with_octets octets) connections)
+with_more id octets [] more h = tt
+with_more id octets (c ∷ connections) more h = (go (c.id == id) refl, with_more id octets connections more h.1)
+  where
+    go : (b : Bool) → (c.id == id) ≡ b → IsHosts (cond b (with_octets octets c) c)
+    go true is = more c (eqb-true c.id id is) h.0
+    go false is = h.0
+
+-- a message of the host program
+message_hosts :
+    (message : AgwMessage) → IsWritten message → (c : Connection) → c.id ≡ program_id → IsHosts c → IsHosts (with_octets (spelling message) c)
+message_hosts message written c is h = record {
+  kiss = h.kiss;
+  program = h.program;
+  whole = λ agw. whole_more c.stream message written (h.whole agw);
+}
+
+kiss_hosts : (octets : List ℕ) (c : Connection) → c.id ≡ kiss_id → IsHosts c → IsHosts (with_octets octets c)
+kiss_hosts octets c is h = record {
+  kiss = h.kiss;
+  program = h.program;
+  whole = λ agw. let clash : Kiss ≡ Agw = sym (h.kiss is) ∙ agw in absurd (cc);
+}
+
+-- What the octets of one message of the host program do: nothing, if it has no connection, and else what the message does.
+pub data IsSaid (message : AgwMessage) (before after : Turn) : Type 0 where
+  unheard : after ≡ before → IsSaid message before after
+  said : IsAnswered program_id message (taking program_id (spelling message) before) after → IsSaid message before after
+
+pub said_by :
+    (message : AgwMessage) (before after : Turn) → IsWritten message → HasHosts before.now
+    → AreTaken (connection_of program_id before.now.connections) (spelling message) before after → IsSaid message before after
+said_by message before after written h taken = go (connection_of program_id before.now.connections) refl taken
+  where
+    by_kind :
+        (c : Connection) (kind : PortKind) → IsHosts c → c.id ≡ program_id → c.kind ≡ kind
+        → AreTakenBy kind c (spelling message) before after → IsSaid message before after
+    by_kind c Kiss hosts id is t = let clash : Agw ≡ Kiss = sym (hosts.program id) ∙ is in absurd (cc)
+    by_kind c Agw hosts id is t =
+        let whole = hosts.whole is in
+        let taken_turn = taking c.id (spelling message) before in
+        let answered : AreAnswered c.id (message ∷ []) taken_turn t.0 =
+        subst (λ ms. AreAnswered c.id ms taken_turn t.0) (one_new c.stream message written whole) t.1 in
+        let ends : after ≡ t.0 = t.2 ∙ ap (λ len. ending c.id len t.0) (none_bad c.stream message written whole) in
+        let last : after ≡ answered.0 = ends ∙ answered.2 in
+        said (subst (λ n. IsAnswered n message (taking n (spelling message) before) after) id
+        (subst (IsAnswered c.id message taken_turn) (sym last) answered.1))
+
+    go : (place : Option Connection) → connection_of program_id before.now.connections ≡ place
+        → AreTaken place (spelling message) before after → IsSaid message before after
+    go None is t = unheard t
+    go (Some c) is t =
+        let at = found IsHosts program_id before.now.connections c h.connections is in
+        by_kind c c.kind at.0 at.1 refl t
+
+pub taken_hosts : (message : AgwMessage) (before : Turn) → IsWritten message → HasHosts before.now → HasHosts (taking program_id (spelling message) before).now
+taken_hosts message before written h = record {
+  connections = with_more program_id (spelling message) before.now.connections (message_hosts message written) h.connections;
+  digi = h.digi;
+}
+
+-- ---- KISS
+
+heeded : (item : KissItem) (t : Turn) → SameHosts t (heeding item t)
+heeded (KissFrame port octets) t = by_port (port == 0)
+  where
+    by_room : (b : Bool) → SameHosts t (cond b (entering None octets t) (dropping t))
+    by_room true = record { connections = refl; digi = refl }
+    by_room false = record { connections = refl; digi = refl }
+
+    by_length : (b : Bool) → SameHosts t (cond b (queueing None octets) (λ u. u) t)
+    by_length true = by_room (nat_lt (length t.now.channel.waiting) capacity)
+    by_length false = record { connections = refl; digi = refl }
+
+    by_port : (b : Bool) → SameHosts t (cond b (queueing_raw octets t) t)
+    by_port true = by_length (is_frame_length octets)
+    by_port false = record { connections = refl; digi = refl }
+heeded (Set port command value) t = go (port == 0)
+  where
+    go : (b : Bool) → SameHosts t (cond b (changing (with_param (param_of command value)) t) t)
+    go true = record { connections = refl; digi = refl }
+    go false = record { connections = refl; digi = refl }
+heeded (Hardware port octets) t = record { connections = refl; digi = refl }
+heeded Return t = record { connections = refl; digi = refl }
+heeded (TooLong port) t = record { connections = refl; digi = refl }
+heeded (Other port command) t = record { connections = refl; digi = refl }
+
+all_heeded : (items : List KissItem) (t : Turn) → SameHosts t (heeding_all items t)
+all_heeded [] t = record { connections = refl; digi = refl }
+all_heeded (item ∷ items) t =
+    let one = heeded item t in
+    let rest = all_heeded items (heeding item t) in
+    record { connections = rest.connections ∙ one.connections; digi = rest.digi ∙ one.digi }
+
+pub kiss_taken :
+    (octets : List ℕ) (before after : Turn) → HasHosts before.now
+    → AreTaken (connection_of kiss_id before.now.connections) octets before after → HasHosts after.now
+kiss_taken octets before after h taken = go (connection_of kiss_id before.now.connections) refl taken
+  where
+    by_kind :
+        (c : Connection) (kind : PortKind) → IsHosts c → c.id ≡ kiss_id → c.kind ≡ kind
+        → AreTakenBy kind c octets before after → HasHosts after.now
+    by_kind c Agw hosts id is t = let clash : Kiss ≡ Agw = sym (hosts.kiss id) ∙ is in absurd (cc)
+    by_kind c Kiss hosts id is t =
+        let took = taking c.id octets before in
+        let has : HasHosts took.now = record {
+          connections = with_more c.id octets before.now.connections (λ x same. kiss_hosts octets x (same ∙ id)) h.connections;
+          digi = h.digi;
+        } in
+        subst (λ (u : Turn). HasHosts u.now) (sym t)
+        (still_has took (heeding_all (new_items c.stream octets) took) (all_heeded (new_items c.stream octets) took) has)
+
+    go : (place : Option Connection) → connection_of kiss_id before.now.connections ≡ place → AreTaken place octets before after
+        → HasHosts after.now
+    go None is t = subst (λ (u : Turn). HasHosts u.now) (sym t) h
+    go (Some c) is t =
+        let at = found IsHosts kiss_id before.now.connections c h.connections is in
+        by_kind c c.kind at.0 at.1 refl t
