@@ -8,30 +8,30 @@ use Rattle.ax25_address.specs.Callsign.{Callsign}
 use Rattle.agwpe_port.specs.Messages.{bad_length_in, spelling}
 use Rattle.agwpe_port.specs.declared.message.AgwMessage.{AgwMessage}
 use Rattle.agwpe_port.proofs.WrittenLemmas.{IsWritten}
-use Rattle.kiss_port.specs.declared.item.KissItem.{KissItem}
-use Rattle.kiss_port.specs.declared.item.KissItem.TheVariants.{Frame as KissFrame, Set, Hardware, Return, TooLong, Other}
 use Rattle.link_world.proofs.law.Each.{each_append}
 use Rattle.station.specs.declared.host_event.PortKind.{PortKind}
 use Rattle.station.specs.declared.host_event.PortKind.TheVariants.{Kiss, Agw}
-use Rattle.station.specs.AgwRequests.{AreAnswered, IsAnswered, is_frame_length, queueing_raw}
+use Rattle.station.specs.AgwRequests.{AreAnswered, IsAnswered}
 use Rattle.station.specs.Connections.{Connection, connection_of, most_connections, new_connection, with_connection}
-use Rattle.station.specs.Host.{AreTaken, AreTakenBy, ending, joining, new_items, new_messages, taking, with_host, with_octets}
-use Rattle.station.specs.Kiss.{heeding, heeding_all, param_of, with_param}
+use Rattle.station.specs.Host.{AreTaken, AreTakenBy, ending, joining, taking, with_host, with_octets}
+use Rattle.station.specs.Kiss.{heeding_all, param_of, with_param}
 use Rattle.station.specs.State.{StationState}
-use Rattle.station.specs.Ticks.{ticking, ticking_links}
-use Rattle.station.specs.Turn.{Turn, begin, capacity, changing, closing, dropping, entering, in_order, queueing}
+use Rattle.station.specs.Turn.{Turn, begin, changing, closing}
 use Rattle.channel_bench.specs.BenchSteps.{program_id}
 use Rattle.channel_bench.specs.BenchTick.{kiss_id}
-use Rattle.channel_bench.proofs.HostStreams.{IsWhole, new_stream, none_bad, one_new, whole_more}
+use Rattle.channel_bench.specs.HostProgram.{full_duplex_octets}
+use Rattle.channel_bench.proofs.HostStreams.{IsSetting, IsWhole, none_bad, one_new, one_setting, setting_more, whole_more}
 use Rattle.channel_bench.proofs.TurnWalks.{Kept, KeptByActs, kept_by_acts}
 
 -- ---- the connections
 
--- A connection of the bench: of the host program by AGWPE, and another by KISS. What came by AGWPE are whole messages.
+-- A connection of the bench: of the host program by AGWPE, and another by KISS. What came by AGWPE are whole messages, and
+-- what came by KISS sets full duplex.
 pub record IsHosts (c : Connection) : Type 0 where
   pub kiss : c.id ≡ kiss_id → c.kind ≡ Kiss
   pub program : c.id ≡ program_id → c.kind ≡ Agw
   pub whole : c.kind ≡ Agw → IsWhole c.stream
+  pub setting : c.kind ≡ Kiss → IsSetting c.stream
 
 -- all that a station has, which repeats for nobody
 pub record HasHosts (s : StationState) : Type 0 where
@@ -104,13 +104,15 @@ message_hosts message written c is h = record {
   kiss = h.kiss;
   program = h.program;
   whole = λ agw. whole_more c.stream message written (h.whole agw);
+  setting = λ kiss. let clash : Agw ≡ Kiss = sym (h.program is) ∙ kiss in absurd (cc);
 }
 
-kiss_hosts : (octets : List ℕ) (c : Connection) → c.id ≡ kiss_id → IsHosts c → IsHosts (with_octets octets c)
-kiss_hosts octets c is h = record {
+kiss_hosts : (c : Connection) → c.id ≡ kiss_id → IsHosts c → IsHosts (with_octets full_duplex_octets c)
+kiss_hosts c is h = record {
   kiss = h.kiss;
   program = h.program;
   whole = λ agw. let clash : Kiss ≡ Agw = sym (h.kiss is) ∙ agw in absurd (cc);
+  setting = λ kiss. setting_more c.stream (h.setting kiss);
 }
 
 -- What the octets of one message of the host program do: nothing, if it has no connection, and else what the message does.
@@ -152,58 +154,37 @@ taken_hosts message before written h = record {
 
 -- ---- KISS
 
-heeded : (item : KissItem) (t : Turn) → SameHosts t (heeding item t)
-heeded (KissFrame port octets) t = by_port (port == 0)
-  where
-    by_room : (b : Bool) → SameHosts t (cond b (entering None octets t) (dropping t))
-    by_room true = record { connections = refl; digi = refl }
-    by_room false = record { connections = refl; digi = refl }
+-- the station with full duplex set
+abbrev pub full_set : StationState → StationState
+full_set s = with_param (param_of 5 1) s
 
-    by_length : (b : Bool) → SameHosts t (cond b (queueing None octets) (λ u. u) t)
-    by_length true = by_room (nat_lt (length t.now.channel.waiting) capacity)
-    by_length false = record { connections = refl; digi = refl }
+-- What comes by KISS does nothing, if there is no such connection, and else it sets full duplex.
+pub data IsSet (before after : Turn) : Type 0 where
+  unheard : after ≡ before → IsSet before after
+  full : after ≡ changing full_set (taking kiss_id full_duplex_octets before) → IsSet before after
 
-    by_port : (b : Bool) → SameHosts t (cond b (queueing_raw octets t) t)
-    by_port true = by_length (is_frame_length octets)
-    by_port false = record { connections = refl; digi = refl }
-heeded (Set port command value) t = go (port == 0)
-  where
-    go : (b : Bool) → SameHosts t (cond b (changing (with_param (param_of command value)) t) t)
-    go true = record { connections = refl; digi = refl }
-    go false = record { connections = refl; digi = refl }
-heeded (Hardware port octets) t = record { connections = refl; digi = refl }
-heeded Return t = record { connections = refl; digi = refl }
-heeded (TooLong port) t = record { connections = refl; digi = refl }
-heeded (Other port command) t = record { connections = refl; digi = refl }
-
-all_heeded : (items : List KissItem) (t : Turn) → SameHosts t (heeding_all items t)
-all_heeded [] t = record { connections = refl; digi = refl }
-all_heeded (item ∷ items) t =
-    let one = heeded item t in
-    let rest = all_heeded items (heeding item t) in
-    record { connections = rest.connections ∙ one.connections; digi = rest.digi ∙ one.digi }
-
-pub kiss_taken :
-    (octets : List ℕ) (before after : Turn) → HasHosts before.now
-    → AreTaken (connection_of kiss_id before.now.connections) octets before after → HasHosts after.now
-kiss_taken octets before after h taken = go (connection_of kiss_id before.now.connections) refl taken
+pub set_by :
+    (before after : Turn) → HasHosts before.now → AreTaken (connection_of kiss_id before.now.connections) full_duplex_octets before after
+    → IsSet before after
+set_by before after h taken = go (connection_of kiss_id before.now.connections) refl taken
   where
     by_kind :
         (c : Connection) (kind : PortKind) → IsHosts c → c.id ≡ kiss_id → c.kind ≡ kind
-        → AreTakenBy kind c octets before after → HasHosts after.now
+        → AreTakenBy kind c full_duplex_octets before after → IsSet before after
     by_kind c Agw hosts id is t = let clash : Kiss ≡ Agw = sym (hosts.kiss id) ∙ is in absurd (cc)
     by_kind c Kiss hosts id is t =
-        let took = taking c.id octets before in
-        let has : HasHosts took.now = record {
-          connections = with_more c.id octets before.now.connections (λ x same. kiss_hosts octets x (same ∙ id)) h.connections;
-          digi = h.digi;
-        } in
-        subst (λ (u : Turn). HasHosts u.now) (sym t)
-        (still_has took (heeding_all (new_items c.stream octets) took) (all_heeded (new_items c.stream octets) took) has)
+        full (t ∙ ap (λ items. heeding_all items (taking c.id full_duplex_octets before)) (one_setting c.stream (hosts.setting is))
+        ∙ ap (λ n. changing full_set (taking n full_duplex_octets before)) id)
 
-    go : (place : Option Connection) → connection_of kiss_id before.now.connections ≡ place → AreTaken place octets before after
-        → HasHosts after.now
-    go None is t = subst (λ (u : Turn). HasHosts u.now) (sym t) h
+    go : (place : Option Connection) → connection_of kiss_id before.now.connections ≡ place
+        → AreTaken place full_duplex_octets before after → IsSet before after
+    go None is t = unheard t
     go (Some c) is t =
         let at = found IsHosts kiss_id before.now.connections c h.connections is in
         by_kind c c.kind at.0 at.1 refl t
+
+pub kiss_taken : (before : Turn) → HasHosts before.now → HasHosts (taking kiss_id full_duplex_octets before).now
+kiss_taken before h = record {
+  connections = with_more kiss_id full_duplex_octets before.now.connections kiss_hosts h.connections;
+  digi = h.digi;
+}

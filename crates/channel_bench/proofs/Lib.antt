@@ -63,4 +63,5 @@ mod TurnWalks
 mod HostStreams
 mod HostsStay
 mod ProgramsAsk
+mod ChannelOrder
 mod OrderLaws

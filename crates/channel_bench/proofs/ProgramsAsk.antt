@@ -32,9 +32,10 @@ use Rattle.channel_bench.specs.InFlight.Moment.{Steps, Passes}
 use Rattle.channel_bench.specs.JointRun.{Input, IsTurn, Step, Stations, state_of, with_state}
 use Rattle.channel_bench.proofs.CoreRun.{KeptByCore, Occurs, Usual, input_of, told_station}
 use Rattle.channel_bench.proofs.CoreRun.Usual.{joins_kiss, sets_full, joins_program, registers, connects, gives, disconnects, hears, ticks}
-use Rattle.channel_bench.proofs.HostStreams.{IsWhole, new_stream, none_bad, one_new}
-use Rattle.channel_bench.proofs.HostsStay.{HasHosts, IsHosts, IsSaid, SameHosts, found, joins_hosts, kiss_taken, said_by, same_hosts, still_has, taken_hosts}
+use Rattle.channel_bench.proofs.HostStreams.{IsWhole, new_setting, new_stream, none_bad, one_new}
+use Rattle.channel_bench.proofs.HostsStay.{HasHosts, IsHosts, IsSaid, IsSet, SameHosts, found, joins_hosts, kiss_taken, said_by, set_by, same_hosts, still_has, taken_hosts}
 use Rattle.channel_bench.proofs.HostsStay.IsSaid.{unheard, said}
+use Rattle.channel_bench.proofs.HostsStay.IsSet.{unheard as alone, full}
 use Rattle.channel_bench.proofs.NotedRun.{steps_more, steps_passed}
 use Rattle.channel_bench.proofs.TurnWalks.{connect_kept, data_kept, disconnect_kept, heard_kept, register_kept, ticks_kept}
 
@@ -57,6 +58,7 @@ kiss_joins = record {
   kiss = λ same. refl;
   program = λ same. absurd (omega arith);
   whole = λ agw. absurd (cc);
+  setting = λ kiss. new_setting;
 }
 
 program_joins : IsHosts (new_connection program_id Agw)
@@ -64,6 +66,7 @@ program_joins = record {
   kiss = λ same. absurd (omega arith);
   program = λ same. refl;
   whole = λ agw. new_stream;
+  setting = λ kiss. absurd (cc);
 }
 
 said_hosts :
@@ -74,12 +77,18 @@ said_hosts message before after written h keeps (said answered) =
     let took = taking program_id (spelling message) before in
     still_has took after (keeps took answered) (taken_hosts message before written h)
 
+set_hosts : (before after : Turn) → HasHosts before.now → IsSet before after → HasHosts after.now
+set_hosts before after h (alone same) = subst (λ (t : Turn). HasHosts t.now) (sym same) h
+set_hosts before after h (full same) =
+    let took = kiss_taken before h in
+    subst (λ (t : Turn). HasHosts t.now) (sym same) (record { connections = took.connections; digi = took.digi })
+
 pub hosts_after :
     (end : End) (usual : Usual) (s : StationState) (after : Turn) → Occurs end usual → IsTurn (input_of end usual) (begin s) after
     → HasHosts s → HasHosts after.now
 hosts_after end joins_kiss s after occurs turn h =
     subst (λ (t : Turn). HasHosts t.now) (sym turn) (joins_hosts kiss_id Kiss s kiss_joins h)
-hosts_after end sets_full s after occurs turn h = kiss_taken full_duplex_octets (begin s) after h turn
+hosts_after end sets_full s after occurs turn h = set_hosts (begin s) after h (set_by (begin s) after h turn)
 hosts_after end joins_program s after occurs turn h =
     subst (λ (t : Turn). HasHosts t.now) (sym turn) (joins_hosts program_id Agw s program_joins h)
 hosts_after end registers s after occurs turn h =
