@@ -64,4 +64,5 @@ mod HostStreams
 mod HostsStay
 mod ProgramsAsk
 mod ChannelOrder
+mod SentInOrder
 mod OrderLaws

@@ -21,13 +21,13 @@ use Rattle.channel_bench.specs.MatchedLaw.{pairs_in}
 use Rattle.channel_bench.specs.SetUpsSeen.{Seen, as_seen, set_ups_seen}
 use Rattle.channel_bench.specs.Words.{seed_at}
 use Rattle.channel_bench.proofs.CallerLaws.{caller_law_holds}
-use Rattle.channel_bench.proofs.ChannelOrder.{fits_more}
 use Rattle.channel_bench.proofs.CoreRun.{core_kept}
 use Rattle.channel_bench.proofs.GotOctets.{octets_in_order, seen_as}
 use Rattle.channel_bench.proofs.MatchedOrder.{matched_in_order_holds}
 use Rattle.channel_bench.proofs.NotedRun.{noted_kept}
 use Rattle.channel_bench.proofs.ProgramsAsk.{AskLittle, asks_kept}
 use Rattle.channel_bench.proofs.RunOfParts.{ticks_keep}
+use Rattle.channel_bench.proofs.SentInOrder.{order_kept}
 use Rattle.channel_bench.proofs.SeenLemmas.{set_ups_law_holds}
 
 -- the windows of both stations fit

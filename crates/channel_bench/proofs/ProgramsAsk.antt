@@ -181,7 +181,7 @@ hosts_with : (end : End) (state : StationState) (moments : List Moment) (s : Sta
 hosts_with A state moments s asks h a b = record { asks = asks; a = h; b = b }
 hosts_with B state moments s asks h a b = record { asks = asks; a = a; b = h }
 
-hosts_at : (end : End) (s : Stations) → HasHosts s.a → HasHosts s.b → HasHosts (state_of end s)
+pub hosts_at : (end : End) (s : Stations) → HasHosts s.a → HasHosts s.b → HasHosts (state_of end s)
 hosts_at A s a b = a
 hosts_at B s a b = b
 
