@@ -1,7 +1,8 @@
 -- A channel sends the frames that wait in their order: a tick that names a frame as sent takes the front one. This holds of
 -- frames of any length, since the check sequence of a frame alone is longer than a tick.
-use Rattle.std.proofs.Common.{◌≡◌, ℕ, zero, suc, ◌+◌, ◌-◌, ◌*◌, ◌/◌, ◌%◌, ◌<◌, ◌≤◌, ◌==◌, ◌&&◌, nat_lt, nat_le, not, slice_index_or, Bool, true, false, List, [], ◌∷◌, ◌++◌, length, map, take, drop, cond, Option, Some, None, is_none, refl, sym, ap, ◌∙◌, subst, arith, length-append, append_assoc, append-nil}
+use Rattle.std.proofs.Common.{◌≡◌, ℕ, zero, suc, ◌+◌, ◌-◌, ◌*◌, ◌/◌, ◌%◌, ◌<◌, ◌≤◌, ◌==◌, ◌&&◌, nat_lt, nat_le, not, slice_index_or, Bool, true, false, ℤ, pos, List, [], ◌∷◌, ◌++◌, length, map, replicate, take, drop, cond, Option, Some, None, is_none, refl, sym, ap, ◌∙◌, subst, arith, length-append, append_assoc, append-nil}
 use Rattle.std.proofs.Math.Seq.{get_or-append_seam}
+use Rattle.std.proofs.lemmas.List.{length-drop, length-replicate, length-take}
 use Rattle.std.proofs.lemmas.Bool.{and_right, leb-true, leb-false, le-leb, lt-leb, le-ltb, lt-ltb}
 use Rattle.hdlc_framer.specs.BitOrder.{sent_bits}
 use Rattle.hdlc_framer.specs.CheckSequence.{fcs_of}
@@ -10,9 +11,15 @@ use Rattle.hdlc_framer.specs.Frames.{frame_bits, with_fcs}
 use Rattle.hdlc_framer.proofs.BitLemmas.{length-sent_bits}
 use Rattle.hdlc_framer.proofs.StuffingLemmas.{stuffed_is}
 use Rattle.channel_access.specs.declared.air_tick.Sent.{Sent}
-use Rattle.channel_access.specs.Channel.{Channel, air_after, air_sent, air_waiting, after_rules, after_tick, air_tick, begun, decision, with_decision}
-use Rattle.channel_access.specs.OnAir.{OnAir, bits_of, bits_then, decided, flag_end, followed_by, frame_named, frames_end, has_sent_frames, most_frames, names_next, waiting_with_named, with_named, with_tick}
+use Rattle.channel_access.specs.Channel.{Channel, air_after, air_samples, air_sent, air_waiting, after_rules, after_tick, air_tick, begun, decision, with_decision}
+use Rattle.channel_access.specs.OnAir.{OnAir, bits_of, bits_then, decided, flag_end, followed_by, frame_named, frames_end, has_sent_frames, most_frames, names_next, samples_of, tick_samples, waiting_with_named, with_named, with_tick}
 use Rattle.channel_access.specs.Waiting.{WaitingFrame}
+use Rattle.tone_table.specs.declared.tone.Tone.TheVariants.{Mark}
+use Rattle.nrzi_bits.specs.Line.{line}
+use Rattle.nrzi_bits.proofs.LineLemmas.{length-line_from}
+use Rattle.channel_access.proofs.SendingLemmas.{length-wave_from}
+use Rattle.channel_access.proofs.AirLemmas.{samples_of-is}
+use Rattle.channel_access.proofs.WholeLemmas.{decided_adds}
 use Rattle.channel_access.proofs.StageLemmas.{flag_end-last, frames_end-next}
 
 abbrev pub octets_of : WaitingFrame → List ℕ
@@ -50,7 +57,7 @@ MayBe t (front ∷ []) = Unit {0}
 MayBe t (front ∷ next ∷ []) = 12 * t.ticks < flag_end (t.named + 1) t
 MayBe t (front ∷ next ∷ other ∷ more) = ⊥
 
-pub record AirFits (t : OnAir) (waiting : List WaitingFrame) : Type 0 where
+pub record AirParts (t : OnAir) (waiting : List WaitingFrame) : Type 0 where
   pub past : List (List ℕ)
   pub unsent : List (List ℕ)
   pub rest : List (List ℕ)
@@ -59,6 +66,11 @@ pub record AirFits (t : OnAir) (waiting : List WaitingFrame) : Type 0 where
   pub waits : map octets_of waiting ≡ unsent ++ rest
   pub may_be : MayBe t unsent
 
+-- and the bits of its ticks are decided
+pub record AirFits (t : OnAir) (waiting : List WaitingFrame) : Type 0 where
+  pub parts : AirParts t waiting
+  pub long : 12 * t.ticks ≤ length (bits_of t)
+
 abbrev pub Fits : Option OnAir → List WaitingFrame → Type 0
 Fits None waiting = Unit {0}
 Fits (Some t) waiting = AirFits t waiting
@@ -66,15 +78,20 @@ Fits (Some t) waiting = AirFits t waiting
 -- a frame joins those that wait
 pub fits_more : (air : Option OnAir) (waiting more : List WaitingFrame) (octets : List (List ℕ)) → map octets_of more ≡ map octets_of waiting ++ octets → Fits air waiting → Fits air more
 fits_more None waiting more octets is h = tt
-fits_more (Some t) waiting more octets is h = record {
-  past = h.past;
-  unsent = h.unsent;
-  rest = h.rest ++ octets;
-  frames = h.frames;
-  named = h.named;
-  waits = is ∙ ap (λ xs. xs ++ octets) h.waits ∙ append_assoc h.unsent h.rest octets;
-  may_be = h.may_be;
-}
+fits_more (Some t) waiting more octets is h =
+    let p = h.parts in
+    record {
+      parts = record {
+        past = p.past;
+        unsent = p.unsent;
+        rest = p.rest ++ octets;
+        frames = p.frames;
+        named = p.named;
+        waits = is ∙ ap (λ xs. xs ++ octets) p.waits ∙ append_assoc p.unsent p.rest octets;
+        may_be = p.may_be;
+      };
+      long = h.long;
+    }
 
 -- ---- what a tick takes
 
@@ -85,12 +102,13 @@ pub record Sends (waiting : List WaitingFrame) (sent : Option Sent) (air : Optio
   pub soon : (s : Sent) → sent ≡ Some s → s.after ≤ 96
 
 -- with the next tick
-ticked_fits : (t : OnAir) (waiting : List WaitingFrame) → AirFits (record t { ticks = t.ticks + 1 }) waiting → Fits (with_tick t) waiting
-ticked_fits t waiting h = go (nat_le (length (bits_of t)) (bits_then t))
+ticked_fits : (t : OnAir) (waiting : List WaitingFrame) → AirParts (record t { ticks = t.ticks + 1 }) waiting → Fits (with_tick t) waiting
+unfolding bits_of
+ticked_fits t waiting h = go (nat_le (length (bits_of t)) (bits_then t)) refl
   where
-    go : (b : Bool) → Fits (cond b None (Some (record t { ticks = t.ticks + 1 }))) waiting
-    go true = tt
-    go false = h
+    go : (b : Bool) → nat_le (length (bits_of t)) (bits_then t) ≡ b → Fits (cond b None (Some (record t { ticks = t.ticks + 1 }))) waiting
+    go true is = tt
+    go false is = record { parts = h; long = let more = leb-false (length (bits_of t)) (bits_then t) is in omega (arith, more) }
 
 -- the flag behind the front one of the frames ends, or it does not
 named_or_not :
@@ -180,7 +198,7 @@ two_send t waiting past rest front next frames named waits =
 
 -- none is named
 none_sends :
-    (t : OnAir) (waiting : List WaitingFrame) → names_next (bits_then t) t ≡ false → AirFits (record t { ticks = t.ticks + 1 }) waiting
+    (t : OnAir) (waiting : List WaitingFrame) → names_next (bits_then t) t ≡ false → AirParts (record t { ticks = t.ticks + 1 }) waiting
     → AirSends waiting t
 none_sends t waiting none h =
     subst (λ b. Sends waiting
@@ -220,7 +238,7 @@ followed_sends t waiting (v ∷ vs) past rest front same frames named waits = go
     go false = last_sends (record t { ends = true }) waiting past rest front frames named waits (λ ended. refl)
 
 -- what is decided, and then named
-decided_sends : (t : OnAir) (waiting : List WaitingFrame) → AirFits t waiting → AirSends waiting (decided (bits_then t) waiting t)
+decided_sends : (t : OnAir) (waiting : List WaitingFrame) → AirParts t waiting → AirSends waiting (decided (bits_then t) waiting t)
 decided_sends t waiting h = by_unsent h.unsent h.frames h.waits h.may_be
   where
     -- whether the last frame is sent
@@ -281,7 +299,38 @@ same_bits t waiting = go (has_sent_frames (bits_then t) t)
 air_sends : (air : Option OnAir) (waiting : List WaitingFrame) → Fits air waiting → Sends waiting (air_sent waiting air) (air_after waiting air) (air_waiting waiting air)
 air_sends None waiting h = record { order = refl; fits = tt; soon = λ s same. absurd (cc) }
 air_sends (Some t) waiting h =
-    subst (λ bits. SendsAt bits waiting (decided (bits_then t) waiting t)) (same_bits t waiting) (decided_sends t waiting h)
+    subst (λ bits. SendsAt bits waiting (decided (bits_then t) waiting t)) (same_bits t waiting) (decided_sends t waiting h.parts)
+
+-- a tick has 96 samples
+length-samples_of : (t : OnAir) → length (samples_of t) ≡ 8 * length (bits_of t)
+length-samples_of t =
+    ap length (samples_of-is t) ∙ length-wave_from 0 (line (bits_of t))
+    ∙ ap (λ n. 8 * n) (length-line_from Mark (bits_of t))
+
+length-tick : (t : OnAir) → 12 * t.ticks ≤ length (bits_of t) → length (tick_samples t) ≡ 96
+unfolding tick_samples
+length-tick t long =
+    let quiet : List ℤ = replicate 96 (pos 0) in
+    let all = samples_of t ++ quiet in
+    omega (
+      arith,
+      long,
+      length-samples_of t,
+      length-append (samples_of t) quiet,
+      length-replicate 96 (pos 0),
+      length-drop (96 * t.ticks) all,
+      length-take 96 (drop (96 * t.ticks) all),
+    )
+
+air_long : (air : Option OnAir) (waiting : List WaitingFrame) → Fits air waiting → length (air_samples waiting air) ≡ 96
+air_long None waiting h = length-replicate 96 (pos 0)
+air_long (Some t) waiting h =
+    let d = decided (bits_then t) waiting t in
+    let adds = decided_adds (bits_then t) waiting t in
+    let same = same_bits t waiting in
+    let size = ap length adds.1 ∙ length-append (bits_of t) adds.0 in
+    let long : 12 * d.ticks ≤ length (bits_of d) = omega (arith, same, size, h.long) in
+    length-tick d long
 
 -- ---- a tick of the channel
 
@@ -297,13 +346,16 @@ begun_fits busy channel = by_waiting channel.waiting refl
       where
         go : (b : Bool) → Fits (cond b (Some (begun channel)) None) channel.waiting
         go true = record {
-          past = [];
-          unsent = w.octets ∷ [];
-          rest = map octets_of ws;
-          frames = ap (λ xs. map octets_of (take 1 xs)) same;
-          named = refl;
-          waits = ap (map octets_of) same;
-          may_be = tt;
+          parts = record {
+            past = [];
+            unsent = w.octets ∷ [];
+            rest = map octets_of ws;
+            frames = ap (λ xs. map octets_of (take 1 xs)) same;
+            named = refl;
+            waits = ap (map octets_of) same;
+            may_be = tt;
+          };
+          long = omega arith;
         }
         go false = tt
 
@@ -328,3 +380,9 @@ tick_sends busy channel h =
     let now = after_rules busy channel in
     subst (λ ws. Sends ws (air_sent now.waiting now.air) (air_after now.waiting now.air) (air_waiting now.waiting now.air)) (rules_wait busy channel)
     (air_sends now.air now.waiting (subst (Fits now.air) (sym (rules_wait busy channel)) (rules_fit busy channel h)))
+
+pub tick_long :
+    (busy : Bool) (channel : Channel) → Fits channel.air channel.waiting → length (air_tick busy channel).samples ≡ 96
+tick_long busy channel h =
+    let now = after_rules busy channel in
+    air_long now.air now.waiting (subst (Fits now.air) (sym (rules_wait busy channel)) (rules_fit busy channel h))

@@ -6,6 +6,7 @@ use Rattle.agwpe_port.specs.CallField.{call_field}
 use Rattle.agwpe_port.specs.Messages.{spelling}
 use Rattle.agwpe_port.specs.declared.message.AgwMessage.{AgwMessage}
 use Rattle.agwpe_port.proofs.WrittenLemmas.{IsWritten}
+use Rattle.channel_access.specs.declared.air_tick.Sent.{Sent}
 use Rattle.link_world.specs.declared.end.End.{End}
 use Rattle.link_world.specs.declared.end.End.TheVariants.{A, B}
 use Rattle.station.specs.declared.host_event.PortKind.{PortKind}
@@ -27,7 +28,7 @@ use Rattle.channel_bench.specs.InFlight.{Moment, steps_in}
 use Rattle.channel_bench.specs.InFlight.Moment.{Steps, Passes}
 use Rattle.channel_bench.specs.JointRun.{Input, IsTurn, Step, Stations, at_end, queued_at, state_of, with_state}
 use Rattle.channel_bench.specs.JointRun.Input.{FromHost, OffAir, OfClock}
-use Rattle.channel_bench.proofs.ChannelOrder.{Fits, Sends, fits_more, octets_of, sent_octets, tick_sends}
+use Rattle.channel_bench.proofs.ChannelOrder.{Fits, Sends, fits_more, octets_of, sent_octets, tick_long, tick_sends}
 use Rattle.channel_bench.proofs.CoreRun.{KeptByCore, Occurs, Usual, input_of, told_station}
 use Rattle.channel_bench.proofs.CoreRun.Usual.{joins_kiss, sets_full, joins_program, registers, connects, gives, disconnects, hears, ticks}
 use Rattle.channel_bench.proofs.HostsStay.{HasHosts, IsSaid, IsSet, said_by, set_by}
@@ -101,6 +102,20 @@ clock_order busy s after turn fits =
     let links = fed_order s ticked (ticks_kept Fed fed (begin s)) fits in
     let sends = tick_sends busy ticked.now.channel links.fits in
     subst (StepOrder s (sent_octets (air_of busy s).sent)) (sym turn) (record { order = links.order ∙ sends.order; fits = sends.fits })
+
+-- what a tick sends
+pub record ClockSends (busy : Bool) (s : StationState) : Type 0 where
+  pub soon : (x : Sent) → (air_of busy s).sent ≡ Some x → x.after ≤ 96
+  pub long : length (air_of busy s).samples ≡ 96
+
+pub clock_sends : (busy : Bool) (s : StationState) → Fits s.channel.air s.channel.waiting → ClockSends busy s
+clock_sends busy s fits =
+    let ticked = ticking_links (begin s) in
+    let links = fed_order s ticked (ticks_kept Fed fed (begin s)) fits in
+    record {
+      soon = (tick_sends busy ticked.now.channel links.fits).soon;
+      long = tick_long busy ticked.now.channel links.fits;
+    }
 
 joining_fed : (id : ℕ) (kind : PortKind) (s : StationState) → Fed (begin s) (joining id kind (begin s))
 joining_fed id kind s = go (nat_lt (length s.connections) most_connections)
@@ -229,7 +244,7 @@ in_order_with B steps input before after turn octets s at a b one =
     let step : Step = record { station = B; input = input; before = before; after = after; turn = turn; octets = octets } in
     (other_order A steps step s.a refl refl a, own_order B steps step refl refl (subst (InOrder B steps) (sym at) b) one)
 
-fits_at : (end : End) (steps : List Step) (s : Stations) → InOrder A steps s.a → InOrder B steps s.b → Fits (state_of end s).channel.air (state_of end s).channel.waiting
+pub fits_at : (end : End) (steps : List Step) (s : Stations) → InOrder A steps s.a → InOrder B steps s.b → Fits (state_of end s).channel.air (state_of end s).channel.waiting
 fits_at A steps s a b = a.fits
 fits_at B steps s a b = b.fits
 

@@ -1,10 +1,12 @@
 -- What both stations send reaches them: what that changes of the bench, and what it leaves.
-use Rattle.std.proofs.Common.{◌≡◌, ℕ, Bool, true, false, ℤ, List, cond, refl, sym, ap, ◌∙◌}
+use Rattle.std.proofs.Common.{◌≡◌, ℕ, suc, ◌==◌, ◌||◌, ◌&&◌, not, Bool, true, false, ℤ, pos, List, [], ◌∷◌, length, replicate, cond, refl, sym, ap, ◌∙◌}
+use Rattle.std.proofs.lemmas.List.{length-replicate}
 use Rattle.rand_pcg.specs.Lcg.{Lcg}
 use Rattle.link_world.specs.declared.end.End.TheVariants.{A, B}
 use Rattle.channel_bench.specs.declared.words.BenchWords.{BenchWords}
-use Rattle.channel_bench.specs.BenchState.{BenchState, Near, near, with_near}
-use Rattle.channel_bench.specs.Sounding.{after_noise, carried, is_lost, reaching, sent_in, sounding, with_loss, with_losses, with_noise, with_samples, with_transmission}
+use Rattle.channel_bench.specs.BenchState.{BenchState, Near, SideState, near, with_near}
+use Rattle.channel_bench.specs.Sounding.{after_noise, carried, is_lost, reaching, sends, sent_in, sounding, with_loss, with_losses, with_noise, with_samples, with_transmission, with_words}
+use Rattle.channel_bench.specs.Words.{after_word}
 
 -- a transmission that begins is lost or not
 abbrev lost_as : Bool → Lcg → ℕ → ℕ → Near → Near
@@ -42,6 +44,27 @@ loss_of loss n = go n.side.air.began
       is = refl;
     }
 
+-- ---- as many samples as the tick has
+
+words_long : (noise : ℕ) (samples : List ℤ) (draws : Lcg) → length (with_words noise samples draws) ≡ length samples
+words_long noise [] draws = refl
+words_long noise (sample ∷ samples) draws = ap suc (words_long noise samples (after_word draws))
+
+noise_long : (noise : ℕ) (samples : List ℤ) (draws : Lcg) → length (with_noise noise samples draws) ≡ length samples
+noise_long noise samples draws = go (noise == 0)
+  where
+    go : (b : Bool) → length (cond b samples (with_words noise samples draws)) ≡ length samples
+    go true = refl
+    go false = words_long noise samples draws
+
+reaching_long : (full : Bool) (sender hearer : SideState) → length sender.air.samples ≡ 96 → length (reaching full sender hearer) ≡ 96
+unfolding reaching
+reaching_long full sender hearer long = go (sender.silenced || (not full && sends hearer.air))
+  where
+    go : (b : Bool) → length (cond b (replicate 96 (pos 0)) sender.air.samples) ≡ 96
+    go true = length-replicate 96 (pos 0)
+    go false = long
+
 abbrev pub heard_as : (a b : Bool) → (to_a to_b : List ℤ) → Lcg → (transmissions lost : ℕ) → BenchState → BenchState
 heard_as a b to_a to_b draws transmissions lost bench = record bench {
   a = with_samples to_a (sent_in bench.ticks bench.b.air.sent) (record bench.a { silenced = a });
@@ -58,6 +81,7 @@ pub record Sounded (before after : BenchState) : Type 0 where
   pub draws : Lcg
   pub transmissions : ℕ
   pub lost : ℕ
+  pub long : length before.a.air.samples ≡ 96 → length before.b.air.samples ≡ 96 → (length to_a ≡ 96) × (length to_b ≡ 96)
   pub is : after ≡ heard_as silenced_a silenced_b to_a to_b draws transmissions lost before
 
 pub sounded : (w : BenchWords) (bench : BenchState) → Sounded bench (sounding w bench)
@@ -79,6 +103,10 @@ sounded w bench =
       draws = after.common.draws;
       transmissions = after.common.transmissions;
       lost = after.common.lost;
+      long = λ long_a long_b. (
+          noise_long w.noise _ _ ∙ reaching_long w.full last.b last.a long_b,
+          noise_long w.noise _ _ ∙ reaching_long w.full last.a last.b long_a,
+      );
       is = ap (carried w) is;
     }
   where
