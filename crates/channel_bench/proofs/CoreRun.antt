@@ -86,7 +86,7 @@ IsUsualPart Sounds = Unit {0}
 IsUsualPart (Listens end) = Unit {0}
 IsUsualPart Closes = Unit {0}
 
-told_as : (end : End) (usual : Usual) (event : HostEvent) → FromHost event ≡ input_of end usual → Occurs end usual → IsToldUsual end event
+pub told_as : (end : End) (usual : Usual) (event : HostEvent) → FromHost event ≡ input_of end usual → Occurs end usual → IsToldUsual end event
 told_as end usual event is occurs = record { usual = usual; is = is; occurs = occurs }
 
 duplex_usual : (end : End) → Each IsUsualPart (sets_full_duplex end)
@@ -150,11 +150,11 @@ heard_calm end items n next h calm = go n.common.trouble refl
 
 -- ---- states
 
-state_twice : (end : End) (first second : StationState) (s : Stations) → with_state end second (with_state end first s) ≡ with_state end second s
+pub state_twice : (end : End) (first second : StationState) (s : Stations) → with_state end second (with_state end first s) ≡ with_state end second s
 state_twice A first second s = refl
 state_twice B first second s = refl
 
-state_there : (end : End) (state : StationState) (s : Stations) → state ≡ state_of end (with_state end state s)
+pub state_there : (end : End) (state : StationState) (s : Stations) → state ≡ state_of end (with_state end state s)
 state_there A state s = refl
 state_there B state s = refl
 

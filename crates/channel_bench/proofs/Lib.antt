@@ -65,4 +65,8 @@ mod HostsStay
 mod ProgramsAsk
 mod ChannelOrder
 mod SentInOrder
+mod TowardsLemmas
+mod InTime
+mod TimedSteps
+mod TimedRun
 mod OrderLaws

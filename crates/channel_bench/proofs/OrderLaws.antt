@@ -28,6 +28,7 @@ use Rattle.channel_bench.proofs.NotedRun.{noted_kept}
 use Rattle.channel_bench.proofs.ProgramsAsk.{AskLittle, asks_kept}
 use Rattle.channel_bench.proofs.RunOfParts.{ticks_keep}
 use Rattle.channel_bench.proofs.SentInOrder.{order_kept}
+use Rattle.channel_bench.proofs.TimedRun.{AtRest}
 use Rattle.channel_bench.proofs.SeenLemmas.{set_ups_law_holds}
 
 -- the windows of both stations fit
