@@ -28,7 +28,7 @@ use Rattle.channel_bench.proofs.NotedRun.{noted_kept}
 use Rattle.channel_bench.proofs.ProgramsAsk.{AskLittle, asks_kept}
 use Rattle.channel_bench.proofs.RunOfParts.{ticks_keep}
 use Rattle.channel_bench.proofs.SentInOrder.{order_kept}
-use Rattle.channel_bench.proofs.TimedRun.{AtRest}
+use Rattle.channel_bench.proofs.TimedRun.{run_in_time}
 use Rattle.channel_bench.proofs.SeenLemmas.{set_ups_law_holds}
 
 -- the windows of both stations fit
@@ -66,8 +66,9 @@ bench_law_holds w report over h =
     let noted = ticks_keep w (λ (b : BenchState). IsNoted w b.common.moments (stations_of b)) (core_kept w (IsNoted w) (noted_kept w)) over.count bench over.ticks over.no_trouble in
     let little = ticks_keep w (λ (b : BenchState). AskLittle b.common.moments (stations_of b)) (core_kept w AskLittle (asks_kept w)) over.count bench
         over.ticks over.no_trouble in
-    let order = matched_in_order_holds moments h.matched in
-    let kept = caller_law_holds changes_law_holds config config (seed_at w A) (seed_at w B) moments noted.run h.matched noted.quiet (windows w)
+    let matched = (run_in_time w over.count bench over.ticks over.no_trouble).both.matched in
+    let order = matched_in_order_holds moments matched in
+    let kept = caller_law_holds changes_law_holds config config (seed_at w A) (seed_at w B) moments noted.run matched noted.quiet (windows w)
         little.asks (subst DroppedNothing (sym noted.now) h.dropped) the_calls in
     let seen = set_ups_law_holds config config (seed_at w A) (seed_at w B) steps pairs noted.run order.0 order.1 the_calls h.given in
     let world = world_of the_calls pairs config.params config.params steps in

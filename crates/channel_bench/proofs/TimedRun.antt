@@ -271,3 +271,115 @@ closes_kept w before holds =
         let second = length-append (map octets_at towards) (let none : List (List ℕ) = [] in none) in
         let third = length-map towards octets_at in
         omega (arith, size, first, second, third, within)
+
+-- ---- a tick
+
+-- the parts of each tick
+abbrev Tail : BenchWords → BenchState → BenchState → Type 0
+Tail w = ArePartsMade w (Gives A ∷ AsksOrCalls ∷ Gives B ∷ Ticks A ∷ Ticks B ∷ Sounds ∷ Listens A ∷ Listens B ∷ Closes ∷ [])
+
+after_tells : (w : BenchWords) (before after : BenchState) → Tail w before after → IsCalm after → AtRest before → AtRest after
+after_tells w before after made calm holds =
+    let p1 = parted w (Gives A) (AsksOrCalls ∷ Gives B ∷ Ticks A ∷ Ticks B ∷ Sounds ∷ Listens A ∷ Listens B ∷ Closes ∷ []) before after made calm in
+    let h1 = gives_kept w A before p1.between p1.first p1.calm holds in
+    let p2 = parted w AsksOrCalls (Gives B ∷ Ticks A ∷ Ticks B ∷ Sounds ∷ Listens A ∷ Listens B ∷ Closes ∷ []) p1.between after p1.rest calm in
+    let h2 = asks_kept_here w p1.between p2.between p2.first p2.calm h1 in
+    let p3 = parted w (Gives B) (Ticks A ∷ Ticks B ∷ Sounds ∷ Listens A ∷ Listens B ∷ Closes ∷ []) p2.between after p2.rest calm in
+    let h3 = gives_kept w B p2.between p3.between p3.first p3.calm h2 in
+    let p4 = parted w (Ticks A) (Ticks B ∷ Sounds ∷ Listens A ∷ Listens B ∷ Closes ∷ []) p3.between after p3.rest calm in
+    let h4 = a_ticks w p3.between p4.between p4.first p4.calm h3 in
+    let p5 = parted w (Ticks B) (Sounds ∷ Listens A ∷ Listens B ∷ Closes ∷ []) p4.between after p4.rest calm in
+    let h5 = b_ticks w p4.between p5.between p5.first p5.calm h4 in
+    let p6 = parted w Sounds (Listens A ∷ Listens B ∷ Closes ∷ []) p5.between after p5.rest calm in
+    let h6 = subst (AtBench 96 None None) (sym p6.first) (sounds_kept w p5.between h5) in
+    let p7 = parted w (Listens A) (Listens B ∷ Closes ∷ []) p6.between after p6.rest calm in
+    let h7 = listens_kept w A p6.between p7.between p7.first p7.calm h6 in
+    let p8 = parted w (Listens B) (Closes ∷ []) p7.between after p7.rest calm in
+    let h8 = listens_kept w B p7.between p8.between p8.first p8.calm h7 in
+    let p9 = parted w Closes [] p8.between after p8.rest calm in
+    subst AtRest (sym p9.rest) (subst AtRest (sym p9.first) (closes_kept w p8.between h8))
+
+-- ---- the beginning
+
+abbrev IsTelling : Part → Type 0
+IsTelling (Tells end event) = IsToldUsual end event
+IsTelling (Gives end) = ⊥
+IsTelling AsksOrCalls = ⊥
+IsTelling (Ticks end) = ⊥
+IsTelling Sounds = ⊥
+IsTelling (Listens end) = ⊥
+IsTelling Closes = ⊥
+
+one_told : (w : BenchWords) (part : Part) (before after : BenchState) → IsTelling part → IsPart w part before after → IsCalm after → AtRest before → AtRest after
+one_told w (Tells end event) before after usual h calm holds = tells_kept w end event before after usual h calm holds
+one_told w (Gives end) before after usual h calm holds = absurd usual
+one_told w AsksOrCalls before after usual h calm holds = absurd usual
+one_told w (Ticks end) before after usual h calm holds = absurd usual
+one_told w Sounds before after usual h calm holds = absurd usual
+one_told w (Listens end) before after usual h calm holds = absurd usual
+one_told w Closes before after usual h calm holds = absurd usual
+
+-- parts that tell, and then others
+all_told :
+    (w : BenchWords) (parts rest : List Part) → Each IsTelling parts
+    → ((b : BenchState) (a : BenchState) → ArePartsMade w rest b a → IsCalm a → AtRest b → AtRest a)
+    → (before after : BenchState) → ArePartsMade w (parts ++ rest) before after → IsCalm after → AtRest before → AtRest after
+all_told w [] rest telling go before after made calm holds = go before after made calm holds
+all_told w (part ∷ parts) rest telling go before after made calm holds =
+    let p = parted w part (parts ++ rest) before after made calm in
+    all_told w parts rest telling.1 go p.between after p.rest calm (one_told w part before p.between telling.0 p.first p.calm holds)
+
+duplex_telling : (end : End) → Each IsTelling (sets_full_duplex end)
+unfolding sets_full_duplex
+duplex_telling end = (told_as end joins_kiss _ refl tt, (told_as end sets_full _ refl tt, tt))
+
+joins_telling : (end : End) → Each IsTelling (joins end)
+unfolding joins
+joins_telling end = (told_as end joins_program _ refl tt, (told_as end registers _ refl tt, tt))
+
+beginning_telling : (w : BenchWords) → Each IsTelling (beginning w)
+unfolding beginning sets_duplex
+beginning_telling w =
+    each_append IsTelling _ _ (duplex w.full)
+    (each_append IsTelling (joins A) _ (joins_telling A)
+    (each_append IsTelling (joins B) _ (joins_telling B) (told_as A connects _ refl tt, tt)))
+  where
+    duplex : (b : Bool) → Each IsTelling (cond b (sets_full_duplex A ++ sets_full_duplex B) [])
+    duplex true = each_append IsTelling (sets_full_duplex A) (sets_full_duplex B) (duplex_telling A) (duplex_telling B)
+    duplex false = tt
+
+tick_kept : (w : BenchWords) (before after : BenchState) → IsTick w before after → IsCalm after → AtRest before → AtRest after
+unfolding IsTick each_tick
+tick_kept w before after made calm holds = go (before.ticks == 0) made
+  where
+    tail : List Part
+    tail = Gives A ∷ AsksOrCalls ∷ Gives B ∷ Ticks A ∷ Ticks B ∷ Sounds ∷ Listens A ∷ Listens B ∷ Closes ∷ []
+
+    go : (b : Bool) → ArePartsMade w (cond b (beginning w ++ tail) tail) before after → AtRest after
+    go true m = all_told w (beginning w) tail (beginning_telling w) (after_tells w) before after m calm holds
+    go false m = after_tells w before after m calm holds
+
+-- ---- a run
+
+new_way : WayHolds None [] 0 0 [] 0 0
+new_way = record {
+  sent_is = refl;
+  soon = λ s same. absurd (cc);
+  rising = omega arith;
+  matched_within = omega arith;
+  front_within = omega arith;
+  passed = λ k below. absurd (omega arith);
+}
+
+new_rest : (w : BenchWords) → AtRest (new_bench w)
+new_rest w = record {
+  both = record { here = new_way; there = new_way; matched = tt };
+  turn = (order_kept w).new;
+  size_a = refl;
+  size_b = refl;
+}
+
+pub run_in_time : (w : BenchWords) (count : ℕ) (bench : BenchState) → AreTicks w count bench → IsCalm bench → AtRest bench
+run_in_time w zero bench made calm = subst AtRest (sym made) (new_rest w)
+run_in_time w (suc count) bench made calm =
+    tick_kept w made.0 bench made.3 calm (run_in_time w count made.0 made.1 made.2.no_trouble)

@@ -5,15 +5,13 @@ use Rattle.channel_bench.specs.BenchOrder.{SawSetUps, stations_of, steps_of_run,
 use Rattle.channel_bench.specs.BenchRun.{IsOver}
 use Rattle.channel_bench.specs.BenchState.{BenchState}
 use Rattle.channel_bench.specs.CallerLaw.{DroppedNothing}
-use Rattle.channel_bench.specs.InFlight.{AreMatched, nothing_sent}
 use Rattle.channel_bench.specs.KeepsOrder.{KeepsOrder}
 use Rattle.channel_bench.specs.Report.{Report}
 use Rattle.channel_bench.specs.SetUpsSeen.{AllGivenWhileUp}
 
--- What the law still asks of a run that is over: each heard frame was in flight, of the octets that it was sent with; no frame
--- found a transmit queue full; and the host programs gave packets only while the link was up, and saw its set-ups.
+-- What the law still asks of a run that is over: no frame found a transmit queue full, and the host programs gave packets only
+-- while the link was up, and saw its set-ups.
 pub record IsFollowed (bench : BenchState) : Type 0 where
-  pub matched : AreMatched bench.common.moments nothing_sent
   pub dropped : DroppedNothing (stations_of bench)
   pub given : AllGivenWhileUp the_calls (steps_of_run bench)
   pub seen_a : SawSetUps A bench
