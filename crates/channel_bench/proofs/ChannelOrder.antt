@@ -76,7 +76,8 @@ Fits None waiting = Unit {0}
 Fits (Some t) waiting = AirFits t waiting
 
 -- a frame joins those that wait
-pub fits_more : (air : Option OnAir) (waiting more : List WaitingFrame) (octets : List (List ℕ)) → map octets_of more ≡ map octets_of waiting ++ octets → Fits air waiting → Fits air more
+pub fits_more : (air : Option OnAir) (waiting more : List WaitingFrame) (octets : List (List ℕ))
+    → map octets_of more ≡ map octets_of waiting ++ octets → Fits air waiting → Fits air more
 fits_more None waiting more octets is h = tt
 fits_more (Some t) waiting more octets is h =
     let p = h.parts in
@@ -96,19 +97,26 @@ fits_more (Some t) waiting more octets is h =
 -- ---- what a tick takes
 
 -- what it sends is the front of what waits, and the transmission after it fits
-pub record Sends (waiting : List WaitingFrame) (sent : Option Sent) (air : Option OnAir) (after : List WaitingFrame) : Type 0 where
+pub record Sends (waiting : List WaitingFrame) (sent : Option Sent) (air : Option OnAir)
+    (after : List WaitingFrame) : Type 0 where
   pub order : map octets_of waiting ≡ sent_octets sent ++ map octets_of after
   pub fits : Fits air after
   pub soon : (s : Sent) → sent ≡ Some s → s.after ≤ 96
 
 -- with the next tick
-ticked_fits : (t : OnAir) (waiting : List WaitingFrame) → AirParts (record t { ticks = t.ticks + 1 }) waiting → Fits (with_tick t) waiting
+ticked_fits : (t : OnAir) (waiting : List WaitingFrame) → AirParts (record t { ticks = t.ticks + 1 }) waiting
+    → Fits (with_tick t) waiting
 unfolding bits_of
 ticked_fits t waiting h = go (nat_le (length (bits_of t)) (bits_then t)) refl
   where
-    go : (b : Bool) → nat_le (length (bits_of t)) (bits_then t) ≡ b → Fits (cond b None (Some (record t { ticks = t.ticks + 1 }))) waiting
+    go : (b : Bool) → nat_le (length (bits_of t)) (bits_then t) ≡ b
+        → Fits (cond b None (Some (record t { ticks = t.ticks + 1 }))) waiting
     go true is = tt
-    go false is = record { parts = h; long = let more = leb-false (length (bits_of t)) (bits_then t) is in omega (arith, more) }
+    go false is = record {
+      parts = h;
+      long = let more = leb-false (length (bits_of t)) (bits_then t) is in omega
+          (arith, more);
+    }
 
 -- the flag behind the front one of the frames ends, or it does not
 named_or_not :
@@ -116,7 +124,8 @@ named_or_not :
     → t.frames ≡ past ++ front ∷ others → t.named ≡ length past → map octets_of waiting ≡ (front ∷ others) ++ rest
     → (flag_end (t.named + 1) t ≤ bits_then t → MayBe (record t { named = t.named + 1; ticks = t.ticks + 1 }) others)
     → (bits_then t < flag_end (t.named + 1) t → MayBe (record t { ticks = t.ticks + 1 }) (front ∷ others))
-    → Sends waiting (frame_named (bits_then t) t) (with_tick (with_named (bits_then t) t)) (waiting_with_named (bits_then t) t waiting)
+    → Sends waiting (frame_named (bits_then t) t) (with_tick (with_named (bits_then t) t))
+    (waiting_with_named (bits_then t) t waiting)
 named_or_not t waiting past rest front others frames named waits if_named if_not =
     go (names_next (bits_then t) t) refl
   where
@@ -131,16 +140,22 @@ named_or_not t waiting past rest front others frames named waits if_named if_not
 
     go : (b : Bool) → names_next (bits_then t) t ≡ b
         → Sends waiting
-        (cond b (Some (let s : Sent = record { octets = slice_index_or t.frames t.named []; after = 8 * (flag_end (t.named + 1) t - 12 * t.ticks) } in s)) None)
+        (cond b (Some (let s : Sent = record {
+          octets = slice_index_or t.frames t.named [];
+          after = 8 *
+              (flag_end (t.named + 1) t - 12 * t.ticks);
+        } in s)) None)
         (with_tick (cond b (record t { named = t.named + 1 }) t)) (cond b (drop 1 waiting) waiting)
     go true is =
-        let ended : flag_end (t.named + 1) t ≤ bits_then t = leb-true (flag_end (t.named + 1) t) (bits_then t) (when true is) in
+        let ended : flag_end (t.named + 1) t ≤ bits_then t = leb-true (flag_end (t.named + 1) t) (bits_then t)
+        (when true is) in
         let read : slice_index_or t.frames t.named [] ≡ front =
         ap (λ xs. slice_index_or xs t.named []) frames ∙ ap (λ n. slice_index_or (past ++ front ∷ others) n []) named
         ∙ get_or-append_seam past front others [] in
         let behind : map octets_of (drop 1 waiting) ≡ others ++ rest = dropped waiting waits in
         record {
-          order = waits ∙ ap (λ x. x ∷ (others ++ rest)) (sym read) ∙ ap (λ xs. slice_index_or t.frames t.named [] ∷ xs) (sym behind);
+          order = waits ∙ ap (λ x. x ∷ (others ++ rest)) (sym read)
+              ∙ ap (λ xs. slice_index_or t.frames t.named [] ∷ xs) (sym behind);
           fits = ticked_fits (record t { named = t.named + 1 }) (drop 1 waiting) (record {
             past = past ++ front ∷ [];
             unsent = others;
@@ -150,10 +165,12 @@ named_or_not t waiting past rest front others frames named waits if_named if_not
             waits = behind;
             may_be = if_named ended;
           });
-          soon = λ s same. let e : 8 * (flag_end (t.named + 1) t - 12 * t.ticks) ≡ s.after = cc in omega (arith, e, ended);
+          soon = λ s same. let e : 8 * (flag_end (t.named + 1) t - 12 * t.ticks) ≡ s.after = cc in omega
+              (arith, e, ended);
         }
       where
-        dropped : (ws : List WaitingFrame) → map octets_of ws ≡ front ∷ (others ++ rest) → map octets_of (drop 1 ws) ≡ others ++ rest
+        dropped : (ws : List WaitingFrame) → map octets_of ws ≡ front ∷ (others ++ rest)
+            → map octets_of (drop 1 ws) ≡ others ++ rest
         dropped [] same = absurd (cc)
         dropped (w ∷ ws) same = cc
     go false is =
@@ -181,16 +198,20 @@ AirSends waiting t = SendsAt (bits_then t) waiting t
 
 -- one frame is not named yet, and it is the last
 last_sends :
-    (t : OnAir) (waiting : List WaitingFrame) (past rest : List (List ℕ)) (front : List ℕ) → t.frames ≡ past ++ front ∷ []
-    → t.named ≡ length past → map octets_of waiting ≡ (front ∷ []) ++ rest → (frames_end t ≤ bits_then t → t.ends ≡ true)
+    (t : OnAir) (waiting : List WaitingFrame) (past rest : List (List ℕ)) (front : List ℕ)
+    → t.frames ≡ past ++ front ∷ []
+    → t.named ≡ length past → map octets_of waiting ≡ (front ∷ []) ++ rest
+    → (frames_end t ≤ bits_then t → t.ends ≡ true)
     → AirSends waiting t
 last_sends t waiting past rest front frames named waits ends =
     let flag = flag_end-last t past front frames named in
-    named_or_not t waiting past rest front [] frames named waits (λ ended. ends (omega (arith, flag, ended))) (λ later. tt)
+    named_or_not t waiting past rest front [] frames named waits (λ ended. ends (omega (arith, flag, ended)))
+    (λ later. tt)
 
 -- two are not
 two_send :
-    (t : OnAir) (waiting : List WaitingFrame) (past rest : List (List ℕ)) (front next : List ℕ) → t.frames ≡ past ++ front ∷ next ∷ []
+    (t : OnAir) (waiting : List WaitingFrame) (past rest : List (List ℕ)) (front next : List ℕ)
+    → t.frames ≡ past ++ front ∷ next ∷ []
     → t.named ≡ length past → map octets_of waiting ≡ (front ∷ next ∷ []) ++ rest → AirSends waiting t
 unfolding flag_end
 two_send t waiting past rest front next frames named waits =
@@ -198,12 +219,17 @@ two_send t waiting past rest front next frames named waits =
 
 -- none is named
 none_sends :
-    (t : OnAir) (waiting : List WaitingFrame) → names_next (bits_then t) t ≡ false → AirParts (record t { ticks = t.ticks + 1 }) waiting
+    (t : OnAir) (waiting : List WaitingFrame) → names_next (bits_then t) t ≡ false
+    → AirParts (record t { ticks = t.ticks + 1 }) waiting
     → AirSends waiting t
 none_sends t waiting none h =
     subst (λ b. Sends waiting
-      (cond b (Some (let s : Sent = record { octets = slice_index_or t.frames t.named []; after = 8 * (flag_end (t.named + 1) t - 12 * t.ticks) } in s)) None)
-      (with_tick (cond b (record t { named = t.named + 1 }) t)) (cond b (drop 1 waiting) waiting)) (sym none)
+    (cond b (Some (let s : Sent = record {
+      octets = slice_index_or t.frames t.named [];
+      after = 8 *
+          (flag_end (t.named + 1) t - 12 * t.ticks);
+    } in s)) None)
+    (with_tick (cond b (record t { named = t.named + 1 }) t)) (cond b (drop 1 waiting) waiting)) (sym none)
     (record { order = refl; fits = ticked_fits t waiting h; soon = λ s same. absurd (cc) })
 
 ended_is : (ends sent : Bool) → (not ends && sent) ≡ false → sent ≡ true → ends ≡ true
@@ -223,14 +249,16 @@ front_and_next (w ∷ ws) v vs front rest behind is =
 
 -- the last frame is sent, and it is decided what follows it
 followed_sends :
-    (t : OnAir) (waiting behind : List WaitingFrame) (past rest : List (List ℕ)) (front : List ℕ) → drop 1 waiting ≡ behind
+    (t : OnAir) (waiting behind : List WaitingFrame) (past rest : List (List ℕ)) (front : List ℕ)
+    → drop 1 waiting ≡ behind
     → t.frames ≡ past ++ front ∷ [] → t.named ≡ length past → map octets_of waiting ≡ (front ∷ []) ++ rest
     → AirSends waiting (followed_by behind t)
 followed_sends t waiting [] past rest front same frames named waits =
     last_sends (record t { ends = true }) waiting past rest front frames named waits (λ ended. refl)
 followed_sends t waiting (v ∷ vs) past rest front same frames named waits = go (nat_lt (length t.frames) most_frames)
   where
-    go : (b : Bool) → AirSends waiting (cond b (record t { frames = t.frames ++ v.octets ∷ [] }) (record t { ends = true }))
+    go : (b : Bool) → AirSends waiting (cond b (record t { frames = t.frames ++ v.octets ∷ [] })
+        (record t { ends = true }))
     go true =
         two_send (record t { frames = t.frames ++ v.octets ∷ [] }) waiting past (map octets_of vs) front v.octets
         (ap (λ fs. fs ++ v.octets ∷ []) frames ∙ append_assoc past (front ∷ []) (v.octets ∷ [])) named
@@ -238,20 +266,25 @@ followed_sends t waiting (v ∷ vs) past rest front same frames named waits = go
     go false = last_sends (record t { ends = true }) waiting past rest front frames named waits (λ ended. refl)
 
 -- what is decided, and then named
-decided_sends : (t : OnAir) (waiting : List WaitingFrame) → AirParts t waiting → AirSends waiting (decided (bits_then t) waiting t)
+decided_sends : (t : OnAir) (waiting : List WaitingFrame) → AirParts t waiting
+    → AirSends waiting (decided (bits_then t) waiting t)
 decided_sends t waiting h = by_unsent h.unsent h.frames h.waits h.may_be
   where
     -- whether the last frame is sent
-    by_end : (b : Bool) → has_sent_frames (bits_then t) t ≡ b → decided (bits_then t) waiting t ≡ cond b (followed_by (drop 1 waiting) t) t
+    by_end : (b : Bool) → has_sent_frames (bits_then t) t ≡ b
+        → decided (bits_then t) waiting t ≡ cond b (followed_by (drop 1 waiting) t) t
     by_end b is = ap (λ x. cond x (followed_by (drop 1 waiting) t) t) is
 
-    by_unsent : (unsent : List (List ℕ)) → t.frames ≡ h.past ++ unsent → map octets_of waiting ≡ unsent ++ h.rest → MayBe t unsent
+    by_unsent : (unsent : List (List ℕ)) → t.frames ≡ h.past ++ unsent → map octets_of waiting ≡ unsent ++ h.rest
+        → MayBe t unsent
         → AirSends waiting (decided (bits_then t) waiting t)
     by_unsent [] frames waits ends =
-        let goes : has_sent_frames (bits_then t) t ≡ false = ap (λ e. not e && nat_le (frames_end t) (bits_then t)) ends in
+        let goes : has_sent_frames (bits_then t) t ≡ false = ap
+        (λ e. not e && nat_le (frames_end t) (bits_then t)) ends in
         let size : length t.frames ≡ t.named = ap length (frames ∙ append-nil h.past) ∙ sym h.named in
         let all : nat_lt t.named (length t.frames) ≡ false = le-ltb t.named (length t.frames) (omega (arith, size)) in
-        let none : names_next (bits_then t) t ≡ false = ap (λ b. b && nat_le (flag_end (t.named + 1) t) (bits_then t)) all in
+        let none : names_next (bits_then t) t ≡ false = ap
+        (λ b. b && nat_le (flag_end (t.named + 1) t) (bits_then t)) all in
         subst (AirSends waiting) (sym (by_end false goes)) (none_sends t waiting none (record {
           past = h.past;
           unsent = [];
@@ -270,15 +303,18 @@ decided_sends t waiting h = by_unsent h.unsent h.frames h.waits h.may_be
         go false is =
             subst (AirSends waiting) (sym (by_end false is))
             (last_sends t waiting h.past h.rest front frames h.named waits
-            (λ ended. ended_is t.ends (nat_le (frames_end t) (bits_then t)) is (le-leb (frames_end t) (bits_then t) ended)))
+            (λ ended. ended_is t.ends (nat_le (frames_end t) (bits_then t)) is
+            (le-leb (frames_end t) (bits_then t) ended)))
     by_unsent (front ∷ next ∷ []) frames waits later =
-        let pushed : t.frames ≡ (h.past ++ front ∷ []) ++ next ∷ [] = frames ∙ sym (append_assoc h.past (front ∷ []) (next ∷ [])) in
+        let pushed : t.frames ≡ (h.past ++ front ∷ []) ++ next ∷ [] = frames
+        ∙ sym (append_assoc h.past (front ∷ []) (next ∷ [])) in
         let end = frames_end-next t h.past front next pushed h.named in
         let long = frame_longer next in
         let goes : has_sent_frames (bits_then t) t ≡ false =
         and_right (not t.ends) (nat_le (frames_end t) (bits_then t))
         (lt-leb (frames_end t) (bits_then t) (omega (arith, end, long, later))) in
-        subst (AirSends waiting) (sym (by_end false goes)) (two_send t waiting h.past h.rest front next frames h.named waits)
+        subst (AirSends waiting) (sym (by_end false goes))
+        (two_send t waiting h.past h.rest front next frames h.named waits)
     by_unsent (front ∷ next ∷ other ∷ more) frames waits never = absurd never
 
 same_bits : (t : OnAir) (waiting : List WaitingFrame) → bits_then (decided (bits_then t) waiting t) ≡ bits_then t
@@ -288,7 +324,8 @@ same_bits t waiting = go (has_sent_frames (bits_then t) t)
     by_next [] = refl
     by_next (v ∷ vs) = by_room (nat_lt (length t.frames) most_frames)
       where
-        by_room : (b : Bool) → bits_then (cond b (record t { frames = t.frames ++ v.octets ∷ [] }) (record t { ends = true })) ≡ bits_then t
+        by_room : (b : Bool) → bits_then (cond b (record t { frames = t.frames ++ v.octets ∷ [] })
+            (record t { ends = true })) ≡ bits_then t
         by_room true = refl
         by_room false = refl
 
@@ -296,10 +333,12 @@ same_bits t waiting = go (has_sent_frames (bits_then t) t)
     go true = by_next (drop 1 waiting)
     go false = refl
 
-air_sends : (air : Option OnAir) (waiting : List WaitingFrame) → Fits air waiting → Sends waiting (air_sent waiting air) (air_after waiting air) (air_waiting waiting air)
+air_sends : (air : Option OnAir) (waiting : List WaitingFrame) → Fits air waiting
+    → Sends waiting (air_sent waiting air) (air_after waiting air) (air_waiting waiting air)
 air_sends None waiting h = record { order = refl; fits = tt; soon = λ s same. absurd (cc) }
 air_sends (Some t) waiting h =
-    subst (λ bits. SendsAt bits waiting (decided (bits_then t) waiting t)) (same_bits t waiting) (decided_sends t waiting h.parts)
+    subst (λ bits. SendsAt bits waiting (decided (bits_then t) waiting t)) (same_bits t waiting)
+    (decided_sends t waiting h.parts)
 
 -- a tick has 96 samples
 length-samples_of : (t : OnAir) → length (samples_of t) ≡ 8 * length (bits_of t)
@@ -335,12 +374,15 @@ air_long (Some t) waiting h =
 -- ---- a tick of the channel
 
 -- a transmission begins with the front one of the frames that wait
-begun_fits : (busy : Bool) (channel : Channel) → Fits (with_decision (decision busy channel) channel).air channel.waiting
+begun_fits : (busy : Bool) (channel : Channel)
+    → Fits (with_decision (decision busy channel) channel).air channel.waiting
 begun_fits busy channel = by_waiting channel.waiting refl
   where
-    by_waiting : (ws : List WaitingFrame) → channel.waiting ≡ ws → Fits (cond (decision busy channel).begins (Some (begun channel)) None) channel.waiting
+    by_waiting : (ws : List WaitingFrame) → channel.waiting ≡ ws
+        → Fits (cond (decision busy channel).begins (Some (begun channel)) None) channel.waiting
     by_waiting [] same =
-        let none : (decision busy channel).begins ≡ false = ap (λ xs. (decision busy (record channel { waiting = xs })).begins) same in
+        let none : (decision busy channel).begins ≡ false = ap
+        (λ xs. (decision busy (record channel { waiting = xs })).begins) same in
         subst (λ b. Fits (cond b (Some (begun channel)) None) channel.waiting) (sym none) tt
     by_waiting (w ∷ ws) same = go (decision busy channel).begins
       where
@@ -359,7 +401,8 @@ begun_fits busy channel = by_waiting channel.waiting refl
         }
         go false = tt
 
-rules_fit : (busy : Bool) (channel : Channel) → Fits channel.air channel.waiting → Fits (after_rules busy channel).air channel.waiting
+rules_fit : (busy : Bool) (channel : Channel) → Fits channel.air channel.waiting
+    → Fits (after_rules busy channel).air channel.waiting
 rules_fit busy channel h = go (is_none channel.air)
   where
     go : (b : Bool) → Fits (cond b (with_decision (decision busy channel) channel) channel).air channel.waiting
@@ -378,7 +421,8 @@ pub tick_sends :
     → Sends channel.waiting (air_tick busy channel).sent (after_tick busy channel).air (after_tick busy channel).waiting
 tick_sends busy channel h =
     let now = after_rules busy channel in
-    subst (λ ws. Sends ws (air_sent now.waiting now.air) (air_after now.waiting now.air) (air_waiting now.waiting now.air)) (rules_wait busy channel)
+    subst (λ ws. Sends ws (air_sent now.waiting now.air) (air_after now.waiting now.air)
+    (air_waiting now.waiting now.air)) (rules_wait busy channel)
     (air_sends now.air now.waiting (subst (Fits now.air) (sym (rules_wait busy channel)) (rules_fit busy channel h)))
 
 pub tick_long :

@@ -86,7 +86,8 @@ IsUsualPart Sounds = Unit {0}
 IsUsualPart (Listens end) = Unit {0}
 IsUsualPart Closes = Unit {0}
 
-pub told_as : (end : End) (usual : Usual) (event : HostEvent) → FromHost event ≡ input_of end usual → Occurs end usual → IsToldUsual end event
+pub told_as : (end : End) (usual : Usual) (event : HostEvent) → FromHost event ≡ input_of end usual
+    → Occurs end usual → IsToldUsual end event
 told_as end usual event is occurs = record { usual = usual; is = is; occurs = occurs }
 
 duplex_usual : (end : End) → Each IsUsualPart (sets_full_duplex end)
@@ -113,11 +114,13 @@ unfolding each_tick
 tick_usual = (tt, (tt, (tt, (tt, (tt, (tt, (tt, (tt, (tt, tt)))))))))
 
 -- a piece has few octets
-pub piece_short : (text : List ℕ) (running : Option SetUp) (piece : List ℕ) → next_piece text running ≡ Some piece → length piece ≤ most_octets
+pub piece_short : (text : List ℕ) (running : Option SetUp) (piece : List ℕ) → next_piece text running ≡ Some piece
+    → length piece ≤ most_octets
 piece_short text None piece is = absurd (cc)
 piece_short text (Some q) piece is = go (nat_lt (length q.given) (length text)) is
   where
-    go : (b : Bool) → cond b (Some (take most_octets (drop (length q.given) text))) None ≡ Some piece → length piece ≤ most_octets
+    go : (b : Bool) → cond b (Some (take most_octets (drop (length q.given) text))) None ≡ Some piece
+        → length piece ≤ most_octets
     go true same =
         let e : take most_octets (drop (length q.given) text) ≡ piece = cc in
         let size = length-take most_octets (drop (length q.given) text) in
@@ -136,21 +139,26 @@ told_station (piece ∷ pieces) side = told_station pieces (told_piece piece sid
 
 -- ---- the trouble of a run that has ended stays
 
-heard_ended : (end : End) (items : List Candidate) (trouble : Trouble) (n next : Near) → n.common.trouble ≡ Some trouble → AreHeardAt end items n next → next ≡ n
+heard_ended : (end : End) (items : List Candidate) (trouble : Trouble) (n next : Near)
+    → n.common.trouble ≡ Some trouble → AreHeardAt end items n next → next ≡ n
 heard_ended end [] trouble n next is h = h
 heard_ended end (item ∷ items) trouble n next is h =
-    subst (λ t. GoesOn t ((between : Near) × IsHeardAt end item n between × AreHeardAt end items between next) (next ≡ n)) is h
+    subst (λ t. GoesOn t ((between : Near) × IsHeardAt end item n between × AreHeardAt end items between next)
+    (next ≡ n)) is h
 
-pub heard_calm : (end : End) (items : List Candidate) (n next : Near) → AreHeardAt end items n next → next.common.trouble ≡ None → n.common.trouble ≡ None
+pub heard_calm : (end : End) (items : List Candidate) (n next : Near) → AreHeardAt end items n next
+    → next.common.trouble ≡ None → n.common.trouble ≡ None
 heard_calm end items n next h calm = go n.common.trouble refl
   where
     go : (t : Option Trouble) → n.common.trouble ≡ t → t ≡ None
     go None is = refl
-    go (Some trouble) is = sym is ∙ ap (λ (x : Near). x.common.trouble) (sym (heard_ended end items trouble n next is h)) ∙ calm
+    go (Some trouble) is = sym is ∙ ap (λ (x : Near). x.common.trouble)
+        (sym (heard_ended end items trouble n next is h)) ∙ calm
 
 -- ---- states
 
-pub state_twice : (end : End) (first second : StationState) (s : Stations) → with_state end second (with_state end first s) ≡ with_state end second s
+pub state_twice : (end : End) (first second : StationState) (s : Stations)
+    → with_state end second (with_state end first s) ≡ with_state end second s
 state_twice A first second s = refl
 state_twice B first second s = refl
 
@@ -163,9 +171,11 @@ state_there B state s = refl
 pub record KeptByCore (w : BenchWords) (Q : List Moment → Stations → Type 0) : Type 0 where
   pub new : Q [] (first_stations w)
   pub steps : (end : End) (usual : Usual) (matched : Option ℕ) (before after : Near) (s : Stations) → Occurs end usual
-      → IsStep end (input_of end usual) matched before after → after.common.trouble ≡ None → before.side.station ≡ state_of end s
+      → IsStep end (input_of end usual) matched before after → after.common.trouble ≡ None
+      → before.side.station ≡ state_of end s
       → Q before.common.moments s → Q after.common.moments (with_state end after.side.station s)
-  pub passes : (sender : End) (below : ℕ) (moments : List Moment) (s : Stations) → Q moments s → Q (moments ++ Passes sender below ∷ []) s
+  pub passes : (sender : End) (below : ℕ) (moments : List Moment) (s : Stations) → Q moments s
+      → Q (moments ++ Passes sender below ∷ []) s
 
 module _ (w : BenchWords) (Q : List Moment → Stations → Type 0) (k : KeptByCore w Q) where
   abbrev HoldsAt : BenchState → Type 0
@@ -178,26 +188,31 @@ module _ (w : BenchWords) (Q : List Moment → Stations → Type 0) (k : KeptByC
   at_end_holds :
       (end : End) (part : Near → Near → Type 0) (before after : BenchState)
       → ((n next : Near) (s : Stations) → part n next → next.common.trouble ≡ None → n.side.station ≡ state_of end s
-          → Q n.common.moments s → HoldsNear end next s)
+      → Q n.common.moments s → HoldsNear end next s)
       → AtEnd end part before after → IsCalm after → HoldsAt before → HoldsAt after
   at_end_holds A part before after keep h calm holds =
       subst HoldsAt (sym h.is)
-      (keep (near A before) h.next (stations_of before) h.step (sym (ap (λ (b : BenchState). b.common.trouble) h.is) ∙ calm) refl holds)
+      (keep (near A before) h.next (stations_of before) h.step
+      (sym (ap (λ (b : BenchState). b.common.trouble) h.is) ∙ calm) refl holds)
   at_end_holds B part before after keep h calm holds =
       subst HoldsAt (sym h.is)
-      (keep (near B before) h.next (stations_of before) h.step (sym (ap (λ (b : BenchState). b.common.trouble) h.is) ∙ calm) refl holds)
+      (keep (near B before) h.next (stations_of before) h.step
+      (sym (ap (λ (b : BenchState). b.common.trouble) h.is) ∙ calm) refl holds)
 
   same_holds :
       (end : End) (n next : Near) (s : Stations) → next ≡ n → n.side.station ≡ state_of end s
       → Q n.common.moments s → HoldsNear end next s
   same_holds A n next s same at holds =
-      subst (λ (x : Near). HoldsNear A x s) (sym same) (subst (λ state. Q n.common.moments (with_state A state s)) (sym at) holds)
+      subst (λ (x : Near). HoldsNear A x s) (sym same)
+      (subst (λ state. Q n.common.moments (with_state A state s)) (sym at) holds)
   same_holds B n next s same at holds =
-      subst (λ (x : Near). HoldsNear B x s) (sym same) (subst (λ state. Q n.common.moments (with_state B state s)) (sym at) holds)
+      subst (λ (x : Near). HoldsNear B x s) (sym same)
+      (subst (λ state. Q n.common.moments (with_state B state s)) (sym at) holds)
 
   told_holds :
       (end : End) (may : Bool) (event : HostEvent) (n next : Near) (s : Stations) → IsToldUsual end event
-      → MatchBool may (IsStep end (FromHost event) None n next) (next ≡ n) → next.common.trouble ≡ None → n.side.station ≡ state_of end s
+      → MatchBool may (IsStep end (FromHost event) None n next) (next ≡ n) → next.common.trouble ≡ None
+      → n.side.station ≡ state_of end s
       → Q n.common.moments s → HoldsNear end next s
   told_holds end true event n next s u h calm at holds =
       k.steps end u.usual None n next s u.occurs (subst (λ input. IsStep end input None n next) u.is h) calm at holds
@@ -206,7 +221,8 @@ module _ (w : BenchWords) (Q : List Moment → Stations → Type 0) (k : KeptByC
   given_holds :
       (end : End) (accepts : Bool) (piece : Option (List ℕ)) (n next : Near) (s : Stations)
       → ((octets : List ℕ) → piece ≡ Some octets → length octets ≤ most_octets)
-      → MatchBool accepts (IsGivenPiece end piece n next) (next ≡ n) → next.common.trouble ≡ None → n.side.station ≡ state_of end s
+      → MatchBool accepts (IsGivenPiece end piece n next) (next ≡ n) → next.common.trouble ≡ None
+      → n.side.station ≡ state_of end s
       → Q n.common.moments s → HoldsNear end next s
   given_holds end true None n next s short h calm at holds = same_holds end n next s h at holds
   given_holds end true (Some piece) n next s short h calm at holds =
@@ -229,23 +245,29 @@ module _ (w : BenchWords) (Q : List Moment → Stations → Type 0) (k : KeptByC
   heard_holds end [] n next s h calm at holds = same_holds end n next s h at holds
   heard_holds end (item ∷ items) n next s h calm at holds =
       let on : (between : Near) × IsHeardAt end item n between × AreHeardAt end items between next =
-      subst (λ t. GoesOn t ((between : Near) × IsHeardAt end item n between × AreHeardAt end items between next) (next ≡ n))
+      subst (λ t. GoesOn t ((between : Near) × IsHeardAt end item n between × AreHeardAt end items between next)
+      (next ≡ n))
       (heard_calm end (item ∷ items) n next h calm) h in
-      let one = item_holds end (match_of item n.side) item.octets n on.0 s on.1 (heard_calm end items on.0 next on.2 calm) at holds in
+      let one = item_holds end (match_of item n.side) item.octets n on.0 s on.1
+      (heard_calm end items on.0 next on.2 calm) at holds in
       subst (Q next.common.moments) (state_twice end on.0.side.station next.side.station s)
-      (heard_holds end items on.0 next (with_state end on.0.side.station s) on.2 calm (state_there end on.0.side.station s) one)
+      (heard_holds end items on.0 next (with_state end on.0.side.station s) on.2 calm
+      (state_there end on.0.side.station s) one)
 
   asked_holds :
       (complete : Bool) (before after : BenchState)
-      → MatchBool complete (IsAsked before after) (MatchBool before.a.program.calls (IsCalled before after) (after ≡ before)) → IsCalm after
+      → MatchBool complete (IsAsked before after) (MatchBool before.a.program.calls (IsCalled before after)
+      (after ≡ before)) → IsCalm after
       → HoldsAt before → HoldsAt after
   asked_holds true before after h calm holds =
-      at_end_holds A _ (with_asking before) after (λ n next s part c at kept. k.steps A disconnects None n next s tt part c at kept) h calm holds
+      at_end_holds A _ (with_asking before) after
+      (λ n next s part c at kept. k.steps A disconnects None n next s tt part c at kept) h calm holds
   asked_holds false before after h calm holds = go before.a.program.calls h
     where
       go : (b : Bool) → MatchBool b (IsCalled before after) (after ≡ before) → HoldsAt after
       go true is =
-          at_end_holds A _ (with_calling before) after (λ n next s part c at kept. k.steps A connects None n next s tt part c at kept) is calm holds
+          at_end_holds A _ (with_calling before) after
+          (λ n next s part c at kept. k.steps A connects None n next s tt part c at kept) is calm holds
       go false is = subst HoldsAt (sym is) holds
 
   -- a tick of the channel changes no station
@@ -273,7 +295,8 @@ module _ (w : BenchWords) (Q : List Moment → Stations → Type 0) (k : KeptByC
       (λ octets is. piece_short (text_at w end) n.side.program.running octets is) part.given c at kept) h calm holds
   part_holds AsksOrCalls usual before after h calm holds = go h.accepts h.sent
     where
-      go : (b : Bool) → MatchBool b (MatchBool (is_complete w before) (IsAsked before after) (MatchBool before.a.program.calls (IsCalled before after) (after ≡ before))) (after ≡ before)
+      go : (b : Bool) → MatchBool b (MatchBool (is_complete w before) (IsAsked before after)
+          (MatchBool before.a.program.calls (IsCalled before after) (after ≡ before))) (after ≡ before)
           → HoldsAt after
       go true is = asked_holds (is_complete w before) before after is calm holds
       go false is = subst HoldsAt (sym is) holds
@@ -281,7 +304,7 @@ module _ (w : BenchWords) (Q : List Moment → Stations → Type 0) (k : KeptByC
       at_end_holds end (IsTicking end) before after
       (λ n next s part c at kept.
       let tick = k.steps end (ticks part.busy) None n part.next s tt part.step
-          (sym (ap (λ (x : Near). x.common.trouble) part.is) ∙ c) at kept in
+      (sym (ap (λ (x : Near). x.common.trouble) part.is) ∙ c) at kept in
       subst (λ (x : Near). HoldsNear end x s) (sym part.is) tick) h calm holds
   part_holds Sounds usual before after h calm holds = subst HoldsAt (sym h) (sounds_hold before holds)
   part_holds (Listens end) usual before after h calm holds =

@@ -24,8 +24,11 @@ Rising (n ∷ numbers) = Each (λ m. n < m) numbers × Rising numbers
 rising_of : (numbers : List ℕ) → RiseStrictly numbers → Rising numbers
 rising_of [] h = tt
 rising_of (n ∷ numbers) h =
-    let above : All (λ m. n < m) numbers = λ j d within. h 0 (suc j) d (omega arith) (omega arith) in
-    (recursion_from_All (λ m. n < m) numbers above, rising_of numbers (λ i j d lt within. h (suc i) (suc j) d (omega arith) (omega arith)))
+    let above : All (λ m. n < m) numbers = λ j d within. h 0 (suc j) d (omega arith) (omega arith) in (
+      recursion_from_All (λ m. n < m) numbers above,
+      rising_of numbers
+          (λ i j d lt within. h (suc i) (suc j) d (omega arith) (omega arith)),
+    )
 
 pairs_of : (numbers : List ℕ) → Rising numbers → AllPairs (λ m n. m < n) numbers
 pairs_of [] h = λ i j d lt within. absurd (omega arith)
@@ -43,7 +46,8 @@ there_too :
 there_too theirs number q is = slice_get-map seen_as theirs number ∙ ap (option_map seen_as) is
 
 got_from :
-    (theirs : List LinkSetUp) (q : LinkSetUp) (h : GotPrefix theirs q) → IsGotFrom (map seen_as theirs) h.number (seen_as q)
+    (theirs : List LinkSetUp) (q : LinkSetUp) (h : GotPrefix theirs q)
+    → IsGotFrom (map seen_as theirs) h.number (seen_as q)
 got_from theirs q h = record {
   giver = seen_as h.giver;
   is_there = there_too theirs h.number h.giver h.is_there;
@@ -63,7 +67,8 @@ record Ordered (theirs ours : List SetUp) (numbers : List ℕ) : Type 0 where
   among : (low : ℕ) → Each (λ m. low < m) numbers → Each (λ m. low < m) origins
 
 got_none : (q : SetUp) (ours : List SetUp) → q.got ≡ [] → filter got_octets (q ∷ ours) ≡ filter got_octets ours
-got_none q ours none = ap (λ (g : List ℕ). cond (has_octets g) (q ∷ filter got_octets ours) (filter got_octets ours)) none
+got_none q ours none = ap (λ (g : List ℕ). cond (has_octets g) (q ∷ filter got_octets ours)
+    (filter got_octets ours)) none
 
 got_some :
     (q : SetUp) (ours : List SetUp) (octet : ℕ) (octets : List ℕ) → q.got ≡ octet ∷ octets
@@ -84,7 +89,8 @@ ordered theirs (q ∷ ours) prefixes rise = by_packets q.got refl (λ above. ord
         → Ordered (map seen_as theirs) (map seen_as (q ∷ ours)) (h.number ∷ origins ours)
     with_packets h [] none above rest = record {
       origins = rest.origins;
-      got = subst (AreGotFrom (map seen_as theirs) rest.origins) (sym (got_none (seen_as q) (map seen_as ours) none)) rest.got;
+      got = subst (AreGotFrom (map seen_as theirs) rest.origins)
+          (sym (got_none (seen_as q) (map seen_as ours) none)) rest.got;
       rise = rest.rise;
       among = λ low all. rest.among low all.1;
     }
@@ -114,7 +120,8 @@ ordered theirs (q ∷ ours) prefixes rise = by_packets q.got refl (λ above. ord
     by_packets (packet ∷ packets) some others =
         let got_packets : q.got ≢ [] = λ none. absurd (cc) in
         let h = prefixes.0 got_packets in
-        let has_origin : origins (q ∷ ours) ≡ h.number ∷ origins ours = ap (λ o. cons_option o (origins ours)) h.is_origin in
+        let has_origin : origins (q ∷ ours) ≡ h.number ∷ origins ours = ap
+        (λ o. cons_option o (origins ours)) h.is_origin in
         let above : Rising (h.number ∷ origins ours) = subst Rising has_origin rise in
         subst (Ordered (map seen_as theirs) (map seen_as (q ∷ ours))) (sym has_origin)
         (with_packets h (octets_in q.got) refl above (others above.1))
@@ -123,5 +130,5 @@ pub octets_in_order :
     (near far : RecordedEnd) → PacketsInOrder near far → GotInOrder (map seen_as far.set_ups) (map seen_as near.set_ups)
 octets_in_order near far h =
     let all = ordered far.set_ups near.set_ups (recursion_from_All (GotNothingElse far.set_ups) near.set_ups h.prefixes)
-        (rising_of (origins near.set_ups) h.origins_rise) in
+    (rising_of (origins near.set_ups) h.origins_rise) in
     record { origins = all.origins; got = all.got; rise = pairs_of all.origins all.rise }

@@ -22,7 +22,8 @@ pub record IsWhole (stream : List ℕ) : Type 0 where
 pub new_stream : IsWhole []
 new_stream = record { messages = []; read = λ more. refl }
 
-pub whole_more : (stream : List ℕ) (message : AgwMessage) → IsWritten message → IsWhole stream → IsWhole (stream ++ spelling message)
+pub whole_more : (stream : List ℕ) (message : AgwMessage) → IsWritten message → IsWhole stream
+    → IsWhole (stream ++ spelling message)
 whole_more stream message written h = record {
   messages = h.messages ++ message ∷ [];
   read = λ more.
@@ -33,7 +34,8 @@ whole_more stream message written h = record {
 }
 
 -- what a whole stream is read as
-read_alone : (stream : List ℕ) → (h : IsWhole stream) → reading stream ≡ (let r : Reading = record { messages = h.messages; bad = None } in r)
+read_alone : (stream : List ℕ) → (h : IsWhole stream)
+    → reading stream ≡ (let r : Reading = record { messages = h.messages; bad = None } in r)
 unfolding reading
 read_alone stream h =
     ap reading (sym (append-nil stream)) ∙ h.read []
@@ -45,11 +47,13 @@ pub one_new :
 unfolding whole_more
 one_new stream message written h =
     let before = ap (λ (r : Reading). length r.messages) (read_alone stream h) in
-    let after = ap (λ (r : Reading). r.messages) (read_alone (stream ++ spelling message) (whole_more stream message written h)) in
+    let after = ap (λ (r : Reading). r.messages) (read_alone (stream ++ spelling message)
+    (whole_more stream message written h)) in
     ap (λ n. drop n (messages_in (stream ++ spelling message))) before ∙ ap (drop (length h.messages)) after
     ∙ drop_at h.messages (message ∷ []) (length h.messages) refl
 
-pub none_bad : (stream : List ℕ) (message : AgwMessage) → IsWritten message → IsWhole stream → bad_length_in (stream ++ spelling message) ≡ None
+pub none_bad : (stream : List ℕ) (message : AgwMessage) → IsWritten message → IsWhole stream
+    → bad_length_in (stream ++ spelling message) ≡ None
 none_bad stream message written h =
     ap (λ (r : Reading). r.bad) (read_alone (stream ++ spelling message) (whole_more stream message written h))
 

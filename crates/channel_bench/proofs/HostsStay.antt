@@ -60,7 +60,8 @@ still_has before after same h =
 
 -- ---- a connection that joins
 
-pub joins_hosts : (id : ℕ) (kind : PortKind) (s : StationState) → IsHosts (new_connection id kind) → HasHosts s → HasHosts (joining id kind (begin s)).now
+pub joins_hosts : (id : ℕ) (kind : PortKind) (s : StationState) → IsHosts (new_connection id kind) → HasHosts s
+    → HasHosts (joining id kind (begin s)).now
 joins_hosts id kind s new h = go (nat_lt (length s.connections) most_connections)
   where
     go : (b : Bool) → HasHosts (cond b (changing (with_host id kind) (begin s)) (closing id (begin s))).now
@@ -88,7 +89,8 @@ found P id (first ∷ connections) c h is = go (first.id == id) refl is (λ late
 
 -- the connection of an id, with octets more
 with_more :
-    (id : ℕ) (octets : List ℕ) (connections : List Connection) → ((c : Connection) → c.id ≡ id → IsHosts c → IsHosts (with_octets octets c))
+    (id : ℕ) (octets : List ℕ) (connections : List Connection)
+    → ((c : Connection) → c.id ≡ id → IsHosts c → IsHosts (with_octets octets c))
     → Each IsHosts connections → Each IsHosts (with_connection id (with_octets octets) connections)
 with_more id octets [] more h = tt
 with_more id octets (c ∷ connections) more h = (go (c.id == id) refl, with_more id octets connections more h.1)
@@ -99,7 +101,8 @@ with_more id octets (c ∷ connections) more h = (go (c.id == id) refl, with_mor
 
 -- a message of the host program
 message_hosts :
-    (message : AgwMessage) → IsWritten message → (c : Connection) → c.id ≡ program_id → IsHosts c → IsHosts (with_octets (spelling message) c)
+    (message : AgwMessage) → IsWritten message → (c : Connection) → c.id ≡ program_id → IsHosts c
+    → IsHosts (with_octets (spelling message) c)
 message_hosts message written c is h = record {
   kiss = h.kiss;
   program = h.program;
@@ -122,7 +125,8 @@ pub data IsSaid (message : AgwMessage) (before after : Turn) : Type 0 where
 
 pub said_by :
     (message : AgwMessage) (before after : Turn) → IsWritten message → HasHosts before.now
-    → AreTaken (connection_of program_id before.now.connections) (spelling message) before after → IsSaid message before after
+    → AreTaken (connection_of program_id before.now.connections) (spelling message) before after
+    → IsSaid message before after
 said_by message before after written h taken = go (connection_of program_id before.now.connections) refl taken
   where
     by_kind :
@@ -146,9 +150,11 @@ said_by message before after written h taken = go (connection_of program_id befo
         let at = found IsHosts program_id before.now.connections c h.connections is in
         by_kind c c.kind at.0 at.1 refl t
 
-pub taken_hosts : (message : AgwMessage) (before : Turn) → IsWritten message → HasHosts before.now → HasHosts (taking program_id (spelling message) before).now
+pub taken_hosts : (message : AgwMessage) (before : Turn) → IsWritten message → HasHosts before.now
+    → HasHosts (taking program_id (spelling message) before).now
 taken_hosts message before written h = record {
-  connections = with_more program_id (spelling message) before.now.connections (message_hosts message written) h.connections;
+  connections = with_more program_id (spelling message) before.now.connections
+      (message_hosts message written) h.connections;
   digi = h.digi;
 }
 
@@ -164,7 +170,8 @@ pub data IsSet (before after : Turn) : Type 0 where
   full : after ≡ changing full_set (taking kiss_id full_duplex_octets before) → IsSet before after
 
 pub set_by :
-    (before after : Turn) → HasHosts before.now → AreTaken (connection_of kiss_id before.now.connections) full_duplex_octets before after
+    (before after : Turn) → HasHosts before.now
+    → AreTaken (connection_of kiss_id before.now.connections) full_duplex_octets before after
     → IsSet before after
 set_by before after h taken = go (connection_of kiss_id before.now.connections) refl taken
   where
@@ -173,7 +180,8 @@ set_by before after h taken = go (connection_of kiss_id before.now.connections) 
         → AreTakenBy kind c full_duplex_octets before after → IsSet before after
     by_kind c Agw hosts id is t = let clash : Kiss ≡ Agw = sym (hosts.kiss id) ∙ is in absurd (cc)
     by_kind c Kiss hosts id is t =
-        full (t ∙ ap (λ items. heeding_all items (taking c.id full_duplex_octets before)) (one_setting c.stream (hosts.setting is))
+        full (t ∙ ap (λ items. heeding_all items (taking c.id full_duplex_octets before))
+        (one_setting c.stream (hosts.setting is))
         ∙ ap (λ n. changing full_set (taking n full_duplex_octets before)) id)
 
     go : (place : Option Connection) → connection_of kiss_id before.now.connections ≡ place

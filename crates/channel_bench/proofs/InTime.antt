@@ -31,7 +31,8 @@ use Rattle.channel_bench.proofs.Ways.{hearing_one, hearing_none, queued_by, queu
 
 -- ---- the frames that links have queued, in a run with its matches
 
-at_end_framed : (x e : End) (on : Bool) (queue : List (List ℕ)) → octets_in (at_end x e (framed on queue)) ≡ at_end x e queue
+at_end_framed : (x e : End) (on : Bool) (queue : List (List ℕ))
+    → octets_in (at_end x e (framed on queue)) ≡ at_end x e queue
 at_end_framed A A on queue = octets_framed on queue
 at_end_framed A B on queue = refl
 at_end_framed B A on queue = refl
@@ -39,7 +40,8 @@ at_end_framed B B on queue = octets_framed on queue
 
 queued_in :
     (e : End) (moments : List Moment) (ways : BothWays)
-    → octets_in (sent_by e (after_moments moments ways)).queued ≡ octets_in (sent_by e ways).queued ++ queued_at e (steps_in moments)
+    → octets_in (sent_by e (after_moments moments ways)).queued ≡ octets_in (sent_by e ways).queued ++ queued_at e
+    (steps_in moments)
 queued_in e [] ways = sym (append-nil (octets_in (sent_by e ways).queued))
 queued_in e (Steps step m ∷ moments) ways =
     let before = octets_in (sent_by e ways).queued in
@@ -48,7 +50,8 @@ queued_in e (Steps step m ∷ moments) ways =
     ∙ ap (λ q. octets_in q ++ queued_at e (steps_in moments))
     (queued_by e step.station (hears_ask step.input) step.after.out.queued m ways)
     ∙ ap (λ xs. xs ++ queued_at e (steps_in moments))
-    (map-append (λ (f : LinkFrame). f.octets) (sent_by e ways).queued (at_end e step.station (framed (hears_ask step.input) step.after.out.queued))
+    (map-append (λ (f : LinkFrame). f.octets) (sent_by e ways).queued
+    (at_end e step.station (framed (hears_ask step.input) step.after.out.queued))
     ∙ ap (λ xs. before ++ xs) (at_end_framed e step.station (hears_ask step.input) step.after.out.queued))
     ∙ append_assoc before joins (queued_at e (steps_in moments))
 queued_in e (Passes sender below ∷ moments) ways =
@@ -62,8 +65,10 @@ nothing_queued : (e : End) → octets_in (sent_by e nothing_sent).queued ≡ []
 nothing_queued A = refl
 nothing_queued B = refl
 
-pub queued_is : (e : End) (moments : List Moment) → octets_in (sent_by e (ways_after moments)).queued ≡ queued_at e (steps_in moments)
-queued_is e moments = queued_in e moments nothing_sent ∙ ap (λ xs. xs ++ queued_at e (steps_in moments)) (nothing_queued e)
+pub queued_is : (e : End) (moments : List Moment)
+    → octets_in (sent_by e (ways_after moments)).queued ≡ queued_at e (steps_in moments)
+queued_is e moments = queued_in e moments nothing_sent
+    ∙ ap (λ xs. xs ++ queued_at e (steps_in moments)) (nothing_queued e)
 
 -- ---- matches
 
@@ -78,27 +83,33 @@ matched_more (first ∷ moments) moment ways matched next =
 
 -- The frames that a station has sent are those whose sending has ended and one that is still to be told of. Those that are no
 -- longer in flight were matched, or a mark has passed them.
-pub record WayHolds (pending : Option Sent) (sent : List (List ℕ)) (front ticks : ℕ) (towards : List SentAt) (matched samples : ℕ)
+pub record WayHolds (pending : Option Sent) (sent : List (List ℕ)) (front ticks : ℕ) (towards : List SentAt)
+    (matched samples : ℕ)
     : Type 0 where
   pub sent_is : sent ≡ map octets_at towards ++ sent_octets pending
   pub soon : (s : Sent) → pending ≡ Some s → s.after ≤ 96
   pub rising : Rising 0 towards samples
   pub matched_within : matched ≤ length towards
   pub front_within : front ≤ length towards
-  pub passed : (k : ℕ) → k < front → (k < matched) ⊎ ((s : SentAt) → slice_get towards k ≡ Some s → s.end + 23 ≤ 96 * ticks)
+  pub passed : (k : ℕ) → k < front → (k < matched) ⊎
+      ((s : SentAt) → slice_get towards k ≡ Some s → s.end + 23 ≤ 96 * ticks)
 
 pub way_same :
-    (pending : Option Sent) (ticks : ℕ) (s s' : List (List ℕ)) (f f' : ℕ) (t t' : List SentAt) (m m' n n' : ℕ) → s' ≡ s → f' ≡ f → t' ≡ t
+    (pending : Option Sent) (ticks : ℕ) (s s' : List (List ℕ)) (f f' : ℕ) (t t' : List SentAt) (m m' n n' : ℕ)
+    → s' ≡ s → f' ≡ f → t' ≡ t
     → m' ≡ m → n' ≡ n → WayHolds pending s f ticks t m n → WayHolds pending s' f' ticks t' m' n'
 way_same pending ticks s s' f f' t t' m m' n n' is_s is_f is_t is_m is_n h =
     subst (λ x. WayHolds pending x f' ticks t' m' n') (sym is_s)
     (subst (λ x. WayHolds pending s x ticks t' m' n') (sym is_f)
     (subst (λ x. WayHolds pending s f ticks x m' n') (sym is_t)
-    (subst (λ x. WayHolds pending s f ticks t x n') (sym is_m) (subst (λ x. WayHolds pending s f ticks t m x) (sym is_n) h))))
+    (subst (λ x. WayHolds pending s f ticks t x n') (sym is_m)
+    (subst (λ x. WayHolds pending s f ticks t m x) (sym is_n) h))))
 
 -- both directions, seen from one end: what it hears, and what the other one does
-pub record Both (end : End) (own far_pending : Option Sent) (ticks : ℕ) (moments : List Moment) (side far : SideState) : Type 0 where
-  pub here : WayHolds far_pending (sent_at (other end) (steps_in moments)) (sent_by (other end) (ways_after moments)).front ticks
+pub record Both (end : End) (own far_pending : Option Sent) (ticks : ℕ) (moments : List Moment)
+    (side far : SideState) : Type 0 where
+  pub here : WayHolds far_pending (sent_at (other end) (steps_in moments))
+      (sent_by (other end) (ways_after moments)).front ticks
       side.towards side.matched (length side.samples)
   pub there : WayHolds own (sent_at end (steps_in moments)) (sent_by end (ways_after moments)).front ticks
       far.towards far.matched (length far.samples)
@@ -137,18 +148,22 @@ at_other B xs = refl
 pub record StepFacts (end : End) (input : Input) (m : Option ℕ) (before after : Near) : Type 0 where
   pub sent_own : sent_at end (steps_in after.common.moments)
       ≡ sent_at end (steps_in before.common.moments) ++ sent_in_step input before.side.station
-  pub sent_far : sent_at (other end) (steps_in after.common.moments) ≡ sent_at (other end) (steps_in before.common.moments)
-  pub front_own : (sent_by end (ways_after after.common.moments)).front ≡ (sent_by end (ways_after before.common.moments)).front
+  pub sent_far : sent_at (other end) (steps_in after.common.moments) ≡ sent_at (other end)
+      (steps_in before.common.moments)
+  pub front_own : (sent_by end (ways_after after.common.moments)).front ≡
+      (sent_by end (ways_after before.common.moments)).front
   pub front_far : (sent_by (other end) (ways_after after.common.moments)).front
       ≡ (sent_by (other end) (hearing_at end m (ways_after before.common.moments))).front
   pub towards : after.side.towards ≡ before.side.towards
   pub matched : after.side.matched ≡ before.side.matched
   pub samples : after.side.samples ≡ before.side.samples
-  pub keeps : AreMatched before.common.moments nothing_sent → IsMatched input m (sent_by (other end) (ways_after before.common.moments))
+  pub keeps : AreMatched before.common.moments nothing_sent
+      → IsMatched input m (sent_by (other end) (ways_after before.common.moments))
       → AreMatched after.common.moments nothing_sent
 
 pub step_facts :
-    (end : End) (input : Input) (m : Option ℕ) (before after : Near) → IsStep end input m before after → StepFacts end input m before after
+    (end : End) (input : Input) (m : Option ℕ) (before after : Near) → IsStep end input m before after
+    → StepFacts end input m before after
 step_facts end input m before after h =
     let step : Step = record {
       station = end;
@@ -161,7 +176,8 @@ step_facts end input m before after h =
     let moments = before.common.moments in
     let ways = ways_after moments in
     let is : after.common.moments ≡ moments ++ Steps step m ∷ [] = ap (λ (n : Near). n.common.moments) h.is in
-    let steps_are : steps_in after.common.moments ≡ steps_in moments ++ step ∷ [] = ap steps_in is ∙ steps_more moments step m in
+    let steps_are : steps_in after.common.moments ≡ steps_in moments ++ step ∷ [] = ap steps_in is
+    ∙ steps_more moments step m in
     let ways_are : ways_after after.common.moments ≡ after_moment (Steps step m) ways =
     ap ways_after is ∙ moments_more moments (Steps step m) nothing_sent in
     let on = hears_ask input in
@@ -171,15 +187,18 @@ step_facts end input m before after h =
       sent_own = ap (sent_at end) steps_are ∙ sent_more end (steps_in moments) step
           ∙ ap (λ xs. sent_at end (steps_in moments) ++ xs) (at_own end (sent_in_step input before.side.station));
       sent_far = ap (sent_at (other end)) steps_are ∙ sent_more (other end) (steps_in moments) step
-          ∙ ap (λ xs. sent_at (other end) (steps_in moments) ++ xs) (at_other end (sent_in_step input before.side.station))
+          ∙ ap (λ xs. sent_at (other end) (steps_in moments) ++ xs)
+          (at_other end (sent_in_step input before.side.station))
           ∙ append-nil (sent_at (other end) (steps_in moments));
-      front_own = ap (λ (w : BothWays). (sent_by end w).front) ways_are ∙ ap (λ (w : OneWay). w.front) (stepped_own end on queue m ways);
+      front_own = ap (λ (w : BothWays). (sent_by end w).front) ways_are
+          ∙ ap (λ (w : OneWay). w.front) (stepped_own end on queue m ways);
       front_far = ap (λ (w : BothWays). (sent_by (other end) w).front) ways_are
           ∙ ap (λ (w : OneWay). w.front) (stepped_other end on queue m ways);
       towards = ap (λ (n : Near). n.side.towards) h.is ∙ leaves.towards;
       matched = ap (λ (n : Near). n.side.matched) h.is ∙ leaves.matched;
       samples = ap (λ (n : Near). n.side.samples) h.is ∙ leaves.samples;
-      keeps = λ are one. subst (λ ms. AreMatched ms nothing_sent) (sym is) (matched_more moments (Steps step m) nothing_sent are one);
+      keeps = λ are one. subst (λ ms. AreMatched ms nothing_sent) (sym is)
+          (matched_more moments (Steps step m) nothing_sent are one);
     }
 
 -- ---- the kinds of steps
@@ -189,12 +208,14 @@ pub host_step :
     (end : End) (input : Input) (own far_pending : Option Sent) (ticks : ℕ) (before after : Near) (far : SideState)
     → IsStep end input None before after → sent_in_step input before.side.station ≡ []
     → IsMatched input None (sent_by (other end) (ways_after before.common.moments))
-    → Both end own far_pending ticks before.common.moments before.side far → Both end own far_pending ticks after.common.moments after.side far
+    → Both end own far_pending ticks before.common.moments before.side far
+    → Both end own far_pending ticks after.common.moments after.side far
 host_step end input own far_pending ticks before after far h none is_matched both =
     let f = step_facts end input None before after h in
     record {
       here = way_same far_pending ticks _ _ _ _ _ _ _ _ _ _ f.sent_far
-          (f.front_far ∙ ap (λ (w : OneWay). w.front) (hearing_none end (ways_after before.common.moments))) f.towards f.matched
+          (f.front_far ∙ ap (λ (w : OneWay). w.front)
+          (hearing_none end (ways_after before.common.moments))) f.towards f.matched
           (ap length f.samples) both.here;
       there = way_same own ticks _ _ _ _ _ _ _ _ _ _
           (f.sent_own ∙ ap (λ xs. sent_at end (steps_in before.common.moments) ++ xs) none
@@ -205,7 +226,8 @@ host_step end input own far_pending ticks before after far h none is_matched bot
 -- a tick
 pub clock_step :
     (end : End) (busy : Bool) (far_pending : Option Sent) (ticks : ℕ) (before after : Near) (far : SideState)
-    → IsStep end (OfClock busy) None before after → ((s : Sent) → (air_of busy before.side.station).sent ≡ Some s → s.after ≤ 96)
+    → IsStep end (OfClock busy) None before after
+    → ((s : Sent) → (air_of busy before.side.station).sent ≡ Some s → s.after ≤ 96)
     → Both end None far_pending ticks before.common.moments before.side far
     → Both end (air_of busy before.side.station).sent far_pending ticks after.common.moments after.side far
 clock_step end busy far_pending ticks before after far h soon both =
@@ -214,16 +236,19 @@ clock_step end busy far_pending ticks before after far h soon both =
     let sent = sent_octets (air_of busy before.side.station).sent in
     record {
       here = way_same far_pending ticks _ _ _ _ _ _ _ _ _ _ f.sent_far
-          (f.front_far ∙ ap (λ (w : OneWay). w.front) (hearing_none end (ways_after before.common.moments))) f.towards f.matched
+          (f.front_far ∙ ap (λ (w : OneWay). w.front)
+          (hearing_none end (ways_after before.common.moments))) f.towards f.matched
           (ap length f.samples) both.here;
-      there = way_same (air_of busy before.side.station).sent ticks _ _ _ _ _ _ _ _ _ _ f.sent_own f.front_own refl refl refl (record {
-        sent_is = ap (λ xs. xs ++ sent) (old.sent_is ∙ append-nil (map octets_at far.towards));
-        soon = soon;
-        rising = old.rising;
-        matched_within = old.matched_within;
-        front_within = old.front_within;
-        passed = old.passed;
-      });
+      there = way_same
+          (air_of busy before.side.station).sent ticks _ _ _ _ _ _ _ _ _ _ f.sent_own f.front_own refl refl refl
+          (record {
+            sent_is = ap (λ xs. xs ++ sent) (old.sent_is ∙ append-nil (map octets_at far.towards));
+            soon = soon;
+            rising = old.rising;
+            matched_within = old.matched_within;
+            front_within = old.front_within;
+            passed = old.passed;
+          });
       matched = f.keeps both.matched refl;
     }
 
@@ -245,8 +270,10 @@ image_there f xs k y is = go (slice_get xs k) refl
 
 -- the frame of a number, as it was queued
 queued_there :
-    (sender : End) (moments : List Moment) (s : StationState) (pending : Option Sent) (towards : List SentAt) (number : ℕ) (sent : SentAt)
-    → InOrder sender (steps_in moments) s → sent_at sender (steps_in moments) ≡ map octets_at towards ++ sent_octets pending
+    (sender : End) (moments : List Moment) (s : StationState) (pending : Option Sent) (towards : List SentAt)
+    (number : ℕ) (sent : SentAt)
+    → InOrder sender (steps_in moments) s
+    → sent_at sender (steps_in moments) ≡ map octets_at towards ++ sent_octets pending
     → slice_get towards number ≡ Some sent
     → slice_get (octets_in (sent_by sender (ways_after moments)).queued) number ≡ Some sent.octets
 queued_there sender moments s pending towards number sent order is there =
@@ -259,15 +286,18 @@ queued_there sender moments s pending towards number sent order is there =
 
 -- it is in flight
 in_flight_there :
-    (sender : End) (moments : List Moment) (s : StationState) (pending : Option Sent) (ticks : ℕ) (towards : List SentAt)
+    (sender : End) (moments : List Moment) (s : StationState) (pending : Option Sent) (ticks : ℕ)
+    (towards : List SentAt)
     (matched samples number : ℕ) (item : Candidate) → InOrder sender (steps_in moments) s
-    → WayHolds pending (sent_at sender (steps_in moments)) (sent_by sender (ways_after moments)).front ticks towards matched samples
+    → WayHolds pending (sent_at sender (steps_in moments))
+    (sent_by sender (ways_after moments)).front ticks towards matched samples
     → 96 * ticks ≤ item.end + 7 → IsMatchAt item matched towards number
     → IsInFlight item.octets number (sent_by sender (ways_after moments))
 in_flight_there sender moments s pending ticks towards matched samples number item order way late m =
     let front = (sent_by sender (ways_after moments)).front in
-    let frame = image_there (λ (f : LinkFrame). f.octets) (sent_by sender (ways_after moments)).queued number m.sent.octets
-        (queued_there sender moments s pending towards number m.sent order way.sent_is m.is_there) in
+    let frame = image_there (λ (f : LinkFrame). f.octets)
+    (sent_by sender (ways_after moments)).queued number m.sent.octets
+    (queued_there sender moments s pending towards number m.sent order way.sent_is m.is_there) in
     record { ahead = ahead (cases_lt number front); frame = frame.0; is_there = frame.1; same = frame.2 ∙ m.octets }
   where
     not_passed : ((x : SentAt) → slice_get towards number ≡ Some x → x.end + 23 ≤ 96 * ticks) → ⊥
@@ -278,7 +308,8 @@ in_flight_there sender moments s pending ticks towards matched samples number it
         far_off : (a b c : ℕ) → a + 23 ≤ c → c ≤ b + 7 → distance a b < 8 → ⊥
         far_off a b c before late near = omega (arith, before, late, near)
 
-    ahead : (number < (sent_by sender (ways_after moments)).front) ⊎ ((sent_by sender (ways_after moments)).front ≤ number)
+    ahead : (number < (sent_by sender (ways_after moments)).front) ⊎
+        ((sent_by sender (ways_after moments)).front ≤ number)
         → (sent_by sender (ways_after moments)).front ≤ number
     ahead (inr above) = above
     ahead (inl below) = by_passing (way.passed number below)
@@ -289,22 +320,29 @@ in_flight_there sender moments s pending ticks towards matched samples number it
         by_passing (inr passed) = absurd (not_passed passed)
 
 pub heard_step :
-    (end : End) (own far_pending : Option Sent) (ticks number : ℕ) (item : Candidate) (before after : Near) (far : SideState) (s : StationState)
-    → IsStep end (OffAir item.octets) (Some number) (record before { side = record before.side { matched = number + 1 } }) after
+    (end : End) (own far_pending : Option Sent) (ticks number : ℕ) (item : Candidate) (before after : Near)
+    (far : SideState) (s : StationState)
+    → IsStep end (OffAir item.octets) (Some number)
+    (record before { side = record before.side { matched = number + 1 } }) after
     → InOrder (other end) (steps_in before.common.moments) s → 96 * ticks ≤ item.end + 7
     → IsMatchAt item before.side.matched before.side.towards number
-    → Both end own far_pending ticks before.common.moments before.side far → Both end own far_pending ticks after.common.moments after.side far
+    → Both end own far_pending ticks before.common.moments before.side far
+    → Both end own far_pending ticks after.common.moments after.side far
 heard_step end own far_pending ticks number item before after far s h order late m both =
-    let f = step_facts end (OffAir item.octets) (Some number) (record before { side = record before.side { matched = number + 1 } }) after h in
+    let f = step_facts end (OffAir item.octets) (Some number)
+    (record before { side = record before.side { matched = number + 1 } }) after h in
     let old = both.here in
     let way = sent_by (other end) (ways_after before.common.moments) in
-    let flies = in_flight_there (other end) before.common.moments s far_pending ticks before.side.towards before.side.matched
-        (length before.side.samples) number item order old late m in
+    let flies = in_flight_there
+    (other end) before.common.moments s far_pending ticks before.side.towards before.side.matched
+    (length before.side.samples) number item order old late m in
     let within : number < length before.side.towards = slice_get_within before.side.towards number m.sent m.is_there in
-    let top : max way.front (number + 1) ≤ number + 1 = max-le (let ahead = flies.ahead in omega (arith, ahead)) (omega arith) in
+    let top : max way.front (number + 1) ≤ number + 1 = max-le (let ahead = flies.ahead in omega (arith, ahead))
+    (omega arith) in
     record {
       here = way_same far_pending ticks _ _ _ _ _ _ _ _ _ _ f.sent_far
-          (f.front_far ∙ ap (λ (w : OneWay). w.front) (hearing_one end number (ways_after before.common.moments))) f.towards f.matched
+          (f.front_far ∙ ap (λ (w : OneWay). w.front)
+          (hearing_one end number (ways_after before.common.moments))) f.towards f.matched
           (ap length f.samples) (record {
             sent_is = old.sent_is;
             soon = old.soon;
@@ -314,7 +352,8 @@ heard_step end own far_pending ticks number item before after far s h order late
             passed = λ k below. inl (omega (arith, below, top));
           });
       there = way_same own ticks _ _ _ _ _ _ _ _ _ _
-          (f.sent_own ∙ append-nil (sent_at end (steps_in before.common.moments))) f.front_own refl refl refl both.there;
+          (f.sent_own ∙ append-nil
+          (sent_at end (steps_in before.common.moments))) f.front_own refl refl refl both.there;
       matched = f.keeps both.matched flies;
     }
 
@@ -322,8 +361,10 @@ heard_step end own far_pending ticks number item before after far s h order late
 
 -- what a station sends has reached the other
 pub way_sounded :
-    (pending : Option Sent) (sent : List (List ℕ)) (front ticks : ℕ) (towards : List SentAt) (matched samples : ℕ) (ended : List SentAt) (more : ℕ)
-    → samples ≡ 96 * ticks → more ≡ samples + 96 → ended ≡ sent_in ticks pending → WayHolds pending sent front ticks towards matched samples
+    (pending : Option Sent) (sent : List (List ℕ)) (front ticks : ℕ) (towards : List SentAt) (matched samples : ℕ)
+    (ended : List SentAt) (more : ℕ)
+    → samples ≡ 96 * ticks → more ≡ samples + 96 → ended ≡ sent_in ticks pending
+    → WayHolds pending sent front ticks towards matched samples
     → WayHolds None sent front ticks (towards ++ ended) matched more
 way_sounded pending sent front ticks towards matched samples ended more now later is h =
     subst (λ e. WayHolds None sent front ticks (towards ++ e) matched more) (sym is) (go pending h.sent_is h.soon)
@@ -333,10 +374,12 @@ way_sounded pending sent front ticks towards matched samples ended more now late
     go None sent_is soon = record {
       sent_is = sent_is ∙ ap (λ xs. map octets_at xs ++ []) (sym (append-nil towards));
       soon = λ s same. absurd (cc);
-      rising = subst (λ t. Rising 0 t more) (sym (append-nil towards)) (rising_later 0 towards samples more h.rising (omega (arith, later)));
+      rising = subst (λ t. Rising 0 t more) (sym (append-nil towards))
+          (rising_later 0 towards samples more h.rising (omega (arith, later)));
       matched_within = subst (λ t. matched ≤ length t) (sym (append-nil towards)) h.matched_within;
       front_within = subst (λ t. front ≤ length t) (sym (append-nil towards)) h.front_within;
-      passed = subst (λ t. (k : ℕ) → k < front → (k < matched) ⊎ ((s : SentAt) → slice_get t k ≡ Some s → s.end + 23 ≤ 96 * ticks))
+      passed = subst (λ t. (k : ℕ) → k < front
+          → (k < matched) ⊎ ((s : SentAt) → slice_get t k ≡ Some s → s.end + 23 ≤ 96 * ticks))
           (sym (append-nil towards)) h.passed;
     }
     go (Some x) sent_is soon =
@@ -356,28 +399,35 @@ way_sounded pending sent front ticks towards matched samples ended more now late
         at_end_of : SentAt
         at_end_of = record { octets = x.octets; end = 96 * ticks + x.after }
 
-        earlier : (k : ℕ) (s : SentAt) → k < length towards → slice_get (towards ++ at_end_of ∷ []) k ≡ Some s → slice_get towards k ≡ Some s
+        earlier : (k : ℕ) (s : SentAt) → k < length towards → slice_get (towards ++ at_end_of ∷ []) k ≡ Some s
+            → slice_get towards k ≡ Some s
         earlier k s within is =
             let d = get_or towards k at_end_of in
             let there : slice_get towards k ≡ Some d = slice_get-get_or towards k at_end_of within in
             there ∙ sym (still_there towards (at_end_of ∷ []) k d there) ∙ is
 
-        old : (k : ℕ) → k < front → (k < matched) ⊎ ((s : SentAt) → slice_get towards k ≡ Some s → s.end + 23 ≤ 96 * ticks)
-            → (k < matched) ⊎ ((s : SentAt) → slice_get (towards ++ at_end_of ∷ []) k ≡ Some s → s.end + 23 ≤ 96 * ticks)
+        old : (k : ℕ) → k < front → (k < matched) ⊎
+            ((s : SentAt) → slice_get towards k ≡ Some s → s.end + 23 ≤ 96 * ticks)
+            → (k < matched) ⊎ ((s : SentAt) → slice_get (towards ++ at_end_of ∷ []) k ≡ Some s
+            → s.end + 23 ≤ 96 * ticks)
         old k below (inl early) = inl early
-        old k below (inr passed) = inr (λ s is. passed s (earlier k s (let within = h.front_within in omega (arith, below, within)) is))
+        old k below (inr passed) = inr (λ s is. passed s
+            (earlier k s (let within = h.front_within in omega (arith, below, within)) is))
 
 -- the end of a tick: what the marks have passed is in flight no longer
 pub way_closed :
-    (sent : List (List ℕ)) (front front' ticks : ℕ) (towards : List SentAt) (matched samples : ℕ) → samples ≡ 96 * (ticks + 1)
+    (sent : List (List ℕ)) (front front' ticks : ℕ) (towards : List SentAt) (matched samples : ℕ)
+    → samples ≡ 96 * (ticks + 1)
     → front' ≡ max front (matched + count_by (has_passed (samples - 7)) (drop matched towards))
-    → WayHolds None sent front ticks towards matched samples → WayHolds None sent front' (ticks + 1) towards matched samples
+    → WayHolds None sent front ticks towards matched samples
+    → WayHolds None sent front' (ticks + 1) towards matched samples
 way_closed sent front front' ticks towards matched samples now is h = record {
   sent_is = h.sent_is;
   soon = h.soon;
   rising = h.rising;
   matched_within = h.matched_within;
-  front_within = subst (λ f. f ≤ length towards) (sym is) (max-le h.front_within (counted_within (samples - 7) matched towards h.matched_within));
+  front_within = subst (λ f. f ≤ length towards) (sym is)
+      (max-le h.front_within (counted_within (samples - 7) matched towards h.matched_within));
   passed = λ k below. by_front k (cases_lt k front) (cases_lt k matched) (subst (λ f. k < f) is below);
 }
   where
@@ -401,5 +451,6 @@ way_closed sent front front' ticks towards matched samples now is h = record {
     by_front k (inl old) m below = longer k (h.passed k old)
     by_front k (inr new) (inl early) below = inl early
     by_front k (inr new) (inr late) below =
-        let counted = passed_counted (samples - 7) matched towards samples k h.rising late (below_count k front count below new) in
+        let counted = passed_counted (samples - 7) matched towards samples k h.rising late
+        (below_count k front count below new) in
         inr (λ s at. let p = counted s at in omega (arith, p, now))

@@ -59,6 +59,7 @@ mod Sounded
 mod CoreRun
 mod NotedRun
 mod GotOctets
+mod KeepsOrderExamples
 mod TurnWalks
 mod HostStreams
 mod HostsStay

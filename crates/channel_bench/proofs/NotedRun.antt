@@ -21,7 +21,8 @@ steps_more (Steps first m ∷ moments) step matched = ap (λ steps. first ∷ st
 steps_more (Passes sender below ∷ moments) step matched = steps_more moments step matched
 
 pub steps_passed :
-    (moments : List Moment) (sender : End) (below : ℕ) → steps_in (moments ++ Passes sender below ∷ []) ≡ steps_in moments
+    (moments : List Moment) (sender : End) (below : ℕ)
+    → steps_in (moments ++ Passes sender below ∷ []) ≡ steps_in moments
 steps_passed [] sender below = refl
 steps_passed (Steps first m ∷ moments) sender below = ap (λ steps. first ∷ steps) (steps_passed moments sender below)
 steps_passed (Passes s b ∷ moments) sender below = steps_passed moments sender below
@@ -36,7 +37,8 @@ quiet_more :
     (moments : List Moment) (moment : Moment) (ways : BothWays) → AreQuietThrough moments ways
     → IsQuietIn moment (after_moments moments ways) → AreQuietThrough (moments ++ moment ∷ []) ways
 quiet_more [] moment ways quiet next = (next, tt)
-quiet_more (first ∷ moments) moment ways quiet next = (quiet.0, quiet_more moments moment (after_moment first ways) quiet.1 next)
+quiet_more (first ∷ moments) moment ways quiet next =
+    (quiet.0, quiet_more moments moment (after_moment first ways) quiet.1 next)
 
 -- what ended no run found a quiet channel
 all_quiet :
@@ -48,9 +50,10 @@ all_quiet sender on_ask (octets ∷ queued) ways none =
     (λ calm. all_quiet sender on_ask queued (queueing_at sender on_ask octets ways) calm)
   where
     go : (b : Bool) → is_quiet_at sender octets ways ≡ b
-        → trouble_of (cond b (first_unquiet sender on_ask queued (queueing_at sender on_ask octets ways)) (Some (count_of ways + 1))) ≡ None
+        → trouble_of (cond b (first_unquiet sender on_ask queued (queueing_at sender on_ask octets ways))
+        (Some (count_of ways + 1))) ≡ None
         → (trouble_of (first_unquiet sender on_ask queued (queueing_at sender on_ask octets ways)) ≡ None
-            → AreQuietAt sender on_ask queued (queueing_at sender on_ask octets ways))
+        → AreQuietAt sender on_ask queued (queueing_at sender on_ask octets ways))
         → AreQuietAt sender on_ask (octets ∷ queued) ways
     go true is none rest = (is, rest none)
     go false is none rest = absurd (cc)
@@ -74,7 +77,8 @@ step_noted w end input matched before after s h calm at noted =
     let ways = after_moments moments nothing_sent in
     let none : trouble_of (first_unquiet end (hears_ask input) h.turn.out.queued (hearing_at end matched ways)) ≡ None =
     sym (ap (λ (n : Near). n.common.trouble) h.is) ∙ calm in
-    let moments_are : after.common.moments ≡ moments ++ Steps step matched ∷ [] = ap (λ (n : Near). n.common.moments) h.is in
+    let moments_are : after.common.moments ≡ moments ++ Steps step matched ∷ [] = ap
+    (λ (n : Near). n.common.moments) h.is in
     let station_is : after.side.station ≡ h.turn.now =
     ap (λ (n : Near). n.side.station) h.is ∙ told_station h.turn.out.pieces _ in
     let steps_are = steps_more moments step matched in

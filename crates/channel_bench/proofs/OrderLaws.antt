@@ -23,6 +23,7 @@ use Rattle.channel_bench.specs.Words.{seed_at}
 use Rattle.channel_bench.proofs.CallerLaws.{caller_law_holds}
 use Rattle.channel_bench.proofs.CoreRun.{core_kept}
 use Rattle.channel_bench.proofs.GotOctets.{octets_in_order, seen_as}
+use Rattle.channel_bench.proofs.KeepsOrderExamples.{in_order}
 use Rattle.channel_bench.proofs.MatchedOrder.{matched_in_order_holds}
 use Rattle.channel_bench.proofs.NotedRun.{noted_kept}
 use Rattle.channel_bench.proofs.ProgramsAsk.{AskLittle, asks_kept}
@@ -36,7 +37,8 @@ windows : (w : BenchWords) → WindowsFit (params_of w) (params_of w)
 windows w = record {
   of_a = ((omega arith, omega arith), (omega arith, omega arith));
   of_b = ((omega arith, omega arith), (omega arith, omega arith));
-  halves = λ modes. (record { narrow = omega arith; wide = omega arith }, record { narrow = omega arith; wide = omega arith });
+  halves = λ modes.
+      (record { narrow = omega arith; wide = omega arith }, record { narrow = omega arith; wide = omega arith });
 }
 
 -- the set-ups of an end, as its host program saw them
@@ -63,18 +65,24 @@ bench_law_holds w report over h =
     let steps = steps_of_run bench in
     let config = config_of w in
     let pairs = pairs_in moments in
-    let noted = ticks_keep w (λ (b : BenchState). IsNoted w b.common.moments (stations_of b)) (core_kept w (IsNoted w) (noted_kept w)) over.count bench over.ticks over.no_trouble in
-    let little = ticks_keep w (λ (b : BenchState). AskLittle b.common.moments (stations_of b)) (core_kept w AskLittle (asks_kept w)) over.count bench
-        over.ticks over.no_trouble in
+    let noted = ticks_keep w (λ (b : BenchState). IsNoted w b.common.moments (stations_of b))
+    (core_kept w (IsNoted w) (noted_kept w)) over.count bench over.ticks over.no_trouble in
+    let little = ticks_keep w (λ (b : BenchState). AskLittle b.common.moments (stations_of b))
+    (core_kept w AskLittle (asks_kept w)) over.count bench
+    over.ticks over.no_trouble in
     let matched = (run_in_time w over.count bench over.ticks over.no_trouble).both.matched in
     let order = matched_in_order_holds moments matched in
-    let kept = caller_law_holds changes_law_holds config config (seed_at w A) (seed_at w B) moments noted.run matched noted.quiet (windows w)
-        little.asks (subst DroppedNothing (sym noted.now) h.dropped) the_calls in
-    let seen = set_ups_law_holds config config (seed_at w A) (seed_at w B) steps pairs noted.run order.0 order.1 the_calls h.given in
+    let kept = caller_law_holds changes_law_holds config config (seed_at w A)
+    (seed_at w B) moments noted.run matched noted.quiet (windows w)
+    little.asks (subst DroppedNothing (sym noted.now) h.dropped) the_calls in
+    let seen = set_ups_law_holds config config (seed_at w A)
+    (seed_at w B) steps pairs noted.run order.0 order.1 the_calls h.given in
     let world = world_of the_calls pairs config.params config.params steps in
     let at_a = saw bench.a.program world.a.end.set_ups (set_ups_seen the_calls A steps) h.seen_a seen.at_a in
     let at_b = saw bench.b.program world.b.end.set_ups (set_ups_seen the_calls B steps) h.seen_b seen.at_b in
     subst KeepsOrder (sym over.told) (record {
-      at_a = order_of world.a.end world.b.end (set_ups_of bench.a.program) (set_ups_of bench.b.program) kept.got_a at_a at_b;
-      at_b = order_of world.b.end world.a.end (set_ups_of bench.b.program) (set_ups_of bench.a.program) kept.got_b at_b at_a;
+      at_a = order_of world.a.end world.b.end (set_ups_of bench.a.program)
+          (set_ups_of bench.b.program) kept.got_a at_a at_b;
+      at_b = order_of world.b.end world.a.end (set_ups_of bench.b.program)
+          (set_ups_of bench.a.program) kept.got_b at_b at_a;
     })

@@ -48,7 +48,8 @@ call_size B = refl
 pub registers_written : (end : End) → IsWritten (request register_kind (call_field (call_at end)) no_call [])
 registers_written end = record { from = call_size end; to = refl; body = omega arith }
 
-pub between_written : (kind : ℕ) (end : End) (body : List ℕ) → length body ≤ most_octets → IsWritten (request_between kind end body)
+pub between_written : (kind : ℕ) (end : End) (body : List ℕ) → length body ≤ most_octets
+    → IsWritten (request_between kind end body)
 between_written kind end body short = record { from = call_size end; to = call_size (other end); body = omega arith }
 
 -- ---- the connections after a step
@@ -71,7 +72,8 @@ program_joins = record {
 
 said_hosts :
     (message : AgwMessage) (before after : Turn) → IsWritten message → HasHosts before.now
-    → ((t : Turn) → IsAnswered program_id message t after → SameHosts t after) → IsSaid message before after → HasHosts after.now
+    → ((t : Turn) → IsAnswered program_id message t after → SameHosts t after) → IsSaid message before after
+    → HasHosts after.now
 said_hosts message before after written h keeps (unheard same) = subst (λ (t : Turn). HasHosts t.now) (sym same) h
 said_hosts message before after written h keeps (said answered) =
     let took = taking program_id (spelling message) before in
@@ -84,7 +86,8 @@ set_hosts before after h (full same) =
     subst (λ (t : Turn). HasHosts t.now) (sym same) (record { connections = took.connections; digi = took.digi })
 
 pub hosts_after :
-    (end : End) (usual : Usual) (s : StationState) (after : Turn) → Occurs end usual → IsTurn (input_of end usual) (begin s) after
+    (end : End) (usual : Usual) (s : StationState) (after : Turn) → Occurs end usual
+    → IsTurn (input_of end usual) (begin s) after
     → HasHosts s → HasHosts after.now
 hosts_after end joins_kiss s after occurs turn h =
     subst (λ (t : Turn). HasHosts t.now) (sym turn) (joins_hosts kiss_id Kiss s kiss_joins h)
@@ -124,27 +127,34 @@ hosts_after end (ticks busy) s after occurs turn h =
 -- ---- the host program of B asks nothing
 
 message_asks :
-    (message : AgwMessage) (c : Connection) (kind : PortKind) → IsWritten message → AsksNothing message → (kind ≡ Agw → IsWhole c.stream)
+    (message : AgwMessage) (c : Connection) (kind : PortKind) → IsWritten message → AsksNothing message
+    → (kind ≡ Agw → IsWhole c.stream)
     → OctetsAskBy kind c (spelling message)
 message_asks message c Kiss written asks whole = tt
 message_asks message c Agw written asks whole =
-    let h = whole refl in
-    (subst (All AsksNothing) (sym (one_new c.stream message written h)) (All-from_recursion AsksNothing (message ∷ []) (asks, tt)), none_bad c.stream message written h)
+    let h = whole refl in (
+      subst (All AsksNothing) (sym (one_new c.stream message written h))
+          (All-from_recursion AsksNothing (message ∷ []) (asks, tt)),
+      none_bad c.stream message written h,
+    )
 
 said_asks :
     (message : AgwMessage) (s : StationState) → IsWritten message → AsksNothing message → HasHosts s
     → OctetsAskNothing (connection_of program_id s.connections) (spelling message)
 said_asks message s written asks h = go (connection_of program_id s.connections) refl
   where
-    go : (place : Option Connection) → connection_of program_id s.connections ≡ place → OctetsAskNothing place (spelling message)
+    go : (place : Option Connection) → connection_of program_id s.connections ≡ place
+        → OctetsAskNothing place (spelling message)
     go None is = tt
     go (Some c) is =
         message_asks message c c.kind written asks (found IsHosts program_id s.connections c h.connections is).0.whole
 
-duplex_asks : (s : StationState) → HasHosts s → OctetsAskNothing (connection_of kiss_id s.connections) full_duplex_octets
+duplex_asks : (s : StationState) → HasHosts s
+    → OctetsAskNothing (connection_of kiss_id s.connections) full_duplex_octets
 duplex_asks s h = go (connection_of kiss_id s.connections) refl
   where
-    go : (place : Option Connection) → connection_of kiss_id s.connections ≡ place → OctetsAskNothing place full_duplex_octets
+    go : (place : Option Connection) → connection_of kiss_id s.connections ≡ place
+        → OctetsAskNothing place full_duplex_octets
     go None is = tt
     go (Some c) is =
         let at = found IsHosts kiss_id s.connections c h.connections is in
@@ -155,10 +165,12 @@ b_asks joins_kiss s occurs h = tt
 b_asks sets_full s occurs h = duplex_asks s h
 b_asks joins_program s occurs h = tt
 b_asks registers s occurs h =
-    said_asks (request register_kind (call_field (call_at B)) no_call []) s (registers_written B) (record { no_call = refl; no_end = refl }) h
+    said_asks (request register_kind (call_field (call_at B)) no_call []) s (registers_written B)
+    (record { no_call = refl; no_end = refl }) h
 b_asks connects s occurs h = absurd occurs
 b_asks (gives piece) s occurs h =
-    said_asks (request_between data_kind B piece) s (between_written data_kind B piece occurs) (record { no_call = refl; no_end = refl }) h
+    said_asks (request_between data_kind B piece) s (between_written data_kind B piece occurs)
+    (record { no_call = refl; no_end = refl }) h
 b_asks disconnects s occurs h = absurd occurs
 b_asks (hears octets) s occurs h = tt
 b_asks (ticks busy) s occurs h = tt
@@ -166,7 +178,8 @@ b_asks (ticks busy) s occurs h = tt
 -- ---- a run
 
 asks_more :
-    (steps : List Step) (step : Step) → BAsksNothing steps → (step.station ≡ B → InputAsksNothing step.input step.before)
+    (steps : List Step) (step : Step) → BAsksNothing steps
+    → (step.station ≡ B → InputAsksNothing step.input step.before)
     → BAsksNothing (steps ++ step ∷ [])
 asks_more [] step h next = (next, tt)
 asks_more (first ∷ steps) step h next = (h.0, asks_more steps step h.1 next)
@@ -176,7 +189,8 @@ pub record AskLittle (moments : List Moment) (s : Stations) : Type 0 where
   pub a : HasHosts s.a
   pub b : HasHosts s.b
 
-hosts_with : (end : End) (state : StationState) (moments : List Moment) (s : Stations) → BAsksNothing (steps_in moments) → HasHosts state
+hosts_with : (end : End) (state : StationState) (moments : List Moment) (s : Stations)
+    → BAsksNothing (steps_in moments) → HasHosts state
     → HasHosts s.a → HasHosts s.b → AskLittle moments (with_state end state s)
 hosts_with A state moments s asks h a b = record { asks = asks; a = h; b = b }
 hosts_with B state moments s asks h a b = record { asks = asks; a = a; b = h }
@@ -185,13 +199,15 @@ pub hosts_at : (end : End) (s : Stations) → HasHosts s.a → HasHosts s.b → 
 hosts_at A s a b = a
 hosts_at B s a b = b
 
-at_b : (end : End) (usual : Usual) (s : StationState) → Occurs end usual → HasHosts s → end ≡ B → InputAsksNothing (input_of end usual) s
+at_b : (end : End) (usual : Usual) (s : StationState) → Occurs end usual → HasHosts s → end ≡ B
+    → InputAsksNothing (input_of end usual) s
 at_b A usual s occurs h same = absurd (cc)
 at_b B usual s occurs h same = b_asks usual s occurs h
 
 step_asks :
     (end : End) (usual : Usual) (matched : Option ℕ) (before after : Near) (s : Stations) → Occurs end usual
-    → IsStep end (input_of end usual) matched before after → before.side.station ≡ state_of end s → AskLittle before.common.moments s
+    → IsStep end (input_of end usual) matched before after → before.side.station ≡ state_of end s
+    → AskLittle before.common.moments s
     → AskLittle after.common.moments (with_state end after.side.station s)
 step_asks end usual matched before after s occurs h at little =
     let step : Step = record {
@@ -202,19 +218,27 @@ step_asks end usual matched before after s occurs h at little =
       turn = h.makes;
       octets = h.octets;
     } in
-    let moments_are : after.common.moments ≡ before.common.moments ++ Steps step matched ∷ [] = ap (λ (n : Near). n.common.moments) h.is in
+    let moments_are : after.common.moments ≡ before.common.moments ++ Steps step matched ∷ [] = ap
+    (λ (n : Near). n.common.moments) h.is in
     let station_is : after.side.station ≡ h.turn.now =
     ap (λ (n : Near). n.side.station) h.is ∙ told_station h.turn.out.pieces _ in
     let has = subst HasHosts (sym at) (hosts_at end s little.a little.b) in
-    let asks = asks_more (steps_in before.common.moments) step little.asks (at_b end usual before.side.station occurs has) in
+    let asks = asks_more (steps_in before.common.moments) step little.asks
+    (at_b end usual before.side.station occurs has) in
     hosts_with end after.side.station after.common.moments s
     (subst BAsksNothing (sym (ap steps_in moments_are ∙ steps_more before.common.moments step matched)) asks)
-    (subst HasHosts (sym station_is) (hosts_after end usual before.side.station h.turn occurs h.makes has)) little.a little.b
+    (subst HasHosts (sym station_is)
+    (hosts_after end usual before.side.station h.turn occurs h.makes has)) little.a little.b
 
 pub asks_kept : (w : BenchWords) → KeptByCore w AskLittle
 asks_kept w = record {
   new = record { asks = tt; a = record { connections = tt; digi = refl }; b = record { connections = tt; digi = refl } };
   steps = λ end usual matched before after s occurs h calm at little. step_asks end usual matched before after s occurs h at little;
   passes = λ sender below moments s little.
-      record { asks = subst BAsksNothing (sym (steps_passed moments sender below)) little.asks; a = little.a; b = little.b };
+      record {
+        asks = subst BAsksNothing
+            (sym (steps_passed moments sender below)) little.asks;
+        a = little.a;
+        b = little.b;
+      };
 }

@@ -15,13 +15,16 @@ abbrev pub IsCalm : BenchState → Type 0
 IsCalm bench = bench.common.trouble ≡ None
 
 -- once something has ended it, nothing more comes to pass
-ended : (w : BenchWords) (parts : List Part) (trouble : Trouble) (before after : BenchState) → before.common.trouble ≡ Some trouble → ArePartsMade w parts before after → after ≡ before
+ended : (w : BenchWords) (parts : List Part) (trouble : Trouble) (before after : BenchState)
+    → before.common.trouble ≡ Some trouble → ArePartsMade w parts before after → after ≡ before
 ended w [] trouble before after is made = made
 ended w (part ∷ parts) trouble before after is made =
-    subst (λ t. GoesOn t ((between : BenchState) × IsPart w part before between × ArePartsMade w parts between after) (after ≡ before)) is made
+    subst (λ t. GoesOn t ((between : BenchState) × IsPart w part before between × ArePartsMade w parts between after)
+    (after ≡ before)) is made
 
 -- so a run that is calm now was calm before
-pub was_calm : (w : BenchWords) (parts : List Part) (before after : BenchState) → ArePartsMade w parts before after → IsCalm after → IsCalm before
+pub was_calm : (w : BenchWords) (parts : List Part) (before after : BenchState) → ArePartsMade w parts before after
+    → IsCalm after → IsCalm before
 was_calm w parts before after made calm = go before.common.trouble refl
   where
     go : (t : Option Trouble) → before.common.trouble ≡ t → t ≡ None
@@ -37,20 +40,24 @@ pub record Parted (w : BenchWords) (part : Part) (parts : List Part) (before aft
   pub rest : ArePartsMade w parts between after
 
 pub parted :
-    (w : BenchWords) (part : Part) (parts : List Part) (before after : BenchState) → ArePartsMade w (part ∷ parts) before after
+    (w : BenchWords) (part : Part) (parts : List Part) (before after : BenchState)
+    → ArePartsMade w (part ∷ parts) before after
     → IsCalm after → Parted w part parts before after
 parted w part parts before after made calm =
     let on : (between : BenchState) × IsPart w part before between × ArePartsMade w parts between after =
-    subst (λ t. GoesOn t ((between : BenchState) × IsPart w part before between × ArePartsMade w parts between after) (after ≡ before))
+    subst (λ t. GoesOn t ((between : BenchState) × IsPart w part before between × ArePartsMade w parts between after)
+    (after ≡ before))
     (was_calm w (part ∷ parts) before after made calm) made in
     record { between = on.0; first = on.1; calm = was_calm w parts on.0 after on.2 calm; rest = on.2 }
 
 -- a part keeps what holds
 abbrev pub KeptBy : BenchWords → (BenchState → Type 0) → Part → Type 0
-KeptBy w holds part = (before after : BenchState) → IsPart w part before after → IsCalm after → holds before → holds after
+KeptBy w holds part = (before after : BenchState) → IsPart w part before after → IsCalm after → holds before
+    → holds after
 
 pub parts_keep :
-    (w : BenchWords) (holds : BenchState → Type 0) (parts : List Part) → Each (KeptBy w holds) parts → (before after : BenchState)
+    (w : BenchWords) (holds : BenchState → Type 0) (parts : List Part) → Each (KeptBy w holds) parts
+    → (before after : BenchState)
     → ArePartsMade w parts before after → IsCalm after → holds before → holds after
 parts_keep w holds [] keep before after made calm is = subst holds (sym made) is
 parts_keep w holds (part ∷ parts) keep before after made calm is =
@@ -63,7 +70,8 @@ pub record KeptInTicks (w : BenchWords) (holds : BenchState → Type 0) : Type 0
   pub begins : Each (KeptBy w holds) (beginning w)
   pub ticks : Each (KeptBy w holds) each_tick
 
-tick_keeps : (w : BenchWords) (holds : BenchState → Type 0) → KeptInTicks w holds → (tick : ℕ) → Each (KeptBy w holds) (parts_of w tick)
+tick_keeps : (w : BenchWords) (holds : BenchState → Type 0) → KeptInTicks w holds → (tick : ℕ)
+    → Each (KeptBy w holds) (parts_of w tick)
 tick_keeps w holds keep tick = go (tick == 0)
   where
     go : (b : Bool) → Each (KeptBy w holds) (cond b (beginning w ++ each_tick) each_tick)
@@ -85,7 +93,8 @@ pub record KeptByAll (w : BenchWords) (holds : BenchState → Type 0) : Type 0 w
   pub new : holds (new_bench w)
   pub keeps : (part : Part) → KeptBy w holds part
 
-each_kept : (w : BenchWords) (holds : BenchState → Type 0) → ((part : Part) → KeptBy w holds part) → (parts : List Part) → Each (KeptBy w holds) parts
+each_kept : (w : BenchWords) (holds : BenchState → Type 0) → ((part : Part) → KeptBy w holds part)
+    → (parts : List Part) → Each (KeptBy w holds) parts
 each_kept w holds keep [] = tt
 each_kept w holds keep (part ∷ parts) = (keep part, each_kept w holds keep parts)
 

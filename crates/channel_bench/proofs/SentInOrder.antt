@@ -48,7 +48,8 @@ record Fed (before after : Turn) : Type 0 where
   air : after.now.channel.air ≡ before.now.channel.air
 
 fed_none :
-    (before after : Turn) → after.out.queued ≡ before.out.queued → after.now.channel.waiting ≡ before.now.channel.waiting
+    (before after : Turn) → after.out.queued ≡ before.out.queued
+    → after.now.channel.waiting ≡ before.now.channel.waiting
     → after.now.channel.air ≡ before.now.channel.air → Fed before after
 fed_none before after queued waits air = record {
   more = [];
@@ -88,20 +89,23 @@ record StepOrder (s : StationState) (sent : List (List ℕ)) (after : Turn) : Ty
   order : map octets_of s.channel.waiting ++ after.out.queued ≡ sent ++ map octets_of after.now.channel.waiting
   fits : Fits after.now.channel.air after.now.channel.waiting
 
-fed_order : (s : StationState) (after : Turn) → Fed (begin s) after → Fits s.channel.air s.channel.waiting → StepOrder s [] after
+fed_order : (s : StationState) (after : Turn) → Fed (begin s) after → Fits s.channel.air s.channel.waiting
+    → StepOrder s [] after
 fed_order s after h fits = record {
   order = ap (λ xs. map octets_of s.channel.waiting ++ xs) h.queued ∙ sym h.waits;
   fits = subst (λ air. Fits air after.now.channel.waiting) (sym h.air)
       (fits_more s.channel.air s.channel.waiting after.now.channel.waiting h.more h.waits fits);
 }
 
-clock_order : (busy : Bool) (s : StationState) (after : Turn) → IsTurn (OfClock busy) (begin s) after → Fits s.channel.air s.channel.waiting
+clock_order : (busy : Bool) (s : StationState) (after : Turn) → IsTurn (OfClock busy) (begin s) after
+    → Fits s.channel.air s.channel.waiting
     → StepOrder s (sent_octets (air_of busy s).sent) after
 clock_order busy s after turn fits =
     let ticked = ticking_links (begin s) in
     let links = fed_order s ticked (ticks_kept Fed fed (begin s)) fits in
     let sends = tick_sends busy ticked.now.channel links.fits in
-    subst (StepOrder s (sent_octets (air_of busy s).sent)) (sym turn) (record { order = links.order ∙ sends.order; fits = sends.fits })
+    subst (StepOrder s (sent_octets (air_of busy s).sent)) (sym turn)
+    (record { order = links.order ∙ sends.order; fits = sends.fits })
 
 -- what a tick sends
 pub record ClockSends (busy : Bool) (s : StationState) : Type 0 where
@@ -127,7 +131,8 @@ joining_fed id kind s = go (nat_lt (length s.connections) most_connections)
 said_fed :
     (message : AgwMessage) (before after : Turn) → ((t : Turn) → IsAnswered program_id message t after → Fed t after)
     → IsSaid message before after → Fed before after
-said_fed message before after keeps (unheard same) = subst (Fed before) (sym same) (fed_none before before refl refl refl)
+said_fed message before after keeps (unheard same) = subst (Fed before) (sym same)
+    (fed_none before before refl refl refl)
 said_fed message before after keeps (said answered) =
     let took = taking program_id (spelling message) before in
     fed_on before took after (fed_none before took refl refl refl) (keeps took answered)
@@ -143,33 +148,41 @@ sent_in_step (OffAir octets) s = []
 sent_in_step (OfClock busy) s = sent_octets (air_of busy s).sent
 
 order_after :
-    (end : End) (usual : Usual) (s : StationState) (after : Turn) → Occurs end usual → IsTurn (input_of end usual) (begin s) after
+    (end : End) (usual : Usual) (s : StationState) (after : Turn) → Occurs end usual
+    → IsTurn (input_of end usual) (begin s) after
     → HasHosts s → Fits s.channel.air s.channel.waiting → StepOrder s (sent_in_step (input_of end usual) s) after
-order_after end joins_kiss s after occurs turn h fits = fed_order s after (subst (Fed (begin s)) (sym turn) (joining_fed kiss_id Kiss s)) fits
-order_after end sets_full s after occurs turn h fits = fed_order s after (set_fed (begin s) after (set_by (begin s) after h turn)) fits
+order_after end joins_kiss s after occurs turn h fits = fed_order s after
+    (subst (Fed (begin s)) (sym turn) (joining_fed kiss_id Kiss s)) fits
+order_after end sets_full s after occurs turn h fits = fed_order s after
+    (set_fed (begin s) after (set_by (begin s) after h turn)) fits
 order_after end joins_program s after occurs turn h fits =
     fed_order s after (subst (Fed (begin s)) (sym turn) (joining_fed program_id Agw s)) fits
 order_after end registers s after occurs turn h fits =
     let from = call_field (call_at end) in
     let message = request register_kind from no_call [] in
-    fed_order s after (said_fed message (begin s) after (λ t answered. register_kept Fed fed program_id from no_call [] t after answered)
+    fed_order s after (said_fed message (begin s) after
+    (λ t answered. register_kept Fed fed program_id from no_call [] t after answered)
     (said_by message (begin s) after (registers_written end) h turn)) fits
 order_after end connects s after occurs turn h fits =
     let message = request_between connect_kind end [] in
     fed_order s after
-    (said_fed message (begin s) after (λ t answered. connect_kept Fed fed program_id message.from message.to [] t after answered)
+    (said_fed message (begin s) after
+    (λ t answered. connect_kept Fed fed program_id message.from message.to [] t after answered)
     (said_by message (begin s) after (between_written connect_kind end [] (omega arith)) h turn)) fits
 order_after end (gives piece) s after occurs turn h fits =
     let message = request_between data_kind end piece in
     fed_order s after
-    (said_fed message (begin s) after (λ t answered. data_kept Fed fed program_id message.from message.to piece t after answered)
+    (said_fed message (begin s) after
+    (λ t answered. data_kept Fed fed program_id message.from message.to piece t after answered)
     (said_by message (begin s) after (between_written data_kind end piece occurs) h turn)) fits
 order_after end disconnects s after occurs turn h fits =
     let message = request_between disconnect_kind end [] in
     fed_order s after
-    (said_fed message (begin s) after (λ t answered. disconnect_kept Fed fed program_id message.from message.to [] t after answered)
+    (said_fed message (begin s) after
+    (λ t answered. disconnect_kept Fed fed program_id message.from message.to [] t after answered)
     (said_by message (begin s) after (between_written disconnect_kind end [] (omega arith)) h turn)) fits
-order_after end (hears octets) s after occurs turn h fits = fed_order s after (heard_kept Fed fed octets (begin s) after h.digi turn) fits
+order_after end (hears octets) s after occurs turn h fits = fed_order s after
+    (heard_kept Fed fed octets (begin s) after h.digi turn) fits
 order_after end (ticks busy) s after occurs turn h fits = clock_order busy s after turn fits
 
 -- ---- a run
@@ -181,7 +194,8 @@ sent_at end (step ∷ steps) = at_end end step.station (sent_in_step step.input 
 
 pub sent_more :
     (end : End) (steps : List Step) (step : Step)
-    → sent_at end (steps ++ step ∷ []) ≡ sent_at end steps ++ at_end end step.station (sent_in_step step.input step.before)
+    → sent_at end (steps ++ step ∷ []) ≡ sent_at end steps ++ at_end end step.station
+    (sent_in_step step.input step.before)
 sent_more end [] step = append-nil _
 sent_more end (first ∷ steps) step =
     ap (λ xs. at_end end first.station (sent_in_step first.input first.before) ++ xs) (sent_more end steps step)
@@ -201,7 +215,8 @@ pub record InOrder (end : End) (steps : List Step) (s : StationState) : Type 0 w
   pub fits : Fits s.channel.air s.channel.waiting
 
 own_order :
-    (end : End) (steps : List Step) (step : Step) → at_end end step.station step.after.out.queued ≡ step.after.out.queued
+    (end : End) (steps : List Step) (step : Step)
+    → at_end end step.station step.after.out.queued ≡ step.after.out.queued
     → at_end end step.station (sent_in_step step.input step.before) ≡ sent_in_step step.input step.before
     → InOrder end steps step.before → StepOrder step.before (sent_in_step step.input step.before) step.after
     → InOrder end (steps ++ step ∷ []) step.after.now
@@ -211,17 +226,21 @@ own_order end steps step queued sent h one =
     let sending = sent_in_step step.input step.before in
     record {
       order = queued_more end steps step ∙ ap (λ xs. queued_at end steps ++ xs) queued
-          ∙ ap (λ xs. xs ++ step.after.out.queued) h.order ∙ append_assoc (sent_at end steps) before step.after.out.queued
+          ∙ ap (λ xs. xs ++ step.after.out.queued) h.order
+          ∙ append_assoc (sent_at end steps) before step.after.out.queued
           ∙ ap (λ xs. sent_at end steps ++ xs) one.order ∙ sym (append_assoc (sent_at end steps) sending after)
           ∙ ap (λ xs. xs ++ after) (sym (sent_more end steps step ∙ ap (λ xs. sent_at end steps ++ xs) sent));
       fits = one.fits;
     }
 
 other_order :
-    (end : End) (steps : List Step) (step : Step) (s : StationState) → at_end end step.station step.after.out.queued ≡ []
-    → at_end end step.station (sent_in_step step.input step.before) ≡ [] → InOrder end steps s → InOrder end (steps ++ step ∷ []) s
+    (end : End) (steps : List Step) (step : Step) (s : StationState)
+    → at_end end step.station step.after.out.queued ≡ []
+    → at_end end step.station (sent_in_step step.input step.before) ≡ [] → InOrder end steps s
+    → InOrder end (steps ++ step ∷ []) s
 other_order end steps step s queued sent h = record {
-  order = queued_more end steps step ∙ ap (λ xs. queued_at end steps ++ xs) queued ∙ append-nil (queued_at end steps) ∙ h.order
+  order = queued_more end steps step ∙ ap (λ xs. queued_at end steps ++ xs) queued ∙ append-nil (queued_at end steps)
+      ∙ h.order
       ∙ ap (λ xs. xs ++ map octets_of s.channel.waiting)
       (sym (sent_more end steps step ∙ ap (λ xs. sent_at end steps ++ xs) sent ∙ append-nil (sent_at end steps)));
   fits = h.fits;
@@ -233,24 +252,36 @@ pub record SentInTurn (moments : List Moment) (s : Stations) : Type 0 where
   pub b : InOrder B (steps_in moments) s.b
 
 in_order_with :
-    (end : End) (steps : List Step) (input : Input) (before : StationState) (after : Turn) (turn : IsTurn input (begin before) after) (octets : _) (s : Stations)
-    → before ≡ state_of end s → InOrder A steps s.a → InOrder B steps s.b → StepOrder before (sent_in_step input before) after
+    (end : End) (steps : List Step) (input : Input) (before : StationState) (after : Turn)
+    (turn : IsTurn input (begin before) after) (octets : _) (s : Stations)
+    → before ≡ state_of end s → InOrder A steps s.a → InOrder B steps s.b
+    → StepOrder before (sent_in_step input before) after
     → let step : Step = record { station = end; input = input; before = before; after = after; turn = turn; octets = octets } in
-    InOrder A (steps ++ step ∷ []) (with_state end after.now s).a × InOrder B (steps ++ step ∷ []) (with_state end after.now s).b
+    InOrder A (steps ++ step ∷ []) (with_state end after.now s).a
+    × InOrder B (steps ++ step ∷ []) (with_state end after.now s).b
 in_order_with A steps input before after turn octets s at a b one =
-    let step : Step = record { station = A; input = input; before = before; after = after; turn = turn; octets = octets } in
-    (own_order A steps step refl refl (subst (InOrder A steps) (sym at) a) one, other_order B steps step s.b refl refl b)
+    let step : Step = record { station = A; input = input; before = before; after = after; turn = turn; octets = octets } in (
+      own_order A steps step refl refl (subst (InOrder A steps)
+          (sym at) a) one,
+      other_order B steps step s.b refl refl b,
+    )
 in_order_with B steps input before after turn octets s at a b one =
-    let step : Step = record { station = B; input = input; before = before; after = after; turn = turn; octets = octets } in
-    (other_order A steps step s.a refl refl a, own_order B steps step refl refl (subst (InOrder B steps) (sym at) b) one)
+    let step : Step = record { station = B; input = input; before = before; after = after; turn = turn; octets = octets } in (
+      other_order A steps step s.a refl refl a,
+      own_order B steps step refl refl
+          (subst (InOrder B steps) (sym at) b) one,
+    )
 
-pub fits_at : (end : End) (steps : List Step) (s : Stations) → InOrder A steps s.a → InOrder B steps s.b → Fits (state_of end s).channel.air (state_of end s).channel.waiting
+pub fits_at : (end : End) (steps : List Step) (s : Stations) → InOrder A steps s.a → InOrder B steps s.b
+    → Fits (state_of end s).channel.air (state_of end s).channel.waiting
 fits_at A steps s a b = a.fits
 fits_at B steps s a b = b.fits
 
 step_order :
-    (w : BenchWords) (end : End) (usual : Usual) (matched : Option ℕ) (before after : Near) (s : Stations) → Occurs end usual
-    → IsStep end (input_of end usual) matched before after → after.common.trouble ≡ None → before.side.station ≡ state_of end s
+    (w : BenchWords) (end : End) (usual : Usual) (matched : Option ℕ) (before after : Near) (s : Stations)
+    → Occurs end usual
+    → IsStep end (input_of end usual) matched before after → after.common.trouble ≡ None
+    → before.side.station ≡ state_of end s
     → SentInTurn before.common.moments s → SentInTurn after.common.moments (with_state end after.side.station s)
 step_order w end usual matched before after s occurs h calm at sent =
     let step : Step = record {
@@ -267,9 +298,11 @@ step_order w end usual matched before after s occurs h calm at sent =
     let station_is : after.side.station ≡ h.turn.now =
     ap (λ (n : Near). n.side.station) h.is ∙ told_station h.turn.out.pieces _ in
     let has = subst HasHosts (sym at) (hosts_at end s sent.little.a sent.little.b) in
-    let fits = subst (λ (x : StationState). Fits x.channel.air x.channel.waiting) (sym at) (fits_at end steps s sent.a sent.b) in
+    let fits = subst (λ (x : StationState). Fits x.channel.air x.channel.waiting) (sym at)
+    (fits_at end steps s sent.a sent.b) in
     let one = order_after end usual before.side.station h.turn occurs h.makes has fits in
-    let both = in_order_with end steps (input_of end usual) before.side.station h.turn h.makes h.octets s at sent.a sent.b one in
+    let both = in_order_with end steps
+    (input_of end usual) before.side.station h.turn h.makes h.octets s at sent.a sent.b one in
     record {
       little = (asks_kept w).steps end usual matched before after s occurs h calm at sent.little;
       a = subst (λ state. InOrder A (steps_in after.common.moments) (with_state end state s).a) (sym station_is)
@@ -280,7 +313,12 @@ step_order w end usual matched before after s occurs h calm at sent =
 
 pub order_kept : (w : BenchWords) → KeptByCore w SentInTurn
 order_kept w = record {
-  new = record { little = (asks_kept w).new; a = record { order = refl; fits = tt }; b = record { order = refl; fits = tt } };
+  new = record {
+    little =
+        (asks_kept w).new;
+    a = record { order = refl; fits = tt };
+    b = record { order = refl; fits = tt };
+  };
   steps = step_order w;
   passes = λ sender below moments s sent.
       let same = steps_passed moments sender below in

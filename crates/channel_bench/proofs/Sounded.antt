@@ -57,7 +57,8 @@ noise_long noise samples draws = go (noise == 0)
     go true = refl
     go false = words_long noise samples draws
 
-reaching_long : (full : Bool) (sender hearer : SideState) → length sender.air.samples ≡ 96 → length (reaching full sender hearer) ≡ 96
+reaching_long : (full : Bool) (sender hearer : SideState) → length sender.air.samples ≡ 96
+    → length (reaching full sender hearer) ≡ 96
 unfolding reaching
 reaching_long full sender hearer long = go (sender.silenced || (not full && sends hearer.air))
   where
@@ -81,7 +82,8 @@ pub record Sounded (before after : BenchState) : Type 0 where
   pub draws : Lcg
   pub transmissions : ℕ
   pub lost : ℕ
-  pub long : length before.a.air.samples ≡ 96 → length before.b.air.samples ≡ 96 → (length to_a ≡ 96) × (length to_b ≡ 96)
+  pub long : length before.a.air.samples ≡ 96 → length before.b.air.samples ≡ 96 → (length to_a ≡ 96)
+      × (length to_b ≡ 96)
   pub is : after ≡ heard_as silenced_a silenced_b to_a to_b draws transmissions lost before
 
 pub sounded : (w : BenchWords) (bench : BenchState) → Sounded bench (sounding w bench)
@@ -104,14 +106,15 @@ sounded w bench =
       transmissions = after.common.transmissions;
       lost = after.common.lost;
       long = λ long_a long_b. (
-          noise_long w.noise _ _ ∙ reaching_long w.full last.b last.a long_b,
-          noise_long w.noise _ _ ∙ reaching_long w.full last.a last.b long_a,
+        noise_long w.noise _ _ ∙ reaching_long w.full last.b last.a long_b,
+        noise_long w.noise _ _ ∙ reaching_long w.full last.a last.b long_a,
       );
       is = ap (carried w) is;
     }
   where
     sounds_of_a : BenchState → List ℤ
-    sounds_of_a last = with_noise w.noise (reaching w.full last.b last.a) (after_noise w.noise (reaching w.full last.a last.b) last.common.draws)
+    sounds_of_a last = with_noise w.noise (reaching w.full last.b last.a)
+        (after_noise w.noise (reaching w.full last.a last.b) last.common.draws)
 
     sounds_of_b : BenchState → List ℤ
     sounds_of_b last = with_noise w.noise (reaching w.full last.a last.b) last.common.draws

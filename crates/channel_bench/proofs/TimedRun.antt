@@ -45,18 +45,21 @@ AtRest bench = AtBench 0 None None bench
 -- ---- hosts
 
 tells_kept :
-    (w : BenchWords) (end : End) (event : HostEvent) (before after : BenchState) → IsToldUsual end event → AtEnd end (IsTold end event) before after
+    (w : BenchWords) (end : End) (event : HostEvent) (before after : BenchState) → IsToldUsual end event
+    → AtEnd end (IsTold end event) before after
     → IsCalm after → AtRest before → AtRest after
 tells_kept w end event before after usual h calm holds =
     part_at end 0 None None (IsTold end event) before after
     (λ own far_pending size n next far s part samples c at.
     near_told w end before.ticks size far far_pending own part.may event n next s usual part.told c at) h calm holds
 
-gives_kept : (w : BenchWords) (end : End) (before after : BenchState) → AtEnd end (IsGiven w end) before after → IsCalm after → AtRest before → AtRest after
+gives_kept : (w : BenchWords) (end : End) (before after : BenchState) → AtEnd end (IsGiven w end) before after
+    → IsCalm after → AtRest before → AtRest after
 gives_kept w end before after h calm holds =
     part_at end 0 None None (IsGiven w end) before after
     (λ own far_pending size n next far s part samples c at.
-    near_given w end before.ticks size far far_pending own part.accepts (next_piece (text_at w end) n.side.program.running) n next s
+    near_given w end before.ticks size far far_pending own part.accepts
+    (next_piece (text_at w end) n.side.program.running) n next s
     (λ octets is. piece_short (text_at w end) n.side.program.running octets is) part.given c at) h calm holds
 
 asking_rest : (before : BenchState) → AtRest before → AtRest (with_asking before)
@@ -77,7 +80,8 @@ calling_rest before h = record {
 
 asked_kept :
     (w : BenchWords) (complete : Bool) (before after : BenchState)
-    → MatchBool complete (IsAsked before after) (MatchBool before.a.program.calls (IsCalled before after) (after ≡ before)) → IsCalm after
+    → MatchBool complete (IsAsked before after) (MatchBool before.a.program.calls (IsCalled before after)
+    (after ≡ before)) → IsCalm after
     → AtRest before → AtRest after
 asked_kept w true before after h calm holds =
     part_at A 0 None None _ (with_asking before) after
@@ -92,10 +96,12 @@ asked_kept w false before after h calm holds = go before.a.program.calls h
         is calm (calling_rest before holds)
     go false is = subst AtRest (sym is) holds
 
-asks_kept_here : (w : BenchWords) (before after : BenchState) → IsAskedOrCalled w before after → IsCalm after → AtRest before → AtRest after
+asks_kept_here : (w : BenchWords) (before after : BenchState) → IsAskedOrCalled w before after → IsCalm after
+    → AtRest before → AtRest after
 asks_kept_here w before after h calm holds = go h.accepts h.sent
   where
-    go : (b : Bool) → MatchBool b (MatchBool (is_complete w before) (IsAsked before after) (MatchBool before.a.program.calls (IsCalled before after) (after ≡ before))) (after ≡ before)
+    go : (b : Bool) → MatchBool b (MatchBool (is_complete w before) (IsAsked before after)
+        (MatchBool before.a.program.calls (IsCalled before after) (after ≡ before))) (after ≡ before)
         → AtRest after
     go true is = asked_kept w (is_complete w before) before after is calm holds
     go false is = subst AtRest (sym is) holds
@@ -106,14 +112,18 @@ record Ticked (pending_b : Option Sent) (after : BenchState) : Type 0 where
   holds : AtBench 0 after.a.air.sent pending_b after
   long : length after.a.air.samples ≡ 96
 
-a_ticks : (w : BenchWords) (before after : BenchState) → AtEnd A (IsTicking A) before after → IsCalm after → AtRest before → Ticked None after
+a_ticks : (w : BenchWords) (before after : BenchState) → AtEnd A (IsTicking A) before after → IsCalm after
+    → AtRest before → Ticked None after
 a_ticks w before after h calm holds =
     let part = h.step in
-    let c : part.next.common.trouble ≡ None = sym (ap (λ (n : Near). n.common.trouble) part.is) ∙ sym (ap (λ (b : BenchState). b.common.trouble) h.is) ∙ calm in
-    let ticked_near = near_clock w A before.ticks (96 * before.ticks + 0) before.b None part.busy (near A before) part.next (stations_of before) part.step c
-        (near_a 0 None None before holds) in
+    let c : part.next.common.trouble ≡ None = sym (ap (λ (n : Near). n.common.trouble) part.is)
+    ∙ sym (ap (λ (b : BenchState). b.common.trouble) h.is) ∙ calm in
+    let ticked_near = near_clock w A before.ticks (96 * before.ticks + 0) before.b None part.busy
+    (near A before) part.next (stations_of before) part.step c
+    (near_a 0 None None before holds) in
     let next : Near = record part.next { side = record part.next.side { air = air_of part.busy before.a.station } } in
-    let then : HoldsThen A next.side.air.sent None before.ticks (96 * before.ticks + 0) next before.b (stations_of before) = record {
+    let then : HoldsThen A next.side.air.sent None before.ticks (96 * before.ticks + 0) next before.b
+    (stations_of before) = record {
       both = record { here = ticked_near.0.both.here; there = ticked_near.0.both.there; matched = ticked_near.0.both.matched };
       turn = ticked_near.0.turn;
       at = ticked_near.0.at;
@@ -130,15 +140,19 @@ record BothTicked (after : BenchState) : Type 0 where
   long_a : length after.a.air.samples ≡ 96
   long_b : length after.b.air.samples ≡ 96
 
-b_ticks : (w : BenchWords) (before after : BenchState) → AtEnd B (IsTicking B) before after → IsCalm after → Ticked None before → BothTicked after
+b_ticks : (w : BenchWords) (before after : BenchState) → AtEnd B (IsTicking B) before after → IsCalm after
+    → Ticked None before → BothTicked after
 b_ticks w before after h calm ticked_a =
     let part = h.step in
     let pending = before.a.air.sent in
-    let c : part.next.common.trouble ≡ None = sym (ap (λ (n : Near). n.common.trouble) part.is) ∙ sym (ap (λ (b : BenchState). b.common.trouble) h.is) ∙ calm in
-    let ticked_near = near_clock w B before.ticks (96 * before.ticks + 0) before.a pending part.busy (near B before) part.next (stations_of before) part.step c
-        (near_b 0 pending None before ticked_a.holds) in
+    let c : part.next.common.trouble ≡ None = sym (ap (λ (n : Near). n.common.trouble) part.is)
+    ∙ sym (ap (λ (b : BenchState). b.common.trouble) h.is) ∙ calm in
+    let ticked_near = near_clock w B before.ticks (96 * before.ticks + 0) before.a pending part.busy
+    (near B before) part.next (stations_of before) part.step c
+    (near_b 0 pending None before ticked_a.holds) in
     let next : Near = record part.next { side = record part.next.side { air = air_of part.busy before.b.station } } in
-    let then : HoldsThen B next.side.air.sent pending before.ticks (96 * before.ticks + 0) next before.a (stations_of before) = record {
+    let then : HoldsThen B next.side.air.sent pending before.ticks (96 * before.ticks + 0) next before.a
+    (stations_of before) = record {
       both = record { here = ticked_near.0.both.here; there = ticked_near.0.both.there; matched = ticked_near.0.both.matched };
       turn = ticked_near.0.turn;
       at = ticked_near.0.at;
@@ -166,10 +180,14 @@ sounds_kept w before h =
     let now_b : length before.b.samples ≡ 96 * before.ticks = let is = rest.size_b in omega (arith, is) in
     subst (AtBench 96 None None) (sym s.is) (record {
       both = record {
-        here = way_sounded before.b.air.sent _ _ before.ticks before.a.towards before.a.matched (length before.a.samples)
-            (sent_in before.ticks before.b.air.sent) (length (before.a.samples ++ s.to_a)) now_a more_a refl rest.both.here;
-        there = way_sounded before.a.air.sent _ _ before.ticks before.b.towards before.b.matched (length before.b.samples)
-            (sent_in before.ticks before.a.air.sent) (length (before.b.samples ++ s.to_b)) now_b more_b refl rest.both.there;
+        here = way_sounded before.b.air.sent _ _ before.ticks before.a.towards before.a.matched
+            (length before.a.samples)
+            (sent_in before.ticks before.b.air.sent)
+            (length (before.a.samples ++ s.to_a)) now_a more_a refl rest.both.here;
+        there = way_sounded before.a.air.sent _ _ before.ticks before.b.towards before.b.matched
+            (length before.b.samples)
+            (sent_in before.ticks before.a.air.sent)
+            (length (before.b.samples ++ s.to_b)) now_b more_b refl rest.both.there;
         matched = rest.both.matched;
       };
       turn = rest.turn;
@@ -188,14 +206,16 @@ late_items samples ticks items size ready =
     let test : Candidate → Bool = λ item. nat_le from item.end && nat_lt item.end to in
     subst (Each (λ (item : Candidate). 96 * ticks ≤ item.end + 7)) (sym ready.is)
     (each_weaker (λ item. test item ≡ true) (λ (item : Candidate). 96 * ticks ≤ item.end + 7)
-    (λ item passes. let above = leb-true from item.end (first (nat_le from item.end) (nat_lt item.end to) passes) in omega (arith, above, size))
+    (λ item passes. let above = leb-true from item.end
+    (first (nat_le from item.end) (nat_lt item.end to) passes) in omega (arith, above, size))
     (filter test (merged ready.candidates)) (each_passes test (merged ready.candidates)))
   where
     first : (a b : Bool) → (a && b) ≡ true → a ≡ true
     first true b is = refl
     first false b is = absurd (cc)
 
-size_at : (end : End) (bench : BenchState) → AtBench 96 None None bench → length (near end bench).side.samples ≡ 96 * bench.ticks + 96
+size_at : (end : End) (bench : BenchState) → AtBench 96 None None bench
+    → length (near end bench).side.samples ≡ 96 * bench.ticks + 96
 size_at A bench h = h.size_a
 size_at B bench h = h.size_b
 
@@ -206,7 +226,8 @@ listens_kept w end before after h calm holds =
     part_at end 96 None None (IsListening end) before after
     (λ own far_pending size n next far s part samples c at.
     near_heard w end before.ticks size far far_pending own part.items n next s
-    (late_items n.side.samples before.ticks part.items (ap length samples ∙ size_at end before holds) part.ready) part.heard c at) h calm holds
+    (late_items n.side.samples before.ticks part.items
+    (ap length samples ∙ size_at end before holds) part.ready) part.heard c at) h calm holds
 
 -- ---- the tick ends
 
@@ -224,7 +245,8 @@ closes_kept w before holds =
     let pass_b = Passes B below_a in
     let ways = ways_after moments in
     let both = holds.both in
-    let split : (moments ++ pass_a ∷ []) ++ pass_b ∷ [] ≡ moments ++ pass_a ∷ pass_b ∷ [] = append_assoc moments (pass_a ∷ []) (pass_b ∷ []) in
+    let split : (moments ++ pass_a ∷ []) ++ pass_b ∷ [] ≡ moments ++ pass_a ∷ pass_b ∷ [] = append_assoc moments
+    (pass_a ∷ []) (pass_b ∷ []) in
     let steps_are : steps_in (moments ++ pass_a ∷ pass_b ∷ []) ≡ steps_in moments =
     ap steps_in (sym split) ∙ steps_passed (moments ++ pass_a ∷ []) B below_a ∙ steps_passed moments A below_b in
     let ways_are : ways_after (moments ++ pass_a ∷ pass_b ∷ []) ≡ after_moment pass_b (after_moment pass_a ways) =
@@ -233,17 +255,25 @@ closes_kept w before holds =
     let within_a : IsMatchedIn pass_a ways = queued_below A moments s.a before.b.towards below_b holds.turn.a both.there (below_within before.b both.there) in
     let within_b : IsMatchedIn pass_b (after_moment pass_a ways) =
     queued_below B moments s.b before.a.towards below_a holds.turn.b both.here (below_within before.a both.here) in
-    let turn = (order_kept w).passes B below_a (moments ++ pass_a ∷ []) s ((order_kept w).passes A below_b moments s holds.turn) in
+    let turn = (order_kept w).passes B below_a (moments ++ pass_a ∷ []) s
+    ((order_kept w).passes A below_b moments s holds.turn) in
     record {
       both = record {
-        here = way_same None (before.ticks + 1) _ _ _ _ _ _ _ _ _ _ (ap (sent_at B) steps_are) (ap (λ (v : BothWays). v.from_b.front) ways_are) refl refl refl
-            (way_closed (sent_at B (steps_in moments)) ways.from_b.front (max ways.from_b.front below_a) before.ticks before.a.towards before.a.matched
-            (length before.a.samples) (holds.size_a ∙ ticks_more before.ticks ∙ zero_more (96 * (before.ticks + 1))) refl both.here);
-        there = way_same None (before.ticks + 1) _ _ _ _ _ _ _ _ _ _ (ap (sent_at A) steps_are) (ap (λ (v : BothWays). v.from_a.front) ways_are) refl refl refl
-            (way_closed (sent_at A (steps_in moments)) ways.from_a.front (max ways.from_a.front below_b) before.ticks before.b.towards before.b.matched
-            (length before.b.samples) (holds.size_b ∙ ticks_more before.ticks ∙ zero_more (96 * (before.ticks + 1))) refl both.there);
+        here = way_same None (before.ticks + 1) _ _ _ _ _ _ _ _ _ _ (ap (sent_at B) steps_are)
+            (ap (λ (v : BothWays). v.from_b.front) ways_are) refl refl refl
+            (way_closed (sent_at B (steps_in moments)) ways.from_b.front
+            (max ways.from_b.front below_a) before.ticks before.a.towards before.a.matched
+            (length before.a.samples) (holds.size_a ∙ ticks_more before.ticks
+            ∙ zero_more (96 * (before.ticks + 1))) refl both.here);
+        there = way_same None (before.ticks + 1) _ _ _ _ _ _ _ _ _ _ (ap (sent_at A) steps_are)
+            (ap (λ (v : BothWays). v.from_a.front) ways_are) refl refl refl
+            (way_closed (sent_at A (steps_in moments)) ways.from_a.front
+            (max ways.from_a.front below_b) before.ticks before.b.towards before.b.matched
+            (length before.b.samples) (holds.size_b ∙ ticks_more before.ticks
+            ∙ zero_more (96 * (before.ticks + 1))) refl both.there);
         matched = subst (λ ms. AreMatched ms nothing_sent) split
-            (matched_more (moments ++ pass_a ∷ []) pass_b nothing_sent (matched_more moments pass_a nothing_sent both.matched within_a)
+            (matched_more (moments ++ pass_a ∷ []) pass_b nothing_sent
+            (matched_more moments pass_a nothing_sent both.matched within_a)
             (subst (IsMatchedIn pass_b) (sym (moments_more moments pass_a nothing_sent)) within_b));
       };
       turn = subst (λ ms. SentInTurn ms s) split turn;
@@ -256,17 +286,20 @@ closes_kept w before holds =
 
     below_within :
         {pending : Option Sent} {sent : List (List ℕ)} {front count : ℕ} (side : SideState)
-        → WayHolds pending sent front count side.towards side.matched (length side.samples) → passed_below side ≤ length side.towards
+        → WayHolds pending sent front count side.towards side.matched (length side.samples)
+        → passed_below side ≤ length side.towards
     below_within side h = counted_within (length side.samples - 7) side.matched side.towards h.matched_within
 
     queued_below :
-        {front count matched samples : ℕ} (sender : End) (moments : List Moment) (state : StationState) (towards : List SentAt) (below : ℕ)
-        → InOrder sender (steps_in moments) state → WayHolds None (sent_at sender (steps_in moments)) front count towards matched samples
+        {front count matched samples : ℕ} (sender : End) (moments : List Moment) (state : StationState)
+        (towards : List SentAt) (below : ℕ)
+        → InOrder sender (steps_in moments) state
+        → WayHolds None (sent_at sender (steps_in moments)) front count towards matched samples
         → below ≤ length towards → below ≤ length (sent_by sender (ways_after moments)).queued
     queued_below sender moments state towards below order way within =
         let waiting = map octets_of state.channel.waiting in
         let size = sym (length-map (sent_by sender (ways_after moments)).queued (λ (f : LinkFrame). f.octets))
-            ∙ ap length (queued_is sender moments ∙ order.order ∙ ap (λ xs. xs ++ waiting) way.sent_is) in
+        ∙ ap length (queued_is sender moments ∙ order.order ∙ ap (λ xs. xs ++ waiting) way.sent_is) in
         let first = length-append (map octets_at towards ++ []) waiting in
         let second = length-append (map octets_at towards) (let none : List (List ℕ) = [] in none) in
         let third = length-map towards octets_at in
@@ -276,17 +309,23 @@ closes_kept w before holds =
 
 -- the parts of each tick
 abbrev Tail : BenchWords → BenchState → BenchState → Type 0
-Tail w = ArePartsMade w (Gives A ∷ AsksOrCalls ∷ Gives B ∷ Ticks A ∷ Ticks B ∷ Sounds ∷ Listens A ∷ Listens B ∷ Closes ∷ [])
+Tail w = ArePartsMade w
+    (Gives A ∷ AsksOrCalls ∷ Gives B ∷ Ticks A ∷ Ticks B ∷ Sounds ∷ Listens A ∷ Listens B ∷ Closes ∷ [])
 
-after_tells : (w : BenchWords) (before after : BenchState) → Tail w before after → IsCalm after → AtRest before → AtRest after
+after_tells : (w : BenchWords) (before after : BenchState) → Tail w before after → IsCalm after → AtRest before
+    → AtRest after
 after_tells w before after made calm holds =
-    let p1 = parted w (Gives A) (AsksOrCalls ∷ Gives B ∷ Ticks A ∷ Ticks B ∷ Sounds ∷ Listens A ∷ Listens B ∷ Closes ∷ []) before after made calm in
+    let p1 = parted w (Gives A)
+    (AsksOrCalls ∷ Gives B ∷ Ticks A ∷ Ticks B ∷ Sounds ∷ Listens A ∷ Listens B ∷ Closes ∷ []) before after made calm in
     let h1 = gives_kept w A before p1.between p1.first p1.calm holds in
-    let p2 = parted w AsksOrCalls (Gives B ∷ Ticks A ∷ Ticks B ∷ Sounds ∷ Listens A ∷ Listens B ∷ Closes ∷ []) p1.between after p1.rest calm in
+    let p2 = parted w AsksOrCalls
+    (Gives B ∷ Ticks A ∷ Ticks B ∷ Sounds ∷ Listens A ∷ Listens B ∷ Closes ∷ []) p1.between after p1.rest calm in
     let h2 = asks_kept_here w p1.between p2.between p2.first p2.calm h1 in
-    let p3 = parted w (Gives B) (Ticks A ∷ Ticks B ∷ Sounds ∷ Listens A ∷ Listens B ∷ Closes ∷ []) p2.between after p2.rest calm in
+    let p3 = parted w (Gives B)
+    (Ticks A ∷ Ticks B ∷ Sounds ∷ Listens A ∷ Listens B ∷ Closes ∷ []) p2.between after p2.rest calm in
     let h3 = gives_kept w B p2.between p3.between p3.first p3.calm h2 in
-    let p4 = parted w (Ticks A) (Ticks B ∷ Sounds ∷ Listens A ∷ Listens B ∷ Closes ∷ []) p3.between after p3.rest calm in
+    let p4 = parted w (Ticks A)
+    (Ticks B ∷ Sounds ∷ Listens A ∷ Listens B ∷ Closes ∷ []) p3.between after p3.rest calm in
     let h4 = a_ticks w p3.between p4.between p4.first p4.calm h3 in
     let p5 = parted w (Ticks B) (Sounds ∷ Listens A ∷ Listens B ∷ Closes ∷ []) p4.between after p4.rest calm in
     let h5 = b_ticks w p4.between p5.between p5.first p5.calm h4 in
@@ -310,7 +349,8 @@ IsTelling Sounds = ⊥
 IsTelling (Listens end) = ⊥
 IsTelling Closes = ⊥
 
-one_told : (w : BenchWords) (part : Part) (before after : BenchState) → IsTelling part → IsPart w part before after → IsCalm after → AtRest before → AtRest after
+one_told : (w : BenchWords) (part : Part) (before after : BenchState) → IsTelling part → IsPart w part before after
+    → IsCalm after → AtRest before → AtRest after
 one_told w (Tells end event) before after usual h calm holds = tells_kept w end event before after usual h calm holds
 one_told w (Gives end) before after usual h calm holds = absurd usual
 one_told w AsksOrCalls before after usual h calm holds = absurd usual
@@ -323,11 +363,13 @@ one_told w Closes before after usual h calm holds = absurd usual
 all_told :
     (w : BenchWords) (parts rest : List Part) → Each IsTelling parts
     → ((b : BenchState) (a : BenchState) → ArePartsMade w rest b a → IsCalm a → AtRest b → AtRest a)
-    → (before after : BenchState) → ArePartsMade w (parts ++ rest) before after → IsCalm after → AtRest before → AtRest after
+    → (before after : BenchState) → ArePartsMade w (parts ++ rest) before after → IsCalm after → AtRest before
+    → AtRest after
 all_told w [] rest telling go before after made calm holds = go before after made calm holds
 all_told w (part ∷ parts) rest telling go before after made calm holds =
     let p = parted w part (parts ++ rest) before after made calm in
-    all_told w parts rest telling.1 go p.between after p.rest calm (one_told w part before p.between telling.0 p.first p.calm holds)
+    all_told w parts rest telling.1 go p.between after p.rest calm
+    (one_told w part before p.between telling.0 p.first p.calm holds)
 
 duplex_telling : (end : End) → Each IsTelling (sets_full_duplex end)
 unfolding sets_full_duplex
@@ -348,7 +390,8 @@ beginning_telling w =
     duplex true = each_append IsTelling (sets_full_duplex A) (sets_full_duplex B) (duplex_telling A) (duplex_telling B)
     duplex false = tt
 
-tick_kept : (w : BenchWords) (before after : BenchState) → IsTick w before after → IsCalm after → AtRest before → AtRest after
+tick_kept : (w : BenchWords) (before after : BenchState) → IsTick w before after → IsCalm after → AtRest before
+    → AtRest after
 unfolding IsTick each_tick
 tick_kept w before after made calm holds = go (before.ticks == 0) made
   where
@@ -379,7 +422,8 @@ new_rest w = record {
   size_b = refl;
 }
 
-pub run_in_time : (w : BenchWords) (count : ℕ) (bench : BenchState) → AreTicks w count bench → IsCalm bench → AtRest bench
+pub run_in_time : (w : BenchWords) (count : ℕ) (bench : BenchState) → AreTicks w count bench → IsCalm bench
+    → AtRest bench
 run_in_time w zero bench made calm = subst AtRest (sym made) (new_rest w)
 run_in_time w (suc count) bench made calm =
     tick_kept w made.0 bench made.3 calm (run_in_time w count made.0 made.1 made.2.no_trouble)

@@ -30,7 +30,8 @@ use Rattle.channel_bench.proofs.TowardsLemmas.{match_is}
 
 -- ---- at one station
 
-pub record NearHolds (end : End) (own far_pending : Option Sent) (ticks size : ℕ) (n : Near) (far : SideState) (s : Stations) : Type 0 where
+pub record NearHolds (end : End) (own far_pending : Option Sent) (ticks size : ℕ) (n : Near) (far : SideState)
+    (s : Stations) : Type 0 where
   pub both : Both end own far_pending ticks n.common.moments n.side far
   pub turn : SentInTurn n.common.moments s
   pub at : n.side.station ≡ state_of end s
@@ -38,13 +39,16 @@ pub record NearHolds (end : End) (own far_pending : Option Sent) (ticks size : �
 
 -- it holds after something came to pass there
 abbrev pub HoldsThen : End → Option Sent → Option Sent → ℕ → ℕ → Near → SideState → Stations → Type 0
-HoldsThen end own far_pending count size n far s = NearHolds end own far_pending count size n far (with_state end n.side.station s)
+HoldsThen end own far_pending count size n far s = NearHolds end own far_pending count size n far
+    (with_state end n.side.station s)
 
 module _ (w : BenchWords) (end : End) (ticks_made size : ℕ) (far : SideState) (far_pending : Option Sent) where
   pub near_host :
       (own : Option Sent) (usual : Usual) (n next : Near) (s : Stations) → Occurs end usual
-      → sent_in_step (input_of end usual) n.side.station ≡ [] → IsMatched (input_of end usual) None (sent_by (other end) (ways_after n.common.moments))
-      → IsStep end (input_of end usual) None n next → next.common.trouble ≡ None → NearHolds end own far_pending ticks_made size n far s
+      → sent_in_step (input_of end usual) n.side.station ≡ []
+      → IsMatched (input_of end usual) None (sent_by (other end) (ways_after n.common.moments))
+      → IsStep end (input_of end usual) None n next → next.common.trouble ≡ None
+      → NearHolds end own far_pending ticks_made size n far s
       → HoldsThen end own far_pending ticks_made size next far s
   near_host own usual n next s occurs none is_matched h calm holds = record {
     both = host_step end (input_of end usual) own far_pending ticks_made n next far h none is_matched holds.both;
@@ -53,7 +57,8 @@ module _ (w : BenchWords) (end : End) (ticks_made size : ℕ) (far : SideState) 
     size_is = ap length (step_facts end (input_of end usual) None n next h).samples ∙ holds.size_is;
   }
 
-  near_same : (own : Option Sent) (n next : Near) (s : Stations) → next ≡ n → NearHolds end own far_pending ticks_made size n far s → HoldsThen end own far_pending ticks_made size next far s
+  near_same : (own : Option Sent) (n next : Near) (s : Stations) → next ≡ n
+      → NearHolds end own far_pending ticks_made size n far s → HoldsThen end own far_pending ticks_made size next far s
   near_same own n next s same holds =
       subst (λ (x : Near). HoldsThen end own far_pending ticks_made size x far s) (sym same) (record {
         both = holds.both;
@@ -90,20 +95,24 @@ module _ (w : BenchWords) (end : End) (ticks_made size : ℕ) (far : SideState) 
   pub near_clock :
       (busy : Bool) (n next : Near) (s : Stations) → IsStep end (OfClock busy) None n next → next.common.trouble ≡ None
       → NearHolds end None far_pending ticks_made size n far s
-      → HoldsThen end (air_of busy n.side.station).sent far_pending ticks_made size next far s × (length (air_of busy n.side.station).samples ≡ 96)
+      → HoldsThen end (air_of busy n.side.station).sent far_pending ticks_made size next far s
+      × (length (air_of busy n.side.station).samples ≡ 96)
   near_clock busy n next s h calm holds =
       let fits = subst (λ (x : StationState). Fits x.channel.air x.channel.waiting) (sym holds.at)
-          (fits_at end (steps_in n.common.moments) s holds.turn.a holds.turn.b) in
-      let sends = clock_sends busy n.side.station fits in
-      (record {
-        both = clock_step end busy far_pending ticks_made n next far h sends.soon holds.both;
-        turn = (order_kept w).steps end (ticks busy) None n next s tt h calm holds.at holds.turn;
-        at = state_there end next.side.station s;
-        size_is = ap length (step_facts end (OfClock busy) None n next h).samples ∙ holds.size_is;
-      }, sends.long)
+      (fits_at end (steps_in n.common.moments) s holds.turn.a holds.turn.b) in
+      let sends = clock_sends busy n.side.station fits in (
+        record {
+          both = clock_step end busy far_pending ticks_made n next far h sends.soon holds.both;
+          turn = (order_kept w).steps end (ticks busy) None n next s tt h calm holds.at holds.turn;
+          at = state_there end next.side.station s;
+          size_is = ap length (step_facts end (OfClock busy) None n next h).samples ∙ holds.size_is;
+        },
+        sends.long,
+      )
 
   -- the frames that are heard
-  order_there : (e : End) (n : Near) (s : Stations) → SentInTurn n.common.moments s → InOrder (other e) (steps_in n.common.moments) (state_of (other e) s)
+  order_there : (e : End) (n : Near) (s : Stations) → SentInTurn n.common.moments s
+      → InOrder (other e) (steps_in n.common.moments) (state_of (other e) s)
   order_there A n s turn = turn.b
   order_there B n s turn = turn.a
 
@@ -112,27 +121,35 @@ module _ (w : BenchWords) (end : End) (ticks_made size : ℕ) (far : SideState) 
       → 96 * ticks_made ≤ item.end + 7 → IsHeardAs end o item.octets n next → next.common.trouble ≡ None
       → NearHolds end own far_pending ticks_made size n far s → HoldsThen end own far_pending ticks_made size next far s
   near_item own item None n next s is late h calm holds =
-      let stray : next.common.trouble ≡ (with_stray item.octets n).common.trouble = ap (λ (x : Near). x.common.trouble) h in
+      let stray : next.common.trouble ≡ (with_stray item.octets n).common.trouble = ap
+      (λ (x : Near). x.common.trouble) h in
       absurd (cc)
   near_item own item (Some number) n next s is late h calm holds = record {
-    both = heard_step end own far_pending ticks_made number item n next far (state_of (other end) s) h (order_there end n s holds.turn) late
+    both = heard_step end own far_pending ticks_made number item n next far (state_of (other end) s) h
+        (order_there end n s holds.turn) late
         (match_is item n.side.matched n.side.towards number is) holds.both;
-    turn = (order_kept w).steps end (hears item.octets) (Some number) (with_matched number n) next s tt h calm holds.at holds.turn;
+    turn = (order_kept w).steps end (hears item.octets) (Some number)
+        (with_matched number n) next s tt h calm holds.at holds.turn;
     at = state_there end next.side.station s;
-    size_is = ap length (step_facts end (OffAir item.octets) (Some number) (with_matched number n) next h).samples ∙ holds.size_is;
+    size_is = ap length (step_facts end (OffAir item.octets) (Some number) (with_matched number n) next h).samples
+        ∙ holds.size_is;
   }
 
   pub near_heard :
       (own : Option Sent) (items : List Candidate) (n next : Near) (s : Stations)
-      → Each (λ (item : Candidate). 96 * ticks_made ≤ item.end + 7) items → AreHeardAt end items n next → next.common.trouble ≡ None
+      → Each (λ (item : Candidate). 96 * ticks_made ≤ item.end + 7) items → AreHeardAt end items n next
+      → next.common.trouble ≡ None
       → NearHolds end own far_pending ticks_made size n far s → HoldsThen end own far_pending ticks_made size next far s
   near_heard own [] n next s late h calm holds = near_same own n next s h holds
   near_heard own (item ∷ items) n next s late h calm holds =
       let on : (between : Near) × IsHeardAt end item n between × AreHeardAt end items between next =
-      subst (λ t. GoesOn t ((between : Near) × IsHeardAt end item n between × AreHeardAt end items between next) (next ≡ n))
+      subst (λ t. GoesOn t ((between : Near) × IsHeardAt end item n between × AreHeardAt end items between next)
+      (next ≡ n))
       (heard_calm end (item ∷ items) n next h calm) h in
-      let one = near_item own item (match_of item n.side) n on.0 s refl late.0 on.1 (heard_calm end items on.0 next on.2 calm) holds in
-      subst (NearHolds end own far_pending ticks_made size next far) (state_twice end on.0.side.station next.side.station s)
+      let one = near_item own item (match_of item n.side) n on.0 s refl late.0 on.1
+      (heard_calm end items on.0 next on.2 calm) holds in
+      subst (NearHolds end own far_pending ticks_made size next far)
+      (state_twice end on.0.side.station next.side.station s)
       (near_heard own items on.0 next (with_state end on.0.side.station s) late.1 on.2 calm one)
 
 -- ---- the bench
@@ -145,11 +162,14 @@ pub record AtBench (sounded : ℕ) (pending_a pending_b : Option Sent) (bench : 
   pub size_a : length bench.a.samples ≡ 96 * bench.ticks + sounded
   pub size_b : length bench.b.samples ≡ 96 * bench.ticks + sounded
 
-module _ (sounded : ℕ) (pending_a pending_b : Option Sent) (before : BenchState) (holds : AtBench sounded pending_a pending_b before) where
-  pub near_a : NearHolds A pending_a pending_b before.ticks (96 * before.ticks + sounded) (near A before) before.b (stations_of before)
+module _ (sounded : ℕ) (pending_a pending_b : Option Sent) (before : BenchState)
+    (holds : AtBench sounded pending_a pending_b before) where
+  pub near_a : NearHolds A pending_a pending_b before.ticks (96 * before.ticks + sounded) (near A before) before.b
+      (stations_of before)
   near_a = record { both = holds.both; turn = holds.turn; at = refl; size_is = holds.size_a }
 
-  pub near_b : NearHolds B pending_b pending_a before.ticks (96 * before.ticks + sounded) (near B before) before.a (stations_of before)
+  pub near_b : NearHolds B pending_b pending_a before.ticks (96 * before.ticks + sounded) (near B before) before.a
+      (stations_of before)
   near_b = record {
     both = record { here = holds.both.there; there = holds.both.here; matched = holds.both.matched };
     turn = holds.turn;
@@ -162,7 +182,8 @@ module _ (sounded : ℕ) (pending_a pending_b : Option Sent) (before : BenchStat
       → HoldsThen A own pending_b before.ticks (96 * before.ticks + sounded) next before.b (stations_of before)
       → AtBench sounded own pending_b after
   from_a own next after is h =
-      subst (AtBench sounded own pending_b) (sym is) (record { both = h.both; turn = h.turn; size_a = h.size_is; size_b = holds.size_b })
+      subst (AtBench sounded own pending_b) (sym is)
+      (record { both = h.both; turn = h.turn; size_a = h.size_is; size_b = holds.size_b })
 
   pub from_b :
       (own : Option Sent) (next : Near) (after : BenchState) → after ≡ with_near B next before
@@ -178,16 +199,21 @@ module _ (sounded : ℕ) (pending_a pending_b : Option Sent) (before : BenchStat
 
 -- what a part keeps at a station
 pub part_at :
-    (end : End) (sounded : ℕ) (pending_a pending_b : Option Sent) (part : Near → Near → Type 0) (before after : BenchState)
+    (end : End) (sounded : ℕ) (pending_a pending_b : Option Sent) (part : Near → Near → Type 0)
+    (before after : BenchState)
     → ((own far_pending : Option Sent) (size : ℕ) (n next : Near) (far : SideState) (s : Stations) → part n next
-        → (n.side.samples ≡ (near end before).side.samples) → next.common.trouble ≡ None → NearHolds end own far_pending before.ticks size n far s
-        → HoldsThen end own far_pending before.ticks size next far s)
-    → AtEnd end part before after → IsCalm after → AtBench sounded pending_a pending_b before → AtBench sounded pending_a pending_b after
+    → (n.side.samples ≡ (near end before).side.samples) → next.common.trouble ≡ None
+    → NearHolds end own far_pending before.ticks size n far s
+    → HoldsThen end own far_pending before.ticks size next far s)
+    → AtEnd end part before after → IsCalm after → AtBench sounded pending_a pending_b before
+    → AtBench sounded pending_a pending_b after
 part_at A sounded pending_a pending_b part before after keep h calm holds =
     from_a sounded pending_a pending_b before holds pending_a h.next after h.is
-    (keep pending_a pending_b (96 * before.ticks + sounded) (near A before) h.next before.b (stations_of before) h.step refl
+    (keep pending_a pending_b (96 * before.ticks + sounded) (near A before) h.next before.b
+    (stations_of before) h.step refl
     (sym (ap (λ (b : BenchState). b.common.trouble) h.is) ∙ calm) (near_a sounded pending_a pending_b before holds))
 part_at B sounded pending_a pending_b part before after keep h calm holds =
     from_b sounded pending_a pending_b before holds pending_b h.next after h.is
-    (keep pending_b pending_a (96 * before.ticks + sounded) (near B before) h.next before.a (stations_of before) h.step refl
+    (keep pending_b pending_a (96 * before.ticks + sounded) (near B before) h.next before.a
+    (stations_of before) h.step refl
     (sym (ap (λ (b : BenchState). b.common.trouble) h.is) ∙ calm) (near_b sounded pending_a pending_b before holds))

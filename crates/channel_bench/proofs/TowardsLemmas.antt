@@ -22,15 +22,19 @@ abbrev pub Rising : ℕ → List SentAt → ℕ → Type 0
 Rising low [] high = low ≤ high
 Rising low (s ∷ towards) high = (low ≤ s.end) × Rising s.end towards high
 
-pub rising_more : (low : ℕ) (towards : List SentAt) (high : ℕ) (s : SentAt) (top : ℕ) → Rising low towards high → high ≤ s.end → s.end ≤ top → Rising low (towards ++ s ∷ []) top
+pub rising_more : (low : ℕ) (towards : List SentAt) (high : ℕ) (s : SentAt) (top : ℕ) → Rising low towards high
+    → high ≤ s.end → s.end ≤ top → Rising low (towards ++ s ∷ []) top
 rising_more low [] high s top h above below = (omega arith, below)
-rising_more low (first ∷ towards) high s top h above below = (h.0, rising_more first.end towards high s top h.1 above below)
+rising_more low (first ∷ towards) high s top h above below =
+    (h.0, rising_more first.end towards high s top h.1 above below)
 
-pub rising_later : (low : ℕ) (towards : List SentAt) (high top : ℕ) → Rising low towards high → high ≤ top → Rising low towards top
+pub rising_later : (low : ℕ) (towards : List SentAt) (high top : ℕ) → Rising low towards high → high ≤ top
+    → Rising low towards top
 rising_later low [] high top h below = omega arith
 rising_later low (first ∷ towards) high top h below = (h.0, rising_later first.end towards high top h.1 below)
 
-rising_drop : (m low : ℕ) (towards : List SentAt) (high : ℕ) → Rising low towards high → (from : ℕ) × Rising from (drop m towards) high
+rising_drop : (m low : ℕ) (towards : List SentAt) (high : ℕ) → Rising low towards high → (from : ℕ)
+    × Rising from (drop m towards) high
 rising_drop zero low towards high h = (low, h)
 rising_drop (suc m) low [] high h = (low, h)
 rising_drop (suc m) low (s ∷ towards) high h = rising_drop m s.end towards high h.1
@@ -43,10 +47,12 @@ has_passed mark sent = nat_le (sent.end + 16) mark
 abbrev pub Passed : ℕ → List SentAt → ℕ → Type 0
 Passed mark towards k = (s : SentAt) → slice_get towards k ≡ Some s → s.end + 16 ≤ mark
 
-count_cons : (mark : ℕ) (s : SentAt) (towards : List SentAt) → count_by (has_passed mark) (s ∷ towards) ≡ cond (has_passed mark s) 1 0 + count_by (has_passed mark) towards
+count_cons : (mark : ℕ) (s : SentAt) (towards : List SentAt)
+    → count_by (has_passed mark) (s ∷ towards) ≡ cond (has_passed mark s) 1 0 + count_by (has_passed mark) towards
 count_cons mark s towards = sum_by-cons (λ x. cond (has_passed mark x) 1 0) s towards
 
-none_passed : (mark low : ℕ) (towards : List SentAt) (high : ℕ) → Rising low towards high → mark < low + 16 → count_by (has_passed mark) towards ≡ 0
+none_passed : (mark low : ℕ) (towards : List SentAt) (high : ℕ) → Rising low towards high → mark < low + 16
+    → count_by (has_passed mark) towards ≡ 0
 none_passed mark low [] high h later = refl
 none_passed mark low (s ∷ towards) high h later =
     count_cons mark s towards ∙ go (has_passed mark s) refl (none_passed mark s.end towards high h.1)
@@ -60,7 +66,8 @@ none_passed mark low (s ∷ towards) high h later =
         omega (arith, none)
 
 counted_passed :
-    (mark low : ℕ) (towards : List SentAt) (high k : ℕ) → Rising low towards high → k < count_by (has_passed mark) towards
+    (mark low : ℕ) (towards : List SentAt) (high k : ℕ) → Rising low towards high
+    → k < count_by (has_passed mark) towards
     → Passed mark towards k
 counted_passed mark low [] high k h below = absurd (omega arith)
 counted_passed mark low (s ∷ towards) high k h below =
@@ -97,7 +104,8 @@ passed_counted mark m towards high k h from below =
     λ s is. here s (slice_get-drop m j towards ∙ ap (slice_get towards) place ∙ is)
 
 pub counted_within :
-    (mark m : ℕ) (towards : List SentAt) → m ≤ length towards → m + count_by (has_passed mark) (drop m towards) ≤ length towards
+    (mark m : ℕ) (towards : List SentAt) → m ≤ length towards
+    → m + count_by (has_passed mark) (drop m towards) ≤ length towards
 counted_within mark m towards within =
     let few = count_by-le-length (has_passed mark) (drop m towards) in
     let size = length_dropped m towards within in
@@ -120,13 +128,15 @@ both false b is = absurd (cc)
 
 pub match_is :
     (item : Candidate) (matched : ℕ) (towards : List SentAt) (number : ℕ)
-    → option_map (λ k. matched + k) (position (is_match item) (drop matched towards)) ≡ Some number → IsMatchAt item matched towards number
+    → option_map (λ k. matched + k) (position (is_match item) (drop matched towards)) ≡ Some number
+    → IsMatchAt item matched towards number
 match_is item matched towards number is = go (position (is_match item) (drop matched towards)) refl is
   where
     none : SentAt
     none = record { octets = []; end = 0 }
 
-    go : (o : Option ℕ) → position (is_match item) (drop matched towards) ≡ o → option_map (λ k. matched + k) o ≡ Some number
+    go : (o : Option ℕ) → position (is_match item) (drop matched towards) ≡ o
+        → option_map (λ k. matched + k) o ≡ Some number
         → IsMatchAt item matched towards number
     go None at same = absurd (cc)
     go (Some k) at same =
@@ -144,7 +154,8 @@ match_is item matched towards number is = go (position (is_match item) (drop mat
         }
 
 -- an element stands where it stood if more come behind
-pub still_there : {X : Type 0} (xs ys : List X) (k : ℕ) (x : X) → slice_get xs k ≡ Some x → slice_get (xs ++ ys) k ≡ Some x
+pub still_there : {X : Type 0} (xs ys : List X) (k : ℕ) (x : X) → slice_get xs k ≡ Some x
+    → slice_get (xs ++ ys) k ≡ Some x
 still_there [] ys k x is = absurd (cc)
 still_there (y ∷ xs) ys zero x is = is
 still_there (y ∷ xs) ys (suc k) x is = still_there xs ys k x is
@@ -154,6 +165,7 @@ pub each_passes : {X : Type 0} (p : X → Bool) (xs : List X) → Each (λ x. p 
 each_passes p [] = tt
 each_passes p (x ∷ xs) = go (p x) refl (each_passes p xs)
   where
-    go : (b : Bool) → p x ≡ b → Each (λ y. p y ≡ true) (filter p xs) → Each (λ y. p y ≡ true) (cond b (x ∷ filter p xs) (filter p xs))
+    go : (b : Bool) → p x ≡ b → Each (λ y. p y ≡ true) (filter p xs)
+        → Each (λ y. p y ≡ true) (cond b (x ∷ filter p xs) (filter p xs))
     go true is rest = (is, rest)
     go false is rest = rest

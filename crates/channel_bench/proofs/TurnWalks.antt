@@ -40,7 +40,8 @@ pub record Kept (R : Turn → Turn → Type 0) : Type 0 where
   pub on : (t u v : Turn) → R t u → R u v → R t v
   pub tells : (t : Turn) (pieces : List Piece) → R t (record t { out = record t.out { pieces = pieces } })
   pub steps : (key : ℕ) (event : LinkEvent) (t : Turn) → R t (event_at key event t)
-  pub makes : (key id pid : ℕ) (local remote : Callsign) (path : Path) (t : Turn) → R t (making key id pid local remote path t)
+  pub makes : (key id pid : ℕ) (local remote : Callsign) (path : Path) (t : Turn)
+      → R t (making key id pid local remote path t)
   pub registers : (call : Callsign) (id : ℕ) (t : Turn) → R t (changing (with_registration call id) t)
 
 -- ---- the parts of an event of a link
@@ -56,7 +57,8 @@ pub record KeptByActs (R : Turn → Turn → Type 0) : Type 0 where
   pub registers : (call : Callsign) (id : ℕ) (t : Turn) → R t (changing (with_registration call id) t)
 
 module _ (R : Turn → Turn → Type 0) (k : KeptByActs R) where
-  acts_kept : {A : Type 0} (act : A → Act) → ((item : A) (t : Turn) → R t (act item t)) → (items : List A) (t : Turn) → R t (in_order (map act items) t)
+  acts_kept : {A : Type 0} (act : A → Act) → ((item : A) (t : Turn) → R t (act item t)) → (items : List A) (t : Turn)
+      → R t (in_order (map act items) t)
   acts_kept act each [] t = k.same t
   acts_kept act each (item ∷ items) t =
       k.on t (act item t) (in_order (map act items) (act item t)) (each item t) (acts_kept act each items (act item t))
@@ -68,9 +70,11 @@ module _ (R : Turn → Turn → Type 0) (k : KeptByActs R) where
       go true = k.enters key octets t
       go false = k.drops t
 
-  told_kept : (owner : Option ℕ) (local remote : Callsign) (told : Told) (t : Turn) → R t (telling_one owner local remote told t)
+  told_kept : (owner : Option ℕ) (local remote : Callsign) (told : Told) (t : Turn)
+      → R t (telling_one owner local remote told t)
   told_kept None local remote told t = k.same t
-  told_kept (Some id) local remote told t = k.tells t (with_piece id (spelling (message_of_told local remote told)) t.out).pieces
+  told_kept (Some id) local remote told t = k.tells t
+      (with_piece id (spelling (message_of_told local remote told)) t.out).pieces
 
   event_kept : (key : ℕ) (event : LinkEvent) (t : Turn) → R t (event_at key event t)
   event_kept key event t = go (link_at key t.now.links)
@@ -84,8 +88,10 @@ module _ (R : Turn → Turn → Type 0) (k : KeptByActs R) where
           let queued = queueing_frames key done.frames placed in
           k.on t placed _ (k.links (settled_link key link stepped.now) t)
           (k.on placed queued _
-          (acts_kept (queueing_frame key) (λ (sent : SentFrame) u. queued_kept key (frame_octets sent.modulus sent.frame) u) done.frames placed)
-          (acts_kept (telling_one link.owner link.local link.remote) (told_kept link.owner link.local link.remote) done.told queued))
+          (acts_kept (queueing_frame key) (λ (sent : SentFrame) u. queued_kept key
+          (frame_octets sent.modulus sent.frame) u) done.frames placed)
+          (acts_kept (telling_one link.owner link.local link.remote)
+          (told_kept link.owner link.local link.remote) done.told queued))
 
   pub kept_by_acts : Kept R
   kept_by_acts = record {
@@ -93,7 +99,8 @@ module _ (R : Turn → Turn → Type 0) (k : KeptByActs R) where
     on = k.on;
     tells = k.tells;
     steps = event_kept;
-    makes = λ key id pid local remote path t. k.links (with_new_link key (idle_link id pid local remote path t.now.parameters)) t;
+    makes = λ key id pid local remote path t. k.links
+        (with_new_link key (idle_link id pid local remote path t.now.parameters)) t;
     registers = k.registers;
   }
 
@@ -103,15 +110,18 @@ module _ (R : Turn → Turn → Type 0) (k : Kept R) where
   same_as : (t u : Turn) → u ≡ t → R t u
   same_as t u is = subst (R t) (sym is) (k.same t)
 
-  along : {A : Type 0} (act : A → Act) → ((item : A) (t : Turn) → R t (act item t)) → (items : List A) (t : Turn) → R t (in_order (map act items) t)
+  along : {A : Type 0} (act : A → Act) → ((item : A) (t : Turn) → R t (act item t)) → (items : List A) (t : Turn)
+      → R t (in_order (map act items) t)
   along act each [] t = k.same t
-  along act each (item ∷ items) t = k.on t (act item t) (in_order (map act items) (act item t)) (each item t) (along act each items (act item t))
+  along act each (item ∷ items) t = k.on t (act item t) (in_order (map act items) (act item t)) (each item t)
+      (along act each items (act item t))
 
   -- ---- a tick
 
   pub ticks_kept : (t : Turn) → R t (ticking_links t)
   unfolding ticking_links
-  ticks_kept t = along ticking_at (λ key u. k.steps key (LinkTick (waits key u.now.channel.waiting)) u) (range_with_len 0 most_links) t
+  ticks_kept t = along ticking_at (λ key u. k.steps key (LinkTick (waits key u.now.channel.waiting)) u)
+      (range_with_len 0 most_links) t
 
   -- ---- a message
 
@@ -125,7 +135,8 @@ module _ (R : Turn → Turn → Type 0) (k : Kept R) where
       registered_turn : Turn
       registered_turn = changing (with_registration call id) t
 
-      go : (b : Bool) → R t (cond b (replying id (register_reply from true) registered_turn) (replying id (register_reply from false) t))
+      go : (b : Bool) → R t (cond b (replying id (register_reply from true) registered_turn)
+          (replying id (register_reply from false) t))
       go true =
           k.on t registered_turn (replying id (register_reply from true) registered_turn) (k.registers call id t)
           (reply_kept id (register_reply from true) registered_turn)
@@ -133,27 +144,35 @@ module _ (R : Turn → Turn → Type 0) (k : Kept R) where
 
   call_kept :
       (id pid : ℕ) (message : AgwMessage) (route : Route) (may : Bool) (before after : Turn)
-      → MatchBool may (IsCallMade id pid route before after) (after ≡ replying id (refused_reply message) before) → R before after
+      → MatchBool may (IsCallMade id pid route before after) (after ≡ replying id (refused_reply message) before)
+      → R before after
   call_kept id pid message route true before after h =
       let path = path_along route in
       let made = making h.0 id pid route.local route.remote path before in
       subst (R before) (sym h.2)
-      (k.on before made (event_at h.0 LinkConnect made) (k.makes h.0 id pid route.local route.remote path before) (k.steps h.0 LinkConnect made))
-  call_kept id pid message route false before after h = subst (R before) (sym h) (reply_kept id (refused_reply message) before)
+      (k.on before made (event_at h.0 LinkConnect made) (k.makes h.0 id pid route.local route.remote path before)
+      (k.steps h.0 LinkConnect made))
+  call_kept id pid message route false before after h = subst (R before) (sym h)
+      (reply_kept id (refused_reply message) before)
 
   calling_kept :
-      (id : ℕ) (message : AgwMessage) (route : Option Route) (before after : Turn) → IsCall id message route before after
+      (id : ℕ) (message : AgwMessage) (route : Option Route) (before after : Turn)
+      → IsCall id message route before after
       → R before after
   calling_kept id message None before after h = subst (R before) (sym h) (reply_kept id (refused_reply message) before)
-  calling_kept id message (Some route) before after h = call_kept id _ message route (may_call id route before.now) before after h
+  calling_kept id message (Some route) before after h = call_kept id _ message route
+      (may_call id route before.now) before after h
 
   pub register_kept :
-      (id : ℕ) (from to body : List ℕ) (before after : Turn) → IsAnswered id (request register_kind from to body) before after
+      (id : ℕ) (from to body : List ℕ) (before after : Turn)
+      → IsAnswered id (request register_kind from to body) before after
       → R before after
-  register_kept id from to body before after h = subst (R before) (sym h) (registering_kept id from (call_in from) before)
+  register_kept id from to body before after h = subst (R before) (sym h)
+      (registering_kept id from (call_in from) before)
 
   pub connect_kept :
-      (id : ℕ) (from to body : List ℕ) (before after : Turn) → IsAnswered id (request connect_kind from to body) before after
+      (id : ℕ) (from to body : List ℕ) (before after : Turn)
+      → IsAnswered id (request connect_kind from to body) before after
       → R before after
   connect_kept id from to body before after h =
       let message = request connect_kind from to body in
@@ -166,7 +185,8 @@ module _ (R : Turn → Turn → Type 0) (k : Kept R) where
       (packets_of (data_pid message.pid (link_at key t.now.links)) message.body) t
 
   pub data_kept :
-      (id : ℕ) (from to body : List ℕ) (before after : Turn) → IsAnswered id (request data_kind from to body) before after
+      (id : ℕ) (from to body : List ℕ) (before after : Turn)
+      → IsAnswered id (request data_kind from to body) before after
       → R before after
   data_kept id from to body before after h =
       let message = request data_kind from to body in
@@ -177,7 +197,8 @@ module _ (R : Turn → Turn → Type 0) (k : Kept R) where
   ended_kept (Some key) t = k.steps key LinkDisconnect t
 
   pub disconnect_kept :
-      (id : ℕ) (from to body : List ℕ) (before after : Turn) → IsAnswered id (request disconnect_kind from to body) before after
+      (id : ℕ) (from to body : List ℕ) (before after : Turn)
+      → IsAnswered id (request disconnect_kind from to body) before after
       → R before after
   disconnect_kept id from to body before after h =
       subst (R before) (sym h) (ended_kept (own_key id (request disconnect_kind from to body) before.now.links) before)
@@ -188,7 +209,8 @@ module _ (R : Turn → Turn → Type 0) (k : Kept R) where
       (kind : PortKind) (id : ℕ) (raw : Bool) (from to octets : List ℕ) (t : Turn)
       → R t (record t { out = with_shown kind id raw from to octets t.out })
   shown_kept_by Kiss id raw from to octets t = k.tells t (with_piece id (kiss_data octets) t.out).pieces
-  shown_kept_by Agw id true from to octets t = k.tells t (with_piece id (spelling (raw_message from to octets)) t.out).pieces
+  shown_kept_by Agw id true from to octets t = k.tells t
+      (with_piece id (spelling (raw_message from to octets)) t.out).pieces
   shown_kept_by Agw id false from to octets t = k.same t
 
   shown_kept : (from to octets : List ℕ) (t : Turn) → R t (showing from to octets t)
@@ -211,38 +233,45 @@ module _ (R : Turn → Turn → Type 0) (k : Kept R) where
   new_kept id frame false before after h = same_as before after h
 
   anew_kept :
-      (registered : Option ℕ) (frame : Frame) (before after : Turn) → IsHeardAnew registered frame before after → R before after
+      (registered : Option ℕ) (frame : Frame) (before after : Turn) → IsHeardAnew registered frame before after
+      → R before after
   anew_kept None frame before after h = same_as before after h
   anew_kept (Some id) frame before after h = new_kept id frame (may_make frame.kind before.now.links) before after h
 
-  reading_kept : (reading : Option Frame) (before after : Turn) → IsReadingHeardAnew reading before after → R before after
+  reading_kept : (reading : Option Frame) (before after : Turn) → IsReadingHeardAnew reading before after
+      → R before after
   reading_kept None before after h = same_as before after h
   reading_kept (Some frame) before after h =
       anew_kept (registrar frame.path.dest before.now.registrations) frame before after h
 
-  key_kept : (key : Option ℕ) (octets : List ℕ) (before after : Turn) → AreHeardAt key octets before after → R before after
+  key_kept : (key : Option ℕ) (octets : List ℕ) (before after : Turn) → AreHeardAt key octets before after
+      → R before after
   key_kept (Some key) octets before after h = subst (R before) (sym h.2) (at_key_kept key h.0 before)
   key_kept None octets before after h = reading_kept h.0 before after h.2
 
   -- a station that repeats for nobody
   repeated_kept :
-      (digi : Option Callsign) (octets : List ℕ) (before after : Turn) → digi ≡ None → IsRepeatedFor digi octets before after
+      (digi : Option Callsign) (octets : List ℕ) (before after : Turn) → digi ≡ None
+      → IsRepeatedFor digi octets before after
       → R before after
   repeated_kept None octets before after none h = same_as before after h
   repeated_kept (Some call) octets before after none h = absurd (cc)
 
   path_kept :
       (path : Path) (waiting : Bool) (octets : List ℕ) (before after : Turn) → before.now.digi ≡ None
-      → MatchBool waiting (IsRepeatedFor before.now.digi octets before after) (AreOctetsHeard path octets before after) → R before after
+      → MatchBool waiting (IsRepeatedFor before.now.digi octets before after)
+      (AreOctetsHeard path octets before after) → R before after
   path_kept path true octets before after none h = repeated_kept before.now.digi octets before after none h
   path_kept path false octets before after none h =
       key_kept (key_between path.dest path.source before.now.links) octets before after h
 
   by_path_kept :
-      (path : Option Path) (octets : List ℕ) (before after : Turn) → before.now.digi ≡ None → IsHeardBy path octets before after
+      (path : Option Path) (octets : List ℕ) (before after : Turn) → before.now.digi ≡ None
+      → IsHeardBy path octets before after
       → R before after
   by_path_kept None octets before after none h = same_as before after h
-  by_path_kept (Some path) octets before after none h = path_kept path (waits_for_repeater path) octets before after none h
+  by_path_kept (Some path) octets before after none h = path_kept path
+      (waits_for_repeater path) octets before after none h
 
   pub heard_kept :
       (octets : List ℕ) (before after : Turn) → before.now.digi ≡ None → IsHeard octets before after → R before after
@@ -256,4 +285,5 @@ module _ (R : Turn → Turn → Type 0) (k : Kept R) where
       shown_digi : (from to octets : List ℕ) (connections : List Connection) (t : Turn)
           → (in_order (map (showing_to from to octets) connections) t).now.digi ≡ t.now.digi
       shown_digi from to octets [] t = refl
-      shown_digi from to octets (c ∷ connections) t = shown_digi from to octets connections (showing_to from to octets c t)
+      shown_digi from to octets (c ∷ connections) t = shown_digi from to octets connections
+          (showing_to from to octets c t)

@@ -20,11 +20,11 @@ mod side;
 mod trouble;
 mod words;
 
-pub use laws::{
-    bench_law, caller_law, ends_follow, hosts_ask_nothing, matched_in_order, matched_law, owners_are_told, programs_are_told,
-    set_ups_law, stations_law,
-};
 pub use benching::bench;
+pub use laws::{
+    bench_law, caller_law, ends_follow, hosts_ask_nothing, matched_in_order, matched_law,
+    owners_are_told, programs_are_told, set_ups_law, stations_law,
+};
 pub use report::{BenchFault, BenchReport, SetUp};
 pub use words::BenchWords;
 
