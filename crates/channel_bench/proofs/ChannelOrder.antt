@@ -1,6 +1,6 @@
--- A channel sends the frames that wait in their order: a tick that names a frame as sent takes the front one. This holds of
--- frames of any length, since the check sequence of a frame alone is longer than a tick.
-use Rattle.std.proofs.Common.{◌≡◌, ℕ, zero, suc, ◌+◌, ◌-◌, ◌*◌, ◌/◌, ◌%◌, ◌<◌, ◌≤◌, ◌==◌, ◌&&◌, nat_lt, nat_le, not, slice_index_or, Bool, true, false, ℤ, pos, List, [], ◌∷◌, ◌++◌, length, map, replicate, take, drop, cond, Option, Some, None, is_none, refl, sym, ap, ◌∙◌, subst, arith, length-append, append_assoc, append-nil}
+-- A channel sends the frames that wait in their order: a tick that names a frame as sent takes the front one. This
+-- holds of frames of any length, since the check sequence of a frame alone is longer than a tick.
+use Rattle.std.proofs.Common.{◌≡◌, ℕ, zero, suc, ◌+◌, ◌-◌, ◌*◌, ◌/◌, ◌%◌, ◌<◌, ◌≤◌, ◌&&◌, nat_lt, nat_le, not, slice_index_or, Bool, true, false, ℤ, pos, List, [], ◌∷◌, ◌++◌, length, map, replicate, take, drop, cond, Option, Some, None, is_none, refl, sym, ap, ◌∙◌, subst, arith, length-append, append_assoc, append-nil}
 use Rattle.std.proofs.Math.Seq.{get_or-append_seam}
 use Rattle.std.proofs.lemmas.List.{length-drop, length-replicate, length-take}
 use Rattle.std.proofs.lemmas.Bool.{and_right, leb-true, leb-false, le-leb, lt-leb, le-ltb, lt-ltb}

@@ -1,5 +1,5 @@
--- What is kept by each step of a station that occurs in a bench, and when frames have passed, holds of the moments and the
--- stations of each run that nothing has ended.
+-- What is kept by each step of a station that occurs in a bench, and when frames have passed, holds of the moments and
+-- the stations of each run that nothing has ended.
 use Rattle.std.proofs.Common.{◌≡◌, ℕ, ◌≤◌, ◌==◌, Bool, true, false, List, [], ◌∷◌, ◌++◌, length, take, drop, cond, nat_lt, Option, Some, None, refl, sym, ap, ◌∙◌, subst, arith}
 use Rattle.std.specs.Prelude.{MatchBool}
 use Rattle.std.specs.List.{AllByRecursion as Each}
@@ -9,21 +9,21 @@ use Rattle.link_world.specs.declared.end.End.{End}
 use Rattle.link_world.specs.declared.end.End.TheVariants.{A, B}
 use Rattle.link_world.proofs.law.Each.{each_append}
 use Rattle.station.specs.declared.host_event.HostEvent.{HostEvent}
-use Rattle.station.specs.declared.host_event.HostEvent.TheVariants.{Joined, Bytes, Left}
+use Rattle.station.specs.declared.host_event.HostEvent.TheVariants.{Joined, Bytes}
 use Rattle.station.specs.declared.host_event.PortKind.TheVariants.{Kiss, Agw}
 use Rattle.station.specs.declared.host_out.Piece.{Piece}
 use Rattle.station.specs.State.{StationState}
 use Rattle.channel_bench.specs.declared.trouble.Trouble.{Trouble}
 use Rattle.channel_bench.specs.declared.words.BenchWords.{BenchWords}
 use Rattle.channel_bench.specs.BenchOrder.{first_stations, stations_of}
-use Rattle.channel_bench.specs.BenchState.{BenchState, SideState, Near, AtEnd, near, with_near}
+use Rattle.channel_bench.specs.BenchState.{BenchState, SideState, Near, AtEnd, near}
 use Rattle.channel_bench.specs.BenchSteps.{IsStep, IsTold, IsTicking, IsHeardAs, IsHeardAt, AreHeardAt, GoesOn, match_of, program_id, told_piece, told_pieces, told_octets, with_matched, with_stray}
-use Rattle.channel_bench.specs.BenchTick.{Part, IsPart, IsGiven, IsGivenPiece, IsAskedOrCalled, IsAsked, IsCalled, IsListening, beginning, each_tick, is_complete, joins, kiss_id, sets_duplex, sets_full_duplex, with_asking, with_calling, with_giving}
+use Rattle.channel_bench.specs.BenchTick.{Part, IsGiven, IsGivenPiece, IsAsked, IsCalled, IsListening, beginning, each_tick, is_complete, joins, kiss_id, sets_duplex, sets_full_duplex, with_asking, with_calling, with_giving}
 use Rattle.channel_bench.specs.BenchTick.Part.{Tells, Gives, AsksOrCalls, Ticks, Sounds, Listens, Closes}
-use Rattle.channel_bench.specs.HostProgram.{connect_octets, data_octets, disconnect_octets, full_duplex_octets, most_octets, next_piece, piece_in, register_octets}
+use Rattle.channel_bench.specs.HostProgram.{connect_octets, data_octets, disconnect_octets, full_duplex_octets, most_octets, next_piece, register_octets}
 use Rattle.channel_bench.specs.declared.report.SetUp.{SetUp}
 use Rattle.channel_bench.specs.InFlight.{Moment}
-use Rattle.channel_bench.specs.InFlight.Moment.{Steps, Passes}
+use Rattle.channel_bench.specs.InFlight.Moment.{Passes}
 use Rattle.channel_bench.specs.JointRun.{Input, Stations, state_of, with_state}
 use Rattle.channel_bench.specs.JointRun.Input.{FromHost, OffAir, OfClock}
 use Rattle.channel_bench.specs.Sounding.{passed_below, sounding, ticked}

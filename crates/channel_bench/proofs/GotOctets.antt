@@ -1,5 +1,6 @@
--- From packets to octets: set-ups of a link's ends that got packets in order, as host programs see them, got octets in order.
-use Rattle.std.proofs.Common.{◌≡◌, ◌≢◌, ℕ, suc, ◌<◌, List, [], ◌∷◌, ◌++◌, map, cond, Some, refl, sym, ap, ◌∙◌, subst, arith}
+-- From packets to octets: set-ups of a link's ends that got packets in order, as host programs see them, got octets in
+-- order.
+use Rattle.std.proofs.Common.{◌≡◌, ◌≢◌, ℕ, suc, ◌<◌, List, [], ◌∷◌, map, cond, Some, refl, sym, ap, ◌∙◌, subst, arith}
 use Rattle.std.specs.Prelude.{All, AllPairs, filter, option_map, slice_get}
 use Rattle.std.specs.List.{AllByRecursion as Each, cons_option}
 use Rattle.std.proofs.lemmas.Grind.{flat_map-append}
@@ -7,7 +8,7 @@ use Rattle.std.proofs.lemmas.List.Elements.{All-from_recursion, recursion_from_A
 use Rattle.std.proofs.lemmas.List.Kept.{AllPairs-cons}
 use Rattle.std.proofs.lemmas.Option.{slice_get-map}
 use Rattle.selective_reject.specs.declared.packet.Packet.{Packet}
-use Rattle.link_world.specs.Origin.{GotPrefix, GotNothingElse, GotInOrder as PacketsInOrder, RiseStrictly, origin, origin_of, origins}
+use Rattle.link_world.specs.Origin.{GotPrefix, GotNothingElse, GotInOrder as PacketsInOrder, RiseStrictly, origin_of, origins}
 use Rattle.link_world.specs.Recorded.{RecordedEnd}
 use Rattle.link_world.specs.SetUps.{SetUp as LinkSetUp}
 use Rattle.channel_bench.specs.declared.report.SetUp.{SetUp}

@@ -1,7 +1,7 @@
 -- The stream of a host program whose messages are whole: with one message more, that message alone is new.
-use Rattle.std.proofs.Common.{◌≡◌, ℕ, ◌≤◌, List, [], ◌∷◌, ◌++◌, length, drop, None, refl, sym, ap, ◌∙◌, subst, arith}
+use Rattle.std.proofs.Common.{◌≡◌, ℕ, List, [], ◌∷◌, ◌++◌, length, drop, None, refl, sym, ap, ◌∙◌}
 use Rattle.std.proofs.lemmas.List.{append-nil, append_assoc, drop_at}
-use Rattle.agwpe_port.specs.Messages.{Reading, and_then, bad_length_in, messages_in, reading, spelling}
+use Rattle.agwpe_port.specs.Messages.{Reading, bad_length_in, messages_in, reading, spelling}
 use Rattle.agwpe_port.specs.declared.message.AgwMessage.{AgwMessage}
 use Rattle.agwpe_port.proofs.WrittenLemmas.{IsWritten, written_reads}
 use Rattle.kiss_port.specs.Items.{items_in}

@@ -1,11 +1,9 @@
--- The host programs of a bench: which connections they have, what has come from each, and that a step of a station changes no
--- more of that than what comes in it.
-use Rattle.std.proofs.Common.{◌≡◌, ℕ, ◌≤◌, ◌==◌, Bool, true, false, List, [], ◌∷◌, ◌++◌, length, map, cond, nat_lt, Option, Some, None, refl, sym, ap, ◌∙◌, subst, arith}
-use Rattle.std.specs.Prelude.{find}
+-- The host programs of a bench: which connections they have, what has come from each, and that a step of a station
+-- changes no more of that than what comes in it.
+use Rattle.std.proofs.Common.{◌≡◌, ℕ, ◌==◌, Bool, true, false, List, [], ◌∷◌, length, cond, nat_lt, Option, Some, None, refl, sym, ap, ◌∙◌, subst}
 use Rattle.std.specs.List.{AllByRecursion as Each}
 use Rattle.std.proofs.lemmas.Bool.{eqb-true}
-use Rattle.ax25_address.specs.Callsign.{Callsign}
-use Rattle.agwpe_port.specs.Messages.{bad_length_in, spelling}
+use Rattle.agwpe_port.specs.Messages.{spelling}
 use Rattle.agwpe_port.specs.declared.message.AgwMessage.{AgwMessage}
 use Rattle.agwpe_port.proofs.WrittenLemmas.{IsWritten}
 use Rattle.link_world.proofs.law.Each.{each_append}
@@ -21,7 +19,7 @@ use Rattle.channel_bench.specs.BenchSteps.{program_id}
 use Rattle.channel_bench.specs.BenchTick.{kiss_id}
 use Rattle.channel_bench.specs.HostProgram.{full_duplex_octets}
 use Rattle.channel_bench.proofs.HostStreams.{IsSetting, IsWhole, none_bad, one_new, one_setting, setting_more, whole_more}
-use Rattle.channel_bench.proofs.TurnWalks.{Kept, KeptByActs, kept_by_acts}
+use Rattle.channel_bench.proofs.TurnWalks.{Kept, kept_by_acts}
 
 -- ---- the connections
 

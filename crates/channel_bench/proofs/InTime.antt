@@ -1,10 +1,10 @@
--- A heard frame is matched with one in flight: what a station sends comes to the other one in order, and a frame that a mark
--- has passed is not heard later.
-use Rattle.std.proofs.Common.{◌≡◌, ℕ, suc, cond, ◌+◌, ◌-◌, ◌*◌, ◌<◌, ◌≤◌, ◌==◌, ◌⊎◌, max, Bool, true, false, List, [], ◌∷◌, ◌++◌, length, map, drop, get_or, Option, Some, None, refl, sym, ap, ◌∙◌, subst, inl, inr, arith, length-append}
+-- A heard frame is matched with one in flight: what a station sends comes to the other one in order, and a frame that
+-- a mark has passed is not heard later.
+use Rattle.std.proofs.Common.{◌≡◌, ℕ, cond, ◌+◌, ◌-◌, ◌*◌, ◌<◌, ◌≤◌, ◌==◌, ◌⊎◌, max, Bool, true, false, List, [], ◌∷◌, ◌++◌, length, map, drop, get_or, Option, Some, None, refl, sym, ap, ◌∙◌, subst, inl, inr, arith, length-append}
 use Rattle.std.specs.Prelude.{count_by, option_map, slice_get}
-use Rattle.std.proofs.Math.Nat.{le-max_left, le-max_right, max-le}
+use Rattle.std.proofs.Math.Nat.{max-le}
 use Rattle.std.proofs.lemmas.Bool.{cases_lt}
-use Rattle.std.proofs.lemmas.List.{append-nil, append_assoc, map-append, length-map}
+use Rattle.std.proofs.lemmas.List.{append-nil, append_assoc, map-append}
 use Rattle.std.proofs.lemmas.Option.{slice_get-get_or, slice_get-map, slice_get_within}
 use Rattle.channel_access.specs.declared.air_tick.Sent.{Sent}
 use Rattle.frame_merge.specs.declared.candidate.Candidate.{Candidate}
@@ -17,10 +17,10 @@ use Rattle.station.specs.Ticks.{air_of}
 use Rattle.channel_bench.specs.declared.matching.SentAt.{SentAt}
 use Rattle.channel_bench.specs.BenchState.{Near, SideState}
 use Rattle.channel_bench.specs.BenchSteps.{IsStep, distance, program_id, told_octets, told_piece, told_pieces}
-use Rattle.channel_bench.specs.InFlight.{Moment, AreMatched, BothWays, IsInFlight, IsMatched, IsMatchedIn, LinkFrame, OneWay, after_moment, after_moments, hears_ask, hearing_at, nothing_sent, past_heard, queueing_all, sent_by, steps_in}
+use Rattle.channel_bench.specs.InFlight.{Moment, AreMatched, BothWays, IsInFlight, IsMatched, IsMatchedIn, LinkFrame, OneWay, after_moment, after_moments, hears_ask, hearing_at, nothing_sent, sent_by, steps_in}
 use Rattle.channel_bench.specs.InFlight.Moment.{Steps, Passes}
 use Rattle.channel_bench.specs.JointRun.{Input, Step, at_end, queued_at}
-use Rattle.channel_bench.specs.JointRun.Input.{FromHost, OffAir, OfClock}
+use Rattle.channel_bench.specs.JointRun.Input.{OffAir, OfClock}
 use Rattle.channel_bench.specs.Sounding.{sent_in}
 use Rattle.channel_bench.proofs.ChannelOrder.{octets_of, sent_octets}
 use Rattle.channel_bench.proofs.Framed.{framed, octets_framed, octets_in}

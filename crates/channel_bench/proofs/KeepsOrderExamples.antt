@@ -1,5 +1,5 @@
--- The order of two host programs, computed: two set-ups of which the second got a first part keep it; octets that nobody gave
--- do not.
+-- The order of two host programs, computed: two set-ups of which the second got a first part keep it; octets that
+-- nobody gave do not.
 use Rattle.std.proofs.Common.{◌≡◌, ℕ, zero, suc, List, [], ◌∷◌, refl, ap, ◌∙◌, arith}
 use Rattle.channel_bench.specs.declared.report.SetUp.{SetUp}
 use Rattle.channel_bench.specs.KeepsOrder.{AreGotFrom, GotInOrder}

@@ -1,4 +1,5 @@
--- The moments that a bench notes are a joint run of its stations, in which each SABM, SABME and DISC found a quiet channel.
+-- The moments that a bench notes are a joint run of its stations, in which each SABM, SABME and DISC found a quiet
+-- channel.
 use Rattle.std.proofs.Common.{◌≡◌, ℕ, ◌+◌, Bool, true, false, List, [], ◌∷◌, ◌++◌, cond, Option, Some, None, refl, sym, ap, ◌∙◌, subst}
 use Rattle.link_world.specs.declared.end.End.{End}
 use Rattle.channel_bench.specs.declared.words.BenchWords.{BenchWords}

@@ -1,5 +1,5 @@
--- The law on a bench, from the law on two stations of which one alone calls: what the ends of the link got in order, the host
--- programs got in order.
+-- The law on a bench, from the law on two stations of which one alone calls: what the ends of the link got in order,
+-- the host programs got in order.
 use Rattle.std.proofs.Common.{◌≡◌, List, [], ◌∷◌, map, refl, sym, ap, ◌∙◌, subst, arith}
 use Rattle.link_world.specs.declared.end.End.TheVariants.{A, B}
 use Rattle.link_world.specs.Origin.{GotInOrder as PacketsInOrder}
@@ -11,7 +11,6 @@ use Rattle.channel_bench.specs.declared.report.SetUp.{SetUp}
 use Rattle.channel_bench.specs.declared.words.BenchWords.{BenchWords}
 use Rattle.channel_bench.specs.BenchLaw.{BenchLaw}
 use Rattle.channel_bench.specs.BenchOrder.{IsNoted, set_up_of, stations_of, steps_of_run, the_calls}
-use Rattle.channel_bench.specs.BenchRun.{IsOver}
 use Rattle.channel_bench.specs.BenchState.{BenchState, config_of, params_of}
 use Rattle.channel_bench.specs.CallerLaw.{DroppedNothing}
 use Rattle.channel_bench.specs.HostProgram.{ProgramState, set_ups_of}
@@ -23,12 +22,10 @@ use Rattle.channel_bench.specs.Words.{seed_at}
 use Rattle.channel_bench.proofs.CallerLaws.{caller_law_holds}
 use Rattle.channel_bench.proofs.CoreRun.{core_kept}
 use Rattle.channel_bench.proofs.GotOctets.{octets_in_order, seen_as}
-use Rattle.channel_bench.proofs.KeepsOrderExamples.{in_order}
 use Rattle.channel_bench.proofs.MatchedOrder.{matched_in_order_holds}
 use Rattle.channel_bench.proofs.NotedRun.{noted_kept}
 use Rattle.channel_bench.proofs.ProgramsAsk.{AskLittle, asks_kept}
 use Rattle.channel_bench.proofs.RunOfParts.{ticks_keep}
-use Rattle.channel_bench.proofs.SentInOrder.{order_kept}
 use Rattle.channel_bench.proofs.TimedRun.{run_in_time}
 use Rattle.channel_bench.proofs.SeenLemmas.{set_ups_law_holds}
 

@@ -1,10 +1,10 @@
--- In a run of the bench the host program of B neither connects nor disconnects, and each station has the connections of the bench.
+-- In a run of the bench the host program of B neither connects nor disconnects, and each station has the connections
+-- of the bench.
 use Rattle.std.proofs.Common.{◌≡◌, ℕ, ◌≤◌, List, [], ◌∷◌, ◌++◌, length, Option, Some, None, refl, sym, ap, ◌∙◌, subst, arith}
 use Rattle.std.specs.Prelude.{All}
-use Rattle.std.specs.List.{AllByRecursion as Each}
 use Rattle.std.proofs.lemmas.List.Elements.{All-from_recursion}
 use Rattle.agwpe_port.specs.CallField.{call_field}
-use Rattle.agwpe_port.specs.Messages.{bad_length_in, spelling}
+use Rattle.agwpe_port.specs.Messages.{spelling}
 use Rattle.agwpe_port.specs.declared.message.AgwMessage.{AgwMessage}
 use Rattle.agwpe_port.proofs.WrittenLemmas.{IsWritten}
 use Rattle.link_world.specs.declared.end.End.{End}
@@ -15,7 +15,7 @@ use Rattle.station.specs.declared.host_event.PortKind.TheVariants.{Kiss, Agw}
 use Rattle.station.specs.AgwKinds.{register_kind, connect_kind, data_kind, disconnect_kind}
 use Rattle.station.specs.AgwRequests.{IsAnswered}
 use Rattle.station.specs.Connections.{Connection, connection_of, new_connection}
-use Rattle.station.specs.Host.{new_messages, taking}
+use Rattle.station.specs.Host.{taking}
 use Rattle.station.specs.HostMessages.{no_call}
 use Rattle.station.specs.State.{StationState}
 use Rattle.station.specs.Ticks.{ticking_links}
@@ -28,8 +28,8 @@ use Rattle.channel_bench.specs.CallerLaw.{BAsksNothing}
 use Rattle.channel_bench.specs.HostProgram.{call_at, full_duplex_octets, most_octets, request, request_between}
 use Rattle.channel_bench.specs.HostsAsk.{AsksNothing, InputAsksNothing, OctetsAskBy, OctetsAskNothing}
 use Rattle.channel_bench.specs.InFlight.{Moment, steps_in}
-use Rattle.channel_bench.specs.InFlight.Moment.{Steps, Passes}
-use Rattle.channel_bench.specs.JointRun.{Input, IsTurn, Step, Stations, state_of, with_state}
+use Rattle.channel_bench.specs.InFlight.Moment.{Steps}
+use Rattle.channel_bench.specs.JointRun.{IsTurn, Step, Stations, state_of, with_state}
 use Rattle.channel_bench.proofs.CoreRun.{KeptByCore, Occurs, Usual, input_of, told_station}
 use Rattle.channel_bench.proofs.CoreRun.Usual.{joins_kiss, sets_full, joins_program, registers, connects, gives, disconnects, hears, ticks}
 use Rattle.channel_bench.proofs.HostStreams.{IsWhole, new_setting, new_stream, none_bad, one_new}
@@ -232,8 +232,17 @@ step_asks end usual matched before after s occurs h at little =
 
 pub asks_kept : (w : BenchWords) → KeptByCore w AskLittle
 asks_kept w = record {
-  new = record { asks = tt; a = record { connections = tt; digi = refl }; b = record { connections = tt; digi = refl } };
-  steps = λ end usual matched before after s occurs h calm at little. step_asks end usual matched before after s occurs h at little;
+  new = record {
+    asks = tt;
+    a = record { connections = tt; digi = refl };
+    b = record {
+      connections = tt;
+      digi =
+          refl;
+    };
+  };
+  steps = λ end usual matched before after s occurs h calm at little. step_asks end usual matched before after
+      s occurs h at little;
   passes = λ sender below moments s little.
       record {
         asks = subst BAsksNothing

@@ -1,11 +1,10 @@
--- In a run of the bench nothing but the frames of links joins a transmit queue, and a station sends them in the order in which
--- they joined it.
+-- In a run of the bench nothing but the frames of links joins a transmit queue, and a station sends them in the order
+-- in which they joined it.
 use Rattle.std.proofs.Common.{◌≡◌, ℕ, ◌≤◌, ◌+◌, Bool, true, false, List, [], ◌∷◌, ◌++◌, length, map, cond, nat_lt, Option, Some, None, refl, sym, ap, ◌∙◌, subst, arith}
 use Rattle.std.proofs.lemmas.List.{append-nil, append_assoc, map-append}
 use Rattle.agwpe_port.specs.CallField.{call_field}
 use Rattle.agwpe_port.specs.Messages.{spelling}
 use Rattle.agwpe_port.specs.declared.message.AgwMessage.{AgwMessage}
-use Rattle.agwpe_port.proofs.WrittenLemmas.{IsWritten}
 use Rattle.channel_access.specs.declared.air_tick.Sent.{Sent}
 use Rattle.link_world.specs.declared.end.End.{End}
 use Rattle.link_world.specs.declared.end.End.TheVariants.{A, B}
@@ -23,12 +22,11 @@ use Rattle.channel_bench.specs.declared.words.BenchWords.{BenchWords}
 use Rattle.channel_bench.specs.BenchState.{Near}
 use Rattle.channel_bench.specs.BenchSteps.{IsStep, program_id}
 use Rattle.channel_bench.specs.BenchTick.{kiss_id}
-use Rattle.channel_bench.specs.HostProgram.{call_at, full_duplex_octets, request, request_between}
+use Rattle.channel_bench.specs.HostProgram.{call_at, request, request_between}
 use Rattle.channel_bench.specs.InFlight.{Moment, steps_in}
-use Rattle.channel_bench.specs.InFlight.Moment.{Steps, Passes}
 use Rattle.channel_bench.specs.JointRun.{Input, IsTurn, Step, Stations, at_end, queued_at, state_of, with_state}
 use Rattle.channel_bench.specs.JointRun.Input.{FromHost, OffAir, OfClock}
-use Rattle.channel_bench.proofs.ChannelOrder.{Fits, Sends, fits_more, octets_of, sent_octets, tick_long, tick_sends}
+use Rattle.channel_bench.proofs.ChannelOrder.{Fits, fits_more, octets_of, sent_octets, tick_long, tick_sends}
 use Rattle.channel_bench.proofs.CoreRun.{KeptByCore, Occurs, Usual, input_of, told_station}
 use Rattle.channel_bench.proofs.CoreRun.Usual.{joins_kiss, sets_full, joins_program, registers, connects, gives, disconnects, hears, ticks}
 use Rattle.channel_bench.proofs.HostsStay.{HasHosts, IsSaid, IsSet, said_by, set_by}
@@ -36,7 +34,7 @@ use Rattle.channel_bench.proofs.HostsStay.IsSaid.{unheard, said}
 use Rattle.channel_bench.proofs.HostsStay.IsSet.{unheard as alone, full}
 use Rattle.channel_bench.proofs.NotedRun.{steps_more, steps_passed}
 use Rattle.channel_bench.proofs.ProgramsAsk.{AskLittle, asks_kept, between_written, hosts_at, registers_written}
-use Rattle.channel_bench.proofs.TurnWalks.{Kept, KeptByActs, connect_kept, data_kept, disconnect_kept, heard_kept, kept_by_acts, register_kept, ticks_kept}
+use Rattle.channel_bench.proofs.TurnWalks.{Kept, connect_kept, data_kept, disconnect_kept, heard_kept, kept_by_acts, register_kept, ticks_kept}
 
 -- ---- what joins the queue
 
@@ -256,17 +254,41 @@ in_order_with :
     (turn : IsTurn input (begin before) after) (octets : _) (s : Stations)
     → before ≡ state_of end s → InOrder A steps s.a → InOrder B steps s.b
     → StepOrder before (sent_in_step input before) after
-    → let step : Step = record { station = end; input = input; before = before; after = after; turn = turn; octets = octets } in
+    → let step : Step = record {
+      station = end;
+      input = input;
+      before = before;
+      after = after;
+      turn = turn;
+      octets =
+          octets;
+    } in
     InOrder A (steps ++ step ∷ []) (with_state end after.now s).a
     × InOrder B (steps ++ step ∷ []) (with_state end after.now s).b
 in_order_with A steps input before after turn octets s at a b one =
-    let step : Step = record { station = A; input = input; before = before; after = after; turn = turn; octets = octets } in (
+    let step : Step = record {
+      station = A;
+      input = input;
+      before = before;
+      after = after;
+      turn = turn;
+      octets =
+          octets;
+    } in (
       own_order A steps step refl refl (subst (InOrder A steps)
           (sym at) a) one,
       other_order B steps step s.b refl refl b,
     )
 in_order_with B steps input before after turn octets s at a b one =
-    let step : Step = record { station = B; input = input; before = before; after = after; turn = turn; octets = octets } in (
+    let step : Step = record {
+      station = B;
+      input = input;
+      before = before;
+      after = after;
+      turn = turn;
+      octets =
+          octets;
+    } in (
       other_order A steps step s.a refl refl a,
       own_order B steps step refl refl
           (subst (InOrder B steps) (sym at) b) one,

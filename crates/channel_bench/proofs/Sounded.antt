@@ -1,5 +1,5 @@
 -- What both stations send reaches them: what that changes of the bench, and what it leaves.
-use Rattle.std.proofs.Common.{◌≡◌, ℕ, suc, ◌==◌, ◌||◌, ◌&&◌, not, Bool, true, false, ℤ, pos, List, [], ◌∷◌, length, replicate, cond, refl, sym, ap, ◌∙◌}
+use Rattle.std.proofs.Common.{◌≡◌, ℕ, suc, ◌==◌, ◌||◌, ◌&&◌, not, Bool, true, false, ℤ, pos, List, [], ◌∷◌, length, replicate, cond, refl, ap, ◌∙◌}
 use Rattle.std.proofs.lemmas.List.{length-replicate}
 use Rattle.rand_pcg.specs.Lcg.{Lcg}
 use Rattle.link_world.specs.declared.end.End.TheVariants.{A, B}

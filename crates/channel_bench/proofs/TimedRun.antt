@@ -1,5 +1,5 @@
 -- In a run of the bench each heard frame was in flight: part by part, tick by tick.
-use Rattle.std.proofs.Common.{◌≡◌, ℕ, zero, suc, ◌+◌, ◌-◌, ◌*◌, ◌≤◌, max, ◌==◌, ◌&&◌, nat_lt, nat_le, Bool, true, false, ℤ, List, [], ◌∷◌, ◌++◌, length, map, cond, Option, Some, None, refl, sym, ap, ◌∙◌, subst, arith, length-append}
+use Rattle.std.proofs.Common.{◌≡◌, ℕ, zero, suc, ◌+◌, ◌-◌, ◌*◌, ◌≤◌, max, ◌==◌, ◌&&◌, nat_lt, nat_le, Bool, true, false, ℤ, List, [], ◌∷◌, ◌++◌, length, map, cond, Option, None, refl, sym, ap, ◌∙◌, subst, arith, length-append}
 use Rattle.std.specs.Prelude.{MatchBool}
 use Rattle.std.specs.List.{AllByRecursion as Each, filter}
 use Rattle.std.proofs.lemmas.Bool.{leb-true}
@@ -9,7 +9,6 @@ use Rattle.frame_merge.specs.declared.candidate.Candidate.{Candidate}
 use Rattle.frame_merge.specs.Merged.{merged}
 use Rattle.link_world.specs.declared.end.End.{End}
 use Rattle.link_world.specs.declared.end.End.TheVariants.{A, B}
-use Rattle.link_world.specs.World.{other}
 use Rattle.link_world.proofs.law.Each.{each_append, each_weaker}
 use Rattle.station.specs.declared.host_event.HostEvent.{HostEvent}
 use Rattle.station.specs.State.{StationState}
@@ -27,14 +26,14 @@ use Rattle.channel_bench.specs.InFlight.{AreMatched, BothWays, IsMatchedIn, Link
 use Rattle.channel_bench.specs.InFlight.Moment.{Passes}
 use Rattle.channel_bench.specs.Sounding.{passed_below, sent_in, sounding, ticked}
 use Rattle.channel_bench.specs.Words.{text_at}
-use Rattle.channel_bench.proofs.ChannelOrder.{octets_of, sent_octets}
+use Rattle.channel_bench.proofs.ChannelOrder.{octets_of}
 use Rattle.channel_bench.proofs.CoreRun.{IsToldUsual, piece_short, told_as}
 use Rattle.channel_bench.proofs.CoreRun.Usual.{joins_kiss, sets_full, joins_program, registers, connects, disconnects}
-use Rattle.channel_bench.proofs.InTime.{Both, WayHolds, matched_more, queued_is, way_closed, way_same, way_sounded, ways_after}
+use Rattle.channel_bench.proofs.InTime.{WayHolds, matched_more, queued_is, way_closed, way_same, way_sounded, ways_after}
 use Rattle.channel_bench.proofs.NotedRun.{moments_more, steps_passed}
-use Rattle.channel_bench.proofs.RunOfParts.{IsCalm, Parted, parted}
+use Rattle.channel_bench.proofs.RunOfParts.{IsCalm, parted}
 use Rattle.channel_bench.proofs.SentInOrder.{InOrder, SentInTurn, order_kept, sent_at}
-use Rattle.channel_bench.proofs.Sounded.{Sounded, sounded}
+use Rattle.channel_bench.proofs.Sounded.{sounded}
 use Rattle.channel_bench.proofs.TimedSteps.{AtBench, from_a, from_b, near_a, near_b, near_clock, near_given, near_heard, near_host, near_told, part_at, HoldsThen}
 use Rattle.channel_bench.proofs.TowardsLemmas.{counted_within, each_passes, octets_at}
 
@@ -85,14 +84,16 @@ asked_kept :
     → AtRest before → AtRest after
 asked_kept w true before after h calm holds =
     part_at A 0 None None _ (with_asking before) after
-    (λ own far_pending size n next far s part samples c at. near_host w A before.ticks size far far_pending own disconnects n next s tt refl refl part c at)
+    (λ own far_pending size n next far s part samples c at. near_host w A before.ticks size far far_pending
+    own disconnects n next s tt refl refl part c at)
     h calm (asking_rest before holds)
 asked_kept w false before after h calm holds = go before.a.program.calls h
   where
     go : (b : Bool) → MatchBool b (IsCalled before after) (after ≡ before) → AtRest after
     go true is =
         part_at A 0 None None _ (with_calling before) after
-        (λ own far_pending size n next far s part samples c at. near_host w A before.ticks size far far_pending own connects n next s tt refl refl part c at)
+        (λ own far_pending size n next far s part samples c at. near_host w A before.ticks size far far_pending
+        own connects n next s tt refl refl part c at)
         is calm (calling_rest before holds)
     go false is = subst AtRest (sym is) holds
 
@@ -124,7 +125,12 @@ a_ticks w before after h calm holds =
     let next : Near = record part.next { side = record part.next.side { air = air_of part.busy before.a.station } } in
     let then : HoldsThen A next.side.air.sent None before.ticks (96 * before.ticks + 0) next before.b
     (stations_of before) = record {
-      both = record { here = ticked_near.0.both.here; there = ticked_near.0.both.there; matched = ticked_near.0.both.matched };
+      both = record {
+        here = ticked_near.0.both.here;
+        there = ticked_near.0.both.there;
+        matched =
+            ticked_near.0.both.matched;
+      };
       turn = ticked_near.0.turn;
       at = ticked_near.0.at;
       size_is = ticked_near.0.size_is;
@@ -153,7 +159,12 @@ b_ticks w before after h calm ticked_a =
     let next : Near = record part.next { side = record part.next.side { air = air_of part.busy before.b.station } } in
     let then : HoldsThen B next.side.air.sent pending before.ticks (96 * before.ticks + 0) next before.a
     (stations_of before) = record {
-      both = record { here = ticked_near.0.both.here; there = ticked_near.0.both.there; matched = ticked_near.0.both.matched };
+      both = record {
+        here = ticked_near.0.both.here;
+        there = ticked_near.0.both.there;
+        matched =
+            ticked_near.0.both.matched;
+      };
       turn = ticked_near.0.turn;
       at = ticked_near.0.at;
       size_is = ticked_near.0.size_is;
@@ -252,7 +263,9 @@ closes_kept w before holds =
     let ways_are : ways_after (moments ++ pass_a ∷ pass_b ∷ []) ≡ after_moment pass_b (after_moment pass_a ways) =
     ap ways_after (sym split) ∙ moments_more (moments ++ pass_a ∷ []) pass_b nothing_sent
     ∙ ap (after_moment pass_b) (moments_more moments pass_a nothing_sent) in
-    let within_a : IsMatchedIn pass_a ways = queued_below A moments s.a before.b.towards below_b holds.turn.a both.there (below_within before.b both.there) in
+    let within_a : IsMatchedIn pass_a ways =
+    queued_below A moments s.a before.b.towards below_b holds.turn.a both.there
+    (below_within before.b both.there) in
     let within_b : IsMatchedIn pass_b (after_moment pass_a ways) =
     queued_below B moments s.b before.a.towards below_a holds.turn.b both.here (below_within before.a both.here) in
     let turn = (order_kept w).passes B below_a (moments ++ pass_a ∷ []) s

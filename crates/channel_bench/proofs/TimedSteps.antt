@@ -1,5 +1,5 @@
 -- What comes to pass at a station of a bench keeps both directions in order and in time.
-use Rattle.std.proofs.Common.{◌≡◌, ℕ, ◌+◌, ◌-◌, ◌*◌, ◌<◌, ◌≤◌, Bool, true, false, List, [], ◌∷◌, ◌++◌, length, Option, Some, None, refl, sym, ap, ◌∙◌, subst, arith, length-append}
+use Rattle.std.proofs.Common.{◌≡◌, ℕ, ◌+◌, ◌*◌, ◌≤◌, Bool, true, false, List, [], ◌∷◌, length, Option, Some, None, refl, sym, ap, ◌∙◌, subst}
 use Rattle.std.specs.Prelude.{MatchBool}
 use Rattle.std.specs.List.{AllByRecursion as Each}
 use Rattle.channel_access.specs.declared.air_tick.Sent.{Sent}
@@ -13,15 +13,14 @@ use Rattle.station.specs.Ticks.{air_of}
 use Rattle.channel_bench.specs.declared.words.BenchWords.{BenchWords}
 use Rattle.channel_bench.specs.BenchOrder.{stations_of}
 use Rattle.channel_bench.specs.BenchState.{AtEnd, BenchState, Near, SideState, near, with_near}
-use Rattle.channel_bench.specs.BenchSteps.{AreHeardAt, GoesOn, IsHeardAs, IsHeardAt, IsStep, IsTicking, IsTold, match_of, with_matched, with_stray}
-use Rattle.channel_bench.specs.BenchTick.{IsAsked, IsAskedOrCalled, IsCalled, IsGiven, IsGivenPiece, is_complete, with_asking, with_calling, with_giving}
-use Rattle.channel_bench.specs.HostProgram.{most_octets, next_piece}
+use Rattle.channel_bench.specs.BenchSteps.{AreHeardAt, GoesOn, IsHeardAs, IsHeardAt, IsStep, match_of, with_matched, with_stray}
+use Rattle.channel_bench.specs.BenchTick.{IsGivenPiece, with_giving}
+use Rattle.channel_bench.specs.HostProgram.{most_octets}
 use Rattle.channel_bench.specs.InFlight.{IsMatched, sent_by, steps_in}
-use Rattle.channel_bench.specs.JointRun.{Input, Stations, state_of, with_state}
+use Rattle.channel_bench.specs.JointRun.{Stations, state_of, with_state}
 use Rattle.channel_bench.specs.JointRun.Input.{FromHost, OffAir, OfClock}
-use Rattle.channel_bench.specs.Words.{text_at}
 use Rattle.channel_bench.proofs.ChannelOrder.{Fits}
-use Rattle.channel_bench.proofs.CoreRun.{IsToldUsual, Occurs, Usual, heard_calm, input_of, piece_short, state_there, state_twice}
+use Rattle.channel_bench.proofs.CoreRun.{IsToldUsual, Occurs, Usual, heard_calm, input_of, state_there, state_twice}
 use Rattle.channel_bench.proofs.CoreRun.Usual.{gives, hears, ticks}
 use Rattle.channel_bench.proofs.InTime.{Both, clock_step, heard_step, host_step, step_facts, ways_after}
 use Rattle.channel_bench.proofs.RunOfParts.{IsCalm}
@@ -89,7 +88,17 @@ module _ (w : BenchWords) (end : End) (ticks_made size : ℕ) (far : SideState) 
   near_given own true None n next s short h calm holds = near_same own n next s h holds
   near_given own true (Some piece) n next s short h calm holds =
       near_host own (gives piece) (with_giving piece n) next s (short piece refl) refl refl h calm
-      (record { both = record { here = holds.both.here; there = holds.both.there; matched = holds.both.matched }; turn = holds.turn; at = holds.at; size_is = holds.size_is })
+      (record {
+        both = record {
+          here = holds.both.here;
+          there = holds.both.there;
+          matched =
+              holds.both.matched;
+        };
+        turn = holds.turn;
+        at = holds.at;
+        size_is = holds.size_is;
+      })
   near_given own false piece n next s short h calm holds = near_same own n next s h holds
 
   pub near_clock :

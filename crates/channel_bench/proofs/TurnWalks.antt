@@ -1,6 +1,6 @@
--- What holds between the turns before and after each single act of a station holds between those before and after a whole step
--- of the bench: a message of a host program, a frame that is heard, or the ticks of links.
-use Rattle.std.proofs.Common.{◌≡◌, ℕ, Bool, true, false, List, [], ◌∷◌, length, map, cond, if◌then◌else◌, nat_lt, Option, Some, None, refl, sym, ap, ◌∙◌, subst}
+-- What holds between the turns before and after each single act of a station holds between those before and after a
+-- whole step of the bench: a message of a host program, a frame that is heard, or the ticks of links.
+use Rattle.std.proofs.Common.{◌≡◌, ℕ, Bool, true, false, List, [], ◌∷◌, length, map, cond, nat_lt, Option, Some, None, refl, sym, ◌∙◌, subst}
 use Rattle.std.specs.Prelude.{MatchBool}
 use Rattle.std.specs.List.{range_with_len}
 use Rattle.ax25_address.specs.Callsign.{Callsign}

@@ -6,12 +6,11 @@ use Rattle.link_world.specs.declared.end.End.TheVariants.{A, B}
 use Rattle.channel_bench.specs.declared.report.SetUp.{SetUp}
 use Rattle.channel_bench.specs.declared.words.BenchWords.{BenchWords}
 use Rattle.channel_bench.specs.BenchState.{BenchState, config_of, side_at}
-use Rattle.channel_bench.specs.CallerLaw.{BAsksNothing}
 use Rattle.channel_bench.specs.HostProgram.{call_at, set_ups_of}
-use Rattle.channel_bench.specs.InFlight.{Moment, AreMatched, AreQuietThrough, nothing_sent, steps_in}
+use Rattle.channel_bench.specs.InFlight.{Moment, AreQuietThrough, nothing_sent, steps_in}
 use Rattle.channel_bench.specs.JointRun.{Step, Stations, new_stations, IsJointRun, all_stepped}
 use Rattle.channel_bench.specs.LinkOfCalls.{Calls}
-use Rattle.channel_bench.specs.SetUpsSeen.{Seen, AllGivenWhileUp, set_ups_seen}
+use Rattle.channel_bench.specs.SetUpsSeen.{Seen, set_ups_seen}
 use Rattle.channel_bench.specs.Words.{seed_at}
 
 -- the calls of the two stations
