@@ -70,4 +70,5 @@ mod TowardsLemmas
 mod InTime
 mod TimedSteps
 mod TimedRun
+mod LinkTells
 mod OrderLaws

@@ -22,3 +22,4 @@ pub mod ProgramsTold
 pub mod KeepsOrder
 pub mod BenchOrder
 pub mod BenchLaw
+pub mod LinksTell

@@ -3,6 +3,7 @@ ghost use Rattle.channel_bench.specs.StationsLaw.{FollowingLaw, StationsLaw};
 ghost use Rattle.channel_bench.specs.BenchLaw.{BenchLaw};
 ghost use Rattle.channel_bench.specs.CallerLaw.{CallerLaw};
 ghost use Rattle.channel_bench.specs.HostsAsk.{HostsAskNothing};
+ghost use Rattle.channel_bench.specs.LinksTell.{LinksTellInOne};
 ghost use Rattle.channel_bench.specs.MatchedLaw.{MatchedInOrder, MatchedLaw};
 ghost use Rattle.channel_bench.specs.Owners.{OwnersAreTold};
 ghost use Rattle.channel_bench.specs.ProgramsTold.{ProgramsAreTold};
@@ -79,4 +80,10 @@ pub fn programs_are_told()
 /// run that no frame found a transmit queue full, and that the host programs gave only while the link was up and saw its set-ups.
 pub fn bench_law()
     ensures { BenchLaw }
+{}
+
+/// What a link tells its owner. A set-up runs from when it is told to be open until it is told to have ended. The set-up of a
+/// link that is up runs, and one that runs is of a link that is up or is being released. Data is told of only while one runs.
+pub fn links_tell_in_one()
+    ensures { LinksTellInOne }
 {}
