@@ -1,5 +1,5 @@
 -- A link tells of data only while a set-up runs: act by act.
-use Rattle.std.proofs.Common.{◌≡◌, ℕ, ◌==◌, ◌&&◌, nat_lt, nat_le, not, Bool, true, false, List, [], ◌∷◌, ◌++◌, length, map, cond, if◌then◌else◌, Option, Some, None, is_some, is_none, refl, sym, ap, ◌∙◌, subst, inl, inr}
+use Rattle.std.proofs.Common.{◌≡◌, ℕ, ◌==◌, ◌&&◌, nat_lt, not, Bool, true, false, List, [], ◌∷◌, ◌++◌, length, map, cond, if◌then◌else◌, Option, Some, None, is_some, is_none, refl, sym, ap, ◌∙◌, subst, inl, inr}
 use Rattle.std.proofs.lemmas.List.{append-nil, append_assoc, map-append}
 use Rattle.ax25_frames.specs.FrameText.{is_command_of}
 use Rattle.ax25_frames.specs.declared.frame.Kind.{Kind}
@@ -29,7 +29,7 @@ use Rattle.link_machine.specs.Requests.{connect, has_link}
 use Rattle.link_machine.specs.Step.{refusal_of, row, settle_in, settled, step}
 use Rattle.link_machine.specs.Ticks.{is_spent, runs_out, t1_out, t2_out, t3_out, tick_in, tick_t1, tick_t1_of, tick_t2, tick_t2_of, tick_t3_of, with_t1, with_t2, with_t3}
 use Rattle.link_machine.specs.Turn.{Turn, begin, changing, setting}
-use Rattle.channel_bench.specs.LinksTell.{AreToldInOne, LinksTellInOne, RunsIn, TellsInOne, runs_after}
+use Rattle.channel_bench.specs.LinksTell.{AreToldInOne, LinksTellInOne, RunsIn, runs_after}
 
 -- ---- what acts tell
 
@@ -40,14 +40,16 @@ record Tells (before after : Turn) : Type 0 where
   fits : (runs : Bool) → RunsIn runs before.now.control.state → AreToldInOne runs more
   stands : (runs : Bool) → RunsIn runs before.now.control.state → RunsIn (runs_after runs more) after.now.control.state
 
-runs_append : (runs : Bool) (first second : List Told) → runs_after runs (first ++ second) ≡ runs_after (runs_after runs first) second
+runs_append : (runs : Bool) (first second : List Told)
+    → runs_after runs (first ++ second) ≡ runs_after (runs_after runs first) second
 runs_append runs [] second = refl
 runs_append runs (Opened ours ∷ first) second = runs_append true first second
 runs_append runs (Given packet ∷ first) second = runs_append runs first second
 runs_append runs (Ended why ∷ first) second = runs_append false first second
 
 told_append :
-    (runs : Bool) (first second : List Told) → AreToldInOne runs first → AreToldInOne (runs_after runs first) second → AreToldInOne runs (first ++ second)
+    (runs : Bool) (first second : List Told) → AreToldInOne runs first → AreToldInOne (runs_after runs first) second
+    → AreToldInOne runs (first ++ second)
 told_append runs [] second h k = k
 told_append runs (Opened ours ∷ first) second h k = told_append true first second h k
 told_append runs (Given packet ∷ first) second h k = (h.0, told_append runs first second h.1 k)
@@ -57,7 +59,8 @@ tells_on : (t u v : Turn) → Tells t u → Tells u v → Tells t v
 tells_on t u v h k = record {
   more = h.more ++ k.more;
   told = k.told ∙ ap (λ xs. xs ++ k.more) h.told ∙ append_assoc t.told h.more k.more;
-  fits = λ runs in_state. told_append runs h.more k.more (h.fits runs in_state) (k.fits (runs_after runs h.more) (h.stands runs in_state));
+  fits = λ runs in_state. told_append runs h.more k.more (h.fits runs in_state)
+      (k.fits (runs_after runs h.more) (h.stands runs in_state));
   stands = λ runs in_state.
       subst (λ b. RunsIn b v.now.control.state) (sym (runs_append runs h.more k.more))
       (k.stands (runs_after runs h.more) (h.stands runs in_state));
@@ -115,12 +118,14 @@ gives_same t = gives_none t t refl refl
 gives_on : (t u v : Turn) → Gives t u → Gives u v → Gives t v
 gives_on t u v h k = record {
   packets = h.packets ++ k.packets;
-  told = k.told ∙ ap (λ xs. xs ++ map Given k.packets) h.told ∙ append_assoc t.told (map Given h.packets) (map Given k.packets)
+  told = k.told ∙ ap (λ xs. xs ++ map Given k.packets) h.told
+      ∙ append_assoc t.told (map Given h.packets) (map Given k.packets)
       ∙ ap (λ xs. t.told ++ xs) (sym (map-append Given h.packets k.packets));
   state = k.state ∙ h.state;
 }
 
-given_in_one : (packets : List Packet) → AreToldInOne true (map Given packets) × (runs_after true (map Given packets) ≡ true)
+given_in_one : (packets : List Packet) → AreToldInOne true (map Given packets)
+    × (runs_after true (map Given packets) ≡ true)
 given_in_one [] = (tt, refl)
 given_in_one (packet ∷ packets) = let rest = given_in_one packets in ((refl, rest.0), rest.1)
 
@@ -134,7 +139,8 @@ gives_up t u up h =
       fits = λ runs in_state. subst (λ b. AreToldInOne b (map Given h.packets)) (sym (in_state.up up)) all.0;
       stands = λ runs in_state.
           subst (λ state. RunsIn (runs_after runs (map Given h.packets)) state) (sym (h.state ∙ up))
-          (subst (λ b. RunsIn b Up) (sym (ap (λ b. runs_after b (map Given h.packets)) (in_state.up up) ∙ all.1)) some_up);
+          (subst (λ b. RunsIn b Up) (sym (ap (λ b. runs_after b (map Given h.packets)) (in_state.up up)
+          ∙ all.1)) some_up);
     }
 
 -- one of two turns
@@ -183,14 +189,17 @@ acknowledged_gives n t =
     gives_none t _ refl (timed_state (nat_lt t.now.outgoing.va n) (n == t.now.outgoing.top) t.now.control)
 
 busy_gives : (busy : Bool) (n : ℕ) (t : Turn) → Gives t (changing (acknowledged n) (setting (with_busy busy) t))
-busy_gives busy n t = gives_on t (setting (with_busy busy) t) _ (gives_none t _ refl refl) (acknowledged_gives n (setting (with_busy busy) t))
+busy_gives busy n t = gives_on t (setting (with_busy busy) t) _ (gives_none t _ refl refl)
+    (acknowledged_gives n (setting (with_busy busy) t))
 
 answered_gives : (asks answers : Bool) (t : Turn) → Gives t (recover answers (answer_poll asks t))
-answered_gives asks answers t = gives_on t (answer_poll asks t) _ (answer_gives asks t) (recover_gives answers (answer_poll asks t))
+answered_gives asks answers t = gives_on t (answer_poll asks t) _ (answer_gives asks t)
+    (recover_gives answers (answer_poll asks t))
 
 rr_gives : (n : ℕ) (asks answers : Bool) (t : Turn) → Gives t (hear_rr n asks answers t)
 rr_gives n asks answers t =
-    let u = changing (acknowledged n) (setting (with_busy false) t) in gives_on t u _ (busy_gives false n t) (answered_gives asks answers u)
+    let u = changing (acknowledged n) (setting (with_busy false) t) in gives_on t u _ (busy_gives false n t)
+    (answered_gives asks answers u)
 
 rnr_gives : (n : ℕ) (asks answers : Bool) (t : Turn) → Gives t (hear_rnr n asks answers t)
 rnr_gives n asks answers t =
@@ -227,7 +236,8 @@ srej_gives n flag asks answers t =
     (gives_on t v x (gives_on t u v (gives_none t u refl refl) (by_srej_gives n flag u)) (again_gives n v))
     (answered_gives asks answers x)
 
-supervisory_gives : (which : S) (n : ℕ) (command flag : Bool) (t : Turn) → Gives t (hear_supervisory which n command flag t)
+supervisory_gives : (which : S) (n : ℕ) (command flag : Bool) (t : Turn)
+    → Gives t (hear_supervisory which n command flag t)
 supervisory_gives Rr n command flag t = rr_gives n (command && flag) (not command && flag) t
 supervisory_gives Rnr n command flag t = rnr_gives n (command && flag) (not command && flag) t
 supervisory_gives Rej n command flag t = rej_gives n (command && flag) (not command && flag) t
@@ -244,7 +254,8 @@ in_sequence_gives flag packet t =
     gives_on t v _ (gives_on t u v (give_gives (packet ∷ []) t) (gives_none u v refl refl)) (answer_gives flag v)
 
 out_of_sequence_gives : (flag : Bool) (t : Turn) → Gives t (refuse_out_of_sequence flag t)
-out_of_sequence_gives flag t = either t.now.control.rej t (answer_poll flag t) (reject flag t) (answer_gives flag t) (gives_none t _ refl refl)
+out_of_sequence_gives flag t = either t.now.control.rej t (answer_poll flag t) (reject flag t) (answer_gives flag t)
+    (gives_none t _ refl refl)
 
 by_rej_gives : (ns : ℕ) (flag : Bool) (packet : Packet) (t : Turn) → Gives t (hear_info_by_rej ns flag packet t)
 by_rej_gives ns flag packet t =
@@ -254,15 +265,18 @@ by_rej_gives ns flag packet t =
 selected_gives : (ahead : ℕ) (packet : Packet) (t : Turn) → Gives t (take_selected ahead packet t)
 selected_gives ahead packet t =
     either (ahead == 0) t (give (run_with packet t.now) t) _ (give_gives (run_with packet t.now) t)
-    (either (nat_lt ahead t.now.incoming.window && not (is_full t.now.incoming.places ahead)) t _ t (gives_none t _ refl refl) (gives_same t))
+    (either (nat_lt ahead t.now.incoming.window && not (is_full t.now.incoming.places ahead)) t _ t
+    (gives_none t _ refl refl) (gives_same t))
 
 by_selective_gives : (ns : ℕ) (flag : Bool) (packet : Packet) (t : Turn) → Gives t (hear_info_by_srej ns flag packet t)
 by_selective_gives ns flag packet t =
     let u = take_selected (ahead_of_vr ns t.now) packet t in
     let v = setting owing u in
-    gives_on t v _ (gives_on t u v (selected_gives (ahead_of_vr ns t.now) packet t) (gives_none u v refl refl)) (answer_gives flag v)
+    gives_on t v _ (gives_on t u v (selected_gives (ahead_of_vr ns t.now) packet t) (gives_none u v refl refl))
+    (answer_gives flag v)
 
-info_by_gives : (mode : Mode) (ns : ℕ) (flag : Bool) (packet : Packet) (t : Turn) → Gives t (hear_info_by mode ns flag packet t)
+info_by_gives : (mode : Mode) (ns : ℕ) (flag : Bool) (packet : Packet) (t : Turn)
+    → Gives t (hear_info_by mode ns flag packet t)
 info_by_gives RejMode ns flag packet t = by_rej_gives ns flag packet t
 info_by_gives SrejMode ns flag packet t = by_selective_gives ns flag packet t
 
@@ -356,7 +370,8 @@ up_tells command (Other Frmr flag octets) t up = reset_tells t
 up_tells command (Other Xid flag octets) t up = tells_none t _ refl refl
 up_tells command (Other Test flag octets) t up = tells_none t _ refl refl
 
-hear_tells : (state : LinkState) (command : Bool) (kind : Kind) (t : Turn) → t.now.control.state ≡ state → Tells t (hear_in state command kind t)
+hear_tells : (state : LinkState) (command : Bool) (kind : Kind) (t : Turn) → t.now.control.state ≡ state
+    → Tells t (hear_in state command kind t)
 hear_tells Idle command kind t is = idle_tells command kind t
 hear_tells Calling command kind t is = calling_tells (is_wide t.now) kind t
 hear_tells Up command kind t is = up_tells command kind t is
@@ -406,7 +421,8 @@ tick_t1_tells (Some left) false t =
 
 ticks_tell : (waiting : Bool) (t : Turn) → Tells t (tick_t1 waiting (tick_t2 t))
 ticks_tell waiting t =
-    tells_on t (tick_t2 t) _ (tick_t2_tells t.now.control.t2 t) (tick_t1_tells (tick_t2 t).now.control.t1 waiting (tick_t2 t))
+    tells_on t (tick_t2 t) _ (tick_t2_tells t.now.control.t2 t)
+    (tick_t1_tells (tick_t2 t).now.control.t1 waiting (tick_t2 t))
 
 tick_tells : (state : LinkState) (waiting : Bool) (t : Turn) → Tells t (tick_in state waiting t)
 tick_tells Idle waiting t = tells_none t _ refl refl
@@ -430,7 +446,8 @@ release_tells t = record {
 }
 
 close_tells : (t : Turn) → Tells t (close t)
-close_tells t = one_of (t.now.control.quit && length t.now.outgoing.packets == 0) t (release t) t (release_tells t) (tells_none t t refl refl)
+close_tells t = one_of (t.now.control.quit && length t.now.outgoing.packets == 0) t (release t) t (release_tells t)
+    (tells_none t t refl refl)
 
 settle_tells : (state : LinkState) (t : Turn) → Tells t (settle_in state t)
 settle_tells Idle t = tells_none t _ refl refl
@@ -440,7 +457,8 @@ settle_tells Releasing t = tells_none t _ refl refl
 
 -- ---- each event
 
-idle_is : (state : LinkState) (fault : LinkFault) → is_some (cond (has_link state) (Some fault) None) ≡ false → state ≡ Idle
+idle_is : (state : LinkState) (fault : LinkFault) → is_some (cond (has_link state) (Some fault) None) ≡ false
+    → state ≡ Idle
 idle_is Idle fault is = refl
 idle_is Calling fault is = absurd (cc)
 idle_is Up fault is = absurd (cc)
@@ -464,7 +482,8 @@ row_tells : (m : Machine) (event : Event) → is_some (refusal_of m event) ≡ f
 row_tells m Connect taken = connect_tells (begin m) (idle_is m.control.state _ taken)
 row_tells m (Send packet) taken = tells_none (begin m) _ refl refl
 row_tells m Disconnect taken = tells_none (begin m) _ refl refl
-row_tells m (Hear frame) taken = hear_tells m.control.state (is_command_of frame.path.role frame.kind) frame.kind (begin m) refl
+row_tells m (Hear frame) taken = hear_tells m.control.state (is_command_of frame.path.role frame.kind) frame.kind
+    (begin m) refl
 row_tells m (Tick waiting) taken = tick_tells m.control.state waiting (begin m)
 
 step_tells : (m : Machine) (event : Event) → Tells (begin m) (step m event)
@@ -474,15 +493,18 @@ step_tells m event = go (is_some (refusal_of m event)) refl
     made : Turn
     made = row event (begin m)
 
-    go : (b : Bool) → is_some (refusal_of m event) ≡ b → Tells (begin m) (cond b (begin m) (settled (row event (begin m))))
+    go : (b : Bool) → is_some (refusal_of m event) ≡ b
+        → Tells (begin m) (cond b (begin m) (settled (row event (begin m))))
     go true is = tells_none (begin m) _ refl refl
     go false is =
-        let u = row event (begin m) in tells_on (begin m) u _ (row_tells m event is) (settle_tells u.now.control.state u)
+        let u = row event (begin m) in tells_on (begin m) u _ (row_tells m event is)
+        (settle_tells u.now.control.state u)
 
 pub links_tell_holds : LinksTellInOne
 links_tell_holds m event runs in_state =
     let h = step_tells m event in
     record {
       told = subst (AreToldInOne runs) (sym h.told) (h.fits runs in_state);
-      now = subst (λ told. RunsIn (runs_after runs told) (step m event).now.control.state) (sym h.told) (h.stands runs in_state);
+      now = subst (λ told. RunsIn (runs_after runs told) (step m event).now.control.state) (sym h.told)
+          (h.stands runs in_state);
     }

@@ -1,6 +1,7 @@
 -- The law on a bench, from the law on two stations of which one alone calls: what the ends of the link got in order,
 -- the host programs got in order.
 use Rattle.std.proofs.Common.{◌≡◌, List, [], ◌∷◌, map, refl, sym, ap, ◌∙◌, subst, arith}
+use Rattle.std.proofs.lemmas.List.Elements.{All-from_recursion, recursion_from_All}
 use Rattle.link_world.specs.declared.end.End.TheVariants.{A, B}
 use Rattle.link_world.specs.Origin.{GotInOrder as PacketsInOrder}
 use Rattle.link_world.specs.Recorded.{RecordedEnd}
@@ -9,19 +10,22 @@ use Rattle.link_world.specs.Windows.{WindowsFit}
 use Rattle.link_world.proofs.law.ChangesLaw.{changes_law_holds}
 use Rattle.channel_bench.specs.declared.report.SetUp.{SetUp}
 use Rattle.channel_bench.specs.declared.words.BenchWords.{BenchWords}
-use Rattle.channel_bench.specs.BenchLaw.{BenchLaw}
+use Rattle.channel_bench.specs.BenchLaw.{BenchLaw, NoAskDropped}
 use Rattle.channel_bench.specs.BenchOrder.{IsNoted, set_up_of, stations_of, steps_of_run, the_calls}
 use Rattle.channel_bench.specs.BenchState.{BenchState, config_of, params_of}
-use Rattle.channel_bench.specs.CallerLaw.{DroppedNothing}
+use Rattle.channel_bench.specs.CallerLaw.{BAsksNothing}
 use Rattle.channel_bench.specs.HostProgram.{ProgramState, set_ups_of}
 use Rattle.channel_bench.specs.KeepsOrder.{GotInOrder, KeepsOrder}
-use Rattle.channel_bench.specs.LinkOfCalls.{world_of}
-use Rattle.channel_bench.specs.MatchedLaw.{pairs_in}
+use Rattle.channel_bench.specs.JointRun.{Step}
+use Rattle.channel_bench.specs.LinkOfCalls.{link_at_end, world_of}
+use Rattle.channel_bench.specs.LinkSteps.{steps_of}
+use Rattle.channel_bench.specs.MatchedLaw.{DropsNoAsk, IsEventOfCaller, OnlyACalls, pairs_in}
 use Rattle.channel_bench.specs.SetUpsSeen.{Seen, as_seen, set_ups_seen}
 use Rattle.channel_bench.specs.Words.{seed_at}
-use Rattle.channel_bench.proofs.CallerLaws.{caller_law_holds}
+use Rattle.channel_bench.proofs.CallerLaws.{events_by}
 use Rattle.channel_bench.proofs.CoreRun.{core_kept}
 use Rattle.channel_bench.proofs.GotOctets.{octets_in_order, seen_as}
+use Rattle.channel_bench.proofs.MatchedLaws.{matched_law_holds}
 use Rattle.channel_bench.proofs.MatchedOrder.{matched_in_order_holds}
 use Rattle.channel_bench.proofs.NotedRun.{noted_kept}
 use Rattle.channel_bench.proofs.ProgramsAsk.{AskLittle, asks_kept}
@@ -55,6 +59,18 @@ order_of near far ours theirs order same_ours same_theirs =
     subst (λ qs. GotInOrder qs ours) same_theirs
     (subst (GotInOrder (map seen_as far.set_ups)) same_ours (octets_in_order near far order))
 
+-- the events of the link that a caller may have
+only_a_calls : (steps : List Step) → BAsksNothing steps → NoAskDropped the_calls steps → OnlyACalls the_calls steps
+only_a_calls [] asks joined = tt
+only_a_calls (step ∷ steps) asks joined =
+    let e = step.station in
+    let made = steps_of (link_at_end the_calls e) step in (
+      All-from_recursion (IsEventOfCaller e) made
+          (events_by e the_calls step refl asks.0
+          (recursion_from_All DropsNoAsk made joined.0)),
+      only_a_calls steps asks.1 joined.1,
+    )
+
 pub bench_law_holds : BenchLaw
 bench_law_holds w report over h =
     let bench = over.bench in
@@ -69,9 +85,10 @@ bench_law_holds w report over h =
     over.ticks over.no_trouble in
     let matched = (run_in_time w over.count bench over.ticks over.no_trouble).both.matched in
     let order = matched_in_order_holds moments matched in
-    let kept = caller_law_holds changes_law_holds config config (seed_at w A)
+    let kept =
+    matched_law_holds changes_law_holds config config (seed_at w A)
     (seed_at w B) moments noted.run matched noted.quiet (windows w)
-    little.asks (subst DroppedNothing (sym noted.now) h.dropped) the_calls in
+    the_calls (only_a_calls steps little.asks h.dropped) in
     let seen = set_ups_law_holds config config (seed_at w A)
     (seed_at w B) steps pairs noted.run order.0 order.1 the_calls h.given in
     let world = world_of the_calls pairs config.params config.params steps in

@@ -77,7 +77,7 @@ pub fn programs_are_told()
 
 /// The law on a bench. In a run that is over, at each side each set-up that got octets has an origin, a set-up of the other
 /// side; what was got is a first part of what was given in it; and origins rise strictly from set-up to set-up. It asks of the
-/// run that no frame found a transmit queue full, and that the host programs gave only while the link was up and saw its set-ups.
+/// run that no SABM, SABME or DISC found a transmit queue full, and that the host programs gave only while the link was up and saw its set-ups.
 pub fn bench_law()
     ensures { BenchLaw }
 {}
