@@ -1,11 +1,9 @@
 -- A step after which a station has dropped no frame: each frame that its links sent joined the queue.
-use Rattle.std.proofs.Common.{◌≡◌, ℕ, ◌+◌, ◌-◌, ◌<◌, ◌≤◌, Bool, true, false, ◌==◌, nat_lt, nat_le, List, [], ◌∷◌, ◌++◌, length, map, drop, cond, if◌then◌else◌, Option, Some, None, refl, sym, ap, ◌∙◌, subst, arith, inl, inr}
-use Rattle.std.specs.Prelude.{All, MatchBool}
-use Rattle.std.specs.Bool.{⊤}
+use Rattle.std.proofs.Common.{◌≡◌, ℕ, ◌+◌, ◌-◌, Bool, true, false, ◌==◌, nat_lt, nat_le, List, [], ◌∷◌, ◌++◌, length, map, drop, cond, if◌then◌else◌, Option, Some, None, refl, sym, ap, ◌∙◌, subst, arith, inl, inr}
+use Rattle.std.specs.Prelude.{MatchBool}
 use Rattle.std.specs.List.{range_with_len, list_any, AllByRecursion as Each}
 use Rattle.std.proofs.lemmas.Bool.{ltb-false, eqb-true}
 use Rattle.std.proofs.lemmas.List.{drop_all, length-append, length-map}
-use Rattle.std.proofs.lemmas.List.Elements.{All-from_recursion}
 use Rattle.ax25_address.specs.Callsign.{Callsign}
 use Rattle.ax25_address.specs.FramePath.{way_back}
 use Rattle.ax25_address.specs.declared.path.Path.{Path}
@@ -21,7 +19,7 @@ use Rattle.link_machine.specs.declared.acts.SentFrame.{SentFrame}
 use Rattle.link_machine.specs.declared.acts.Told.{Told}
 use Rattle.link_machine.specs.Event.{Event as LinkEvent}
 use Rattle.link_machine.specs.Event.Event.{Connect as LinkConnect, Send as LinkSend, Disconnect as LinkDisconnect, Hear as LinkHear, Tick as LinkTick}
-use Rattle.link_machine.specs.Sent.{SentIn, sent_frame}
+use Rattle.link_machine.specs.Sent.{sent_frame}
 use Rattle.link_machine.specs.Step.{step as link_turn, done_of}
 use Rattle.link_world.proofs.law.Each.{each_append}
 use Rattle.station.specs.declared.host_event.HostEvent.{HostEvent}
@@ -33,7 +31,7 @@ use Rattle.station.specs.AgwRequests.{replying, version_reply, ports_reply, capa
 use Rattle.station.specs.CallFields.{call_in}
 use Rattle.station.specs.Connections.{Connection, connection_of, most_connections}
 use Rattle.station.specs.FrameSpelling.{frame_octets}
-use Rattle.station.specs.Heard.{IsHeard, IsHeardBy, IsHeardAnew, IsHeardMaking, IsReadingHeardAnew, IsRepeatedFor, AreHeardAt, AreOctetsHeard, may_make, hearing_at, with_shown, showing, showing_to, source_field, destination_field, waits_for_repeater}
+use Rattle.station.specs.Heard.{IsHeardBy, IsHeardAnew, IsHeardMaking, IsReadingHeardAnew, IsRepeatedFor, AreHeardAt, AreOctetsHeard, may_make, hearing_at, showing, showing_to, source_field, destination_field, waits_for_repeater}
 use Rattle.station.specs.Host.{joining, with_host, new_messages, new_items, taking, ending, AreTaken, AreTakenBy, IsHostTurn}
 use Rattle.station.specs.Kiss.{param_of, with_param, heeding, heeding_all}
 use Rattle.station.specs.Leaving.{giving_up, giving_up_all, giving_up_link, leaving, without_host, without_owner}
@@ -47,7 +45,7 @@ use Rattle.station.specs.Ticks.{ticking, ticking_at, ticking_links, waits}
 use Rattle.station.specs.Turn.{Turn, Act, begin, in_order, changing, closing, queueing, entering, dropping, capacity}
 use Rattle.channel_bench.specs.JointRun.{Input, IsTurn, Step}
 use Rattle.channel_bench.specs.JointRun.Input.{FromHost, OffAir, OfClock}
-use Rattle.channel_bench.specs.LinkSteps.{LinkStep, Choice, link_step, steps_for, steps_at, steps_along, ticks_at, tick_steps, given_up, gives_up_at, leaving_steps, made_steps, call_steps, sends_at, data_steps, disconnect_steps, else_steps, answer_steps, message_steps, ending_steps, octet_steps_by, octet_steps, host_steps, hears_at, new_steps, anew_steps, reading_steps, key_steps, path_steps, by_path_steps, heard_steps, turn_steps, steps_of}
+use Rattle.channel_bench.specs.LinkSteps.{LinkStep, Choice, link_step, steps_for, steps_at, steps_along, ticks_at, tick_steps, given_up, gives_up_at, leaving_steps, made_steps, call_steps, sends_at, data_steps, disconnect_steps, else_steps, answer_steps, message_steps, ending_steps, octet_steps_by, octet_steps, host_steps, hears_at, new_steps, anew_steps, reading_steps, key_steps, path_steps, by_path_steps, turn_steps, steps_of}
 use Rattle.channel_bench.specs.MatchedLaw.{DropsNoAsk, asks_when_sent}
 use Rattle.channel_bench.proofs.Queues.{octets_of}
 

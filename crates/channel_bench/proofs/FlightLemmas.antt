@@ -1,5 +1,6 @@
 -- What is kept of the frames in flight, and moments one after another.
-use Rattle.std.proofs.Common.{◌≡◌, ℕ, ◌+◌, ◌<◌, Bool, true, false, ◌||◌, ◌&&◌, List, [], ◌∷◌, ◌++◌, length, map, drop, cond, Option, Some, None, refl, sym, ap, ◌∙◌}
+use Rattle.std.proofs.Common.{◌≡◌, ℕ, ◌+◌, Bool, true, false, ◌||◌, List, [], ◌∷◌, ◌++◌, map, drop, cond, Option, Some, None, refl, sym, ap, ◌∙◌}
+use Rattle.std.specs.Prelude.{is_some}
 use Rattle.std.specs.List.{list_any}
 use Rattle.std.proofs.lemmas.List.{drop-map, map-append}
 use Rattle.link_world.specs.declared.end.End.{End}
@@ -9,7 +10,8 @@ use Rattle.channel_bench.specs.BenchSteps.{count_of, first_unquiet}
 use Rattle.channel_bench.specs.HeldBench.{flags_of, StandsForWay}
 use Rattle.channel_bench.specs.InFlight.{LinkFrame, OneWay, BothWays, Moment, in_flight, is_quiet_at, queueing_at, queueing_all, after_moment, after_moments}
 
-list_any-map : {X Y : Type 0} (p : Y → Bool) (f : X → Y) (xs : List X) → list_any p (map f xs) ≡ list_any (λ x. p (f x)) xs
+list_any-map : {X Y : Type 0} (p : Y → Bool) (f : X → Y) (xs : List X)
+    → list_any p (map f xs) ≡ list_any (λ x. p (f x)) xs
 list_any-map p f [] = refl
 list_any-map p f (x ∷ xs) = ap (λ b. p (f x) || b) (list_any-map p f xs)
 
@@ -43,9 +45,11 @@ moments_two (first ∷ moments) one two ways = moments_two moments one two (afte
 -- ---- the frames of a step
 
 pub queueing_more : (sender : End) (on_ask : Bool) (frames : List (List ℕ)) (octets : List ℕ) (ways : BothWays)
-    → queueing_all sender on_ask (frames ++ octets ∷ []) ways ≡ queueing_at sender on_ask octets (queueing_all sender on_ask frames ways)
+    → queueing_all sender on_ask (frames ++ octets ∷ []) ways ≡ queueing_at sender on_ask octets
+    (queueing_all sender on_ask frames ways)
 queueing_more sender on_ask [] octets ways = refl
-queueing_more sender on_ask (first ∷ frames) octets ways = queueing_more sender on_ask frames octets (queueing_at sender on_ask first ways)
+queueing_more sender on_ask (first ∷ frames) octets ways = queueing_more sender on_ask frames octets
+    (queueing_at sender on_ask first ways)
 
 -- a frame more, after one that found no quiet channel
 stays_by : (b : Bool) (short long other : Option ℕ) (number : ℕ) → (short ≡ Some number → long ≡ Some number)
@@ -53,8 +57,10 @@ stays_by : (b : Bool) (short long other : Option ℕ) (number : ℕ) → (short 
 stays_by true short long other number again h = again h
 stays_by false short long other number again h = h
 
-pub first_stays : (sender : End) (on_ask : Bool) (frames : List (List ℕ)) (octets : List ℕ) (ways : BothWays) (number : ℕ)
-    → first_unquiet sender on_ask frames ways ≡ Some number → first_unquiet sender on_ask (frames ++ octets ∷ []) ways ≡ Some number
+first_stays : (sender : End) (on_ask : Bool) (frames : List (List ℕ)) (octets : List ℕ) (ways : BothWays)
+    (number : ℕ)
+    → first_unquiet sender on_ask frames ways ≡ Some number
+    → first_unquiet sender on_ask (frames ++ octets ∷ []) ways ≡ Some number
 first_stays sender on_ask [] octets ways number is = absurd (cc)
 first_stays sender on_ask (first ∷ frames) octets ways number is =
     let then_ways : BothWays = queueing_at sender on_ask first ways in
@@ -68,14 +74,28 @@ next_by : (b : Bool) (short long other : Option ℕ) (number : ℕ) → (short �
 next_by true short long other number again h = again h
 next_by false short long other number again h = absurd (cc)
 
-pub first_next : (sender : End) (on_ask : Bool) (frames : List (List ℕ)) (octets : List ℕ) (ways : BothWays)
+first_next : (sender : End) (on_ask : Bool) (frames : List (List ℕ)) (octets : List ℕ) (ways : BothWays)
     → first_unquiet sender on_ask frames ways ≡ None
     → first_unquiet sender on_ask (frames ++ octets ∷ []) ways
-    ≡ cond (is_quiet_at sender octets (queueing_all sender on_ask frames ways)) None (Some (count_of (queueing_all sender on_ask frames ways) + 1))
+    ≡ cond (is_quiet_at sender octets (queueing_all sender on_ask frames ways)) None
+    (Some (count_of (queueing_all sender on_ask frames ways) + 1))
 first_next sender on_ask [] octets ways is = refl
 first_next sender on_ask (first ∷ frames) octets ways is =
     let then_ways : BothWays = queueing_at sender on_ask first ways in
     let all : BothWays = queueing_all sender on_ask frames then_ways in
     next_by (is_quiet_at sender first ways) (first_unquiet sender on_ask frames then_ways)
-    (first_unquiet sender on_ask (frames ++ octets ∷ []) then_ways) (cond (is_quiet_at sender octets all) None (Some (count_of all + 1)))
+    (first_unquiet sender on_ask (frames ++ octets ∷ []) then_ways)
+    (cond (is_quiet_at sender octets all) None (Some (count_of all + 1)))
     (count_of ways + 1) (first_next sender on_ask frames octets then_ways) is
+
+-- the first that finds no quiet channel, with a frame more
+pub first_more : (sender : End) (on_ask : Bool) (frames : List (List ℕ)) (octets : List ℕ) (ways : BothWays)
+    (first next : Option ℕ)
+    → first ≡ first_unquiet sender on_ask frames ways
+    → next ≡ cond (is_some first || is_quiet_at sender octets (queueing_all sender on_ask frames ways)) first
+    (Some (count_of (queueing_all sender on_ask frames ways) + 1))
+    → next ≡ first_unquiet sender on_ask (frames ++ octets ∷ []) ways
+first_more sender on_ask frames octets ways None next h is = is
+    ∙ sym (first_next sender on_ask frames octets ways (sym h))
+first_more sender on_ask frames octets ways (Some number) next h is =
+    is ∙ sym (first_stays sender on_ask frames octets ways number (sym h))

@@ -1,5 +1,5 @@
 -- No sample of a tick is louder than 10000.
-use Rattle.std.proofs.Common.{ℕ, ◌+◌, ◌*◌, ◌≤◌, Bool, ℤ, pos, List, [], ◌∷◌, ◌++◌, unsigned_abs, get_or, take, drop, replicate, Option, Some, None, arith}
+use Rattle.std.proofs.Common.{ℕ, ◌+◌, ◌*◌, ◌≤◌, Bool, ℤ, pos, List, [], ◌∷◌, ◌++◌, unsigned_abs, get_or, drop, replicate, Option, Some, None, arith}
 use Rattle.std.specs.List.{All, range_with_len}
 use Rattle.std.proofs.lemmas.List.Elements.{All-nil, All-map, All-append, All-replicate, All-take, All-drop}
 use Rattle.tone_table.specs.declared.tone.Tone.{Tone}
@@ -10,7 +10,7 @@ use Rattle.tone_table.proofs.SineLemmas.{unsigned_abs-wave_sample}
 use Rattle.nrzi_bits.specs.Line.{line}
 use Rattle.hdlc_framer.specs.Body.{body}
 use Rattle.afsk_modulator.specs.Transmission.{transmission}
-use Rattle.channel_access.specs.Channel.{Channel, after_rules, air_samples, air_tick}
+use Rattle.channel_access.specs.Channel.{Channel, after_rules, air_samples}
 use Rattle.channel_access.specs.OnAir.{OnAir, bits_then, decided, flags_behind, samples_of, tick_samples}
 use Rattle.channel_access.specs.Waiting.{WaitingFrame}
 use Rattle.station.specs.State.{StationState}
@@ -32,7 +32,8 @@ within-wave_from phase (tone ∷ tones) =
     All-append IsLoudAtMost (pure_window phase tone) (wave_from (next_phase phase tone) tones)
     (within-pure_window phase tone) (within-wave_from (next_phase phase tone) tones)
 
-within-transmission : (frames : List (List ℕ)) (opening closing : ℕ) → All IsLoudAtMost (transmission frames opening closing)
+within-transmission : (frames : List (List ℕ)) (opening closing : ℕ)
+    → All IsLoudAtMost (transmission frames opening closing)
 unfolding transmission
 within-transmission frames opening closing = within-wave_from 0 (line (body frames opening closing))
 

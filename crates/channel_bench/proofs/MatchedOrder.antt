@@ -1,5 +1,5 @@
 -- The pairs that the matches of a run make: what is heard is heard in order and once, and was sent before.
-use Rattle.std.proofs.Common.{◌≡◌, ◌≢◌, ℕ, ◌+◌, ◌<◌, ◌≤◌, Bool, true, false, List, [], ◌∷◌, ◌++◌, length, map, Option, Some, None, is_some, refl, sym, ap, ◌∙◌, subst, arith}
+use Rattle.std.proofs.Common.{◌≡◌, ◌≢◌, ℕ, ◌<◌, ◌≤◌, Bool, true, false, List, [], ◌∷◌, ◌++◌, length, Option, Some, None, is_some, refl, sym, ap, ◌∙◌, subst, arith}
 use Rattle.std.specs.Prelude.{slice_get, option_map}
 use Rattle.std.specs.List.{AllByRecursion as Each}
 use Rattle.std.proofs.lemmas.List.{append-nil, append_assoc, length-append}
@@ -13,7 +13,7 @@ use Rattle.link_world.specs.World.{other}
 use Rattle.link_world.proofs.law.Each.{each_weaker, each_append}
 use Rattle.station.specs.Heard.{IsHeardBy, IsPathOf, showing, source_field, destination_field}
 use Rattle.station.specs.Turn.{Turn, begin}
-use Rattle.channel_bench.specs.HeardInOrder.{AreAlikeButForH, Pair, IsOffAir, HearsLinkFrame, AreHeardInOrder}
+use Rattle.channel_bench.specs.HeardInOrder.{AreAlikeButForH, Pair, IsOffAir, AreHeardInOrder}
 use Rattle.channel_bench.specs.InFlight.{Moment, LinkFrame, OneWay, BothWays, IsMatched, AreMatched, hears_ask, nothing_sent, sent_by, steps_in, queueing_all, hearing_at, after_moment}
 use Rattle.channel_bench.specs.InFlight.Moment.{Steps, Passes}
 use Rattle.channel_bench.specs.JointRun.{Input, IsTurn, Step, at_end, queued_at}

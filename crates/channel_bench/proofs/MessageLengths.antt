@@ -1,10 +1,11 @@
 -- How many octets a message has.
-use Rattle.std.proofs.Common.{◌≡◌, ℕ, ◌+◌, List, [], ◌∷◌, ◌++◌, length, length-append, arith}
+use Rattle.std.proofs.Common.{◌≡◌, ◌+◌, [], ◌∷◌, ◌++◌, length, length-append, arith}
 use Rattle.byteorder.specs.Endian.{little_bytes}
 use Rattle.agwpe_port.specs.declared.message.AgwMessage.{AgwMessage}
 use Rattle.agwpe_port.specs.Messages.{header_of, spelling}
 
-pub length-spelling : (m : AgwMessage) → length m.from ≡ 10 → length m.to ≡ 10 → length (spelling m) ≡ 36 + length m.body
+pub length-spelling : (m : AgwMessage) → length m.from ≡ 10 → length m.to ≡ 10
+    → length (spelling m) ≡ 36 + length m.body
 unfolding spelling
 length-spelling m from to =
     let size = little_bytes 4 (length m.body) in

@@ -1,5 +1,5 @@
 -- Octets and noise, one word after another.
-use Rattle.std.proofs.Common.{◌≡◌, ℕ, zero, suc, ◌+◌, ◌-◌, ◌%◌, ◌<◌, ◌≤◌, ℤ, pos, ◌+ℤ◌, List, [], ◌∷◌, ◌++◌, length, map, drop, get_or, refl, ap, sym, ◌∙◌, arith, append_assoc, append-nil, length-append}
+use Rattle.std.proofs.Common.{◌≡◌, ℕ, suc, ◌+◌, ◌-◌, ◌%◌, ◌<◌, ◌≤◌, ℤ, pos, ◌+ℤ◌, List, [], ◌∷◌, ◌++◌, length, map, drop, get_or, refl, ap, sym, ◌∙◌, arith, append_assoc, append-nil}
 use Rattle.std.proofs.lemmas.List.{drop_more, drop_all}
 use Rattle.rand_pcg.specs.Lcg.{Lcg}
 use Rattle.rand_pcg.specs.Pcg.{pcg32}
@@ -13,15 +13,18 @@ octet_of word = word % 256
 pub record HasDrawn (initial now : Lcg) (count place : ℕ) (octets : List ℕ) : Type 0 where
   pub parts : octets ++ map octet_of (words (count - place) now) ≡ map octet_of (words count initial)
 
-pub has_drawn_none : (initial : Lcg) (count : ℕ) (octets : List ℕ) → octets ≡ [] → HasDrawn initial initial count 0 octets
+pub has_drawn_none : (initial : Lcg) (count : ℕ) (octets : List ℕ) → octets ≡ []
+    → HasDrawn initial initial count 0 octets
 has_drawn_none initial count octets none =
     let all : count - 0 ≡ count = omega arith in
     record {
-      parts = ap (λ os. os ++ map octet_of (words (count - 0) initial)) none ∙ ap (λ n. map octet_of (words n initial)) all;
+      parts = ap (λ os. os ++ map octet_of (words (count - 0) initial)) none
+          ∙ ap (λ n. map octet_of (words n initial)) all;
     }
 
 pub has_drawn_more : (initial was now : Lcg) (count place word : ℕ) (octets more : List ℕ)
-    → HasDrawn initial was count place octets → place < count → (word, now) ≡ pcg32 was → more ≡ octets ++ octet_of word ∷ []
+    → HasDrawn initial was count place octets → place < count → (word, now) ≡ pcg32 was
+    → more ≡ octets ++ octet_of word ∷ []
     → HasDrawn initial now count (place + 1) more
 has_drawn_more initial was now count place word octets more h below drawn what =
     let left : ℕ = count - (place + 1) in
@@ -54,7 +57,8 @@ noise_none noise exact initial noisy none = record {
   draws = refl;
 }
 
-pub noise_more : (noise : ℕ) (exact : List ℤ) (initial was now : Lcg) (place : ℕ) (sample added : ℤ) (noisy more : List ℤ)
+pub noise_more : (noise : ℕ) (exact : List ℤ) (initial was now : Lcg) (place : ℕ) (sample added : ℤ)
+    (noisy more : List ℤ)
     → HasNoise noise exact initial was place noisy → place < length exact → sample ≡ get_or exact place (pos 0)
     → added ≡ noise_of noise (next_word was) → now ≡ after_word was → more ≡ noisy ++ (sample +ℤ added) ∷ []
     → HasNoise noise exact initial now (place + 1) more
@@ -66,7 +70,8 @@ noise_more noise exact initial was now place sample added noisy more h below is 
           ∙ (λ i. noisy ++ ((is i +ℤ drawn i) ∷ with_words noise rest (next i)))
           ∙ ap (λ xs. noisy ++ with_words noise xs was) (sym (drop_more exact place (pos 0) below))
           ∙ h.parts;
-      draws = ap (after_words rest) next ∙ ap (λ xs. after_words xs was) (sym (drop_more exact place (pos 0) below)) ∙ h.draws;
+      draws = ap (after_words rest) next ∙ ap (λ xs. after_words xs was) (sym (drop_more exact place (pos 0) below))
+          ∙ h.draws;
     }
 
 pub noise_all : (noise : ℕ) (exact : List ℤ) (initial now : Lcg) (place : ℕ) (noisy : List ℤ)
@@ -76,3 +81,8 @@ noise_all noise exact initial now place noisy h past = (
   sym (append-nil noisy) ∙ ap (λ xs. noisy ++ with_words noise xs now) (sym (drop_all place exact past)) ∙ h.parts,
   ap (λ xs. after_words xs now) (sym (drop_all place exact past)) ∙ h.draws,
 )
+
+pub length-with_words : (noise : ℕ) (samples : List ℤ) (draws : Lcg)
+    → length (with_words noise samples draws) ≡ length samples
+length-with_words noise [] draws = refl
+length-with_words noise (sample ∷ samples) draws = ap suc (length-with_words noise samples (after_word draws))

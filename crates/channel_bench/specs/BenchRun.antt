@@ -1,5 +1,5 @@
 -- A run of the bench: tick after tick, until it is over, or something ends it, or it has taken too long.
-use Rattle.std.specs.Prelude.{◌≡◌, ℕ, zero, suc, ◌&&◌, Bool, true, false, List, Option, Some, None}
+use Rattle.std.specs.Prelude.{◌≡◌, ℕ, zero, suc, ◌&&◌, Bool, true, false, Some, None}
 use Rattle.channel_bench.specs.declared.report.BenchFault.{BenchFault}
 use Rattle.channel_bench.specs.declared.report.BenchFault.TheVariants.{Stray, NotQuiet, Spent, Memory}
 use Rattle.channel_bench.specs.declared.trouble.Trouble.{Trouble}

@@ -1,9 +1,9 @@
--- The steps of a station of the bench, and what its host program and the channel make of each: the program is told what it
--- is sent, and each frame that a link queues is in flight. A SABM, SABME or DISC that finds no quiet channel ends the run.
-use Rattle.std.specs.Prelude.{◌≡◌, ◌≢◌, ℕ, ◌+◌, ◌-◌, ◌==◌, nat_lt, ◌&&◌, Bool, true, false, IsTrue, ◌↔◌, MatchBool, if◌then◌else◌, List, [], ◌∷◌, ◌++◌, length, All, Any, drop, position, Option, Some, None, option_map}
+-- The steps of a station of the bench, and what its host program and the channel make of each: the program is told what
+-- it is sent, and each frame that a link queues is in flight. A SABM, SABME or DISC that finds no quiet channel ends the
+-- run.
+use Rattle.std.specs.Prelude.{◌≡◌, ◌≢◌, ℕ, ◌+◌, ◌-◌, ◌==◌, nat_lt, ◌&&◌, Bool, IsTrue, ◌↔◌, MatchBool, if◌then◌else◌, List, [], ◌∷◌, ◌++◌, length, All, Any, drop, position, Option, Some, None, option_map}
 use Rattle.std.specs.Str.{bytes_eq}
 use Rattle.frame_merge.specs.declared.candidate.Candidate.{Candidate}
-use Rattle.channel_access.specs.declared.air_tick.AirTick.{AirTick}
 use Rattle.link_world.specs.declared.end.End.{End}
 use Rattle.slicer_bank.specs.Busy.{HearsCarrier}
 use Rattle.station.specs.declared.host_event.HostEvent.{HostEvent}
@@ -19,7 +19,7 @@ use Rattle.channel_bench.specs.declared.trouble.Trouble.{Trouble}
 use Rattle.channel_bench.specs.declared.trouble.Trouble.TheVariants.{Stray, Unquiet}
 use Rattle.channel_bench.specs.BenchState.{SideState, Common, Near, ways_of}
 use Rattle.channel_bench.specs.HostProgram.{told_all}
-use Rattle.channel_bench.specs.InFlight.{Moment, BothWays, hears_ask, hearing_at, is_quiet_at, queueing_at}
+use Rattle.channel_bench.specs.InFlight.{BothWays, hears_ask, hearing_at, is_quiet_at, queueing_at}
 use Rattle.channel_bench.specs.InFlight.Moment.{Steps}
 use Rattle.channel_bench.specs.JointRun.{Input, IsTurn, HasOctets, Step}
 use Rattle.channel_bench.specs.JointRun.Input.{FromHost, OffAir, OfClock}

@@ -1,5 +1,5 @@
 -- One tick of the bench, part by part: the hosts, the two stations, the channel, and what is heard.
-use Rattle.std.specs.Prelude.{◌≡◌, ℕ, ◌+◌, ◌==◌, ◌&&◌, not, Bool, true, IsTrue, ◌↔◌, MatchBool, if◌then◌else◌, List, [], ◌∷◌, ◌++◌, length, drop, ℤ, ◌-◌, Option, Some, None}
+use Rattle.std.specs.Prelude.{◌≡◌, ℕ, ◌+◌, ◌==◌, ◌&&◌, not, Bool, true, IsTrue, ◌↔◌, MatchBool, if◌then◌else◌, List, [], ◌∷◌, ◌++◌, length, ℤ, ◌-◌, Option, Some, None}
 use Rattle.frame_merge.specs.declared.candidate.Candidate.{Candidate}
 use Rattle.link_world.specs.declared.end.End.{End}
 use Rattle.link_world.specs.declared.end.End.TheVariants.{A, B}
@@ -73,8 +73,8 @@ pub record IsAskedOrCalled (w : BenchWords) (before after : BenchState) : Type 0
 
 -- ---- what is heard
 
--- The frames that are heard with the samples of a tick: those of the merged candidates of all samples so far that end below
--- the marks, and did not before.
+-- The frames that are heard with the samples of a tick: those of the merged candidates of all samples so far that end
+-- below the marks, and did not before.
 abbrev pub AreReady : List ℤ → List Candidate → Type 0
 AreReady samples items = AreMergedBetween (length samples - (tick_samples + 7)) (mark_of samples) samples items
 
@@ -133,8 +133,8 @@ joins end = Tells end (Joined program_id Agw) ∷ Tells end (Bytes program_id (r
 unfoldable pub sets_duplex : BenchWords → List Part
 sets_duplex w = if w.full then sets_full_duplex A ++ sets_full_duplex B else []
 
--- Before all else in the first tick both stations are set to full duplex, if the words ask for it; each host program joins
--- and registers the call of its station; and A calls.
+-- Before all else in the first tick both stations are set to full duplex, if the words ask for it; each host program
+-- joins and registers the call of its station; and A calls.
 unfoldable pub beginning : BenchWords → List Part
 beginning w =
     sets_duplex w ++ (joins A ++ (joins B ++ Tells A (Bytes program_id (connect_octets A)) ∷ []))

@@ -1,9 +1,10 @@
 -- What the code keeps of the bench, and what that stands for. Public clauses cite none of this.
-use Rattle.std.specs.Prelude.{◌≡◌, ℕ, ◌+◌, ◌-◌, ◌*◌, ◌<◌, ◌≤◌, ◌^◌, ℤ, List, [], ◌∷◌, length, map, replicate, unsigned_abs, All, None}
+use Rattle.std.specs.Prelude.{◌≡◌, ℕ, ◌≤◌, ℤ, List, [], ◌∷◌, length, map, replicate, unsigned_abs, All, false, None}
 use Rattle.agwpe_port.specs.Held.{StandsFor as AgwStandsFor}
 use Rattle.frame_merge.specs.declared.candidate.Candidate.{Candidate}
 use Rattle.frame_merge.specs.Held.{StandsFor as MergerStandsFor}
 use Rattle.frame_merge.specs.Merged.{merged, below}
+use Rattle.rand_pcg.specs.Lcg.{Lcg}
 use Rattle.link_world.specs.declared.end.End.{End}
 use Rattle.link_world.specs.declared.end.End.TheVariants.{A, B}
 use Rattle.slicer_bank.specs.Candidates.{AreCandidates}
@@ -21,7 +22,10 @@ use Rattle.channel_bench.specs.declared.words.BenchWords.{BenchWords}
 use Rattle.channel_bench.specs.BenchState.{SideState, Common, BenchState, Near, ways_of}
 use Rattle.channel_bench.specs.BenchSteps.{GoesOn}
 use Rattle.channel_bench.specs.InFlight.{LinkFrame, OneWay, BothWays, asks, answers}
-use Rattle.channel_bench.specs.Sounding.{mark_of}
+use Rattle.channel_bench.specs.BenchRun.{AreTicks, is_over}
+use Rattle.channel_bench.specs.BenchTick.{Part}
+use Rattle.channel_bench.specs.BenchTick.Part.{AsksOrCalls, Closes, Gives, Listens, Sounds, Ticks}
+use Rattle.channel_bench.specs.Sounding.{mark_of, after_noise, reaching, sent_in, with_noise, with_samples}
 use Rattle.channel_bench.specs.Words.{text_at}
 
 -- the bank heard these samples, and the merger gave all frames that end below the marks
@@ -96,3 +100,52 @@ MovesRun w part run run' =
 -- a part of a tick, which comes to pass unless something has ended the run
 abbrev pub Unless : (BenchState → BenchState → Type 0) → BenchState → BenchState → Type 0
 Unless part before after = GoesOn before.common.trouble (part before after) (after ≡ before)
+
+-- ---- the parts of a tick
+
+-- what hosts and stations do, and what comes of it
+abbrev pub acts : List Part
+acts = Gives A ∷ AsksOrCalls ∷ Gives B ∷ Ticks A ∷ Ticks B ∷ []
+
+abbrev pub hears : List Part
+hears = Listens A ∷ Listens B ∷ Closes ∷ []
+
+abbrev pub sounds : List Part
+sounds = Sounds ∷ hears
+
+-- the samples that reach each station, and the words drawn for them
+abbrev pub reaching_b : BenchWords → BenchState → List ℤ
+reaching_b w bench = with_noise w.noise (reaching w.full bench.a bench.b) bench.common.draws
+
+abbrev pub after_b : BenchWords → BenchState → Lcg
+after_b w bench = after_noise w.noise (reaching w.full bench.a bench.b) bench.common.draws
+
+abbrev pub reaching_a : BenchWords → BenchState → List ℤ
+reaching_a w bench = with_noise w.noise (reaching w.full bench.b bench.a) (after_b w bench)
+
+abbrev pub with_noise_drawn : BenchWords → BenchState → BenchState
+with_noise_drawn w bench = record bench {
+  common = record bench.common { draws = after_noise w.noise (reaching w.full bench.b bench.a) (after_b w bench) };
+}
+
+-- the samples reach both, with the frames that were sent
+abbrev pub with_both : List ℤ → List ℤ → BenchState → BenchState
+with_both to_a to_b bench = record bench {
+  a = with_samples to_a (sent_in bench.ticks bench.b.air.sent) bench.a;
+  b = with_samples to_b (sent_in bench.ticks bench.a.air.sent) bench.b;
+}
+
+-- ---- the run, tick by tick
+
+-- so many ticks are made, and nothing has ended the run
+pub record HasMade (w : BenchWords) (count : ℕ) (run : Run) : Type 0 where
+  pub bench : BenchState
+  pub stands : StandsForRun run w bench
+  pub ticks : AreTicks w count bench
+  pub no_trouble : bench.common.trouble ≡ None
+  pub few : run.ticks ≤ count
+
+-- and it is not over
+pub record IsGoing (w : BenchWords) (count : ℕ) (run : Run) : Type 0 where
+  pub made : HasMade w count run
+  pub not_over : is_over made.bench ≡ false

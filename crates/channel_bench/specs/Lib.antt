@@ -18,8 +18,3 @@ pub mod Sounding
 pub mod BenchTick
 pub mod BenchRun
 pub mod HeldBench
-pub mod ProgramsTold
-pub mod KeepsOrder
-pub mod BenchOrder
-pub mod BenchLaw
-pub mod LinksTell

@@ -8,7 +8,7 @@ use Rattle.channel_access.specs.declared.air_tick.Sent.{Sent}
 use Rattle.link_world.specs.declared.end.End.TheVariants.{A, B}
 use Rattle.channel_bench.specs.declared.matching.SentAt.{SentAt}
 use Rattle.channel_bench.specs.declared.words.BenchWords.{BenchWords}
-use Rattle.channel_bench.specs.BenchState.{SideState, Common, BenchState, Near, near, with_near}
+use Rattle.channel_bench.specs.BenchState.{SideState, BenchState, Near, near, with_near}
 use Rattle.channel_bench.specs.InFlight.Moment.{Passes}
 use Rattle.channel_bench.specs.Words.{next_word, after_word}
 

@@ -1,6 +1,6 @@
 -- Random words: those of PCG XSH RR 64/32 (O'Neill, "PCG: a family of simple fast space-efficient statistically good
 -- algorithms for random number generation"), by a seed and a stream. And what the bench makes of them.
-use Rattle.std.specs.Prelude.{◌≡◌, ℕ, zero, suc, ◌+◌, ◌*◌, ◌/◌, ◌%◌, ◌^◌, ◌≤◌, List, [], ◌∷◌, map}
+use Rattle.std.specs.Prelude.{ℕ, zero, suc, ◌+◌, ◌*◌, ◌/◌, ◌%◌, ◌^◌, ◌≤◌, List, [], ◌∷◌, map}
 use Rattle.rand_pcg.specs.Lcg.{Lcg, started, increment_of}
 use Rattle.rand_pcg.specs.Pcg.{multiplier_64, pcg32}
 use Rattle.link_world.specs.declared.end.End.{End}

@@ -35,6 +35,7 @@ pub(crate) fn with_noise(
     requires noise { noise ≤ 2000 }
     requires loud { All (λ sample. unsigned_abs sample ≤ 10000) samples.now }
     ensures samples { IfOk result (λ heard. heard.items ≡ with_noise noise samples.now draws.old) }
+    ensures length { IfOk result (λ heard. length heard.items ≡ length samples.now) }
     ensures draws { OnOk result (draws.new ≡ after_noise noise samples.now draws.old) }
 {
     if noise == 0 {
@@ -53,6 +54,7 @@ fn with_words(
     requires noise { noise ≤ 2000 }
     requires loud { All (λ sample. unsigned_abs sample ≤ 10000) samples.now }
     ensures samples { IfOk result (λ heard. heard.items ≡ with_words noise samples.now draws.old) }
+    ensures length { IfOk result (λ heard. length heard.items ≡ length samples.now) }
     ensures draws { OnOk result (draws.new ≡ after_words samples.now draws.old) }
 {
     let mut heard = Vec::new(alloc);

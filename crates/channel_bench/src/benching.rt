@@ -1,6 +1,7 @@
 //! The bench: ticks until the run is over.
-ghost use Rattle.std.specs.Prelude.{◌≡◌, IfOk, IfErr};
+ghost use Rattle.std.specs.Prelude.{◌≡◌, ◌+◌, ◌<◌, ◌^◌, ℕ, IfOk, IfErr, OnOk};
 ghost use Rattle.channel_bench.specs.BenchRun.{IsEndedBy, IsFaultOf, IsOver};
+ghost use Rattle.channel_bench.specs.HeldBench.{HasMade, IsGoing};
 ghost use Rattle.channel_bench.specs.declared.words.BenchWords.{BenchWords};
 ghost use Rattle.channel_bench.specs.Words.{AreInRange, most_ticks};
 
@@ -10,10 +11,9 @@ use crate::trouble::Trouble;
 use crate::words::BenchWords;
 use std::alloc::Global;
 
-/// The run of two stations that the words fix. It is over once A has sent d and both host programs were told d after it.
-/// What ends it before is a frame that is heard and matches none that was sent; SABM, SABME or DISC that finds no quiet
-/// channel; and the most ticks that it may take.
-#[tactic(none)]
+/// Runs two stations joined by sound in one process, as the words say, until A has sent d (AGWPE) and both host
+/// programs were told d after it. Fails if a heard frame matches none that was sent, if SABM, SABME or DISC finds no
+/// quiet channel, if the run is not over after the most ticks that it may take, and for want of memory.
 pub fn bench(alloc: Global, words: BenchWords) -> Result<BenchReport, BenchFault>
     requires { AreInRange words }
     ensures over { IfOk result (IsOver words) }
@@ -22,19 +22,30 @@ pub fn bench(alloc: Global, words: BenchWords) -> Result<BenchReport, BenchFault
     let most = most_ticks(words.octets);
     let mut run = Run::new(alloc, words)?;
     for _ in 0..most {
-        run.tick()?;
-        if let Some(trouble) = run.shared.trouble.take() {
-            return Err(fault_of(trouble));
-        }
+        advance(&mut run)?;
         if run.is_over() {
-            return Ok(run.report()?);
+            let report = run.report()?;
+            return Ok(report);
         }
     }
     Err(BenchFault::Spent { ticks: most })
 }
 
+/// Makes a tick, unless something ends the run.
+fn advance(run: &mut Run) -> Result<(), BenchFault>
+    requires { (w : BenchWords) × (count : ℕ) × IsGoing w count run.old × AreInRange w × (count < 2 ^ 32) }
+    ensures made { (w : BenchWords) (count : ℕ) → IsGoing w count run.old
+        → OnOk result (HasMade w (count + 1) run.new) }
+    ensures fault { (w : BenchWords) (count : ℕ) → IsGoing w count run.old → IfErr result (IsFaultOf w) }
+{
+    run.tick()?;
+    match run.shared.trouble.take() {
+        Some(trouble) => Err(fault_of(trouble)),
+        None => Ok(()),
+    }
+}
+
 /// The fault that tells of what ended a run.
-#[tactic(none)]
 fn fault_of(trouble: Trouble) -> BenchFault
     ensures { (w : BenchWords) → IsEndedBy w trouble → IsFaultOf w result }
 {

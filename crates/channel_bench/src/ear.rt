@@ -1,5 +1,5 @@
 //! What a station hears of the samples that reach it.
-ghost use Rattle.std.specs.Prelude.{◌≡◌, ◌+◌, ◌<◌, ◌≤◌, ◌^◌, ◌↔◌, ℕ, ℤ, List, [], ◌++◌, length, IfOk, OnOk, IsTrue};
+ghost use Rattle.std.specs.Prelude.{◌≡◌, ◌+◌, ◌-◌, ◌<◌, ◌≤◌, ◌^◌, ◌↔◌, ℕ, ℤ, List, [], ◌++◌, length, IfOk, OnOk, IsTrue};
 ghost use Rattle.std.specs.List.{All};
 ghost use Rattle.channel_access.specs.Waiting.{HasFrameLength};
 ghost use Rattle.frame_merge.specs.declared.candidate.Candidate.{Candidate};
@@ -39,9 +39,11 @@ impl Ear {
     pub(crate) fn new(alloc: Global) -> Result<Ear, OutOfMemory>
         ensures { IfOk result (λ ear. EarStandsFor ear []) }
     {
+        let bank = Bank::new(alloc)?;
+        let merger = Merger::new(alloc, LANES)?;
         Ok(Ear {
-            bank: Bank::new(alloc)?,
-            merger: Merger::new(alloc, LANES)?,
+            bank,
+            merger,
             count: 0,
         })
     }
@@ -57,11 +59,11 @@ impl Ear {
     pub(crate) fn mark(&self) -> u64
         ensures { (x : List ℤ) → EarStandsFor self.now x → result ≡ mark_of x }
     {
-        self.count.saturating_sub(BEHIND)
+        mark_after(self.count)
     }
 
-    /// Hears samples, and gives the frames that are ready with them. A bank takes fewer than 2^48 samples: past them memory
-    /// is wanted.
+    /// Hears samples, and gives the frames that are ready with them. A bank takes fewer than 2^48 samples: past them
+    /// memory is wanted.
     pub(crate) fn listen(&mut self, samples: &[i16]) -> Result<Vec<Candidate>, OutOfMemory>
         requires stands { (x : List ℤ) × EarStandsFor self.old x }
         requires samples { length samples.now ≡ 96 }
@@ -76,11 +78,18 @@ impl Ear {
         let found = self.bank.feed(samples)?;
         put_all(&mut self.merger, found)?;
         self.count += samples.len() as u64;
-        let mark = self.mark();
+        let mark = mark_after(self.count);
         self.merger.mark_all(mark);
         let ready = self.merger.take_ready()?;
         Ok(ready)
     }
+}
+
+/// Where the marks stand after so many samples.
+fn mark_after(count: u64) -> u64
+    ensures { result ≡ count - 7 }
+{
+    count.saturating_sub(BEHIND)
 }
 
 /// Puts candidates into a merger, in their order.

@@ -1,5 +1,5 @@
 //! What is in flight between the two stations, as far as one can see who does not know what will be heard.
-ghost use Rattle.std.specs.Prelude.{◌≡◌, ◌+◌, ◌-◌, ◌<◌, ◌^◌, IfOk, OnOk, Some};
+ghost use Rattle.std.specs.Prelude.{◌≡◌, ◌+◌, ◌-◌, ◌<◌, ◌^◌, ◌||◌, if◌then◌else◌, drop, IfOk, OnOk, Some, is_some};
 ghost use Rattle.std.specs.List.{list_any};
 ghost use Rattle.channel_bench.specs.InFlight.{OneWay as WayState, BothWays, asks, answers, control_octet, hearing_at, in_flight, is_ask, is_control_of, is_quiet_at, is_quiet_for, is_ua_or_dm, nothing_sent, queueing_all, queueing_at, sent_by, with_front, with_queued, with_sent_by};
 ghost use Rattle.channel_bench.specs.BenchSteps.{first_unquiet, count_of};
@@ -74,17 +74,14 @@ impl OneWay {
     fn asks(&self) -> bool
         ensures { (way : WayState) → StandsForWay self.now way → result ≡ list_any asks (in_flight way) }
     {
-        self.queued.iter().skip(self.front).any(|frame| frame.asks)
+        some_asks(&self.queued, self.front)
     }
 
     /// An answer to one is.
     fn answers(&self) -> bool
         ensures { (way : WayState) → StandsForWay self.now way → result ≡ list_any answers (in_flight way) }
     {
-        self.queued
-            .iter()
-            .skip(self.front)
-            .any(|frame| frame.answers)
+        some_answers(&self.queued, self.front)
     }
 
     /// A frame finds a quiet channel, if the other way leads back.
@@ -167,14 +164,29 @@ impl Flight {
             → IfOk result (λ first. first ≡ first_unquiet sender on_ask frames.now ways) }
     {
         let mut first = None;
-        for octets in frames {
-            let number = self.next_number()?;
-            if first.is_none() && !self.is_quiet(sender, octets.as_slice()) {
-                first = Some(number);
-            }
-            self.queue(sender, on_ask, octets.as_slice())?;
+        for frame in frames {
+            let octets = frame.as_slice();
+            first = self.first_with(first, sender, octets)?;
+            self.queue(sender, on_ask, octets)?;
         }
         Ok(first)
+    }
+
+    /// The number of the first that finds no quiet channel, with one frame more that is to join.
+    fn first_with(
+        &self,
+        first: Option<u64>,
+        sender: End,
+        octets: &[u8],
+    ) -> Result<Option<u64>, OutOfMemory>
+        ensures { (ways : BothWays) → StandsForWays self.now ways → IfOk result (λ next.
+            next ≡ (if is_some first || is_quiet_at sender octets.now ways then first else Some (count_of ways + 1))) }
+    {
+        if first.is_some() || self.is_quiet(sender, octets) {
+            return Ok(first);
+        }
+        let number = self.next_number()?;
+        Ok(Some(number))
     }
 
     /// A station hears the frame of a number.
@@ -199,6 +211,20 @@ impl Flight {
             End::B => self.from_b.pass(below),
         }
     }
+}
+
+/// One of the frames from a number on asks.
+fn some_asks(frames: &[Flags], from: usize) -> bool
+    ensures { result ≡ list_any (λ frame. frame.asks) (drop from frames.now) }
+{
+    frames.iter().skip(from).any(|frame| frame.asks)
+}
+
+/// One of them answers.
+fn some_answers(frames: &[Flags], from: usize) -> bool
+    ensures { result ≡ list_any (λ frame. frame.answers) (drop from frames.now) }
+{
+    frames.iter().skip(from).any(|frame| frame.answers)
 }
 
 /// A frame is SABM, SABME or DISC.

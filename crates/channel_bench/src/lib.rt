@@ -2,6 +2,9 @@
 //! what their links hear was sent before, and is heard in order and once, each link whose windows fit and whose channel is
 //! quiet when it is set up or ended keeps the law of two links. In each set-up a host is given a prefix of what its
 //! partner's host gave in one set-up of its own, packet for packet, and these set-ups come in order (`stations_law`).
+//!
+//! And two stations joined by sound in one process, with losses and noise: a run of them, and its report, are exactly
+//! those of the definition (`bench`).
 #![tactic(auto)]
 
 mod air;

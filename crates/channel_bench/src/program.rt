@@ -52,7 +52,7 @@ impl Model for Program {
 }
 
 impl Program {
-    ghost use Rattle.channel_bench.specs.HostProgram.{new_program, told, opening, getting, closing, next_piece, giving, has_all, asking, waiting, calling, set_ups_of};
+    ghost use Rattle.channel_bench.specs.HostProgram.{new_program, told, told_all, opening, getting, closing, next_piece, giving, has_all, asking, waiting, calling, set_ups_of};
 
     /// No set-up has begun.
     pub(crate) fn new(alloc: Global) -> Program
@@ -69,7 +69,7 @@ impl Program {
     }
 
     /// It is told a message.
-    pub(crate) fn hear(&mut self, message: &AgwMessage) -> Result<(), OutOfMemory>
+    fn hear(&mut self, message: &AgwMessage) -> Result<(), OutOfMemory>
         ensures { OnOk result (self.new ≡ told message.now self.old) }
     {
         match message.kind {
@@ -78,6 +78,16 @@ impl Program {
             b'd' => self.close(),
             _ => Ok(()),
         }
+    }
+
+    /// It is told messages, one after another.
+    pub(crate) fn hear_all(&mut self, messages: &[AgwMessage]) -> Result<(), OutOfMemory>
+        ensures { OnOk result (self.new ≡ told_all messages.now self.old) }
+    {
+        for message in messages {
+            self.hear(message)?;
+        }
+        Ok(())
     }
 
     /// A set-up begins.
@@ -228,11 +238,10 @@ fn piece_behind(given: usize, text: &[u8]) -> Option<&[u8]>
     if given >= text.len() {
         return None;
     }
-    let rest = &text[given..];
-    if rest.len() > MOST_OCTETS {
-        Some(&rest[..MOST_OCTETS])
+    if text.len() - given > MOST_OCTETS {
+        Some(&text[given..given + MOST_OCTETS])
     } else {
-        Some(rest)
+        Some(&text[given..])
     }
 }
 

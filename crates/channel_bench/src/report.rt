@@ -49,8 +49,8 @@ pub enum BenchFault {
     /// A frame of these octets was heard that matches none that was sent.
     #[error("a stray frame")]
     Stray { octets: Octets },
-    /// SABM, SABME or DISC was queued, as the frame of this number, while an earlier one of its station was in flight, or
-    /// an answer to one.
+    /// SABM, SABME or DISC was queued, as the frame of this number, while an earlier one of its station was in flight,
+    /// or an answer to one.
     #[error("frame {index} found no quiet channel")]
     NotQuiet { index: u64 },
     /// The run was not over after so many ticks.

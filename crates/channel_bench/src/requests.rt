@@ -95,13 +95,14 @@ fn request(
     ensures spelled { IfOk result (λ octets. octets ≡ spelling (request kind from to body.now)) }
     ensures most { IfOk result (λ octets. length octets ≤ 4096) }
 {
+    let body = Octets::from_slice(alloc, body)?;
     let message = AgwMessage {
         port: 0,
         kind,
         pid: 0,
         from,
         to,
-        body: Octets::from_slice(alloc, body)?,
+        body,
     };
     let octets = write_agw(alloc, &message)?;
     Ok(octets)

@@ -1,10 +1,12 @@
 //! What the two stations of the bench share: the channel between them.
-ghost use Rattle.std.specs.Prelude.{◌≡◌, ◌+◌, if◌then◌else◌, None, OnOk, is_some};
+ghost use Rattle.std.specs.Prelude.{◌≡◌, ◌+◌, if◌then◌else◌, Some, None, IfOk, OnOk, is_some};
+ghost use Rattle.channel_bench.specs.declared.trouble.Trouble.TheVariants.{Stray};
 ghost use Rattle.channel_bench.specs.declared.words.BenchWords.{BenchWords};
 
 use crate::flight::Flight;
 use crate::trouble::Trouble;
 use link_world::End;
+use rand_core::utils::NextWord;
 use rand_pcg::Lcg64Xsh32;
 use std::alloc::Global;
 use tnc_base::{Octets, OutOfMemory};
@@ -30,6 +32,8 @@ impl Shared {
     ghost use Rattle.channel_bench.specs.BenchSteps.{first_unquiet, trouble_of};
     ghost use Rattle.channel_bench.specs.HeldBench.{StandsForCommon, StandsForWays};
     ghost use Rattle.channel_bench.specs.InFlight.{BothWays, queueing_all};
+    ghost use Rattle.channel_bench.specs.Sounding.{is_lost};
+    ghost use Rattle.channel_bench.specs.Words.{after_word};
 
     /// Nothing came to pass yet.
     pub(crate) fn new(alloc: Global, seed: u64) -> Shared
@@ -71,8 +75,31 @@ impl Shared {
         Ok(())
     }
 
+    /// A frame of these octets was heard that matches none that was sent.
+    pub(crate) fn end_by_stray(&mut self, alloc: Global, octets: &[u8]) -> Result<(), OutOfMemory>
+        ensures { OnOk result (self.new ≡ record self.old { trouble = Some (Stray octets.now) }) }
+    {
+        let octets = Octets::from_slice(alloc, octets)?;
+        self.trouble = Some(Trouble::Stray { octets });
+        Ok(())
+    }
+
+    /// Draws whether a transmission that begins is lost, and counts it.
+    pub(crate) fn draw_loss(&mut self, loss: u8) -> Result<bool, OutOfMemory>
+        ensures lost { IfOk result (λ lost. lost ≡ is_lost loss self.old.draws) }
+        ensures counted { IfOk result (λ lost. self.new ≡ record self.old {
+          draws = after_word self.old.draws;
+          transmissions = self.old.transmissions + 1;
+          lost = if lost then self.old.lost + 1 else self.old.lost;
+        }) }
+    {
+        let lost = self.draws.next_word() % 100 < u32::from(loss);
+        self.count(lost)?;
+        Ok(lost)
+    }
+
     /// Counts a transmission that began.
-    pub(crate) fn count(&mut self, lost: bool) -> Result<(), OutOfMemory>
+    fn count(&mut self, lost: bool) -> Result<(), OutOfMemory>
         ensures { OnOk result (self.new ≡ record self.old {
           transmissions = self.old.transmissions + 1;
           lost = if lost then self.old.lost + 1 else self.old.lost;

@@ -1,13 +1,14 @@
 //! A station of the bench, with its host program and what it hears.
-ghost use Rattle.std.specs.Prelude.{◌≡◌, ◌≢◌, ◌+◌, ◌<◌, ◌≤◌, ◌^◌, ◌↔◌, ℕ, IsTrue, List, [], ◌++◌, length, All, Any, None, IfOk, OnOk};
+ghost use Rattle.std.specs.Prelude.{◌≡◌, ◌≢◌, ◌==◌, not, filter, ◌+◌, ◌*◌, ◌<◌, ◌≤◌, ◌^◌, ◌↔◌, ℕ, IsTrue, List, [], ◌++◌, length, All, Any, Some, None, IfOk, OnOk};
 ghost use Rattle.station.specs.Held.{without_ids};
 ghost use Rattle.std.specs.Bool.{IsFalse};
 ghost use Rattle.channel_access.specs.Waiting.{HasFrameLength};
 ghost use Rattle.station.specs.declared.host_event.HostEvent.{HostEvent};
+ghost use Rattle.station.specs.declared.host_event.PortKind.{PortKind};
 ghost use Rattle.channel_bench.specs.declared.words.BenchWords.{BenchWords};
-ghost use Rattle.channel_bench.specs.JointRun.Input.{FromHost};
+ghost use Rattle.channel_bench.specs.JointRun.Input.{FromHost, OffAir};
 ghost use Rattle.channel_bench.specs.BenchState.{SideState, Near, new_side, config_of};
-ghost use Rattle.channel_bench.specs.BenchSteps.{GoesOn, MayCome, IsStep, IsTold, IsTicking, IsHeardAt, AreHeardAt, told_piece, told_pieces, first_unquiet, trouble_of};
+ghost use Rattle.channel_bench.specs.BenchSteps.{GoesOn, MayCome, IsStep, IsTold, IsTicking, IsHeardAt, AreHeardAt, told_piece, told_pieces, first_unquiet, trouble_of, with_matched};
 ghost use Rattle.channel_bench.specs.BenchTick.{AreReady, IsGiven};
 ghost use Rattle.channel_bench.specs.Sounding.{passed_below, sent_in, with_loss, with_samples};
 ghost use Rattle.channel_bench.specs.HostProgram.{set_ups_of};
@@ -21,13 +22,10 @@ use crate::reading::read_messages;
 use crate::report::SetUp;
 use crate::requests::data;
 use crate::shared::Shared;
-use crate::trouble::Trouble;
 use agwpe_port::AgwIn;
-use channel_access::AirTick;
+use channel_access::{AirTick, Sent};
 use frame_merge::Candidate;
-use link_machine::NewFault;
 use link_world::End;
-use rand_core::utils::NextWord;
 use station::{Config, HostEvent, HostOut, Piece, PortKind, Station, TickOut};
 use std::alloc::Global;
 use tnc_base::{Octets, OutOfMemory};
@@ -66,22 +64,20 @@ impl Side {
     ghost use Rattle.channel_bench.specs.InFlight.{BothWays, queueing_all};
 
     /// A station to which nothing came yet.
-    #[tactic(none)]
     pub(crate) fn new(
         alloc: Global,
         end: End,
         config: Config,
         seed: u64,
     ) -> Result<Side, OutOfMemory>
-        requires { (w : BenchWords) × (config ≡ config_of w) }
         ensures { (w : BenchWords) → config ≡ config_of w → seed ≡ seed_at w end
             → IfOk result (λ side. StandsForSide end side (new_side w end)) }
     {
-        let station = match Station::new(alloc, config, seed) {
-            Ok(station) => station,
-            Err(NewFault::Memory) => return Err(OutOfMemory),
-            Err(NewFault::BadWindow { .. }) => unreachable!(),
+        // The windows fit, so want of memory is the one refusal.
+        let Ok(station) = Station::new(alloc, config, seed) else {
+            return Err(OutOfMemory);
         };
+        let ear = Ear::new(alloc)?;
         Ok(Side {
             alloc,
             end,
@@ -89,7 +85,7 @@ impl Side {
             there: Vec::new(alloc),
             reader: AgwIn::new(alloc),
             program: Program::new(alloc),
-            ear: Ear::new(alloc)?,
+            ear,
             towards: Vec::new(alloc),
             matched: 0,
             air: AirTick {
@@ -112,8 +108,17 @@ impl Side {
         is_among(&self.there, id) && self.station.accepts(id)
     }
 
+    /// No connection of the id is there.
+    fn is_new(&self, id: u32) -> bool
+        ensures may { (end : End) (side : SideState) (kind : PortKind) → StandsForSide end self.now side
+            → (IsTrue result ↔ MayCome (HostEvent.Joined id kind) side) }
+        ensures admitted { IsTrue result → (end : End) (side : SideState) (kind : PortKind)
+            → StandsForSide end self.now side → IsAdmitted (HostEvent.Joined id kind) self.now.station }
+    {
+        !is_among(&self.there, id)
+    }
+
     /// A connection joins, if none of its id is there.
-    #[tactic(none)]
     pub(crate) fn join(
         &mut self,
         shared: &mut Shared,
@@ -121,11 +126,23 @@ impl Side {
         kind: PortKind,
     ) -> Result<(), OutOfMemory>
         requires { (end : End) × (n : Near) × StandsForNear end self.old shared.old n }
-        ensures { (end : End) → OnOk result (MovesNear end (IsTold end (HostEvent.Joined id kind)) self.old self.new shared.old shared.new) }
+        ensures { (end : End) → OnOk result
+            (MovesNear end (IsTold end (HostEvent.Joined id kind)) self.old self.new shared.old shared.new) }
     {
-        if is_among(&self.there, id) {
+        if !self.is_new(id) {
             return Ok(());
         }
+        self.enter(shared, id, kind)?;
+        Ok(())
+    }
+
+    /// A connection joins under a new id.
+    fn enter(&mut self, shared: &mut Shared, id: u32, kind: PortKind) -> Result<(), OutOfMemory>
+        requires { IsAdmitted (HostEvent.Joined id kind) self.old.station }
+        ensures { (end : End) (n : Near) → StandsForNear end self.old shared.old n → n.common.trouble ≡ None
+            → OnOk result ((next : Near) × IsStep end (FromHost (HostEvent.Joined id kind)) None n next
+            × StandsForNear end self.new shared.new next) }
+    {
         self.there.push(id)?;
         let out = self.station.host(HostEvent::Joined { id, kind })?;
         leave_all(&mut self.there, &out.closed);
@@ -134,7 +151,6 @@ impl Side {
     }
 
     /// A connection says octets, if the station takes them.
-    #[tactic(none)]
     pub(crate) fn say(
         &mut self,
         shared: &mut Shared,
@@ -143,7 +159,8 @@ impl Side {
     ) -> Result<(), OutOfMemory>
         requires stands { (end : End) × (n : Near) × StandsForNear end self.old shared.old n }
         requires most { length octets ≤ 4096 }
-        ensures { (end : End) → OnOk result (MovesNear end (IsTold end (HostEvent.Bytes id octets)) self.old self.new shared.old shared.new) }
+        ensures { (end : End) → OnOk result
+            (MovesNear end (IsTold end (HostEvent.Bytes id octets)) self.old self.new shared.old shared.new) }
     {
         if !self.accepts(id) {
             return Ok(());
@@ -153,7 +170,6 @@ impl Side {
     }
 
     /// The host program gives the next piece of a text, if the station takes it.
-    #[tactic(none)]
     pub(crate) fn give(&mut self, shared: &mut Shared, text: &[u8]) -> Result<(), OutOfMemory>
         requires { (end : End) × (n : Near) × StandsForNear end self.old shared.old n }
         ensures { (end : End) (w : BenchWords) → text.now ≡ text_at w end
@@ -172,7 +188,6 @@ impl Side {
     }
 
     /// A connection says octets that the station takes.
-    #[tactic(none)]
     pub(crate) fn bring(
         &mut self,
         shared: &mut Shared,
@@ -191,7 +206,6 @@ impl Side {
     }
 
     /// The station ticks.
-    #[tactic(none)]
     pub(crate) fn tick(&mut self, shared: &mut Shared) -> Result<(), OutOfMemory>
         ensures { (end : End) (n : Near) → StandsForNear end self.old shared.old n → n.common.trouble ≡ None
             → OnOk result ((next : Near) × IsTicking end n next × StandsForNear end self.new shared.new next) }
@@ -204,7 +218,6 @@ impl Side {
     }
 
     /// A transmission that begins draws a word, and may be lost.
-    #[tactic(none)]
     pub(crate) fn draw_loss(&mut self, shared: &mut Shared, loss: u8) -> Result<(), OutOfMemory>
         ensures { (end : End) (n : Near) → StandsForNear end self.old shared.old n
             → OnOk result (StandsForNear end self.new shared.new (with_loss loss n)) }
@@ -212,39 +225,32 @@ impl Side {
         if !self.air.began {
             return Ok(());
         }
-        self.silenced = shared.draws.next_word() % 100 < u32::from(loss);
-        shared.count(self.silenced)?;
+        self.silenced = shared.draw_loss(loss)?;
         Ok(())
     }
 
-    /// Samples of a tick reach it, and a frame was sent with them. Gives the frames that are ready.
-    #[tactic(none)]
+    /// Samples of a tick reach it, and the frame whose sending has ended at the sender. Gives the frames that are
+    /// ready.
     pub(crate) fn take_in(
         &mut self,
         tick: u64,
-        air: &AirTick,
+        sender: &Side,
         samples: &[i16],
     ) -> Result<Vec<Candidate>, OutOfMemory>
         requires stands { (end : End) × (side : SideState) × StandsForSide end self.old side }
         requires tick { tick < 2 ^ 32 }
         requires samples { length samples.now ≡ 96 }
         ensures heard { (end : End) (side : SideState) → StandsForSide end self.old side → IfOk result (λ items.
-            StandsForSide end self.new (with_samples samples.now (sent_in tick air.now.sent) side)
+            StandsForSide end self.new (with_samples samples.now (sent_in tick sender.now.air.sent) side)
             × AreReady (side.samples ++ samples.now) items.items) }
         ensures lengths { IfOk result (λ items. All (λ item. HasFrameLength item.octets) items.items) }
     {
-        if let Some(sent) = &air.sent {
-            self.towards.push(SentAt {
-                octets: Octets::from_slice(self.alloc, sent.octets.as_slice())?,
-                end: TICK * tick + u64::from(sent.after),
-            })?;
-        }
+        note_sent(self.alloc, &mut self.towards, tick, &sender.air.sent)?;
         let items = self.ear.listen(samples)?;
         Ok(items)
     }
 
     /// The station hears the frames that are ready, until something ends the run.
-    #[tactic(none)]
     pub(crate) fn hear_all(
         &mut self,
         shared: &mut Shared,
@@ -252,7 +258,8 @@ impl Side {
     ) -> Result<(), OutOfMemory>
         requires { All (λ item. HasFrameLength item.octets) items.now }
         ensures { (end : End) (n : Near) → StandsForNear end self.old shared.old n
-            → OnOk result ((next : Near) × AreHeardAt end items.now n next × StandsForNear end self.new shared.new next) }
+            → OnOk result ((next : Near) × AreHeardAt end items.now n next
+            × StandsForNear end self.new shared.new next) }
     {
         for item in items {
             self.hear(shared, item)?;
@@ -261,7 +268,6 @@ impl Side {
     }
 
     /// The station hears a frame that matches one that was sent, unless something has ended the run.
-    #[tactic(none)]
     fn hear(&mut self, shared: &mut Shared, item: &Candidate) -> Result<(), OutOfMemory>
         requires { HasFrameLength item.now.octets }
         ensures { (end : End) (n : Near) → StandsForNear end self.old shared.old n
@@ -272,15 +278,31 @@ impl Side {
             return Ok(());
         }
         let Some(place) = SentAt::first_match(&self.towards[self.matched..], item) else {
-            let octets = Octets::from_slice(self.alloc, item.octets.as_slice())?;
-            shared.trouble = Some(Trouble::Stray { octets });
+            shared.end_by_stray(self.alloc, item.octets.as_slice())?;
             return Ok(());
         };
         let number = self.matched + place;
+        self.hear_sent(shared, number, item.octets.as_slice())?;
+        Ok(())
+    }
+
+    /// The station hears the frame of a number.
+    fn hear_sent(
+        &mut self,
+        shared: &mut Shared,
+        number: usize,
+        octets: &[u8],
+    ) -> Result<(), OutOfMemory>
+        requires length { HasFrameLength octets.now }
+        requires number { number < length self.old.towards.items }
+        ensures { (end : End) (n : Near) → StandsForNear end self.old shared.old n → n.common.trouble ≡ None
+            → OnOk result ((next : Near) × IsStep end (OffAir octets.now) (Some number) (with_matched number n) next
+            × StandsForNear end self.new shared.new next) }
+    {
         self.matched = number + 1;
         shared.flight.hear(self.end, number);
-        let out = self.station.heard(item.octets.as_slice())?;
-        self.settle(shared, is_ask(item.octets.as_slice()), &out)?;
+        let out = self.station.heard(octets)?;
+        self.settle(shared, is_ask(octets), &out)?;
         Ok(())
     }
 
@@ -315,16 +337,26 @@ impl Side {
         ensures rest { (shared.new.draws ≡ shared.old.draws) × (shared.new.transmissions ≡ shared.old.transmissions)
             × (shared.new.lost ≡ shared.old.lost) }
     {
-        for piece in &out.pieces {
+        self.tell(&out.pieces)?;
+        shared.queue_all(self.end, on_ask, &out.queued)?;
+        Ok(())
+    }
+
+    /// The host program is told pieces, one after another.
+    fn tell(&mut self, pieces: &[Piece]) -> Result<(), OutOfMemory>
+        ensures told { (end : End) (side : SideState) → StandsForSide end self.old side
+            → OnOk result (StandsForSide end self.new (told_pieces pieces.now side)) }
+        ensures end { self.new.end ≡ self.old.end }
+    {
+        for piece in pieces {
             self.take(piece)?;
         }
-        shared.queue_all(self.end, on_ask, &out.queued)?;
         Ok(())
     }
 
     /// A piece for a connection. What others than the host program are sent is dropped.
     fn take(&mut self, piece: &Piece) -> Result<(), OutOfMemory>
-        ensures side { (end : End) (side : SideState) → StandsForSide end self.old side
+        ensures told { (end : End) (side : SideState) → StandsForSide end self.old side
             → OnOk result (StandsForSide end self.new (told_piece piece.now side)) }
         ensures end { self.new.end ≡ self.old.end }
     {
@@ -332,11 +364,39 @@ impl Side {
             return Ok(());
         }
         let messages = read_messages(self.alloc, &mut self.reader, piece.octets.as_slice())?;
-        for message in &messages {
-            self.program.hear(message)?;
-        }
+        self.program.hear_all(&messages)?;
         Ok(())
     }
+}
+
+/// Notes a frame whose sending has ended in a tick, if one has.
+fn note_sent(
+    alloc: Global,
+    towards: &mut Vec<SentAt>,
+    tick: u64,
+    sent: &Option<Sent>,
+) -> Result<(), OutOfMemory>
+    requires { tick < 2 ^ 32 }
+    ensures noted { OnOk result (towards.new.items ≡ towards.old.items ++ sent_in tick sent.now) }
+    ensures kept { length towards.old.items ≤ length towards.new.items }
+{
+    match sent {
+        Some(sent) => {
+            let octets = Octets::from_slice(alloc, sent.octets.as_slice())?;
+            let end = end_of(tick, sent.after);
+            towards.push(SentAt { octets, end })?;
+            Ok(())
+        }
+        None => Ok(()),
+    }
+}
+
+/// The true end of a frame, so many samples after the beginning of a tick.
+fn end_of(tick: u64, after: u8) -> u64
+    requires { tick < 2 ^ 32 }
+    ensures { result ≡ 96 * tick + after }
+{
+    TICK * tick + u64::from(after)
 }
 
 /// The id is one of these.
@@ -352,6 +412,13 @@ fn leave_all(there: &mut Vec<u32>, closed: &[u32])
     ensures { there.new.items ≡ without_ids closed.now there.old.items }
 {
     for id in closed {
-        there.retain(|other| *other != *id);
+        leave(there, *id);
     }
+}
+
+/// The connection is there no longer.
+fn leave(there: &mut Vec<u32>, id: u32)
+    ensures { there.new.items ≡ filter (λ other. not (other == id)) there.old.items }
+{
+    there.retain(|other| *other != id);
 }

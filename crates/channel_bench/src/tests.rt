@@ -1,14 +1,14 @@
 //! Worked runs.
+ghost use Rattle.std.specs.Prelude.{◌≤◌};
+ghost use Rattle.channel_bench.specs.Words.{AreInRange};
 
-use crate::{BenchReport, BenchWords, SetUp, bench};
-use std::alloc::Global;
+use crate::{BenchReport, BenchWords, bench};
 use std::test::Fail;
-use tnc_base::fnv;
 
-/// The hash of no octets.
-const NOTHING: u64 = 0xcbf2_9ce4_8422_2325;
-
-fn words(seed: u64, octets: u32) -> BenchWords {
+fn words(seed: u64, octets: u32) -> BenchWords
+    requires { octets ≤ 100000 }
+    ensures { AreInRange result }
+{
     BenchWords {
         seed,
         octets,
@@ -19,59 +19,60 @@ fn words(seed: u64, octets: u32) -> BenchWords {
     }
 }
 
-/// What is given and got in each set-up: how many octets, and their hash.
-fn told(alloc: Global, set_ups: &[SetUp]) -> Result<Vec<(usize, u64, usize, u64)>, Fail> {
-    let mut told = Vec::new(alloc);
-    for set_up in set_ups {
-        let (given, got) = (set_up.given.as_slice(), set_up.got.as_slice());
-        told.push((given.len(), fnv(given), got.len(), fnv(got)))?;
-    }
-    Ok(told)
+/// How many ticks a run took, and how many transmissions began and were lost.
+fn counts(report: &BenchReport) -> (u64, u64, u64) {
+    (report.ticks, report.transmissions, report.lost)
 }
 
-// Both stations only call each other and end the link, modulo 8 and 128.
-#[test]
-fn a_link_of_no_octets_takes_252_ticks(rt: HostRuntime) -> Result<(), Fail> {
-    for wide in [false, true] {
-        let report = bench(
-            rt.alloc(),
-            BenchWords {
-                wide,
-                ..words(7, 0)
-            },
-        )?;
-        assert_eq!(rt;
-            (report.ticks, report.transmissions, report.lost),
-            (252, 4, 0)
-        );
-        let nothing = [(0, NOTHING, 0, NOTHING)];
-        assert_eq!(rt; told(rt.alloc(), &report.a)?.as_slice(), nothing.as_slice());
-        assert_eq!(rt; told(rt.alloc(), &report.b)?.as_slice(), nothing.as_slice());
-    }
-    Ok(())
-}
-
-/// Each got all that the other gave.
-fn is_exchanged(report: &BenchReport) -> bool {
+/// In the last set-up of each side all was got that the other gave, so many octets.
+fn is_exchanged(report: &BenchReport, octets: usize) -> bool {
     match (report.a.last(), report.b.last()) {
         (Some(a), Some(b)) => {
-            a.got.as_slice() == b.given.as_slice() && b.got.as_slice() == a.given.as_slice()
+            a.got.as_slice() == b.given.as_slice()
+                && b.got.as_slice() == a.given.as_slice()
+                && a.got.as_slice().len() == octets
         }
         _ => false,
     }
 }
 
+// Both stations only call each other and end the link: SABM, DISC and their answers, each in 63 ticks.
+#[test]
+fn a_link_without_data_takes_252_ticks(rt: HostRuntime) -> Result<(), Fail> {
+    let report = bench(rt.alloc(), words(7, 0))?;
+    assert_eq!(rt; counts(&report), (252, 4, 0));
+    assert!(rt; is_exchanged(&report, 0));
+    Ok(())
+}
+
+#[test]
+fn so_does_a_link_modulo_128(rt: HostRuntime) -> Result<(), Fail> {
+    let wide = BenchWords {
+        wide: true,
+        ..words(7, 0)
+    };
+    let report = bench(rt.alloc(), wide)?;
+    assert_eq!(rt; counts(&report), (252, 4, 0));
+    Ok(())
+}
+
+#[test]
+fn texts_of_5000_octets_take_4278_ticks(rt: HostRuntime) -> Result<(), Fail> {
+    let report = bench(rt.alloc(), words(85, 5000))?;
+    assert_eq!(rt; report.ticks, 4278);
+    assert!(rt; is_exchanged(&report, 5000));
+    Ok(())
+}
+
 // In noise, and with one of ten transmissions lost.
 #[test]
 fn texts_are_exchanged_in_noise(rt: HostRuntime) -> Result<(), Fail> {
-    let report = bench(
-        rt.alloc(),
-        BenchWords {
-            loss: 10,
-            noise: 1500,
-            ..words(7, 300)
-        },
-    )?;
-    assert!(rt; is_exchanged(&report));
+    let noisy = BenchWords {
+        loss: 10,
+        noise: 1500,
+        ..words(7, 300)
+    };
+    let report = bench(rt.alloc(), noisy)?;
+    assert!(rt; is_exchanged(&report, 300));
     Ok(())
 }

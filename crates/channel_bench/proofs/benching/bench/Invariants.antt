@@ -1,5 +1,6 @@
-use Rattle.channel_bench.proofs.BenchLemmas.{Going}
+-- The run is under way.
+use Rattle.channel_bench.specs.HeldBench.{IsGoing}
 use Rattle.channel_bench.proofs.benching.bench.Given as goal
 
 abbrev pub invariant-loop : goal.invariant-loop
-invariant-loop l = Going l.fn.words l.run l.counter
+invariant-loop l = IsGoing l.fn.words l.counter l.run

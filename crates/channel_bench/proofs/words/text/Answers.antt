@@ -8,12 +8,14 @@ loop-init c = has_drawn_none c.new-generator.result c.args.count c.new-octets.re
 
 pub loop-preserved : goal.loop-preserved
 loop-preserved c =
-    has_drawn_more c.new-generator.result c.loop.generator c.next_word.new.self c.args.count c.loop.counter c.next_word.result c.loop.octets.items c.push.new.self.items
+    has_drawn_more c.new-generator.result c.loop.generator c.next_word.new.self c.args.count c.loop.counter
+    c.next_word.result c.loop.octets.items c.push.new.self.items
     c.loop.invariant (search rules) c.next_word.ensures c.in_ok-push.ensures.items
 
 pub returns : goal.returns
 unfolding text_of
 returns c =
     c.in_ok-text.ensures ∙ c.deref.ensures.value
-    ∙ has_drawn_all c.new-generator.result c.loop.generator c.args.count c.loop.counter c.loop.octets.items c.loop.invariant (search rules)
+    ∙ has_drawn_all c.new-generator.result c.loop.generator c.args.count c.loop.counter c.loop.octets.items
+    c.loop.invariant (search rules)
     ∙ ap (λ g. map octet_of (words c.args.count g)) c.new-generator.ensures

@@ -5,10 +5,10 @@ use Rattle.channel_bench.specs.HeldBench.{StandsForWays}
 use Rattle.channel_bench.specs.InFlight.{BothWays, queueing_all}
 use Rattle.channel_bench.proofs.flight.Flight.queue_all.Given as goal
 
-abbrev pub invariant-loop-octets : goal.invariant-loop-octets
-invariant-loop-octets l = record {
+abbrev pub invariant-loop-frame : goal.invariant-loop-frame
+invariant-loop-frame l = record {
   queued : (ways : BothWays) → StandsForWays l.fn.self ways
-      → StandsForWays l.self (queueing_all l.sender l.on_ask (take l.octets-index l.frames) ways);
+      → StandsForWays l.self (queueing_all l.sender l.on_ask (take l.frame-index l.frames) ways);
   first : (ways : BothWays) → StandsForWays l.fn.self ways
-      → l.first ≡ first_unquiet l.sender l.on_ask (take l.octets-index l.frames) ways;
+      → l.first ≡ first_unquiet l.sender l.on_ask (take l.frame-index l.frames) ways;
 }

@@ -38,7 +38,8 @@ returns-clause-begun c = λ w bench h.
     let two = c.in_ok-join_program.ensures.joined w one.0 one.2 in
     let three = c.in_ok-join_program-2.ensures.joined w two.0 two.2 in
     let four = c.in_ok-say.ensures.said w three.0 three.2 in
-    let said = subst (λ o. Unless (AtEnd A (IsTold A (Bytes 1 o))) three.0 four.0) c.in_ok-call.ensures.spelled four.1 in
+    let said = subst (λ o. Unless (AtEnd A (IsTold A (Bytes 1 o))) three.0 four.0)
+    c.in_ok-call.ensures.spelled four.1 in
     let call = Tells A (Bytes 1 (connect_octets A)) in (
       four.0,
       parts_append w (sets_duplex w) (joins A ++ (joins B ++ call ∷ [])) bench one.0 four.0 one.1

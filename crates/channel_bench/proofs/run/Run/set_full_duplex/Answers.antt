@@ -24,7 +24,8 @@ returns-clause-set c = λ w bench h.
     let end = c.args.end in
     let one = c.in_ok-join.ensures.joined w bench h in
     let two = c.in_ok-say.ensures.said w one.0 one.2 in
-    let said = subst (λ o. Unless (AtEnd end (IsTold end (Bytes 2 o))) one.0 two.0) c.in_ok-octets.ensures.spelled two.1 in (
+    let said = subst (λ o. Unless (AtEnd end (IsTold end (Bytes 2 o))) one.0 two.0)
+    c.in_ok-octets.ensures.spelled two.1 in (
       two.0,
       parts_cons w (Tells end (Joined 2 Kiss)) (Tells end (Bytes 2 full_duplex_octets) ∷ []) bench one.0 two.0 one.1
           (parts_one w (Tells end (Bytes 2 full_duplex_octets)) one.0 two.0 said),

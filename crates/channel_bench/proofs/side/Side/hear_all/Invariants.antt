@@ -1,5 +1,5 @@
 -- The frames so far are heard.
-use Rattle.std.proofs.Common.{◌≡◌, take}
+use Rattle.std.proofs.Common.{take}
 use Rattle.link_world.specs.declared.end.End.{End}
 use Rattle.channel_bench.specs.BenchState.{Near}
 use Rattle.channel_bench.specs.BenchSteps.{AreHeardAt}
