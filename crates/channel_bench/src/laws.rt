@@ -69,15 +69,16 @@ pub fn caller_law()
     ensures { CallerLaw }
 {}
 
-/// Each C and D that a host program is sent in a step of a station is told by an event of a link that it owns, in the same order;
-/// no message of another act is one.
+/// Each C and D that a host program is sent in a step of a station is told by an event of a link that it owns, in the same
+/// order; no message of another act is one.
 pub fn programs_are_told()
     ensures { ProgramsAreTold }
 {}
 
 /// The law on a bench. In a run that is over, at each side each set-up that got octets has an origin, a set-up of the other
 /// side; what was got is a first part of what was given in it; and origins rise strictly from set-up to set-up. It asks of the
-/// run that no SABM, SABME or DISC found a transmit queue full, and that the host programs gave only while the link was up and saw its set-ups.
+/// run that no SABM, SABME or DISC found a transmit queue full, and that the host programs gave only while the link was up and
+/// saw its set-ups.
 pub fn bench_law()
     ensures { BenchLaw }
 {}
