@@ -29,7 +29,7 @@ before_zero :
 before_zero A state s h none_lost = record { a = none_lost; b = h.b }
 before_zero B state s h none_lost = record { a = h.a; b = none_lost }
 
-events_by :
+pub events_by :
     (e : End) (calls : Calls) (step : Step) → step.station ≡ e → (step.station ≡ B → InputAsksNothing step.input step.before)
     → Each DropsNoAsk (steps_of (link_at_end calls e) step) → Each (IsEventOfCaller e) (steps_of (link_at_end calls e) step)
 events_by A calls step station asks joined = joined

@@ -18,3 +18,8 @@ pub mod Sounding
 pub mod BenchTick
 pub mod BenchRun
 pub mod HeldBench
+pub mod ProgramsTold
+pub mod LinksTell
+pub mod KeepsOrder
+pub mod BenchOrder
+pub mod BenchLaw

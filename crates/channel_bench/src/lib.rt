@@ -25,8 +25,8 @@ mod words;
 
 pub use benching::bench;
 pub use laws::{
-    caller_law, ends_follow, hosts_ask_nothing, matched_in_order, matched_law, owners_are_told,
-    set_ups_law, stations_law,
+    bench_law, caller_law, ends_follow, hosts_ask_nothing, links_tell_in_one, matched_in_order,
+    matched_law, owners_are_told, programs_are_told, set_ups_law, stations_law,
 };
 pub use report::{BenchFault, BenchReport, SetUp};
 pub use words::BenchWords;
