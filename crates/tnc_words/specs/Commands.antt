@@ -3,7 +3,7 @@ use Rattle.std.specs.Prelude.{◌≡◌, ◌^◌, ◌-◌, List, [], Option, Som
 use Rattle.clap.specs.Words.{Row, Text, first_of}
 use Rattle.ax25_frames.specs.ControlField.{numbers}
 use Rattle.tnc_words.specs.declared.command.Command.{Command}
-use Rattle.tnc_words.specs.declared.command.Command.TheVariants.{Decode, Encode, Show, Loop, Serve}
+use Rattle.tnc_words.specs.declared.command.Command.TheVariants.{Decode, Encode, Show, Loop, Serve, Help, Version}
 use Rattle.tnc_words.specs.declared.command.DecodeWords.{DecodeWords}
 use Rattle.tnc_words.specs.declared.command.EncodeWords.{EncodeWords}
 use Rattle.tnc_words.specs.declared.command.ShowWords.{ShowWords}
@@ -11,6 +11,7 @@ use Rattle.tnc_words.specs.declared.command.LoopWords.{LoopWords}
 use Rattle.tnc_words.specs.declared.command.ServeOptions.{ServeOptions}
 use Rattle.tnc_words.specs.Options.{decode_faults, encode_faults, show_faults, loop_faults, serve_faults}
 use Rattle.tnc_words.specs.Options.{decode_rows, encode_rows, show_rows, loop_rows, serve_rows, is_used}
+use Rattle.tnc_words.specs.Help.{IsHelp, IsVersion}
 use Rattle.tnc_words.specs.Forms.{audio_form, frame_form}
 use Rattle.tnc_words.specs.Links.{HasCall, HasParams}
 use Rattle.tnc_words.specs.Numbers.{GivesNumber, HasNumber}
@@ -94,3 +95,5 @@ Asks words (Encode encode) = IsEncode words encode
 Asks words (Show show) = IsShow words show
 Asks words (Loop loop) = IsLoop words loop
 Asks words (Serve serve) = IsServe words serve
+Asks words (Help topic) = IsHelp words topic
+Asks words Version = IsVersion words

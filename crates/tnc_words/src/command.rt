@@ -1,4 +1,5 @@
 //! What words can ask for.
+use crate::topic::Topic;
 use ax25_address::Call;
 use ax25_frames::Modulus;
 use link_machine::Params;
@@ -34,6 +35,10 @@ pub enum Command {
     Loop(LoopWords),
     /// A station on the air, with ports for host programs.
     Serve(ServeOptions),
+    /// What the program says about itself.
+    Help(Topic),
+    /// The program's name and version.
+    Version,
 }
 
 /// The options of `decode`.

@@ -10,6 +10,7 @@ mod decode_words;
 mod encode_words;
 mod fault;
 mod forms;
+mod help_words;
 mod laws;
 mod link_words;
 mod loop_words;
@@ -19,6 +20,8 @@ mod parsing;
 mod reading;
 mod serve_words;
 mod show_words;
+mod texts;
+mod topic;
 
 pub use command::{
     AudioForm, Command, DecodeWords, EncodeWords, FrameForm, LoopWords, ServeOptions, ShowWords,
@@ -26,6 +29,8 @@ pub use command::{
 pub use fault::WordsFault;
 pub use laws::one_command;
 pub use reading::read_words;
+pub use texts::{help_text, version_line};
+pub use topic::Topic;
 
 #[cfg(test)]
 mod tests;

@@ -7,6 +7,7 @@ use crate::command::Command;
 use crate::decode_words::read_decode;
 use crate::encode_words::read_encode;
 use crate::fault::WordsFault;
+use crate::help_words::read_help;
 use crate::loop_words::read_loop;
 use crate::serve_words::read_serve;
 use crate::show_words::read_show;
@@ -18,6 +19,9 @@ pub fn read_words(alloc: Global, words: &[String]) -> Result<Command, WordsFault
     ensures refused { IsErrOf result WordsFault.Refused
         → (command : Command) → ¬ Asks (map string_bytes words.now) command }
 {
+    if let Some(asked) = read_help(words) {
+        return Ok(asked);
+    }
     let Some(first) = words.first() else {
         return Err(WordsFault::Refused);
     };

@@ -1,6 +1,6 @@
 use super::{
     AudioForm, Command, DecodeWords, EncodeWords, FrameForm, LoopWords, ServeOptions, ShowWords,
-    WordsFault, one_command, read_words,
+    Topic, WordsFault, help_text, one_command, read_words, version_line,
 };
 use ax25_address::Call;
 use ax25_frames::Modulus;
@@ -404,8 +404,50 @@ fn good_words_ask_for_a_command(rt: HostRuntime) -> Result<(), Fail> {
 }
 
 #[test]
+fn help_and_version_are_asked_for_alone(rt: HostRuntime) -> Result<(), Fail> {
+    let table: [(&[&str], Command); 15] = [
+        (&["help"], Command::Help(Topic::Program)),
+        (&["--help"], Command::Help(Topic::Program)),
+        (&["-h"], Command::Help(Topic::Program)),
+        (&["help", "decode"], Command::Help(Topic::Decode)),
+        (&["decode", "--help"], Command::Help(Topic::Decode)),
+        (&["help", "encode"], Command::Help(Topic::Encode)),
+        (&["encode", "--help"], Command::Help(Topic::Encode)),
+        (&["help", "show"], Command::Help(Topic::Show)),
+        (&["show", "--help"], Command::Help(Topic::Show)),
+        (&["help", "loop"], Command::Help(Topic::Loop)),
+        (&["loop", "--help"], Command::Help(Topic::Loop)),
+        (&["help", "serve"], Command::Help(Topic::Serve)),
+        (&["serve", "--help"], Command::Help(Topic::Serve)),
+        (&["version"], Command::Version),
+        (&["--version"], Command::Version),
+    ];
+    for (words, want) in table {
+        assert_eq!(rt; asked(rt.alloc(), words)?, Ok(want), "of {words:?}");
+    }
+    Ok(())
+}
+
+#[test]
+fn each_topic_has_its_text(rt: HostRuntime) -> Result<(), Fail> {
+    let table = [
+        (Topic::Program, "Usage: tnc COMMAND"),
+        (Topic::Decode, "Usage: tnc decode"),
+        (Topic::Encode, "Usage: tnc encode"),
+        (Topic::Show, "Usage: tnc show"),
+        (Topic::Loop, "Usage: tnc loop"),
+        (Topic::Serve, "Usage: tnc serve"),
+    ];
+    for (topic, first) in table {
+        assert!(rt; help_text(topic).starts_with(first), "of {topic:?}");
+    }
+    assert!(rt; version_line().starts_with("tnc "));
+    Ok(())
+}
+
+#[test]
 fn other_words_are_refused(rt: HostRuntime) -> Result<(), Fail> {
-    let table: [&[&str]; 92] = [
+    let table: [&[&str]; 98] = [
         &[],
         &[""],
         &["decod"],
@@ -420,11 +462,11 @@ fn other_words_are_refused(rt: HostRuntime) -> Result<(), Fail> {
         &["decode", "--kiss", "--kiss"],
         &["decode", "--wav=true"],
         &["decode", "--wa"],
-        &["decode", "--help"],
+        &["decode", "--wav", "--help"],
         &["decode", "--version"],
         &["encode", "x"],
         &["encode", "-h"],
-        &["encode", "--help"],
+        &["encode", "--help", "--wav"],
         &["encode", "--version"],
         &["encode", "--joi"],
         &["encode", "--Join"],
@@ -465,7 +507,7 @@ fn other_words_are_refused(rt: HostRuntime) -> Result<(), Fail> {
         &["show", "--modulo", "8x"],
         &["show", "--modulo", "+8"],
         &["show", "--modulo", "8", "--modulo", "8"],
-        &["show", "--help"],
+        &["help", "bench"],
         &["loop"],
         &["loop", "--seed", "7"],
         &["loop", "--frames", "1"],
@@ -486,7 +528,7 @@ fn other_words_are_refused(rt: HostRuntime) -> Result<(), Fail> {
         &["loop", "--seed", "7", "--frames", "1", "--rough", "--rough"],
         &["loop", "--seed", "7", "--frames", "1", "--level", "10"],
         &["encode", "--rough"],
-        &["loop", "--help"],
+        &["--help", "loop"],
         &["decode", "--threads", "--threads"],
         &["decode", "--threads=2"],
         &["encode", "--threads"],
@@ -498,6 +540,12 @@ fn other_words_are_refused(rt: HostRuntime) -> Result<(), Fail> {
         &["serve", "--kiss", "8001", "--agw", "65536"],
         &["serve", "--kiss", "65536", "--agw", "1"],
         &["serve", "8001", "8000"],
+        &["-h", "serve"],
+        &["help", "help"],
+        &["help", "decode", "encode"],
+        &["help", "Decode"],
+        &["version", "help"],
+        &["-v"],
     ];
     for words in table {
         assert!(rt; is_refused(rt.alloc(), words)?, "of {words:?}");
