@@ -9,3 +9,11 @@ pub mod SetUpsSeen
 pub mod LinkOfCalls
 pub mod StationsLaw
 pub mod Owners
+pub mod Words
+pub mod Report
+pub mod HostProgram
+pub mod BenchState
+pub mod BenchSteps
+pub mod Sounding
+pub mod BenchTick
+pub mod BenchRun

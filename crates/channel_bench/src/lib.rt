@@ -4,9 +4,19 @@
 //! partner's host gave in one set-up of its own, packet for packet, and these set-ups come in order (`stations_law`).
 #![tactic(auto)]
 
+mod benching;
 mod laws;
+mod matching;
+mod report;
+mod trouble;
+mod words;
 
+pub use benching::bench;
 pub use laws::{
     caller_law, ends_follow, hosts_ask_nothing, matched_in_order, matched_law, owners_are_told,
     set_ups_law, stations_law,
 };
+pub use matching::SentAt;
+pub use report::{BenchFault, BenchReport, SetUp};
+pub use trouble::Trouble;
+pub use words::BenchWords;
