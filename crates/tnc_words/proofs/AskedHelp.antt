@@ -5,12 +5,12 @@ use Rattle.std.specs.Str.{bytes_eq}
 use Rattle.clap.specs.Faults.{walk_fault}
 use Rattle.clap.specs.Words.{Kinds, Text}
 use Rattle.tnc_words.specs.declared.command.Command.{Command}
-use Rattle.tnc_words.specs.declared.command.Command.TheVariants.{Decode as ToDecode, Encode as ToEncode, Show as ToShow, Loop as ToLoop, Serve as ToServe, Help, Version}
+use Rattle.tnc_words.specs.declared.command.Command.TheVariants.{Decode as ToDecode, Encode as ToEncode, Show as ToShow, Loop as ToLoop, Bench as ToBench, Serve as ToServe, Help, Version}
 use Rattle.tnc_words.specs.declared.topic.Topic.{Topic}
-use Rattle.tnc_words.specs.declared.topic.Topic.TheVariants.{Program, Decode, Encode, Show, Loop, Serve}
+use Rattle.tnc_words.specs.declared.topic.Topic.TheVariants.{Program, Decode, Encode, Show, Loop, Bench, Serve}
 use Rattle.tnc_words.specs.Commands.{Asks, first_word}
 use Rattle.tnc_words.specs.Help.{IsHelp, IsVersion}
-use Rattle.tnc_words.specs.Options.{decode_faults, encode_faults, show_faults, loop_faults, serve_faults}
+use Rattle.tnc_words.specs.Options.{decode_faults, encode_faults, show_faults, loop_faults, bench_faults, serve_faults}
 
 -- ---- what the words ask for, as a number
 
@@ -26,7 +26,7 @@ is_none (fault ∷ faults) = false
 abbrev takes : Text → Kinds → List Text → Bool
 takes name faults words = is_text (first_word words) name && is_none faults
 
--- each of the five
+-- each of the six
 abbrev takes_decode : List Text → Bool
 takes_decode words = takes (codes "decode") (decode_faults words) words
 
@@ -39,16 +39,20 @@ takes_show words = takes (codes "show") (show_faults words) words
 abbrev takes_loop : List Text → Bool
 takes_loop words = takes (codes "loop") (loop_faults words) words
 
+abbrev takes_bench : List Text → Bool
+takes_bench words = takes (codes "bench") (bench_faults words) words
+
 abbrev takes_serve : List Text → Bool
 takes_serve words = takes (codes "serve") (serve_faults words) words
 
 -- one of them
 takes_some : List Text → Bool
 takes_some words =
-    takes_decode words || (takes_encode words || (takes_show words || (takes_loop words || takes_serve words)))
+    takes_decode words
+    || (takes_encode words || (takes_show words || (takes_loop words || (takes_bench words || takes_serve words))))
 
 help_takes_none : (words : List Text) (topic : Topic) → IsHelp words topic → takes_some words ≡ false
-unfolding takes_some decode_faults encode_faults show_faults loop_faults serve_faults walk_fault
+unfolding takes_some decode_faults encode_faults show_faults loop_faults bench_faults serve_faults walk_fault
 help_takes_none words Program (inl h) = ap takes_some h
 help_takes_none words Program (inr (inl h)) = ap takes_some h
 help_takes_none words Program (inr (inr h)) = ap takes_some h
@@ -60,6 +64,8 @@ help_takes_none words Show (inl h) = ap takes_some h
 help_takes_none words Show (inr h) = ap takes_some h
 help_takes_none words Loop (inl h) = ap takes_some h
 help_takes_none words Loop (inr h) = ap takes_some h
+help_takes_none words Bench (inl h) = ap takes_some h
+help_takes_none words Bench (inr h) = ap takes_some h
 help_takes_none words Serve (inl h) = ap takes_some h
 help_takes_none words Serve (inr h) = ap takes_some h
 
@@ -85,12 +91,13 @@ takes_named name faults words named none =
     ∙ ap (λ f. bytes_eq name name && is_none f) none
     ∙ ap (λ b. b && true) ((bytes_eq-Decides name name).1 refl)
 
--- words that ask for one of the five are so taken
+-- words that ask for one of the six are so taken
 abbrev pub IsOther : Command → Type 0
 IsOther (ToDecode words) = Unit {0}
 IsOther (ToEncode words) = Unit {0}
 IsOther (ToShow words) = Unit {0}
 IsOther (ToLoop words) = Unit {0}
+IsOther (ToBench words) = Unit {0}
 IsOther (ToServe words) = Unit {0}
 IsOther (Help topic) = ⊥
 IsOther Version = ⊥
@@ -106,9 +113,12 @@ other_is_taken words (ToShow show) other h =
 other_is_taken words (ToLoop run) other h =
     or_right (takes_decode words) _ (or_right (takes_encode words) _ (or_right (takes_show words) _
     (or_left _ _ (takes_named _ _ words h.named h.taken))))
+other_is_taken words (ToBench bench) other h =
+    or_right (takes_decode words) _ (or_right (takes_encode words) _ (or_right (takes_show words) _
+    (or_right (takes_loop words) _ (or_left _ _ (takes_named _ _ words h.named h.taken)))))
 other_is_taken words (ToServe serve) other h =
     or_right (takes_decode words) _ (or_right (takes_encode words) _ (or_right (takes_show words) _
-    (or_right (takes_loop words) _ (takes_named _ _ words h.named h.taken))))
+    (or_right (takes_loop words) _ (or_right (takes_bench words) _ (takes_named _ _ words h.named h.taken)))))
 other_is_taken words (Help topic) other h = absurd other
 other_is_taken words Version other h = absurd other
 
@@ -136,6 +146,7 @@ topic_in words =
     if names words (codes "encode") then Encode else
     if names words (codes "show") then Show else
     if names words (codes "loop") then Loop else
+    if names words (codes "bench") then Bench else
     if names words (codes "serve") then Serve else Program
 
 topic_is : (words : List Text) (topic : Topic) → IsHelp words topic → topic_in words ≡ topic
@@ -150,6 +161,8 @@ topic_is words Show (inl h) = ap topic_in h
 topic_is words Show (inr h) = ap topic_in h
 topic_is words Loop (inl h) = ap topic_in h
 topic_is words Loop (inr h) = ap topic_in h
+topic_is words Bench (inl h) = ap topic_in h
+topic_is words Bench (inr h) = ap topic_in h
 topic_is words Serve (inl h) = ap topic_in h
 topic_is words Serve (inr h) = ap topic_in h
 
@@ -171,6 +184,8 @@ help_asks_none words Show (inl h) = ap asks_version h
 help_asks_none words Show (inr h) = ap asks_version h
 help_asks_none words Loop (inl h) = ap asks_version h
 help_asks_none words Loop (inr h) = ap asks_version h
+help_asks_none words Bench (inl h) = ap asks_version h
+help_asks_none words Bench (inr h) = ap asks_version h
 help_asks_none words Serve (inl h) = ap asks_version h
 help_asks_none words Serve (inr h) = ap asks_version h
 

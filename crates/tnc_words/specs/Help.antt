@@ -2,8 +2,8 @@
 use Rattle.std.specs.Prelude.{◌≡◌, ◌⊎◌, List, [], ◌∷◌, Option, Some, None, codes}
 use Rattle.clap.specs.Words.{Text}
 use Rattle.tnc_words.specs.declared.topic.Topic.{Topic}
-use Rattle.tnc_words.specs.declared.topic.Topic.TheVariants.{Program, Decode, Encode, Show, Loop, Serve}
-use Rattle.tnc_words.specs.declared.texts.TheConstants.{VERSION, PROGRAM, DECODE, ENCODE, SHOW, LOOP, SERVE}
+use Rattle.tnc_words.specs.declared.topic.Topic.TheVariants.{Program, Decode, Encode, Show, Loop, Bench, Serve}
+use Rattle.tnc_words.specs.declared.texts.TheConstants.{VERSION, PROGRAM, DECODE, ENCODE, SHOW, LOOP, BENCH, SERVE}
 
 -- the command that a topic is about, by its name
 abbrev pub name_of : Topic → Option Text
@@ -12,6 +12,7 @@ name_of Decode = Some (codes "decode")
 name_of Encode = Some (codes "encode")
 name_of Show = Some (codes "show")
 name_of Loop = Some (codes "loop")
+name_of Bench = Some (codes "bench")
 name_of Serve = Some (codes "serve")
 
 -- the words that ask for help about all commands, or about the one with a name
@@ -34,6 +35,7 @@ text_about Decode = DECODE.now
 text_about Encode = ENCODE.now
 text_about Show = SHOW.now
 text_about Loop = LOOP.now
+text_about Bench = BENCH.now
 text_about Serve = SERVE.now
 
 unfoldable pub version_text : Text

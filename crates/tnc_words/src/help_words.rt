@@ -57,6 +57,7 @@ fn topic_named(name: &str) -> Option<Topic>
         "encode" => Some(Topic::Encode),
         "show" => Some(Topic::Show),
         "loop" => Some(Topic::Loop),
+        "bench" => Some(Topic::Bench),
         "serve" => Some(Topic::Serve),
         _ => None,
     }

@@ -5,6 +5,7 @@
 //! refused exactly where they ask for none.
 #![tactic(auto)]
 
+mod bench_words;
 mod command;
 mod decode_words;
 mod encode_words;
@@ -24,7 +25,7 @@ mod texts;
 mod topic;
 
 pub use command::{
-    AudioForm, Command, DecodeWords, EncodeWords, FrameForm, LoopWords, ServeOptions, ShowWords,
+    AudioForm, BenchOptions, Command, DecodeWords, EncodeWords, FrameForm, LoopWords, ServeOptions, ShowWords,
 };
 pub use fault::WordsFault;
 pub use laws::one_command;

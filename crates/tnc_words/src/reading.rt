@@ -3,6 +3,7 @@ ghost use Rattle.std.specs.Prelude.{IfOk, IsErrOf, map, string_bytes};
 ghost use Rattle.tnc_words.specs.declared.command.Command.{Command};
 ghost use Rattle.tnc_words.specs.Commands.{Asks};
 
+use crate::bench_words::read_bench;
 use crate::command::Command;
 use crate::decode_words::read_decode;
 use crate::encode_words::read_encode;
@@ -30,6 +31,7 @@ pub fn read_words(alloc: Global, words: &[String]) -> Result<Command, WordsFault
         "encode" => Ok(Command::Encode(read_encode(alloc, words)?)),
         "show" => Ok(Command::Show(read_show(alloc, words)?)),
         "loop" => Ok(Command::Loop(read_loop(alloc, words)?)),
+        "bench" => Ok(Command::Bench(read_bench(alloc, words)?)),
         "serve" => Ok(Command::Serve(read_serve(alloc, words)?)),
         _ => Err(WordsFault::Refused),
     }

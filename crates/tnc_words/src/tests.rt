@@ -1,5 +1,5 @@
 use super::{
-    AudioForm, Command, DecodeWords, EncodeWords, FrameForm, LoopWords, ServeOptions, ShowWords,
+    AudioForm, BenchOptions, Command, DecodeWords, EncodeWords, FrameForm, LoopWords, ServeOptions, ShowWords,
     Topic, WordsFault, help_text, one_command, read_words, version_line,
 };
 use ax25_address::Call;
@@ -404,8 +404,56 @@ fn good_words_ask_for_a_command(rt: HostRuntime) -> Result<(), Fail> {
 }
 
 #[test]
+fn bench_is_asked_for_with_a_seed(rt: HostRuntime) -> Result<(), Fail> {
+    let least = BenchOptions {
+        seed: 7,
+        octets: 2000,
+        loss: 0,
+        noise: 0,
+        full: false,
+        wide: false,
+    };
+    let most = BenchOptions {
+        seed: u64::MAX,
+        octets: 100_000,
+        loss: 90,
+        noise: 2000,
+        full: true,
+        wide: true,
+    };
+    let of_most: [&str; 11] = [
+        "bench",
+        "--wide",
+        "--noise",
+        "2000",
+        "--loss=90",
+        "--full",
+        "--octets",
+        "100000",
+        "--seed",
+        "18446744073709551615",
+        "--",
+    ];
+    assert_eq!(rt; asked(rt.alloc(), &["bench", "--seed", "7"])?, Ok(Command::Bench(least)));
+    assert_eq!(rt; asked(rt.alloc(), &of_most)?, Ok(Command::Bench(most)));
+    let refused: [&[&str]; 7] = [
+        &["bench"],
+        &["bench", "7"],
+        &["bench", "--seed", "7", "--octets", "100001"],
+        &["bench", "--seed", "7", "--loss", "91"],
+        &["bench", "--seed", "7", "--noise", "2001"],
+        &["bench", "--seed", "7", "--full=true"],
+        &["bench", "--seed", "7", "--window", "4"],
+    ];
+    for words in refused {
+        assert!(rt; is_refused(rt.alloc(), words)?, "of {words:?}");
+    }
+    Ok(())
+}
+
+#[test]
 fn help_and_version_are_asked_for_alone(rt: HostRuntime) -> Result<(), Fail> {
-    let table: [(&[&str], Command); 15] = [
+    let table: [(&[&str], Command); 17] = [
         (&["help"], Command::Help(Topic::Program)),
         (&["--help"], Command::Help(Topic::Program)),
         (&["-h"], Command::Help(Topic::Program)),
@@ -417,6 +465,8 @@ fn help_and_version_are_asked_for_alone(rt: HostRuntime) -> Result<(), Fail> {
         (&["show", "--help"], Command::Help(Topic::Show)),
         (&["help", "loop"], Command::Help(Topic::Loop)),
         (&["loop", "--help"], Command::Help(Topic::Loop)),
+        (&["help", "bench"], Command::Help(Topic::Bench)),
+        (&["bench", "--help"], Command::Help(Topic::Bench)),
         (&["help", "serve"], Command::Help(Topic::Serve)),
         (&["serve", "--help"], Command::Help(Topic::Serve)),
         (&["version"], Command::Version),
@@ -436,6 +486,7 @@ fn each_topic_has_its_text(rt: HostRuntime) -> Result<(), Fail> {
         (Topic::Encode, "Usage: tnc encode"),
         (Topic::Show, "Usage: tnc show"),
         (Topic::Loop, "Usage: tnc loop"),
+        (Topic::Bench, "Usage: tnc bench"),
         (Topic::Serve, "Usage: tnc serve"),
     ];
     for (topic, first) in table {
@@ -507,7 +558,7 @@ fn other_words_are_refused(rt: HostRuntime) -> Result<(), Fail> {
         &["show", "--modulo", "8x"],
         &["show", "--modulo", "+8"],
         &["show", "--modulo", "8", "--modulo", "8"],
-        &["help", "bench"],
+        &["help", "version"],
         &["loop"],
         &["loop", "--seed", "7"],
         &["loop", "--frames", "1"],

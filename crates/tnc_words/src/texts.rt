@@ -17,6 +17,7 @@ A software terminal node controller for packet radio: AX.25 over the tones of Be
   tnc encode [--kiss] [--wav] [--join] [--opening n] [--closing n] [--silence n] [--level n]
   tnc show [--modulo n]
   tnc loop --seed n --frames n [--rough] [--threads]
+  tnc bench --seed n [--octets n] [--loss n] [--noise n] [--full] [--wide]
   tnc serve --kiss n --agw n [--seed n] [--mode name] [--window n] [--wide]
             [--wide-window n] [--digi call] [--dcd n] [--monitor]
   tnc help [COMMAND]
@@ -26,6 +27,7 @@ A software terminal node controller for packet radio: AX.25 over the tones of Be
   encode   makes the sound of frames
   show     prints frames as text
   loop     tries the modem on itself
+  bench    runs two stations that are joined by sound
   serve    runs a live station with ports for host programs
 
 A command reads standard input and writes standard output. Sound is raw PCM of 9600 samples a second, 16 bits,
@@ -75,6 +77,19 @@ Sends random frames to itself, and prints how many were heard.
   --threads    the receiver works on two threads
 ";
 
+const BENCH: &str = "\
+Usage: tnc bench --seed n [--octets n] [--loss n] [--noise n] [--full] [--wide]
+
+Runs two stations that are joined by sound, whose hosts give each other a text, and prints what each host got.
+
+  --seed n     what the run is drawn from, 0 to 18446744073709551615
+  --octets n   octets that each host gives, 0 to 100000 (2000)
+  --loss n     transmissions of a hundred that are lost, 0 to 90 (0)
+  --noise n    the most noise of a sample, 0 to 2000 (0)
+  --full       both stations send in full duplex
+  --wide       links are called modulo 128
+";
+
 const SERVE: &str = "\
 Usage: tnc serve --kiss n --agw n [--seed n] [--mode name] [--window n] [--wide]
                  [--wide-window n] [--digi call] [--dcd n] [--monitor]
@@ -105,6 +120,7 @@ pub fn help_text(topic: Topic) -> &'static str
         Topic::Encode => ENCODE,
         Topic::Show => SHOW,
         Topic::Loop => LOOP,
+        Topic::Bench => BENCH,
         Topic::Serve => SERVE,
     }
 }

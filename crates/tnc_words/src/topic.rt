@@ -13,6 +13,8 @@ pub enum Topic {
     Show,
     /// `loop` and its options.
     Loop,
+    /// `bench` and its options.
+    Bench,
     /// `serve` and its options.
     Serve,
 }
