@@ -25,7 +25,8 @@ mod texts;
 mod topic;
 
 pub use command::{
-    AudioForm, BenchOptions, Command, DecodeWords, EncodeWords, FrameForm, LoopWords, ServeOptions, ShowWords,
+    AudioForm, BenchOptions, Command, DecodeWords, EncodeWords, FrameForm, LoopWords, ServeOptions,
+    ShowWords,
 };
 pub use fault::WordsFault;
 pub use laws::one_command;

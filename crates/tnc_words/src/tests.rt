@@ -1,6 +1,6 @@
 use super::{
-    AudioForm, BenchOptions, Command, DecodeWords, EncodeWords, FrameForm, LoopWords, ServeOptions, ShowWords,
-    Topic, WordsFault, help_text, one_command, read_words, version_line,
+    AudioForm, BenchOptions, Command, DecodeWords, EncodeWords, FrameForm, LoopWords, ServeOptions,
+    ShowWords, Topic, WordsFault, help_text, one_command, read_words, version_line,
 };
 use ax25_address::Call;
 use ax25_frames::Modulus;
@@ -434,7 +434,10 @@ fn bench_is_asked_for_with_a_seed(rt: HostRuntime) -> Result<(), Fail> {
         "18446744073709551615",
         "--",
     ];
-    assert_eq!(rt; asked(rt.alloc(), &["bench", "--seed", "7"])?, Ok(Command::Bench(least)));
+    assert_eq!(rt;
+        asked(rt.alloc(), &["bench", "--seed", "7"])?,
+        Ok(Command::Bench(least))
+    );
     assert_eq!(rt; asked(rt.alloc(), &of_most)?, Ok(Command::Bench(most)));
     let refused: [&[&str]; 7] = [
         &["bench"],
