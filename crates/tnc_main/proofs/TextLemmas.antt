@@ -6,7 +6,7 @@ use Rattle.clean_signal.specs.MergedFrames.{MergesTo}
 use Rattle.clean_signal.specs.NearSignal.{Received, transmissions_of}
 use Rattle.clean_signal.proofs.Law.{near_law}
 use Rattle.tnc_words.specs.declared.command.Command.{Command}
-use Rattle.tnc_words.specs.declared.command.Command.TheVariants.{Decode, Encode, Show, Loop, Serve}
+use Rattle.tnc_words.specs.declared.command.Command.TheVariants.{Decode, Encode, Show, Loop, Bench, Serve, Help, Version}
 use Rattle.tnc_words.specs.declared.command.DecodeWords.{DecodeWords}
 use Rattle.tnc_forms.specs.declared.fault.InputFault.TheVariants.{TooLong}
 use Rattle.tnc_forms.specs.Reading.{input_limit}
@@ -31,7 +31,10 @@ long_fault (Encode words) left octets last read long =
     (lt-ltb input_limit (length octets) long)
 long_fault (Show words) left octets last read long = absurd last
 long_fault (Loop words) left octets last read long = let none : length octets ≡ 0 = ap length read in absurd (omega arith)
+long_fault (Bench options) left octets last read long = let none : length octets ≡ 0 = ap length read in absurd (omega arith)
 long_fault (Serve options) left octets last read long = absurd last
+long_fault (Help topic) left octets last read long = let none : length octets ≡ 0 = ap length read in absurd (omega arith)
+long_fault Version left octets last read long = let none : length octets ≡ 0 = ap length read in absurd (omega arith)
 
 -- what decode makes of samples whose merged candidates are these frames
 pub merged_text : (words : DecodeWords) (frames : List (List ℕ)) (octets text : List ℕ) → MergesTo frames (samples_of words.audio octets)

@@ -2,4 +2,5 @@ pub mod Bounds
 pub mod Found
 pub mod OneNumber
 pub mod OneLink
+pub mod AskedHelp
 pub mod OneCommand
