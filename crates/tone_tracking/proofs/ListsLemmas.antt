@@ -1,12 +1,16 @@
 -- What the lists keep, with one sample more.
-use Rattle.std.proofs.Common.{◌≡◌, ◌≢◌, ℕ, ◌+◌, ◌-◌, ◌%◌, ◌<◌, ◌≤◌, ℤ, pos, List, length, get_or, set, sym, ap, subst, ◌∙◌, arith, inl, inr, get_or-set_same, get_or-set_other}
+use Rattle.std.proofs.Common.{◌≡◌, ◌≢◌, ℕ, ◌+◌, ◌-◌, ◌%◌, ◌<◌, ◌≤◌, ℤ, pos, List, length, get_or, set, replicate, sym, ap, subst, ◌∙◌, arith, inl, inr, get_or-set_same, get_or-set_other}
+use Rattle.std.specs.List.{All}
 use Rattle.std.proofs.lemmas.Bool.{cases_eq}
+use Rattle.std.proofs.lemmas.List.{length-set, get_or-replicate}
 use Rattle.tone_tracking.specs.declared.correlation.Correlations.{Correlations}
-use Rattle.tone_tracking.specs.Correlation.{correlations}
+use Rattle.tone_tracking.specs.Correlation.{AreWithin, correlations}
+use Rattle.tone_tracking.specs.Phasors.{none}
 use Rattle.tone_tracking.specs.Heard.{places_in}
 use Rattle.tone_tracking.specs.HeldTracker.{HeldTracker, StandsFor as TrackerStandsFor}
 use Rattle.tone_tracking.specs.HeldLists.{HeldLists, HasDecided, HasSamples, HasTaken}
 use Rattle.tone_tracking.proofs.CorrelationLemmas.{correlations-agree}
+use Rattle.tone_tracking.proofs.PhasorLemmas.{within_none as phasor_within_none}
 
 abbrev pub held : ℕ → List ℤ → List Correlations → HeldTracker → HeldTracker → HeldLists
 held count window recent near far = record { count = count; window = window; recent = recent; near = near; far = far }
@@ -75,3 +79,32 @@ decided_more was now count x a b c enough h a_is b_is c_is more step =
       place = omega arith;
       stands_for = step (correlations x) h.stands_for (a_is ∙ ap (correlations x) one) (b_is ∙ ap (correlations x) two) (c_is ∙ ap (correlations x) three);
     }
+
+-- correlations are bounded as before where one is set
+pub all_within-set : (recent : List Correlations) (at : ℕ) (c : Correlations) → All AreWithin recent → AreWithin c → All AreWithin (set recent at c)
+all_within-set recent at c all one k d inside = elim (cases_eq k at) [
+  | inl e ↦ (let size = length-set recent at c in
+      subst AreWithin (sym (ap (λ i. get_or (set recent at c) i d) e ∙ get_or-set_same recent at c d (omega arith))) one)
+  | inr ne ↦ (let size = length-set recent at c in
+      subst AreWithin (sym (get_or-set_other recent at k c d ne)) (all k d (omega arith)))
+]
+
+-- no samples are taken
+pub taken_none : (x : List ℤ) (window : List ℤ) (recent : List Correlations) (near far : HeldTracker) → near.place ≡ 0 → far.place ≡ 0
+    → TrackerStandsFor near (correlations x) → TrackerStandsFor far (correlations x) → HasTaken (held 0 window recent near far) x
+taken_none x window recent near far near_place far_place near_stands far_stands = record {
+  samples = record {
+    within = omega arith;
+    window = λ i small enough. absurd (omega arith);
+    recent = λ place d inside late. absurd (omega arith);
+  };
+  near = record { place = near_place; stands_for = near_stands };
+  far = record { place = far_place; stands_for = far_stands };
+}
+
+-- the correlations of silence are bounded
+pub within_none : AreWithin (record { mark = none; space = none })
+within_none = record { mark = phasor_within_none 40000000; space = phasor_within_none 40000000 }
+
+pub all_within-none : All AreWithin (replicate 32 (record { mark = none; space = none }))
+all_within-none k d inside = subst AreWithin (sym (get_or-replicate 32 k (record { mark = none; space = none }) d inside)) within_none

@@ -96,6 +96,8 @@ fn with_next(window: &[i16; 8], sample: i16) -> [i16; 8]
     ensures moved { (i : ℕ) → i < 7 → slice_index_or result i (pos 0) ≡ slice_index_or window.now (i + 1) (pos 0) }
     ensures last { slice_index_or result 7 (pos 0) ≡ sample }
 {
-    let [_, b, c, d, e, f, g, h] = *window;
-    [b, c, d, e, f, g, h, sample]
+    let mut next = [0; 8];
+    next[..7].copy_from_slice(&window[1..]);
+    next[7] = sample;
+    next
 }
