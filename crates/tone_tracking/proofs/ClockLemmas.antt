@@ -1,5 +1,5 @@
 -- A clock one place on.
-use Rattle.std.proofs.Common.{◌≡◌, ℕ, ◌+◌, ◌*◌, ℤ, pos, ◌*ℤ◌, Bool, true, false, suc, refl, ap, sym, ◌∙◌, add-one}
+use Rattle.std.proofs.Common.{◌≡◌, ℕ, ◌+◌, ℤ, true, false, ap, sym, ◌∙◌, add-one}
 use Rattle.std.specs.Prelude.{if◌then◌else◌}
 use Rattle.tone_table.specs.declared.tone.Tone.{Tone}
 use Rattle.tone_tracking.specs.declared.bit_clock.Pull.{Pull}

@@ -1,5 +1,5 @@
 -- Correlations by the samples of their windows.
-use Rattle.std.proofs.Common.{◌≡◌, ℕ, ◌+◌, ◌*◌, ◌<◌, ℤ, pos, ◌*ℤ◌, neg_ℤ, List, map, get_or, refl, ap, ◌∙◌, arith}
+use Rattle.std.proofs.Common.{◌≡◌, ℕ, ◌+◌, ◌*◌, ◌<◌, ℤ, pos, ◌*ℤ◌, neg_ℤ, List, map, get_or, ap, ◌∙◌, arith}
 use Rattle.std.proofs.lemmas.List.FromFn.{get_or-map-range_with_len}
 use Rattle.std.specs.List.{range_with_len}
 use Rattle.tone_table.specs.declared.tone.Tone.{Tone}
@@ -7,7 +7,6 @@ use Rattle.tone_table.specs.declared.tone.Tone.TheVariants.{Mark, Space}
 use Rattle.tone_table.specs.Tones.{phase_step}
 use Rattle.offset_slicers.specs.Decision.{sum_below, product_of}
 use Rattle.offset_slicers.proofs.DecisionLemmas.{sum_below-agree}
-use Rattle.tone_tracking.specs.declared.correlation.Correlations.{Correlations}
 use Rattle.tone_tracking.specs.Correlation.{weight, product_at, correlation, correlations}
 
 -- a table that holds a tone's weights, some steps on

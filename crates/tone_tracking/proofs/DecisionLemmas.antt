@@ -1,5 +1,5 @@
 -- The decision of a window by how loud it is as each tone.
-use Rattle.std.proofs.Common.{◌≡◌, ℕ, ℤ, List, refl, sym, ap, ◌∙◌, arith, ◌≤◌}
+use Rattle.std.proofs.Common.{◌≡◌, ℕ, ℤ, List, ◌∙◌, ◌≤◌}
 use Rattle.std.specs.Prelude.{int_le, if◌then◌else◌}
 use Rattle.std.specs.List.{All}
 use Rattle.std.proofs.lemmas.List.Elements.{All-weaker}

@@ -1,5 +1,5 @@
 -- Phasors by their parts, and how large they are.
-use Rattle.std.proofs.Common.{◌≡◌, ℕ, ◌+◌, ◌*◌, ◌/◌, ◌≤◌, ℤ, pos, negsuc, ◌+ℤ◌, ◌-ℤ◌, ◌*ℤ◌, ◌≤ℤ◌, neg_ℤ, unsigned_abs, refl, subst, sym, arith}
+use Rattle.std.proofs.Common.{◌≡◌, ℕ, ◌+◌, ◌*◌, ◌≤◌, ℤ, pos, negsuc, ◌+ℤ◌, ◌-ℤ◌, ◌*ℤ◌, ◌≤ℤ◌, unsigned_abs, subst, sym, arith}
 use Rattle.std.proofs.lemmas.Int.{ints, unsigned_abs-mul}
 use Rattle.std.proofs.Math.Nat.{mul-le-mul_right, mul-le-mul_left}
 use Rattle.std.specs.Int.{int_div_euclid}
@@ -8,7 +8,7 @@ use Rattle.tone_table.specs.declared.tone.Tone.TheVariants.{Mark, Space}
 use Rattle.tone_tracking.specs.declared.phasor.Phasor.{Phasor}
 use Rattle.tone_tracking.specs.declared.correlation.Correlations.{Correlations}
 use Rattle.tone_tracking.specs.Correlation.{AreWithin, of_tone}
-use Rattle.tone_tracking.specs.Phasors.{IsWithin, none, plus, turn, turn_back, three_quarters_of, three_quarters}
+use Rattle.tone_tracking.specs.Phasors.{IsWithin, none, plus, turn, turn_back, three_quarters}
 
 -- phasors with the same parts are the same
 pub phasor_is : (p q : Phasor) → p.a ≡ q.a → p.b ≡ q.b → p ≡ q

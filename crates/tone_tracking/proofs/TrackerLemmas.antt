@@ -1,6 +1,6 @@
 -- The past and the tones of a tracker, one place on.
-use Rattle.std.proofs.Common.{◌≡◌, ◌≢◌, ℕ, zero, suc, ◌+◌, ◌-◌, ◌*◌, ◌/◌, ◌%◌, ◌<◌, ◌≤◌, List, length, get_or, set, replicate, refl, sym, ap, subst, ◌∙◌, arith, inl, inr, get_or-set_same, get_or-set_other}
-use Rattle.std.specs.Prelude.{nat_lt, if◌then◌else◌}
+use Rattle.std.proofs.Common.{◌≡◌, ◌≢◌, ℕ, zero, suc, ◌+◌, ◌-◌, ◌*◌, ◌/◌, ◌%◌, ◌<◌, ◌≤◌, List, length, get_or, set, replicate, sym, ap, ◌∙◌, arith, inl, inr, get_or-set_same, get_or-set_other}
+use Rattle.std.specs.Prelude.{if◌then◌else◌}
 use Rattle.std.proofs.lemmas.Bool.{cases_eq, cases_lt, lt-ltb, le-ltb}
 use Rattle.std.proofs.lemmas.List.{get_or-replicate}
 use Rattle.tone_table.specs.declared.tone.Tone.{Tone}
@@ -40,7 +40,7 @@ tone_before-outside tones count back outside = ap (λ b. if b then tones (count 
 pub tone_before-more : (tones : ℕ → Tone) (count back : ℕ) → tone_before tones (count + 1) (back + 1) ≡ tone_before tones count back
 tone_before-more tones count back = elim (cases_lt back count) [
   | inl within ↦ tone_before-within tones (count + 1) (back + 1) (omega arith)
-    ∙ ap tones (let e : count + 1 - 1 - (back + 1) ≡ count - 1 - back = omega arith in e) ∙ sym (tone_before-within tones count back within)
+      ∙ ap tones (let e : count + 1 - 1 - (back + 1) ≡ count - 1 - back = omega arith in e) ∙ sym (tone_before-within tones count back within)
   | inr outside ↦ tone_before-outside tones (count + 1) (back + 1) (omega arith) ∙ sym (tone_before-outside tones count back outside)
 ]
 

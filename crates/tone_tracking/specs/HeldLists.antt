@@ -1,7 +1,6 @@
 -- What the two lists of tones keep of samples, and what that stands for.
 use Rattle.std.specs.Prelude.{◌≡◌, ℕ, ◌+◌, ◌-◌, ◌%◌, ◌<◌, ◌≤◌, ℤ, pos, List, length, slice_index_or}
 use Rattle.tone_tracking.specs.declared.correlation.Correlations.{Correlations}
-use Rattle.tone_tracking.specs.declared.reach.Reach.TheVariants.{Near, Far}
 use Rattle.tone_tracking.specs.Correlation.{correlations}
 use Rattle.tone_tracking.specs.Heard.{places_in}
 use Rattle.tone_tracking.specs.HeldTracker.{HeldTracker, StandsFor as TrackerStandsFor}

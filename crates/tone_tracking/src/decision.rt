@@ -49,12 +49,7 @@ fn decide_near(past: Phasor, now: &Correlations, next: &Correlations) -> Tone
 }
 
 /// With two windows open.
-fn decide_far(
-    past: Phasor,
-    now: &Correlations,
-    next: &Correlations,
-    later: &Correlations,
-) -> Tone
+fn decide_far(past: Phasor, now: &Correlations, next: &Correlations, later: &Correlations) -> Tone
     requires past { IsWithin 200000000 past }
     requires now { AreWithin now.now }
     requires next { AreWithin next.now }

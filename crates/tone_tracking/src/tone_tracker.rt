@@ -51,12 +51,7 @@ impl ToneTracker {
     }
 
     /// Decides the window at the next place, by its correlations and those of the windows eight and sixteen samples later.
-    pub fn decide(
-        &mut self,
-        now: &Correlations,
-        next: &Correlations,
-        later: &Correlations,
-    ) -> Tone
+    pub fn decide(&mut self, now: &Correlations, next: &Correlations, later: &Correlations) -> Tone
         requires now { AreWithin now.now }
         requires next { AreWithin next.now }
         requires later { AreWithin later.now }

@@ -1,4 +1,4 @@
-use Rattle.std.proofs.Common.{◌≡◌, ℤ, ◌-ℤ◌, FitsSigned, w32, ◌∙◌, ap, arith, rules}
+use Rattle.std.proofs.Common.{◌-ℤ◌, FitsSigned, w32, ◌∙◌, ap, arith, rules}
 use Rattle.std.specs.Prelude.{pos}
 use Rattle.std.specs.Int.{int_max, int_min}
 use Rattle.std.proofs.lemmas.Int.{ints, to_z-of_z}

@@ -1,5 +1,5 @@
-use Rattle.std.proofs.Common.{◌≡◌, ◌-ℤ◌, ℤ, pos, neg_ℤ, FitsSigned, to_z, of_z, w32, ◌≤◌, unsigned_abs, refl, ap, ◌∙◌, arith, rules}
-use Rattle.std.proofs.lemmas.Int.{ints, to_z-of_z}
+use Rattle.std.proofs.Common.{◌≡◌, ◌-ℤ◌, ℤ, pos, neg_ℤ, to_z, of_z, w32, ◌≤◌, unsigned_abs, refl, ap, ◌∙◌, arith}
+use Rattle.std.proofs.lemmas.Int.{ints}
 use Rattle.tone_table.specs.declared.tone.Tone.TheVariants.{Mark, Space}
 use Rattle.tone_table.specs.Sine.{quarter, half_wave, cycle_sample, wave_sample}
 use Rattle.tone_tracking.specs.Correlation.{weight, correlation}

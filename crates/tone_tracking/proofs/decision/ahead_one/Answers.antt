@@ -1,6 +1,6 @@
-use Rattle.std.proofs.Common.{◌≡◌, ℕ, ◌<◌, [], ◌∷◌, ap, ◌∙◌, sym, arith}
+use Rattle.std.proofs.Common.{[], ◌∷◌, ap, ◌∙◌, sym}
 use Rattle.std.proofs.lemmas.List.Elements.{All-nil, All-cons}
-use Rattle.tone_tracking.specs.Phasors.{IsWithin, plus, none, turn}
+use Rattle.tone_tracking.specs.Phasors.{IsWithin, turn}
 use Rattle.tone_tracking.proofs.PhasorLemmas.{plus-none, turned_within}
 use Rattle.tone_tracking.proofs.decision.ahead_one.Goals as goal
 

@@ -1,4 +1,4 @@
-use Rattle.std.proofs.Common.{◌≡◌, ℕ, ◌<◌, [], ◌∷◌, arith}
+use Rattle.std.proofs.Common.{[], ◌∷◌, arith}
 use Rattle.std.proofs.lemmas.List.Elements.{All-nil, All-cons}
 use Rattle.tone_tracking.specs.Phasors.{IsWithin}
 use Rattle.tone_tracking.proofs.PhasorLemmas.{sum_within, turned_within, within_more}

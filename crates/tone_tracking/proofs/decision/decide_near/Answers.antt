@@ -1,4 +1,4 @@
-use Rattle.std.proofs.Common.{◌≡◌, ℤ, [], ◌∷◌, FitsSigned, w64, arith, rules}
+use Rattle.std.proofs.Common.{[], ◌∷◌, FitsSigned, w64, arith, rules}
 use Rattle.std.proofs.lemmas.Int.{to_z-of_z}
 use Rattle.tone_tracking.proofs.PhasorLemmas.{sum_within, within_more}
 use Rattle.tone_tracking.proofs.DecisionLemmas.{all_within_more, decided_by}

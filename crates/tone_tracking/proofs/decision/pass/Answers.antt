@@ -1,4 +1,4 @@
-use Rattle.std.proofs.Common.{◌≡◌, ap, subst, sym, arith}
+use Rattle.std.proofs.Common.{subst, sym, arith}
 use Rattle.tone_tracking.specs.Phasors.{IsWithin}
 use Rattle.tone_tracking.proofs.PhasorLemmas.{of_tone_within, sum_within, turned_back_within, within_more}
 use Rattle.tone_tracking.proofs.decision.pass.Goals as goal

@@ -1,4 +1,4 @@
-use Rattle.std.proofs.Common.{◌≡◌, ◌≢◌, ℕ, ◌+◌, ◌<◌, ℤ, pos, List, [], ◌∷◌, ◌++◌, length, get_or, set, take, drop, ap, ◌∙◌, arith, get_or-set_other, get_or-drop, get_or-take}
+use Rattle.std.proofs.Common.{◌≡◌, ◌≢◌, ℕ, ◌+◌, ◌<◌, ℤ, pos, List, [], ◌∷◌, ◌++◌, length, get_or, set, drop, ap, ◌∙◌, arith, get_or-set_other, get_or-drop, get_or-take}
 use Rattle.std.proofs.lemmas.List.{get_or_append_left}
 use borrow.Rule.Slice.PartMut.{mid_of}
 use Rattle.tone_tracking.proofs.tone_lists.with_next.Goals as goal

@@ -1,9 +1,8 @@
-use Rattle.std.proofs.Common.{◌≡◌, ℕ, ◌+◌, ℤ, pos, ◌+ℤ◌, FitsSigned, to_z, of_z, w32, sym, subst, ◌∙◌, arith, rules}
+use Rattle.std.proofs.Common.{◌≡◌, pos, ◌+ℤ◌, FitsSigned, to_z, of_z, w32, sym, subst, ◌∙◌, arith, rules}
 use Rattle.std.proofs.lemmas.Int.{ints, to_z-of_z}
 use Rattle.std.specs.Prelude.{int_le}
-use Rattle.tone_table.specs.declared.tone.Tone.{Tone}
 use Rattle.tone_tracking.specs.declared.bit_clock.Pull.{Pull}
-use Rattle.tone_tracking.specs.Clock.{Clock, next_clock, clock_after, reads, phase_next, phase_pulled, rate_pulled}
+use Rattle.tone_tracking.specs.Clock.{Clock, next_clock, reads}
 use Rattle.tone_tracking.proofs.ClockLemmas.{next_pulled, next_same, goes_on}
 use Rattle.tone_tracking.proofs.bit_clock.BitClock.step.Goals as goal
 

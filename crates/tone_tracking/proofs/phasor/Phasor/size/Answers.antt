@@ -1,4 +1,4 @@
-use Rattle.std.proofs.Common.{◌≡◌, ◌≤◌, ◌+◌, ℤ, ◌*ℤ◌, ◌+ℤ◌, FitsSigned, to_z, of_z, w32, w64, unsigned_abs, ap, ◌∙◌, arith}
+use Rattle.std.proofs.Common.{◌≡◌, ◌≤◌, ℤ, ◌*ℤ◌, ◌+ℤ◌, FitsSigned, to_z, of_z, w32, w64, unsigned_abs, ◌∙◌, arith}
 use Rattle.std.proofs.lemmas.Int.{ints, to_z-of_z}
 use Rattle.tone_tracking.proofs.phasor.Phasor.size.Goals as goal
 

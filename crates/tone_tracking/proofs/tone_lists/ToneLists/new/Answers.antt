@@ -1,6 +1,4 @@
-use Rattle.std.proofs.Common.{◌∙◌, ap}
 use Rattle.tone_tracking.specs.Correlation.{correlations}
-use Rattle.tone_tracking.specs.Heard.{places_in}
 use Rattle.tone_tracking.proofs.ListsLemmas.{taken_none, all_within-none}
 use Rattle.tone_tracking.proofs.tone_lists.ToneLists.new.Goals as goal
 

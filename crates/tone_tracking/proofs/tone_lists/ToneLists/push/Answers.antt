@@ -1,10 +1,8 @@
-use Rattle.std.proofs.Common.{◌≡◌, ℕ, ◌+◌, ◌-◌, ◌%◌, ◌<◌, ◌≤◌, ℤ, pos, List, length, get_or, set, refl, sym, subst, ap, ◌∙◌, arith, rules}
+use Rattle.std.proofs.Common.{◌≡◌, ◌+◌, ◌-◌, ◌%◌, ◌<◌, ◌≤◌, ℤ, pos, List, length, get_or, set, refl, subst, ◌∙◌, arith, rules}
 use Rattle.std.proofs.lemmas.List.{length-set}
-use Rattle.std.specs.List.{All}
 use Rattle.std.proofs.lemmas.Int.{to_z-of_z}
 use mir.Syntax.{w16}
 use Rattle.tone_tracking.specs.declared.correlation.Correlations.{Correlations}
-use Rattle.tone_tracking.specs.Correlation.{AreWithin}
 use Rattle.tone_tracking.specs.Phasors.{none}
 use Rattle.tone_tracking.specs.HeldLists.{HeldLists, HasSamples, HasTaken}
 use Rattle.tone_tracking.proofs.ListsLemmas.{held, still_decided, samples_few, samples_more, kept_at, decided_more, all_within-set}

@@ -1,10 +1,7 @@
-use Rattle.std.proofs.Common.{◌≡◌, ℕ, ◌+◌, ◌%◌, ◌<◌, List, length, get_or, set, pos, refl, sym, subst, ap, ◌∙◌, arith, rules}
-use Rattle.tone_table.specs.declared.tone.Tone.{Tone}
-use Rattle.tone_tracking.specs.declared.phasor.Phasor.{Phasor}
-use Rattle.tone_tracking.specs.declared.reach.Reach.{Reach}
+use Rattle.std.proofs.Common.{◌≡◌, ℕ, ◌+◌, ◌%◌, length, set, sym, subst, ◌∙◌, arith, rules}
 use Rattle.tone_tracking.specs.declared.correlation.Correlations.{Correlations}
-use Rattle.tone_tracking.specs.Phasors.{IsWithin, none}
-use Rattle.tone_tracking.specs.Heard.{decided, open_of, passed, past_at, tone_at}
+use Rattle.tone_tracking.specs.Phasors.{none}
+use Rattle.tone_tracking.specs.Heard.{passed, past_at, tone_at}
 use Rattle.tone_tracking.specs.HeldTracker.{HeldTracker, StandsFor}
 use Rattle.tone_tracking.proofs.TrackerLemmas.{held, past_at-next, stands_next, tone_is_decided, past_here}
 use Rattle.tone_tracking.proofs.tone_tracker.ToneTracker.decide.Goals as goal
