@@ -9,6 +9,10 @@ use Rattle.ax25_frames.specs.declared.frame.Modulus.TheVariants.{Eight, OneTwent
 use Rattle.tnc_words.specs.declared.command.Command.{Command}
 use Rattle.tnc_words.specs.declared.command.Command.TheVariants.{Decode, Encode, Show, Loop, Bench, Serve, Help, Version}
 use Rattle.tnc_words.specs.declared.command.DecodeWords.{DecodeWords}
+use Rattle.tnc_words.specs.declared.command.Receiving.{Receiving}
+use Rattle.tnc_words.specs.declared.command.Receiving.TheVariants.{Standard}
+use Rattle.tnc_words.specs.declared.command.SampleRate.{SampleRate}
+use Rattle.tnc_words.specs.declared.command.SampleRate.TheVariants.{Narrow, Wide}
 use Rattle.tnc_words.specs.declared.command.EncodeWords.{EncodeWords}
 use Rattle.tnc_words.specs.declared.command.ShowWords.{ShowWords}
 use Rattle.tnc_words.specs.declared.command.LoopWords.{LoopWords}
@@ -18,6 +22,7 @@ use Rattle.tnc_words.specs.declared.topic.Topic.{Topic}
 use Rattle.tnc_words.specs.Commands.{Asks, IsDecode, IsEncode, IsShow, IsLoop, IsBench, IsServe, first_word}
 use Rattle.tnc_words.specs.Commands.{HasDecodeOptions, HasEncodeOptions, HasShowOptions, HasLoopOptions, HasBenchOptions, HasServeOptions}
 use Rattle.tnc_words.specs.Help.{IsHelp, IsVersion}
+use Rattle.tnc_words.specs.Rates.{HasReceiving, samples_a_second}
 use Rattle.tnc_words.specs.Numbers.{GivesNumber, HasNumber}
 use Rattle.tnc_words.proofs.AskedHelp.{help_alone, help_is_no_version, one_topic, version_alone}
 use Rattle.tnc_words.proofs.OneLink.{one_call, one_params}
@@ -33,6 +38,19 @@ one_modulus Eight OneTwentyEight h = absurd (eight_is_not 128 refl h)
 one_modulus OneTwentyEight Eight h = absurd (eight_is_not 128 refl (sym h))
 one_modulus OneTwentyEight OneTwentyEight h = refl
 
+narrow_is_not : (n : ℕ) → n ≡ 48000 → 9600 ≡ n → ⊥
+narrow_is_not n is same = omega arith
+
+-- a rate is known by its number
+one_rate : (rate other : SampleRate) → samples_a_second rate ≡ samples_a_second other → rate ≡ other
+one_rate Narrow Narrow h = refl
+one_rate Narrow Wide h = absurd (narrow_is_not 48000 refl h)
+one_rate Wide Narrow h = absurd (narrow_is_not 48000 refl (sym h))
+one_rate Wide Wide h = refl
+
+one_receiving : (found : List Row) (receiving other : Receiving) → HasReceiving found receiving → HasReceiving found other → receiving ≡ other
+one_receiving found (Standard rate) (Standard other) h k = ap Standard (one_rate rate other (one_number _ _ _ _ _ _ h k))
+
 -- ---- what was found gives one set of options
 
 one_decode_options : (found : List Row) (decode other : DecodeWords) → HasDecodeOptions found decode
@@ -40,7 +58,8 @@ one_decode_options : (found : List Row) (decode other : DecodeWords) → HasDeco
 one_decode_options found decode other h k =
     ap (λ v. record decode { audio = v }) (h.audio ∙ sym k.audio)
     ∙ ap (λ v. record decode { audio = other.audio; frames = v }) (h.frames ∙ sym k.frames)
-    ∙ ap (λ v. record other { threads = v }) (h.threads ∙ sym k.threads)
+    ∙ ap (λ v. record decode { audio = other.audio; frames = other.frames; threads = v }) (h.threads ∙ sym k.threads)
+    ∙ ap (λ v. record other { receiving = v }) (one_receiving found decode.receiving other.receiving h.receiving k.receiving)
 
 one_encode_options : (found : List Row) (encode other : EncodeWords) → HasEncodeOptions found encode
     → HasEncodeOptions found other → encode ≡ other

@@ -14,17 +14,19 @@ use Rattle.tnc_words.specs.Options.{decode_faults, encode_faults, show_faults, l
 use Rattle.tnc_words.specs.Options.{decode_rows, encode_rows, show_rows, loop_rows, bench_rows, serve_rows, is_used}
 use Rattle.tnc_words.specs.Help.{IsHelp, IsVersion}
 use Rattle.tnc_words.specs.Forms.{audio_form, frame_form, modem}
+use Rattle.tnc_words.specs.Rates.{HasReceiving}
 use Rattle.tnc_words.specs.Links.{HasCall, HasParams}
 use Rattle.tnc_words.specs.Numbers.{GivesNumber, HasNumber}
 
 abbrev pub first_word : List Text → Option Text
 first_word words = slice_get words 0
 
--- The options of decode.
+-- The options of decode. The rate is read also with --wav, where the file tells its own.
 pub record HasDecodeOptions (found : List Row) (decode : DecodeWords) : Type 0 where
   pub audio : decode.audio ≡ audio_form found
   pub frames : decode.frames ≡ frame_form found
   pub threads : decode.threads ≡ is_used (codes "threads") found
+  pub receiving : HasReceiving found decode.receiving
 
 -- decode with these options
 pub record IsDecode (words : List Text) (decode : DecodeWords) : Type 0 where

@@ -3,4 +3,5 @@ pub mod Numbers
 pub mod Forms
 pub mod Help
 pub mod Links
+pub mod Rates
 pub mod Commands

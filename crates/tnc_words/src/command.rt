@@ -22,6 +22,22 @@ pub enum FrameForm {
     Kiss,
 }
 
+/// How many samples a second come in.
+#[derive(Clone, Copy, Debug, PartialEq, Eq)]
+pub enum SampleRate {
+    /// 9600.
+    Narrow,
+    /// 48,000, as sound cards have them.
+    Wide,
+}
+
+/// How samples are heard.
+#[derive(Clone, Copy, Debug, PartialEq, Eq)]
+pub enum Receiving {
+    /// Bell 202 at 1200 bits a second. The rate is that of raw samples; a WAV file tells its own.
+    Standard { rate: SampleRate },
+}
+
 /// A command with its options.
 #[derive(Clone, Copy, Debug, PartialEq, Eq)]
 pub enum Command {
@@ -52,6 +68,8 @@ pub struct DecodeWords {
     pub frames: FrameForm,
     /// The lanes work on threads of their own.
     pub threads: bool,
+    /// How the samples are heard.
+    pub receiving: Receiving,
 }
 
 /// The options of `encode`.

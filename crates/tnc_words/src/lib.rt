@@ -26,7 +26,7 @@ mod topic;
 
 pub use command::{
     AudioForm, BenchOptions, Command, DecodeWords, EncodeWords, FrameForm, LoopWords, Modem,
-    ServeOptions, ShowWords,
+    Receiving, SampleRate, ServeOptions, ShowWords,
 };
 pub use fault::WordsFault;
 pub use laws::one_command;

@@ -1,6 +1,7 @@
 use super::{
     AudioForm, BenchOptions, Command, DecodeWords, EncodeWords, FrameForm, LoopWords, Modem,
-    ServeOptions, ShowWords, Topic, WordsFault, help_text, one_command, read_words, version_line,
+    Receiving, SampleRate, ServeOptions, ShowWords, Topic, WordsFault, help_text, one_command,
+    read_words, version_line,
 };
 use ax25_address::Call;
 use ax25_frames::Modulus;
@@ -31,11 +32,29 @@ fn is_refused(alloc: Global, words: &[&str]) -> Result<bool, Fail> {
     }
 }
 
+// Raw samples at 9600 a second.
+const NARROW: Receiving = Receiving::Standard {
+    rate: SampleRate::Narrow,
+};
+
 fn decode(audio: AudioForm, frames: FrameForm) -> Command {
     Command::Decode(DecodeWords {
         audio,
         frames,
         threads: false,
+        receiving: NARROW,
+    })
+}
+
+// At 48,000 samples a second, or what a WAV file tells.
+fn decode_wide(audio: AudioForm) -> Command {
+    Command::Decode(DecodeWords {
+        audio,
+        frames: FrameForm::Hex,
+        threads: false,
+        receiving: Receiving::Standard {
+            rate: SampleRate::Wide,
+        },
     })
 }
 
@@ -312,7 +331,7 @@ fn other_words_of_serve_are_refused(rt: HostRuntime) -> Result<(), Fail> {
 
 #[test]
 fn good_words_ask_for_a_command(rt: HostRuntime) -> Result<(), Fail> {
-    let table: [(&[&str], Command); 36] = [
+    let table: [(&[&str], Command); 39] = [
         (&["decode"], decode(AudioForm::Raw, FrameForm::Hex)),
         (&["decode", "--"], decode(AudioForm::Raw, FrameForm::Hex)),
         (&["decode", "--wav"], decode(AudioForm::Wav, FrameForm::Hex)),
@@ -402,7 +421,17 @@ fn good_words_ask_for_a_command(rt: HostRuntime) -> Result<(), Fail> {
                 audio: AudioForm::Wav,
                 frames: FrameForm::Hex,
                 threads: true,
+                receiving: NARROW,
             }),
+        ),
+        (&["decode", "--rate", "48000"], decode_wide(AudioForm::Raw)),
+        (
+            &["decode", "--wav", "--rate=048000"],
+            decode_wide(AudioForm::Wav),
+        ),
+        (
+            &["decode", "--rate=9600"],
+            decode(AudioForm::Raw, FrameForm::Hex),
         ),
         (
             &["loop", "--seed", "7", "--threads", "--frames", "20"],
@@ -519,7 +548,7 @@ fn each_topic_has_its_text(rt: HostRuntime) -> Result<(), Fail> {
 
 #[test]
 fn other_words_are_refused(rt: HostRuntime) -> Result<(), Fail> {
-    let table: [&[&str]; 98] = [
+    let table: [&[&str]; 103] = [
         &[],
         &[""],
         &["decod"],
@@ -569,6 +598,11 @@ fn other_words_are_refused(rt: HostRuntime) -> Result<(), Fail> {
         &["decode", "--level", "10"],
         &["show", "x"],
         &["show", "--wav"],
+        &["decode", "--rate", "44100"],
+        &["decode", "--wav", "--rate", "44100"],
+        &["decode", "--rate"],
+        &["decode", "--rate", "9600", "--rate", "9600"],
+        &["encode", "--rate", "48000"],
         &["show", "--modulo"],
         &["show", "--modulo="],
         &["show", "--modulo", "7"],
