@@ -60,7 +60,7 @@ module _ (words : DecodeWords) (octets before : List ℕ) (left now : Option (Li
   )
 
   -- a file that is refused for its head is not refused for being too long
-  other_fault : input_limit < length octets → (audio_fault words.audio octets ≡ Some TooLong → ⊥)
+  other_fault : input_limit < length octets → (audio_fault words octets ≡ Some TooLong → ⊥)
       → Written (Decode words) octets before left now BadInput
   other_fault over other =
       let whole = some_text words octets in
@@ -70,7 +70,7 @@ module _ (words : DecodeWords) (octets before : List ℕ) (left now : Option (Li
         part.3,
       )
 
-  pub of_many : (fault : InputFault) → input_limit < length octets → audio_fault words.audio octets ≡ Some fault → (fault ≡ TooLong → Ended)
+  pub of_many : (fault : InputFault) → input_limit < length octets → audio_fault words octets ≡ Some fault → (fault ≡ TooLong → Ended)
       → Written (Decode words) octets before left now BadInput
   of_many TooLong over is ended =
       let h = ended refl in (

@@ -55,7 +55,7 @@ Makes Version octets text = text ≡ version_text
 
 -- why a command refuses octets: with none nothing is wrong
 abbrev pub fault_of : Command → List ℕ → Option InputFault
-fault_of (Decode words) octets = audio_fault words.audio octets
+fault_of (Decode words) octets = audio_fault words octets
 fault_of (Encode words) octets = encode_fault words octets
 fault_of (Show words) octets = show_fault octets
 fault_of (Loop words) octets = None

@@ -103,7 +103,7 @@ pub record SettledByPart (words : DecodeWords) (octets : List ℕ) (left : Optio
   pub part : Begins text whole
 
 -- The text of decode is a first part of what the octets read are decoded to. Each frame that ends more than 2048 samples before
--- the end of their samples is whole in it.
+-- the number of their samples is whole in it.
 pub record MostOfRead (words : DecodeWords) (octets : List ℕ) (left : Option (List ℕ)) (text : List ℕ) : Type 0 where
   pub read : List ℕ
   pub early : List ℕ
@@ -119,7 +119,7 @@ pub record MostOfRead (words : DecodeWords) (octets : List ℕ) (left : Option (
 -- The text is what a command writes of too many octets: of lines, what the first 2^40 octets settle. A WAV file can be refused
 -- for its head before it is too long.
 abbrev pub MakesOfTooMany : Command → List ℕ → Option (List ℕ) → List ℕ → Type 0
-MakesOfTooMany (Decode words) octets left text = audio_fault words.audio octets ≡ Some TooLong → SettledByRead (Decode words) octets left text
+MakesOfTooMany (Decode words) octets left text = audio_fault words octets ≡ Some TooLong → SettledByRead (Decode words) octets left text
 MakesOfTooMany (Encode words) octets left text = text ≡ encoded_so_far words (take input_limit octets)
 MakesOfTooMany (Show words) octets left text = IsShownOfMany words octets text
 MakesOfTooMany (Loop words) octets left text = text ≡ []
