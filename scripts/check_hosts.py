@@ -299,6 +299,43 @@ def raw_frames(tnc):
     world.end()
 
 
+def in_words(message):
+    """What a host that monitors is shown: the kind, the calls, and the text without its time."""
+    found = re.fullmatch(rb"( 1:Fm .* >)\[\d\d:\d\d:\d\d\]\r(.*)\0", message.body, re.DOTALL)
+    return (message.kind, message.source, message.to, *(found.groups() if found else [message.body]))
+
+
+def monitors(tnc):
+    """m: each frame that is heard or sent in words, once, on or off again."""
+    world = World(tnc)
+    near, far = world.client(0), world.client(1)
+    for host in (near, far):
+        host.send("m")
+    world.go(5)
+    line, wanted = b" 1:Fm N0CALL To APRS Via R1-1,R2 <UI pid=F0 Len=2 P=0 >", ("N0CALL", "APRS")
+    near.send("V", "APRS", repeaters(["R1-1", "R2"]) + b"\xc0\0", source="N0CALL")
+    same(in_words(world.one(near, "T")), ("T", *wanted, line, b"\xc0\0\r"))
+    same(in_words(world.one(far, "U")), ("U", *wanted, line, b"\xc0\0\r"))
+    far.send("m")
+    a, b = world.client(0, "AAAA"), world.client(1, "BBBB")
+    world.linked(a, b)
+    a.send("D", "BBBB", b"text")
+    same(world.data(b, 4), (b"text", {0xF0}))
+    world.go(300)
+    b.send("d", "AAAA")
+    world.unlinked(a, b)
+    world.go(50)
+    shown = [in_words(it) for it in near.take()]
+    for kind, source, to, what, text in (
+        ("T", "AAAA", "BBBB", b"<SABM P=1 >", b""), ("S", "BBBB", "AAAA", b"<UA F=1 >", b""),
+        ("T", "AAAA", "BBBB", b"<I S0 R0 pid=0xF0 Len=4 P=0 >", b"text\r"), ("S", "BBBB", "AAAA", b"<RR R1 F=0 >", b""),
+        ("S", "BBBB", "AAAA", b"<DISC P=1 >", b""), ("T", "AAAA", "BBBB", b"<UA F=1 >", b""),
+    ):
+        same(shown.count((kind, source, to, f" 1:Fm {source} To {to} ".encode() + what, text)), 1)
+    world.quiet(far)
+    world.end()
+
+
 def carries(tnc, *words):
     """C, D, d, Y, y: a link, what goes over it, and who is told."""
     world = World(tnc, *words)
@@ -515,8 +552,8 @@ def repeats(tnc):
 
 
 OWN = [
-    answers, settings, registers, sends_unproto, raw_frames, carries, connects_with_pid, connects_by_repeater, refuses_calls,
-    has_links_for_64, is_refused_by_nobody, takes_pieces, closes, has_room_for_64, is_flooded, speaks_kiss, repeats,
+    answers, settings, registers, sends_unproto, raw_frames, monitors, carries, connects_with_pid, connects_by_repeater,
+    refuses_calls, has_links_for_64, is_refused_by_nobody, takes_pieces, closes, has_room_for_64, is_flooded, speaks_kiss, repeats,
 ]
 
 

@@ -1,6 +1,6 @@
 -- The events of a step in which no host program connects or disconnects.
-use Rattle.std.proofs.Common.{◌≡◌, ℕ, Bool, true, false, ◌==◌, List, [], ◌∷◌, ◌++◌, cond, Option, Some, None, refl, sym, ap, ◌∙◌, subst}
-use Rattle.std.specs.Prelude.{All, MatchBool}
+use Rattle.std.proofs.Common.{◌≡◌, ℕ, Bool, true, false, ◌==◌, List, [], ◌∷◌, ◌++◌, cond, Option, Some, None, sym, subst}
+use Rattle.std.specs.Prelude.{MatchBool}
 use Rattle.std.specs.List.{range_with_len, AllByRecursion as Each}
 use Rattle.std.proofs.lemmas.List.Elements.{recursion_from_All, All-from_recursion}
 use Rattle.ax25_address.specs.FramePath.{way_back}
@@ -10,7 +10,7 @@ use Rattle.ax25_frames.specs.declared.frame.Frame.{Frame}
 use Rattle.agwpe_port.specs.Messages.{bad_length_in}
 use Rattle.agwpe_port.specs.declared.message.AgwMessage.{AgwMessage}
 use Rattle.link_machine.specs.Event.{Event as LinkEvent}
-use Rattle.link_machine.specs.Event.Event.{Connect as LinkConnect, Send as LinkSend, Disconnect as LinkDisconnect, Hear as LinkHear, Tick as LinkTick}
+use Rattle.link_machine.specs.Event.Event.{Send as LinkSend, Hear as LinkHear, Tick as LinkTick}
 use Rattle.link_world.proofs.law.Each.{each_append}
 use Rattle.station.specs.declared.host_event.HostEvent.{HostEvent}
 use Rattle.station.specs.declared.host_event.HostEvent.TheVariants.{Joined, Bytes, Left}
@@ -19,7 +19,7 @@ use Rattle.station.specs.declared.host_event.PortKind.TheVariants.{Kiss, Agw}
 use Rattle.station.specs.AgwKinds.{data_kind, disconnect_kind}
 use Rattle.station.specs.AgwRequests.{IsCall, calls, called_route, own_key, giving_packet, packets_of, data_pid, answering_else, AreAnswered}
 use Rattle.station.specs.Connections.{Connection, connection_of}
-use Rattle.station.specs.Heard.{IsHeard, IsHeardBy, IsHeardAnew, IsHeardMaking, IsReadingHeardAnew, IsRepeatedFor, AreHeardAt, AreOctetsHeard, may_make, showing, source_field, destination_field, waits_for_repeater}
+use Rattle.station.specs.Heard.{IsHeard, IsHeardBy, IsHeardAnew, IsHeardMaking, IsReadingHeardAnew, IsRepeatedFor, AreHeardAt, AreOctetsHeard, may_make, shown_to_hosts, waits_for_repeater}
 use Rattle.station.specs.Host.{new_messages, taking, AreTaken, AreTakenBy, IsHostTurn}
 use Rattle.station.specs.Links.{Link, link_at, key_between, most_links}
 use Rattle.station.specs.NewLinks.{making, no_layer_3}
@@ -27,9 +27,9 @@ use Rattle.station.specs.Registrations.{registrar}
 use Rattle.station.specs.Ticks.{ticking_at, waits}
 use Rattle.station.specs.Turn.{Turn, Act, begin}
 use Rattle.channel_bench.specs.HostsAsk.{AsksNothing, OctetsAskBy, OctetsAskNothing, InputAsksNothing, HostsAskNothing}
-use Rattle.channel_bench.specs.JointRun.{Input, IsTurn, Step}
+use Rattle.channel_bench.specs.JointRun.{Input, IsTurn}
 use Rattle.channel_bench.specs.JointRun.Input.{FromHost, OffAir, OfClock}
-use Rattle.channel_bench.specs.LinkSteps.{LinkStep, Choice, link_step, steps_for, steps_at, steps_along, ticks_at, tick_steps, sends_at, data_steps, disconnect_steps, else_steps, answer_steps, message_steps, ending_steps, octet_steps_by, octet_steps, host_steps, hears_at, new_steps, anew_steps, reading_steps, key_steps, path_steps, by_path_steps, heard_steps, turn_steps, steps_of}
+use Rattle.channel_bench.specs.LinkSteps.{LinkStep, Choice, link_step, steps_for, steps_at, steps_along, ticks_at, sends_at, data_steps, disconnect_steps, else_steps, answer_steps, message_steps, ending_steps, octet_steps_by, octet_steps, host_steps, hears_at, new_steps, anew_steps, reading_steps, key_steps, path_steps, by_path_steps, turn_steps, steps_of}
 use Rattle.channel_bench.specs.MatchedLaw.{IsOfNoHost}
 
 abbrev OfNoHost : LinkStep → Type 0
@@ -175,7 +175,7 @@ turn_asks :
     → AllOfNone (turn_steps chosen input before after turn)
 turn_asks chosen (FromHost event) before after turn none = host_asks chosen event before after none turn
 turn_asks chosen (OffAir octets) before after turn none =
-    by_path_asks chosen turn.path octets (showing (source_field turn.path) (destination_field turn.path) octets before) after turn.effect
+    by_path_asks chosen turn.path octets (shown_to_hosts turn.path octets turn.monitored before) after turn.effect
 turn_asks chosen (OfClock busy) before after turn none =
     along_asks ticking_at (ticks_at chosen)
     (λ key t. event_asks chosen None key (LinkTick (waits key t.now.channel.waiting)) t tt) (range_with_len 0 most_links) before

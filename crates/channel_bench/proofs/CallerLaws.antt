@@ -1,7 +1,6 @@
 -- The law in the terms of host programs: what it asks of the events of a link follows from what hosts ask and from the counts
 -- of dropped frames.
-use Rattle.std.proofs.Common.{◌≡◌, ℕ, List, [], ◌∷◌, refl, sym, ap, ◌∙◌, subst}
-use Rattle.std.specs.Prelude.{All}
+use Rattle.std.proofs.Common.{◌≡◌, List, [], ◌∷◌, refl, sym, ap, ◌∙◌}
 use Rattle.std.specs.List.{AllByRecursion as Each}
 use Rattle.std.proofs.lemmas.List.Elements.{All-from_recursion, recursion_from_All}
 use Rattle.link_world.specs.declared.end.End.{End}
@@ -30,7 +29,7 @@ before_zero :
 before_zero A state s h none_lost = record { a = none_lost; b = h.b }
 before_zero B state s h none_lost = record { a = h.a; b = none_lost }
 
-events_by :
+pub events_by :
     (e : End) (calls : Calls) (step : Step) → step.station ≡ e → (step.station ≡ B → InputAsksNothing step.input step.before)
     → Each DropsNoAsk (steps_of (link_at_end calls e) step) → Each (IsEventOfCaller e) (steps_of (link_at_end calls e) step)
 events_by A calls step station asks joined = joined

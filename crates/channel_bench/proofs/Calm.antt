@@ -1,6 +1,6 @@
 -- A link that no host of its own connects or disconnects sends no SABM, SABME or DISC, if it hears no invalid N(R) and no
 -- FRMR: it is idle or up, and stays so.
-use Rattle.std.proofs.Common.{◌≡◌, ℕ, ◌+◌, ◌-◌, ◌==◌, Bool, true, false, not, ◌&&◌, nat_lt, List, [], ◌∷◌, ◌++◌, length, map, cond, if◌then◌else◌, Option, Some, None, is_some, is_none, refl, sym, ap, ◌∙◌, subst}
+use Rattle.std.proofs.Common.{◌≡◌, ℕ, ◌+◌, ◌==◌, Bool, true, false, not, ◌&&◌, nat_lt, List, [], ◌∷◌, ◌++◌, length, map, cond, Option, Some, None, is_some, is_none, refl, sym, ◌∙◌, subst}
 use Rattle.std.specs.Bool.{⊤}
 use Rattle.std.specs.List.{list_any}
 use Rattle.std.proofs.lemmas.Bool.{or_from, or_parts, cond-true, cond_both}
@@ -22,14 +22,13 @@ use Rattle.link_machine.specs.declared.acts.Why.TheVariants.{Failed}
 use Rattle.link_machine.specs.Acts.{timed_anew, timed_by, acknowledged, nothing_due, report, respond_ready, answer_poll, gone_back, behind_poll, recover, polling, poll, to_send, awaiting, send_packets, flush, close, release, settle, owing, with_rej, reject, run_with, give, stored, srej_for, ask, watching, sent_packet, send_again}
 use Rattle.link_machine.specs.Event.{Event as LinkEvent}
 use Rattle.link_machine.specs.Event.Event.{Connect as LinkConnect, Send as LinkSend, Disconnect as LinkDisconnect, Hear as LinkHear, Tick as LinkTick}
-use Rattle.link_machine.specs.Frames.{answer_ua, answer_dm, leave, open_called, hear_idle, with_busy, hear_rr, hear_rnr, hear_rej, acknowledged_by_srej, hear_srej, hear_supervisory, take_in_sequence, refuse_out_of_sequence, hear_info_by_rej, take_selected, hear_info_by_srej, hear_info_by, hear_info, open_again, end_by_disc, end_by_dm, hear_up, hear_in, hear}
+use Rattle.link_machine.specs.Frames.{answer_ua, answer_dm, leave, open_called, hear_idle, with_busy, hear_rr, hear_rnr, hear_rej, acknowledged_by_srej, hear_srej, hear_supervisory, take_in_sequence, refuse_out_of_sequence, hear_info_by_rej, take_selected, hear_info_by_srej, hear_info_by, hear_info, hear_up, hear_in}
 use Rattle.link_machine.specs.declared.control.Control.{Control}
 use Rattle.link_machine.specs.Machine.{Machine, named, is_valid, ahead_of_vr}
-use Rattle.link_machine.specs.Requests.{joined}
 use Rattle.link_machine.specs.Sent.{Sent, SentIn, sent_in, all_sent_in, infos_from}
-use Rattle.link_machine.specs.Sent.Sent.{InfoSent, SuperSent, SetupSent}
+use Rattle.link_machine.specs.Sent.Sent.{SuperSent, SetupSent}
 use Rattle.link_machine.specs.Step.{refusal_of, row, settle_in, settled, step}
-use Rattle.link_machine.specs.Ticks.{runs_out, lowered, with_t1, with_t2, with_t3, t2_out, retried, is_spent, poll_again, t1_out, unretried, t3_out, tick_t2_of, tick_t2, tick_t3_of, tick_t3, tick_t1_of, tick_t1, tick_in, tick}
+use Rattle.link_machine.specs.Ticks.{runs_out, lowered, with_t1, with_t2, with_t3, t2_out, retried, is_spent, poll_again, t1_out, unretried, t3_out, tick_t2_of, tick_t2, tick_t3_of, tick_t3, tick_t1_of, tick_t1, tick_in}
 use Rattle.link_machine.specs.Turn.{Turn, Act, begin, changing, setting, sending, telling, nothing, in_order}
 use Rattle.link_world.specs.Law.{names_valid}
 use Rattle.channel_bench.specs.MatchedLaw.{IsOfNoHost}

@@ -1,7 +1,6 @@
 -- A step of the station whose hosts never connect nor disconnect: its end stays idle or up, sends nothing that asks, and finds
 -- a quiet channel. That no N(R) is invalid, for which it would call, the law says of all that came before.
-use Rattle.std.proofs.Common.{◌≡◌, ℕ, ◌+◌, ◌≤◌, Bool, true, List, [], ◌∷◌, ◌++◌, take, Option, Some, None, refl, sym, ap, ◌∙◌, subst, arith, inl, inr}
-use Rattle.std.specs.Bool.{⊤}
+use Rattle.std.proofs.Common.{◌≡◌, ℕ, ◌+◌, Bool, true, List, [], ◌∷◌, ◌++◌, take, Option, Some, None, refl, sym, ap, ◌∙◌, subst, arith, inl, inr}
 use Rattle.std.specs.List.{AllByRecursion as Each}
 use Rattle.std.proofs.lemmas.List.{append_assoc}
 use Rattle.ax25_address.specs.declared.path.Path.{Path}
@@ -10,11 +9,10 @@ use Rattle.link_machine.specs.declared.state.LinkState.TheVariants.{Idle, Callin
 use Rattle.link_machine.specs.Event.{Event as LinkEvent}
 use Rattle.link_machine.specs.Event.Event.{Connect as LinkConnect, Send as LinkSend, Disconnect as LinkDisconnect, Hear as LinkHear, Tick as LinkTick}
 use Rattle.link_machine.specs.Machine.{Machine}
-use Rattle.link_machine.specs.Step.{step as link_turn}
 use Rattle.link_world.specs.declared.end.End.TheVariants.{B}
 use Rattle.link_world.specs.Changes.{Change, changed, run_changes, made_in, AreQuiet, hears_valid_in, ChangesAreValid}
-use Rattle.link_world.specs.Changes.Change.{Makes, Keeps}
-use Rattle.link_world.specs.Flight.{Tagged, asks_in, answers_in}
+use Rattle.link_world.specs.Changes.Change.{Keeps}
+use Rattle.link_world.specs.Flight.{Tagged, asks_in}
 use Rattle.link_world.specs.Law.{names_valid, read_names_valid, first_names_valid, reads_valid, hears_valid}
 use Rattle.link_world.specs.Recorded.{RecordedEnd}
 use Rattle.link_world.specs.World.{World, seen_from}

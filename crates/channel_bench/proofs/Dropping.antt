@@ -1,11 +1,9 @@
 -- A step after which a station has dropped no frame: each frame that its links sent joined the queue.
-use Rattle.std.proofs.Common.{◌≡◌, ℕ, ◌+◌, ◌-◌, ◌<◌, ◌≤◌, Bool, true, false, ◌==◌, nat_lt, nat_le, List, [], ◌∷◌, ◌++◌, length, map, drop, cond, if◌then◌else◌, Option, Some, None, refl, sym, ap, ◌∙◌, subst, arith, inl, inr}
-use Rattle.std.specs.Prelude.{All, MatchBool}
-use Rattle.std.specs.Bool.{⊤}
+use Rattle.std.proofs.Common.{◌≡◌, ℕ, ◌+◌, ◌-◌, Bool, true, false, ◌==◌, nat_lt, nat_le, List, [], ◌∷◌, ◌++◌, length, map, drop, cond, if◌then◌else◌, Option, Some, None, refl, sym, ap, ◌∙◌, subst, arith, inl, inr}
+use Rattle.std.specs.Prelude.{MatchBool}
 use Rattle.std.specs.List.{range_with_len, list_any, AllByRecursion as Each}
 use Rattle.std.proofs.lemmas.Bool.{ltb-false, eqb-true}
 use Rattle.std.proofs.lemmas.List.{drop_all, length-append, length-map}
-use Rattle.std.proofs.lemmas.List.Elements.{All-from_recursion}
 use Rattle.ax25_address.specs.Callsign.{Callsign}
 use Rattle.ax25_address.specs.FramePath.{way_back}
 use Rattle.ax25_address.specs.declared.path.Path.{Path}
@@ -21,19 +19,19 @@ use Rattle.link_machine.specs.declared.acts.SentFrame.{SentFrame}
 use Rattle.link_machine.specs.declared.acts.Told.{Told}
 use Rattle.link_machine.specs.Event.{Event as LinkEvent}
 use Rattle.link_machine.specs.Event.Event.{Connect as LinkConnect, Send as LinkSend, Disconnect as LinkDisconnect, Hear as LinkHear, Tick as LinkTick}
-use Rattle.link_machine.specs.Sent.{SentIn, sent_frame}
+use Rattle.link_machine.specs.Sent.{sent_frame}
 use Rattle.link_machine.specs.Step.{step as link_turn, done_of}
 use Rattle.link_world.proofs.law.Each.{each_append}
 use Rattle.station.specs.declared.host_event.HostEvent.{HostEvent}
 use Rattle.station.specs.declared.host_event.HostEvent.TheVariants.{Joined, Bytes, Left}
 use Rattle.station.specs.declared.host_event.PortKind.{PortKind}
 use Rattle.station.specs.declared.host_event.PortKind.TheVariants.{Kiss, Agw}
-use Rattle.station.specs.AgwKinds.{version_kind, ports_kind, capabilities_kind, register_kind, unregister_kind, toggle_kind, raw_kind, unproto_kind, unproto_via_kind, data_kind, disconnect_kind, pending_kind, waiting_kind}
-use Rattle.station.specs.AgwRequests.{replying, version_reply, ports_reply, capabilities_reply, toggled, register_reply, with_registration, registering, unregistering, is_frame_length, queueing_raw, most_information, unnumbered_frame, sending_unnumbered, refused_reply, may_call, calls, called_route, called_pid, IsCall, IsCallMade, own_key, giving, giving_packet, packets_of, data_pid, disconnecting, pending_in, pending_reply, waiting_reply, answering_else, AreAnswered}
+use Rattle.station.specs.AgwKinds.{version_kind, ports_kind, capabilities_kind, register_kind, unregister_kind, toggle_kind, monitor_kind, raw_kind, unproto_kind, unproto_via_kind, data_kind, disconnect_kind, pending_kind, waiting_kind}
+use Rattle.station.specs.AgwRequests.{replying, version_reply, ports_reply, capabilities_reply, toggled, monitor_toggled, register_reply, with_registration, registering, unregistering, is_frame_length, queueing_raw, most_information, unnumbered_frame, sending_unnumbered, refused_reply, may_call, calls, called_route, called_pid, IsCall, IsCallMade, own_key, giving, giving_packet, packets_of, data_pid, disconnecting, pending_in, pending_reply, waiting_reply, answering_else, AreAnswered}
 use Rattle.station.specs.CallFields.{call_in}
 use Rattle.station.specs.Connections.{Connection, connection_of, most_connections}
 use Rattle.station.specs.FrameSpelling.{frame_octets}
-use Rattle.station.specs.Heard.{IsHeard, IsHeardBy, IsHeardAnew, IsHeardMaking, IsReadingHeardAnew, IsRepeatedFor, AreHeardAt, AreOctetsHeard, may_make, hearing_at, with_shown, showing, showing_to, source_field, destination_field, waits_for_repeater}
+use Rattle.station.specs.Heard.{IsHeard, IsHeardBy, IsHeardAnew, IsHeardMaking, IsReadingHeardAnew, IsRepeatedFor, AreHeardAt, AreOctetsHeard, may_make, hearing_at, with_shown, showing_to, shown_to_hosts, source_field, destination_field, waits_for_repeater}
 use Rattle.station.specs.Host.{joining, with_host, new_messages, new_items, taking, ending, AreTaken, AreTakenBy, IsHostTurn}
 use Rattle.station.specs.Kiss.{param_of, with_param, heeding, heeding_all}
 use Rattle.station.specs.Leaving.{giving_up, giving_up_all, giving_up_link, leaving, without_host, without_owner}
@@ -47,7 +45,7 @@ use Rattle.station.specs.Ticks.{ticking, ticking_at, ticking_links, waits}
 use Rattle.station.specs.Turn.{Turn, Act, begin, in_order, changing, closing, queueing, entering, dropping, capacity}
 use Rattle.channel_bench.specs.JointRun.{Input, IsTurn, Step}
 use Rattle.channel_bench.specs.JointRun.Input.{FromHost, OffAir, OfClock}
-use Rattle.channel_bench.specs.LinkSteps.{LinkStep, Choice, link_step, steps_for, steps_at, steps_along, ticks_at, tick_steps, given_up, gives_up_at, leaving_steps, made_steps, call_steps, sends_at, data_steps, disconnect_steps, else_steps, answer_steps, message_steps, ending_steps, octet_steps_by, octet_steps, host_steps, hears_at, new_steps, anew_steps, reading_steps, key_steps, path_steps, by_path_steps, heard_steps, turn_steps, steps_of}
+use Rattle.channel_bench.specs.LinkSteps.{LinkStep, Choice, link_step, steps_for, steps_at, steps_along, ticks_at, tick_steps, given_up, gives_up_at, leaving_steps, made_steps, call_steps, sends_at, data_steps, disconnect_steps, else_steps, answer_steps, message_steps, ending_steps, octet_steps_by, octet_steps, host_steps, hears_at, new_steps, anew_steps, reading_steps, key_steps, path_steps, by_path_steps, turn_steps, steps_of}
 use Rattle.channel_bench.specs.MatchedLaw.{DropsNoAsk, asks_when_sent}
 use Rattle.channel_bench.proofs.Queues.{octets_of}
 
@@ -285,13 +283,15 @@ else_joins chosen host message turn =
     (by_kind P k unregister_kind (unregistering host (call_in message.from) turn) _ _ (calm unregister_kind (unregistering host (call_in message.from) turn) refl (unregistering_joins host (call_in message.from) turn))
     (by_kind P k toggle_kind (changing (toggled host) turn) _ _
     (calm toggle_kind (changing (toggled host) turn) refl (same_joins turn (changing (toggled host) turn) refl))
+    (by_kind P k monitor_kind (changing (monitor_toggled host) turn) _ _
+    (calm monitor_kind (changing (monitor_toggled host) turn) refl (same_joins turn (changing (monitor_toggled host) turn) refl))
     (by_kind P k raw_kind (queueing_raw (drop 1 message.body) turn) _ _ (calm raw_kind (queueing_raw (drop 1 message.body) turn) refl (raw_joins (drop 1 message.body) turn))
     (by_kind P k unproto_kind (sending_unnumbered message.pid message.body (route_in message.from message.to (Some [])) turn) _ _
     (calm unproto_kind (sending_unnumbered message.pid message.body (route_in message.from message.to (Some [])) turn) refl (unnumbered_joins message.pid message.body (route_in message.from message.to (Some [])) turn))
     (by_kind P k unproto_via_kind (sending_unnumbered message.pid (behind_repeaters message.body) (route_in message.from message.to (repeaters_in message.body)) turn) _ _
     (calm unproto_via_kind (sending_unnumbered message.pid (behind_repeaters message.body) (route_in message.from message.to (repeaters_in message.body)) turn) refl (unnumbered_joins message.pid (behind_repeaters message.body)
     (route_in message.from message.to (repeaters_in message.body)) turn))
-    (rest (k == data_kind) (k == disconnect_kind) xs ys (data_joins chosen message key turn) (disconnect_joins chosen key turn))))))))))
+    (rest (k == data_kind) (k == disconnect_kind) xs ys (data_joins chosen message key turn) (disconnect_joins chosen key turn)))))))))))
   where
     last : Joins turn [] (cond (message.kind == pending_kind) (replying host (pending_reply message (pending_in message turn.now.links)) turn)
         (cond (message.kind == waiting_kind) (replying host (waiting_reply (length turn.now.channel.waiting)) turn) turn))
@@ -505,10 +505,10 @@ turn_joins chosen (FromHost event) before after turn = host_joins chosen event b
 turn_joins chosen (OffAir octets) before after turn = λ nothing_lost.
     let from = source_field turn.path in
     let to = destination_field turn.path in
-    let done = by_path_joins chosen turn.path octets (showing from to octets before) after turn.effect nothing_lost in
+    let done = by_path_joins chosen turn.path octets (shown_to_hosts turn.path octets turn.monitored before) after turn.effect nothing_lost in
     record { before = sym (shown_same from to octets before.now.connections before) ∙ done.before; joined = done.joined }
 turn_joins chosen (OfClock busy) before after turn = λ nothing_lost.
-    let ticked : (ticking busy before).now.dropped ≡ 0 = ap (λ (t : Turn). t.now.dropped) (sym turn) ∙ nothing_lost in
+    let ticked : (ticking busy turn.monitored before).now.dropped ≡ 0 = ap (λ (t : Turn). t.now.dropped) (sym turn.effect) ∙ nothing_lost in
     ticks_join chosen before ticked
 
 pub record DropsNothing (chosen : Choice) (step : Step) : Type 0 where

@@ -31,7 +31,7 @@ use Rattle.station.specs.declared.host_event.HostEvent.TheVariants.{Joined, Byte
 use Rattle.station.specs.declared.host_event.PortKind.TheVariants.{Agw}
 use Rattle.station.specs.AgwRequests.{answering_else}
 use Rattle.station.specs.CallFields.{call_of_text}
-use Rattle.station.specs.Heard.{showing, source_field, destination_field}
+use Rattle.station.specs.Heard.{shown_to_hosts}
 use Rattle.station.specs.Host.{joining, taking}
 use Rattle.station.specs.LinkEvents.{event_at}
 use Rattle.station.specs.NewLinks.{making, no_layer_3}
@@ -226,14 +226,14 @@ a_calls =
       octets = tt;
     }
 
-abbrev pub shown : Path → List ℕ → StationState → Turn
-shown path octets s = showing (source_field (Some path)) (destination_field (Some path)) octets (begin s)
+abbrev pub shown : Path → List ℕ → Frame → StationState → Turn
+shown path octets frame s = shown_to_hosts (Some path) octets (Some frame) (begin s)
 
 abbrev pub b_hears_sabm : Step
 unfolding reading call_of_text
 b_hears_sabm =
     let before = b_registers.after.now in
-    let made = making 0 1 no_layer_3 bbbb aaaa (way_back command_path Command) (shown command_path sabm before) in
+    let made = making 0 1 no_layer_3 bbbb aaaa (way_back command_path Command) (shown command_path sabm sabm_frame before) in
     let after = event_at 0 (LinkHear sabm_frame) made in record {
       station = B;
       input = OffAir sabm;
@@ -242,6 +242,8 @@ b_hears_sabm =
       turn = record {
         path = Some command_path;
         reading = (14, command_begins 63);
+        monitored = Some sabm_frame;
+        read_as = sabm_is;
         effect = (Some sabm_frame, sabm_is, (0, record { within = omega arith; vacant = refl; freed = tt }, refl));
       };
       octets = low sabm refl;
@@ -251,12 +253,18 @@ abbrev pub a_hears_ua : Step
 unfolding reading call_of_text link_turn
 a_hears_ua =
     let before = a_calls.after.now in
-    let after = event_at 0 (LinkHear ua_frame) (shown response_path ua before) in record {
+    let after = event_at 0 (LinkHear ua_frame) (shown response_path ua ua_frame before) in record {
       station = A;
       input = OffAir ua;
       before = before;
       after = after;
-      turn = record { path = Some response_path; reading = (14, response_begins 115); effect = (Some ua_frame, ua_is, refl) };
+      turn = record {
+        path = Some response_path;
+        reading = (14, response_begins 115);
+        monitored = Some ua_frame;
+        read_as = ua_is;
+        effect = (Some ua_frame, ua_is, refl);
+      };
       octets = low ua refl;
     }
 
@@ -278,12 +286,18 @@ abbrev pub b_hears_disc : Step
 unfolding reading call_of_text link_turn
 b_hears_disc =
     let before = b_hears_sabm.after.now in
-    let after = event_at 0 (LinkHear disc_frame) (shown command_path disc before) in record {
+    let after = event_at 0 (LinkHear disc_frame) (shown command_path disc disc_frame before) in record {
       station = B;
       input = OffAir disc;
       before = before;
       after = after;
-      turn = record { path = Some command_path; reading = (14, command_begins 83); effect = (Some disc_frame, disc_is, refl) };
+      turn = record {
+        path = Some command_path;
+        reading = (14, command_begins 83);
+        monitored = Some disc_frame;
+        read_as = disc_is;
+        effect = (Some disc_frame, disc_is, refl);
+      };
       octets = low disc refl;
     }
 
@@ -291,12 +305,18 @@ abbrev pub a_hears_ua_again : Step
 unfolding reading call_of_text link_turn
 a_hears_ua_again =
     let before = a_disconnects.after.now in
-    let after = event_at 0 (LinkHear ua_frame) (shown response_path ua before) in record {
+    let after = event_at 0 (LinkHear ua_frame) (shown response_path ua ua_frame before) in record {
       station = A;
       input = OffAir ua;
       before = before;
       after = after;
-      turn = record { path = Some response_path; reading = (14, response_begins 115); effect = (Some ua_frame, ua_is, refl) };
+      turn = record {
+        path = Some response_path;
+        reading = (14, response_begins 115);
+        monitored = Some ua_frame;
+        read_as = ua_is;
+        effect = (Some ua_frame, ua_is, refl);
+      };
       octets = low ua refl;
     }
 

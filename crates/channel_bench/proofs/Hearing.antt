@@ -23,9 +23,9 @@ use Rattle.digipeater.specs.Repeated.{repeated}
 use Rattle.station.specs.declared.host_event.PortKind.{PortKind}
 use Rattle.station.specs.declared.host_event.PortKind.TheVariants.{Kiss, Agw}
 use Rattle.station.specs.Connections.{Connection}
-use Rattle.station.specs.Heard.{IsPathOf, hearing_at, with_shown, IsHeard, IsHeardBy, IsHeardAnew, IsHeardMaking, IsReadingHeardAnew, IsRepeatedFor, IsReadAs, AreHeardAt, AreOctetsHeard, may_make, showing, showing_to, source_field, destination_field, waits_for_repeater, link_modulus}
+use Rattle.station.specs.Heard.{IsPathOf, hearing_at, with_shown, IsHeard, IsHeardBy, IsHeardAnew, IsHeardMaking, IsReadingHeardAnew, IsRepeatedFor, IsReadAs, AreHeardAt, AreOctetsHeard, may_make, showing_to, shown_to_hosts, source_field, destination_field, waits_for_repeater}
 use Rattle.station.specs.LinkEvents.{event_at, with_links}
-use Rattle.station.specs.Links.{Link, Links, most_links, is_between, key_between, link_at, with_new_link}
+use Rattle.station.specs.Links.{Link, Links, most_links, is_between, key_between, link_at, with_new_link, link_modulus}
 use Rattle.station.specs.NewLinks.{making, idle_link, no_layer_3}
 use Rattle.station.specs.Registrations.{registrar}
 use Rattle.station.specs.Turn.{Out, Turn, in_order, changing}
@@ -187,8 +187,10 @@ shown_still_to from to octets (connection ∷ connections) turn =
     shown_queued f t o Agw id true out = refl
     shown_queued f t o Agw id false out = refl
 
-pub shown_still : (from to octets : List ℕ) (turn : Turn) → IsStill turn (showing from to octets turn)
-shown_still from to octets turn = shown_still_to from to octets turn.now.connections turn
+pub shown_still : (path : Option Path) (octets : List ℕ) (frame : Option Frame) (turn : Turn) → IsStill turn (shown_to_hosts path octets frame turn)
+shown_still path octets frame turn =
+    let calm = shown_still_to (source_field path) (destination_field path) octets turn.now.connections turn in
+    record { links = calm.links; parameters = calm.parameters; queued = calm.queued }
 
 repeated_still : (digi : Option Callsign) (octets : List ℕ) (before after : Turn) → IsRepeatedFor digi octets before after → IsStill before after
 repeated_still None octets before after h = subst (IsStill before) (sym h) (still before)
@@ -347,8 +349,8 @@ pub heard_outcome :
     → before.now.parameters ≡ s.params → length before.now.links.places ≡ most_links → (h : IsHeard octets before after)
     → Outcome s e octets before after (heard_steps (meant s) octets before after h) (heard_steps is_some octets before after h)
 heard_outcome s e octets before after low params size h =
-    let shown = showing (source_field h.path) (destination_field h.path) octets before in
-    let calm : IsStill before shown = shown_still (source_field h.path) (destination_field h.path) octets before in
+    let shown = shown_to_hosts h.path octets h.monitored before in
+    let calm : IsStill before shown = shown_still h.path octets h.monitored before in
     after_showing s e octets before shown after (by_path_steps (meant s) h.path octets shown after h.effect)
     (by_path_steps is_some h.path octets shown after h.effect) calm
     (by_path_outcome s e octets h.path shown after low h.reading (calm.parameters ∙ params)

@@ -7,7 +7,7 @@ use Rattle.ax25_frames.specs.declared.frame.Modulus.{Modulus}
 use Rattle.ax25_frames.specs.declared.frame.Modulus.TheVariants.{Eight, OneTwentyEight}
 use Rattle.link_machine.specs.Sent.{Sent, sent_kind}
 use Rattle.link_machine.specs.Sent.Sent.{InfoSent, SuperSent, SetupSent}
-use Rattle.link_world.specs.Reading.{info_read_wide, read_wide, read_narrow, kind_read}
+use Rattle.link_world.specs.Reading.{info_read_wide, kind_read}
 
 abbrev pub IsLinkKind : Kind → Type 0
 IsLinkKind (Info ns nr flag pid octets) = ⊤

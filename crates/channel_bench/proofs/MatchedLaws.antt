@@ -1,7 +1,6 @@
 -- The law on two stations of which only one calls, over a run with its matches.
-use Rattle.std.proofs.Common.{◌≡◌, ℕ, List, [], ◌∷◌, refl, arith}
+use Rattle.std.proofs.Common.{ℕ, List, [], ◌∷◌, refl, arith}
 use Rattle.std.proofs.lemmas.List.Elements.{recursion_from_All}
-use Rattle.link_world.specs.declared.end.End.TheVariants.{A, B}
 use Rattle.link_world.specs.Changes.{ChangesLaw}
 use Rattle.link_world.specs.Windows.{WindowsFit}
 use Rattle.station.specs.declared.config.Config.{Config}

@@ -1,5 +1,5 @@
 -- The pairs that the matches of a run make: what is heard is heard in order and once, and was sent before.
-use Rattle.std.proofs.Common.{◌≡◌, ◌≢◌, ℕ, ◌+◌, ◌<◌, ◌≤◌, Bool, true, false, List, [], ◌∷◌, ◌++◌, length, map, Option, Some, None, is_some, refl, sym, ap, ◌∙◌, subst, arith}
+use Rattle.std.proofs.Common.{◌≡◌, ◌≢◌, ℕ, ◌<◌, ◌≤◌, Bool, true, false, List, [], ◌∷◌, ◌++◌, length, Option, Some, None, is_some, refl, sym, ap, ◌∙◌, subst, arith}
 use Rattle.std.specs.Prelude.{slice_get, option_map}
 use Rattle.std.specs.List.{AllByRecursion as Each}
 use Rattle.std.proofs.lemmas.List.{append-nil, append_assoc, length-append}
@@ -11,9 +11,9 @@ use Rattle.link_world.specs.declared.end.End.{End}
 use Rattle.link_world.specs.declared.end.End.TheVariants.{A, B}
 use Rattle.link_world.specs.World.{other}
 use Rattle.link_world.proofs.law.Each.{each_weaker, each_append}
-use Rattle.station.specs.Heard.{IsHeardBy, IsPathOf, showing, source_field, destination_field}
+use Rattle.station.specs.Heard.{IsHeardBy, IsPathOf, shown_to_hosts}
 use Rattle.station.specs.Turn.{Turn, begin}
-use Rattle.channel_bench.specs.HeardInOrder.{AreAlikeButForH, Pair, IsOffAir, HearsLinkFrame, AreHeardInOrder}
+use Rattle.channel_bench.specs.HeardInOrder.{AreAlikeButForH, Pair, IsOffAir, AreHeardInOrder}
 use Rattle.channel_bench.specs.InFlight.{Moment, LinkFrame, OneWay, BothWays, IsMatched, AreMatched, hears_ask, nothing_sent, sent_by, steps_in, queueing_all, hearing_at, after_moment}
 use Rattle.channel_bench.specs.InFlight.Moment.{Steps, Passes}
 use Rattle.channel_bench.specs.JointRun.{Input, IsTurn, Step, at_end, queued_at}
@@ -50,7 +50,7 @@ alike_turn :
 alike_turn (FromHost event) before after turn octets off some = absurd off
 alike_turn (OffAir heard) before after turn octets off some =
     subst (λ o. AreAlikeButForH o o) off
-    (alike_by turn.path heard (showing (source_field turn.path) (destination_field turn.path) heard before) after turn.reading
+    (alike_by turn.path heard (shown_to_hosts turn.path heard turn.monitored before) after turn.reading
     turn.effect some)
 alike_turn (OfClock busy) before after turn octets off some = absurd off
 

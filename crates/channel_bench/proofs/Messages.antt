@@ -17,7 +17,7 @@ use Rattle.station.specs.declared.host_event.HostEvent.{HostEvent}
 use Rattle.station.specs.declared.host_event.HostEvent.TheVariants.{Joined, Bytes, Left}
 use Rattle.station.specs.declared.host_event.PortKind.{PortKind}
 use Rattle.station.specs.declared.host_event.PortKind.TheVariants.{Kiss, Agw}
-use Rattle.station.specs.AgwKinds.{version_kind, ports_kind, capabilities_kind, register_kind, unregister_kind, toggle_kind, raw_kind, unproto_kind, unproto_via_kind, connect_via_kind, data_kind, disconnect_kind, pending_kind, waiting_kind}
+use Rattle.station.specs.AgwKinds.{version_kind, ports_kind, capabilities_kind, register_kind, unregister_kind, toggle_kind, monitor_kind, raw_kind, unproto_kind, unproto_via_kind, connect_via_kind, data_kind, disconnect_kind, pending_kind, waiting_kind}
 use Rattle.station.specs.AgwRequests.{replying, register_reply, with_registration, registering, unregistering, is_frame_length, queueing_raw, most_information, unnumbered_frame, sending_unnumbered, refused_reply, may_call, calls, called_route, called_pid, IsCall, IsCallMade, own_key, giving, disconnecting, pending_in, pending_reply, waiting_reply, answering_else, AreAnswered}
 use Rattle.station.specs.CallFields.{call_in}
 use Rattle.station.specs.Connections.{Connection, connection_of, most_connections}
@@ -129,6 +129,7 @@ else_goes s e back id message turn w H =
     (by_kind P k register_kind _ _ (calm register_kind _ refl refl (registering_still id message.from (call_in message.from) turn))
     (by_kind P k unregister_kind _ _ (calm unregister_kind _ refl refl (unregistering_still id (call_in message.from) turn))
     (by_kind P k toggle_kind _ _ (calm toggle_kind _ refl refl (record { links = refl; parameters = refl; queued = refl }))
+    (by_kind P k monitor_kind _ _ (calm monitor_kind _ refl refl (record { links = refl; parameters = refl; queued = refl }))
     (by_kind P k raw_kind _ _ (calm raw_kind _ refl refl (kiss_raw_still (drop 1 message.body) turn))
     (by_kind P k unproto_kind _ _
     (calm unproto_kind _ refl refl (unnumbered_still message.pid message.body (route_in message.from message.to (Some [])) turn))
@@ -141,7 +142,7 @@ else_goes s e back id message turn w H =
     (calm pending_kind _ refl refl (record { links = refl; parameters = refl; queued = refl }))
     (calm waiting_kind _ refl refl (record { links = refl; parameters = refl; queued = refl }))
     (λ first second. subst (λ steps. Kept s e back turn steps w)
-    (sym (cond-false (k == data_kind) xs (cond (k == disconnect_kind) ys []) first ∙ cond-false (k == disconnect_kind) ys [] second)) (H, tt)))))))))))
+    (sym (cond-false (k == data_kind) xs (cond (k == disconnect_kind) ys []) first ∙ cond-false (k == disconnect_kind) ys [] second)) (H, tt))))))))))))
   where
     data_chosen : (xs ys : List LinkStep) → message.kind ≡ data_kind → choice message.kind xs ys ≡ xs
     data_chosen xs ys is = cond-true (message.kind == data_kind) xs _ (ap (λ n. n == data_kind) is)

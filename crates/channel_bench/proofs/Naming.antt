@@ -15,7 +15,6 @@ use Rattle.link_world.specs.declared.end.End.{End}
 use Rattle.link_world.specs.Changes.{kept, near_made, near_kept}
 use Rattle.link_world.specs.Flight.{Tagged, asks_in}
 use Rattle.link_world.specs.World.{World, Side, near_turn, other}
-use Rattle.link_world.proofs.law.Each.{each_weaker}
 use Rattle.station.specs.FrameSpelling.{frame_octets}
 use Rattle.station.specs.Links.{is_between}
 use Rattle.station.specs.State.{StationState}

@@ -1,13 +1,9 @@
 -- A run whose frames find a quiet channel by what is in flight as far as one can know: each event of a link finds a quiet
 -- channel.
-use Rattle.std.proofs.Common.{◌≡◌, ℕ, ◌+◌, ◌<◌, ◌≤◌, Bool, true, false, ◌&&◌, List, [], ◌∷◌, ◌++◌, length, take, drop, Option, Some, None, is_some, ◌⊎◌, refl, sym, ap, ◌∙◌, subst, arith, inl, inr}
-use Rattle.std.specs.Prelude.{max, slice_get}
+use Rattle.std.proofs.Common.{◌≡◌, ℕ, ◌+◌, ◌<◌, ◌≤◌, Bool, true, false, List, [], ◌∷◌, ◌++◌, length, take, drop, Option, Some, None, is_some, refl, sym, ap, ◌∙◌, subst, arith, inl, inr}
+use Rattle.std.specs.Prelude.{slice_get}
 use Rattle.std.specs.List.{count_by, AllByRecursion as Each}
-use Rattle.std.proofs.Math.Nat.{max-le}
-use Rattle.std.proofs.Math.Seq.{take-append_seam}
 use Rattle.std.proofs.lemmas.Bool.{and_from}
-use Rattle.std.proofs.lemmas.List.{append_assoc, length-append}
-use Rattle.std.proofs.lemmas.Option.{slice_get_within}
 use Rattle.ax25_address.specs.Callsign.{Callsign}
 use Rattle.ax25_address.specs.declared.path.Path.{Path}
 use Rattle.link_machine.specs.declared.params.Params.{Params}
@@ -24,24 +20,24 @@ use Rattle.link_world.proofs.law.Each.{each_weaker, each_both, each_append}
 use Rattle.station.specs.Links.{is_between}
 use Rattle.station.specs.State.{StationState}
 use Rattle.channel_bench.specs.HeardInOrder.{Pair, AreHeardInOrder}
-use Rattle.channel_bench.specs.InFlight.{Moment, LinkFrame, OneWay, BothWays, IsMatched, AreMatched, AreQuietThrough, AreQuietAt, hears_ask, steps_in, sent_by, with_front, in_flight, asks, answers, is_ua_or_dm, queueing_all, hearing_at, after_moment}
+use Rattle.channel_bench.specs.InFlight.{Moment, LinkFrame, OneWay, BothWays, IsMatched, AreMatched, hears_ask, sent_by, in_flight, asks, answers, is_ua_or_dm, after_moment}
 use Rattle.channel_bench.specs.InFlight.Moment.{Steps, Passes}
-use Rattle.channel_bench.specs.JointRun.{Input, Step, Stations, state_of, with_state, stepped, IsJointRun, at_end}
+use Rattle.channel_bench.specs.JointRun.{Input, Step, at_end}
 use Rattle.channel_bench.specs.JointRun.Input.{FromHost, OffAir, OfClock}
-use Rattle.channel_bench.specs.LinkOfCalls.{Calls, Pairs, Counts, heard_at, link_at_end, count_at, with_more, makes, marks_from, event_at_end, changes_by, all_changes_by, changes_from}
+use Rattle.channel_bench.specs.LinkOfCalls.{Pairs, heard_at, makes, marks_from, event_at_end, changes_by, all_changes_by}
 use Rattle.channel_bench.specs.LinkSteps.{LinkStep, steps_of}
-use Rattle.channel_bench.specs.MatchedLaw.{DropsNoAsk, is_event, pair_of, pairs_from}
+use Rattle.channel_bench.specs.MatchedLaw.{is_event, pair_of, pairs_from}
 use Rattle.channel_bench.proofs.Acts.{is_asking}
-use Rattle.channel_bench.proofs.Along.{makes_near, near_by, near_all, AllFollowNear, by_seen, makes_seen, changes_seen, run_changes-append}
-use Rattle.channel_bench.proofs.BenchQuiet.{AreQuietOne, quiet_one, AsksAlone, bench_quiet}
+use Rattle.channel_bench.proofs.Along.{makes_near, near_all, AllFollowNear, by_seen, makes_seen}
+use Rattle.channel_bench.proofs.BenchQuiet.{AreQuietOne, bench_quiet}
 use Rattle.channel_bench.proofs.Counts.{Tells, flight_count}
 use Rattle.channel_bench.proofs.Flights.{RiseFrom, flight}
-use Rattle.channel_bench.proofs.Framed.{framed, frames_at, frames_more}
-use Rattle.channel_bench.proofs.JointLaw.{step_near, mirror, StepDone, step_done, count_a, count_b, get_seam}
+use Rattle.channel_bench.proofs.Framed.{framed, frames_at}
+use Rattle.channel_bench.proofs.JointLaw.{step_near}
 use Rattle.channel_bench.proofs.Naming.{told_tagged, asks_told, rise_higher, asks_joined}
 use Rattle.channel_bench.proofs.NearQuiet.{joined_near, QuietNear, AllQuietNear, SendsAlone}
 use Rattle.channel_bench.proofs.Runs.{Between, Sent, Stepped, each_right}
-use Rattle.channel_bench.proofs.Ways.{queued_by, queued_passed, front_by, front_passed, stepped_own, stepped_other, joined}
+use Rattle.channel_bench.proofs.Ways.{front_by, front_passed}
 
 -- ---- pairs that are still to be heard
 

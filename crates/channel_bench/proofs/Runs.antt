@@ -352,8 +352,9 @@ takes e on l r pa pb n sa sb qa qb out_pairs back_pairs w h rises (OfClock busy)
     let ticked = ticks_go s e w.a.towards (begin sa) w (begins on l r pa pb n sa sb qa qb out_pairs back_pairs w h) in
     let steps = turn_steps (is_between l r) (OfClock busy) (begin sa) after turn in
     finishes e on l r pa pb n sa sb qa qb out_pairs back_pairs w h rises w.a.towards (calm (λ o off some. off)) after steps
-    (subst (λ t. Kept s e w.a.towards t steps w) (sym turn) (
-      still_holds s w.a.towards (ticking_links (begin sa)) (ticking busy (begin sa)) (near_all e (s.done ++ s.rest) (length s.earlier) steps w)
+    (subst (λ t. Kept s e w.a.towards t steps w) (sym turn.effect) (
+      still_holds s w.a.towards (ticking_links (begin sa)) (ticking busy turn.monitored (begin sa))
+          (near_all e (s.done ++ s.rest) (length s.earlier) steps w)
           ticked.0 refl refl refl,
       ticked.1,
     ))

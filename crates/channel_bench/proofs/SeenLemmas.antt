@@ -1,5 +1,5 @@
 -- The set-ups of a link's ends are those that are seen at its stations.
-use Rattle.std.proofs.Common.{◌≡◌, ℕ, ◌+◌, Bool, true, false, List, [], ◌∷◌, ◌++◌, length, map, fold, cond, Option, Some, None, is_some, refl, sym, ap, ◌∙◌, subst}
+use Rattle.std.proofs.Common.{◌≡◌, ℕ, Bool, true, false, List, [], ◌∷◌, ◌++◌, length, map, fold, cond, Option, Some, None, is_some, refl, sym, ap, ◌∙◌, subst}
 use Rattle.std.specs.List.{AllByRecursion as Each}
 use Rattle.std.proofs.lemmas.List.{map-append}
 use Rattle.std.proofs.lemmas.List.Elements.{recursion_from_All}
@@ -17,17 +17,16 @@ use Rattle.link_machine.specs.Step.{refusal_of, step as link_turn}
 use Rattle.link_machine.specs.Turn.{Turn as LinkTurn}
 use Rattle.link_world.specs.declared.end.End.{End}
 use Rattle.link_world.specs.declared.end.End.TheVariants.{A, B}
-use Rattle.link_world.specs.Changes.{made_in, changed, run_changes}
-use Rattle.link_world.specs.Changes.Change.{Makes, Keeps}
+use Rattle.link_world.specs.Changes.{made_in, run_changes}
 use Rattle.link_world.specs.Flight.{Tagged, is_numbered}
-use Rattle.link_world.specs.Recorded.{RecordedEnd, EndTurn, Happening, accepts, taking, hearing, noting, opening, told_of, waiting_in, behind, end_turn, no_turn}
+use Rattle.link_world.specs.Recorded.{RecordedEnd, Happening, accepts, taking, hearing, noting, opening, told_of, waiting_in, behind, end_turn}
 use Rattle.link_world.specs.Recorded.Happening.{Connects, Sends, Disconnects, Ticks, Hears}
-use Rattle.link_world.specs.SetUps.{SetUp, opened, giving, getting, acting, change_last, last_changed}
-use Rattle.link_world.specs.World.{World, Side, seen_from, other, near_turn, turn_of, hearing_as, hearing_first, read_in}
+use Rattle.link_world.specs.SetUps.{SetUp, giving, getting, acting, change_last, last_changed}
+use Rattle.link_world.specs.World.{World, seen_from, other, near_turn, turn_of, hearing_as, hearing_first, read_in}
 use Rattle.channel_bench.specs.JointRun.{Step, at_end}
-use Rattle.channel_bench.specs.LinkOfCalls.{Calls, Pairs, Counts, link_at_end, count_at, with_more, event_at_end, makes, marks_from, heard_at, changes_by, all_changes_by, changes_from, Follows, FollowsAll, FollowsThrough, first_world}
+use Rattle.channel_bench.specs.LinkOfCalls.{Calls, Pairs, Counts, link_at_end, count_at, with_more, event_at_end, makes, heard_at, changes_by, all_changes_by, changes_from, FollowsAll, FollowsThrough, first_world}
 use Rattle.channel_bench.specs.LinkSteps.{LinkStep, steps_of}
-use Rattle.channel_bench.specs.SetUpsSeen.{Seen, last_seen_changed, change_last_seen, with_given, with_got, seen_giving, seen_told, seen_by, seen_by_all, link_steps_at, IsGivenWhileUp, AllGivenWhileUp, as_seen, SetUpsLaw}
+use Rattle.channel_bench.specs.SetUpsSeen.{Seen, last_seen_changed, change_last_seen, with_given, with_got, seen_giving, seen_told, seen_by, seen_by_all, link_steps_at, IsGivenWhileUp, as_seen, SetUpsLaw}
 use Rattle.channel_bench.proofs.Along.{makes_near, near_by, by_seen, makes_seen, run_changes-append}
 use Rattle.channel_bench.proofs.JointLaw.{following_law_holds}
 

@@ -1,14 +1,13 @@
 -- What a moment makes of the two directions: which frames are queued, and from which number on they are in flight.
-use Rattle.std.proofs.Common.{◌≡◌, ℕ, ◌+◌, ◌≤◌, Bool, List, [], ◌∷◌, ◌++◌, length, Option, Some, None, refl, sym, ap, ◌∙◌, arith}
-use Rattle.std.specs.Prelude.{max}
+use Rattle.std.proofs.Common.{◌≡◌, ℕ, ◌+◌, ◌≤◌, Bool, List, [], ◌∷◌, ◌++◌, Option, Some, None, refl, sym, ap, ◌∙◌, arith}
 use Rattle.std.proofs.Math.Nat.{le-max_left, le-max_right}
 use Rattle.std.proofs.lemmas.List.{append-nil, append_assoc}
 use Rattle.link_world.specs.declared.end.End.{End}
 use Rattle.link_world.specs.declared.end.End.TheVariants.{A, B}
 use Rattle.link_world.specs.World.{other}
-use Rattle.channel_bench.specs.InFlight.{Moment, LinkFrame, OneWay, BothWays, hears_ask, sent_by, with_sent_by, with_front, with_queued, queueing_at, queueing_all, hearing_at, after_moment}
-use Rattle.channel_bench.specs.InFlight.Moment.{Steps, Passes}
-use Rattle.channel_bench.specs.JointRun.{Step, at_end}
+use Rattle.channel_bench.specs.InFlight.{LinkFrame, OneWay, BothWays, sent_by, with_front, with_queued, queueing_at, queueing_all, hearing_at, after_moment}
+use Rattle.channel_bench.specs.InFlight.Moment.{Passes}
+use Rattle.channel_bench.specs.JointRun.{at_end}
 use Rattle.channel_bench.proofs.Framed.{one_framed, framed}
 
 -- ---- frames join

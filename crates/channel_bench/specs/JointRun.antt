@@ -8,7 +8,7 @@ use Rattle.station.specs.declared.host_event.HostEvent.{HostEvent}
 use Rattle.station.specs.Heard.{IsHeard}
 use Rattle.station.specs.Host.{IsHostTurn}
 use Rattle.station.specs.State.{StationState, new_station}
-use Rattle.station.specs.Ticks.{ticking}
+use Rattle.station.specs.Ticks.{IsTick}
 use Rattle.station.specs.Turn.{Turn, begin}
 
 -- what a step of a station takes
@@ -24,7 +24,7 @@ pub data Input : Type 0 where
 abbrev pub IsTurn : Input → Turn → Turn → Type 0
 IsTurn (FromHost event) before after = IsHostTurn event before after
 IsTurn (OffAir octets) before after = IsHeard octets before after
-IsTurn (OfClock busy) before after = after ≡ ticking busy before
+IsTurn (OfClock busy) before after = IsTick busy before after
 
 -- an octet has eight bits
 abbrev pub HasOctets : Input → Type 0

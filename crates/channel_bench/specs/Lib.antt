@@ -9,3 +9,17 @@ pub mod SetUpsSeen
 pub mod LinkOfCalls
 pub mod StationsLaw
 pub mod Owners
+pub mod Words
+pub mod Report
+pub mod HostProgram
+pub mod BenchState
+pub mod BenchSteps
+pub mod Sounding
+pub mod BenchTick
+pub mod BenchRun
+pub mod HeldBench
+pub mod ProgramsTold
+pub mod LinksTell
+pub mod KeepsOrder
+pub mod BenchOrder
+pub mod BenchLaw

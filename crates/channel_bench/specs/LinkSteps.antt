@@ -19,7 +19,7 @@ use Rattle.station.specs.declared.host_event.PortKind.TheVariants.{Kiss, Agw}
 use Rattle.station.specs.AgwKinds.{data_kind, disconnect_kind}
 use Rattle.station.specs.AgwRequests.{AreAnswered, IsCall, IsCallMade, replying, refused_reply, answering_else, calls, called_route, called_pid, may_call, own_key, data_pid, packets_of, giving_packet}
 use Rattle.station.specs.Connections.{Connection, connection_of}
-use Rattle.station.specs.Heard.{IsHeard, IsHeardBy, IsHeardAnew, IsHeardMaking, IsReadingHeardAnew, IsRepeatedFor, AreHeardAt, AreOctetsHeard, may_make, showing, source_field, destination_field, waits_for_repeater}
+use Rattle.station.specs.Heard.{IsHeard, IsHeardBy, IsHeardAnew, IsHeardMaking, IsReadingHeardAnew, IsRepeatedFor, AreHeardAt, AreOctetsHeard, may_make, shown_to_hosts, waits_for_repeater}
 use Rattle.station.specs.Host.{AreTaken, AreTakenBy, IsHostTurn, new_messages, taking}
 use Rattle.station.specs.Leaving.{giving_up, without_host, without_owner}
 use Rattle.station.specs.LinkEvents.{event_at, with_links}
@@ -233,8 +233,7 @@ by_path_steps chosen (Some path) octets before after h =
 abbrev pub heard_steps :
     Choice → (octets : List ℕ) → (before after : Turn) → IsHeard octets before after → List LinkStep
 heard_steps chosen octets before after h =
-    by_path_steps chosen h.path octets (showing (source_field h.path) (destination_field h.path) octets before) after
-    h.effect
+    by_path_steps chosen h.path octets (shown_to_hosts h.path octets h.monitored before) after h.effect
 
 -- ---- each step
 

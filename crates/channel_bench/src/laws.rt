@@ -1,9 +1,12 @@
 //! Laws on two stations. A law is the contract of a function that does nothing.
 ghost use Rattle.channel_bench.specs.StationsLaw.{FollowingLaw, StationsLaw};
+ghost use Rattle.channel_bench.specs.BenchLaw.{BenchLaw};
 ghost use Rattle.channel_bench.specs.CallerLaw.{CallerLaw};
 ghost use Rattle.channel_bench.specs.HostsAsk.{HostsAskNothing};
+ghost use Rattle.channel_bench.specs.LinksTell.{LinksTellInOne};
 ghost use Rattle.channel_bench.specs.MatchedLaw.{MatchedInOrder, MatchedLaw};
 ghost use Rattle.channel_bench.specs.Owners.{OwnersAreTold};
+ghost use Rattle.channel_bench.specs.ProgramsTold.{ProgramsAreTold};
 ghost use Rattle.channel_bench.specs.SetUpsSeen.{SetUpsLaw};
 
 /// The law on any two stations. A joint run is a list of steps, each of one of two stations that began new: what comes from
@@ -64,4 +67,24 @@ pub fn hosts_ask_nothing()
 /// frame when the run ends. Then each link keeps the order.
 pub fn caller_law()
     ensures { CallerLaw }
+{}
+
+/// Each C and D that a host program is sent in a step of a station is told by an event of a link that it owns, in the same
+/// order; no message of another act is one.
+pub fn programs_are_told()
+    ensures { ProgramsAreTold }
+{}
+
+/// The law on a bench. In a run that is over, at each side each set-up that got octets has an origin, a set-up of the other
+/// side; what was got is a first part of what was given in it; and origins rise strictly from set-up to set-up. It asks of the
+/// run that no SABM, SABME or DISC found a transmit queue full, and that the host programs gave only while the link was up and
+/// saw its set-ups.
+pub fn bench_law()
+    ensures { BenchLaw }
+{}
+
+/// What a link tells its owner. A set-up runs from when it is told to be open until it is told to have ended. The set-up of a
+/// link that is up runs, and one that runs is of a link that is up or is being released. Data is told of only while one runs.
+pub fn links_tell_in_one()
+    ensures { LinksTellInOne }
 {}

@@ -2,7 +2,7 @@
 use Rattle.std.specs.Prelude.{◌≡◌, ℕ, List, [], ◌∷◌, ◌++◌, refl}
 use Rattle.std.proofs.Common.{subst}
 use Rattle.agwpe_port.specs.declared.message.AgwMessage.{AgwMessage}
-use Rattle.station.specs.AgwRequests.{AreAnswered, IsAnswered, answering_else, toggled, unregistering}
+use Rattle.station.specs.AgwRequests.{AreAnswered, IsAnswered, answering_else, toggled, monitor_toggled, unregistering}
 use Rattle.station.specs.CallFields.{call_in}
 use Rattle.station.specs.Turn.{Turn, changing}
 
@@ -18,3 +18,6 @@ else_unregister id message turn is = rw is refl
 
 pub else_toggle : (id : ℕ) (message : AgwMessage) (turn : Turn) → message.kind ≡ 107 → answering_else id message turn ≡ changing (toggled id) turn
 else_toggle id message turn is = rw is refl
+
+pub else_monitor : (id : ℕ) (message : AgwMessage) (turn : Turn) → message.kind ≡ 109 → answering_else id message turn ≡ changing (monitor_toggled id) turn
+else_monitor id message turn is = rw is refl

@@ -11,11 +11,11 @@ use Rattle.ax25_frames.specs.declared.frame.Frame.{Frame}
 use Rattle.link_machine.specs.Machine.{modulus_named}
 use Rattle.link_machine.specs.Event.Event.{Hear}
 use Rattle.station.specs.declared.owned_link.OwnedLink.{OwnedLink}
-use Rattle.station.specs.Heard.{IsHeardAnew, link_modulus, may_make}
+use Rattle.station.specs.Heard.{IsHeardAnew, may_make}
 use Rattle.station.specs.HeldLinks.{HeldLinks, is_held_between}
 use Rattle.station.specs.LinkEvents.{event_at}
 use Rattle.station.specs.LinkRequests.{held_modulus}
-use Rattle.station.specs.Links.{Link, Links, IsNewKey, is_between, key_between, count_of_links}
+use Rattle.station.specs.Links.{Link, Links, IsNewKey, is_between, key_between, count_of_links, link_modulus}
 use Rattle.station.specs.NewLinks.{making, no_layer_3}
 use Rattle.station.specs.StandsFor.{StandsForPlace, StandsForLinks}
 use Rattle.station.specs.Turn.{Turn}

@@ -69,6 +69,7 @@ shows_made parts out turn key id pid local remote path held links shows next bel
           };
           channel = h.channel;
           dropped = h.dropped;
+          ticks = h.ticks;
         };
         gave = shows.gave;
       },

@@ -45,6 +45,7 @@ shows_set parts out turn links key link next shows at is =
         };
         channel = h.channel;
         dropped = h.dropped;
+        ticks = h.ticks;
       };
       gave = shows.gave;
     }
@@ -92,8 +93,9 @@ ids_filtered id (x ∷ xs) =
 
 -- a station without a connection
 pub shows_forgotten : (parts new : Parts) (out : Out) (turn : Turn) (id : ℕ) → Shows parts out turn → new.connections.items ≡ filter (λ connection. not (connection.id == id)) parts.connections.items → new.registrations.items ≡ without_registrations id parts.registrations.items
-    → new.parameters ≡ parts.parameters → new.digi ≡ parts.digi → new.links ≡ parts.links → new.channel ≡ parts.channel → new.dropped ≡ parts.dropped → Shows new out (changing (without_host id) turn)
-shows_forgotten parts new out turn id shows kept left parameters digi links channel dropped =
+    → new.parameters ≡ parts.parameters → new.digi ≡ parts.digi → new.links ≡ parts.links → new.channel ≡ parts.channel → new.dropped ≡ parts.dropped
+    → new.ticks ≡ parts.ticks → Shows new out (changing (without_host id) turn)
+shows_forgotten parts new out turn id shows kept left parameters digi links channel dropped ticks =
     let h = shows.holds in
     record {
       holds = record {
@@ -106,6 +108,7 @@ shows_forgotten parts new out turn id shows kept left parameters digi links chan
         links = subst (λ (held : HeldLinks). StandsForLinks held turn.now.links) (sym links) h.links;
         channel = subst (λ held. StandsForChannel held turn.now.channel) (sym channel) h.channel;
         dropped = dropped ∙ h.dropped;
+        ticks = ticks ∙ h.ticks;
       };
       gave = shows.gave;
     }

@@ -9,6 +9,7 @@ mod EventLemmas
 mod TickLemmas
 mod InsertLemmas
 mod ShowLemmas
+mod MonitorLemmas
 mod HearLemmas
 mod ReadLemmas
 mod JoinLemmas

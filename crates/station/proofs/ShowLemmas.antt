@@ -1,5 +1,5 @@
 -- A station behind what it shows to a connection.
-use Rattle.std.specs.Prelude.{◌≡◌, ℕ, List, refl}
+use Rattle.std.specs.Prelude.{◌≡◌, ℕ, List, [], ◌∷◌, map, refl}
 use Rattle.std.proofs.Common.{◌∙◌, ap}
 use Rattle.station.specs.declared.connection.Connection.{Connection as HeldConnection}
 use Rattle.station.specs.declared.connection.Reader.{Reader}
@@ -8,10 +8,10 @@ use Rattle.station.specs.declared.host_event.PortKind.{PortKind}
 use Rattle.station.specs.declared.host_event.PortKind.TheVariants.{Kiss, Agw}
 use Rattle.station.specs.declared.parts.Parts.{Parts}
 use Rattle.station.specs.Connections.{Connection}
-use Rattle.station.specs.Heard.{showing_to, with_shown}
+use Rattle.station.specs.Heard.{showing, showing_to, with_shown}
 use Rattle.station.specs.HeldConnections.{kind_of}
 use Rattle.station.specs.StandsFor.{Reads, Shows, StandsForConnection}
-use Rattle.station.specs.Turn.{Out, Turn}
+use Rattle.station.specs.Turn.{Out, Turn, in_order}
 
 -- a reader reads a stream of its own kind
 pub kind_read : (reader : Reader) (kind : PortKind) (stream : List ℕ) → Reads reader kind stream → kind_of reader ≡ kind
@@ -29,3 +29,11 @@ shows_shown parts old new turn held connection from to octets shows stands shown
       ∙ ap (λ raw. with_shown connection.kind connection.id raw from to octets old) stands.raw
       ∙ ap (λ (out : Out). with_shown connection.kind connection.id connection.raw from to octets out) shows.gave;
 }
+
+shown_to_each : (from to octets : List ℕ) (connections : List Connection) (turn : Turn) → (in_order (map (showing_to from to octets) connections) turn).now ≡ turn.now
+shown_to_each from to octets [] turn = refl
+shown_to_each from to octets (connection ∷ connections) turn = shown_to_each from to octets connections (showing_to from to octets connection turn)
+
+-- what is shown changes no station
+pub same_station : (from to octets : List ℕ) (turn : Turn) → (showing from to octets turn).now ≡ turn.now
+same_station from to octets turn = shown_to_each from to octets turn.now.connections turn

@@ -5,7 +5,7 @@ use Rattle.std.proofs.Common.{sym, ◌∙◌, ap, subst, arith, get_or, set, inl
 use Rattle.std.proofs.lemmas.Bool.{cond-true, cond-false, cases_lt, false_from_ne_true, eq-eqb, eqb-true}
 use Rattle.station.specs.declared.connection.Connection.{Connection as HeldConnection}
 use Rattle.station.specs.declared.parts.Parts.{Parts}
-use Rattle.station.specs.Connections.{Connection, connection_of, with_connection, turned_raw}
+use Rattle.station.specs.Connections.{Connection, connection_of, with_connection, turned_raw, turned_monitor}
 use Rattle.channel_access.specs.StandsFor.{StandsFor as StandsForChannel}
 use Rattle.station.specs.HeldConnections.{HasIdAt}
 use Rattle.station.specs.HeldLinks.{HeldLinks}
@@ -62,9 +62,13 @@ stands_here held connections k here d h within is =
     subst (λ (item : HeldConnection). StandsForConnection item (get_or connections k d)) (sym is) (AllZip-at StandsForConnection held connections k here d h within)
 
 -- and still does where it is turned
-pub stands_turned : (here new : HeldConnection) (connection : Connection) → StandsForConnection here connection → new ≡ record { id = here.id; raw = not here.raw; reader = here.reader } → StandsForConnection new (turned_raw connection)
+pub stands_turned : (here new : HeldConnection) (connection : Connection) → StandsForConnection here connection → new ≡ record { id = here.id; raw = not here.raw; monitors = here.monitors; reader = here.reader } → StandsForConnection new (turned_raw connection)
 stands_turned here new connection h is =
-    subst (λ (item : HeldConnection). StandsForConnection item (turned_raw connection)) (sym is) (record { id = h.id; raw = ap not h.raw; reader = h.reader })
+    subst (λ (item : HeldConnection). StandsForConnection item (turned_raw connection)) (sym is) (record { id = h.id; raw = ap not h.raw; monitors = h.monitors; reader = h.reader })
+
+pub stands_monitoring : (here new : HeldConnection) (connection : Connection) → StandsForConnection here connection → new ≡ record { id = here.id; raw = here.raw; monitors = not here.monitors; reader = here.reader } → StandsForConnection new (turned_monitor connection)
+stands_monitoring here new connection h is =
+    subst (λ (item : HeldConnection). StandsForConnection item (turned_monitor connection)) (sym is) (record { id = h.id; raw = h.raw; monitors = ap not h.monitors; reader = h.reader })
 
 -- a connection keeps its id
 abbrev pub KeepsId : (Connection → Connection) → Type 0
@@ -140,9 +144,9 @@ with_connections change s = record s { connections = change s.connections }
 
 -- a station in which connections are changed
 pub shows_connections : (parts new : Parts) (out : Out) (turn : Turn) (id : ℕ) (change : Connection → Connection) → Shows parts out turn → KeepsId change → AllZip StandsForConnection new.connections.items (with_connection id change turn.now.connections)
-    → new.parameters ≡ parts.parameters → new.digi ≡ parts.digi → new.registrations ≡ parts.registrations → new.links ≡ parts.links → new.channel ≡ parts.channel → new.dropped ≡ parts.dropped
+    → new.parameters ≡ parts.parameters → new.digi ≡ parts.digi → new.registrations ≡ parts.registrations → new.links ≡ parts.links → new.channel ≡ parts.channel → new.dropped ≡ parts.dropped → new.ticks ≡ parts.ticks
     → Shows new out (changing (with_connections (with_connection id change)) turn)
-shows_connections parts new out turn id change shows keeps each parameters digi registrations links channel dropped =
+shows_connections parts new out turn id change shows keeps each parameters digi registrations links channel dropped ticks =
     let h = shows.holds in
     record {
       holds = record {
@@ -154,6 +158,7 @@ shows_connections parts new out turn id change shows keeps each parameters digi 
         links = subst (λ (held : HeldLinks). StandsForLinks held turn.now.links) (sym links) h.links;
         channel = subst (λ held. StandsForChannel held turn.now.channel) (sym channel) h.channel;
         dropped = dropped ∙ h.dropped;
+        ticks = ticks ∙ h.ticks;
       };
       gave = shows.gave;
     }

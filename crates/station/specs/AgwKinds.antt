@@ -25,6 +25,10 @@ unregister_kind = 120
 abbrev pub toggle_kind : ℕ
 toggle_kind = 107
 
+-- m: frames that are heard and sent, shown in words, on or off
+abbrev pub monitor_kind : ℕ
+monitor_kind = 109
+
 -- K: a frame, to be sent or heard
 abbrev pub raw_kind : ℕ
 raw_kind = 75

@@ -10,9 +10,9 @@ use Rattle.agwpe_port.specs.declared.message.AgwMessage.{AgwMessage}
 use Rattle.agwpe_port.specs.Messages.{spelling}
 use Rattle.selective_reject.specs.declared.packet.Packet.{Packet}
 use Rattle.link_machine.specs.Event.Event.{Connect, Send, Disconnect}
-use Rattle.station.specs.AgwKinds.{version_kind, ports_kind, capabilities_kind, register_kind, unregister_kind, toggle_kind, raw_kind, unproto_kind, unproto_via_kind, connect_kind, connect_via_kind, connect_pid_kind, data_kind, disconnect_kind, pending_kind, waiting_kind}
+use Rattle.station.specs.AgwKinds.{version_kind, ports_kind, capabilities_kind, register_kind, unregister_kind, toggle_kind, monitor_kind, raw_kind, unproto_kind, unproto_via_kind, connect_kind, connect_via_kind, connect_pid_kind, data_kind, disconnect_kind, pending_kind, waiting_kind}
 use Rattle.station.specs.CallFields.{call_in, field_text, field_of, sent_back}
-use Rattle.station.specs.Connections.{with_connection, turned_raw}
+use Rattle.station.specs.Connections.{with_connection, turned_raw, turned_monitor}
 use Rattle.station.specs.FrameSpelling.{frame_octets}
 use Rattle.station.specs.HostMessages.{to_host, no_call, disconnected_text}
 use Rattle.station.specs.LinkEvents.{event_at}
@@ -44,7 +44,7 @@ capabilities_of s =
 abbrev pub capabilities_reply : StationState → AgwMessage
 capabilities_reply s = to_host capabilities_kind 0 no_call no_call (capabilities_of s)
 
--- ---- X, x, k
+-- ---- X, x, k, m
 
 abbrev pub register_reply : List ℕ → Bool → AgwMessage
 register_reply from done = to_host register_kind 0 (sent_back from) no_call ((if done then 1 else 0) ∷ [])
@@ -69,6 +69,9 @@ unregistering id (Some call) = changing (without_registration call id)
 
 abbrev pub toggled : ℕ → StationState → StationState
 toggled id s = record s { connections = with_connection id turned_raw s.connections }
+
+abbrev pub monitor_toggled : ℕ → StationState → StationState
+monitor_toggled id s = record s { connections = with_connection id turned_monitor s.connections }
 
 -- ---- K, M, V
 
@@ -216,6 +219,7 @@ answering_else id message turn =
     if message.kind == register_kind then registering id message.from (call_in message.from) turn else
     if message.kind == unregister_kind then unregistering id (call_in message.from) turn else
     if message.kind == toggle_kind then changing (toggled id) turn else
+    if message.kind == monitor_kind then changing (monitor_toggled id) turn else
     if message.kind == raw_kind then queueing_raw (drop 1 message.body) turn else
     if message.kind == unproto_kind
     then sending_unnumbered message.pid message.body (route_in message.from message.to (Some [])) turn else

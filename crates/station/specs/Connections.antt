@@ -10,6 +10,8 @@ pub record Connection : Type 0 where
   pub stream : List ℕ
   -- whether it is sent each frame that is heard (AGWPE, kind k)
   pub raw : Bool
+  -- whether it is shown each frame that is heard and sent (AGWPE, kind m)
+  pub monitors : Bool
 
 -- the most connections at a time
 abbrev pub most_connections : ℕ
@@ -17,7 +19,7 @@ most_connections = 64
 
 -- a connection that joins
 abbrev pub new_connection : ℕ → PortKind → Connection
-new_connection id kind = record { id = id; kind = kind; stream = []; raw = false }
+new_connection id kind = record { id = id; kind = kind; stream = []; raw = false; monitors = false }
 
 -- the connection of an id
 abbrev pub connection_of : ℕ → List Connection → Option Connection
@@ -35,3 +37,7 @@ without_connection id connections = filter (λ connection. not (connection.id ==
 -- raw frames are turned on, or off again
 abbrev pub turned_raw : Connection → Connection
 turned_raw connection = record connection { raw = not connection.raw }
+
+-- monitoring is turned on, or off again
+abbrev pub turned_monitor : Connection → Connection
+turned_monitor connection = record connection { monitors = not connection.monitors }

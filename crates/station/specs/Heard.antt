@@ -19,13 +19,14 @@ use Rattle.kiss_port.specs.Escapes.{fend, spelled}
 use Rattle.agwpe_port.specs.CallField.{call_field}
 use Rattle.agwpe_port.specs.Messages.{spelling}
 use Rattle.link_machine.specs.Event.Event.{Hear}
-use Rattle.link_machine.specs.Machine.{modulus_named}
 use Rattle.station.specs.declared.host_event.PortKind.{PortKind}
 use Rattle.station.specs.declared.host_event.PortKind.TheVariants.{Kiss, Agw}
 use Rattle.station.specs.Connections.{Connection}
 use Rattle.station.specs.HostMessages.{raw_message, no_call}
 use Rattle.station.specs.LinkEvents.{event_at}
-use Rattle.station.specs.Links.{Link, Links, IsNewKey, most_links, link_at, key_between, count_of_links}
+use Rattle.station.specs.Links.{Link, Links, IsNewKey, most_links, link_at, link_modulus, key_between, count_of_links}
+use Rattle.station.specs.Monitored.{heard_modulus}
+use Rattle.station.specs.Monitoring.{monitoring}
 use Rattle.station.specs.NewLinks.{making, no_layer_3}
 use Rattle.station.specs.Registrations.{registrar}
 use Rattle.station.specs.Turn.{Out, Turn, Act, nothing, in_order, with_piece, queueing}
@@ -120,11 +121,6 @@ abbrev pub IsReadAs : Modulus → List ℕ → Option Frame → Type 0
 IsReadAs modulus octets None = (frame : Frame) → ¬ IsFrame frame modulus octets
 IsReadAs modulus octets (Some frame) = IsFrame frame modulus octets
 
--- the modulus of a link; 8 where there is none
-abbrev pub link_modulus : Option Link → Modulus
-link_modulus None = Eight
-link_modulus (Some link) = modulus_named link.machine.incoming.modulus
-
 -- octets that are read for the link of a key, or where there is no link
 abbrev pub AreHeardAt : Option ℕ → List ℕ → Turn → Turn → Type 0
 AreHeardAt (Some key) octets before after =
@@ -151,8 +147,16 @@ IsHeardBy (Some path) octets before after =
     MatchBool (waits_for_repeater path) (IsRepeatedFor before.now.digi octets before after)
     (AreOctetsHeard path octets before after)
 
+-- Hosts are shown the octets, and those that monitor the channel the frame that they are read as.
+abbrev pub shown_to_hosts : Option Path → List ℕ → Option Frame → Act
+shown_to_hosts path octets frame turn =
+    monitoring false turn.now.ticks frame (showing (source_field path) (destination_field path) octets turn)
+
 -- a frame that is heard
 pub record IsHeard (octets : List ℕ) (before after : Turn) : Type 0 where
   pub path : Option Path
   pub reading : IsPathOf octets path
-  pub effect : IsHeardBy path octets (showing (source_field path) (destination_field path) octets before) after
+  -- the frame that hosts which monitor are shown
+  pub monitored : Option Frame
+  pub read_as : IsReadAs (heard_modulus path before.now.links) octets monitored
+  pub effect : IsHeardBy path octets (shown_to_hosts path octets monitored before) after

@@ -6,6 +6,8 @@ pub mod Turn
 pub mod CallFields
 pub mod FrameSpelling
 pub mod HostMessages
+pub mod Monitored
+pub mod Monitoring
 pub mod LinkEvents
 pub mod NewLinks
 pub mod Routes
@@ -13,7 +15,6 @@ pub mod AgwKinds
 pub mod AgwRequests
 pub mod Kiss
 pub mod Heard
-pub mod Monitored
 pub mod Ticks
 pub mod Leaving
 pub mod Host

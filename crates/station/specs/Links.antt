@@ -3,7 +3,9 @@
 use Rattle.std.specs.Prelude.{◌≡◌, ℕ, ◌<◌, ◌&&◌, Bool, false, List, replicate, position, slice_index_or, slice_set, count_by, is_some, Option, Some, None, IfSome}
 use Rattle.ax25_address.specs.Callsign.{Callsign}
 use Rattle.ax25_address.specs.SameCall.{is_same_call}
-use Rattle.link_machine.specs.Machine.{Machine}
+use Rattle.ax25_frames.specs.declared.frame.Modulus.{Modulus}
+use Rattle.ax25_frames.specs.declared.frame.Modulus.TheVariants.{Eight}
+use Rattle.link_machine.specs.Machine.{Machine, modulus_named}
 
 pub record Link : Type 0 where
   pub local : Callsign
@@ -28,6 +30,11 @@ no_links = record { places = replicate most_links None; freed = None }
 
 abbrev pub link_at : ℕ → Links → Option Link
 link_at key links = slice_index_or links.places key None
+
+-- the modulus of a link; 8 where there is none
+abbrev pub link_modulus : Option Link → Modulus
+link_modulus None = Eight
+link_modulus (Some link) = modulus_named link.machine.incoming.modulus
 
 -- is it the link between these calls?
 abbrev pub is_between : Callsign → Callsign → Option Link → Bool

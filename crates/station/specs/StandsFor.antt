@@ -30,6 +30,7 @@ Reads (AgwReader reader) Agw stream = AgwStandsFor reader stream
 pub record StandsForConnection (held : HeldConnection) (connection : Connection) : Type 0 where
   pub id : held.id ≡ connection.id
   pub raw : held.raw ≡ connection.raw
+  pub monitors : held.monitors ≡ connection.monitors
   pub reader : Reads held.reader connection.kind connection.stream
 
 pub record StandsForLink (held : OwnedLink) (link : Link) : Type 0 where
@@ -69,6 +70,7 @@ pub record AreParts (parts : Parts) (s : StationState) : Type 0 where
   pub links : StandsForLinks parts.links s.links
   pub channel : StandsForChannel parts.channel s.channel
   pub dropped : parts.dropped ≡ s.dropped
+  pub ticks : parts.ticks ≡ s.ticks
 
 pub record StandsFor (held : Held) (s : StationState) : Type 0 where
   pub live : held.spent ≡ false

@@ -19,6 +19,8 @@ pub record StationState : Type 0 where
   pub channel : Channel
   -- how many frames found the transmit queue full
   pub dropped : ℕ
+  -- how many ticks of 10 ms the station has made
+  pub ticks : ℕ
 
 abbrev pub new_station : Config → ℕ → StationState
 new_station config seed = record {
@@ -29,6 +31,7 @@ new_station config seed = record {
   links = no_links;
   channel = new_channel seed;
   dropped = 0;
+  ticks = 0;
 }
 
 -- a count that stays at the greatest number of 64 bits

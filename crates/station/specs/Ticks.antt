@@ -1,15 +1,22 @@
--- A tick of 10 ms: of each link in the order of their keys, and then of the channel.
-use Rattle.std.specs.Prelude.{ℕ, Bool, List, map}
+-- A tick of 10 ms: of each link in the order of their keys, and then of the channel. A frame whose sending ends in it
+-- is shown to hosts that monitor the channel.
+use Rattle.std.specs.Prelude.{◌≡◌, ℕ, Bool, true, List, map, Option, Some, None}
 use Rattle.std.specs.List.{range_with_len, list_any}
+use Rattle.ax25_address.specs.declared.path.Path.{Path}
+use Rattle.ax25_frames.specs.declared.frame.Frame.{Frame}
 use Rattle.channel_access.specs.Channel.{air_tick, after_tick}
 use Rattle.channel_access.specs.Waiting.{WaitingFrame}
 use Rattle.channel_access.specs.declared.air_tick.AirTick.{AirTick}
+use Rattle.channel_access.specs.declared.air_tick.Sent.{Sent}
 use Rattle.link_machine.specs.Event.Event.{Tick}
+use Rattle.station.specs.Heard.{IsPathOf, IsReadAs}
 use Rattle.station.specs.LinkEvents.{event_at}
-use Rattle.station.specs.Links.{most_links}
+use Rattle.station.specs.Links.{Links, most_links}
+use Rattle.station.specs.Monitored.{sent_modulus}
+use Rattle.station.specs.Monitoring.{monitoring}
 use Rattle.station.specs.Registrations.{is_number}
-use Rattle.station.specs.State.{StationState}
-use Rattle.station.specs.Turn.{Act, begin, in_order, changing}
+use Rattle.station.specs.State.{StationState, one_more}
+use Rattle.station.specs.Turn.{Turn, Act, begin, in_order, changing}
 
 -- a frame of the link of a key waits to be sent
 abbrev pub waits : ℕ → List WaitingFrame → Bool
@@ -23,11 +30,32 @@ unfoldable pub ticking_links : Act
 ticking_links = in_order (map ticking_at (range_with_len 0 most_links))
 
 abbrev pub with_air_tick : Bool → StationState → StationState
-with_air_tick busy s = record s { channel = after_tick busy s.channel }
+with_air_tick busy s = record s { channel = after_tick busy s.channel; ticks = one_more s.ticks }
 
 -- what the channel sends
-abbrev pub air_of : Bool → StationState → AirTick
-air_of busy s = air_tick busy (ticking_links (begin s)).now.channel
+abbrev pub air_in : Bool → Turn → AirTick
+air_in busy turn = air_tick busy (ticking_links turn).now.channel
 
-abbrev pub ticking : Bool → Act
-ticking busy turn = changing (with_air_tick busy) (ticking_links turn)
+abbrev pub air_of : Bool → StationState → AirTick
+air_of busy s = air_in busy (begin s)
+
+-- a frame that was sent is shown to hosts that monitor
+abbrev pub shown_sent : Option Frame → Act
+shown_sent frame turn = monitoring true turn.now.ticks frame turn
+
+-- the links tick, the frame is shown, and the channel ticks
+abbrev pub ticking : Bool → Option Frame → Act
+ticking busy frame turn = changing (with_air_tick busy) (shown_sent frame (ticking_links turn))
+
+-- the frame whose sending ends, as it is read when the links stand so
+abbrev pub IsSentFrame : Option Sent → Links → Option Frame → Type 0
+IsSentFrame None links frame = frame ≡ None
+IsSentFrame (Some sent) links frame =
+    (path : Option Path) × IsPathOf sent.octets path × IsReadAs (sent_modulus path links) sent.octets frame
+
+-- a tick
+pub record IsTick (busy : Bool) (before after : Turn) : Type 0 where
+  -- the frame that hosts which monitor are shown
+  pub monitored : Option Frame
+  pub read_as : IsSentFrame (air_in busy before).sent (ticking_links before).now.links monitored
+  pub effect : after ≡ ticking busy monitored before

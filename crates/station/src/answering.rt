@@ -76,6 +76,10 @@ impl Parts {
                 self.toggle_raw(id);
                 Ok(())
             }
+            b'm' => {
+                self.toggle_monitor(id);
+                Ok(())
+            }
             b'K' => self.send_raw(alloc, out, message),
             b'M' => self.send_unproto(alloc, out, message),
             b'V' => self.send_unproto_via(alloc, out, message),

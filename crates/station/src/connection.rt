@@ -19,6 +19,8 @@ pub struct Connection {
     pub id: u32,
     /// Whether it is sent each frame that is heard.
     pub raw: bool,
+    /// Whether it is shown each frame that is heard and sent.
+    pub monitors: bool,
     /// What has read its octets so far.
     pub reader: Reader,
 }

@@ -63,6 +63,7 @@ impl Parts {
             call_text(&path.dest),
             octets,
         )?;
+        self.monitor_heard(alloc, out, path, octets)?;
         if waits_for_repeater(path) {
             self.repeat(alloc, out, octets)
         } else {
@@ -176,7 +177,11 @@ impl Parts {
 }
 
 /// What octets are read as.
-fn frame_in(alloc: Global, octets: &[u8], modulus: Modulus) -> Result<Option<Frame>, OutOfMemory>
+pub(crate) fn frame_in(
+    alloc: Global,
+    octets: &[u8],
+    modulus: Modulus,
+) -> Result<Option<Frame>, OutOfMemory>
     ensures { IfOk result (IsReadAs modulus octets.now) }
 {
     match read_frame(alloc, octets, modulus) {

@@ -93,6 +93,6 @@ impl HostOut {
 pub struct TickOut {
     /// What is sent on the air.
     pub air: AirTick,
-    /// What the links gave before.
+    /// What the links gave before, and then what hosts that monitor are shown of it.
     pub out: HostOut,
 }

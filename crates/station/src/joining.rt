@@ -39,6 +39,7 @@ impl Parts {
         self.connections.push(Connection {
             id,
             raw: false,
+            monitors: false,
             reader: new_reader(alloc, kind),
         })?;
         Ok(())

@@ -13,11 +13,12 @@
 //! A connection
 //!   host(Joined)               KISS or AGWPE; a 65th is in `closed`, and has not joined
 //!   heard                      KISS is shown each frame, AGWPE what it asked for
+//!   tick                       AGWPE is shown what was sent, if it monitors
 //!   host(Left)                 its registrations end, its links have no owner and are disconnected
 //! Octets of a connection       however they are cut
 //!   KISS, port 0               a frame is queued, a parameter is set
 //!   R, G, g, Y, y              answered at once
-//!   X, x, k                    a call is registered or freed; raw frames on, or off again
+//!   X, x, k, m                 a call is registered or freed; raw frames or monitoring on, or off again
 //!   K, M, V                    a frame is queued
 //!   C, v, c                    a link is made and calls, or d is answered
 //!   D, d                       for the connection's own link between the two calls
@@ -56,6 +57,7 @@ mod link_event;
 mod link_events;
 mod link_table;
 mod messages;
+mod monitoring;
 mod new_links;
 mod own_links;
 mod owned_link;

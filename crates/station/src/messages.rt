@@ -12,7 +12,7 @@ use std::alloc::Global;
 use tnc_base::{Octets, OutOfMemory};
 
 /// The most octets of a body.
-const MOST_BODY: usize = 4096;
+pub(crate) const MOST_BODY: usize = 4096;
 
 /// What d begins with.
 pub(crate) const DISCONNECTED: &[u8] = b"*** DISCONNECTED From Station ";

@@ -35,6 +35,8 @@ pub struct Parts {
     pub channel: Access,
     /// How many frames found the queue full.
     pub dropped: u64,
+    /// How many ticks were made. The count stays at the greatest number of 64 bits.
+    pub ticks: u64,
 }
 
 impl Parts {
@@ -56,6 +58,7 @@ impl Parts {
             links: LinkTable::new(alloc)?,
             channel: Access::new(alloc, seed)?,
             dropped: 0,
+            ticks: 0,
         })
     }
 

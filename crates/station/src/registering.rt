@@ -1,7 +1,7 @@
 //! Calls that hosts register, and frames that they ask to be shown.
 ghost use Rattle.std.specs.Prelude.{◌≡◌, not, OnOk};
 ghost use Rattle.agwpe_port.specs.Messages.{spelling};
-ghost use Rattle.station.specs.AgwRequests.{register_reply, registering, toggled, unregistering};
+ghost use Rattle.station.specs.AgwRequests.{monitor_toggled, register_reply, registering, toggled, unregistering};
 ghost use Rattle.station.specs.CallFields.{call_in};
 ghost use Rattle.station.specs.Held.{ids_in};
 ghost use Rattle.station.specs.Registrations.{unregistered};
@@ -65,12 +65,31 @@ impl Parts {
         let Some(place) = self.place_of(id) else {
             return;
         };
-        toggle(&mut self.connections[place]);
+        toggle_raw(&mut self.connections[place]);
+    }
+
+    /// m: turns monitoring by the connection on, or off again.
+    pub(crate) fn toggle_monitor(&mut self, id: u32)
+        ensures shows { (out : Out) (turn : Turn) → Shows self.old out turn
+            → Shows self.new out (changing (monitor_toggled id) turn) }
+        ensures ids { ids_in self.new ≡ ids_in self.old }
+    {
+        let Some(place) = self.place_of(id) else {
+            return;
+        };
+        toggle_monitor(&mut self.connections[place]);
     }
 }
 
+/// Turns monitoring on, or off again.
+fn toggle_monitor(connection: &mut Connection)
+    ensures { connection.new ≡ record connection.old { monitors = not connection.old.monitors } }
+{
+    connection.monitors = !connection.monitors;
+}
+
 /// Turns raw frames on, or off again.
-fn toggle(connection: &mut Connection)
+fn toggle_raw(connection: &mut Connection)
     ensures { connection.new ≡ record connection.old { raw = not connection.old.raw } }
 {
     connection.raw = !connection.raw;

@@ -42,7 +42,7 @@ impl Station {
     ghost use Rattle.station.specs.Turn.{Turn, begin};
     ghost use Rattle.station.specs.Host.{IsHostTurn};
     ghost use Rattle.station.specs.Heard.{IsHeard};
-    ghost use Rattle.station.specs.Ticks.{ticking, air_of};
+    ghost use Rattle.station.specs.Ticks.{IsTick, air_of};
     ghost use Rattle.station.specs.Monitored.{modulus_between};
     ghost use Rattle.station.specs.Held.{IsAdmitted, Takes, ids_of, ids_behind};
     ghost use Rattle.station.specs.StandsFor.{StandsFor};
@@ -123,10 +123,8 @@ impl Station {
     /// another station is heard. Fails only for want of memory, and is then spent.
     pub fn tick(&mut self, busy: bool) -> Result<TickOut, OutOfMemory>
         ensures air { (s : StationState) → StandsFor self.old s → IfOk result (λ tick. tick.air ≡ air_of busy s) }
-        ensures out { (s : StationState) → StandsFor self.old s
-            → IfOk result (λ tick. tick.out ≡ (ticking busy (begin s)).out) }
-        ensures stands_for { (s : StationState) → StandsFor self.old s
-            → OnOk result (StandsFor self.new (ticking busy (begin s)).now) }
+        ensures step { (s : StationState) → StandsFor self.old s → IfOk result (λ tick. (next : StationState)
+            × IsTick busy (begin s) (record { now = next; out = tick.out }) × StandsFor self.new next) }
         ensures ids { OnOk result (ids_of self.new ≡ ids_of self.old) }
         ensures spent { OnErr result (self.new.spent ≡ true) }
         ensures stays_spent { self.old.spent ≡ true → IsErr result }
@@ -136,8 +134,7 @@ impl Station {
         }
         self.spent = true;
         let mut out = HostOut::new(self.alloc);
-        self.parts.tick_links(self.alloc, &mut out)?;
-        let air = self.parts.channel.tick(busy);
+        let air = self.parts.tick(self.alloc, &mut out, busy)?;
         self.spent = false;
         Ok(TickOut { air, out })
     }

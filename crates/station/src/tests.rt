@@ -8,6 +8,7 @@ use std::test::Fail;
 mod absurd_frames;
 mod calls_and_data;
 mod desk;
+mod monitoring;
 mod public_calls;
 mod random_octets;
 mod requests;

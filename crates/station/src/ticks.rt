@@ -1,20 +1,41 @@
-//! A tick of the links.
-ghost use Rattle.std.specs.Prelude.{◌≡◌, OnOk};
+//! A tick of the links and of the channel.
+ghost use Rattle.std.specs.Prelude.{◌≡◌, IfOk, OnOk};
 ghost use Rattle.station.specs.Held.{ids_in};
 ghost use Rattle.station.specs.StandsFor.{Shows};
-ghost use Rattle.station.specs.Ticks.{ticking_at, ticking_links};
+ghost use Rattle.station.specs.State.{one_more};
+ghost use Rattle.station.specs.Ticks.{IsTick, air_in, ticking_at, ticking_links};
 ghost use Rattle.station.specs.Turn.{Turn};
 
 use crate::host_out::HostOut;
 use crate::link_event::LinkEvent;
 use crate::link_table::MOST_LINKS;
 use crate::parts::Parts;
+use channel_access::AirTick;
 use std::alloc::Global;
 use tnc_base::OutOfMemory;
 
 impl Parts {
+    /// A tick of each link, and then of the channel. Hosts that monitor are shown the frame whose sending has ended.
+    pub(crate) fn tick(
+        &mut self,
+        alloc: Global,
+        out: &mut HostOut,
+        busy: bool,
+    ) -> Result<AirTick, OutOfMemory>
+        ensures air { (turn : Turn) → Shows self.old out.old turn → IfOk result (λ air. air ≡ air_in busy turn) }
+        ensures step { (turn : Turn) → Shows self.old out.old turn → OnOk result ((after : Turn)
+            × IsTick busy turn after × Shows self.new out.new after) }
+        ensures ids { OnOk result (ids_in self.new ≡ ids_in self.old) }
+    {
+        self.tick_links(alloc, out)?;
+        let air = self.channel.tick(busy);
+        self.monitor_sent(alloc, out, &air.sent)?;
+        self.ticks = one_more(self.ticks);
+        Ok(air)
+    }
+
     /// A tick of each link, in the order of their keys.
-    pub(crate) fn tick_links(&mut self, alloc: Global, out: &mut HostOut) -> Result<(), OutOfMemory>
+    fn tick_links(&mut self, alloc: Global, out: &mut HostOut) -> Result<(), OutOfMemory>
         ensures shows { (turn : Turn) → Shows self.old out.old turn
             → OnOk result (Shows self.new out.new (ticking_links turn)) }
         ensures ids { OnOk result (ids_in self.new ≡ ids_in self.old) }
@@ -34,4 +55,11 @@ impl Parts {
         let waiting = self.channel.waiting(key);
         self.link_event(alloc, out, key, LinkEvent::Tick(waiting))
     }
+}
+
+/// One more. The count stays at the greatest number of 64 bits.
+fn one_more(count: u64) -> u64
+    ensures { result ≡ one_more count }
+{
+    count.saturating_add(1)
 }

@@ -109,6 +109,7 @@ whole words a b len old bank start x y h t listens later =
         shuts = are_shut t.next.asked t.next.hosts served.accounted;
         all_shut = all_told words t.next run;
         gaps = served.gaps;
+        size = served.size;
       },
       writes_more false a.failed b.failed (new_live words) h.live t.next (output_of start) (output_of x) (output_of y) (report_of start) (report_of x) (report_of y) h.writes t.writes,
     )
@@ -156,15 +157,16 @@ loop_memory words a b len old bank start x y h t listens later =
           asked = inl (refl, refl);
           told = subst (λ xs. PortsTell xs start y) (sym t.asks) (tells_still h.live.asked start x y h.stay.faults h.told none);
           stay = stay_stay start x y h.stay listens later;
-          sends = are_sent t.next.asked t.next.hosts served.0;
-          shuts = are_shut t.next.asked t.next.hosts served.0;
-          gaps = served.1;
+          sends = are_sent t.next.asked t.next.hosts served.accounted;
+          shuts = are_shut t.next.asked t.next.hosts served.accounted;
+          gaps = served.gaps;
+          size = served.size;
         }
         | inr some ↦
             let asked = some.0 in
             let reached = some.1 in
             let cut : IsCutInServing words h.live t.next asked reached = subst (λ w. IsCutInServing w h.live t.next asked reached) h.words_kept some.2 in
-            let all = accounted_cut t.next.asked asked t.next.hosts reached cut.part served.0 in
+            let all = accounted_cut t.next.asked asked t.next.hosts reached cut.part served.accounted in
             record {
               run = run;
               lanes = sym t.lanes;
@@ -175,7 +177,8 @@ loop_memory words a b len old bank start x y h t listens later =
               stay = stay_stay start x y h.stay listens later;
               sends = are_sent (t.next.asked ++ asked ∷ []) reached all;
               shuts = are_shut (t.next.asked ++ asked ∷ []) reached all;
-              gaps = served.1;
+              gaps = served.gaps;
+              size = served.size;
             }
       ],
       either b.failed t.next start y (written b.failed words t.next start y all),

@@ -90,9 +90,10 @@ nothing_looped words lanes start same =
         asked = inl (refl, refl);
         told = tells_nothing start;
         stay = record { listens = refl; faults = omega arith };
-        sends = are_sent [] (new_live words).hosts served.0;
-        shuts = are_shut [] (new_live words).hosts served.0;
-        gaps = served.1;
+        sends = are_sent [] (new_live words).hosts served.accounted;
+        shuts = are_shut [] (new_live words).hosts served.accounted;
+        gaps = served.gaps;
+        size = served.size;
       },
       inl all,
     )

@@ -1,6 +1,6 @@
 -- What a run did for the hosts: the account of its turns.
-use Rattle.std.specs.Prelude.{◌≡◌, ◌⊎◌, ℕ, zero, suc, ◌<◌, Bool, true, false, List, [], ◌∷◌, ◌++◌, map, replicate, refl}
-use Rattle.std.proofs.Common.{sym, ◌∙◌, ap, subst, arith, inl, inr}
+use Rattle.std.specs.Prelude.{◌≡◌, ◌⊎◌, ℕ, zero, suc, ◌*◌, ◌<◌, Bool, true, false, List, [], ◌∷◌, ◌++◌, length, map, replicate, refl}
+use Rattle.std.proofs.Common.{sym, ◌∙◌, ap, subst, arith, inl, inr, length-append}
 use Rattle.frame_merge.specs.declared.candidate.Candidate.{Candidate}
 use Rattle.slicer_bank.specs.HeardOnRing.{lane_of}
 use Rattle.slicer_bank.specs.RingTurns.{gaps_of}
@@ -21,10 +21,24 @@ use Rattle.tnc_ports.proofs.ServedLemmas.{sound_new}
 abbrev pub IsAccountedFor : Live → Type 0
 IsAccountedFor live = IsAccounted live.asked live.hosts
 
+-- each tick has its samples
+abbrev pub HasTicked : Live → Type 0
+HasTicked live = length live.sent ≡ 96 * live.ticks
+
 -- so far, with all gaps
 pub record IsServed (live : Live) : Type 0 where
   pub accounted : IsAccountedFor live
   pub gaps : AreAllGaps live
+  pub size : HasTicked live
+
+-- where a turn is cut short, the last gaps may be missing
+pub record IsServedInPart (live : Live) : Type 0 where
+  pub accounted : IsAccountedFor live
+  pub gaps : AreFirstGaps live
+  pub size : HasTicked live
+
+in_part : (live : Live) → IsServed live → IsServedInPart live
+in_part live h = record { accounted = h.accounted; gaps = first_gaps live h.gaps; size = h.size }
 
 no_gaps : (name lane count : ℕ) → [] ≡ gaps_of name (lane_of (replicate count []) lane)
 no_gaps name lane zero = refl
@@ -36,6 +50,7 @@ served_new words = record {
   accounted = accounted_new (new_hosts words.config words.seed) (orderly_new words.config words.seed) (sound_new words.config words.seed)
       (λ id. omega arith) refl refl;
   gaps = λ lane lt. no_gaps lane lane 8;
+  size = refl;
 }
 
 -- ---- each part of a turn
@@ -45,6 +60,7 @@ served_reading ended before after r h = record {
   accounted = subst IsAccountedFor (sym r.is)
       (accounted_relined before.asked (before.hosts.report ++ map gap_line r.gaps) before.hosts (gaps_closed before.hosts.report r.gaps) h.accounted);
   gaps = read_gaps ended before after r h.gaps;
+  size = subst HasTicked (sym r.is) h.size;
 }
 
 -- the hosts go on, and the lanes stay
@@ -56,7 +72,17 @@ served_heard monitor items read hosts heard h = record {
   accounted = kept_heard (IsAccounted read.asked) (accounted_by_frames read.asked) monitor items read.hosts hosts heard h.accounted;
   gaps = with_gaps read (with_hosts hosts read) refl h.gaps
       (kept_heard (TellsGaps (λ lane. gaps_in lane read.hosts.report)) (gaps_by_frames (λ lane. gaps_in lane read.hosts.report)) monitor items read.hosts hosts heard (λ lane. refl));
+  size = h.size;
 }
+
+ticked_size : (monitor busy : Bool) (count : ℕ) (before after : Live) → AreTicked monitor busy count before after → HasTicked before → HasTicked after
+ticked_size monitor busy zero before after ticked h = subst HasTicked (sym ticked) h
+ticked_size monitor busy (suc count) before after ticked h =
+    let one = ticked.1 in
+    let sent = ap (λ (l : Live). length l.sent) one.is ∙ length-append before.sent one.air.samples in
+    let ticks = ap (λ (l : Live). l.ticks) one.is in
+    let size = one.size in
+    ticked_size monitor busy count ticked.0 after ticked.2 (omega (arith, h, sent, ticks, size))
 
 served_hearing : (words : ServeWords) (ended : Bool) (before after : Live) → HearsAll words ended before after → IsServed before → IsServed after
 served_hearing words ended before after t h =
@@ -69,6 +95,7 @@ served_ticks monitor busy count before after ticked h =
       accounted = subst (λ asked. IsAccounted asked after.hosts) (sym to.asked) (kept_ticks (IsAccounted before.asked) (accounted_by_frames before.asked) monitor busy count before after ticked h.accounted);
       gaps = with_gaps before after to.lanes h.gaps
           (kept_ticks (TellsGaps (λ lane. gaps_in lane before.hosts.report)) (gaps_by_frames (λ lane. gaps_in lane before.hosts.report)) monitor busy count before after ticked (λ lane. refl));
+      size = ticked_size monitor busy count before after ticked h.size;
     }
 
 pub served_making : (words : ServeWords) (ended : Bool) (before after : Live) → MakesAll words ended before after → IsServed before → IsServed after
@@ -84,6 +111,7 @@ served_hosts : (before after : Live) → ServesHosts before after → IsServed b
 served_hosts before after s h = subst IsServed (sym s.is) (record {
   accounted = accounted_part before.asked s.asked before.hosts s.hosts s.part h.accounted;
   gaps = with_gaps before (record before { hosts = s.hosts; asked = before.asked ++ s.asked ∷ [] }) refl h.gaps (part_gaps s.asked before.hosts s.hosts s.part);
+  size = h.size;
 })
 
 served_turn : (words : ServeWords) (ended : Bool) (before after : Live) → IsTurn words ended before after → IsServed before → IsServed after
@@ -103,22 +131,22 @@ pub all_told : (words : ServeWords) (live : Live) → IsRun words live → live.
 all_told words live r =
     ap (λ (l : Live). l.hosts.to_shut) r.over.serves.is ∙ ap (λ (h : Hosts). h.to_shut) r.over.serves.part.done
 
-cut_turn : (words : ServeWords) (before after : Live) → IsCutTurn words before after → IsServed before → IsAccountedFor after × AreFirstGaps after
+cut_turn : (words : ServeWords) (before after : Live) → IsCutTurn words before after → IsServed before → IsServedInPart after
 cut_turn words before after cut h = elim cut [
   | inl reading ↦
-      subst (λ (l : Live). IsAccountedFor l × AreFirstGaps l) (sym reading.is) (h.accounted, cut_gaps before reading.lanes reading.more h.gaps)
+      subst IsServedInPart (sym reading.is) (record { accounted = h.accounted; gaps = cut_gaps before reading.lanes reading.more h.gaps; size = h.size })
   | inr rest ↦ elim rest [
     | inl hearing ↦
-        let heard = served_heard words.monitor hearing.items hearing.read hearing.hosts hearing.hears (served_reading hearing.ended before hearing.read hearing.reads h) in
-        subst (λ (l : Live). IsAccountedFor l × AreFirstGaps l) (sym hearing.is) (heard.accounted, first_gaps (with_hosts hearing.hosts hearing.read) heard.gaps)
+        subst IsServedInPart (sym hearing.is) (in_part (with_hosts hearing.hosts hearing.read)
+        (served_heard words.monitor hearing.items hearing.read hearing.hosts hearing.hears (served_reading hearing.ended before hearing.read hearing.reads h)))
     | inr more ↦ elim more [
       | inl ticking ↦
-          let ticked = served_ticks words.monitor ticking.makes.busy ticking.count ticking.heard after ticking.makes.made (served_hearing words ticking.ended before ticking.heard ticking.hears h) in
-          (ticked.accounted, first_gaps after ticked.gaps)
-      | inr serving ↦ let made = served_making words serving.0 before after serving.1 h in (made.accounted, first_gaps after made.gaps)
+          in_part after
+          (served_ticks words.monitor ticking.makes.busy ticking.count ticking.heard after ticking.makes.made (served_hearing words ticking.ended before ticking.heard ticking.hears h))
+      | inr serving ↦ in_part after (served_making words serving.0 before after serving.1 h)
     ]
   ]
 ]
 
-pub served_cut : (words : ServeWords) (live : Live) → IsCutRun words live → IsAccountedFor live × AreFirstGaps live
+pub served_cut : (words : ServeWords) (live : Live) → IsCutRun words live → IsServedInPart live
 served_cut words live r = cut_turn words r.last live r.cut (served_turns words r.count (new_live words) r.last r.turns (served_new words))

@@ -9,6 +9,7 @@ use Rattle.station.specs.Heard.{IsPathOf}
 use Rattle.station.specs.Links.{Links}
 use Rattle.channel_access.specs.declared.air_tick.AirTick.{AirTick}
 use Rattle.frame_merge.specs.declared.candidate.Candidate.{Candidate}
+use Rattle.station.specs.Monitored.{heard_modulus, sent_modulus}
 use Rattle.tnc_ports.specs.declared.report_line.ReportLine.{ReportLine}
 use Rattle.tnc_ports.specs.declared.turning.Turning.{Turning}
 use Rattle.tnc_ports.specs.AskedPorts.{Told, IsAsked, taken_of}
@@ -19,7 +20,7 @@ use Rattle.tnc_ports.specs.HostTurns.{Asked, IsHostPart}
 use Rattle.tnc_ports.specs.ReportText.{report_text, output_octets}
 use Rattle.tnc_ports.specs.Sampled.{Live, AreHeard, IsTicked, AreTicked, IsTurn}
 use Rattle.tnc_ports.specs.declared.report_line.ReportLine.TheVariants.{ReceivedLine, SentLine}
-use Rattle.tnc_ports.specs.SampledFrames.{with_lines, AreReceivedLines, AreSentLines, IsFrameHeard, IsTickMade, IsFrameText, heard_modulus, sent_modulus}
+use Rattle.tnc_ports.specs.SampledFrames.{with_lines, AreReceivedLines, AreSentLines, IsFrameHeard, IsTickMade, IsFrameText}
 use Rattle.tnc_ports.specs.SampledHeld.{Keeps, HearsFrame, HearsFrames, HearsSome, Ticks, TicksAll, ServesAll}
 use Rattle.tnc_ports.specs.SampledRun.{AreTurns}
 use Rattle.tnc_ports.specs.SampledWrites.{Stream, Puts, ReportsMore, WritesMore}
@@ -177,9 +178,9 @@ pub ticks_once : (busy : Bool) (air : AirTick) (before after : Turning) (between
     → ((hosts : Hosts) (printed : List ReportLine) → StandsFor after.hosts printed hosts → AreSentLines before.words.monitor air.sent hosts.station.links shown)
     → text ≡ report_text (shown ++ taken) → wrote ≡ output_octets air.samples
     → Puts before.failed mid wrote o o' → Puts mid after.failed text r r'
-    → after.ticks ≡ live.ticks + 1
+    → after.ticks ≡ live.ticks + 1 → length air.samples ≡ 96
     → TicksAll busy 1 before after live o o' r r'
-ticks_once busy air before after between live shown taken mid wrote text o o' r r' keeps tick take sent is is_out out rep count =
+ticks_once busy air before after between live shown taken mid wrote text o o' r r' keeps tick take sent is is_out out rep count size =
     let given = tick live.hosts live.hosts.report keeps in
     let took = take given.0 live.hosts.report given.2 in
     let all = live.hosts.report ++ (shown ++ taken) in
@@ -196,7 +197,7 @@ ticks_once busy air before after between live shown taken mid wrote text o o' r 
     } in
     record {
       next = next;
-      ticked = (next, record { air = air; hosts = hosts; step = made; is = refl }, refl);
+      ticked = (next, record { air = air; hosts = hosts; step = made; size = size; is = refl }, refl);
       writes = record {
         lines = shown ++ taken;
         more = refl;

@@ -10,7 +10,7 @@ use Rattle.station.specs.declared.host_out.Piece.{Piece}
 use Rattle.station.specs.Heard.{IsHeard}
 use Rattle.station.specs.Host.{IsHostTurn}
 use Rattle.station.specs.State.{StationState, new_station}
-use Rattle.station.specs.Ticks.{ticking, air_of}
+use Rattle.station.specs.Ticks.{IsTick, air_of}
 use Rattle.station.specs.Turn.{Out, Turn, begin}
 use Rattle.tnc_ports.specs.declared.line.Line.{Line}
 use Rattle.tnc_ports.specs.declared.report_line.ReportLine.{ReportLine}
@@ -170,4 +170,4 @@ IsHeardStep octets = IsStep (IsHeard octets)
 -- a tick of 10 ms, in which this is on the air
 pub record IsTickStep (busy : Bool) (air : AirTick) (before after : Hosts) : Type 0 where
   pub on_air : air ≡ air_of busy before.station
-  pub step : IsStep (λ turn next. next ≡ ticking busy turn) before after
+  pub step : IsStep (IsTick busy) before after

@@ -1,7 +1,7 @@
 -- A live station, turn by turn. In a turn each lane reads on in the ring, the frames that end in what every lane has read
 -- are heard, the ticks that every lane has passed are made, and the hosts are served. The samples are the only clock: a
 -- tick of 10 ms is 96 of them.
-use Rattle.std.specs.Prelude.{◌≡◌, ℕ, zero, suc, ℤ, ◌+◌, ◌*◌, ◌<◌, ◌≤◌, ◌↔◌, Bool, true, false, IsTrue, List, [], ◌∷◌, ◌++◌, map, All, replicate}
+use Rattle.std.specs.Prelude.{◌≡◌, ℕ, zero, suc, ℤ, ◌+◌, ◌*◌, ◌<◌, ◌≤◌, ◌↔◌, Bool, true, false, IsTrue, List, [], ◌∷◌, ◌++◌, length, map, All, replicate}
 use Rattle.sample_ring.specs.declared.got.Got.{Got}
 use Rattle.frame_merge.specs.declared.candidate.Candidate.{Candidate}
 use Rattle.slicer_bank.specs.declared.advance.LaneGap.{LaneGap}
@@ -80,11 +80,16 @@ pub record HearsAll (words : ServeWords) (ended : Bool) (before after : Live) : 
 
 -- ---- ticks are made
 
+-- the samples of a tick
+abbrev pub tick_samples : ℕ
+tick_samples = 96
+
 -- one tick
 pub record IsTicked (monitor busy : Bool) (before after : Live) : Type 0 where
   pub air : AirTick
   pub hosts : Hosts
   pub step : IsTickMade monitor busy air before.hosts hosts
+  pub size : length air.samples ≡ tick_samples
   pub is : after ≡ record before { hosts = hosts; ticks = before.ticks + 1; sent = before.sent ++ air.samples }
 
 -- so many
@@ -92,10 +97,6 @@ abbrev pub AreTicked : Bool → Bool → ℕ → Live → Live → Type 0
 AreTicked monitor busy zero before after = after ≡ before
 AreTicked monitor busy (suc count) before after =
     (between : Live) × IsTicked monitor busy before between × AreTicked monitor busy count between after
-
--- the samples of a tick
-abbrev pub tick_samples : ℕ
-tick_samples = 96
 
 -- So many ticks are made, each passed by every lane. The channel is busy in them exactly where some lane holds a carrier.
 pub record MakesTicks (words : ServeWords) (count : ℕ) (before after : Live) : Type 0 where

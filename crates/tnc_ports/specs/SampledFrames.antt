@@ -3,7 +3,6 @@ use Rattle.std.specs.Prelude.{◌≡◌, ℕ, ◌⊎◌, Bool, MatchBool, List, 
 use Rattle.ax25_address.specs.declared.path.Path.{Path}
 use Rattle.ax25_frames.specs.declared.frame.Frame.{Frame}
 use Rattle.ax25_frames.specs.declared.frame.Modulus.{Modulus}
-use Rattle.ax25_frames.specs.declared.frame.Modulus.TheVariants.{Eight}
 use Rattle.ax25_frames.specs.declared.fault.FrameFault.{FrameFault}
 use Rattle.ax25_frames.specs.FrameOctets.{IsFrame}
 use Rattle.ax25_frames.specs.FrameFault.{ShowsFrameFault}
@@ -12,7 +11,7 @@ use Rattle.channel_access.specs.declared.air_tick.AirTick.{AirTick}
 use Rattle.channel_access.specs.declared.air_tick.Sent.{Sent}
 use Rattle.station.specs.Heard.{IsPathOf}
 use Rattle.station.specs.Links.{Links}
-use Rattle.station.specs.Monitored.{modulus_between}
+use Rattle.station.specs.Monitored.{heard_modulus, sent_modulus}
 use Rattle.tnc_ports.specs.declared.report_line.ReportLine.{ReportLine}
 use Rattle.tnc_ports.specs.declared.report_line.ReportLine.TheVariants.{ReceivedLine, SentLine}
 use Rattle.tnc_ports.specs.Hosts.{Hosts, IsHeardStep, IsTickStep}
@@ -24,17 +23,6 @@ abbrev pub IsFrameText : Modulus → List ℕ → List ℕ → Type 0
 IsFrameText modulus octets text =
     ((frame : Frame) × IsFrame frame modulus octets × (text ≡ text_of_frame frame))
     ⊎ ((fault : FrameFault) × ShowsFrameFault modulus octets fault × (text ≡ text_of_frame_fault fault))
-
--- The modulus in which a heard frame is read is that of the link from its destination to its source, or from its source
--- to its destination.
-abbrev pub heard_modulus : Option Path → Links → Modulus
-heard_modulus None links = Eight
-heard_modulus (Some path) links = modulus_between path.dest path.source links
-
--- for a sent frame the other way round
-abbrev pub sent_modulus : Option Path → Links → Modulus
-sent_modulus None links = Eight
-sent_modulus (Some path) links = modulus_between path.source path.dest links
 
 pub record IsReceivedLine (octets : List ℕ) (links : Links) (line : ReportLine) : Type 0 where
   pub path : Option Path

@@ -1,6 +1,6 @@
 -- A run of a live station: turns until every lane has met the end of the ring, or until memory is wanted; and what the
 -- outside then tells of it.
-use Rattle.std.specs.Prelude.{◌≡◌, ◌≢◌, ℕ, zero, suc, ◌+◌, ◌<◌, ◌≤◌, ◌⊎◌, Bool, true, false, List, [], ◌∷◌, ◌++◌, All, length, map, Option, Some, None}
+use Rattle.std.specs.Prelude.{◌≡◌, ◌≢◌, ℕ, zero, suc, ◌+◌, ◌*◌, ◌<◌, ◌≤◌, ◌⊎◌, Bool, true, false, List, [], ◌∷◌, ◌++◌, All, length, map, Option, Some, None}
 use Rattle.std.specs.List.{flat_map}
 use Rattle.frame_merge.specs.declared.candidate.Candidate.{Candidate}
 use Rattle.sample_ring.specs.declared.got.Got.{Got}
@@ -17,7 +17,7 @@ use Rattle.tnc_ports.specs.Hosts.{Hosts, is_among}
 use Rattle.tnc_ports.specs.HostTurns.{Asked}
 use Rattle.tnc_ports.specs.ReportedGaps.{AreAllGaps, AreFirstGaps}
 use Rattle.tnc_ports.specs.ReportText.{output_octets, report_text}
-use Rattle.tnc_ports.specs.Sampled.{Live, new_live, with_hosts, HaveEnded, LanesReadOn, AreDue, AreHeard, HearsAll, MakesTicks, MakesAll, IsTurn}
+use Rattle.tnc_ports.specs.Sampled.{Live, new_live, with_hosts, HaveEnded, LanesReadOn, AreDue, AreHeard, HearsAll, MakesTicks, MakesAll, IsTurn, tick_samples}
 use Rattle.tnc_ports.specs.ServedHosts.{octets_to, ids_shut, IsShutHavingCome, AreSentInTurns, AreShutInTurns}
 use Rattle.tnc_ports.specs.Sockets.{Poll, Send, MayCome}
 
@@ -162,6 +162,7 @@ pub record IsWhole (words : ServeWords) (answers : List (List Got)) (live : Live
   pub shuts : AreShutInTurns live.asked live.hosts
   pub all_shut : live.hosts.to_shut ≡ []
   pub gaps : AreAllGaps live
+  pub size : length live.sent ≡ tick_samples * live.ticks
 
 -- A turn that has made its ticks is cut short when it serves its hosts: the ports were asked so.
 pub record IsCutInServing (words : ServeWords) (before made : Live) (asked : Asked) (reached : Hosts) : Type 0 where
@@ -188,6 +189,7 @@ pub record IsCut (words : ServeWords) (answers : List (List Got)) (live : Live) 
   pub sends : AreSentInTurns turns reached
   pub shuts : AreShutInTurns turns reached
   pub gaps : AreFirstGaps live
+  pub size : length live.sent ≡ tick_samples * live.ticks
 
 -- The loop by how it ends: all of a whole run is written; or after a write that failed the run went on to its end; or
 -- memory was wanted, and the run is cut short.

@@ -1,5 +1,5 @@
 //! The text of the report's lines.
-ghost use Rattle.std.specs.Prelude.{◌≡◌, ◌++◌, [], ◌∷◌, IfOk};
+ghost use Rattle.std.specs.Prelude.{◌≡◌, ◌++◌, [], ◌∷◌, IfOk, length};
 ghost use Rattle.tnc_ports.specs.ReportText.{ended_line, output_octets, report_text};
 
 use crate::report_line::ReportLine;
@@ -61,9 +61,10 @@ fn shown(alloc: Global, word: &[u8], text: &Octets) -> Result<Vec<u8>, OutOfMemo
     Ok(line)
 }
 
-/// The octets of the samples of a tick, each with its low octet first.
+/// The octets of the samples of a tick, which are 96, each with its low octet first.
 pub(crate) fn octets_of_samples(samples: &[i16; 96]) -> [u8; 192]
-    ensures { result ≡ output_octets samples.now }
+    ensures octets { result ≡ output_octets samples.now }
+    ensures size { length samples.now ≡ 96 }
 {
     let mut octets = [0; 192];
     LittleEndian::write_i16_into(samples, &mut octets);

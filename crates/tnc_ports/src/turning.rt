@@ -11,13 +11,14 @@ ghost use Rattle.sample_ring.specs.Ends.{ring_id, ring_len, reader_ring};
 ghost use Rattle.slicer_bank.specs.HeardOnRing.{IsBusyOnRing};
 ghost use Rattle.slicer_bank.specs.RingLanes.{readers_in, answers_in};
 ghost use Rattle.station.specs.Heard.{IsPathOf};
+ghost use Rattle.station.specs.Monitored.{heard_modulus, sent_modulus};
 ghost use Rattle.tnc_ports.specs.AskedPorts.{told_by};
 ghost use Rattle.tnc_ports.specs.CutPart.{HasCutPart};
 ghost use Rattle.tnc_ports.specs.declared.report_line.ReportLine.{ReportLine};
 ghost use Rattle.tnc_ports.specs.HeldHosts.{StandsFor};
 ghost use Rattle.tnc_ports.specs.Hosts.{Hosts};
 ghost use Rattle.tnc_ports.specs.Sampled.{Live, gap_line};
-ghost use Rattle.tnc_ports.specs.SampledFrames.{AreReceivedLines, AreSentLines, heard_modulus, sent_modulus};
+ghost use Rattle.tnc_ports.specs.SampledFrames.{AreReceivedLines, AreSentLines};
 ghost use Rattle.tnc_ports.specs.SampledRun.{IsCutInReading};
 ghost use Rattle.tnc_ports.specs.SampledWrites.{stream_of};
 

@@ -1,4 +1,5 @@
 //! What words can ask for.
+use crate::topic::Topic;
 use ax25_address::Call;
 use ax25_frames::Modulus;
 use link_machine::Params;
@@ -50,8 +51,14 @@ pub enum Command {
     Show(ShowWords),
     /// Frames that are drawn, sent and received again.
     Loop(LoopWords),
+    /// Two stations that are joined by sound.
+    Bench(BenchOptions),
     /// A station on the air, with ports for host programs.
     Serve(ServeOptions),
+    /// What the program says about itself.
+    Help(Topic),
+    /// The program's name and version.
+    Version,
 }
 
 /// The options of `decode`.
@@ -115,6 +122,23 @@ pub struct LoopWords {
     pub rough: bool,
     /// The lanes work on threads of their own.
     pub threads: bool,
+}
+
+/// The options of `bench`.
+#[derive(Clone, Copy, Debug, PartialEq, Eq)]
+pub struct BenchOptions {
+    /// What all random numbers of the run are drawn from.
+    pub seed: u64,
+    /// How many octets each host gives in a set-up, at most 100,000.
+    pub octets: u32,
+    /// How many of a hundred transmissions are lost, at most 90.
+    pub loss: u8,
+    /// The most noise of a sample, at most 2000.
+    pub noise: u16,
+    /// Both stations are in full duplex.
+    pub full: bool,
+    /// Both stations call modulo 128.
+    pub wide: bool,
 }
 
 /// The options of `serve`.

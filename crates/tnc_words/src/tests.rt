@@ -1,6 +1,7 @@
 use super::{
-    AudioForm, Command, DecodeWords, EncodeWords, FrameForm, LoopWords, Modem, Receiving,
-    SampleRate, ServeOptions, ShowWords, WordsFault, one_command, read_words,
+    AudioForm, BenchOptions, Command, DecodeWords, EncodeWords, FrameForm, LoopWords, Modem,
+    Receiving, SampleRate, ServeOptions, ShowWords, Topic, WordsFault, help_text, one_command,
+    read_words, version_line,
 };
 use ax25_address::Call;
 use ax25_frames::Modulus;
@@ -461,8 +462,104 @@ fn good_words_ask_for_a_command(rt: HostRuntime) -> Result<(), Fail> {
 }
 
 #[test]
+fn bench_is_asked_for_with_a_seed(rt: HostRuntime) -> Result<(), Fail> {
+    let least = BenchOptions {
+        seed: 7,
+        octets: 2000,
+        loss: 0,
+        noise: 0,
+        full: false,
+        wide: false,
+    };
+    let most = BenchOptions {
+        seed: u64::MAX,
+        octets: 100_000,
+        loss: 90,
+        noise: 2000,
+        full: true,
+        wide: true,
+    };
+    let of_most: [&str; 11] = [
+        "bench",
+        "--wide",
+        "--noise",
+        "2000",
+        "--loss=90",
+        "--full",
+        "--octets",
+        "100000",
+        "--seed",
+        "18446744073709551615",
+        "--",
+    ];
+    assert_eq!(rt;
+        asked(rt.alloc(), &["bench", "--seed", "7"])?,
+        Ok(Command::Bench(least))
+    );
+    assert_eq!(rt; asked(rt.alloc(), &of_most)?, Ok(Command::Bench(most)));
+    let refused: [&[&str]; 7] = [
+        &["bench"],
+        &["bench", "7"],
+        &["bench", "--seed", "7", "--octets", "100001"],
+        &["bench", "--seed", "7", "--loss", "91"],
+        &["bench", "--seed", "7", "--noise", "2001"],
+        &["bench", "--seed", "7", "--full=true"],
+        &["bench", "--seed", "7", "--window", "4"],
+    ];
+    for words in refused {
+        assert!(rt; is_refused(rt.alloc(), words)?, "of {words:?}");
+    }
+    Ok(())
+}
+
+#[test]
+fn help_and_version_are_asked_for_alone(rt: HostRuntime) -> Result<(), Fail> {
+    let table: [(&[&str], Command); 17] = [
+        (&["help"], Command::Help(Topic::Program)),
+        (&["--help"], Command::Help(Topic::Program)),
+        (&["-h"], Command::Help(Topic::Program)),
+        (&["help", "decode"], Command::Help(Topic::Decode)),
+        (&["decode", "--help"], Command::Help(Topic::Decode)),
+        (&["help", "encode"], Command::Help(Topic::Encode)),
+        (&["encode", "--help"], Command::Help(Topic::Encode)),
+        (&["help", "show"], Command::Help(Topic::Show)),
+        (&["show", "--help"], Command::Help(Topic::Show)),
+        (&["help", "loop"], Command::Help(Topic::Loop)),
+        (&["loop", "--help"], Command::Help(Topic::Loop)),
+        (&["help", "bench"], Command::Help(Topic::Bench)),
+        (&["bench", "--help"], Command::Help(Topic::Bench)),
+        (&["help", "serve"], Command::Help(Topic::Serve)),
+        (&["serve", "--help"], Command::Help(Topic::Serve)),
+        (&["version"], Command::Version),
+        (&["--version"], Command::Version),
+    ];
+    for (words, want) in table {
+        assert_eq!(rt; asked(rt.alloc(), words)?, Ok(want), "of {words:?}");
+    }
+    Ok(())
+}
+
+#[test]
+fn each_topic_has_its_text(rt: HostRuntime) -> Result<(), Fail> {
+    let table = [
+        (Topic::Program, "Usage: tnc COMMAND"),
+        (Topic::Decode, "Usage: tnc decode"),
+        (Topic::Encode, "Usage: tnc encode"),
+        (Topic::Show, "Usage: tnc show"),
+        (Topic::Loop, "Usage: tnc loop"),
+        (Topic::Bench, "Usage: tnc bench"),
+        (Topic::Serve, "Usage: tnc serve"),
+    ];
+    for (topic, first) in table {
+        assert!(rt; help_text(topic).starts_with(first), "of {topic:?}");
+    }
+    assert!(rt; version_line().starts_with("tnc "));
+    Ok(())
+}
+
+#[test]
 fn other_words_are_refused(rt: HostRuntime) -> Result<(), Fail> {
-    let table: [&[&str]; 98] = [
+    let table: [&[&str]; 104] = [
         &[],
         &[""],
         &["decod"],
@@ -476,11 +573,11 @@ fn other_words_are_refused(rt: HostRuntime) -> Result<(), Fail> {
         &["decode", "--kiss", "--kiss"],
         &["decode", "--wav=true"],
         &["decode", "--wa"],
-        &["decode", "--help"],
+        &["decode", "--wav", "--help"],
         &["decode", "--version"],
         &["encode", "x"],
         &["encode", "-h"],
-        &["encode", "--help"],
+        &["encode", "--help", "--wav"],
         &["encode", "--version"],
         &["encode", "--joi"],
         &["encode", "--Join"],
@@ -528,7 +625,7 @@ fn other_words_are_refused(rt: HostRuntime) -> Result<(), Fail> {
         &["show", "--modulo", "8x"],
         &["show", "--modulo", "+8"],
         &["show", "--modulo", "8", "--modulo", "8"],
-        &["show", "--help"],
+        &["help", "version"],
         &["loop"],
         &["loop", "--seed", "7"],
         &["loop", "--frames", "1"],
@@ -549,7 +646,7 @@ fn other_words_are_refused(rt: HostRuntime) -> Result<(), Fail> {
         &["loop", "--seed", "7", "--frames", "1", "--rough", "--rough"],
         &["loop", "--seed", "7", "--frames", "1", "--level", "10"],
         &["encode", "--rough"],
-        &["loop", "--help"],
+        &["--help", "loop"],
         &["decode", "--threads", "--threads"],
         &["decode", "--threads=2"],
         &["encode", "--threads"],
@@ -561,6 +658,12 @@ fn other_words_are_refused(rt: HostRuntime) -> Result<(), Fail> {
         &["serve", "--kiss", "8001", "--agw", "65536"],
         &["serve", "--kiss", "65536", "--agw", "1"],
         &["serve", "8001", "8000"],
+        &["-h", "serve"],
+        &["help", "help"],
+        &["help", "decode", "encode"],
+        &["help", "Decode"],
+        &["version", "help"],
+        &["-v"],
     ];
     for words in table {
         assert!(rt; is_refused(rt.alloc(), words)?, "of {words:?}");

@@ -65,6 +65,17 @@ impl Desk {
         Ok(())
     }
 
+    /// So many ticks, and the frames that are sent in them.
+    pub(super) fn tick(&mut self, count: usize) -> Result<Vec<u8>, Fail> {
+        let mut sent = Vec::new(self.alloc);
+        for _ in 0..count {
+            if let Some(frame) = self.parts.tick(self.alloc, &mut self.out, false)?.sent {
+                sent.extend_from_slice(frame.octets.as_slice())?;
+            }
+        }
+        Ok(sent)
+    }
+
     /// What it gave since the last look.
     pub(super) fn look(&mut self) -> HostOut {
         let out = HostOut::new(self.alloc);

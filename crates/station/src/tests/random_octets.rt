@@ -108,18 +108,6 @@ impl Desk {
         Ok(())
     }
 
-    /// So many ticks, and the frames that are sent in them.
-    fn tick(&mut self, count: usize) -> Result<Vec<u8>, Fail> {
-        let mut sent = Vec::new(self.alloc);
-        for _ in 0..count {
-            self.parts.tick_links(self.alloc, &mut self.out)?;
-            if let Some(frame) = self.parts.channel.tick(false).sent {
-                sent.extend_from_slice(frame.octets.as_slice())?;
-            }
-        }
-        Ok(sent)
-    }
-
     /// What it gave since the last look: each connection's octets and each link's frames.
     fn given(&mut self) -> Result<Vec<u8>, Fail> {
         let out = self.look();

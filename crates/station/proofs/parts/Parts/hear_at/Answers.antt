@@ -6,9 +6,9 @@ use Rattle.ax25_frames.specs.FrameOctets.{control_of}
 use Rattle.ax25_frames.specs.declared.frame.Frame.{Frame}
 use Rattle.ax25_frames.specs.declared.frame.Modulus.{Modulus}
 use Rattle.link_machine.specs.Event.Event.{Hear}
-use Rattle.station.specs.Heard.{IsReadAs, link_modulus}
+use Rattle.station.specs.Heard.{IsReadAs}
 use Rattle.station.specs.LinkEvents.{event_at}
-use Rattle.station.specs.Links.{link_at}
+use Rattle.station.specs.Links.{link_at, link_modulus}
 use Rattle.station.specs.TableSteps.{place_at}
 use Rattle.station.proofs.EventLemmas.{places-at}
 use Rattle.station.proofs.HearLemmas.{same_modulus}

@@ -34,8 +34,8 @@ returns-clause-shows c = λ turn shows.
     let parts = c.args.self.now in
     let same = AllZip-length StandsForConnection parts.connections.items turn.now.connections shows.holds.connections in
     let room : nat_lt (length turn.now.connections) 64 ≡ true = grind (arith, nat_tests, c.len.ensures, parts.connections.ok) in
-    let held : HeldConnection = record { id = id; raw = false; reader = c.new_reader.result } in
-    let joined = shows_joined parts c.args.out.now turn c.push.new.self.items held c.args.kind shows c.requires refl c.new_reader.ensures c.in_ok-push.ensures.items in
+    let held : HeldConnection = record { id = id; raw = false; monitors = false; reader = c.new_reader.result } in
+    let joined = shows_joined parts c.args.out.now turn c.push.new.self.items held c.args.kind shows c.requires refl refl c.new_reader.ensures c.in_ok-push.ensures.items in
     subst (λ (behind : Turn). Shows (record parts { connections = c.push.new.self }) c.args.out.now behind)
     (sym (cond-true (nat_lt (length turn.now.connections) 64) (changing (with_host id c.args.kind) turn) (closing id turn) room))
     (record {
@@ -48,6 +48,7 @@ returns-clause-shows c = λ turn shows.
         links = shows.holds.links;
         channel = shows.holds.channel;
         dropped = shows.holds.dropped;
+        ticks = shows.holds.ticks;
       };
       gave = shows.gave;
     })
@@ -55,7 +56,7 @@ returns-clause-shows c = λ turn shows.
 pub returns-clause-ids : goal.returns-clause-ids
 returns-clause-ids c = λ none.
     let id = c.args.id in
-    let held : HeldConnection = record { id = id; raw = false; reader = c.new_reader.result } in
+    let held : HeldConnection = record { id = id; raw = false; monitors = false; reader = c.new_reader.result } in
     ap (λ (items : List HeldConnection). map (λ (connection : HeldConnection). connection.id) items) c.in_ok-push.ensures.items
     ∙ map-append (λ (connection : HeldConnection). connection.id) c.args.self.now.connections.items (held ∷ [])
     ∙ sym (ap (λ (gone : List ℕ). without_ids gone (ids_in c.args.self.now ++ id ∷ [])) none)

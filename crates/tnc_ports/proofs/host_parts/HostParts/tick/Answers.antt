@@ -1,8 +1,4 @@
-use Rattle.std.proofs.Common.{◌≡◌, ap}
-use Rattle.station.specs.State.{StationState}
-use Rattle.station.specs.StandsFor.{StandsFor as StandsForStation}
-use Rattle.station.specs.Ticks.{ticking}
-use Rattle.station.specs.Turn.{Turn, Out, begin}
+use Rattle.station.specs.Ticks.{IsTick}
 use Rattle.tnc_ports.specs.declared.host_parts.HostParts.{HostParts}
 use Rattle.tnc_ports.specs.HeldHosts.{MovesBy}
 use Rattle.tnc_ports.specs.Hosts.{IsStep}
@@ -13,14 +9,11 @@ pub returns-clause-moves : goal.returns-clause-moves
 returns-clause-moves c =
     let before : HostParts = c.args.self.now in
     let between : HostParts = record before { station = c.tick.new.self } in
-    let step : Turn → Turn → Type 0 = λ turn next. next ≡ ticking c.args.busy turn in
-    let out : Out = c.in_ok-tick.tick.out in
-    let stood : (s : StationState) → StandsForStation before.station s → (next : StationState) × step (begin s) (record { now = next; out = out }) × StandsForStation between.station next = λ s stands.
-    let turn : Turn = ticking c.args.busy (begin s) in
-    (turn.now, ap (λ (o : Out). let t : Turn = record { now = turn.now; out = o } in t) (c.in_ok-tick.ensures.out s stands), c.in_ok-tick.ensures.stands_for s stands) in
+    let step = IsTick c.args.busy in
     let moves : MovesBy (IsStep step) before c.tell_who_left.new.self =
     stepped step before c.deliver.new.self c.tell_who_left.new.self
-    (delivered step out before between c.deliver.new.self stood (with_station before c.tick.new.self) c.in_ok-deliver.ensures.moves) c.in_ok-tell_who_left.ensures.moves in
+    (delivered step c.in_ok-tick.tick.out before between c.deliver.new.self c.in_ok-tick.ensures.step (with_station before c.tick.new.self) c.in_ok-deliver.ensures.moves)
+    c.in_ok-tell_who_left.ensures.moves in
     λ printed hosts h.
     let m = moves printed hosts h in
     (m.0, record { on_air = c.in_ok-tick.ensures.air hosts.station h.station; step = m.1 }, m.2)

@@ -10,4 +10,4 @@ returns-clause-ticked g c = λ live keeps at.
     keeps c.in_ok-air.ensures.step c.take_lines-lines.ensures.taken c.in_ok-shown.ensures
     (c.deref-3.ensures.value ∙ c.in_ok-text.ensures ∙ ap (λ x. report_text (x ++ c.deref-2.result.now)) c.deref.ensures.value
     ∙ ap (λ x. report_text (c.in_ok-shown.shown.items ++ x)) c.deref-2.ensures.value)
-    c.octets_of_samples.ensures c.put.ensures c.put-2.ensures (ap (λ n. n + 1) at)
+    c.octets_of_samples.ensures.octets c.put.ensures c.put-2.ensures (ap (λ n. n + 1) at) c.octets_of_samples.ensures.size

@@ -1,0 +1,135 @@
+-- From packets to octets: set-ups of a link's ends that got packets in order, as host programs see them, got octets in
+-- order.
+use Rattle.std.proofs.Common.{◌≡◌, ◌≢◌, ℕ, suc, ◌<◌, List, [], ◌∷◌, map, cond, Some, refl, sym, ap, ◌∙◌, subst, arith}
+use Rattle.std.specs.Prelude.{All, AllPairs, filter, option_map, slice_get}
+use Rattle.std.specs.List.{AllByRecursion as Each, cons_option}
+use Rattle.std.proofs.lemmas.Grind.{flat_map-append}
+use Rattle.std.proofs.lemmas.List.Elements.{All-from_recursion, recursion_from_All}
+use Rattle.std.proofs.lemmas.List.Kept.{AllPairs-cons}
+use Rattle.std.proofs.lemmas.Option.{slice_get-map}
+use Rattle.selective_reject.specs.declared.packet.Packet.{Packet}
+use Rattle.link_world.specs.Origin.{GotPrefix, GotNothingElse, GotInOrder as PacketsInOrder, RiseStrictly, origin_of, origins}
+use Rattle.link_world.specs.Recorded.{RecordedEnd}
+use Rattle.link_world.specs.SetUps.{SetUp as LinkSetUp}
+use Rattle.channel_bench.specs.declared.report.SetUp.{SetUp}
+use Rattle.channel_bench.specs.BenchOrder.{octets_in, set_up_of}
+use Rattle.channel_bench.specs.KeepsOrder.{AreGotFrom, GotInOrder, IsGotFrom, got_octets, has_octets}
+use Rattle.channel_bench.specs.SetUpsSeen.{as_seen}
+
+-- ---- numbers that rise
+
+abbrev Rising : List ℕ → Type 0
+Rising [] = Unit {0}
+Rising (n ∷ numbers) = Each (λ m. n < m) numbers × Rising numbers
+
+rising_of : (numbers : List ℕ) → RiseStrictly numbers → Rising numbers
+rising_of [] h = tt
+rising_of (n ∷ numbers) h =
+    let above : All (λ m. n < m) numbers = λ j d within. h 0 (suc j) d (omega arith) (omega arith) in (
+      recursion_from_All (λ m. n < m) numbers above,
+      rising_of numbers
+          (λ i j d lt within. h (suc i) (suc j) d (omega arith) (omega arith)),
+    )
+
+pairs_of : (numbers : List ℕ) → Rising numbers → AllPairs (λ m n. m < n) numbers
+pairs_of [] h = λ i j d lt within. absurd (omega arith)
+pairs_of (n ∷ numbers) h =
+    AllPairs-cons (λ a b. a < b) n numbers (All-from_recursion (λ m. n < m) numbers h.0) (pairs_of numbers h.1)
+
+-- ---- a set-up of an end, as its host program saw it
+
+abbrev pub seen_as : LinkSetUp → SetUp
+seen_as q = set_up_of (as_seen q)
+
+there_too :
+    (theirs : List LinkSetUp) (number : ℕ) (q : LinkSetUp) → slice_get theirs number ≡ Some q
+    → slice_get (map seen_as theirs) number ≡ Some (seen_as q)
+there_too theirs number q is = slice_get-map seen_as theirs number ∙ ap (option_map seen_as) is
+
+got_from :
+    (theirs : List LinkSetUp) (q : LinkSetUp) (h : GotPrefix theirs q)
+    → IsGotFrom (map seen_as theirs) h.number (seen_as q)
+got_from theirs q h = record {
+  giver = seen_as h.giver;
+  is_there = there_too theirs h.number h.giver h.is_there;
+  first_part = (
+    octets_in h.prefix.0,
+    ap octets_in h.prefix.1 ∙ flat_map-append (λ (packet : Packet). packet.octets) q.got h.prefix.0,
+  );
+}
+
+-- ---- all set-ups of an end
+
+-- the origins of those that got octets are among the origins of those that got packets
+record Ordered (theirs ours : List SetUp) (numbers : List ℕ) : Type 0 where
+  origins : List ℕ
+  got : AreGotFrom theirs origins (filter got_octets ours)
+  rise : Rising origins
+  among : (low : ℕ) → Each (λ m. low < m) numbers → Each (λ m. low < m) origins
+
+got_none : (q : SetUp) (ours : List SetUp) → q.got ≡ [] → filter got_octets (q ∷ ours) ≡ filter got_octets ours
+got_none q ours none = ap (λ (g : List ℕ). cond (has_octets g) (q ∷ filter got_octets ours)
+    (filter got_octets ours)) none
+
+got_some :
+    (q : SetUp) (ours : List SetUp) (octet : ℕ) (octets : List ℕ) → q.got ≡ octet ∷ octets
+    → filter got_octets (q ∷ ours) ≡ q ∷ filter got_octets ours
+got_some q ours octet octets some =
+    ap (λ (g : List ℕ). cond (has_octets g) (q ∷ filter got_octets ours) (filter got_octets ours)) some
+
+ordered :
+    (theirs ours : List LinkSetUp) → Each (GotNothingElse theirs) ours → Rising (origins ours)
+    → Ordered (map seen_as theirs) (map seen_as ours) (origins ours)
+ordered theirs [] prefixes rise = record { origins = []; got = tt; rise = tt; among = λ P h. tt }
+ordered theirs (q ∷ ours) prefixes rise = by_packets q.got refl (λ above. ordered theirs ours prefixes.1 above)
+  where
+    -- it got a packet, but perhaps no octet
+    with_packets :
+        (h : GotPrefix theirs q) (octets : List ℕ) → octets_in q.got ≡ octets → Rising (h.number ∷ origins ours)
+        → Ordered (map seen_as theirs) (map seen_as ours) (origins ours)
+        → Ordered (map seen_as theirs) (map seen_as (q ∷ ours)) (h.number ∷ origins ours)
+    with_packets h [] none above rest = record {
+      origins = rest.origins;
+      got = subst (AreGotFrom (map seen_as theirs) rest.origins)
+          (sym (got_none (seen_as q) (map seen_as ours) none)) rest.got;
+      rise = rest.rise;
+      among = λ low all. rest.among low all.1;
+    }
+    with_packets h (octet ∷ octets) some above rest = record {
+      origins = h.number ∷ rest.origins;
+      got = subst (AreGotFrom (map seen_as theirs) (h.number ∷ rest.origins))
+          (sym (got_some (seen_as q) (map seen_as ours) octet octets some)) (got_from theirs q h, rest.got);
+      rise = (rest.among h.number above.0, rest.rise);
+      among = λ low all. (all.0, rest.among low all.1);
+    }
+
+    by_packets :
+        (packets : List Packet) → q.got ≡ packets
+        → (Rising (origins ours) → Ordered (map seen_as theirs) (map seen_as ours) (origins ours))
+        → Ordered (map seen_as theirs) (map seen_as (q ∷ ours)) (origins (q ∷ ours))
+    by_packets [] none others =
+        let no_origin : origins (q ∷ ours) ≡ origins ours =
+        ap (λ got. cons_option (origin_of got q.accepted) (origins ours)) none in
+        let rest = others (subst Rising no_origin rise) in
+        subst (Ordered (map seen_as theirs) (map seen_as (q ∷ ours))) (sym no_origin) (record {
+          origins = rest.origins;
+          got = subst (AreGotFrom (map seen_as theirs) rest.origins)
+              (sym (got_none (seen_as q) (map seen_as ours) (ap octets_in none))) rest.got;
+          rise = rest.rise;
+          among = rest.among;
+        })
+    by_packets (packet ∷ packets) some others =
+        let got_packets : q.got ≢ [] = λ none. absurd (cc) in
+        let h = prefixes.0 got_packets in
+        let has_origin : origins (q ∷ ours) ≡ h.number ∷ origins ours = ap
+        (λ o. cons_option o (origins ours)) h.is_origin in
+        let above : Rising (h.number ∷ origins ours) = subst Rising has_origin rise in
+        subst (Ordered (map seen_as theirs) (map seen_as (q ∷ ours))) (sym has_origin)
+        (with_packets h (octets_in q.got) refl above (others above.1))
+
+pub octets_in_order :
+    (near far : RecordedEnd) → PacketsInOrder near far → GotInOrder (map seen_as far.set_ups) (map seen_as near.set_ups)
+octets_in_order near far h =
+    let all = ordered far.set_ups near.set_ups (recursion_from_All (GotNothingElse far.set_ups) near.set_ups h.prefixes)
+    (rising_of (origins near.set_ups) h.origins_rise) in
+    record { origins = all.origins; got = all.got; rise = pairs_of all.origins all.rise }

@@ -1,0 +1,196 @@
+-- The host programs of a bench: which connections they have, what has come from each, and that a step of a station
+-- changes no more of that than what comes in it.
+use Rattle.std.proofs.Common.{◌≡◌, ℕ, ◌==◌, Bool, true, false, List, [], ◌∷◌, length, cond, nat_lt, Option, Some, None, refl, sym, ap, ◌∙◌, subst}
+use Rattle.std.specs.List.{AllByRecursion as Each}
+use Rattle.std.proofs.lemmas.Bool.{eqb-true}
+use Rattle.agwpe_port.specs.Messages.{spelling}
+use Rattle.agwpe_port.specs.declared.message.AgwMessage.{AgwMessage}
+use Rattle.agwpe_port.proofs.WrittenLemmas.{IsWritten}
+use Rattle.link_world.proofs.law.Each.{each_append}
+use Rattle.station.specs.declared.host_event.PortKind.{PortKind}
+use Rattle.station.specs.declared.host_event.PortKind.TheVariants.{Kiss, Agw}
+use Rattle.station.specs.AgwRequests.{AreAnswered, IsAnswered}
+use Rattle.station.specs.Connections.{Connection, connection_of, most_connections, new_connection, with_connection}
+use Rattle.station.specs.Host.{AreTaken, AreTakenBy, ending, joining, taking, with_host, with_octets}
+use Rattle.station.specs.Kiss.{heeding_all, param_of, with_param}
+use Rattle.station.specs.State.{StationState}
+use Rattle.station.specs.Turn.{Turn, begin, changing, closing}
+use Rattle.channel_bench.specs.BenchSteps.{program_id}
+use Rattle.channel_bench.specs.BenchTick.{kiss_id}
+use Rattle.channel_bench.specs.HostProgram.{full_duplex_octets}
+use Rattle.channel_bench.proofs.HostStreams.{IsSetting, IsWhole, none_bad, one_new, one_setting, setting_more, whole_more}
+use Rattle.channel_bench.proofs.TurnWalks.{Kept, kept_by_acts}
+
+-- ---- the connections
+
+-- A connection of the bench: of the host program by AGWPE, and another by KISS. What came by AGWPE are whole messages, and
+-- what came by KISS sets full duplex.
+pub record IsHosts (c : Connection) : Type 0 where
+  pub kiss : c.id ≡ kiss_id → c.kind ≡ Kiss
+  pub program : c.id ≡ program_id → c.kind ≡ Agw
+  pub whole : c.kind ≡ Agw → IsWhole c.stream
+  pub setting : c.kind ≡ Kiss → IsSetting c.stream
+
+-- all that a station has, which repeats for nobody
+pub record HasHosts (s : StationState) : Type 0 where
+  pub connections : Each IsHosts s.connections
+  pub digi : s.digi ≡ None
+
+-- a step that no connection's octets come in changes none
+pub record SameHosts (before after : Turn) : Type 0 where
+  pub connections : after.now.connections ≡ before.now.connections
+  pub digi : after.now.digi ≡ before.now.digi
+
+pub same_hosts : Kept SameHosts
+same_hosts = kept_by_acts SameHosts (record {
+  same = λ t. record { connections = refl; digi = refl };
+  on = λ t u v h k. record { connections = k.connections ∙ h.connections; digi = k.digi ∙ h.digi };
+  tells = λ t pieces. record { connections = refl; digi = refl };
+  links = λ change t. record { connections = refl; digi = refl };
+  enters = λ key octets t. record { connections = refl; digi = refl };
+  drops = λ t. record { connections = refl; digi = refl };
+  registers = λ call id t. record { connections = refl; digi = refl };
+})
+
+pub still_has : (before after : Turn) → SameHosts before after → HasHosts before.now → HasHosts after.now
+still_has before after same h =
+    record { connections = subst (Each IsHosts) (sym same.connections) h.connections; digi = same.digi ∙ h.digi }
+
+-- ---- a connection that joins
+
+pub joins_hosts : (id : ℕ) (kind : PortKind) (s : StationState) → IsHosts (new_connection id kind) → HasHosts s
+    → HasHosts (joining id kind (begin s)).now
+joins_hosts id kind s new h = go (nat_lt (length s.connections) most_connections)
+  where
+    go : (b : Bool) → HasHosts (cond b (changing (with_host id kind) (begin s)) (closing id (begin s))).now
+    go true = record {
+      connections = each_append IsHosts s.connections (new_connection id kind ∷ []) h.connections (new, tt);
+      digi = h.digi;
+    }
+    go false = h
+
+-- ---- octets that come
+
+-- the connection that a look-up finds
+pub found :
+    (P : Connection → Type 0) (id : ℕ) (connections : List Connection) (c : Connection) → Each P connections
+    → connection_of id connections ≡ Some c → P c × (c.id ≡ id)
+found P id [] c h is = absurd (cc)
+found P id (first ∷ connections) c h is = go (first.id == id) refl is (λ later. found P id connections c h.1 later)
+  where
+    go : (b : Bool) → (first.id == id) ≡ b → cond b (Some first) (connection_of id connections) ≡ Some c
+        → (connection_of id connections ≡ Some c → P c × (c.id ≡ id)) → P c × (c.id ≡ id)
+    go true same one rest =
+        let e : first ≡ c = cc in
+        subst (λ (x : Connection). P x × (x.id ≡ id)) e (h.0, eqb-true first.id id same)
+    go false same one rest = rest one
+
+-- the connection of an id, with octets more
+with_more :
+    (id : ℕ) (octets : List ℕ) (connections : List Connection)
+    → ((c : Connection) → c.id ≡ id → IsHosts c → IsHosts (with_octets octets c))
+    → Each IsHosts connections → Each IsHosts (with_connection id (with_octets octets) connections)
+with_more id octets [] more h = tt
+with_more id octets (c ∷ connections) more h = (go (c.id == id) refl, with_more id octets connections more h.1)
+  where
+    go : (b : Bool) → (c.id == id) ≡ b → IsHosts (cond b (with_octets octets c) c)
+    go true is = more c (eqb-true c.id id is) h.0
+    go false is = h.0
+
+-- a message of the host program
+message_hosts :
+    (message : AgwMessage) → IsWritten message → (c : Connection) → c.id ≡ program_id → IsHosts c
+    → IsHosts (with_octets (spelling message) c)
+message_hosts message written c is h = record {
+  kiss = h.kiss;
+  program = h.program;
+  whole = λ agw. whole_more c.stream message written (h.whole agw);
+  setting = λ kiss. let clash : Agw ≡ Kiss = sym (h.program is) ∙ kiss in absurd (cc);
+}
+
+kiss_hosts : (c : Connection) → c.id ≡ kiss_id → IsHosts c → IsHosts (with_octets full_duplex_octets c)
+kiss_hosts c is h = record {
+  kiss = h.kiss;
+  program = h.program;
+  whole = λ agw. let clash : Kiss ≡ Agw = sym (h.kiss is) ∙ agw in absurd (cc);
+  setting = λ kiss. setting_more c.stream (h.setting kiss);
+}
+
+-- What the octets of one message of the host program do: nothing, if it has no connection, and else what the message does.
+pub data IsSaid (message : AgwMessage) (before after : Turn) : Type 0 where
+  unheard : after ≡ before → IsSaid message before after
+  said : IsAnswered program_id message (taking program_id (spelling message) before) after → IsSaid message before after
+
+pub said_by :
+    (message : AgwMessage) (before after : Turn) → IsWritten message → HasHosts before.now
+    → AreTaken (connection_of program_id before.now.connections) (spelling message) before after
+    → IsSaid message before after
+said_by message before after written h taken = go (connection_of program_id before.now.connections) refl taken
+  where
+    by_kind :
+        (c : Connection) (kind : PortKind) → IsHosts c → c.id ≡ program_id → c.kind ≡ kind
+        → AreTakenBy kind c (spelling message) before after → IsSaid message before after
+    by_kind c Kiss hosts id is t = let clash : Agw ≡ Kiss = sym (hosts.program id) ∙ is in absurd (cc)
+    by_kind c Agw hosts id is t =
+        let whole = hosts.whole is in
+        let taken_turn = taking c.id (spelling message) before in
+        let answered : AreAnswered c.id (message ∷ []) taken_turn t.0 =
+        subst (λ ms. AreAnswered c.id ms taken_turn t.0) (one_new c.stream message written whole) t.1 in
+        let ends : after ≡ t.0 = t.2 ∙ ap (λ len. ending c.id len t.0) (none_bad c.stream message written whole) in
+        let last : after ≡ answered.0 = ends ∙ answered.2 in
+        said (subst (λ n. IsAnswered n message (taking n (spelling message) before) after) id
+        (subst (IsAnswered c.id message taken_turn) (sym last) answered.1))
+
+    go : (place : Option Connection) → connection_of program_id before.now.connections ≡ place
+        → AreTaken place (spelling message) before after → IsSaid message before after
+    go None is t = unheard t
+    go (Some c) is t =
+        let at = found IsHosts program_id before.now.connections c h.connections is in
+        by_kind c c.kind at.0 at.1 refl t
+
+pub taken_hosts : (message : AgwMessage) (before : Turn) → IsWritten message → HasHosts before.now
+    → HasHosts (taking program_id (spelling message) before).now
+taken_hosts message before written h = record {
+  connections = with_more program_id (spelling message) before.now.connections
+      (message_hosts message written) h.connections;
+  digi = h.digi;
+}
+
+-- ---- KISS
+
+-- the station with full duplex set
+abbrev pub full_set : StationState → StationState
+full_set s = with_param (param_of 5 1) s
+
+-- What comes by KISS does nothing, if there is no such connection, and else it sets full duplex.
+pub data IsSet (before after : Turn) : Type 0 where
+  unheard : after ≡ before → IsSet before after
+  full : after ≡ changing full_set (taking kiss_id full_duplex_octets before) → IsSet before after
+
+pub set_by :
+    (before after : Turn) → HasHosts before.now
+    → AreTaken (connection_of kiss_id before.now.connections) full_duplex_octets before after
+    → IsSet before after
+set_by before after h taken = go (connection_of kiss_id before.now.connections) refl taken
+  where
+    by_kind :
+        (c : Connection) (kind : PortKind) → IsHosts c → c.id ≡ kiss_id → c.kind ≡ kind
+        → AreTakenBy kind c full_duplex_octets before after → IsSet before after
+    by_kind c Agw hosts id is t = let clash : Kiss ≡ Agw = sym (hosts.kiss id) ∙ is in absurd (cc)
+    by_kind c Kiss hosts id is t =
+        full (t ∙ ap (λ items. heeding_all items (taking c.id full_duplex_octets before))
+        (one_setting c.stream (hosts.setting is))
+        ∙ ap (λ n. changing full_set (taking n full_duplex_octets before)) id)
+
+    go : (place : Option Connection) → connection_of kiss_id before.now.connections ≡ place
+        → AreTaken place full_duplex_octets before after → IsSet before after
+    go None is t = unheard t
+    go (Some c) is t =
+        let at = found IsHosts kiss_id before.now.connections c h.connections is in
+        by_kind c c.kind at.0 at.1 refl t
+
+pub kiss_taken : (before : Turn) → HasHosts before.now → HasHosts (taking kiss_id full_duplex_octets before).now
+kiss_taken before h = record {
+  connections = with_more kiss_id full_duplex_octets before.now.connections kiss_hosts h.connections;
+  digi = h.digi;
+}

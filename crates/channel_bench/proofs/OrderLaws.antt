@@ -1,0 +1,102 @@
+-- The law on a bench, from the law on two stations of which one alone calls: what the ends of the link got in order,
+-- the host programs got in order.
+use Rattle.std.proofs.Common.{◌≡◌, List, [], ◌∷◌, map, refl, sym, ap, ◌∙◌, subst, arith}
+use Rattle.std.proofs.lemmas.List.Elements.{All-from_recursion, recursion_from_All}
+use Rattle.link_world.specs.declared.end.End.TheVariants.{A, B}
+use Rattle.link_world.specs.Origin.{GotInOrder as PacketsInOrder}
+use Rattle.link_world.specs.Recorded.{RecordedEnd}
+use Rattle.link_world.specs.SetUps.{SetUp as LinkSetUp}
+use Rattle.link_world.specs.Windows.{WindowsFit}
+use Rattle.link_world.proofs.law.ChangesLaw.{changes_law_holds}
+use Rattle.channel_bench.specs.declared.report.SetUp.{SetUp}
+use Rattle.channel_bench.specs.declared.words.BenchWords.{BenchWords}
+use Rattle.channel_bench.specs.BenchLaw.{BenchLaw, NoAskDropped}
+use Rattle.channel_bench.specs.BenchOrder.{IsNoted, set_up_of, stations_of, steps_of_run, the_calls}
+use Rattle.channel_bench.specs.BenchState.{BenchState, config_of, params_of}
+use Rattle.channel_bench.specs.CallerLaw.{BAsksNothing}
+use Rattle.channel_bench.specs.HostProgram.{ProgramState, set_ups_of}
+use Rattle.channel_bench.specs.KeepsOrder.{GotInOrder, KeepsOrder}
+use Rattle.channel_bench.specs.JointRun.{Step}
+use Rattle.channel_bench.specs.LinkOfCalls.{link_at_end, world_of}
+use Rattle.channel_bench.specs.LinkSteps.{steps_of}
+use Rattle.channel_bench.specs.MatchedLaw.{DropsNoAsk, IsEventOfCaller, OnlyACalls, pairs_in}
+use Rattle.channel_bench.specs.SetUpsSeen.{Seen, as_seen, set_ups_seen}
+use Rattle.channel_bench.specs.Words.{seed_at}
+use Rattle.channel_bench.proofs.CallerLaws.{events_by}
+use Rattle.channel_bench.proofs.CoreRun.{core_kept}
+use Rattle.channel_bench.proofs.GotOctets.{octets_in_order, seen_as}
+use Rattle.channel_bench.proofs.MatchedLaws.{matched_law_holds}
+use Rattle.channel_bench.proofs.MatchedOrder.{matched_in_order_holds}
+use Rattle.channel_bench.proofs.NotedRun.{noted_kept}
+use Rattle.channel_bench.proofs.ProgramsAsk.{AskLittle, asks_kept}
+use Rattle.channel_bench.proofs.RunOfParts.{ticks_keep}
+use Rattle.channel_bench.proofs.TimedRun.{run_in_time}
+use Rattle.channel_bench.proofs.SeenLemmas.{set_ups_law_holds}
+
+-- the windows of both stations fit
+windows : (w : BenchWords) → WindowsFit (params_of w) (params_of w)
+windows w = record {
+  of_a = ((omega arith, omega arith), (omega arith, omega arith));
+  of_b = ((omega arith, omega arith), (omega arith, omega arith));
+  halves = λ modes.
+      (record { narrow = omega arith; wide = omega arith }, record { narrow = omega arith; wide = omega arith });
+}
+
+-- the set-ups of an end, as its host program saw them
+both_maps : (set_ups : List LinkSetUp) → map set_up_of (map as_seen set_ups) ≡ map seen_as set_ups
+both_maps [] = refl
+both_maps (q ∷ set_ups) = ap (λ qs. seen_as q ∷ qs) (both_maps set_ups)
+
+saw :
+    (program : ProgramState) (set_ups : List LinkSetUp) (seen : List Seen) → set_ups_of program ≡ map set_up_of seen
+    → map as_seen set_ups ≡ seen → map seen_as set_ups ≡ set_ups_of program
+saw program set_ups seen told same = sym (told ∙ ap (map set_up_of) (sym same) ∙ both_maps set_ups)
+
+order_of :
+    (near far : RecordedEnd) (ours theirs : List SetUp) → PacketsInOrder near far → map seen_as near.set_ups ≡ ours
+    → map seen_as far.set_ups ≡ theirs → GotInOrder theirs ours
+order_of near far ours theirs order same_ours same_theirs =
+    subst (λ qs. GotInOrder qs ours) same_theirs
+    (subst (GotInOrder (map seen_as far.set_ups)) same_ours (octets_in_order near far order))
+
+-- the events of the link that a caller may have
+only_a_calls : (steps : List Step) → BAsksNothing steps → NoAskDropped the_calls steps → OnlyACalls the_calls steps
+only_a_calls [] asks joined = tt
+only_a_calls (step ∷ steps) asks joined =
+    let e = step.station in
+    let made = steps_of (link_at_end the_calls e) step in (
+      All-from_recursion (IsEventOfCaller e) made
+          (events_by e the_calls step refl asks.0
+          (recursion_from_All DropsNoAsk made joined.0)),
+      only_a_calls steps asks.1 joined.1,
+    )
+
+pub bench_law_holds : BenchLaw
+bench_law_holds w report over h =
+    let bench = over.bench in
+    let moments = bench.common.moments in
+    let steps = steps_of_run bench in
+    let config = config_of w in
+    let pairs = pairs_in moments in
+    let noted = ticks_keep w (λ (b : BenchState). IsNoted w b.common.moments (stations_of b))
+    (core_kept w (IsNoted w) (noted_kept w)) over.count bench over.ticks over.no_trouble in
+    let little = ticks_keep w (λ (b : BenchState). AskLittle b.common.moments (stations_of b))
+    (core_kept w AskLittle (asks_kept w)) over.count bench
+    over.ticks over.no_trouble in
+    let matched = (run_in_time w over.count bench over.ticks over.no_trouble).both.matched in
+    let order = matched_in_order_holds moments matched in
+    let kept =
+    matched_law_holds changes_law_holds config config (seed_at w A)
+    (seed_at w B) moments noted.run matched noted.quiet (windows w)
+    the_calls (only_a_calls steps little.asks h.dropped) in
+    let seen = set_ups_law_holds config config (seed_at w A)
+    (seed_at w B) steps pairs noted.run order.0 order.1 the_calls h.given in
+    let world = world_of the_calls pairs config.params config.params steps in
+    let at_a = saw bench.a.program world.a.end.set_ups (set_ups_seen the_calls A steps) h.seen_a seen.at_a in
+    let at_b = saw bench.b.program world.b.end.set_ups (set_ups_seen the_calls B steps) h.seen_b seen.at_b in
+    subst KeepsOrder (sym over.told) (record {
+      at_a = order_of world.a.end world.b.end (set_ups_of bench.a.program)
+          (set_ups_of bench.b.program) kept.got_a at_a at_b;
+      at_b = order_of world.b.end world.a.end (set_ups_of bench.b.program)
+          (set_ups_of bench.a.program) kept.got_b at_b at_a;
+    })

@@ -1,0 +1,228 @@
+-- What comes to pass at a station of a bench keeps both directions in order and in time.
+use Rattle.std.proofs.Common.{◌≡◌, ℕ, ◌+◌, ◌*◌, ◌≤◌, Bool, true, false, List, [], ◌∷◌, length, Option, Some, None, refl, sym, ap, ◌∙◌, subst}
+use Rattle.std.specs.Prelude.{MatchBool}
+use Rattle.std.specs.List.{AllByRecursion as Each}
+use Rattle.channel_access.specs.declared.air_tick.Sent.{Sent}
+use Rattle.frame_merge.specs.declared.candidate.Candidate.{Candidate}
+use Rattle.link_world.specs.declared.end.End.{End}
+use Rattle.link_world.specs.declared.end.End.TheVariants.{A, B}
+use Rattle.link_world.specs.World.{other}
+use Rattle.station.specs.declared.host_event.HostEvent.{HostEvent}
+use Rattle.station.specs.State.{StationState}
+use Rattle.station.specs.Ticks.{air_of}
+use Rattle.channel_bench.specs.declared.words.BenchWords.{BenchWords}
+use Rattle.channel_bench.specs.BenchOrder.{stations_of}
+use Rattle.channel_bench.specs.BenchState.{AtEnd, BenchState, Near, SideState, near, with_near}
+use Rattle.channel_bench.specs.BenchSteps.{AreHeardAt, GoesOn, IsHeardAs, IsHeardAt, IsStep, match_of, with_matched, with_stray}
+use Rattle.channel_bench.specs.BenchTick.{IsGivenPiece, with_giving}
+use Rattle.channel_bench.specs.HostProgram.{most_octets}
+use Rattle.channel_bench.specs.InFlight.{IsMatched, sent_by, steps_in}
+use Rattle.channel_bench.specs.JointRun.{Stations, state_of, with_state}
+use Rattle.channel_bench.specs.JointRun.Input.{FromHost, OffAir, OfClock}
+use Rattle.channel_bench.proofs.ChannelOrder.{Fits}
+use Rattle.channel_bench.proofs.CoreRun.{IsToldUsual, Occurs, Usual, heard_calm, input_of, state_there, state_twice}
+use Rattle.channel_bench.proofs.CoreRun.Usual.{gives, hears, ticks}
+use Rattle.channel_bench.proofs.InTime.{Both, clock_step, heard_step, host_step, step_facts, ways_after}
+use Rattle.channel_bench.proofs.RunOfParts.{IsCalm}
+use Rattle.channel_bench.proofs.SentInOrder.{InOrder, SentInTurn, clock_sends, fits_at, order_kept, sent_in_step}
+use Rattle.channel_bench.proofs.TowardsLemmas.{match_is}
+
+-- ---- at one station
+
+pub record NearHolds (end : End) (own far_pending : Option Sent) (ticks size : ℕ) (n : Near) (far : SideState)
+    (s : Stations) : Type 0 where
+  pub both : Both end own far_pending ticks n.common.moments n.side far
+  pub turn : SentInTurn n.common.moments s
+  pub at : n.side.station ≡ state_of end s
+  pub size_is : length n.side.samples ≡ size
+
+-- it holds after something came to pass there
+abbrev pub HoldsThen : End → Option Sent → Option Sent → ℕ → ℕ → Near → SideState → Stations → Type 0
+HoldsThen end own far_pending count size n far s = NearHolds end own far_pending count size n far
+    (with_state end n.side.station s)
+
+module _ (w : BenchWords) (end : End) (ticks_made size : ℕ) (far : SideState) (far_pending : Option Sent) where
+  pub near_host :
+      (own : Option Sent) (usual : Usual) (n next : Near) (s : Stations) → Occurs end usual
+      → sent_in_step (input_of end usual) n.side.station ≡ []
+      → IsMatched (input_of end usual) None (sent_by (other end) (ways_after n.common.moments))
+      → IsStep end (input_of end usual) None n next → next.common.trouble ≡ None
+      → NearHolds end own far_pending ticks_made size n far s
+      → HoldsThen end own far_pending ticks_made size next far s
+  near_host own usual n next s occurs none is_matched h calm holds = record {
+    both = host_step end (input_of end usual) own far_pending ticks_made n next far h none is_matched holds.both;
+    turn = (order_kept w).steps end usual None n next s occurs h calm holds.at holds.turn;
+    at = state_there end next.side.station s;
+    size_is = ap length (step_facts end (input_of end usual) None n next h).samples ∙ holds.size_is;
+  }
+
+  near_same : (own : Option Sent) (n next : Near) (s : Stations) → next ≡ n
+      → NearHolds end own far_pending ticks_made size n far s → HoldsThen end own far_pending ticks_made size next far s
+  near_same own n next s same holds =
+      subst (λ (x : Near). HoldsThen end own far_pending ticks_made size x far s) (sym same) (record {
+        both = holds.both;
+        turn = subst (SentInTurn n.common.moments) (sym (state_is end n.side.station s holds.at)) holds.turn;
+        at = state_there end n.side.station s;
+        size_is = holds.size_is;
+      })
+    where
+      state_is : (e : End) (state : StationState) (st : Stations) → state ≡ state_of e st → with_state e state st ≡ st
+      state_is A state st is = ap (λ x. with_state A x st) is
+      state_is B state st is = ap (λ x. with_state B x st) is
+
+  pub near_told :
+      (own : Option Sent) (may : Bool) (event : HostEvent) (n next : Near) (s : Stations) → IsToldUsual end event
+      → MatchBool may (IsStep end (FromHost event) None n next) (next ≡ n) → next.common.trouble ≡ None
+      → NearHolds end own far_pending ticks_made size n far s → HoldsThen end own far_pending ticks_made size next far s
+  near_told own true event n next s u h calm holds =
+      near_host own u.usual n next s u.occurs (ap (λ input. sent_in_step input n.side.station) (sym u.is))
+      (subst (λ input. IsMatched input None (sent_by (other end) (ways_after n.common.moments))) u.is refl)
+      (subst (λ input. IsStep end input None n next) u.is h) calm holds
+  near_told own false event n next s u h calm holds = near_same own n next s h holds
+
+  pub near_given :
+      (own : Option Sent) (accepts : Bool) (piece : Option (List ℕ)) (n next : Near) (s : Stations)
+      → ((octets : List ℕ) → piece ≡ Some octets → length octets ≤ most_octets)
+      → MatchBool accepts (IsGivenPiece end piece n next) (next ≡ n) → next.common.trouble ≡ None
+      → NearHolds end own far_pending ticks_made size n far s → HoldsThen end own far_pending ticks_made size next far s
+  near_given own true None n next s short h calm holds = near_same own n next s h holds
+  near_given own true (Some piece) n next s short h calm holds =
+      near_host own (gives piece) (with_giving piece n) next s (short piece refl) refl refl h calm
+      (record {
+        both = record {
+          here = holds.both.here;
+          there = holds.both.there;
+          matched =
+              holds.both.matched;
+        };
+        turn = holds.turn;
+        at = holds.at;
+        size_is = holds.size_is;
+      })
+  near_given own false piece n next s short h calm holds = near_same own n next s h holds
+
+  pub near_clock :
+      (busy : Bool) (n next : Near) (s : Stations) → IsStep end (OfClock busy) None n next → next.common.trouble ≡ None
+      → NearHolds end None far_pending ticks_made size n far s
+      → HoldsThen end (air_of busy n.side.station).sent far_pending ticks_made size next far s
+      × (length (air_of busy n.side.station).samples ≡ 96)
+  near_clock busy n next s h calm holds =
+      let fits = subst (λ (x : StationState). Fits x.channel.air x.channel.waiting) (sym holds.at)
+      (fits_at end (steps_in n.common.moments) s holds.turn.a holds.turn.b) in
+      let sends = clock_sends busy n.side.station fits in (
+        record {
+          both = clock_step end busy far_pending ticks_made n next far h sends.soon holds.both;
+          turn = (order_kept w).steps end (ticks busy) None n next s tt h calm holds.at holds.turn;
+          at = state_there end next.side.station s;
+          size_is = ap length (step_facts end (OfClock busy) None n next h).samples ∙ holds.size_is;
+        },
+        sends.long,
+      )
+
+  -- the frames that are heard
+  order_there : (e : End) (n : Near) (s : Stations) → SentInTurn n.common.moments s
+      → InOrder (other e) (steps_in n.common.moments) (state_of (other e) s)
+  order_there A n s turn = turn.b
+  order_there B n s turn = turn.a
+
+  near_item :
+      (own : Option Sent) (item : Candidate) (o : Option ℕ) (n next : Near) (s : Stations) → match_of item n.side ≡ o
+      → 96 * ticks_made ≤ item.end + 7 → IsHeardAs end o item.octets n next → next.common.trouble ≡ None
+      → NearHolds end own far_pending ticks_made size n far s → HoldsThen end own far_pending ticks_made size next far s
+  near_item own item None n next s is late h calm holds =
+      let stray : next.common.trouble ≡ (with_stray item.octets n).common.trouble = ap
+      (λ (x : Near). x.common.trouble) h in
+      absurd (cc)
+  near_item own item (Some number) n next s is late h calm holds = record {
+    both = heard_step end own far_pending ticks_made number item n next far (state_of (other end) s) h
+        (order_there end n s holds.turn) late
+        (match_is item n.side.matched n.side.towards number is) holds.both;
+    turn = (order_kept w).steps end (hears item.octets) (Some number)
+        (with_matched number n) next s tt h calm holds.at holds.turn;
+    at = state_there end next.side.station s;
+    size_is = ap length (step_facts end (OffAir item.octets) (Some number) (with_matched number n) next h).samples
+        ∙ holds.size_is;
+  }
+
+  pub near_heard :
+      (own : Option Sent) (items : List Candidate) (n next : Near) (s : Stations)
+      → Each (λ (item : Candidate). 96 * ticks_made ≤ item.end + 7) items → AreHeardAt end items n next
+      → next.common.trouble ≡ None
+      → NearHolds end own far_pending ticks_made size n far s → HoldsThen end own far_pending ticks_made size next far s
+  near_heard own [] n next s late h calm holds = near_same own n next s h holds
+  near_heard own (item ∷ items) n next s late h calm holds =
+      let on : (between : Near) × IsHeardAt end item n between × AreHeardAt end items between next =
+      subst (λ t. GoesOn t ((between : Near) × IsHeardAt end item n between × AreHeardAt end items between next)
+      (next ≡ n))
+      (heard_calm end (item ∷ items) n next h calm) h in
+      let one = near_item own item (match_of item n.side) n on.0 s refl late.0 on.1
+      (heard_calm end items on.0 next on.2 calm) holds in
+      subst (NearHolds end own far_pending ticks_made size next far)
+      (state_twice end on.0.side.station next.side.station s)
+      (near_heard own items on.0 next (with_state end on.0.side.station s) late.1 on.2 calm one)
+
+-- ---- the bench
+
+-- The two stations, of which each may have sent a frame in this tick that the other has not been told of, and the samples, to
+-- which this tick may have added its own.
+pub record AtBench (sounded : ℕ) (pending_a pending_b : Option Sent) (bench : BenchState) : Type 0 where
+  pub both : Both A pending_a pending_b bench.ticks bench.common.moments bench.a bench.b
+  pub turn : SentInTurn bench.common.moments (stations_of bench)
+  pub size_a : length bench.a.samples ≡ 96 * bench.ticks + sounded
+  pub size_b : length bench.b.samples ≡ 96 * bench.ticks + sounded
+
+module _ (sounded : ℕ) (pending_a pending_b : Option Sent) (before : BenchState)
+    (holds : AtBench sounded pending_a pending_b before) where
+  pub near_a : NearHolds A pending_a pending_b before.ticks (96 * before.ticks + sounded) (near A before) before.b
+      (stations_of before)
+  near_a = record { both = holds.both; turn = holds.turn; at = refl; size_is = holds.size_a }
+
+  pub near_b : NearHolds B pending_b pending_a before.ticks (96 * before.ticks + sounded) (near B before) before.a
+      (stations_of before)
+  near_b = record {
+    both = record { here = holds.both.there; there = holds.both.here; matched = holds.both.matched };
+    turn = holds.turn;
+    at = refl;
+    size_is = holds.size_b;
+  }
+
+  pub from_a :
+      (own : Option Sent) (next : Near) (after : BenchState) → after ≡ with_near A next before
+      → HoldsThen A own pending_b before.ticks (96 * before.ticks + sounded) next before.b (stations_of before)
+      → AtBench sounded own pending_b after
+  from_a own next after is h =
+      subst (AtBench sounded own pending_b) (sym is)
+      (record { both = h.both; turn = h.turn; size_a = h.size_is; size_b = holds.size_b })
+
+  pub from_b :
+      (own : Option Sent) (next : Near) (after : BenchState) → after ≡ with_near B next before
+      → HoldsThen B own pending_a before.ticks (96 * before.ticks + sounded) next before.a (stations_of before)
+      → AtBench sounded pending_a own after
+  from_b own next after is h =
+      subst (AtBench sounded pending_a own) (sym is) (record {
+        both = record { here = h.both.there; there = h.both.here; matched = h.both.matched };
+        turn = h.turn;
+        size_a = holds.size_a;
+        size_b = h.size_is;
+      })
+
+-- what a part keeps at a station
+pub part_at :
+    (end : End) (sounded : ℕ) (pending_a pending_b : Option Sent) (part : Near → Near → Type 0)
+    (before after : BenchState)
+    → ((own far_pending : Option Sent) (size : ℕ) (n next : Near) (far : SideState) (s : Stations) → part n next
+    → (n.side.samples ≡ (near end before).side.samples) → next.common.trouble ≡ None
+    → NearHolds end own far_pending before.ticks size n far s
+    → HoldsThen end own far_pending before.ticks size next far s)
+    → AtEnd end part before after → IsCalm after → AtBench sounded pending_a pending_b before
+    → AtBench sounded pending_a pending_b after
+part_at A sounded pending_a pending_b part before after keep h calm holds =
+    from_a sounded pending_a pending_b before holds pending_a h.next after h.is
+    (keep pending_a pending_b (96 * before.ticks + sounded) (near A before) h.next before.b
+    (stations_of before) h.step refl
+    (sym (ap (λ (b : BenchState). b.common.trouble) h.is) ∙ calm) (near_a sounded pending_a pending_b before holds))
+part_at B sounded pending_a pending_b part before after keep h calm holds =
+    from_b sounded pending_a pending_b before holds pending_b h.next after h.is
+    (keep pending_b pending_a (96 * before.ticks + sounded) (near B before) h.next before.a
+    (stations_of before) h.step refl
+    (sym (ap (λ (b : BenchState). b.common.trouble) h.is) ∙ calm) (near_b sounded pending_a pending_b before holds))

@@ -1,0 +1,10 @@
+-- The fault tells of the same end of the run.
+use Rattle.std.proofs.Common.{subst}
+use Rattle.channel_bench.specs.BenchRun.{IsEndedBy}
+use Rattle.channel_bench.proofs.benching.fault_of.Goals as goal
+
+pub returns-in-Stray : goal.returns-in-Stray
+returns-in-Stray c = λ w h. subst (λ t. IsEndedBy w t) c.in-Stray.is h
+
+pub returns-in-Unquiet : goal.returns-in-Unquiet
+returns-in-Unquiet c = λ w h. subst (λ t. IsEndedBy w t) c.in-Unquiet.is h

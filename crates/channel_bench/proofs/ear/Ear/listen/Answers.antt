@@ -1,0 +1,40 @@
+-- The samples are heard, and the marks move on.
+use Rattle.std.proofs.Common.{◌≡◌, ◌^◌, ◌<◌, ◌≤◌, ◌++◌, length, replicate, refl, sym, ap, ◌∙◌, subst, arith, length-append}
+use Rattle.std.specs.Prelude.{All}
+use Rattle.std.proofs.lemmas.List.Elements.{All-replicate}
+use Rattle.channel_bench.specs.Sounding.{mark_of}
+use Rattle.channel_bench.proofs.EarLemmas.{ear_more, ready_lengths}
+use Rattle.channel_bench.proofs.ear.Ear.listen.Goals as goal
+
+pub mark_all-requires : goal.mark_all-requires
+mark_all-requires c =
+    let x = c.requires.stands.0 in
+    let h = c.requires.stands.1 in
+    let mark = c.mark_after-mark.result in
+    let past : mark_of x ≤ mark = omega (arith, h.count, c.mark_after-mark.ensures, c.requires.samples) in
+    record {
+      position = subst (All (λ m. m ≤ mark)) (sym (c.put_all.ensures.marks ∙ h.marks))
+          (All-replicate (λ m. m ≤ mark) 8 (mark_of x) past);
+    }
+
+pub returns-clause-heard : goal.returns-clause-heard
+returns-clause-heard c = λ x h.
+    let y = c.args.samples.now in
+    let size = length-append x y in
+    let room : length (x ++ y) < 2 ^ 48 = omega
+    (arith, size, h.count, c.if-self-ge-MOST_SAMPLES.false, c.requires.samples) in
+    let mark : c.mark_after-mark.result ≡ mark_of (x ++ y) = omega (arith, size, h.count, c.mark_after-mark.ensures) in
+    let eight = ap length (c.put_all.ensures.marks ∙ h.marks) in
+    ear_more x y c.args.self.now _ c.put_all.new.merger c.mark_all.new.self c.in_ok-found.found.items
+    c.in_ok-ready.ready.items room
+    (c.in_ok-found.ensures.found x) c.feed.ensures.flags refl c.in_ok-put_all.ensures.stands_for
+    c.mark_all.ensures.stands_for
+    (c.mark_all.ensures.marks ∙ ap (λ n. replicate n c.mark_after-mark.result) eight ∙ ap (replicate 8) mark)
+    c.in_ok-ready.ensures.ready c.take_ready.ensures.marks h
+
+pub returns-clause-lengths : goal.returns-clause-lengths
+returns-clause-lengths c =
+    let x = c.requires.stands.0 in
+    let y = c.args.samples.now in
+    let made = returns-clause-heard c x c.requires.stands.1 in
+    ready_lengths (mark_of x) (mark_of (x ++ y)) (x ++ y) c.in_ok-ready.ready.items made.1

@@ -1,0 +1,9 @@
+use Rattle.std.proofs.Common.{◌≡◌, length}
+use Rattle.channel_bench.specs.InFlight.{control_octet}
+use Rattle.channel_bench.proofs.flight.control_octet.Given as goal
+
+abbrev pub invariant-loop-octet : goal.invariant-loop-octet
+invariant-loop-octet l = control_octet l.rest ≡ control_octet l.octets
+
+abbrev pub decreases-loop-octet : goal.decreases-loop-octet
+decreases-loop-octet l = length l.rest

@@ -1,0 +1,13 @@
+use Rattle.std.specs.Prelude.{◌≡◌, ◌++◌, ℕ, List, take}
+use Rattle.agwpe_port.specs.Held.{StandsFor}
+use Rattle.agwpe_port.specs.Messages.{messages_in}
+use Rattle.channel_bench.proofs.reading.read_messages.Given as goal
+
+-- the octets so far are read, and gave these messages
+abbrev pub invariant-loop-octet : goal.invariant-loop-octet
+invariant-loop-octet l = record {
+  stands_for : (stream : List ℕ) → StandsFor l.fn.reader stream
+      → StandsFor l.reader (stream ++ take l.octet-index l.octets);
+  messages : (stream : List ℕ) → StandsFor l.fn.reader stream
+      → messages_in (stream ++ take l.octet-index l.octets) ≡ messages_in stream ++ l.messages.items;
+}

@@ -1,0 +1,33 @@
+use Rattle.std.proofs.Common.{◌∷◌, [], subst}
+use Rattle.station.specs.declared.host_event.HostEvent.TheVariants.{Joined, Bytes}
+use Rattle.station.specs.declared.host_event.PortKind.TheVariants.{Agw}
+use Rattle.channel_bench.specs.BenchState.{AtEnd}
+use Rattle.channel_bench.specs.BenchSteps.{IsTold}
+use Rattle.channel_bench.specs.BenchTick.{joins}
+use Rattle.channel_bench.specs.BenchTick.Part.{Tells}
+use Rattle.channel_bench.specs.HeldBench.{Unless}
+use Rattle.channel_bench.specs.HostProgram.{register_octets}
+use Rattle.channel_bench.proofs.PartLemmas.{parts_cons, parts_one}
+use Rattle.channel_bench.proofs.run.Run.join_program.Goals as goal
+
+pub join-requires : goal.join-requires
+join-requires c = c.requires
+
+pub say-requires-clause-stands : goal.say-requires-clause-stands
+say-requires-clause-stands c =
+    let one = c.in_ok-join.ensures.joined c.requires.0 c.requires.1 c.requires.2 in
+    (c.requires.0, one.0, one.2)
+
+pub returns-clause-joined : goal.returns-clause-joined
+unfolding joins
+returns-clause-joined c = λ w bench h.
+    let end = c.args.end in
+    let one = c.in_ok-join.ensures.joined w bench h in
+    let two = c.in_ok-say.ensures.said w one.0 one.2 in
+    let said = subst (λ o. Unless (AtEnd end (IsTold end (Bytes 1 o))) one.0 two.0)
+    c.in_ok-octets.ensures.spelled two.1 in (
+      two.0,
+      parts_cons w (Tells end (Joined 1 Agw)) (Tells end (Bytes 1 (register_octets end)) ∷ []) bench one.0 two.0 one.1
+          (parts_one w (Tells end (Bytes 1 (register_octets end))) one.0 two.0 said),
+      two.2,
+    )

@@ -1,0 +1,17 @@
+-- What the run stands for is told.
+use Rattle.std.proofs.Common.{◌∙◌, ap}
+use Rattle.channel_bench.specs.HostProgram.{set_ups_of}
+use Rattle.channel_bench.proofs.run.Run.report.Goals as goal
+
+pub returns : goal.returns
+returns c = λ w bench h.
+    let a = c.in_ok-of_a.ensures ∙ ap set_ups_of h.a.program in
+    let b = c.in_ok-of_b.ensures ∙ ap set_ups_of h.b.program in
+    λ i. record {
+      ticks = h.ticks i;
+      transmissions = h.shared.transmissions i;
+      lost = h.shared.lost i;
+      a = a i;
+      b = b
+          i;
+    }

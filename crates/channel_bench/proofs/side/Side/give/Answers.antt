@@ -1,0 +1,59 @@
+-- The next piece is given if the station takes it, and there is one.
+use Rattle.std.proofs.Common.{◌≡◌, List, [], ℕ, Some, None, refl, ap, ◌∙◌, subst}
+use Rattle.station.specs.declared.host_event.HostEvent.TheVariants.{Bytes}
+use Rattle.channel_bench.specs.BenchSteps.{IsStep}
+use Rattle.channel_bench.specs.BenchTick.{with_giving}
+use Rattle.channel_bench.specs.HostProgram.{data_octets}
+use Rattle.channel_bench.specs.JointRun.Input.{FromHost}
+use Rattle.channel_bench.proofs.GiveLemmas.{given_no, given_none, given_yes, piece_is, stands_giving}
+use Rattle.channel_bench.proofs.side.Side.give.Goals as goal
+
+pub bring-requires : goal.bring-requires
+bring-requires c =
+    let h = c.requires in
+    c.accepts.ensures.admitted c.in_ok-octets.octets c.if-not-accepts.false
+    c.in_ok-octets.ensures.most h.0 h.1.side h.2.side_is
+
+pub returns-then-not-accepts : goal.returns-then-not-accepts
+returns-then-not-accepts c = λ end w is n h none. (
+  n,
+  given_no w end n n c.accepts.result
+      (c.accepts.ensures.accepts end n.side [] h.side_is) c.if-not-accepts.true,
+  h,
+)
+
+pub returns-in_default : goal.returns-in_default
+returns-in_default c = λ end w is n h none. (
+  n,
+  given_none w end n n c.accepts.result (c.accepts.ensures.accepts end n.side [] h.side_is) c.if-not-accepts.false
+      (piece_is w end n c.args.self.now.program c.args.text.now None is h.side_is.program c.in_default.ensures.piece),
+  h,
+)
+
+pub returns : goal.returns
+returns c = λ end w is n h none.
+    let piece : List ℕ = c.in-Some.piece.now in
+    let given = stands_giving end c.args.self.now _ c.args.shared.now n piece h
+    (record {
+      end = refl;
+      station = refl;
+      there = refl;
+      reader = refl;
+      ear = refl;
+      towards = refl;
+      matched = refl;
+      air = refl;
+      silenced = refl;
+    })
+    c.in_ok-give.ensures in
+    let made = c.in_ok-bring.ensures end (with_giving piece n) given none in
+    let spelled : c.in_ok-octets.octets ≡ data_octets end piece = c.in_ok-octets.ensures.spelled
+    ∙ ap (λ e. data_octets e piece) h.side_is.end_is in (
+      made.0,
+      given_yes w end n made.0 c.accepts.result
+          (c.accepts.ensures.accepts end n.side [] h.side_is) piece c.if-not-accepts.false
+          (piece_is w end n c.args.self.now.program c.args.text.now
+          (Some piece) is h.side_is.program c.in-Some.ensures.piece)
+          (subst (λ o. IsStep end (FromHost (Bytes 1 o)) None (with_giving piece n) made.0) spelled made.1),
+      made.2,
+    )

@@ -1,0 +1,110 @@
+//! What a station hears of the samples that reach it.
+ghost use Rattle.std.specs.Prelude.{◌≡◌, ◌+◌, ◌-◌, ◌<◌, ◌≤◌, ◌^◌, ◌↔◌, ℕ, ℤ, List, [], ◌++◌, length, IfOk, OnOk, IsTrue};
+ghost use Rattle.std.specs.List.{All};
+ghost use Rattle.channel_access.specs.Waiting.{HasFrameLength};
+ghost use Rattle.frame_merge.specs.declared.candidate.Candidate.{Candidate};
+ghost use Rattle.frame_merge.specs.Held.{StandsFor as MergerStandsFor};
+ghost use Rattle.slicer_bank.specs.Busy.{HearsCarrier};
+ghost use Rattle.slicer_bank.specs.MergedItems.{AreMergedBetween};
+ghost use Rattle.slicer_bank.specs.Merging.{CanBePut};
+ghost use Rattle.channel_bench.specs.Sounding.{mark_of};
+
+use frame_merge::{Candidate, Merger};
+use slicer_bank::Bank;
+use std::alloc::Global;
+use tnc_base::OutOfMemory;
+
+/// The lanes of a bank.
+const LANES: u8 = 8;
+
+/// How far behind the samples the marks of the lanes stand.
+const BEHIND: u64 = 7;
+
+/// The most samples before a block of a tick.
+const MOST_SAMPLES: u64 = 1 << 47;
+
+/// A bank of slicers, and a merger of what they hear.
+#[derive(Drop)]
+pub(crate) struct Ear {
+    bank: Bank,
+    merger: Merger,
+    /// How many samples it has heard.
+    count: u64,
+}
+
+impl Ear {
+    ghost use Rattle.channel_bench.specs.HeldBench.{EarStandsFor};
+
+    /// Nothing is heard.
+    pub(crate) fn new(alloc: Global) -> Result<Ear, OutOfMemory>
+        ensures { IfOk result (λ ear. EarStandsFor ear []) }
+    {
+        let bank = Bank::new(alloc)?;
+        let merger = Merger::new(alloc, LANES)?;
+        Ok(Ear {
+            bank,
+            merger,
+            count: 0,
+        })
+    }
+
+    /// Another station is heard.
+    pub(crate) fn busy(&self) -> bool
+        ensures { (x : List ℤ) → EarStandsFor self.now x → (IsTrue result ↔ HearsCarrier 1 x) }
+    {
+        self.bank.busy()
+    }
+
+    /// Where the marks of the lanes stand.
+    pub(crate) fn mark(&self) -> u64
+        ensures { (x : List ℤ) → EarStandsFor self.now x → result ≡ mark_of x }
+    {
+        mark_after(self.count)
+    }
+
+    /// Hears samples, and gives the frames that are ready with them. A bank takes fewer than 2^48 samples: past them
+    /// memory is wanted.
+    pub(crate) fn listen(&mut self, samples: &[i16]) -> Result<Vec<Candidate>, OutOfMemory>
+        requires stands { (x : List ℤ) × EarStandsFor self.old x }
+        requires samples { length samples.now ≡ 96 }
+        ensures heard { (x : List ℤ) → EarStandsFor self.old x → IfOk result (λ items.
+            EarStandsFor self.new (x ++ samples.now)
+            × AreMergedBetween (mark_of x) (mark_of (x ++ samples.now)) (x ++ samples.now) items.items) }
+        ensures lengths { IfOk result (λ items. All (λ item. HasFrameLength item.octets) items.items) }
+    {
+        if self.count >= MOST_SAMPLES {
+            return Err(OutOfMemory);
+        }
+        let found = self.bank.feed(samples)?;
+        put_all(&mut self.merger, found)?;
+        self.count += samples.len() as u64;
+        let mark = mark_after(self.count);
+        self.merger.mark_all(mark);
+        let ready = self.merger.take_ready()?;
+        Ok(ready)
+    }
+}
+
+/// Where the marks stand after so many samples.
+fn mark_after(count: u64) -> u64
+    ensures { result ≡ count - 7 }
+{
+    count.saturating_sub(BEHIND)
+}
+
+/// Puts candidates into a merger, in their order.
+fn put_all(merger: &mut Merger, items: Vec<Candidate>) -> Result<(), OutOfMemory>
+    requires marks { length merger.old.marks ≡ 8 }
+    requires items { All CanBePut items.items }
+    ensures stands_for { OnOk result ((puts given : List Candidate) → MergerStandsFor merger.old puts given
+        → MergerStandsFor merger.new (puts ++ items.items) given) }
+    ensures marks { merger.new.marks ≡ merger.old.marks }
+{
+    for item in items {
+        // No item is late, so want of memory is the one refusal.
+        let Ok(()) = merger.put(item) else {
+            return Err(OutOfMemory);
+        };
+    }
+    Ok(())
+}

@@ -1,0 +1,424 @@
+//! A station of the bench, with its host program and what it hears.
+ghost use Rattle.std.specs.Prelude.{◌≡◌, ◌≢◌, ◌==◌, not, filter, ◌+◌, ◌*◌, ◌<◌, ◌≤◌, ◌^◌, ◌↔◌, ℕ, IsTrue, List, [], ◌++◌, length, All, Any, Some, None, IfOk, OnOk};
+ghost use Rattle.station.specs.Held.{without_ids};
+ghost use Rattle.std.specs.Bool.{IsFalse};
+ghost use Rattle.channel_access.specs.Waiting.{HasFrameLength};
+ghost use Rattle.station.specs.declared.host_event.HostEvent.{HostEvent};
+ghost use Rattle.station.specs.declared.host_event.PortKind.{PortKind};
+ghost use Rattle.channel_bench.specs.declared.words.BenchWords.{BenchWords};
+ghost use Rattle.channel_bench.specs.JointRun.Input.{FromHost, OffAir};
+ghost use Rattle.channel_bench.specs.BenchState.{SideState, Near, new_side, config_of};
+ghost use Rattle.channel_bench.specs.BenchSteps.{GoesOn, MayCome, IsStep, IsTold, IsTicking, IsHeardAt, AreHeardAt, told_piece, told_pieces, first_unquiet, trouble_of, with_matched};
+ghost use Rattle.channel_bench.specs.BenchTick.{AreReady, IsGiven};
+ghost use Rattle.channel_bench.specs.Sounding.{passed_below, sent_in, with_loss, with_samples};
+ghost use Rattle.channel_bench.specs.HostProgram.{set_ups_of};
+ghost use Rattle.channel_bench.specs.Words.{seed_at, text_at};
+
+use crate::ear::Ear;
+use crate::flight::is_ask;
+use crate::matching::SentAt;
+use crate::program::Program;
+use crate::reading::read_messages;
+use crate::report::SetUp;
+use crate::requests::data;
+use crate::shared::Shared;
+use agwpe_port::AgwIn;
+use channel_access::{AirTick, Sent};
+use frame_merge::Candidate;
+use link_world::End;
+use station::{Config, HostEvent, HostOut, Piece, PortKind, Station, TickOut};
+use std::alloc::Global;
+use tnc_base::{Octets, OutOfMemory};
+
+/// The connection of the host program.
+pub(crate) const PROGRAM: u32 = 1;
+
+/// The samples of a tick.
+const TICK: u64 = 96;
+
+/// One of the two stations.
+#[derive(Drop)]
+pub struct Side {
+    alloc: Global,
+    end: End,
+    station: Station,
+    /// The connections that are there.
+    there: Vec<u32>,
+    reader: AgwIn,
+    pub(crate) program: Program,
+    ear: Ear,
+    /// The frames that were sent towards it.
+    towards: Vec<SentAt>,
+    /// One past the number of the frame that was matched last.
+    matched: usize,
+    /// What it sends in this tick.
+    pub(crate) air: AirTick,
+    /// The transmission that it sends is lost.
+    pub(crate) silenced: bool,
+    ghost within: { matched ≤ length towards.items },
+}
+
+impl Side {
+    ghost use Rattle.station.specs.Held.{IsAdmitted};
+    ghost use Rattle.channel_bench.specs.HeldBench.{StandsForSide, StandsForWays, StandsForNear, MovesNear};
+    ghost use Rattle.channel_bench.specs.InFlight.{BothWays, queueing_all};
+
+    /// A station to which nothing came yet.
+    pub(crate) fn new(
+        alloc: Global,
+        end: End,
+        config: Config,
+        seed: u64,
+    ) -> Result<Side, OutOfMemory>
+        ensures { (w : BenchWords) → config ≡ config_of w → seed ≡ seed_at w end
+            → IfOk result (λ side. StandsForSide end side (new_side w end)) }
+    {
+        // The windows fit, so want of memory is the one refusal.
+        let Ok(station) = Station::new(alloc, config, seed) else {
+            return Err(OutOfMemory);
+        };
+        let ear = Ear::new(alloc)?;
+        Ok(Side {
+            alloc,
+            end,
+            station,
+            there: Vec::new(alloc),
+            reader: AgwIn::new(alloc),
+            program: Program::new(alloc),
+            ear,
+            towards: Vec::new(alloc),
+            matched: 0,
+            air: AirTick {
+                samples: [0; 96],
+                began: false,
+                sent: None,
+            },
+            silenced: false,
+        })
+    }
+
+    /// The connection is there, and the station takes octets of it.
+    pub(crate) fn accepts(&self, id: u32) -> bool
+        ensures accepts { (end : End) (side : SideState) (octets : List ℕ) → StandsForSide end self.now side
+            → (IsTrue result ↔ MayCome (HostEvent.Bytes id octets) side) }
+        ensures admitted { (octets : List ℕ) → IsTrue result → length octets ≤ 4096
+            → (end : End) (side : SideState) → StandsForSide end self.now side
+            → IsAdmitted (HostEvent.Bytes id octets) self.now.station }
+    {
+        is_among(&self.there, id) && self.station.accepts(id)
+    }
+
+    /// No connection of the id is there.
+    fn is_new(&self, id: u32) -> bool
+        ensures may { (end : End) (side : SideState) (kind : PortKind) → StandsForSide end self.now side
+            → (IsTrue result ↔ MayCome (HostEvent.Joined id kind) side) }
+        ensures admitted { IsTrue result → (end : End) (side : SideState) (kind : PortKind)
+            → StandsForSide end self.now side → IsAdmitted (HostEvent.Joined id kind) self.now.station }
+    {
+        !is_among(&self.there, id)
+    }
+
+    /// A connection joins, if none of its id is there.
+    pub(crate) fn join(
+        &mut self,
+        shared: &mut Shared,
+        id: u32,
+        kind: PortKind,
+    ) -> Result<(), OutOfMemory>
+        requires { (end : End) × (n : Near) × StandsForNear end self.old shared.old n }
+        ensures { (end : End) → OnOk result
+            (MovesNear end (IsTold end (HostEvent.Joined id kind)) self.old self.new shared.old shared.new) }
+    {
+        if !self.is_new(id) {
+            return Ok(());
+        }
+        self.enter(shared, id, kind)?;
+        Ok(())
+    }
+
+    /// A connection joins under a new id.
+    fn enter(&mut self, shared: &mut Shared, id: u32, kind: PortKind) -> Result<(), OutOfMemory>
+        requires { IsAdmitted (HostEvent.Joined id kind) self.old.station }
+        ensures { (end : End) (n : Near) → StandsForNear end self.old shared.old n → n.common.trouble ≡ None
+            → OnOk result ((next : Near) × IsStep end (FromHost (HostEvent.Joined id kind)) None n next
+            × StandsForNear end self.new shared.new next) }
+    {
+        self.there.push(id)?;
+        let out = self.station.host(HostEvent::Joined { id, kind })?;
+        leave_all(&mut self.there, &out.closed);
+        self.settle(shared, false, &out)?;
+        Ok(())
+    }
+
+    /// A connection says octets, if the station takes them.
+    pub(crate) fn say(
+        &mut self,
+        shared: &mut Shared,
+        id: u32,
+        octets: Octets,
+    ) -> Result<(), OutOfMemory>
+        requires stands { (end : End) × (n : Near) × StandsForNear end self.old shared.old n }
+        requires most { length octets ≤ 4096 }
+        ensures { (end : End) → OnOk result
+            (MovesNear end (IsTold end (HostEvent.Bytes id octets)) self.old self.new shared.old shared.new) }
+    {
+        if !self.accepts(id) {
+            return Ok(());
+        }
+        self.bring(shared, id, octets)?;
+        Ok(())
+    }
+
+    /// The host program gives the next piece of a text, if the station takes it.
+    pub(crate) fn give(&mut self, shared: &mut Shared, text: &[u8]) -> Result<(), OutOfMemory>
+        requires { (end : End) × (n : Near) × StandsForNear end self.old shared.old n }
+        ensures { (end : End) (w : BenchWords) → text.now ≡ text_at w end
+            → OnOk result (MovesNear end (IsGiven w end) self.old self.new shared.old shared.new) }
+    {
+        if !self.accepts(PROGRAM) {
+            return Ok(());
+        }
+        let Some(piece) = self.program.next_piece(text) else {
+            return Ok(());
+        };
+        let octets = data(self.alloc, self.end, piece)?;
+        self.program.give(piece)?;
+        self.bring(shared, PROGRAM, octets)?;
+        Ok(())
+    }
+
+    /// A connection says octets that the station takes.
+    pub(crate) fn bring(
+        &mut self,
+        shared: &mut Shared,
+        id: u32,
+        octets: Octets,
+    ) -> Result<(), OutOfMemory>
+        requires { IsAdmitted (HostEvent.Bytes id octets) self.old.station }
+        ensures { (end : End) (n : Near) → StandsForNear end self.old shared.old n → n.common.trouble ≡ None
+            → OnOk result ((next : Near) × IsStep end (FromHost (HostEvent.Bytes id octets)) None n next
+            × StandsForNear end self.new shared.new next) }
+    {
+        let out = self.station.host(HostEvent::Bytes { id, octets })?;
+        leave_all(&mut self.there, &out.closed);
+        self.settle(shared, false, &out)?;
+        Ok(())
+    }
+
+    /// The station ticks.
+    pub(crate) fn tick(&mut self, shared: &mut Shared) -> Result<(), OutOfMemory>
+        ensures { (end : End) (n : Near) → StandsForNear end self.old shared.old n → n.common.trouble ≡ None
+            → OnOk result ((next : Near) × IsTicking end n next × StandsForNear end self.new shared.new next) }
+    {
+        let busy = self.ear.busy();
+        let TickOut { air, out } = self.station.tick(busy)?;
+        self.settle(shared, false, &out)?;
+        self.air = air;
+        Ok(())
+    }
+
+    /// A transmission that begins draws a word, and may be lost.
+    pub(crate) fn draw_loss(&mut self, shared: &mut Shared, loss: u8) -> Result<(), OutOfMemory>
+        ensures { (end : End) (n : Near) → StandsForNear end self.old shared.old n
+            → OnOk result (StandsForNear end self.new shared.new (with_loss loss n)) }
+    {
+        if !self.air.began {
+            return Ok(());
+        }
+        self.silenced = shared.draw_loss(loss)?;
+        Ok(())
+    }
+
+    /// Samples of a tick reach it, and the frame whose sending has ended at the sender. Gives the frames that are
+    /// ready.
+    pub(crate) fn take_in(
+        &mut self,
+        tick: u64,
+        sender: &Side,
+        samples: &[i16],
+    ) -> Result<Vec<Candidate>, OutOfMemory>
+        requires stands { (end : End) × (side : SideState) × StandsForSide end self.old side }
+        requires tick { tick < 2 ^ 32 }
+        requires samples { length samples.now ≡ 96 }
+        ensures heard { (end : End) (side : SideState) → StandsForSide end self.old side → IfOk result (λ items.
+            StandsForSide end self.new (with_samples samples.now (sent_in tick sender.now.air.sent) side)
+            × AreReady (side.samples ++ samples.now) items.items) }
+        ensures lengths { IfOk result (λ items. All (λ item. HasFrameLength item.octets) items.items) }
+    {
+        note_sent(self.alloc, &mut self.towards, tick, &sender.air.sent)?;
+        let items = self.ear.listen(samples)?;
+        Ok(items)
+    }
+
+    /// The station hears the frames that are ready, until something ends the run.
+    pub(crate) fn hear_all(
+        &mut self,
+        shared: &mut Shared,
+        items: &[Candidate],
+    ) -> Result<(), OutOfMemory>
+        requires { All (λ item. HasFrameLength item.octets) items.now }
+        ensures { (end : End) (n : Near) → StandsForNear end self.old shared.old n
+            → OnOk result ((next : Near) × AreHeardAt end items.now n next
+            × StandsForNear end self.new shared.new next) }
+    {
+        for item in items {
+            self.hear(shared, item)?;
+        }
+        Ok(())
+    }
+
+    /// The station hears a frame that matches one that was sent, unless something has ended the run.
+    fn hear(&mut self, shared: &mut Shared, item: &Candidate) -> Result<(), OutOfMemory>
+        requires { HasFrameLength item.now.octets }
+        ensures { (end : End) (n : Near) → StandsForNear end self.old shared.old n
+            → OnOk result ((next : Near) × GoesOn n.common.trouble (IsHeardAt end item.now n next) (next ≡ n)
+            × StandsForNear end self.new shared.new next) }
+    {
+        if shared.has_ended() {
+            return Ok(());
+        }
+        let Some(place) = SentAt::first_match(&self.towards[self.matched..], item) else {
+            shared.end_by_stray(self.alloc, item.octets.as_slice())?;
+            return Ok(());
+        };
+        let number = self.matched + place;
+        self.hear_sent(shared, number, item.octets.as_slice())?;
+        Ok(())
+    }
+
+    /// The station hears the frame of a number.
+    fn hear_sent(
+        &mut self,
+        shared: &mut Shared,
+        number: usize,
+        octets: &[u8],
+    ) -> Result<(), OutOfMemory>
+        requires length { HasFrameLength octets.now }
+        requires number { number < length self.old.towards.items }
+        ensures { (end : End) (n : Near) → StandsForNear end self.old shared.old n → n.common.trouble ≡ None
+            → OnOk result ((next : Near) × IsStep end (OffAir octets.now) (Some number) (with_matched number n) next
+            × StandsForNear end self.new shared.new next) }
+    {
+        self.matched = number + 1;
+        shared.flight.hear(self.end, number);
+        let out = self.station.heard(octets)?;
+        self.settle(shared, is_ask(octets), &out)?;
+        Ok(())
+    }
+
+    /// One past the last frame towards it that is in flight no longer.
+    pub(crate) fn passed_below(&self) -> usize
+        ensures { (end : End) (side : SideState) → StandsForSide end self.now side → result ≡ passed_below side }
+    {
+        self.matched + SentAt::count_passed(&self.towards[self.matched..], self.ear.mark())
+    }
+
+    /// The set-ups of the host program, in order.
+    pub(crate) fn into_set_ups(self) -> Result<Vec<SetUp>, OutOfMemory>
+        ensures { IfOk result (λ set_ups. set_ups.items ≡ set_ups_of self.program) }
+    {
+        let Side { program, .. } = self;
+        program.into_set_ups()
+    }
+
+    /// What a step of the station gave: the host program is told, and frames of links join the queue.
+    fn settle(
+        &mut self,
+        shared: &mut Shared,
+        on_ask: bool,
+        out: &HostOut,
+    ) -> Result<(), OutOfMemory>
+        ensures side { (end : End) (side : SideState) → StandsForSide end self.old side
+            → OnOk result (StandsForSide end self.new (told_pieces out.now.pieces side)) }
+        ensures flight { (ways : BothWays) → StandsForWays shared.old.flight ways
+            → OnOk result (StandsForWays shared.new.flight (queueing_all self.old.end on_ask out.now.queued ways)) }
+        ensures trouble { (ways : BothWays) → StandsForWays shared.old.flight ways → shared.old.trouble ≡ None
+            → OnOk result (shared.new.trouble ≡ trouble_of (first_unquiet self.old.end on_ask out.now.queued ways)) }
+        ensures rest { (shared.new.draws ≡ shared.old.draws) × (shared.new.transmissions ≡ shared.old.transmissions)
+            × (shared.new.lost ≡ shared.old.lost) }
+    {
+        self.tell(&out.pieces)?;
+        shared.queue_all(self.end, on_ask, &out.queued)?;
+        Ok(())
+    }
+
+    /// The host program is told pieces, one after another.
+    fn tell(&mut self, pieces: &[Piece]) -> Result<(), OutOfMemory>
+        ensures told { (end : End) (side : SideState) → StandsForSide end self.old side
+            → OnOk result (StandsForSide end self.new (told_pieces pieces.now side)) }
+        ensures end { self.new.end ≡ self.old.end }
+    {
+        for piece in pieces {
+            self.take(piece)?;
+        }
+        Ok(())
+    }
+
+    /// A piece for a connection. What others than the host program are sent is dropped.
+    fn take(&mut self, piece: &Piece) -> Result<(), OutOfMemory>
+        ensures told { (end : End) (side : SideState) → StandsForSide end self.old side
+            → OnOk result (StandsForSide end self.new (told_piece piece.now side)) }
+        ensures end { self.new.end ≡ self.old.end }
+    {
+        if piece.id != PROGRAM {
+            return Ok(());
+        }
+        let messages = read_messages(self.alloc, &mut self.reader, piece.octets.as_slice())?;
+        self.program.hear_all(&messages)?;
+        Ok(())
+    }
+}
+
+/// Notes a frame whose sending has ended in a tick, if one has.
+fn note_sent(
+    alloc: Global,
+    towards: &mut Vec<SentAt>,
+    tick: u64,
+    sent: &Option<Sent>,
+) -> Result<(), OutOfMemory>
+    requires { tick < 2 ^ 32 }
+    ensures noted { OnOk result (towards.new.items ≡ towards.old.items ++ sent_in tick sent.now) }
+    ensures kept { length towards.old.items ≤ length towards.new.items }
+{
+    match sent {
+        Some(sent) => {
+            let octets = Octets::from_slice(alloc, sent.octets.as_slice())?;
+            let end = end_of(tick, sent.after);
+            towards.push(SentAt { octets, end })?;
+            Ok(())
+        }
+        None => Ok(()),
+    }
+}
+
+/// The true end of a frame, so many samples after the beginning of a tick.
+fn end_of(tick: u64, after: u8) -> u64
+    requires { tick < 2 ^ 32 }
+    ensures { result ≡ 96 * tick + after }
+{
+    TICK * tick + u64::from(after)
+}
+
+/// The id is one of these.
+fn is_among(ids: &[u32], id: u32) -> bool
+    ensures some { IsTrue result ↔ Any (λ other. other ≡ id) ids.now }
+    ensures none { IsFalse result ↔ All (λ other. other ≢ id) ids.now }
+{
+    ids.iter().any(|other| *other == id)
+}
+
+/// The connections that are closed are there no longer.
+fn leave_all(there: &mut Vec<u32>, closed: &[u32])
+    ensures { there.new.items ≡ without_ids closed.now there.old.items }
+{
+    for id in closed {
+        leave(there, *id);
+    }
+}
+
+/// The connection is there no longer.
+fn leave(there: &mut Vec<u32>, id: u32)
+    ensures { there.new.items ≡ filter (λ other. not (other == id)) there.old.items }
+{
+    there.retain(|other| *other != id);
+}
