@@ -19,6 +19,8 @@ use Rattle.nrzi_bits.specs.Line.{line}
 use Rattle.hdlc_framer.specs.Body.{body}
 use Rattle.afsk_modulator.specs.Transmission.{transmission}
 use Rattle.afsk_modulator.specs.Level.{at_level, sample_at}
+use Rattle.hf_modem.specs.Signal.{hf_signal}
+use Rattle.hf_modem.proofs.LoudnessLemmas.{within-hf_signal}
 use Rattle.afsk_modulator.specs.Signal.{Transmission, samples_of as samples_at, signal, signal_at}
 use Rattle.afsk_modulator.proofs.LevelLemmas.{unsigned_abs-sample_at}
 use Rattle.wav_file.specs.declared.rates.Rates.{Rates}
@@ -117,3 +119,8 @@ unfolding signal_at at_level
 signal_fits level sent most = All-map IsSample (sample_at level) (signal sent) (λ k d below.
     let quiet = unsigned_abs-sample_at level (get_or (signal sent) k d) (signal_quiet sent k d below) in
     fits_signed_from_abs w16 (sample_at level (get_or (signal sent) k d)) (omega arith))
+
+pub hf_signal_fits : (level : ℕ) (sent : List Transmission) → level ≤ 32767 → All IsSample (hf_signal level sent)
+hf_signal_fits level sent most k d below =
+    let quiet = within-hf_signal level sent k d below in
+    fits_signed_from_abs w16 (get_or (hf_signal level sent) k d) (omega arith)

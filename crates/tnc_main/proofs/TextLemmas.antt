@@ -13,8 +13,9 @@ use Rattle.tnc_words.specs.declared.command.DecodeWords.{DecodeWords}
 use Rattle.tnc_forms.specs.declared.fault.InputFault.TheVariants.{TooLong}
 use Rattle.tnc_forms.specs.Reading.{input_limit}
 use Rattle.tnc_decode.specs.Audio.{samples_of}
+use Rattle.hf_signal.proofs.Law.{near_law as hf_near_law}
 use Rattle.tnc_decode.specs.declared.modem.Modem.{Modem}
-use Rattle.tnc_decode.specs.declared.modem.Modem.TheVariants.{Plain, Wide}
+use Rattle.tnc_decode.specs.declared.modem.Modem.TheVariants.{Plain, Wide, ShortWave}
 use Rattle.tnc_decode.specs.Modem.{modem_of, AreHeard}
 use Rattle.tnc_decode.specs.Decoded.{IsDecoded}
 use Rattle.tnc_decode.specs.Printing.{print}
@@ -52,6 +53,7 @@ near_merges : (modem : Modem) (x : List ℤ) (received : List Received) → IsNe
     → map (λ item. item.octets) (merged items) ≡ frames_of (transmissions_of received)
 near_merges Plain x received clean = near_law received x clean.each clean.near clean.no_stray
 near_merges Wide x received clean = near_stream_law clean.number received x clean.within clean.each clean.near clean.no_stray
+near_merges ShortWave x received clean = hf_near_law received x clean.each clean.near clean.no_stray
 
 pub near_text : (words : DecodeWords) (received : List Received) (octets text : List ℕ) → IsNearlyClean (modem_of words octets) (samples_of words octets) received
     → IsDecoded words octets text → text ≡ print words.frames (frames_of (transmissions_of received))
