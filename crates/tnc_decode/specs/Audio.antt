@@ -3,7 +3,7 @@ use Rattle.std.specs.Prelude.{ℕ, ◌+◌, nat_lt, if◌then◌else◌, ℤ, Li
 use Rattle.std.specs.Option.{option_or}
 use Rattle.wav_file.specs.declared.fault.WavFault.{WavFault}
 use Rattle.wav_file.specs.declared.rates.Rates.{Rates}
-use Rattle.wav_file.specs.declared.rates.Rates.TheVariants.{NarrowOrWide}
+use Rattle.wav_file.specs.declared.rates.Rates.TheVariants.{Narrow, NarrowOrWide}
 use Rattle.wav_file.specs.Reading.{fault_in, samples_in, verdict_of}
 use Rattle.wav_file.specs.Samples.{samples}
 use Rattle.tnc_forms.specs.declared.fault.InputFault.{InputFault}
@@ -13,7 +13,7 @@ use Rattle.tnc_words.specs.declared.command.AudioForm.{AudioForm}
 use Rattle.tnc_words.specs.declared.command.AudioForm.TheVariants.{Raw, Wav}
 use Rattle.tnc_words.specs.declared.command.DecodeWords.{DecodeWords}
 use Rattle.tnc_words.specs.declared.command.Receiving.{Receiving}
-use Rattle.tnc_words.specs.declared.command.Receiving.TheVariants.{Standard}
+use Rattle.tnc_words.specs.declared.command.Receiving.TheVariants.{Standard, ShortWave}
 
 -- ---- of a form, where a WAV file may have some rates
 
@@ -49,6 +49,7 @@ audio_fault_at rates form octets =
 -- the rates that a WAV file may have
 abbrev pub rates_of : Receiving → Rates
 rates_of (Standard rate) = NarrowOrWide
+rates_of ShortWave = Narrow
 
 -- the samples of the input of words
 abbrev pub samples_of : DecodeWords → List ℕ → List ℤ

@@ -45,7 +45,10 @@ impl Audio {
         ensures { (words : DecodeWords) (octets : List ℕ) → receiving ≡ words.receiving → HasTaken words self.now octets
             → result ≡ modem_of words octets }
     {
-        let Receiving::Standard { rate } = receiving;
+        let rate = match receiving {
+            Receiving::Standard { rate } => rate,
+            Receiving::ShortWave => return Modem::ShortWave,
+        };
         match self {
             Audio::Pcm(_) => Modem::of_rate(rate),
             Audio::File(file) => match file.rate() {
@@ -96,6 +99,7 @@ fn new_file(receiving: Receiving) -> WavIn
 {
     match receiving {
         Receiving::Standard { .. } => WavIn::any_rate(),
+        Receiving::ShortWave => WavIn::new(),
     }
 }
 

@@ -6,6 +6,7 @@ ghost use Rattle.tnc_decode.specs.Held.{HasDecoded, position_of, finished_of};
 
 use crate::modem::Modem;
 use frame_merge::Candidate;
+use hf_modem::HfDecoder;
 use slicer_bank::{Decoder, OpenGate};
 use std::alloc::Global;
 use std::thread::Threads;
@@ -17,6 +18,7 @@ use wide_input::WideBank;
 pub(crate) enum Decoders {
     Plain(Decoder),
     Wide(WideBank),
+    ShortWave(HfDecoder),
 }
 
 impl Decoders {
@@ -29,6 +31,7 @@ impl Decoders {
         match modem {
             Modem::Plain => Ok(Decoders::Plain(Decoder::new(alloc)?)),
             Modem::Wide => Ok(Decoders::Wide(WideBank::new(alloc)?)),
+            Modem::ShortWave => Ok(Decoders::ShortWave(HfDecoder::new(alloc)?)),
         }
     }
 
@@ -39,6 +42,7 @@ impl Decoders {
         match self {
             Decoders::Plain(_) => Modem::Plain,
             Decoders::Wide(_) => Modem::Wide,
+            Decoders::ShortWave(_) => Modem::ShortWave,
         }
     }
 
@@ -63,6 +67,7 @@ impl Decoders {
             Decoders::Plain(decoder) => decoder.block(block),
             Decoders::Wide(bank) if threads => bank.block_threads(rt, block, &OpenGate),
             Decoders::Wide(bank) => bank.block(block),
+            Decoders::ShortWave(decoder) => decoder.block(block),
         }
     }
 
@@ -75,6 +80,7 @@ impl Decoders {
         match self {
             Decoders::Plain(decoder) => decoder.finish(),
             Decoders::Wide(bank) => bank.finish(),
+            Decoders::ShortWave(decoder) => decoder.finish(),
         }
     }
 }

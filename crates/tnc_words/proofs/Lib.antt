@@ -4,3 +4,4 @@ pub mod OneNumber
 pub mod OneLink
 pub mod AskedHelp
 pub mod OneCommand
+pub mod NoRate

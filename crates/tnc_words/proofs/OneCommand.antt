@@ -1,6 +1,6 @@
 -- Words ask for one command.
 use Rattle.std.proofs.Common.{◌≡◌, ℕ, ◌+◌, ◌*◌, false, Option, Some, None, List, ◌∷◌, codes, refl, sym, ap, ◌∙◌, arith}
-use Rattle.std.proofs.lemmas.Bool.{eqb-false}
+use Rattle.std.proofs.lemmas.Bool.{eqb-false, true≢false}
 use Rattle.std.proofs.Math.Dec.{eqb}
 use Rattle.clap.specs.Words.{Row, Text}
 use Rattle.ax25_frames.specs.ControlField.{numbers}
@@ -10,7 +10,7 @@ use Rattle.tnc_words.specs.declared.command.Command.{Command}
 use Rattle.tnc_words.specs.declared.command.Command.TheVariants.{Decode, Encode, Show, Loop, Bench, Serve, Help, Version}
 use Rattle.tnc_words.specs.declared.command.DecodeWords.{DecodeWords}
 use Rattle.tnc_words.specs.declared.command.Receiving.{Receiving}
-use Rattle.tnc_words.specs.declared.command.Receiving.TheVariants.{Standard}
+use Rattle.tnc_words.specs.declared.command.Receiving.TheVariants.{Standard, ShortWave}
 use Rattle.tnc_words.specs.declared.command.SampleRate.{SampleRate}
 use Rattle.tnc_words.specs.declared.command.SampleRate.TheVariants.{Narrow, Wide}
 use Rattle.tnc_words.specs.declared.command.EncodeWords.{EncodeWords}
@@ -49,7 +49,10 @@ one_rate Wide Narrow h = absurd (narrow_is_not 48000 refl (sym h))
 one_rate Wide Wide h = refl
 
 one_receiving : (found : List Row) (receiving other : Receiving) → HasReceiving found receiving → HasReceiving found other → receiving ≡ other
-one_receiving found (Standard rate) (Standard other) h k = ap Standard (one_rate rate other (one_number _ _ _ _ _ _ h k))
+one_receiving found (Standard rate) (Standard other) h k = ap Standard (one_rate rate other (one_number _ _ _ _ _ _ h.1 k.1))
+one_receiving found (Standard rate) ShortWave h k = absurd (true≢false (sym k.0 ∙ h.0))
+one_receiving found ShortWave (Standard other) h k = absurd (true≢false (sym h.0 ∙ k.0))
+one_receiving found ShortWave ShortWave h k = refl
 
 -- ---- what was found gives one set of options
 

@@ -53,7 +53,16 @@ fn receiving(found: &ArgMatches) -> Option<Receiving>
     ensures none { IsNone result → (receiving : Receiving) → ¬ HasReceiving (rows_of (found_of found.now)) receiving }
 {
     let rate = sample_rate(text_of(found, "rate"))?;
-    Some(Receiving::Standard { rate })
+    if !has_flag(found, "hf") {
+        return Some(Receiving::Standard { rate });
+    }
+    if has_flag(found, "threads") {
+        return None;
+    }
+    match rate {
+        SampleRate::Narrow => Some(Receiving::ShortWave),
+        SampleRate::Wide => None,
+    }
 }
 
 /// The rate with the number of a text, or 9600 samples a second if there is no text.

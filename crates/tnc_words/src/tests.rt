@@ -58,6 +58,16 @@ fn decode_wide(audio: AudioForm) -> Command {
     })
 }
 
+// Raw samples of short wave.
+fn decode_hf() -> Command {
+    Command::Decode(DecodeWords {
+        audio: AudioForm::Raw,
+        frames: FrameForm::Hex,
+        threads: false,
+        receiving: Receiving::ShortWave,
+    })
+}
+
 // From lines to raw samples.
 fn encode(join: bool, opening: u16, closing: u16, silence: u32) -> Command {
     Command::Encode(EncodeWords {
@@ -331,7 +341,7 @@ fn other_words_of_serve_are_refused(rt: HostRuntime) -> Result<(), Fail> {
 
 #[test]
 fn good_words_ask_for_a_command(rt: HostRuntime) -> Result<(), Fail> {
-    let table: [(&[&str], Command); 39] = [
+    let table: [(&[&str], Command); 40] = [
         (&["decode"], decode(AudioForm::Raw, FrameForm::Hex)),
         (&["decode", "--"], decode(AudioForm::Raw, FrameForm::Hex)),
         (&["decode", "--wav"], decode(AudioForm::Wav, FrameForm::Hex)),
@@ -433,6 +443,7 @@ fn good_words_ask_for_a_command(rt: HostRuntime) -> Result<(), Fail> {
             &["decode", "--rate=9600"],
             decode(AudioForm::Raw, FrameForm::Hex),
         ),
+        (&["decode", "--hf", "--rate", "9600"], decode_hf()),
         (
             &["loop", "--seed", "7", "--threads", "--frames", "20"],
             Command::Loop(LoopWords {
@@ -548,7 +559,7 @@ fn each_topic_has_its_text(rt: HostRuntime) -> Result<(), Fail> {
 
 #[test]
 fn other_words_are_refused(rt: HostRuntime) -> Result<(), Fail> {
-    let table: [&[&str]; 103] = [
+    let table: [&[&str]; 104] = [
         &[],
         &[""],
         &["decod"],
@@ -558,7 +569,6 @@ fn other_words_are_refused(rt: HostRuntime) -> Result<(), Fail> {
         &["bench"],
         &["decode", "x"],
         &["decode", "--join"],
-        &["decode", "--rate", "48000"],
         &["decode", "--wav", "--wav"],
         &["decode", "--kiss", "--kiss"],
         &["decode", "--wav=true"],
@@ -598,6 +608,8 @@ fn other_words_are_refused(rt: HostRuntime) -> Result<(), Fail> {
         &["decode", "--level", "10"],
         &["show", "x"],
         &["show", "--wav"],
+        &["decode", "--hf", "--threads"],
+        &["decode", "--hf", "--rate", "48000"],
         &["decode", "--rate", "44100"],
         &["decode", "--wav", "--rate", "44100"],
         &["decode", "--rate"],

@@ -13,8 +13,8 @@ Usage: tnc COMMAND [OPTION]...
 
 A software terminal node controller for packet radio: AX.25 over the tones of Bell 202.
 
-  tnc decode [--wav] [--kiss] [--threads]
-  tnc encode [--kiss] [--wav] [--join] [--opening n] [--closing n] [--silence n] [--level n]
+  tnc decode [--wav] [--kiss] [--threads] [--hf] [--rate n]
+  tnc encode [--kiss] [--wav] [--join] [--hf] [--opening n] [--closing n] [--silence n] [--level n]
   tnc show [--modulo n]
   tnc loop --seed n --frames n [--rough] [--threads]
   tnc bench --seed n [--octets n] [--loss n] [--noise n] [--full] [--wide]
@@ -35,23 +35,26 @@ little-endian, one channel. `tnc help COMMAND` says what the options are, and th
 ";
 
 const DECODE: &str = "\
-Usage: tnc decode [--wav] [--kiss] [--threads]
+Usage: tnc decode [--wav] [--kiss] [--threads] [--hf] [--rate n]
 
 Prints the frames that are heard in sound, a line of hexadecimal digits each, as soon as they have ended.
 
   --wav        the input is a WAV file, and not raw PCM
   --kiss       the output is KISS frames, and not lines
   --threads    the receiver works on two threads
+  --hf         the sound is of short wave, 300 bits a second, and not Bell 202; without --threads
+  --rate n     samples a second of raw PCM, 9600 or 48000 (9600); a WAV file tells its own
 ";
 
 const ENCODE: &str = "\
-Usage: tnc encode [--kiss] [--wav] [--join] [--opening n] [--closing n] [--silence n] [--level n]
+Usage: tnc encode [--kiss] [--wav] [--join] [--hf] [--opening n] [--closing n] [--silence n] [--level n]
 
 Makes the sound of frames, which come as lines of hexadecimal digits.
 
   --kiss       the input is KISS frames, and not lines
   --wav        the output is a WAV file, and not raw PCM
   --join       all frames are one transmission
+  --hf         300 bits a second, for short wave, and not Bell 202
   --opening n  flags before the first frame, 2 to 10000 (75)
   --closing n  flags after the last frame, 1 to 10000 (2)
   --silence n  samples of silence before a transmission, 0 to 1000000 (0)
