@@ -6,7 +6,7 @@ use Rattle.station.specs.Held.{ids_of, ids_behind}
 use Rattle.station.specs.Host.{IsHostTurn}
 use Rattle.station.specs.StandsFor.{StandsFor as StationStandsFor}
 use Rattle.station.specs.State.{StationState}
-use Rattle.station.specs.Ticks.{ticking}
+use Rattle.station.specs.Ticks.{IsTick}
 use Rattle.station.specs.Turn.{Out, Turn, begin}
 use Rattle.channel_bench.specs.declared.shared.Shared.{Shared}
 use Rattle.channel_bench.specs.declared.side.Side.{Side}
@@ -58,9 +58,9 @@ host_step end event n out before between after shared then h none same host ids 
 pub tick_step : (end : End) (busy : Bool) (n : Near) (out : Out) (before between after : Side) (shared then : Shared)
     → StandsForNear end before shared n → n.common.trouble ≡ None → IsSameBesides before between
     → between.there ≡ before.there
-    → StationStandsFor between.station (ticking busy (begin n.side.station)).now
     → ids_of between.station ≡ ids_of before.station
-    → out ≡ (ticking busy (begin n.side.station)).out
+    → (ticked : (next : StationState) × IsTick busy (begin n.side.station) (record { now = next; out = out })
+    × StationStandsFor between.station next)
     → ((end : End) (side : SideState) → StandsForSide end between side
     → StandsForSide end after (told_pieces out.pieces side))
     → ((ways : BothWays) → StandsForWays shared.flight ways
@@ -69,16 +69,14 @@ pub tick_step : (end : End) (busy : Bool) (n : Near) (out : Out) (before between
     → then.trouble ≡ trouble_of (first_unquiet between.end false out.queued ways))
     → (then.draws ≡ shared.draws) × (then.transmissions ≡ shared.transmissions) × (then.lost ≡ shared.lost)
     → (next : Near) × IsStep end (OfClock busy) None n next × StandsForNear end after then next
-tick_step end busy n out before between after shared then h none same there station ids is told flight trouble rest =
-    let turn : Turn = ticking busy (begin n.side.station) in
-    let now : SideState = record n.side { station = turn.now } in
+tick_step end busy n out before between after shared then h none same there ids ticked told flight trouble rest =
+    let turn : Turn = record { now = ticked.0; out = out } in
+    let now : SideState = record n.side { station = ticked.0 } in
     let stands : StandsForSide end between now =
-    stands_with end before between n.side turn.now n.side.there h.side_is same station (ids ∙ h.side_is.ids)
+    stands_with end before between n.side ticked.0 n.side.there h.side_is same ticked.2 (ids ∙ h.side_is.ids)
     (ap (λ t. t.items) there ∙ h.side_is.there) in
-    tick_made end busy n turn after shared then refl
-    (subst (λ o. StandsForSide end after (told_pieces o.pieces now)) is (told end now stands))
-    (subst (λ o. HasSettled end false o.queued (ways_of n.common) shared then) is
+    tick_made end busy n turn after shared then ticked.1 (told end now stands)
     (settles end false out.queued (ways_of n.common) between.end shared then (same.end ∙ h.side_is.end_is)
     (flight (ways_of n.common) h.shared_is.flight)
-    (trouble (ways_of n.common) h.shared_is.flight (h.shared_is.trouble ∙ none)) rest))
+    (trouble (ways_of n.common) h.shared_is.flight (h.shared_is.trouble ∙ none)) rest)
     h.shared_is

@@ -10,7 +10,10 @@ use Rattle.ax25_address.specs.FramePath.{way_back}
 use Rattle.ax25_address.specs.declared.path.Path.{Path}
 use Rattle.ax25_address.specs.declared.path.Role.TheVariants.{Command}
 use Rattle.ax25_frames.specs.declared.frame.Frame.{Frame}
+use Rattle.ax25_frames.specs.declared.frame.Kind.{Kind}
+use Rattle.ax25_frames.specs.declared.frame.Kind.TheVariants.{Info, Super, Setup, Ui, Other as OtherKind}
 use Rattle.ax25_frames.specs.declared.frame.Modulus.TheVariants.{Eight}
+use Rattle.frame_monitor.specs.MonitorText.{monitor_letter}
 use Rattle.agwpe_port.specs.Messages.{bad_length_in, spelling}
 use Rattle.agwpe_port.specs.declared.message.AgwMessage.{AgwMessage}
 use Rattle.digipeater.specs.Repeated.{repeated}
@@ -24,18 +27,19 @@ use Rattle.station.specs.declared.host_event.HostEvent.TheVariants.{Joined, Byte
 use Rattle.station.specs.declared.host_event.PortKind.{PortKind}
 use Rattle.station.specs.declared.host_event.PortKind.TheVariants.{Kiss, Agw}
 use Rattle.station.specs.declared.host_out.Piece.{Piece}
-use Rattle.station.specs.AgwKinds.{version_kind, ports_kind, capabilities_kind, register_kind, unregister_kind, toggle_kind, raw_kind, unproto_kind, unproto_via_kind, connect_kind, data_kind, disconnect_kind, pending_kind, waiting_kind}
-use Rattle.station.specs.AgwRequests.{replying, version_reply, ports_reply, capabilities_reply, toggled, register_reply, with_registration, registering, unregistering, is_frame_length, queueing_raw, most_information, unnumbered_frame, sending_unnumbered, refused_reply, may_call, calls, called_route, called_pid, IsCall, IsCallMade, own_key, giving, giving_packet, packets_of, data_pid, disconnecting, pending_in, pending_reply, waiting_reply, answering_else, AreAnswered}
+use Rattle.station.specs.AgwKinds.{version_kind, ports_kind, capabilities_kind, register_kind, unregister_kind, toggle_kind, monitor_kind, raw_kind, unproto_kind, unproto_via_kind, connect_kind, data_kind, disconnect_kind, pending_kind, waiting_kind}
+use Rattle.station.specs.AgwRequests.{replying, version_reply, ports_reply, capabilities_reply, toggled, monitor_toggled, register_reply, with_registration, registering, unregistering, is_frame_length, queueing_raw, most_information, unnumbered_frame, sending_unnumbered, refused_reply, may_call, calls, called_route, called_pid, IsCall, IsCallMade, own_key, giving, giving_packet, packets_of, data_pid, disconnecting, pending_in, pending_reply, waiting_reply, answering_else, AreAnswered}
 use Rattle.station.specs.CallFields.{call_in}
 use Rattle.station.specs.Connections.{Connection, connection_of, most_connections}
 use Rattle.station.specs.FrameSpelling.{frame_octets}
-use Rattle.station.specs.Heard.{IsHeard, IsHeardBy, IsHeardAnew, IsHeardMaking, IsReadingHeardAnew, IsRepeatedFor, AreHeardAt, AreOctetsHeard, may_make, hearing_at, kiss_data, with_shown, showing, showing_to, source_field, destination_field, waits_for_repeater}
+use Rattle.station.specs.Heard.{IsHeard, IsHeardBy, IsHeardAnew, IsHeardMaking, IsReadingHeardAnew, IsRepeatedFor, AreHeardAt, AreOctetsHeard, may_make, hearing_at, kiss_data, with_shown, showing, shown_to_hosts, showing_to, source_field, destination_field, waits_for_repeater}
 use Rattle.station.specs.Host.{joining, with_host, new_messages, new_items, taking, ending, AreTaken, AreTakenBy, IsHostTurn}
 use Rattle.station.specs.HostMessages.{raw_message}
 use Rattle.station.specs.Kiss.{param_of, with_param, heeding, heeding_all}
 use Rattle.station.specs.Leaving.{giving_up, giving_up_all, giving_up_link, leaving, without_host, without_owner}
 use Rattle.station.specs.LinkEvents.{event_of, event_at, with_links}
 use Rattle.station.specs.Links.{Link, key_between, link_at, most_links, with_link}
+use Rattle.station.specs.Monitoring.{monitor_message, monitor_pieces, monitoring, piece_for, to_monitors}
 use Rattle.station.specs.NewLinks.{making, no_layer_3}
 use Rattle.station.specs.Registrations.{registrar, may_register, is_number}
 use Rattle.station.specs.Routes.{Route, route_in, repeaters_in, behind_repeaters, path_along}
@@ -236,13 +240,15 @@ else_tells id host message turn =
     (by_kind P k register_kind (registering host message.from (call_in message.from) turn) _ (else_steps is_some host message turn) (calm register_kind (registering host message.from (call_in message.from) turn) refl (registering_tells id host message.from (call_in message.from) turn))
     (by_kind P k unregister_kind (unregistering host (call_in message.from) turn) _ (else_steps is_some host message turn) (calm unregister_kind (unregistering host (call_in message.from) turn) refl (unregistering_tells id host (call_in message.from) turn))
     (by_kind P k toggle_kind (changing (toggled host) turn) _ (else_steps is_some host message turn) (calm toggle_kind (changing (toggled host) turn) refl (same_told id turn))
+    (by_kind P k monitor_kind (changing (monitor_toggled host) turn) _ (else_steps is_some host message turn)
+    (calm monitor_kind (changing (monitor_toggled host) turn) refl (same_told id turn))
     (by_kind P k raw_kind (queueing_raw (drop 1 message.body) turn) _ (else_steps is_some host message turn) (calm raw_kind (queueing_raw (drop 1 message.body) turn) refl (raw_tells id (drop 1 message.body) turn))
     (by_kind P k unproto_kind (sending_unnumbered message.pid message.body (route_in message.from message.to (Some [])) turn) _ (else_steps is_some host message turn)
     (calm unproto_kind (sending_unnumbered message.pid message.body (route_in message.from message.to (Some [])) turn) refl (unnumbered_tells id message.pid message.body (route_in message.from message.to (Some [])) turn))
     (by_kind P k unproto_via_kind (sending_unnumbered message.pid (behind_repeaters message.body) (route_in message.from message.to (repeaters_in message.body)) turn) _ (else_steps is_some host message turn)
     (calm unproto_via_kind (sending_unnumbered message.pid (behind_repeaters message.body) (route_in message.from message.to (repeaters_in message.body)) turn) refl (unnumbered_tells id message.pid (behind_repeaters message.body)
     (route_in message.from message.to (repeaters_in message.body)) turn))
-    (rest (k == data_kind) (k == disconnect_kind) xs ys (data_tells id message key turn) (disconnect_tells id key turn))))))))))
+    (rest (k == data_kind) (k == disconnect_kind) xs ys (data_tells id message key turn) (disconnect_tells id key turn)))))))))))
   where
     last : Tells id turn [] (cond (message.kind == pending_kind) (replying host (pending_reply message (pending_in message turn.now.links)) turn)
         (cond (message.kind == waiting_kind) (replying host (waiting_reply (length turn.now.channel.waiting)) turn) turn))
@@ -406,6 +412,54 @@ shown_to id from to octets (c ∷ connections) turn agw =
     shown_to id from to octets connections (showing_to from to octets c turn) agw.1
     ∙ shown_by id c.kind c.id c.raw from to octets turn.out agw.0
 
+-- what hosts that monitor are shown is no C or D
+letter_other : (sent : Bool) (kind : Kind)
+    → ((monitor_letter sent kind == connect_kind) || (monitor_letter sent kind == data_kind)) ≡ false
+letter_other true kind = refl
+letter_other false (Info ns nr poll pid octets) = refl
+letter_other false (Super which nr flag) = refl
+letter_other false (Setup which flag) = refl
+letter_other false (Ui flag pid octets) = refl
+letter_other false (OtherKind which flag octets) = refl
+
+to_monitors_told :
+    (id : ℕ) (message : AgwMessage) (connections : List Connection)
+    → ((message.kind == connect_kind) || (message.kind == data_kind)) ≡ false
+    → of_links id (to_monitors (spelling message) connections) ≡ []
+to_monitors_told id message [] other = refl
+to_monitors_told id message (c ∷ connections) other = go c.monitors (to_monitors_told id message connections other)
+  where
+    none : is_of_link id (piece_for (spelling message) c) ≡ false
+    none =
+        and_right (c.id == id) (is_data (spelling message))
+        (ap (λ k. (k == connect_kind) || (k == data_kind)) (reply_kind message) ∙ other)
+
+    go : (b : Bool) → of_links id (to_monitors (spelling message) connections) ≡ []
+        → of_links id (map (piece_for (spelling message))
+        (cond b (c ∷ filter (λ (other : Connection). other.monitors) connections)
+        (filter (λ (other : Connection). other.monitors) connections))) ≡ []
+    go true rest =
+        let others = of_links id (to_monitors (spelling message) connections) in
+        ap (λ b. cond b (piece_for (spelling message) c ∷ others) others) none ∙ rest
+    go false rest = rest
+
+monitor_pieces_told :
+    (id : ℕ) (sent : Bool) (ticks : ℕ) (frame : Option Frame) (connections : List Connection)
+    → of_links id (monitor_pieces sent ticks frame connections) ≡ []
+monitor_pieces_told id sent ticks None connections = refl
+monitor_pieces_told id sent ticks (Some frame) connections =
+    to_monitors_told id (monitor_message sent ticks frame) connections (letter_other sent frame.kind)
+
+monitors_told :
+    (id : ℕ) (sent : Bool) (ticks : ℕ) (frame : Option Frame) (turn : Turn)
+    → of_links id (monitoring sent ticks frame turn).out.pieces ≡ of_links id turn.out.pieces
+monitors_told id sent ticks frame turn =
+    let shown = monitor_pieces sent ticks frame turn.now.connections in
+    links_append id turn.out.pieces shown
+    ∙ ap (λ ps. of_links id turn.out.pieces ++ ps)
+    (monitor_pieces_told id sent ticks frame turn.now.connections)
+    ∙ append-nil (of_links id turn.out.pieces)
+
 repeated_tells :
     (id : ℕ) (digi : Option Callsign) (octets : List ℕ) (before after : Turn) → IsRepeatedFor digi octets before after
     → Tells id before [] after
@@ -471,10 +525,11 @@ heard_tells :
 heard_tells id octets before after agw h =
     let from = source_field h.path in
     let to = destination_field h.path in
-    let shown = showing from to octets before in
+    let shown = shown_to_hosts h.path octets h.monitored before in
     by_path_tells id h.path octets shown after h.effect
     ∙ ap (λ ps. ps ++ flat_map (told_by id) (by_path_steps is_some h.path octets shown after h.effect))
-    (shown_to id from to octets before.now.connections before agw)
+    (monitors_told id false before.now.ticks h.monitored (showing from to octets before)
+    ∙ shown_to id from to octets before.now.connections before agw)
 
 -- ---- each step
 
@@ -485,7 +540,9 @@ turn_tells :
 turn_tells id (FromHost event) before after turn agw = host_tells id event before after turn
 turn_tells id (OffAir octets) before after turn agw = heard_tells id octets before after agw turn
 turn_tells id (OfClock busy) before after turn agw =
-    subst (Tells id before (tick_steps is_some before)) (sym turn) (ticks_tell id before)
+    subst (Tells id before (tick_steps is_some before)) (sym turn.effect)
+    (monitors_told id true (ticking_links before).now.ticks turn.monitored (ticking_links before)
+    ∙ ticks_tell id before)
 
 pub programs_are_told_holds : ProgramsAreTold
 programs_are_told_holds step id agw =

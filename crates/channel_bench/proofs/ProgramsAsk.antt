@@ -122,7 +122,8 @@ hosts_after end (hears octets) s after occurs turn h =
     still_has (begin s) after (heard_kept SameHosts same_hosts octets (begin s) after h.digi turn) h
 hosts_after end (ticks busy) s after occurs turn h =
     let made = still_has (begin s) (ticking_links (begin s)) (ticks_kept SameHosts same_hosts (begin s)) h in
-    subst (λ (t : Turn). HasHosts t.now) (sym turn) (record { connections = made.connections; digi = made.digi })
+    subst (λ (t : Turn). HasHosts t.now) (sym turn.effect)
+    (record { connections = made.connections; digi = made.digi })
 
 -- ---- the host program of B asks nothing
 

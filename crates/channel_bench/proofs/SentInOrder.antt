@@ -102,7 +102,7 @@ clock_order busy s after turn fits =
     let ticked = ticking_links (begin s) in
     let links = fed_order s ticked (ticks_kept Fed fed (begin s)) fits in
     let sends = tick_sends busy ticked.now.channel links.fits in
-    subst (StepOrder s (sent_octets (air_of busy s).sent)) (sym turn)
+    subst (StepOrder s (sent_octets (air_of busy s).sent)) (sym turn.effect)
     (record { order = links.order ∙ sends.order; fits = sends.fits })
 
 -- what a tick sends

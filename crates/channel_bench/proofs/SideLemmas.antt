@@ -11,7 +11,7 @@ use Rattle.station.specs.Held.{ids_of, ids_behind}
 use Rattle.station.specs.Host.{IsHostTurn}
 use Rattle.station.specs.StandsFor.{StandsFor as StationStandsFor}
 use Rattle.station.specs.State.{StationState}
-use Rattle.station.specs.Ticks.{ticking, air_of}
+use Rattle.station.specs.Ticks.{IsTick, air_of}
 use Rattle.station.specs.Turn.{Out, Turn, begin}
 use Rattle.channel_bench.specs.declared.matching.SentAt.{SentAt}
 use Rattle.channel_bench.specs.declared.shared.Shared.{Shared}
@@ -149,7 +149,7 @@ host_made end event n out side before after host stands settled common =
 
 -- a tick
 pub tick_made : (end : End) (busy : Bool) (n : Near) (turn : Turn) (side : Side) (before after : Shared)
-    → turn ≡ ticking busy (begin n.side.station)
+    → IsTick busy (begin n.side.station) turn
     → StandsForSide end side (told_pieces turn.out.pieces (record n.side { station = turn.now; there = n.side.there }))
     → HasSettled end false turn.out.queued (ways_of n.common) before after → StandsForCommon before n.common
     → (next : Near) × IsStep end (OfClock busy) None n next × StandsForNear end side after next

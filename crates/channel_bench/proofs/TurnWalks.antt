@@ -22,7 +22,7 @@ use Rattle.station.specs.AgwKinds.{register_kind, connect_kind, data_kind, disco
 use Rattle.station.specs.AgwRequests.{IsAnswered, IsCall, IsCallMade, called_route, data_pid, disconnecting, giving, giving_packet, may_call, own_key, packets_of, refused_reply, register_reply, registering, replying, with_registration}
 use Rattle.station.specs.CallFields.{call_in}
 use Rattle.station.specs.Connections.{Connection}
-use Rattle.station.specs.Heard.{AreHeardAt, IsHeard, IsHeardAnew, IsHeardBy, IsHeardMaking, IsReadingHeardAnew, IsRepeatedFor, AreOctetsHeard, destination_field, hearing_at, kiss_data, may_make, showing, showing_to, source_field, waits_for_repeater, with_shown}
+use Rattle.station.specs.Heard.{AreHeardAt, IsHeard, IsHeardAnew, IsHeardBy, IsHeardMaking, IsReadingHeardAnew, IsRepeatedFor, AreOctetsHeard, destination_field, hearing_at, kiss_data, may_make, shown_to_hosts, showing, showing_to, source_field, waits_for_repeater, with_shown}
 use Rattle.station.specs.FrameSpelling.{frame_octets}
 use Rattle.station.specs.HostMessages.{message_of_told, raw_message}
 use Rattle.station.specs.LinkEvents.{event_at, event_of, queueing_frame, queueing_frames, settled_link, telling_one, with_links}
@@ -278,8 +278,10 @@ module _ (R : Turn → Turn → Type 0) (k : Kept R) where
   heard_kept octets before after none h =
       let from = source_field h.path in
       let to = destination_field h.path in
-      let shown = showing from to octets before in
-      k.on before shown after (shown_kept from to octets before)
+      let raw = showing from to octets before in
+      let shown = shown_to_hosts h.path octets h.monitored before in
+      k.on before shown after
+      (k.on before raw shown (shown_kept from to octets before) (k.tells raw shown.out.pieces))
       (by_path_kept h.path octets shown after (shown_digi from to octets before.now.connections before ∙ none) h.effect)
     where
       shown_digi : (from to octets : List ℕ) (connections : List Connection) (t : Turn)

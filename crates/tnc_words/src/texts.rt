@@ -102,11 +102,11 @@ on 127.0.0.1.
 
   --kiss n         the port for KISS hosts, 1 to 65535
   --agw n          the port for AGWPE hosts, 1 to 65535
-  --seed n         what channel access draws from; give each station its own (1)
+  --seed n         what channel access draws from, 0 to 18446744073709551615; each station its own (1)
   --mode name      how links ask for lost frames, rej or srej (rej)
-  --window n       frames that a link sends ahead, modulo 8 (4)
+  --window n       frames that a link sends ahead, modulo 8, 1 to 7 (4)
   --wide           links are called modulo 128
-  --wide-window n  frames that a link sends ahead, modulo 128 (32)
+  --wide-window n  frames that a link sends ahead, modulo 128, 1 to 127 (32)
   --digi call      repeats frames for this call
   --dcd n          flags in a row from which on the channel is busy, 1 to 8 (3)
   --monitor        tells each frame that is heard or sent on standard error

@@ -20,8 +20,7 @@ returns c = λ end n h none.
       air = refl;
       silenced = refl;
     }) refl
-    (c.in_ok-air.ensures.stands_for s h.side_is.station) c.in_ok-air.ensures.ids
-    (c.in_ok-air.ensures.out s h.side_is.station)
+    c.in_ok-air.ensures.ids (c.in_ok-air.ensures.step s h.side_is.station)
     c.in_ok-settle.ensures.side c.in_ok-settle.ensures.flight c.in_ok-settle.ensures.trouble
     c.in_ok-settle.ensures.rest in
     ticks end busy n _ c.settle.new.self c.settle.new.shared (c.busy-busy.ensures n.side.samples h.side_is.ear)
