@@ -41,10 +41,14 @@ is_refused() {
     [ "$status" = 1 ]
 }
 is_taken() {
-    local status=0
-    timeout 5 "$tnc" "$@" </dev/null >/dev/null 2>&1 || status=$?
-    [ "$status" = 0 ] || [[ $status = 2 && " $* " = *" --wav "* ]] || [[ $status = 10 && $1 = serve ]] \
-        || [[ $status =~ ^(7|8|124)$ && $1 = bench ]]
+    local status=0 most=60
+    if [ "$1" = bench ]; then most=5; fi
+    timeout "$most" "$tnc" "$@" </dev/null >/dev/null 2>&1 || status=$?
+    case "$1 $status" in
+        *" 0" | "serve 10" | "bench 7" | "bench 8" | "bench 124") ;;
+        *" 2") [[ " $* " = *" --wav "* ]] ;;
+        *) return 1 ;;
+    esac
 }
 
 # The number after a number of any length, and the one before, which is no number before 0.
@@ -194,7 +198,7 @@ for command in $commands; do
             grep -q "\b${BASH_REMATCH[1]} to ${BASH_REMATCH[2]}\b" <<<"$line" || fault "help $command: $option has another range"
         fi
         if [[ $text =~ \;\ ([0-9a-z]+)\ where\ it\ is\ not\ given ]]; then
-            [[ $line = *"(${BASH_REMATCH[1]})" ]] || fault "help $command: $option has another default"
+            [[ $line = *"(${BASH_REMATCH[1]})"* ]] || fault "help $command: $option has another default"
         fi
     done < <(grep "^$command|" <<<"$entries" || true)
 done
