@@ -4,7 +4,8 @@
   scripts/refused_memory.py [--tnc PROGRAM] [--only NAME] [--all-from] [--hosts] [--seconds N]
 
 A run has to end with status 3, an output that is a first part of the ordinary one and a report that is a first part of the
-ordinary one; or as it ends with all the memory that it asks for. With --all-from no allocation succeeds from the refused one
+ordinary one; or as it ends with all the memory that it asks for. A station that cannot open its ports for want of memory ends with
+status 10, as with any other cause. With --all-from no allocation succeeds from the refused one
 on. With --hosts it is two stations with a session between their hosts, and the first one is refused an allocation, drawn anew
 each time, for so many seconds. It prints a line for each command, and ends with status 0 where all is well."""
 import argparse
@@ -16,13 +17,15 @@ from air import Agw, Air, Kiss, Station
 from hostile_inputs import rows, stations
 from refusing import Refusing
 
-MEMORY = 3
+MEMORY, NO_PORT = 3, 10
 LIMIT = 60 * 100  # ticks that a session may take
 
 
 def fault_of(ordinary, run):
     """What is wrong with a run, or nothing."""
     if run.status == ordinary.status and run.output == ordinary.output and run.report == ordinary.report:
+        return ""
+    if run.status == NO_PORT and run[1:3] == (b"", b"tnc: no port\n"):
         return ""
     if run.status != MEMORY:
         return f"status {run.status}, and not {MEMORY}" + (f" or {ordinary.status}" if run.status != ordinary.status else "")
