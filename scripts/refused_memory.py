@@ -10,6 +10,7 @@ on. With --hosts it is two stations with a session between their hosts, and the 
 each time, for so many seconds. It prints a line for each command, and ends with status 0 where all is well."""
 import argparse
 import random
+import select
 import sys
 import time
 
@@ -19,6 +20,7 @@ from refusing import Refusing
 
 MEMORY, NO_PORT = 3, 10
 LIMIT = 60 * 100  # ticks that a session may take
+PATIENCE = 5  # seconds without a sample after which a station has stopped
 
 
 def fault_of(ordinary, run):
@@ -52,6 +54,18 @@ def refused(refusing, row, kind, later):
         call += 1
 
 
+class Patient:
+    """What a station sends. One that is out of memory sends no more, and ends at the next sound that comes or at the end of it."""
+
+    def __init__(self, pipe):
+        self.pipe = pipe
+
+    def read(self, count=-1):
+        if count >= 0 and not select.select([self.pipe], [], [], PATIENCE)[0]:
+            raise RuntimeError("a station has stopped")
+        return self.pipe.read(count)
+
+
 class Session:
     """Two stations, the first of which is refused an allocation, and hosts that use all that a station has."""
 
@@ -60,6 +74,7 @@ class Session:
         words = ["--mode", mode, "--monitor", "--digi", "DIGI", *draws.choice([[], ["--wide"]])]
         self.a = Station(refusing.tnc, "--seed", "1", *words, env=refusing.surroundings("memory", call, tally))
         self.b = Station(refusing.tnc, "--seed", "2", *words)
+        self.a.program.stdout = Patient(self.a.program.stdout)
         self.hosts, self.kiss = [], []
 
     def step(self):
