@@ -1,5 +1,5 @@
 #!/usr/bin/env python3
-"""Checks `tnc bench`: its worked runs, and a hundred others; or fills the table of docs/BENCH.md.
+"""Checks `tnc bench`: its worked runs, and a hundred others; or a table of runs at several losses and noises.
 
   scripts/check_bench.py [--tnc PROGRAM] [--runs N] [--octets N] [--at-once N]
   scripts/check_bench.py --table [--seeds N]
@@ -9,7 +9,7 @@ a frame that nobody sent is not heard. At status 0 the counts are those of the r
 of each side whole with the hash that the other side gave, and in every set-up no more got than the other side gave. A run again
 gives the same. It prints one line, and ends with status 0 where all is well.
 
-With --table it runs `bench` at some losses and noises with so many seeds each, and prints the rows of the table."""
+With --table it runs `bench` at some losses and noises with so many seeds each, and prints a table."""
 import argparse
 import collections
 import concurrent.futures
@@ -128,6 +128,8 @@ def row_of(given, words):
 
 
 def table(given):
+    print("| Words | Well | Others, with their status | Time on the air | Transmissions | Lost | Connections of A |")
+    print("|---|---|---|---|---|---|---|")
     for duplex in "", " --full":
         for loss in LOSSES:
             print(row_of(given, f"--loss {loss}{duplex}"), flush=True)

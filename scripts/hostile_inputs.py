@@ -29,11 +29,12 @@ def made(tnc, words, octets):
     return subprocess.run([tnc, *words], input=octets, stdout=subprocess.PIPE, check=True).stdout
 
 
-def rows(tnc):
-    """Every command but `serve`, in each of its forms, and with an input that is wrong."""
+def rows(tnc, times=1):
+    """Every command but `serve`, in each of its forms, and with an input that is wrong; those of many reads so many times as
+    long."""
     sound = sample("direwolf-clean.raw", 90000)
     lines = b"".join(sample("direwolf-clean.frames").splitlines(True)[:4])
-    more = b"".join(sample(f"{it}.frames") for it in ("direwolf-clean", "direwolf-long", "minimodem-clean")) * 12
+    more = b"".join(sample(f"{it}.frames") for it in ("direwolf-clean", "direwolf-long", "minimodem-clean")) * times
     kiss = made(tnc, ["decode", "--kiss"], sound)
     wav = wav_of(sound)
     short = ["--opening", "2", "--closing", "1"]
@@ -44,7 +45,7 @@ def rows(tnc):
     yield Row("decode of a cut WAV", ["decode", "--wav"], wav[:-1])
     yield Row("decode of no WAV", ["decode", "--wav"], b"RIFX" + wav[4:])
     yield Row("encode", ["encode"], lines)
-    yield Row("encode, short flags", ["encode", *short], more[:60000])
+    yield Row("encode, short flags", ["encode", *short], more[: 6000 * times])
     yield Row("encode of KISS", ["encode", "--kiss"], kiss)
     yield Row("encode, joined", ["encode", "--join"], lines)
     yield Row("encode to WAV", ["encode", "--wav"], lines)
@@ -52,7 +53,7 @@ def rows(tnc):
     yield Row("encode of a bad line", ["encode"], lines + b"00 1\n" + lines)
     yield Row("encode of a short line", ["encode"], lines + b"0011\n" + lines)
     yield Row("show", ["show"], more)
-    yield Row("show modulo 128", ["show", "--modulo", "128"], more[:20000])
+    yield Row("show modulo 128", ["show", "--modulo", "128"], more[:4000])
     yield Row("show of a long line", ["show"], lines + b"4" * 2049)
     yield Row("loop", ["loop", "--seed", "7", "--frames", "3"], b"")
     yield Row("loop, rough, threads", ["loop", "--seed", "7", "--frames", "3", "--rough", "--threads"], b"")

@@ -4,11 +4,13 @@
   scripts/refused_memory.py [--tnc PROGRAM] [--only NAME] [--all-from] [--hosts] [--seconds N]
 
 A run has to end with status 3, an output that is a first part of the ordinary one and a report that is a first part of the
-ordinary one; or as it ends with all the memory that it asks for. With --all-from no allocation succeeds from the refused one
+ordinary one; or as it ends with all the memory that it asks for. A station that cannot open its ports for want of memory ends with
+status 10, as with any other cause. With --all-from no allocation succeeds from the refused one
 on. With --hosts it is two stations with a session between their hosts, and the first one is refused an allocation, drawn anew
 each time, for so many seconds. It prints a line for each command, and ends with status 0 where all is well."""
 import argparse
 import random
+import select
 import sys
 import time
 
@@ -16,13 +18,16 @@ from air import Agw, Air, Kiss, Station
 from hostile_inputs import rows, stations
 from refusing import Refusing
 
-MEMORY = 3
+MEMORY, NO_PORT = 3, 10
 LIMIT = 60 * 100  # ticks that a session may take
+PATIENCE = 5  # seconds without a sample after which a station has stopped
 
 
 def fault_of(ordinary, run):
     """What is wrong with a run, or nothing."""
     if run.status == ordinary.status and run.output == ordinary.output and run.report == ordinary.report:
+        return ""
+    if run.status == NO_PORT and run[1:3] == (b"", b"tnc: no port\n"):
         return ""
     if run.status != MEMORY:
         return f"status {run.status}, and not {MEMORY}" + (f" or {ordinary.status}" if run.status != ordinary.status else "")
@@ -49,6 +54,18 @@ def refused(refusing, row, kind, later):
         call += 1
 
 
+class Patient:
+    """What a station sends. One that is out of memory sends no more, and ends at the next sound that comes or at the end of it."""
+
+    def __init__(self, pipe):
+        self.pipe = pipe
+
+    def read(self, count=-1):
+        if count >= 0 and not select.select([self.pipe], [], [], PATIENCE)[0]:
+            raise RuntimeError("a station has stopped")
+        return self.pipe.read(count)
+
+
 class Session:
     """Two stations, the first of which is refused an allocation, and hosts that use all that a station has."""
 
@@ -57,6 +74,7 @@ class Session:
         words = ["--mode", mode, "--monitor", "--digi", "DIGI", *draws.choice([[], ["--wide"]])]
         self.a = Station(refusing.tnc, "--seed", "1", *words, env=refusing.surroundings("memory", call, tally))
         self.b = Station(refusing.tnc, "--seed", "2", *words)
+        self.a.program.stdout = Patient(self.a.program.stdout)
         self.hosts, self.kiss = [], []
 
     def step(self):

@@ -26,6 +26,7 @@
 #include <string.h>
 #include <sys/epoll.h>
 #include <sys/socket.h>
+#include <sys/syscall.h>
 #include <unistd.h>
 
 enum kind { NONE, MEMORY, THREAD, INPUT, OUTPUT, REPORT, PORTS, KINDS };
@@ -97,6 +98,14 @@ __attribute__((destructor)) static void ends(void)
         return;
     fprintf(file, "%ld %ld\n", atomic_load(&calls), atomic_load(&octets_read));
     fclose(file);
+}
+
+/* The program ends by it, past all destructors. */
+void _exit(int status)
+{
+    ends();
+    syscall(SYS_exit_group, status);
+    __builtin_unreachable();
 }
 
 void *malloc(size_t size)

@@ -6,7 +6,7 @@ import subprocess
 import tempfile
 
 TOP = os.path.dirname(os.path.dirname(os.path.abspath(__file__)))
-PATIENCE = 300  # seconds that a run may take
+PATIENCE = 60  # seconds that a run may take
 
 # How a run ended: status (negative for a signal), output, report, the calls of the kind that were made, and the octets of
 # input that were read. Without a tally, as after a signal, the last two are None.
@@ -35,8 +35,11 @@ class Refusing:
         with tempfile.TemporaryFile(dir=self.folder.name) as given:
             given.write(octets)
             given.seek(0)
-            done = subprocess.run([self.tnc, *words], stdin=given, env=self.surroundings(kind, call, tally),
-                                  capture_output=True, timeout=PATIENCE)
+            try:
+                done = subprocess.run([self.tnc, *words], stdin=given, env=self.surroundings(kind, call, tally),
+                                      capture_output=True, timeout=PATIENCE)
+            except subprocess.TimeoutExpired as fault:
+                return Run("none: it does not end", fault.stdout or b"", fault.stderr or b"", None, None)
         calls = taken = None
         if os.path.exists(tally):
             with open(tally) as file:
