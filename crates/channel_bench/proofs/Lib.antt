@@ -77,4 +77,8 @@ mod InTime
 mod TimedSteps
 mod TimedRun
 mod LinkTells
+mod LinkDid
+mod Chains
+mod ChainRun
+mod RunTells
 mod OrderLaws

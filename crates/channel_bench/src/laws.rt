@@ -7,6 +7,7 @@ ghost use Rattle.channel_bench.specs.LinksTell.{LinksTellInOne};
 ghost use Rattle.channel_bench.specs.MatchedLaw.{MatchedInOrder, MatchedLaw};
 ghost use Rattle.channel_bench.specs.Owners.{OwnersAreTold};
 ghost use Rattle.channel_bench.specs.ProgramsTold.{ProgramsAreTold};
+ghost use Rattle.channel_bench.specs.RunsTell.{RunsTellInOne};
 ghost use Rattle.channel_bench.specs.SetUpsSeen.{SetUpsLaw};
 
 /// The law on any two stations. A joint run is a list of steps, each of one of two stations that began new: what comes from
@@ -87,4 +88,10 @@ pub fn bench_law()
 /// link that is up runs, and one that runs is of a link that is up or is being released. Data is told of only while one runs.
 pub fn links_tell_in_one()
     ensures { LinksTellInOne }
+{}
+
+/// What the link of two calls tells at a station in a joint run that is heard in order: data is told of only while a set-up
+/// runs, the set-up of a link that is up runs, and one that runs is of a link that is up or is being released.
+pub fn runs_tell_in_one()
+    ensures { RunsTellInOne }
 {}
