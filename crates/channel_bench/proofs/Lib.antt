@@ -81,4 +81,5 @@ mod LinkDid
 mod Chains
 mod ChainRun
 mod RunTells
+mod OwnLinks
 mod OrderLaws

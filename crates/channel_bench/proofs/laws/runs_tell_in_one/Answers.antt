@@ -1,3 +1,4 @@
+use Rattle.channel_bench.proofs.OwnLinks.{heard_says}
 use Rattle.channel_bench.proofs.RunTells.{runs_tell_holds}
 use Rattle.channel_bench.proofs.laws.runs_tell_in_one.Goals as goal
 
