@@ -82,4 +82,6 @@ mod Chains
 mod ChainRun
 mod RunTells
 mod OwnLinks
+mod OwnMessages
+mod ProgramSees
 mod OrderLaws

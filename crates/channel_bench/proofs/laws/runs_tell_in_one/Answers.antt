@@ -1,4 +1,5 @@
-use Rattle.channel_bench.proofs.OwnLinks.{heard_says}
+use Rattle.channel_bench.proofs.OwnMessages.{usual_comes}
+use Rattle.channel_bench.proofs.ProgramSees.{items_of}
 use Rattle.channel_bench.proofs.RunTells.{runs_tell_holds}
 use Rattle.channel_bench.proofs.laws.runs_tell_in_one.Goals as goal
 
