@@ -84,4 +84,6 @@ mod RunTells
 mod OwnLinks
 mod OwnMessages
 mod ProgramSees
+mod Shorts
+mod GivesOne
 mod OrderLaws

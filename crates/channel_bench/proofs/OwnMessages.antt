@@ -71,8 +71,9 @@ pub data Comes (c : Cause) (refusable : Type 0) (e : End) (t : Turn) (steps : Li
 -- ---- what comes from the host program
 
 -- what octets do that are a message of the program
-said_go :
-    (e : End) (m : AgwMessage) (t : Turn) (R : List LinkStep → Turn → Type 0) → IsWritten m → HasHosts t.now → R [] t
+pub said_go :
+    (e : End) (m : AgwMessage) (t : Turn) (R : List LinkStep → Turn → Type 0) → IsWritten m → HasHosts t.now
+    → (connection_of program_id t.now.connections ≡ None → R [] t)
     → ((u : Turn) (h : IsAnswered program_id m (taking program_id (spelling m) t) u)
     → R (answer_steps (chosen e) program_id m (calls m) (taking program_id (spelling m) t) u h) u)
     → (u : Turn) (h : AreTaken (connection_of program_id t.now.connections) (spelling m) t u)
@@ -107,7 +108,7 @@ said_go e m t R written hosts none answered u h = go (connection_of program_id t
 
     go : (place : Option Connection) → connection_of program_id t.now.connections ≡ place
         → (k : AreTaken place (spelling m) t u) → R (octet_steps (chosen e) place (spelling m) t u k) u
-    go None is k = subst (R []) (sym k) none
+    go None is k = subst (R []) (sym k) (none is)
     go (Some c) is k =
         let at = found IsHosts program_id t.now.connections c hosts.connections is in
         by_kind c c.kind at.0 at.1 refl k
@@ -190,7 +191,7 @@ registering_comes c e t u (Some call) is owns same own =
 
 -- ---- C
 
-called : (e : End) → called_route (request_between connect_kind e [])
+pub called : (e : End) → called_route (request_between connect_kind e [])
     ≡ Some (let r : Route = record { local = call_at e; remote = call_at (other e); repeaters = [] } in r)
 unfolding call_of_text
 called A = refl
@@ -350,21 +351,21 @@ usual_comes e registers s after occurs hosts owns unshown from turn =
     let field = call_field (call_at e) in
     let m = request register_kind field no_call [] in
     said_go e m (begin s) (λ steps u. Comes nothing ⊥ e (begin s) steps u) (registers_written e) hosts
-    (by_link (same_says nothing e (begin s) owns))
+    (λ missing. by_link (same_says nothing e (begin s) owns))
     (λ u h. replied (subst (Replied register_kind e (begin s)) (sym h)
     (registering_comes nothing e (begin s) (taking program_id (spelling m) (begin s)) (call_in field) (call_known e) owns refl
     (took_owns e m (begin s) owns))) refl) after turn
 usual_comes e connects s after occurs hosts owns unshown from turn =
     let m = request_between connect_kind e [] in
     said_go e m (begin s) (λ steps u. Comes connecting ⊤ e (begin s) steps u)
-    (between_written connect_kind e [] (omega arith)) hosts (by_link (same_says connecting e (begin s) owns))
+    (between_written connect_kind e [] (omega arith)) hosts (λ missing. by_link (same_says connecting e (begin s) owns))
     (λ u h. call_comes e m (called_route m) (begin s) (taking program_id (spelling m) (begin s)) u refl (called e)
     (took_owns e m (begin s) owns) refl (refusal_written e) h) after turn
 usual_comes e (gives piece) s after occurs hosts owns unshown from turn =
     let m = request_between data_kind e piece in
     let took = taking program_id (spelling m) (begin s) in
     said_go e m (begin s) (λ steps u. Comes sending ⊥ e (begin s) steps u)
-    (between_written data_kind e piece occurs) hosts (by_link (same_says sending e (begin s) owns))
+    (between_written data_kind e piece occurs) hosts (λ missing. by_link (same_says sending e (begin s) owns))
     (λ u h. by_link (subst (Says sending e (begin s) (data_steps (chosen e) m (own_key program_id m took.now.links) took))
     (sym h) (took_says sending e m (begin s) (data_steps (chosen e) m (own_key program_id m took.now.links) took)
     (giving m (own_key program_id m took.now.links) took)
@@ -374,7 +375,7 @@ usual_comes e disconnects s after occurs hosts owns unshown from turn =
     let took = taking program_id (spelling m) (begin s) in
     let key = own_key program_id m took.now.links in
     said_go e m (begin s) (λ steps u. Comes disconnecting ⊥ e (begin s) steps u)
-    (between_written disconnect_kind e [] (omega arith)) hosts (by_link (same_says disconnecting e (begin s) owns))
+    (between_written disconnect_kind e [] (omega arith)) hosts (λ missing. by_link (same_says disconnecting e (begin s) owns))
     (λ u h. by_link (subst (Says disconnecting e (begin s) (disconnect_steps (chosen e) key took)) (sym h)
     (took_says disconnecting e m (begin s) (disconnect_steps (chosen e) key took) (disconnecting_act key took)
     (disconnect_says e key took (took_owns e m (begin s) owns))))) after turn
