@@ -324,7 +324,7 @@ calm_near e back pairs n (step ∷ steps) v follows valid asks h =
 
 -- ---- a step of either
 
-abbrev EndAsks : End → LinkStep → Type 0
+abbrev pub EndAsks : End → LinkStep → Type 0
 EndAsks A step = ⊤
 EndAsks B step = IsOfNoHost step.event
 

@@ -86,4 +86,5 @@ mod OwnMessages
 mod ProgramSees
 mod Shorts
 mod GivesOne
+mod LinkNow
 mod OrderLaws
