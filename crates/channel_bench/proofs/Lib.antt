@@ -87,4 +87,5 @@ mod ProgramSees
 mod Shorts
 mod GivesOne
 mod LinkNow
+mod ThereStays
 mod OrderLaws
