@@ -88,4 +88,5 @@ mod Shorts
 mod GivesOne
 mod LinkNow
 mod ThereStays
+mod SideSees
 mod OrderLaws
