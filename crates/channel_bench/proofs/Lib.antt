@@ -89,4 +89,5 @@ mod GivesOne
 mod LinkNow
 mod ThereStays
 mod SideSees
+mod StepSees
 mod OrderLaws

@@ -91,7 +91,7 @@ steps_given (step ∷ steps) seen short h =
 
 -- ---- what is got
 
-each_slice : {T : Type 0} (P : T → Type 0) (xs : List T) (n : ℕ) (x : T) → Each P xs → slice_get xs n ≡ Some x → P x
+pub each_slice : {T : Type 0} (P : T → Type 0) (xs : List T) (n : ℕ) (x : T) → Each P xs → slice_get xs n ≡ Some x → P x
 each_slice P [] n x h is = absurd (let clash : None ≡ Some x = is in cc)
 each_slice P (y ∷ xs) zero x h is = let same : y ≡ x = cc in subst P same h.0
 each_slice P (y ∷ xs) (suc n) x h is = each_slice P xs n x h.1 is

@@ -5,6 +5,7 @@ use Rattle.channel_bench.proofs.GivesOne.{gives_one}
 use Rattle.channel_bench.proofs.LinkNow.{link_now}
 use Rattle.channel_bench.proofs.ThereStays.{there_grows}
 use Rattle.channel_bench.proofs.SideSees.{joined_sees}
+use Rattle.channel_bench.proofs.StepSees.{step_laws}
 use Rattle.channel_bench.proofs.RunTells.{runs_tell_holds}
 use Rattle.channel_bench.proofs.laws.runs_tell_in_one.Goals as goal
 
