@@ -90,4 +90,5 @@ mod LinkNow
 mod ThereStays
 mod SideSees
 mod StepSees
+mod NextSees
 mod OrderLaws

@@ -105,7 +105,7 @@ at_other A xs = refl
 at_other B xs = refl
 
 -- the other side
-far_sees :
+pub far_sees :
     (w : BenchWords) (e : End) (far : SideState) (moments : List Moment) (step : Step) (found : Option ℕ)
     → step.station ≡ e → SeesAt w (other e) far moments → SeesAt w (other e) far (moments ++ Steps step found ∷ [])
 far_sees w e far moments step found is h =
@@ -123,7 +123,7 @@ far_sees w e far moments step found is h =
 
 -- ---- what is heard comes from the other station
 
-matched_last : (moments : List Moment) (moment : Moment) (ways : BothWays) → AreMatched (moments ++ moment ∷ []) ways
+pub matched_last : (moments : List Moment) (moment : Moment) (ways : BothWays) → AreMatched (moments ++ moment ∷ []) ways
     → IsMatchedIn moment (after_moments moments ways)
 matched_last [] moment ways h = h.0
 matched_last (first ∷ moments) moment ways h = matched_last moments moment (after_moment first ways) h.1
@@ -145,7 +145,7 @@ by_match e octets (Some number) way h own =
     (subst (IsOwnFrame (other e)) h.same
     (each_slice (λ (f : LinkFrame). IsOwnFrame (other e) f.octets) way.queued number h.frame own h.is_there))
 
-heard_from :
+pub heard_from :
     (e : End) (usual : Usual) (matched : Option ℕ) (way : OneWay) → IsMatched (input_of e usual) matched way
     → Each (λ (f : LinkFrame). IsOwnFrame (other e) f.octets) way.queued → IsHeardFrom e usual
 heard_from e joins_kiss matched way h own = tt
@@ -158,7 +158,7 @@ heard_from e disconnects matched way h own = tt
 heard_from e (hears octets) matched way h own = by_match e octets matched way h own
 heard_from e (ticks busy) matched way h own = tt
 
-unshown_of : (connections : List Connection) → Each IsHosts connections → Each IsUnshown connections
+pub unshown_of : (connections : List Connection) → Each IsHosts connections → Each IsUnshown connections
 unshown_of [] h = tt
 unshown_of (c ∷ connections) h = (
   record {
@@ -201,7 +201,7 @@ disconnect_one : (c : Choice) (key : Option ℕ) (t : Turn) → AtMostOne (disco
 disconnect_one c None t = tt
 disconnect_one c (Some key) t = one_for c None key LinkDisconnect t _
 
-connects_one :
+pub connects_one :
     (e : End) (s : StationState) (after : Turn) → HasHosts s → (turn : IsTurn (input_of e connects) (begin s) after)
     → AtMostOne (turn_steps (chosen e) (input_of e connects) (begin s) after turn)
 connects_one e s after hosts turn =
@@ -209,7 +209,7 @@ connects_one e s after hosts turn =
     said_go e m (begin s) (λ steps u. AtMostOne steps) (between_written connect_kind e [] (omega arith)) hosts
     (λ missing. tt) (λ u h. call_one (chosen e) program_id m (called_route m) _ u h) after turn
 
-disconnects_one :
+pub disconnects_one :
     (e : End) (s : StationState) (after : Turn) → HasHosts s → (turn : IsTurn (input_of e disconnects) (begin s) after)
     → AtMostOne (turn_steps (chosen e) (input_of e disconnects) (begin s) after turn)
 disconnects_one e s after hosts turn =
@@ -220,10 +220,10 @@ disconnects_one e s after hosts turn =
 
 -- ---- wishes and calls in a step
 
-record Wishes (w : BenchWords) (e : End) (p : ProgramState) (events made : List LinkStep) : Type 0 where
-  asked : asked_behind false (events ++ made) ≡ true → GaveAll w.octets (told_all (messages_of e made) p)
-  calls : (told_all (messages_of e made) p).calls ≡ true → called_behind false (events ++ made) ≡ false
-  asks : Each AsksInSetUp made
+pub record Wishes (w : BenchWords) (e : End) (p : ProgramState) (events made : List LinkStep) : Type 0 where
+  pub asked : asked_behind false (events ++ made) ≡ true → GaveAll w.octets (told_all (messages_of e made) p)
+  pub calls : (told_all (messages_of e made) p).calls ≡ true → called_behind false (events ++ made) ≡ false
+  pub asks : Each AsksInSetUp made
 
 abbrev NoDisconnect : LinkStep → Type 0
 NoDisconnect s = is_disconnect s.event ≡ false
@@ -231,7 +231,7 @@ NoDisconnect s = is_disconnect s.event ≡ false
 abbrev NoConnect : LinkStep → Type 0
 NoConnect s = is_connect s.event ≡ false
 
-plain_wishes :
+pub plain_wishes :
     (w : BenchWords) (e : End) (p : ProgramState) (events made : List LinkStep) → Each NoDisconnect made
     → Each NoConnect made → (asked_behind false events ≡ true → GaveAll w.octets p)
     → (p.calls ≡ true → called_behind false events ≡ false) → Wishes w e p events made
@@ -244,7 +244,7 @@ plain_wishes w e p events made no_disconnect no_connect asked calls = record {
   asks = each_map NoDisconnect AsksInSetUp never_asks made no_disconnect;
 }
 
-connect_wishes :
+pub connect_wishes :
     (w : BenchWords) (e : End) (p : ProgramState) (events made : List LinkStep) → Each NoDisconnect made
     → AtMostOne made → (asked_behind false events ≡ true → GaveAll w.octets p) → p.calls ≡ false
     → Wishes w e p events made
@@ -262,7 +262,7 @@ connect_wishes w e p events made no_disconnect one asked none = record {
     go (step ∷ []) h is = called_one e step (called_behind false events) p none is
     go (step ∷ next ∷ xs) h is = absurd h
 
-disconnect_wishes :
+pub disconnect_wishes :
     (w : BenchWords) (e : End) (p : ProgramState) (events made : List LinkStep) (last : Machine) → Each NoConnect made
     → AtMostOne made → GaveAll w.octets p → (p.calls ≡ true → called_behind false events ≡ false)
     → HasSetUp last.control.state → IsChain last made → Wishes w e p events made
@@ -303,7 +303,7 @@ runs_set_up runs state h run = elim (h.only run) [
 ]
 
 -- a link that was not called has no set-up
-uncalled_rests : (called runs : Bool) (state : LinkState) → StandsCalled called state → RunsIn runs state → called ≡ false
+pub uncalled_rests : (called runs : Bool) (state : LinkState) → StandsCalled called state → RunsIn runs state → called ≡ false
     → runs ≡ false
 uncalled_rests called runs Idle h in_state none = go runs refl
   where
@@ -328,7 +328,7 @@ IsReady w disconnects p events = GaveAll w.octets p × (is_some p.running ≡ tr
 IsReady w (hears octets) p events = ⊤
 IsReady w (ticks busy) p events = ⊤
 
-not_sending : (w : BenchWords) (usual : Usual) (p : ProgramState) (events : List LinkStep) → IsReady w usual p events
+pub not_sending : (w : BenchWords) (usual : Usual) (p : ProgramState) (events : List LinkStep) → IsReady w usual p events
     → cause_in usual ≡ sending → ⊥
 not_sending w joins_kiss p events h is = cc
 not_sending w sets_full p events h is = cc
