@@ -91,4 +91,5 @@ mod ThereStays
 mod SideSees
 mod StepSees
 mod NextSees
+mod GivesSees
 mod OrderLaws

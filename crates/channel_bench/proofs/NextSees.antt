@@ -67,7 +67,7 @@ pub record BothSee (w : BenchWords) (e : End) (side far : SideState) (moments : 
   pub own : SeesAt w e side moments
   pub far_sees : SeesAt w (other e) far moments
 
-own_events : (e : End) (moments : List Moment) (step : Step) (found : Option ℕ) → step.station ≡ e
+pub own_events : (e : End) (moments : List Moment) (step : Step) (found : Option ℕ) → step.station ≡ e
     → links_of e (moments ++ Steps step found ∷ []) ≡ links_of e moments ++ steps_of (chosen step.station) step
 own_events e moments step found is =
     let made = steps_of (chosen step.station) step in
@@ -78,7 +78,7 @@ own_events e moments step found is =
     same A xs = refl
     same B xs = refl
 
-own_queue : (e : End) (moments : List Moment) (step : Step) (found : Option ℕ) → step.station ≡ e
+pub own_queue : (e : End) (moments : List Moment) (step : Step) (found : Option ℕ) → step.station ≡ e
     → queue_of e (moments ++ Steps step found ∷ [])
     ≡ queue_of e moments ++ framed (hears_ask step.input) step.after.out.queued
 own_queue e moments step found is =
