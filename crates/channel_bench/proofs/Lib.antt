@@ -92,4 +92,5 @@ mod SideSees
 mod StepSees
 mod NextSees
 mod GivesSees
+mod BenchSees
 mod OrderLaws
