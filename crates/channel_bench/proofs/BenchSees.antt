@@ -72,7 +72,7 @@ dropped_front : (steps : List Step) (step : Step) → NoAskDropped the_calls (st
 dropped_front [] step h = tt
 dropped_front (first ∷ steps) step h = (h.0, dropped_front steps step h.1)
 
-front : (moments : List Moment) (step : Step) (found : Option ℕ) → Premises (moments ++ Steps step found ∷ [])
+pub front : (moments : List Moment) (step : Step) (found : Option ℕ) → Premises (moments ++ Steps step found ∷ [])
     → Premises moments
 front moments step found h = record {
   matched = matched_front moments (Steps step found) nothing_sent h.matched;
@@ -118,7 +118,7 @@ resees w e side next events queue station there stream ended running calls h = r
 abbrev pub HoldsNear : BenchWords → BenchState → End → Near → Type 0
 HoldsNear w bench e n = Holds w (with_near e n bench)
 
-both_of :
+pub both_of :
     (w : BenchWords) (bench : BenchState) (e : End) (n : Near) → HoldsNear w bench e n → Premises n.common.moments
     → BothSee w e n.side (side_at (other e) bench) n.common.moments
 both_of w bench A n h p = record { own = h.sees_a p; far_sees = h.sees_b p }
@@ -129,7 +129,7 @@ noted_of : (w : BenchWords) (bench : BenchState) (e : End) (n : Near) → HoldsN
 noted_of w bench A n h = h.noted
 noted_of w bench B n h = h.noted
 
-little_of : (w : BenchWords) (bench : BenchState) (e : End) (n : Near) → HoldsNear w bench e n
+pub little_of : (w : BenchWords) (bench : BenchState) (e : End) (n : Near) → HoldsNear w bench e n
     → AskLittle n.common.moments (with_state e n.side.station (stations_of bench))
 little_of w bench A n h = h.little
 little_of w bench B n h = h.little
@@ -199,7 +199,7 @@ stepped_holds w bench e usual matched before after occurs h calm holds keeps =
     }) old))
 
 -- a step that gives nothing
-near_holds :
+pub near_holds :
     (w : BenchWords) (bench : BenchState) (e : End) (usual : Usual) (matched : Option ℕ) (before after : Near)
     → Occurs e usual → IsStep e (input_of e usual) matched before after → after.common.trouble ≡ None
     → HoldsNear w bench e before
@@ -271,12 +271,12 @@ resided w bench e n next moments station there stream program holds =
     }))
 
 -- near what is there already
-near_there : (w : BenchWords) (e : End) (bench : BenchState) → Holds w bench → HoldsNear w bench e (near e bench)
+pub near_there : (w : BenchWords) (e : End) (bench : BenchState) → Holds w bench → HoldsNear w bench e (near e bench)
 near_there w A bench h = record { noted = h.noted; little = h.little; sees_a = h.sees_a; sees_b = h.sees_b }
 near_there w B bench h = record { noted = h.noted; little = h.little; sees_a = h.sees_a; sees_b = h.sees_b }
 
 -- something comes to pass at one of the stations
-at_end_holds :
+pub at_end_holds :
     (w : BenchWords) (e : End) (part : Near → Near → Type 0) (before after : BenchState)
     → ((next : Near) → part (near e before) next → next.common.trouble ≡ None → HoldsNear w before e (near e before)
     → HoldsNear w before e next)

@@ -93,4 +93,5 @@ mod StepSees
 mod NextSees
 mod GivesSees
 mod BenchSees
+mod RunSees
 mod OrderLaws

@@ -233,7 +233,7 @@ nothing_made w e side after events queue on queued own none owns there whole see
     }))
 
 -- a message of another kind is nothing to the program
-told_other : (m : AgwMessage) (p : ProgramState) → m.kind ≡ register_kind → told_message m p ≡ p
+pub told_other : (m : AgwMessage) (p : ProgramState) → m.kind ≡ register_kind → told_message m p ≡ p
 told_other m p is =
     ap (λ k. cond (k == connect_kind) (opening p)
     (cond (k == data_kind) (getting m.body p) (cond (k == disconnect_kind) (closing p) p))) is

@@ -9,6 +9,7 @@ use Rattle.channel_bench.proofs.StepSees.{step_laws}
 use Rattle.channel_bench.proofs.NextSees.{step_sees}
 use Rattle.channel_bench.proofs.GivesSees.{gives_sees}
 use Rattle.channel_bench.proofs.BenchSees.{new_holds}
+use Rattle.channel_bench.proofs.RunSees.{run_sees}
 use Rattle.channel_bench.proofs.RunTells.{runs_tell_holds}
 use Rattle.channel_bench.proofs.laws.runs_tell_in_one.Goals as goal
 
