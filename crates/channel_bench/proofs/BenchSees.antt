@@ -1,50 +1,45 @@
 -- In a run of the bench each host program sees the set-ups of its link, and gives only while the link is up: part by part.
-use Rattle.std.proofs.Common.{◌≡◌, ℕ, zero, suc, ◌+◌, ◌≤◌, ◌==◌, ◌&&◌, not, nat_lt, Bool, true, false, List, [], ◌∷◌, ◌++◌, length, map, replicate, cond, Option, Some, None, is_some, refl, sym, ap, ◌∙◌, subst, arith}
-use Rattle.std.specs.Bool.{⊤}
+use Rattle.std.proofs.Common.{◌≡◌, ℕ, zero, suc, ◌==◌, ◌&&◌, not, Bool, true, false, List, [], ◌∷◌, ◌++◌, length, replicate, Option, Some, None, is_some, refl, sym, ap, ◌∙◌, subst}
 use Rattle.std.specs.Prelude.{MatchBool}
 use Rattle.std.specs.List.{AllByRecursion as Each}
 use Rattle.std.specs.Option.{option_to_list}
 use Rattle.std.proofs.lemmas.Bool.{and_parts, eqb-true}
-use Rattle.std.proofs.lemmas.List.{append-nil, append_assoc}
+use Rattle.std.proofs.lemmas.List.{append_assoc}
 use Rattle.frame_merge.specs.declared.candidate.Candidate.{Candidate}
 use Rattle.link_world.specs.declared.end.End.{End}
 use Rattle.link_world.specs.declared.end.End.TheVariants.{A, B}
 use Rattle.link_world.specs.World.{other}
-use Rattle.station.specs.declared.host_event.HostEvent.{HostEvent}
 use Rattle.station.specs.Links.{most_links}
 use Rattle.station.specs.State.{StationState}
 use Rattle.channel_bench.specs.declared.report.SetUp.{SetUp}
 use Rattle.channel_bench.specs.declared.words.BenchWords.{BenchWords}
 use Rattle.channel_bench.specs.BenchLaw.{NoAskDropped}
-use Rattle.channel_bench.specs.BenchOrder.{IsNoted, set_up_of, stations_of, steps_of_run, the_calls}
+use Rattle.channel_bench.specs.BenchOrder.{IsNoted, stations_of, the_calls}
 use Rattle.channel_bench.specs.BenchState.{AtEnd, BenchState, Near, SideState, near, new_bench, new_side, side_at, with_near}
-use Rattle.channel_bench.specs.BenchSteps.{AreHeardAt, GoesOn, IsHeardAs, IsHeardAt, IsStep, IsTicking, IsTold, match_of, with_matched, with_stray}
+use Rattle.channel_bench.specs.BenchSteps.{AreHeardAt, GoesOn, IsHeardAs, IsHeardAt, IsStep, IsTicking, match_of, with_matched, with_stray}
 use Rattle.channel_bench.specs.BenchTick.{AcceptsProgram, IsAsked, IsAskedOrCalled, IsCalled, IsGiven, IsGivenPiece, IsListening, is_complete, with_asking, with_calling, with_giving}
-use Rattle.channel_bench.specs.HostProgram.{ProgramState, has_all, has_all_in, next_piece, set_ups_of}
+use Rattle.channel_bench.specs.HostProgram.{ProgramState, has_all, has_all_in, next_piece}
 use Rattle.channel_bench.specs.InFlight.{AreMatched, BothWays, LinkFrame, Moment, after_moment, after_moments, nothing_sent, sent_by, steps_in}
 use Rattle.channel_bench.specs.InFlight.Moment.{Passes, Steps}
 use Rattle.channel_bench.specs.JointRun.{Step, Stations, state_of, with_state}
-use Rattle.channel_bench.specs.JointRun.Input.{FromHost, OfClock}
 use Rattle.channel_bench.specs.LinkSteps.{LinkStep}
-use Rattle.channel_bench.specs.SetUpsSeen.{link_steps_at, seen_by_all}
+use Rattle.channel_bench.specs.SetUpsSeen.{link_steps_at}
 use Rattle.channel_bench.specs.Sounding.{passed_below, sounding, ticked}
 use Rattle.channel_bench.specs.Words.{text_at}
-use Rattle.channel_bench.proofs.Chains.{called_behind}
-use Rattle.channel_bench.proofs.CoreRun.{IsToldUsual, Occurs, Usual, heard_calm, input_of, piece_short}
-use Rattle.channel_bench.proofs.CoreRun.Usual.{connects, disconnects, gives, hears, joins_kiss, joins_program, registers, sets_full, ticks}
+use Rattle.channel_bench.proofs.CoreRun.{Occurs, Usual, heard_calm, input_of, piece_short}
+use Rattle.channel_bench.proofs.CoreRun.Usual.{connects, disconnects, gives, hears, ticks}
 use Rattle.channel_bench.proofs.GivesSees.{gives_sees}
 use Rattle.channel_bench.proofs.LinkNow.{Known, links_of}
 use Rattle.channel_bench.proofs.NextSees.{BothSee, noted_step, step_sees}
 use Rattle.channel_bench.proofs.NotedRun.{moments_more, noted_kept, steps_more, steps_passed}
 use Rattle.channel_bench.proofs.HostStreams.{IsWhole, new_stream}
 use Rattle.channel_bench.proofs.OwnLinks.{IsOwnPlace, OwnsAll}
-use Rattle.channel_bench.proofs.ProgramSees.{GaveAll, GaveAllIn, Sees}
+use Rattle.channel_bench.proofs.ProgramSees.{GaveAll, GaveAllIn}
 use Rattle.channel_bench.proofs.ProgramsAsk.{AskLittle, asks_kept}
 use Rattle.channel_bench.proofs.RunOfParts.{IsCalm}
 use Rattle.channel_bench.proofs.SideSees.{SideSees}
 use Rattle.channel_bench.proofs.Sounded.{heard_as, sounded}
 use Rattle.channel_bench.proofs.StepSees.{IsReady, SeesAt, queue_of}
-use Rattle.channel_bench.proofs.Tables.{not_both}
 use Rattle.channel_bench.proofs.ThereStays.{HasProgram, is_there}
 use Rattle.channel_bench.proofs.Ways.{queued_passed}
 

@@ -1,6 +1,6 @@
 -- The events of a link at a station, each with the machine that the event before it left: what they tell, and how the link
 -- stands then.
-use Rattle.std.proofs.Common.{◌≡◌, ℕ, ◌||◌, ◌&&◌, not, Bool, true, false, List, [], ◌∷◌, ◌++◌, map, if◌then◌else◌, cond, Option, Some, None, refl, sym, ap, ◌∙◌, subst}
+use Rattle.std.proofs.Common.{◌≡◌, ◌||◌, Bool, true, false, List, [], ◌∷◌, ◌++◌, map, if◌then◌else◌, cond, Option, Some, None, refl, sym, ap, ◌∙◌, subst}
 use Rattle.std.specs.Bool.{⊤}
 use Rattle.std.specs.List.{AllByRecursion as Each}
 use Rattle.std.proofs.lemmas.Bool.{or_left, or_right}
@@ -16,13 +16,13 @@ use Rattle.link_machine.specs.Machine.{Machine, new_machine}
 use Rattle.link_machine.specs.Step.{step as link_turn}
 use Rattle.link_machine.specs.Turn.{Turn, begin}
 use Rattle.channel_bench.specs.LinkSteps.{LinkStep}
-use Rattle.channel_bench.specs.LinksTell.{AreToldInOne, RunsIn, runs_after}
+use Rattle.channel_bench.specs.LinksTell.{RunsIn, runs_after}
 use Rattle.channel_bench.specs.RunsTell.{AllToldInOne, runs_behind, told_in}
-use Rattle.channel_bench.proofs.LinkDid.{Closes, Did, DidIn, HearsAsk, HearsWrong, Steps, is_connect, is_disconnect, step_steps}
+use Rattle.channel_bench.proofs.LinkDid.{Closes, DidIn, HearsAsk, HearsWrong, Steps, is_connect, is_disconnect, step_steps}
 use Rattle.channel_bench.proofs.LinkDid.Closes.{releases, stays}
 use Rattle.channel_bench.proofs.LinkDid.Did.{calls, ends, gives, is_called, opens, resets, wishes}
 use Rattle.channel_bench.proofs.LinkDid.Steps.{made, refused}
-use Rattle.channel_bench.proofs.LinkTells.{Gives, links_tell_holds}
+use Rattle.channel_bench.proofs.LinkTells.{links_tell_holds}
 
 -- ---- machines one after another
 

@@ -1,7 +1,7 @@
 -- A piece that a host program gives while its link is up is one packet, and the link takes it.
-use Rattle.std.proofs.Common.{◌≡◌, ℕ, ◌+◌, ◌/◌, ◌<◌, ◌≤◌, ◌||◌, nat_le, nat_lt, Bool, true, false, List, [], ◌∷◌, ◌++◌, length, take, drop, map, cond, if◌then◌else◌, get_or, Option, Some, None, is_some, is_none, refl, sym, ap, ◌∙◌, subst, arith}
+use Rattle.std.proofs.Common.{◌≡◌, ℕ, ◌+◌, ◌/◌, ◌<◌, ◌≤◌, ◌||◌, nat_le, nat_lt, true, false, List, [], ◌∷◌, length, map, cond, get_or, Option, Some, None, is_some, is_none, refl, sym, ap, ◌∙◌, subst, arith}
 use Rattle.std.specs.Prelude.{IfSome, position}
-use Rattle.std.specs.List.{range_with_len, AllByRecursion as Each}
+use Rattle.std.specs.List.{range_with_len}
 use Rattle.std.proofs.lemmas.Bool.Decides.{nat_tests}
 use Rattle.std.proofs.lemmas.List.{append-nil, take_all}
 use Rattle.std.proofs.lemmas.List.Elements.{recursion_from_All}
@@ -9,8 +9,7 @@ use Rattle.selective_reject.specs.declared.packet.Packet.{Packet}
 use Rattle.link_machine.specs.declared.control.Control.{Control}
 use Rattle.link_machine.specs.declared.fault.LinkFault.{LinkFault}
 use Rattle.link_machine.specs.declared.fault.LinkFault.TheVariants.{WrongState, Full, TooLong}
-use Rattle.link_machine.specs.declared.state.LinkState.{LinkState}
-use Rattle.link_machine.specs.declared.state.LinkState.TheVariants.{Idle, Calling, Up, Releasing}
+use Rattle.link_machine.specs.declared.state.LinkState.TheVariants.{Up}
 use Rattle.link_machine.specs.Event.Event.{Send as LinkSend}
 use Rattle.link_machine.specs.Machine.{Machine}
 use Rattle.link_machine.specs.Requests.{is_closed, takes_none}
@@ -18,14 +17,12 @@ use Rattle.link_machine.specs.Step.{refusal_of}
 use Rattle.link_world.specs.declared.end.End.{End}
 use Rattle.link_world.specs.declared.end.End.TheVariants.{A, B}
 use Rattle.link_world.specs.World.{other}
-use Rattle.agwpe_port.specs.CallField.{call_field}
 use Rattle.agwpe_port.specs.Messages.{spelling}
-use Rattle.agwpe_port.specs.declared.message.AgwMessage.{AgwMessage}
 use Rattle.station.specs.AgwKinds.{data_kind}
 use Rattle.station.specs.AgwRequests.{data_pid, giving_packet, if_own, is_owner, key_of_route, own_key, packet_at, packets_of}
 use Rattle.station.specs.Connections.{connection_of}
 use Rattle.station.specs.Host.{taking}
-use Rattle.station.specs.Links.{Link, Links, is_between, key_between, link_at}
+use Rattle.station.specs.Links.{Link, Links, key_between, link_at}
 use Rattle.station.specs.Registrations.{is_number}
 use Rattle.station.specs.Routes.{Route, route_in}
 use Rattle.station.specs.State.{Accepts, HoldsFew, StationState, most_held}

@@ -1,10 +1,8 @@
 -- A host program of the bench gives a piece: its link takes it as a packet of the set-up that runs.
-use Rattle.std.proofs.Common.{◌≡◌, ℕ, zero, suc, ◌+◌, ◌-◌, ◌<◌, ◌≤◌, ◌==◌, ◌%◌, nat_lt, min, Bool, true, false, List, [], ◌∷◌, ◌++◌, length, take, drop, map, cond, Option, Some, None, is_some, refl, sym, ap, ◌∙◌, subst, arith, inl, inr}
-use Rattle.std.specs.Bool.{⊤}
+use Rattle.std.proofs.Common.{◌≡◌, ℕ, zero, suc, ◌<◌, ◌≤◌, ◌==◌, ◌%◌, nat_lt, Bool, true, false, List, [], ◌∷◌, ◌++◌, length, take, drop, cond, Option, Some, None, is_some, refl, sym, ap, ◌∙◌, subst, arith, inl, inr}
 use Rattle.std.specs.Prelude.{Any}
-use Rattle.std.specs.List.{AllByRecursion as Each}
 use Rattle.std.proofs.lemmas.Bool.{eq-eqb, ltb-true}
-use Rattle.std.proofs.lemmas.List.{append-nil, length-drop, length-map, length-take}
+use Rattle.std.proofs.lemmas.List.{length-drop, length-map, length-take}
 use Rattle.std.proofs.lemmas.List.Folds.{list_any-from_Any}
 use Rattle.link_machine.specs.Event.Event.{Send as LinkSend}
 use Rattle.link_machine.specs.declared.state.LinkState.{LinkState}
@@ -22,8 +20,8 @@ use Rattle.channel_bench.specs.declared.words.BenchWords.{BenchWords}
 use Rattle.channel_bench.specs.BenchState.{Near, SideState}
 use Rattle.channel_bench.specs.BenchSteps.{IsStep, program_id, there_after}
 use Rattle.channel_bench.specs.BenchTick.{AcceptsProgram, with_giving}
-use Rattle.channel_bench.specs.HostProgram.{ProgramState, giving, most_octets, next_piece, told_all}
-use Rattle.channel_bench.specs.InFlight.{LinkFrame, Moment, hears_ask}
+use Rattle.channel_bench.specs.HostProgram.{giving, most_octets, next_piece, told_all}
+use Rattle.channel_bench.specs.InFlight.{Moment, hears_ask}
 use Rattle.channel_bench.specs.InFlight.Moment.{Steps}
 use Rattle.channel_bench.specs.JointRun.{Stations, state_of, with_state}
 use Rattle.channel_bench.specs.LinkSteps.{LinkStep, steps_of}
@@ -41,7 +39,7 @@ use Rattle.channel_bench.proofs.HostsStay.{HasHosts}
 use Rattle.channel_bench.proofs.LinkDid.{is_connect, is_disconnect}
 use Rattle.channel_bench.proofs.LinkNow.{GivenUp, Known, LinkNow, first_machine, link_chain, link_now, links_of}
 use Rattle.channel_bench.proofs.NextSees.{BothSee, noted_step, own_events, own_queue}
-use Rattle.channel_bench.proofs.OwnLinks.{Says, chosen, messages_of}
+use Rattle.channel_bench.proofs.OwnLinks.{chosen, messages_of}
 use Rattle.channel_bench.proofs.OwnLinks.Cause.{sending}
 use Rattle.channel_bench.proofs.OwnMessages.{Comes, usual_comes}
 use Rattle.channel_bench.proofs.OwnMessages.Comes.{by_link, joined, refused, replied}
@@ -50,7 +48,6 @@ use Rattle.channel_bench.proofs.ProgramsAsk.{hosts_at}
 use Rattle.channel_bench.proofs.Shorts.{GivesShort, ShortStep, steps_written}
 use Rattle.channel_bench.proofs.SideSees.{SideSees, asked_kept, called_kept, linked, never_asks, seen_append, side_after}
 use Rattle.channel_bench.proofs.StepSees.{SeesAt, far_sees, queue_of, step_laws, unshown_of}
-use Rattle.channel_bench.proofs.Tables.{not_both}
 use Rattle.channel_bench.proofs.ThereStays.{HasProgram, is_there, there_grows}
 
 -- ---- the piece

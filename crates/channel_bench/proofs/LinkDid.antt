@@ -15,19 +15,18 @@ use Rattle.link_machine.specs.declared.acts.Why.{Why}
 use Rattle.link_machine.specs.declared.acts.Why.TheVariants.{Asked, Failed, Peer, Refused, Reset}
 use Rattle.link_machine.specs.declared.state.LinkState.{LinkState}
 use Rattle.link_machine.specs.declared.state.LinkState.TheVariants.{Idle, Calling, Up, Releasing}
-use Rattle.link_machine.specs.Acts.{close, flush, release, reset, send_packets, to_send, awaiting, nothing_due}
+use Rattle.link_machine.specs.Acts.{close, flush, release, reset, send_packets, to_send, nothing_due}
 use Rattle.link_machine.specs.Event.{Event}
 use Rattle.link_machine.specs.Event.Event.{Connect, Send, Disconnect, Hear, Tick}
 use Rattle.link_machine.specs.Frames.{answer_dm, hear_calling_in, hear_idle, hear_in, hear_info, hear_releasing, hear_supervisory, hear_up, open_again}
 use Rattle.link_machine.specs.Machine.{Machine, is_valid, is_wide, named}
-use Rattle.link_machine.specs.Requests.{connect}
 use Rattle.link_machine.specs.Step.{refusal_of, row, settle_in, settled, step}
 use Rattle.link_machine.specs.Ticks.{is_spent, runs_out, t1_out, t2_out, t3_out, tick_in, tick_t1, tick_t1_of, tick_t2, tick_t2_of, tick_t3_of, with_t1, with_t2, with_t3}
 use Rattle.link_machine.specs.Turn.{Turn, begin, setting}
 use Rattle.link_world.specs.Flight.{asks}
 use Rattle.link_world.specs.Law.{names_valid}
 use Rattle.channel_bench.proofs.LinkKinds.{IsLinkKind}
-use Rattle.channel_bench.proofs.LinkTells.{Gives, awaiting_mode, gives_none, gives_on, gives_same, idle_is, info_gives, supervisory_gives}
+use Rattle.channel_bench.proofs.LinkTells.{Gives, awaiting_mode, gives_none, gives_on, idle_is, info_gives, supervisory_gives}
 use Rattle.channel_bench.proofs.Tables.{not_both}
 
 -- What acts do, by what they were: a connect, a disconnect, a frame that asks, or one that makes the link call anew.

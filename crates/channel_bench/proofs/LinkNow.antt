@@ -1,17 +1,12 @@
 -- What the laws say of the link of the two calls at each moment of a run of the bench.
-use Rattle.std.proofs.Common.{◌≡◌, ℕ, Bool, true, false, List, [], ◌∷◌, ◌++◌, map, refl, sym, ap, ◌∙◌, subst, arith}
-use Rattle.std.specs.Bool.{⊤}
-use Rattle.std.specs.Prelude.{All}
+use Rattle.std.proofs.Common.{◌≡◌, false, List, [], ◌∷◌, refl, sym, subst, arith}
 use Rattle.std.specs.List.{AllByRecursion as Each}
 use Rattle.std.proofs.lemmas.List.Elements.{All-from_recursion, recursion_from_All}
 use Rattle.link_machine.specs.Machine.{Machine}
 use Rattle.link_world.specs.declared.end.End.{End}
 use Rattle.link_world.specs.declared.end.End.TheVariants.{A, B}
-use Rattle.link_world.specs.Recorded.{RecordedEnd}
 use Rattle.link_world.specs.Windows.{WindowsFit}
-use Rattle.link_world.specs.World.{World, other}
 use Rattle.link_world.proofs.law.ChangesLaw.{changes_law_holds}
-use Rattle.station.specs.State.{StationState}
 use Rattle.channel_bench.specs.declared.words.BenchWords.{BenchWords}
 use Rattle.channel_bench.specs.BenchLaw.{NoAskDropped}
 use Rattle.channel_bench.specs.BenchOrder.{IsNoted, first_stations, the_calls}
@@ -22,9 +17,9 @@ use Rattle.channel_bench.specs.JointRun.{Step, Stations, all_stepped, state_of}
 use Rattle.channel_bench.specs.LinkOfCalls.{first_world, link_at_end, world_of}
 use Rattle.channel_bench.specs.LinkSteps.{LinkStep, steps_of}
 use Rattle.channel_bench.specs.LinksTell.{RunsIn}
-use Rattle.channel_bench.specs.MatchedLaw.{DropsNoAsk, IsEventOfCaller, IsOfNoHost, OnlyACalls, pairs_in}
+use Rattle.channel_bench.specs.MatchedLaw.{DropsNoAsk, IsEventOfCaller, OnlyACalls, pairs_in}
 use Rattle.channel_bench.specs.RunsTell.{AllToldInOne, runs_behind}
-use Rattle.channel_bench.specs.SetUpsSeen.{IsGivenWhileUp, as_seen, link_steps_at, set_ups_seen}
+use Rattle.channel_bench.specs.SetUpsSeen.{IsGivenWhileUp, link_steps_at, set_ups_seen}
 use Rattle.channel_bench.specs.StationsLaw.{IsMachineOf, LinkKeepsOrder, first_chosen}
 use Rattle.channel_bench.specs.Words.{seed_at}
 use Rattle.channel_bench.proofs.CallerLaws.{events_by}

@@ -1,53 +1,40 @@
 -- A step of a station of the bench keeps what its host program has seen of its link.
-use Rattle.std.proofs.Common.{◌≡◌, ℕ, ◌<◌, ◌≤◌, ◌==◌, Bool, true, false, List, [], ◌∷◌, ◌++◌, length, Option, Some, None, is_some, refl, sym, ap, ◌∙◌, subst, arith, inl, inr}
-use Rattle.std.specs.Bool.{⊤}
-use Rattle.std.specs.Prelude.{Any}
+use Rattle.std.proofs.Common.{◌≡◌, ℕ, Bool, true, false, List, [], ◌∷◌, ◌++◌, Option, is_some, refl, sym, ap, ◌∙◌, subst}
 use Rattle.std.specs.List.{AllByRecursion as Each}
-use Rattle.std.proofs.lemmas.Bool.{eq-eqb}
-use Rattle.std.proofs.lemmas.List.{append-nil}
-use Rattle.std.proofs.lemmas.List.Folds.{list_any-from_Any}
-use Rattle.link_machine.specs.Event.{Event as LinkEvent}
-use Rattle.link_machine.specs.Event.Event.{Send as LinkSend}
-use Rattle.link_machine.specs.declared.state.LinkState.{LinkState}
-use Rattle.link_machine.specs.declared.state.LinkState.TheVariants.{Idle, Calling, Up, Releasing}
 use Rattle.link_machine.specs.Machine.{Machine}
 use Rattle.link_world.specs.declared.end.End.{End}
 use Rattle.link_world.specs.declared.end.End.TheVariants.{A, B}
 use Rattle.link_world.specs.World.{other}
 use Rattle.link_world.proofs.law.Each.{each_append}
-use Rattle.station.specs.Links.{Link}
 use Rattle.station.specs.State.{StationState}
 use Rattle.station.specs.Turn.{Turn, begin}
 use Rattle.channel_bench.specs.declared.words.BenchWords.{BenchWords}
 use Rattle.channel_bench.specs.BenchState.{Near, SideState}
-use Rattle.channel_bench.specs.BenchSteps.{IsStep, program_id, there_after}
-use Rattle.channel_bench.specs.BenchTick.{AcceptsProgram, with_giving}
-use Rattle.channel_bench.specs.HostProgram.{ProgramState, giving, most_octets, told_all}
+use Rattle.channel_bench.specs.BenchSteps.{IsStep, there_after}
+use Rattle.channel_bench.specs.HostProgram.{ProgramState, told_all}
 use Rattle.channel_bench.specs.InFlight.{Moment, after_moments, hears_ask, nothing_sent, sent_by}
 use Rattle.channel_bench.specs.InFlight.Moment.{Steps}
 use Rattle.channel_bench.specs.JointRun.{IsTurn, Step, Stations, at_end, state_of, with_state}
 use Rattle.channel_bench.specs.LinkSteps.{LinkStep, steps_of, turn_steps}
 use Rattle.channel_bench.specs.LinksTell.{RunsIn}
 use Rattle.channel_bench.specs.RunsTell.{runs_behind}
-use Rattle.channel_bench.specs.SetUpsSeen.{IsGivenWhileUp, seen_by_all}
-use Rattle.channel_bench.specs.StationsLaw.{IsMachineOf, first_chosen}
-use Rattle.channel_bench.proofs.Chains.{IsChain, StandsAsked, asked_append, asked_behind, behind_append, called_append, called_behind, chain_parts, last_machine, made_by}
+use Rattle.channel_bench.specs.SetUpsSeen.{seen_by_all}
+use Rattle.channel_bench.proofs.Chains.{IsChain, asked_behind, behind_append, called_behind, chain_parts, last_machine}
 use Rattle.channel_bench.proofs.CoreRun.{Occurs, Usual, input_of}
 use Rattle.channel_bench.proofs.CoreRun.Usual.{connects, disconnects, gives, hears, joins_kiss, joins_program, registers, sets_full, ticks}
 use Rattle.channel_bench.proofs.Framed.{framed}
-use Rattle.channel_bench.proofs.GivesOne.{GivesOne, gives_one, taken}
 use Rattle.channel_bench.proofs.HostsStay.{HasHosts}
 use Rattle.channel_bench.proofs.LinkDid.{is_connect, is_disconnect}
 use Rattle.channel_bench.proofs.LinkNow.{GivenUp, Known, LinkNow, first_machine, link_chain, link_now, links_of}
-use Rattle.channel_bench.proofs.OwnLinks.{Cause, IsBy, Says, chosen, messages_of}
+use Rattle.channel_bench.proofs.OwnLinks.{Cause, IsBy, chosen, messages_of}
 use Rattle.channel_bench.proofs.OwnLinks.Cause.{connecting, disconnecting, nothing, others, sending}
 use Rattle.channel_bench.proofs.OwnMessages.{Comes, IsRefusable, cause_in, usual_comes}
 use Rattle.channel_bench.proofs.OwnMessages.Comes.{by_link, joined, refused, replied}
-use Rattle.channel_bench.proofs.ProgramSees.{GaveAll, GivesNothing, Sees, send_sees, steps_see}
+use Rattle.channel_bench.proofs.ProgramSees.{GaveAll, GivesNothing, Sees, steps_see}
 use Rattle.channel_bench.proofs.ProgramsAsk.{hosts_at}
 use Rattle.channel_bench.proofs.Shorts.{ShortStep, steps_written}
-use Rattle.channel_bench.proofs.SideSees.{SideSees, asked_kept, by_connect, by_disconnect, by_gives, called_kept, each_map, joined_sees, linked, never_asks, none_given_up, none_short, refused_sees, replied_sees, seen_append, side_after}
-use Rattle.channel_bench.proofs.StepSees.{AtMostOne, IsReady, SeesAt, Wishes, connect_wishes, connects_one, disconnect_wishes, disconnects_one, far_sees, heard_from, links_more, matched_last, not_sending, plain_wishes, queue_more, queue_of, runs_set_up, step_laws, uncalled_rests, unshown_of}
+use Rattle.channel_bench.proofs.SideSees.{SideSees, by_connect, by_disconnect, by_gives, each_map, joined_sees, linked, none_given_up, none_short, refused_sees, replied_sees, seen_append, side_after}
+use Rattle.channel_bench.proofs.StepSees.{IsReady, SeesAt, Wishes, connect_wishes, connects_one, disconnect_wishes, disconnects_one, far_sees, heard_from, links_more, matched_last, not_sending, plain_wishes, queue_more, queue_of, runs_set_up, step_laws, uncalled_rests, unshown_of}
 use Rattle.channel_bench.proofs.ThereStays.{HasProgram, is_there, there_grows}
 
 -- the step as it is noted

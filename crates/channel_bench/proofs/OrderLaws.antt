@@ -1,30 +1,26 @@
 -- The law on a bench, from the law on two stations of which one alone calls: what the ends of the link got in order,
 -- the host programs got in order.
-use Rattle.std.proofs.Common.{◌≡◌, List, [], ◌∷◌, map, refl, sym, ap, ◌∙◌, subst, arith}
-use Rattle.std.proofs.lemmas.List.Elements.{All-from_recursion, recursion_from_All}
+use Rattle.std.proofs.Common.{◌≡◌, List, [], ◌∷◌, map, refl, sym, ap, ◌∙◌, subst}
+use Rattle.std.proofs.lemmas.List.Elements.{All-from_recursion}
 use Rattle.link_world.specs.declared.end.End.TheVariants.{A, B}
 use Rattle.link_world.specs.Origin.{GotInOrder as PacketsInOrder}
 use Rattle.link_world.specs.Recorded.{RecordedEnd}
 use Rattle.link_world.specs.SetUps.{SetUp as LinkSetUp}
-use Rattle.link_world.specs.Windows.{WindowsFit}
 use Rattle.link_world.proofs.law.ChangesLaw.{changes_law_holds}
 use Rattle.channel_bench.specs.declared.report.SetUp.{SetUp}
 use Rattle.channel_bench.specs.declared.words.BenchWords.{BenchWords}
 use Rattle.channel_bench.specs.BenchLaw.{BenchLaw, IsFollowed, NoAskDropped, ProgramsFollow}
 use Rattle.channel_bench.specs.BenchOrder.{IsNoted, set_up_of, stations_of, steps_of_run, the_calls}
-use Rattle.channel_bench.specs.BenchState.{BenchState, config_of, params_of}
-use Rattle.channel_bench.specs.CallerLaw.{BAsksNothing}
+use Rattle.channel_bench.specs.BenchState.{BenchState, config_of}
 use Rattle.channel_bench.specs.HostProgram.{ProgramState, set_ups_of}
 use Rattle.channel_bench.specs.KeepsOrder.{GotInOrder, KeepsOrder}
 use Rattle.channel_bench.specs.InFlight.{AreMatched, nothing_sent}
 use Rattle.channel_bench.specs.Report.{Report}
 use Rattle.channel_bench.specs.BenchRun.{IsOver}
-use Rattle.channel_bench.specs.LinkOfCalls.{link_at_end, world_of}
-use Rattle.channel_bench.specs.LinkSteps.{steps_of}
-use Rattle.channel_bench.specs.MatchedLaw.{DropsNoAsk, IsEventOfCaller, OnlyACalls, pairs_in}
+use Rattle.channel_bench.specs.LinkOfCalls.{world_of}
+use Rattle.channel_bench.specs.MatchedLaw.{pairs_in}
 use Rattle.channel_bench.specs.SetUpsSeen.{Seen, as_seen, set_ups_seen}
 use Rattle.channel_bench.specs.Words.{seed_at}
-use Rattle.channel_bench.proofs.CallerLaws.{events_by}
 use Rattle.channel_bench.proofs.CoreRun.{core_kept}
 use Rattle.channel_bench.proofs.LinkNow.{GivenUp, links_of, only_a_calls, windows}
 use Rattle.channel_bench.proofs.GotOctets.{octets_in_order, seen_as}

@@ -1,5 +1,5 @@
 -- The messages of a host program of the bench, each as what it makes of its station and of what the program is sent.
-use Rattle.std.proofs.Common.{◌≡◌, ℕ, ◌==◌, ◌&&◌, ◌≤◌, nat_lt, Bool, true, false, List, [], ◌∷◌, ◌++◌, length, map, cond, if◌then◌else◌, Option, Some, None, is_none, refl, sym, ap, ◌∙◌, subst, arith}
+use Rattle.std.proofs.Common.{◌≡◌, ℕ, ◌==◌, nat_lt, Bool, true, false, List, [], ◌∷◌, ◌++◌, length, map, cond, if◌then◌else◌, Option, Some, None, refl, sym, ap, ◌∙◌, subst, arith}
 use Rattle.std.specs.Bool.{⊤}
 use Rattle.std.specs.Prelude.{MatchBool}
 use Rattle.std.specs.List.{AllByRecursion as Each}
@@ -21,27 +21,27 @@ use Rattle.station.specs.declared.host_out.Piece.{Piece}
 use Rattle.station.specs.AgwKinds.{connect_kind, connect_via_kind, data_kind, disconnect_kind, register_kind}
 use Rattle.station.specs.AgwRequests.{AreAnswered, IsAnswered, IsCall, IsCallMade, called_pid, called_route, calls, data_pid, disconnecting as disconnecting_act, giving, giving_packet, may_call, own_key, packets_of, refused_reply, register_reply, registering, replying, with_registration}
 use Rattle.station.specs.CallFields.{call_in, call_of_text}
-use Rattle.station.specs.Connections.{Connection, connection_of, most_connections, new_connection}
+use Rattle.station.specs.Connections.{Connection, connection_of, most_connections}
 use Rattle.station.specs.Host.{AreTaken, AreTakenBy, ending, joining, new_messages, taking, with_host}
 use Rattle.station.specs.HostMessages.{no_call}
 use Rattle.station.specs.Links.{link_at}
 use Rattle.station.specs.Monitoring.{monitor_pieces}
 use Rattle.station.specs.Registrations.{may_register, registered, registrar}
-use Rattle.station.specs.Routes.{Route, path_along, repeaters_in, route_of}
+use Rattle.station.specs.Routes.{Route, path_along, repeaters_in}
 use Rattle.station.specs.State.{StationState}
 use Rattle.station.specs.Ticks.{ticking_links}
 use Rattle.station.specs.Turn.{Out, Turn, begin, changing, closing}
 use Rattle.channel_bench.specs.BenchSteps.{program_id}
 use Rattle.channel_bench.specs.BenchTick.{kiss_id}
 use Rattle.channel_bench.specs.HostProgram.{call_at, full_duplex_octets, request, request_between}
-use Rattle.channel_bench.specs.JointRun.{Input, IsTurn}
+use Rattle.channel_bench.specs.JointRun.{IsTurn}
 use Rattle.channel_bench.specs.LinkSteps.{LinkStep, answer_steps, call_steps, data_steps, disconnect_steps, ending_steps, made_steps, message_steps, octet_steps, octet_steps_by, sends_at, turn_steps}
 use Rattle.channel_bench.proofs.CoreRun.{Occurs, Usual, input_of}
 use Rattle.channel_bench.proofs.CoreRun.Usual.{connects, disconnects, gives, hears, joins_kiss, joins_program, registers, sets_full, ticks}
 use Rattle.channel_bench.proofs.HostStreams.{none_bad, one_new}
 use Rattle.channel_bench.proofs.HostsStay.{HasHosts, IsHosts, IsSet, SameHosts, found, same_hosts, set_by}
 use Rattle.channel_bench.proofs.HostsStay.IsSet.{full, unheard}
-use Rattle.channel_bench.proofs.OwnLinks.{Cause, IsFromPartner, IsOwnRegistration, IsUnshown, OwnsAll, Says, calm_says, chosen, event_says, heard_says, made_says, messages_of, none_monitored, own_pieces, piece_to, same_says, says_along, says_on, ticks_say}
+use Rattle.channel_bench.proofs.OwnLinks.{Cause, IsFromPartner, IsOwnRegistration, IsUnshown, OwnsAll, Says, calm_says, chosen, event_says, heard_says, made_says, messages_of, none_monitored, own_pieces, piece_to, same_says, says_along, ticks_say}
 use Rattle.channel_bench.proofs.OwnLinks.Cause.{connecting, disconnecting, nothing, others, sending}
 use Rattle.channel_bench.proofs.ProgramsAsk.{between_written, registers_written}
 use Rattle.channel_bench.proofs.TurnWalks.{ticks_kept}

@@ -1,11 +1,11 @@
 -- A host program of the bench sees the set-ups of its link: it is told what the link tells, message by message.
-use Rattle.std.proofs.Common.{◌≡◌, ℕ, ◌==◌, ◌||◌, Bool, true, false, List, [], ◌∷◌, ◌++◌, length, map, fold, cond, if◌then◌else◌, Option, Some, None, is_some, refl, sym, ap, ◌∙◌, subst, inl, inr}
+use Rattle.std.proofs.Common.{◌≡◌, ℕ, ◌==◌, ◌||◌, Bool, true, false, List, [], ◌∷◌, ◌++◌, length, map, fold, cond, Option, Some, None, is_some, refl, sym, ap, ◌∙◌, subst}
 use Rattle.std.specs.Bool.{⊤}
-use Rattle.std.specs.Prelude.{filter, flat_map, option_map}
+use Rattle.std.specs.Prelude.{option_map}
 use Rattle.std.specs.Option.{option_to_list}
 use Rattle.std.specs.List.{AllByRecursion as Each}
 use Rattle.std.proofs.lemmas.Grind.{flat_map-append}
-use Rattle.std.proofs.lemmas.List.{append-nil, append_assoc, map-append}
+use Rattle.std.proofs.lemmas.List.{append-nil, map-append}
 use Rattle.agwpe_port.specs.Messages.{spelling}
 use Rattle.agwpe_port.specs.declared.message.AgwMessage.{AgwMessage}
 use Rattle.agwpe_port.proofs.WrittenLemmas.{IsWritten}
@@ -24,7 +24,7 @@ use Rattle.channel_bench.specs.HostProgram.{ProgramState, closing, getting, givi
 use Rattle.channel_bench.specs.LinkSteps.{LinkStep}
 use Rattle.channel_bench.specs.LinksTell.{AreToldInOne, runs_after}
 use Rattle.channel_bench.specs.RunsTell.{AllToldInOne, runs_behind, told_in}
-use Rattle.channel_bench.specs.SetUpsSeen.{Seen, change_last_seen, last_seen_changed, seen_by, seen_by_all, seen_giving, seen_told, with_given, with_got}
+use Rattle.channel_bench.specs.SetUpsSeen.{Seen, change_last_seen, seen_by, seen_by_all, seen_giving, seen_told, with_given, with_got}
 use Rattle.channel_bench.proofs.Chains.{asked_after, called_after, ended_in, opened_in}
 use Rattle.channel_bench.proofs.HostStreams.{IsWhole, one_new, whole_more}
 use Rattle.channel_bench.proofs.OwnLinks.{message_at, messages_by, messages_of, own_pieces, piece_to}

@@ -1,5 +1,5 @@
 -- In a run of the bench each host program sees the set-ups of its link: the first call, and then tick by tick.
-use Rattle.std.proofs.Common.{◌≡◌, ℕ, zero, suc, ◌+◌, ◌≤◌, ◌==◌, Bool, true, false, List, [], ◌∷◌, ◌++◌, map, cond, Option, Some, None, refl, sym, ap, ◌∙◌, subst, arith}
+use Rattle.std.proofs.Common.{◌≡◌, ℕ, zero, suc, ◌+◌, ◌≤◌, Bool, true, false, List, [], ◌∷◌, ◌++◌, map, cond, None, refl, sym, ap, ◌∙◌, subst, arith}
 use Rattle.std.specs.Bool.{⊤}
 use Rattle.std.specs.Prelude.{MatchBool}
 use Rattle.std.specs.List.{AllByRecursion as Each}
@@ -9,25 +9,22 @@ use Rattle.link_machine.specs.Event.{Event as LinkEvent}
 use Rattle.link_machine.specs.Event.Event.{Connect as LinkConnect, Send as LinkSend, Disconnect as LinkDisconnect, Hear as LinkHear, Tick as LinkTick}
 use Rattle.link_world.specs.declared.end.End.{End}
 use Rattle.link_world.specs.declared.end.End.TheVariants.{A, B}
-use Rattle.link_world.specs.World.{other}
 use Rattle.station.specs.declared.host_event.HostEvent.{HostEvent}
 use Rattle.station.specs.declared.host_event.HostEvent.TheVariants.{Bytes}
 use Rattle.station.specs.Turn.{Turn, begin}
 use Rattle.channel_bench.specs.declared.words.BenchWords.{BenchWords}
-use Rattle.channel_bench.specs.BenchOrder.{stations_of, the_calls}
 use Rattle.channel_bench.specs.BenchRun.{AreTicks}
-use Rattle.channel_bench.specs.BenchState.{AtEnd, BenchState, Near, SideState, near, new_bench, side_at, with_near}
+use Rattle.channel_bench.specs.BenchState.{BenchState, Near, SideState, near, new_bench, with_near}
 use Rattle.channel_bench.specs.BenchSteps.{IsStep, IsTold, program_id, there_after}
 use Rattle.channel_bench.specs.BenchTick.{ArePartsMade, IsPart, IsTick, Part, beginning, each_tick, joins, parts_of, sets_duplex, sets_full_duplex}
-use Rattle.channel_bench.specs.BenchTick.Part.{AsksOrCalls, Closes, Gives, Listens, Sounds, Tells, Ticks}
+use Rattle.channel_bench.specs.BenchTick.Part.{Closes, Tells}
 use Rattle.channel_bench.specs.HostProgram.{ProgramState, connect_octets}
-use Rattle.channel_bench.specs.InFlight.{Moment, after_moments, nothing_sent, sent_by}
 use Rattle.channel_bench.specs.InFlight.Moment.{Steps}
-use Rattle.channel_bench.specs.JointRun.{IsTurn, Step, with_state}
+use Rattle.channel_bench.specs.JointRun.{IsTurn}
 use Rattle.channel_bench.specs.JointRun.Input.{FromHost}
 use Rattle.channel_bench.specs.LinkSteps.{LinkStep, steps_of, turn_steps}
 use Rattle.channel_bench.specs.Sounding.{ticked}
-use Rattle.channel_bench.proofs.BenchSees.{Holds, HoldsNear, Premises, asks_or_calls_holds, at_end_holds, both_of, closes_hold, front, gives_hold, listens_hold, little_of, near_holds, near_there, new_holds, sounds_hold, ticks_hold}
+use Rattle.channel_bench.proofs.BenchSees.{Holds, HoldsNear, Premises, asks_or_calls_holds, at_end_holds, both_of, closes_hold, front, gives_hold, listens_hold, near_holds, near_there, new_holds, sounds_hold, ticks_hold}
 use Rattle.channel_bench.proofs.Chains.{called_behind}
 use Rattle.channel_bench.proofs.CoreRun.{Occurs, Usual, input_of}
 use Rattle.channel_bench.proofs.CoreRun.Usual.{connects, disconnects, gives, hears, joins_kiss, joins_program, registers, sets_full, ticks}

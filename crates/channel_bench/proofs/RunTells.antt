@@ -1,6 +1,5 @@
 -- A link tells of data only while a set-up runs: over a whole run of two stations.
-use Rattle.std.proofs.Common.{◌≡◌, Bool, false, List, Option, Some, None, refl, sym, ap, ◌∙◌, subst}
-use Rattle.link_machine.specs.declared.state.LinkState.{LinkState}
+use Rattle.std.proofs.Common.{◌≡◌, false, List, Option, Some, None, ap, ◌∙◌, subst}
 use Rattle.link_machine.specs.Machine.{Machine}
 use Rattle.link_world.specs.declared.end.End.{End}
 use Rattle.link_world.specs.declared.end.End.TheVariants.{A, B}

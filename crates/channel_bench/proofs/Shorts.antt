@@ -1,10 +1,9 @@
 -- No packet that a link tells of is longer than those that host programs give: by the law, what an end got it was given.
-use Rattle.std.proofs.Common.{◌≡◌, ◌≢◌, ℕ, zero, suc, ◌≤◌, Bool, true, false, List, [], ◌∷◌, ◌++◌, length, map, fold, Option, Some, None, refl, sym, ap, ◌∙◌, subst, arith}
+use Rattle.std.proofs.Common.{◌≡◌, ◌≢◌, ℕ, zero, suc, ◌≤◌, Bool, true, false, List, [], ◌∷◌, ◌++◌, length, map, fold, Some, None, refl, subst, arith}
 use Rattle.std.specs.Bool.{⊤}
-use Rattle.std.specs.Prelude.{flat_map, slice_get}
+use Rattle.std.specs.Prelude.{slice_get}
 use Rattle.std.specs.List.{AllByRecursion as Each}
 use Rattle.std.proofs.lemmas.List.Elements.{recursion_from_All}
-use Rattle.agwpe_port.specs.declared.message.AgwMessage.{AgwMessage}
 use Rattle.agwpe_port.proofs.WrittenLemmas.{IsWritten}
 use Rattle.selective_reject.specs.declared.packet.Packet.{Packet}
 use Rattle.link_machine.specs.declared.acts.Told.{Told}

@@ -1,6 +1,5 @@
 -- At each side of a bench the host program has seen the set-ups of its link: what holds of a side, and how a step keeps it.
-use Rattle.std.proofs.Common.{◌≡◌, ℕ, ◌==◌, ◌||◌, ◌<◌, ◌≤◌, Bool, true, false, List, [], ◌∷◌, ◌++◌, length, map, cond, if◌then◌else◌, Option, Some, None, is_some, refl, sym, ap, ◌∙◌, subst, arith, inl, inr}
-use Rattle.std.specs.Bool.{⊤}
+use Rattle.std.proofs.Common.{◌≡◌, ℕ, ◌==◌, ◌||◌, Bool, true, false, List, [], ◌∷◌, ◌++◌, map, cond, Option, Some, None, is_some, refl, sym, ap, ◌∙◌, subst, inl, inr}
 use Rattle.std.specs.List.{AllByRecursion as Each}
 use Rattle.std.specs.Option.{option_to_list}
 use Rattle.std.proofs.lemmas.Bool.{or_cases}
@@ -21,17 +20,17 @@ use Rattle.channel_bench.specs.BenchSteps.{told_pieces}
 use Rattle.channel_bench.specs.HostProgram.{ProgramState, closing, getting, opening, set_ups_of, told as told_message, told_all}
 use Rattle.channel_bench.specs.InFlight.{LinkFrame}
 use Rattle.channel_bench.specs.LinkSteps.{LinkStep}
-use Rattle.channel_bench.specs.RunsTell.{AllToldInOne, runs_behind, told_in}
+use Rattle.channel_bench.specs.RunsTell.{runs_behind, told_in}
 use Rattle.channel_bench.specs.SetUpsSeen.{IsGivenWhileUp, Seen, seen_by, seen_by_all}
-use Rattle.channel_bench.proofs.Chains.{AsksInSetUp, asked_after, asked_append, asked_behind, behind_append, called_after, called_append, called_behind}
-use Rattle.channel_bench.proofs.Framed.{framed, one_framed}
+use Rattle.channel_bench.proofs.Chains.{AsksInSetUp, asked_after, asked_behind, called_after, called_behind}
+use Rattle.channel_bench.proofs.Framed.{framed}
 use Rattle.channel_bench.proofs.HostStreams.{IsWhole}
 use Rattle.channel_bench.proofs.LinkDid.{is_connect, is_disconnect}
 use Rattle.channel_bench.proofs.LinkNow.{GivenUp}
-use Rattle.channel_bench.proofs.OwnLinks.{Cause, IsBy, IsOwnFrame, OwnsAll, Says, cause_of, messages_of, own_pieces, piece_to}
-use Rattle.channel_bench.proofs.OwnLinks.Cause.{connecting, disconnecting, nothing, others, sending}
+use Rattle.channel_bench.proofs.OwnLinks.{Cause, IsOwnFrame, OwnsAll, Says, cause_of, messages_of, own_pieces}
+use Rattle.channel_bench.proofs.OwnLinks.Cause.{connecting, disconnecting, sending}
 use Rattle.channel_bench.proofs.OwnMessages.{Replied}
-use Rattle.channel_bench.proofs.ProgramSees.{GaveAll, GivesNothing, IsToldAll, Sees, items_asked, items_called, items_of, pieces_told, told_items}
+use Rattle.channel_bench.proofs.ProgramSees.{GaveAll, GivesNothing, Sees, items_asked, items_called, items_of, pieces_told, told_items}
 use Rattle.channel_bench.proofs.Shorts.{GivesShort, IsSome, ShortStep}
 use Rattle.channel_bench.proofs.Tables.{not_both}
 use Rattle.channel_bench.proofs.ThereStays.{HasProgram, is_there}

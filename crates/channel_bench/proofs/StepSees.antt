@@ -1,12 +1,9 @@
 -- A step of a bench keeps what its host programs have seen, by the laws of the link.
-use Rattle.std.proofs.Common.{◌≡◌, ℕ, ◌+◌, ◌<◌, ◌≤◌, ◌==◌, nat_lt, Bool, true, false, List, [], ◌∷◌, ◌++◌, length, take, drop, map, cond, Option, Some, None, is_some, refl, sym, ap, ◌∙◌, subst, arith, inl, inr}
+use Rattle.std.proofs.Common.{◌≡◌, ℕ, Bool, true, false, List, [], ◌∷◌, ◌++◌, cond, Option, Some, None, is_some, refl, sym, ap, ◌∙◌, subst, arith, inl, inr}
 use Rattle.std.specs.Bool.{⊤}
-use Rattle.std.specs.Prelude.{Any, MatchBool, slice_get}
+use Rattle.std.specs.Prelude.{MatchBool}
 use Rattle.std.specs.List.{AllByRecursion as Each}
-use Rattle.std.proofs.lemmas.Bool.{eq-eqb}
 use Rattle.std.proofs.lemmas.List.{append-nil, append_assoc}
-use Rattle.std.proofs.lemmas.List.Folds.{list_any-from_Any}
-use Rattle.ax25_address.specs.FramePath.{BeginsWithPath}
 use Rattle.ax25_address.specs.declared.path.Path.{Path}
 use Rattle.ax25_address.proofs.OneReading.{BeginsWithPath-same}
 use Rattle.agwpe_port.specs.Messages.{spelling}
@@ -19,8 +16,6 @@ use Rattle.link_machine.specs.Machine.{Machine}
 use Rattle.link_world.specs.declared.end.End.{End}
 use Rattle.link_world.specs.declared.end.End.TheVariants.{A, B}
 use Rattle.link_world.specs.World.{other}
-use Rattle.link_world.proofs.law.Each.{each_append}
-use Rattle.station.specs.declared.host_event.PortKind.{PortKind}
 use Rattle.station.specs.declared.host_event.PortKind.TheVariants.{Kiss, Agw}
 use Rattle.station.specs.AgwKinds.{connect_kind, disconnect_kind}
 use Rattle.station.specs.AgwRequests.{IsCall, called_pid, called_route, may_call, own_key, refused_reply, replying, IsCallMade}
@@ -32,36 +27,34 @@ use Rattle.station.specs.State.{StationState}
 use Rattle.station.specs.Turn.{Turn, begin}
 use Rattle.channel_bench.specs.declared.words.BenchWords.{BenchWords}
 use Rattle.channel_bench.specs.BenchOrder.{the_calls}
-use Rattle.channel_bench.specs.BenchState.{Near, SideState}
-use Rattle.channel_bench.specs.BenchSteps.{IsStep, program_id, there_after}
+use Rattle.channel_bench.specs.BenchState.{SideState}
+use Rattle.channel_bench.specs.BenchSteps.{program_id}
 use Rattle.channel_bench.specs.HostProgram.{ProgramState, request_between, told_all}
-use Rattle.channel_bench.specs.InFlight.{AreMatched, BothWays, IsInFlight, IsMatched, IsMatchedIn, LinkFrame, Moment, OneWay, after_moment, after_moments, hears_ask, nothing_sent, sent_by, steps_in}
-use Rattle.channel_bench.specs.InFlight.Moment.{Passes, Steps}
-use Rattle.channel_bench.specs.JointRun.{Input, IsTurn, Step, Stations, at_end, state_of, with_state}
+use Rattle.channel_bench.specs.InFlight.{AreMatched, BothWays, IsMatched, IsMatchedIn, LinkFrame, Moment, OneWay, after_moment, after_moments, hears_ask, nothing_sent, sent_by, steps_in}
+use Rattle.channel_bench.specs.InFlight.Moment.{Steps}
+use Rattle.channel_bench.specs.JointRun.{IsTurn, Step, Stations, at_end}
 use Rattle.channel_bench.specs.JointRun.Input.{OffAir}
 use Rattle.channel_bench.specs.LinkOfCalls.{Calls, link_at_end}
 use Rattle.channel_bench.specs.LinkSteps.{Choice, LinkStep, call_steps, disconnect_steps, link_step, made_steps, steps_for, steps_of, turn_steps}
 use Rattle.channel_bench.specs.LinksTell.{RunsIn}
 use Rattle.channel_bench.specs.RunsTell.{AllToldInOne, runs_behind, told_in}
-use Rattle.channel_bench.specs.SetUpsSeen.{link_steps_at, seen_by_all, set_ups_seen}
-use Rattle.channel_bench.proofs.Chains.{AsksInSetUp, HasSetUp, IsChain, StandsCalled, asked_append, asked_behind, behind_append, called_append, called_behind, chain_parts, last_machine, made_by, made_of, told_append}
-use Rattle.channel_bench.proofs.CoreRun.{IsCaller, Occurs, Usual, input_of}
+use Rattle.channel_bench.specs.SetUpsSeen.{link_steps_at, seen_by_all}
+use Rattle.channel_bench.proofs.Chains.{AsksInSetUp, HasSetUp, IsChain, StandsCalled, asked_append, asked_behind, called_append, called_behind, made_by, made_of, told_append}
+use Rattle.channel_bench.proofs.CoreRun.{Usual, input_of}
 use Rattle.channel_bench.proofs.CoreRun.Usual.{connects, disconnects, gives, hears, joins_kiss, joins_program, registers, sets_full, ticks}
 use Rattle.channel_bench.proofs.Framed.{framed}
 use Rattle.channel_bench.proofs.HostsStay.{HasHosts, IsHosts}
 use Rattle.channel_bench.proofs.LinkDid.{is_connect, is_disconnect}
-use Rattle.channel_bench.proofs.LinkNow.{GivenUp, Known, LinkNow, first_machine, law_short, link_chain, link_now, link_told, links_of}
+use Rattle.channel_bench.proofs.LinkNow.{GivenUp, Known, law_short, link_told, links_of}
 use Rattle.channel_bench.proofs.NotedRun.{moments_more, steps_more}
-use Rattle.channel_bench.proofs.OwnLinks.{Cause, IsBy, IsFromPartner, IsOwnFrame, IsUnshown, Says, chosen, messages_of}
-use Rattle.channel_bench.proofs.OwnLinks.Cause.{connecting, disconnecting, nothing, others, sending}
-use Rattle.channel_bench.proofs.OwnMessages.{Comes, IsHeardFrom, IsRefusable, Replied, cause_in, said_go, usual_comes}
-use Rattle.channel_bench.proofs.OwnMessages.Comes.{by_link, joined, refused, replied}
-use Rattle.channel_bench.proofs.ProgramSees.{GaveAll, GivesNothing, Sees, steps_see}
-use Rattle.channel_bench.proofs.ProgramsAsk.{between_written, hosts_at}
-use Rattle.channel_bench.proofs.Shorts.{GotShort, ShortStep, TellsShort, each_slice, steps_short, steps_written}
-use Rattle.channel_bench.proofs.SideSees.{SideSees, asked_kept, asked_one, by_connect, by_disconnect, by_gives, called_kept, called_one, each_map, joined_sees, linked, never_asks, none_given_up, none_short, refused_sees, replied_sees, seen_append, side_after, some_seen}
+use Rattle.channel_bench.proofs.OwnLinks.{IsFromPartner, IsOwnFrame, IsUnshown, chosen, messages_of}
+use Rattle.channel_bench.proofs.OwnLinks.Cause.{sending}
+use Rattle.channel_bench.proofs.OwnMessages.{IsHeardFrom, cause_in, said_go}
+use Rattle.channel_bench.proofs.ProgramSees.{GaveAll, Sees}
+use Rattle.channel_bench.proofs.ProgramsAsk.{between_written}
+use Rattle.channel_bench.proofs.Shorts.{GotShort, ShortStep, TellsShort, each_slice, steps_short}
+use Rattle.channel_bench.proofs.SideSees.{SideSees, asked_kept, asked_one, called_kept, called_one, each_map, never_asks, seen_append, some_seen}
 use Rattle.channel_bench.proofs.Tables.{not_both}
-use Rattle.channel_bench.proofs.ThereStays.{HasProgram, is_there, there_grows}
 use Rattle.channel_bench.proofs.Ways.{queued_by}
 
 -- ---- a run with a step more

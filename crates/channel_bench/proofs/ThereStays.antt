@@ -1,6 +1,5 @@
 -- The connection of a host program of the bench: if the program is there, its station has the connection, which speaks for it.
-use Rattle.std.proofs.Common.{◌≡◌, ℕ, ◌==◌, ◌||◌, not, nat_lt, Bool, true, false, List, [], ◌∷◌, ◌++◌, length, cond, Option, Some, None, is_some, refl, sym, ap, ◌∙◌, subst, arith, inl, inr}
-use Rattle.std.specs.Bool.{⊤}
+use Rattle.std.proofs.Common.{◌≡◌, ℕ, ◌==◌, ◌||◌, not, nat_lt, Bool, true, false, List, [], ◌∷◌, ◌++◌, length, cond, Option, Some, is_some, refl, sym, ap, ◌∙◌, subst, arith, inl, inr}
 use Rattle.std.specs.Prelude.{filter}
 use Rattle.std.specs.List.{list_any}
 use Rattle.std.proofs.lemmas.Bool.{or_cases}
@@ -8,7 +7,6 @@ use Rattle.std.proofs.lemmas.List.Folds.{list_any-append}
 use Rattle.agwpe_port.specs.CallField.{call_field}
 use Rattle.agwpe_port.specs.Messages.{spelling}
 use Rattle.agwpe_port.specs.declared.message.AgwMessage.{AgwMessage}
-use Rattle.agwpe_port.proofs.WrittenLemmas.{IsWritten}
 use Rattle.link_world.specs.declared.end.End.{End}
 use Rattle.station.specs.declared.host_event.HostEvent.TheVariants.{Joined}
 use Rattle.station.specs.declared.host_event.PortKind.{PortKind}
@@ -20,7 +18,6 @@ use Rattle.station.specs.Host.{joining, taking, with_host, with_octets}
 use Rattle.station.specs.Held.{without_ids}
 use Rattle.station.specs.HostMessages.{no_call}
 use Rattle.station.specs.State.{StationState}
-use Rattle.station.specs.Ticks.{ticking_links}
 use Rattle.station.specs.Turn.{Turn, begin, changing, closing}
 use Rattle.channel_bench.specs.BenchSteps.{program_id, there_after}
 use Rattle.channel_bench.specs.BenchTick.{kiss_id}
