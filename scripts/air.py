@@ -31,9 +31,11 @@ def free_port(kept=[]):
             name.close()
 
 
-def connect(port):
+def connect(port, program=None):
     """A socket to a port of a program that opens it as it starts."""
     for _ in range(5000):
+        if program and program.poll() is not None:
+            raise RuntimeError("a station has ended")
         try:
             return socket.create_connection(("127.0.0.1", port), timeout=10)
         except OSError:
@@ -44,17 +46,17 @@ def connect(port):
 class Station:
     """A running `tnc serve`. Its report is kept in a file, so that it may be of any length, and Ctrl-C does not reach it."""
 
-    def __init__(self, tnc, *words):
+    def __init__(self, tnc, *words, env=None):
         self.kiss, self.agw = free_port(), free_port()
         words = [tnc, "serve", "--kiss", str(self.kiss), "--agw", str(self.agw), *map(str, words)]
         pipe, self.report_file = subprocess.PIPE, tempfile.TemporaryFile()
         self.program = subprocess.Popen(
-            words, stdin=pipe, stdout=pipe, stderr=self.report_file, bufsize=0, start_new_session=True
+            words, stdin=pipe, stdout=pipe, stderr=self.report_file, bufsize=0, start_new_session=True, env=env
         )
 
     def connect(self, port):
         """A socket to one of its ports."""
-        return connect(port)
+        return connect(port, self.program)
 
     def end(self):
         """Ends its sound, and tells its exit status and its report."""

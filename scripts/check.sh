@@ -108,6 +108,34 @@ decodes_resampled() {
         && sox -q "$room/48000.wav" "${pcm[@]}" - | "$tnc" decode | cmp -s - "$1.frames"
 }
 
+# RECORDING: of a recording of 48,000 samples a second, raw and as a WAV file, each of its frames is heard.
+decodes_wide() {
+    sox -q "${pcm[@]}" "$1.raw" -r 48000 "$room/48000.wav" \
+        && sox -q "$room/48000.wav" -t raw -e signed -b 16 -c 1 "$room/48000.raw" \
+        && "$tnc" decode --rate 48000 <"$room/48000.raw" >"$room/raw.lines" \
+        && "$tnc" decode --wav <"$room/48000.wav" | cmp -s - "$room/raw.lines" \
+        && "$tnc" decode --wav --threads <"$room/48000.wav" | cmp -s - "$room/raw.lines" \
+        && [ -z "$(sort "$1.frames" | comm -23 - <(sort "$room/raw.lines"))" ]
+}
+
+# FRAMES WORDS..: what encode sends at 300 bits a second is heard there, in order, and no frame of it at 1200.
+comes_back_on_short_wave() {
+    "$tnc" encode --hf "${@:2}" <"$1" >"$room/hf.raw" \
+        && "$tnc" decode --hf <"$room/hf.raw" | cmp -s - "$1" \
+        && [ -z "$("$tnc" decode <"$room/hf.raw")" ]
+}
+
+# FRAMES: atest hears it, each octet.
+is_heard_on_short_wave() {
+    "$tnc" encode --hf <"$1" | sox -q "${pcm[@]}" - -r 48000 "$room/sent.wav" \
+        && heard_by_atest "$room/sent.wav" 300 | cmp -s - "$1"
+}
+
+# TEXT WORDS..: what bench prints.
+benches() {
+    "$tnc" bench "${@:2}" | cmp -s - <(printf "$1")
+}
+
 # RECORDING SIZE: the same where the input comes in pieces of so many octets.
 decodes_pieces() {
     dd status=none ibs=64K obs="$2" if="$1.raw" | "$tnc" decode | cmp -s - "$1.frames"
@@ -261,7 +289,7 @@ loops_roughly() {
 
 # The frames that Dire Wolf's atest hears in a WAV file, as lines of hexadecimal digits.
 heard_by_atest() {
-    atest -B 1200 -h "$1" | sed 's/\x1b\[[0-9;]*[A-Za-z]//g' | awk '
+    atest -B "${2:-1200}" -h "$1" | sed 's/\x1b\[[0-9;]*[A-Za-z]//g' | awk '
         /^  [0-9a-f][0-9a-f][0-9a-f]:  / { octets = substr($0, 9, 48); gsub(/ /, "", octets); line = line octets; next }
         line != "" { print line; line = "" }
         END { if (line != "") print line }'
@@ -319,6 +347,7 @@ for raw in samples/*.raw; do
         check "decode --wav of $raw" decodes_wav "$of"
         check "decode --wav of $raw out of a pipe" decodes_piped_wav "$of"
         check "decode of $raw by way of 48000 samples a second" decodes_resampled "$of"
+        check "decode of $raw at 48000 samples a second" decodes_wide "$of"
         check "encode --wav of $of.frames, read by sox" is_wav_for_sox "$of.frames"
     else
         skip "WAV files of $raw" sox
@@ -329,6 +358,7 @@ for raw in samples/*.raw; do
         check "encode --wav $words of $of.frames, and back" comes_back_from_wav "$of.frames" $words
     done
     check "the lengths of what encode makes of $of.frames" has_lengths "$of.frames"
+    check "encode --hf of $of.frames, and back" comes_back_on_short_wave "$of.frames" --silence 77
 done
 check "C0 and DB in KISS" escapes
 check "decode and show of samples/direwolf-clean.raw" shows_stored_text
@@ -357,6 +387,11 @@ for frames in samples/*.frames; do
     fi
 done
 frames=samples/direwolf-clean.frames
+if has sox atest; then
+    check "encode --hf of $frames, heard by atest" is_heard_on_short_wave "$frames"
+else
+    skip "encode --hf of $frames, heard by atest" "sox or atest"
+fi
 if has sox multimon-ng; then
     check "encode of $frames, heard by multimon-ng" is_heard_by_multimon "$frames"
 else
@@ -382,6 +417,9 @@ check "a line of 14 octets" is_bad_line 0 "short line" 9c6e988a9a40e0ac966484848
 check "a line of 1025 octets" is_bad_line 0 "long line" "$(printf '%02050d' 0)"
 check "a loop" loops
 check "a rough loop" loops_roughly
+nothing="given 0 cbf29ce484222325 got 0 cbf29ce484222325"
+check "a bench" benches "ticks 252\nsent 4 lost 0\nA 1 $nothing\nB 1 $nothing\n" --seed 7 --octets 0 --full
+check "a wide bench" benches "ticks 252\nsent 4 lost 0\nA 1 $nothing\nB 1 $nothing\n" --seed 7 --octets 0 --full --wide
 
 # Live stations: one whose air is silence, one that cannot have its ports, and two that hear each other and carry text both
 # ways between their host programs.
@@ -400,8 +438,8 @@ fi
 # Words that are refused, and streams that fail.
 check "a word that is no command" is_refused decod
 check "no word" is_refused
-for words in "decode --rate 48000" "decode --wav=yes" "decode recording.raw" "decode --help" "--version" \
-    "encode --opening 1" "encode --silence 1000001" "encode --level 9" "encode --level 32768" "show --modulo 16" "loop --seed 7" "loop --seed 7 --frames 1001"; do
+for words in "decode --rate 44100" "decode --hf --threads" "decode --hf --rate 48000" "decode --wav=yes" \
+    "decode recording.raw" "help nothing" "version 1" "bench" "bench --seed 7 --loss 91" "encode --opening 1" "encode --silence 1000001" "encode --level 9" "encode --level 32768" "show --modulo 16" "loop --seed 7" "loop --seed 7 --frames 1001"; do
     check "$words" is_refused $words
 done
 check "decode to a full disk" cannot_write decode <samples/direwolf-clean.raw

@@ -22,6 +22,10 @@ needed_beside() {
         "loop --seed") echo "--frames 0" ;;
         "loop --frames") echo "--seed 0" ;;
         loop*) echo "--seed 0 --frames 0" ;;
+        "bench --seed") echo "--octets 0 --full" ;;
+        "bench --octets") echo "--seed 7 --full" ;;
+        "bench --full") echo "--seed 7 --octets 0" ;;
+        bench*) echo "--seed 7 --octets 0 --full" ;;
         "serve --kiss") echo "--agw 18101" ;;
         "serve --agw") echo "--kiss 18100" ;;
         serve*) echo "--kiss 18100 --agw 18101" ;;
@@ -29,16 +33,18 @@ needed_beside() {
 }
 
 # WORDS..: the program refuses these words, or takes them, with nothing to read (which is no WAV file: status 2). Not
-# everybody may open every port (status 10).
+# everybody may open every port (status 10). Where bench loses or gives most it may find no quiet channel, be spent, or run
+# for minutes (statuses 7, 8, and 124 of timeout).
 is_refused() {
     local status=0
-    "$tnc" "$@" </dev/null >/dev/null 2>&1 || status=$?
+    timeout 5 "$tnc" "$@" </dev/null >/dev/null 2>&1 || status=$?
     [ "$status" = 1 ]
 }
 is_taken() {
     local status=0
-    "$tnc" "$@" </dev/null >/dev/null 2>&1 || status=$?
-    [ "$status" = 0 ] || [[ $status = 2 && " $* " = *" --wav "* ]] || [[ $status = 10 && $1 = serve ]]
+    timeout 5 "$tnc" "$@" </dev/null >/dev/null 2>&1 || status=$?
+    [ "$status" = 0 ] || [[ $status = 2 && " $* " = *" --wav "* ]] || [[ $status = 10 && $1 = serve ]] \
+        || [[ $status =~ ^(7|8|124)$ && $1 = bench ]]
 }
 
 # The number after a number of any length, and the one before, which is no number before 0.
@@ -150,6 +156,47 @@ for command in $commands; do
             fault "$command $option has neither a default nor has to be given"
         fi
     done
+done
+
+# What help says: the synopsis of the page, the options of each command, and their ranges and defaults.
+synopsis=$(awk '
+    /^\.SH / { inside = $2 == "SYNOPSIS"; next }
+    !inside { next }
+    /^\.br/ { print line; line = ""; open = ""; next }
+    {
+        gsub(/\\-/, "-"); macro = $1; $1 = ""; sub(/^ /, "")
+        if (macro == ".RB" || macro == ".RI" || macro == ".IR") { gsub(/\[ /, "["); gsub(/ \]/, "]") }
+        line = line (line == "" ? "" : " ") $0
+    }
+    END { if (line != "") print line }
+' <(sed '/^\.SH DESCRIPTION/,$d' "$page"))
+# Standard input: lines, of which those that begin with more spaces than two go on.
+joined() {
+    sed 's/^  \([^ ]\)/\1/' | awk '/^   *[^ ]/ { sub(/^ */, ""); line = line " " $0; next } { if (line != "") print line; line = $0 }
+        END { if (line != "") print line }'
+}
+help=$("$tnc" help)
+[ "$(joined <<<"$help" | grep '^tnc ')" = "$synopsis" ] || fault "help has another synopsis"
+for words in --help -h; do
+    [ "$("$tnc" $words)" = "$help" ] || fault "$words is not help"
+done
+[ "$("$tnc" version)" = "$("$tnc" --version)" ] || fault "--version is not version"
+for command in $commands; do
+    help=$("$tnc" help "$command")
+    [ "$("$tnc" "$command" --help)" = "$help" ] || fault "$command --help is not help $command"
+    [ "$(joined <<<"$help" | sed -n '1s/^Usage: //p')" = "$(grep "^tnc $command\( \|$\)" <<<"$synopsis")" ] \
+        || fault "help $command has another synopsis"
+    told=$(sed -n 's/^  \(--[a-z-]*\)\( n\| name\| call\|\) .*/\1\2/p' <<<"$help" | sort)
+    [ "$told" = "$(sed -n "s/^$command|\([^|]*\)|.*/\1/p" <<<"$entries" | sort)" ] || fault "help $command has the options" $told
+    while IFS='|' read -r _ option text; do
+        line=$(grep -- "^  $option  *" <<<"$help" || true)
+        if [[ $text =~ From\ ([0-9]+)\ to\ ([0-9]+) ]]; then
+            grep -q "\b${BASH_REMATCH[1]} to ${BASH_REMATCH[2]}\b" <<<"$line" || fault "help $command: $option has another range"
+        fi
+        if [[ $text =~ \;\ ([0-9a-z]+)\ where\ it\ is\ not\ given ]]; then
+            [[ $line = *"(${BASH_REMATCH[1]})" ]] || fault "help $command: $option has another default"
+        fi
+    done < <(grep "^$command|" <<<"$entries" || true)
 done
 
 # Each report line and each line for what is no frame.

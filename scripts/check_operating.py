@@ -18,8 +18,8 @@ from air import free_port
 
 TOP = os.path.dirname(os.path.dirname(os.path.abspath(__file__)))
 PAGES = ("docs/OPERATING.md", "docs/HOSTS.md")
-OTHERS = ("sox", "arecord", "aplay", "nc", "kissutil", "aclients", "appserver", "aprx", "systemd-analyze")
-PORTS = ("8000", "8001", "8002", "8010", "8011")
+OTHERS = ("sox", "arecord", "aplay", "nc", "kissutil", "aclients", "appserver", "aprx", "pat-winlink", "systemd-analyze")
+PORTS = ("8000", "8001", "8002", "8010", "8011", "8080")
 CARD = """pcm.!default {{
   type asym
   capture.pcm {{ type file slave.pcm null file /dev/null infile "{heard}" format raw }}
@@ -83,7 +83,7 @@ def card(room, called):
 
 
 def with_ports(text, ports):
-    return re.sub(r"\b80[01][0-2]\b", lambda it: ports.get(it[0], it[0]), text)
+    return re.sub(r"\b80(?:[01][0-2]|80)\b", lambda it: ports.get(it[0], it[0]), text)
 
 
 def session(room, commands):

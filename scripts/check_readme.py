@@ -4,7 +4,7 @@ another in a folder with bin/tnc and samples/, and has to print the lines below 
 
   scripts/check_readme.py [PROGRAM]      bin/tnc, where no other is named
 
-A block whose commands call a program that is not installed is left out, and said so. The sound card of `arecord` and
+A block whose commands call a program that is not installed, or a command that the program does not have, is left out, and said so. The sound card of `arecord` and
 `aplay` is one that ALSA makes of files: it hears a recording, and what it plays is decoded."""
 import os
 import re
@@ -14,7 +14,7 @@ import sys
 import tempfile
 
 TOP = os.path.dirname(os.path.dirname(os.path.abspath(__file__)))
-PAGES = ("README.md", "docs/RECEIVING.md")
+PAGES = ("README.md", "docs/RECEIVING.md", "docs/BENCH.md")
 OTHERS = ("sox", "atest", "multimon-ng", "arecord", "aplay")
 CARD = """pcm.!default {{
   type asym
@@ -67,6 +67,12 @@ def plays(card, room):
     return told == open(f"{room}/hello.hex", "rb").read()
 
 
+def commands_missing(tnc, called):
+    """The commands of the program that a block uses and the program refuses, as `bench` was before it came."""
+    used = set(re.findall(r"bin/tnc (bench)\b", called))
+    return [it for it in used if subprocess.run([tnc, it, "--seed", "1", "--octets", "0"], capture_output=True).returncode == 1]
+
+
 def main():
     tnc = os.path.abspath(sys.argv[1] if len(sys.argv) > 1 else f"{TOP}/bin/tnc")
     wrong = run = 0
@@ -78,8 +84,9 @@ def main():
             for steps in blocks(open(f"{TOP}/{page}").read()):
                 called = " ".join(command for command, _ in steps)
                 missing = [it for it in OTHERS if re.search(rf"(^|[ |]){it} ", called) and not shutil.which(it)]
+                missing += commands_missing(tnc, called)
                 if missing:
-                    print(f"skipped: {page}: {steps[0][0]} ({', '.join(missing)} is not installed)")
+                    print(f"skipped: {page}: {steps[0][0]} ({', '.join(missing)} is not there)")
                     continue
                 for command, wanted in steps:
                     card = with_card(command, room)

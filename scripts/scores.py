@@ -287,4 +287,5 @@ def main():
     sys.exit(outside > 0)
 
 
-main()
+if __name__ == "__main__":
+    main()

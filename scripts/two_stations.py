@@ -1,11 +1,12 @@
 #!/usr/bin/env python3
 """Two stations on one machine whose sound reaches each other, at the pace of sound: to try host programs without a radio.
 
-  scripts/two_stations.py [--tnc PROGRAM] [--kiss N N] [--agw N N] [--loss PERCENT] [--seconds N] [WORD..]
+  scripts/two_stations.py [--tnc PROGRAM] [--kiss N N] [--agw N N] [--loss PERCENT] [--seed N] [--seconds N] [--times] [WORD..]
 
 The first station has the first port of each pair, the second one the second. WORDS after `--` go to both, as `-- --mode srej`.
-Of so many percent of the transmissions nothing arrives. A line tells the ports, and each frame that a station hears or has
-sent is one more. It runs until it is stopped, or for so many seconds."""
+Of so many percent of the transmissions nothing arrives; the seed says of which. A line tells the ports, and each frame that a
+station hears or has sent is one more, with --times after the seconds of sound that have gone by. It runs until it is stopped, or
+for so many seconds."""
 import argparse
 import random
 import subprocess
@@ -18,7 +19,13 @@ from air import TICK, Loss, connect, read_all
 STEP = 2  # ticks at a time
 
 
-def started(given, at):
+class Clock:
+    """The seconds of sound that have gone by."""
+
+    seconds = 0.0
+
+
+def started(given, at, clock):
     """One of the stations, with its lines as lines of this program's output."""
     words = [given.tnc, "serve", "--kiss", str(given.kiss[at]), "--agw", str(given.agw[at]), "--seed", str(at + 1)]
     pipe = subprocess.PIPE
@@ -26,14 +33,15 @@ def started(given, at):
 
     def lines():
         for line in program.stderr:
-            print(f"{at + 1} {line.decode().rstrip()}", flush=True)
+            when = f"{clock.seconds:.2f} " if given.times else ""
+            print(f"{when}{at + 1} {line.decode().rstrip()}", flush=True)
 
     teller = threading.Thread(target=lines, daemon=True)
     teller.start()
     return program, teller
 
 
-def carry(stations, losses, seconds):
+def carry(stations, losses, seconds, clock):
     """Lets each hear what the other one sends."""
     heard = [bytes(STEP * TICK)] * 2
     began, steps = time.monotonic(), 0
@@ -43,7 +51,8 @@ def carry(stations, losses, seconds):
         sent = [read_all(program.stdout, STEP * TICK) for program, _ in stations]
         heard = [losses[1].heard(sent[1]), losses[0].heard(sent[0])]
         steps += 1
-        ahead = steps * STEP / 100 - (time.monotonic() - began)
+        clock.seconds = steps * STEP / 100
+        ahead = clock.seconds - (time.monotonic() - began)
         if ahead > 0:
             time.sleep(ahead)
 
@@ -54,17 +63,20 @@ def main():
     reader.add_argument("--kiss", type=int, nargs=2, default=[8001, 8011])
     reader.add_argument("--agw", type=int, nargs=2, default=[8000, 8010])
     reader.add_argument("--loss", type=int, default=0)
+    reader.add_argument("--seed", type=int)
     reader.add_argument("--seconds", type=float, default=0)
+    reader.add_argument("--times", action="store_true")
     reader.add_argument("words", nargs="*")
     given = reader.parse_args()
-    stations = [started(given, at) for at in range(2)]
-    draws = random.Random()
+    clock = Clock()
+    stations = [started(given, at, clock) for at in range(2)]
+    draws = random.Random(given.seed)
     for at in range(2):
         if stations[at][0].poll() is None:
             connect(given.agw[at]).close()
             print(f"{at + 1} kiss {given.kiss[at]} agw {given.agw[at]}", flush=True)
     try:
-        carry(stations, [Loss(given.loss, draws) for _ in range(2)], given.seconds)
+        carry(stations, [Loss(given.loss, draws) for _ in range(2)], given.seconds, clock)
     except (KeyboardInterrupt, RuntimeError, OSError) as fault:
         if str(fault):
             print(fault, flush=True)

@@ -12,3 +12,4 @@ pub mod LaneLemmas
 pub mod BankLemmas
 pub mod HearingLemmas
 pub mod SignalLemmas
+pub mod LoudnessLemmas

@@ -15,7 +15,7 @@ use Rattle.frame_merge.proofs.Ordering.{rising_ends}
 use Rattle.frame_merge.proofs.Merging.{merged_after-append, merged-rising, below_between, between_all, All-merged}
 use Rattle.frame_merge.proofs.Taking.{below_all}
 use Rattle.slicer_bank.proofs.MergingLemmas.{rising_strictly}
-use Rattle.slicer_bank.proofs.MergedLemmas.{below_more, next_is}
+use Rattle.slicer_bank.proofs.MergedLemmas.{below_more, next_is, contains_passing, between_between}
 use Rattle.hf_modem.specs.Candidates.{IsCandidate, AreCandidates, AreCandidatesAfter, end_sample}
 use Rattle.hf_modem.specs.MergedItems.{AreMerged, AreMergedBetween}
 use Rattle.hf_modem.proofs.CandidateLemmas.{end_within, candidates_join}
@@ -67,14 +67,6 @@ end_gives x items rest are total = record {
   is = next_is (length x / 4) (length x / 4 + 1) (below (length x / 4) (merged items)) rest (merged items) (omega arith) (rising_merged x items are) refl (total ∙ sym (below_all_of x items are));
 }
 
-contains_passing : (p : Candidate → Bool) (xs : List Candidate) (item : Candidate) → Contains xs item → p item ≡ true → Contains (filter p xs) item
-contains_passing p [] item (k, l, e) passes = absurd (omega arith)
-contains_passing p (x ∷ xs) item (zero, l, e) passes =
-    subst (λ t. Contains (cond t (x ∷ filter p xs) (filter p xs)) item) (sym (ap p e ∙ passes)) (0, (let l : 0 < length (x ∷ filter p xs) = omega arith in l), e)
-contains_passing p (x ∷ xs) item (suc k, l, e) passes =
-    let rest = contains_passing p xs item (k, (let l' : k < length xs = omega arith in l'), e) passes in
-    elim (p x) as (λ t. Contains (cond t (x ∷ filter p xs) (filter p xs)) item) [ true ↦ Contains-append_right (x ∷ []) (filter p xs) item rest | false ↦ rest ]
-
 -- the candidates of more samples begin with those of the first
 begins : (x y : List ℤ) (items all : List Candidate) → AreCandidates x items → AreCandidates (x ++ y) all
     → (found : List Candidate) × (all ≡ items ++ found) × All (λ item. length x / 4 ≤ item.end) found
@@ -91,16 +83,6 @@ begins x y items all are whole =
     } in
     let same : all ≡ items ++ late = one_list (x ++ y) all (items ++ late) whole (candidates_join 0 x y items late (omega arith) are after) in
     (late, same, ends_after x y late after)
-
--- one stretch and the next are one stretch
-between_between : (from middle to : ℕ) (zs : List Candidate) → from ≤ middle → middle ≤ to → IsNonDecreasingBy (λ y. y.end) zs
-    → between from middle zs ++ between middle to zs ≡ between from to zs
-between_between from middle to zs le more rises =
-    append_cancel_left (below from zs) (between from middle zs ++ between middle to zs) (between from to zs)
-    (sym (append_assoc (below from zs) (between from middle zs) (between middle to zs))
-    ∙ ap (λ t. t ++ between middle to zs) (below_between from middle zs le rises)
-    ∙ below_between middle to zs more rises
-    ∙ sym (below_between from to zs (omega arith) rises))
 
 between_late : (from to : ℕ) (zs : List Candidate) → All (λ y. to ≤ y.end) zs → between from to zs ≡ []
 between_late from to [] h = refl

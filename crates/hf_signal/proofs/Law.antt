@@ -10,19 +10,22 @@ use Rattle.frame_merge.specs.declared.candidate.Candidate.{Candidate}
 use Rattle.frame_merge.specs.Order.{standing}
 use Rattle.hf_modem.specs.Candidates.{AreCandidates, candidate_at, end_sample}
 use Rattle.hf_modem.proofs.CandidateLemmas.{end_sample-is}
+use Rattle.afsk_modulator.specs.Modulation.{IsLevel}
 use Rattle.afsk_modulator.specs.Signal.{Transmission}
 use Rattle.clean_signal.specs.declared.true_end.TrueEnd.{TrueEnd}
 use Rattle.clean_signal.specs.GoodTransmission.{IsTransmission, frames_of}
 use Rattle.hf_signal.specs.TrueEnds.{true_ends}
 use Rattle.hf_signal.specs.Stray.{is_of, is_sent, NoStray}
 use Rattle.hf_signal.specs.Carried.{CarriesAll}
-use Rattle.clean_signal.specs.NearSignal.{Received, transmissions_of}
+use Rattle.clean_signal.specs.NearSignal.{Received, transmissions_of, sent_at}
+use Rattle.clean_signal.proofs.NearLemmas.{transmissions_of-sent_at}
+use Rattle.hf_modem.specs.Signal.{hf_signal}
 use Rattle.hf_signal.specs.NearSignal.{IsReceived, IsNearAll}
 use Rattle.hf_signal.specs.MergedFrames.{MergesTo}
 use Rattle.clean_signal.proofs.Clusters.{Cluster, IsIn, AreApart, IsInOne, HasOne, Rising, Known, merge_keeps}
 use Rattle.hf_signal.proofs.CarriedFrames.{IsFound, all_found}
 use Rattle.hf_signal.proofs.EndLemmas.{Spaced, spaced, octets-true_ends_from}
-use Rattle.hf_signal.proofs.NearLemmas.{near_carries}
+use Rattle.hf_signal.proofs.NearLemmas.{near_carries, signal_near, sent_at-good}
 
 -- the candidates of a frame that was sent
 abbrev cluster_of : TrueEnd → Cluster
@@ -115,6 +118,15 @@ pub near_law : (received : List Received) (x : List ℤ) → All IsReceived rece
 near_law received x good near no_stray =
     let fits : AllByRecursion IsReceived received = recursion_from_All IsReceived received good in
     carried_law (transmissions_of received) x (all_transmissions received fits) (near_carries received x fits near) no_stray
+
+-- so does what is sent at a level
+pub level_law : (level : ℕ) (sent : List Transmission) → IsLevel level → All IsTransmission sent → NoStray sent (hf_signal level sent)
+    → MergesTo (frames_of sent) (hf_signal level sent)
+level_law level sent fits good no_stray =
+    let received : List Received = sent_at level sent in
+    let each : AllByRecursion IsReceived received = sent_at-good level sent fits (recursion_from_All IsTransmission sent good) in
+    let carries : CarriesAll (transmissions_of received) (hf_signal level sent) = near_carries received (hf_signal level sent) each (signal_near level sent fits.least) in
+    carried_law sent (hf_signal level sent) good (subst (λ ts. CarriesAll ts (hf_signal level sent)) (transmissions_of-sent_at level sent) carries) no_stray
 
 -- what holds of each of all candidates holds of every candidate
 pub no_stray_of : (sent : List Transmission) (x : List ℤ) (items : List Candidate) → AreCandidates x items

@@ -7,8 +7,9 @@ use Rattle.tone_table.specs.declared.tone.Tone.{Tone}
 use Rattle.nrzi_bits.specs.Line.{line}
 use Rattle.hdlc_framer.specs.Body.{body}
 use Rattle.offset_slicers.specs.Near.{IsNear}
+use Rattle.afsk_modulator.specs.Modulation.{IsLevel}
 use Rattle.afsk_modulator.specs.Signal.{Transmission}
-use Rattle.clean_signal.specs.GoodTransmission.{body_of}
+use Rattle.clean_signal.specs.GoodTransmission.{IsTransmission, body_of}
 use Rattle.clean_signal.specs.NearSignal.{Received, transmissions_of, sent_at}
 use Rattle.clean_signal.proofs.NearLemmas.{at_level-near}
 use Rattle.hf_modem.specs.Tones.{next_phase}
@@ -66,3 +67,17 @@ signal_near level (t ∷ transmissions) least =
       sent_near level t.frames t.opening t.closing least,
       signal_near level transmissions least,
     )
+
+-- as it is received: from phase 0 on, at the level of all
+pub sent_at-good : (level : ℕ) (transmissions : List Transmission) → IsLevel level → AllByRecursion IsTransmission transmissions
+    → AllByRecursion IsReceived (sent_at level transmissions)
+sent_at-good level [] fits good = tt
+sent_at-good level (t ∷ transmissions) fits (first, others) = (
+  record {
+    transmission = first;
+    phase = record { below = omega arith; third = omega arith };
+    least = omega (arith, fits.least);
+    most = fits.most;
+  },
+  sent_at-good level transmissions fits others,
+)

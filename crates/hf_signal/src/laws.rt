@@ -7,6 +7,7 @@ ghost use Rattle.nrzi_bits.specs.Line.{line};
 ghost use Rattle.hdlc_framer.specs.Body.{body};
 ghost use Rattle.offset_slicers.specs.Near.{IsNear};
 ghost use Rattle.frame_merge.specs.declared.candidate.Candidate.{Candidate};
+ghost use Rattle.afsk_modulator.specs.Modulation.{IsLevel};
 ghost use Rattle.afsk_modulator.specs.Signal.{Transmission};
 ghost use Rattle.clean_signal.specs.GoodTransmission.{IsTransmission, frames_of};
 ghost use Rattle.clean_signal.specs.NearSignal.{Received, transmissions_of, sent_at};
@@ -35,6 +36,12 @@ pub fn hf_near_windows()
 pub fn hf_near_frames()
     ensures { (received : List Received) (x : List ℤ) → All IsReceived received → IsNearAll received x
         → NoStray (transmissions_of received) x → MergesTo (frames_of (transmissions_of received)) x }
+{}
+
+/// So does the signal itself at any level from 10 on.
+pub fn hf_level_frames()
+    ensures { (level : ℕ) (sent : List Transmission) → IsLevel level → All IsTransmission sent → NoStray sent (hf_signal level sent)
+        → MergesTo (frames_of sent) (hf_signal level sent) }
 {}
 
 /// What is sent at a level is near its wave: from level 10 on rounding is less than a tenth.

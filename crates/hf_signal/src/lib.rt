@@ -10,7 +10,8 @@ mod laws;
 mod sent;
 
 pub use laws::{
-    hf_carried_frames, hf_near_frames, hf_near_windows, hf_none_stray, hf_sent_is_near,
+    hf_carried_frames, hf_level_frames, hf_near_frames, hf_near_windows, hf_none_stray,
+    hf_sent_is_near,
 };
 pub use sent::hf_is_sent;
 

@@ -1,5 +1,6 @@
 use super::{
-    hf_carried_frames, hf_is_sent, hf_near_frames, hf_near_windows, hf_none_stray, hf_sent_is_near,
+    hf_carried_frames, hf_is_sent, hf_level_frames, hf_near_frames, hf_near_windows, hf_none_stray,
+    hf_sent_is_near,
 };
 use clean_signal::TrueEnd;
 use frame_merge::Candidate;
@@ -31,6 +32,7 @@ fn hears(alloc: Global, octets: &[u8], end: u64, offset: u8) -> Result<bool, Out
 fn a_frame_is_heard_less_than_30_samples_from_its_true_end(rt: HostRuntime) -> Result<(), Fail> {
     hf_near_windows();
     hf_near_frames();
+    hf_level_frames();
     hf_sent_is_near();
     hf_carried_frames();
     hf_none_stray();

@@ -1,22 +1,28 @@
 -- Audio, one octet more at a time.
-use Rattle.std.proofs.Common.{◌≡◌, ℕ, ◌+◌, ◌<◌, ◌≤◌, ℤ, List, [], ◌∷◌, ◌++◌, length, take, drop, get_or, refl, ap, sym, subst, ◌∙◌, arith, append_assoc}
+use Rattle.std.proofs.Common.{◌≡◌, ℕ, ◌+◌, ◌<◌, ◌≤◌, ℤ, List, [], ◌∷◌, ◌++◌, length, take, drop, get_or, refl, ap, sym, subst, ◌∙◌, arith, append_assoc, inl, inr}
 use Rattle.std.proofs.lemmas.List.{append-nil, take_more, take-append-drop}
-use Rattle.std.specs.Prelude.{Option, Some, None, Result, Ok, Err, option_map}
+use Rattle.std.specs.Prelude.{Option, Some, None, Result, Ok, Err, option_map, ◌⊎◌}
 use Rattle.std.specs.Result.{result_err}
 use Rattle.wav_file.specs.declared.fault.WavFault.{WavFault}
+use Rattle.wav_file.specs.declared.rates.Rates.{Rates}
+use Rattle.wav_file.specs.declared.rates.Rates.TheVariants.{NarrowOrWide}
 use Rattle.wav_file.specs.Chunks.{chunks}
 use Rattle.wav_file.specs.Held.{Held as HeldFile, StandsFor as FileStandsFor, rest_reading}
-use Rattle.wav_file.specs.Reading.{Reading, reading, samples_in, fault_in, given, verdict_of}
+use Rattle.wav_file.specs.Reading.{Reading, reading, samples_in, fault_in, given, verdict_of, rate_in}
 use Rattle.wav_file.specs.Samples.{sample_of, samples}
 use Rattle.tnc_forms.specs.declared.fault.InputFault.{InputFault}
 use Rattle.tnc_forms.specs.declared.fault.InputFault.TheVariants.{Wav as BadWav}
 use Rattle.tnc_words.specs.declared.command.AudioForm.{AudioForm}
 use Rattle.tnc_words.specs.declared.command.AudioForm.TheVariants.{Raw, Wav}
+use Rattle.tnc_words.specs.declared.command.DecodeWords.{DecodeWords}
+use Rattle.tnc_words.specs.declared.command.Receiving.{Receiving}
+use Rattle.tnc_words.specs.declared.command.Receiving.TheVariants.{Standard, ShortWave}
 use Rattle.tnc_decode.specs.declared.audio.Audio.{Audio}
 use Rattle.tnc_decode.specs.declared.audio.Audio.TheVariants.{Pcm, File}
-use Rattle.tnc_decode.specs.Audio.{samples_of, stopping_fault, form_fault, fault_in_verdict}
-use Rattle.tnc_decode.specs.Held.{odd_octet, HasTaken}
-use Rattle.tnc_decode.proofs.WavFaults.{fault_stays, silent_before}
+use Rattle.tnc_decode.specs.Audio.{rates_of, samples_at, samples_of, stopping_fault_at, form_fault_at, fault_in_verdict}
+use Rattle.tnc_decode.specs.Modem.{modem_of, modem_for, modem_of_file}
+use Rattle.tnc_decode.specs.Held.{odd_octet, HasTakenAt}
+use Rattle.tnc_decode.proofs.WavFaults.{fault_stays, rate_stays, silent_before, quiet_before}
 
 -- ---- raw PCM
 
@@ -71,77 +77,77 @@ pub record PairsOn (octets rest : List ℕ) (was found : List ℤ) : Type 0 wher
 
 -- it is audio
 pub pcm_takes : (low now : Option ℕ) (octets : List ℕ) (found : List ℤ) → TakesPcm low now octets found
-    → (form : AudioForm) (before : List ℕ) → HasTaken form (Pcm low) before
-    → HasTaken form (Pcm now) (before ++ octets) × (samples_of form (before ++ octets) ≡ samples_of form before ++ found)
-pcm_takes low now octets found takes Raw before h = takes before h
-pcm_takes low now octets found takes Wav before h = absurd h
+    → (rates : Rates) (form : AudioForm) (before : List ℕ) → HasTakenAt rates form (Pcm low) before
+    → HasTakenAt rates form (Pcm now) (before ++ octets) × (samples_at rates form (before ++ octets) ≡ samples_at rates form before ++ found)
+pcm_takes low now octets found takes rates Raw before h = takes before h
+pcm_takes low now octets found takes rates Wav before h = absurd h
 
 -- ---- a WAV file
 
-module _ (form : AudioForm) (before : List ℕ) (octet : ℕ) (file next : HeldFile) (result : Result (Option ℤ) WavFault)
-    (stands : (octets : List ℕ) → FileStandsFor file octets → FileStandsFor next (octets ++ octet ∷ []))
-    (gives : (octets : List ℕ) → FileStandsFor file octets → samples_in (octets ++ octet ∷ []) ≡ samples_in octets ++ given result)
-    (shows : (octets : List ℕ) → FileStandsFor file octets → fault_in (octets ++ octet ∷ []) ≡ result_err result) where
-  pub file_takes : (sample : Option ℤ) → result ≡ Ok sample → HasTaken form (File file) before
-      → HasTaken form (File next) (before ++ octet ∷ []) × (samples_of form (before ++ octet ∷ []) ≡ samples_of form before ++ given (Ok sample))
+module _ (rates : Rates) (form : AudioForm) (before : List ℕ) (octet : ℕ) (file next : HeldFile) (result : Result (Option ℤ) WavFault)
+    (stands : (octets : List ℕ) → FileStandsFor rates file octets → FileStandsFor rates next (octets ++ octet ∷ []))
+    (gives : (octets : List ℕ) → FileStandsFor rates file octets → samples_in rates (octets ++ octet ∷ []) ≡ samples_in rates octets ++ given result)
+    (shows : (octets : List ℕ) → FileStandsFor rates file octets → fault_in rates (octets ++ octet ∷ []) ≡ result_err result) where
+  pub file_takes : (sample : Option ℤ) → result ≡ Ok sample → HasTakenAt rates form (File file) before
+      → HasTakenAt rates form (File next) (before ++ octet ∷ []) × (samples_at rates form (before ++ octet ∷ []) ≡ samples_at rates form before ++ given (Ok sample))
   file_takes sample is h = by_form form h
     where
-      by_form : (form : AudioForm) → HasTaken form (File file) before
-          → HasTaken form (File next) (before ++ octet ∷ []) × (samples_of form (before ++ octet ∷ []) ≡ samples_of form before ++ given (Ok sample))
+      by_form : (form : AudioForm) → HasTakenAt rates form (File file) before
+          → HasTakenAt rates form (File next) (before ++ octet ∷ []) × (samples_at rates form (before ++ octet ∷ []) ≡ samples_at rates form before ++ given (Ok sample))
       by_form Raw h = absurd h
-      by_form Wav h = ((stands before h.0, shows before h.0 ∙ ap result_err is), gives before h.0 ∙ ap (λ r. samples_in before ++ given r) is)
+      by_form Wav h = ((stands before h.0, shows before h.0 ∙ ap result_err is), gives before h.0 ∙ ap (λ r. samples_in rates before ++ given r) is)
 
-  pub file_stops : (fault : WavFault) → result ≡ Err fault → HasTaken form (File file) before
-      → stopping_fault form (before ++ octet ∷ []) ≡ Some (BadWav fault)
+  pub file_stops : (fault : WavFault) → result ≡ Err fault → HasTakenAt rates form (File file) before
+      → stopping_fault_at rates form (before ++ octet ∷ []) ≡ Some (BadWav fault)
   file_stops fault is h = by_form form h
     where
-      by_form : (form : AudioForm) → HasTaken form (File file) before → stopping_fault form (before ++ octet ∷ []) ≡ Some (BadWav fault)
+      by_form : (form : AudioForm) → HasTakenAt rates form (File file) before → stopping_fault_at rates form (before ++ octet ∷ []) ≡ Some (BadWav fault)
       by_form Raw h = absurd h
       by_form Wav h = ap (option_map BadWav) (shows before h.0 ∙ ap result_err is)
 
 -- what ends here
-pub pcm_verdict : (form : AudioForm) (octets : List ℕ) (low : Option ℕ) → HasTaken form (Pcm low) octets → form_fault form octets ≡ None
-pcm_verdict Raw octets low h = refl
-pcm_verdict Wav octets low h = absurd h
+pub pcm_verdict : (rates : Rates) (form : AudioForm) (octets : List ℕ) (low : Option ℕ) → HasTakenAt rates form (Pcm low) octets → form_fault_at rates form octets ≡ None
+pcm_verdict rates Raw octets low h = refl
+pcm_verdict rates Wav octets low h = absurd h
 
-pub file_verdict : (form : AudioForm) (octets : List ℕ) (file : HeldFile) (verdict : Result (Unit {0}) WavFault)
-    → ((octets : List ℕ) → FileStandsFor file octets → verdict ≡ verdict_of octets) → HasTaken form (File file) octets
-    → fault_in_verdict verdict ≡ form_fault form octets
-file_verdict Raw octets file verdict is h = absurd h
-file_verdict Wav octets file verdict is h = ap fault_in_verdict (is octets h.0)
+pub file_verdict : (rates : Rates) (form : AudioForm) (octets : List ℕ) (file : HeldFile) (verdict : Result (Unit {0}) WavFault)
+    → ((octets : List ℕ) → FileStandsFor rates file octets → verdict ≡ verdict_of rates octets) → HasTakenAt rates form (File file) octets
+    → fault_in_verdict verdict ≡ form_fault_at rates form octets
+file_verdict rates Raw octets file verdict is h = absurd h
+file_verdict rates Wav octets file verdict is h = ap fault_in_verdict (is octets h.0)
 
 -- ---- faults
 
 -- a fault at which reading stops stops it where more follows, too
-pub stops_still : (form : AudioForm) (octets more : List ℕ) (fault : InputFault) → stopping_fault form octets ≡ Some fault → stopping_fault form (octets ++ more) ≡ Some fault
-stops_still Raw octets more fault e = absurd cc
-stops_still Wav octets more fault e = by_fault (fault_in octets) refl e
+pub stops_still : (rates : Rates) (form : AudioForm) (octets more : List ℕ) (fault : InputFault) → stopping_fault_at rates form octets ≡ Some fault → stopping_fault_at rates form (octets ++ more) ≡ Some fault
+stops_still rates Raw octets more fault e = absurd cc
+stops_still rates Wav octets more fault e = by_fault (fault_in rates octets) refl e
   where
-    by_fault : (shown : Option WavFault) → fault_in octets ≡ shown → option_map BadWav shown ≡ Some fault → option_map BadWav (fault_in (octets ++ more)) ≡ Some fault
+    by_fault : (shown : Option WavFault) → fault_in rates octets ≡ shown → option_map BadWav shown ≡ Some fault → option_map BadWav (fault_in rates (octets ++ more)) ≡ Some fault
     by_fault None is k = absurd cc
-    by_fault (Some wav) is k = ap (option_map BadWav) (fault_stays octets more wav is) ∙ k
+    by_fault (Some wav) is k = ap (option_map BadWav) (fault_stays rates octets more wav is) ∙ k
 
 -- where it shows there is no sample
-pub stops_silent : (form : AudioForm) (octets : List ℕ) (fault : InputFault) → stopping_fault form octets ≡ Some fault → samples_of form octets ≡ []
-stops_silent Raw octets fault e = absurd cc
-stops_silent Wav octets fault e = by_fault (fault_in octets) refl e
+pub stops_silent : (rates : Rates) (form : AudioForm) (octets : List ℕ) (fault : InputFault) → stopping_fault_at rates form octets ≡ Some fault → samples_at rates form octets ≡ []
+stops_silent rates Raw octets fault e = absurd cc
+stops_silent rates Wav octets fault e = by_fault (fault_in rates octets) refl e
   where
-    by_fault : (shown : Option WavFault) → fault_in octets ≡ shown → option_map BadWav shown ≡ Some fault → samples_in octets ≡ []
+    by_fault : (shown : Option WavFault) → fault_in rates octets ≡ shown → option_map BadWav shown ≡ Some fault → samples_in rates octets ≡ []
     by_fault None is k = absurd cc
-    by_fault (Some wav) is k = silent_before octets wav is
+    by_fault (Some wav) is k = silent_before rates octets wav is
 
 -- what was taken shows none
-pub none_stops : (form : AudioForm) (audio : Audio) (octets : List ℕ) → HasTaken form audio octets → stopping_fault form octets ≡ None
-none_stops Raw audio octets h = refl
-none_stops Wav (Pcm low) octets h = absurd h
-none_stops Wav (File file) octets h = ap (option_map BadWav) h.1
+pub none_stops : (rates : Rates) (form : AudioForm) (audio : Audio) (octets : List ℕ) → HasTakenAt rates form audio octets → stopping_fault_at rates form octets ≡ None
+none_stops rates Raw audio octets h = refl
+none_stops rates Wav (Pcm low) octets h = absurd h
+none_stops rates Wav (File file) octets h = ap (option_map BadWav) h.1
 
 -- and it is what is wrong with the form
-pub stops_form : (form : AudioForm) (octets : List ℕ) (fault : InputFault) → stopping_fault form octets ≡ Some fault → form_fault form octets ≡ Some fault
-stops_form Raw octets fault e = absurd cc
-stops_form Wav octets fault e = by_fault (fault_in octets) refl e
+pub stops_form : (rates : Rates) (form : AudioForm) (octets : List ℕ) (fault : InputFault) → stopping_fault_at rates form octets ≡ Some fault → form_fault_at rates form octets ≡ Some fault
+stops_form rates Raw octets fault e = absurd cc
+stops_form rates Wav octets fault e = by_fault (fault_in rates octets) refl e
   where
-    by_fault : (shown : Option WavFault) → fault_in octets ≡ shown → option_map BadWav shown ≡ Some fault → form_fault Wav octets ≡ Some fault
+    by_fault : (shown : Option WavFault) → fault_in rates octets ≡ shown → option_map BadWav shown ≡ Some fault → form_fault_at rates Wav octets ≡ Some fault
     by_fault None is k = absurd cc
     by_fault (Some wav) is k = rw is k
 
@@ -154,30 +160,30 @@ samples_begin (low ∷ []) (high ∷ more) = (samples (low ∷ high ∷ more), r
 samples_begin (low ∷ high ∷ octets) more = let h = samples_begin octets more in (h.0, ap (λ t. sample_of low high ∷ t) h.1)
 
 -- the samples of what was taken are the first of those with more behind it
-pub begins_with : (form : AudioForm) (audio : Audio) (octets more : List ℕ) → HasTaken form audio octets
-    → (rest : List ℤ) × (samples_of form (octets ++ more) ≡ samples_of form octets ++ rest)
-begins_with Raw audio octets more h = samples_begin octets more
-begins_with Wav (Pcm low) octets more h = absurd h
-begins_with Wav (File file) octets more h = ((rest_reading (length octets) file.part file.unit more).heard, ap (λ (r : Reading). r.heard) (h.0.rest more))
+pub begins_with : (rates : Rates) (form : AudioForm) (audio : Audio) (octets more : List ℕ) → HasTakenAt rates form audio octets
+    → (rest : List ℤ) × (samples_at rates form (octets ++ more) ≡ samples_at rates form octets ++ rest)
+begins_with rates Raw audio octets more h = samples_begin octets more
+begins_with rates Wav (Pcm low) octets more h = absurd h
+begins_with rates Wav (File file) octets more h = ((rest_reading rates (length octets) file.part file.unit more).heard, ap (λ (r : Reading). r.heard) (h.0.rest more))
 
 -- of a new file nothing has come
-pub new_file : (file : HeldFile) → FileStandsFor file [] → HasTaken Wav (File file) []
+pub new_file : (rates : Rates) (file : HeldFile) → FileStandsFor rates file [] → HasTakenAt rates Wav (File file) []
 unfolding reading chunks
-new_file file h = (h, refl)
+new_file rates file h = (h, refl)
 
 -- ---- a block
 
 -- audio has taken so many octets of a block since, and these are the samples that end in them
 pub record TakesOn (initial now : Audio) (octets : List ℕ) (count : ℕ) (found : List ℤ) : Type 0 where
-  pub takes : (form : AudioForm) (before : List ℕ) → HasTaken form initial before
-      → HasTaken form now (before ++ take count octets) × (samples_of form (before ++ take count octets) ≡ samples_of form before ++ found)
+  pub takes : (rates : Rates) (form : AudioForm) (before : List ℕ) → HasTakenAt rates form initial before
+      → HasTakenAt rates form now (before ++ take count octets) × (samples_at rates form (before ++ take count octets) ≡ samples_at rates form before ++ found)
   pub few : length found ≤ count
 
 pub takes_none : (audio : Audio) (octets : List ℕ) (found : List ℤ) → found ≡ [] → TakesOn audio audio octets 0 found
 takes_none audio octets found none = record {
-  takes = λ form before h. (
-    subst (HasTaken form audio) (sym (append-nil before)) h,
-    ap (samples_of form) (append-nil before) ∙ sym (append-nil (samples_of form before)) ∙ ap (λ t. samples_of form before ++ t) (sym none),
+  takes = λ rates form before h. (
+    subst (HasTakenAt rates form audio) (sym (append-nil before)) h,
+    ap (samples_at rates form) (append-nil before) ∙ sym (append-nil (samples_at rates form before)) ∙ ap (λ t. samples_at rates form before ++ t) (sym none),
   );
   few = (let l : length found ≡ 0 = ap length none in omega arith);
 }
@@ -190,17 +196,17 @@ octet_more octets before count below =
 
 pub takes_more : (initial was now : Audio) (octets : List ℕ) (count : ℕ) (found more : List ℤ) → count < length octets
     → TakesOn initial was octets count found
-    → ((form : AudioForm) (before : List ℕ) → HasTaken form was before → HasTaken form now (before ++ get_or octets count 0 ∷ []))
-    → ((form : AudioForm) (before : List ℕ) (front : List ℤ) → HasTaken form was before → samples_of form before ≡ front ++ found
-    → samples_of form (before ++ get_or octets count 0 ∷ []) ≡ front ++ more)
+    → ((rates : Rates) (form : AudioForm) (before : List ℕ) → HasTakenAt rates form was before → HasTakenAt rates form now (before ++ get_or octets count 0 ∷ []))
+    → ((rates : Rates) (form : AudioForm) (before : List ℕ) (front : List ℤ) → HasTakenAt rates form was before → samples_at rates form before ≡ front ++ found
+    → samples_at rates form (before ++ get_or octets count 0 ∷ []) ≡ front ++ more)
     → length more ≤ length found + 1
     → TakesOn initial now octets (count + 1) more
 takes_more initial was now octets count found more below h takes samples few = record {
-  takes = λ form before k.
-      let so_far = h.takes form before k in
+  takes = λ rates form before k.
+      let so_far = h.takes rates form before k in
       let longer = octet_more octets before count below in (
-        subst (HasTaken form now) (sym longer) (takes form (before ++ take count octets) so_far.0),
-        ap (samples_of form) longer ∙ samples form (before ++ take count octets) (samples_of form before) so_far.0 so_far.1,
+        subst (HasTakenAt rates form now) (sym longer) (takes rates form (before ++ take count octets) so_far.0),
+        ap (samples_at rates form) longer ∙ samples rates form (before ++ take count octets) (samples_at rates form before) so_far.0 so_far.1,
       );
   few = (let l = h.few in omega arith);
 }
@@ -208,21 +214,38 @@ takes_more initial was now octets count found more below h takes samples few = r
 -- a fault at an octet of the block stops at the block
 pub stops_within : (initial was : Audio) (octets : List ℕ) (count : ℕ) (found : List ℤ) (fault : InputFault) → count < length octets
     → TakesOn initial was octets count found
-    → ((form : AudioForm) (before : List ℕ) → HasTaken form was before → stopping_fault form (before ++ get_or octets count 0 ∷ []) ≡ Some fault)
-    → (form : AudioForm) (before : List ℕ) → HasTaken form initial before → stopping_fault form (before ++ octets) ≡ Some fault
-stops_within initial was octets count found fault below h stops form before k =
-    let so_far = h.takes form before k in
-    let here = stops form (before ++ take count octets) so_far.0 in
+    → ((rates : Rates) (form : AudioForm) (before : List ℕ) → HasTakenAt rates form was before → stopping_fault_at rates form (before ++ get_or octets count 0 ∷ []) ≡ Some fault)
+    → (rates : Rates) (form : AudioForm) (before : List ℕ) → HasTakenAt rates form initial before → stopping_fault_at rates form (before ++ octets) ≡ Some fault
+stops_within initial was octets count found fault below h stops rates form before k =
+    let so_far = h.takes rates form before k in
+    let here = stops rates form (before ++ take count octets) so_far.0 in
     let all : before ++ octets ≡ ((before ++ take count octets) ++ get_or octets count 0 ∷ []) ++ drop (count + 1) octets
     = ap (λ t. before ++ t) (sym (take-append-drop (count + 1) octets)) ∙ sym (append_assoc before (take (count + 1) octets) (drop (count + 1) octets))
     ∙ ap (λ t. t ++ drop (count + 1) octets) (octet_more octets before count below) in
-    ap (stopping_fault form) all ∙ stops_still form ((before ++ take count octets) ++ get_or octets count 0 ∷ []) (drop (count + 1) octets) fault here
+    ap (stopping_fault_at rates form) all ∙ stops_still rates form ((before ++ take count octets) ++ get_or octets count 0 ∷ []) (drop (count + 1) octets) fault here
 
 -- what is wrong with a form is wrong with a WAV file
-pub form_is_wav : (form : AudioForm) (octets : List ℕ) (fault : InputFault) → form_fault form octets ≡ Some fault → (wav : WavFault) × (fault ≡ BadWav wav)
-form_is_wav Raw octets fault e = absurd cc
-form_is_wav Wav octets fault e = by_verdict (verdict_of octets) e
+pub form_is_wav : (rates : Rates) (form : AudioForm) (octets : List ℕ) (fault : InputFault) → form_fault_at rates form octets ≡ Some fault → (wav : WavFault) × (fault ≡ BadWav wav)
+form_is_wav rates Raw octets fault e = absurd cc
+form_is_wav rates Wav octets fault e = by_verdict (verdict_of rates octets) e
   where
     by_verdict : (verdict : Result (Unit {0}) WavFault) → fault_in_verdict verdict ≡ Some fault → (wav : WavFault) × (fault ≡ BadWav wav)
     by_verdict (Ok x) k = absurd cc
     by_verdict (Err wav) k = let same : BadWav wav ≡ fault = cc k in (wav, sym same)
+
+-- ---- the modem
+
+-- Once a modem is chosen it stays; before that there is no sample.
+pub modem_stays : (words : DecodeWords) (octets more : List ℕ) → (modem_of words (octets ++ more) ≡ modem_of words octets) ⊎ (samples_of words octets ≡ [])
+modem_stays words octets more = by_words words.receiving words.audio
+  where
+    of_file : (rate : Option ℕ) → rate_in NarrowOrWide octets ≡ rate
+        → (modem_of_file (rate_in NarrowOrWide (octets ++ more)) ≡ modem_of_file (rate_in NarrowOrWide octets)) ⊎ (samples_in NarrowOrWide octets ≡ [])
+    of_file None is = inr (quiet_before NarrowOrWide octets is)
+    of_file (Some rate) is = inl (ap modem_of_file (rate_stays NarrowOrWide octets more rate is ∙ sym is))
+
+    by_words : (receiving : Receiving) (form : AudioForm)
+        → (modem_for receiving form (octets ++ more) ≡ modem_for receiving form octets) ⊎ (samples_at (rates_of receiving) form octets ≡ [])
+    by_words (Standard rate) Raw = inl refl
+    by_words (Standard rate) Wav = of_file (rate_in NarrowOrWide octets) refl
+    by_words ShortWave form = inl refl

@@ -11,7 +11,7 @@ use Rattle.tnc_forms.proofs.ReadingLemmas.{read_on}
 use Rattle.tnc_forms.proofs.WrittenParts.{wrote_front, wrote_behind, wrote_all}
 use Rattle.tnc_words.specs.declared.command.DecodeWords.{DecodeWords}
 use Rattle.tnc_decode.specs.declared.receiver.Receiver.{Receiver}
-use Rattle.tnc_decode.specs.Audio.{samples_of, form_fault, stopping_fault, audio_fault}
+use Rattle.tnc_decode.specs.Audio.{rates_of, samples_of, form_fault, stopping_fault, audio_fault}
 use Rattle.tnc_decode.specs.Decoded.{IsDecoded}
 use Rattle.tnc_decode.specs.Held.{HasHeard, HasTaken, CutShort}
 use Rattle.tnc_decode.specs.Settled.{IsSettled}
@@ -42,11 +42,11 @@ progress_none words whole left receiver out is h = record {
 }
 
 -- a text of the whole begins with what its first octets settle
-first_of_whole : (words : DecodeWords) (receiver : Receiver) (whole read rest text all : List ℕ) → whole ≡ read ++ rest → HasTaken words.audio receiver.audio read
+first_of_whole : (words : DecodeWords) (receiver : Receiver) (whole read rest text all : List ℕ) → whole ≡ read ++ rest → HasTaken words receiver.audio read
     → IsSettled words read text → IsDecoded words whole all → (more : List ℕ) × (all ≡ text ++ more)
 first_of_whole words receiver whole read rest text all is taken settled decoded =
-    let y = begins_with words.audio receiver.audio read rest taken in
-    settled_first words read whole text all y.0 (ap (samples_of words.audio) is ∙ y.1) settled decoded
+    let y = begins_with (rates_of words.receiving) words.audio receiver.audio read rest taken in
+    settled_first words read whole rest text all y.0 is (ap (samples_of words) is ∙ y.1) settled decoded
 
 module _ (words : DecodeWords) (whole : List ℕ) (left : Option (List ℕ)) (receiver : Receiver) (was mid : Option (List ℕ)) (total : ℕ)
     (p : Progress words whole left receiver was mid total) where
@@ -100,15 +100,15 @@ module _ (words : DecodeWords) (whole : List ℕ) (left : Option (List ℕ)) (re
         }
 
     -- the piece stops the reading
-    pub piece_bad : (fault : InputFault) → total + count ≤ input_limit + 1 → stopping_fault words.audio (p.read ++ piece) ≡ Some fault → audio_fault words.audio whole ≡ Some fault
-    piece_bad fault few stops = audio_fault_stops words.audio whole (p.read ++ piece) piece_read.rest fault piece_read.parts (let c = piece_count in omega arith) stops
+    pub piece_bad : (fault : InputFault) → total + count ≤ input_limit + 1 → stopping_fault words (p.read ++ piece) ≡ Some fault → audio_fault words whole ≡ Some fault
+    piece_bad fault few stops = audio_fault_stops (rates_of words.receiving) words.audio whole (p.read ++ piece) piece_read.rest fault piece_read.parts (let c = piece_count in omega arith) stops
 
     -- and then nothing is heard of the whole
-    pub piece_silent : (fault : InputFault) → stopping_fault words.audio (p.read ++ piece) ≡ Some fault → IsDecoded words whole [] × (p.text ≡ [])
+    pub piece_silent : (fault : InputFault) → stopping_fault words (p.read ++ piece) ≡ Some fault → IsDecoded words whole [] × (p.text ≡ [])
     piece_silent fault stops =
-        let silent : samples_of words.audio whole ≡ []
-        = ap (samples_of words.audio) piece_read.parts
-        ∙ stops_silent words.audio ((p.read ++ piece) ++ piece_read.rest) fault (stops_still words.audio (p.read ++ piece) piece_read.rest fault stops) in
+        let silent : samples_of words whole ≡ []
+        = ap (samples_of words) piece_read.parts
+        ∙ stops_silent (rates_of words.receiving) words.audio ((p.read ++ piece) ++ piece_read.rest) fault (stops_still (rates_of words.receiving) words.audio (p.read ++ piece) piece_read.rest fault stops) in
         let nothing : IsDecoded words whole [] = silent_text words whole silent in
         let first = first_of_whole words receiver whole p.read p.taken.rest p.text [] p.taken.parts p.heard.audio p.heard.settled nothing in
         (nothing, nil_from_length p.text (let l = ap length first.1 in omega (arith, length-append p.text first.0)))
@@ -117,10 +117,10 @@ module _ (words : DecodeWords) (whole : List ℕ) (left : Option (List ℕ)) (re
     module _ (receiver' : Receiver) (now : Option (List ℕ)) (cut : CutShort receiver' words p.read piece p.text mid now) where
       pub piece_most : (before : List ℕ) → was ≡ Some before → WroteMost words (p.read ++ piece) before now
       piece_most before w =
-          let y = begins_with words.audio receiver.audio p.read piece p.heard.audio in
+          let y = begins_with (rates_of words.receiving) words.audio receiver.audio p.read piece p.heard.audio in
           let rest = decoded_behind words (p.read ++ piece) (p.text ++ cut.more) cut.settled in
-          let few : length y.0 ≤ 2048 = (let a = cut.few in let b = ap length y.1 in omega (arith, length-append (samples_of words.audio p.read) y.0)) in
-          wrote_most words p.read (p.read ++ piece) p.text cut.more rest.0 before y.0 now y.1 few p.heard.settled rest.1 (cut.written (before ++ p.text) (p.written before w))
+          let few : length y.0 ≤ 2048 = (let a = cut.few in let b = ap length y.1 in omega (arith, length-append (samples_of words p.read) y.0)) in
+          wrote_most words p.read (p.read ++ piece) piece p.text cut.more rest.0 before y.0 now refl y.1 few p.heard.settled rest.1 (cut.written (before ++ p.text) (p.written before w))
 
       pub piece_cut : (before text : List ℕ) → was ≡ Some before → IsDecoded words whole text → WrotePart before text now
       piece_cut before text w d =
@@ -161,19 +161,19 @@ module _ (words : DecodeWords) (whole : List ℕ) (left : Option (List ℕ)) (re
 
     pub end_most : (now : Option (List ℕ)) → ((b : List ℕ) → mid ≡ Some b → WrotePart b more now) → (before : List ℕ) → was ≡ Some before → WroteMost words p.read before now
     end_most now wrote before w =
-        let x : List ℤ = samples_of words.audio p.read in
-        wrote_most words p.read p.read p.text more [] before [] now (sym (append-nil x)) (omega arith) p.heard.settled
+        let x : List ℤ = samples_of words p.read in
+        wrote_most words p.read p.read [] p.text more [] before [] now (sym (append-nil p.read)) (sym (append-nil x)) (omega arith) p.heard.settled
         (subst (λ t. IsDecoded words p.read t) (sym (append-nil (p.text ++ more))) decoded) (wrote (before ++ p.text) (p.written before w))
 
   -- the fault of the whole
-  pub end_fault : p.read ≡ whole → total ≤ input_limit → audio_fault words.audio whole ≡ form_fault words.audio p.read
+  pub end_fault : p.read ≡ whole → total ≤ input_limit → audio_fault words whole ≡ form_fault words p.read
   end_fault all few =
-      audio_fault_short words.audio whole (let a = ap length all in let b = p.count in omega arith) ∙ ap (form_fault words.audio) (sym all)
+      audio_fault_short (rates_of words.receiving) words.audio whole (let a = ap length all in let b = p.count in omega arith) ∙ ap (form_fault words) (sym all)
 
   -- ---- too long
 
-  pub too_long : total ≡ input_limit + 1 → audio_fault words.audio whole ≡ Some TooLong
-  too_long full = audio_fault_too_long words.audio whole p.read p.taken.rest p.taken.parts (p.count ∙ full) (none_stops words.audio receiver.audio p.read p.heard.audio)
+  pub too_long : total ≡ input_limit + 1 → audio_fault words whole ≡ Some TooLong
+  too_long full = audio_fault_too_long (rates_of words.receiving) words.audio whole p.read p.taken.rest p.taken.parts (p.count ∙ full) (none_stops (rates_of words.receiving) words.audio receiver.audio p.read p.heard.audio)
 
   pub too_long_left : total ≡ input_limit + 1 → left ≡ Some (drop (input_limit + 1) whole)
   too_long_left full = p.taken.left_over ∙ ap Some (sym (drop-parts whole p.read p.taken.rest (input_limit + 1) p.taken.parts (p.count ∙ full)))

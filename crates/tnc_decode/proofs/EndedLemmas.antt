@@ -11,7 +11,7 @@ use Rattle.tnc_forms.specs.Reading.{input_limit}
 use Rattle.tnc_forms.proofs.WrittenParts.{wrote_nothing}
 use Rattle.tnc_words.specs.declared.command.DecodeWords.{DecodeWords}
 use Rattle.tnc_decode.specs.declared.receiver.Receiver.{Receiver}
-use Rattle.tnc_decode.specs.Audio.{form_fault, stopping_fault, audio_fault}
+use Rattle.tnc_decode.specs.Audio.{rates_of, form_fault, stopping_fault, audio_fault}
 use Rattle.tnc_decode.specs.Decoded.{IsDecoded}
 use Rattle.tnc_decode.specs.Ended.{WroteAll, WroteSettled, WroteFirst, IsStopped, IsEnded}
 use Rattle.tnc_decode.specs.Held.{HasHeard, CutShort}
@@ -79,7 +79,7 @@ module _ (words : DecodeWords) (whole : List ℕ) (left : Option (List ℕ)) (re
 
     pub ended_piece : (e : Fault)
         → ((fault : InputFault) (words : DecodeWords) (before text : List ℕ) → failed e ≡ Err (Input fault) → HasHeard receiver words before text
-        → stopping_fault words.audio (before ++ piece) ≡ Some fault)
+        → stopping_fault words (before ++ piece) ≡ Some fault)
         → ((words : DecodeWords) (before text : List ℕ) → failed e ≡ Err Write → HasHeard receiver words before text → CutShort receiver' words before piece text mid now)
         → ((failed e ≡ Err Memory) ⊎ ((fault : InputFault) × (failed e ≡ Err (Input fault))) → now ≡ mid)
         → (failed e ≡ Err Read → ⊥)
@@ -87,7 +87,7 @@ module _ (words : DecodeWords) (whole : List ℕ) (left : Option (List ℕ)) (re
     ended_piece (Input fault) stops cut kept never =
         let shown = stops fault words p.read p.text refl p.heard in
         let silent = piece_silent words whole left receiver was mid total p buffer tail piece next count bound gives is fault shown in
-        let wav = form_is_wav words.audio (p.read ++ piece) fault (stops_form words.audio (p.read ++ piece) fault shown) in
+        let wav = form_is_wav (rates_of words.receiving) words.audio (p.read ++ piece) fault (stops_form (rates_of words.receiving) words.audio (p.read ++ piece) fault shown) in
         let same = kept (inr (fault, refl)) in (
           piece_bad words whole left receiver was mid total p buffer tail piece next count bound gives is fault few shown,
           inr (wav.0, wav.1, record { text = []; decoded = silent.0; written = λ before w. same ∙ p.written before w ∙ ap (λ t. Some (before ++ t)) silent.1 }),
@@ -130,14 +130,14 @@ module _ (words : DecodeWords) (whole : List ℕ) (left : Option (List ℕ)) (re
       written = all_written words whole left receiver was mid total p all more decoded now wrote;
     }
 
-    pub ended_ok : (form_fault words.audio p.read ≡ None)
+    pub ended_ok : (form_fault words p.read ≡ None)
         → (more : List ℕ) × IsDecoded words p.read (p.text ++ more) × ((b : List ℕ) → mid ≡ Some b → now ≡ Some (b ++ more))
         → IsEnded words whole next was now (Ok tt)
     ended_ok good wrote =
         (gone, end_fault words whole left receiver was mid total p all few ∙ good, wrote_whole wrote.0 wrote.1 wrote.2)
 
     pub ended_end : (e : Fault)
-        → ((fault : InputFault) (words : DecodeWords) (octets text : List ℕ) → failed e ≡ Err (Input fault) → HasHeard receiver words octets text → form_fault words.audio octets ≡ Some fault)
+        → ((fault : InputFault) (words : DecodeWords) (octets text : List ℕ) → failed e ≡ Err (Input fault) → HasHeard receiver words octets text → form_fault words octets ≡ Some fault)
         → ((words : DecodeWords) (octets text : List ℕ) → HasHeard receiver words octets text
         → ((false ≡ true) ⊎ ((fault : InputFault) × (failed e ≡ Err (Input fault))))
         → (more : List ℕ) × IsDecoded words octets (text ++ more) × ((b : List ℕ) → mid ≡ Some b → now ≡ Some (b ++ more)))
@@ -148,7 +148,7 @@ module _ (words : DecodeWords) (whole : List ℕ) (left : Option (List ℕ)) (re
         → IsEnded words whole next was now (Err e)
     ended_end (Input fault) bad wrote cut kept never =
         let shown = bad fault words p.read p.text refl p.heard in
-        let wav = form_is_wav words.audio p.read fault shown in
+        let wav = form_is_wav (rates_of words.receiving) words.audio p.read fault shown in
         let w = wrote words p.read p.text p.heard (inr (fault, refl)) in (
           end_fault words whole left receiver was mid total p all few ∙ shown,
           inr (wav.0, wav.1, wrote_whole w.0 w.1 w.2),
@@ -185,7 +185,7 @@ module _ (words : DecodeWords) (octets : List ℕ) (left was now : Option (List 
   to_end (Ok x) h = h.0
   to_end (Err e) h = tt
 
-  pub to_good : (r : Result (Unit {0}) Fault) → IsEnded words octets left was now r → OnOk r (audio_fault words.audio octets ≡ None)
+  pub to_good : (r : Result (Unit {0}) Fault) → IsEnded words octets left was now r → OnOk r (audio_fault words octets ≡ None)
   to_good (Ok x) h = h.1
   to_good (Err e) h = tt
 
@@ -194,7 +194,7 @@ module _ (words : DecodeWords) (octets : List ℕ) (left was now : Option (List 
   to_decoded (Ok x) h before w = (h.2.text, h.2.decoded, h.2.written before w)
   to_decoded (Err e) h before w = tt
 
-  pub to_bad : (r : Result (Unit {0}) Fault) → IsEnded words octets left was now r → (fault : InputFault) → r ≡ Err (Input fault) → audio_fault words.audio octets ≡ Some fault
+  pub to_bad : (r : Result (Unit {0}) Fault) → IsEnded words octets left was now r → (fault : InputFault) → r ≡ Err (Input fault) → audio_fault words octets ≡ Some fault
   to_bad r h fault is = (subst (IsEnded words octets left was now) is h).0
 
   pub to_decoded_before : (r : Result (Unit {0}) Fault) → IsEnded words octets left was now r → (before : List ℕ) (fault : InputFault) → was ≡ Some before

@@ -1,5 +1,6 @@
 pub mod WavFaults
 pub mod AudioLemmas
+pub mod ModemLemmas
 pub mod SettledLemmas
 pub mod ReceiverLemmas
 pub mod DecodedLemmas

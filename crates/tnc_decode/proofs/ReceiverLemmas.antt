@@ -1,54 +1,72 @@
 -- A receiver with octets more, and at the end of the input.
-use Rattle.std.proofs.Common.{◌≡◌, ℕ, ◌+◌, ◌≤◌, ℤ, List, [], ◌++◌, length, ap, sym, subst, ◌∙◌, arith, length-append}
+use Rattle.std.proofs.Common.{◌≡◌, ℕ, ◌+◌, ◌≤◌, ℤ, List, [], ◌++◌, length, ap, sym, subst, ◌∙◌, arith, length-append, inl, inr}
 use Rattle.frame_merge.specs.declared.candidate.Candidate.{Candidate}
 use Rattle.frame_merge.specs.Merged.{frames_of}
-use Rattle.slicer_bank.specs.HeldDecoder.{StandsFor as DecoderStandsFor}
-use Rattle.slicer_bank.specs.MergedItems.{AreMergedBetween}
 use Rattle.tnc_words.specs.declared.command.DecodeWords.{DecodeWords}
+use Rattle.tnc_decode.specs.declared.decoders.Decoders.{Decoders}
+use Rattle.tnc_decode.specs.declared.modem.Modem.{Modem}
 use Rattle.tnc_decode.specs.declared.receiver.Receiver.{Receiver}
-use Rattle.tnc_decode.specs.Audio.{samples_of}
+use Rattle.tnc_decode.specs.Audio.{rates_of, samples_of}
 use Rattle.tnc_decode.specs.Decoded.{IsDecoded}
-use Rattle.tnc_decode.specs.Held.{HasHeard, HasTaken}
+use Rattle.tnc_decode.specs.Held.{HasDecoded, HasHeard, HasTaken}
+use Rattle.tnc_decode.specs.Modem.{modem_of, settled_count, AreGivenBetween, AreGivenRest}
 use Rattle.tnc_decode.specs.Printing.{print}
 use Rattle.tnc_decode.specs.Settled.{IsSettled, sample_count}
+use Rattle.tnc_decode.proofs.AudioLemmas.{modem_stays}
 use Rattle.tnc_decode.proofs.SettledLemmas.{no_sample, settled_none, settled_more, decoded_at_end}
 
-pub heard_none : (receiver : Receiver) (words : DecodeWords) → receiver.frames ≡ words.frames → HasTaken words.audio receiver.audio []
-    → DecoderStandsFor receiver.decoder [] → HasHeard receiver words [] []
-heard_none receiver words same audio decoder = record {
+pub heard_none : (receiver : Receiver) (words : DecodeWords) → receiver.frames ≡ words.frames → receiver.receiving ≡ words.receiving → HasTaken words receiver.audio []
+    → HasDecoded (modem_of words []) receiver.decoder [] → HasHeard receiver words [] []
+heard_none receiver words same receiving audio decoder = record {
   frames = same;
+  receiving = receiving;
   audio = audio;
-  decoder = subst (DecoderStandsFor receiver.decoder) (sym (no_sample words.audio)) decoder;
+  decoder = subst (HasDecoded (modem_of words []) receiver.decoder) (sym (no_sample (rates_of words.receiving) words.audio)) decoder;
   settled = settled_none words;
 }
 
+-- the decoder of the modem that hears more octets has taken the samples before them
+pub tuned : (words : DecodeWords) (before octets : List ℕ) (modem : Modem) (old new : Decoders) → modem ≡ modem_of words (before ++ octets)
+    → ((x : List ℤ) → HasDecoded modem old x → HasDecoded modem new x)
+    → ((other : Modem) → HasDecoded other old [] → HasDecoded modem new [])
+    → HasDecoded (modem_of words before) old (samples_of words before)
+    → HasDecoded (modem_of words (before ++ octets)) new (samples_of words before)
+tuned words before octets modem old new is still fresh h =
+    subst (λ m. HasDecoded m new (samples_of words before)) is (elim (modem_stays words before octets) [
+      | inl same ↦ still (samples_of words before) (subst (λ m. HasDecoded m old (samples_of words before)) (sym same ∙ sym is) h)
+      | inr none ↦ subst (λ (x : List ℤ). HasDecoded modem new x) (sym none)
+          (fresh (modem_of words before) (subst (λ (x : List ℤ). HasDecoded (modem_of words before) old x) none h))
+    ])
+
 module _ (old new : Receiver) (words : DecodeWords) (before octets text : List ℕ) (found block : List ℤ) (items : List Candidate)
     (h : HasHeard old words before text)
-    (took : HasTaken words.audio new.audio (before ++ octets) × (samples_of words.audio (before ++ octets) ≡ samples_of words.audio before ++ found))
+    (took : HasTaken words new.audio (before ++ octets) × (samples_of words (before ++ octets) ≡ samples_of words before ++ found))
     (is : block ≡ found)
-    (gave : DecoderStandsFor new.decoder (samples_of words.audio before ++ block)
-    × AreMergedBetween (length (samples_of words.audio before)) (length (samples_of words.audio before ++ block)) (samples_of words.audio before ++ block) items) where
-  longer : samples_of words.audio (before ++ octets) ≡ samples_of words.audio before ++ block
-  longer = took.1 ∙ ap (λ t. samples_of words.audio before ++ t) (sym is)
+    (gave : HasDecoded (modem_of words (before ++ octets)) new.decoder (samples_of words before ++ block)
+    × AreGivenBetween (modem_of words (before ++ octets)) (settled_count (modem_of words (before ++ octets)) (samples_of words before))
+    (settled_count (modem_of words (before ++ octets)) (samples_of words before ++ block)) (samples_of words before ++ block) items) where
+  longer : samples_of words (before ++ octets) ≡ samples_of words before ++ block
+  longer = took.1 ∙ ap (λ t. samples_of words before ++ t) (sym is)
 
   -- what is settled now
   pub settles : IsSettled words (before ++ octets) (text ++ print old.frames (frames_of items))
   settles = settled_more words before octets text (print old.frames (frames_of items)) block items longer h.settled gave.1 (ap (λ form. print form (frames_of items)) h.frames)
 
-  pub heard_more : new.frames ≡ old.frames → HasHeard new words (before ++ octets) (text ++ print old.frames (frames_of items))
-  heard_more same = record {
+  pub heard_more : new.frames ≡ old.frames → new.receiving ≡ old.receiving → HasHeard new words (before ++ octets) (text ++ print old.frames (frames_of items))
+  heard_more same receiving = record {
     frames = same ∙ h.frames;
+    receiving = receiving ∙ h.receiving;
     audio = took.0;
-    decoder = subst (DecoderStandsFor new.decoder) (sym longer) gave.0;
+    decoder = subst (HasDecoded (modem_of words (before ++ octets)) new.decoder) (sym longer) gave.0;
     settled = settles;
   }
 
-  pub few_more : length found ≤ 2048 → sample_count words (before ++ octets) ≤ sample_count words before + 2048
-  few_more few = (let size = ap length took.1 ∙ length-append (samples_of words.audio before) found in omega arith)
+  pub few_more : length found ≤ 2048 → length (samples_of words (before ++ octets)) ≤ length (samples_of words before) + 2048
+  few_more few = (let size = ap length took.1 ∙ length-append (samples_of words before) found in omega arith)
 
 -- the end of the input
 pub heard_all : (receiver : Receiver) (words : DecodeWords) (octets text : List ℕ) (items shown : List Candidate) → HasHeard receiver words octets text
-    → AreMergedBetween (sample_count words octets) (sample_count words octets + 1) (samples_of words.audio octets) items
+    → AreGivenRest (modem_of words octets) (sample_count words octets) (samples_of words octets) items
     → shown ≡ items
     → IsDecoded words octets (text ++ print receiver.frames (frames_of shown))
 heard_all receiver words octets text items shown h rest is =

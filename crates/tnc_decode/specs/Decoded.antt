@@ -2,14 +2,14 @@
 use Rattle.std.specs.Prelude.{◌≡◌, ℕ, List}
 use Rattle.frame_merge.specs.declared.candidate.Candidate.{Candidate}
 use Rattle.frame_merge.specs.Merged.{merged, frames_of}
-use Rattle.slicer_bank.specs.Candidates.{AreCandidates}
 use Rattle.tnc_words.specs.declared.command.DecodeWords.{DecodeWords}
 use Rattle.tnc_decode.specs.Audio.{samples_of}
+use Rattle.tnc_decode.specs.Modem.{modem_of, AreHeard}
 use Rattle.tnc_decode.specs.Printing.{print}
 
 -- The text is the print of the merged candidates of the input's samples. Samples have one list of candidates, so an
 -- input has one text.
 pub record IsDecoded (words : DecodeWords) (octets text : List ℕ) : Type 0 where
   pub candidates : List Candidate
-  pub are : AreCandidates (samples_of words.audio octets) candidates
+  pub are : AreHeard (modem_of words octets) (samples_of words octets) candidates
   pub is : text ≡ print words.frames (frames_of (merged candidates))

@@ -58,9 +58,9 @@ IsStopped words octets left was now fault =
     ⊎ ((wav : WavFault) × (fault ≡ BadWav wav) × WroteAll words octets was now)
 
 abbrev pub IsEnded : DecodeWords → List ℕ → Option (List ℕ) → Option (List ℕ) → Option (List ℕ) → Result (Unit {0}) Fault → Type 0
-IsEnded words octets left was now (Ok x) = (left ≡ Some []) × (audio_fault words.audio octets ≡ None) × WroteAll words octets was now
+IsEnded words octets left was now (Ok x) = (left ≡ Some []) × (audio_fault words octets ≡ None) × WroteAll words octets was now
 IsEnded words octets left was now (Err (Input fault)) =
-    (audio_fault words.audio octets ≡ Some fault) × IsStopped words octets left was now fault × WroteFirst words octets was now
+    (audio_fault words octets ≡ Some fault) × IsStopped words octets left was now fault × WroteFirst words octets was now
 IsEnded words octets left was now (Err Memory) = WroteFront words octets left was now × WroteFirst words octets was now
 IsEnded words octets left was now (Err Read) = WroteSettled words octets left was now × WroteFirst words octets was now
 IsEnded words octets left was now (Err Write) = WroteCut words octets left was now × WroteFirst words octets was now

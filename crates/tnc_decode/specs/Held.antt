@@ -1,7 +1,10 @@
 -- What the code keeps of an input, and what that stands for. No public clause cites it.
-use Rattle.std.specs.Prelude.{◌≡◌, ℕ, ◌+◌, ◌≤◌, List, [], ◌∷◌, ◌++◌, Option, Some, None}
+use Rattle.std.specs.Prelude.{◌≡◌, ℕ, ◌+◌, ◌≤◌, List, [], ◌∷◌, ◌++◌, length, ℤ, Bool, Option, Some, None}
 use Rattle.tnc_base.specs.Streams.{WrotePart}
 use Rattle.slicer_bank.specs.HeldDecoder.{StandsFor as DecoderStandsFor}
+use Rattle.wide_input.specs.Held.{StandsFor as BankStandsFor}
+use Rattle.hf_modem.specs.HeldDecoder.{StandsFor as HfStandsFor}
+use Rattle.wav_file.specs.declared.rates.Rates.{Rates}
 use Rattle.wav_file.specs.Held.{StandsFor as FileStandsFor}
 use Rattle.wav_file.specs.Reading.{fault_in}
 use Rattle.tnc_words.specs.declared.command.AudioForm.{AudioForm}
@@ -9,9 +12,14 @@ use Rattle.tnc_words.specs.declared.command.AudioForm.TheVariants.{Raw, Wav}
 use Rattle.tnc_words.specs.declared.command.DecodeWords.{DecodeWords}
 use Rattle.tnc_decode.specs.declared.audio.Audio.{Audio}
 use Rattle.tnc_decode.specs.declared.audio.Audio.TheVariants.{Pcm, File}
+use Rattle.tnc_decode.specs.declared.decoders.Decoders.{Decoders}
+use Rattle.tnc_decode.specs.declared.decoders.Decoders.TheVariants.{Plain, Wide, ShortWave}
+use Rattle.tnc_decode.specs.declared.modem.Modem.{Modem}
+use Rattle.tnc_decode.specs.declared.modem.Modem.TheVariants.{Plain as PlainModem, Wide as WideModem, ShortWave as ShortWaveModem}
 use Rattle.tnc_decode.specs.declared.receiver.Receiver.{Receiver}
-use Rattle.tnc_decode.specs.Audio.{samples_of}
-use Rattle.tnc_decode.specs.Settled.{IsSettled, sample_count}
+use Rattle.tnc_decode.specs.Audio.{rates_of, samples_of}
+use Rattle.tnc_decode.specs.Modem.{modem_of}
+use Rattle.tnc_decode.specs.Settled.{IsSettled}
 
 -- the octet of raw PCM that waits for its other half
 abbrev pub odd_octet : List ℕ → Option ℕ
@@ -20,22 +28,44 @@ odd_octet (low ∷ []) = Some low
 odd_octet [] = None
 
 -- the octets were taken, and no fault has shown in them
-abbrev pub HasTaken : AudioForm → Audio → List ℕ → Type 0
-HasTaken Raw (Pcm low) octets = low ≡ odd_octet octets
-HasTaken Wav (File file) octets = FileStandsFor file octets × (fault_in octets ≡ None)
-HasTaken form audio octets = ⊥
+abbrev pub HasTakenAt : Rates → AudioForm → Audio → List ℕ → Type 0
+HasTakenAt rates Raw (Pcm low) octets = low ≡ odd_octet octets
+HasTakenAt rates Wav (File file) octets = FileStandsFor rates file octets × (fault_in rates octets ≡ None)
+HasTakenAt rates form audio octets = ⊥
+
+abbrev pub HasTaken : DecodeWords → Audio → List ℕ → Type 0
+HasTaken words audio octets = HasTakenAt (rates_of words.receiving) words.audio audio octets
+
+-- the decoder is that of a modem, and has taken these samples
+abbrev pub HasDecoded : Modem → Decoders → List ℤ → Type 0
+HasDecoded PlainModem (Plain decoder) x = DecoderStandsFor decoder x
+HasDecoded WideModem (Wide bank) x = BankStandsFor bank x
+HasDecoded ShortWaveModem (ShortWave decoder) x = HfStandsFor decoder x
+HasDecoded modem decoder x = ⊥
+
+-- how many samples a decoder has taken, and whether it is finished
+abbrev pub position_of : Decoders → ℕ
+position_of (Plain decoder) = decoder.position
+position_of (Wide bank) = bank.position
+position_of (ShortWave decoder) = decoder.position
+
+abbrev pub finished_of : Decoders → Bool
+finished_of (Plain decoder) = decoder.finished
+finished_of (Wide bank) = bank.finished
+finished_of (ShortWave decoder) = decoder.finished
 
 -- the receiver was given these octets, and has written this text
 pub record HasHeard (receiver : Receiver) (words : DecodeWords) (octets text : List ℕ) : Type 0 where
   pub frames : receiver.frames ≡ words.frames
-  pub audio : HasTaken words.audio receiver.audio octets
-  pub decoder : DecoderStandsFor receiver.decoder (samples_of words.audio octets)
+  pub receiving : receiver.receiving ≡ words.receiving
+  pub audio : HasTaken words receiver.audio octets
+  pub decoder : HasDecoded (modem_of words octets) receiver.decoder (samples_of words octets)
   pub settled : IsSettled words octets text
 
 -- the receiver was given octets more, of which not all that they settled was written
 pub record CutShort (receiver : Receiver) (words : DecodeWords) (before octets text : List ℕ) (was now : Option (List ℕ)) : Type 0 where
   pub more : List ℕ
-  pub audio : HasTaken words.audio receiver.audio (before ++ octets)
-  pub few : sample_count words (before ++ octets) ≤ sample_count words before + 2048
+  pub audio : HasTaken words receiver.audio (before ++ octets)
+  pub few : length (samples_of words (before ++ octets)) ≤ length (samples_of words before) + 2048
   pub settled : IsSettled words (before ++ octets) (text ++ more)
   pub written : (written : List ℕ) → was ≡ Some written → WrotePart written more now

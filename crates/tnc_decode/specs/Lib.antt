@@ -1,5 +1,6 @@
 pub mod Audio
 pub mod Printing
+pub mod Modem
 pub mod Decoded
 pub mod Settled
 pub mod Written

@@ -5,7 +5,7 @@ use Rattle.tnc_decode.specs.Decoded.{IsDecoded}
 use Rattle.tnc_decode.specs.Settled.{IsPrintBelow, sample_count}
 
 -- The output had these octets before, and now a first part of what the octets read are decoded to. Each frame that ends
--- more than 2048 samples before the last sample read is whole in it.
+-- more than 2048 samples before the count of those read is whole in it.
 pub record WroteMost (words : DecodeWords) (read before : List ℕ) (now : Option (List ℕ)) : Type 0 where
   pub text : List ℕ
   pub decoded : IsDecoded words read text

@@ -3,14 +3,22 @@ ghost use Rattle.std.specs.Prelude.{◌≡◌, ◌≤◌, ◌+◌, ◌++◌, Lis
 ghost use Rattle.wav_file.specs.Samples.{samples as samples_in_pairs};
 ghost use Rattle.tnc_forms.specs.declared.fault.InputFault.{InputFault};
 ghost use Rattle.tnc_words.specs.declared.command.AudioForm.{AudioForm};
-ghost use Rattle.tnc_decode.specs.Audio.{fault_in_verdict, form_fault, samples_of, stopping_fault};
+ghost use Rattle.wav_file.specs.declared.rates.Rates.{Rates};
+ghost use Rattle.wav_file.specs.Held.{StandsFor};
+ghost use Rattle.tnc_words.specs.declared.command.DecodeWords.{DecodeWords};
+ghost use Rattle.tnc_decode.specs.Audio.{fault_in_verdict, form_fault_at, rates_of, samples_at, stopping_fault_at};
+ghost use Rattle.tnc_decode.specs.Modem.{modem_of};
 ghost use Rattle.tnc_decode.specs.declared.audio.Audio.{Audio};
-ghost use Rattle.tnc_decode.specs.Held.{HasTaken, odd_octet};
+ghost use Rattle.tnc_decode.specs.Held.{HasTaken, HasTakenAt, odd_octet};
 
+use crate::modem::Modem;
 use tnc_base::OutOfMemory;
 use tnc_forms::{Fault, InputFault};
-use tnc_words::AudioForm;
+use tnc_words::{AudioForm, DecodeWords, Receiving};
 use wav_file::WavIn;
+
+/// The samples a second of a file that the wide modem hears.
+const WIDE_RATE: u32 = 48_000;
 
 /// Audio up to some octet.
 #[derive(Drop)]
@@ -22,24 +30,42 @@ pub(crate) enum Audio {
 }
 
 impl Audio {
-    /// Audio in a form, of which no octet has come.
-    pub(crate) fn new(form: AudioForm) -> Audio
-        ensures { HasTaken form result [] }
+    /// The audio of words, of which no octet has come.
+    pub(crate) fn new(words: DecodeWords) -> Audio
+        ensures { HasTaken words result [] }
     {
-        match form {
+        match words.audio {
             AudioForm::Raw => Audio::Pcm(None),
-            AudioForm::Wav => Audio::File(WavIn::new()),
+            AudioForm::Wav => Audio::File(new_file(words.receiving)),
+        }
+    }
+
+    /// The modem that hears it. A WAV file tells it with its format, before any sample.
+    pub(crate) fn modem(&self, receiving: Receiving) -> Modem
+        ensures { (words : DecodeWords) (octets : List ℕ) → receiving ≡ words.receiving → HasTaken words self.now octets
+            → result ≡ modem_of words octets }
+    {
+        let rate = match receiving {
+            Receiving::Standard { rate } => rate,
+            Receiving::ShortWave => return Modem::ShortWave,
+        };
+        match self {
+            Audio::Pcm(_) => Modem::of_rate(rate),
+            Audio::File(file) => match file.rate() {
+                Some(WIDE_RATE) => Modem::Wide,
+                _ => Modem::Plain,
+            },
         }
     }
 
     /// Takes the next octets, and puts the samples that end in them in place of those in `samples`.
     pub(crate) fn take(&mut self, octets: &[u8], samples: &mut Vec<i16>) -> Result<(), Fault>
-        ensures takes { OnOk result ((form : AudioForm) (before : List ℕ) → HasTaken form self.old before
-            → HasTaken form self.new (before ++ octets.now)
-            × (samples_of form (before ++ octets.now) ≡ samples_of form before ++ samples.new.items)) }
+        ensures takes { OnOk result ((rates : Rates) (form : AudioForm) (before : List ℕ) → HasTakenAt rates form self.old before
+            → HasTakenAt rates form self.new (before ++ octets.now)
+            × (samples_at rates form (before ++ octets.now) ≡ samples_at rates form before ++ samples.new.items)) }
         ensures count { OnOk result (length samples.new.items ≤ length octets.now) }
-        ensures stops { (fault : InputFault) (form : AudioForm) (before : List ℕ) → IsErrOf result (Fault.Input fault)
-            → HasTaken form self.old before → stopping_fault form (before ++ octets.now) ≡ Some fault }
+        ensures stops { (fault : InputFault) (rates : Rates) (form : AudioForm) (before : List ℕ) → IsErrOf result (Fault.Input fault)
+            → HasTakenAt rates form self.old before → stopping_fault_at rates form (before ++ octets.now) ≡ Some fault }
         ensures read { ¬ IsErrOf result Fault.Read }
         ensures write { ¬ IsErrOf result Fault.Write }
     {
@@ -55,7 +81,7 @@ impl Audio {
 
     /// What is wrong with an input that ends here. Of raw PCM nothing is.
     pub(crate) fn verdict(&self) -> Option<InputFault>
-        ensures { (form : AudioForm) (octets : List ℕ) → HasTaken form self.now octets → result ≡ form_fault form octets }
+        ensures { (rates : Rates) (form : AudioForm) (octets : List ℕ) → HasTakenAt rates form self.now octets → result ≡ form_fault_at rates form octets }
     {
         match self {
             Audio::Pcm(_) => None,
@@ -64,6 +90,16 @@ impl Audio {
                 Err(fault) => Some(InputFault::Wav(fault)),
             },
         }
+    }
+}
+
+/// A WAV file of which no octet has come, at the rates that are heard.
+fn new_file(receiving: Receiving) -> WavIn
+    ensures { StandsFor (rates_of receiving) result [] }
+{
+    match receiving {
+        Receiving::Standard { .. } => WavIn::any_rate(),
+        Receiving::ShortWave => WavIn::new(),
     }
 }
 
@@ -103,12 +139,12 @@ fn take_pairs(octets: &[u8], samples: &mut Vec<i16>) -> Result<Option<u8>, OutOf
 /// Takes the next octets of a WAV file.
 fn take_file(file: &mut WavIn, octets: &[u8], samples: &mut Vec<i16>) -> Result<(), Fault>
     requires { samples.old.items ≡ [] }
-    ensures takes { OnOk result ((form : AudioForm) (before : List ℕ) → HasTaken form (Audio.File file.old) before
-        → HasTaken form (Audio.File file.new) (before ++ octets.now)
-        × (samples_of form (before ++ octets.now) ≡ samples_of form before ++ samples.new.items)) }
+    ensures takes { OnOk result ((rates : Rates) (form : AudioForm) (before : List ℕ) → HasTakenAt rates form (Audio.File file.old) before
+        → HasTakenAt rates form (Audio.File file.new) (before ++ octets.now)
+        × (samples_at rates form (before ++ octets.now) ≡ samples_at rates form before ++ samples.new.items)) }
     ensures count { OnOk result (length samples.new.items ≤ length octets.now) }
-    ensures stops { (fault : InputFault) (form : AudioForm) (before : List ℕ) → IsErrOf result (Fault.Input fault)
-        → HasTaken form (Audio.File file.old) before → stopping_fault form (before ++ octets.now) ≡ Some fault }
+    ensures stops { (fault : InputFault) (rates : Rates) (form : AudioForm) (before : List ℕ) → IsErrOf result (Fault.Input fault)
+        → HasTakenAt rates form (Audio.File file.old) before → stopping_fault_at rates form (before ++ octets.now) ≡ Some fault }
     ensures read { ¬ IsErrOf result Fault.Read }
     ensures write { ¬ IsErrOf result Fault.Write }
 {
@@ -120,14 +156,14 @@ fn take_file(file: &mut WavIn, octets: &[u8], samples: &mut Vec<i16>) -> Result<
 
 /// Takes the next octet of a WAV file, and appends the sample that ends with it.
 fn take_one(file: &mut WavIn, octet: u8, samples: &mut Vec<i16>) -> Result<(), Fault>
-    ensures takes { OnOk result ((form : AudioForm) (before : List ℕ) → HasTaken form (Audio.File file.old) before
-        → HasTaken form (Audio.File file.new) (before ++ octet ∷ [])) }
-    ensures samples { OnOk result ((form : AudioForm) (before : List ℕ) (front : List ℤ) → HasTaken form (Audio.File file.old) before
-        → samples_of form before ≡ front ++ samples.old.items
-        → samples_of form (before ++ octet ∷ []) ≡ front ++ samples.new.items) }
+    ensures takes { OnOk result ((rates : Rates) (form : AudioForm) (before : List ℕ) → HasTakenAt rates form (Audio.File file.old) before
+        → HasTakenAt rates form (Audio.File file.new) (before ++ octet ∷ [])) }
+    ensures samples { OnOk result ((rates : Rates) (form : AudioForm) (before : List ℕ) (front : List ℤ) → HasTakenAt rates form (Audio.File file.old) before
+        → samples_at rates form before ≡ front ++ samples.old.items
+        → samples_at rates form (before ++ octet ∷ []) ≡ front ++ samples.new.items) }
     ensures count { OnOk result (length samples.new.items ≤ length samples.old.items + 1) }
-    ensures stops { (fault : InputFault) (form : AudioForm) (before : List ℕ) → IsErrOf result (Fault.Input fault)
-        → HasTaken form (Audio.File file.old) before → stopping_fault form (before ++ octet ∷ []) ≡ Some fault }
+    ensures stops { (fault : InputFault) (rates : Rates) (form : AudioForm) (before : List ℕ) → IsErrOf result (Fault.Input fault)
+        → HasTakenAt rates form (Audio.File file.old) before → stopping_fault_at rates form (before ++ octet ∷ []) ≡ Some fault }
     ensures read { ¬ IsErrOf result Fault.Read }
     ensures write { ¬ IsErrOf result Fault.Write }
 {

@@ -35,7 +35,7 @@ pub fn decode<R: Threads + Sync, I: Source, O: Sink>(
     ensures end { (octets : List ℕ) → I.left input.old ≡ Some octets
         → OnOk result (I.left input.new ≡ Some []) }
     ensures good { (octets : List ℕ) → I.left input.old ≡ Some octets
-        → OnOk result (audio_fault words.audio octets ≡ None) }
+        → OnOk result (audio_fault words octets ≡ None) }
     ensures decoded { (octets before : List ℕ) → I.left input.old ≡ Some octets
         → O.written output.old ≡ Some before
         → OnOk result ((text : List ℕ) × IsDecoded words octets text × (O.written output.new ≡ Some (before ++ text))) }
@@ -43,7 +43,7 @@ pub fn decode<R: Threads + Sync, I: Source, O: Sink>(
 
     // what is wrong with the input, and what was written before that is told
     ensures bad { (octets : List ℕ) → (fault : InputFault) → I.left input.old ≡ Some octets
-        → IsErrOf result (Fault.Input fault) → audio_fault words.audio octets ≡ Some fault }
+        → IsErrOf result (Fault.Input fault) → audio_fault words octets ≡ Some fault }
     ensures decoded_before { (octets before : List ℕ) → (fault : InputFault) → I.left input.old ≡ Some octets
         → O.written output.old ≡ Some before → length octets ≤ input_limit
         → IsErrOf result (Fault.Input fault)

@@ -3,24 +3,24 @@ ghost use Rattle.std.specs.Prelude.{◌≡◌, ◌≤◌, ◌<◌, ◌+◌, ◌^
 ghost use Rattle.tnc_base.specs.Faults.{HasRisen};
 ghost use Rattle.tnc_base.specs.Streams.{WrotePart};
 ghost use Rattle.frame_merge.specs.Merged.{frames_of};
-ghost use Rattle.slicer_bank.specs.HeldDecoder.{StandsFor};
-ghost use Rattle.slicer_bank.specs.MergedItems.{AreMergedBetween};
 ghost use Rattle.tnc_forms.specs.declared.fault.InputFault.{InputFault};
 ghost use Rattle.tnc_words.specs.declared.command.DecodeWords.{DecodeWords};
 ghost use Rattle.tnc_decode.specs.Audio.{form_fault, stopping_fault};
+ghost use Rattle.tnc_decode.specs.declared.modem.Modem.{Modem};
 ghost use Rattle.tnc_decode.specs.Decoded.{IsDecoded};
-ghost use Rattle.tnc_decode.specs.Held.{CutShort, HasHeard};
+ghost use Rattle.tnc_decode.specs.Held.{CutShort, HasDecoded, HasHeard, finished_of, position_of};
 ghost use Rattle.tnc_decode.specs.Printing.{print};
 
 use crate::audio::Audio;
+use crate::decoders::Decoders;
+use crate::modem::Modem;
 use crate::printing::print;
 use frame_merge::Candidate;
-use slicer_bank::{Decoder, OpenGate};
 use std::alloc::Global;
 use std::thread::Threads;
 use tnc_base::{OutOfMemory, Sink};
 use tnc_forms::{Fault, InputFault};
-use tnc_words::{DecodeWords, FrameForm};
+use tnc_words::{DecodeWords, FrameForm, Receiving};
 
 /// The most octets that are heard at once. So many octets have no more samples than the decoder takes at once.
 pub(crate) const BLOCK: usize = 2048;
@@ -32,24 +32,28 @@ pub(crate) struct Receiver {
     frames: FrameForm,
     threads: bool,
     audio: Audio,
+    receiving: Receiving,
     samples: Vec<i16>,
-    decoder: Decoder,
+    decoder: Decoders,
 }
 
 impl Receiver {
     /// A receiver to which no octet has come.
     pub(crate) fn new(alloc: Global, words: DecodeWords) -> Result<Receiver, OutOfMemory>
         ensures heard { IfOk result (λ receiver. HasHeard receiver words [] []) }
-        ensures position { IfOk result (λ receiver. receiver.decoder.position ≡ 0) }
-        ensures unfinished { IfOk result (λ receiver. receiver.decoder.finished ≡ false) }
+        ensures position { IfOk result (λ receiver. position_of receiver.decoder ≡ 0) }
+        ensures unfinished { IfOk result (λ receiver. finished_of receiver.decoder ≡ false) }
     {
+        let audio = Audio::new(words);
+        let modem = audio.modem(words.receiving);
         Ok(Receiver {
             alloc,
             frames: words.frames,
             threads: words.threads,
-            audio: Audio::new(words.audio),
+            audio,
+            receiving: words.receiving,
             samples: Vec::with_capacity(alloc, BLOCK)?,
-            decoder: Decoder::new(alloc)?,
+            decoder: Decoders::new(alloc, modem)?,
         })
     }
 
@@ -61,18 +65,18 @@ impl Receiver {
         output: &mut O,
     ) -> Result<(), Fault>
         requires few { length octets.now ≤ 2048 }
-        requires room { self.old.decoder.position + length octets.now < 2 ^ 48 }
-        requires unfinished { self.old.decoder.finished ≡ false }
+        requires room { position_of self.old.decoder + length octets.now < 2 ^ 48 }
+        requires unfinished { finished_of self.old.decoder ≡ false }
         ensures heard { OnOk result ((words : DecodeWords) (before text : List ℕ) → HasHeard self.old words before text
             → (more : List ℕ) × HasHeard self.new words (before ++ octets.now) (text ++ more)
             × ((was : List ℕ) → O.written output.old ≡ Some was → O.written output.new ≡ Some (was ++ more))) }
-        ensures position { OnOk result (self.new.decoder.position ≤ self.old.decoder.position + length octets.now) }
-        ensures unfinished { OnOk result (self.new.decoder.finished ≡ false) }
+        ensures position { OnOk result (position_of self.new.decoder ≤ position_of self.old.decoder + length octets.now) }
+        ensures unfinished { OnOk result (finished_of self.new.decoder ≡ false) }
         ensures later { O.faults output.old ≤ O.faults output.new }
         ensures faultless { OnOk result (O.faults output.new ≡ O.faults output.old) }
 
         ensures stops { (fault : InputFault) (words : DecodeWords) (before text : List ℕ) → IsErrOf result (Fault.Input fault)
-            → HasHeard self.old words before text → stopping_fault words.audio (before ++ octets.now) ≡ Some fault }
+            → HasHeard self.old words before text → stopping_fault words (before ++ octets.now) ≡ Some fault }
         ensures cut { (words : DecodeWords) (before text : List ℕ) → IsErrOf result Fault.Write → HasHeard self.old words before text
             → CutShort self.new words before octets.now text (O.written output.old) (O.written output.new) }
         ensures write { IsErrOf result Fault.Write → HasRisen (O.faults output.old) (O.faults output.new) }
@@ -81,16 +85,18 @@ impl Receiver {
         ensures read { ¬ IsErrOf result Fault.Read }
     {
         self.audio.take(octets, &mut self.samples)?;
-        let items = next_items(rt, self.threads, &mut self.decoder, &self.samples)?;
+        let modem = self.audio.modem(self.receiving);
+        tune(self.alloc, modem, &mut self.decoder)?;
+        let items = self.decoder.block(rt, self.threads, &self.samples)?;
         write_items(self.alloc, self.frames, &items, output)?;
         Ok(())
     }
 
     /// Writes the rest of the frames: the input has ended. Then tells what is wrong with it.
     pub(crate) fn end<O: Sink>(&mut self, output: &mut O) -> Result<(), Fault>
-        requires room { self.old.decoder.position < 2 ^ 48 }
+        requires room { position_of self.old.decoder < 2 ^ 48 }
         ensures heard { (words : DecodeWords) (octets text : List ℕ) → HasHeard self.old words octets text
-            → OnOk result (form_fault words.audio octets ≡ None) }
+            → OnOk result (form_fault words octets ≡ None) }
         ensures wrote { (words : DecodeWords) (octets text : List ℕ) → HasHeard self.old words octets text
             → (IsOk result ⊎ ((fault : InputFault) × (result ≡ Err (Fault.Input fault))))
             → (more : List ℕ) × IsDecoded words octets (text ++ more)
@@ -99,7 +105,7 @@ impl Receiver {
         ensures faultless { OnOk result (O.faults output.new ≡ O.faults output.old) }
 
         ensures bad { (fault : InputFault) (words : DecodeWords) (octets text : List ℕ) → IsErrOf result (Fault.Input fault)
-            → HasHeard self.old words octets text → form_fault words.audio octets ≡ Some fault }
+            → HasHeard self.old words octets text → form_fault words octets ≡ Some fault }
         ensures cut { (words : DecodeWords) (octets text : List ℕ) → IsErrOf result Fault.Write → HasHeard self.old words octets text
             → (more : List ℕ) × IsDecoded words octets (text ++ more)
             × ((was : List ℕ) → O.written output.old ≡ Some was → WrotePart was more (O.written output.new)) }
@@ -116,27 +122,18 @@ impl Receiver {
     }
 }
 
-/// The items that a block of samples settles. With threads the lanes work on two.
-fn next_items<R: Threads + Sync>(
-    rt: &R,
-    threads: bool,
-    decoder: &mut Decoder,
-    block: &[i16],
-) -> Result<Vec<Candidate>, OutOfMemory>
-    requires few { length block.now ≤ 2048 }
-    requires room { decoder.old.position + length block.now < 2 ^ 48 }
-    requires unfinished { decoder.old.finished ≡ false }
-    ensures given { IfOk result (λ items. (x : List ℤ) → StandsFor decoder.old x
-        → StandsFor decoder.new (x ++ block.now)
-        × AreMergedBetween (length x) (length (x ++ block.now)) (x ++ block.now) items.items) }
-    ensures position { OnOk result (decoder.new.position ≡ decoder.old.position + length block.now) }
-    ensures unfinished { decoder.new.finished ≡ false }
+/// Takes the decoder of another modem in place of one that has taken no samples: a WAV file has told its rate.
+fn tune(alloc: Global, modem: Modem, decoder: &mut Decoders) -> Result<(), OutOfMemory>
+    requires unfinished { finished_of decoder.old ≡ false }
+    ensures still { OnOk result ((x : List ℤ) → HasDecoded modem decoder.old x → HasDecoded modem decoder.new x) }
+    ensures fresh { OnOk result ((other : Modem) → HasDecoded other decoder.old [] → HasDecoded modem decoder.new []) }
+    ensures position { OnOk result (position_of decoder.new ≤ position_of decoder.old) }
+    ensures unfinished { finished_of decoder.new ≡ false }
 {
-    if threads {
-        decoder.block_threads(rt, block, &OpenGate)
-    } else {
-        decoder.block(block)
+    if decoder.modem() != modem {
+        *decoder = Decoders::new(alloc, modem)?;
     }
+    Ok(())
 }
 
 /// Writes the frames of candidates.

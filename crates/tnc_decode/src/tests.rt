@@ -5,7 +5,7 @@ use std::alloc::{AllocError, Global};
 use std::test::Fail;
 use tnc_base::{MemSink, MemSource};
 use tnc_forms::Fault;
-use tnc_words::{AudioForm, DecodeWords, FrameForm};
+use tnc_words::{AudioForm, DecodeWords, FrameForm, Receiving, SampleRate};
 
 /// The tones of a SABM from N7LEM to NJ7P between two flags and one, 162 bits in all, M for mark and S for space.
 const TONES: &[u8; 162] =
@@ -26,20 +26,35 @@ const WORDS: DecodeWords = DecodeWords {
     audio: AudioForm::Raw,
     frames: FrameForm::Hex,
     threads: false,
+    receiving: Receiving::Standard {
+        rate: SampleRate::Narrow,
+    },
 };
+
+/// The head of a WAV file of 12,960 octets at 48,000 samples a second.
+const WIDE_HEAD: [u8; 44] =
+    *b"RIFF\xc4\x32\0\0WAVEfmt \x10\0\0\0\x01\0\x01\0\x80\xbb\0\0\0\x77\x01\0\x02\0\x10\0data\xa0\x32\0\0";
 
 /// The octets of the samples, eight samples a tone: mark is 6 steps a sample, space 11.
 fn recording(alloc: Global) -> Result<Vec<u8>, AllocError> {
     let mut octets = Vec::new(alloc);
+    record(&mut octets, 1)?;
+    Ok(octets)
+}
+
+/// Appends the octets of the samples, each of them so many times.
+fn record(octets: &mut Vec<u8>, times: usize) -> Result<(), AllocError> {
     let mut phase = 0usize;
     for tone in TONES {
         let step = if *tone == b'M' { 6 } else { 11 };
         for _ in 0..8 {
-            octets.extend_from_slice(&SINE[phase % 48].to_le_bytes())?;
+            for _ in 0..times {
+                octets.extend_from_slice(&SINE[phase % 48].to_le_bytes())?;
+            }
             phase = (phase % 48 + step) % 48;
         }
     }
-    Ok(octets)
+    Ok(())
 }
 
 #[test]
@@ -66,5 +81,38 @@ fn a_frame_is_written_before_the_input_fails(rt: HostRuntime) -> Result<(), Fail
     let end = decode(&rt, rt.alloc(), WORDS, &mut input, &mut output);
     assert!(rt; matches!(end, Err(Fault::Read)));
     assert!(rt; output.written() == LINE.as_slice());
+    Ok(())
+}
+
+#[test]
+fn samples_at_48000_a_second_give_the_same_line(rt: HostRuntime) -> Result<(), Fail> {
+    let raw = DecodeWords {
+        receiving: Receiving::Standard {
+            rate: SampleRate::Wide,
+        },
+        ..WORDS
+    };
+    let wav = DecodeWords {
+        audio: AudioForm::Wav,
+        ..WORDS
+    };
+    for (words, front, threads) in [
+        (raw, [].as_slice(), false),
+        (raw, [0; 6].as_slice(), true),
+        (wav, WIDE_HEAD.as_slice(), false),
+    ] {
+        let mut octets = front.to_vec(rt.alloc())?;
+        record(&mut octets, 5)?;
+        let mut input = MemSource::new(octets, 4095, Vec::new(rt.alloc()));
+        let mut output = MemSink::new(rt.alloc(), 1000, Vec::new(rt.alloc()))?;
+        let words = DecodeWords { threads, ..words };
+        let end = decode(&rt, rt.alloc(), words, &mut input, &mut output);
+        assert!(rt; end.is_ok());
+        assert!(rt;
+            output.written() == LINE.as_slice(),
+            "behind {} octets",
+            front.len()
+        );
+    }
     Ok(())
 }

@@ -5,3 +5,4 @@ pub mod EncodedLemmas
 pub mod FormLemmas
 pub mod PieceLemmas
 pub mod EndedLemmas
+pub mod ModemLemmas

@@ -4,29 +4,30 @@ use Rattle.std.proofs.lemmas.List.{map-append, take_more, take-append-drop}
 use Rattle.tnc_base.specs.Streams.{WrotePart}
 use Rattle.tnc_forms.proofs.PcmLemmas.{pcm-append}
 use Rattle.tnc_words.specs.declared.command.EncodeWords.{EncodeWords}
-use Rattle.afsk_modulator.specs.Signal.{Transmission, signal_at}
-use Rattle.afsk_modulator.proofs.SignalLemmas.{signal_at-none, signal_at-one, signal_at-append}
+use Rattle.afsk_modulator.specs.Signal.{Transmission}
+use Rattle.tnc_encode.specs.Sending.{signal_by}
+use Rattle.tnc_encode.proofs.ModemLemmas.{signal_by-none, signal_by-one, signal_by-append}
 use Rattle.tnc_encode.specs.Encoded.{sent_at_once, joined, samples_at_once, signal_of}
 use Rattle.tnc_forms.specs.Pcm.{pcm}
 
 module _ (words : EncodeWords) where
   -- the octets of transmissions
   unfoldable pub octets_of : List Transmission → List ℕ
-  octets_of transmissions = pcm (signal_at words.level transmissions)
+  octets_of transmissions = pcm (signal_by words.modem words.level transmissions)
 
   octets_of-append : (ts us : List Transmission) → octets_of (ts ++ us) ≡ octets_of ts ++ octets_of us
   unfolding octets_of
   octets_of-append ts us =
-      ap pcm (signal_at-append words.level ts us) ∙ pcm-append (signal_at words.level ts) (signal_at words.level us)
+      ap pcm (signal_by-append words.modem words.level ts us) ∙ pcm-append (signal_by words.modem words.level ts) (signal_by words.modem words.level us)
 
   octets_of-one : (frames : List (List ℕ)) → octets_of (sent_at_once words frames ∷ []) ≡ pcm (samples_at_once words frames)
   unfolding octets_of
-  octets_of-one frames = ap pcm (signal_at-one words.level (sent_at_once words frames))
+  octets_of-one frames = ap pcm (signal_by-one words.modem words.level (sent_at_once words frames))
 
   -- no transmission
   nothing_sent : octets_of [] ≡ []
   unfolding octets_of pcm
-  nothing_sent = ap pcm (signal_at-none words.level)
+  nothing_sent = ap pcm (signal_by-none words.modem words.level)
 
   -- all frames in one transmission
   pub joined_sent : (frames : List (List ℕ)) → words.join ≡ true → 0 < length frames

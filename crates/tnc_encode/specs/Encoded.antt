@@ -1,7 +1,6 @@
 -- What encode makes of the octets of its input.
 use Rattle.std.specs.Prelude.{ℕ, ℤ, nat_lt, Bool, true, List, [], ◌∷◌, ◌++◌, map, length, take, Option, Some, None, if◌then◌else◌}
-use Rattle.afsk_modulator.specs.Level.{at_level}
-use Rattle.afsk_modulator.specs.Signal.{Transmission, samples_of, signal_at}
+use Rattle.afsk_modulator.specs.Signal.{Transmission}
 use Rattle.wav_file.specs.Head.{head_of}
 use Rattle.tnc_forms.specs.declared.fault.InputFault.{InputFault}
 use Rattle.tnc_forms.specs.declared.fault.InputFault.TheVariants.{LongWav}
@@ -12,6 +11,7 @@ use Rattle.tnc_forms.specs.Reading.{input_limit}
 use Rattle.tnc_words.specs.declared.command.AudioForm.{AudioForm}
 use Rattle.tnc_words.specs.declared.command.AudioForm.TheVariants.{Raw, Wav}
 use Rattle.tnc_words.specs.declared.command.EncodeWords.{EncodeWords}
+use Rattle.tnc_encode.specs.Sending.{samples_by, signal_by}
 use Rattle.tnc_encode.specs.Frames.{form_fault, form_fault_so_far, frames_of, frames_so_far}
 
 -- frames that are sent at one go, as the words say
@@ -29,12 +29,12 @@ abbrev pub transmissions : EncodeWords → List (List ℕ) → List Transmission
 transmissions words frames =
     if words.join then joined words frames else map (λ frame. sent_at_once words (frame ∷ [])) frames
 
--- the samples of frames that are sent at one go, and the signal of all of them, at the level of the words
+-- the samples of frames that are sent at one go, and the signal of all of them, by the modem and at the level of the words
 abbrev pub samples_at_once : EncodeWords → List (List ℕ) → List ℤ
-samples_at_once words frames = at_level words.level (samples_of (sent_at_once words frames))
+samples_at_once words frames = samples_by words.modem words.level (sent_at_once words frames)
 
 abbrev pub signal_of : EncodeWords → List (List ℕ) → List ℤ
-signal_of words frames = signal_at words.level (transmissions words frames)
+signal_of words frames = signal_by words.modem words.level (transmissions words frames)
 
 -- the signal of the input's frames
 abbrev pub samples_sent : EncodeWords → List ℕ → List ℤ

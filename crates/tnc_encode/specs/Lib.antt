@@ -1,3 +1,4 @@
+pub mod Sending
 pub mod Frames
 pub mod Encoded
 pub mod HeldFrames

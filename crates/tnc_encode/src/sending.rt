@@ -1,16 +1,18 @@
 //! Frames as the octets of their signal.
-ghost use Rattle.std.specs.Prelude.{◌≡◌, ◌≤◌, All, IfOk};
+ghost use Rattle.std.specs.Prelude.{◌≡◌, ◌≤◌, ◌↔◌, ℕ, All, IfOk, IsErrOf};
 ghost use Rattle.afsk_modulator.specs.Modulation.{IsLevel};
-ghost use Rattle.afsk_modulator.specs.Transmission.{IsBadLength};
+ghost use Rattle.afsk_modulator.specs.Transmission.{AreFewFlags, IsBadLength, IsFirstBadLength};
 ghost use Rattle.tnc_encode.specs.Encoded.{samples_at_once};
+ghost use Rattle.tnc_encode.specs.Sending.{transmission_by};
 
 use afsk_modulator::{ModFault, transmission_at};
+use hf_modem::hf_transmission;
 use std::alloc::Global;
 use tnc_base::{Octets, OutOfMemory};
-use tnc_words::EncodeWords;
+use tnc_words::{EncodeWords, Modem};
 
-/// The samples of frames that are sent at one go: the silence before them, and their transmission at
-/// the level of the words.
+/// The samples of frames that are sent at one go: the silence before them, and their transmission by the
+/// modem and at the level of the words.
 pub(crate) fn samples_at_once(
     alloc: Global,
     words: EncodeWords,
@@ -24,11 +26,31 @@ pub(crate) fn samples_at_once(
 {
     let mut samples = Vec::new(alloc);
     samples.resize(words.silence as usize, 0)?;
-    match transmission_at(alloc, 0, words.level, frames, words.opening, words.closing) {
+    match transmission(alloc, words, frames) {
         Ok(behind) => samples.extend_from_slice(&behind)?,
         Err(ModFault::Memory) => return Err(OutOfMemory),
         Err(ModFault::FewFlags) => unreachable!(),
         Err(ModFault::BadLength { .. }) => unreachable!(),
     }
     Ok(samples)
+}
+
+/// The transmission of frames by the modem of the words.
+#[tactic(auto, unfolding(crate::specs::Sending::transmission_by))]
+fn transmission(alloc: Global, words: EncodeWords, frames: &[Octets]) -> Result<Vec<i16>, ModFault>
+    requires level { IsLevel words.level }
+    ensures sent { IfOk result (λ samples. samples.items
+        ≡ transmission_by words.modem words.level frames.now words.opening words.closing) }
+    ensures few_flags { IsErrOf result ModFault.FewFlags ↔ AreFewFlags words.opening words.closing }
+    ensures bad_length { (index : ℕ) → IsErrOf result (ModFault.BadLength index)
+        ↔ ((¬ AreFewFlags words.opening words.closing) × IsFirstBadLength frames.now index) }
+{
+    match words.modem {
+        Modem::Bell202 => {
+            transmission_at(alloc, 0, words.level, frames, words.opening, words.closing)
+        }
+        Modem::ShortWave => {
+            hf_transmission(alloc, words.level, frames, words.opening, words.closing)
+        }
+    }
 }

@@ -1,17 +1,14 @@
 -- What is said of a command can be said of an equal one.
-use Rattle.std.proofs.Common.{◌≡◌, ℕ, List, Option, None, Result, refl, sym, subst, ap}
+use Rattle.std.proofs.Common.{◌≡◌, ℕ, List, Option, None, Result, sym, subst, ap}
 use Rattle.std.specs.Prelude.{OnOk}
 use Rattle.tnc_forms.specs.declared.fault.Fault.{Fault}
 use Rattle.tnc_words.specs.declared.command.Command.{Command}
-use Rattle.tnc_words.specs.declared.command.Command.TheVariants.{Decode, Encode, Show, Loop, Serve}
-use Rattle.tnc_words.specs.declared.command.LoopWords.{LoopWords}
 use Rattle.tnc_main.specs.declared.stop.Stop.{Stop}
-use Rattle.tnc_main.specs.Commands.{Reads, Strays, fault_of}
+use Rattle.tnc_main.specs.Commands.{Reads, fault_of}
 use Rattle.tnc_main.specs.Parts.{WritesAtEnd}
 use Rattle.tnc_main.specs.Stops.{end_of, status_of}
 use Rattle.tnc_main.proofs.Ends.{if_ok}
 use Rattle.tnc_main.proofs.Writing.{Written}
-use Rattle.tnc_loop.specs.Summary.{IsFirstStray}
 
 -- a command is another one
 module _ (command other : Command) (is : command ≡ other) where
@@ -38,12 +35,3 @@ module _ (command other : Command) (is : command ≡ other) where
       → Written other octets before left now (status_of end) → Written command octets before left now (status_of r)
   written octets before left now r end same h =
       subst (λ c. Written c octets before left now (status_of r)) (sym is) (subst (λ e. Written other octets before left now (status_of e)) (sym same) h)
-
--- only a loop hears what is stray
-pub stray_of_loop : (command : Command) (frame : List ℕ) → Strays command frame
-    → (words : LoopWords) × (command ≡ Loop words) × IsFirstStray words frame
-stray_of_loop (Decode words) frame h = absurd h
-stray_of_loop (Encode words) frame h = absurd h
-stray_of_loop (Show words) frame h = absurd h
-stray_of_loop (Loop words) frame h = (words, refl, h)
-stray_of_loop (Serve options) frame h = absurd h

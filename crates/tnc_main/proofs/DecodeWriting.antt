@@ -3,7 +3,7 @@ use Rattle.std.proofs.Common.{◌≡◌, ℕ, ◌<◌, List, [], ◌++◌, lengt
 use Rattle.std.proofs.lemmas.List.{append_cancel_left}
 use Rattle.tnc_base.specs.Streams.{WrotePart}
 use Rattle.tnc_words.specs.declared.command.Command.{Command}
-use Rattle.tnc_words.specs.declared.command.Command.TheVariants.{Decode, Encode, Show, Loop, Serve}
+use Rattle.tnc_words.specs.declared.command.Command.TheVariants.{Decode, Encode, Show, Loop, Bench, Serve, Help, Version}
 use Rattle.tnc_words.specs.declared.command.DecodeWords.{DecodeWords}
 use Rattle.tnc_forms.specs.declared.fault.InputFault.{InputFault}
 use Rattle.tnc_forms.specs.declared.fault.InputFault.TheVariants.{TooLong, Line, Wav, LongWav}
@@ -60,7 +60,7 @@ module _ (words : DecodeWords) (octets before : List ℕ) (left now : Option (Li
   )
 
   -- a file that is refused for its head is not refused for being too long
-  other_fault : input_limit < length octets → (audio_fault words.audio octets ≡ Some TooLong → ⊥)
+  other_fault : input_limit < length octets → (audio_fault words octets ≡ Some TooLong → ⊥)
       → Written (Decode words) octets before left now BadInput
   other_fault over other =
       let whole = some_text words octets in
@@ -70,7 +70,7 @@ module _ (words : DecodeWords) (octets before : List ℕ) (left now : Option (Li
         part.3,
       )
 
-  pub of_many : (fault : InputFault) → input_limit < length octets → audio_fault words.audio octets ≡ Some fault → (fault ≡ TooLong → Ended)
+  pub of_many : (fault : InputFault) → input_limit < length octets → audio_fault words octets ≡ Some fault → (fault ≡ TooLong → Ended)
       → Written (Decode words) octets before left now BadInput
   of_many TooLong over is ended =
       let h = ended refl in (
@@ -99,4 +99,7 @@ unread (Decode words) octets left reads =
 unread (Encode words) octets left reads = encode_unread words octets left reads
 unread (Show words) octets left reads = show_unread words octets left reads
 unread (Loop words) octets left reads = tt
+unread (Bench options) octets left reads = tt
 unread (Serve options) octets left reads = absurd reads
+unread (Help topic) octets left reads = tt
+unread Version octets left reads = tt

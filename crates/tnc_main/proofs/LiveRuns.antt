@@ -12,13 +12,13 @@ use Rattle.tnc_ports.specs.declared.serve_words.ServeWords.{ServeWords}
 use Rattle.tnc_ports.specs.SampledRun.{Outside}
 use Rattle.tnc_ports.specs.ServeRun.{InputSide}
 use Rattle.tnc_main.specs.declared.status.Status.{Status}
-use Rattle.tnc_main.specs.declared.status.Status.TheVariants.{Done, BadWords, ReadFault, WriteFault, Stray, NoPort}
+use Rattle.tnc_main.specs.declared.status.Status.TheVariants.{Done, BadWords, ReadFault, WriteFault, Stray, NotQuiet, Spent, NoPort}
 use Rattle.tnc_main.specs.Commands.{Reads}
 use Rattle.tnc_main.specs.Runs.{Job}
 use Rattle.tnc_main.specs.Serving.{RunsLive, Serves, words_of}
 use Rattle.tnc_main.specs.Status.{code_of}
 use Rattle.tnc_main.specs.Stops.{CanRun}
-use Rattle.tnc_main.proofs.ServingLemmas.{Ends, WritesFailed, at_done, at_no_port, at_read_fault, at_write_fault, ends_well, nothing_strays, words_are_good}
+use Rattle.tnc_main.proofs.ServingLemmas.{Ends, WritesFailed, at_done, at_no_port, at_read_fault, at_write_fault, ends_well, nothing_spent, nothing_strays, nothing_unquiet, words_are_good}
 use Rattle.tnc_main.proofs.Statuses.{one_status}
 
 -- words ask for one serve at most
@@ -67,6 +67,12 @@ module _ (words : List (List ℕ)) (code : ℕ) (options : ServeOptions) (asks :
 
   pub no_stray : code ≡ 6 → ⊥
   no_stray is = nothing_strays h.2.end h.0 h.2.between after h.2.told (status_is Stray is)
+
+  pub no_unquiet : code ≡ 7 → ⊥
+  no_unquiet is = nothing_unquiet h.2.end h.0 h.2.between after h.2.told (status_is NotQuiet is)
+
+  pub no_spent : code ≡ 8 → ⊥
+  no_spent is = nothing_spent h.2.end h.0 h.2.between after h.2.told (status_is Spent is)
 
   pub complete : (octets : List ℕ) → input.left ≡ Some octets → length octets ≤ input_limit
       → (HasRisen input.faults left.faults → ⊥) → (HasRisen before.output_faults after.output_faults → ⊥)

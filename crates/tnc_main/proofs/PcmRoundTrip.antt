@@ -1,5 +1,5 @@
 -- What is written of the samples of a signal is read as these samples, as raw PCM and as a WAV file.
-use Rattle.std.proofs.Common.{◌≡◌, ℕ, ◌+◌, ◌*◌, ◌≤◌, ℤ, pos, List, [], ◌∷◌, ◌++◌, length, get_or, length-append, replicate, All, Ok, refl, ap, ◌∙◌, arith, of_z}
+use Rattle.std.proofs.Common.{◌≡◌, ℕ, ◌+◌, ◌*◌, ◌≤◌, ℤ, pos, List, [], ◌∷◌, ◌++◌, length, get_or, length-append, replicate, All, Ok, Some, refl, ap, ◌∙◌, arith, of_z}
 use Rattle.std.specs.Prelude.{unsigned_abs}
 use Rattle.std.specs.Int.{cast_signed, from_le_bytes, to_le_bytes}
 use Rattle.std.specs.List.{AllByRecursion, range_with_len}
@@ -19,10 +19,13 @@ use Rattle.nrzi_bits.specs.Line.{line}
 use Rattle.hdlc_framer.specs.Body.{body}
 use Rattle.afsk_modulator.specs.Transmission.{transmission}
 use Rattle.afsk_modulator.specs.Level.{at_level, sample_at}
+use Rattle.hf_modem.specs.Signal.{hf_signal}
+use Rattle.hf_modem.proofs.LoudnessLemmas.{within-hf_signal}
 use Rattle.afsk_modulator.specs.Signal.{Transmission, samples_of as samples_at, signal, signal_at}
 use Rattle.afsk_modulator.proofs.LevelLemmas.{unsigned_abs-sample_at}
+use Rattle.wav_file.specs.declared.rates.Rates.{Rates}
 use Rattle.wav_file.specs.Head.{head_of}
-use Rattle.wav_file.specs.Reading.{Reading, samples_in, verdict_of}
+use Rattle.wav_file.specs.Reading.{Reading, rate_in, samples_in, verdict_of}
 use Rattle.wav_file.specs.Samples.{sample_of, samples}
 use Rattle.wav_file.proofs.HeadLemmas.{head_reads, head_whole}
 use Rattle.tnc_forms.specs.Pcm.{pcm, sample_octets}
@@ -68,13 +71,19 @@ length-pcm (z ∷ xs) =
 -- ---- a WAV file
 
 module _ (xs : List ℤ) (few : length xs ≤ 2147483629) where
-  pub samples-wav : All IsSample xs → samples_in (head_of (length xs) ++ pcm xs) ≡ xs
-  samples-wav fit =
+  pub samples-wav : (rates : Rates) → All IsSample xs → samples_in rates (head_of (length xs) ++ pcm xs) ≡ xs
+  samples-wav rates fit =
       let count : length (pcm xs) ≡ 2 * length xs = length-pcm xs in
-      ap (λ (r : Reading). r.heard) (head_reads (2 * length xs) (pcm xs) (omega (arith, few)) (omega (arith, count))) ∙ samples-pcm xs fit
+      ap (λ (r : Reading). r.heard) (head_reads rates (2 * length xs) (pcm xs) (omega (arith, few)) (omega (arith, count))) ∙ samples-pcm xs fit
 
-  pub wav_whole : verdict_of (head_of (length xs) ++ pcm xs) ≡ Ok tt
-  wav_whole = head_whole (2 * length xs) (pcm xs) (omega (arith, few)) (length-pcm xs)
+  -- at 9600 samples a second
+  pub rate-wav : (rates : Rates) → rate_in rates (head_of (length xs) ++ pcm xs) ≡ Some 9600
+  rate-wav rates =
+      let count : length (pcm xs) ≡ 2 * length xs = length-pcm xs in
+      ap (λ (r : Reading). r.rate) (head_reads rates (2 * length xs) (pcm xs) (omega (arith, few)) (omega (arith, count)))
+
+  pub wav_whole : (rates : Rates) → verdict_of rates (head_of (length xs) ++ pcm xs) ≡ Ok tt
+  wav_whole rates = head_whole rates (2 * length xs) (pcm xs) (omega (arith, few)) (length-pcm xs)
 
 -- ---- the samples of a signal fit
 
@@ -110,3 +119,8 @@ unfolding signal_at at_level
 signal_fits level sent most = All-map IsSample (sample_at level) (signal sent) (λ k d below.
     let quiet = unsigned_abs-sample_at level (get_or (signal sent) k d) (signal_quiet sent k d below) in
     fits_signed_from_abs w16 (sample_at level (get_or (signal sent) k d)) (omega arith))
+
+pub hf_signal_fits : (level : ℕ) (sent : List Transmission) → level ≤ 32767 → All IsSample (hf_signal level sent)
+hf_signal_fits level sent most k d below =
+    let quiet = within-hf_signal level sent k d below in
+    fits_signed_from_abs w16 (get_or (hf_signal level sent) k d) (omega arith)

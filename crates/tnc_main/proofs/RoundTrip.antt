@@ -1,27 +1,38 @@
 -- What encode writes is heard by decode.
-use Rattle.std.proofs.Common.{◌≡◌, ℕ, ◌+◌, ◌≤◌, Bool, true, false, true≢false, ℤ, List, All, length, take, nat_lt, Option, Some, None, refl, sym, subst, ap, ◌∙◌, le-ltb}
+use Rattle.std.proofs.Common.{◌≡◌, ℕ, ◌+◌, ◌≤◌, Bool, true, false, true≢false, ℤ, List, All, length, map, take, nat_lt, Option, Some, None, refl, sym, subst, ap, ◌∙◌, le-ltb}
 use Rattle.std.specs.Prelude.{is_some, if◌then◌else◌}
 use Rattle.std.specs.Option.{option_or}
 use Rattle.std.proofs.lemmas.Bool.{ltb-false}
 use Rattle.afsk_modulator.specs.Modulation.{IsLevel}
-use Rattle.clean_signal.specs.GoodTransmission.{frames_of as all_frames}
-use Rattle.clean_signal.specs.MergedFrames.{MergesTo}
-use Rattle.clean_signal.specs.Stray.{NoStray}
+use Rattle.afsk_modulator.specs.Signal.{Transmission}
+use Rattle.clean_signal.specs.GoodTransmission.{IsTransmission, frames_of as all_frames}
 use Rattle.clean_signal.proofs.Law.{level_law}
+use Rattle.frame_merge.specs.declared.candidate.Candidate.{Candidate}
+use Rattle.frame_merge.specs.Merged.{merged}
+use Rattle.hf_signal.proofs.Law.{level_law as hf_level_law}
 use Rattle.tnc_words.specs.declared.command.AudioForm.{AudioForm}
 use Rattle.tnc_words.specs.declared.command.AudioForm.TheVariants.{Raw, Wav}
 use Rattle.tnc_words.specs.declared.command.DecodeWords.{DecodeWords}
 use Rattle.tnc_words.specs.declared.command.EncodeWords.{EncodeWords}
+use Rattle.tnc_words.specs.declared.command.Modem.{Modem as Sending}
+use Rattle.tnc_words.specs.declared.command.Modem.TheVariants.{Bell202, ShortWave}
+use Rattle.wav_file.specs.declared.rates.Rates.{Rates}
+use Rattle.wav_file.specs.declared.rates.Rates.TheVariants.{NarrowOrWide}
 use Rattle.tnc_forms.specs.declared.fault.InputFault.{InputFault}
 use Rattle.tnc_forms.specs.declared.fault.InputFault.TheVariants.{LongWav, TooLong}
 use Rattle.tnc_forms.specs.Reading.{input_limit}
-use Rattle.tnc_decode.specs.Audio.{audio_fault, fault_in_verdict, form_fault, samples_of, stopping_fault}
+use Rattle.tnc_decode.specs.Audio.{audio_fault, fault_in_verdict, form_fault, form_fault_at, rates_of, samples_at, samples_of, stopping_fault}
+use Rattle.tnc_decode.specs.declared.modem.Modem.{Modem}
+use Rattle.tnc_decode.specs.declared.modem.Modem.TheVariants.{Plain, ShortWave as HearsShortWave}
+use Rattle.tnc_decode.specs.Modem.{modem_of, modem_for, modem_of_file, AreHeard}
 use Rattle.tnc_decode.specs.Decoded.{IsDecoded}
 use Rattle.tnc_decode.specs.Printing.{print}
 use Rattle.tnc_encode.specs.Frames.{form_fault as frames_fault, frames_of}
 use Rattle.tnc_encode.specs.Encoded.{encode_fault, encoded, fault_of_whole, first_of, keeps_frames, length_fault, most_samples, samples_sent, signal_of, transmissions, written_as}
+use Rattle.tnc_encode.specs.Sending.{signal_by}
 use Rattle.tnc_encode.proofs.EndedLemmas.{fault_kept}
-use Rattle.tnc_main.proofs.PcmRoundTrip.{IsSample, samples-pcm, samples-wav, signal_fits, wav_whole}
+use Rattle.tnc_main.specs.RoundTrip.{receiving_of, IsWithoutStray}
+use Rattle.tnc_main.proofs.PcmRoundTrip.{IsSample, rate-wav, samples-pcm, samples-wav, signal_fits, hf_signal_fits, wav_whole}
 use Rattle.tnc_main.proofs.SentFrames.{AreOctets, frames_of-fit, frames_sent, transmissions_good}
 use Rattle.tnc_main.proofs.TextLemmas.{merged_text}
 
@@ -52,38 +63,71 @@ wav_fits words octets none wav =
 
 -- ---- samples
 
-written_read : (form : AudioForm) (x : List ℤ) → All IsSample x → (form ≡ Wav → length x ≤ most_samples) → samples_of form (written_as form x) ≡ x
-written_read Raw x fit few = samples-pcm x fit
-written_read Wav x fit few = samples-wav x (few refl) fit
+written_read : (rates : Rates) (form : AudioForm) (x : List ℤ) → All IsSample x → (form ≡ Wav → length x ≤ most_samples) → samples_at rates form (written_as form x) ≡ x
+written_read rates Raw x fit few = samples-pcm x fit
+written_read rates Wav x fit few = samples-wav x (few refl) rates fit
 
-written_good : (form : AudioForm) (x : List ℤ) → (form ≡ Wav → length x ≤ most_samples) → form_fault form (written_as form x) ≡ None
-written_good Raw x few = refl
-written_good Wav x few = ap fault_in_verdict (wav_whole x (few refl))
+-- the modem that hears what another sends
+abbrev hearing : Sending → Modem
+hearing Bell202 = Plain
+hearing ShortWave = HearsShortWave
+
+written_heard : (modem : Sending) (form : AudioForm) (x : List ℤ) → (form ≡ Wav → length x ≤ most_samples)
+    → modem_for (receiving_of modem) form (written_as form x) ≡ hearing modem
+written_heard Bell202 Raw x few = refl
+written_heard Bell202 Wav x few = ap modem_of_file (rate-wav x (few refl) NarrowOrWide)
+written_heard ShortWave form x few = refl
+
+-- every sample that is sent fits
+sent_fits : (modem : Sending) (level : ℕ) (sent : List Transmission) → level ≤ 32767 → All IsSample (signal_by modem level sent)
+unfolding signal_by
+sent_fits Bell202 level sent most = signal_fits level sent most
+sent_fits ShortWave level sent most = hf_signal_fits level sent most
+
+-- what is sent without a stray gives its frames
+sent_merges : (modem : Sending) (level : ℕ) (sent : List Transmission) (items : List Candidate) → IsLevel level → All IsTransmission sent
+    → IsWithoutStray modem sent (signal_by modem level sent) → AreHeard (hearing modem) (signal_by modem level sent) items
+    → map (λ item. item.octets) (merged items) ≡ all_frames sent
+unfolding signal_by
+sent_merges Bell202 level sent items fits good no_stray are = level_law level sent fits good no_stray items are
+sent_merges ShortWave level sent items fits good no_stray are = hf_level_law level sent fits good no_stray items are
+
+written_good : (rates : Rates) (form : AudioForm) (x : List ℤ) → (form ≡ Wav → length x ≤ most_samples) → form_fault_at rates form (written_as form x) ≡ None
+written_good rates Raw x few = refl
+written_good rates Wav x few = ap fault_in_verdict (wav_whole x (few refl) rates)
 
 module _ (encode : EncodeWords) (decode : DecodeWords) (octets : List ℕ) (none : encode_fault encode octets ≡ None) (same : decode.audio ≡ encode.audio) where
   abbrev frames : List (List ℕ)
   frames = frames_of encode.frames octets
 
   -- decode takes what encode wrote
-  pub taken : length (encoded encode octets) ≤ input_limit → audio_fault decode.audio (encoded encode octets) ≡ None
+  pub taken : length (encoded encode octets) ≤ input_limit → audio_fault decode (encoded encode octets) ≡ None
   unfolding encoded
   taken short =
-      ap (λ b. if b then option_or (stopping_fault decode.audio (take (input_limit + 1) (encoded encode octets))) (Some TooLong) else form_fault decode.audio (encoded encode octets)) (le-ltb input_limit (length (encoded encode octets)) short)
-      ∙ ap (λ form. form_fault form (encoded encode octets)) same ∙ written_good encode.audio (signal_of encode frames) (wav_fits encode octets none)
+      ap (λ b. if b then option_or (stopping_fault decode (take (input_limit + 1) (encoded encode octets))) (Some TooLong) else form_fault decode (encoded encode octets)) (le-ltb input_limit (length (encoded encode octets)) short)
+      ∙ ap (λ form. form_fault_at (rates_of decode.receiving) form (encoded encode octets)) same ∙ written_good (rates_of decode.receiving) encode.audio (signal_of encode frames) (wav_fits encode octets none)
 
-  same_samples : IsLevel encode.level → samples_of decode.audio (encoded encode octets) ≡ signal_of encode frames
+  same_samples : IsLevel encode.level → samples_of decode (encoded encode octets) ≡ signal_of encode frames
   unfolding encoded
   same_samples level =
-      ap (λ form. samples_of form (encoded encode octets)) same
-      ∙ written_read encode.audio (signal_of encode frames) (signal_fits encode.level (transmissions encode frames) level.most) (wav_fits encode octets none)
+      ap (λ form. samples_at (rates_of decode.receiving) form (encoded encode octets)) same
+      ∙ written_read (rates_of decode.receiving) encode.audio (signal_of encode frames) (sent_fits encode.modem encode.level (transmissions encode frames) level.most) (wav_fits encode octets none)
+
+  hears : decode.receiving ≡ receiving_of encode.modem → modem_of decode (encoded encode octets) ≡ hearing encode.modem
+  unfolding encoded
+  hears alike =
+      ap (λ receiving. modem_for receiving decode.audio (encoded encode octets)) alike
+      ∙ ap (λ form. modem_for (receiving_of encode.modem) form (encoded encode octets)) same
+      ∙ written_heard encode.modem encode.audio (signal_of encode frames) (wav_fits encode octets none)
 
   -- and prints its frames
-  pub heard : AreOctets octets → 2 ≤ encode.opening → 1 ≤ encode.closing → IsLevel encode.level
-      → NoStray (transmissions encode frames) (signal_of encode frames)
+  pub heard : decode.receiving ≡ receiving_of encode.modem → AreOctets octets → 2 ≤ encode.opening → 1 ≤ encode.closing → IsLevel encode.level
+      → IsWithoutStray encode.modem (transmissions encode frames) (signal_of encode frames)
       → (text : List ℕ) → IsDecoded decode (encoded encode octets) text → text ≡ print decode.frames frames
-  heard each opening closing level no_stray text is =
+  heard alike each opening closing level no_stray text is =
       let good = transmissions_good encode opening closing frames (frames_of-fit encode.frames octets each) in
       merged_text decode (all_frames (transmissions encode frames)) (encoded encode octets) text
-      (subst (λ x. MergesTo (all_frames (transmissions encode frames)) x) (sym (same_samples level))
-      (level_law encode.level (transmissions encode frames) level good no_stray)) is
+      (λ items are. sent_merges encode.modem encode.level (transmissions encode frames) items level good no_stray
+      (subst (λ x. AreHeard (hearing encode.modem) x items) (same_samples level)
+      (subst (λ modem. AreHeard modem (samples_of decode (encoded encode octets)) items) (hears alike) are))) is
       ∙ ap (print decode.frames) (frames_sent encode frames)

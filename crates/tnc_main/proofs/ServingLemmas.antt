@@ -15,7 +15,7 @@ use Rattle.tnc_ports.specs.Pumped.{IsPumped}
 use Rattle.tnc_ports.specs.SampledRun.{IsLooped, Outside}
 use Rattle.tnc_ports.specs.ServeRun.{HasServed, InputSide, IsServed, OnlyListens, ReadFaults, end_of}
 use Rattle.tnc_main.specs.declared.status.Status.{Status}
-use Rattle.tnc_main.specs.declared.status.Status.TheVariants.{Done as WellDone, BadWords, BadInput, Memory as NoMemory, ReadFault as InputFailed, WriteFault as OutputFailed, Stray as HeardStray, NoPort as PortsFailed}
+use Rattle.tnc_main.specs.declared.status.Status.TheVariants.{Done as WellDone, BadWords, BadInput, Memory as NoMemory, ReadFault as InputFailed, WriteFault as OutputFailed, Stray as HeardStray, NotQuiet as FoundNoQuiet, Spent as WasSpent, NoPort as PortsFailed}
 use Rattle.tnc_main.specs.Serving.{HasLineMore, IsToldAs, LacksLine, last_line, status_of_end}
 
 -- ---- when serving has ended
@@ -187,6 +187,22 @@ not_stray ReadFault e = cc e
 not_stray WriteFault e = cc e
 not_stray NoPort e = cc e
 
+not_unquiet : (end : ServeEnd) → FoundNoQuiet ≡ status_of_end end → ⊥
+not_unquiet Done e = cc e
+not_unquiet TooLong e = cc e
+not_unquiet Memory e = cc e
+not_unquiet ReadFault e = cc e
+not_unquiet WriteFault e = cc e
+not_unquiet NoPort e = cc e
+
+not_spent : (end : ServeEnd) → WasSpent ≡ status_of_end end → ⊥
+not_spent Done e = cc e
+not_spent TooLong e = cc e
+not_spent Memory e = cc e
+not_spent ReadFault e = cc e
+not_spent WriteFault e = cc e
+not_spent NoPort e = cc e
+
 module _ (end : ServeEnd) (status : Status) (between after : Outside) (told : IsToldAs (last_line end) (status_of_end end) status between after) where
   pub words_are_good : status ≡ BadWords → ⊥
   words_are_good e = elim (own_status end status between after told) [
@@ -198,4 +214,16 @@ module _ (end : ServeEnd) (status : Status) (between after : Outside) (told : Is
   nothing_strays e = elim (own_status end status between after told) [
     | inl own ↦ not_stray end (sym e ∙ own)
     | inr failed ↦ let both : HeardStray ≡ OutputFailed = sym e ∙ failed in cc both
+  ]
+
+  pub nothing_unquiet : status ≡ FoundNoQuiet → ⊥
+  nothing_unquiet e = elim (own_status end status between after told) [
+    | inl own ↦ not_unquiet end (sym e ∙ own)
+    | inr failed ↦ let both : FoundNoQuiet ≡ OutputFailed = sym e ∙ failed in cc both
+  ]
+
+  pub nothing_spent : status ≡ WasSpent → ⊥
+  nothing_spent e = elim (own_status end status between after told) [
+    | inl own ↦ not_spent end (sym e ∙ own)
+    | inr failed ↦ let both : WasSpent ≡ OutputFailed = sym e ∙ failed in cc both
   ]

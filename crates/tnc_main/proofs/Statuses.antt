@@ -3,9 +3,9 @@ use Rattle.std.proofs.Common.{◌≡◌, ◌≢◌, ℕ, zero, suc, Result, Ok, 
 use Rattle.std.specs.Prelude.{IsOk, List}
 use Rattle.tnc_forms.specs.declared.fault.InputFault.{InputFault}
 use Rattle.tnc_main.specs.declared.status.Status.{Status}
-use Rattle.tnc_main.specs.declared.status.Status.TheVariants.{Done, BadWords, BadInput, Memory as NoMemory, ReadFault, WriteFault, Stray as HeardStray, NoPort}
+use Rattle.tnc_main.specs.declared.status.Status.TheVariants.{Done, BadWords, BadInput, Memory as NoMemory, ReadFault, WriteFault, Stray as HeardStray, NotQuiet as FoundNoQuiet, Spent as WasSpent, NoPort}
 use Rattle.tnc_main.specs.declared.stop.Stop.{Stop}
-use Rattle.tnc_main.specs.declared.stop.Stop.TheVariants.{Input, Stray, Memory, Read, Write}
+use Rattle.tnc_main.specs.declared.stop.Stop.TheVariants.{Input, Stray, NotQuiet, Spent, Memory, Read, Write}
 use Rattle.tnc_main.specs.Status.{code_of}
 use Rattle.tnc_main.specs.Stops.{EndsAs, status_of}
 
@@ -18,7 +18,9 @@ status_at (suc (suc (suc zero))) = NoMemory
 status_at (suc (suc (suc (suc zero)))) = ReadFault
 status_at (suc (suc (suc (suc (suc zero))))) = WriteFault
 status_at (suc (suc (suc (suc (suc (suc zero)))))) = HeardStray
-status_at (suc (suc (suc (suc (suc (suc (suc n))))))) = NoPort
+status_at (suc (suc (suc (suc (suc (suc (suc zero))))))) = FoundNoQuiet
+status_at (suc (suc (suc (suc (suc (suc (suc (suc zero)))))))) = WasSpent
+status_at (suc (suc (suc (suc (suc (suc (suc (suc (suc n))))))))) = NoPort
 
 status_at-code : (status : Status) → status_at (code_of status) ≡ status
 unfolding status_at
@@ -29,6 +31,8 @@ status_at-code NoMemory = refl
 status_at-code ReadFault = refl
 status_at-code WriteFault = refl
 status_at-code HeardStray = refl
+status_at-code FoundNoQuiet = refl
+status_at-code WasSpent = refl
 status_at-code NoPort = refl
 
 -- a status is known by its code
@@ -55,6 +59,8 @@ module _ (end : Result (Unit {0}) Stop) (status : Status) (ends : EndsAs end sta
       go (Ok x) e = refl
       go (Err (Input fault)) e = absurd (omega arith)
       go (Err (Stray frame)) e = absurd (omega arith)
+      go (Err (NotQuiet index)) e = absurd (omega arith)
+      go (Err (Spent ticks)) e = absurd (omega arith)
       go (Err Memory) e = absurd (omega arith)
       go (Err Read) e = absurd (omega arith)
       go (Err Write) e = absurd (omega arith)
@@ -66,6 +72,8 @@ module _ (end : Result (Unit {0}) Stop) (status : Status) (ends : EndsAs end sta
       go (Ok x) e = omega arith
       go (Err (Input fault)) e = omega arith
       go (Err (Stray frame)) e = omega arith
+      go (Err (NotQuiet index)) e = omega arith
+      go (Err (Spent ticks)) e = omega arith
       go (Err Memory) e = omega arith
       go (Err Read) e = omega arith
       go (Err Write) e = omega arith
@@ -77,6 +85,8 @@ module _ (end : Result (Unit {0}) Stop) (status : Status) (ends : EndsAs end sta
       go (Ok x) e = absurd (omega arith)
       go (Err (Input fault)) e = (fault, refl)
       go (Err (Stray frame)) e = absurd (omega arith)
+      go (Err (NotQuiet index)) e = absurd (omega arith)
+      go (Err (Spent ticks)) e = absurd (omega arith)
       go (Err Memory) e = absurd (omega arith)
       go (Err Read) e = absurd (omega arith)
       go (Err Write) e = absurd (omega arith)
@@ -88,6 +98,8 @@ module _ (end : Result (Unit {0}) Stop) (status : Status) (ends : EndsAs end sta
       go (Ok x) e = absurd (omega arith)
       go (Err (Input fault)) e = absurd (omega arith)
       go (Err (Stray frame)) e = absurd (omega arith)
+      go (Err (NotQuiet index)) e = absurd (omega arith)
+      go (Err (Spent ticks)) e = absurd (omega arith)
       go (Err Memory) e = absurd (omega arith)
       go (Err Read) e = refl
       go (Err Write) e = absurd (omega arith)
@@ -99,6 +111,8 @@ module _ (end : Result (Unit {0}) Stop) (status : Status) (ends : EndsAs end sta
       go (Ok x) e = omega arith
       go (Err (Input fault)) e = omega arith
       go (Err (Stray frame)) e = omega arith
+      go (Err (NotQuiet index)) e = omega arith
+      go (Err (Spent ticks)) e = omega arith
       go (Err Memory) e = omega arith
       go (Err Read) e = omega arith
       go (Err Write) e = omega arith
@@ -110,6 +124,34 @@ module _ (end : Result (Unit {0}) Stop) (status : Status) (ends : EndsAs end sta
       go (Ok x) e = absurd (omega arith)
       go (Err (Input fault)) e = absurd (omega arith)
       go (Err (Stray frame)) e = (frame, refl)
+      go (Err (NotQuiet index)) e = absurd (omega arith)
+      go (Err (Spent ticks)) e = absurd (omega arith)
+      go (Err Memory) e = absurd (omega arith)
+      go (Err Read) e = absurd (omega arith)
+      go (Err Write) e = absurd (omega arith)
+
+  pub at_not_quiet : code_of status ≡ 7 → (index : ℕ) × (end ≡ Err (NotQuiet index))
+  at_not_quiet is = go end (own_code end status 7 ends is (λ e. omega arith) (λ e. omega arith))
+    where
+      go : (r : Result (Unit {0}) Stop) → code_of (status_of r) ≡ 7 → (index : ℕ) × (r ≡ Err (NotQuiet index))
+      go (Ok x) e = absurd (omega arith)
+      go (Err (Input fault)) e = absurd (omega arith)
+      go (Err (Stray frame)) e = absurd (omega arith)
+      go (Err (NotQuiet index)) e = (index, refl)
+      go (Err (Spent ticks)) e = absurd (omega arith)
+      go (Err Memory) e = absurd (omega arith)
+      go (Err Read) e = absurd (omega arith)
+      go (Err Write) e = absurd (omega arith)
+
+  pub at_spent : code_of status ≡ 8 → (ticks : ℕ) × (end ≡ Err (Spent ticks))
+  at_spent is = go end (own_code end status 8 ends is (λ e. omega arith) (λ e. omega arith))
+    where
+      go : (r : Result (Unit {0}) Stop) → code_of (status_of r) ≡ 8 → (ticks : ℕ) × (r ≡ Err (Spent ticks))
+      go (Ok x) e = absurd (omega arith)
+      go (Err (Input fault)) e = absurd (omega arith)
+      go (Err (Stray frame)) e = absurd (omega arith)
+      go (Err (NotQuiet index)) e = absurd (omega arith)
+      go (Err (Spent ticks)) e = (ticks, refl)
       go (Err Memory) e = absurd (omega arith)
       go (Err Read) e = absurd (omega arith)
       go (Err Write) e = absurd (omega arith)

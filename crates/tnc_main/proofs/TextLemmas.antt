@@ -1,16 +1,22 @@
 -- Why an input that is too long is refused, and the text of samples near a signal.
-use Rattle.std.proofs.Common.{◌≡◌, ℕ, ◌<◌, List, length, Option, Some, ap, ◌∙◌, arith, lt-ltb}
+use Rattle.std.proofs.Common.{◌≡◌, ℕ, ◌<◌, ℤ, List, length, map, Option, Some, ap, ◌∙◌, arith, lt-ltb}
 use Rattle.std.specs.Prelude.{if◌then◌else◌}
 use Rattle.clean_signal.specs.GoodTransmission.{frames_of}
-use Rattle.clean_signal.specs.MergedFrames.{MergesTo}
+use Rattle.frame_merge.specs.declared.candidate.Candidate.{Candidate}
+use Rattle.frame_merge.specs.Merged.{merged}
 use Rattle.clean_signal.specs.NearSignal.{Received, transmissions_of}
 use Rattle.clean_signal.proofs.Law.{near_law}
+use Rattle.wide_input.proofs.WideLaw.{near_stream_law}
 use Rattle.tnc_words.specs.declared.command.Command.{Command}
-use Rattle.tnc_words.specs.declared.command.Command.TheVariants.{Decode, Encode, Show, Loop, Serve}
+use Rattle.tnc_words.specs.declared.command.Command.TheVariants.{Decode, Encode, Show, Loop, Bench, Serve, Help, Version}
 use Rattle.tnc_words.specs.declared.command.DecodeWords.{DecodeWords}
 use Rattle.tnc_forms.specs.declared.fault.InputFault.TheVariants.{TooLong}
 use Rattle.tnc_forms.specs.Reading.{input_limit}
 use Rattle.tnc_decode.specs.Audio.{samples_of}
+use Rattle.hf_signal.proofs.Law.{near_law as hf_near_law}
+use Rattle.tnc_decode.specs.declared.modem.Modem.{Modem}
+use Rattle.tnc_decode.specs.declared.modem.Modem.TheVariants.{Plain, Wide, ShortWave}
+use Rattle.tnc_decode.specs.Modem.{modem_of, AreHeard}
 use Rattle.tnc_decode.specs.Decoded.{IsDecoded}
 use Rattle.tnc_decode.specs.Printing.{print}
 use Rattle.tnc_encode.specs.Encoded.{fault_of_whole, first_of, length_fault, samples_sent}
@@ -31,16 +37,26 @@ long_fault (Encode words) left octets last read long =
     (lt-ltb input_limit (length octets) long)
 long_fault (Show words) left octets last read long = absurd last
 long_fault (Loop words) left octets last read long = let none : length octets ≡ 0 = ap length read in absurd (omega arith)
+long_fault (Bench options) left octets last read long = let none : length octets ≡ 0 = ap length read in absurd (omega arith)
 long_fault (Serve options) left octets last read long = absurd last
+long_fault (Help topic) left octets last read long = let none : length octets ≡ 0 = ap length read in absurd (omega arith)
+long_fault Version left octets last read long = let none : length octets ≡ 0 = ap length read in absurd (omega arith)
 
 -- what decode makes of samples whose merged candidates are these frames
-pub merged_text : (words : DecodeWords) (frames : List (List ℕ)) (octets text : List ℕ) → MergesTo frames (samples_of words.audio octets)
+pub merged_text : (words : DecodeWords) (frames : List (List ℕ)) (octets text : List ℕ)
+    → ((items : List Candidate) → AreHeard (modem_of words octets) (samples_of words octets) items → map (λ item. item.octets) (merged items) ≡ frames)
     → IsDecoded words octets text → text ≡ print words.frames frames
 merged_text words frames octets text merges h = h.is ∙ ap (print words.frames) (merges h.candidates h.are)
 
 -- as those near a signal are
-pub near_text : (words : DecodeWords) (received : List Received) (octets text : List ℕ) → IsNearlyClean (samples_of words.audio octets) received
+near_merges : (modem : Modem) (x : List ℤ) (received : List Received) → IsNearlyClean modem x received → (items : List Candidate) → AreHeard modem x items
+    → map (λ item. item.octets) (merged items) ≡ frames_of (transmissions_of received)
+near_merges Plain x received clean = near_law received x clean.each clean.near clean.no_stray
+near_merges Wide x received clean = near_stream_law clean.number received x clean.within clean.each clean.near clean.no_stray
+near_merges ShortWave x received clean = hf_near_law received x clean.each clean.near clean.no_stray
+
+pub near_text : (words : DecodeWords) (received : List Received) (octets text : List ℕ) → IsNearlyClean (modem_of words octets) (samples_of words octets) received
     → IsDecoded words octets text → text ≡ print words.frames (frames_of (transmissions_of received))
 near_text words received octets text clean h =
     merged_text words (frames_of (transmissions_of received)) octets text
-    (near_law received (samples_of words.audio octets) clean.each clean.near clean.no_stray) h
+    (near_merges (modem_of words octets) (samples_of words octets) received clean) h

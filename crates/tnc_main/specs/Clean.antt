@@ -1,12 +1,38 @@
 -- Samples from which a receiver must hear what was sent.
-use Rattle.std.specs.Prelude.{ℤ, List}
+use Rattle.std.specs.Prelude.{ℕ, ◌<◌, ℤ, List}
 use Rattle.std.specs.List.{All}
 use Rattle.clean_signal.specs.NearSignal.{Received, IsReceived, IsNearAll, transmissions_of}
 use Rattle.clean_signal.specs.Stray.{NoStray}
+use Rattle.hf_signal.specs.NearSignal.{IsReceived as IsHfReceived, IsNearAll as IsHfNearAll}
+use Rattle.hf_signal.specs.Stray.{NoStray as NoHfStray}
+use Rattle.wide_input.specs.Streams.{stream}
+use Rattle.wide_input.specs.Stray.{NoWideStray}
+use Rattle.tnc_decode.specs.declared.modem.Modem.{Modem}
+use Rattle.tnc_decode.specs.declared.modem.Modem.TheVariants.{Plain, Wide, ShortWave}
 
 -- the samples are near what these transmissions give, each from a phase and at a level of its own, and none of their
 -- candidates is stray
-pub record IsNearlyClean (x : List ℤ) (received : List Received) : Type 0 where
+pub record IsClean (x : List ℤ) (received : List Received) : Type 0 where
   pub each : All IsReceived received
   pub near : IsNearAll received x
   pub no_stray : NoStray (transmissions_of received) x
+
+-- one stream of the samples is near what these transmissions give, and no candidate of any stream is stray
+pub record IsCleanInStream (x : List ℤ) (received : List Received) : Type 0 where
+  pub number : ℕ
+  pub within : number < 5
+  pub each : All IsReceived received
+  pub near : IsNearAll received (stream number x)
+  pub no_stray : NoWideStray number (transmissions_of received) x
+
+-- the same on short wave
+pub record IsCleanOnShortWave (x : List ℤ) (received : List Received) : Type 0 where
+  pub each : All IsHfReceived received
+  pub near : IsHfNearAll received x
+  pub no_stray : NoHfStray (transmissions_of received) x
+
+-- as the modem hears them
+abbrev pub IsNearlyClean : Modem → List ℤ → List Received → Type 0
+IsNearlyClean Plain x received = IsClean x received
+IsNearlyClean Wide x received = IsCleanInStream x received
+IsNearlyClean ShortWave x received = IsCleanOnShortWave x received

@@ -6,3 +6,4 @@ pub mod Runs
 pub mod Serving
 pub mod Status
 pub mod Stops
+pub mod RoundTrip

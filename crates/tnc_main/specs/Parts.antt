@@ -7,14 +7,16 @@ use Rattle.tnc_forms.specs.HexFrames.{frames_of as frames_of_lines}
 use Rattle.tnc_forms.specs.Reading.{input_limit, piece_limit}
 use Rattle.tnc_forms.specs.Taken.{WereRead}
 use Rattle.tnc_words.specs.declared.command.Command.{Command}
-use Rattle.tnc_words.specs.declared.command.Command.TheVariants.{Decode, Encode, Show, Loop, Serve}
+use Rattle.tnc_words.specs.declared.command.Command.TheVariants.{Decode, Encode, Show, Loop, Bench, Serve, Help, Version}
 use Rattle.tnc_words.specs.declared.command.DecodeWords.{DecodeWords}
+use Rattle.tnc_words.specs.Help.{text_about, version_text}
 use Rattle.tnc_decode.specs.Audio.{audio_fault}
 use Rattle.tnc_decode.specs.Decoded.{IsDecoded}
 use Rattle.tnc_decode.specs.Settled.{IsPrintBelow, IsSettled, sample_count}
 use Rattle.tnc_encode.specs.Encoded.{encoded, encoded_so_far, keeps_frames}
 use Rattle.tnc_encode.specs.Frames.{form_fault_so_far}
 use Rattle.tnc_loop.specs.Summary.{IsSummary}
+use Rattle.tnc_bench.specs.Reported.{IsReportOf}
 use Rattle.tnc_show.specs.Shown.{IsShownOfMany, IsShownSoFar, IsTextOf}
 use Rattle.tnc_main.specs.Commands.{MakesUpToFault, fault_of}
 
@@ -24,7 +26,10 @@ WritesAtEnd (Decode words) = ⊥
 WritesAtEnd (Encode words) = keeps_frames words.audio words.join ≡ true
 WritesAtEnd (Show words) = ⊥
 WritesAtEnd (Loop words) = ⊤
+WritesAtEnd (Bench options) = ⊤
 WritesAtEnd (Serve options) = ⊥
+WritesAtEnd (Help topic) = ⊤
+WritesAtEnd Version = ⊤
 
 -- one text begins another
 abbrev pub Begins : List ℕ → List ℕ → Type 0
@@ -36,7 +41,10 @@ MakesFirst (Decode words) octets text = IsDecoded words octets text
 MakesFirst (Encode words) octets text = text ≡ encoded words octets
 MakesFirst (Show words) octets text = (frames others : List (List ℕ)) × (frames_of_lines 0 octets ≡ frames ++ others) × IsTextOf words.modulus frames text
 MakesFirst (Loop words) octets text = IsSummary words text
+MakesFirst (Bench options) octets text = IsReportOf options text
 MakesFirst (Serve options) octets text = ⊥
+MakesFirst (Help topic) octets text = text ≡ text_about topic
+MakesFirst Version octets text = text ≡ version_text
 
 -- nothing, or a first part of what a command makes of octets
 abbrev pub MakesPart : Command → List ℕ → List ℕ → Type 0
@@ -51,7 +59,10 @@ Settles (Decode words) octets text = IsSettled words octets text
 Settles (Encode words) octets text = (form_fault_so_far words.frames octets ≡ None) × (text ≡ encoded_so_far words octets)
 Settles (Show words) octets text = IsShownSoFar words octets text
 Settles (Loop words) octets text = ⊥
+Settles (Bench options) octets text = ⊥
 Settles (Serve options) octets text = ⊥
+Settles (Help topic) octets text = ⊥
+Settles Version octets text = ⊥
 
 -- the text is what the octets read settle
 pub record SettledByRead (command : Command) (octets : List ℕ) (left : Option (List ℕ)) (text : List ℕ) : Type 0 where
@@ -92,7 +103,7 @@ pub record SettledByPart (words : DecodeWords) (octets : List ℕ) (left : Optio
   pub part : Begins text whole
 
 -- The text of decode is a first part of what the octets read are decoded to. Each frame that ends more than 2048 samples before
--- the end of their samples is whole in it.
+-- the number of their samples is whole in it.
 pub record MostOfRead (words : DecodeWords) (octets : List ℕ) (left : Option (List ℕ)) (text : List ℕ) : Type 0 where
   pub read : List ℕ
   pub early : List ℕ
@@ -108,11 +119,14 @@ pub record MostOfRead (words : DecodeWords) (octets : List ℕ) (left : Option (
 -- The text is what a command writes of too many octets: of lines, what the first 2^40 octets settle. A WAV file can be refused
 -- for its head before it is too long.
 abbrev pub MakesOfTooMany : Command → List ℕ → Option (List ℕ) → List ℕ → Type 0
-MakesOfTooMany (Decode words) octets left text = audio_fault words.audio octets ≡ Some TooLong → SettledByRead (Decode words) octets left text
+MakesOfTooMany (Decode words) octets left text = audio_fault words octets ≡ Some TooLong → SettledByRead (Decode words) octets left text
 MakesOfTooMany (Encode words) octets left text = text ≡ encoded_so_far words (take input_limit octets)
 MakesOfTooMany (Show words) octets left text = IsShownOfMany words octets text
 MakesOfTooMany (Loop words) octets left text = text ≡ []
+MakesOfTooMany (Bench options) octets left text = text ≡ []
 MakesOfTooMany (Serve options) octets left text = ⊥
+MakesOfTooMany (Help topic) octets left text = text ≡ []
+MakesOfTooMany Version octets left text = text ≡ []
 
 -- the text is what a command writes of octets before it refuses them
 pub record MakesBefore (command : Command) (octets : List ℕ) (left : Option (List ℕ)) (text : List ℕ) : Type 0 where
@@ -130,7 +144,21 @@ MakesAtReadFault (Decode words) octets left text = SettledByRead (Decode words) 
 MakesAtReadFault (Encode words) octets left text = SettledByRead (Encode words) octets left text ⊎ (WritesAtEnd (Encode words) × (text ≡ []))
 MakesAtReadFault (Show words) octets left text = SettledByRead (Show words) octets left text
 MakesAtReadFault (Loop words) octets left text = text ≡ []
+MakesAtReadFault (Bench options) octets left text = text ≡ []
 MakesAtReadFault (Serve options) octets left text = ⊥
+MakesAtReadFault (Help topic) octets left text = text ≡ []
+MakesAtReadFault Version octets left text = text ≡ []
+
+-- the text is what a command has written when something was stray in what it sent to itself: loop its summary, bench nothing
+abbrev pub MakesAtStray : Command → List ℕ → List ℕ → Type 0
+MakesAtStray (Decode words) octets text = ⊥
+MakesAtStray (Encode words) octets text = ⊥
+MakesAtStray (Show words) octets text = ⊥
+MakesAtStray (Loop words) octets text = IsSummary words text
+MakesAtStray (Bench options) octets text = text ≡ []
+MakesAtStray (Serve options) octets text = ⊥
+MakesAtStray (Help topic) octets text = ⊥
+MakesAtStray Version octets text = ⊥
 
 -- How much a first part has at least when memory runs out. It can also run out when a refusal is to be told.
 abbrev pub HasAtMemory : Command → List ℕ → Option (List ℕ) → List ℕ → Type 0
@@ -139,7 +167,10 @@ HasAtMemory (Encode words) octets left text =
     SettledByMost (Encode words) octets left text ⊎ (WritesAtEnd (Encode words) ⊎ IsRefused (Encode words) octets left text)
 HasAtMemory (Show words) octets left text = SettledByMost (Show words) octets left text ⊎ IsRefused (Show words) octets left text
 HasAtMemory (Loop words) octets left text = ⊤
+HasAtMemory (Bench options) octets left text = ⊤
 HasAtMemory (Serve options) octets left text = ⊥
+HasAtMemory (Help topic) octets left text = ⊤
+HasAtMemory Version octets left text = ⊤
 
 -- How much a first part has at least when the output fails. The report can also fail when a refusal is to be told.
 abbrev pub HasAtWriteFault : Command → List ℕ → Option (List ℕ) → List ℕ → Type 0
@@ -148,4 +179,7 @@ HasAtWriteFault (Encode words) octets left text =
     MostOfLines (Encode words) octets left text ⊎ (WritesAtEnd (Encode words) ⊎ IsRefused (Encode words) octets left text)
 HasAtWriteFault (Show words) octets left text = MostOfLines (Show words) octets left text ⊎ IsRefused (Show words) octets left text
 HasAtWriteFault (Loop words) octets left text = ⊤
+HasAtWriteFault (Bench options) octets left text = ⊤
 HasAtWriteFault (Serve options) octets left text = ⊥
+HasAtWriteFault (Help topic) octets left text = ⊤
+HasAtWriteFault Version octets left text = ⊤

@@ -8,7 +8,7 @@ use Rattle.tnc_forms.specs.declared.fault.InputFault.TheVariants.{TooLong, Line,
 use Rattle.tnc_forms.specs.declared.line_fault.LineFlaw.{LineFlaw}
 use Rattle.tnc_forms.specs.declared.line_fault.LineFlaw.TheVariants.{LongLine, OddLine, BadDigit, ShortLine}
 use Rattle.tnc_main.specs.declared.stop.Stop.{Stop}
-use Rattle.tnc_main.specs.declared.stop.Stop.TheVariants.{Input, Stray, Memory, Read, Write}
+use Rattle.tnc_main.specs.declared.stop.Stop.TheVariants.{Input, Stray, NotQuiet, Spent, Memory, Read, Write}
 
 abbrev pub bad_words_line : List ℕ
 bad_words_line = codes "tnc: bad words" ++ 10 ∷ []
@@ -46,14 +46,24 @@ input_text (LongWav count) = codes "too long" ++ at_place count
 abbrev pub input_line : InputFault → List ℕ
 input_line fault = codes "tnc: bad input: " ++ input_text fault
 
--- a stray candidate's octets
+-- the octets of what is stray
 abbrev pub stray_line : List ℕ → List ℕ
 stray_line octets = codes "tnc: stray " ++ (encode_lower octets ++ 10 ∷ [])
+
+-- the number of the frame that found no quiet channel, among all frames that links queued, from 1
+abbrev pub not_quiet_line : ℕ → List ℕ
+not_quiet_line index = codes "tnc: not quiet" ++ at_place index
+
+-- the ticks after which a run is spent
+abbrev pub spent_line : ℕ → List ℕ
+spent_line ticks = codes "tnc: spent after " ++ (decimal ticks ++ (codes " ticks" ++ 10 ∷ []))
 
 -- the line for what stopped a command, where there is one
 abbrev pub line_of : Stop → List ℕ
 line_of (Input fault) = input_line fault
 line_of (Stray octets) = stray_line octets
+line_of (NotQuiet index) = not_quiet_line index
+line_of (Spent ticks) = spent_line ticks
 line_of Memory = []
 line_of Read = []
 line_of Write = []

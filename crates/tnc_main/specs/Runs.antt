@@ -7,11 +7,11 @@ use Rattle.tnc_forms.specs.declared.fault.InputFault.{InputFault}
 use Rattle.tnc_forms.specs.declared.fault.InputFault.TheVariants.{TooLong}
 use Rattle.tnc_forms.specs.Reading.{input_limit}
 use Rattle.tnc_main.specs.declared.status.Status.{Status}
-use Rattle.tnc_main.specs.declared.status.Status.TheVariants.{Done, BadWords, BadInput, Memory, ReadFault, WriteFault, Stray, NoPort}
+use Rattle.tnc_main.specs.declared.status.Status.TheVariants.{Done, BadWords, BadInput, Memory, ReadFault, WriteFault, Stray, NotQuiet, Spent, NoPort}
 use Rattle.tnc_main.specs.declared.stop.Stop.{Stop}
-use Rattle.tnc_main.specs.Commands.{Makes, Reads, Strays, fault_of}
-use Rattle.tnc_main.specs.Parts.{Begins, HasAtMemory, HasAtWriteFault, MakesAtReadFault, MakesBefore, MakesPart}
-use Rattle.tnc_main.specs.Report.{input_line, line_of, stray_line}
+use Rattle.tnc_main.specs.Commands.{FindsNoQuiet, IsSpent, Makes, Reads, Strays, fault_of}
+use Rattle.tnc_main.specs.Parts.{Begins, HasAtMemory, HasAtWriteFault, MakesAtReadFault, MakesAtStray, MakesBefore, MakesPart}
+use Rattle.tnc_main.specs.Report.{input_line, line_of, not_quiet_line, spent_line, stray_line}
 use Rattle.tnc_main.specs.Status.{code_of}
 use Rattle.tnc_main.specs.Stops.{IsStopOf}
 
@@ -41,6 +41,8 @@ Leaves command octets Memory left = ⊤
 Leaves command octets ReadFault left = ⊤
 Leaves command octets WriteFault left = ⊤
 Leaves command octets Stray left = ⊤
+Leaves command octets NotQuiet left = ⊤
+Leaves command octets Spent left = ⊤
 Leaves command octets NoPort left = ⊥
 
 -- The text is what a run adds to its output when it ends with a status and has this left of its input.
@@ -51,7 +53,9 @@ Writes command octets left BadInput text = MakesBefore command octets left text
 Writes command octets left Memory text = MakesPart command octets text × HasAtMemory command octets left text
 Writes command octets left ReadFault text = MakesPart command octets text × MakesAtReadFault command octets left text
 Writes command octets left WriteFault text = MakesPart command octets text × HasAtWriteFault command octets left text
-Writes command octets left Stray text = Makes command octets text
+Writes command octets left Stray text = MakesAtStray command octets text
+Writes command octets left NotQuiet text = text ≡ []
+Writes command octets left Spent text = text ≡ []
 Writes command octets left NoPort text = ⊥
 
 -- Why a run ends with a status, where that lies in the octets or in what the command sent to itself.
@@ -63,6 +67,8 @@ IsCaused command octets Memory = ⊤
 IsCaused command octets ReadFault = ⊤
 IsCaused command octets WriteFault = ⊤
 IsCaused command octets Stray = (frame : List ℕ) × Strays command frame
+IsCaused command octets NotQuiet = (index : ℕ) × FindsNoQuiet command index
+IsCaused command octets Spent = (ticks : ℕ) × IsSpent command ticks
 IsCaused command octets NoPort = ⊥
 
 -- The line is what a run adds to its report when it ends with a status: it names the cause, which is there.
@@ -74,4 +80,6 @@ Tells command octets Memory line = line ≡ []
 Tells command octets ReadFault line = line ≡ []
 Tells command octets WriteFault line = (stop : Stop) × IsStopOf command octets stop × Begins line (line_of stop)
 Tells command octets Stray line = (frame : List ℕ) × Strays command frame × (line ≡ stray_line frame)
+Tells command octets NotQuiet line = (index : ℕ) × FindsNoQuiet command index × (line ≡ not_quiet_line index)
+Tells command octets Spent line = (ticks : ℕ) × IsSpent command ticks × (line ≡ spent_line ticks)
 Tells command octets NoPort line = ⊥

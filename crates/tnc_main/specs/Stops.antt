@@ -4,27 +4,47 @@ use Rattle.tnc_forms.specs.declared.fault.Fault.{Fault}
 use Rattle.tnc_forms.specs.declared.fault.Fault.TheVariants.{Input as OfInput, Memory as OfMemory, Read as OfRead, Write as OfWrite}
 use Rattle.tnc_loop.specs.declared.fault.LoopFault.{LoopFault}
 use Rattle.tnc_loop.specs.declared.fault.LoopFault.TheVariants.{Stray as LoopStray, Memory as LoopMemory, Write as LoopWrite}
+use Rattle.channel_bench.specs.declared.report.BenchFault.{BenchFault}
+use Rattle.channel_bench.specs.declared.report.BenchFault.TheVariants.{Stray as BenchStray, NotQuiet as BenchNotQuiet, Spent as BenchSpent, Memory as BenchMemory}
+use Rattle.channel_bench.specs.Words.{AreInRange}
+use Rattle.tnc_bench.specs.declared.fault.CommandFault.{CommandFault}
+use Rattle.tnc_bench.specs.declared.fault.CommandFault.TheVariants.{Run as OfRun, Write as OfBenchWrite}
+use Rattle.tnc_bench.specs.Reported.{words_of}
 use Rattle.afsk_modulator.specs.Modulation.{IsLevel}
 use Rattle.tnc_words.specs.declared.command.Command.{Command}
-use Rattle.tnc_words.specs.declared.command.Command.TheVariants.{Decode, Encode, Show, Loop, Serve}
+use Rattle.tnc_words.specs.declared.command.Command.TheVariants.{Decode, Encode, Show, Loop, Bench, Serve, Help, Version}
 use Rattle.tnc_main.specs.declared.status.Status.{Status}
-use Rattle.tnc_main.specs.declared.status.Status.TheVariants.{Done, BadInput, Memory as NoMemory, ReadFault, WriteFault, Stray as HeardStray}
+use Rattle.tnc_main.specs.declared.status.Status.TheVariants.{Done, BadInput, Memory as NoMemory, ReadFault, WriteFault, Stray as HeardStray, NotQuiet as FoundNoQuiet, Spent as WasSpent}
 use Rattle.tnc_main.specs.declared.stop.Stop.{Stop}
-use Rattle.tnc_main.specs.declared.stop.Stop.TheVariants.{Input, Stray, Memory, Read, Write}
-use Rattle.tnc_main.specs.Commands.{Strays, fault_of}
+use Rattle.tnc_main.specs.declared.stop.Stop.TheVariants.{Input, Stray, NotQuiet, Spent, Memory, Read, Write}
+use Rattle.tnc_main.specs.Commands.{FindsNoQuiet, IsSpent, Strays, fault_of}
 
--- what is named of the octets, or of what loop sent to itself, is there
+-- what is named of the octets, or of what loop or bench sent to itself, is there
 abbrev pub IsStopOf : Command → List ℕ → Stop → Type 0
 IsStopOf command octets (Input fault) = fault_of command octets ≡ Some fault
 IsStopOf command octets (Stray frame) = Strays command frame
+IsStopOf command octets (NotQuiet index) = FindsNoQuiet command index
+IsStopOf command octets (Spent ticks) = IsSpent command ticks
 IsStopOf command octets Memory = ⊤
 IsStopOf command octets Read = ⊤
 IsStopOf command octets Write = ⊤
+
+-- what is named of what a command sent to itself is there
+abbrev pub IsStopOfRun : Command → Stop → Type 0
+IsStopOfRun command (Input fault) = ⊤
+IsStopOfRun command (Stray frame) = Strays command frame
+IsStopOfRun command (NotQuiet index) = FindsNoQuiet command index
+IsStopOfRun command (Spent ticks) = IsSpent command ticks
+IsStopOfRun command Memory = ⊤
+IsStopOfRun command Read = ⊤
+IsStopOfRun command Write = ⊤
 
 -- it is told in a line
 abbrev pub IsTold : Stop → Type 0
 IsTold (Input fault) = ⊤
 IsTold (Stray frame) = ⊤
+IsTold (NotQuiet index) = ⊤
+IsTold (Spent ticks) = ⊤
 IsTold Memory = ⊥
 IsTold Read = ⊥
 IsTold Write = ⊥
@@ -34,6 +54,8 @@ abbrev pub status_of : Result (Unit {0}) Stop → Status
 status_of (Ok nothing) = Done
 status_of (Err (Input fault)) = BadInput
 status_of (Err (Stray octets)) = HeardStray
+status_of (Err (NotQuiet index)) = FoundNoQuiet
+status_of (Err (Spent ticks)) = WasSpent
 status_of (Err Memory) = NoMemory
 status_of (Err Read) = ReadFault
 status_of (Err Write) = WriteFault
@@ -62,10 +84,27 @@ abbrev pub end_of_loop : Result (Unit {0}) LoopFault → Result (Unit {0}) Stop
 end_of_loop (Ok nothing) = Ok nothing
 end_of_loop (Err fault) = Err (stop_of_loop fault)
 
--- a command that makes one text of its input, and the flags of encode can be sent, at its level
+abbrev pub stop_of_run : BenchFault → Stop
+stop_of_run (BenchStray octets) = Stray octets
+stop_of_run (BenchNotQuiet index) = NotQuiet index
+stop_of_run (BenchSpent ticks) = Spent ticks
+stop_of_run BenchMemory = Memory
+
+abbrev pub stop_of_bench : CommandFault → Stop
+stop_of_bench (OfRun fault) = stop_of_run fault
+stop_of_bench OfBenchWrite = Write
+
+abbrev pub end_of_bench : Result (Unit {0}) CommandFault → Result (Unit {0}) Stop
+end_of_bench (Ok nothing) = Ok nothing
+end_of_bench (Err fault) = Err (stop_of_bench fault)
+
+-- a command that makes one text of its input; the flags of encode can be sent, at its level, and bench is within its ranges
 abbrev pub CanRun : Command → Type 0
 CanRun (Decode words) = ⊤
 CanRun (Encode words) = (2 ≤ words.opening) × (1 ≤ words.closing) × IsLevel words.level
 CanRun (Show words) = ⊤
 CanRun (Loop words) = ⊤
+CanRun (Bench options) = AreInRange (words_of options)
 CanRun (Serve options) = ⊥
+CanRun (Help topic) = ⊤
+CanRun Version = ⊤

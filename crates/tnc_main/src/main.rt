@@ -5,6 +5,7 @@
 
 mod laws;
 mod performing;
+mod printing;
 mod program;
 mod report;
 mod serving;

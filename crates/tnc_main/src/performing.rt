@@ -1,24 +1,26 @@
 //! A command that makes one text of its input, done.
-ghost use Rattle.std.specs.Prelude.{◌≡◌, ◌+◌, ◌++◌, ◌⊎◌, List, ℕ, Some, None, [], Err, drop, OnOk, IsErrOf};
+ghost use Rattle.std.specs.Prelude.{◌≡◌, ◌+◌, ◌++◌, ◌⊎◌, List, ℕ, Some, None, [], Err, drop, IfErr, OnOk, IsErrOf};
 ghost use Rattle.tnc_base.specs.Faults.{HasRisen};
 ghost use Rattle.tnc_words.specs.declared.command.LoopWords.{LoopWords};
 ghost use Rattle.tnc_forms.specs.declared.fault.InputFault.{InputFault};
 ghost use Rattle.tnc_forms.specs.Reading.{input_limit};
-ghost use Rattle.tnc_main.specs.Commands.{HeardAsMade, Reads, Strays, fault_of};
+ghost use Rattle.tnc_main.specs.Commands.{HeardAsMade, Reads, ReadsNothing, fault_of};
 ghost use Rattle.tnc_main.specs.Parts.{WritesAtEnd};
 ghost use Rattle.tnc_main.specs.Runs.{Writes};
-ghost use Rattle.tnc_main.specs.Stops.{CanRun, status_of};
+ghost use Rattle.tnc_main.specs.Stops.{CanRun, IsStopOfRun, status_of};
 
-use crate::stop::{Stop, ended, ended_loop};
+use crate::printing::print_text;
+use crate::stop::{Stop, ended, ended_bench, ended_loop};
 use std::alloc::Global;
 use std::thread::Threads;
 use tnc_base::{Sink, Source};
+use tnc_bench::bench;
 use tnc_decode::decode;
 use tnc_encode::encode;
 use tnc_forms::InputFault;
 use tnc_loop::loop_back;
 use tnc_show::show;
-use tnc_words::Command;
+use tnc_words::{Command, help_text, version_line};
 
 /// Does what a command asks for that is not live.
 pub(crate) fn perform<R: Threads + Sync, I: Source, O: Sink>(
@@ -35,7 +37,7 @@ pub(crate) fn perform<R: Threads + Sync, I: Source, O: Sink>(
         → OnOk result (Reads command (I.left input.new) []) }
     ensures stops { (octets : List ℕ) → Reads command (I.left input.old) octets
         → IsErrOf result (Stop.Input InputFault.TooLong) → Reads command (I.left input.new) (drop (input_limit + 1) octets) }
-    ensures unread { (words : LoopWords) → command ≡ Command.Loop words → input.new ≡ input.old }
+    ensures unread { ReadsNothing command → input.new ≡ input.old }
     ensures written { (octets before : List ℕ) → Reads command (I.left input.old) octets
         → O.written output.old ≡ Some before
         → (text : List ℕ) × Writes command octets (I.left input.new) (status_of result) text
@@ -51,7 +53,7 @@ pub(crate) fn perform<R: Threads + Sync, I: Source, O: Sink>(
         ((I.faults input.new ≡ I.faults input.old) × (O.faults output.new ≡ O.faults output.old)) }
     ensures bad { (octets : List ℕ) → (fault : InputFault) → Reads command (I.left input.old) octets
         → IsErrOf result (Stop.Input fault) → fault_of command octets ≡ Some fault }
-    ensures stray { (frame : List ℕ) → IsErrOf result (Stop.Stray frame) → Strays command frame }
+    ensures sent { IfErr result (IsStopOfRun command) }
     ensures read { IsErrOf result Stop.Read → HasRisen (I.faults input.old) (I.faults input.new) }
     ensures write { IsErrOf result Stop.Write → HasRisen (O.faults output.old) (O.faults output.new) }
 {
@@ -60,6 +62,9 @@ pub(crate) fn perform<R: Threads + Sync, I: Source, O: Sink>(
         Command::Encode(words) => ended(encode(alloc, words, input, output)),
         Command::Show(words) => ended(show(alloc, words, input, output)),
         Command::Loop(words) => ended_loop(loop_back(rt, alloc, words, output)),
+        Command::Bench(options) => ended_bench(bench(alloc, options, output)),
         Command::Serve(_) => unreachable!(),
+        Command::Help(topic) => print_text(output, help_text(topic)),
+        Command::Version => print_text(output, version_line()),
     }
 }

@@ -5,19 +5,23 @@ ghost use Rattle.tnc_base.specs.Streams.{WrotePart};
 ghost use Rattle.clean_signal.specs.GoodTransmission.{frames_of};
 ghost use Rattle.clean_signal.specs.NearSignal.{Received, transmissions_of};
 ghost use Rattle.tnc_words.specs.declared.command.DecodeWords.{DecodeWords};
+ghost use Rattle.tnc_words.specs.declared.command.BenchOptions.{BenchOptions};
 ghost use Rattle.tnc_words.specs.declared.command.LoopWords.{LoopWords};
 ghost use Rattle.tnc_words.specs.declared.command.ServeOptions.{ServeOptions};
-ghost use Rattle.tnc_words.specs.Commands.{Asks, IsLoop, IsServe};
+ghost use Rattle.tnc_words.specs.Commands.{Asks, IsBench, IsLoop, IsServe};
 ghost use Rattle.tnc_forms.specs.Reading.{input_limit};
 ghost use Rattle.tnc_decode.specs.Audio.{samples_of};
+ghost use Rattle.tnc_decode.specs.Modem.{modem_of};
 ghost use Rattle.tnc_decode.specs.Printing.{print};
-ghost use Rattle.tnc_loop.specs.Summary.{IsFirstStray};
+ghost use Rattle.channel_bench.specs.BenchRun.{IsOver};
+ghost use Rattle.channel_bench.specs.Report.{Report};
+ghost use Rattle.tnc_bench.specs.Reported.{report_text, words_of as bench_words};
 ghost use Rattle.tnc_ports.specs.SampledRun.{outside_by};
 ghost use Rattle.tnc_ports.specs.ServeRun.{input_by};
 ghost use Rattle.tnc_main.specs.declared.status.Status.{Status};
 ghost use Rattle.tnc_main.specs.declared.stop.Stop.{Stop};
 ghost use Rattle.tnc_main.specs.Clean.{IsNearlyClean};
-ghost use Rattle.tnc_main.specs.Commands.{HeardAsMade, IsFaultless};
+ghost use Rattle.tnc_main.specs.Commands.{FindsNoQuiet, HeardAsMade, IsFaultless, IsSpent, ReadsNothing, Strays};
 ghost use Rattle.tnc_main.specs.Parts.{WritesAtEnd};
 ghost use Rattle.tnc_main.specs.Report.{bad_words_line, line_of};
 ghost use Rattle.tnc_main.specs.Runs.{AskNoServe, AskNothing, IsCaused, Job, Leaves, Tells, Writes};
@@ -26,7 +30,7 @@ ghost use Rattle.tnc_main.specs.Status.{code_of};
 ghost use Rattle.tnc_main.specs.Stops.{EndsAs, IsTold};
 
 use crate::performing::perform;
-use crate::report::{BAD_WORDS, of_input, of_stray, told};
+use crate::report::{BAD_WORDS, of_input, of_no_quiet, of_spent, of_stray, told};
 use crate::serving::{serve, serve_words};
 use crate::status::Status;
 use crate::stop::Stop;
@@ -48,7 +52,9 @@ use tnc_words::{Command, WordsFault, read_words};
 /// | 3 | Memory ran out. The output may be cut. | Runs it again with more memory. |
 /// | 4 | The input failed. What had ended in what was read is written. | Looks at where it comes from. |
 /// | 5 | The output or the report failed, and may be cut. | Looks at where it goes to. |
-/// | 6 | A loop heard a frame that it did not send. The report names it. | Reports the seed: the receiver was fooled. |
+/// | 6 | A loop or a bench heard a frame that was not sent. The report names it. | Reports the seed: the receiver was fooled. |
+/// | 7 | A frame of a bench that sets a link up or ends it found no quiet channel. The report names it. | Tries another seed. |
+/// | 8 | A bench was not over in time. The report says after how many ticks. | Loses less, or adds less noise. |
 /// | 10 | A live station could not open its ports. | Ends what listens there, or names other ports. |
 ///
 /// A command that makes one text of its input is a `Job`, and the clauses that speak of a job say all of it. `serve` is a
@@ -88,11 +94,15 @@ pub fn run<
         → WritesAtEnd job.command → input_limit < length job.octets → result ≡ 2 → output.new ≡ output.old }
     ensures heard { (job : Job (map string_bytes words.now) (I.left input.old) result) → (decode : DecodeWords)
         → (received : List Received) → (before : List ℕ) → job.command ≡ Command.Decode decode
-        → IsNearlyClean (samples_of decode.audio job.octets) received → O.written output.old ≡ Some before
+        → IsNearlyClean (modem_of decode job.octets) (samples_of decode job.octets) received → O.written output.old ≡ Some before
         → result ≡ 0
         → O.written output.new ≡ Some (before ++ print decode.frames (frames_of (transmissions_of received))) }
-    ensures looped { (loop : LoopWords) → IsLoop (map string_bytes words.now) loop
-        → (input.new ≡ input.old) × (result ≡ 0 → HeardAsMade loop) }
+    ensures unread { (command : Command) → Asks (map string_bytes words.now) command → ReadsNothing command
+        → input.new ≡ input.old }
+    ensures looped { (loop : LoopWords) → IsLoop (map string_bytes words.now) loop → result ≡ 0 → HeardAsMade loop }
+    ensures benched { (bench : BenchOptions) → (before : List ℕ) → IsBench (map string_bytes words.now) bench
+        → O.written output.old ≡ Some before → result ≡ 0
+        → (told : Report) × IsOver (bench_words bench) told × (O.written output.new ≡ Some (before ++ report_text told)) }
     ensures served { (options : ServeOptions) → IsServe (map string_bytes words.now) options
         → (status : Status) × (result ≡ code_of status)
         × RunsLive options status (input_by I.left I.faults input.old) (input_by I.left I.faults input.new)
@@ -108,8 +118,12 @@ pub fn run<
     ensures read_fault { result ≡ 4 → HasRisen (I.faults input.old) (I.faults input.new) }
     ensures write_fault { result ≡ 5
         → HasRisen (O.faults output.old) (O.faults output.new) ⊎ HasRisen (E.faults report.old) (E.faults report.new) }
-    ensures stray { result ≡ 6 → (loop : LoopWords) × IsLoop (map string_bytes words.now) loop
-        × ((frame : List ℕ) × IsFirstStray loop frame) }
+    ensures stray { result ≡ 6 → (command : Command) × Asks (map string_bytes words.now) command
+        × ((frame : List ℕ) × Strays command frame) }
+    ensures not_quiet { result ≡ 7 → (command : Command) × Asks (map string_bytes words.now) command
+        × ((index : ℕ) × FindsNoQuiet command index) }
+    ensures spent { result ≡ 8 → (command : Command) × Asks (map string_bytes words.now) command
+        × ((ticks : ℕ) × IsSpent command ticks) }
     ensures no_port { result ≡ 10 → (options : ServeOptions) × IsServe (map string_bytes words.now) options
         × HasRisen (N.faults live.old.ports) (N.faults live.new.ports) }
 
@@ -158,7 +172,7 @@ fn explained<E: Sink>(alloc: Global, end: Result<(), Stop>, report: &mut E) -> S
     ensures silent { (result ≡ Status.Done) ⊎ ((result ≡ Status.Memory) ⊎ (result ≡ Status.ReadFault))
         → report.new ≡ report.old }
     ensures told { (before : List ℕ) → E.written report.old ≡ Some before
-        → (result ≡ Status.BadInput) ⊎ (result ≡ Status.Stray)
+        → (result ≡ Status.BadInput) ⊎ ((result ≡ Status.Stray) ⊎ ((result ≡ Status.NotQuiet) ⊎ (result ≡ Status.Spent)))
         → IfErr end (λ stop. E.written report.new ≡ Some (before ++ line_of stop)) }
     ensures cut { (before : List ℕ) → E.written report.old ≡ Some before
         → result ≡ Status.WriteFault → IfErr end (λ stop. WrotePart before (line_of stop) (E.written report.new)) }
@@ -171,6 +185,14 @@ fn explained<E: Sink>(alloc: Global, end: Result<(), Stop>, report: &mut E) -> S
         },
         Err(Stop::Stray(octets)) => match of_stray(alloc, octets.as_slice()) {
             Ok(line) => told(report, &line, Status::Stray),
+            Err(OutOfMemory) => Status::Memory,
+        },
+        Err(Stop::NotQuiet(index)) => match of_no_quiet(alloc, index) {
+            Ok(line) => told(report, &line, Status::NotQuiet),
+            Err(OutOfMemory) => Status::Memory,
+        },
+        Err(Stop::Spent(ticks)) => match of_spent(alloc, ticks) {
+            Ok(line) => told(report, &line, Status::Spent),
             Err(OutOfMemory) => Status::Memory,
         },
         Err(Stop::Memory) => Status::Memory,

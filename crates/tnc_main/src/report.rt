@@ -3,7 +3,7 @@ ghost use Rattle.std.specs.Prelude.{◌≡◌, ◌≢◌, ◌⊎◌, ◌++◌, L
 ghost use Rattle.tnc_base.specs.Faults.{HasRisen};
 ghost use Rattle.tnc_base.specs.Streams.{WrotePart};
 ghost use Rattle.tnc_forms.specs.declared.fault.InputFault.{InputFault};
-ghost use Rattle.tnc_main.specs.Report.{input_line, name_of_flaw, stray_line};
+ghost use Rattle.tnc_main.specs.Report.{input_line, name_of_flaw, not_quiet_line, spent_line, stray_line};
 
 use crate::status::Status;
 use std::alloc::Global;
@@ -64,12 +64,26 @@ fn of_wav(alloc: Global, fault: WavFault) -> Result<String, OutOfMemory>
     }
 }
 
-/// The line for a stray candidate with these octets.
+/// The line for a stray frame with these octets.
 pub(crate) fn of_stray(alloc: Global, octets: &[u8]) -> Result<String, OutOfMemory>
     ensures { IfOk result (λ line. string_bytes line ≡ stray_line octets.now) }
 {
     let digits = hex::encode(alloc, octets)?;
     Ok(format!(in alloc; "tnc: stray {digits}\n")?)
+}
+
+/// The line for the frame of this number, which found no quiet channel.
+pub(crate) fn of_no_quiet(alloc: Global, index: u64) -> Result<String, OutOfMemory>
+    ensures { IfOk result (λ line. string_bytes line ≡ not_quiet_line index) }
+{
+    Ok(format!(in alloc; "tnc: not quiet at {index}\n")?)
+}
+
+/// The line for a run that is not over after so many ticks.
+pub(crate) fn of_spent(alloc: Global, ticks: u64) -> Result<String, OutOfMemory>
+    ensures { IfOk result (λ line. string_bytes line ≡ spent_line ticks) }
+{
+    Ok(format!(in alloc; "tnc: spent after {ticks} ticks\n")?)
 }
 
 /// Reports the line, and answers the status that it explains, or a write fault where the report can't be written.

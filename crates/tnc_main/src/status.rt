@@ -16,8 +16,12 @@ pub(crate) enum Status {
     ReadFault,
     /// The output or the report failed.
     WriteFault,
-    /// The loop heard a frame that it did not send.
+    /// A loop or a bench heard a frame that was not sent.
     Stray,
+    /// A frame of a bench that sets a link up or ends it found no quiet channel.
+    NotQuiet,
+    /// A bench was not over in time.
+    Spent,
     /// The ports of a live station could not be opened.
     NoPort,
 }
@@ -37,6 +41,8 @@ impl Status {
             Status::ReadFault => 4,
             Status::WriteFault => 5,
             Status::Stray => 6,
+            Status::NotQuiet => 7,
+            Status::Spent => 8,
             Status::NoPort => 10,
         }
     }

@@ -14,6 +14,9 @@ mod live;
 /// A SABM with P from N7LEM to NJ7P: the shortest legal frame.
 const SHORTEST: &str = "9c946ea04040e09c6e988a9a40613f";
 
+/// A bench of no octets.
+const BENCH: &[&str] = &["bench", "--seed=7", "--octets=0", "--full"];
+
 /// What came of a run.
 #[derive(Drop)]
 struct Outcome {
@@ -84,7 +87,7 @@ fn run_over<R: Threads + Wait + Net + Sync>(
 fn each_status_has_its_cause_and_its_line(rt: HostRuntime) -> Result<(), Fail> {
     let bad = "tnc: bad words\n";
     let frame = SHORTEST.as_bytes();
-    let table: [(&[&str], &[u8], [&[u64]; 3], u8, usize, &str); 18] = [
+    let table: [(&[&str], &[u8], [&[u64]; 3], u8, usize, &str); 22] = [
         (&["decode"], b"odd", [&[], &[], &[]], 0, 0, ""),
         (&["decod"], b"", [&[0], &[0], &[]], 1, 0, bad),
         (&[], b"", [&[], &[], &[]], 1, 0, bad),
@@ -117,6 +120,10 @@ fn each_status_has_its_cause_and_its_line(rt: HostRuntime) -> Result<(), Fail> {
             "",
         ),
         (&["encode"], b"", [&[], &[0], &[0]], 0, 0, ""),
+        (&["version"], b"x", [&[0], &[], &[0]], 0, 10, ""),
+        (&["help", "loop"], b"x", [&[0], &[0], &[]], 5, 0, ""),
+        (BENCH, b"x", [&[0], &[], &[0]], 0, 128, ""),
+        (BENCH, b"x", [&[0], &[0], &[]], 5, 0, ""),
     ];
     for (words, input, failing, status, octets, line) in table {
         let got = run_failing(&rt, rt.alloc(), words, input, failing)?;
@@ -141,5 +148,12 @@ fn a_loop_tells_what_it_heard(rt: HostRuntime) -> Result<(), Fail> {
         got.output.as_slice(),
         b"frames 0\nheard 0\nstray 0\nhash cbf29ce484222325\n".as_slice()
     );
+    Ok(())
+}
+
+#[test]
+fn help_tells_of_a_command(rt: HostRuntime) -> Result<(), Fail> {
+    let got = run_over(&rt, rt.alloc(), &["show", "--help"], b"")?;
+    assert!(rt; got.output.starts_with(b"Usage: tnc show [--modulo n]\n"));
     Ok(())
 }

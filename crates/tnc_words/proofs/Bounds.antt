@@ -3,7 +3,8 @@ use Rattle.std.proofs.Common.{◌≤◌, ℕ, Option, Some, None, List, arith}
 use Rattle.clap.specs.Words.{Text}
 use Rattle.tnc_words.specs.declared.command.EncodeWords.{EncodeWords}
 use Rattle.tnc_words.specs.declared.command.LoopWords.{LoopWords}
-use Rattle.tnc_words.specs.Commands.{IsEncode, IsLoop}
+use Rattle.tnc_words.specs.declared.command.BenchOptions.{BenchOptions}
+use Rattle.tnc_words.specs.Commands.{IsEncode, IsLoop, IsBench}
 use Rattle.tnc_words.specs.Numbers.{GivesNumber, HasNumber}
 
 -- a number is within bounds where the default is
@@ -42,3 +43,13 @@ level_greatest words encode h = at_most _ _ _ _ _ h.options.level (omega arith)
 -- at most a thousand frames make a loop
 pub frames_greatest : (words : List Text) (run : LoopWords) → IsLoop words run → run.frames ≤ 1000
 frames_greatest words run h = given_at_most _ _ _ _ h.options.frames
+
+-- what a run of bench has at most
+pub octets_greatest : (words : List Text) (bench : BenchOptions) → IsBench words bench → bench.octets ≤ 100000
+octets_greatest words bench h = at_most _ _ _ _ _ h.options.octets (omega arith)
+
+pub loss_greatest : (words : List Text) (bench : BenchOptions) → IsBench words bench → bench.loss ≤ 90
+loss_greatest words bench h = at_most _ _ _ _ _ h.options.loss (omega arith)
+
+pub noise_greatest : (words : List Text) (bench : BenchOptions) → IsBench words bench → bench.noise ≤ 2000
+noise_greatest words bench h = at_most _ _ _ _ _ h.options.noise (omega arith)

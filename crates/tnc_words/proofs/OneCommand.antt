@@ -1,21 +1,30 @@
 -- Words ask for one command.
 use Rattle.std.proofs.Common.{◌≡◌, ℕ, ◌+◌, ◌*◌, false, Option, Some, None, List, ◌∷◌, codes, refl, sym, ap, ◌∙◌, arith}
-use Rattle.std.proofs.lemmas.Bool.{eqb-false}
+use Rattle.std.proofs.lemmas.Bool.{eqb-false, true≢false}
 use Rattle.std.proofs.Math.Dec.{eqb}
 use Rattle.clap.specs.Words.{Row, Text}
 use Rattle.ax25_frames.specs.ControlField.{numbers}
 use Rattle.ax25_frames.specs.declared.frame.Modulus.{Modulus}
 use Rattle.ax25_frames.specs.declared.frame.Modulus.TheVariants.{Eight, OneTwentyEight}
 use Rattle.tnc_words.specs.declared.command.Command.{Command}
-use Rattle.tnc_words.specs.declared.command.Command.TheVariants.{Decode, Encode, Show, Loop, Serve}
+use Rattle.tnc_words.specs.declared.command.Command.TheVariants.{Decode, Encode, Show, Loop, Bench, Serve, Help, Version}
 use Rattle.tnc_words.specs.declared.command.DecodeWords.{DecodeWords}
+use Rattle.tnc_words.specs.declared.command.Receiving.{Receiving}
+use Rattle.tnc_words.specs.declared.command.Receiving.TheVariants.{Standard, ShortWave}
+use Rattle.tnc_words.specs.declared.command.SampleRate.{SampleRate}
+use Rattle.tnc_words.specs.declared.command.SampleRate.TheVariants.{Narrow, Wide}
 use Rattle.tnc_words.specs.declared.command.EncodeWords.{EncodeWords}
 use Rattle.tnc_words.specs.declared.command.ShowWords.{ShowWords}
 use Rattle.tnc_words.specs.declared.command.LoopWords.{LoopWords}
+use Rattle.tnc_words.specs.declared.command.BenchOptions.{BenchOptions}
 use Rattle.tnc_words.specs.declared.command.ServeOptions.{ServeOptions}
-use Rattle.tnc_words.specs.Commands.{Asks, IsDecode, IsEncode, IsShow, IsLoop, IsServe, first_word}
-use Rattle.tnc_words.specs.Commands.{HasDecodeOptions, HasEncodeOptions, HasShowOptions, HasLoopOptions, HasServeOptions}
+use Rattle.tnc_words.specs.declared.topic.Topic.{Topic}
+use Rattle.tnc_words.specs.Commands.{Asks, IsDecode, IsEncode, IsShow, IsLoop, IsBench, IsServe, first_word}
+use Rattle.tnc_words.specs.Commands.{HasDecodeOptions, HasEncodeOptions, HasShowOptions, HasLoopOptions, HasBenchOptions, HasServeOptions}
+use Rattle.tnc_words.specs.Help.{IsHelp, IsVersion}
+use Rattle.tnc_words.specs.Rates.{HasReceiving, samples_a_second}
 use Rattle.tnc_words.specs.Numbers.{GivesNumber, HasNumber}
+use Rattle.tnc_words.proofs.AskedHelp.{help_alone, help_is_no_version, one_topic, version_alone}
 use Rattle.tnc_words.proofs.OneLink.{one_call, one_params}
 use Rattle.tnc_words.proofs.OneNumber.{given_number, one_number}
 
@@ -29,6 +38,22 @@ one_modulus Eight OneTwentyEight h = absurd (eight_is_not 128 refl h)
 one_modulus OneTwentyEight Eight h = absurd (eight_is_not 128 refl (sym h))
 one_modulus OneTwentyEight OneTwentyEight h = refl
 
+narrow_is_not : (n : ℕ) → n ≡ 48000 → 9600 ≡ n → ⊥
+narrow_is_not n is same = omega arith
+
+-- a rate is known by its number
+one_rate : (rate other : SampleRate) → samples_a_second rate ≡ samples_a_second other → rate ≡ other
+one_rate Narrow Narrow h = refl
+one_rate Narrow Wide h = absurd (narrow_is_not 48000 refl h)
+one_rate Wide Narrow h = absurd (narrow_is_not 48000 refl (sym h))
+one_rate Wide Wide h = refl
+
+one_receiving : (found : List Row) (receiving other : Receiving) → HasReceiving found receiving → HasReceiving found other → receiving ≡ other
+one_receiving found (Standard rate) (Standard other) h k = ap Standard (one_rate rate other (one_number _ _ _ _ _ _ h.1 k.1))
+one_receiving found (Standard rate) ShortWave h k = absurd (true≢false (sym k.0 ∙ h.0))
+one_receiving found ShortWave (Standard other) h k = absurd (true≢false (sym h.0 ∙ k.0))
+one_receiving found ShortWave ShortWave h k = refl
+
 -- ---- what was found gives one set of options
 
 one_decode_options : (found : List Row) (decode other : DecodeWords) → HasDecodeOptions found decode
@@ -36,7 +61,8 @@ one_decode_options : (found : List Row) (decode other : DecodeWords) → HasDeco
 one_decode_options found decode other h k =
     ap (λ v. record decode { audio = v }) (h.audio ∙ sym k.audio)
     ∙ ap (λ v. record decode { audio = other.audio; frames = v }) (h.frames ∙ sym k.frames)
-    ∙ ap (λ v. record other { threads = v }) (h.threads ∙ sym k.threads)
+    ∙ ap (λ v. record decode { audio = other.audio; frames = other.frames; threads = v }) (h.threads ∙ sym k.threads)
+    ∙ ap (λ v. record other { receiving = v }) (one_receiving found decode.receiving other.receiving h.receiving k.receiving)
 
 one_encode_options : (found : List Row) (encode other : EncodeWords) → HasEncodeOptions found encode
     → HasEncodeOptions found other → encode ≡ other
@@ -71,6 +97,21 @@ one_loop_options found run other h k =
     ∙ ap (λ v. record run { seed = other.seed; frames = v }) (given_number _ _ _ _ _ h.frames k.frames)
     ∙ ap (λ v. record run { seed = other.seed; frames = other.frames; rough = v }) (h.rough ∙ sym k.rough)
     ∙ ap (λ v. record other { threads = v }) (h.threads ∙ sym k.threads)
+
+one_bench_options : (found : List Row) (bench other : BenchOptions) → HasBenchOptions found bench
+    → HasBenchOptions found other → bench ≡ other
+one_bench_options found bench other h k =
+    let seed = other.seed in
+    let octets = other.octets in
+    let loss = other.loss in
+    let noise = other.noise in
+    ap (λ v. record bench { seed = v }) (given_number _ _ _ _ _ h.seed k.seed)
+    ∙ ap (λ v. record bench { seed = seed; octets = v }) (one_number _ _ _ _ _ _ h.octets k.octets)
+    ∙ ap (λ v. record bench { seed = seed; octets = octets; loss = v }) (one_number _ _ _ _ _ _ h.loss k.loss)
+    ∙ ap (λ v. record bench { seed = seed; octets = octets; loss = loss; noise = v })
+    (one_number _ _ _ _ _ _ h.noise k.noise)
+    ∙ ap (λ v. record bench { seed = seed; octets = octets; loss = loss; noise = noise; full = v }) (h.full ∙ sym k.full)
+    ∙ ap (λ v. record other { wide = v }) (h.wide ∙ sym k.wide)
 
 one_serve_options : (found : List Row) (serve other : ServeOptions) → HasServeOptions found serve
     → HasServeOptions found other → serve ≡ other
@@ -107,6 +148,10 @@ one_show words show other h k = one_show_options _ show other h.options k.option
 pub one_loop : (words : List Text) (run other : LoopWords) → IsLoop words run → IsLoop words other → run ≡ other
 one_loop words run other h k = one_loop_options _ run other h.options k.options
 
+pub one_bench : (words : List Text) (bench other : BenchOptions) → IsBench words bench → IsBench words other
+    → bench ≡ other
+one_bench words bench other h k = one_bench_options _ bench other h.options k.options
+
 pub one_serve : (words : List Text) (serve other : ServeOptions) → IsServe words serve → IsServe words other
     → serve ≡ other
 one_serve words serve other h k = one_serve_options _ serve other h.options k.options
@@ -119,19 +164,23 @@ first_letters (Some (first ∷ second ∷ rest)) = 256 * first + second
 first_letters _ = 0
 
 -- words that begin with one name do not begin with another where already the first two letters differ, as those of the
--- five commands do
+-- six commands do
 pub apart : (words : List Text) (name other : Text) → first_word words ≡ Some name → first_word words ≡ Some other
     → eqb (first_letters (Some name)) (first_letters (Some other)) ≡ false → ⊥
 apart words name other h k differ = eqb-false _ _ differ (ap first_letters (sym h ∙ k))
 
 -- words that name decode, and are no decode, ask for nothing
 pub no_decode : (words : List Text) → first_word words ≡ Some (codes "decode")
+    → ((topic : Topic) → IsHelp words topic → ⊥) → (IsVersion words → ⊥)
     → ((decode : DecodeWords) → IsDecode words decode → ⊥) → (command : Command) → Asks words command → ⊥
-no_decode words is h (Decode decode) k = h decode k
-no_decode words is h (Encode encode) k = apart words _ _ is k.named refl
-no_decode words is h (Show show) k = apart words _ _ is k.named refl
-no_decode words is h (Loop run) k = apart words _ _ is k.named refl
-no_decode words is h (Serve serve) k = apart words _ _ is k.named refl
+no_decode words is no_help no_version h (Decode decode) k = h decode k
+no_decode words is no_help no_version h (Encode encode) k = apart words _ _ is k.named refl
+no_decode words is no_help no_version h (Show show) k = apart words _ _ is k.named refl
+no_decode words is no_help no_version h (Loop run) k = apart words _ _ is k.named refl
+no_decode words is no_help no_version h (Bench bench) k = apart words _ _ is k.named refl
+no_decode words is no_help no_version h (Serve serve) k = apart words _ _ is k.named refl
+no_decode words is no_help no_version h (Help topic) k = no_help topic k
+no_decode words is no_help no_version h Version k = no_version k
 
 -- words ask for one command
 pub one_command : (words : List Text) (command other : Command) → Asks words command → Asks words other
@@ -140,24 +189,63 @@ one_command words (Decode decode) (Decode other) h k = ap Decode (one_decode wor
 one_command words (Decode decode) (Encode encode) h k = absurd (apart words _ _ h.named k.named refl)
 one_command words (Decode decode) (Show show) h k = absurd (apart words _ _ h.named k.named refl)
 one_command words (Decode decode) (Loop run) h k = absurd (apart words _ _ h.named k.named refl)
+one_command words (Decode decode) (Bench bench) h k = absurd (apart words _ _ h.named k.named refl)
 one_command words (Decode decode) (Serve serve) h k = absurd (apart words _ _ h.named k.named refl)
+one_command words (Decode decode) (Help topic) h k = absurd (help_alone words topic (Decode decode) k tt h)
+one_command words (Decode decode) Version h k = absurd (version_alone words (Decode decode) k tt h)
 one_command words (Encode encode) (Decode decode) h k = absurd (apart words _ _ h.named k.named refl)
 one_command words (Encode encode) (Encode other) h k = ap Encode (one_encode words encode other h k)
 one_command words (Encode encode) (Show show) h k = absurd (apart words _ _ h.named k.named refl)
 one_command words (Encode encode) (Loop run) h k = absurd (apart words _ _ h.named k.named refl)
+one_command words (Encode encode) (Bench bench) h k = absurd (apart words _ _ h.named k.named refl)
 one_command words (Encode encode) (Serve serve) h k = absurd (apart words _ _ h.named k.named refl)
+one_command words (Encode encode) (Help topic) h k = absurd (help_alone words topic (Encode encode) k tt h)
+one_command words (Encode encode) Version h k = absurd (version_alone words (Encode encode) k tt h)
 one_command words (Show show) (Decode decode) h k = absurd (apart words _ _ h.named k.named refl)
 one_command words (Show show) (Encode encode) h k = absurd (apart words _ _ h.named k.named refl)
 one_command words (Show show) (Show other) h k = ap Show (one_show words show other h k)
 one_command words (Show show) (Loop run) h k = absurd (apart words _ _ h.named k.named refl)
+one_command words (Show show) (Bench bench) h k = absurd (apart words _ _ h.named k.named refl)
 one_command words (Show show) (Serve serve) h k = absurd (apart words _ _ h.named k.named refl)
+one_command words (Show show) (Help topic) h k = absurd (help_alone words topic (Show show) k tt h)
+one_command words (Show show) Version h k = absurd (version_alone words (Show show) k tt h)
 one_command words (Loop run) (Decode decode) h k = absurd (apart words _ _ h.named k.named refl)
 one_command words (Loop run) (Encode encode) h k = absurd (apart words _ _ h.named k.named refl)
 one_command words (Loop run) (Show show) h k = absurd (apart words _ _ h.named k.named refl)
 one_command words (Loop run) (Loop other) h k = ap Loop (one_loop words run other h k)
+one_command words (Loop run) (Bench bench) h k = absurd (apart words _ _ h.named k.named refl)
 one_command words (Loop run) (Serve serve) h k = absurd (apart words _ _ h.named k.named refl)
+one_command words (Loop run) (Help topic) h k = absurd (help_alone words topic (Loop run) k tt h)
+one_command words (Loop run) Version h k = absurd (version_alone words (Loop run) k tt h)
+one_command words (Bench bench) (Decode decode) h k = absurd (apart words _ _ h.named k.named refl)
+one_command words (Bench bench) (Encode encode) h k = absurd (apart words _ _ h.named k.named refl)
+one_command words (Bench bench) (Show show) h k = absurd (apart words _ _ h.named k.named refl)
+one_command words (Bench bench) (Loop run) h k = absurd (apart words _ _ h.named k.named refl)
+one_command words (Bench bench) (Bench other) h k = ap Bench (one_bench words bench other h k)
+one_command words (Bench bench) (Serve serve) h k = absurd (apart words _ _ h.named k.named refl)
+one_command words (Bench bench) (Help topic) h k = absurd (help_alone words topic (Bench bench) k tt h)
+one_command words (Bench bench) Version h k = absurd (version_alone words (Bench bench) k tt h)
 one_command words (Serve serve) (Decode decode) h k = absurd (apart words _ _ h.named k.named refl)
 one_command words (Serve serve) (Encode encode) h k = absurd (apart words _ _ h.named k.named refl)
 one_command words (Serve serve) (Show show) h k = absurd (apart words _ _ h.named k.named refl)
 one_command words (Serve serve) (Loop run) h k = absurd (apart words _ _ h.named k.named refl)
+one_command words (Serve serve) (Bench bench) h k = absurd (apart words _ _ h.named k.named refl)
 one_command words (Serve serve) (Serve other) h k = ap Serve (one_serve words serve other h k)
+one_command words (Serve serve) (Help topic) h k = absurd (help_alone words topic (Serve serve) k tt h)
+one_command words (Serve serve) Version h k = absurd (version_alone words (Serve serve) k tt h)
+one_command words (Help topic) (Decode decode) h k = absurd (help_alone words topic (Decode decode) h tt k)
+one_command words (Help topic) (Encode encode) h k = absurd (help_alone words topic (Encode encode) h tt k)
+one_command words (Help topic) (Show show) h k = absurd (help_alone words topic (Show show) h tt k)
+one_command words (Help topic) (Loop run) h k = absurd (help_alone words topic (Loop run) h tt k)
+one_command words (Help topic) (Bench bench) h k = absurd (help_alone words topic (Bench bench) h tt k)
+one_command words (Help topic) (Serve serve) h k = absurd (help_alone words topic (Serve serve) h tt k)
+one_command words (Help topic) (Help other) h k = ap Help (one_topic words topic other h k)
+one_command words (Help topic) Version h k = absurd (help_is_no_version words topic h k)
+one_command words Version (Decode decode) h k = absurd (version_alone words (Decode decode) h tt k)
+one_command words Version (Encode encode) h k = absurd (version_alone words (Encode encode) h tt k)
+one_command words Version (Show show) h k = absurd (version_alone words (Show show) h tt k)
+one_command words Version (Loop run) h k = absurd (version_alone words (Loop run) h tt k)
+one_command words Version (Bench bench) h k = absurd (version_alone words (Bench bench) h tt k)
+one_command words Version (Serve serve) h k = absurd (version_alone words (Serve serve) h tt k)
+one_command words Version (Help topic) h k = absurd (help_is_no_version words topic k h)
+one_command words Version Version h k = refl

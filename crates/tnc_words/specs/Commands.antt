@@ -3,26 +3,30 @@ use Rattle.std.specs.Prelude.{◌≡◌, ◌^◌, ◌-◌, List, [], Option, Som
 use Rattle.clap.specs.Words.{Row, Text, first_of}
 use Rattle.ax25_frames.specs.ControlField.{numbers}
 use Rattle.tnc_words.specs.declared.command.Command.{Command}
-use Rattle.tnc_words.specs.declared.command.Command.TheVariants.{Decode, Encode, Show, Loop, Serve}
+use Rattle.tnc_words.specs.declared.command.Command.TheVariants.{Decode, Encode, Show, Loop, Bench, Serve, Help, Version}
 use Rattle.tnc_words.specs.declared.command.DecodeWords.{DecodeWords}
 use Rattle.tnc_words.specs.declared.command.EncodeWords.{EncodeWords}
 use Rattle.tnc_words.specs.declared.command.ShowWords.{ShowWords}
 use Rattle.tnc_words.specs.declared.command.LoopWords.{LoopWords}
+use Rattle.tnc_words.specs.declared.command.BenchOptions.{BenchOptions}
 use Rattle.tnc_words.specs.declared.command.ServeOptions.{ServeOptions}
-use Rattle.tnc_words.specs.Options.{decode_faults, encode_faults, show_faults, loop_faults, serve_faults}
-use Rattle.tnc_words.specs.Options.{decode_rows, encode_rows, show_rows, loop_rows, serve_rows, is_used}
+use Rattle.tnc_words.specs.Options.{decode_faults, encode_faults, show_faults, loop_faults, bench_faults, serve_faults}
+use Rattle.tnc_words.specs.Options.{decode_rows, encode_rows, show_rows, loop_rows, bench_rows, serve_rows, is_used}
+use Rattle.tnc_words.specs.Help.{IsHelp, IsVersion}
 use Rattle.tnc_words.specs.Forms.{audio_form, frame_form, modem}
+use Rattle.tnc_words.specs.Rates.{HasReceiving}
 use Rattle.tnc_words.specs.Links.{HasCall, HasParams}
 use Rattle.tnc_words.specs.Numbers.{GivesNumber, HasNumber}
 
 abbrev pub first_word : List Text → Option Text
 first_word words = slice_get words 0
 
--- The options of decode.
+-- The options of decode. The rate is read also with --wav, where the file tells its own.
 pub record HasDecodeOptions (found : List Row) (decode : DecodeWords) : Type 0 where
   pub audio : decode.audio ≡ audio_form found
   pub frames : decode.frames ≡ frame_form found
   pub threads : decode.threads ≡ is_used (codes "threads") found
+  pub receiving : HasReceiving found decode.receiving
 
 -- decode with these options
 pub record IsDecode (words : List Text) (decode : DecodeWords) : Type 0 where
@@ -71,6 +75,22 @@ pub record IsLoop (words : List Text) (loop : LoopWords) : Type 0 where
   pub taken : loop_faults words ≡ []
   pub options : HasLoopOptions (loop_rows words) loop
 
+-- The options of bench. Its seed has no default. If no other number was given, each host gives 2000 octets, no
+-- transmission is lost, and there is no noise.
+pub record HasBenchOptions (found : List Row) (bench : BenchOptions) : Type 0 where
+  pub seed : GivesNumber (first_of (codes "seed") found) 0 (2 ^ 64 - 1) bench.seed
+  pub octets : HasNumber (first_of (codes "octets") found) 2000 0 100000 bench.octets
+  pub loss : HasNumber (first_of (codes "loss") found) 0 0 90 bench.loss
+  pub noise : HasNumber (first_of (codes "noise") found) 0 0 2000 bench.noise
+  pub full : bench.full ≡ is_used (codes "full") found
+  pub wide : bench.wide ≡ is_used (codes "wide") found
+
+-- bench with these options
+pub record IsBench (words : List Text) (bench : BenchOptions) : Type 0 where
+  pub named : first_word words ≡ Some (codes "bench")
+  pub taken : bench_faults words ≡ []
+  pub options : HasBenchOptions (bench_rows words) bench
+
 -- The options of serve. Its ports have no default. If no other number was given, the seed is 1, and a channel is busy
 -- from the third flag in a row on.
 pub record HasServeOptions (found : List Row) (serve : ServeOptions) : Type 0 where
@@ -94,4 +114,7 @@ Asks words (Decode decode) = IsDecode words decode
 Asks words (Encode encode) = IsEncode words encode
 Asks words (Show show) = IsShow words show
 Asks words (Loop loop) = IsLoop words loop
+Asks words (Bench bench) = IsBench words bench
 Asks words (Serve serve) = IsServe words serve
+Asks words (Help topic) = IsHelp words topic
+Asks words Version = IsVersion words

@@ -1,5 +1,7 @@
 pub mod Options
 pub mod Numbers
 pub mod Forms
+pub mod Help
 pub mod Links
+pub mod Rates
 pub mod Commands

@@ -22,9 +22,9 @@ needed_rule name = record (option_rule name) { required = true }
 abbrev pub with_forms : App → App
 with_forms app = with_rule (with_rule app (flag_rule (codes "wav"))) (flag_rule (codes "kiss"))
 
--- decode [--wav] [--kiss] [--threads]
+-- decode [--wav] [--kiss] [--threads] [--hf] [--rate n]
 abbrev pub decode_app : App
-decode_app = with_rule (with_forms (new_app (codes "decode"))) (flag_rule (codes "threads"))
+decode_app = with_rule (with_rule (with_rule (with_forms (new_app (codes "decode"))) (flag_rule (codes "threads"))) (flag_rule (codes "hf"))) (option_rule (codes "rate"))
 
 -- [--opening n] [--closing n] [--silence n] [--level n]
 abbrev pub with_numbers : App → App
@@ -44,6 +44,16 @@ show_app = with_rule (new_app (codes "show")) (option_rule (codes "modulo"))
 abbrev pub loop_app : App
 loop_app = with_rule (with_rule (with_rule (with_rule (new_app (codes "loop"))
     (needed_rule (codes "seed"))) (needed_rule (codes "frames"))) (flag_rule (codes "rough"))) (flag_rule (codes "threads"))
+
+-- [--octets n] [--loss n] [--noise n]
+abbrev pub with_run : App → App
+with_run app = with_rule (with_rule (with_rule app
+    (option_rule (codes "octets"))) (option_rule (codes "loss"))) (option_rule (codes "noise"))
+
+-- bench --seed n [--octets n] [--loss n] [--noise n] [--full] [--wide]
+abbrev pub bench_app : App
+bench_app = with_rule (with_rule (with_run (with_rule (new_app (codes "bench"))
+    (needed_rule (codes "seed")))) (flag_rule (codes "full"))) (flag_rule (codes "wide"))
 
 -- --kiss n --agw n
 abbrev pub with_ports : App → App
@@ -80,6 +90,9 @@ show_faults words = fault_of show_app words
 unfoldable pub loop_faults : List Text → Kinds
 loop_faults words = fault_of loop_app words
 
+unfoldable pub bench_faults : List Text → Kinds
+bench_faults words = fault_of bench_app words
+
 unfoldable pub serve_faults : List Text → Kinds
 serve_faults words = fault_of serve_app words
 
@@ -95,6 +108,9 @@ show_rows words = matches_of show_app words
 
 unfoldable pub loop_rows : List Text → List Row
 loop_rows words = matches_of loop_app words
+
+unfoldable pub bench_rows : List Text → List Row
+bench_rows words = matches_of bench_app words
 
 unfoldable pub serve_rows : List Text → List Row
 serve_rows words = matches_of serve_app words

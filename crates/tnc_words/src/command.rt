@@ -1,4 +1,5 @@
 //! What words can ask for.
+use crate::topic::Topic;
 use ax25_address::Call;
 use ax25_frames::Modulus;
 use link_machine::Params;
@@ -21,6 +22,24 @@ pub enum FrameForm {
     Kiss,
 }
 
+/// How many samples a second come in.
+#[derive(Clone, Copy, Debug, PartialEq, Eq)]
+pub enum SampleRate {
+    /// 9600.
+    Narrow,
+    /// 48,000, as sound cards have them.
+    Wide,
+}
+
+/// How samples are heard.
+#[derive(Clone, Copy, Debug, PartialEq, Eq)]
+pub enum Receiving {
+    /// Bell 202 at 1200 bits a second. The rate is that of raw samples; a WAV file tells its own.
+    Standard { rate: SampleRate },
+    /// 300 bits a second and a shift of 200 Hz, on short wave, at 9600 samples a second.
+    ShortWave,
+}
+
 /// A command with its options.
 #[derive(Clone, Copy, Debug, PartialEq, Eq)]
 pub enum Command {
@@ -32,8 +51,14 @@ pub enum Command {
     Show(ShowWords),
     /// Frames that are drawn, sent and received again.
     Loop(LoopWords),
+    /// Two stations that are joined by sound.
+    Bench(BenchOptions),
     /// A station on the air, with ports for host programs.
     Serve(ServeOptions),
+    /// What the program says about itself.
+    Help(Topic),
+    /// The program's name and version.
+    Version,
 }
 
 /// The options of `decode`.
@@ -45,6 +70,8 @@ pub struct DecodeWords {
     pub frames: FrameForm,
     /// The lanes work on threads of their own.
     pub threads: bool,
+    /// How the samples are heard.
+    pub receiving: Receiving,
 }
 
 /// The options of `encode`.
@@ -95,6 +122,23 @@ pub struct LoopWords {
     pub rough: bool,
     /// The lanes work on threads of their own.
     pub threads: bool,
+}
+
+/// The options of `bench`.
+#[derive(Clone, Copy, Debug, PartialEq, Eq)]
+pub struct BenchOptions {
+    /// What all random numbers of the run are drawn from.
+    pub seed: u64,
+    /// How many octets each host gives in a set-up, at most 100,000.
+    pub octets: u32,
+    /// How many of a hundred transmissions are lost, at most 90.
+    pub loss: u8,
+    /// The most noise of a sample, at most 2000.
+    pub noise: u16,
+    /// Both stations are in full duplex.
+    pub full: bool,
+    /// Both stations call modulo 128.
+    pub wide: bool,
 }
 
 /// The options of `serve`.

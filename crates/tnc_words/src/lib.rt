@@ -5,11 +5,13 @@
 //! refused exactly where they ask for none.
 #![tactic(auto)]
 
+mod bench_words;
 mod command;
 mod decode_words;
 mod encode_words;
 mod fault;
 mod forms;
+mod help_words;
 mod laws;
 mod link_words;
 mod loop_words;
@@ -19,14 +21,18 @@ mod parsing;
 mod reading;
 mod serve_words;
 mod show_words;
+mod texts;
+mod topic;
 
 pub use command::{
-    AudioForm, Command, DecodeWords, EncodeWords, FrameForm, LoopWords, Modem, ServeOptions,
-    ShowWords,
+    AudioForm, BenchOptions, Command, DecodeWords, EncodeWords, FrameForm, LoopWords, Modem,
+    Receiving, SampleRate, ServeOptions, ShowWords,
 };
 pub use fault::WordsFault;
 pub use laws::one_command;
 pub use reading::read_words;
+pub use texts::{help_text, version_line};
+pub use topic::Topic;
 
 #[cfg(test)]
 mod tests;

@@ -1,18 +1,20 @@
 //! The commands as `clap` is told of them.
 ghost use Rattle.std.specs.Prelude.{◌≡◌, IfOk, false};
 ghost use Rattle.clap.specs.Words.{app_of, rule_of, with_rule};
-ghost use Rattle.tnc_words.specs.Options.{decode_app, encode_app, show_app, loop_app, serve_app};
-ghost use Rattle.tnc_words.specs.Options.{flag_rule, needed_rule, option_rule, with_forms, with_numbers, with_ports, with_station, with_wide_window, with_window};
+ghost use Rattle.tnc_words.specs.Options.{decode_app, encode_app, show_app, loop_app, bench_app, serve_app};
+ghost use Rattle.tnc_words.specs.Options.{flag_rule, needed_rule, option_rule, with_forms, with_numbers, with_ports, with_run, with_station, with_wide_window, with_window};
 
 use clap::{Arg, ArgAction, Command};
 use std::alloc::{AllocError, Global};
 
-/// `decode` with its three flags.
+/// `decode` with its four flags and its rate.
 pub(crate) fn decode_command<'a>(alloc: Global) -> Result<Command<'a>, AllocError>
     ensures { IfOk result (λ command. app_of command ≡ decode_app) }
 {
     let command = forms(alloc, Command::new(alloc, "decode"))?;
-    with(command, flag(alloc, "threads"))
+    let command = with(command, flag(alloc, "threads"))?;
+    let command = with(command, flag(alloc, "hf"))?;
+    with(command, option(alloc, "rate"))
 }
 
 /// `encode` with its four flags and its four numbers.
@@ -51,6 +53,25 @@ pub(crate) fn loop_command<'a>(alloc: Global) -> Result<Command<'a>, AllocError>
     let command = with(command, needed(alloc, "frames"))?;
     let command = with(command, flag(alloc, "rough"))?;
     with(command, flag(alloc, "threads"))
+}
+
+/// `bench` with its seed, which it needs, and what may be said of the run.
+pub(crate) fn bench_command<'a>(alloc: Global) -> Result<Command<'a>, AllocError>
+    ensures { IfOk result (λ command. app_of command ≡ bench_app) }
+{
+    let command = with(Command::new(alloc, "bench"), needed(alloc, "seed"))?;
+    let command = run(alloc, command)?;
+    let command = with(command, flag(alloc, "full"))?;
+    with(command, flag(alloc, "wide"))
+}
+
+/// A command with the numbers of a run.
+fn run<'a>(alloc: Global, command: Command<'a>) -> Result<Command<'a>, AllocError>
+    ensures { IfOk result (λ longer. app_of longer ≡ with_run (app_of command.entry)) }
+{
+    let command = with(command, option(alloc, "octets"))?;
+    let command = with(command, option(alloc, "loss"))?;
+    with(command, option(alloc, "noise"))
 }
 
 /// `serve` with its two ports, both of which it needs, and what may be said of its station.

@@ -3,10 +3,12 @@ ghost use Rattle.std.specs.Prelude.{IfOk, IsErrOf, map, string_bytes};
 ghost use Rattle.tnc_words.specs.declared.command.Command.{Command};
 ghost use Rattle.tnc_words.specs.Commands.{Asks};
 
+use crate::bench_words::read_bench;
 use crate::command::Command;
 use crate::decode_words::read_decode;
 use crate::encode_words::read_encode;
 use crate::fault::WordsFault;
+use crate::help_words::read_help;
 use crate::loop_words::read_loop;
 use crate::serve_words::read_serve;
 use crate::show_words::read_show;
@@ -18,6 +20,9 @@ pub fn read_words(alloc: Global, words: &[String]) -> Result<Command, WordsFault
     ensures refused { IsErrOf result WordsFault.Refused
         → (command : Command) → ¬ Asks (map string_bytes words.now) command }
 {
+    if let Some(asked) = read_help(words) {
+        return Ok(asked);
+    }
     let Some(first) = words.first() else {
         return Err(WordsFault::Refused);
     };
@@ -26,6 +31,7 @@ pub fn read_words(alloc: Global, words: &[String]) -> Result<Command, WordsFault
         "encode" => Ok(Command::Encode(read_encode(alloc, words)?)),
         "show" => Ok(Command::Show(read_show(alloc, words)?)),
         "loop" => Ok(Command::Loop(read_loop(alloc, words)?)),
+        "bench" => Ok(Command::Bench(read_bench(alloc, words)?)),
         "serve" => Ok(Command::Serve(read_serve(alloc, words)?)),
         _ => Err(WordsFault::Refused),
     }

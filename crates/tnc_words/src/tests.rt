@@ -1,6 +1,7 @@
 use super::{
-    AudioForm, Command, DecodeWords, EncodeWords, FrameForm, LoopWords, Modem, ServeOptions,
-    ShowWords, WordsFault, one_command, read_words,
+    AudioForm, BenchOptions, Command, DecodeWords, EncodeWords, FrameForm, LoopWords, Modem,
+    Receiving, SampleRate, ServeOptions, ShowWords, Topic, WordsFault, help_text, one_command,
+    read_words, version_line,
 };
 use ax25_address::Call;
 use ax25_frames::Modulus;
@@ -31,11 +32,39 @@ fn is_refused(alloc: Global, words: &[&str]) -> Result<bool, Fail> {
     }
 }
 
+// Raw samples at 9600 a second.
+const NARROW: Receiving = Receiving::Standard {
+    rate: SampleRate::Narrow,
+};
+
 fn decode(audio: AudioForm, frames: FrameForm) -> Command {
     Command::Decode(DecodeWords {
         audio,
         frames,
         threads: false,
+        receiving: NARROW,
+    })
+}
+
+// At 48,000 samples a second, or what a WAV file tells.
+fn decode_wide(audio: AudioForm) -> Command {
+    Command::Decode(DecodeWords {
+        audio,
+        frames: FrameForm::Hex,
+        threads: false,
+        receiving: Receiving::Standard {
+            rate: SampleRate::Wide,
+        },
+    })
+}
+
+// Raw samples of short wave.
+fn decode_hf() -> Command {
+    Command::Decode(DecodeWords {
+        audio: AudioForm::Raw,
+        frames: FrameForm::Hex,
+        threads: false,
+        receiving: Receiving::ShortWave,
     })
 }
 
@@ -312,7 +341,7 @@ fn other_words_of_serve_are_refused(rt: HostRuntime) -> Result<(), Fail> {
 
 #[test]
 fn good_words_ask_for_a_command(rt: HostRuntime) -> Result<(), Fail> {
-    let table: [(&[&str], Command); 36] = [
+    let table: [(&[&str], Command); 40] = [
         (&["decode"], decode(AudioForm::Raw, FrameForm::Hex)),
         (&["decode", "--"], decode(AudioForm::Raw, FrameForm::Hex)),
         (&["decode", "--wav"], decode(AudioForm::Wav, FrameForm::Hex)),
@@ -402,8 +431,19 @@ fn good_words_ask_for_a_command(rt: HostRuntime) -> Result<(), Fail> {
                 audio: AudioForm::Wav,
                 frames: FrameForm::Hex,
                 threads: true,
+                receiving: NARROW,
             }),
         ),
+        (&["decode", "--rate", "48000"], decode_wide(AudioForm::Raw)),
+        (
+            &["decode", "--wav", "--rate=048000"],
+            decode_wide(AudioForm::Wav),
+        ),
+        (
+            &["decode", "--rate=9600"],
+            decode(AudioForm::Raw, FrameForm::Hex),
+        ),
+        (&["decode", "--hf", "--rate", "9600"], decode_hf()),
         (
             &["loop", "--seed", "7", "--threads", "--frames", "20"],
             Command::Loop(LoopWords {
@@ -422,8 +462,104 @@ fn good_words_ask_for_a_command(rt: HostRuntime) -> Result<(), Fail> {
 }
 
 #[test]
+fn bench_is_asked_for_with_a_seed(rt: HostRuntime) -> Result<(), Fail> {
+    let least = BenchOptions {
+        seed: 7,
+        octets: 2000,
+        loss: 0,
+        noise: 0,
+        full: false,
+        wide: false,
+    };
+    let most = BenchOptions {
+        seed: u64::MAX,
+        octets: 100_000,
+        loss: 90,
+        noise: 2000,
+        full: true,
+        wide: true,
+    };
+    let of_most: [&str; 11] = [
+        "bench",
+        "--wide",
+        "--noise",
+        "2000",
+        "--loss=90",
+        "--full",
+        "--octets",
+        "100000",
+        "--seed",
+        "18446744073709551615",
+        "--",
+    ];
+    assert_eq!(rt;
+        asked(rt.alloc(), &["bench", "--seed", "7"])?,
+        Ok(Command::Bench(least))
+    );
+    assert_eq!(rt; asked(rt.alloc(), &of_most)?, Ok(Command::Bench(most)));
+    let refused: [&[&str]; 7] = [
+        &["bench"],
+        &["bench", "7"],
+        &["bench", "--seed", "7", "--octets", "100001"],
+        &["bench", "--seed", "7", "--loss", "91"],
+        &["bench", "--seed", "7", "--noise", "2001"],
+        &["bench", "--seed", "7", "--full=true"],
+        &["bench", "--seed", "7", "--window", "4"],
+    ];
+    for words in refused {
+        assert!(rt; is_refused(rt.alloc(), words)?, "of {words:?}");
+    }
+    Ok(())
+}
+
+#[test]
+fn help_and_version_are_asked_for_alone(rt: HostRuntime) -> Result<(), Fail> {
+    let table: [(&[&str], Command); 17] = [
+        (&["help"], Command::Help(Topic::Program)),
+        (&["--help"], Command::Help(Topic::Program)),
+        (&["-h"], Command::Help(Topic::Program)),
+        (&["help", "decode"], Command::Help(Topic::Decode)),
+        (&["decode", "--help"], Command::Help(Topic::Decode)),
+        (&["help", "encode"], Command::Help(Topic::Encode)),
+        (&["encode", "--help"], Command::Help(Topic::Encode)),
+        (&["help", "show"], Command::Help(Topic::Show)),
+        (&["show", "--help"], Command::Help(Topic::Show)),
+        (&["help", "loop"], Command::Help(Topic::Loop)),
+        (&["loop", "--help"], Command::Help(Topic::Loop)),
+        (&["help", "bench"], Command::Help(Topic::Bench)),
+        (&["bench", "--help"], Command::Help(Topic::Bench)),
+        (&["help", "serve"], Command::Help(Topic::Serve)),
+        (&["serve", "--help"], Command::Help(Topic::Serve)),
+        (&["version"], Command::Version),
+        (&["--version"], Command::Version),
+    ];
+    for (words, want) in table {
+        assert_eq!(rt; asked(rt.alloc(), words)?, Ok(want), "of {words:?}");
+    }
+    Ok(())
+}
+
+#[test]
+fn each_topic_has_its_text(rt: HostRuntime) -> Result<(), Fail> {
+    let table = [
+        (Topic::Program, "Usage: tnc COMMAND"),
+        (Topic::Decode, "Usage: tnc decode"),
+        (Topic::Encode, "Usage: tnc encode"),
+        (Topic::Show, "Usage: tnc show"),
+        (Topic::Loop, "Usage: tnc loop"),
+        (Topic::Bench, "Usage: tnc bench"),
+        (Topic::Serve, "Usage: tnc serve"),
+    ];
+    for (topic, first) in table {
+        assert!(rt; help_text(topic).starts_with(first), "of {topic:?}");
+    }
+    assert!(rt; version_line().starts_with("tnc "));
+    Ok(())
+}
+
+#[test]
 fn other_words_are_refused(rt: HostRuntime) -> Result<(), Fail> {
-    let table: [&[&str]; 92] = [
+    let table: [&[&str]; 104] = [
         &[],
         &[""],
         &["decod"],
@@ -433,16 +569,15 @@ fn other_words_are_refused(rt: HostRuntime) -> Result<(), Fail> {
         &["bench"],
         &["decode", "x"],
         &["decode", "--join"],
-        &["decode", "--rate", "48000"],
         &["decode", "--wav", "--wav"],
         &["decode", "--kiss", "--kiss"],
         &["decode", "--wav=true"],
         &["decode", "--wa"],
-        &["decode", "--help"],
+        &["decode", "--wav", "--help"],
         &["decode", "--version"],
         &["encode", "x"],
         &["encode", "-h"],
-        &["encode", "--help"],
+        &["encode", "--help", "--wav"],
         &["encode", "--version"],
         &["encode", "--joi"],
         &["encode", "--Join"],
@@ -473,6 +608,13 @@ fn other_words_are_refused(rt: HostRuntime) -> Result<(), Fail> {
         &["decode", "--level", "10"],
         &["show", "x"],
         &["show", "--wav"],
+        &["decode", "--hf", "--threads"],
+        &["decode", "--hf", "--rate", "48000"],
+        &["decode", "--rate", "44100"],
+        &["decode", "--wav", "--rate", "44100"],
+        &["decode", "--rate"],
+        &["decode", "--rate", "9600", "--rate", "9600"],
+        &["encode", "--rate", "48000"],
         &["show", "--modulo"],
         &["show", "--modulo="],
         &["show", "--modulo", "7"],
@@ -483,7 +625,7 @@ fn other_words_are_refused(rt: HostRuntime) -> Result<(), Fail> {
         &["show", "--modulo", "8x"],
         &["show", "--modulo", "+8"],
         &["show", "--modulo", "8", "--modulo", "8"],
-        &["show", "--help"],
+        &["help", "version"],
         &["loop"],
         &["loop", "--seed", "7"],
         &["loop", "--frames", "1"],
@@ -504,7 +646,7 @@ fn other_words_are_refused(rt: HostRuntime) -> Result<(), Fail> {
         &["loop", "--seed", "7", "--frames", "1", "--rough", "--rough"],
         &["loop", "--seed", "7", "--frames", "1", "--level", "10"],
         &["encode", "--rough"],
-        &["loop", "--help"],
+        &["--help", "loop"],
         &["decode", "--threads", "--threads"],
         &["decode", "--threads=2"],
         &["encode", "--threads"],
@@ -516,6 +658,12 @@ fn other_words_are_refused(rt: HostRuntime) -> Result<(), Fail> {
         &["serve", "--kiss", "8001", "--agw", "65536"],
         &["serve", "--kiss", "65536", "--agw", "1"],
         &["serve", "8001", "8000"],
+        &["-h", "serve"],
+        &["help", "help"],
+        &["help", "decode", "encode"],
+        &["help", "Decode"],
+        &["version", "help"],
+        &["-v"],
     ];
     for words in table {
         assert!(rt; is_refused(rt.alloc(), words)?, "of {words:?}");

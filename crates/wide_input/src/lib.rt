@@ -7,6 +7,7 @@
 #![tactic(auto)]
 
 mod laws;
+mod sent;
 mod stream;
 mod streams;
 mod wide_bank;
@@ -14,6 +15,7 @@ mod wide_bank;
 pub use laws::{
     near_stream_frames, one_list_of_wide_candidates, some_list_of_wide_candidates, streams_by_place,
 };
+pub use sent::is_sent_wide;
 pub use wide_bank::WideBank;
 
 #[cfg(test)]

@@ -22,7 +22,7 @@ use tnc_base::OutOfMemory;
 const JOBS: usize = 2;
 
 /// The lanes of a stream, one for each offset of a bit.
-const OFFSETS: u8 = 8;
+pub(crate) const OFFSETS: u8 = 8;
 
 /// The lanes of all streams.
 pub(crate) const LANES: u8 = 40;

@@ -2,15 +2,17 @@
 
 ghost use Rattle.std.specs.Prelude.{◌≤◌, ◌<◌, ◌^◌, length as count};
 
-use super::WideBank;
+use super::{WideBank, is_sent_wide};
 use crate::worked_signal::transmission;
+use clean_signal::TrueEnd;
+use frame_merge::Candidate;
 use slicer_bank::Gate;
 use std::alloc::Global;
 use std::sync::atomic::{AtomicU64, Ordering};
 use std::test::Fail;
 use std::thread;
 use std::thread::Threads;
-use tnc_base::OutOfMemory;
+use tnc_base::{Octets, OutOfMemory};
 
 /// How often a held lane looks for the other before it goes on.
 const LIMIT: u64 = 1_000_000;
@@ -107,7 +109,8 @@ fn lanes_of_two_streams_meet_on_two_threads(rt: HostRuntime) -> Result<(), Fail>
         last: AtomicU64::new(0),
         given_up: AtomicU64::new(0),
     };
-    let items = items_in_blocks(&rt, rt.alloc(), &samples[..2000], 2000, Some(&meeting))?;
+    let (first, _) = samples.split_at(2000);
+    let items = items_in_blocks(&rt, rt.alloc(), first, 2000, Some(&meeting))?;
     assert_eq!(rt; items.len(), 0);
     let counts = [&meeting.first, &meeting.last, &meeting.given_up].map(|count| count.load(
         Ordering::SeqCst,
@@ -115,5 +118,33 @@ fn lanes_of_two_streams_meet_on_two_threads(rt: HostRuntime) -> Result<(), Fail>
     assert_eq!(rt; counts, [1, 1, 0]);
     let items = items_in_blocks(&rt, rt.alloc(), &samples, 2048, Some(&meeting))?;
     assert!(rt; items.as_slice() == [(1294, 6)].as_slice());
+    Ok(())
+}
+
+#[test]
+fn a_candidate_less_than_36_samples_from_its_true_end_is_sent(rt: HostRuntime) -> Result<(), Fail> {
+    // A frame that ends at sample 1294 of stream 1: at sample 6471 of all.
+    let sent = [TrueEnd {
+        end: 1294,
+        octets: Octets::from_slice(rt.alloc(), b"frame")?,
+    }];
+    for (end, stream, want) in [
+        (1294, 4, true),
+        (1301, 1, true),
+        (1301, 2, false),
+        (1287, 1, true),
+        (1287, 0, false),
+    ] {
+        let item = Candidate {
+            end,
+            offset: 8 * stream,
+            octets: Octets::from_slice(rt.alloc(), b"frame")?,
+        };
+        assert_eq!(rt;
+            is_sent_wide(1, &sent, &item),
+            want,
+            "at {end} of stream {stream}"
+        );
+    }
     Ok(())
 }

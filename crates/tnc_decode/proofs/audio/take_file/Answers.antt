@@ -13,8 +13,8 @@ loop-octet-preserved c =
     c.loop-octet-test.true c.loop-octet.invariant c.in_ok-take_one.ensures.takes c.in_ok-take_one.ensures.samples c.in_ok-take_one.ensures.count
 
 pub returns-in_err-take_one-clause-stops : goal.returns-in_err-take_one-clause-stops
-returns-in_err-take_one-clause-stops c = λ fault form before is h.
+returns-in_err-take_one-clause-stops c = λ fault rates form before is h.
     let told = err_from_is_err_and c.from_residual.result c.from_residual.ensures.1 in
     let same = ap Err (sym told.2) ∙ sym told.1 ∙ is in
     stops_within (File c.args.file.now) (File c.loop-octet.file) c.args.octets.now c.loop-octet.octet-index c.loop-octet.samples.items fault
-    c.loop-octet-test.true c.loop-octet.invariant (λ form' before' k. c.in_err-take_one.ensures.stops fault form' before' same k) form before h
+    c.loop-octet-test.true c.loop-octet.invariant (λ rates' form' before' k. c.in_err-take_one.ensures.stops fault rates' form' before' same k) rates form before h

@@ -1,6 +1,7 @@
 -- The octets read so far.
 use Rattle.std.proofs.Common.{◌≡◌, ◌≤◌, ◌+◌, ◌-◌, List, ℕ, Some, false}
 use Rattle.tnc_forms.specs.Reading.{input_limit}
+use Rattle.tnc_decode.specs.Held.{position_of, finished_of}
 use Rattle.tnc_decode.proofs.DecodingLemmas.{Progress}
 use Rattle.tnc_decode.proofs.decoding.decode_blocks.Given as goal
 
@@ -9,8 +10,8 @@ invariant-reading g l = record {
   so_far : (whole : List ℕ) → g.I.Source.left l.initial.input ≡ Some whole
       → Progress l.fn.words whole (g.I.Source.left l.input) l.receiver (g.O.Sink.written l.initial.output) (g.O.Sink.written l.output) l.total;
   bound : l.total ≤ input_limit + 1;
-  position : l.receiver.decoder.position ≤ l.total;
-  unfinished : l.receiver.decoder.finished ≡ false;
+  position : position_of l.receiver.decoder ≤ l.total;
+  unfinished : finished_of l.receiver.decoder ≡ false;
   read_later : g.I.Source.faults l.initial.input ≤ g.I.Source.faults l.input;
   write_later : g.O.Sink.faults l.initial.output ≤ g.O.Sink.faults l.output;
   read_faultless : g.I.Source.faults l.input ≡ g.I.Source.faults l.initial.input;

@@ -1,18 +1,18 @@
 use Rattle.std.proofs.Common.{◌≡◌, ◌++◌, pos, replicate, Err, [], sym, ap, ◌∙◌, rules}
-use Rattle.afsk_modulator.specs.Transmission.{transmission_at}
-use Rattle.afsk_modulator.proofs.SignalLemmas.{at_level-samples_of}
 use Rattle.tnc_encode.specs.Encoded.{sent_at_once}
+use Rattle.tnc_encode.specs.Sending.{transmission_by}
+use Rattle.tnc_encode.proofs.ModemLemmas.{samples_by-is}
 use Rattle.tnc_encode.proofs.sending.samples_at_once.Goals as goal
 
 pub unreachable-requires-in-Err-BadLength : goal.unreachable-requires-in-Err-BadLength
 unreachable-requires-in-Err-BadLength c =
-    let first = (c.transmission_at.ensures.bad_length c.in-Err-BadLength.field-0-0).0 (c.in-Err-BadLength.is ∙ ap Err c.in-Err-BadLength.field-0-is) in
+    let first = (c.transmission.ensures.bad_length c.in-Err-BadLength.field-0-0).0 (c.in-Err-BadLength.is ∙ ap Err c.in-Err-BadLength.field-0-is) in
     c.requires.lengths c.in-Err-BadLength.field-0-0 [] first.1.within first.1.bad
 
 pub returns : goal.returns
 returns c =
     let words = c.args.words in
     let items : c.extend_from_slice.new.self.items
-    ≡ replicate words.silence (pos 0) ++ transmission_at 0 words.level c.args.frames.now words.opening words.closing
+    ≡ replicate words.silence (pos 0) ++ transmission_by words.modem words.level c.args.frames.now words.opening words.closing
     = search rules in
-    items ∙ sym (at_level-samples_of words.level (sent_at_once words c.args.frames.now))
+    items ∙ sym (samples_by-is words.modem words.level (sent_at_once words c.args.frames.now))

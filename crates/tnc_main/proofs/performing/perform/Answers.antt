@@ -1,16 +1,19 @@
-use Rattle.std.proofs.Common.{◌≡◌, [], Some, Err, inl, inr, refl, sym, subst, ap, ◌∙◌}
-use Rattle.tnc_words.specs.declared.command.Command.TheVariants.{Decode, Encode, Show, Loop}
+use Rattle.std.proofs.Common.{◌≡◌, ◌++◌, ℕ, List, [], Some, Err, inl, inr, refl, sym, subst, ap, ◌∙◌}
+use Rattle.std.specs.Prelude.{OnOk, OnErr}
+use Rattle.tnc_base.specs.Streams.{WrotePart}
+use Rattle.tnc_words.specs.declared.command.Command.TheVariants.{Decode, Encode, Show, Loop, Bench, Help, Version}
+use Rattle.tnc_words.specs.Help.{text_about, version_text}
 use Rattle.tnc_forms.specs.declared.fault.Fault.TheVariants.{Input as OfInput}
 use Rattle.tnc_forms.specs.declared.fault.InputFault.TheVariants.{TooLong}
 use Rattle.tnc_encode.specs.Encoded.{encoded, encoded_before}
 use Rattle.tnc_main.specs.declared.status.Status.TheVariants.{Memory as NoMemory, ReadFault, WriteFault}
-use Rattle.tnc_main.specs.Commands.{HeardAsMade}
-use Rattle.tnc_main.specs.Stops.{end_of, end_of_loop}
-use Rattle.tnc_main.proofs.Ends.{if_ok, if_input, if_read, loop_ok, loop_no_input, on_ok, both_ok, on_fault}
+use Rattle.tnc_main.specs.Commands.{HeardAsMade, ReadsNothing}
+use Rattle.tnc_main.specs.Stops.{end_of, end_of_bench, end_of_loop}
+use Rattle.tnc_main.proofs.Ends.{if_ok, if_input, if_read, reader_sent, loop_ok, loop_no_input, loop_sent, bench_no_input, bench_no_read, bench_ok, bench_sent, bench_write, on_ok, both_ok, on_fault, text_no_input, text_no_read, text_sent}
 use Rattle.tnc_forms.proofs.Ends.{map_ok}
 use Rattle.tnc_main.proofs.CommandLemmas.{reads, reads_back, same_fault, no_fault, last as last_of, written}
 use Rattle.tnc_main.proofs.LinesWriting.{by_keeping, encode_at_memory, encode_at_read, encode_at_write, encode_of_many, show_at_memory, show_at_read, show_at_write, show_of_many}
-use Rattle.tnc_main.proofs.Writing.{Written, some_summary, nothing_written, part_written, at_memory, at_read, at_write, reader_writes, loop_writes}
+use Rattle.tnc_main.proofs.Writing.{Written, some_summary, nothing_written, part_written, at_memory, at_read, at_write, reader_writes, loop_writes, text_writes, bench_writes}
 use Rattle.tnc_main.proofs.DecodeWriting.{at_memory as memory_decoded, at_read as read_decoded, at_write as write_decoded, of_many as of_many_decoded}
 use Rattle.tnc_main.proofs.performing.perform.Goals as goal
 
@@ -25,7 +28,7 @@ returns-in-Decode-clause-stops g c = λ octets read is.
     reads_back c.args.command (Decode c.in-Decode.words) c.in-Decode.is _ _ (c.decode.ensures.stops octets (reads c.args.command (Decode c.in-Decode.words) c.in-Decode.is _ octets read) (if_input c.ended.result c.decode.result c.ended.ensures TooLong is))
 
 pub returns-in-Decode-clause-unread : goal.returns-in-Decode-clause-unread
-returns-in-Decode-clause-unread g c = λ words same. let both : Decode c.in-Decode.words ≡ Loop words = sym c.in-Decode.is ∙ same in cc both
+returns-in-Decode-clause-unread g c = λ none. absurd (subst ReadsNothing c.in-Decode.is none)
 
 pub returns-in-Decode-clause-heard_as_made : goal.returns-in-Decode-clause-heard_as_made
 returns-in-Decode-clause-heard_as_made g c = λ words same. let both : Decode c.in-Decode.words ≡ Loop words = sym c.in-Decode.is ∙ same in cc both
@@ -60,6 +63,9 @@ returns-in-Decode-clause-written g c = λ octets before read was.
     (λ is. read_decoded words octets before left_now now (λ text d. on_fault end is (c.decode.ensures.cut octets before text left was d)) (c.decode.ensures.settled octets before left was (inr is)))
     (λ is. write_decoded words octets before left_now now (λ text d. on_fault end is (c.decode.ensures.cut octets before text left was d)) (c.decode.ensures.most octets before left was is)))
 
+pub returns-in-Decode-clause-sent : goal.returns-in-Decode-clause-sent
+returns-in-Decode-clause-sent g c = reader_sent c.ended.result c.decode.result c.ended.ensures c.args.command
+
 -- ---- encode
 
 pub returns-in-Encode-clause-end : goal.returns-in-Encode-clause-end
@@ -71,7 +77,7 @@ returns-in-Encode-clause-stops g c = λ octets read is.
     reads_back c.args.command (Encode c.in-Encode.words) c.in-Encode.is _ _ (c.encode.ensures.stops octets (reads c.args.command (Encode c.in-Encode.words) c.in-Encode.is _ octets read) (if_input c.ended-in-Encode.result c.encode.result c.ended-in-Encode.ensures TooLong is))
 
 pub returns-in-Encode-clause-unread : goal.returns-in-Encode-clause-unread
-returns-in-Encode-clause-unread g c = λ words same. let both : Encode c.in-Encode.words ≡ Loop words = sym c.in-Encode.is ∙ same in cc both
+returns-in-Encode-clause-unread g c = λ none. absurd (subst ReadsNothing c.in-Encode.is none)
 
 pub returns-in-Encode-clause-heard_as_made : goal.returns-in-Encode-clause-heard_as_made
 returns-in-Encode-clause-heard_as_made g c = λ words same. let both : Encode c.in-Encode.words ≡ Loop words = sym c.in-Encode.is ∙ same in cc both
@@ -120,6 +126,9 @@ returns-in-Encode-clause-unwritten g c = λ last which.
       | inr is ↦ inr (if_read c.ended-in-Encode.result c.encode.result c.ended-in-Encode.ensures is)
     ])
 
+pub returns-in-Encode-clause-sent : goal.returns-in-Encode-clause-sent
+returns-in-Encode-clause-sent g c = reader_sent c.ended-in-Encode.result c.encode.result c.ended-in-Encode.ensures c.args.command
+
 -- ---- show
 
 pub returns-in-Show-clause-end : goal.returns-in-Show-clause-end
@@ -131,7 +140,7 @@ returns-in-Show-clause-stops g c = λ octets read is.
     reads_back c.args.command (Show c.in-Show.words) c.in-Show.is _ _ (c.show.ensures.stops octets (reads c.args.command (Show c.in-Show.words) c.in-Show.is _ octets read) (if_input c.ended-in-Show.result c.show.result c.ended-in-Show.ensures TooLong is))
 
 pub returns-in-Show-clause-unread : goal.returns-in-Show-clause-unread
-returns-in-Show-clause-unread g c = λ words same. let both : Show c.in-Show.words ≡ Loop words = sym c.in-Show.is ∙ same in cc both
+returns-in-Show-clause-unread g c = λ none. absurd (subst ReadsNothing c.in-Show.is none)
 
 pub returns-in-Show-clause-heard_as_made : goal.returns-in-Show-clause-heard_as_made
 returns-in-Show-clause-heard_as_made g c = λ words same. let both : Show c.in-Show.words ≡ Loop words = sym c.in-Show.is ∙ same in cc both
@@ -167,6 +176,9 @@ returns-in-Show-clause-written g c = λ octets before read was.
 pub returns-in-Show-clause-unwritten : goal.returns-in-Show-clause-unwritten
 returns-in-Show-clause-unwritten g c = λ last. absurd (last_of c.args.command (Show c.in-Show.words) c.in-Show.is last)
 
+pub returns-in-Show-clause-sent : goal.returns-in-Show-clause-sent
+returns-in-Show-clause-sent g c = reader_sent c.ended-in-Show.result c.show.result c.ended-in-Show.ensures c.args.command
+
 -- ---- loop
 
 pub returns-in-Loop-clause-end : goal.returns-in-Loop-clause-end
@@ -197,3 +209,104 @@ returns-in-Loop-clause-written g c = λ octets before read was.
     let text = some_summary c.in-Loop.words in
     at_write command tt octets before left_now now
     (part_written command tt octets before left_now now text.0 text.1 (on_fault c.loop_back.result write (c.loop_back.ensures.cut before text.0 was text.1)))))
+
+pub returns-in-Loop-clause-sent : goal.returns-in-Loop-clause-sent
+returns-in-Loop-clause-sent g c =
+    loop_sent c.ended_loop.result c.loop_back.result c.ended_loop.ensures c.args.command c.in-Loop.words c.in-Loop.is c.loop_back.ensures.stray
+
+-- ---- bench
+
+pub returns-in-Bench-clause-end : goal.returns-in-Bench-clause-end
+returns-in-Bench-clause-end g c = λ octets read. on_ok c.ended_bench.result (reads_back c.args.command (Bench c.in-Bench.options) c.in-Bench.is _ [] refl)
+
+pub returns-in-Bench-clause-stops : goal.returns-in-Bench-clause-stops
+returns-in-Bench-clause-stops g c = λ octets read is. absurd (bench_no_input c.ended_bench.result c.bench.result c.ended_bench.ensures TooLong is)
+
+pub returns-in-Bench-clause-heard_as_made : goal.returns-in-Bench-clause-heard_as_made
+returns-in-Bench-clause-heard_as_made g c = λ words same. let both : Bench c.in-Bench.options ≡ Loop words = sym c.in-Bench.is ∙ same in cc both
+
+pub returns-in-Bench-clause-written : goal.returns-in-Bench-clause-written
+returns-in-Bench-clause-written g c = λ octets before read was.
+    let options = c.in-Bench.options in
+    let left_now = g.I.Source.left c.args.input.now in
+    let now = g.O.Sink.written c.bench.new.output in
+    written c.args.command (Bench options) c.in-Bench.is octets before left_now now c.ended_bench.result (end_of_bench c.bench.result) c.ended_bench.ensures
+    (bench_writes options octets before left_now now c.bench.result
+    (c.bench.ensures.done before was)
+    (λ fault is. ap g.O.Sink.written (c.bench.ensures.unwritten fault is) ∙ was)
+    (c.bench.ensures.cut before was))
+
+pub returns-in-Bench-clause-unwritten : goal.returns-in-Bench-clause-unwritten
+returns-in-Bench-clause-unwritten g c = λ last which. elim which [
+  | inl is ↦ absurd (bench_no_input c.ended_bench.result c.bench.result c.ended_bench.ensures TooLong is)
+  | inr is ↦ absurd (bench_no_read c.ended_bench.result c.bench.result c.ended_bench.ensures is)
+]
+
+pub returns-in-Bench-clause-faultless : goal.returns-in-Bench-clause-faultless
+returns-in-Bench-clause-faultless g c =
+    bench_ok c.ended_bench.result c.bench.result c.ended_bench.ensures (λ same. (refl, same)) c.bench.ensures.faultless
+
+pub returns-in-Bench-clause-sent : goal.returns-in-Bench-clause-sent
+returns-in-Bench-clause-sent g c =
+    bench_sent c.ended_bench.result c.bench.result c.ended_bench.ensures c.args.command c.in-Bench.options c.in-Bench.is c.bench.ensures.fault
+
+pub returns-in-Bench-clause-write : goal.returns-in-Bench-clause-write
+returns-in-Bench-clause-write g c = λ is. c.bench.ensures.write (bench_write c.ended_bench.result c.bench.result c.ended_bench.ensures is)
+
+-- ---- help
+
+pub returns-in-Help-clause-end : goal.returns-in-Help-clause-end
+returns-in-Help-clause-end g c = λ octets read. on_ok c.print_text.result (reads_back c.args.command (Help c.in-Help.topic) c.in-Help.is _ [] refl)
+
+pub returns-in-Help-clause-stops : goal.returns-in-Help-clause-stops
+returns-in-Help-clause-stops g c = λ octets read is. absurd (text_no_input c.print_text.result c.print_text.ensures.ends TooLong is)
+
+pub returns-in-Help-clause-heard_as_made : goal.returns-in-Help-clause-heard_as_made
+returns-in-Help-clause-heard_as_made g c = λ words same. let both : Help c.in-Help.topic ≡ Loop words = sym c.in-Help.is ∙ same in cc both
+
+pub returns-in-Help-clause-written : goal.returns-in-Help-clause-written
+returns-in-Help-clause-written g c = λ octets before read was.
+    let left_now = g.I.Source.left c.args.input.now in
+    let now = g.O.Sink.written c.print_text.new.output in
+    written c.args.command (Help c.in-Help.topic) c.in-Help.is octets before left_now now c.print_text.result c.print_text.result refl
+    (text_writes (Help c.in-Help.topic) tt octets before (text_about c.in-Help.topic) left_now now c.print_text.result c.print_text.ensures.ends refl
+    (subst (λ (t : List ℕ). OnOk c.print_text.result (now ≡ Some (before ++ t))) c.help_text.ensures (c.print_text.ensures.whole before was))
+    (subst (λ (t : List ℕ). OnErr c.print_text.result (WrotePart before t now)) c.help_text.ensures (c.print_text.ensures.cut before was)))
+
+pub returns-in-Help-clause-unwritten : goal.returns-in-Help-clause-unwritten
+returns-in-Help-clause-unwritten g c = λ last which. elim which [
+  | inl is ↦ absurd (text_no_input c.print_text.result c.print_text.ensures.ends TooLong is)
+  | inr is ↦ absurd (text_no_read c.print_text.result c.print_text.ensures.ends is)
+]
+
+-- ---- version
+
+pub returns-in-Version-clause-end : goal.returns-in-Version-clause-end
+returns-in-Version-clause-end g c = λ octets read. on_ok c.print_text-in-Version.result (reads_back c.args.command Version c.in-Version.is _ [] refl)
+
+pub returns-in-Version-clause-stops : goal.returns-in-Version-clause-stops
+returns-in-Version-clause-stops g c = λ octets read is. absurd (text_no_input c.print_text-in-Version.result c.print_text-in-Version.ensures.ends TooLong is)
+
+pub returns-in-Version-clause-heard_as_made : goal.returns-in-Version-clause-heard_as_made
+returns-in-Version-clause-heard_as_made g c = λ words same. let both : Version ≡ Loop words = sym c.in-Version.is ∙ same in cc both
+
+pub returns-in-Version-clause-written : goal.returns-in-Version-clause-written
+returns-in-Version-clause-written g c = λ octets before read was.
+    let left_now = g.I.Source.left c.args.input.now in
+    let now = g.O.Sink.written c.print_text-in-Version.new.output in
+    written c.args.command Version c.in-Version.is octets before left_now now c.print_text-in-Version.result c.print_text-in-Version.result refl
+    (text_writes Version tt octets before version_text left_now now c.print_text-in-Version.result c.print_text-in-Version.ensures.ends refl
+    (subst (λ (t : List ℕ). OnOk c.print_text-in-Version.result (now ≡ Some (before ++ t))) c.version_line.ensures (c.print_text-in-Version.ensures.whole before was))
+    (subst (λ (t : List ℕ). OnErr c.print_text-in-Version.result (WrotePart before t now)) c.version_line.ensures (c.print_text-in-Version.ensures.cut before was)))
+
+pub returns-in-Version-clause-unwritten : goal.returns-in-Version-clause-unwritten
+returns-in-Version-clause-unwritten g c = λ last which. elim which [
+  | inl is ↦ absurd (text_no_input c.print_text-in-Version.result c.print_text-in-Version.ensures.ends TooLong is)
+  | inr is ↦ absurd (text_no_read c.print_text-in-Version.result c.print_text-in-Version.ensures.ends is)
+]
+
+pub returns-in-Help-clause-sent : goal.returns-in-Help-clause-sent
+returns-in-Help-clause-sent g c = text_sent c.args.command c.print_text.result c.print_text.ensures.ends
+
+pub returns-in-Version-clause-sent : goal.returns-in-Version-clause-sent
+returns-in-Version-clause-sent g c = text_sent c.args.command c.print_text-in-Version.result c.print_text-in-Version.ensures.ends

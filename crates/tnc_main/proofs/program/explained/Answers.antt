@@ -2,7 +2,7 @@ use Rattle.std.proofs.Common.{◌≡◌, ◌++◌, Some, IfErr, inl, inr, sym, s
 use Rattle.std.specs.Prelude.{Result}
 use Rattle.tnc_main.specs.declared.stop.Stop.{Stop}
 use Rattle.tnc_main.specs.Report.{line_of, stray_line}
-use Rattle.tnc_main.specs.declared.status.Status.TheVariants.{BadInput, WriteFault, Stray as HeardStray}
+use Rattle.tnc_main.specs.declared.status.Status.TheVariants.{BadInput, WriteFault, Stray as HeardStray, NotQuiet as FoundNoQuiet, Spent as WasSpent}
 use Rattle.tnc_main.proofs.program.explained.Goals as goal
 
 pub returns-in-Ok-of_stray-clause-told : goal.returns-in-Ok-of_stray-clause-told
@@ -13,7 +13,13 @@ returns-in-Ok-of_stray-clause-told g c = λ before was which.
       | inr fault ↦
           elim which [
             | inl bad ↦ let both : BadInput ≡ WriteFault = sym bad ∙ fault in cc both
-            | inr stray ↦ let both : HeardStray ≡ WriteFault = sym stray ∙ fault in cc both
+            | inr more ↦ elim more [
+              | inl stray ↦ let both : HeardStray ≡ WriteFault = sym stray ∙ fault in cc both
+              | inr last ↦ elim last [
+                | inl quiet ↦ let both : FoundNoQuiet ≡ WriteFault = sym quiet ∙ fault in cc both
+                | inr spent ↦ let both : WasSpent ≡ WriteFault = sym spent ∙ fault in cc both
+              ]
+            ]
           ]
     ] in
     subst (λ (end : Result (Unit {0}) Stop). IfErr end (λ stop. g.E.Sink.written c.told-in-Ok-of_stray.new.report ≡ Some (before ++ line_of stop))) (sym c.in-Err-Stray.is)

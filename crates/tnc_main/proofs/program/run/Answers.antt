@@ -1,24 +1,26 @@
-use Rattle.std.proofs.Common.{rules, ◌≡◌, [], ◌++◌, Some, None, Err, map, string_bytes, append-nil, inl, inr, refl, sym, subst, ap, ◌∙◌, arith, true≢false}
+use Rattle.std.proofs.Common.{rules, ◌≡◌, [], ◌++◌, Some, None, Err, IfErr, map, string_bytes, append-nil, inl, inr, refl, sym, subst, ap, ◌∙◌, arith, true≢false}
 use Rattle.std.specs.Prelude.{is_some}
-use Rattle.tnc_words.specs.declared.command.Command.TheVariants.{Decode, Loop, Serve}
+use Rattle.tnc_words.specs.declared.command.Command.TheVariants.{Bench, Decode, Loop, Serve}
 use Rattle.tnc_words.specs.Commands.{Asks, IsServe}
 use Rattle.tnc_words.proofs.OneCommand.{one_command}
 use Rattle.tnc_forms.specs.declared.fault.InputFault.TheVariants.{TooLong}
 use Rattle.tnc_forms.proofs.Ends.{at_ok}
+use Rattle.tnc_bench.specs.Reported.{IsReportOf}
 use Rattle.tnc_main.specs.declared.status.Status.TheVariants.{Done, Memory as NoMemory, WriteFault}
 use Rattle.tnc_main.specs.declared.stop.Stop.TheVariants.{Input}
-use Rattle.tnc_main.specs.Commands.{Makes, Strays, fault_of}
+use Rattle.tnc_main.specs.Commands.{IsFaultless, Makes, Reads, ReadsNothing, fault_of}
+use Rattle.tnc_main.specs.Parts.{WritesAtEnd}
 use Rattle.tnc_main.specs.Runs.{IsCaused, Leaves, Tells, Writes}
 use Rattle.tnc_main.specs.Status.{code_of}
-use Rattle.tnc_main.specs.Stops.{CanRun, status_of}
-use Rattle.tnc_main.proofs.Statuses.{at_bad_input, at_done, at_read_fault, at_stray, one_status, status_done}
-use Rattle.tnc_main.proofs.CommandLemmas.{last as last_of, stray_of_loop}
+use Rattle.tnc_main.specs.Stops.{CanRun, IsStopOfRun, status_of}
+use Rattle.tnc_main.proofs.Statuses.{at_bad_input, at_done, at_not_quiet, at_read_fault, at_spent, at_stray, one_status, status_done}
+use Rattle.tnc_main.proofs.CommandLemmas.{last as last_of}
 use Rattle.tnc_main.proofs.Jobs.{same_command, reads, for_job}
 use Rattle.tnc_main.proofs.TextLemmas.{long_fault, near_text}
 use Rattle.tnc_main.proofs.Writing.{told_writes}
 use Rattle.tnc_main.proofs.DecodeWriting.{unread}
 use Rattle.tnc_main.proofs.Telling.{caused, ends_well, leaves, tells}
-use Rattle.tnc_main.proofs.LiveRuns.{complete as complete_live, faultless as faultless_live, no_bad_words, no_job, no_port as no_port_live, no_stray, not_live, read_fault as read_fault_live, served as served_live, write_fault as write_fault_live}
+use Rattle.tnc_main.proofs.LiveRuns.{complete as complete_live, faultless as faultless_live, no_bad_words, no_job, no_port as no_port_live, no_spent, no_stray, no_unquiet, not_live, read_fault as read_fault_live, served as served_live, write_fault as write_fault_live}
 use Rattle.tnc_main.proofs.program.run.Goals as goal
 
 -- ---- a command
@@ -38,7 +40,7 @@ returns-in-Ok-clause-written g c = λ job before was.
       made.0,
       for_job (map string_bytes c.args.words.now) (g.I.Source.left c.args.input.now) c.code.result c.in-Ok.command c.explained.result c.in-Ok.ensures.asks c.code.ensures job (λ command status. Writes command job.octets (g.I.Source.left c.perform-end.new.input) status made.0)
           (told_writes c.in-Ok.command job.octets _ made.0 c.perform-end.result c.explained.result c.explained.ensures.ends
-          (λ fault is. c.perform-end.ensures.bad job.octets fault mine is) c.perform-end.ensures.stray made.1),
+          (λ fault is. c.perform-end.ensures.bad job.octets fault mine is) c.perform-end.ensures.sent made.1),
       made.2,
     )
 
@@ -72,30 +74,53 @@ returns-in-Ok-clause-heard g c = λ job decode received before is clean was zero
 
 pub returns-in-Ok-clause-looped : goal.returns-in-Ok-clause-looped
 returns-in-Ok-clause-looped g c = λ loop is.
-    let same : c.in-Ok.command ≡ Loop loop = one_command (map string_bytes c.args.words.now) c.in-Ok.command (Loop loop) c.in-Ok.ensures.asks is in (
-      c.perform-end.ensures.unread loop same,
-      λ zero. at_ok c.perform-end.result (c.perform-end.ensures.heard_as_made loop same)
-          (at_done c.perform-end.result c.explained.result c.explained.ensures.ends (sym c.code.ensures ∙ zero)),
-    )
+    let same : c.in-Ok.command ≡ Loop loop = one_command (map string_bytes c.args.words.now) c.in-Ok.command (Loop loop) c.in-Ok.ensures.asks is in
+    λ zero. at_ok c.perform-end.result (c.perform-end.ensures.heard_as_made loop same)
+    (at_done c.perform-end.result c.explained.result c.explained.ensures.ends (sym c.code.ensures ∙ zero))
+
+pub returns-in-Ok-clause-benched : goal.returns-in-Ok-clause-benched
+returns-in-Ok-clause-benched g c = λ bench before is was zero.
+    let same : c.in-Ok.command ≡ Bench bench = one_command (map string_bytes c.args.words.now) c.in-Ok.command (Bench bench) c.in-Ok.ensures.asks is in
+    let made = c.perform-end.ensures.written [] before (subst (λ command. Reads command (g.I.Source.left c.args.input.now) []) (sym same) refl) was in
+    let done : Done ≡ status_of c.perform-end.result =
+    sym (status_done c.perform-end.result (at_done c.perform-end.result c.explained.result c.explained.ensures.ends (sym c.code.ensures ∙ zero))) in
+    let told : Makes c.in-Ok.command [] made.0 =
+    subst (λ status. Writes c.in-Ok.command [] (g.I.Source.left c.perform-end.new.input) status made.0) (sym done) made.1 in
+    let report : IsReportOf bench made.0 = subst (λ command. Makes command [] made.0) same told in
+    (report.report, report.over, made.2 ∙ ap (λ t. Some (before ++ t)) report.is)
+
+pub returns-in-Ok-clause-unread : goal.returns-in-Ok-clause-unread
+returns-in-Ok-clause-unread g c = λ command asked none.
+    c.perform-end.ensures.unread (subst ReadsNothing
+    (one_command (map string_bytes c.args.words.now) command c.in-Ok.command asked c.in-Ok.ensures.asks) none)
 
 pub returns-in-Ok-clause-cause : goal.returns-in-Ok-clause-cause
 returns-in-Ok-clause-cause g c = λ job.
     let mine = reads (map string_bytes c.args.words.now) (g.I.Source.left c.args.input.now) c.code.result c.in-Ok.command c.explained.result c.in-Ok.ensures.asks c.code.ensures job in
     for_job (map string_bytes c.args.words.now) (g.I.Source.left c.args.input.now) c.code.result c.in-Ok.command c.explained.result c.in-Ok.ensures.asks c.code.ensures job (λ command status. IsCaused command job.octets status)
     (caused c.in-Ok.command job.octets c.perform-end.result c.explained.result c.explained.ensures.ends
-    (c.perform-end.ensures.good job.octets mine) (λ fault is. c.perform-end.ensures.bad job.octets fault mine is) c.perform-end.ensures.stray)
+    (c.perform-end.ensures.good job.octets mine) (λ fault is. c.perform-end.ensures.bad job.octets fault mine is) c.perform-end.ensures.sent)
 
 pub returns-in-Ok-clause-stray : goal.returns-in-Ok-clause-stray
 returns-in-Ok-clause-stray g c = λ six.
-    let heard = at_stray c.perform-end.result c.explained.result c.explained.ensures.ends (sym c.code.ensures ∙ six) in
-    let found = stray_of_loop c.in-Ok.command heard.0 (c.perform-end.ensures.stray heard.0 heard.1) in
-    (found.0, subst (λ command. Asks (map string_bytes c.args.words.now) command) found.1 c.in-Ok.ensures.asks, (heard.0, found.2))
+    let found = at_stray c.perform-end.result c.explained.result c.explained.ensures.ends (sym c.code.ensures ∙ six) in
+    (c.in-Ok.command, c.in-Ok.ensures.asks, (found.0, subst (λ end. IfErr end (IsStopOfRun c.in-Ok.command)) found.1 c.perform-end.ensures.sent))
+
+pub returns-in-Ok-clause-not_quiet : goal.returns-in-Ok-clause-not_quiet
+returns-in-Ok-clause-not_quiet g c = λ seven.
+    let found = at_not_quiet c.perform-end.result c.explained.result c.explained.ensures.ends (sym c.code.ensures ∙ seven) in
+    (c.in-Ok.command, c.in-Ok.ensures.asks, (found.0, subst (λ end. IfErr end (IsStopOfRun c.in-Ok.command)) found.1 c.perform-end.ensures.sent))
+
+pub returns-in-Ok-clause-spent : goal.returns-in-Ok-clause-spent
+returns-in-Ok-clause-spent g c = λ eight.
+    let found = at_spent c.perform-end.result c.explained.result c.explained.ensures.ends (sym c.code.ensures ∙ eight) in
+    (c.in-Ok.command, c.in-Ok.ensures.asks, (found.0, subst (λ end. IfErr end (IsStopOfRun c.in-Ok.command)) found.1 c.perform-end.ensures.sent))
 
 pub returns-in-Ok-clause-told : goal.returns-in-Ok-clause-told
 returns-in-Ok-clause-told g c = λ job before was.
     let mine = reads (map string_bytes c.args.words.now) (g.I.Source.left c.args.input.now) c.code.result c.in-Ok.command c.explained.result c.in-Ok.ensures.asks c.code.ensures job in
     let line = tells c.in-Ok.command job.octets before (g.E.Sink.written c.explained.new.report) c.perform-end.result c.explained.result
-    c.explained.ensures.ends (λ fault is. c.perform-end.ensures.bad job.octets fault mine is) c.perform-end.ensures.stray
+    c.explained.ensures.ends (λ fault is. c.perform-end.ensures.bad job.octets fault mine is) c.perform-end.ensures.sent
     (λ quiet. ap g.E.Sink.written (c.explained.ensures.silent quiet) ∙ was)
     (c.explained.ensures.told before was) (c.explained.ensures.cut before was) in
     (line.0, for_job (map string_bytes c.args.words.now) (g.I.Source.left c.args.input.now) c.code.result c.in-Ok.command c.explained.result c.in-Ok.ensures.asks c.code.ensures job (λ command status. Tells command job.octets status line.0) line.1, line.2)
@@ -109,7 +134,7 @@ returns-in-Ok-clause-complete g c = λ job faultless no_input no_output no_repor
     let none : Some fault ≡ None =
     sym (c.perform-end.ensures.bad job.octets fault mine is) ∙ ap (λ command. fault_of command job.octets) (sym same) ∙ faultless.input in
     true≢false (ap is_some none))
-    (λ frame is. faultless.sent frame (subst (λ command. Strays command frame) (sym same) (c.perform-end.ensures.stray frame is)))
+    c.perform-end.ensures.sent (subst (λ command. IsFaultless command job.octets) same faultless)
     (λ is. no_input (c.perform-end.ensures.read is))
     (λ is. no_output (c.perform-end.ensures.write is)) in
     elim ended [ inl zero ↦ inl (c.code.ensures ∙ zero) | inr three ↦ inr (c.code.ensures ∙ three) ]
@@ -152,6 +177,36 @@ returns-in-Ok-Serve-clause-served g c =
     let asks : IsServe (map string_bytes c.args.words.now) c.in-Ok-Serve.options = search rules in
     served_live _ _ _ asks _ c.serve_words.ensures _ _ _ _ c.serve.ensures
 
+pub returns-in-Ok-Serve-clause-read : goal.returns-in-Ok-Serve-clause-read
+returns-in-Ok-Serve-clause-read g c = λ job.
+    let asks : IsServe (map string_bytes c.args.words.now) c.in-Ok-Serve.options = search rules in
+    absurd (no_job _ _ _ _ asks job)
+
+pub returns-in-Ok-Serve-clause-written : goal.returns-in-Ok-Serve-clause-written
+returns-in-Ok-Serve-clause-written g c = λ job.
+    let asks : IsServe (map string_bytes c.args.words.now) c.in-Ok-Serve.options = search rules in
+    absurd (no_job _ _ _ _ asks job)
+
+pub returns-in-Ok-Serve-clause-told : goal.returns-in-Ok-Serve-clause-told
+returns-in-Ok-Serve-clause-told g c = λ job.
+    let asks : IsServe (map string_bytes c.args.words.now) c.in-Ok-Serve.options = search rules in
+    absurd (no_job _ _ _ _ asks job)
+
+pub returns-in-Ok-Serve-clause-complete : goal.returns-in-Ok-Serve-clause-complete
+returns-in-Ok-Serve-clause-complete g c = λ job.
+    let asks : IsServe (map string_bytes c.args.words.now) c.in-Ok-Serve.options = search rules in
+    absurd (no_job _ _ _ _ asks job)
+
+pub returns-in-Ok-Serve-clause-unwritten : goal.returns-in-Ok-Serve-clause-unwritten
+returns-in-Ok-Serve-clause-unwritten g c = λ command asked at_end.
+    let asks : IsServe (map string_bytes c.args.words.now) c.in-Ok-Serve.options = search rules in
+    absurd (subst WritesAtEnd (one_command (map string_bytes c.args.words.now) command (Serve c.in-Ok-Serve.options) asked asks) at_end)
+
+pub returns-in-Ok-Serve-clause-unread : goal.returns-in-Ok-Serve-clause-unread
+returns-in-Ok-Serve-clause-unread g c = λ command asked none.
+    let asks : IsServe (map string_bytes c.args.words.now) c.in-Ok-Serve.options = search rules in
+    absurd (subst ReadsNothing (one_command (map string_bytes c.args.words.now) command (Serve c.in-Ok-Serve.options) asked asks) none)
+
 pub returns-in-Ok-Serve-clause-cause : goal.returns-in-Ok-Serve-clause-cause
 returns-in-Ok-Serve-clause-cause g c = λ job.
     let asks : IsServe (map string_bytes c.args.words.now) c.in-Ok-Serve.options = search rules in
@@ -164,6 +219,11 @@ returns-in-Ok-Serve-clause-complete_served g c = λ options asked.
 
 pub returns-in-Ok-clause-served : goal.returns-in-Ok-clause-served
 returns-in-Ok-clause-served g c = λ options asked.
+    let can : CanRun c.in-Ok.command = search rules in
+    absurd (not_live _ _ options can c.in-Ok.ensures.asks asked)
+
+pub returns-in-Ok-clause-complete_served : goal.returns-in-Ok-clause-complete_served
+returns-in-Ok-clause-complete_served g c = λ options asked.
     let can : CanRun c.in-Ok.command = search rules in
     absurd (not_live _ _ options can c.in-Ok.ensures.asks asked)
 

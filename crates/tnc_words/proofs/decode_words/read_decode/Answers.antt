@@ -1,8 +1,8 @@
 use Rattle.std.proofs.Common.{◌≡◌, Err, List, map, string_bytes, subst, ap, ◌∙◌, sym}
 use Rattle.clap.specs.Words.{Row, fault_of, matches_of, rows_of, found_of}
-use Rattle.tnc_words.specs.Commands.{HasDecodeOptions}
+use Rattle.tnc_words.specs.Commands.{HasDecodeOptions, IsDecode}
 use Rattle.tnc_words.specs.Options.{decode_faults, decode_rows}
-use Rattle.tnc_words.proofs.Found.{passed_on}
+use Rattle.tnc_words.proofs.Found.{passed_on, chosen, not_chosen}
 use Rattle.tnc_words.proofs.decode_words.read_decode.Goals as goal
 
 pub returns-in_err-found-clause-refused : goal.returns-in_err-found-clause-refused
@@ -17,8 +17,19 @@ returns-clause-taken c =
     let words = map string_bytes c.args.words.now in
     let found : rows_of (found_of c.in_ok-found.found) ≡ decode_rows words =
     c.in_ok-found.ensures.rows ∙ ap (λ app. matches_of app words) c.in_ok-decode_command.ensures in
-    record {
+    chosen c.decode_options.result c.ok_or.result _ (IsDecode words) c.ok_or.ensures.value
+    (λ decode options. record {
       named = c.requires;
       taken = ap (λ app. fault_of app words) (sym c.in_ok-decode_command.ensures) ∙ c.in_ok-found.ensures.taken;
-      options = subst (λ (rows : List Row). HasDecodeOptions rows c.decode_options.result) found c.decode_options.ensures;
-    }
+      options = subst (λ (rows : List Row). HasDecodeOptions rows decode) found options;
+    })
+    c.decode_options.ensures.options
+
+pub returns-clause-refused : goal.returns-clause-refused
+unfolding decode_rows
+returns-clause-refused c = λ refused decode asks.
+    let words = map string_bytes c.args.words.now in
+    let found : rows_of (found_of c.in_ok-found.found) ≡ decode_rows words =
+    c.in_ok-found.ensures.rows ∙ ap (λ app. matches_of app words) c.in_ok-decode_command.ensures in
+    c.decode_options.ensures.none (not_chosen c.decode_options.result c.ok_or.result _ _ c.ok_or.ensures.value refused) decode
+    (subst (λ (rows : List Row). HasDecodeOptions rows decode) (sym found) asks.options)

@@ -1,4 +1,4 @@
-use Rattle.std.proofs.Common.{◌≡◌, ◌∙◌, Some, Err, map, string_bytes, codes, ap, sym}
+use Rattle.std.proofs.Common.{◌≡◌, ◌∙◌, Some, Err, map, string_bytes, codes, refl, ap, sym}
 use Rattle.std.specs.Option.{option_copied, option_map}
 use Rattle.std.proofs.lemmas.Option.{slice_get-map}
 use Rattle.tnc_words.specs.Commands.{first_word}
@@ -10,7 +10,8 @@ pub returns-in_err-read_decode-in-decode-clause-refused : goal.returns-in_err-re
 returns-in_err-read_decode-in-decode-clause-refused c = λ refused.
     let named : first_word (map string_bytes c.args.words.now) ≡ Some (codes "decode") =
     slice_get-map string_bytes c.args.words.now 0
-    ∙ ap (option_map string_bytes) (sym c.first.ensures.value ∙ ap option_copied c.in-Some.is)
+    ∙ ap (option_map string_bytes) (sym c.first.ensures.value ∙ ap option_copied c.in-Some-first.is)
     ∙ ap Some (sym c.as_str.ensures.value ∙ c.in-decode.is) in
-    no_decode _ named (c.in_err-read_decode-in-decode.ensures.refused
+    no_decode _ named (c.in_default.ensures.no_help refl) (c.in_default.ensures.no_version refl)
+    (c.in_err-read_decode-in-decode.ensures.refused
     (ap Err (passed_on c.from_residual.result c.in_err-read_decode-in-decode.field-0.0 _ refused c.from_residual.ensures.1)))

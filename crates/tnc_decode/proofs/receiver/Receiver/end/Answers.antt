@@ -1,7 +1,8 @@
-use Rattle.std.proofs.Common.{◌<◌, ◌^◌, Err, ap, sym, ◌∙◌, arith, length}
+use Rattle.std.proofs.Common.{Err, ap, sym, ◌∙◌}
 use Rattle.std.proofs.lemmas.Result.{err_from_is_err_and}
 use Rattle.frame_merge.specs.Merged.{frames_of}
 use Rattle.tnc_decode.specs.Audio.{samples_of}
+use Rattle.tnc_decode.specs.Modem.{modem_of}
 use Rattle.tnc_decode.specs.Printing.{print}
 use Rattle.tnc_decode.proofs.ReceiverLemmas.{heard_all}
 use Rattle.tnc_decode.proofs.receiver.Receiver.end.Goals as goal
@@ -10,30 +11,24 @@ pub returns-in_err-write_items-clause-cut : goal.returns-in_err-write_items-clau
 returns-in_err-write_items-clause-cut g c = λ words octets text is h.
     let told = err_from_is_err_and c.from_residual-in_err-write_items.result c.from_residual-in_err-write_items.ensures.1 in
     let same = ap Err (sym told.2) ∙ sym told.1 ∙ is in
-    let count = h.decoder.count in
-    let most = c.requires.room in
-    let room : length (samples_of words.audio octets) < 2 ^ 48 = omega arith in (
+    let rest = c.in_ok-items.ensures.rest (modem_of words octets) (samples_of words octets) h.decoder in (
       print c.args.self.now.frames (frames_of c.deref.result.now),
-      heard_all c.args.self.now words octets text c.in_ok-items.items.items c.deref.result.now h (c.in_ok-items.ensures.rest (samples_of words.audio octets) room h.decoder) c.deref.ensures.value,
+      heard_all c.args.self.now words octets text c.in_ok-items.items.items c.deref.result.now h rest c.deref.ensures.value,
       λ was w. c.in_err-write_items.ensures.cut was w same,
     )
 
 pub returns-in-None-clause-wrote : goal.returns-in-None-clause-wrote
 returns-in-None-clause-wrote g c = λ words octets text h ended.
-    let count = h.decoder.count in
-    let most = c.requires.room in
-    let room : length (samples_of words.audio octets) < 2 ^ 48 = omega arith in (
+    let rest = c.in_ok-items.ensures.rest (modem_of words octets) (samples_of words octets) h.decoder in (
       print c.args.self.now.frames (frames_of c.deref.result.now),
-      heard_all c.args.self.now words octets text c.in_ok-items.items.items c.deref.result.now h (c.in_ok-items.ensures.rest (samples_of words.audio octets) room h.decoder) c.deref.ensures.value,
+      heard_all c.args.self.now words octets text c.in_ok-items.items.items c.deref.result.now h rest c.deref.ensures.value,
       λ was w. c.in_ok-write_items.ensures.written was w,
     )
 
 pub returns-clause-wrote : goal.returns-clause-wrote
 returns-clause-wrote g c = λ words octets text h ended.
-    let count = h.decoder.count in
-    let most = c.requires.room in
-    let room : length (samples_of words.audio octets) < 2 ^ 48 = omega arith in (
+    let rest = c.in_ok-items.ensures.rest (modem_of words octets) (samples_of words octets) h.decoder in (
       print c.args.self.now.frames (frames_of c.deref.result.now),
-      heard_all c.args.self.now words octets text c.in_ok-items.items.items c.deref.result.now h (c.in_ok-items.ensures.rest (samples_of words.audio octets) room h.decoder) c.deref.ensures.value,
+      heard_all c.args.self.now words octets text c.in_ok-items.items.items c.deref.result.now h rest c.deref.ensures.value,
       λ was w. c.in_ok-write_items.ensures.written was w,
     )

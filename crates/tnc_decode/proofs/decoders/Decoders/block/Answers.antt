@@ -1,0 +1,87 @@
+use Rattle.std.proofs.Common.{◌/◌, ◌++◌, ℤ, List, length, sym, subst}
+use Rattle.std.specs.Prelude.{IfOk}
+use Rattle.std.proofs.lemmas.Result.{IfOk-weaker}
+use Rattle.slicer_bank.specs.HeldDecoder.{StandsFor}
+use Rattle.slicer_bank.specs.MergedItems.{AreMergedBetween}
+use Rattle.hf_modem.specs.HeldDecoder.{StandsFor as HfStandsFor}
+use Rattle.hf_modem.specs.MergedItems.{AreMergedBetween as AreHfMergedBetween}
+use Rattle.wide_input.specs.Streams.{least_count}
+use Rattle.wide_input.specs.Held.{StandsFor as BankStandsFor}
+use Rattle.wide_input.specs.MergedItems.{AreWideMergedBetween}
+use Rattle.tnc_decode.specs.declared.decoders.Decoders.{Decoders}
+use Rattle.tnc_decode.specs.declared.decoders.Decoders.TheVariants.{Plain, Wide, ShortWave}
+use Rattle.tnc_decode.specs.declared.modem.Modem.{Modem}
+use Rattle.tnc_decode.specs.Held.{HasDecoded}
+use Rattle.tnc_decode.specs.Modem.{settled_count, AreGivenBetween}
+use Rattle.tnc_decode.proofs.ModemLemmas.{plain_block, wide_block, short_wave_block}
+use Rattle.tnc_decode.proofs.decoders.Decoders.block.Goals as goal
+
+pub returns-in-Plain-clause-given : goal.returns-in-Plain-clause-given
+returns-in-Plain-clause-given g c =
+    let block : List ℤ = c.args.block.now in
+    let old = c.in-Plain.decoder in
+    let new = c.block_threads.new.self in
+    let P : Decoders → Type 0 = λ self. IfOk c.block_threads.result (λ items. (modem : Modem) (x : List ℤ) → HasDecoded modem self x
+    → HasDecoded modem (Plain new) (x ++ block) × AreGivenBetween modem (settled_count modem x) (settled_count modem (x ++ block)) (x ++ block) items.items) in
+    subst P (sym c.in-Plain.is) (IfOk-weaker c.block_threads.result
+    (λ items. (x : List ℤ) → StandsFor old x → StandsFor new (x ++ block) × AreMergedBetween (length x) (length (x ++ block)) (x ++ block) items.items)
+    (λ items. (modem : Modem) (x : List ℤ) → HasDecoded modem (Plain old) x
+    → HasDecoded modem (Plain new) (x ++ block) × AreGivenBetween modem (settled_count modem x) (settled_count modem (x ++ block)) (x ++ block) items.items)
+    (λ items given. plain_block old new block items.items given)
+    c.block_threads.ensures.given)
+
+pub returns-in-Plain-2-clause-given : goal.returns-in-Plain-2-clause-given
+returns-in-Plain-2-clause-given g c =
+    let block : List ℤ = c.args.block.now in
+    let old = c.in-Plain.decoder in
+    let new = c.block.new.self in
+    let P : Decoders → Type 0 = λ self. IfOk c.block.result (λ items. (modem : Modem) (x : List ℤ) → HasDecoded modem self x
+    → HasDecoded modem (Plain new) (x ++ block) × AreGivenBetween modem (settled_count modem x) (settled_count modem (x ++ block)) (x ++ block) items.items) in
+    subst P (sym c.in-Plain.is) (IfOk-weaker c.block.result
+    (λ items. (x : List ℤ) → StandsFor old x → StandsFor new (x ++ block) × AreMergedBetween (length x) (length (x ++ block)) (x ++ block) items.items)
+    (λ items. (modem : Modem) (x : List ℤ) → HasDecoded modem (Plain old) x
+    → HasDecoded modem (Plain new) (x ++ block) × AreGivenBetween modem (settled_count modem x) (settled_count modem (x ++ block)) (x ++ block) items.items)
+    (λ items given. plain_block old new block items.items given)
+    c.block.ensures.given)
+
+pub returns-in-Wide-clause-given : goal.returns-in-Wide-clause-given
+returns-in-Wide-clause-given g c =
+    let block : List ℤ = c.args.block.now in
+    let old = c.in-Wide.bank in
+    let new = c.block_threads-in-Wide.new.self in
+    let P : Decoders → Type 0 = λ self. IfOk c.block_threads-in-Wide.result (λ items. (modem : Modem) (x : List ℤ) → HasDecoded modem self x
+    → HasDecoded modem (Wide new) (x ++ block) × AreGivenBetween modem (settled_count modem x) (settled_count modem (x ++ block)) (x ++ block) items.items) in
+    subst P (sym c.in-Wide.is) (IfOk-weaker c.block_threads-in-Wide.result
+    (λ items. (x : List ℤ) → BankStandsFor old x → BankStandsFor new (x ++ block) × AreWideMergedBetween (least_count x) (least_count (x ++ block)) (x ++ block) items.items)
+    (λ items. (modem : Modem) (x : List ℤ) → HasDecoded modem (Wide old) x
+    → HasDecoded modem (Wide new) (x ++ block) × AreGivenBetween modem (settled_count modem x) (settled_count modem (x ++ block)) (x ++ block) items.items)
+    (λ items given. wide_block old new block items.items given)
+    c.block_threads-in-Wide.ensures.given)
+
+pub returns-in-Wide-2-clause-given : goal.returns-in-Wide-2-clause-given
+returns-in-Wide-2-clause-given g c =
+    let block : List ℤ = c.args.block.now in
+    let old = c.in-Wide.bank in
+    let new = c.block-in-Wide-2.new.self in
+    let P : Decoders → Type 0 = λ self. IfOk c.block-in-Wide-2.result (λ items. (modem : Modem) (x : List ℤ) → HasDecoded modem self x
+    → HasDecoded modem (Wide new) (x ++ block) × AreGivenBetween modem (settled_count modem x) (settled_count modem (x ++ block)) (x ++ block) items.items) in
+    subst P (sym c.in-Wide.is) (IfOk-weaker c.block-in-Wide-2.result
+    (λ items. (x : List ℤ) → BankStandsFor old x → BankStandsFor new (x ++ block) × AreWideMergedBetween (least_count x) (least_count (x ++ block)) (x ++ block) items.items)
+    (λ items. (modem : Modem) (x : List ℤ) → HasDecoded modem (Wide old) x
+    → HasDecoded modem (Wide new) (x ++ block) × AreGivenBetween modem (settled_count modem x) (settled_count modem (x ++ block)) (x ++ block) items.items)
+    (λ items given. wide_block old new block items.items given)
+    c.block-in-Wide-2.ensures.given)
+
+pub returns-in-ShortWave-clause-given : goal.returns-in-ShortWave-clause-given
+returns-in-ShortWave-clause-given g c =
+    let block : List ℤ = c.args.block.now in
+    let old = c.in-ShortWave.decoder in
+    let new = c.block-in-ShortWave.new.self in
+    let P : Decoders → Type 0 = λ self. IfOk c.block-in-ShortWave.result (λ items. (modem : Modem) (x : List ℤ) → HasDecoded modem self x
+    → HasDecoded modem (ShortWave new) (x ++ block) × AreGivenBetween modem (settled_count modem x) (settled_count modem (x ++ block)) (x ++ block) items.items) in
+    subst P (sym c.in-ShortWave.is) (IfOk-weaker c.block-in-ShortWave.result
+    (λ items. (x : List ℤ) → HfStandsFor old x → HfStandsFor new (x ++ block) × AreHfMergedBetween (length x / 4) (length (x ++ block) / 4) (x ++ block) items.items)
+    (λ items. (modem : Modem) (x : List ℤ) → HasDecoded modem (ShortWave old) x
+    → HasDecoded modem (ShortWave new) (x ++ block) × AreGivenBetween modem (settled_count modem x) (settled_count modem (x ++ block)) (x ++ block) items.items)
+    (λ items given. short_wave_block old new block items.items given)
+    c.block-in-ShortWave.ensures.given)

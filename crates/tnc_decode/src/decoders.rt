@@ -1,0 +1,86 @@
+//! The decoder of each modem.
+ghost use Rattle.std.specs.Prelude.{◌≡◌, ◌≤◌, ◌<◌, ◌+◌, ◌^◌, ◌++◌, List, ℕ, ℤ, [], false, length, IfOk};
+ghost use Rattle.tnc_decode.specs.declared.modem.Modem.{Modem};
+ghost use Rattle.tnc_decode.specs.Modem.{settled_count, AreGivenBetween, AreGivenRest};
+ghost use Rattle.tnc_decode.specs.Held.{HasDecoded, position_of, finished_of};
+
+use crate::modem::Modem;
+use frame_merge::Candidate;
+use hf_modem::HfDecoder;
+use slicer_bank::{Decoder, OpenGate};
+use std::alloc::Global;
+use std::thread::Threads;
+use tnc_base::OutOfMemory;
+use wide_input::WideBank;
+
+/// Samples in, frames out: a decoder for each modem.
+#[derive(Drop)]
+pub(crate) enum Decoders {
+    Plain(Decoder),
+    Wide(WideBank),
+    ShortWave(HfDecoder),
+}
+
+impl Decoders {
+    /// The decoder of a modem, which has taken nothing.
+    pub(crate) fn new(alloc: Global, modem: Modem) -> Result<Decoders, OutOfMemory>
+        ensures stands_for { IfOk result (λ decoder. HasDecoded modem decoder []) }
+        ensures position { IfOk result (λ decoder. position_of decoder ≡ 0) }
+        ensures unfinished { IfOk result (λ decoder. finished_of decoder ≡ false) }
+    {
+        match modem {
+            Modem::Plain => Ok(Decoders::Plain(Decoder::new(alloc)?)),
+            Modem::Wide => Ok(Decoders::Wide(WideBank::new(alloc)?)),
+            Modem::ShortWave => Ok(Decoders::ShortWave(HfDecoder::new(alloc)?)),
+        }
+    }
+
+    /// The modem whose decoder it is.
+    pub(crate) fn modem(&self) -> Modem
+        ensures { (modem : Modem) (x : List ℤ) → HasDecoded modem self.now x → result ≡ modem }
+    {
+        match self {
+            Decoders::Plain(_) => Modem::Plain,
+            Decoders::Wide(_) => Modem::Wide,
+            Decoders::ShortWave(_) => Modem::ShortWave,
+        }
+    }
+
+    /// The items that a block of samples settles. With threads the lanes work on two.
+    pub(crate) fn block<R: Threads + Sync>(
+        &mut self,
+        rt: &R,
+        threads: bool,
+        block: &[i16],
+    ) -> Result<Vec<Candidate>, OutOfMemory>
+        requires few { length block.now ≤ 2048 }
+        requires room { position_of self.old + length block.now < 2 ^ 48 }
+        requires unfinished { finished_of self.old ≡ false }
+        ensures given { IfOk result (λ items. (modem : Modem) (x : List ℤ) → HasDecoded modem self.old x
+            → HasDecoded modem self.new (x ++ block.now)
+            × AreGivenBetween modem (settled_count modem x) (settled_count modem (x ++ block.now)) (x ++ block.now) items.items) }
+        ensures position { IfOk result (λ items. position_of self.new ≡ position_of self.old + length block.now) }
+        ensures unfinished { finished_of self.new ≡ false }
+    {
+        match self {
+            Decoders::Plain(decoder) if threads => decoder.block_threads(rt, block, &OpenGate),
+            Decoders::Plain(decoder) => decoder.block(block),
+            Decoders::Wide(bank) if threads => bank.block_threads(rt, block, &OpenGate),
+            Decoders::Wide(bank) => bank.block(block),
+            Decoders::ShortWave(decoder) => decoder.block(block),
+        }
+    }
+
+    /// The rest of the items: the samples have ended.
+    pub(crate) fn finish(&mut self) -> Result<Vec<Candidate>, OutOfMemory>
+        requires room { position_of self.old < 2 ^ 48 }
+        ensures rest { IfOk result (λ items. (modem : Modem) (x : List ℤ) → HasDecoded modem self.old x
+            → AreGivenRest modem (settled_count modem x) x items.items) }
+    {
+        match self {
+            Decoders::Plain(decoder) => decoder.finish(),
+            Decoders::Wide(bank) => bank.finish(),
+            Decoders::ShortWave(decoder) => decoder.finish(),
+        }
+    }
+}

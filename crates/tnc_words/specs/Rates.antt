@@ -1,0 +1,23 @@
+-- How samples are heard, and their rate: 9600 a second if no option says otherwise.
+use Rattle.std.specs.Prelude.{◌≡◌, ℕ, List, codes, true, false}
+use Rattle.clap.specs.Words.{Row, first_of}
+use Rattle.tnc_words.specs.declared.command.SampleRate.{SampleRate}
+use Rattle.tnc_words.specs.declared.command.SampleRate.TheVariants.{Narrow, Wide}
+use Rattle.tnc_words.specs.declared.command.Receiving.{Receiving}
+use Rattle.tnc_words.specs.declared.command.Receiving.TheVariants.{Standard, ShortWave}
+use Rattle.tnc_words.specs.Numbers.{HasNumber}
+use Rattle.tnc_words.specs.Options.{is_used}
+
+-- how many samples a second a rate is
+abbrev pub samples_a_second : SampleRate → ℕ
+samples_a_second Narrow = 9600
+samples_a_second Wide = 48000
+
+-- [--rate n], of the two rates
+abbrev pub HasRate : List Row → SampleRate → Type 0
+HasRate found rate = HasNumber (first_of (codes "rate") found) 9600 9600 48000 (samples_a_second rate)
+
+-- [--hf], by 9600 samples a second and without threads
+abbrev pub HasReceiving : List Row → Receiving → Type 0
+HasReceiving found (Standard rate) = (is_used (codes "hf") found ≡ false) × HasRate found rate
+HasReceiving found ShortWave = (is_used (codes "hf") found ≡ true) × (is_used (codes "threads") found ≡ false) × HasRate found Narrow

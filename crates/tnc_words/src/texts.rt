@@ -1,0 +1,137 @@
+//! The texts of `help` and `version`.
+ghost use Rattle.std.specs.Prelude.{◌≡◌};
+ghost use Rattle.tnc_words.specs.Help.{text_about, version_text};
+
+use crate::topic::Topic;
+
+/// The program and its version.
+const VERSION: &str = "tnc 0.9.0\n";
+
+/// All commands.
+const PROGRAM: &str = "\
+Usage: tnc COMMAND [OPTION]...
+
+A software terminal node controller for packet radio: AX.25 over the tones of Bell 202.
+
+  tnc decode [--wav] [--kiss] [--threads] [--hf] [--rate n]
+  tnc encode [--kiss] [--wav] [--join] [--hf] [--opening n] [--closing n] [--silence n] [--level n]
+  tnc show [--modulo n]
+  tnc loop --seed n --frames n [--rough] [--threads]
+  tnc bench --seed n [--octets n] [--loss n] [--noise n] [--full] [--wide]
+  tnc serve --kiss n --agw n [--seed n] [--mode name] [--window n] [--wide]
+            [--wide-window n] [--digi call] [--dcd n] [--monitor]
+  tnc help [COMMAND]
+  tnc version
+
+  decode   prints the frames that are heard in sound
+  encode   makes the sound of frames
+  show     prints frames as text
+  loop     tries the modem on itself
+  bench    runs two stations that are joined by sound
+  serve    runs a live station with ports for host programs
+
+A command reads standard input and writes standard output. Sound is raw PCM of 9600 samples a second, 16 bits,
+little-endian, one channel. `tnc help COMMAND` says what the options are, and the manual page tnc(1) says all.
+";
+
+const DECODE: &str = "\
+Usage: tnc decode [--wav] [--kiss] [--threads] [--hf] [--rate n]
+
+Prints the frames that are heard in sound, a line of hexadecimal digits each, as soon as they have ended.
+
+  --wav        the input is a WAV file, and not raw PCM
+  --kiss       the output is KISS frames, and not lines
+  --threads    the receiver works on two threads
+  --hf         the sound is of short wave, 300 bits a second, and not Bell 202; without --threads
+  --rate n     samples a second of raw PCM, 9600 or 48000 (9600); a WAV file tells its own
+";
+
+const ENCODE: &str = "\
+Usage: tnc encode [--kiss] [--wav] [--join] [--hf] [--opening n] [--closing n] [--silence n] [--level n]
+
+Makes the sound of frames, which come as lines of hexadecimal digits.
+
+  --kiss       the input is KISS frames, and not lines
+  --wav        the output is a WAV file, and not raw PCM
+  --join       all frames are one transmission
+  --hf         300 bits a second, for short wave, and not Bell 202
+  --opening n  flags before the first frame, 2 to 10000 (75)
+  --closing n  flags after the last frame, 1 to 10000 (2)
+  --silence n  samples of silence before a transmission, 0 to 1000000 (0)
+  --level n    the amplitude of the tones, 10 to 32767 (10000)
+";
+
+const SHOW: &str = "\
+Usage: tnc show [--modulo n]
+
+Prints a line of text for each frame, which come as lines of hexadecimal digits.
+
+  --modulo n   how many sequence numbers the stations count with, 8 or 128 (8)
+";
+
+const LOOP: &str = "\
+Usage: tnc loop --seed n --frames n [--rough] [--threads]
+
+Sends random frames to itself, and prints how many were heard.
+
+  --seed n     what the frames are drawn from, 0 to 18446744073709551615
+  --frames n   how many there are, 0 to 1000
+  --rough      each transmission has a phase, a level and noise of its own
+  --threads    the receiver works on two threads
+";
+
+const BENCH: &str = "\
+Usage: tnc bench --seed n [--octets n] [--loss n] [--noise n] [--full] [--wide]
+
+Runs two stations that are joined by sound, whose hosts give each other a text, and prints what each host got.
+
+  --seed n     what the run is drawn from, 0 to 18446744073709551615
+  --octets n   octets that each host gives, 0 to 100000 (2000)
+  --loss n     transmissions of a hundred that are lost, 0 to 90 (0)
+  --noise n    the most noise of a sample, 0 to 2000 (0)
+  --full       both stations send in full duplex
+  --wide       links are called modulo 128
+";
+
+const SERVE: &str = "\
+Usage: tnc serve --kiss n --agw n [--seed n] [--mode name] [--window n] [--wide]
+                 [--wide-window n] [--digi call] [--dcd n] [--monitor]
+
+Runs a station until its sound ends: it hears standard input, sends standard output, and serves host programs
+on 127.0.0.1.
+
+  --kiss n         the port for KISS hosts, 1 to 65535
+  --agw n          the port for AGWPE hosts, 1 to 65535
+  --seed n         what channel access draws from, 0 to 18446744073709551615; each station its own (1)
+  --mode name      how links ask for lost frames, rej or srej (rej)
+  --window n       frames that a link sends ahead, modulo 8, 1 to 7 (4)
+  --wide           links are called modulo 128
+  --wide-window n  frames that a link sends ahead, modulo 128, 1 to 127 (32)
+  --digi call      repeats frames for this call
+  --dcd n          flags in a row from which on the channel is busy, 1 to 8 (3)
+  --monitor        tells each frame that is heard or sent on standard error
+";
+
+/// What is told about a topic: some lines of ASCII.
+#[tactic(auto, unfolding(crate::specs::Help::text_about))]
+pub fn help_text(topic: Topic) -> &'static str
+    ensures { result.now ≡ text_about topic }
+{
+    match topic {
+        Topic::Program => PROGRAM,
+        Topic::Decode => DECODE,
+        Topic::Encode => ENCODE,
+        Topic::Show => SHOW,
+        Topic::Loop => LOOP,
+        Topic::Bench => BENCH,
+        Topic::Serve => SERVE,
+    }
+}
+
+/// The line that names the program and its version.
+#[tactic(auto, unfolding(crate::specs::Help::version_text))]
+pub fn version_line() -> &'static str
+    ensures { result.now ≡ version_text }
+{
+    VERSION
+}

@@ -1,0 +1,40 @@
+-- Correlations by the samples of their windows.
+use Rattle.std.proofs.Common.{◌≡◌, ℕ, ◌+◌, ◌*◌, ◌<◌, ℤ, pos, ◌*ℤ◌, neg_ℤ, List, map, get_or, ap, ◌∙◌, arith}
+use Rattle.std.proofs.lemmas.List.FromFn.{get_or-map-range_with_len}
+use Rattle.std.specs.List.{range_with_len}
+use Rattle.tone_table.specs.declared.tone.Tone.{Tone}
+use Rattle.tone_table.specs.declared.tone.Tone.TheVariants.{Mark, Space}
+use Rattle.tone_table.specs.Tones.{phase_step}
+use Rattle.offset_slicers.specs.Decision.{sum_below, product_of}
+use Rattle.offset_slicers.proofs.DecisionLemmas.{sum_below-agree}
+use Rattle.tone_tracking.specs.Correlation.{weight, product_at, correlation, correlations}
+
+-- a table that holds a tone's weights, some steps on
+pub sum-product_at : (tone : Tone) (shift : ℕ) (window weights : List ℤ)
+    → weights ≡ map (λ i. weight (i * phase_step tone + shift)) (range_with_len 0 8)
+    → sum_below (product_of window weights) 8 ≡ sum_below (product_at tone shift window 0) 8
+sum-product_at tone shift window weights table =
+    sum_below-agree (product_of window weights) (product_at tone shift window 0) 8
+    (λ i below.
+    let same : i ≡ 0 + i = omega arith in
+    let there : get_or weights i (pos 0) ≡ weight (i * phase_step tone + shift) = ap (λ ws. get_or ws i (pos 0)) table
+    ∙ get_or-map-range_with_len (λ k. weight (k * phase_step tone + shift)) 0 8 i i (pos 0) below (omega arith) in
+    λ k. get_or window (same k) (pos 0) *ℤ there k)
+
+-- windows with the same samples have the same correlations
+correlation-agree : (tone : Tone) (x y : List ℤ) (p q : ℕ) → ((i : ℕ) → i < 8 → get_or x (p + i) (pos 0) ≡ get_or y (q + i) (pos 0))
+    → correlation tone x p ≡ correlation tone y q
+unfolding correlation
+correlation-agree tone x y p q same =
+    let on : sum_below (product_at tone 8 x p) 8 ≡ sum_below (product_at tone 8 y q) 8
+    = sum_below-agree (product_at tone 8 x p) (product_at tone 8 y q) 8 (λ i l. ap (λ z. z *ℤ weight (i * phase_step tone + 8)) (same i l)) in
+    let at : sum_below (product_at tone 0 x p) 8 ≡ sum_below (product_at tone 0 y q) 8
+    = sum_below-agree (product_at tone 0 x p) (product_at tone 0 y q) 8 (λ i l. ap (λ z. z *ℤ weight (i * phase_step tone + 0)) (same i l)) in
+    λ i. record { a = on i; b = neg_ℤ (at i) }
+
+pub correlations-agree : (x y : List ℤ) (p q : ℕ) → ((i : ℕ) → i < 8 → get_or x (p + i) (pos 0) ≡ get_or y (q + i) (pos 0))
+    → correlations x p ≡ correlations y q
+correlations-agree x y p q same =
+    let mark = correlation-agree Mark x y p q same in
+    let space = correlation-agree Space x y p q same in
+    λ i. record { mark = mark i; space = space i }

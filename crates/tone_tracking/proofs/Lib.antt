@@ -1,0 +1,6 @@
+pub mod PhasorLemmas
+pub mod ClockLemmas
+pub mod CorrelationLemmas
+pub mod DecisionLemmas
+pub mod TrackerLemmas
+pub mod ListsLemmas

@@ -1,0 +1,7 @@
+use Rattle.std.proofs.Common.{arith}
+use Rattle.std.proofs.lemmas.Int.{ints}
+use Rattle.tone_tracking.proofs.PhasorLemmas.{phasor_is}
+use Rattle.tone_tracking.proofs.phasor.Phasor.plus.Goals as goal
+
+pub returns : goal.returns
+returns c = phasor_is _ _ (omega (arith, ints)) (omega (arith, ints))

@@ -1,0 +1,10 @@
+use Rattle.tone_tracking.specs.Correlation.{correlations}
+use Rattle.tone_tracking.proofs.ListsLemmas.{taken_none, all_within-none}
+use Rattle.tone_tracking.proofs.tone_lists.ToneLists.new.Goals as goal
+
+pub returns-clause-has_taken : goal.returns-clause-has_taken
+returns-clause-has_taken c = λ x.
+    taken_none x _ _ c.new.result c.new-2.result c.new.ensures.place c.new-2.ensures.place (c.new.ensures.stands_for (correlations x)) (c.new-2.ensures.stands_for (correlations x))
+
+pub invariant_of-result : goal.invariant_of-result
+invariant_of-result c = (all_within-none, c.new.ensures.reach, c.new-2.ensures.reach, c.new.ensures.place, c.new-2.ensures.place)

@@ -1,0 +1,6 @@
+pub mod Phasors
+pub mod Correlation
+pub mod Heard
+pub mod Clock
+pub mod HeldTracker
+pub mod HeldLists

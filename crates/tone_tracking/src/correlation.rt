@@ -1,0 +1,85 @@
+//! The correlations of a window with the two tones, as phasors.
+
+ghost use Rattle.std.specs.Prelude.{◌≡◌, ◌<◌, ◌≤◌, ◌*◌, ◌*ℤ◌, sum_by, unsigned_abs};
+ghost use Rattle.offset_slicers.specs.Decision.{sum_below, product_of};
+ghost use Rattle.tone_table.specs.declared.tone.Tone.TheVariants.{Mark, Space};
+ghost use Rattle.tone_tracking.specs.Correlation.{AreWithin, correlations, of_tone};
+
+use crate::phasor::Phasor;
+use tone_table::Tone;
+
+/// The weights of mark a sixth of a turn on.
+static MARK_ON: [i16; 8] = [87, 97, 50, -26, -87, -97, -50, 26];
+
+/// The weights of mark.
+static MARK: [i16; 8] = [0, 71, 100, 71, 0, -71, -100, -71];
+
+/// The weights of space a sixth of a turn on.
+static SPACE_ON: [i16; 8] = [87, 61, -71, -79, 50, 92, -26, -99];
+
+/// The weights of space.
+static SPACE: [i16; 8] = [0, 99, 26, -92, -50, 79, 71, -61];
+
+/// The correlations of a window with mark and with space.
+#[derive(Clone, Copy, PartialEq, Eq, Debug)]
+pub struct Correlations {
+    /// With mark.
+    pub mark: Phasor,
+    /// With space.
+    pub space: Phasor,
+}
+
+impl Correlations {
+    /// Of silence.
+    pub(crate) const NONE: Correlations = Correlations {
+        mark: Phasor::NONE,
+        space: Phasor::NONE,
+    };
+
+    /// The correlation with a tone.
+    pub(crate) fn of(&self, tone: Tone) -> Phasor
+        ensures { result ≡ of_tone tone self.now }
+    {
+        match tone {
+            Tone::Mark => self.mark,
+            Tone::Space => self.space,
+        }
+    }
+}
+
+/// The correlations of a window of eight samples.
+pub fn correlate(window: &[i16; 8]) -> Correlations
+    ensures sums { result ≡ correlations window.now 0 }
+    ensures bound { AreWithin result }
+{
+    Correlations {
+        mark: Phasor {
+            a: sum_of_products(window, &MARK_ON),
+            b: -sum_of_products(window, &MARK),
+        },
+        space: Phasor {
+            a: sum_of_products(window, &SPACE_ON),
+            b: -sum_of_products(window, &SPACE),
+        },
+    }
+}
+
+/// The sum of the products of samples and weights, place by place.
+fn sum_of_products(window: &[i16; 8], weights: &[i16; 8]) -> i32
+    requires { sum_by unsigned_abs weights.now ≤ 600 }
+    ensures sum { result ≡ sum_below (product_of window.now weights.now) 8 }
+    ensures bound { unsigned_abs result ≤ 19660800 }
+{
+    let mut sum = 0;
+    for i in 0..8 {
+        sum += product(window[i], weights[i]);
+    }
+    sum
+}
+
+/// The product of a sample and a weight.
+fn product(sample: i16, weight: i16) -> i32
+    ensures { result ≡ sample *ℤ weight }
+{
+    i32::from(sample) * i32::from(weight)
+}

@@ -1,0 +1,89 @@
+//! Amplitude and phase in whole numbers.
+
+ghost use Rattle.std.specs.Prelude.{◌≡◌, ◌≤◌, ◌*ℤ◌, unsigned_abs};
+ghost use Rattle.tone_tracking.specs.Phasors.{IsWithin, plus, turn, turn_back, size, three_quarters};
+
+use tone_table::Tone;
+
+/// The complex number a + b w, w being a sixth of a turn, so that w * w = w - 1.
+#[derive(Clone, Copy, PartialEq, Eq, Debug)]
+pub struct Phasor {
+    /// The part along the whole numbers.
+    pub a: i32,
+    /// The part along a sixth of a turn.
+    pub b: i32,
+}
+
+impl Phasor {
+    /// No amplitude.
+    pub(crate) const NONE: Phasor = Phasor { a: 0, b: 0 };
+
+    /// The sum of two phasors.
+    pub(crate) fn plus(self, other: Phasor) -> Phasor
+        requires first { IsWithin 500000000 self }
+        requires second { IsWithin 500000000 other }
+        ensures { result ≡ plus self other }
+    {
+        Phasor {
+            a: self.a + other.a,
+            b: self.b + other.b,
+        }
+    }
+
+    /// The phasor as it stands one window of a tone earlier: space is a sixth of a turn short of two cycles.
+    pub(crate) fn turned(self, tone: Tone) -> Phasor
+        requires { IsWithin 1000000000 self }
+        ensures { result ≡ turn tone self }
+    {
+        match tone {
+            Tone::Mark => self,
+            Tone::Space => Phasor {
+                a: -self.b,
+                b: self.a + self.b,
+            },
+        }
+    }
+
+    /// The phasor as it stands one window of a tone later.
+    pub(crate) fn turned_back(self, tone: Tone) -> Phasor
+        requires { IsWithin 1000000000 self }
+        ensures { result ≡ turn_back tone self }
+    {
+        match tone {
+            Tone::Mark => self,
+            Tone::Space => Phasor {
+                a: self.a + self.b,
+                b: -self.a,
+            },
+        }
+    }
+
+    /// Three quarters of each part, rounded down.
+    pub(crate) fn three_quarters(self) -> Phasor
+        requires { IsWithin 500000000 self }
+        ensures { result ≡ three_quarters self }
+    {
+        Phasor {
+            a: (3 * self.a).div_euclid(4),
+            b: (3 * self.b).div_euclid(4),
+        }
+    }
+
+    /// The square of the amplitude.
+    pub(crate) fn size(self) -> i64
+        requires { IsWithin 1000000000 self }
+        ensures { result ≡ size self }
+    {
+        product(self.a, self.a) + product(self.a, self.b) + product(self.b, self.b)
+    }
+}
+
+/// The product of two parts.
+fn product(part: i32, other: i32) -> i64
+    requires part { unsigned_abs part ≤ 1000000000 }
+    requires other { unsigned_abs other ≤ 1000000000 }
+    ensures value { result ≡ part *ℤ other }
+    ensures bound { unsigned_abs result ≤ 1000000000000000000 }
+{
+    i64::from(part) * i64::from(other)
+}

@@ -1,0 +1,103 @@
+//! Both lists of tones of samples.
+
+ghost use Rattle.std.specs.Prelude.{◌≡◌, ℕ, ℤ, pos, ◌+◌, ◌<◌, ◌≤◌, ◌^◌, ◌↔◌, List, IsTrue, length, slice_index_or};
+ghost use Rattle.tone_tracking.specs.Heard.{heard, places_in};
+ghost use Rattle.tone_tracking.specs.HeldLists.{HasTaken};
+ghost use Rattle.tone_tracking.specs.HeldTracker.{tone_before};
+
+use crate::correlation::{Correlations, correlate};
+use crate::reach::Reach;
+use crate::tone_tracker::ToneTracker;
+use std::marker::Model;
+use tone_table::Tone;
+
+/// Takes samples one by one, and decides the tone at each place in both lists as soon as the 24 samples from there on have
+/// come. It keeps the last eight samples, the correlations at the last places, and two trackers.
+#[derive(Debug, Drop)]
+pub struct ToneLists {
+    count: u64,
+    window: [i16; 8],
+    recent: [Correlations; 32],
+    near: ToneTracker,
+    far: ToneTracker,
+}
+
+impl Model for ToneLists {
+    ghost use Rattle.std.specs.Prelude.{◌≡◌};
+    ghost use Rattle.tone_tracking.specs.declared.reach.Reach.TheVariants.{Near, Far};
+    ghost use Rattle.tone_tracking.specs.Heard.{places_in};
+    ghost use Rattle.std.specs.List.{All};
+    ghost use Rattle.tone_tracking.specs.Correlation.{AreWithin};
+    ghost use Rattle.tone_tracking.specs.HeldLists.{HeldLists};
+
+    ghost Value = { HeldLists };
+
+    ghost view = { λ s. record { count = s.count; window = s.window; recent = s.recent; near = s.near; far = s.far } };
+
+    ghost invariant = { λ s. All AreWithin s.recent × (s.near.reach ≡ Near) × (s.far.reach ≡ Far) × (s.near.place ≡ places_in s.count) × (s.far.place ≡ places_in s.count) };
+}
+
+impl ToneLists {
+    /// Lists that have taken nothing.
+    pub fn new() -> ToneLists
+        ensures has_taken { (x : List ℤ) → HasTaken result x }
+        ensures count { result.count ≡ 0 }
+    {
+        ToneLists {
+            count: 0,
+            window: [0; 8],
+            recent: [Correlations::NONE; 32],
+            near: ToneTracker::new(Reach::Near),
+            far: ToneTracker::new(Reach::Far),
+        }
+    }
+
+    /// Takes a sample, and says whether a place was decided.
+    pub fn push(&mut self, sample: i16) -> bool
+        requires { self.old.count < 2 ^ 48 }
+        ensures has_taken { (x : List ℤ) → HasTaken self.old x → self.old.count < length x
+            → sample ≡ slice_index_or x self.old.count (pos 0) → HasTaken self.new x }
+        ensures decided { IsTrue result ↔ (23 ≤ self.old.count) }
+        ensures count { self.new.count ≡ self.old.count + 1 }
+    {
+        let count = self.count + 1;
+        self.window = with_next(&self.window, sample);
+        self.count = count;
+        if count < 8 {
+            return false;
+        }
+        self.recent[((count - 8) % 32) as usize] = correlate(&self.window);
+        if count < 24 {
+            return false;
+        }
+        let now = self.recent[((count - 24) % 32) as usize];
+        let next = self.recent[((count - 16) % 32) as usize];
+        let later = self.recent[((count - 8) % 32) as usize];
+        self.near.decide(&now, &next, &later);
+        self.far.decide(&now, &next, &later);
+        true
+    }
+
+    /// The tone of a list so many places before the last one that was decided.
+    pub fn tone_before(&self, reach: Reach, back: u8) -> Tone
+        requires back { back < 32 }
+        requires room { self.now.count < 2 ^ 49 }
+        ensures { (x : List ℤ) → HasTaken self.now x → result ≡ tone_before (heard reach x) (places_in self.now.count) back }
+    {
+        match reach {
+            Reach::Near => self.near.tone_before(back),
+            Reach::Far => self.far.tone_before(back),
+        }
+    }
+}
+
+/// The window one sample later.
+fn with_next(window: &[i16; 8], sample: i16) -> [i16; 8]
+    ensures moved { (i : ℕ) → i < 7 → slice_index_or result i (pos 0) ≡ slice_index_or window.now (i + 1) (pos 0) }
+    ensures last { slice_index_or result 7 (pos 0) ≡ sample }
+{
+    let mut next = [0; 8];
+    next[..7].copy_from_slice(&window[1..]);
+    next[7] = sample;
+    next
+}
