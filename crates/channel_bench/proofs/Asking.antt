@@ -19,7 +19,7 @@ use Rattle.station.specs.declared.host_event.PortKind.TheVariants.{Kiss, Agw}
 use Rattle.station.specs.AgwKinds.{data_kind, disconnect_kind}
 use Rattle.station.specs.AgwRequests.{IsCall, calls, called_route, own_key, giving_packet, packets_of, data_pid, answering_else, AreAnswered}
 use Rattle.station.specs.Connections.{Connection, connection_of}
-use Rattle.station.specs.Heard.{IsHeard, IsHeardBy, IsHeardAnew, IsHeardMaking, IsReadingHeardAnew, IsRepeatedFor, AreHeardAt, AreOctetsHeard, may_make, shown_to_hosts, waits_for_repeater}
+use Rattle.station.specs.Heard.{IsHeardBy, IsHeardAnew, IsHeardMaking, IsReadingHeardAnew, IsRepeatedFor, AreHeardAt, AreOctetsHeard, may_make, shown_to_hosts, waits_for_repeater}
 use Rattle.station.specs.Host.{new_messages, taking, AreTaken, AreTakenBy, IsHostTurn}
 use Rattle.station.specs.Links.{Link, link_at, key_between, most_links}
 use Rattle.station.specs.NewLinks.{making, no_layer_3}

@@ -31,7 +31,7 @@ use Rattle.station.specs.AgwRequests.{replying, version_reply, ports_reply, capa
 use Rattle.station.specs.CallFields.{call_in}
 use Rattle.station.specs.Connections.{Connection, connection_of, most_connections}
 use Rattle.station.specs.FrameSpelling.{frame_octets}
-use Rattle.station.specs.Heard.{IsHeard, IsHeardBy, IsHeardAnew, IsHeardMaking, IsReadingHeardAnew, IsRepeatedFor, AreHeardAt, AreOctetsHeard, may_make, hearing_at, with_shown, showing_to, shown_to_hosts, source_field, destination_field, waits_for_repeater}
+use Rattle.station.specs.Heard.{IsHeardBy, IsHeardAnew, IsHeardMaking, IsReadingHeardAnew, IsRepeatedFor, AreHeardAt, AreOctetsHeard, may_make, hearing_at, showing_to, shown_to_hosts, source_field, destination_field, waits_for_repeater}
 use Rattle.station.specs.Host.{joining, with_host, new_messages, new_items, taking, ending, AreTaken, AreTakenBy, IsHostTurn}
 use Rattle.station.specs.Kiss.{param_of, with_param, heeding, heeding_all}
 use Rattle.station.specs.Leaving.{giving_up, giving_up_all, giving_up_link, leaving, without_host, without_owner}

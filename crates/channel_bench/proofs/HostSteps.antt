@@ -1,5 +1,5 @@
 -- A step of a station of the bench with an event of a host, or a tick, from what its calls gave.
-use Rattle.std.proofs.Common.{◌≡◌, ℕ, Bool, false, List, None, refl, ap, ◌∙◌, subst}
+use Rattle.std.proofs.Common.{◌≡◌, ℕ, Bool, false, List, None, ap, ◌∙◌, subst}
 use Rattle.link_world.specs.declared.end.End.{End}
 use Rattle.station.specs.declared.host_event.HostEvent.{HostEvent}
 use Rattle.station.specs.Held.{ids_of, ids_behind}

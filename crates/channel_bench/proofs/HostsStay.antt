@@ -30,6 +30,9 @@ pub record IsHosts (c : Connection) : Type 0 where
   pub program : c.id ≡ program_id → c.kind ≡ Agw
   pub whole : c.kind ≡ Agw → IsWhole c.stream
   pub setting : c.kind ≡ Kiss → IsSetting c.stream
+  -- no frames are shown to it
+  pub raw : c.raw ≡ false
+  pub monitors : c.monitors ≡ false
 
 -- all that a station has, which repeats for nobody
 pub record HasHosts (s : StationState) : Type 0 where
@@ -106,6 +109,8 @@ message_hosts message written c is h = record {
   program = h.program;
   whole = λ agw. whole_more c.stream message written (h.whole agw);
   setting = λ kiss. let clash : Agw ≡ Kiss = sym (h.program is) ∙ kiss in absurd (cc);
+  raw = h.raw;
+  monitors = h.monitors;
 }
 
 kiss_hosts : (c : Connection) → c.id ≡ kiss_id → IsHosts c → IsHosts (with_octets full_duplex_octets c)
@@ -114,6 +119,8 @@ kiss_hosts c is h = record {
   program = h.program;
   whole = λ agw. let clash : Kiss ≡ Agw = sym (h.kiss is) ∙ agw in absurd (cc);
   setting = λ kiss. setting_more c.stream (h.setting kiss);
+  raw = h.raw;
+  monitors = h.monitors;
 }
 
 -- What the octets of one message of the host program do: nothing, if it has no connection, and else what the message does.

@@ -13,6 +13,7 @@ use Rattle.link_machine.specs.Machine.{new_machine}
 use Rattle.link_world.specs.declared.end.End.{End}
 use Rattle.link_world.specs.declared.end.End.TheVariants.{A, B}
 use Rattle.link_world.specs.Changes.{ChangesLaw, run_changes}
+use Rattle.link_world.specs.Flight.{Tagged}
 use Rattle.link_world.specs.World.{World, seen_from, other}
 use Rattle.station.specs.declared.config.Config.{Config}
 use Rattle.station.specs.Links.{Link, is_between, most_links}
@@ -21,10 +22,10 @@ use Rattle.channel_bench.specs.JointRun.{Input, Step, Stations, new_stations, st
 use Rattle.channel_bench.specs.HeardInOrder.{Pair, RiseBoth, IsOffAir, HearsLinkFrame, AreHeardInOrder}
 use Rattle.channel_bench.specs.InFlight.{LinkFrame, hears_ask, is_ask}
 use Rattle.channel_bench.specs.JointRun.Input.{FromHost, OffAir, OfClock}
-use Rattle.channel_bench.specs.LinkOfCalls.{Calls, Pairs, Counts, link_at_end, count_at, with_more, all_changes_by, changes_from, changes_of, FollowsAll, FollowsThrough, path_between, first_world}
+use Rattle.channel_bench.specs.LinkOfCalls.{Calls, Pairs, Counts, link_at_end, count_at, heard_at, with_more, all_changes_by, changes_from, changes_of, FollowsAll, FollowsThrough, path_between, first_world}
 use Rattle.channel_bench.specs.LinkSteps.{steps_of}
 use Rattle.channel_bench.specs.StationsLaw.{IsMachineOf, AreEndsOf, FollowingLaw, StationsLaw}
-use Rattle.channel_bench.proofs.Along.{near_all, changes_seen, follow_seen, run_changes-append}
+use Rattle.channel_bench.proofs.Along.{AllFollowNear, near_all, changes_seen, follow_seen, run_changes-append}
 use Rattle.channel_bench.proofs.Flights.{RiseFrom, flight_past}
 use Rattle.channel_bench.proofs.Framed.{framed, length-framed, frames_at, frames_more}
 use Rattle.channel_bench.proofs.Runs.{SideHolds, Sent, Between, Stepped, none_rises, none_heard, popped_by, setting_of, takes}
@@ -90,6 +91,11 @@ pub record StepDone (calls : Calls) (pairs : Pairs) (a b : Params) (n : ℕ) (st
       (frames_at B past ++ at_end B e (framed (hears_ask step.input) step.after.out.queued)) pairs.at_b pairs.at_a
       (run_changes w (all_changes_by e pairs (count_at e counts) (steps_of (link_at_end calls e) step)))
   pub follows : FollowsAll e pairs (count_at e counts) (steps_of (link_at_end calls e) step) w
+  -- as the end itself sees it
+  pub stays : List Tagged
+  pub near :
+      AllFollowNear e stays (heard_at (other e) pairs) (count_at e counts) (steps_of (link_at_end calls e) step)
+      (seen_from e w)
 
 pub step_done :
     (calls : Calls) (pairs : Pairs) (a b : Params) (n : ℕ) (st : Stations) (past full : List Step) (counts : Counts)
@@ -118,6 +124,8 @@ step_done calls pairs a b n st past full counts w step A h station before is tak
           (subst (Between calls.a calls.b a b (n + 1) step.after.now st.b (qa ++ framed (hears_ask step.input) step.after.out.queued) qb pairs.at_b pairs.at_a)
           world done.between));
       follows = subst (λ k. FollowsAll A pairs k steps w) (sym ca) (follow_seen A done.stays pairs (length qa) steps w done.follows);
+      stays = done.stays;
+      near = subst (λ k. AllFollowNear A done.stays pairs.at_b k steps w) (sym ca) done.follows;
     }
 step_done calls pairs a b n st past full counts w step B h station before is taken ca cb heard_a heard_b =
     let qa = frames_at A past in
@@ -146,6 +154,8 @@ step_done calls pairs a b n st past full counts w step B h station before is tak
           pairs.at_b pairs.at_a next) (sym (append-nil qa)) back);
       follows = subst (λ k. FollowsAll B pairs k steps w) (sym cb)
           (follow_seen B done.stays pairs (length qb) steps w done.follows);
+      stays = done.stays;
+      near = subst (λ k. AllFollowNear B done.stays pairs.at_a k steps (seen_from B w)) (sym cb) done.follows;
     }
 
 -- ---- all steps

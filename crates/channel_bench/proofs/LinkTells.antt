@@ -75,7 +75,7 @@ tells_none t u told state = record {
   stands = λ runs in_state. subst (RunsIn runs) (sym state) in_state;
 }
 
-none_idle : RunsIn false Idle
+pub none_idle : RunsIn false Idle
 none_idle = record { up = λ same. absurd (cc); only = λ same. absurd (cc) }
 
 none_calling : RunsIn false Calling
@@ -104,24 +104,29 @@ tells_open t u ours told state = record {
 
 -- ---- acts that only give data, if they tell anything, and leave the state
 
-record Gives (before after : Turn) : Type 0 where
-  packets : List Packet
-  told : after.told ≡ before.told ++ map Given packets
-  state : after.now.control.state ≡ before.now.control.state
+pub record Gives (before after : Turn) : Type 0 where
+  pub packets : List Packet
+  pub told : after.told ≡ before.told ++ map Given packets
+  pub state : after.now.control.state ≡ before.now.control.state
+  pub quit : after.now.control.quit ≡ before.now.control.quit
 
-gives_none : (t u : Turn) → u.told ≡ t.told → u.now.control.state ≡ t.now.control.state → Gives t u
-gives_none t u told state = record { packets = []; told = told ∙ sym (append-nil t.told); state = state }
+pub gives_none :
+    (t u : Turn) → u.told ≡ t.told → u.now.control.state ≡ t.now.control.state
+    → u.now.control.quit ≡ t.now.control.quit → Gives t u
+gives_none t u told state quit =
+    record { packets = []; told = told ∙ sym (append-nil t.told); state = state; quit = quit }
 
-gives_same : (t : Turn) → Gives t t
-gives_same t = gives_none t t refl refl
+pub gives_same : (t : Turn) → Gives t t
+gives_same t = gives_none t t refl refl refl
 
-gives_on : (t u v : Turn) → Gives t u → Gives u v → Gives t v
+pub gives_on : (t u v : Turn) → Gives t u → Gives u v → Gives t v
 gives_on t u v h k = record {
   packets = h.packets ++ k.packets;
   told = k.told ∙ ap (λ xs. xs ++ map Given k.packets) h.told
       ∙ append_assoc t.told (map Given h.packets) (map Given k.packets)
       ∙ ap (λ xs. t.told ++ xs) (sym (map-append Given h.packets k.packets));
   state = k.state ∙ h.state;
+  quit = k.quit ∙ h.quit;
 }
 
 given_in_one : (packets : List Packet) → AreToldInOne true (map Given packets)
@@ -155,41 +160,47 @@ one_of false t x y h k = k
 -- ---- the acts of a link that is up
 
 respond_gives : (flag : Bool) (t : Turn) → Gives t (respond_ready flag t)
-respond_gives flag t = gives_none t _ refl refl
+respond_gives flag t = gives_none t _ refl refl refl
 
 answer_gives : (asks : Bool) (t : Turn) → Gives t (answer_poll asks t)
 answer_gives asks t = either asks t _ t (respond_gives true t) (gives_same t)
 
-poll_state : (c : Control) → (behind_poll c).state ≡ c.state
-poll_state c = go c.busy
+-- the state and the wish to disconnect stay
+abbrev pub KeepsMode : Control → Control → Type 0
+KeepsMode c d = (d.state ≡ c.state) × (d.quit ≡ c.quit)
+
+poll_mode : (c : Control) → KeepsMode c (behind_poll c)
+poll_mode c = go c.busy
   where
-    go : (b : Bool) → (cond b (record c { poll = false; rc = 0; t1 = Some t1_ticks; t3 = None })
-        (record c { poll = false; rc = 0; t1 = None; t3 = Some t3_ticks })).state ≡ c.state
-    go true = refl
-    go false = refl
+    go : (b : Bool) → KeepsMode c (cond b (record c { poll = false; rc = 0; t1 = Some t1_ticks; t3 = None })
+        (record c { poll = false; rc = 0; t1 = None; t3 = Some t3_ticks }))
+    go true = (refl, refl)
+    go false = (refl, refl)
 
 recover_gives : (answers : Bool) (t : Turn) → Gives t (recover answers t)
 recover_gives answers t =
-    either (t.now.control.poll && answers) t _ t (gives_none t _ refl (poll_state t.now.control)) (gives_same t)
+    let mode = poll_mode t.now.control in
+    either (t.now.control.poll && answers) t _ t (gives_none t _ refl mode.0 mode.1) (gives_same t)
 
-anew_state : (all : Bool) (c : Control) → (timed_anew all c).state ≡ c.state
-anew_state true c = refl
-anew_state false c = refl
+anew_mode : (all : Bool) (c : Control) → KeepsMode c (timed_anew all c)
+anew_mode true c = (refl, refl)
+anew_mode false c = (refl, refl)
 
-timed_state : (some all : Bool) (c : Control) → (timed_by some all c).state ≡ c.state
-timed_state some all c = go (some && not c.poll)
+timed_mode : (some all : Bool) (c : Control) → KeepsMode c (timed_by some all c)
+timed_mode some all c = go (some && not c.poll)
   where
-    go : (b : Bool) → (cond b (timed_anew all c) c).state ≡ c.state
-    go true = anew_state all c
-    go false = refl
+    go : (b : Bool) → KeepsMode c (cond b (timed_anew all c) c)
+    go true = anew_mode all c
+    go false = (refl, refl)
 
 -- with what a frame acknowledges
 acknowledged_gives : (n : ℕ) (t : Turn) → Gives t (changing (acknowledged n) t)
 acknowledged_gives n t =
-    gives_none t _ refl (timed_state (nat_lt t.now.outgoing.va n) (n == t.now.outgoing.top) t.now.control)
+    let mode = timed_mode (nat_lt t.now.outgoing.va n) (n == t.now.outgoing.top) t.now.control in
+    gives_none t _ refl mode.0 mode.1
 
 busy_gives : (busy : Bool) (n : ℕ) (t : Turn) → Gives t (changing (acknowledged n) (setting (with_busy busy) t))
-busy_gives busy n t = gives_on t (setting (with_busy busy) t) _ (gives_none t _ refl refl)
+busy_gives busy n t = gives_on t (setting (with_busy busy) t) _ (gives_none t _ refl refl refl)
     (acknowledged_gives n (setting (with_busy busy) t))
 
 answered_gives : (asks answers : Bool) (t : Turn) → Gives t (recover answers (answer_poll asks t))
@@ -205,27 +216,27 @@ rnr_gives : (n : ℕ) (asks answers : Bool) (t : Turn) → Gives t (hear_rnr n a
 rnr_gives n asks answers t =
     let u = changing (acknowledged n) (setting (with_busy true) t) in
     let v = recover answers (answer_poll asks u) in
-    gives_on t v _ (gives_on t u v (busy_gives true n t) (answered_gives asks answers u)) (gives_none v _ refl refl)
+    gives_on t v _ (gives_on t u v (busy_gives true n t) (answered_gives asks answers u)) (gives_none v _ refl refl refl)
 
 rej_gives : (n : ℕ) (asks answers : Bool) (t : Turn) → Gives t (hear_rej n asks answers t)
 rej_gives n asks answers t =
     let u = changing (acknowledged n) (setting (with_busy false) t) in
     let v = changing gone_back u in
-    gives_on t v _ (gives_on t u v (busy_gives false n t) (gives_none u v refl refl)) (answered_gives asks answers v)
+    gives_on t v _ (gives_on t u v (busy_gives false n t) (gives_none u v refl refl refl)) (answered_gives asks answers v)
 
-awaiting_state : (c : Control) → (awaiting c).state ≡ c.state
-awaiting_state c = go (is_none c.t1)
+pub awaiting_mode : (c : Control) → KeepsMode c (awaiting c)
+awaiting_mode c = go (is_none c.t1)
   where
-    go : (b : Bool) → (cond b (record c { t1 = Some t1_ticks; t3 = None }) c).state ≡ c.state
-    go true = refl
-    go false = refl
+    go : (b : Bool) → KeepsMode c (cond b (record c { t1 = Some t1_ticks; t3 = None }) c)
+    go true = (refl, refl)
+    go false = (refl, refl)
 
 again_gives : (n : ℕ) (t : Turn) → Gives t (send_again n t)
-again_gives n t = either (nat_lt n t.now.outgoing.top) t _ t (gives_none t _ refl refl) (gives_same t)
+again_gives n t = either (nat_lt n t.now.outgoing.top) t _ t (gives_none t _ refl refl refl) (gives_same t)
 
 by_srej_gives : (n : ℕ) (flag : Bool) (t : Turn) → Gives t (changing (acknowledged_by_srej n flag) t)
 by_srej_gives n true t = acknowledged_gives n t
-by_srej_gives n false t = gives_none t _ refl refl
+by_srej_gives n false t = gives_none t _ refl refl refl
 
 srej_gives : (n : ℕ) (flag asks answers : Bool) (t : Turn) → Gives t (hear_srej n flag asks answers t)
 srej_gives n flag asks answers t =
@@ -233,10 +244,10 @@ srej_gives n flag asks answers t =
     let v = changing (acknowledged_by_srej n flag) u in
     let x = send_again n v in
     gives_on t x _
-    (gives_on t v x (gives_on t u v (gives_none t u refl refl) (by_srej_gives n flag u)) (again_gives n v))
+    (gives_on t v x (gives_on t u v (gives_none t u refl refl refl) (by_srej_gives n flag u)) (again_gives n v))
     (answered_gives asks answers x)
 
-supervisory_gives : (which : S) (n : ℕ) (command flag : Bool) (t : Turn)
+pub supervisory_gives : (which : S) (n : ℕ) (command flag : Bool) (t : Turn)
     → Gives t (hear_supervisory which n command flag t)
 supervisory_gives Rr n command flag t = rr_gives n (command && flag) (not command && flag) t
 supervisory_gives Rnr n command flag t = rnr_gives n (command && flag) (not command && flag) t
@@ -245,17 +256,17 @@ supervisory_gives Srej n command flag t = srej_gives n flag (command && flag) (n
 
 -- packets are given
 give_gives : (packets : List Packet) (t : Turn) → Gives t (give packets t)
-give_gives packets t = record { packets = packets; told = refl; state = refl }
+give_gives packets t = record { packets = packets; told = refl; state = refl; quit = refl }
 
 in_sequence_gives : (flag : Bool) (packet : Packet) (t : Turn) → Gives t (take_in_sequence flag packet t)
 in_sequence_gives flag packet t =
     let u = give (packet ∷ []) t in
     let v = setting owing (setting (with_rej false) u) in
-    gives_on t v _ (gives_on t u v (give_gives (packet ∷ []) t) (gives_none u v refl refl)) (answer_gives flag v)
+    gives_on t v _ (gives_on t u v (give_gives (packet ∷ []) t) (gives_none u v refl refl refl)) (answer_gives flag v)
 
 out_of_sequence_gives : (flag : Bool) (t : Turn) → Gives t (refuse_out_of_sequence flag t)
 out_of_sequence_gives flag t = either t.now.control.rej t (answer_poll flag t) (reject flag t) (answer_gives flag t)
-    (gives_none t _ refl refl)
+    (gives_none t _ refl refl refl)
 
 by_rej_gives : (ns : ℕ) (flag : Bool) (packet : Packet) (t : Turn) → Gives t (hear_info_by_rej ns flag packet t)
 by_rej_gives ns flag packet t =
@@ -266,13 +277,13 @@ selected_gives : (ahead : ℕ) (packet : Packet) (t : Turn) → Gives t (take_se
 selected_gives ahead packet t =
     either (ahead == 0) t (give (run_with packet t.now) t) _ (give_gives (run_with packet t.now) t)
     (either (nat_lt ahead t.now.incoming.window && not (is_full t.now.incoming.places ahead)) t _ t
-    (gives_none t _ refl refl) (gives_same t))
+    (gives_none t _ refl refl refl) (gives_same t))
 
 by_selective_gives : (ns : ℕ) (flag : Bool) (packet : Packet) (t : Turn) → Gives t (hear_info_by_srej ns flag packet t)
 by_selective_gives ns flag packet t =
     let u = take_selected (ahead_of_vr ns t.now) packet t in
     let v = setting owing u in
-    gives_on t v _ (gives_on t u v (selected_gives (ahead_of_vr ns t.now) packet t) (gives_none u v refl refl))
+    gives_on t v _ (gives_on t u v (selected_gives (ahead_of_vr ns t.now) packet t) (gives_none u v refl refl refl))
     (answer_gives flag v)
 
 info_by_gives : (mode : Mode) (ns : ℕ) (flag : Bool) (packet : Packet) (t : Turn)
@@ -280,7 +291,7 @@ info_by_gives : (mode : Mode) (ns : ℕ) (flag : Bool) (packet : Packet) (t : Tu
 info_by_gives RejMode ns flag packet t = by_rej_gives ns flag packet t
 info_by_gives SrejMode ns flag packet t = by_selective_gives ns flag packet t
 
-info_gives : (n ns : ℕ) (flag : Bool) (packet : Packet) (t : Turn) → Gives t (hear_info n ns flag packet t)
+pub info_gives : (n ns : ℕ) (flag : Bool) (packet : Packet) (t : Turn) → Gives t (hear_info n ns flag packet t)
 info_gives n ns flag packet t =
     let u = changing (acknowledged n) t in
     gives_on t u _ (acknowledged_gives n t) (info_by_gives t.now.incoming.mode ns flag packet u)
@@ -435,7 +446,7 @@ tick_tells Releasing waiting t = ticks_tell waiting t
 flush_tells : (t : Turn) → Tells t (flush t)
 flush_tells t =
     one_of (length (to_send t.now) == 0) t t (send_packets (to_send t.now) t) (tells_none t t refl refl)
-    (tells_none t _ refl (awaiting_state (nothing_due t.now.control)))
+    (tells_none t _ refl (awaiting_mode (nothing_due t.now.control)).0)
 
 release_tells : (t : Turn) → Tells t (release t)
 release_tells t = record {
@@ -457,7 +468,7 @@ settle_tells Releasing t = tells_none t _ refl refl
 
 -- ---- each event
 
-idle_is : (state : LinkState) (fault : LinkFault) → is_some (cond (has_link state) (Some fault) None) ≡ false
+pub idle_is : (state : LinkState) (fault : LinkFault) → is_some (cond (has_link state) (Some fault) None) ≡ false
     → state ≡ Idle
 idle_is Idle fault is = refl
 idle_is Calling fault is = absurd (cc)

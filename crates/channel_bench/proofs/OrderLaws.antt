@@ -1,46 +1,38 @@
 -- The law on a bench, from the law on two stations of which one alone calls: what the ends of the link got in order,
 -- the host programs got in order.
-use Rattle.std.proofs.Common.{◌≡◌, List, [], ◌∷◌, map, refl, sym, ap, ◌∙◌, subst, arith}
-use Rattle.std.proofs.lemmas.List.Elements.{All-from_recursion, recursion_from_All}
+use Rattle.std.proofs.Common.{◌≡◌, List, [], ◌∷◌, map, refl, sym, ap, ◌∙◌, subst}
+use Rattle.std.proofs.lemmas.List.Elements.{All-from_recursion}
 use Rattle.link_world.specs.declared.end.End.TheVariants.{A, B}
 use Rattle.link_world.specs.Origin.{GotInOrder as PacketsInOrder}
 use Rattle.link_world.specs.Recorded.{RecordedEnd}
 use Rattle.link_world.specs.SetUps.{SetUp as LinkSetUp}
-use Rattle.link_world.specs.Windows.{WindowsFit}
 use Rattle.link_world.proofs.law.ChangesLaw.{changes_law_holds}
 use Rattle.channel_bench.specs.declared.report.SetUp.{SetUp}
 use Rattle.channel_bench.specs.declared.words.BenchWords.{BenchWords}
-use Rattle.channel_bench.specs.BenchLaw.{BenchLaw, NoAskDropped}
+use Rattle.channel_bench.specs.BenchLaw.{BenchLaw, IsFollowed, NoAskDropped, ProgramsFollow}
 use Rattle.channel_bench.specs.BenchOrder.{IsNoted, set_up_of, stations_of, steps_of_run, the_calls}
-use Rattle.channel_bench.specs.BenchState.{BenchState, config_of, params_of}
-use Rattle.channel_bench.specs.CallerLaw.{BAsksNothing}
+use Rattle.channel_bench.specs.BenchState.{BenchState, config_of}
 use Rattle.channel_bench.specs.HostProgram.{ProgramState, set_ups_of}
 use Rattle.channel_bench.specs.KeepsOrder.{GotInOrder, KeepsOrder}
-use Rattle.channel_bench.specs.JointRun.{Step}
-use Rattle.channel_bench.specs.LinkOfCalls.{link_at_end, world_of}
-use Rattle.channel_bench.specs.LinkSteps.{steps_of}
-use Rattle.channel_bench.specs.MatchedLaw.{DropsNoAsk, IsEventOfCaller, OnlyACalls, pairs_in}
+use Rattle.channel_bench.specs.InFlight.{AreMatched, nothing_sent}
+use Rattle.channel_bench.specs.Report.{Report}
+use Rattle.channel_bench.specs.BenchRun.{IsOver}
+use Rattle.channel_bench.specs.LinkOfCalls.{world_of}
+use Rattle.channel_bench.specs.MatchedLaw.{pairs_in}
 use Rattle.channel_bench.specs.SetUpsSeen.{Seen, as_seen, set_ups_seen}
 use Rattle.channel_bench.specs.Words.{seed_at}
-use Rattle.channel_bench.proofs.CallerLaws.{events_by}
 use Rattle.channel_bench.proofs.CoreRun.{core_kept}
+use Rattle.channel_bench.proofs.LinkNow.{GivenUp, links_of, only_a_calls, windows}
 use Rattle.channel_bench.proofs.GotOctets.{octets_in_order, seen_as}
 use Rattle.channel_bench.proofs.MatchedLaws.{matched_law_holds}
 use Rattle.channel_bench.proofs.MatchedOrder.{matched_in_order_holds}
 use Rattle.channel_bench.proofs.NotedRun.{noted_kept}
 use Rattle.channel_bench.proofs.ProgramsAsk.{AskLittle, asks_kept}
 use Rattle.channel_bench.proofs.RunOfParts.{ticks_keep}
+use Rattle.channel_bench.proofs.RunSees.{run_sees}
+use Rattle.channel_bench.proofs.StepSees.{both_ends}
 use Rattle.channel_bench.proofs.TimedRun.{run_in_time}
 use Rattle.channel_bench.proofs.SeenLemmas.{set_ups_law_holds}
-
--- the windows of both stations fit
-windows : (w : BenchWords) → WindowsFit (params_of w) (params_of w)
-windows w = record {
-  of_a = ((omega arith, omega arith), (omega arith, omega arith));
-  of_b = ((omega arith, omega arith), (omega arith, omega arith));
-  halves = λ modes.
-      (record { narrow = omega arith; wide = omega arith }, record { narrow = omega arith; wide = omega arith });
-}
 
 -- the set-ups of an end, as its host program saw them
 both_maps : (set_ups : List LinkSetUp) → map set_up_of (map as_seen set_ups) ≡ map seen_as set_ups
@@ -59,20 +51,28 @@ order_of near far ours theirs order same_ours same_theirs =
     subst (λ qs. GotInOrder qs ours) same_theirs
     (subst (GotInOrder (map seen_as far.set_ups)) same_ours (octets_in_order near far order))
 
--- the events of the link that a caller may have
-only_a_calls : (steps : List Step) → BAsksNothing steps → NoAskDropped the_calls steps → OnlyACalls the_calls steps
-only_a_calls [] asks joined = tt
-only_a_calls (step ∷ steps) asks joined =
-    let e = step.station in
-    let made = steps_of (link_at_end the_calls e) step in (
-      All-from_recursion (IsEventOfCaller e) made
-          (events_by e the_calls step refl asks.0
-          (recursion_from_All DropsNoAsk made joined.0)),
-      only_a_calls steps asks.1 joined.1,
-    )
+-- the host programs saw the set-ups of the link
+followed :
+    (w : BenchWords) (report : Report) (over : IsOver w report) → AreMatched over.bench.common.moments nothing_sent
+    → NoAskDropped the_calls (steps_of_run over.bench) → IsFollowed over.bench
+followed w report over matched dropped =
+    let bench = over.bench in
+    let moments = bench.common.moments in
+    let sees = run_sees w over.count bench over.ticks over.no_trouble in
+    let a = sees.sees_a (record { matched = matched; dropped = dropped }) in
+    let b = sees.sees_b (record { matched = matched; dropped = dropped }) in
+    record {
+      given = λ e. All-from_recursion GivenUp (links_of e moments) (both_ends GivenUp A moments a.given b.given e);
+      seen_a = a.sees.set_ups;
+      seen_b = b.sees.set_ups;
+    }
+
+pub programs_follow_holds : ProgramsFollow
+programs_follow_holds w report over dropped =
+    followed w report over (run_in_time w over.count over.bench over.ticks over.no_trouble).both.matched dropped
 
 pub bench_law_holds : BenchLaw
-bench_law_holds w report over h =
+bench_law_holds w report over dropped =
     let bench = over.bench in
     let moments = bench.common.moments in
     let steps = steps_of_run bench in
@@ -85,10 +85,11 @@ bench_law_holds w report over h =
     over.ticks over.no_trouble in
     let matched = (run_in_time w over.count bench over.ticks over.no_trouble).both.matched in
     let order = matched_in_order_holds moments matched in
+    let h = followed w report over matched dropped in
     let kept =
     matched_law_holds changes_law_holds config config (seed_at w A)
     (seed_at w B) moments noted.run matched noted.quiet (windows w)
-    the_calls (only_a_calls steps little.asks h.dropped) in
+    the_calls (only_a_calls steps little.asks dropped) in
     let seen = set_ups_law_holds config config (seed_at w A)
     (seed_at w B) steps pairs noted.run order.0 order.1 the_calls h.given in
     let world = world_of the_calls pairs config.params config.params steps in

@@ -1,6 +1,6 @@
 -- What a step sends to host programs, act by act: C and D are told by events of links alone.
-use Rattle.std.proofs.Common.{◌≡◌, ℕ, Bool, true, false, ◌==◌, ◌&&◌, ◌||◌, nat_lt, nat_le, List, [], ◌∷◌, ◌++◌, length, map, drop, cond, if◌then◌else◌, Option, Some, None, is_some, refl, sym, ap, ◌∙◌, subst, inl, inr}
-use Rattle.std.specs.Prelude.{All, MatchBool, filter, flat_map}
+use Rattle.std.proofs.Common.{◌≡◌, ℕ, Bool, true, false, ◌==◌, ◌||◌, nat_lt, nat_le, List, [], ◌∷◌, ◌++◌, length, map, drop, cond, if◌then◌else◌, Option, Some, None, is_some, refl, sym, ap, ◌∙◌, subst, inl, inr}
+use Rattle.std.specs.Prelude.{MatchBool, filter, flat_map}
 use Rattle.std.specs.List.{range_with_len, AllByRecursion as Each}
 use Rattle.std.proofs.lemmas.Bool.{and_left, and_right, eqb-true, false_from_ne_true}
 use Rattle.std.proofs.lemmas.List.{append-nil, append_assoc}
@@ -43,13 +43,13 @@ use Rattle.station.specs.Monitoring.{monitor_message, monitor_pieces, monitoring
 use Rattle.station.specs.NewLinks.{making, no_layer_3}
 use Rattle.station.specs.Registrations.{registrar, may_register, is_number}
 use Rattle.station.specs.Routes.{Route, route_in, repeaters_in, behind_repeaters, path_along}
-use Rattle.station.specs.Ticks.{ticking, ticking_at, ticking_links, waits}
-use Rattle.station.specs.Turn.{Out, Turn, Act, begin, in_order, changing, closing, queueing, entering, dropping, capacity}
-use Rattle.channel_bench.specs.JointRun.{Input, IsTurn, Step}
+use Rattle.station.specs.Ticks.{ticking_at, ticking_links, waits}
+use Rattle.station.specs.Turn.{Out, Turn, Act, begin, in_order, changing, closing, queueing}
+use Rattle.channel_bench.specs.JointRun.{Input, IsTurn}
 use Rattle.channel_bench.specs.JointRun.Input.{FromHost, OffAir, OfClock}
-use Rattle.channel_bench.specs.LinkSteps.{LinkStep, link_step, steps_for, steps_at, steps_along, ticks_at, tick_steps, given_up, gives_up_at, leaving_steps, made_steps, call_steps, sends_at, data_steps, disconnect_steps, else_steps, answer_steps, message_steps, ending_steps, octet_steps_by, octet_steps, host_steps, hears_at, new_steps, anew_steps, reading_steps, key_steps, path_steps, by_path_steps, heard_steps, turn_steps}
+use Rattle.channel_bench.specs.LinkSteps.{LinkStep, steps_for, steps_at, steps_along, ticks_at, tick_steps, given_up, gives_up_at, leaving_steps, made_steps, call_steps, sends_at, data_steps, disconnect_steps, else_steps, answer_steps, message_steps, ending_steps, octet_steps_by, octet_steps, host_steps, hears_at, new_steps, anew_steps, reading_steps, key_steps, path_steps, by_path_steps, heard_steps, turn_steps}
 use Rattle.channel_bench.specs.Owners.{pieces_to}
-use Rattle.channel_bench.specs.ProgramsTold.{kind_of, is_of_link, of_links, told_by, SpeaksAgwpe, ProgramsAreTold}
+use Rattle.channel_bench.specs.ProgramsTold.{kind_of, is_of_link, of_links, told_by, ProgramsAreTold}
 use Rattle.channel_bench.proofs.OwnerLemmas.{owners_are_told, queued_pieces}
 
 -- ---- acts one after another

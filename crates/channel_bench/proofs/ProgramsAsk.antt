@@ -60,6 +60,8 @@ kiss_joins = record {
   program = λ same. absurd (omega arith);
   whole = λ agw. absurd (cc);
   setting = λ kiss. new_setting;
+  raw = refl;
+  monitors = refl;
 }
 
 program_joins : IsHosts (new_connection program_id Agw)
@@ -68,6 +70,8 @@ program_joins = record {
   program = λ same. refl;
   whole = λ agw. new_stream;
   setting = λ kiss. absurd (cc);
+  raw = refl;
+  monitors = refl;
 }
 
 said_hosts :

@@ -19,14 +19,20 @@ NoAskDropped calls [] = Unit {0}
 NoAskDropped calls (step ∷ steps) =
     All DropsNoAsk (steps_of (link_at_end calls step.station) step) × NoAskDropped calls steps
 
--- What the law still asks of a run that is over: no SABM, SABME or DISC found a transmit queue full, and the host programs gave
--- packets only while the link was up, and saw its set-ups.
+-- The host programs gave packets only while the link was up, and saw its set-ups.
 pub record IsFollowed (bench : BenchState) : Type 0 where
-  pub dropped : NoAskDropped the_calls (steps_of_run bench)
   pub given : AllGivenWhileUp the_calls (steps_of_run bench)
   pub seen_a : SawSetUps A bench
   pub seen_b : SawSetUps B bench
 
+-- So it is in each run that is over in which no SABM, SABME or DISC found a transmit queue full.
+abbrev pub ProgramsFollow : Type 0
+ProgramsFollow =
+    (w : BenchWords) (report : Report) (over : IsOver w report) → NoAskDropped the_calls (steps_of_run over.bench)
+    → IsFollowed over.bench
+
 -- Then the host programs got in order what was given.
 abbrev pub BenchLaw : Type 0
-BenchLaw = (w : BenchWords) (report : Report) (over : IsOver w report) → IsFollowed over.bench → KeepsOrder report
+BenchLaw =
+    (w : BenchWords) (report : Report) (over : IsOver w report) → NoAskDropped the_calls (steps_of_run over.bench)
+    → KeepsOrder report

@@ -20,6 +20,7 @@ pub mod BenchRun
 pub mod HeldBench
 pub mod ProgramsTold
 pub mod LinksTell
+pub mod RunsTell
 pub mod KeepsOrder
 pub mod BenchOrder
 pub mod BenchLaw

@@ -1,12 +1,13 @@
 //! Laws on two stations. A law is the contract of a function that does nothing.
 ghost use Rattle.channel_bench.specs.StationsLaw.{FollowingLaw, StationsLaw};
-ghost use Rattle.channel_bench.specs.BenchLaw.{BenchLaw};
+ghost use Rattle.channel_bench.specs.BenchLaw.{BenchLaw, ProgramsFollow};
 ghost use Rattle.channel_bench.specs.CallerLaw.{CallerLaw};
 ghost use Rattle.channel_bench.specs.HostsAsk.{HostsAskNothing};
 ghost use Rattle.channel_bench.specs.LinksTell.{LinksTellInOne};
 ghost use Rattle.channel_bench.specs.MatchedLaw.{MatchedInOrder, MatchedLaw};
 ghost use Rattle.channel_bench.specs.Owners.{OwnersAreTold};
 ghost use Rattle.channel_bench.specs.ProgramsTold.{ProgramsAreTold};
+ghost use Rattle.channel_bench.specs.RunsTell.{RunsTellInOne};
 ghost use Rattle.channel_bench.specs.SetUpsSeen.{SetUpsLaw};
 
 /// The law on any two stations. A joint run is a list of steps, each of one of two stations that began new: what comes from
@@ -77,8 +78,7 @@ pub fn programs_are_told()
 
 /// The law on a bench. In a run that is over, at each side each set-up that got octets has an origin, a set-up of the other
 /// side; what was got is a first part of what was given in it; and origins rise strictly from set-up to set-up. It asks of the
-/// run that no SABM, SABME or DISC found a transmit queue full, and that the host programs gave only while the link was up and
-/// saw its set-ups.
+/// run that no SABM, SABME or DISC found a transmit queue full.
 pub fn bench_law()
     ensures { BenchLaw }
 {}
@@ -87,4 +87,16 @@ pub fn bench_law()
 /// link that is up runs, and one that runs is of a link that is up or is being released. Data is told of only while one runs.
 pub fn links_tell_in_one()
     ensures { LinksTellInOne }
+{}
+
+/// What the link of two calls tells at a station in a joint run that is heard in order: data is told of only while a set-up
+/// runs, the set-up of a link that is up runs, and one that runs is of a link that is up or is being released.
+pub fn runs_tell_in_one()
+    ensures { RunsTellInOne }
+{}
+
+/// In a run of the bench that is over, in which no SABM, SABME or DISC found a transmit queue full, the host programs gave only
+/// while the link was up, which took each packet, and saw the set-ups of the link, each with the octets of its packets.
+pub fn programs_follow()
+    ensures { ProgramsFollow }
 {}

@@ -1,0 +1,403 @@
+-- The messages of a host program of the bench, each as what it makes of its station and of what the program is sent.
+use Rattle.std.proofs.Common.{◌≡◌, ℕ, ◌==◌, nat_lt, Bool, true, false, List, [], ◌∷◌, ◌++◌, length, map, cond, if◌then◌else◌, Option, Some, None, refl, sym, ap, ◌∙◌, subst, arith}
+use Rattle.std.specs.Bool.{⊤}
+use Rattle.std.specs.Prelude.{MatchBool}
+use Rattle.std.specs.List.{AllByRecursion as Each}
+use Rattle.std.proofs.lemmas.List.{append-nil}
+use Rattle.std.proofs.lemmas.List.Elements.{filter-append}
+use Rattle.link_world.proofs.law.Each.{each_append}
+use Rattle.ax25_address.specs.Callsign.{Callsign}
+use Rattle.agwpe_port.specs.CallField.{call_field}
+use Rattle.agwpe_port.specs.Messages.{bad_length_in, spelling}
+use Rattle.agwpe_port.specs.declared.message.AgwMessage.{AgwMessage}
+use Rattle.agwpe_port.proofs.WrittenLemmas.{IsWritten}
+use Rattle.link_machine.specs.Event.Event.{Connect as LinkConnect, Send as LinkSend, Disconnect as LinkDisconnect}
+use Rattle.link_world.specs.declared.end.End.{End}
+use Rattle.link_world.specs.declared.end.End.TheVariants.{A, B}
+use Rattle.link_world.specs.World.{other}
+use Rattle.station.specs.declared.host_event.PortKind.{PortKind}
+use Rattle.station.specs.declared.host_event.PortKind.TheVariants.{Kiss, Agw}
+use Rattle.station.specs.declared.host_out.Piece.{Piece}
+use Rattle.station.specs.AgwKinds.{connect_kind, connect_via_kind, data_kind, disconnect_kind, register_kind}
+use Rattle.station.specs.AgwRequests.{AreAnswered, IsAnswered, IsCall, IsCallMade, called_pid, called_route, calls, data_pid, disconnecting as disconnecting_act, giving, giving_packet, may_call, own_key, packets_of, refused_reply, register_reply, registering, replying, with_registration}
+use Rattle.station.specs.CallFields.{call_in, call_of_text}
+use Rattle.station.specs.Connections.{Connection, connection_of, most_connections}
+use Rattle.station.specs.Host.{AreTaken, AreTakenBy, ending, joining, new_messages, taking, with_host}
+use Rattle.station.specs.HostMessages.{no_call}
+use Rattle.station.specs.Links.{link_at}
+use Rattle.station.specs.Monitoring.{monitor_pieces}
+use Rattle.station.specs.Registrations.{may_register, registered, registrar}
+use Rattle.station.specs.Routes.{Route, path_along, repeaters_in}
+use Rattle.station.specs.State.{StationState}
+use Rattle.station.specs.Ticks.{ticking_links}
+use Rattle.station.specs.Turn.{Out, Turn, begin, changing, closing}
+use Rattle.channel_bench.specs.BenchSteps.{program_id}
+use Rattle.channel_bench.specs.BenchTick.{kiss_id}
+use Rattle.channel_bench.specs.HostProgram.{call_at, full_duplex_octets, request, request_between}
+use Rattle.channel_bench.specs.JointRun.{IsTurn}
+use Rattle.channel_bench.specs.LinkSteps.{LinkStep, answer_steps, call_steps, data_steps, disconnect_steps, ending_steps, made_steps, message_steps, octet_steps, octet_steps_by, sends_at, turn_steps}
+use Rattle.channel_bench.proofs.CoreRun.{Occurs, Usual, input_of}
+use Rattle.channel_bench.proofs.CoreRun.Usual.{connects, disconnects, gives, hears, joins_kiss, joins_program, registers, sets_full, ticks}
+use Rattle.channel_bench.proofs.HostStreams.{none_bad, one_new}
+use Rattle.channel_bench.proofs.HostsStay.{HasHosts, IsHosts, IsSet, SameHosts, found, same_hosts, set_by}
+use Rattle.channel_bench.proofs.HostsStay.IsSet.{full, unheard}
+use Rattle.channel_bench.proofs.OwnLinks.{Cause, IsFromPartner, IsOwnRegistration, IsUnshown, OwnsAll, Says, calm_says, chosen, event_says, heard_says, made_says, messages_of, none_monitored, own_pieces, piece_to, same_says, says_along, ticks_say}
+use Rattle.channel_bench.proofs.OwnLinks.Cause.{connecting, disconnecting, nothing, others, sending}
+use Rattle.channel_bench.proofs.ProgramsAsk.{between_written, registers_written}
+use Rattle.channel_bench.proofs.TurnWalks.{ticks_kept}
+use Rattle.channel_bench.proofs.ValidCalls.{along_good, no_or_few, route_valid}
+
+-- ---- what a step is to the host program
+
+-- a reply to the program, and nothing else
+pub record Replied (kind : ℕ) (e : End) (t u : Turn) : Type 0 where
+  pub owns : OwnsAll e u.now
+  pub closed : u.out.closed ≡ t.out.closed
+  pub queued : u.out.queued ≡ t.out.queued
+  pub reply : AgwMessage
+  pub written : IsWritten reply
+  pub kind_is : reply.kind ≡ kind
+  pub pieces : own_pieces u.out.pieces ≡ own_pieces t.out.pieces ++ piece_to reply ∷ []
+
+-- The events of a link and what they tell; or a reply to X; or to C, if it may be refused; or a connection that joins.
+pub data Comes (c : Cause) (refusable : Type 0) (e : End) (t : Turn) (steps : List LinkStep) (u : Turn) : Type 0 where
+  by_link : Says c e t steps u → Comes c refusable e t steps u
+  replied : Replied register_kind e t u → steps ≡ [] → Comes c refusable e t steps u
+  refused : refusable → Replied disconnect_kind e t u → steps ≡ [] → Comes c refusable e t steps u
+  joined :
+      OwnsAll e u.now → own_pieces u.out.pieces ≡ own_pieces t.out.pieces → u.out.queued ≡ t.out.queued → steps ≡ []
+      → Comes c refusable e t steps u
+
+-- ---- what comes from the host program
+
+-- what octets do that are a message of the program
+pub said_go :
+    (e : End) (m : AgwMessage) (t : Turn) (R : List LinkStep → Turn → Type 0) → IsWritten m → HasHosts t.now
+    → (connection_of program_id t.now.connections ≡ None → R [] t)
+    → ((u : Turn) (h : IsAnswered program_id m (taking program_id (spelling m) t) u)
+    → R (answer_steps (chosen e) program_id m (calls m) (taking program_id (spelling m) t) u h) u)
+    → (u : Turn) (h : AreTaken (connection_of program_id t.now.connections) (spelling m) t u)
+    → R (octet_steps (chosen e) (connection_of program_id t.now.connections) (spelling m) t u h) u
+said_go e m t R written hosts none answered u h = go (connection_of program_id t.now.connections) refl h
+  where
+    Answers : ℕ → List AgwMessage → Type 0
+    Answers n ms =
+        (v : Turn) (k : AreAnswered n ms (taking n (spelling m) t) v)
+        → R (message_steps (chosen e) n ms (taking n (spelling m) t) v k) v
+
+    base : Answers program_id (m ∷ [])
+    base v k =
+        let steps = answer_steps (chosen e) program_id m (calls m) (taking program_id (spelling m) t) k.0 k.1 in
+        subst (R (steps ++ [])) (sym k.2) (subst (λ xs. R xs k.0) (sym (append-nil steps)) (answered k.0 k.1))
+
+    by_kind : (c : Connection) (kind : PortKind) → IsHosts c → c.id ≡ program_id → c.kind ≡ kind
+        → (k : AreTakenBy kind c (spelling m) t u) → R (octet_steps_by (chosen e) kind c (spelling m) t u k) u
+    by_kind c Kiss own id is k = let clash : Agw ≡ Kiss = sym (own.program id) ∙ is in absurd (cc)
+    by_kind c Agw own id is k =
+        let whole = own.whole is in
+        let all : Answers c.id (new_messages c.stream (spelling m)) =
+        subst (Answers c.id) (sym (one_new c.stream m written whole))
+        (subst (λ n. Answers n (m ∷ [])) (sym id) base) in
+        let len = bad_length_in (c.stream ++ spelling m) in
+        let same : len ≡ None = none_bad c.stream m written whole in
+        let steps = message_steps (chosen e) c.id (new_messages c.stream (spelling m)) (taking c.id (spelling m) t) k.0 k.1 in
+        let ends : u ≡ k.0 = k.2 ∙ ap (λ o. ending c.id o k.0) same in
+        let none_more : ending_steps (chosen e) c.id len k.0 ≡ [] = ap (λ o. ending_steps (chosen e) c.id o k.0) same in
+        subst (R (steps ++ ending_steps (chosen e) c.id len k.0)) (sym ends)
+        (subst (λ xs. R xs k.0) (sym (ap (λ xs. steps ++ xs) none_more ∙ append-nil steps)) (all k.0 k.1))
+
+    go : (place : Option Connection) → connection_of program_id t.now.connections ≡ place
+        → (k : AreTaken place (spelling m) t u) → R (octet_steps (chosen e) place (spelling m) t u k) u
+    go None is k = subst (R []) (sym k) (none is)
+    go (Some c) is k =
+        let at = found IsHosts program_id t.now.connections c hosts.connections is in
+        by_kind c c.kind at.0 at.1 refl k
+
+took_owns : (e : End) (m : AgwMessage) (t : Turn) → OwnsAll e t.now → OwnsAll e (taking program_id (spelling m) t).now
+took_owns e m t owns = record { links = owns.links; registered = owns.registered }
+
+-- octets that are taken give nothing by themselves
+took_says :
+    (c : Cause) (e : End) (m : AgwMessage) (t : Turn) (steps : List LinkStep) (u : Turn)
+    → Says c e (taking program_id (spelling m) t) steps u → Says c e t steps u
+took_says c e m t steps u h = record {
+  owns = h.owns;
+  closed = h.closed;
+  pieces = h.pieces;
+  more = h.more;
+  queued = h.queued;
+  own = h.own;
+  causes = h.causes;
+}
+
+reply_made :
+    (kind : ℕ) (e : End) (message : AgwMessage) (t u : Turn) → OwnsAll e u.now → u.out ≡ t.out → IsWritten message
+    → message.kind ≡ kind → Replied kind e t (replying program_id message u)
+reply_made kind e message t u owns same written is = record {
+  owns = record { links = owns.links; registered = owns.registered };
+  closed = ap (λ (o : Out). o.closed) same;
+  queued = ap (λ (o : Out). o.queued) same;
+  reply = message;
+  written = written;
+  kind_is = is;
+  pieces = own_more u.out.pieces ∙ ap (λ (o : Out). own_pieces o.pieces ++ piece_to message ∷ []) same;
+}
+  where
+    own_more : (pieces : List Piece) → own_pieces (pieces ++ piece_to message ∷ []) ≡ own_pieces pieces ++ piece_to message ∷ []
+    own_more pieces = filter-append (λ (p : Piece). p.id == program_id) pieces (piece_to message ∷ [])
+
+-- ---- X
+
+call_known : (e : End) → call_in (call_field (call_at e)) ≡ Some (call_at e)
+unfolding call_of_text
+call_known A = refl
+call_known B = refl
+
+register_written : (e : End) (done : Bool) → IsWritten (register_reply (call_field (call_at e)) done)
+unfolding call_of_text
+register_written A true = record { from = refl; to = refl; body = omega arith }
+register_written A false = record { from = refl; to = refl; body = omega arith }
+register_written B true = record { from = refl; to = refl; body = omega arith }
+register_written B false = record { from = refl; to = refl; body = omega arith }
+
+registered_owns : (e : End) (s : StationState) → OwnsAll e s → OwnsAll e (with_registration (call_at e) program_id s)
+registered_owns e s owns = record {
+  links = owns.links;
+  registered = go (registrar (call_at e) s.registrations);
+}
+  where
+    go : (o : Option ℕ) → Each (IsOwnRegistration e) (registered (call_at e) program_id o s.registrations)
+    go None = each_append (IsOwnRegistration e) s.registrations _ owns.registered (record { call = refl; id = refl }, tt)
+    go (Some id) = owns.registered
+
+registering_comes :
+    (c : Cause) (e : End) (t u : Turn) (call : Option Callsign) → call ≡ Some (call_at e) → OwnsAll e t.now → u.out ≡ t.out
+    → OwnsAll e u.now → Replied register_kind e t (registering program_id (call_field (call_at e)) call u)
+registering_comes c e t u None is owns same own = absurd (cc)
+registering_comes c e t u (Some call) is owns same own =
+    let here : call ≡ call_at e = cc in
+    subst (λ x. Replied register_kind e t (registering program_id (call_field (call_at e)) (Some x) u)) (sym here)
+    (go (may_register program_id (registrar (call_at e) u.now.registrations)))
+  where
+    go : (b : Bool) → Replied register_kind e t
+        (cond b (replying program_id (register_reply (call_field (call_at e)) true)
+        (changing (with_registration (call_at e) program_id) u))
+        (replying program_id (register_reply (call_field (call_at e)) false) u))
+    go true = reply_made register_kind e (register_reply (call_field (call_at e)) true) t
+        (changing (with_registration (call_at e) program_id) u) (registered_owns e u.now own) same
+        (register_written e true) refl
+    go false = reply_made register_kind e (register_reply (call_field (call_at e)) false) t u own same
+        (register_written e false) refl
+
+-- ---- C
+
+pub called : (e : End) → called_route (request_between connect_kind e [])
+    ≡ Some (let r : Route = record { local = call_at e; remote = call_at (other e); repeaters = [] } in r)
+unfolding call_of_text
+called A = refl
+called B = refl
+
+refusal_written : (e : End) → IsWritten (refused_reply (request_between connect_kind e []))
+unfolding call_of_text
+refusal_written A = record { from = refl; to = refl; body = omega arith }
+refusal_written B = record { from = refl; to = refl; body = omega arith }
+
+made_comes :
+    (e : End) (pid : ℕ) (m : AgwMessage) (route : Route) (may : Bool) (t took u : Turn)
+    → called_route m ≡ Some route → route.local ≡ call_at e → route.remote ≡ call_at (other e) → OwnsAll e took.now
+    → took.out ≡ t.out → IsWritten (refused_reply m)
+    → (h : MatchBool may (IsCallMade program_id pid route took u) (u ≡ replying program_id (refused_reply m) took))
+    → Comes connecting ⊤ e t (made_steps (chosen e) program_id pid m route may took u h) u
+made_comes e pid m route true t took u is local remote owns same written h =
+    let path = path_along route in
+    let valid = route_valid m.from m.to (if m.kind == connect_via_kind then repeaters_in m.body else Some [])
+    route (no_or_few (m.kind == connect_via_kind) m.body) is in
+    let made = made_says connecting e h.0 program_id pid route.local route.remote path LinkConnect took refl owns (record {
+      local = local;
+      remote = remote;
+      owner = refl;
+      path = along_good route valid;
+      source = local;
+      dest = remote;
+    }) in
+    let steps = made_steps (chosen e) program_id pid m route true took u h in
+    by_link (subst (Says connecting e t steps) (sym h.2) (record {
+      owns = made.owns;
+      closed = made.closed ∙ ap (λ (o : Out). o.closed) same;
+      pieces = made.pieces ∙ ap (λ (o : Out). own_pieces o.pieces ++ map piece_to (messages_of e steps)) same;
+      more = made.more;
+      queued = made.queued ∙ ap (λ (o : Out). o.queued ++ made.more) same;
+      own = made.own;
+      causes = made.causes;
+    }))
+made_comes e pid m route false t took u is local remote owns same written h =
+    refused tt (subst (Replied disconnect_kind e t) (sym h)
+    (reply_made disconnect_kind e (refused_reply m) t took owns same written refl)) refl
+
+call_comes :
+    (e : End) (m : AgwMessage) (route : Option Route) (t took u : Turn) → called_route m ≡ route
+    → route ≡ Some (let r : Route = record { local = call_at e; remote = call_at (other e); repeaters = [] } in r)
+    → OwnsAll e took.now → took.out ≡ t.out → IsWritten (refused_reply m)
+    → (h : IsCall program_id m route took u)
+    → Comes connecting ⊤ e t (call_steps (chosen e) program_id m route took u h) u
+call_comes e m None t took u is known owns same written h = absurd (cc)
+call_comes e m (Some route) t took u is known owns same written h =
+    let here : route ≡ (let r : Route = record { local = call_at e; remote = call_at (other e); repeaters = [] } in r) = cc in
+    made_comes e (called_pid m) m route (may_call program_id route took.now) t took u is
+    (ap (λ (r : Route). r.local) here) (ap (λ (r : Route). r.remote) here) owns same written h
+
+-- ---- D and d
+
+data_says :
+    (e : End) (m : AgwMessage) (key : Option ℕ) (t : Turn) → OwnsAll e t.now
+    → Says sending e t (data_steps (chosen e) m key t) (giving m key t)
+data_says e m None t owns = same_says sending e t owns
+data_says e m (Some key) t owns =
+    says_along sending e (giving_packet key) (sends_at (chosen e) key)
+    (λ packet u h. event_says sending e None key (LinkSend packet) u refl h)
+    (packets_of (data_pid m.pid (link_at key t.now.links)) m.body) t owns
+
+disconnect_says :
+    (e : End) (key : Option ℕ) (t : Turn) → OwnsAll e t.now
+    → Says disconnecting e t (disconnect_steps (chosen e) key t) (disconnecting_act key t)
+disconnect_says e None t owns = same_says disconnecting e t owns
+disconnect_says e (Some key) t owns = event_says disconnecting e None key LinkDisconnect t refl owns
+
+-- ---- each step that occurs
+
+abbrev pub cause_in : Usual → Cause
+cause_in joins_kiss = nothing
+cause_in sets_full = nothing
+cause_in joins_program = nothing
+cause_in registers = nothing
+cause_in connects = connecting
+cause_in (gives piece) = sending
+cause_in disconnects = disconnecting
+cause_in (hears octets) = others
+cause_in (ticks busy) = others
+
+-- C alone may be refused
+abbrev pub IsRefusable : Usual → Type 0
+IsRefusable joins_kiss = ⊥
+IsRefusable sets_full = ⊥
+IsRefusable joins_program = ⊥
+IsRefusable registers = ⊥
+IsRefusable connects = ⊤
+IsRefusable (gives piece) = ⊥
+IsRefusable disconnects = ⊥
+IsRefusable (hears octets) = ⊥
+IsRefusable (ticks busy) = ⊥
+
+-- what is heard comes from the other station
+abbrev pub IsHeardFrom : End → Usual → Type 0
+IsHeardFrom e joins_kiss = ⊤
+IsHeardFrom e sets_full = ⊤
+IsHeardFrom e joins_program = ⊤
+IsHeardFrom e registers = ⊤
+IsHeardFrom e connects = ⊤
+IsHeardFrom e (gives piece) = ⊤
+IsHeardFrom e disconnects = ⊤
+IsHeardFrom e (hears octets) = IsFromPartner e octets
+IsHeardFrom e (ticks busy) = ⊤
+
+joins_come :
+    (id : ℕ) (kind : PortKind) (e : End) (s : StationState) (after : Turn) → OwnsAll e s
+    → after ≡ joining id kind (begin s) → Comes nothing ⊥ e (begin s) [] after
+joins_come id kind e s after owns is =
+    subst (Comes nothing ⊥ e (begin s) []) (sym is) (go (nat_lt (length s.connections) most_connections))
+  where
+    go : (b : Bool) → Comes nothing ⊥ e (begin s) [] (cond b (changing (with_host id kind) (begin s)) (closing id (begin s)))
+    go true = joined (record { links = owns.links; registered = owns.registered }) refl refl refl
+    go false = joined owns refl refl refl
+
+-- KISS has no events of links
+kiss_steps :
+    (e : End) (s : StationState) (after : Turn) → HasHosts s
+    → (h : AreTaken (connection_of kiss_id s.connections) full_duplex_octets (begin s) after)
+    → octet_steps (chosen e) (connection_of kiss_id s.connections) full_duplex_octets (begin s) after h ≡ []
+kiss_steps e s after hosts h = go (connection_of kiss_id s.connections) refl h
+  where
+    by_kind : (c : Connection) (kind : PortKind) → IsHosts c → c.id ≡ kiss_id → c.kind ≡ kind
+        → (k : AreTakenBy kind c full_duplex_octets (begin s) after)
+        → octet_steps_by (chosen e) kind c full_duplex_octets (begin s) after k ≡ []
+    by_kind c Kiss own id is k = refl
+    by_kind c Agw own id is k = let clash : Kiss ≡ Agw = sym (own.kiss id) ∙ is in absurd (cc)
+
+    go : (place : Option Connection) → connection_of kiss_id s.connections ≡ place
+        → (k : AreTaken place full_duplex_octets (begin s) after)
+        → octet_steps (chosen e) place full_duplex_octets (begin s) after k ≡ []
+    go None is k = refl
+    go (Some c) is k =
+        let at = found IsHosts kiss_id s.connections c hosts.connections is in
+        by_kind c c.kind at.0 at.1 refl k
+
+set_comes : (e : End) (t u : Turn) → OwnsAll e t.now → IsSet t u → Comes nothing ⊥ e t [] u
+set_comes e t u owns (unheard same) = subst (Comes nothing ⊥ e t []) (sym same) (by_link (same_says nothing e t owns))
+set_comes e t u owns (full same) =
+    subst (Comes nothing ⊥ e t []) (sym same)
+    (by_link (calm_says nothing e t _ (record { links = owns.links; registered = owns.registered }) refl refl refl))
+
+pub usual_comes :
+    (e : End) (usual : Usual) (s : StationState) (after : Turn) → Occurs e usual → HasHosts s → OwnsAll e s
+    → Each IsUnshown s.connections → IsHeardFrom e usual → (turn : IsTurn (input_of e usual) (begin s) after)
+    → Comes (cause_in usual) (IsRefusable usual) e (begin s) (turn_steps (chosen e) (input_of e usual) (begin s) after turn)
+    after
+usual_comes e joins_kiss s after occurs hosts owns unshown from turn = joins_come kiss_id Kiss e s after owns turn
+usual_comes e sets_full s after occurs hosts owns unshown from turn =
+    subst (λ steps. Comes nothing ⊥ e (begin s) steps after) (sym (kiss_steps e s after hosts turn))
+    (set_comes e (begin s) after owns (set_by (begin s) after hosts turn))
+usual_comes e joins_program s after occurs hosts owns unshown from turn = joins_come program_id Agw e s after owns turn
+usual_comes e registers s after occurs hosts owns unshown from turn =
+    let field = call_field (call_at e) in
+    let m = request register_kind field no_call [] in
+    said_go e m (begin s) (λ steps u. Comes nothing ⊥ e (begin s) steps u) (registers_written e) hosts
+    (λ missing. by_link (same_says nothing e (begin s) owns))
+    (λ u h. replied (subst (Replied register_kind e (begin s)) (sym h)
+    (registering_comes nothing e (begin s) (taking program_id (spelling m) (begin s)) (call_in field) (call_known e) owns refl
+    (took_owns e m (begin s) owns))) refl) after turn
+usual_comes e connects s after occurs hosts owns unshown from turn =
+    let m = request_between connect_kind e [] in
+    said_go e m (begin s) (λ steps u. Comes connecting ⊤ e (begin s) steps u)
+    (between_written connect_kind e [] (omega arith)) hosts (λ missing. by_link (same_says connecting e (begin s) owns))
+    (λ u h. call_comes e m (called_route m) (begin s) (taking program_id (spelling m) (begin s)) u refl (called e)
+    (took_owns e m (begin s) owns) refl (refusal_written e) h) after turn
+usual_comes e (gives piece) s after occurs hosts owns unshown from turn =
+    let m = request_between data_kind e piece in
+    let took = taking program_id (spelling m) (begin s) in
+    said_go e m (begin s) (λ steps u. Comes sending ⊥ e (begin s) steps u)
+    (between_written data_kind e piece occurs) hosts (λ missing. by_link (same_says sending e (begin s) owns))
+    (λ u h. by_link (subst (Says sending e (begin s) (data_steps (chosen e) m (own_key program_id m took.now.links) took))
+    (sym h) (took_says sending e m (begin s) (data_steps (chosen e) m (own_key program_id m took.now.links) took)
+    (giving m (own_key program_id m took.now.links) took)
+    (data_says e m (own_key program_id m took.now.links) took (took_owns e m (begin s) owns))))) after turn
+usual_comes e disconnects s after occurs hosts owns unshown from turn =
+    let m = request_between disconnect_kind e [] in
+    let took = taking program_id (spelling m) (begin s) in
+    let key = own_key program_id m took.now.links in
+    said_go e m (begin s) (λ steps u. Comes disconnecting ⊥ e (begin s) steps u)
+    (between_written disconnect_kind e [] (omega arith)) hosts (λ missing. by_link (same_says disconnecting e (begin s) owns))
+    (λ u h. by_link (subst (Says disconnecting e (begin s) (disconnect_steps (chosen e) key took)) (sym h)
+    (took_says disconnecting e m (begin s) (disconnect_steps (chosen e) key took) (disconnecting_act key took)
+    (disconnect_says e key took (took_owns e m (begin s) owns))))) after turn
+usual_comes e (hears octets) s after occurs hosts owns unshown from turn =
+    by_link (heard_says others e octets (begin s) after refl hosts.digi owns unshown from turn)
+usual_comes e (ticks busy) s after occurs hosts owns unshown from turn =
+    let ticked = ticking_links (begin s) in
+    let h = ticks_say others e (begin s) refl owns in
+    let same = ticks_kept SameHosts same_hosts (begin s) in
+    let pieces = monitor_pieces true ticked.now.ticks turn.monitored ticked.now.connections in
+    let none : pieces ≡ [] =
+    none_monitored true ticked.now.ticks turn.monitored ticked.now.connections
+    (subst (Each IsUnshown) (sym same.connections) unshown) in
+    by_link (subst (Says others e (begin s) (turn_steps (chosen e) (input_of e (ticks busy)) (begin s) after turn))
+    (sym turn.effect) (record {
+      owns = record { links = h.owns.links; registered = h.owns.registered };
+      closed = h.closed;
+      pieces = filter-append (λ (p : Piece). p.id == program_id) ticked.out.pieces pieces
+          ∙ ap (λ ps. own_pieces ticked.out.pieces ++ own_pieces ps) none
+          ∙ append-nil (own_pieces ticked.out.pieces) ∙ h.pieces;
+      more = h.more;
+      queued = h.queued;
+      own = h.own;
+      causes = h.causes;
+    }))
