@@ -202,12 +202,15 @@ class Storms:
         self.until(f"answer to {kind}", holds)
         return answers[-1]
 
-    def calm(self):
-        """The sane hosts must be served."""
-        # the hosts that said something of the channel are overruled
+    def settle(self):
+        """Overrules the hosts that said something of the channel."""
         for value, command in [(50, 1), (255, 2), (0, 3), (2, 4), (1, 5)]:
             self.kiss_a.send(bytes([value]), command)
             self.kiss_b.send(bytes([value]), command)
+
+    def calm(self):
+        """The sane hosts must be served."""
+        self.settle()
         for host, other in [(self.agw_a, "SANEB"), (self.agw_b, "SANEA")]:
             if self.answered(host, "R") != b"\1\0\0\0\0\0\0\0":
                 raise RuntimeError("a wrong version")
@@ -218,6 +221,10 @@ class Storms:
             if self.answered(host, "X") != b"\1":
                 raise RuntimeError("a call of nobody is not registered")
             self.until("an empty queue", lambda: self.answered(host, "y") == bytes(4))
+        # what a host had said before a full queue held it back is heard when the queue is empty
+        self.settle()
+        for _ in range(20):
+            self.step()
         self.session()
         self.calms += 1
 

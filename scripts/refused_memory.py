@@ -11,6 +11,7 @@ each time, for so many seconds. It prints a line for each command, and ends with
 import argparse
 import random
 import select
+import subprocess
 import sys
 import time
 
@@ -130,6 +131,17 @@ class Session:
         return got == [texts[1], texts[0]]
 
 
+def is_stuck(station):
+    """Whether a station does not end after its sound has; then it is ended."""
+    station.program.stdin.close()
+    try:
+        station.program.wait(4 * PATIENCE)
+    except subprocess.TimeoutExpired:
+        station.program.kill()
+        return True
+    return False
+
+
 def session(refusing, draws, call, tally):
     """A session in which an allocation is refused. Its fault, and whether memory ended it."""
     it = Session(refusing, draws, call, tally)
@@ -141,6 +153,9 @@ def session(refusing, draws, call, tally):
     except AssertionError as fault:
         it.a.end(), it.b.end()
         return str(fault), False
+    if is_stuck(it.a):
+        it.b.end()
+        return "it does not end", False
     status, _, report = it.a.end()
     other, _, _ = it.b.end()
     strange = [line for line in report.splitlines() if not line.startswith(("rx ", "tx ", "closed "))]
