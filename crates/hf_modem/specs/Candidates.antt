@@ -1,6 +1,6 @@
--- The candidates of samples: every frame that the slicer at one of the 32 offsets of a bit hears, with where it ends. Ends
--- are told in quarters of a window of eight samples at 1200 bits a second: four samples each, rounded down. So slicers that
--- hear one frame do so within 15 of these, as at 1200 bits a second.
+-- The candidates of samples: every frame that the slicer at one of the 32 offsets of a bit hears, with where it ends. A bit
+-- has four times the samples of one at 1200 bits a second, so an end counts fours of samples, rounded down: then slicers
+-- that hear one frame do so at ends within 15, as at 1200 bits a second.
 use Rattle.std.specs.Prelude.{◌≡◌, ℕ, ◌+◌, ◌*◌, ◌/◌, ◌%◌, ◌<◌, ℤ, List, length, take}
 use Rattle.std.specs.List.{All, AllPairs, Contains}
 use Rattle.hdlc_framer.specs.Frames.{EndsFrame}

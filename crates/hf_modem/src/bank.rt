@@ -84,7 +84,8 @@ impl Bank {
     }
 }
 
-/// Gives the lane of an offset the tone of its next window, which ends at sample `at`. Tells the frame that ends with it.
+/// Gives the lane of an offset the tone of its next window, which ends at sample `at`. Tells the frame that ends with
+/// it.
 fn hear(
     alloc: Global,
     lane: &mut Lane,

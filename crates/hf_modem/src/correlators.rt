@@ -1,9 +1,9 @@
-//! How a correlator decides between 1600 and 1800 Hz. Each tone has a sine and a cosine of its own frequency. The products
-//! of the samples with the sine and with the cosine are added up over a bit; the two sums are the sides of a right triangle
-//! whose hypotenuse is the tone's amplitude in the window, whatever phase the tone began at. So the sum of their squares is
-//! the tone's energy. In a third of a hundredth of a second mark goes through 5 1/3 cycles and space through 6: the tones are
-//! so near that a window of one has a sixth of its energy in the other. One cycle of the sine has 48 steps; a mark sample
-//! advances 8 of them, a space sample 9, and a cosine is the sine 12 steps on.
+//! How a correlator decides between 1600 and 1800 Hz. Each tone has a sine and a cosine of its own frequency. The
+//! products of the samples with the sine and with the cosine are added up over a bit; the two sums are the sides of a
+//! right triangle whose hypotenuse is the tone's amplitude in the window, whatever phase the tone began at. So the sum
+//! of their squares is the tone's energy. In a bit, 1/300 of a second, mark goes through 5 1/3 cycles and space through
+//! 6: the tones are so near that a window of one has a sixth of its energy in the other. One cycle of the sine has 48
+//! steps; a mark sample advances 8 of them, a space sample 9, and a cosine is the sine 12 steps on.
 
 ghost use Rattle.std.specs.Prelude.{◌≡◌, ◌≤◌, ◌*ℤ◌, [], ◌∷◌, All, sum_by, unsigned_abs};
 ghost use Rattle.tone_table.specs.declared.tone.Tone.TheVariants.{Mark, Space};

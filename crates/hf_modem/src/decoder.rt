@@ -11,9 +11,9 @@ use std::alloc::Global;
 use std::marker::Model;
 use tnc_base::OutOfMemory;
 
-/// `new`, then `block` for each block of samples, then `finish`. An item's end is a quarter of the place of the first sample
-/// after it, rounded down. The decoder keeps what can still be given or repeated, and no samples but the last 32. After want
-/// of memory it is spent: each later `block` or `finish` wants memory, too.
+/// `new`, then `block` for each block of samples, then `finish`. An item's end is a quarter of the place of the first
+/// sample after it, rounded down. The decoder keeps what can still be given or repeated, and no samples but the last
+/// 32. After want of memory it is spent: each later `block` or `finish` wants memory, too.
 #[derive(Drop)]
 pub struct HfDecoder {
     alloc: Global,
@@ -52,8 +52,8 @@ impl HfDecoder {
         })
     }
 
-    /// Takes a block of samples, and gives the items not given before whose end is below a quarter of the number of samples so
-    /// far, rounded down.
+    /// Takes a block of samples, and gives the items not given before whose end is below a quarter of the number of
+    /// samples so far, rounded down.
     pub fn block(&mut self, block: &[i16]) -> Result<Vec<Candidate>, OutOfMemory>
         requires few { length block.now ≤ 2048 }
         requires room { self.old.position + length block.now < 2 ^ 48 }

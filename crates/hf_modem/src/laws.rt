@@ -15,10 +15,12 @@ pub fn some_list_of_hf_candidates()
     ensures { (x : List ℤ) → (items : List Candidate) × AreCandidates x items }
 {}
 
-/// The items of samples whose end is below a number, and the next ones, which more samples gave, are those of all samples.
+/// The items of samples whose end is below a number, and the next ones, which more samples gave, are those of all
+/// samples.
 pub fn hf_items_join()
-    ensures { (from middle to : ℕ) (x y : List ℤ) (items more : List Candidate) → from ≤ middle → middle ≤ to → middle ≤ length x / 4
-        → AreMergedBetween from middle x items → AreMergedBetween middle to (x ++ y) more → AreMergedBetween from to (x ++ y) (items ++ more) }
+    ensures { (from middle to : ℕ) (x y : List ℤ) (items more : List Candidate) → from ≤ middle → middle ≤ to
+        → middle ≤ length x / 4 → AreMergedBetween from middle x items → AreMergedBetween middle to (x ++ y) more
+        → AreMergedBetween from to (x ++ y) (items ++ more) }
 {}
 
 /// The items whose end is at most a quarter of the number of samples are all.

@@ -1,9 +1,9 @@
-//! A modem for packet radio on short wave: 300 bits a second, mark at 1600 Hz and space at 1800 Hz, 9600 samples a second
-//! and so 32 samples a bit.
+//! A modem for packet radio on short wave: 300 bits a second, mark at 1600 Hz and space at 1800 Hz, 9600 samples a
+//! second and so 32 samples a bit.
 //!
-//! `hf_transmission` makes the samples of frames between flags (AX.25 2.2 section 3). A receiver does not know where a bit
-//! begins, so an [`HfDecoder`] hears the bits at each of the 32 offsets of a bit, and gives each frame once. What is
-//! promised: each sample sent, each tone decided and each frame given is exactly the one of the definitions over all
+//! `hf_transmission` makes the samples of frames between flags (AX.25 2.2 section 3). A receiver does not know where a
+//! bit begins, so an [`HfDecoder`] hears the bits at each of the 32 offsets of a bit, and gives each frame once. What
+//! is promised: each sample sent, each tone decided and each frame given is exactly the one of the definitions over all
 //! samples, in whatever blocks they came.
 #![tactic(auto)]
 

@@ -31,10 +31,10 @@ const GREATEST_LENGTH: usize = 1024;
 /// The amplitude of the tables of the wave.
 const FULL_LEVEL: i32 = 10000;
 
-/// The samples of one transmission on short wave: `opening` flags, the frames with one flag between neighbours, and `closing`
-/// flags, on a line that stands at mark, from phase 0 on, with the amplitude `level`. A frame is its octets without the check
-/// sequence, which is added (AX.25 2.2 sections 3.1, 3.6 and 3.7). The first rule that is broken is told: the flags come
-/// before the frames, and want of memory comes last.
+/// The samples of one transmission on short wave: `opening` flags, the frames with one flag between neighbours, and
+/// `closing` flags, on a line that stands at mark, from phase 0 on, with the amplitude `level`. A frame is its octets
+/// without the check sequence, which is added (AX.25 2.2 sections 3.1, 3.6 and 3.7). The first rule that is broken is
+/// told: the flags come before the frames, and want of memory comes last.
 pub fn hf_transmission(
     alloc: Global,
     level: u16,

@@ -46,7 +46,8 @@ impl HfSlicer {
         }
     }
 
-    /// Takes one sample and gives the bit of the window that ends with it, or `None` where no window of this offset does.
+    /// Takes one sample and gives the bit of the window that ends with it, or `None` where no window of this offset
+    /// does.
     pub fn push(&mut self, sample: i16) -> Option<bool>
         requires { self.old.position < 2 ^ 48 }
         ensures stands_for { (x : List ℤ) → SlicerStandsFor self.old x → SlicerStandsFor self.new (x ++ sample ∷ []) }

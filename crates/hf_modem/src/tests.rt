@@ -80,7 +80,8 @@ fn a_slicer_gives_one_bit_at_the_end_of_each_of_its_windows(rt: HostRuntime) {
     assert_eq!(rt; slicer.position(), 101);
 }
 
-// 162 bits of 32 samples: the frame ends with the last of 5184, a quarter of which is 1296, and slicers hear it just before.
+// 162 bits of 32 samples: the frame ends with the last of 5184, a quarter of which is 1296, and slicers hear it just
+// before.
 #[test]
 fn the_shortest_frame_is_sent_and_heard_in_blocks_of_any_length(
     rt: HostRuntime,

@@ -22,17 +22,17 @@ ghost use Rattle.hf_signal.specs.Carried.{CarriesAll};
 ghost use Rattle.hf_signal.specs.NearSignal.{IsReceived, IsNearAll};
 ghost use Rattle.hf_signal.specs.MergedFrames.{MergesTo};
 
-/// A window near one of a tone is decided as that tone, at each of the three phases at which a bit of a transmission can begin,
-/// 0, 16 and 32, and at every level: an error of at most a tenth of the level leaves the energy of the tone that was sent more
-/// than that of the other.
+/// A window near one of a tone is decided as that tone, at each of the three phases at which a bit of a transmission
+/// can begin, 0, 16 and 32, and at every level: an error of at most a tenth of the level leaves the energy of the tone
+/// that was sent more than that of the other.
 pub fn hf_near_windows()
     ensures { (level k : ℕ) (tone : Tone) (x : List ℤ) → 1 ≤ level → k < 3
         → IsNear level (pure_window (16 * k) tone) x → tone_of x ≡ tone }
 {}
 
-/// Samples near a signal without a stray candidate give the frames that were sent, each once, in order: each transmission
-/// begins at a phase of its own and has a level of its own, each of its samples is off by at most a tenth of that level, and
-/// anything is heard before it and after it.
+/// Samples near a signal without a stray candidate give the frames that were sent, each once, in order: each
+/// transmission begins at a phase of its own and has a level of its own, each of its samples is off by at most a tenth
+/// of that level, and anything is heard before it and after it.
 pub fn hf_near_frames()
     ensures { (received : List Received) (x : List ℤ) → All IsReceived received → IsNearAll received x
         → NoStray (transmissions_of received) x → MergesTo (frames_of (transmissions_of received)) x }

@@ -10,8 +10,9 @@ use frame_merge::Candidate;
 /// How far from its true end a frame is no more heard, in samples.
 const NEAR: u128 = 30;
 
-/// True where `item` is one of the frames that were sent, whose true ends are `ends`, in samples: it has the octets of one, and
-/// the sample at which it ends is less than 30 before or after its true end. A candidate of which this is false is stray.
+/// True where `item` is one of the frames that were sent, whose true ends are `ends`, in samples: it has the octets of
+/// one, and the sample at which it ends is less than 30 before or after its true end. A candidate of which this is
+/// false is stray.
 pub fn hf_is_sent(ends: &[TrueEnd], item: &Candidate) -> bool
     ensures { result ≡ is_sent ends.now item.now }
 {

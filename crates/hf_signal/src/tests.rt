@@ -27,7 +27,8 @@ fn hears(alloc: Global, octets: &[u8], end: u64, offset: u8) -> Result<bool, Out
     Ok(hf_is_sent(&sent, &item))
 }
 
-// Sample 5184 ends quarter 1296 at offset 0; 29 samples before and after are quarter 1288 with 3 and quarter 1303 with 1.
+// Sample 5184 ends quarter 1296 at offset 0; 29 samples before and after are quarter 1288 with 3 and quarter 1303 with
+// 1.
 #[test]
 fn a_frame_is_heard_less_than_30_samples_from_its_true_end(rt: HostRuntime) -> Result<(), Fail> {
     hf_near_windows();
