@@ -1,4 +1,4 @@
--- Signals of transmissions, one behind another, at a level.
+-- Signals of transmissions, one after another, at a level.
 use Rattle.std.proofs.Common.{◌≡◌, ℕ, pos, List, [], ◌∷◌, ◌++◌, replicate, refl, ap, ◌∙◌}
 use Rattle.std.proofs.lemmas.List.{append-nil}
 use Rattle.std.proofs.lemmas.List.Concat.{flat_map-append}

@@ -9,12 +9,12 @@ use Rattle.afsk_modulator.specs.Modulation.{Modulation, full, tone_window, wave_
 use Rattle.afsk_modulator.specs.Phase.{phase_from}
 use Rattle.afsk_modulator.proofs.LevelLemmas.{at_level-full, at_level-append}
 
--- the phase behind two lists of tones, one behind the other
+-- the phase after two lists of tones, one after the other
 pub phase_from-append : (phase : ℕ) (ts us : List Tone) → phase_from phase (ts ++ us) ≡ phase_from (phase_from phase ts) us
 phase_from-append phase [] us = refl
 phase_from-append phase (t ∷ ts) us = phase_from-append (next_phase phase t) ts us
 
--- the wave of two lists of tones, one behind the other
+-- the wave of two lists of tones, one after the other
 pub wave_from-append : (phase : ℕ) (ts us : List Tone)
     → wave_from phase (ts ++ us) ≡ wave_from phase ts ++ wave_from (phase_from phase ts) us
 wave_from-append phase [] us = refl
@@ -22,7 +22,7 @@ wave_from-append phase (t ∷ ts) us =
     ap (λ samples. pure_window phase t ++ samples) (wave_from-append (next_phase phase t) ts us)
     ∙ sym (append_assoc (pure_window phase t) (wave_from (next_phase phase t) ts) (wave_from (phase_from (next_phase phase t) ts) us))
 
--- where a wave goes on behind one tone more
+-- where a wave goes on after one tone more
 pub behind-push : (start : Modulation) (tones : List Tone) (tone : Tone) (now : Modulation) → now ≡ behind start tones
     → behind now (tone ∷ []) ≡ behind start (tones ++ tone ∷ [])
 behind-push start tones tone now at =

@@ -1,4 +1,4 @@
--- The level of a signal: what the amplitude of its wave is, where that of the definitions is 10000.
+-- The level of a signal: what the amplitude of its wave is when that of the definitions is 10000.
 use Rattle.std.specs.Prelude.{ℕ, ℤ, pos, ◌*ℤ◌, int_div, List, map}
 
 -- level / 10000 of a sample, rounded towards zero

@@ -22,7 +22,7 @@ tone_window m tone = at_level m.level (pure_window m.phase tone)
 abbrev pub wave_of : Modulation → List Tone → List ℤ
 wave_of m tones = at_level m.level (wave_from m.phase tones)
 
--- how it goes on behind some tones
+-- how it goes on after some tones
 abbrev pub behind : Modulation → List Tone → Modulation
 behind m tones = record m { phase = phase_from m.phase tones }
 

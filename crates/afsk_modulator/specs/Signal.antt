@@ -1,4 +1,4 @@
--- A signal: transmissions, one behind the other, each after silence (AX.25 2.2 section 3 over Bell 202).
+-- A signal: transmissions, one after the other, each after silence (AX.25 2.2 section 3 over Bell 202).
 use Rattle.std.specs.Prelude.{ℕ, ℤ, pos, List, ◌++◌, replicate}
 use Rattle.std.specs.List.{flat_map}
 use Rattle.afsk_modulator.specs.Level.{at_level}

@@ -3,7 +3,7 @@
 //! the phase. `transmission` sends frames between flags (ISO/IEC 3309, AX.25 2.2 section 3) on a line
 //! that begins at mark; `transmission_at` begins at any phase of a bit and has any level. What is
 //! promised: each sample is exactly the one of the definitions of the bits, the line and the wave,
-//! rounded towards zero at the level, and each refusal comes exactly where its rule is broken.
+//! rounded towards zero at the level, and each refusal comes exactly when its rule is broken.
 #![tactic(auto)]
 
 mod fault;

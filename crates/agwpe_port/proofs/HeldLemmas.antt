@@ -14,11 +14,11 @@ use Rattle.agwpe_port.proofs.ReadingLemmas.{nothing, reading_short, reading_bad,
 abbrev under : List ℕ → List ℕ → Held
 under header body = record { header = header; body = body; bad = None }
 
--- how it goes on behind what is kept
+-- how it goes on after what is kept
 abbrev pub rest_of : Held → List ℕ → Reading
 rest_of held more = rest_reading held.bad (held.header ++ held.body) more
 
--- behind an octet, what is kept and the message tell how it goes on
+-- after an octet, what is kept and the message tell how it goes on
 pub record Goes (octets : List ℕ) (next : Held) (message : Option AgwMessage) : Type 0 where
   pub rest : (more : List ℕ) → reading (octets ++ more) ≡ behind (option_to_list message) (rest_of next more)
   pub under_way : next.bad ≡ None → IsOpen next.header next.body
@@ -106,7 +106,7 @@ octet_goes header body octet (inr whole) =
     (λ full. body_more header v whole.0 whole.1 (omega (arith, whole.2)))
     (λ other. absurd (eqb-false (length header) 36 other whole.0)))
 
--- nothing is read where nothing comes
+-- nothing is read if nothing comes
 pub at_end : (held : Held) → (held.bad ≡ None → IsOpen held.header held.body) → rest_of held [] ≡ record { messages = []; bad = held.bad }
 at_end held under_way = by_bad held.bad under_way
   where
@@ -128,7 +128,7 @@ bad_tells_none held octet len good is_bad =
     let P : Option ℕ → Type 0 = λ b. (taken (with_bad b) octet).bad ≡ Some len → told (with_bad b) octet ≡ None in
     subst P (sym good) (at_none held.header held.body) is_bad
   where
-    -- where one goes with a test, the other does
+    -- if one goes with a test, the other does
     T : Held → Option AgwMessage → Type 0
     T next message = next.bad ≡ Some len → message ≡ None
 
@@ -162,7 +162,7 @@ module _ (held : Held) (stream : List ℕ) (stands : StandsFor held stream) wher
       ap (λ (r : Reading). r.bad) (ap reading (sym (append-nil stream)) ∙ stands.rest [])
       ∙ ap (λ (r : Reading). r.bad) (at_end held stands.under_way)
 
-  -- behind a length that was too long, an octet changes nothing
+  -- after a length that was too long, an octet changes nothing
   module _ (len : ℕ) (is_bad : held.bad ≡ Some len) (octet : ℕ) where
     failed_more : (more : List ℕ) → reading (stream ++ more) ≡ record { messages = (reading stream).messages; bad = Some len }
     failed_more more =

@@ -8,7 +8,7 @@ use Rattle.agwpe_port.specs.Messages.{Reading, and_then, told_length, message_of
 abbrev pub nothing : Reading
 nothing = record { messages = []; bad = None }
 
--- what a header and what stands behind it are read as, where the next messages are read so
+-- what a header and what stands after it are read as, if the next messages are read so
 abbrev pub behind_header : (List ℕ → Reading) → List ℕ → List ℕ → Reading
 behind_header next header behind =
     cond (ltb 4096 (told_length header)) (record { messages = []; bad = Some (told_length header) })
@@ -55,7 +55,7 @@ pub reading_short : (stream : List ℕ) → length stream < 36 → reading strea
 unfolding reading
 reading_short stream short = enough (length stream) (suc (length stream)) stream (omega arith) (omega arith) ∙ short_more (length stream) stream short
 
--- a header, and what stands behind it
+-- a header, and what stands after it
 pub reading_header : (header behind : List ℕ) → length header ≡ 36 → reading (header ++ behind) ≡ behind_header reading header behind
 unfolding reading
 reading_header header behind size =
@@ -82,7 +82,7 @@ reading_open header body size fits short =
     ∙ cond-false _ _ _ (le-ltb 4096 (told_length header) fits)
     ∙ cond-true _ _ _ (lt-ltb (length body) (told_length header) short)
 
--- a whole message, and what stands behind it
+-- a whole message, and what stands after it
 pub reading_whole : (header body more : List ℕ) → length header ≡ 36 → told_length header ≤ 4096 → length body ≡ told_length header
     → reading (header ++ (body ++ more)) ≡ and_then (message_of header body) (reading more)
 reading_whole header body more size fits whole =

@@ -52,7 +52,7 @@ module _ (message : AgwMessage) (written : IsWritten message) where
       ∙ reading_whole (header_of message) message.body more header_length (omega (arith, length_back, written.body)) (sym length_back)
       ∙ ap (λ m. and_then m (reading more)) message_back
 
--- the parts of a message, one behind the other
+-- the parts of a message, one after the other
 pub in_parts : (message : AgwMessage)
     → (((((message.port ∷ 0 ∷ 0 ∷ 0 ∷ message.kind ∷ 0 ∷ message.pid ∷ 0 ∷ []) ++ message.from) ++ message.to) ++ little_bytes 4 (length message.body)) ++ 0 ∷ 0 ∷ 0 ∷ 0 ∷ []) ++ message.body
     ≡ spelling message

@@ -1,4 +1,4 @@
--- What an octet is answered, by what is kept behind it. No public clause cites it.
+-- What an octet is answered, by what is kept after it. No public clause cites it.
 use Rattle.std.specs.Prelude.{ℕ, Option, Some, None, Result, Ok, Err}
 use Rattle.agwpe_port.specs.declared.fault.AgwFault.{AgwFault}
 use Rattle.agwpe_port.specs.declared.fault.AgwFault.TheVariants.{BadLength}

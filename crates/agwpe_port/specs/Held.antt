@@ -14,7 +14,7 @@ new_held = record { header = []; body = []; bad = None }
 
 -- ---- one octet more
 
--- behind the last octet of a header
+-- after the last octet of a header
 abbrev pub header_ended : Held → Held
 header_ended held =
     if nat_lt most_body (told_length held.header) then record { header = held.header; body = held.body; bad = Some (told_length held.header) } else
@@ -38,7 +38,7 @@ taken_of_body held = if nat_lt (length held.body) (told_length held.header) then
 abbrev pub told_by_body : Held → Option AgwMessage
 told_by_body held = if nat_lt (length held.body) (told_length held.header) then None else Some (message_of held.header held.body)
 
--- what is kept behind an octet
+-- what is kept after an octet
 abbrev pub taken : Held → ℕ → Held
 taken held octet =
     if length held.header == header_size then taken_of_body (with_body held octet) else
@@ -58,7 +58,7 @@ IsOpen header body =
     ((length header < header_size) × (length body ≡ 0))
     ⊎ ((length header ≡ header_size) × (told_length header ≤ most_body) × (length body < told_length header))
 
--- how the stream goes on behind the octets of the message under way
+-- how the stream goes on after the octets of the message under way
 abbrev pub rest_reading : Option ℕ → List ℕ → List ℕ → Reading
 rest_reading None octets more = reading (octets ++ more)
 rest_reading (Some len) octets more = record { messages = []; bad = Some len }

@@ -35,7 +35,7 @@ pub record Reading : Type 0 where
   -- the length that was too long, if there was one
   pub bad : Option ℕ
 
--- one message, and what is read behind it
+-- one message, and what is read after it
 abbrev pub and_then : AgwMessage → Reading → Reading
 and_then message reading = record { messages = message ∷ reading.messages; bad = reading.bad }
 
@@ -67,13 +67,13 @@ abbrev pub given : Result (Option AgwMessage) AgwFault → List AgwMessage
 given (Ok message) = option_to_list message
 given (Err fault) = []
 
--- The fault that an octet behind a stream meets: it ends a header that tells too long a body, or stands behind one.
+-- The fault that an octet after a stream meets: it ends a header that tells too long a body, or stands after one.
 abbrev pub IsFault : List ℕ → ℕ → AgwFault → Type 0
 IsFault stream octet (BadLength len) = (bad_length_in stream ≡ None) × (bad_length_in (stream ++ octet ∷ []) ≡ Some len)
 IsFault stream octet (Failed len) = bad_length_in stream ≡ Some len
 IsFault stream octet Memory = Unit {0}
 
--- the header of a message; what is reserved is zero, and so is the user number behind the length
+-- the header of a message; what is reserved is zero, and so is the user number after the length
 abbrev pub header_of : AgwMessage → List ℕ
 header_of message =
     message.port ∷ 0 ∷ 0 ∷ 0 ∷ message.kind ∷ 0 ∷ message.pid ∷ 0

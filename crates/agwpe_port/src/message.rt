@@ -23,7 +23,7 @@ pub struct AgwMessage {
     pub from: [u8; 10],
     /// The field CallTo.
     pub to: [u8; 10],
-    /// The octets behind the header.
+    /// The octets after the header.
     pub body: Octets,
 }
 

@@ -48,7 +48,7 @@ impl AgwIn {
         }
     }
 
-    /// Takes the next octet, and gives the message that ends with it. Where memory is wanted and not given, the octet is not
+    /// Takes the next octet, and gives the message that ends with it. If memory is wanted and not given, the octet is not
     /// taken.
     pub fn push(&mut self, octet: u8) -> Result<Option<AgwMessage>, AgwFault>
         ensures stands_for { (stream : List ℕ) → StandsFor self.old stream → result ≢ Err Memory
@@ -66,7 +66,7 @@ impl AgwIn {
         answer(self.bad, message)
     }
 
-    /// The length of the body that was too long, where a header told one.
+    /// The length of the body that was too long, if a header told one.
     pub fn failed(&self) -> Option<u32>
         ensures { (stream : List ℕ) → StandsFor self.now stream → result ≡ bad_length_in stream }
     {
@@ -132,7 +132,7 @@ impl AgwIn {
         }
     }
 
-    // The message of the header and the body, behind which the next one begins.
+    // The message of the header and the body, after which the next one begins.
     fn end(&mut self) -> Result<AgwMessage, OutOfMemory>
         requires { length self.old.header ≡ HEADER }
         ensures ended { OnOk result (self.new ≡ record { header = []; body = []; bad = self.old.bad }) }

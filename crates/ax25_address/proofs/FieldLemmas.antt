@@ -44,7 +44,7 @@ HasNameUpTo-so_far octets start characters len i aligned h at from below six =
       })
     ]
 
--- an octet that is neither a space behind a name nor a character behind no space is out of place
+-- an octet that is neither a space after a name nor a character after no space is out of place
 pub bad_place : (octets : List ℕ) (start : ℕ) (characters : List ℕ) (len i : ℕ) → start % 7 ≡ 0 → i < 6 → IsNameSoFar octets start characters len i → (get_or octets (start + i) 0 ≡ 64 → 0 < i → ⊥) → (IsShiftedCharacter (get_or octets (start + i) 0) → i ≤ len → ⊥) → ¬ IsNamePlace octets (start + i)
 bad_place octets start characters len i aligned six h no_space no_letter place =
     elim place [
@@ -66,7 +66,7 @@ length-padded name h = length-append name (replicate (6 - length name) 32) ∙ a
 pub padded-name : (name : List ℕ) (k : ℕ) → k < length name → get_or (padded name) k 0 ≡ get_or name k 0
 padded-name name k h = get_or_append_left name (replicate (6 - length name) 32) 0 k h
 
--- and are spaces behind it
+-- and are spaces after it
 pub padded-space : (name : List ℕ) (k : ℕ) → length name ≤ k → k < 6 → get_or (padded name) k 0 ≡ 32
 padded-space name k from below =
     get_or-append_right name (replicate (6 - length name) 32) (length name) k 0 refl from ∙ get_or-replicate (6 - length name) (k - length name) 32 0 (omega arith)

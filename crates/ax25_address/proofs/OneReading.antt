@@ -222,7 +222,7 @@ end_is_no_fault octets len (BadChar at) h g e = omega (arith, h.fields, h.least)
 end_is_no_fault octets len OneAddress h g e = omega (arith, h.least)
 end_is_no_fault octets len NoEnd h g e = omega (arith, h.most)
 
--- and none where they begin with a path
+-- and none if they begin with a path
 pub no_fault : (octets : List ℕ) (path : Path) (len : ℕ) (fault : AddrFault) → BeginsWithPath octets path len → ShowsFault octets fault → ⊥
 no_fault octets path len fault h g =
     let end : EndsAt octets len = EndsAt-path octets path len h in

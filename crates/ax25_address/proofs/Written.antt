@@ -25,7 +25,7 @@ field_at-kept : (octets more : List ℕ) (k : ℕ) → 7 * k + 7 ≤ length octe
 field_at-kept octets more k h =
     sym (field_at-take (octets ++ more) (length octets) k h) ∙ ap (λ xs. field_at xs k) (take_at octets more (length octets) refl)
 
--- and one more stands behind it
+-- and one more stands after it
 field_at-new : (octets new : List ℕ) (k : ℕ) → length octets ≡ 7 * k → length new ≡ 7 → field_at (octets ++ new) k ≡ new
 field_at-new octets new k size seven = ap (λ xs. take 7 xs) (drop_at octets new (7 * k) size) ∙ take_all 7 new (omega arith)
 
@@ -96,7 +96,7 @@ IsPath-written path octets h = record {
   repeaters = λ k d below. IsField-written _ _ _ _ (h.repeaters k d below);
 }
 
--- whatever stands behind it
+-- whatever stands after it
 pub BeginsWithPath-written : (path : Path) (octets rest : List ℕ) → IsWrittenPath path octets → BeginsWithPath (octets ++ rest) path (length octets)
 BeginsWithPath-written path octets rest h =
     (omega (arith, length-append octets rest), subst (λ (xs : List ℕ). IsPath path xs) (sym (take_at octets rest (length octets) refl)) (IsPath-written path octets h))

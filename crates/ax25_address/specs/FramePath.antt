@@ -29,7 +29,7 @@ repeater_count path = length path.repeaters.items
 abbrev pub field_at : List ℕ → ℕ → List ℕ
 field_at octets k = take 7 (drop (7 * k) octets)
 
--- the octets are the path's fields in their order, where F relates a call, its bit 7 and its end bit to a field
+-- the octets are the path's fields in their order, if F relates a call, its bit 7 and its end bit to a field
 pub record AreFields (F : Callsign → Bool → Bool → List ℕ → Type 0) (path : Path) (octets : List ℕ) : Type 0 where
   pub count : repeater_count path ≤ 8
   pub size : length octets ≡ 14 + 7 * repeater_count path

@@ -20,7 +20,7 @@ pub record IsSpaceInPlace (octets : List ℕ) (at : ℕ) : Type 0 where
 abbrev pub IsNamePlace : List ℕ → ℕ → Type 0
 IsNamePlace octets at = IsCharacterInPlace octets at ⊎ IsSpaceInPlace octets at
 
--- an octet of a path that goes on behind it: a character in its place, or an SSID octet without the end bit
+-- an octet of a path that goes on after it: a character in its place, or an SSID octet without the end bit
 pub record GoesOn (octets : List ℕ) (at : ℕ) : Type 0 where
   pub character : at % 7 < 6 → IsNamePlace octets at
   pub end_bit : at % 7 ≡ 6 → slice_index octets at % 2 ≡ 0
@@ -30,7 +30,7 @@ abbrev pub GoesOnFor : List ℕ → ℕ → Type 0
 GoesOnFor octets n = (at : ℕ) → at < n → GoesOn octets at
 
 -- the fault that the octets show, and its place. A bad character shows at an octet with bit 0 set, at one that is no
--- character of a call, at a space that is the first of its field, and at a character behind a space
+-- character of a call, at a space that is the first of its field, and at a character after a space
 abbrev pub ShowsFault : List ℕ → AddrFault → Type 0
 ShowsFault octets (Short at) = (at ≡ length octets) × (at < 70) × GoesOnFor octets at
 ShowsFault octets (BadChar at) = (at < length octets) × (at < 70) × (at % 7 < 6) × GoesOnFor octets at × ¬ IsNamePlace octets at

@@ -27,7 +27,7 @@ same_name a b e n =
     sym (take_at a (replicate (6 - length a) 32) (length a) refl) ∙ ap (λ xs. take (length a) xs) e ∙ ap (λ k. take k (padded b)) n
     ∙ take_at b (replicate (6 - length b) 32) (length b) refl
 
--- the test is true exactly where both are one call
+-- the test is true exactly when both are one call
 pub is_same_call-Decides : (a b : Callsign) → Decides (is_same_call a b) (a ≡ b)
 is_same_call-Decides a b = (
   λ h.

@@ -92,7 +92,7 @@ impl Call {
         }
     }
 
-    /// The text of the call: `CALL`, or `CALL-n` where the SSID is not 0.
+    /// The text of the call: `CALL`, or `CALL-n` if the SSID is not 0.
     pub fn text(&self) -> ArrayString<9>
         ensures text { result.bytes ≡ text_of_call self.now }
         ensures parsed_again { IsCallText result.bytes self.now }
@@ -142,7 +142,7 @@ impl Call {
         }
     }
 
-    /// The six characters as they are sent, with spaces behind the name.
+    /// The six characters as they are sent, with spaces after the name.
     pub(crate) fn characters(&self) -> &[u8]
         ensures characters { result.now ≡ padded self.now.name }
         ensures size { length result.now ≡ 6 }
@@ -211,7 +211,7 @@ fn capitals(letters: &[u8]) -> ArrayVec<u8, 6>
     name
 }
 
-/// Where the first dash stands, or the length where there is none.
+/// Where the first dash stands, or the length if there is none.
 fn first_dash(characters: &[u8]) -> usize
     ensures place { result ≡ dash_place characters.now }
     ensures within { result ≤ length characters.now }
@@ -224,7 +224,7 @@ fn first_dash(characters: &[u8]) -> usize
     characters.len()
 }
 
-/// The SSID that stands behind a name: 0 where nothing does, and else a dash and a number from 0 to 15.
+/// The SSID that stands after a name: 0 if nothing does, and else a dash and a number from 0 to 15.
 fn ssid_of(tail: &[u8]) -> Option<u8>
     ensures ssid { IfSome result (λ ssid. (ssid < 16) × TellsSsid tail.now ssid) }
     ensures exact { (ssid : ℕ) → ssid < 16 → TellsSsid tail.now ssid → result ≡ Some ssid }

@@ -9,7 +9,7 @@ pub enum AddrFault {
     #[error("short at {at}")]
     Short { at: usize },
     /// The octet at `at` is no character of a call, has bit 0 set, is a space that is the first of its
-    /// field, or is a character behind a space.
+    /// field, or is a character after a space.
     #[error("bad character at {at}")]
     BadChar { at: usize },
     /// The destination has the end bit, so there is no source.

@@ -69,7 +69,7 @@ fn read_repeaters(octets: &[u8]) -> Result<(ArrayVec<Hop, 8>, usize), AddrFault>
     Err(AddrFault::NoEnd)
 }
 
-/// The octets of a path, with its reserved bits 1. Whatever stands behind them, [`read_path`] reads this
+/// The octets of a path, with its reserved bits 1. Whatever stands after them, [`read_path`] reads this
 /// path and this length again.
 pub fn write_path(path: &Path) -> ArrayVec<u8, 70>
     ensures written { IsWrittenPath path.now result.items }

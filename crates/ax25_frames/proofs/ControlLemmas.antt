@@ -145,7 +145,7 @@ HasFirst-control OneTwentyEight (Info ns nr p) = record { octet = _; more = _; s
 HasFirst-control OneTwentyEight (Super w nr p) = record { octet = _; more = _; spelling = refl }
 HasFirst-control OneTwentyEight (Unnumbered w p) = record { octet = _; more = []; spelling = refl }
 
--- where nothing is, a control field lacks
+-- if no octet is there, a control field is missing
 pub LacksControl-none : (modulus : Modulus) (body : List ℕ) → body ≡ [] → LacksControl modulus body
 LacksControl-none Eight body e = record { control = Unnumbered Ui false; numbered = tt; missing = 3 ∷ []; some = omega arith; spelling = ap (λ xs. xs ++ 3 ∷ []) (sym e) }
 LacksControl-none OneTwentyEight body e = record { control = Unnumbered Ui false; numbered = tt; missing = 3 ∷ []; some = omega arith; spelling = ap (λ xs. xs ++ 3 ∷ []) (sym e) }
@@ -157,7 +157,7 @@ bits_there (suc (suc zero)) h = refl
 bits_there (suc (suc (suc zero))) h = refl
 bits_there (suc (suc (suc (suc n)))) h = absurd (omega arith)
 
--- and the second octet behind one that begins an I or an S frame modulo 128
+-- and the second octet after one that begins an I or an S frame modulo 128
 pub LacksControl-one : (o : ℕ) (body : List ℕ) → o < 256 → (o % 4 ≡ 3 → ⊥) → ((o % 4 ≡ 1) × (o ≤ 13)) ⊎ (o % 4 ≢ 1) → body ≡ o ∷ [] → LacksControl OneTwentyEight body
 LacksControl-one o body small other way e = elim way [
   | inl s ↦ (let code : supervisory_code (frame_of_bits (o / 4)) ≡ o / 4 = bits_there (o / 4) (omega arith) in

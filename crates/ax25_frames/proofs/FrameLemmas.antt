@@ -52,7 +52,7 @@ IsOneFrame-address modulus octets fault h = record {
     only (StrayInfo at) g = absurd (no_fault octets g.path g.len fault g.begins h)
     only Memory g = absurd (no_fault octets g.path g.len fault g.begins h)
 
--- a fault behind the address is one of the frame
+-- a fault after the address is one of the frame
 shows_behind : (modulus : Modulus) (octets : List ℕ) (path : Path) (len : ℕ) (fault : FrameFault) → BeginsWithPath octets path len → BodyFault modulus (drop len octets) len fault → ShowsFrameFault modulus octets fault
 shows_behind modulus octets path len (Address fault) b h = absurd h
 shows_behind modulus octets path len (NoControl at) b h = record { path = path; len = len; begins = b; shows = h }
@@ -62,7 +62,7 @@ shows_behind modulus octets path len (InfoTooLong n) b h = record { path = path;
 shows_behind modulus octets path len (StrayInfo at) b h = record { path = path; len = len; begins = b; shows = h }
 shows_behind modulus octets path len Memory b h = absurd h
 
--- and the other way round, behind the one address
+-- and the other way round, after the one address
 behind : (modulus : Modulus) (octets : List ℕ) (path : Path) (len : ℕ) (fault : FrameFault) → BeginsWithPath octets path len → FollowsPath modulus octets fault → BodyFault modulus (drop len octets) len fault
 behind modulus octets path len fault b g =
     subst (λ (n : ℕ). BodyFault modulus (drop n octets) n fault) (BeginsWithPath-same octets g.path path g.len len g.begins b).1 g.shows
@@ -79,7 +79,7 @@ body_fault modulus octets path len Memory b h = behind modulus octets path len M
 abbrev frame_of : Path → Kind → Frame
 frame_of path kind = record { path = path; kind = kind }
 
--- the one kind of frame behind the address makes the one frame
+-- the one kind of frame after the address makes the one frame
 pub IsOneFrame-kind : (modulus : Modulus) (octets : List ℕ) (path : Path) (len : ℕ) (kind : Kind) → BeginsWithPath octets path len → IsOneKind modulus (drop len octets) len (Ok kind) → IsOneFrame modulus octets (Ok (record { path = path; kind = kind }))
 IsOneFrame-kind modulus octets path len kind b h = record {
   frame = record { len = len; path = b; kind = h.kind.0; body = h.kind.1 };

@@ -1,4 +1,4 @@
--- What stands behind an address is one kind of frame or shows one fault.
+-- What stands after an address is one kind of frame or shows one fault.
 use Rattle.std.proofs.Common.{◌≡◌, ℕ, ◌+◌, ◌<◌, ◌⊎◌, ◌++◌, if◌then◌else◌, List, [], ◌∷◌, length, refl, sym, ap, subst, arith, inl, inr, ◌∙◌, Bool, true, false, leb, Ok, Err, append_assoc, append-nil, length-append, IsOk}
 use Rattle.std.proofs.lemmas.Bool.{cases_lt, false≢true}
 use Rattle.std.proofs.lemmas.Bool.Decides.{nat_tests}
@@ -21,7 +21,7 @@ abbrev pub IsOutcome : Modulus → List ℕ → ℕ → Outcome → Type 0
 IsOutcome modulus body start (Ok kind) = IsKind modulus kind × (body ≡ body_octets modulus kind)
 IsOutcome modulus body start (Err fault) = BodyFault modulus body start fault
 
--- a whole control field, and the outcome by what stands behind it
+-- a whole control field, and the outcome by what stands after it
 record HasControl (modulus : Modulus) (body : List ℕ) (start : ℕ) (outcome : Outcome) : Type 0 where
   control : Control
   rest : List ℕ

@@ -12,7 +12,7 @@ use Rattle.ax25_frames.specs.declared.control.Unnumbered.TheVariants.{Setup, Ui,
 use Rattle.ax25_frames.specs.declared.fault.FrameFault.{FrameFault}
 use Rattle.ax25_frames.specs.declared.fault.FrameFault.TheVariants.{Address, NoControl, NoPid, UnknownControl, InfoTooLong, StrayInfo, Memory}
 
--- a PID stands behind this control field: in I and UI frames
+-- a PID stands after this control field: in I and UI frames
 abbrev pub HasPid : Control → Type 0
 HasPid (Info ns nr poll) = Unit {0}
 HasPid (Super which nr flag) = ⊥
@@ -20,7 +20,7 @@ HasPid (Unnumbered (Setup which) flag) = ⊥
 HasPid (Unnumbered Ui flag) = Unit {0}
 HasPid (Unnumbered (Other which) flag) = ⊥
 
--- nothing stands behind this control field: in S frames and those that set up and end a link
+-- nothing stands after this control field: in S frames and those that set up and end a link
 abbrev pub EndsFrame : Control → Type 0
 EndsFrame (Info ns nr poll) = ⊥
 EndsFrame (Super which nr flag) = Unit {0}
@@ -36,7 +36,7 @@ pub record LacksControl (modulus : Modulus) (body : List ℕ) : Type 0 where
   pub some : 0 < length missing
   pub spelling : control_octets modulus control ≡ body ++ missing
 
--- a control field that wants a PID, and nothing behind it
+-- a control field that wants a PID, and nothing after it
 pub record LacksPid (modulus : Modulus) (body : List ℕ) : Type 0 where
   pub control : Control
   pub numbered : IsNumbered modulus control
@@ -61,7 +61,7 @@ pub record IsTooLong (modulus : Modulus) (body : List ℕ) (len : ℕ) : Type 0 
   pub count : len ≡ length information
   pub long : 256 < len
 
--- information behind a control field that has none, from octet `at` of all octets on
+-- information after a control field that has none, from octet `at` of all octets on
 pub record HasStray (modulus : Modulus) (body : List ℕ) (place : ℕ) : Type 0 where
   pub control : Control
   pub numbered : IsNumbered modulus control
@@ -71,7 +71,7 @@ pub record HasStray (modulus : Modulus) (body : List ℕ) (place : ℕ) : Type 0
   pub spelling : body ≡ control_octets modulus control ++ stray
   pub here : place ≡ length (control_octets modulus control)
 
--- the fault that what stands behind the address shows, where the address has `start` octets
+-- the fault that what stands after the address shows, if the address has `start` octets
 abbrev pub BodyFault : Modulus → List ℕ → ℕ → FrameFault → Type 0
 BodyFault modulus body start (Address fault) = ⊥
 BodyFault modulus body start (NoControl at) = (at ≡ start + length body) × LacksControl modulus body
@@ -81,7 +81,7 @@ BodyFault modulus body start (InfoTooLong len) = IsTooLong modulus body len
 BodyFault modulus body start (StrayInfo at) = (place : ℕ) × (at ≡ start + place) × HasStray modulus body place
 BodyFault modulus body start Memory = ⊥
 
--- the octets begin with a path, and what stands behind it shows the fault
+-- the octets begin with a path, and what stands after it shows the fault
 pub record FollowsPath (modulus : Modulus) (octets : List ℕ) (fault : FrameFault) : Type 0 where
   pub path : Path
   pub len : ℕ

@@ -19,7 +19,7 @@ control_of (Setup which flag) = Unnumbered (SetupFrame which) flag
 control_of (Ui flag pid octets) = Unnumbered UiFrame flag
 control_of (Other which flag octets) = Unnumbered (OtherFrame which) flag
 
--- what stands behind the control field: the PID and the information
+-- what stands after the control field: the PID and the information
 abbrev pub contents_of : Kind → List ℕ
 contents_of (Info ns nr poll pid octets) = pid ∷ octets
 contents_of (Super which nr flag) = []
@@ -43,7 +43,7 @@ FitsN1 (Setup which flag) = Unit {0}
 FitsN1 (Ui flag pid octets) = Unit {0}
 FitsN1 (Other which flag octets) = Unit {0}
 
--- the octets behind the address of a frame
+-- the octets after the address of a frame
 abbrev pub body_octets : Modulus → Kind → List ℕ
 body_octets modulus kind = control_octets modulus (control_of kind) ++ contents_of kind
 

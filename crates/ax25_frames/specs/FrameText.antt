@@ -1,4 +1,4 @@
--- A frame as one line of text: `SOURCE>DEST,REPEATER*` and what the frame says. An asterisk stands behind a repeater that
+-- A frame as one line of text: `SOURCE>DEST,REPEATER*` and what the frame says. An asterisk stands after a repeater that
 -- has repeated the frame, and information is in hexadecimal.
 use Rattle.std.specs.Prelude.{ℕ, ◌==◌, Bool, true, false, if◌then◌else◌, List, [], ◌∷◌, ◌++◌, length, flat_map, codes, decimal}
 use Rattle.hex.specs.Hex.{encode_lower}
@@ -49,7 +49,7 @@ is_command_of role (Setup which flag) = sets_up_or_ends which
 is_command_of role (Ui flag pid octets) = true
 is_command_of role (Other which flag octets) = exchanges_or_tests which
 
--- a repeater, with an asterisk where it has repeated the frame
+-- a repeater, with an asterisk if it has repeated the frame
 abbrev pub hop_text : Hop → List ℕ
 hop_text hop = codes "," ++ text_of_call hop.call ++ (if hop.done then codes "*" else [])
 
@@ -60,7 +60,7 @@ path_text path = text_of_call path.source ++ codes ">" ++ text_of_call path.dest
 abbrev pub role_word : Bool → List ℕ
 role_word command = if command then codes "cmd" else codes "rsp"
 
--- the length of the information, and the information where there is some
+-- the length of the information, and the information if there is some
 abbrev pub information_text : List ℕ → List ℕ
 information_text octets =
     codes " len=" ++ decimal (length octets) ++ (if length octets == 0 then [] else codes " " ++ encode_lower octets)

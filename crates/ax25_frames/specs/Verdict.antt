@@ -1,4 +1,4 @@
--- What comes of a control field and the octets behind it: a kind of frame, or a fault.
+-- What comes of a control field and the octets after it: a kind of frame, or a fault.
 use Rattle.std.specs.Prelude.{◌≡◌, ℕ, ◌⊎◌, if◌then◌else◌, nat_le, List, [], ◌∷◌, length, Result, Ok, Err, IsOk, IfOk, IfErr}
 use Rattle.ax25_frames.specs.FrameOctets.{IsKind, body_octets}
 use Rattle.ax25_frames.specs.FrameFault.{BodyFault}

@@ -33,7 +33,7 @@ pub(crate) enum Unnumbered {
 }
 
 /// Reads the control field at the front of `body`, which begins at octet `start` of its frame, and gives
-/// what stands behind it.
+/// what stands after it.
 pub(crate) fn read_control(
     body: &[u8],
     start: usize,

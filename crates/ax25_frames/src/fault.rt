@@ -12,7 +12,7 @@ pub enum FrameFault {
     /// The octets end before or inside the control field; `at` is their count.
     #[error("no control at {at}")]
     NoControl { at: usize },
-    /// An I or UI frame ends behind its control field; `at` is the count of octets.
+    /// An I or UI frame ends after its control field; `at` is the count of octets.
     #[error("no pid at {at}")]
     NoPid { at: usize },
     /// The octet begins no control field.

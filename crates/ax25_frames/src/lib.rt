@@ -1,5 +1,5 @@
 //! Frames of AX.25 2.2 (sections 3.1 and 4.2) as values: an address path, a control field modulo 8 or 128,
-//! a PID in I and UI frames, and information. A frame is read from octets exactly where they spell one,
+//! a PID in I and UI frames, and information. A frame is read from octets exactly when they spell one,
 //! each refusal names the first fault and its place, and what is written is read again as the same frame.
 //! Each frame and each fault has one line of text.
 #![tactic(auto)]

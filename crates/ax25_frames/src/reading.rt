@@ -14,7 +14,7 @@ use ax25_address::read_path;
 use std::alloc::Global;
 use tnc_base::Octets;
 
-/// The frame that the octets are, without a check sequence behind them.
+/// The frame that the octets are, without a check sequence after them.
 pub fn read_frame(alloc: Global, octets: &[u8], modulus: Modulus) -> Result<Frame, FrameFault>
     ensures frame { IfOk result (λ frame. IsFrame frame modulus octets.now) }
     ensures fault { IfErr result (λ fault. (fault ≡ Memory) ⊎ ShowsFrameFault modulus octets.now fault) }
@@ -32,7 +32,7 @@ pub fn read_frame(alloc: Global, octets: &[u8], modulus: Modulus) -> Result<Fram
     Ok(Frame { path, kind })
 }
 
-/// What a frame says, from the octets behind its address, which has `start` octets.
+/// What a frame says, from the octets after its address, which has `start` octets.
 fn read_kind(alloc: Global, body: &[u8], start: usize, modulus: Modulus) -> Result<Kind, FrameFault>
     requires { start + length body.now < 2 ^ 64 }
     ensures { IsOneKind modulus body.now start result }
@@ -42,7 +42,7 @@ fn read_kind(alloc: Global, body: &[u8], start: usize, modulus: Modulus) -> Resu
     kind_of(alloc, control, rest, end)
 }
 
-/// The frame of a control field and of what stands behind it up to octet `end`.
+/// The frame of a control field and of what stands after it up to octet `end`.
 fn kind_of(alloc: Global, control: Control, rest: &[u8], end: usize) -> Result<Kind, FrameFault>
     requires { length rest.now ≤ end }
     ensures { IsVerdict result (verdict end (end - length rest.now) control rest.now) }

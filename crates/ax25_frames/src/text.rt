@@ -11,7 +11,7 @@ use std::alloc::{AllocError, Global};
 use tnc_base::{Octets, OutOfMemory};
 
 /// Whether the frame is read as a command. I, UI, SABM, SABME, DISC, XID and TEST are commands and UA, DM
-/// and FRMR responses, whatever the C bits; an S frame is a command where its path's role is.
+/// and FRMR responses, whatever the C bits; an S frame is a command if its path's role is.
 pub fn is_command(frame: &Frame) -> bool
     ensures { result ≡ is_command_of frame.now.path.role frame.now.kind }
 {
@@ -56,7 +56,7 @@ pub fn text_of_fault(alloc: Global, fault: FrameFault) -> Result<String, OutOfMe
     })
 }
 
-/// A path: `SOURCE>DEST`, and each repeater behind a comma.
+/// A path: `SOURCE>DEST`, and each repeater after a comma.
 fn path_line(alloc: Global, path: &Path) -> Result<String, OutOfMemory>
     ensures { IfOk result (λ line. string_bytes line ≡ path_text path.now) }
 {
@@ -69,7 +69,7 @@ fn path_line(alloc: Global, path: &Path) -> Result<String, OutOfMemory>
     Ok(line)
 }
 
-/// Appends a repeater, with an asterisk where it has repeated the frame.
+/// Appends a repeater, with an asterisk if it has repeated the frame.
 fn push_hop(line: &mut String, hop: &Hop) -> Result<(), OutOfMemory>
     ensures { OnOk result (string_bytes line.new ≡ string_bytes line.old ++ hop_text hop.now) }
 {
@@ -127,7 +127,7 @@ fn kind_line(alloc: Global, kind: &Kind, command: bool) -> Result<String, OutOfM
     Ok(line)
 }
 
-/// The count of octets, and the octets where there are some.
+/// The count of octets, and the octets if there are some.
 fn information_line(alloc: Global, octets: &Octets) -> Result<String, OutOfMemory>
     ensures { IfOk result (λ line. string_bytes line ≡ information_text octets.now) }
 {

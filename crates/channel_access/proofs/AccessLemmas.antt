@@ -19,7 +19,7 @@ use Rattle.channel_access.proofs.StageLemmas.{now_at}
 use Rattle.channel_access.proofs.TickLemmas.{all_waiting}
 use Rattle.channel_access.proofs.AirLemmas.{at_end, run_samples, run_sent, run_air}
 
--- a new transmission, where a frame waits
+-- a new transmission, if a frame waits
 pub begins : (parameters : Parameters) (waiting : List WaitingFrame) (generator : Lcg) (slot : ℕ) → 1 ≤ length waiting
     → Goes (new_sending parameters) waiting (begun (record {
       waiting = waiting;
@@ -120,7 +120,7 @@ pub record IsTick (busy : Bool) (held : Held) (channel : Channel) : Type 0 where
   pub tick : held_tick busy held ≡ air_tick busy channel
   pub after : StandsFor (after_held_tick busy held) (after_tick busy channel)
 
--- a transmission begins only where a frame waits
+-- a transmission begins only when a frame waits
 some_wait : (busy : Bool) (channel : Channel) → (decision busy channel).begins ≡ true → 1 ≤ length channel.waiting
 some_wait busy channel begins =
     elim (cases_Bool (eqb (length channel.waiting) 0)) [
@@ -134,7 +134,7 @@ some_wait busy channel begins =
           omega arith
     ]
 
--- the decision of a tick at rest, d, where channel is the channel with it
+-- the decision of a tick at rest, d, channel being the channel with it
 rest_tick : (busy : Bool) (channel : Channel) (d : Decision) (b : Bool) → (b ≡ true → 1 ≤ length channel.waiting)
     → All (λ frame. HasFrameLength frame.octets) channel.waiting
     → SendsTick (cond b (Some (new_sending channel.parameters)) None) channel.waiting

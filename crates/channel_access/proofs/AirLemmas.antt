@@ -154,7 +154,7 @@ wave-append sent rest =
       ap wave (line_from-append Mark sent rest) ∙ wave_from-append 0 (line sent) tones,
     )
 
--- the samples so far are the first of all samples with zeros behind them
+-- the samples so far are the first of all samples with zeros after them
 first_samples : (total : ℕ) (t : OnAir) (sent rest : List Bool) → sent ++ rest ≡ bits_of t → length sent ≤ total
     → (rest ≡ []) ⊎ (length sent ≡ total) → total ≤ length sent + 12
     → (later : List ℤ) × (samples_of t ++ replicate 96 (pos 0) ≡ padded total sent ++ later)

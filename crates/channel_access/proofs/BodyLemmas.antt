@@ -53,7 +53,7 @@ pub length-flag_rest : (left : ℕ) → length (flag_rest left) ≡ left
 length-flag_rest zero = refl
 length-flag_rest (suc left) = ap suc (length-flag_rest left)
 
--- the closing flags come behind all else
+-- the closing flags come after all else
 pub body-closing : (frames : List (List ℕ)) (opening closing : ℕ)
     → body frames opening closing ≡ body frames opening 0 ++ flags closing
 unfolding body
@@ -67,12 +67,12 @@ body-more_closing frames opening closing =
     let more : 1 + closing ≡ suc closing = omega arith in
     ap (λ n. flags opening ++ (joined frames ++ flags n)) more ∙ simp append_assoc
 
--- the first frame comes behind the opening flags
+-- the first frame comes after the opening flags
 pub body-single : (octets : List ℕ) (opening : ℕ) → body (octets ∷ []) opening 0 ≡ flags opening ++ frame_bits octets
 unfolding body
 body-single octets opening = ap (λ bits. flags opening ++ bits) (append-nil (frame_bits octets))
 
--- another one comes behind the flag that follows the one before
+-- another one comes after the flag that follows the one before
 pub body-push : (past : List (List ℕ)) (last next : List ℕ) (opening : ℕ)
     → body ((past ++ last ∷ []) ++ next ∷ []) opening 0 ≡ body (past ++ last ∷ []) opening 1 ++ frame_bits next
 unfolding body

@@ -31,7 +31,7 @@ whole_length : length (bits_of whole) ≡ 762
 unfolding fcs_of octet_bits with_fcs frame_bits body bits_of
 whole_length = refl
 
--- the flag behind the frame ends with bit 746, the second of tick 63
+-- the flag after the frame ends with bit 746, the second of tick 63
 flag_place : flag_end 1 whole ≡ 746
 unfolding fcs_of octet_bits with_fcs frame_bits body flag_end
 flag_place = refl

@@ -1,5 +1,5 @@
 -- Bits of one tick: what is decided and named bit by bit is what is decided and named at its end. Frames are
--- longer than a tick, so a tick sees at most one end of a frame and one flag behind a frame.
+-- longer than a tick, so a tick sees at most one end of a frame and one flag after a frame.
 use Rattle.std.proofs.Common.{◌≡◌, ℕ, ◌+◌, ◌<◌, ◌≤◌, ◌⊎◌, Bool, true, false, not, ◌&&◌, leb, ltb, List, [], ◌∷◌, ◌++◌, length, drop, refl, ap, ◌∙◌, sym, subst, inl, inr, arith, length-append, append-nil}
 use Rattle.std.specs.List.{All}
 use Rattle.std.proofs.lemmas.Bool.{cases_Bool, cond-true, cond-false, leb-true, leb-false}
@@ -28,12 +28,12 @@ pub record IsSettled (limit : ℕ) (t : OnAir) : Type 0 where
 abbrev pub next_named : OnAir → OnAir
 next_named t = record t { named = t.named + 1 }
 
--- Up to so many bits the flag behind a frame may end, and nothing else comes.
+-- Up to so many bits the flag after a frame may end, and nothing else comes.
 pub record MayName (limit : ℕ) (t : OnAir) : Type 0 where
   pub quiet : IsQuiet limit t
   pub then_settled : IsSettled limit (next_named t)
 
--- The last frame may end, and then the flag behind it.
+-- The last frame may end, and then the flag after it.
 pub record MayEnd (limit : ℕ) (waiting : List WaitingFrame) (t : OnAir) : Type 0 where
   pub goes : t.ends ≡ false
   pub flag_later : (bits : ℕ) → bits < frames_end t → names_next bits t ≡ false
@@ -54,7 +54,7 @@ settled_when_all : (limit : ℕ) (t : OnAir) → t.ends ≡ true → t.named ≡
 settled_when_all limit t ended all =
     record { none = λ bits below. frames_ended bits t ended; unnamed = λ bits below. all_named bits t all }
 
--- where the last frame ends later, its flag ends later too
+-- if the last frame ends later, its flag ends later too
 settled_before_end : (limit : ℕ) (t : OnAir) (past : List (List ℕ)) (octets : List ℕ) → t.frames ≡ past ++ octets ∷ []
     → t.named ≡ length past → limit < frames_end t → IsSettled limit t
 settled_before_end limit t past octets frames named later =
@@ -64,7 +64,7 @@ settled_before_end limit t past octets frames named later =
       unnamed = λ bits below. flag_goes_on bits t (omega arith);
     }
 
--- where another frame comes behind the flag
+-- if another frame comes after the flag
 next_is_long : (limit : ℕ) (t : OnAir) (past : List (List ℕ)) (octets next : List ℕ)
     → t.frames ≡ (past ++ octets ∷ []) ++ next ∷ [] → t.named ≡ length past → 15 ≤ length next
     → limit ≤ flag_end (t.named + 1) t + 12 → MayName limit t
@@ -180,7 +180,7 @@ pub record IsAfter (limit bits : ℕ) (waiting : List WaitingFrame) (t : OnAir) 
   pub settled : IsSettled limit (next_named (decided bits waiting t))
 
 module _ (limit bits : ℕ) (below : bits + 1 ≤ limit) (waiting : List WaitingFrame) (t : OnAir) where
-  -- where the transmission as it is decided is u, now and with the next bit
+  -- if the transmission as it is decided is u, now and with the next bit
   before_or_after : (u : OnAir) → decided bits waiting t ≡ u → decided (bits + 1) waiting t ≡ u
       → decided (bits + 1) waiting u ≡ u → IsSettled limit (next_named u)
       → IsBefore bits waiting t ⊎ IsAfter limit bits waiting t

@@ -12,7 +12,7 @@ use Rattle.channel_access.specs.Channel.{air_sent, air_waiting, Takes}
 use Rattle.channel_access.specs.StandsFor.{Stands, StandsForAir}
 use Rattle.channel_access.proofs.StageLemmas.{by_test, frames_ended, all_named}
 
--- a decision adds frames behind those that the transmission has
+-- a decision adds frames after those that the transmission has
 pub record AddsFrames (t u : OnAir) : Type 0 where
   pub more : List (List ℕ)
   pub frames : u.frames ≡ t.frames ++ more

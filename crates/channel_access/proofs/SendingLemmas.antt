@@ -19,7 +19,7 @@ use Rattle.channel_access.specs.Held.{Step, step_of, with_step, behind_bit, wind
 use Rattle.channel_access.specs.StandsFor.{Sends, Counts}
 use Rattle.channel_access.proofs.StageLemmas.{Steps, IsOver, stage_cases, now_at, waiting_at, named_at}
 
--- the samples of the bits sent so far, and zeros where there were none
+-- the samples of the bits sent so far, and zeros if there were none
 unfoldable pub padded : ℕ → List Bool → List ℤ
 padded total sent = wave (line sent) ++ replicate (8 * (total - length sent)) (pos 0)
 

@@ -132,7 +132,7 @@ module _ (bits : ℕ) (t : OnAir) where
       ap (λ b. b && leb (flag_end (t.named + 1) t) bits) (lt-ltb t.named (length t.frames) some)
       ∙ le-leb (flag_end (t.named + 1) t) bits h
 
--- the flag behind the frame that is named next, where these frames are named and those follow
+-- the flag after the frame that is named next, if these frames are named and those follow
 pub flag_end-at : (t : OnAir) (past : List (List ℕ)) (octets : List ℕ) (next : List (List ℕ))
     → t.frames ≡ (past ++ octets ∷ []) ++ next → t.named ≡ length past
     → flag_end (t.named + 1) t ≡ length (body (past ++ octets ∷ []) t.opening 1)
@@ -152,7 +152,7 @@ pub length-frames_flag : (t : OnAir) → length (body t.frames t.opening 1) ≡ 
 unfolding frames_end
 length-frames_flag t = length-body_flag t.frames t.opening
 
--- behind the last frame
+-- after the last frame
 pub flag_end-last : (t : OnAir) (past : List (List ℕ)) (octets : List ℕ) → t.frames ≡ past ++ octets ∷ []
     → t.named ≡ length past
     → flag_end (t.named + 1) t ≡ frames_end t + 8
@@ -340,7 +340,7 @@ module _ (f : FrameBits) (front : WaitingFrame) (others : List WaitingFrame) (t 
     ended : has_sent_frames (total + 1) t ≡ true
     ended = frames_end_here (total + 1) t h.ends (omega (arith, end_here))
 
-    -- the flag behind the frame is to come
+    -- the flag after the frame is to come
     flag_comes : (sent ++ next.bit ∷ []) ++ flag_rest 8 ≡ body (h.past ++ front.octets ∷ []) t.opening 1
     flag_comes =
         ap (λ xs. xs ++ flag_rest 8) (
@@ -485,7 +485,7 @@ frame_steps f front others t total sent h count tail frames is_frames =
     (λ over. ended_step f front others t total sent h count next over frames is_frames)
     (λ goes. frame_goes_on f front others t total sent h count next goes frames is_frames))
 
--- ---- a bit of the flag behind a frame
+-- ---- a bit of the flag after a frame
 
 module _ (left : ℕ) (front : WaitingFrame) (next : List (List ℕ)) (last : Bool) (t : OnAir) (total : ℕ)
     (sent : List Bool)
@@ -612,7 +612,7 @@ following_next left front follower more t total sent h count fits tail frames is
       named = omega (arith, h.named, length-append h.past (front.octets ∷ []));
     }))
 
--- the closing flags behind the first one
+-- the closing flags after the first one
 closing_follows : (frames : List (List ℕ)) (opening tail : ℕ) (now : List Bool) → 1 < closing_flags tail
     → now ≡ body frames opening 1
     → now ++ flag_rest (8 * (closing_flags tail - 1)) ≡ body frames opening (closing_flags tail)
@@ -702,7 +702,7 @@ pub record IsOver (waiting : List WaitingFrame) (t : OnAir) (total : ℕ) (sent 
   pub place : names_next (total + 1) (decided (total + 1) waiting t) ≡ true
       → flag_end ((decided (total + 1) waiting t).named + 1) (decided (total + 1) waiting t) ≡ total + 1
 
--- a step sends a bit where all bits so far were sent, or nothing is left
+-- a step sends a bit if all bits so far were sent, or nothing is left
 pub record SendsBit (waiting : List WaitingFrame) (t : OnAir) (total : ℕ) (sent : List Bool)
     (step : Step) : Type 0 where
   pub steps : Steps waiting t total sent step

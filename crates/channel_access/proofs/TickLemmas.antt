@@ -52,7 +52,7 @@ pub record AtBit (total : ℕ) (waiting : List WaitingFrame) (t : OnAir) (first 
 
 module _ (total : ℕ) (waiting : List WaitingFrame) (t : OnAir) (first : List Bool) (bits count : ℕ) (run : Run)
     (h : AtBit total waiting t first bits run) (at : bits ≡ total + count) where
-  -- the sender with the next bit, where that is what is so then
+  -- the sender with the next bit, if that is what is so then
   next_bit : (m : SendsMore run.sending run.waiting (now_at bits waiting t) bits h.more
       (step_of run.sending run.waiting))
       → now_at (bits + 1) waiting t ≡ m.now
@@ -107,7 +107,7 @@ module _ (total : ℕ) (waiting : List WaitingFrame) (t : OnAir) (first : List B
             ∙ none ∙ sym (cond-false (names_next (bits + 1) next) _ None goes_on)
       ])
 
-  -- behind it
+  -- after it
   bit_after : (limit : ℕ) → bits + 1 ≤ limit
       → SendsMore run.sending run.waiting (now_at bits waiting t) bits h.more (step_of run.sending run.waiting)
       → IsAfter limit bits waiting t → AtBit total waiting t first (bits + 1) (with_bit count run)

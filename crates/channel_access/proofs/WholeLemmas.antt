@@ -18,7 +18,7 @@ use Rattle.channel_access.proofs.StageLemmas.{by_test}
 use Rattle.channel_access.proofs.SendingLemmas.{length-wave_from}
 use Rattle.channel_access.proofs.AirLemmas.{open_bits, closed_bits, samples_of-is, wave-append}
 
--- the closing flags come behind all frames
+-- the closing flags come after all frames
 closes_adds : (t : OnAir) → t.ends ≡ false
     → (rest : List Bool) × (bits_of (record t { ends = true }) ≡ bits_of t ++ rest)
 closes_adds t goes = (
@@ -38,7 +38,7 @@ open_when_ended bits t ended =
       | inr goes ↦ goes
     ]
 
--- another frame comes behind all frames
+-- another frame comes after all frames
 body-one_more : (frames : List (List ℕ)) (octets : List ℕ) (opening : ℕ)
     → (rest : List Bool) × (body (frames ++ octets ∷ []) opening 0 ≡ body frames opening 0 ++ rest)
 unfolding body
@@ -78,7 +78,7 @@ length-samples_of t =
     ap length (samples_of-is t) ∙ length-wave_from 0 (line (bits_of t))
     ∙ ap (λ n. 8 * n) (length-line_from Mark (bits_of t))
 
--- a piece of a list is there with anything behind the list
+-- a piece of a list is there with anything after the list
 piece : (xs ys : List ℤ) (start size : ℕ) → start + size ≤ length xs
     → take size (drop start (xs ++ ys)) ≡ take size (drop start xs)
 piece xs ys start size within =

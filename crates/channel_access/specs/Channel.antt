@@ -101,7 +101,7 @@ air_tick busy channel =
       sent = air_sent now.waiting now.air;
     }
 
--- and the channel behind it
+-- and the channel after it
 abbrev pub after_tick : Bool → Channel → Channel
 after_tick busy channel =
     let now = after_rules busy channel in

@@ -34,7 +34,7 @@ bit_count octets = 8 * (length octets + 2)
 abbrev pub frame_start : List ℕ → FrameBits
 frame_start octets = record { place = 0; ones = 0; check = fcs_of octets }
 
--- the next bit, and where the frame stands behind it: a zero is inserted behind five 1s, and else the bit at the place
+-- the next bit, and where the frame stands after it: a zero is inserted after five 1s, and else the bit at the place
 -- comes
 abbrev pub behind_place : FrameBits → Bool → FrameBits
 behind_place f bit = record f { place = f.place + 1; ones = if bit then f.ones + 1 else 0 }
@@ -78,7 +78,7 @@ behind_opening left waiting = if nat_lt 1 left then Opening (left - 1) else fron
 abbrev pub joins : ℕ → List WaitingFrame → Bool
 joins frames waiting = nat_lt frames most_frames && nat_lt 1 (length waiting)
 
--- the closing flags behind the first of them
+-- the closing flags after the first of them
 abbrev pub other_closing : ℕ → Stage
 other_closing tail = if nat_lt 1 (closing_flags tail) then Closing (8 * (closing_flags tail - 1)) else Over
 
@@ -89,7 +89,7 @@ behind_flag false tail waiting = other_closing tail
 abbrev pub behind_closing : ℕ → Stage
 behind_closing left = if nat_lt 1 left then Closing (left - 1) else Over
 
--- the sender behind the last bit of a frame, where so many frames wait
+-- the sender after the last bit of a frame, if so many frames wait
 abbrev pub followed : ℕ → Sending → Sending
 followed waiting s =
     let another = nat_lt s.frames most_frames && nat_lt 1 waiting in
@@ -119,7 +119,7 @@ abbrev pub front_octets : List WaitingFrame → Option (List ℕ)
 front_octets [] = None
 front_octets (front ∷ others) = Some front.octets
 
--- the flag behind the front frame, which is named with the last bit of it
+-- the flag after the front frame, which is named with the last bit of it
 abbrev pub flag_step : ℕ → Bool → ℕ → ℕ → List WaitingFrame → Step
 flag_step left another tail frames waiting =
     if nat_lt 1 left
@@ -172,7 +172,7 @@ unfoldable pub window_of : Sending → Option Bool → List ℤ
 window_of s None = replicate 8 (pos 0)
 window_of s (Some bit) = tone_window s.modulator (sent_tone s.line bit)
 
--- the sender behind it
+-- the sender after it
 abbrev pub behind_bit : Sending → Option Bool → Sending
 behind_bit s None = s
 behind_bit s (Some bit) =
@@ -187,12 +187,12 @@ pub record Run : Type 0 where
   pub samples : List ℤ
   pub sent : Option Sent
 
--- the frame that a step names, if it does, behind so many bits
+-- the frame that a step names, if it does, after so many bits
 abbrev pub sent_with : Option (List ℕ) → ℕ → Option Sent → Option Sent
 sent_with None bits before = before
 sent_with (Some octets) bits before = Some (record { octets = octets; after = 8 * bits })
 
--- one bit more, behind so many
+-- one bit more, after so many
 unfoldable pub with_bit : ℕ → Run → Run
 with_bit count run =
     let step = step_of run.sending run.waiting in

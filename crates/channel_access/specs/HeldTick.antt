@@ -24,7 +24,7 @@ with_held_decision d held = record held { slot = d.slot; generator = d.generator
 abbrev pub run_of : Sending → List WaitingFrame → Run
 run_of s waiting = with_bits 12 (tick_start s waiting)
 
--- the sender behind it, where something is left
+-- the sender after it, if something is left
 abbrev pub going_on : Sending → Option Sending
 going_on s = if stage_over s.stage then None else Some s
 
@@ -43,7 +43,7 @@ after_held_send (Some s) held = record held {
   waiting = (run_of s held.waiting).waiting;
 }
 
--- what is kept with the decision of a tick, where it is at rest
+-- what is kept with the decision of a tick, if it is at rest
 abbrev pub held_begun : Bool → Held → Option Sending → Held
 held_begun busy held (Some s) = held
 held_begun busy held None =

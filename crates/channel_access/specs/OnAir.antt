@@ -7,7 +7,7 @@ use Rattle.channel_access.specs.declared.air_tick.Sent.{Sent}
 use Rattle.channel_access.specs.Waiting.{WaitingFrame}
 
 -- The frames are those that it has as far as that is decided, in order, and `ends` says that no further one follows. Of
--- these frames the first `named` are sent, each with the flag behind it, and so many ticks of the whole are sent.
+-- these frames the first `named` are sent, each with the flag after it, and so many ticks of the whole are sent.
 pub record OnAir : Type 0 where
   pub opening : ℕ
   pub closing : ℕ
@@ -24,7 +24,7 @@ most_frames = 8
 abbrev pub bits_then : OnAir → ℕ
 bits_then t = 12 * (t.ticks + 1)
 
--- the flags behind the last frame: none is decided before it is decided that no further frame follows
+-- the flags after the last frame: none is decided before it is decided that no further frame follows
 abbrev pub flags_behind : OnAir → ℕ
 flags_behind t = if t.ends then t.closing else 0
 
@@ -39,7 +39,7 @@ samples_of t = transmission t.frames t.opening (flags_behind t)
 unfoldable pub frames_end : OnAir → ℕ
 frames_end t = length (body t.frames t.opening 0)
 
--- how many are sent when the flag behind its first frames, so many of them, is sent
+-- how many are sent when the flag after its first frames, so many of them, is sent
 unfoldable pub flag_end : ℕ → OnAir → ℕ
 flag_end count t = length (body (take count t.frames) t.opening 1)
 
@@ -47,7 +47,7 @@ flag_end count t = length (body (take count t.frames) t.opening 1)
 abbrev pub has_sent_frames : ℕ → OnAir → Bool
 has_sent_frames bits t = not t.ends && nat_le (frames_end t) bits
 
--- What follows the last frame, where these wait behind it: the first of them, where the transmission has fewer than
+-- What follows the last frame, if these wait after it: the first of them, if the transmission has fewer than
 -- eight frames, and else the closing flags.
 abbrev pub followed_by : List WaitingFrame → OnAir → OnAir
 followed_by [] t = record t { ends = true }
@@ -60,7 +60,7 @@ followed_by (next ∷ others) t =
 abbrev pub decided : ℕ → List WaitingFrame → OnAir → OnAir
 decided bits waiting t = if has_sent_frames bits t then followed_by (drop 1 waiting) t else t
 
--- With so many bits sent, the flag behind the first frame that is not named yet is sent.
+-- With so many bits sent, the flag after the first frame that is not named yet is sent.
 abbrev pub names_next : ℕ → OnAir → Bool
 names_next bits t = nat_lt t.named (length t.frames) && nat_le (flag_end (t.named + 1) t) bits
 
@@ -71,7 +71,7 @@ with_named bits t = if names_next bits t then record t { named = t.named + 1 } e
 abbrev pub waiting_with_named : ℕ → OnAir → List WaitingFrame → List WaitingFrame
 waiting_with_named bits t waiting = if names_next bits t then drop 1 waiting else waiting
 
--- That frame, with the samples from the beginning of the tick to the end of the flag behind it.
+-- That frame, with the samples from the beginning of the tick to the end of the flag after it.
 abbrev pub frame_named : ℕ → OnAir → Option Sent
 frame_named bits t =
     if names_next bits t

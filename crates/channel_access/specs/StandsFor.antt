@@ -1,4 +1,4 @@
--- What an access stands for: the channel of the definitions, where the transmission under way is known from its first
+-- What an access stands for: the channel of the definitions, if the transmission under way is known from its first
 -- bit.
 -- Public clauses cite `StandsFor` and its field `waiting` alone.
 use Rattle.std.specs.Prelude.{◌≡◌, ℕ, zero, suc, ◌-◌, ◌*◌, ◌≤◌, Bool, true, false, List, [], ◌∷◌, ◌++◌, length, drop, nat_le, Option, Some, None, if◌then◌else◌}
@@ -17,7 +17,7 @@ use Rattle.channel_access.specs.OnAir.{OnAir}
 use Rattle.channel_access.specs.Channel.{Channel}
 use Rattle.channel_access.specs.Held.{Held, bits_in, frame_over, flag_bit, stage_over}
 
--- bits with inserted zeros, behind so many 1s
+-- bits with inserted zeros, after so many 1s
 abbrev pub rest_behind : ℕ → List Bool → List Bool
 rest_behind ones bits = if nat_le 5 ones then false ∷ stuffed_from bits 4 else stuffed_from bits (4 - ones)
 
@@ -46,7 +46,7 @@ pub record InFrame (f : FrameBits) (front : WaitingFrame) (t : OnAir) (sent : Li
   pub ends : t.ends ≡ false
   pub named : t.named ≡ length past
 
--- behind the flag come these frames, one or none
+-- after the flag come these frames, one or none
 pub record InFlag (left : ℕ) (front : WaitingFrame) (next : List (List ℕ)) (last : Bool) (t : OnAir) (sent : List Bool)
     : Type 0 where
   pub past : List (List ℕ)

@@ -2,7 +2,7 @@
 use Rattle.std.specs.Prelude.{◌≡◌, ℕ, ◌≤◌, Option, Some, List, length}
 use Rattle.std.specs.List.{Any}
 
--- a frame that waits, without its check sequence, and the key of the link that it belongs to, where it belongs to one
+-- a frame that waits, without its check sequence, and the key of the link that it belongs to, if it belongs to one
 pub record WaitingFrame : Type 0 where
   pub link : Option ℕ
   pub octets : List ℕ

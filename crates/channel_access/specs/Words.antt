@@ -12,6 +12,6 @@ generator_of seed = started 64 multiplier_64 seed (increment_of 64 1)
 abbrev pub draw : Lcg → ℕ
 draw generator = (pcg32 generator).0 % 256
 
--- the generator behind that word
+-- the generator after that word
 abbrev pub behind_draw : Lcg → Lcg
 behind_draw generator = (pcg32 generator).1

@@ -61,7 +61,7 @@ impl Access {
         })
     }
 
-    /// Puts a frame of 15 to 1024 octets, without its check sequence, behind all others. Hands it back exactly where
+    /// Puts a frame of 15 to 1024 octets, without its check sequence, after all others. Hands it back exactly when
     /// 256 wait. `link` is the key of the link that it belongs to.
     pub fn queue(&mut self, link: Option<u32>, octets: Octets) -> Result<(), Octets>
         requires { HasFrameLength octets }
@@ -87,7 +87,7 @@ impl Access {
         self.parameters
     }
 
-    /// A tick of 10 ms, where `busy` says whether another station is heard. At rest it decides whether a transmission
+    /// A tick of 10 ms; `busy` says whether another station is heard. At rest it decides whether a transmission
     /// begins, and that begins at once. Frames that wait when the frame before them ends join it, up to eight.
     pub fn tick(&mut self, busy: bool) -> AirTick
         ensures tick { (channel : Channel) → StandsFor self.old channel → result ≡ air_tick busy channel }

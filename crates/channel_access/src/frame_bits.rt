@@ -30,7 +30,7 @@ impl FrameBits {
         }
     }
 
-    /// The next bit and where the sender stands behind it. None where no bit is left.
+    /// The next bit and where the sender stands after it. None if no bit is left.
     pub(crate) fn next(self, octets: &[u8]) -> Option<(bool, FrameBits)>
         requires { length octets.now ≤ 1024 }
         ensures { result ≡ next_in_frame self octets.now }

@@ -4,13 +4,13 @@ ghost use Rattle.afsk_modulator.specs.Transmission.{transmission};
 ghost use Rattle.channel_access.specs.Waiting.{WaitingFrame};
 ghost use Rattle.channel_access.specs.OnAir.{OnAir, bits_then, bits_of, samples_of, decided, tick_samples};
 
-/// What is decided of a transmission while it runs only adds bits behind those that were decided before.
+/// What is decided of a transmission while it runs only adds bits after those that were decided before.
 pub fn decisions_add_bits()
     ensures { (bits : ℕ) (waiting : List WaitingFrame) (t : OnAir)
         → (rest : List Bool) × (bits_of (decided bits waiting t) ≡ bits_of t ++ rest) }
 {}
 
-/// Where no further frame follows, its samples are those of one transmission of all its frames.
+/// If no further frame follows, its samples are those of one transmission of all its frames.
 pub fn the_end_is_a_transmission()
     ensures { (t : OnAir) → t.ends ≡ true → samples_of t ≡ transmission t.frames t.opening t.closing }
 {}

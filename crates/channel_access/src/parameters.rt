@@ -11,7 +11,7 @@ pub enum Param {
     Persist(u8),
     /// The slot time: how long a transmission waits after a draw that began none.
     SlotTime(u8),
-    /// TXtail: how long flags are sent behind the last frame.
+    /// TXtail: how long flags are sent after the last frame.
     TxTail(u8),
     /// Full duplex: a transmission begins whether or not the channel is busy.
     FullDuplex(bool),

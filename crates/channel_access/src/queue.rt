@@ -77,7 +77,7 @@ impl Queue {
         })
     }
 
-    /// Puts a frame at the back, or hands it back where 256 wait.
+    /// Puts a frame at the back, or hands it back if 256 wait.
     pub(crate) fn push(&mut self, link: Option<u32>, octets: Octets) -> Result<(), Octets>
         requires { HasFrameLength octets }
         ensures full { IsErr result ↔ (length self.old ≡ 256) }

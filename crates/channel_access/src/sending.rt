@@ -18,7 +18,7 @@ const TICK_BITS: u8 = 12;
 const MOST_FRAMES: u8 = 8;
 
 /// A transmission that has begun. The frame that it sends is the front one of the queue, and leaves it when the flag
-/// behind it is sent.
+/// after it is sent.
 #[derive(Drop)]
 pub(crate) struct Sending {
     stage: Stage,
@@ -33,7 +33,7 @@ pub(crate) struct Sending {
 /// What one bit of a transmission is.
 #[derive(Drop)]
 struct Bit {
-    /// The bit, or none where nothing is left.
+    /// The bit, or none if nothing is left.
     value: Option<bool>,
     /// The frame whose following flag ends with it.
     named: Option<Octets>,
@@ -151,7 +151,7 @@ impl Sending {
         Bit::silent()
     }
 
-    /// The last bit of the front frame is sent, and it is decided what follows: another frame where one waits behind it
+    /// The last bit of the front frame is sent, and it is decided what follows: another frame if one waits after it
     /// and there are fewer than eight, and else the closing flags.
     fn follow(&mut self, waiting: usize)
         ensures { self.new ≡ followed waiting self.old }
@@ -163,7 +163,7 @@ impl Sending {
         self.stage = Stage::Following { left: 8, another };
     }
 
-    /// A bit of the flag behind the front frame. With its last one that frame is sent.
+    /// A bit of the flag after the front frame. With its last one that frame is sent.
     fn step_in_flag(&mut self, left: u8, another: bool, queue: &mut Queue) -> Bit
         ensures bit { result.value ≡ Some (flag_bit left) }
         ensures named { result.named ≡ (flag_step left another self.old.tail self.old.frames queue.old).named }
@@ -239,7 +239,7 @@ fn front_begins(queue: &Queue) -> Stage
     }
 }
 
-/// The closing flags behind the first of them.
+/// The closing flags after the first of them.
 fn other_closing(tail: u8) -> Stage
     ensures { result ≡ other_closing tail }
 {
@@ -262,7 +262,7 @@ fn put_window(samples: &mut [i16; SAMPLES], count: u8, window: &[i16; 8])
     samples[start..start + 8].copy_from_slice(window.as_slice());
 }
 
-/// The frame that was sent so far, where so many bits of the tick are sent and the last of them names a frame or none.
+/// The frame that was sent so far, if so many bits of the tick are sent and the last of them names a frame or none.
 fn sent_with(named: Option<Octets>, bits: u8, sent: Option<Sent>) -> Option<Sent>
     requires { bits ≤ 12 }
     ensures { result ≡ sent_with named bits sent }

@@ -9,9 +9,9 @@ pub(crate) enum Stage {
     Opening { left: u16 },
     /// The frame at the front of the queue.
     Frame { bits: FrameBits },
-    /// The flag behind the frame at the front of the queue, and whether another frame follows it.
+    /// The flag after the frame at the front of the queue, and whether another frame follows it.
     Following { left: u8, another: bool },
-    /// The closing flags behind the first of them.
+    /// The closing flags after the first of them.
     Closing { left: u16 },
     /// Nothing is left.
     Over,

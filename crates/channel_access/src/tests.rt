@@ -20,7 +20,7 @@ fn shortest(alloc: Global) -> Result<Octets, Fail>
     Ok(Octets::from_slice(alloc, SHORTEST.as_slice())?)
 }
 
-// An access where so many frames wait, each of the link of its number.
+// An access in which so many frames wait, each of the link of its number.
 fn access(alloc: Global, seed: u64, frames: u32) -> Result<Access, Fail> {
     let mut access = Access::new(alloc, seed)?;
     for link in 0..frames {
@@ -29,7 +29,7 @@ fn access(alloc: Global, seed: u64, frames: u32) -> Result<Access, Fail> {
     Ok(access)
 }
 
-// With two flags before and one behind, at once.
+// With two flags before and one after, at once.
 fn quick_access(alloc: Global, frames: u32) -> Result<Access, Fail> {
     let mut access = access(alloc, 1, frames)?;
     for param in [Param::TxDelay(0), Param::TxTail(0), Param::FullDuplex(true)] {
@@ -38,7 +38,7 @@ fn quick_access(alloc: Global, frames: u32) -> Result<Access, Fail> {
     Ok(access)
 }
 
-// 78 flags and 138 bits are 762 bits, in 64 ticks of 12. The flag behind the frame ends with bit 746, the second of
+// 78 flags and 138 bits are 762 bits, in 64 ticks of 12. The flag after the frame ends with bit 746, the second of
 // tick 63.
 #[test]
 fn the_shortest_frame_is_one_transmission(rt: HostRuntime) -> Result<(), Fail> {
@@ -122,10 +122,10 @@ fn eight_frames_are_one_transmission(rt: HostRuntime) -> Result<(), Fail> {
     Ok(())
 }
 
-// The last bit of the first frame is bit 154, in tick 13: what comes behind that tick waits for the next transmission.
+// The last bit of the first frame is bit 154, in tick 13: what comes after that tick waits for the next transmission.
 #[test]
 fn a_frame_joins_before_the_end_of_the_one_before(rt: HostRuntime) -> Result<(), Fail> {
-    // the tick behind which the second frame comes, how many transmissions begin, and when the second frame is sent
+    // the tick after which the second frame comes, how many transmissions begin, and when the second frame is sent
     let table: [(u32, u32, u32, u8); 2] = [(12, 1, 26, 64), (13, 2, 28, 48)];
     for (comes, transmissions, last, after) in table {
         let mut access = quick_access(rt.alloc(), 1)?;

@@ -25,7 +25,7 @@ use Rattle.clean_signal.specs.Carried.{Carries, CarriesAll}
 
 -- ---- bits
 
--- behind whole windows of anything, all carried bits but the first are heard
+-- after whole windows of anything, all carried bits but the first are heard
 bits_carried : (offset q : ℕ) (p part : List ℤ) (bit : Bool) (sent : List Bool) → length p ≡ offset + 8 * q → Carries (line (bit ∷ sent)) part
     → bits offset (p ++ part) ≡ bits offset p ++ same_tone (last_tone (tones_at offset p)) (sent_tone Mark bit) ∷ sent
 bits_carried offset q p part bit sent whole carries =
@@ -36,7 +36,7 @@ bits_carried offset q p part bit sent whole carries =
 
 -- ---- one frame
 
--- bits up to the flag behind a frame
+-- bits up to the flag after a frame
 abbrev upto : List Bool → List ℕ → List Bool
 upto mid octets = mid ++ (flag ++ (frame_bits octets ++ flag))
 
@@ -48,7 +48,7 @@ ends_frame : (p : List Bool) (c : Bool) (mid : List Bool) (octets : List ℕ) �
     → EndsFrame (p ++ (c ∷ (flag_tail ++ upto mid octets))) octets
 ends_frame p c mid octets fits = (p ++ (c ∷ (flag_tail ++ mid)), simp append_assoc, fits)
 
--- where bits heard begin with those up to the flag behind a frame, it is a candidate there
+-- where bits heard begin with those up to the flag after a frame, it is a candidate there
 heard_there : (p y : List ℤ) (q : ℕ) (c : Bool) (mid post : List Bool) (octets : List ℕ) (e : ℕ) → IsFrame octets
     → length p ≡ length p % 8 + 8 * q
     → bits (length p % 8) y ≡ bits (length p % 8) p ++ c ∷ ((flag_tail ++ upto mid octets) ++ post)
@@ -95,7 +95,7 @@ frame_found p part rest octets mid post all e fits carries is at =
 abbrev pub IsFound : List ℤ → TrueEnd → Type 0
 IsFound x sent = (offset : ℕ) × IsCandidate x (candidate_at sent.end offset sent.octets)
 
--- frames, each with a flag behind it
+-- frames, each with a flag after it
 abbrev pub closed : List (List ℕ) → List Bool
 closed [] = []
 closed (octets ∷ frames) = frame_bits octets ++ (flag ++ closed frames)

@@ -1,4 +1,4 @@
--- Merging where candidates lie in clusters: equal octets and ends at most 15 apart, each cluster more than 15 behind the
+-- Merging when candidates lie in clusters: equal octets and ends at most 15 apart, each cluster more than 15 after the
 -- one before. One candidate of each cluster remains.
 use Rattle.std.proofs.Common.{◌≡◌, ℕ, ◌+◌, ◌<◌, ◌≤◌, Bool, true, false, List, [], ◌∷◌, ◌++◌, map, refl, ap, sym, ◌∙◌, arith, inl, inr}
 use Rattle.std.specs.Prelude.{◌⊎◌, nat_le, ◌||◌, ◌&&◌}
@@ -21,13 +21,13 @@ pub record IsIn (c : Cluster) (item : Candidate) : Type 0 where
   pub low : c.low ≤ item.end
   pub high : item.end ≤ c.high
 
--- a cluster is at most 15 wide, and more than 15 behind a place
+-- a cluster is at most 15 wide, and more than 15 after a place
 pub record IsBehind (place : ℕ) (c : Cluster) : Type 0 where
   pub far : place + 15 < c.low
   pub rising : c.low ≤ c.high
   pub narrow : c.high ≤ c.low + 15
 
--- each cluster is behind the one before
+-- each cluster is after the one before
 abbrev pub AreApart : ℕ → List Cluster → Type 0
 AreApart place [] = Unit {0}
 AreApart place (c ∷ cs) = IsBehind place c × AreApart c.high cs
@@ -82,7 +82,7 @@ and_false : (b : Bool) → (b && false) ≡ false
 and_false true = refl
 and_false false = refl
 
--- an item that is far behind repeats none
+-- an item that is far after repeats none
 repeats_none : (item : Candidate) (place : ℕ) (before : List Candidate) → Below place before → place + 15 < item.end
     → list_any (repeats item) before ≡ false
 repeats_none item place [] below far = refl
@@ -100,7 +100,7 @@ below_more place more [] item le below end = (end, tt)
 below_more place more (earlier ∷ before) item le below end =
     let first = below.0 in (omega arith, below_more place more before item le below.1 end)
 
--- an item of a cluster to come ends far behind the place
+-- an item of a cluster to come ends far after the place
 later_end : (place : ℕ) (cs : List Cluster) (item : Candidate) → AreApart place cs → IsInOne cs item → place + 15 < item.end
 later_end place [] item apart is = absurd is
 later_end place (c ∷ cs) item apart (inl is) = omega (arith, apart.0.far, is.low)
@@ -120,7 +120,7 @@ have_one_later item items place (c ∷ cs) early apart has =
       have_one_later item items c.high cs (omega (arith, first.far, first.rising)) apart.1 has.1,
     )
 
--- no item that ends behind a cluster is in it, nor any that follows
+-- no item that ends after a cluster is in it, nor any that follows
 none_behind : (items : List Candidate) (from : ℕ) (c : Cluster) → c.high < from → Rising from items → ¬ HasOne items c
 none_behind [] from c late rising has = has
 none_behind (item ∷ items) from c late rising (inl is) = omega (arith, rising.0, is.high)

@@ -36,7 +36,7 @@ length-frame_bits octets fits =
     let same : length (stuffed sent) ≡ length (stuffed_from sent 4) = ap length (stuffed_is sent) in
     omega (arith, length-stuffed_from sent 4, length-sent_bits (with_fcs octets), length-with_fcs octets, fits.least)
 
--- each end is at least 1152 samples, those of 136 bits and a flag, behind a place or the one before
+-- each end is at least 1152 samples, those of 136 bits and a flag, after a place or the one before
 abbrev pub Spaced : ℕ → List TrueEnd → Type 0
 Spaced place [] = Unit {0}
 Spaced place (e ∷ ends) = (place + 1152 ≤ e.end) × Spaced e.end ends

@@ -40,7 +40,7 @@ shortest_end : true_ends (sent 0 (shortest ∷ []) 2 1 ∷ []) ≡ ends_at 1296 
 unfolding fcs_of octet_bits with_fcs frame_bits body
 shortest_end = refl
 
--- After 100 silent samples one frame with three closing flags, 178 bits, and right behind it, with three opening flags,
+-- After 100 silent samples one frame with three closing flags, 178 bits, and right after it, with three opening flags,
 -- two frames with one flag between them: a frame and its flag take 146 bits.
 three_ends : true_ends (sent 100 (shortest ∷ []) 2 3 ∷ sent 0 (shortest ∷ shortest ∷ []) 3 1 ∷ []) ≡ ends_at 1396 ∷ ends_at 2884 ∷ ends_at 4052 ∷ []
 unfolding fcs_of octet_bits with_fcs frame_bits body

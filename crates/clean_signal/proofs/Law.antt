@@ -50,7 +50,7 @@ in_one item [] is = cc
 in_one item (e ∷ ends) is =
     elim (or_cases (is_of item e) (is_sent ends item) is) [ inl here ↦ inl (is_in item e here) | inr later ↦ inr (in_one item ends later) ]
 
--- where each item is in a cluster, all are known
+-- if each item is in a cluster, all are known
 pub all_known : (items : List Candidate) (place : ℕ) (cs : List Cluster) → All (λ item. IsInOne cs item) items → Known [] place cs items
 all_known [] place cs all = tt
 all_known (item ∷ items) place cs all = (inr (All-head (λ i. IsInOne cs i) item items all), all_known items place cs (All-tail (λ i. IsInOne cs i) item items all))

@@ -20,7 +20,7 @@ ends_from begin (octets ∷ frames) = record { end = end_of begin octets; octets
 abbrev pub ends_of : ℕ → Transmission → List TrueEnd
 ends_of begin t = ends_from (begin + t.silence + 64 * t.opening) t.frames
 
--- the ends of transmissions, one behind the other, from a sample on
+-- the ends of transmissions, one after the other, from a sample on
 abbrev pub true_ends_from : ℕ → List Transmission → List TrueEnd
 true_ends_from begin [] = []
 true_ends_from begin (t ∷ transmissions) = ends_of begin t ++ true_ends_from (begin + sample_count t) transmissions

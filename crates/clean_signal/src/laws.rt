@@ -47,7 +47,7 @@ pub fn sent_is_near()
     ensures signal { (level : ℕ) (sent : List Transmission) → 10 ≤ level → IsNearAll (sent_at level sent) (signal_at level sent) }
 {}
 
-/// So do any samples that carry the transmissions, whatever stands between and behind them.
+/// So do any samples that carry the transmissions, whatever stands between and after them.
 pub fn carried_frames()
     ensures { (sent : List Transmission) (x : List ℤ) → All IsTransmission sent → CarriesAll sent x → NoStray sent x → MergesTo (frames_of sent) x }
 {}

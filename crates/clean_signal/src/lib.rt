@@ -1,7 +1,7 @@
 //! What a receiver makes of a clean signal: the frames that were sent, each once, in order.
 //!
 //! Frames are sent by Bell 202 (1200 bits a second at 9600 samples a second) and AX.25 2.2, after any silence. The
-//! eight slicers of a receiver hear each frame several times and may hear others, which noise or chance makes. Where no
+//! eight slicers of a receiver hear each frame several times and may hear others, which noise or chance makes. If no
 //! candidate of the samples is such a stray, merging leaves exactly the frames that were sent: that is a law over the
 //! definitions, for every list of transmissions. [`is_sent`] decides of a candidate whether it is stray.
 #![tactic(auto)]

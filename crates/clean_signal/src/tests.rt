@@ -11,7 +11,7 @@ const SHORTEST: [u8; 15] = [
     0x9c, 0x94, 0x6e, 0xa0, 0x40, 0x40, 0xe0, 0x9c, 0x6e, 0x98, 0x8a, 0x9a, 0x40, 0x61, 0x3f,
 ];
 
-// True where what is heard with these octets at `end` is one of the frames that end at `ends`.
+// True if what is heard with these octets at `end` is one of the frames that end at `ends`.
 fn hears(alloc: Global, octets: &[u8], end: u64, ends: &[u64]) -> Result<bool, OutOfMemory> {
     let mut sent = Vec::new(alloc);
     for end in ends {

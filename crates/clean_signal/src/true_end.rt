@@ -18,7 +18,7 @@ pub struct TrueEnd {
 /// A window is eight samples, one bit at 1200 bits and 9600 samples a second.
 const WINDOW: u64 = 8;
 
-/// True where `item` is one of the frames that were sent, whose true ends are `ends`: it has the octets of one, and ends
+/// True if `item` is one of the frames that were sent, whose true ends are `ends`: it has the octets of one, and ends
 /// less than eight samples before or after its true end. A candidate of which this is false is stray.
 pub fn is_sent(ends: &[TrueEnd], item: &Candidate) -> bool
     ensures { result ≡ is_sent ends.now item.now }
@@ -26,7 +26,7 @@ pub fn is_sent(ends: &[TrueEnd], item: &Candidate) -> bool
     ends.iter().any(|sent| is_of(item, sent))
 }
 
-/// True where `item` is the frame that was sent.
+/// True if `item` is the frame that was sent.
 fn is_of(item: &Candidate, sent: &TrueEnd) -> bool
     ensures { result ≡ is_of item.now sent.now }
 {

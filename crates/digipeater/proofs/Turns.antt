@@ -22,7 +22,7 @@ IsNextRepeater-same hops k j h g = elim (cases_lt k j) [
   | inr from ↦ elim (cases_lt j k) [ inl earlier ↦ absurd (not_before hops j k g h earlier) | inr equal ↦ omega arith ]
 ]
 
--- and none where all are done
+-- and none if all are done
 pub none_is_next : (hops : List Hop) (k : ℕ) → ((j : ℕ) (d : Hop) → j < length hops → (get_or hops j d).done ≡ true) → IsNextRepeater hops k → ⊥
 none_is_next hops k all h = false≢true (sym (h.waits no_hop) ∙ all k no_hop h.within)
 

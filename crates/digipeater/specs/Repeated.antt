@@ -19,7 +19,7 @@ pub record IsTurnOf (call : Callsign) (octets : List ℕ) (k : ℕ) : Type 0 whe
   pub next : IsNextRepeater path.repeaters.items k
   pub called : (d : Hop) → (slice_index_or path.repeaters.items k d).call ≡ call
 
--- where the SSID octet of repeater k stands, behind two fields of seven octets and k more
+-- where the SSID octet of repeater k stands, after two fields of seven octets and k more
 abbrev pub ssid_place : ℕ → ℕ
 ssid_place k = 7 * (k + 2) + 6
 

@@ -6,7 +6,7 @@ ghost use Rattle.ax25_address.specs.declared.path.Hop.{Hop};
 
 use ax25_address::{Call, Hop, read_path};
 
-/// Sets the H bit of the next repeater in the frame where that is the call, and tells whether it was.
+/// Sets the H bit of the next repeater in the frame if that is the call, and tells whether it was.
 /// Else the octets stay as they were.
 pub fn repeat(octets: &mut [u8], call: &Call) -> bool
     ensures turn { IsTrue result ↔ ((k : ℕ) × IsTurnOf call.now octets.old k) }

@@ -63,7 +63,7 @@ not_below-not_below was now (x ∷ xs) le =
           ∙ ap (λ t. cond (nat_le now x.end) (x ∷ t) t) (not_below-not_below was now xs le)
     ]
 
--- where all end at or past a position, nothing is left out
+-- if all end at or past a position, nothing is left out
 not_below_all : (position : ℕ) (xs : List Candidate) → All (λ y. position ≤ y.end) xs → not_below position xs ≡ xs
 not_below_all position [] h = refl
 not_below_all position (x ∷ xs) h =
@@ -84,7 +84,7 @@ below_then_rest position (x ∷ xs) h =
           ap (λ t. t ++ not_below position (x ∷ xs)) (below_none position (x ∷ xs) late) ∙ not_below_all position (x ∷ xs) late
     ]
 
--- nothing ends from a position on, where all end below it
+-- nothing ends from a position on, if all end below it
 between_none : (from to : ℕ) (xs : List Candidate) → All (λ y. y.end < from) xs → between from to xs ≡ []
 between_none from to [] h = refl
 between_none from to (x ∷ xs) h =

@@ -47,7 +47,7 @@ below_none position (x ∷ xs) h =
     ap (λ t. cond t (x ∷ below position xs) (below position xs)) (le-ltb x.end position (All-head (λ y. position ≤ y.end) x xs h))
     ∙ below_none position xs (All-tail (λ y. position ≤ y.end) x xs h)
 
--- where all end at or after `from`, the part up to `to` is the part below `to`
+-- if all end at or after `from`, the part up to `to` is the part below `to`
 pub between_all : (from to : ℕ) (xs : List Candidate) → All (λ y. from ≤ y.end) xs → between from to xs ≡ below to xs
 between_all from to [] h = refl
 between_all from to (x ∷ xs) h =

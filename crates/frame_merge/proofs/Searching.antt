@@ -15,7 +15,7 @@ pub record Searched (item : Candidate) (earlier rest : List Candidate) : Type 0 
   pub same : list_any (repeats item) earlier ≡ list_any (repeats item) rest
   pub rising : IsNonDecreasingBy (λ y. y.end) rest
 
--- where the last that is left ends too early, none that is left is repeated
+-- if the last that is left ends too early, none that is left is repeated
 pub too_early : (item : Candidate) (earlier rest before : List Candidate) (last : Candidate)
     → Searched item earlier rest → rest ≡ before ++ last ∷ [] → length before + 1 ≡ length rest → last.end < item.end - 15
     → list_any (repeats item) earlier ≡ false
@@ -27,7 +27,7 @@ too_early item earlier rest before last h is count early =
     ap (λ t. bytes_eq (get_or rest k d).octets item.octets && t) (lt-leb item.end ((get_or rest k d).end + 15) (omega arith))
     ∙ and-false (bytes_eq (get_or rest k d).octets item.octets))
 
--- where the last that is left is not repeated, the search goes on before it
+-- if the last that is left is not repeated, the search goes on before it
 pub search_on : (item : Candidate) (earlier rest before : List Candidate) (last : Candidate)
     → Searched item earlier rest → rest ≡ before ++ last ∷ [] → length before + 1 ≡ length rest → repeats item last ≡ false
     → Searched item earlier before

@@ -23,7 +23,7 @@ between_one from to earlier item =
       | false ↦ elim (nat_le from item.end && nat_lt item.end to) as (λ u. cond u (item ∷ []) [] ≡ (if u && true then item ∷ [] else [])) [ true ↦ refl | false ↦ refl ]
     ]
 
--- one more candidate, where what is ready so far is known
+-- one more candidate, if what is ready so far is known
 pub between_more : (from to : ℕ) (items : List Candidate) (i : ℕ) (d : Candidate) → i < length items
     → between from to (merged (take (i + 1) items))
     ≡ between from to (merged (take i items)) ++ (if is_ready_after from to (take i items) (get_or items i d) then get_or items i d ∷ [] else [])
@@ -33,7 +33,7 @@ between_more from to items i d l =
     ∙ filter-append _ (merged (take i items)) (merged_after (take i items) (get_or items i d ∷ []))
     ∙ ap (λ t. between from to (merged (take i items)) ++ t) (between_one from to (take i items) (get_or items i d))
 
--- the same where that candidate is ready, and where it is not
+-- the same if that candidate is ready, and if it is not
 pub ready_more : (from to : ℕ) (items : List Candidate) (i : ℕ) (item : Candidate) → i < length items → item ≡ get_or items i item
     → is_ready_after from to (take i items) item ≡ true
     → between from to (merged (take (i + 1) items)) ≡ between from to (merged (take i items)) ++ item ∷ []

@@ -20,7 +20,7 @@ impl Candidate {
     ghost use Rattle.frame_merge.specs.Order.{standing};
     ghost use Rattle.frame_merge.specs.Merged.{repeats};
 
-    /// True where this candidate does not stand after `other`: it ends earlier, or at the same sample and at no higher offset.
+    /// True if this candidate does not stand after `other`: it ends earlier, or at the same sample and at no higher offset.
     pub(crate) fn is_not_after(&self, other: &Candidate) -> bool
         ensures { result ≡ nat_le (standing self.now) (standing other.now) }
     {
@@ -32,7 +32,7 @@ impl Candidate {
         }
     }
 
-    /// True where `earlier` is the same frame heard at most 15 samples before.
+    /// True if `earlier` is the same frame heard at most 15 samples before.
     pub(crate) fn repeats(&self, earlier: &Candidate) -> bool
         ensures { result ≡ repeats self.now earlier.now }
     {

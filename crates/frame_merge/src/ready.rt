@@ -28,7 +28,7 @@ pub(crate) fn ready_between(
     Ok(ready)
 }
 
-/// True where `item` ends from `from` to below `to` and repeats none of `earlier`, which are in order.
+/// True if `item` ends from `from` to below `to` and repeats none of `earlier`, which are in order.
 fn is_ready(earlier: &[Candidate], item: &Candidate, from: u64, to: u64) -> bool
     requires { IsInOrder earlier.now }
     ensures { result ≡ is_ready_after from to earlier.now item.now }
@@ -36,7 +36,7 @@ fn is_ready(earlier: &[Candidate], item: &Candidate, from: u64, to: u64) -> bool
     from <= item.end && item.end < to && !is_repeated(earlier, item)
 }
 
-/// True where `item` repeats one of `earlier`, which are in order. Those that end too early are not looked at.
+/// True if `item` repeats one of `earlier`, which are in order. Those that end too early are not looked at.
 fn is_repeated(earlier: &[Candidate], item: &Candidate) -> bool
     requires { IsInOrder earlier.now }
     ensures { result ≡ list_any (repeats item.now) earlier.now }

@@ -62,7 +62,7 @@ description role (Other which flag octets) =
 
 -- ---- the whole
 
--- the information as it came, and CR, where there is any
+-- the information as it came, and CR, if there is any
 abbrev pub information_text : List ℕ → List ℕ
 information_text [] = []
 information_text (octet ∷ octets) = (octet ∷ octets) ++ 13 ∷ []

@@ -12,7 +12,7 @@ use std::alloc::Global;
 use tnc_base::OutOfMemory;
 
 /// The text of a frame that was heard or sent after so many ticks of 10 ms, as
-/// ` 1:Fm AAAA To BBBB Via CCCC* <UI pid=F0 Len=6 P=0 >[00:00:01]`, CR, its information and CR where there is any, and
+/// ` 1:Fm AAAA To BBBB Via CCCC* <UI pid=F0 Len=6 P=0 >[00:00:01]`, CR, its information and CR if there is any, and
 /// NUL.
 pub fn monitor_text(alloc: Global, frame: &Frame, ticks: u64) -> Result<Vec<u8>, OutOfMemory>
     ensures { IfOk result (λ text. text.items ≡ monitor_text ticks frame.now) }

@@ -60,7 +60,7 @@ last_flag bits (suc place) within =
           ]
     ]
 
--- 10,000 bits behind the last flag a carrier is lost
+-- 10,000 bits after the last flag a carrier is lost
 lost_behind : (bits : List Bool) (old : LastFlag bits (length bits)) → old.end + 10000 ≤ length bits → IsLost (take (length bits) bits)
 lost_behind bits old long =
     let quiet : IsQuiet bits = λ k few ends. old.last (length bits - k) (omega arith) (omega arith) ends in

@@ -135,7 +135,7 @@ module _ (bits : List Bool) (bit : Bool) where
 
 -- ---- the row that ends with a flag
 
--- where the last flag ends 7 or 8 bits before
+-- if the last flag ends 7 or 8 bits before
 abbrev Follows : ℕ → Type 0
 Follows since = (since ≡ 6) ⊎ (since ≡ 7)
 

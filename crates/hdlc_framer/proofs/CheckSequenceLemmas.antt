@@ -150,7 +150,7 @@ length-times_generator (true ∷ q) = omega (arith, length-times_generator q, le
 abbrev with_remainder : List Bool → List Bool → List Bool
 with_remainder q r = add_front (times_generator q) (replicate (length q) false ++ r)
 
--- the generator added once more where the quotient begins with 1
+-- the generator added once more if the quotient begins with 1
 with_generator : (q r : List Bool) → add_front generator_rest (with_remainder q r) ≡ add_front (add_front generator_rest (times_generator q)) (replicate (length q) false ++ r)
 with_generator q r = add_front-add_front generator_rest (times_generator q) (replicate (length q) false ++ r) (omega (arith, length-times_generator q))
 

@@ -45,7 +45,7 @@ stands_framed held b bit event is stands told =
     let ends = frame_event (line_of held) bit event is told in
     record { carrier = carrier_next held.carrier b bit event stands.carrier (event_is held b bit event stands told); line = opened (line_of held) ends.1 ∙ ap (next_line (line_of held)) (sym ends.0) ∙ ap (λ line. next_line line bit) stands.line ∙ sym (line_after-push b bit) }
 
--- where a frame ends, the line before the bit has it
+-- if a frame ends, the line before the bit has it
 pub frame_held : (held : Held) (b : List Bool) (bit : Bool) (octets : List ℕ) → StandsFor held b → EndsFrame (b ++ bit ∷ []) octets
     → (carrier : HeldCarrier) → HoldsFrame (record { line = line_of held; framed = true; carrier = carrier }) octets
 frame_held held b bit octets stands ends carrier =

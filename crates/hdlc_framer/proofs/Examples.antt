@@ -32,7 +32,7 @@ two_frames : length (body (shortest ∷ shortest ∷ []) 2 1) ≡ 308
 unfolding fcs_of octet_bits with_fcs frame_bits body
 two_frames = refl
 
--- two octets FF FF behind a 0: a 0 after the 5th, the 10th and the 15th 1
+-- two octets FF FF after a 0: a 0 after the 5th, the 10th and the 15th 1
 ones_stuffed : stuffed (sent_bits (0xFF ∷ 0xFF ∷ []))
     ≡ true ∷ true ∷ true ∷ true ∷ true ∷ false ∷ true ∷ true ∷ true ∷ true ∷ true ∷ false ∷ true ∷ true ∷ true ∷ true ∷ true ∷ false ∷ true ∷ []
 unfolding octet_bits

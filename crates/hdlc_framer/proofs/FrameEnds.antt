@@ -178,7 +178,7 @@ one_event bits Frame Flag e f = absurd (f.1 e.0 e.1)
 one_event bits Frame Abort e f = absurd (flag_no_abort bits (frame_flag bits e.0 e.1) f)
 one_event bits Frame Frame e f = refl
 
--- A frame that ends here is one frame: equal octets, behind one earlier flag.
+-- A frame that ends here is one frame: equal octets, after one earlier flag.
 pub one_frame : (bits : List Bool) (octets others : List ℕ) (ends : EndsFrame bits octets) (others_end : EndsFrame bits others) → (octets ≡ others) × (ends.0 ≡ others_end.0)
 one_frame bits octets others ends others_end =
     let front = frame_front ends.0 octets in

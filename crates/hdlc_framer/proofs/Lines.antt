@@ -96,7 +96,7 @@ over_frame line bits few =
 
 -- ---- what the line tells of the bits
 
--- the content of a line with so many 1s at the end, where these bits came since the flag
+-- the content of a line with so many 1s at the end, if these bits came since the flag
 pub data Raw (n : ℕ) (raw content : List Bool) : Type 0 where
   few : n + left_after content 4 ≡ 4 → raw ≡ stuffed_from content 4 → Raw n raw content
   five : (front : List Bool) → n ≡ 5 → content ≡ front ++ true ∷ [] → left_after front 4 ≡ 0 → raw ≡ stuffed_from front 4 ++ true ∷ [] → Raw n raw content
@@ -170,7 +170,7 @@ raw_inserted n raw content at_five (six front is e l same) = absurd (omega arith
 raw_opened : Raw 0 [] []
 raw_opened = few refl refl
 
--- bits behind a flag, and one more
+-- bits after a flag, and one more
 further : (bits before raw : List Bool) (bit : Bool) → bits ≡ (before ++ flag) ++ raw → bits ++ bit ∷ [] ≡ (before ++ flag) ++ (raw ++ bit ∷ [])
 further bits before raw bit e = ap (λ xs. xs ++ bit ∷ []) e ∙ append_assoc (before ++ flag) raw (bit ∷ [])
 

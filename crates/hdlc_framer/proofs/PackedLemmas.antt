@@ -19,7 +19,7 @@ packed_push octets filled part octet bit bits seven whole same =
     let at_seven : P 7 = λ e f. packed_octet octets part octet bit e ∙ ap (λ xs. xs ++ bit ∷ []) f in
     subst P seven at_seven whole same
 
--- there is room in a part, or else where the octets are not full
+-- there is room in a part, or else if the octets are not full
 pub room_in_part : (count filled size : ℕ) → count ≤ 1026 → filled < 7 → size ≡ 8 * count + filled → ltb filled 7 ≡ ltb size 8215
 room_in_part count filled size fits part e = lt-ltb filled 7 part ∙ sym (lt-ltb size 8215 (omega arith))
 

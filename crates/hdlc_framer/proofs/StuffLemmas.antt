@@ -11,13 +11,13 @@ use Rattle.hdlc_framer.specs.Frames.{frame_bits, with_fcs}
 use Rattle.hdlc_framer.specs.Stuffing.{flag}
 use Rattle.hdlc_framer.proofs.StuffingLemmas.{stuffed_is, stuffed_from-append, left_after-append}
 
--- stuffed bits, and more of them where the count goes on
+-- stuffed bits, and more of them if the count goes on
 stuffed_more : (before bits more : List Bool) (left : ℕ) → (before ++ stuffed_from bits left) ++ stuffed_from more (left_after bits left) ≡ before ++ stuffed_from (bits ++ more) left
 stuffed_more before bits more left =
     append_assoc before (stuffed_from bits left) (stuffed_from more (left_after bits left)) ∙ ap (λ xs. before ++ xs) (sym (stuffed_from-append bits more left))
 
 module _ (bits more : List Bool) (left here : ℕ) where
-  -- what has been sent, where so many 1s may come here
+  -- what has been sent, if so many 1s may come here
   pub sent_more : (before now next : List Bool) → now ≡ before ++ stuffed_from bits left → here ≡ left_after bits left → next ≡ now ++ stuffed_from more here → next ≡ before ++ stuffed_from (bits ++ more) left
   sent_more before now next is_now is_here is_next =
       is_next ∙ ap (λ xs. xs ++ stuffed_from more here) is_now ∙ ap (λ n. (before ++ stuffed_from bits left) ++ stuffed_from more n) is_here ∙ stuffed_more before bits more left
@@ -53,7 +53,7 @@ joined-push (first ∷ frames) octets = behind first frames octets ∙ ap (λ t.
         ∙ ap (λ xs. frame_bits first ++ xs) (sym (append_assoc flag (joined (next ∷ frames)) (flag ++ frame_bits octets)))
         ∙ sym (append_assoc (frame_bits first) (flag ++ joined (next ∷ frames)) (flag ++ frame_bits octets))
 
--- a frame sent behind other bits
+-- a frame sent after other bits
 pub frame_sent : (before : List Bool) (octets check : List ℕ) (now next : List Bool) (left : ℕ) → check ≡ (fcs_of octets % 256) ∷ (fcs_of octets / 256) ∷ []
     → now ≡ before ++ stuffed_from (sent_bits octets) 4 → left ≡ left_after (sent_bits octets) 4 → next ≡ now ++ stuffed_from (sent_bits check) left → next ≡ before ++ frame_bits octets
 frame_sent before octets check now next left is_check is_now is_left is_next =
@@ -63,7 +63,7 @@ frame_sent before octets check now next left is_check is_now is_left is_next =
     ∙ append_assoc before (stuffed_from (sent_bits octets) 4) (stuffed_from (sent_bits ((fcs_of octets % 256) ∷ (fcs_of octets / 256) ∷ [])) (left_after (sent_bits octets) 4))
     ∙ ap (λ xs. before ++ xs) (sym (frame_bits-is octets))
 
--- one frame more behind the opening flags
+-- one frame more after the opening flags
 pub joined_more : (before now next : List Bool) (frames : List (List ℕ)) (place : ℕ) (octets : List ℕ) → place < length frames → octets ≡ get_or frames place octets → now ≡ before ++ joined (take place frames)
     → next ≡ now ++ cond (eqb place 0) (frame_bits octets) (flag ++ frame_bits octets) → next ≡ before ++ joined (take (place + 1) frames)
 joined_more before now next frames place octets below is_octets is_now is_next =

@@ -1,7 +1,7 @@
 -- Inserted zeros as a sender counts them: how many more 1s may come before the fifth of a run. No public clause cites it.
 use Rattle.std.specs.Prelude.{ℕ, zero, suc, Bool, true, false, List, [], ◌∷◌}
 
--- bits with inserted zeros where so many more 1s may come before the fifth of a run
+-- bits with inserted zeros if so many more 1s may come before the fifth of a run
 abbrev pub stuffed_from : List Bool → ℕ → List Bool
 stuffed_from [] left = []
 stuffed_from (false ∷ bits) left = false ∷ stuffed_from bits 4

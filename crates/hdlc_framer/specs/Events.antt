@@ -4,7 +4,7 @@ use Rattle.hdlc_framer.specs.declared.event.Event.{Event}
 use Rattle.hdlc_framer.specs.declared.event.Event.TheVariants.{None as NoEvent, Flag, Abort, Frame}
 use Rattle.hdlc_framer.specs.Frames.{EndsFrame, EndsFlag, EndsAbort}
 
--- The event of the last bit. The four exclude each other, so each comes exactly where its own line holds.
+-- The event of the last bit. The four exclude each other, so each comes exactly when its own line holds.
 abbrev pub EventAt : List Bool → Event → Type 0
 EventAt bits Frame = (octets : List ℕ) × EndsFrame bits octets
 EventAt bits Flag = EndsFlag bits × ((octets : List ℕ) → ¬ EndsFrame bits octets)

@@ -7,7 +7,7 @@ use Rattle.hdlc_framer.specs.Frames.{with_fcs}
 use Rattle.hdlc_framer.specs.HeldCarrier.{HeldCarrier, CarrierStandsFor}
 
 -- the run of 1s at the end (seven stands for more, too), whether a 0 has come, and the bits since the last flag without
--- inserted zeros; no content where there was no flag, or an abort or too many bits since
+-- inserted zeros; no content if there was no flag, or an abort or too many bits since
 pub record Line : Type 0 where
   pub ones : ℕ
   pub after_zero : Bool
@@ -35,7 +35,7 @@ next_line line false = record { ones = 0; after_zero = true; content = content_a
 abbrev pub new_line : Line
 new_line = record { ones = 0; after_zero = false; content = None }
 
--- right behind a flag
+-- right after a flag
 abbrev pub open_line : Line
 open_line = record { ones = 0; after_zero = true; content = Some [] }
 
@@ -47,7 +47,7 @@ line_after bits = fold next_line new_line bits
 abbrev pub flag_start : List Bool
 flag_start = false ∷ true ∷ true ∷ true ∷ true ∷ true ∷ []
 
--- The line, or where the last bit ended a frame, the line before that bit: so the frame is kept until the next bit. Beside
+-- The line, or if the last bit ended a frame, the line before that bit: so the frame is kept until the next bit. Beside
 -- it the detector of a carrier.
 pub record Held : Type 0 where
   pub line : Line

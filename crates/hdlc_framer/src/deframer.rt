@@ -82,7 +82,7 @@ impl Deframer {
         event
     }
 
-    // Goes on behind the flag that ended the frame, if one is held.
+    // Goes on after the flag that ended the frame, if one is held.
     fn settle(&mut self)
         ensures { self.new ≡ record { line = line_of self.old; framed = false; carrier = self.old.carrier } }
     {

@@ -17,7 +17,7 @@ pub fn one_frame_ends()
         → (octets ≡ others) × (ends.0 ≡ others_end.0) }
 {}
 
-/// One event comes with a bit: so each of the four comes exactly where its own definition holds.
+/// One event comes with a bit: so each of the four comes exactly when its own definition holds.
 pub fn one_event_comes()
     ensures { (bits : List Bool) → (event : Event) → (other : Event)
         → EventAt bits event → EventAt bits other → event ≡ other }

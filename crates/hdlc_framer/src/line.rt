@@ -42,7 +42,7 @@ impl LineState {
         }
     }
 
-    // The line right behind a flag.
+    // The line right after a flag.
     pub fn open(&mut self)
         ensures { self.new ≡ open_line }
     {

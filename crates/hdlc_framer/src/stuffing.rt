@@ -45,7 +45,7 @@ fn push_flags(bits: &mut Vec<bool>, count: u16) -> Result<(), OutOfMemory>
     Ok(())
 }
 
-// A frame, behind a flag if it is not the first.
+// A frame, after a flag if it is not the first.
 fn push_next(bits: &mut Vec<bool>, first: bool, frame: &Octets) -> Result<(), OutOfMemory>
     ensures { OnOk result (bits.new.items
         ≡ bits.old.items ++ (if first then frame_bits frame.now else flag ++ frame_bits frame.now)) }
@@ -64,7 +64,7 @@ fn push_frame(bits: &mut Vec<bool>, octets: &[u8]) -> Result<(), OutOfMemory>
     Ok(())
 }
 
-// The octets with inserted zeros, where `left` more 1s may come before the fifth of a run; gives how many may come then.
+// The octets with inserted zeros, if `left` more 1s may come before the fifth of a run; gives how many may come then.
 fn push_octets(bits: &mut Vec<bool>, octets: &[u8], mut left: u8) -> Result<u8, OutOfMemory>
     requires { left ≤ 4 }
     ensures bits { OnOk result (bits.new.items ≡ bits.old.items ++ stuffed_from (sent_bits octets.now) left) }

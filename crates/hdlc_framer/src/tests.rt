@@ -41,7 +41,7 @@ fn stuffed(alloc: Global, bits: &[bool]) -> Result<Vec<bool>, AllocError> {
     Ok(sent)
 }
 
-// The bits without the one behind every five 1s in a row.
+// The bits without the one after every five 1s in a row.
 fn unstuffed(alloc: Global, sent: &[bool]) -> Result<Vec<bool>, AllocError> {
     let mut bits = Vec::new(alloc);
     let mut ones = 0;
@@ -226,7 +226,7 @@ fn spoiled(alloc: Global, lost: usize, middle: &str) -> Result<Vec<bool>, AllocE
     Ok(bits)
 }
 
-// Random bits with many 1s, and the shortest frame behind them.
+// Random bits with many 1s, and the shortest frame after them.
 fn random_bits(alloc: Global, seed: u32) -> Result<Vec<bool>, AllocError> {
     let mut bits = Vec::new(alloc);
     let mut word = seed;

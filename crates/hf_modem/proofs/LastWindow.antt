@@ -30,7 +30,7 @@ last_window-push x sample =
     ∙ ap (drop 1) (drop-append-le (length x) (silence ++ x) (sample ∷ []) inside)
     ∙ drop-append-le 1 (last_window x) (sample ∷ []) some
 
--- without silence, where there are 32
+-- without silence, if there are 32
 last_window_whole : (x : List ℤ) → 32 ≤ length x → last_window x ≡ drop (length x - 32) x
 last_window_whole x enough =
     let at : length x ≡ length silence + (length x - 32) = omega (arith, length-replicate 32 (pos 0)) in
@@ -84,7 +84,7 @@ same_or_ends offset count = elim (cases_eq (windows_in offset (count + 1)) (wind
   | inr other ↦ inr (windows_in offset count, omega arith)
 ]
 
--- a window ends where so many samples, at least 32, leave the offset as the rest of a division by 32
+-- a window ends if so many samples, at least 32, leave the offset as the rest of a division by 32
 pub ends_by_rest : (offset count : ℕ) → offset < 32 → 32 ≤ count
     → (nat_eq (count % 32) offset ≡ true) ↔ ((k : ℕ) × (count ≡ offset + 32 * (k + 1)))
 ends_by_rest offset count small enough = (

@@ -31,7 +31,7 @@ heard_with x sample = elim (cases_lt (length x + 1) 32) [
       ]
 ]
 
--- with more samples there is a list where there was one
+-- with more samples there is a list if there was one
 more_candidates : (x y : List ℤ) (items : List Candidate) → AreCandidates x items → (all : List Candidate) × AreCandidates (x ++ y) all
 more_candidates x [] items are = (items, subst (λ xs. AreCandidates xs items) (sym (append-nil x)) are)
 more_candidates x (sample ∷ y) items are =

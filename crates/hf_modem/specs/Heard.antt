@@ -6,7 +6,7 @@ use Rattle.frame_merge.specs.Held.{Held as HeldMerger, StandsFor as MergerStands
 use Rattle.hf_modem.specs.Candidates.{AreCandidatesAfter, candidate_at}
 use Rattle.hf_modem.specs.Held.{HeldBank, BankStandsFor}
 
--- what the lane of an offset hears at a place, where it has these bits: the frame that ends with them, if one does
+-- what the lane of an offset hears at a place, if it has these bits: the frame that ends with them, if one does
 abbrev pub IsHeard : ℕ → ℕ → List Bool → Option Candidate → Type 0
 IsHeard offset at bits None = (octets : List ℕ) → ¬ EndsFrame bits octets
 IsHeard offset at bits (Some item) = (octets : List ℕ) × (item ≡ candidate_at at offset octets) × EndsFrame bits octets

@@ -18,7 +18,7 @@ window_at offset x k = take 32 (drop (offset + 32 * k) x)
 unfoldable pub tones_at : ℕ → List ℤ → List Tone
 tones_at offset x = map (λ k. tone_of (window_at offset x k)) (range_with_len 0 (windows_in offset (length x)))
 
--- the bits at an offset: one for each of its windows, 1 exactly where its tone and that of the window before agree
+-- the bits at an offset: one for each of its windows, 1 exactly when its tone and that of the window before agree
 unfoldable pub bits : ℕ → List ℤ → List Bool
 bits offset x = bits_of (tones_at offset x)
 

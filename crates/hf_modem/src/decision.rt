@@ -6,7 +6,7 @@ ghost use Rattle.hf_modem.specs.Decision.{energy, tone_of};
 use crate::correlators::correlate;
 use tone_table::Tone;
 
-/// The tone of a window of 32 samples: mark, 1600 Hz, exactly where its energy is at least that of space, 1800 Hz. So
+/// The tone of a window of 32 samples: mark, 1600 Hz, exactly when its energy is at least that of space, 1800 Hz. So
 /// silence is mark.
 #[tactic(auto, unfolding(crate::specs::Decision::tone_of))]
 pub fn hf_decide(window: &[i16; 32]) -> Tone

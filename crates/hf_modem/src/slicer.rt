@@ -46,7 +46,7 @@ impl HfSlicer {
         }
     }
 
-    /// Takes one sample and gives the bit of the window that ends with it, or `None` where no window of this offset
+    /// Takes one sample and gives the bit of the window that ends with it, or `None` if no window of this offset
     /// does.
     pub fn push(&mut self, sample: i16) -> Option<bool>
         requires { self.old.position < 2 ^ 48 }

@@ -163,7 +163,7 @@ unfolding pure_window wave_sample cycle_sample half_wave quarter sum_below sine_
 space_separated k below =
     ltb-true _ _ (agree_below_at (λ j. nat_lt (most Mark (pure_window (16 * j) Space)) (least Space (pure_window (16 * j) Space))) (λ _. true) 3 k refl below)
 
--- the energies of two tones, where one's most is less than the other's least
+-- the energies of two tones, if one's most is less than the other's least
 louder : (level quiet loud upper lower : ℕ) → 1 ≤ level → upper < lower → 100000000 * quiet ≤ (level * level) * upper
     → (level * level) * lower ≤ 100000000 * loud → quiet < loud
 louder level quiet loud upper lower some apart below above =

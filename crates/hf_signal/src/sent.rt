@@ -10,7 +10,7 @@ use frame_merge::Candidate;
 /// How far from its true end a frame is no more heard, in samples.
 const NEAR: u128 = 30;
 
-/// True where `item` is one of the frames that were sent, whose true ends are `ends`, in samples: it has the octets of
+/// True if `item` is one of the frames that were sent, whose true ends are `ends`, in samples: it has the octets of
 /// one, and the sample at which it ends is less than 30 before or after its true end. A candidate of which this is
 /// false is stray.
 pub fn hf_is_sent(ends: &[TrueEnd], item: &Candidate) -> bool
@@ -19,7 +19,7 @@ pub fn hf_is_sent(ends: &[TrueEnd], item: &Candidate) -> bool
     ends.iter().any(|sent| is_of(item, sent))
 }
 
-/// True where `item` is the frame that was sent.
+/// True if `item` is the frame that was sent.
 fn is_of(item: &Candidate, sent: &TrueEnd) -> bool
     ensures { result ≡ is_of item.now sent.now }
 {

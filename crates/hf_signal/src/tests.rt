@@ -13,7 +13,7 @@ const SHORTEST: [u8; 15] = [
     0x9c, 0x94, 0x6e, 0xa0, 0x40, 0x40, 0xe0, 0x9c, 0x6e, 0x98, 0x8a, 0x9a, 0x40, 0x61, 0x3f,
 ];
 
-// True where what is heard with these octets at a quarter and an offset is the frame that ends at sample 5184.
+// True if what is heard with these octets at a quarter and an offset is the frame that ends at sample 5184.
 fn hears(alloc: Global, octets: &[u8], end: u64, offset: u8) -> Result<bool, OutOfMemory> {
     let sent = [TrueEnd {
         end: 5184,

@@ -40,6 +40,6 @@ spelled_inside : (octets : List ℕ) → IsInside (spelled octets)
 spelled_inside [] = tt
 spelled_inside (octet ∷ octets) = inside-append (escape_of octet) (spelled octets) (escape_inside octet) (spelled_inside octets)
 
--- It is one piece, behind an empty one.
+-- It is one piece, after an empty one.
 pub spelled_piece : (octets : List ℕ) → pieces (fend ∷ (spelled octets ++ fend ∷ [])) ≡ [] ∷ spelled octets ∷ []
 spelled_piece octets = ap (λ others. [] ∷ others) (pieces_end (spelled octets) [] (spelled_inside octets))

@@ -71,7 +71,7 @@ longer held next piece octet meaning escaped other stands keeps mark further = r
   long = keeps.long;
 }
 
--- the mark of an escape stays where an octet is kept
+-- the mark of an escape stays if an octet is kept
 keeping_mark : (held : Held) (octet : ℕ) → (keeping held octet).escaped ≡ held.escaped
 keeping_mark held octet = by_room (eqb (length held.kept) 1025)
   where

@@ -11,7 +11,7 @@ use Rattle.kiss_port.specs.Pieces.{pieces}
 abbrev pub kind_of : ℕ → ℕ → ℕ
 kind_of port command = 16 * port + command
 
--- a parameter, where its value is there
+-- a parameter, if its value is there
 abbrev pub setting : ℕ → ℕ → List ℕ → KissItem
 setting port command [] = Other port command
 setting port command (value ∷ octets) = if nat_le 1 command && nat_le command 5 then Set port command value else Other port command
@@ -20,7 +20,7 @@ abbrev pub by_command : ℕ → ℕ → List ℕ → KissItem
 by_command port command octets =
     if command == 0 then Frame port octets else if command == 6 then Hardware port octets else setting port command octets
 
--- the item of a type and the octets behind it
+-- the item of a type and the octets after it
 abbrev pub item_by_type : ℕ → List ℕ → KissItem
 item_by_type kind octets =
     if nat_lt 1024 (length octets) then TooLong (kind / 16) else

@@ -18,14 +18,14 @@ pub enum KissItem {
     Hardware { port: u8, octets: Octets },
     /// The octet FF: the host wants the TNC to leave KISS.
     Return,
-    /// More than 1024 octets stand behind the first one, whatever that is.
+    /// More than 1024 octets stand after the first one, whatever that is.
     TooLong { port: u8 },
     /// Any other command, and one from 1 to 5 without a value.
     Other { port: u8, command: u8 },
 }
 
 impl KissItem {
-    /// The item of a piece of which this was kept: its octets, or where there were more than fit, the first of them.
+    /// The item of a piece of which this was kept: its octets, or if there were more than fit, the first of them.
     pub(crate) fn of_kept(
         alloc: Global,
         long: bool,

@@ -9,7 +9,7 @@ use std::alloc::Global;
 use std::marker::Model;
 use tnc_base::OutOfMemory;
 
-// The most octets that are kept: the first of a piece, and the 1024 behind it.
+// The most octets that are kept: the first of a piece, and the 1024 after it.
 const MOST_KEPT: usize = 1025;
 
 /// Reads a stream of KISS octet by octet.
@@ -36,7 +36,7 @@ impl KissIn {
     ghost use Rattle.kiss_port.specs.Held.{StandsFor, new_held, held_item, with_octet, keeping};
     ghost use Rattle.kiss_port.specs.Items.{items_in};
 
-    /// A reader to which no octet has come, which is as one right behind a FEND. It takes memory from `alloc`.
+    /// A reader to which no octet has come, which is as one right after a FEND. It takes memory from `alloc`.
     pub fn new(alloc: Global) -> Self
         ensures stands_for { StandsFor result [] }
     {

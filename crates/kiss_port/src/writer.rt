@@ -22,7 +22,7 @@ pub fn write_kiss(
     requires command { command < 16 }
     ensures spelled { IfOk result (λ stream. stream
         ≡ fend ∷ (spelled (kind_of port command ∷ octets.now) ++ fend ∷ [])) }
-    // It is one piece, behind an empty one.
+    // It is one piece, after an empty one.
     ensures piece { IfOk result (λ stream. (piece : List ℕ)
         × (pieces stream ≡ [] ∷ piece ∷ []) × (unescaped piece ≡ kind_of port command ∷ octets.now)) }
     ensures item { IfOk result (λ stream. items_in stream
@@ -32,7 +32,7 @@ pub fn write_kiss(
     Octets::from_slice(alloc, &stream)
 }
 
-// The octets that say a type and the octets behind it.
+// The octets that say a type and the octets after it.
 fn spell(alloc: Global, kind: u8, octets: &[u8]) -> Result<Vec<u8>, OutOfMemory>
     ensures { IfOk result (λ stream. stream.items ≡ fend ∷ (spelled (kind ∷ octets.now) ++ fend ∷ [])) }
 {

@@ -70,7 +70,7 @@ settle_in_other Calling t h = refl
 settle_in_other Up t h = absurd (false≢true (sym h))
 settle_in_other Releasing t h = refl
 
--- where the link is not up, nothing more is done
+-- if the link is not up, nothing more is done
 pub unsettled : (t : Turn) → is_up t.now.control.state ≡ false → settled t ≡ t
 unsettled t h = settle_in_other t.now.control.state t h
 
@@ -115,7 +115,7 @@ whole_of held m h = record { link = h.formed; next = h.next }
 pub shows_begin : (held : Held) (m : Machine) (room : Room) (frames told : ℕ) → HasRoom frames told room → Holds held m → Shows held room (begin m)
 shows_begin held m room frames told r h = record { holds = h; frames = r.no_frames; told = r.nothing_told }
 
--- behind the last
+-- after the last
 pub made : (held : Held) (room : Room) (t : Turn) (done : Done) → Shows held room t → done.frames ≡ room.frames.items → done.told ≡ room.told.items → Made t held done
 made held room t done h frames told = record { holds = h.holds; frames = frames ∙ h.frames; told = told ∙ h.told }
 
@@ -313,7 +313,7 @@ back_again : (b : Bool) (o : Outgoing) → (if b then back (back o) else back o)
 back_again true o = refl
 back_again false o = refl
 
--- the same where V(S) went back before
+-- the same if V(S) went back before
 pub supervised_back :
     (t : Turn) (m : Machine) (n count : ℕ) (asks answers : Bool) → t.now.outgoing ≡ back (without_acknowledged n m.outgoing)
     → t.now.incoming ≡ m.incoming → n ≡ m.outgoing.va + count →
@@ -405,7 +405,7 @@ settled_releasing false (Super which nr flag) t e = unsettled _ (releasing_is t 
 settled_releasing command (Ui flag pid octets) t e = unsettled _ (releasing_is t e)
 settled_releasing command (Other which flag octets) t e = unsettled _ (releasing_is t e)
 
--- Calling: where the link opens, all that was given may go out
+-- Calling: if the link opens, all that was given may go out
 not_calling : (t : Turn) → t.now.control.state ≡ Calling → t.now.control.state ≡ Up → ⊥
 not_calling t e f = false≢true (sym (ap is_up e) ∙ ap is_up f)
 
@@ -448,7 +448,7 @@ in_window_none k true o =
     in_window_behind k 0 true o
     ∙ window_eq k (n - 0) n d (o.va - o.va) (0 + d) (o.va - o.va) o.packets (omega arith) (omega arith) (omega arith)
 
--- the same behind an SREJ, which perhaps acknowledges
+-- the same after an SREJ, which perhaps acknowledges
 pub supervised_srej :
     (t : Turn) (m : Machine) (c : Control) (n count : ℕ) (flag asks answers goes_back : Bool)
     → t.now.outgoing ≡ (acknowledged_by_srej n flag (record m { control = c })).outgoing
@@ -680,7 +680,7 @@ not_sent held o n formed h above none =
         let far : length o.packets ≤ n - o.va = past.0 in
         omega arith
 
--- what holds where a call did not fail
+-- what holds if a call did not fail
 pub on_ok : {A E : Type 0} (r : Result A E) (P : Type 0) → (IsErr r → ⊥) → OnOk r P → P
 on_ok (Ok x) P h p = p
 on_ok (Err e) P h p = absurd (h refl)
@@ -710,7 +710,7 @@ pub whole_behind : (act : Act) (before behind : Held) (result : Result Done OutO
 whole_behind act before behind (Ok done) makes whole = whole_of behind _ (makes (itself before) (holds_itself before whole)).holds
 whole_behind act before behind (Err fault) makes whole = let P : Held → Type 0 = λ x. IsWhole x in subst P (sym makes) whole
 
--- what a call answers, where its event is never refused
+-- what a call answers, if its event is never refused
 pub answers_all :
     (before behind : Held) (event : Event) (result : Result Done OutOfMemory) → ((m : Machine) → is_some (refusal_of m event) ≡ false) → IsWhole before
     → Makes (row event) before behind result → (m : Machine) → StandsFor before m

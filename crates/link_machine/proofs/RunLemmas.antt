@@ -10,7 +10,7 @@ use Rattle.selective_reject.specs.Places.{empty_place, packet_at, is_full, with_
 use Rattle.selective_reject.specs.Incoming.{Incoming, StandsForIncoming, after_take, reduced_incoming}
 use Rattle.link_machine.specs.Acts.{before_gap, run, moved_on}
 
--- an empty place behind changes no run
+-- an empty place after changes no run
 pub run-push : (ps : List Place) → run (ps ++ empty_place ∷ []) ≡ run ps
 run-push [] = refl
 run-push (p ∷ ps) = ap (λ xs. before_gap p.packet xs) (run-push ps)
@@ -23,7 +23,7 @@ pub length-run : (ps : List Place) → length (run ps) ≤ length ps
 length-run [] = omega arith
 length-run (p ∷ ps) = length-before_gap p.packet (run ps) (length ps) (length-run ps)
 
--- where the first place has its packet, or not
+-- if the first place has its packet, or not
 pub run_of_full : (ps : List Place) (packet : Packet) → packet_at ps 0 ≡ Some packet → run ps ≡ packet ∷ run (drop 1 ps)
 run_of_full [] packet h = absurd (false≢true (ap is_some h))
 run_of_full (p ∷ ps) packet h = ap (λ o. before_gap o (run ps)) h
@@ -125,7 +125,7 @@ places_by : (i : Incoming) (b : Bool) → b ≡ true
 places_by i true e = refl
 places_by i false e = absurd (false≢true e)
 
--- the places behind a take
+-- the places after a take
 pub places_taken :
     (before behind : Incoming) → is_full before.places 0 ≡ true → behind ≡ reduced_incoming (after_take before)
     → behind.places ≡ drop 1 before.places ++ empty_place ∷ []

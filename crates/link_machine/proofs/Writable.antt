@@ -55,7 +55,7 @@ pub record IsSound (m : Machine) : Type 0 where
   pub modulus : IsModulus m.incoming.modulus
   pub short : All IsShort m.outgoing.packets
 
--- a frame in a modulus of AX.25, whose packet is short where it has one
+-- a frame in a modulus of AX.25, whose packet is short if it has one
 abbrev pub HasShort : Sent → Type 0
 HasShort (InfoSent number nr packet) = IsShort packet
 HasShort (SuperSent which command nr flag) = ⊤
@@ -537,7 +537,7 @@ writable_step m event h =
     turn.sent (sound_step m event h).sent
     )
 
--- what is kept behind an event, and what it sends
+-- what is kept after an event, and what it sends
 sound_itself : (held : Held) → IsKept held → IsSound (itself held)
 sound_itself held h = record { modulus = h.whole.link.incoming.modulus; short = h.short }
 

@@ -23,7 +23,7 @@ abbrev pub running : ℕ → Option ℕ → Option ℕ
 running ticks None = Some ticks
 running ticks (Some left) = Some left
 
--- The packets below a number are acknowledged. Where at least one is and no poll awaits its answer, the retries
+-- The packets below a number are acknowledged. If at least one is and no poll awaits its answer, the retries
 -- begin anew, and T1 runs exactly where something that was sent is still not acknowledged.
 abbrev pub timed_anew : Bool → Control → Control
 timed_anew all c = if all then record c { rc = 0; t1 = None; t3 = Some t3_ticks } else record c { rc = 0; t1 = Some t1_ticks }
@@ -79,7 +79,7 @@ in_window window o = let ahead = o.vs - o.va in take (min window (length o.packe
 abbrev pub to_send : Machine → List Packet
 to_send m = if m.control.busy || m.control.poll then [] else in_window m.incoming.window m.outgoing
 
--- the answer to what was sent is awaited: where T1 is off it runs, and T3 is off
+-- the answer to what was sent is awaited: if T1 is off it runs, and T3 is off
 abbrev pub awaiting : Control → Control
 awaiting c = if is_none c.t1 then record c { t1 = Some t1_ticks; t3 = None } else c
 
@@ -100,7 +100,7 @@ send_packets packets turn = record turn {
 abbrev pub flush : Act
 flush turn = if length (to_send turn.now) == 0 then turn else send_packets (to_send turn.now) turn
 
--- where a disconnect was asked for and no packet waits, the link is released
+-- if a disconnect was asked for and no packet waits, the link is released
 abbrev pub releasing : Control → Control
 releasing c = record c { state = Releasing; poll = false; due = false; rc = 0; t1 = Some t1_ticks; t2 = None; t3 = None }
 
@@ -186,7 +186,7 @@ ask ahead turn = record turn {
 abbrev pub watching : Control → Control
 watching c = record c { t1 = running t1_ticks c.t1; t3 = None }
 
--- the I frame that an SREJ asks for goes out again, where it was sent
+-- the I frame that an SREJ asks for goes out again, if it was sent
 abbrev pub sent_packet : ℕ → Outgoing → List Packet
 sent_packet n o = if nat_lt n o.top then option_to_list (slice_get o.packets (n - o.va)) else []
 

@@ -113,7 +113,7 @@ pub record Made (turn : Turn) (behind : Held) (done : Done) : Type 0 where
   pub frames : done.frames ≡ sent_frames turn.now.path turn.sent
   pub told : done.told ≡ turn.told
 
--- what an event makes of a link, where an act is its row; where memory was not given, nothing
+-- what an event makes of a link, an act being its row; nothing if memory was not given
 abbrev pub Makes : Act → Held → Held → Result Done OutOfMemory → Type 0
 Makes act before behind (Ok done) = (m : Machine) → Holds before m → Made (settled (act (begin m))) behind done
 Makes act before behind (Err fault) = behind ≡ before

@@ -20,7 +20,7 @@ pub record Machine : Type 0 where
   pub params : Params
   -- the state, the conditions, the retries and the timers
   pub control : Control
-  -- V(A), V(S), the number behind the highest that was ever sent, and the packets given and not acknowledged
+  -- V(A), V(S), one past the highest that was ever sent, and the packets given and not acknowledged
   pub outgoing : Outgoing
   -- V(R), the packets received before their turn and the numbers asked for, by their distance from V(R); also the
   -- link's modulus, 8 or 128, whether REJ or SREJ asks for what is lost, and k
@@ -98,7 +98,7 @@ emptied m = record m { control = unquit m.control; outgoing = empty_outgoing }
 abbrev pub in_state : LinkState → Control → Control
 in_state state c = record c { state = state }
 
--- N(R) is valid where it names a number from V(A) to the top, which is not V(S): that goes back
+-- N(R) is valid if it names a number from V(A) to the top, which is not V(S): that goes back
 abbrev pub is_valid : ℕ → Machine → Bool
 is_valid nr m = is_named m.incoming.modulus nr m.outgoing
 

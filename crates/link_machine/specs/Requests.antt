@@ -13,7 +13,7 @@ use Rattle.link_machine.specs.Acts.{call}
 use Rattle.link_machine.specs.Event.{Event}
 use Rattle.link_machine.specs.Event.Event.{Connect, Send, Disconnect, Hear, Tick}
 
--- a link is called where there is none
+-- a link is called if there is none
 abbrev pub has_link : LinkState → Bool
 has_link Idle = false
 has_link Calling = true
@@ -30,7 +30,7 @@ takes_none Releasing = true
 abbrev pub is_closed : Control → Bool
 is_closed c = takes_none c.state || c.quit
 
--- why an event is refused, where so many packets wait: the first cause that holds. Frames and ticks never are.
+-- why an event is refused, if so many packets wait: the first cause that holds. Frames and ticks never are.
 abbrev pub refusal : Control → ℕ → Event → Option LinkFault
 refusal c count Connect = if has_link c.state then Some (WrongState c.state c.quit) else None
 refusal c count (Send packet) =

@@ -39,7 +39,7 @@ t2_out Releasing = nothing
 abbrev pub retried : Control → Control
 retried c = record c { rc = c.rc + 1; t1 = Some t1_ticks }
 
--- the retries are spent where there were 10; there are never more
+-- the retries are spent if there were 10; there are never more
 abbrev pub is_spent : Control → Bool
 is_spent c = nat_le most_retries c.rc
 

@@ -3,7 +3,7 @@ use Rattle.std.specs.Prelude.{ℕ, ◌+◌, if◌then◌else◌, Option, Some, N
 use Rattle.link_machine.specs.declared.control.Control.{Control}
 use Rattle.link_machine.specs.Ticks.{runs_out}
 
--- 1 where a timer runs out with the next tick
+-- 1 if a timer runs out with the next tick
 abbrev pub out_of : Option ℕ → ℕ
 out_of None = 0
 out_of (Some left) = if runs_out left then 1 else 0
@@ -11,6 +11,6 @@ out_of (Some left) = if runs_out left then 1 else 0
 abbrev pub outs : Control → ℕ
 outs c = out_of c.t1 + out_of c.t2 + out_of c.t3
 
--- 1 where a disconnect was asked for
+-- 1 if a disconnect was asked for
 abbrev pub quits : Control → ℕ
 quits c = if c.quit then 1 else 0

@@ -8,7 +8,7 @@ use std::marker::Model;
 pub enum Told {
     /// A set-up begins.
     Opened {
-        /// True where this side called.
+        /// True if this side called.
         ours: bool,
     },
     /// The next packet of the other side.

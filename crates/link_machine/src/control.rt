@@ -196,7 +196,7 @@ impl Control {
         }
     }
 
-    /// Whether a response with F = 1, where this is one, is the answer to a poll.
+    /// Whether a response with F = 1, if this is one, is the answer to a poll.
     pub(crate) fn recovers(&self, answers: bool) -> bool
         ensures { result ≡ (self.now.poll && answers) }
     {

@@ -1,4 +1,4 @@
-//! How packets go out, and the release behind the last of them.
+//! How packets go out, and the release after the last of them.
 ghost use Rattle.std.specs.Option.{option_to_list};
 ghost use Rattle.std.specs.Prelude.{◌≡◌, ℕ, true, ◌++◌, slice_get, OnOk, ◌+◌, ◌-◌, ◌%◌, ◌≤◌, ◌<◌, Bool, length, IfOk};
 ghost use Rattle.selective_reject.specs.Outgoing.{may_send};
@@ -62,7 +62,7 @@ impl Machine {
         Ok(packets)
     }
 
-    /// Appends a copy of the packet at a place, where there is one.
+    /// Appends a copy of the packet at a place, if there is one.
     fn push_copy(
         &self,
         alloc: Global,
@@ -143,7 +143,7 @@ impl Machine {
         self.control.await_answer();
     }
 
-    /// Releases the link where a disconnect was asked for and no packet waits.
+    /// Releases the link if a disconnect was asked for and no packet waits.
     pub(crate) fn close(&mut self, room: &mut Room)
         requires { frames_to_close self.old ≤ frames_left room.old }
         ensures shows { (t : Turn) → Shows self.old room.old t → Shows self.new room.new (close t) }
@@ -153,7 +153,7 @@ impl Machine {
         }
     }
 
-    /// Ends an event: where the link is up, packets go out, and the link is perhaps released.
+    /// Ends an event: if the link is up, packets go out, and the link is perhaps released.
     pub(crate) fn settle(&mut self, room: &mut Room, packets: VecDeque<Packet>)
         requires formed { IsLink self.old }
         requires room { length packets.items + frames_to_close self.old ≤ frames_left room.old }

@@ -35,7 +35,7 @@ impl Machine {
         }
     }
 
-    /// Hears a frame where there is no link.
+    /// Hears a frame if there is no link.
     fn hear_idle(&mut self, alloc: Global, command: bool, kind: &Kind) -> Result<Acts, OutOfMemory>
         requires formed { IsWhole self.old }
         requires state { self.old.control.state ≡ Idle }

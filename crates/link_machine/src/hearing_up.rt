@@ -46,7 +46,7 @@ fn acknowledged_by_srej(count: u8, flag: bool) -> u8
 }
 
 impl Machine {
-    /// Hears a frame where the link is up.
+    /// Hears a frame if the link is up.
     pub(crate) fn hear_up(
         &mut self,
         alloc: Global,
@@ -81,7 +81,7 @@ impl Machine {
         }
     }
 
-    /// SABM, or SABME where the modulus is 128.
+    /// SABM, or SABME if the modulus is 128.
     fn hear_call(
         &mut self,
         alloc: Global,
@@ -289,7 +289,7 @@ impl Machine {
         Ok(room.finish())
     }
 
-    /// A copy of the packet that an SREJ asks for, where it was sent.
+    /// A copy of the packet that an SREJ asks for, if it was sent.
     fn copy_asked(&self, alloc: Global, nr: u8) -> Result<Option<Packet>, OutOfMemory>
         requires { nr < self.now.incoming.modulus }
         ensures { IfOk result (λ again. again ≡ sent_packet self.now.incoming.modulus nr self.now.outgoing) }
@@ -332,7 +332,7 @@ impl Machine {
         }
     }
 
-    /// Sends again the I frame that an SREJ asks for, where it was sent.
+    /// Sends again the I frame that an SREJ asks for, if it was sent.
     fn send_again(&mut self, room: &mut Room, nr: u8, again: Option<Packet>)
         requires { 1 ≤ frames_left room.old }
         ensures shows { (t : Turn) (n : ℕ) → Shows self.old room.old t → nr ≡ n % self.old.incoming.modulus → t.now.outgoing.va ≤ n

@@ -35,7 +35,7 @@
 //!
 //! Where the standard leaves a choice, or this machine differs:
 //!
-//! - An N(R) is valid from V(A) to the number behind the last I frame that was ever sent, and not to V(S): REJ and a poll's
+//! - An N(R) is valid from V(A) to one past the last I frame that was ever sent, and not to V(S): REJ and a poll's
 //!   answer take V(S) back, and a late acknowledgement of what was sent is no error (section 6.4).
 //! - SREJ acknowledges the packets below its number with P/F = 1 alone (section 4.3.2.4).
 //! - An S frame whose C bits are equal, as the older version has them, is a response (section 6.1.2).

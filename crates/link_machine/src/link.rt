@@ -76,7 +76,7 @@ impl Link {
         })
     }
 
-    /// Calls the other station. Refused where there is a link already.
+    /// Calls the other station. Refused if there is a link already.
     pub fn connect(&mut self) -> Result<Acts, LinkFault>
         ensures step { (m : State) → StandsFor self.old m → IfOk result (λ acts. acts ≡ done_of (step m Connect)) }
         ensures stands_for { (m : State) → StandsFor self.old m → OnOk result (StandsFor self.new (step m Connect).now) }
@@ -92,8 +92,8 @@ impl Link {
         Ok(acts)
     }
 
-    /// Gives a packet of at most 256 octets to be sent. Refused where there is no link or a disconnect was asked for, where
-    /// 1024 packets wait, and where the packet is too long.
+    /// Gives a packet of at most 256 octets to be sent. Refused if there is no link or a disconnect was asked for, if
+    /// 1024 packets wait, and if the packet is too long.
     pub fn send(&mut self, packet: Packet) -> Result<Acts, LinkFault>
         ensures step { (m : State) → StandsFor self.old m → IfOk result (λ acts. acts ≡ done_of (step m (Send packet))) }
         ensures stands_for { (m : State) → StandsFor self.old m → OnOk result (StandsFor self.new (step m (Send packet)).now) }
@@ -116,7 +116,7 @@ impl Link {
         Ok(acts)
     }
 
-    /// Asks for the link to be released once every packet is acknowledged. Refused where there is no link, and where it was
+    /// Asks for the link to be released once every packet is acknowledged. Refused if there is no link, and if it was
     /// asked for before.
     pub fn disconnect(&mut self) -> Result<Acts, LinkFault>
         ensures step { (m : State) → StandsFor self.old m → IfOk result (λ acts. acts ≡ done_of (step m Disconnect)) }
@@ -163,7 +163,7 @@ impl Link {
         self.machine.control.state
     }
 
-    /// The modulus of its numbers: that of the set-up, or of the call; 8 where there is none.
+    /// The modulus of its numbers: that of the set-up, or of the call; 8 if there is none.
     pub fn modulus(&self) -> Modulus
         ensures modulus { result ≡ modulus_named self.now.incoming.modulus }
         ensures stands_for { (m : State) → StandsFor self.now m → result ≡ modulus_named m.incoming.modulus }

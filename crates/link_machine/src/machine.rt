@@ -172,7 +172,7 @@ impl Machine {
         self.outgoing.go_back();
     }
 
-    /// Takes a response with F = 1 as the answer to a poll, where one is awaited.
+    /// Takes a response with F = 1 as the answer to a poll, if one is awaited.
     pub(crate) fn recover(&mut self, answers: bool)
         ensures { (room : Room) (t : Turn) → Shows self.old room t → Shows self.new room (recover answers t) }
     {

@@ -24,7 +24,7 @@ fn calling_frame(wide: bool) -> U
 }
 
 impl Machine {
-    /// Sends SABM, or SABME where numbers are modulo 128.
+    /// Sends SABM, or SABME if numbers are modulo 128.
     pub(crate) fn send_call(&self, room: &mut Room)
         requires { 1 ≤ frames_left room.old }
         ensures shows { (t : Turn) → Shows self.now room.old t → Shows self.now room.new (send_call t) }

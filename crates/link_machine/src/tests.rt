@@ -41,7 +41,7 @@ fn packet(alloc: Global, octets: &[u8]) -> Result<Packet, Fail> {
     })
 }
 
-/// The name of a word, and its three numbers, 0 where it has none.
+/// The name of a word, and its three numbers, 0 if it has none.
 fn parts(word: &str) -> (&str, u16, u16, u16) {
     let (name, rest) = word.split_once('/').unwrap_or((word, ""));
     let (first, rest) = rest.split_once('/').unwrap_or((rest, ""));

@@ -27,7 +27,7 @@ fn out_of(timer: Option<u16>) -> usize
 }
 
 impl Machine {
-    /// A tick, where `waiting` says that a frame of the link waits to be sent.
+    /// A tick; `waiting` says whether a frame of the link waits to be sent.
     pub(crate) fn tick(&mut self, alloc: Global, waiting: bool) -> Result<Acts, OutOfMemory>
         requires { IsWhole self.old }
         ensures { Makes (tick waiting) self.old self.new result }

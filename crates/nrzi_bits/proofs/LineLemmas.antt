@@ -8,20 +8,20 @@ pub last_from-append : (before : Tone) (ts us : List Tone) → last_from before 
 last_from-append before [] us = refl
 last_from-append before (t ∷ ts) us = last_from-append t ts us
 
--- the bits of two lists of tones, one behind the other
+-- the bits of two lists of tones, one after the other
 pub bits_from-append : (before : Tone) (ts us : List Tone)
     → bits_from before (ts ++ us) ≡ bits_from before ts ++ bits_from (last_from before ts) us
 bits_from-append before [] us = refl
 bits_from-append before (t ∷ ts) us = ap (λ bits. same_tone before t ∷ bits) (bits_from-append t ts us)
 
--- the tones of two lists of bits, one behind the other
+-- the tones of two lists of bits, one after the other
 pub line_from-append : (before : Tone) (bs cs : List Bool)
     → line_from before (bs ++ cs) ≡ line_from before bs ++ line_from (last_from before (line_from before bs)) cs
 line_from-append before [] cs = refl
 line_from-append before (b ∷ bs) cs =
     ap (λ tones. sent_tone before b ∷ tones) (line_from-append (sent_tone before b) bs cs)
 
--- a tone and the tone of the next bit agree exactly where that bit is 1
+-- a tone and the tone of the next bit agree exactly when that bit is 1
 pub same_tone-sent_tone : (before : Tone) (bit : Bool) → same_tone before (sent_tone before bit) ≡ bit
 same_tone-sent_tone Mark true = refl
 same_tone-sent_tone Mark false = refl

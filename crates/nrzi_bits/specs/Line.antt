@@ -25,7 +25,7 @@ same_tone Mark Space = false
 same_tone Space Mark = false
 same_tone Space Space = true
 
--- the bits of a list of tones: a bit is 1 exactly where its tone and the one before agree
+-- the bits of a list of tones: a bit is 1 exactly when its tone and the one before agree
 abbrev pub bits_from : Tone → List Tone → List Bool
 bits_from before [] = []
 bits_from before (tone ∷ tones) = same_tone before tone ∷ bits_from tone tones
@@ -33,7 +33,7 @@ bits_from before (tone ∷ tones) = same_tone before tone ∷ bits_from tone ton
 abbrev pub bits_of : List Tone → List Bool
 bits_of tones = bits_from Mark tones
 
--- the tone at which the line stands behind a list of tones
+-- the tone at which the line stands after a list of tones
 abbrev pub last_from : Tone → List Tone → Tone
 last_from before [] = before
 last_from before (tone ∷ tones) = last_from tone tones

@@ -28,7 +28,7 @@ impl NrziIn {
         NrziIn { before: Tone::Mark }
     }
 
-    /// Takes the next tone. The bit is 1 exactly where it equals the tone before.
+    /// Takes the next tone. The bit is 1 exactly when it equals the tone before.
     pub fn step(&mut self, tone: Tone) -> bool
         ensures bit { IsTrue result ↔ (self.old ≡ tone) }
         ensures tone { self.new ≡ tone }

@@ -42,7 +42,7 @@ impl NrziOut {
     }
 }
 
-/// The tone of a bit behind a tone.
+/// The tone of a bit after a tone.
 fn sent(before: Tone, bit: bool) -> Tone
     ensures { result ≡ sent_tone before bit }
 {

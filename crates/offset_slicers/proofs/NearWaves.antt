@@ -16,7 +16,7 @@ module _ (level : ℕ) (v w x : List ℤ) (n : ℕ) (first : length v ≡ n) (ne
   size_of : length x ≡ n + length w
   size_of = omega (arith, near.size, length-append v w)
 
-  -- samples near two waves, one behind the other: the first of them are near the first wave
+  -- samples near two waves, one after the other: the first of them are near the first wave
   pub near-front : IsNear level v (take n x)
   near-front = record {
     size = length-take-le n x (omega (arith, size_of)) ∙ sym first;

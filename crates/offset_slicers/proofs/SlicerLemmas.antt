@@ -52,7 +52,7 @@ window_at-push offset x sample window begun last size part =
     ∙ sym (take_more_set window 7 sample (omega arith))
     ∙ take_all 8 (set window 7 sample) whole
 
--- what is kept of all samples, of so many, where the first window begins behind `offset` of them
+-- what is kept of all samples, of so many, if the first window begins after `offset` of them
 record Keeps (offset position : ℕ) (window : List ℤ) (before : Tone) (x : List ℤ) : Type 0 where
   count : position ≡ length x
   part : take ((position - offset) % 8) window ≡ part_behind offset x
@@ -148,13 +148,13 @@ stands_empty offset first begin window before begins at_mark =
       before = at_mark ∙ ap (λ n. last_tone (map (λ k. tone_of (window_at r [] k)) (range_with_len 0 n))) (sym windows);
     }
 
--- a stretch of samples, of which the first window of the offset begins behind r samples, and one sample more
+-- a stretch of samples, of which the first window of the offset begins after r samples, and one sample more
 module _ (offset first position begin : ℕ) (window : List ℤ) (before : Tone) (x : List ℤ) (sample : ℤ) (r : ℕ) (is : r ≡ offset_from offset begin)
     (h : StandsFor (held_of offset first position window before) begin x) where
   begins : first ≡ begin + r
   begins = h.first ∙ ap (λ m. begin + m) (sym is)
 
-  -- how far behind the begin of the first window the stretch has come
+  -- how far after the begin of the first window the stretch has come
   behind : position - first ≡ length x - r
   behind = let count = h.count in let first_at = begins in omega arith
 

@@ -36,7 +36,7 @@ tones_at-wave_from (tone ∷ tones) k below =
     ∙ ap (λ first. first ++ tones_at 0 (wave_from (next_phase (8 * k) tone) tones)) (tones_at-pure_window k tone below)
     ∙ ap (λ ts. tone ∷ ts) rest
 
--- behind whole windows of anything, all bits of a wave but its first come back
+-- after whole windows of anything, all bits of a wave but its first come back
 pub bits-wave : (offset q : ℕ) (x : List ℤ) (bit : Bool) (sent : List Bool) → length x ≡ offset + 8 * q
     → bits offset (x ++ wave (line (bit ∷ sent)))
     ≡ bits offset x ++ same_tone (last_tone (tones_at offset x)) (sent_tone Mark bit) ∷ sent

@@ -74,7 +74,7 @@ map-agree : {X : Type 0} (f g : ℕ → X) (ks : List ℕ) → ((k : ℕ) → f 
 map-agree f g [] agree = refl
 map-agree f g (k ∷ ks) agree = ap (λ y. y ∷ map f ks) (agree k) ∙ ap (λ ys. g k ∷ ys) (map-agree f g ks agree)
 
--- behind whole windows the windows of an offset are those of what follows, from its first sample on
+-- after whole windows the windows of an offset are those of what follows, from its first sample on
 window_at-aligned : (offset q : ℕ) (x y : List ℤ) (k : ℕ) → length x ≡ offset + 8 * q
     → window_at offset (x ++ y) (q + k) ≡ window_at 0 y k
 unfolding window_at
@@ -82,7 +82,7 @@ window_at-aligned offset q x y k whole =
     let at : offset + 8 * (q + k) ≡ length x + (0 + 8 * k) = omega arith in
     ap (λ n. take 8 (drop n (x ++ y))) at ∙ ap (take 8) (drop-append-add x y (0 + 8 * k))
 
--- the tones behind whole windows are those of what follows
+-- the tones after whole windows are those of what follows
 pub tones_at-aligned : (offset q : ℕ) (x y : List ℤ) → length x ≡ offset + 8 * q
     → tones_at offset (x ++ y) ≡ tones_at offset x ++ tones_at 0 y
 unfolding tones_at
@@ -103,7 +103,7 @@ tones_at-aligned offset q x y whole =
     ∙ ap (λ xs. xs ++ map (λ j. tone (q + j)) (range_with_len 0 n)) front
     ∙ ap (λ xs. tones_at offset x ++ xs) back
 
--- the bits behind whole windows: those of the tones of what follows, behind the last tone before
+-- the bits after whole windows: those of the tones of what follows, after the last tone before
 pub bits-aligned : (offset q : ℕ) (x y : List ℤ) → length x ≡ offset + 8 * q
     → bits offset (x ++ y) ≡ bits offset x ++ bits_from (last_tone (tones_at offset x)) (tones_at 0 y)
 unfolding bits

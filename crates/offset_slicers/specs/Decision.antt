@@ -33,6 +33,6 @@ square z = unsigned_abs z * unsigned_abs z
 unfoldable pub energy : Tone → List ℤ → ℕ
 energy tone window = square (sine_sum tone window) + square (cosine_sum tone window)
 
--- mark exactly where the energy of mark is at least that of space
+-- mark exactly when the energy of mark is at least that of space
 unfoldable pub tone_of : List ℤ → Tone
 tone_of window = if nat_le (energy Space window) (energy Mark window) then Mark else Space

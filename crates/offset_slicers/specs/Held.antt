@@ -23,11 +23,11 @@ held_of offset first position window before =
 abbrev pub offset_from : ℕ → ℕ → ℕ
 offset_from offset begin = (8 + offset - begin % 8) % 8
 
--- the samples behind the last whole window
+-- the samples after the last whole window
 abbrev pub part_behind : ℕ → List ℤ → List ℤ
 part_behind offset x = drop (offset + 8 * windows_in offset (length x)) x
 
--- What is kept is that of the samples of a stretch: where they end, those behind the last whole window, and the last
+-- What is kept is that of the samples of a stretch: where they end, those after the last whole window, and the last
 -- window's tone.
 pub record StandsFor (held : Held) (begin : ℕ) (x : List ℤ) : Type 0 where
   pub count : held.position ≡ begin + length x

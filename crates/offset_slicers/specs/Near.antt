@@ -1,5 +1,5 @@
 -- Samples near a wave. The wave has amplitude 10000, so at a level its samples are level / 10000 as large; samples are
--- near it where each is within a tenth of the level. Distances are told ten thousandfold, so that nothing is rounded.
+-- near it if each is within a tenth of the level. Distances are told ten thousandfold, so that nothing is rounded.
 use Rattle.std.specs.Prelude.{◌≡◌, ℕ, ◌*◌, ◌<◌, ◌≤◌, ℤ, pos, ◌-ℤ◌, ◌*ℤ◌, List, length, slice_index_or, unsigned_abs}
 
 -- ten thousand times the distance of a number from a number of the wave at a level

@@ -19,7 +19,7 @@ pub fn energies(window: &[i16; 8]) -> (u64, u64)
     )
 }
 
-/// The tone of a window: mark exactly where the energy of mark is at least that of space, so also
+/// The tone of a window: mark exactly when the energy of mark is at least that of space, so also
 /// in silence.
 #[tactic(auto, unfolding(crate::specs::Decision::tone_of))]
 pub fn decide(window: &[i16; 8]) -> Tone

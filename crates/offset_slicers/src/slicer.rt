@@ -46,7 +46,7 @@ impl Slicer {
         }
     }
 
-    /// Takes one sample and gives the bit of the window that ends with it, or none where no window
+    /// Takes one sample and gives the bit of the window that ends with it, or none if no window
     /// of this offset does.
     pub fn push(&mut self, sample: i16) -> Option<bool>
         requires { self.old.position < 2 ^ 48 }

@@ -74,7 +74,7 @@ fn each_offset_gives_one_bit_at_the_end_of_each_of_its_windows(rt: HostRuntime) 
     }
 }
 
-/// The bits of known windows that follow so many samples behind a skip.
+/// The bits of known windows that follow so many samples after a skip.
 fn hears_windows_behind(slicer: &mut Slicer, silent: u64) -> bool {
     for _ in 0..silent {
         if slicer.position() >= 1000 || slicer.push(0).is_some() {

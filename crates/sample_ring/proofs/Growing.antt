@@ -43,7 +43,7 @@ stands_with_read len published ended track e so same stands = record {
 pub stands_new : (len : ℕ) (published : List ℤ) (ended : Bool) → StandsIn len published ended record { at = 0; reads = [] }
 stands_new len published ended = record { within = omega arith; stands = All-nil (Stands len published ended); tiles = refl }
 
--- One list goes on as another, where the ring had not ended: what was published stays.
+-- One list goes on as another, if the ring had not ended: what was published stays.
 pub record GoesOn (before after : List ℤ) : Type 0 where
   pub longer : length before ≤ length after
   pub same : (k : ℕ) (x : ℤ) → slice_get before k ≡ Some x → slice_get after k ≡ Some x

@@ -120,7 +120,7 @@ so_looked len published ended writer id v cell size calm found so =
     let e : Entry = entry_of v cell 0 in
     so_read len published ended writer id v e v.waits size (λ w. off (sym calm ∙ w)) refl (found_stands len published ended e found lt) so))
 
--- a load of the end word behind an empty cell
+-- a load of the end word after an empty cell
 last_stands : (len : ℕ) (published : List ℤ) (ended : Bool) (e : Entry) → lap_of e.cell ≤ e.at → e.known ≤ e.at → e.at ≤ length published → TellsEnd published ended e.last → Stands len published ended e
 last_stands len published ended e none_there known within tells = dite (ℕ_discrete e.last (e.at + 1))
     (λ all. subst (StandsAs len published ended e.known) (sym (answer_end len e none_there all)) (⊎_elim (λ (t : (e.last ≡ 0) × (ended ≡ false)). let nothing = t.0 in absurd (omega arith))

@@ -1,8 +1,8 @@
--- What the words of a ring tell of the published list: one word a cell, and the end word behind them.
+-- What the words of a ring tell of the published list: one word a cell, and the end word after them.
 use Rattle.std.specs.Prelude.{◌≡◌, ℕ, ◌+◌, ◌*◌, ◌/◌, ◌%◌, ◌<◌, ◌≤◌, ◌⊎◌, Bool, true, false, List, length, ℤ, Some, slice_get}
 use Rattle.std.specs.Int.{w16, cast_signed, cast_unsigned}
 
--- the lap of a word: 1 more than the position whose sample it tells, and 0 where it tells none
+-- the lap of a word: 1 more than the position whose sample it tells, and 0 if it tells none
 abbrev pub lap_of : ℕ → ℕ
 lap_of word = word / 65536
 

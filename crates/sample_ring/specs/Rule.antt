@@ -1,4 +1,4 @@
--- The rule of the table, which each step keeps: one published list stands behind all words and all views.
+-- The rule of the table, which each step keeps: all words and all views describe one published list.
 use Rattle.std.specs.Prelude.{◌≡◌, ℕ, ◌+◌, ◌-◌, ◌^◌, ◌<◌, ◌≤◌, Bool, true, List, length, ℤ, slice_index}
 use Rattle.std.specs.List.{All}
 use mathlib.Core.Option.{some}

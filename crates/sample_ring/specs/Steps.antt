@@ -7,7 +7,7 @@ use Rattle.sample_ring.specs.Cells.{lap_of, sample_of}
 use Rattle.sample_ring.specs.Record.{StandsIn}
 use Rattle.sample_ring.specs.Views.{looked_view, looked_last_view}
 
--- the writer stored a cell: its sample stands behind the published ones
+-- the writer stored a cell: its sample stands after the published ones
 abbrev pub published : Step (Unit {0}) → Me (Unit {0}) View → ℕ → Me (Unit {0}) View → Type 0
 published step me word after = after ≡ (record me.0 { published = me.0.published ++ sample_of step.first ∷ [] }, me.1)
 
@@ -26,7 +26,7 @@ pub record Tells (v : View) (cell : ℕ) : Type 0 where
 abbrev pub looked : Step (Unit {0}) → Me (Unit {0}) View → ℕ → Me (Unit {0}) View → Type 0
 looked step me word after = (after ≡ (looked_view me.0 word, me.1)) × Tells me.0 word
 
--- a reader loaded the end word, behind a cell that is not yet written
+-- a reader loaded the end word, after a cell that is not yet written
 abbrev pub looked_last : Step (Unit {0}) → Me (Unit {0}) View → ℕ → Me (Unit {0}) View → Type 0
 looked_last step me word after = after ≡ (looked_last_view me.0 word, me.1)
 

@@ -29,13 +29,13 @@ keeping v reader = record v { kept = v.kept ++ reader.track ∷ [] }
 abbrev pub entry_of : View → ℕ → ℕ → Entry
 entry_of v cell last = record { at = v.track.at; known = v.known; cell = cell; last = last }
 
--- a reader that has loaded its cell: where the cell is not yet written, it has still to load the end word
+-- a reader that has loaded its cell: if the cell is not yet written, it has still to load the end word
 abbrev pub looked_view : View → ℕ → View
 looked_view v cell =
     if nat_le (lap_of cell) v.track.at
     then record v { waits = true; cell = cell }
     else record v { track = with_read v.len v.track (entry_of v cell 0) }
 
--- a reader that has loaded the end word behind its cell
+-- a reader that has loaded the end word after its cell
 abbrev pub looked_last_view : View → ℕ → View
 looked_last_view v last = record v { track = with_read v.len v.track (entry_of v v.cell last); waits = false }

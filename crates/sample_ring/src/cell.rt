@@ -13,7 +13,7 @@ pub(crate) fn word_at(position: u64, sample: i16) -> u64
     (position + 1) * 65536 + sample.cast_unsigned() as u64
 }
 
-/// 1 more than the position whose sample a word tells, and 0 where it tells none.
+/// 1 more than the position whose sample a word tells, and 0 if it tells none.
 pub(crate) fn lap_in(word: u64) -> u64
     ensures { result ≡ lap_of word }
 {

@@ -25,7 +25,7 @@ impl Reader {
     ghost use Rattle.sample_ring.specs.Ends.{ring_id, ring_len, reader_ring, note_ring, position_of, known_by, reads_of, count_of, AddsRead, GoesForward};
     ghost use Rattle.sample_ring.specs.Record.{next};
 
-    /// Reads at the next position, by one load of its cell and, where that is not yet written, one of the end word.
+    /// Reads at the next position, by one load of its cell and, if that is not yet written, one of the end word.
     /// It never waits.
     pub fn read(&mut self, ring: &Ring) -> Got
         requires { reader_ring self.old ≡ ring_id ring.now }

@@ -2,7 +2,7 @@
 use crate::view::View;
 use atomic_table::{Join, Play, Split, TableRule};
 
-/// One published list stands behind all words and all views. The key is the number of cells.
+/// All words and all views describe one published list. The key is the number of cells.
 pub struct RingRule;
 
 impl TableRule<(), View, usize> for RingRule {
@@ -41,7 +41,7 @@ impl Play<(), View> for Look {
     ghost then = { looked };
 }
 
-/// A reader loads the end word, where its cell is not yet written.
+/// A reader loads the end word, if its cell is not yet written.
 pub(crate) struct LookLast;
 
 impl Play<(), View> for LookLast {

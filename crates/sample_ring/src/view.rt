@@ -1,7 +1,7 @@
 //! What each end of a ring knows. These values exist in proofs alone: none is ever made.
 use std::collections::LinkedList;
 
-/// One read: where the reader stood, the count that it knew, and the words that it loaded. The end word is 0 where
+/// One read: where the reader stood, the count that it knew, and the words that it loaded. The end word is 0 if
 /// it was not loaded.
 pub struct Entry {
     pub at: u64,

@@ -13,7 +13,7 @@ take_next (y ∷ xs) (suc n) x is =
     let e : suc (n + 1) ≡ suc n + 1 = omega arith in
     ap (λ t. y ∷ t) (take_next xs n x is) ∙ ap (λ k. take k (y ∷ xs)) e
 
--- all are kept where they fit
+-- all are kept if they fit
 pub all_kept : {A : Type 0} (n : ℕ) (xs : List A) → length xs ≤ n → keep_last n xs ≡ xs
 all_kept n xs fits = let none : length xs - n ≡ 0 = omega arith in ap (λ k. drop k xs) none
 
@@ -26,7 +26,7 @@ kept_next most place ps xs x so_far is fits =
     let size = length-take (place + 1) xs in
     ap (keep_last most) all ∙ all_kept most (take (place + 1) xs) (omega arith)
 
--- there is none to be copied behind the last
+-- there is none to be copied after the last
 pub none_next : {A : Type 0} (xs : List A) (place : ℕ) → place < length xs → slice_get xs place ≡ None → ⊥
 none_next [] place within is = omega arith
 none_next (x ∷ xs) zero within is = subst (λ o. IfSome o (λ y. ⊥)) (sym is) tt

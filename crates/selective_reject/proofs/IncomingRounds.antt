@@ -82,7 +82,7 @@ new_distance store sender number fit reach new =
     let near : number < store.vr + sender = reach.1 in
     ahead-at_or_ahead store.modulus store.vr number new (omega arith)
 
--- where windows fit, a packet is taken as its true number says
+-- if windows fit, a packet is taken as its true number says
 took-true_number : (store : Incoming) (sender number : ℕ) → AreFitting store.modulus store.window sender store.mode
     → IsInReach store.vr sender number → took store (number % store.modulus) ≡ took_truly store number
 took-true_number store sender number fit reach = elim (cases_lt number store.vr) [

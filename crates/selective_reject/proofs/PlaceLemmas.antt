@@ -7,7 +7,7 @@ use Rattle.std.proofs.lemmas.List.Elements.{filter-append}
 use Rattle.selective_reject.specs.declared.place.Place.{Place}
 use Rattle.selective_reject.specs.Places.{empty_place, is_full, is_missing, asked_place, with_asked, missing, asked}
 
--- behind the last place nothing is there
+-- after the last place nothing is there
 pub is_full-none : (places : List Place) (k : ℕ) → slice_get places k ≡ None → is_full places k ≡ false
 is_full-none places k none =
     ap (λ place. is_some place.packet) (sym (unwrap_or-slice_get places k empty_place) ∙ ap (λ o. unwrap_or o empty_place) none)

@@ -18,7 +18,7 @@ empty_outgoing = record { va = 0; vs = 0; top = 0; packets = [] }
 abbrev pub after_push : Packet → Outgoing → Outgoing
 after_push packet store = record store { packets = store.packets ++ packet ∷ [] }
 
--- vs is below va and the window, and below the number behind the last packet
+-- vs is below va plus the window, and below va plus the number of packets
 abbrev pub may_send : ℕ → Outgoing → Bool
 may_send window store = nat_lt store.vs (store.va + min window (length store.packets))
 

@@ -31,7 +31,7 @@ misses place = not (place.asked || is_some place.packet)
 abbrev pub is_missing : List Place → ℕ → Bool
 is_missing places k = misses (place_at places k)
 
--- a place, asked for where its packet is not there
+-- a place, asked for if its packet is not there
 abbrev pub asked_place : Place → Place
 asked_place place = record { packet = place.packet; asked = place.asked || not (is_some place.packet) }
 
@@ -42,6 +42,6 @@ with_asked places k = slice_set places k (asked_place (place_at places k))
 unfoldable pub missing : List Place → ℕ → List ℕ
 missing places n = filter (is_missing places) (range_with_len 0 n)
 
--- the first n places are asked for where their packets are not there
+-- the first n places are asked for if their packets are not there
 unfoldable pub asked : List Place → ℕ → List Place
 asked places n = map asked_place (take n places) ++ drop n places

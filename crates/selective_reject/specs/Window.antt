@@ -3,7 +3,7 @@ use Rattle.std.specs.Prelude.{◌≡◌, ℕ, ◌-◌, ◌/◌, ◌<◌, ◌≤�
 use Rattle.selective_reject.specs.declared.window.Mode.{Mode}
 use Rattle.selective_reject.specs.declared.window.Mode.TheVariants.{Rej, Srej}
 
--- A window of the whole modulus could not be told from none. Where frames that come ahead of a gap are kept, a repeat
+-- A window of the whole modulus could not be told from none. If frames that come ahead of a gap are kept, a repeat
 -- must not be taken for a later one.
 abbrev pub largest_window : ℕ → Mode → ℕ
 largest_window modulus Rej = modulus - 1

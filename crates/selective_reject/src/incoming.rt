@@ -109,7 +109,7 @@ impl InStore {
         // The same by whole numbers that count from 0.
         ensures stands_for { (store : Incoming) → StandsForIncoming self.old store
             → (result ≡ took store ns) × StandsForIncoming self.new (after_accept store ns packet) }
-        // Where the windows of both ends fit, it is decided as by the true number of the frame.
+        // If the windows of both ends fit, it is decided as by the true number of the frame.
         ensures true_number { (store : Incoming) (sender number : ℕ) → StandsForIncoming self.old store
             → AreFitting store.modulus store.window sender store.mode → IsInReach store.vr sender number
             → ns ≡ number % store.modulus
@@ -186,7 +186,7 @@ impl InStore {
     }
 
     /// The numbers from V(R) up to `ns`, `ns` not among them, that are neither stored nor asked for, rising. They are
-    /// then asked for. None where `ns` is not in the window.
+    /// then asked for. None if `ns` is not in the window.
     pub fn ask(&mut self, ns: u8) -> ArrayVec<u8, 64>
         requires mode { self.old.mode ≡ Mode.Srej }
         requires number { ns < self.old.modulus }

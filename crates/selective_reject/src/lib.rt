@@ -1,6 +1,6 @@
 //! The numbered packets of an AX.25 link (AX.25 2.2 sections 4.2 and 6.4): an [`OutStore`] keeps what was sent until it
 //! is acknowledged, an [`InStore`] what came ahead of a gap. Frames carry numbers modulo 8 or 128, and each call
-//! decides by those alone. Where both ends keep to windows that fit the modulus, it decides what the true numbers say,
+//! decides by those alone. If both ends keep to windows that fit the modulus, it decides what the true numbers say,
 //! which count all packets from 0.
 #![tactic(auto)]
 

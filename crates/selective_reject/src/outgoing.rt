@@ -22,7 +22,7 @@ const CAPACITY: usize = 1024;
 pub struct BadNr {
     /// V(A), the number of the first packet that is not acknowledged.
     pub va: u8,
-    /// The number behind the last packet that was sent.
+    /// One past the number of the last packet that was sent.
     pub top: u8,
 }
 
@@ -82,7 +82,7 @@ impl OutStore {
         })
     }
 
-    /// Puts a packet behind all others. Hands it back exactly where there are 1024.
+    /// Puts a packet after all others. Hands it back exactly when there are 1024.
     pub fn push(&mut self, packet: Packet) -> Result<(), Packet>
         ensures full { IsErr result ↔ (length self.old.packets ≡ 1024) }
         ensures handed_back { IfErr result (λ back. (back ≡ packet) × (self.new ≡ self.old)) }
@@ -94,7 +94,7 @@ impl OutStore {
         self.packets.try_push_back(packet)
     }
 
-    /// The number of the next packet to be sent, V(S), which then rises by one. None exactly where as many as the
+    /// The number of the next packet to be sent, V(S), which then rises by one. None exactly when as many as the
     /// window has, or all that there are, were sent from V(A) on.
     pub fn next(&mut self, modulus: u8, window: u8) -> Option<u8>
         requires modulus { IsModulus modulus }
@@ -119,7 +119,7 @@ impl OutStore {
         Some(number)
     }
 
-    /// Removes the packets below the number that `nr` names, and says how many. Refuses `nr` exactly where it names
+    /// Removes the packets below the number that `nr` names, and says how many. Refuses `nr` exactly when it names
     /// none from V(A) to the greatest V(S) so far; the store is then unchanged.
     pub fn acknowledge(&mut self, modulus: u8, nr: u8) -> Result<u8, BadNr>
         requires modulus { IsModulus modulus }
@@ -129,7 +129,7 @@ impl OutStore {
         ensures stands_for { (store : Outgoing) → StandsForOutgoing self.old store
             → (result ≡ acknowledgement modulus nr store)
             × StandsForOutgoing self.new (after_acknowledge modulus nr store) }
-        // Where fewer than the modulus are under way, a number from V(A) to the top is the one that is named.
+        // If fewer than the modulus are under way, a number from V(A) to the top is the one that is named.
         ensures true_number { (store : Outgoing) (number : ℕ) → StandsForOutgoing self.old store
             → store.va ≤ number → number ≤ store.top → store.top < store.va + modulus → nr ≡ number % modulus
             → (result ≡ Ok (number - store.va)) × StandsForOutgoing self.new (acknowledged number store) }
@@ -154,14 +154,14 @@ impl OutStore {
         self.sent = 0;
     }
 
-    /// The packet that was sent with that number. None exactly where none from V(A) to the greatest V(S) so far has it.
+    /// The packet that was sent with that number. None exactly when none from V(A) to the greatest V(S) so far has it.
     pub fn one(&self, modulus: u8, nr: u8) -> Option<&Packet>
         requires modulus { IsModulus modulus }
         requires number { nr < modulus }
         ensures packet { option_copied result ≡ sent_packet modulus nr self.now }
         ensures stands_for { (store : Outgoing) → StandsForOutgoing self.now store
             → option_copied result ≡ sent_packet modulus nr store }
-        // Where fewer than the modulus are under way, a number from V(A) to below the top gives its packet.
+        // If fewer than the modulus are under way, a number from V(A) to below the top gives its packet.
         ensures true_number { (store : Outgoing) (number : ℕ) → StandsForOutgoing self.now store
             → store.va ≤ number → number < store.top → store.top < store.va + modulus → nr ≡ number % modulus
             → option_copied result ≡ slice_get store.packets (number - store.va) }
@@ -181,7 +181,7 @@ impl OutStore {
         self.packets.len()
     }
 
-    /// True where no packet is left.
+    /// True if no packet is left.
     pub fn is_empty(&self) -> bool
         ensures { result ≡ (length self.now.packets == 0) }
     {
@@ -206,14 +206,14 @@ impl OutStore {
         self.sent
     }
 
-    /// The packet that stands so many places behind the first that is not acknowledged, sent or not.
+    /// The packet that stands so many places after the first that is not acknowledged, sent or not.
     pub fn packet(&self, place: usize) -> Option<&Packet>
         ensures { option_copied result ≡ slice_get self.now.packets place }
     {
         self.packets.get(place)
     }
 
-    /// How many packets [`OutStore::acknowledge`] would remove, which is refused exactly where that is.
+    /// How many packets [`OutStore::acknowledge`] would remove; refused exactly when that is.
     pub fn acknowledgement(&self, modulus: u8, nr: u8) -> Result<u8, BadNr>
         requires modulus { IsModulus modulus }
         requires number { nr < modulus }

@@ -17,7 +17,7 @@ const MOST_PLACES: u8 = 127;
 /// The place of one number.
 #[derive(Drop)]
 pub struct Place {
-    /// The packet, where it has come and was not taken.
+    /// The packet, if it has come and was not taken.
     pub packet: Option<Packet>,
     /// The number was asked for.
     pub asked: bool,
@@ -52,7 +52,7 @@ impl Place {
         self.packet = Some(packet);
     }
 
-    /// Notes that the number is asked for, where its packet is not there and it was not asked for before, and tells
+    /// Notes that the number is asked for, if its packet is not there and it was not asked for before, and tells
     /// whether that is so.
     fn ask(&mut self) -> bool
         ensures asked { result ≡ misses self.old }
@@ -130,7 +130,7 @@ impl Places {
         }
     }
 
-    /// The packet of the first place, which goes; an empty place comes behind the last.
+    /// The packet of the first place, which goes; an empty place comes after the last.
     pub(crate) fn take(&mut self) -> Option<Packet>
         requires { is_full self.old 0 ≡ true }
         ensures packet { result ≡ packet_at self.old 0 }
@@ -141,7 +141,7 @@ impl Places {
         first.packet
     }
 
-    /// Asks for those of the first `count` places that miss their packets, and gives their numbers, where the first
+    /// Asks for those of the first `count` places that miss their packets, and gives their numbers, if the first
     /// place is that of number `vr`.
     pub(crate) fn ask_first(&mut self, count: u8, vr: u8, modulus: u8) -> ArrayVec<u8, 64>
         requires modulus { IsModulus modulus }

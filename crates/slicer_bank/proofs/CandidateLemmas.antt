@@ -68,7 +68,7 @@ candidate_at_last x item small e h =
       ends = record { within = omega arith; end_of = e ∙ size; frame = subst (λ b. EndsFrame b item.octets) (sym all) h.frame };
     }
 
--- no candidate ends behind the samples
+-- no candidate ends after the samples
 pub candidates_none : (x : List ℤ) → AreCandidatesBehind (length x) x []
 candidates_none x = record {
   each = All-nil (λ item. IsCandidate x item × (length x < item.end));
@@ -94,7 +94,7 @@ AllPairs-append R xs ys a b across i j d ij jl =
           ]
     ]
 
--- the candidates of the first samples, and those of all that end behind them
+-- the candidates of the first samples, and those of all that end after them
 pub candidates_join : (position : ℕ) (x y : List ℤ) (found more : List Candidate)
     → position ≤ length x
     → AreCandidatesBehind position x found

@@ -85,7 +85,7 @@ visited_more Did old now n was lane h l did =
       rest = λ k d le m. get_or-set_other now n k lane d (λ e. omega arith) ∙ h.rest k d (omega arith) m;
     }
 
--- what the lanes visited have handed over, one behind the other, with what the next one had
+-- what the lanes visited have handed over, one after the other, with what the next one had
 pub found_more : {X Y : Type 0} (Did : ℕ → X → X → Type 0) (found_by : X → List Y) (old now : List X) (n : ℕ) (was : X) (found after : List Y) → Visited Did old now n → n < 8
     → found ≡ flat_map found_by (take n old) → after ≡ found ++ found_by (get_or now n was) → after ≡ flat_map found_by (take (n + 1) old)
 found_more Did found_by old now n was found after h l gathered more =
@@ -98,7 +98,7 @@ all_visited Did old now n h full = let eight = h.eight in take_all n old (omega 
 
 -- ---- by the ends
 
--- what the lane of an offset found ends with its windows, one behind the other
+-- what the lane of an offset found ends with its windows, one after the other
 pub record IsOfLane (offset : ℕ) (items : List Candidate) : Type 0 where
   pub each : All (λ item. (item.offset ≡ offset) × ((windows : ℕ) × (item.end ≡ offset + 8 * windows))) items
   pub rising : AllPairs (λ item later. item.end < later.end) items

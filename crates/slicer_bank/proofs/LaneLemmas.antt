@@ -11,7 +11,7 @@ use Rattle.hdlc_framer.specs.Events.{EventAt}
 use Rattle.hdlc_framer.proofs.Lines.{run-push_zero}
 use Rattle.hdlc_framer.proofs.FrameEnds.{frame_told}
 
--- where a frame ends with a bit, its event says so
+-- if a frame ends with a bit, its event says so
 frame_is_told : (bits : List Bool) (bit : Bool) (event : Event) (octets : List ℕ)
     → EventAt (bits ++ bit ∷ []) event → EndsFrame (bits ++ bit ∷ []) octets → event ≡ Frame
 frame_is_told bits bit Frame octets h e = refl

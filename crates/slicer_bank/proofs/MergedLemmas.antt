@@ -40,7 +40,7 @@ below_more position items found late =
     ∙ ap (λ t. below position (merged items) ++ t) (below_none position (merged_after items found) (All-merged (λ y. position ≤ y.end) items found late))
     ∙ append-nil (below position (merged items))
 
--- what is given next, where so much was given before
+-- what is given next, if so much was given before
 pub next_is : (from to : ℕ) (given ready zs : List Candidate) → from ≤ to → IsNonDecreasingBy (λ y. y.end) zs → given ≡ below from zs → given ++ ready ≡ below to zs → ready ≡ between from to zs
 next_is from to given ready zs le rises before total =
     append_cancel_left (below from zs) ready (between from to zs) (ap (λ t. t ++ ready) (sym before) ∙ total ∙ sym (below_between from to zs le rises))

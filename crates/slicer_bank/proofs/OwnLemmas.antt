@@ -283,7 +283,7 @@ own_block offset position seven block initial middle lane before found after lon
       subst (λ t. LaneHearsMore offset x t before after) whole (lane_hears_join offset x (take 7 block) (drop 7 block) before found after one.1 two.1),
     )
 
--- what is found where nothing was found before
+-- what is found if nothing was found before
 pub own_found : (offset : ℕ) (x block : List ℤ) (position : ℕ) (before after : List Candidate) → length x ≡ position → before ≡ [] → LaneHearsMore offset x block before after
     → AreOfWindows offset (windows_in offset position) (windows_in offset (length (x ++ block))) (x ++ block) after
 own_found offset x block position before after size none h =

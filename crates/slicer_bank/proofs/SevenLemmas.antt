@@ -21,7 +21,7 @@ last_seven-append x y =
 pub length-last_seven : (x : List ℤ) → length (last_seven x) ≡ 7
 length-last_seven x = omega (arith, length-drop (length x) (silence ++ x), length-append silence x, length-replicate 7 (pos 0))
 
--- without silence, where there are seven
+-- without silence, if there are seven
 pub last_seven_whole : (x : List ℤ) → 7 ≤ length x → last_seven x ≡ drop (length x - 7) x
 last_seven_whole x enough =
     let at : length x ≡ length silence + (length x - 7) = omega (arith, length-replicate 7 (pos 0)) in
@@ -69,7 +69,7 @@ window_of_piece x piece index d first inside =
     ∙ drop-append-le index (take 7 piece ++ y) one begins
     ∙ ap (λ l. l ++ one) (sym last)
 
--- behind a block of fewer than seven samples: the end of the seven before it and the block
+-- after a block of fewer than seven samples: the end of the seven before it and the block
 pub seven_behind_short : (x block bridge : List ℤ) → take (7 + length block) bridge ≡ last_seven x ++ block
     → take (length block + 7 - length block) (drop (length block) bridge) ≡ last_seven (x ++ block)
 seven_behind_short x block bridge is =
@@ -79,7 +79,7 @@ seven_behind_short x block bridge is =
     ap (λ m. take m (drop n bridge)) seven ∙ sym (drop-take n 7 bridge) ∙ ap (λ m. drop n (take m bridge)) sum ∙ ap (drop n) is
     ∙ sym (last_seven-append x block)
 
--- behind a longer block: its own last seven
+-- after a longer block: its own last seven
 seven_behind : (x block : List ℤ) → 7 ≤ length block → drop (length block - 7) block ≡ last_seven (x ++ block)
 seven_behind x block long =
     let at : length block ≡ length (last_seven x) + (length block - 7) = omega (arith, length-last_seven x) in
@@ -90,7 +90,7 @@ pub seven_behind_long : (x block : List ℤ) → 7 ≤ length block
 seven_behind_long x block long =
     take_all (length block - (length block - 7)) (drop (length block - 7) block) (omega (arith, length-drop (length block - 7) block)) ∙ seven_behind x block long
 
--- behind the first seven of a block: those
+-- after the first seven of a block: those
 pub seven_behind_first : (x block : List ℤ) → 7 ≤ length block → take 7 block ≡ last_seven (x ++ take 7 block)
 seven_behind_first x block long =
     let n : length (take 7 block) ≡ 7 = length-take-le 7 block long in

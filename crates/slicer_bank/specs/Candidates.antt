@@ -18,7 +18,7 @@ pub record IsCandidate (x : List ℤ) (item : Candidate) : Type 0 where
   pub index : ℕ
   pub ends : EndsAtBit x item index
 
--- the items are the candidates of the samples that end behind a position, each once, by end and then offset
+-- the items are the candidates of the samples that end after a position, each once, by end and then offset
 pub record AreCandidatesBehind (position : ℕ) (x : List ℤ) (items : List Candidate) : Type 0 where
   pub each : All (λ item. IsCandidate x item × (position < item.end)) items
   pub whole : (item : Candidate) → IsCandidate x item → position < item.end → Contains items item

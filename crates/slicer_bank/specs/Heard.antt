@@ -45,7 +45,7 @@ HearsAlone offset position seven block was lane = (x : List ℤ) (items : List C
     → LaneStandsFor lane (tones_at offset (x ++ block))
     × AreOfWindows offset (windows_in offset position) (windows_in offset (length (x ++ block))) (x ++ block) items
 
--- each lane keeps what it heard in samples behind a position
+-- each lane keeps what it heard in samples after a position
 abbrev pub LanesKeep : ℕ → List ℤ → List HeldLane → Type 0
 LanesKeep position x lanes = (offset : ℕ) (d : HeldLane) (items : List Candidate) → offset < 8 → (slice_index_or lanes offset d).heard ≡ Some items
     → AreOfWindows offset (windows_in offset position) (windows_in offset (length x)) x items

@@ -15,7 +15,7 @@ use frame_merge::{Candidate, Merger};
 use tnc_base::OutOfMemory;
 
 /// Puts the candidates of a turn into the merger, marks each lane at its position, and takes the items that are settled:
-/// those that end below the least position, or all that are left where the ring has ended.
+/// those that end below the least position, or all that are left if the ring has ended.
 pub fn merge_advance(
     merger: &mut Merger,
     candidates: Vec<Candidate>,

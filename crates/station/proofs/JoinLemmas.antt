@@ -42,7 +42,7 @@ shows_joined parts out turn held connection kind shows others raw monitors reads
       all_pairs_push HasOtherId turn.now.connections new h.ids (λ k d within. new_id items turn.now.connections connection.id h.connections others k d within),
     )
 
--- no id goes where it was none of them
+-- no id goes if it was none of them
 filter_others : (id : ℕ) (ids : List ℕ) → All (λ other. other ≢ id) ids → filter (λ other. not (other == id)) ids ≡ ids
 filter_others id [] others = refl
 filter_others id (x ∷ xs) others =
@@ -53,14 +53,14 @@ filter_others id (x ∷ xs) others =
 filter_itself : (id : ℕ) → filter (λ other. not (other == id)) (id ∷ []) ≡ []
 filter_itself id = cond-false (not (id == id)) (id ∷ []) [] (grind (arith, nat_tests))
 
--- the ids where the new connection is closed
+-- the ids if the new connection is closed
 pub ids_closed : (id : ℕ) (ids closed : List ℕ) → All (λ other. other ≢ id) ids → closed ≡ id ∷ [] → ids ≡ without_ids closed (ids ++ id ∷ [])
 ids_closed id ids closed others is =
     sym (ap (λ gone. without_ids gone (ids ++ id ∷ [])) is ∙ filter-append (λ other. not (other == id)) ids (id ∷ [])
     ∙ ap (λ xs. xs ++ filter (λ other. not (other == id)) (id ∷ [])) (filter_others id ids others)
     ∙ ap (λ xs. ids ++ xs) (filter_itself id) ∙ append-nil ids)
 
--- where no connection has an id, it is none of the ids
+-- if no connection has an id, it is none of the ids
 pub others_held : (id : ℕ) (items : List HeldConnection) → All (λ connection. connection.id ≢ id) items → All (λ other. other ≢ id) (map (λ (connection : HeldConnection). connection.id) items)
 others_held id [] others k d within = absurd (omega (arith, within))
 others_held id (x ∷ xs) others zero d within = others 0 x (omega arith)

@@ -67,7 +67,7 @@ own_given_up P turn id key held None h own then = absurd h
 own_given_up P turn id key held (Some link) h own then =
     subst P (sym (cond-true (is_number id link.owner) (event_at key Disconnect (changing (with_links (with_link key (without_owner link))) turn)) turn (ap (is_number id) (sym h.owner) ∙ own))) (then link h refl)
 
--- lists whose items pass alike still stand for each other where they are filtered
+-- lists whose items pass alike still stand for each other if they are filtered
 AllZip-filter : {A B : Type 0} (R : A → B → Type 0) (p : A → Bool) (q : B → Bool) (alike : (a : A) (b : B) → R a b → p a ≡ q b) (xs : List A) (ys : List B) → AllZip R xs ys → AllZip R (filter p xs) (filter q ys)
 AllZip-filter R p q alike [] [] h = tt
 AllZip-filter R p q alike [] (y ∷ ys) h = absurd h

@@ -71,7 +71,7 @@ passes_stands held new m event (Err (TooLong len)) result h ok err same p = stay
 passes_stands held new m event (Err Memory) (Ok done) h ok err same p = absurd (false≢true p)
 passes_stands held new m event (Err Memory) (Err fault) h ok err same p = tt
 
--- a link stands where its machine does
+-- a link stands if its machine does
 pub link_stands : (held : OwnedLink) (new : Held) (link : Link) (event : Event) (result : Result Done OutOfMemory) → StandsForLink held link → OnOk result (StandsFor new (step link.machine event).now) → OnOk result (StandsForLink (record held { machine = new }) (stepped_link event link))
 link_stands held new link event (Ok done) h stands = record { local = h.local; remote = h.remote; owner = h.owner; pid = h.pid; machine = stands }
 link_stands held new link event (Err fault) h stands = tt

@@ -1,4 +1,4 @@
--- A station behind what it shows to a connection.
+-- A station after what it shows to a connection.
 use Rattle.std.specs.Prelude.{◌≡◌, ℕ, List, [], ◌∷◌, map, refl}
 use Rattle.std.proofs.Common.{◌∙◌, ap}
 use Rattle.station.specs.declared.connection.Connection.{Connection as HeldConnection}

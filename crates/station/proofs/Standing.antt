@@ -23,7 +23,7 @@ AllZip-length R [] (y ∷ ys) each = absurd each
 AllZip-length R (x ∷ xs) [] each = absurd each
 AllZip-length R (x ∷ xs) (y ∷ ys) each = ap suc (AllZip-length R xs ys each.1)
 
--- a link holds few packets where what it stands for does
+-- a link holds few packets if what it stands for does
 pub few_place : (id : ℕ) (held : Option OwnedLink) (place : Option Link) → StandsForPlace held place → IfSome held (HasFew id) → IfSome place (HoldsFew id)
 few_place id None None h few = tt
 few_place id None (Some link) h few = absurd h

@@ -36,7 +36,7 @@ key_below slab key value h e = elim (cases_lt key 64) [ inl below ↦ below | in
 abbrev pub one_if : Option OwnedLink → ℕ
 one_if slot = cond (is_some slot) 1 0
 
--- how many links there are where one place was written
+-- how many links there are if one place was written
 pub count_set : (slots : List (Option OwnedLink)) (key : ℕ) (slot had : Option OwnedLink) → key < length slots → get_or slots key None ≡ had → count_by is_some (set slots key slot) + one_if had ≡ count_by is_some slots + one_if slot
 count_set slots key slot had within e =
     let changed = sum_by-set one_if slots key slot None within in
@@ -78,7 +78,7 @@ IsTable-removed old new key value h e capacity updates len =
       count = omega (arith, of_places, of_new, h.count, len);
     }
 
--- the table behind an event of the link of a key
+-- the table after an event of the link of a key
 pub IsSetAt-with_value : (slab : Slab OwnedLink) (held : HeldLinks) (key : ℕ) (old new : OwnedLink) (link : Link) (A : Type 0) (result : Result A OutOfMemory) → IsTable slab → table_of slab ≡ held → get slab key ≡ Some old → OnOk result (StandsForLink new link) → OnOk result (IsSetAt key held (table_of (with_value slab key new)) link)
 IsSetAt-with_value slab held key old new link A (Err fault) h same e stands = tt
 IsSetAt-with_value slab held key old new link A (Ok value) h same e stands =
@@ -92,7 +92,7 @@ IsSetAt-with_value slab held key old new link A (Ok value) h same e stands =
       next = ap (λ (table : HeldLinks). table.next) same;
     }
 
--- the table behind a removal is the settled one of an idle link
+-- the table after a removal is the settled one of an idle link
 pub settled-removed : (old new : Slab OwnedLink) (held : HeldLinks) (key : ℕ) (value : OwnedLink) (link : Link) → IsTable old → table_of old ≡ held → get old key ≡ Some value → Updates old new key None → new.vacant_key ≡ key → StandsForLink value link → is_idle value.machine.control.state ≡ true → table_of new ≡ settled_at key held link.machine.control.state
 settled-removed old new held key value link h same e updates next stands idle =
     let table : List (Option OwnedLink) → ℕ → HeldLinks = λ places n. record { places = places; next = n } in

@@ -11,7 +11,7 @@ use Rattle.station.specs.Links.{most_links}
 use Rattle.station.specs.Ticks.{waits, ticking_at, ticking_links}
 use Rattle.station.specs.Turn.{Turn, in_order}
 
--- the number is there where the test says so
+-- the number is there if the test says so
 pub number_there : (n : ℕ) (number : Option ℕ) → is_number n number ≡ true → number ≡ Some n
 number_there n None h = absurd (false≢true h)
 number_there n (Some m) h = ap (λ k. Some k) (eqb-true m n h)

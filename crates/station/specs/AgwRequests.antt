@@ -34,7 +34,7 @@ version_reply = to_host version_kind 0 no_call no_call (1 ∷ 0 ∷ 0 ∷ 0 ∷ 
 abbrev pub ports_reply : AgwMessage
 ports_reply = to_host ports_kind 0 no_call no_call (codes "1;Port1 sound card;" ++ 0 ∷ [])
 
--- The baud code, 255 where the traffic is not told, TXDELAY, TXtail, persistence and slot time as they are set, the
+-- The baud code, 255 if the traffic is not told, TXDELAY, TXtail, persistence and slot time as they are set, the
 -- window of a new link, which is idle and counts modulo 8, the number of links, and the number 1 in four octets.
 abbrev pub capabilities_of : StationState → List ℕ
 capabilities_of s =
@@ -160,7 +160,7 @@ abbrev pub is_owner : ℕ → Option Link → Bool
 is_owner id None = false
 is_owner id (Some link) = is_number id link.owner
 
--- the key, where the link is the connection's own
+-- the key, if the link is the connection's own
 abbrev pub if_own : ℕ → Links → Option ℕ → Option ℕ
 if_own id links None = None
 if_own id links (Some key) = if is_owner id (link_at key links) then Some key else None
@@ -175,7 +175,7 @@ giving_packet key packet = event_at key (Send packet)
 abbrev pub giving_packets : ℕ → List Packet → Act
 giving_packets key packets = in_order (map (giving_packet key) packets)
 
--- the PID of the data at a key: the message's, or the link's where that is 0
+-- the PID of the data at a key: the message's, or the link's if that is 0
 abbrev pub data_pid : ℕ → Option Link → ℕ
 data_pid pid None = pid
 data_pid pid (Some link) = pid_or link.pid pid

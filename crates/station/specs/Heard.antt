@@ -1,5 +1,5 @@
 -- What a station does with a frame that it hears (AX.25 2.2 sections 3.12 and 6.3): hosts are shown it, it is repeated
--- where it waits for a repeater, and else it is an event of the link of its two calls.
+-- if it waits for a repeater, and else it is an event of the link of its two calls.
 use Rattle.std.specs.Prelude.{◌≡◌, ℕ, nat_lt, Bool, true, false, not, ◌&&◌, ◌⊎◌, if◌then◌else◌, List, [], ◌∷◌, ◌++◌, map, Option, Some, None, MatchBool}
 use Rattle.std.specs.List.{list_any}
 use Rattle.ax25_address.specs.Callsign.{Callsign}
@@ -50,7 +50,7 @@ showing_to from to octets connection turn =
 abbrev pub showing : List ℕ → List ℕ → List ℕ → Act
 showing from to octets turn = in_order (map (showing_to from to octets) turn.now.connections) turn
 
--- the call fields of a raw frame, which are empty where the path cannot be read
+-- the call fields of a raw frame, which are empty if the path cannot be read
 abbrev pub source_field : Option Path → List ℕ
 source_field None = no_call
 source_field (Some path) = call_field path.source
@@ -82,7 +82,7 @@ is_command_to_set_up Disc = true
 is_command_to_set_up Dm = false
 is_command_to_set_up Ua = false
 
--- a frame that makes a link where there is none: no UI, XID, TEST, UA, DM or FRMR
+-- a frame that makes a link if there is none: no UI, XID, TEST, UA, DM or FRMR
 abbrev pub makes_link : Kind → Bool
 makes_link (Info ns nr poll pid octets) = true
 makes_link (Super which nr flag) = true
@@ -121,7 +121,7 @@ abbrev pub IsReadAs : Modulus → List ℕ → Option Frame → Type 0
 IsReadAs modulus octets None = (frame : Frame) → ¬ IsFrame frame modulus octets
 IsReadAs modulus octets (Some frame) = IsFrame frame modulus octets
 
--- octets that are read for the link of a key, or where there is no link
+-- octets that are read for the link of a key, or if there is no link
 abbrev pub AreHeardAt : Option ℕ → List ℕ → Turn → Turn → Type 0
 AreHeardAt (Some key) octets before after =
     (reading : Option Frame) × IsReadAs (link_modulus (link_at key before.now.links)) octets reading

@@ -27,13 +27,13 @@ pub record Takes (id : ℕ) (held : Held) : Type 0 where
 abbrev pub IsThere : ℕ → Held → Type 0
 IsThere id held = Any (λ other. other ≡ id) (ids_of held)
 
--- a connection joins under a new id, and its octets come, at most 4096 and where they are taken, until it leaves
+-- a connection joins under a new id, and its octets come, at most 4096 and if they are taken, until it leaves
 abbrev pub IsAdmitted : HostEvent → Held → Type 0
 IsAdmitted (Joined id kind) held = All (λ other. other ≢ id) (ids_of held)
 IsAdmitted (Bytes id octets) held = IsThere id held × (length octets ≤ 4096) × Takes id held
 IsAdmitted (Left id) held = IsThere id held
 
--- the ids behind an event, of which these are closed
+-- the ids after an event, of which these are closed
 abbrev pub without_ids : List ℕ → List ℕ → List ℕ
 without_ids [] ids = ids
 without_ids (closed ∷ others) ids = without_ids others (filter (λ id. not (id == closed)) ids)

@@ -10,18 +10,18 @@ use Rattle.station.specs.declared.host_event.PortKind.TheVariants.{Kiss, Agw}
 use Rattle.station.specs.declared.reading.Said.{Said}
 use Rattle.station.specs.declared.reading.Said.TheVariants.{Items, Messages}
 
--- items, where a connection speaks by KISS
+-- items, if a connection speaks by KISS
 abbrev pub SaysItems : PortKind → List ℕ → List ℕ → List KissItem → Type 0
 SaysItems Kiss stream octets items = items ≡ new_items stream octets
 SaysItems Agw stream octets items = ⊥
 
--- messages, and whether a length was too long, where it speaks by AGWPE
+-- messages, and whether a length was too long, if it speaks by AGWPE
 abbrev pub SaysMessages : PortKind → List ℕ → List ℕ → List AgwMessage → Bool → Type 0
 SaysMessages Kiss stream octets messages failed = ⊥
 SaysMessages Agw stream octets messages failed =
     (messages ≡ new_messages stream octets) × (failed ≡ is_some (bad_length_in (stream ++ octets)))
 
--- what the octets behind a stream say
+-- what the octets after a stream say
 abbrev pub Says : PortKind → List ℕ → List ℕ → Said → Type 0
 Says kind stream octets (Items items) = SaysItems kind stream octets items.items
 Says kind stream octets (Messages messages failed) = SaysMessages kind stream octets messages.items failed

@@ -33,14 +33,14 @@ with_octets octets connection = record connection { stream = connection.stream +
 abbrev pub taking : ℕ → List ℕ → Act
 taking id octets = changing (λ s. record s { connections = with_connection id (with_octets octets) s.connections })
 
--- the items that end in the octets behind a stream
+-- the items that end in the octets after a stream
 abbrev pub new_items : List ℕ → List ℕ → List KissItem
 new_items stream octets = drop (length (items_in stream)) (items_in (stream ++ octets))
 
 abbrev pub new_messages : List ℕ → List ℕ → List AgwMessage
 new_messages stream octets = drop (length (messages_in stream)) (messages_in (stream ++ octets))
 
--- behind a header that tells too long a body, the connection is closed and has left
+-- after a header that tells too long a body, the connection is closed and has left
 abbrev pub ending : ℕ → Option ℕ → Act
 ending id None turn = turn
 ending id (Some len) turn = leaving id (closing id turn)

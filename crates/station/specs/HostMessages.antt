@@ -36,6 +36,6 @@ message_of_told local remote (Given packet) =
 message_of_told local remote (Ended why) =
     to_host disconnect_kind 0 (call_field remote) (call_field local) (disconnected_text (text_of_call remote))
 
--- a frame that is heard, behind an octet 00, from its source to its destination
+-- a frame that is heard, after an octet 00, from its source to its destination
 abbrev pub raw_message : List ℕ → List ℕ → List ℕ → AgwMessage
 raw_message from to octets = to_host raw_kind 0 from to (0 ∷ octets)

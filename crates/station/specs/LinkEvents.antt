@@ -26,7 +26,7 @@ is_idle Releasing = false
 abbrev pub with_links : (Links → Links) → StationState → StationState
 with_links change s = record s { links = change s.links }
 
--- the link behind its event; one that is idle is removed
+-- the link after its event; one that is idle is removed
 abbrev pub settled_link : ℕ → Link → Machine → Links → Links
 settled_link key link machine links =
     if is_idle machine.control.state then without_link key links

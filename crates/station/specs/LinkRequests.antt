@@ -24,7 +24,7 @@ event_of DisconnectNow = Disconnect
 event_of (HearNow frame) = Hear frame
 event_of (TickNow waiting) = Tick waiting
 
--- the modulus of the link at a place; 8 where there is none
+-- the modulus of the link at a place; 8 if there is none
 abbrev pub held_modulus : Option OwnedLink → Modulus
 held_modulus None = Eight
 held_modulus (Some held) = modulus_named held.machine.incoming.modulus
@@ -37,7 +37,7 @@ HasNumbers DisconnectNow place = Unit {0}
 HasNumbers (HearNow frame) place = IsNumbered (held_modulus place) (control_of frame.kind)
 HasNumbers (TickNow waiting) place = Unit {0}
 
--- the link behind its event
+-- the link after its event
 abbrev pub stepped_link : Event → Link → Link
 stepped_link event link = record link { machine = (step link.machine event).now }
 

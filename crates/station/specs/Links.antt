@@ -20,7 +20,7 @@ pub record Link : Type 0 where
 abbrev pub most_links : ℕ
 most_links = 64
 
--- the link or nothing at each key, and the key that was freed last, where no link was made since
+-- the link or nothing at each key, and the key that was freed last, if no link was made since
 pub record Links : Type 0 where
   pub places : List (Option Link)
   pub freed : Option ℕ
@@ -31,7 +31,7 @@ no_links = record { places = replicate most_links None; freed = None }
 abbrev pub link_at : ℕ → Links → Option Link
 link_at key links = slice_index_or links.places key None
 
--- the modulus of a link; 8 where there is none
+-- the modulus of a link; 8 if there is none
 abbrev pub link_modulus : Option Link → Modulus
 link_modulus None = Eight
 link_modulus (Some link) = modulus_named link.machine.incoming.modulus
@@ -48,7 +48,7 @@ key_between local remote links = position (is_between local remote) links.places
 abbrev pub count_of_links : Links → ℕ
 count_of_links links = count_by is_some links.places
 
--- A new link has the key that was freed last, where no link was made since, and else any that no link has.
+-- A new link has the key that was freed last, if no link was made since, and else any that no link has.
 pub record IsNewKey (key : ℕ) (links : Links) : Type 0 where
   pub within : key < most_links
   pub vacant : link_at key links ≡ None

@@ -11,7 +11,7 @@ use Rattle.station.specs.Links.{Links, link_at, link_modulus, key_between}
 abbrev pub key_of_both : Callsign → Callsign → Links → Option ℕ
 key_of_both first second links = option_or (key_between first second links) (key_between second first links)
 
--- the modulus of the link of a key; 8 where there is no key
+-- the modulus of the link of a key; 8 if there is no key
 abbrev pub modulus_at : Option ℕ → Links → Modulus
 modulus_at None links = Eight
 modulus_at (Some key) links = link_modulus (link_at key links)
@@ -20,7 +20,7 @@ abbrev pub modulus_between : Callsign → Callsign → Links → Modulus
 modulus_between first second links = modulus_at (key_of_both first second links) links
 
 -- A heard frame is read in that of the link from its destination to its source, or else from its source to its
--- destination; 8 where the path cannot be read.
+-- destination; 8 if the path cannot be read.
 abbrev pub heard_modulus : Option Path → Links → Modulus
 heard_modulus None links = Eight
 heard_modulus (Some path) links = modulus_between path.dest path.source links

@@ -16,7 +16,7 @@ before_calls None calls = None
 before_calls (Some call) None = None
 before_calls (Some call) (Some calls) = Some (call ∷ calls)
 
--- so many calls of ten octets each, where all of them are calls
+-- so many calls of ten octets each, if all of them are calls
 abbrev pub calls_in : ℕ → List ℕ → Option (List Callsign)
 calls_in zero octets = Some []
 calls_in (suc count) octets = before_calls (call_in (take 10 octets)) (calls_in count (drop 10 octets))
@@ -27,7 +27,7 @@ repeaters_in [] = None
 repeaters_in (count ∷ octets) =
     if nat_le count 8 && nat_le (10 * count) (length octets) then calls_in count octets else None
 
--- what stands behind them
+-- what stands after them
 abbrev pub behind_repeaters : List ℕ → List ℕ
 behind_repeaters [] = []
 behind_repeaters (count ∷ octets) = drop (10 * count) octets

@@ -1,4 +1,4 @@
--- How a link at its place stands for another one behind an event. No public clause cites it.
+-- How a link at its place stands for another one after an event. No public clause cites it.
 use Rattle.std.specs.Prelude.{◌≡◌, ℕ, if◌then◌else◌, slice_index_or, slice_set, Option, Some, None}
 use Rattle.link_machine.specs.declared.state.LinkState.{LinkState}
 use Rattle.station.specs.declared.owned_link.OwnedLink.{OwnedLink}
@@ -14,7 +14,7 @@ place_at key held = slice_index_or held.places key None
 abbrev pub HasAt : ℕ → HeldLinks → Link → Type 0
 HasAt key held link = StandsForPlace (place_at key held) (Some link)
 
--- behind the event, another link is at the key, and no other place has changed
+-- after the event, another link is at the key, and no other place has changed
 pub record IsSetAt (key : ℕ) (old new : HeldLinks) (link : Link) : Type 0 where
   pub held : OwnedLink
   pub stands : StandsForLink held link

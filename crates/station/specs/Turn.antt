@@ -63,7 +63,7 @@ dropping turn = record turn { now = record turn.now { dropped = one_more turn.no
 abbrev pub capacity : ℕ
 capacity = 256
 
--- a frame joins the transmit queue, for the link of a key or for none, or is dropped where 256 wait
+-- a frame joins the transmit queue, for the link of a key or for none, or is dropped if 256 wait
 abbrev pub queueing : Option ℕ → List ℕ → Act
 queueing link octets turn =
     if nat_lt (length turn.now.channel.waiting) capacity then entering link octets turn else dropping turn

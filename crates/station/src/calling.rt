@@ -25,7 +25,7 @@ use std::alloc::Global;
 use tnc_base::{Octets, OutOfMemory};
 
 impl Parts {
-    /// Calls for a connection along the route of a message. It is answered with d where the message tells no route, the
+    /// Calls for a connection along the route of a message. It is answered with d if the message tells no route, the
     /// connection has not registered the local call, that link exists, or 64 links do.
     pub(crate) fn call(
         &mut self,

@@ -12,7 +12,7 @@ use selective_reject::{BadWindow, check_window};
 pub struct Config {
     /// The mode and the windows of each link, and in which modulus it calls.
     pub params: Params,
-    /// The call of the digipeater, where the station is one.
+    /// The call of the digipeater, if the station is one.
     pub digi: Option<Call>,
 }
 

@@ -13,7 +13,7 @@ use std::alloc::Global;
 use tnc_base::OutOfMemory;
 
 impl Parts {
-    /// Disconnects the connection's link between the calls of a message. Ignored where there is none.
+    /// Disconnects the connection's link between the calls of a message. Ignored if there is none.
     pub(crate) fn disconnect(
         &mut self,
         alloc: Global,

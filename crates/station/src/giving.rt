@@ -17,7 +17,7 @@ use tnc_base::{Octets, OutOfMemory};
 const MOST_OCTETS: usize = 256;
 
 impl Parts {
-    /// Gives the body of a message to the connection's link between its calls. Ignored where there is none.
+    /// Gives the body of a message to the connection's link between its calls. Ignored if there is none.
     pub(crate) fn give(
         &mut self,
         alloc: Global,

@@ -43,7 +43,7 @@ impl Parts {
         }
     }
 
-    /// The same, where the frame begins with this path.
+    /// The same, if the frame begins with this path.
     fn hear_along(
         &mut self,
         alloc: Global,
@@ -143,7 +143,7 @@ impl Parts {
         }
     }
 
-    /// Hands a frame to a link that is made for it, where its destination is registered.
+    /// Hands a frame to a link that is made for it, if its destination is registered.
     fn hear_anew(
         &mut self,
         alloc: Global,
@@ -190,7 +190,7 @@ pub(crate) fn frame_in(
     }
 }
 
-/// No frame, but where memory was wanted.
+/// No frame, unless memory was wanted.
 fn unread(fault: FrameFault) -> Result<Option<Frame>, OutOfMemory>
     ensures { IsUnread fault result }
 {
@@ -221,7 +221,7 @@ fn back_from(frame: &Frame) -> Path
     reversed(&frame.path, Role::Command)
 }
 
-/// Whether such a frame makes a link where there is none.
+/// Whether such a frame makes a link if there is none.
 fn makes_link(frame: &Frame) -> bool
     ensures { result ≡ makes_link frame.now.kind }
 {

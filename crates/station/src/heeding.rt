@@ -65,7 +65,7 @@ impl Parts {
         }
     }
 
-    /// Queues octets of a host where they have the length of a frame.
+    /// Queues octets of a host if they have the length of a frame.
     pub(crate) fn queue_raw(
         &mut self,
         alloc: Global,

@@ -19,7 +19,7 @@ use tnc_base::OutOfMemory;
 const MOST_CONNECTIONS: usize = 64;
 
 impl Parts {
-    /// A connection joins under a new id, or is closed at once where 64 are there.
+    /// A connection joins under a new id, or is closed at once if 64 are there.
     pub(crate) fn join(
         &mut self,
         alloc: Global,

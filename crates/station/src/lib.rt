@@ -26,12 +26,12 @@
 //! A frame that is heard
 //!   shown to hosts             always
 //!   no path                    nothing more
-//!   a repeater has H clear     queued with H set, where that is this station; nothing more
+//!   a repeater has H clear     queued with H set, if that is this station; nothing more
 //!   a link (dest, source)      read in its modulus, and its event
-//!   dest is registered         read modulo 8; a link is made where the frame is no UI, XID, TEST, UA, DM or FRMR
+//!   dest is registered         read modulo 8; a link is made if the frame is no UI, XID, TEST, UA, DM or FRMR
 //! An event of a link
 //!   step, settle               an idle link is removed, and its key is free for the next one
-//!   frames                     to the transmit queue under its key, or dropped and counted where 256 wait
+//!   frames                     to the transmit queue under its key, or dropped and counted if 256 wait
 //!   told                       to its owner, or to nobody
 //! ```
 //!

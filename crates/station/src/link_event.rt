@@ -46,7 +46,7 @@ impl OwnedLink {
     }
 }
 
-/// What a link did, which is nothing where it refused.
+/// What a link did, which is nothing if it refused.
 fn unless_refused(alloc: Global, answer: Result<Acts, LinkFault>) -> Result<Acts, OutOfMemory>
     ensures { Passes answer result }
 {

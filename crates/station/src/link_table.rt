@@ -115,7 +115,7 @@ impl LinkTable {
         self.slab.get(key as usize)
     }
 
-    /// The modulus of the link that a key has; 8 where it has none.
+    /// The modulus of the link that a key has; 8 if it has none.
     pub(crate) fn modulus(&self, key: u32) -> Modulus
         ensures { result ≡ held_modulus (place_at key self.now) }
     {

@@ -25,7 +25,7 @@ impl LinkTable {
         self.key_between(&local, &remote)
     }
 
-    /// The same, where the link is the connection's.
+    /// The same, if the link is the connection's.
     pub(crate) fn own_key(&self, id: u32, message: &AgwMessage) -> Option<u32>
         ensures { (links : Links) → StandsForLinks self.now links → result ≡ own_key id message.now links }
     {
@@ -45,7 +45,7 @@ impl LinkTable {
         }
     }
 
-    /// The PID of data for the link of a key: its own, or the link's where that is 0.
+    /// The PID of data for the link of a key: its own, or the link's if that is 0.
     pub(crate) fn data_pid(&self, key: u32, pid: u8) -> u8
         ensures { (links : Links) → StandsForLinks self.now links → result ≡ data_pid pid (link_at key links) }
     {

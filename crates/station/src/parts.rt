@@ -23,7 +23,7 @@ const CAPACITY: usize = 256;
 pub struct Parts {
     /// The mode and the window of each link.
     pub parameters: Params,
-    /// The call of the digipeater, where the station is one.
+    /// The call of the digipeater, if the station is one.
     pub digi: Option<Call>,
     /// The connections, in the order in which they joined.
     pub connections: Vec<Connection>,
@@ -62,7 +62,7 @@ impl Parts {
         })
     }
 
-    /// Puts a frame into the transmit queue, for the link of a key or for none, or drops it where the queue is full.
+    /// Puts a frame into the transmit queue, for the link of a key or for none, or drops it if the queue is full.
     pub(crate) fn queue(
         &mut self,
         alloc: Global,
@@ -86,7 +86,7 @@ impl Parts {
     }
 }
 
-/// Puts a frame behind all others, where there is room.
+/// Puts a frame after all others, if there is room.
 fn enter(channel: &mut Access, link: Option<u32>, octets: Octets)
     requires length { HasFrameLength octets }
     requires room { length channel.old.waiting < 256 }

@@ -65,7 +65,7 @@ fn read_items(
     Ok(items)
 }
 
-/// Puts an item behind the others, where there is one.
+/// Puts an item after the others, if there is one.
 fn keep(items: &mut Vec<KissItem>, item: Option<KissItem>) -> Result<(), OutOfMemory>
     ensures { OnOk result (items.new.items ≡ items.old.items ++ option_to_list item) }
 {
@@ -112,7 +112,7 @@ fn next_message(reader: &mut AgwIn, octet: u8) -> Result<Option<AgwMessage>, Out
     }
 }
 
-/// Puts a message behind the others, where there is one.
+/// Puts a message after the others, if there is one.
 fn keep_message(
     messages: &mut Vec<AgwMessage>,
     message: Option<AgwMessage>,

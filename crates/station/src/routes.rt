@@ -46,7 +46,7 @@ impl Route {
     }
 }
 
-/// The route of the fields CallFrom and CallTo, where both are calls and the repeaters are.
+/// The route of the fields CallFrom and CallTo, if both are calls and the repeaters are.
 pub(crate) fn route_in(
     from: &[u8],
     to: &[u8],
@@ -85,7 +85,7 @@ pub(crate) fn repeaters_in(body: &[u8]) -> Option<ArrayVec<Call, 8>>
     calls_in(count, octets)
 }
 
-/// So many calls of ten octets each, where all of them are calls.
+/// So many calls of ten octets each, if all of them are calls.
 fn calls_in(count: u8, octets: &[u8]) -> Option<ArrayVec<Call, 8>>
     requires few { count ≤ 8 }
     requires there { 10 * count ≤ length octets.now }

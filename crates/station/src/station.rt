@@ -47,8 +47,8 @@ impl Station {
     ghost use Rattle.station.specs.Held.{IsAdmitted, Takes, ids_of, ids_behind};
     ghost use Rattle.station.specs.StandsFor.{StandsFor};
 
-    /// A station without connections and links, whose channel draws from a seed. Refused where the window does not fit
-    /// the mode (0, over 7 with REJ, over 4 with SREJ), and else where the wide window does not (0, over 127, over 64).
+    /// A station without connections and links, whose channel draws from a seed. Refused if the window does not fit
+    /// the mode (0, over 7 with REJ, over 4 with SREJ), and else if the wide window does not (0, over 127, over 64).
     pub fn new(alloc: Global, config: Config, seed: u64) -> Result<Station, NewFault>
         ensures stands_for { IfOk result (λ station. StandsFor station (new_station config seed)) }
         ensures no_ids { IfOk result (λ station. ids_of station ≡ []) }
@@ -78,7 +78,7 @@ impl Station {
         self.parts.channel.len() < MOST_WAITING && self.parts.links.hold_few(id)
     }
 
-    /// What comes from a host: it joins under a new id, or one that is there gives octets, at most 4096 and where
+    /// What comes from a host: it joins under a new id, or one that is there gives octets, at most 4096 and only if
     /// [`accepts`](Station::accepts) holds, or leaves. A 65th connection is closed at once, and one whose octets tell
     /// an AGWPE body over 4096 octets is closed and has left. Fails only for want of memory, and is then spent.
     pub fn host(&mut self, event: HostEvent) -> Result<HostOut, OutOfMemory>
@@ -119,7 +119,7 @@ impl Station {
         Ok(out)
     }
 
-    /// A tick of 10 ms of each link, in the order of their keys, and then of the channel, where `busy` says whether
+    /// A tick of 10 ms of each link, in the order of their keys, and then of the channel; `busy` says whether
     /// another station is heard. Fails only for want of memory, and is then spent.
     pub fn tick(&mut self, busy: bool) -> Result<TickOut, OutOfMemory>
         ensures air { (s : StationState) → StandsFor self.old s → IfOk result (λ tick. tick.air ≡ air_of busy s) }
@@ -140,7 +140,7 @@ impl Station {
     }
 
     /// The modulus in which a frame between two calls is read for who watches the channel: that of the link from the
-    /// first to the second, else of the link from the second to the first, and 8 where there is neither. A heard frame
+    /// first to the second, else of the link from the second to the first, and 8 if there is neither. A heard frame
     /// is asked for by its destination and its source before [`heard`](Station::heard), and a sent one by its source
     /// and its destination after [`tick`](Station::tick).
     pub fn modulus(&self, first: &Call, second: &Call) -> Modulus

@@ -22,7 +22,7 @@ use tnc_base::{Octets, OutOfMemory};
 const MOST_INFORMATION: usize = 937;
 
 impl Parts {
-    /// K: queues the octets of a body past its first, where they have the length of a frame.
+    /// K: queues the octets of a body past its first, if they have the length of a frame.
     pub(crate) fn send_raw(
         &mut self,
         alloc: Global,
@@ -76,7 +76,7 @@ impl Parts {
         self.send_unnumbered(alloc, out, message.pid, behind_repeaters(body), route)
     }
 
-    /// Queues an unnumbered frame of information along a route. Ignored where there is none, or the information is
+    /// Queues an unnumbered frame of information along a route. Ignored if there is none, or the information is
     /// too long.
     fn send_unnumbered(
         &mut self,

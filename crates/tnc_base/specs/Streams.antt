@@ -1,4 +1,4 @@
--- What a read takes out of a source and what a write adds to a sink, where these tell their octets.
+-- What a read takes out of a source and what a write adds to a sink, if these tell their octets.
 use Rattle.std.specs.Prelude.{◌≡◌, ℕ, ◌<◌, ◌≤◌, List, [], ◌++◌, length, take, drop, Some}
 use Rattle.std.specs.declared.option.Option.{Option}
 
@@ -10,6 +10,6 @@ pub record Gives (octets : List ℕ) (left : Option (List ℕ)) (buffer : List �
   -- no octet for a buffer with room: the end of input
   pub end : count ≡ 0 → 0 < length buffer → octets ≡ []
 
--- The sink had these octets before, and now a first part of the text behind them.
+-- The sink had these octets before, and now a first part of the text after them.
 abbrev pub WrotePart : List ℕ → List ℕ → Option (List ℕ) → Type 0
 WrotePart before text now = (part : List ℕ) × (rest : List ℕ) × (text ≡ part ++ rest) × (now ≡ Some (before ++ part))

@@ -47,7 +47,7 @@ impl Octets {
         self.octets.len()
     }
 
-    /// True where there is no octet.
+    /// True if there is no octet.
     pub fn is_empty(&self) -> bool
         ensures { result ≡ (length self.now == 0) }
     {

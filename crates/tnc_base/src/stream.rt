@@ -1,7 +1,7 @@
 //! The two ends of a program that works on a stream of octets.
 //!
 //! A source and a sink count their faults. Code that is lent one can't raise that count, so a contract that allows an
-//! answer of failure only where the count rose refuses a body that gives up by itself. A call that does not fail leaves
+//! answer of failure only when the count rose refuses a body that gives up by itself. A call that does not fail leaves
 //! the count as it was, so a contract that keeps the count refuses a body that tries a failed call again.
 ghost use Rattle.std.specs.Prelude.{◌≡◌, ◌≤◌, ◌++◌, ℕ, List, Option, length, IfOk, OnOk, OnErr};
 ghost use Rattle.tnc_base.specs.Faults.{HasRisen};
@@ -11,7 +11,7 @@ use crate::Failed;
 
 /// Where octets come from.
 pub trait Source {
-    /// The octets that reads will give from here on, where the source tells them.
+    /// The octets that reads will give from here on, if the source tells them.
     ghost left: { Self → Option (List ℕ) };
 
     /// How often a read has failed.
@@ -30,7 +30,7 @@ pub trait Source {
 
 /// Where octets go to.
 pub trait Sink {
-    /// The octets that were written, where the sink tells them.
+    /// The octets that were written, if the sink tells them.
     ghost written: { Self → Option (List ℕ) };
 
     /// How often a write has failed.

@@ -77,7 +77,7 @@ module _ (words : EncodeWords) (apart : words.join ≡ false) where
     good_front : (form : FrameForm) (before : List ℕ) → HasTaken form was before → form_fault_so_far form (before ++ t.front) ≡ None
     good_front form before h = taken_good form now (before ++ t.front) (t.each form before h).0 reader
 
-    -- what was sent, where memory runs out
+    -- what was sent, if memory runs out
     at_memory : (form : FrameForm) (before : List ℕ) → HasTaken form was before → WroteFront (IsSignal words) (form_of form) before octets out mid
     at_memory form before h = record {
       front = t.front;

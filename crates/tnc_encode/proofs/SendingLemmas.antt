@@ -1,4 +1,4 @@
--- Signals as octets, one piece behind another.
+-- Signals as octets, one piece after another.
 use Rattle.std.proofs.Common.{◌≡◌, ℕ, ◌+◌, ◌<◌, List, [], ◌∷◌, ◌++◌, true, false, cond, length, map, take, drop, get_or, Option, Some, append_assoc, sym, ap, ◌∙◌, arith}
 use Rattle.std.proofs.lemmas.List.{map-append, take_more, take-append-drop}
 use Rattle.tnc_base.specs.Streams.{WrotePart}
@@ -76,7 +76,7 @@ module _ (words : EncodeWords) where
         ∙ ap (λ f. own_octets (take index frames) ++ own_octets (f ∷ [])) (sym is)
         ∙ ap (λ xs. own_octets (take index frames) ++ xs) (own_octets-one frame)
 
-    -- a first part of that frame's octets behind those of the frames before it is a first part of all
+    -- a first part of that frame's octets after those of the frames before it is a first part of all
     pub cut_within : (before : List ℕ) (now : Option (List ℕ)) → WrotePart (before ++ own_octets (take index frames)) (pcm (samples_at_once words (frame ∷ []))) now
         → WrotePart before (own_octets frames) now
     cut_within before now (part, rest, parts, written) =

@@ -19,7 +19,7 @@ abbrev pub sent_at_once : EncodeWords → List (List ℕ) → Transmission
 sent_at_once words frames =
     record { silence = words.silence; frames = frames; opening = words.opening; closing = words.closing }
 
--- all frames in one transmission, and none where there is no frame
+-- all frames in one transmission, and none if there is no frame
 abbrev pub joined : EncodeWords → List (List ℕ) → List Transmission
 joined words [] = []
 joined words (first ∷ frames) = sent_at_once words (first ∷ frames) ∷ []

@@ -26,7 +26,7 @@ frame_of other = None
 unfoldable pub kiss_frames : List ℕ → List (List ℕ)
 kiss_frames stream = filter_map frame_of (items_in stream)
 
--- the frames of an input, those before its first bad line where there is one
+-- the frames of an input, those before its first bad line if there is one
 abbrev pub frames_of : FrameForm → List ℕ → List (List ℕ)
 frames_of Hex octets = frames_of_lines least_frame octets
 frames_of Kiss octets = kiss_frames octets

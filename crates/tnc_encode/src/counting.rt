@@ -37,7 +37,7 @@ pub(crate) fn count_samples(
     Ok(count)
 }
 
-/// The count of samples where all frames are one transmission.
+/// The count of samples if all frames are one transmission.
 fn count_joined(alloc: Global, words: EncodeWords, frames: &[Octets]) -> Result<u128, OutOfMemory>
     requires opening { 2 ≤ words.opening }
     requires closing { 1 ≤ words.closing }

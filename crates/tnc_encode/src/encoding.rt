@@ -23,7 +23,7 @@ use tnc_forms::{Fault, InputFault, read_all, write_pcm};
 use tnc_words::{AudioForm, EncodeWords};
 
 /// Sends the frames of the input. Each frame is sent as it comes, in bounded memory, but for one transmission of all frames
-/// and for a WAV file: then the input is read to its end first. Where a line is bad, the frames before it are sent as raw
+/// and for a WAV file: then the input is read to its end first. If a line is bad, the frames before it are sent as raw
 /// PCM, or no WAV file is written.
 #[tactic(auto, unfolding(crate::specs::Encoded::encode_fault))]
 pub fn encode<I: Source, O: Sink>(

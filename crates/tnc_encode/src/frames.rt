@@ -64,7 +64,7 @@ fn read_kiss_frames(alloc: Global, octets: &[u8]) -> Result<Vec<Octets>, OutOfMe
     Ok(frames)
 }
 
-/// Appends the frame of an item, where one is to be sent.
+/// Appends the frame of an item, if one is to be sent.
 fn take_frame(frames: &mut Vec<Octets>, item: Option<KissItem>) -> Result<(), OutOfMemory>
     ensures { OnOk result (frames.new.items ≡ frames.old.items ++ filter_map frame_of (option_to_list item)) }
 {

@@ -68,7 +68,7 @@ known_of_more (line ∷ next ∷ ended) first rest = ap (λ lines. line ∷ line
 
 -- ---- lines from a place on
 
--- where no line feed is
+-- if no line feed is
 pub lines_inside : (place : ℕ) (part : List ℕ) → IsInside part → lines_from place (parts_of part) ≡ record { place = place; text = part } ∷ []
 lines_inside place part inside = ap (lines_from place) (slice_split_none is_line_feed part inside)
 

@@ -15,7 +15,7 @@ some_is_not_none n e = true≢false (ap is_some e)
 place_behind : (place size : ℕ) → place + (size + 1) ≡ place + size + 1
 place_behind place size = omega arith
 
--- one part, and more parts behind it
+-- one part, and more parts after it
 pub lines_from-cons : (place : ℕ) (part : List ℕ) (parts : List (List ℕ)) → 0 < length parts
     → lines_from place (part ∷ parts) ≡ record { place = place; text = strip_carriage_return part } ∷ lines_from (place + length part + 1) parts
 lines_from-cons place part [] some = absurd (omega arith)
@@ -34,7 +34,7 @@ module _ (p : ℕ → Bool) (xs : List ℕ) where
         absurd (some_is_not_none n none)
   ]
 
-  -- where it found none
+  -- if it found none
   pub none_passes : None ≡ position p xs → All (λ x. p x ≡ false) xs
   none_passes found = elim (cases_lt (position_or_len p xs) (length xs)) [
     | inl there ↦

@@ -14,6 +14,6 @@ abbrev pub fault_in_line : Option LineFault → Option InputFault
 fault_in_line (Some fault) = Some (Line fault)
 fault_in_line None = None
 
--- what is wrong with lines of hexadecimal digits where a frame has so many octets or more: the first bad line
+-- what is wrong with lines of hexadecimal digits if a frame has so many octets or more: the first bad line
 abbrev pub hex_fault : ℕ → List ℕ → Option InputFault
 hex_fault least octets = fault_in_line (line_fault least octets)

@@ -22,7 +22,7 @@ text_of_digits least (Ok octets) = if nat_lt (length octets) least then Refused 
 text_of_digits least (Err (InvalidHexCharacter digit at)) = Refused BadDigit at
 text_of_digits least (Err other) = Refused OddLine 0
 
--- What a line holds, where a frame has so many octets or more: an empty line nothing, one of more than 2048 octets no
+-- What a line holds, if a frame has so many octets or more: an empty line nothing, one of more than 2048 octets no
 -- frame, and any other what its digits spell.
 unfoldable pub text_of : ℕ → List ℕ → LineText
 text_of least text =

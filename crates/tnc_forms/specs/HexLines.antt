@@ -24,7 +24,7 @@ is_line_feed octet = octet == 10
 abbrev pub parts_of : List ℕ → List (List ℕ)
 parts_of octets = slice_split is_line_feed octets
 
--- the lines that begin at a place or behind it
+-- the lines that begin at a place or after it
 abbrev pub lines_at : List ℕ → ℕ → List Line
 lines_at input place = lines_from place (parts_of (drop place input))
 

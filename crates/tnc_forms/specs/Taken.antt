@@ -1,4 +1,4 @@
--- What a command read of an input, where its source tells it.
+-- What a command read of an input, if its source tells it.
 use Rattle.std.specs.Prelude.{◌≡◌, ℕ, List, ◌++◌, Option, Some}
 
 -- of these octets the first were read, and the source has the rest left

@@ -96,7 +96,7 @@ module _ (g0 g1 g2 g3 g4 : Lcg) (length : ℕ) (first : g1 ≡ behind 1 g0) (sec
       ∙ ap (λ f. made (word_at 0 g0 % 64) (word_at 1 g0 % 4) (word_at 2 g0 % 3) f)
       (os ∙ ap (λ n. map octet_of (words n g4)) long ∙ ap (λ g. map octet_of (words (length_drawn g0) g)) at4)
 
-  -- and the generator is behind it
+  -- and the generator is after it
   pub behind_is : (now : Lcg) → now ≡ behind (15 + length) g4 → now ≡ behind_transmission g0
   unfolding behind_transmission
   behind_is now is = is ∙ ap (λ n. behind n g4) long ∙ ap (λ g. behind (length_drawn g0) g) at4

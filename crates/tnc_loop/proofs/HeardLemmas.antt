@@ -90,7 +90,7 @@ pub drawn_near : (words : LoopWords) → IsNearAll (received_drawn words) (sampl
 unfolding received_drawn samples_drawn heard_drawn
 drawn_near words = all_near words.rough words.frames (generator_of words.seed)
 
--- so it gives the frames that were drawn, where none is stray
+-- so it gives the frames that were drawn, if none is stray
 pub drawn_law : (words : LoopWords) → NoStray (drawn words) (samples_drawn words) → MergesTo (frames_of (drawn words)) (samples_drawn words)
 unfolding drawn
 drawn_law words = near_law (received_drawn words) (samples_drawn words) (received_good words) (drawn_near words)

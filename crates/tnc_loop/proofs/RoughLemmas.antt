@@ -93,7 +93,7 @@ with_errors-near level wave g least = record {
 
 -- ---- all of them
 
--- noise and errors, as they are drawn one behind another, are the rough samples
+-- noise and errors, as they are drawn one after another, are the rough samples
 module _ (t : Transmission) (g g1 g2 g3 : Lcg) (phase level : ℕ) (exact : List ℤ) (first : g1 ≡ behind 1 g) (second : g2 ≡ behind 1 g1)
     (third : g3 ≡ behind t.silence g2) (is_phase : phase ≡ phase_drawn g) (is_level : level ≡ 10 + word_at 0 g1 % 29000)
     (is_exact : exact ≡ transmission_at phase level t.frames t.opening t.closing) where

@@ -42,7 +42,7 @@ one_stray words octets other h k =
     sym h.is ∙ ap (first_stray (true_ends (drawn words))) (one_list (samples_drawn words) h.candidates k.candidates h.are k.are) ∙ k.is in
     cc
 
--- ---- where nothing is stray
+-- ---- if nothing is stray
 
 no_strays : (ends : List TrueEnd) (items : List Candidate) → All (λ item. is_sent ends item ≡ true) items → strays ends items ≡ []
 no_strays ends [] all = refl

@@ -22,7 +22,7 @@ pub are_of : (words : LoopWords) (sent : Sent) (x : List ℤ) (items : List Cand
 unfolding samples_drawn
 are_of words sent x items h is are = subst (λ (y : List ℤ). AreCandidates y items) (is ∙ h.samples) are
 
--- where no first stray is found, all are sent
+-- if no first stray is found, all are sent
 all_sent : (ends : List TrueEnd) (items : List Candidate) → first_stray ends items ≡ None → All (λ item. is_sent ends item ≡ true) items
 all_sent ends [] none = λ k d l. absurd (omega arith)
 all_sent ends (item ∷ items) none = go (is_sent ends item) refl none (all_sent ends items)

@@ -26,7 +26,7 @@ transmission_drawn generator = record {
   frames = octets_drawn generator ∷ [];
 }
 
--- the generator behind it
+-- the generator after it
 unfoldable pub behind_transmission : Lcg → Lcg
 behind_transmission generator = behind (length_drawn generator) (behind 4 generator)
 
@@ -44,7 +44,7 @@ heard_of rough t generator =
       samples = samples_of t;
     }
 
--- the generator behind them
+-- the generator after them
 unfoldable pub behind_heard : Bool → Transmission → Lcg → Lcg
 behind_heard rough t generator = if rough then behind_rough t generator else generator
 

@@ -1,4 +1,4 @@
--- What --rough draws for a transmission, behind its frame: its start phase and its level, a word each; a sample of noise
+-- What --rough draws for a transmission, after its frame: its start phase and its level, a word each; a sample of noise
 -- for each silent one; and an error for each sample that is sent, a word each.
 use Rattle.std.specs.Prelude.{ℕ, ◌+◌, ◌-◌, ◌*◌, ◌/◌, ◌%◌, ℤ, pos, ◌+ℤ◌, ◌-ℤ◌, List, [], ◌∷◌, ◌++◌, length, map}
 use Rattle.std.specs.Int.{cast_signed, w16}
@@ -51,7 +51,7 @@ rough_samples t generator =
     ++ with_errors (level_drawn generator) (exact_samples (rough_received t generator))
     (behind t.silence (behind 2 generator))
 
--- the generator behind them
+-- the generator after them
 unfoldable pub behind_rough : Transmission → Lcg → Lcg
 behind_rough t generator =
     behind (length (exact_samples (rough_received t generator))) (behind t.silence (behind 2 generator))

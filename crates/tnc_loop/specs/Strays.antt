@@ -8,7 +8,7 @@ use Rattle.clean_signal.specs.Stray.{is_sent}
 abbrev pub is_stray : List TrueEnd → Candidate → Bool
 is_stray ends item = not (is_sent ends item)
 
--- the stray ones among candidates, in order, where the frames that were sent have these true ends
+-- the stray ones among candidates, in order, if the frames that were sent have these true ends
 abbrev pub strays : List TrueEnd → List Candidate → List Candidate
 strays ends items = filter (is_stray ends) items
 

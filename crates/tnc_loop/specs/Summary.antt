@@ -25,11 +25,11 @@ summary made heard stray =
     codes "frames " ++ (decimal made ++ (10 ∷ (codes "heard " ++ (decimal (length heard) ++ (10 ∷ (codes "stray "
     ++ (decimal stray ++ (10 ∷ (codes "hash " ++ (hash_digits (fnv_1a (concat heard)) ++ 10 ∷ []))))))))))
 
--- the summary where the frames that were made are heard, and nothing else
+-- the summary if the frames that were made are heard, and nothing else
 abbrev pub clean_summary : LoopWords → List ℕ
 clean_summary words = summary words.frames (frames_of (drawn words)) 0
 
--- the summary of candidates, where so many frames were made that have these true ends
+-- the summary of candidates, if so many frames were made that have these true ends
 abbrev pub summary_of : ℕ → List TrueEnd → List Candidate → List ℕ
 summary_of made ends candidates = summary made (frames_heard (merged candidates)) (length (strays ends candidates))
 

@@ -8,12 +8,12 @@ use Rattle.rand_pcg.specs.Pcg.{multiplier_64, pcg32}
 abbrev pub generator_of : ℕ → Lcg
 generator_of seed = started 64 multiplier_64 seed (increment_of 64 1)
 
--- the generator behind so many of its words
+-- the generator after so many of its words
 abbrev pub behind : ℕ → Lcg → Lcg
 behind zero generator = generator
 behind (suc count) generator = behind count (pcg32 generator).1
 
--- the word that stands behind so many others, of 32 bits
+-- the word that stands after so many others, of 32 bits
 abbrev pub word_at : ℕ → Lcg → ℕ
 word_at place generator = (pcg32 (behind place generator)).0
 

@@ -1,4 +1,4 @@
-//! Samples as a receiver may hear them: at any phase and level, behind noise, and each with an error.
+//! Samples as a receiver may hear them: at any phase and level, after noise, and each with an error.
 ghost use Rattle.std.specs.Prelude.{◌≡◌, ◌≤◌, ◌+◌, ◌%◌, length, map, unsigned_abs, All, IfOk, OnOk};
 ghost use Rattle.afsk_modulator.specs.Modulation.{IsBitPhase, IsLevel};
 ghost use Rattle.afsk_modulator.specs.Transmission.{transmission_at};

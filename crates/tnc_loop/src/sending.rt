@@ -19,7 +19,7 @@ use tnc_words::LoopWords;
 /// A flag is eight bits of eight samples.
 const FLAG: u64 = 64;
 
-/// What was sent, one transmission behind the other.
+/// What was sent, one transmission after the other.
 #[derive(Drop)]
 pub(crate) struct Sent {
     /// The samples of all transmissions.

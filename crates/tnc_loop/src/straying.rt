@@ -28,7 +28,7 @@ pub(crate) fn first_stray(
     }
 }
 
-/// True where the candidate is no frame that was sent.
+/// True if the candidate is no frame that was sent.
 fn is_stray(ends: &[TrueEnd], item: &Candidate) -> bool
     ensures { result ≡ is_stray ends.now item.now }
 {

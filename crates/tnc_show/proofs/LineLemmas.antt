@@ -27,7 +27,7 @@ err fault = Err fault
 one_frame : (modulus : Modulus) (octets : List ℕ) (frame : Frame) → IsFrame frame modulus octets → IsOneFrame modulus octets (Ok frame)
 one_frame modulus octets frame h = IsOneFrame-kind modulus octets frame.path h.len frame.kind h.path (IsOneKind-outcome modulus _ h.len (Ok frame.kind) (h.kind, h.body))
 
--- and so is a fault behind the address
+-- and so is a fault after the address
 one_behind : (modulus : Modulus) (octets : List ℕ) (fault : FrameFault) → FollowsPath modulus octets fault → IsOneFrame modulus octets (Err fault)
 one_behind modulus octets fault h = IsOneFrame-fault modulus octets h.path h.len fault h.begins (IsOneKind-outcome modulus _ h.len (Err fault) h.shows)
 

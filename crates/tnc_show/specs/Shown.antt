@@ -23,7 +23,7 @@ abbrev pub IsLineOfFault : Modulus → List ℕ → List ℕ → Type 0
 IsLineOfFault modulus octets line =
     (fault : FrameFault) × ShowsFrameFault modulus octets fault × (line ≡ text_of_frame_fault fault)
 
--- The line of octets: of their frame, or of their fault where they are none.
+-- The line of octets: of their frame, or of their fault if they are none.
 abbrev pub IsLineOf : Modulus → List ℕ → List ℕ → Type 0
 IsLineOf modulus octets line = IsLineOfFrame modulus octets line ⊎ IsLineOfFault modulus octets line
 
@@ -37,7 +37,7 @@ pub record IsTextOf (modulus : Modulus) (frames : List (List ℕ)) (text : List 
   pub each : AllZip (IsLineOf modulus) frames lines
   pub is : text ≡ flat_map ended lines
 
--- The text is the lines of the frames of an input, which may have any number of octets each. Where a line of the input
+-- The text is the lines of the frames of an input, which may have any number of octets each. If a line of the input
 -- is bad, the frames are those before it.
 abbrev pub IsShown : ShowWords → List ℕ → List ℕ → Type 0
 IsShown words octets text = IsTextOf words.modulus (frames_of 0 octets) text

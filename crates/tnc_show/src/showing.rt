@@ -19,7 +19,7 @@ use tnc_words::ShowWords;
 
 /// Reads the input piece by piece, and writes the lines of text of the frames that end in a piece before it reads on. Keeps
 /// one piece, its text and the part of one line, however long the input is. Octets that are no frame have a line too, which
-/// names their fault. Where a line of the input is bad, the lines before it are shown, and it is told.
+/// names their fault. If a line of the input is bad, the lines before it are shown, and it is told.
 pub fn show<I: Source, O: Sink>(
     alloc: Global,
     words: ShowWords,

@@ -7,7 +7,7 @@ use tnc_base::{MemSink, MemSource};
 use tnc_forms::{Fault, InputFault, LineFault, LineFlaw};
 use tnc_words::ShowWords;
 
-/// What is written of an input that comes in pieces of 31 octets, and how the command ends, where the source fails the
+/// What is written of an input that comes in pieces of 31 octets, and how the command ends, if the source fails the
 /// reads and the sink the writes of these numbers.
 fn shown(
     alloc: Global,

@@ -8,6 +8,6 @@ abbrev pub phase_step : Tone → ℕ
 phase_step Mark = 6
 phase_step Space = 11
 
--- the phase behind the eight samples of one bit
+-- the phase after the eight samples of one bit
 abbrev pub next_phase : ℕ → Tone → ℕ
 next_phase phase tone = (phase + 8 * phase_step tone) % 48

@@ -8,7 +8,7 @@ use Rattle.tone_tracking.specs.Clock.{Clock, changes, phase_next, phase_pulled, 
 abbrev clock_of : ℤ → ℤ → Tone → Clock
 clock_of phase rate before = record { phase = phase; rate = rate; before = before }
 
--- where the tone changes
+-- if the tone changes
 pub next_pulled : (pull : Pull) (clock : Clock) (tone : Tone) (phase now rate : ℤ) → changes clock.before tone ≡ true → phase ≡ phase_next clock
     → now ≡ phase_pulled pull phase → rate ≡ rate_pulled pull phase clock.rate → clock_of now rate tone ≡ next_clock pull clock tone
 next_pulled pull clock tone phase now rate changed same is_phase is_rate =

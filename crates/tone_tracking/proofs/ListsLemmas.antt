@@ -80,7 +80,7 @@ decided_more was now count x a b c enough h a_is b_is c_is more step =
       stands_for = step (correlations x) h.stands_for (a_is ∙ ap (correlations x) one) (b_is ∙ ap (correlations x) two) (c_is ∙ ap (correlations x) three);
     }
 
--- correlations are bounded as before where one is set
+-- correlations are bounded as before if one is set
 pub all_within-set : (recent : List Correlations) (at : ℕ) (c : Correlations) → All AreWithin recent → AreWithin c → All AreWithin (set recent at c)
 all_within-set recent at c all one k d inside = elim (cases_eq k at) [
   | inl e ↦ (let size = length-set recent at c in

@@ -28,7 +28,7 @@ largest from sums = fold (λ most sum. int_max most (size (plus from sum))) (pos
 abbrev pub loudness : Tone → Phasor → Correlations → List Correlations → ℤ
 loudness tone past now next = largest (plus past (of_tone tone now)) (ahead tone next)
 
--- mark exactly where the window is at least as loud as mark
+-- mark exactly when the window is at least as loud as mark
 unfoldable pub decided : Phasor → Correlations → List Correlations → Tone
 decided past now next = if int_le (loudness Space past now next) (loudness Mark past now next) then Mark else Space
 

@@ -15,7 +15,7 @@ whole_more : (most place : ℕ) (octets : List ℕ) → 8 ≤ length octets
     → one_more most place octets ≡ chunk_at place octets ∷ chunks_upto most (place + 8 + padded (chunk_at place octets).size) (drop (padded (chunk_at place octets).size) (chunk_at place octets).behind)
 whole_more most place octets whole = cond-false _ _ _ (le-ltb (length octets) 8 whole)
 
--- behind a chunk there are fewer octets
+-- after a chunk there are fewer octets
 rest_le : (skip most : ℕ) (octets : List ℕ) → 8 ≤ length octets → length octets ≤ suc most → length (drop skip (drop 8 octets)) ≤ most
 rest_le skip most octets whole fits = omega (arith, length-drop skip (drop 8 octets), length-drop 8 octets)
 
@@ -41,7 +41,7 @@ pub chunks_short : (place : ℕ) (octets : List ℕ) → length octets < 8 → c
 unfolding chunks
 chunks_short place octets short = enough (length octets) (suc (length octets)) place octets (omega arith) (omega arith) ∙ short_more (length octets) place octets short
 
--- the chunk at the front, and those behind it
+-- the chunk at the front, and those after it
 pub chunks_whole : (place : ℕ) (octets : List ℕ) → 8 ≤ length octets
     → chunks place octets ≡ chunk_at place octets ∷ chunks (place + 8 + padded (chunk_at place octets).size) (drop (padded (chunk_at place octets).size) (drop 8 octets))
 unfolding chunks

@@ -1,4 +1,4 @@
--- What stands behind a written head are samples.
+-- What stands after a written head are samples.
 use Rattle.std.proofs.Common.{◌≡◌, ℕ, Option, Some, ◌+◌, ◌<◌, ◌≤◌, ◌^◌, leb, ltb, cond, Bool, true, false, List, [], ◌∷◌, ◌++◌, length, take, drop, refl, ap, ◌∙◌, arith, None, Ok}
 use Rattle.std.proofs.lemmas.Bool.{cond-false, le-leb, le-ltb}
 use Rattle.std.proofs.lemmas.List.{take_all}
@@ -49,7 +49,7 @@ data_heard rate size octets few = by_size (ltb size 0x7fff0000)
     by_size true = ap (λ xs. record { fault = None; rate = rate; heard = samples xs; whole = leb size (length octets) }) (take_all size octets few)
     by_size false = refl
 
--- The octets behind a head are read as its samples.
+-- The octets after a head are read as its samples.
 pub head_reads : (rates : Rates) (size : ℕ) (octets : List ℕ) → size < 2 ^ 32 → length octets ≤ size
     → reading rates (head_before size ++ octets) ≡ record { fault = None; rate = Some 9600; heard = samples octets; whole = cond (ltb size 0x7fff0000) (leb size (length octets)) true }
 unfolding reading head_before
@@ -67,7 +67,7 @@ head_reads rates size octets fits few =
     ∙ ap (λ n. of_data (Some 9600) (record { place = 36; name = 100 ∷ 97 ∷ 116 ∷ 97 ∷ []; size = n; behind = octets })) told
     ∙ data_heard (Some 9600) size octets few
 
--- and the file is whole behind all of them
+-- and the file is whole after all of them
 pub head_whole : (rates : Rates) (size : ℕ) (octets : List ℕ) → size < 2 ^ 32 → length octets ≡ size → verdict_of rates (head_before size ++ octets) ≡ Ok tt
 head_whole rates size octets fits all =
     let read = head_reads rates size octets fits (omega (arith, all)) in

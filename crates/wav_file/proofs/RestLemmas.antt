@@ -54,7 +54,7 @@ module _ (rates : Rates) where
   samples_low None = refl
   samples_low (Some low) = refl
 
-  -- The rest is read as nothing where nothing comes.
+  -- The rest is read as nothing if nothing comes.
   pub at_end : (n place : ℕ) (part : Part) (unit : List ℕ) → Fits place part unit
       → rest_reading rates n part unit [] ≡ record { fault = fault_of_part part; rate = rate_of_part part; heard = []; whole = whole_of_part part }
   at_end n place Head unit fits =
@@ -84,7 +84,7 @@ module _ (rates : Rates) where
 
   -- ---- one octet more
 
-  -- how the rest is read behind the step of an octet
+  -- how the rest is read after the step of an octet
   abbrev pub rest_behind : ℕ → Step → List ℕ → Reading
   rest_behind n step more = rest_reading rates (suc n) step.part step.unit more
 
@@ -142,7 +142,7 @@ module _ (rates : Rates) where
         ∙ ap (λ xs. record { fault = (rest_behind (length octets) step more).fault; rate = (rest_behind (length octets) step more).rate; heard = xs; whole = (rest_behind (length octets) step more).whole })
         (sym (append_assoc (reading rates octets).heard (option_to_list step.sample) (rest_behind (length octets) step more).heard))
 
-    -- what is kept behind the octet
+    -- what is kept after the octet
     module _ (next : Held) (sample : Option ℤ) (made_is : made next sample ≡ step_of rates held.position held.part held.unit octet) (fits : Fits next.position next.part next.unit) where
       behind_more : (more : List ℕ) → reading rates (octets ++ octet ∷ more)
           ≡ behind ((reading rates octets).heard ++ option_to_list sample) (rest_reading rates (suc (length octets)) next.part next.unit more)

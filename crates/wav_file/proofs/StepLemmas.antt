@@ -41,7 +41,7 @@ module _ (rates : Rates) where
   choose true A B P Q n more on_true on_false = on_true refl
   choose false A B P Q n more on_true on_false = on_false refl
 
-  -- a fault that comes where a test fails
+  -- a fault that comes if a test fails
   passed : (b : Bool) (fault : WavFault) (part : Part) (n : ℕ) (more : List ℕ) (later : Option WavFault) (rest : Reading) → unless later rest ≡ rest_reading rates n part [] more
       → unless (cond b later (Some fault)) rest ≡ rest_reading rates n (cond b part (Failed fault)) [] more
   passed true fault part n more later rest same = same
@@ -231,7 +231,7 @@ module _ (rates : Rates) where
       ∙ ap (λ xs. cond (accepts rates field (little_number w unit)) (field_fault rates others (place + w) xs) (Some (BadFormat (told_place (place + w - 1)) (number_of field) (little_number w unit))))
       (drop_at unit more w whole)
 
-  -- the reading from a field on, where so many octets of the fields are still to come
+  -- the reading from a field on, if so many octets of the fields are still to come
   abbrev from_fields : Option ℕ → List Field → ℕ → List ℕ → ℕ → ℕ → List ℕ → Reading
   from_fields rate others first octets place count more = unless (field_fault rates others first octets) (formatted rate (chunks place (drop count more)))
 
@@ -246,7 +246,7 @@ module _ (rates : Rates) where
       ∙ ap (λ p. from_fields told (fields_from field) (first - 0) more p (widths_from field + skip) more) later
       ∙ ap (λ k. from_fields told (fields_from field) (first - 0) more (first + (widths_from field - 0) + skip) k more) count
 
-  -- the rate that fields tell is told by those behind the first, and the first
+  -- the rate that fields tell is told by those after the first, and the first
   abbrev rate_behind : Option Field → ℕ → List ℕ → Option ℕ
   rate_behind (Some field) rate more = rate_from field rate more
   rate_behind None rate more = Some rate
@@ -274,7 +274,7 @@ module _ (rates : Rates) where
   rate_split Align rate unit more whole = same_told (length (unit ++ more)) 4 (length more) 2 _ _ (omega (arith, length-append unit more, whole)) refl
   rate_split Bits rate unit more whole = cond-false _ _ _ (le-ltb (length (unit ++ more)) 2 (omega (arith, length-append unit more, whole)))
 
-  -- behind a field
+  -- after a field
   following_keeps : (field : Field) (rate start skip : ℕ) (more : List ℕ)
       → from_fields (rate_behind (next_of field) rate more) (fields_after (next_of field)) (start + width_of field) more (start + widths_from field + skip) (widths_from field - width_of field + skip) more
       ≡ rest_reading rates (start + width_of field) (following (next_of field) rate skip) [] more

@@ -1,5 +1,5 @@
 -- The chunks of a RIFF file (Multimedia Programming Interface and Data Specifications 1.0, "Resource Interchange File
--- Format"): four letters, a size of four octets, the lowest first, the contents, and padding where their number is odd.
+-- Format"): four letters, a size of four octets, the lowest first, the contents, and padding if their number is odd.
 use Rattle.std.specs.Prelude.{ℕ, zero, suc, ◌+◌, ◌%◌, nat_lt, if◌then◌else◌, List, [], ◌∷◌, length, take, drop}
 use Rattle.byteorder.specs.Endian.{little_number}
 
@@ -10,7 +10,7 @@ pub record Chunk : Type 0 where
   pub name : List ℕ
   -- how many octets its contents have
   pub size : ℕ
-  -- all octets behind its head, to the end of input
+  -- all octets after its head, to the end of input
   pub behind : List ℕ
 
 -- contents of so many octets, with their padding
@@ -21,7 +21,7 @@ padded size = size + size % 2
 abbrev pub chunk_at : ℕ → List ℕ → Chunk
 chunk_at place octets = record { place = place; name = take 4 octets; size = little_number 4 (drop 4 octets); behind = drop 8 octets }
 
--- at most so many chunks, one behind the other
+-- at most so many chunks, one after the other
 abbrev pub chunks_upto : ℕ → ℕ → List ℕ → List Chunk
 chunks_upto zero place octets = []
 chunks_upto (suc most) place octets =

@@ -36,7 +36,7 @@ Fits position (Failed fault) unit = length unit < 1
 
 -- ---- one octet more
 
--- the field behind a field
+-- the field after a field
 abbrev pub next_of : Field → Option Field
 next_of Format = Some Channels
 next_of Channels = Some Rate
@@ -60,14 +60,14 @@ data_begun place (Some rate) size = Data rate (if nat_lt size endless_size then 
 abbrev pub format_begun : ℕ → ℕ → Part
 format_begun place size = if nat_lt size 16 then Failed (NoFormat place) else AtFormat Format 0 (padded size - 16)
 
--- behind a chunk's head, whose last octet has this place
+-- after a chunk's head, whose last octet has this place
 abbrev pub after_chunk_head : ℕ → Option ℕ → List ℕ → ℕ → Part
 after_chunk_head place rate name size =
     if bytes_eq name (codes "data") then data_begun place rate size else
     if bytes_eq name (codes "fmt ") && is_none rate then format_begun place size else
     AtChunk rate (padded size)
 
--- the rate behind a field of this value
+-- the rate after a field of this value
 abbrev pub rate_after : Field → ℕ → ℕ → ℕ
 rate_after Format rate value = rate
 rate_after Channels rate value = rate
@@ -76,7 +76,7 @@ rate_after ByteRate rate value = rate
 rate_after Align rate value = rate
 rate_after Bits rate value = rate
 
--- behind a field
+-- after a field
 abbrev pub following : Option Field → ℕ → ℕ → Part
 following (Some field) rate skip = AtFormat field rate skip
 following None rate skip = AtChunk (Some rate) skip
@@ -100,7 +100,7 @@ abbrev pub after_data_octet : ℕ → Option ℕ → Option ℕ → ℕ → Part
 after_data_octet rate left None octet = (Data rate left (Some octet), None)
 after_data_octet rate left (Some low) octet = (Data rate left None, Some (sample_of low octet))
 
--- behind an octet of the data, and the sample that ends with it
+-- after an octet of the data, and the sample that ends with it
 abbrev pub after_data : ℕ → Option ℕ → Option ℕ → ℕ → Part × Option ℤ
 after_data rate None low octet = after_data_octet rate None low octet
 after_data rate (Some left) low octet =
@@ -171,7 +171,7 @@ widths_from ByteRate = 8
 widths_from Align = 4
 widths_from Bits = 2
 
--- the rate that the fields from one on tell, behind fields that told a rate
+-- the rate that the fields from one on tell, after fields that told a rate
 abbrev pub rate_told : Field → ℕ → List ℕ → ℕ
 rate_told Format rate octets = little_number 4 (drop 4 octets)
 rate_told Channels rate octets = little_number 4 (drop 2 octets)
@@ -197,7 +197,7 @@ abbrev pub data_reading : ℕ → Option ℕ → List ℕ → List ℕ → Readi
 data_reading rate None low octets = record { fault = None; rate = Some rate; heard = samples (low ++ octets); whole = true }
 data_reading rate (Some left) low octets = record { fault = None; rate = Some rate; heard = samples (low ++ take left octets); whole = nat_le left (length octets) }
 
--- how the rest of a file is read in a part, behind so many octets
+-- how the rest of a file is read in a part, after so many octets
 abbrev pub rest_reading : Rates → ℕ → Part → List ℕ → List ℕ → Reading
 rest_reading rates count Head unit octets = head_reading rates count octets
 rest_reading rates count (AtChunk rate skip) unit octets = chunks_reading rates rate (count + skip - length unit) (unit ++ drop skip octets)
@@ -216,5 +216,5 @@ pub record StandsFor (rates : Rates) (held : Held) (octets : List ℕ) : Type 0 
   pub takes : held.rates ≡ rates
   pub place : held.position ≡ told_place (length octets)
   pub enough : length held.unit ≤ length octets
-  -- whatever comes, the file is read as the part reads the rest, behind the samples so far
+  -- whatever comes, the file is read as the part reads the rest, after the samples so far
   pub rest : (more : List ℕ) → reading rates (octets ++ more) ≡ behind (reading rates octets).heard (rest_reading rates (length octets) held.part held.unit more)

@@ -27,7 +27,7 @@ unfinished = record { fault = None; rate = None; heard = []; whole = false }
 abbrev pub failed : WavFault → Reading
 failed fault = record { fault = Some fault; rate = None; heard = []; whole = false }
 
--- a fault, or where none shows, the reading of what follows
+-- a fault, or if none shows, the reading of what follows
 abbrev pub unless : Option WavFault → Reading → Reading
 unless (Some fault) reading = failed fault
 unless None reading = reading
@@ -55,12 +55,12 @@ of_data rate chunk =
     then record { fault = None; rate = rate; heard = samples (take chunk.size chunk.behind); whole = nat_le chunk.size (length chunk.behind) }
     else record { fault = None; rate = rate; heard = samples chunk.behind; whole = true }
 
--- chunks behind the format, which names this rate
+-- chunks after the format, which names this rate
 abbrev pub formatted : Option ℕ → List Chunk → Reading
 formatted rate [] = record { fault = None; rate = rate; heard = []; whole = false }
 formatted rate (chunk ∷ others) = if is_data chunk then of_data rate chunk else formatted rate others
 
--- a format, and the chunks behind it
+-- a format, and the chunks after it
 abbrev pub of_format : Rates → Chunk → List Chunk → Reading
 of_format rates chunk others =
     if nat_lt chunk.size 16 then failed (NoFormat (told_place (chunk.place + 7))) else
@@ -96,12 +96,12 @@ given (Err fault) = []
 abbrev pub fault_in : Rates → List ℕ → Option WavFault
 fault_in rates octets = (reading rates octets).fault
 
--- What a file is worth whose last octet stands before a place: it is cut short where no fault shows and its data is not
+-- Whether a file is whole, by its last octet's place: it is cut short if no fault shows and its data is not
 -- there to the end.
 abbrev pub verdict_on : ℕ → Option WavFault → Bool → Result (Unit {0}) WavFault
 verdict_on place (Some fault) whole = Err fault
 verdict_on place None whole = if whole then Ok tt else Err (Truncated place)
 
--- what a file of these octets is worth; where it is cut short, the fault names the number of octets
+-- whether a file of these octets is whole; if it is cut short, the fault names the number of octets
 abbrev pub verdict_of : Rates → List ℕ → Result (Unit {0}) WavFault
 verdict_of rates octets = verdict_on (told_place (length octets)) (reading rates octets).fault (reading rates octets).whole

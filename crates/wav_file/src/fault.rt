@@ -18,7 +18,7 @@ pub enum WavFault {
     /// The format's field, counted from 1, is not what is read. Its last octet is at `at`.
     #[error("bad format {field} value {value} at {at}")]
     BadFormat { at: u64, field: u8, value: u32 },
-    /// The file ends behind `at` octets, before its data does.
+    /// The file ends after `at` octets, before its data does.
     #[error("truncated at {at}")]
     Truncated { at: u64 },
 }

@@ -68,7 +68,7 @@ impl Field {
         }
     }
 
-    // The rate behind this field: its value, if it names the rate.
+    // The rate after this field: its value, if it names the rate.
     pub fn rate_after(self, rate: u32, value: u32) -> u32
         ensures { result ≡ rate_after self rate value }
     {
@@ -78,7 +78,7 @@ impl Field {
         }
     }
 
-    // The field behind this one.
+    // The field after this one.
     pub fn next(self) -> Option<Field>
         ensures { result ≡ next_of self }
     {

@@ -21,7 +21,7 @@ pub fn wav_head(count: u64) -> Result<[u8; 44], TooLong>
     ensures head { IfOk result (λ head. head ≡ head_of count) }
     ensures fits { IsOk result ↔ (count ≤ 2147483629) }
     ensures refused { IfErr result (λ fault. fault.count ≡ count) }
-    // The octets behind it are samples.
+    // The octets after it are samples.
     ensures samples { IfOk result (λ head. (rates : Rates) (octets : List ℕ) → length octets ≤ 2 * count
         → samples_in rates (head ++ octets) ≡ samples octets) }
     ensures no_fault { IfOk result (λ head. (rates : Rates) (octets : List ℕ) → length octets ≤ 2 * count

@@ -1,4 +1,4 @@
-// The parts of a file, and which one is under way behind an octet.
+// The parts of a file, and which one is under way after an octet.
 
 ghost use Rattle.std.specs.Prelude.{◌≡◌, ◌<◌, ◌≢◌, ◌≤◌, length, take, drop, Some};
 ghost use Rattle.byteorder.specs.Endian.{little_number};
@@ -10,7 +10,7 @@ use crate::field::Field;
 use crate::rates::Rates;
 use byteorder::{ByteOrder, LittleEndian};
 
-// The first letters of a RIFF file, and the word behind its size.
+// The first letters of a RIFF file, and the word after its size.
 const RIFF: [u8; 4] = *b"RIFF";
 
 const WAVE: [u8; 4] = *b"WAVE";
@@ -31,7 +31,7 @@ pub enum Part {
         rate: Option<u32>,
         skip: u64,
     },
-    // A field of the format, behind fields that told a rate; so many octets of its chunk stand behind the last field.
+    // A field of the format, after fields that told a rate; so many octets of its chunk stand after the last field.
     Format {
         field: Field,
         rate: u32,
@@ -54,7 +54,7 @@ impl Part {
     ghost use Rattle.wav_file.specs.Held.{after_head, after_chunk_head, after_field, after_data, data_begun, format_begun, answer_of, fault_of_part, rate_of_part, whole_of_part};
     ghost use Rattle.wav_file.specs.Reading.{verdict_on};
 
-    // Behind an octet of the first twelve.
+    // After an octet of the first twelve.
     pub fn after_head(at: u64, octet: u8) -> Part
         requires { at < 12 }
         ensures { result ≡ after_head at octet }
@@ -75,7 +75,7 @@ impl Part {
         }
     }
 
-    // Behind a chunk's head, whose last octet is at `at`.
+    // After a chunk's head, whose last octet is at `at`.
     pub fn after_chunk_head(at: u64, rate: Option<u32>, head: &[u8]) -> Part
         requires { length head.now ≡ 8 }
         ensures { result ≡ after_chunk_head at rate (take 4 head.now) (little_number 4 (drop 4 head.now)) }
@@ -94,7 +94,7 @@ impl Part {
         }
     }
 
-    // Behind an octet of the data, and the sample that ends with it.
+    // After an octet of the data, and the sample that ends with it.
     pub fn after_data(
         rate: u32,
         left: Option<u32>,
@@ -191,7 +191,7 @@ impl Part {
         }
     }
 
-    // Behind a field of this value, whose last octet is at `at`, for a reader of these rates.
+    // After a field of this value, whose last octet is at `at`, for a reader of these rates.
     pub fn after_field(
         rates: Rates,
         at: u64,

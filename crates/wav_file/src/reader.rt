@@ -80,7 +80,7 @@ impl WavIn {
         self.part.answer(sample)
     }
 
-    /// What a file is worth that ends here: the fault that showed, or `Truncated` exactly where the file ends before its
+    /// Whether a file that ends here is whole: the fault that showed, or `Truncated` exactly when the file ends before its
     /// data does.
     pub fn finish(&self) -> Result<(), WavFault>
         ensures { (rates : Rates) (octets : List ℕ) → StandsFor rates self.now octets → result ≡ verdict_of rates octets }

@@ -49,7 +49,7 @@ wide_less x y item h within = record {
 
 -- ---- what more samples bring
 
--- the item is what a stream hears behind its part of the first samples
+-- the item is what a stream hears after its part of the first samples
 pub record IsBrought (x y : List ℤ) (item : Candidate) : Type 0 where
   pub wide : IsWideCandidate (x ++ y) item
   pub past : length (stream wide.number x) < wide.heard.end

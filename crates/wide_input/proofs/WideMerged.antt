@@ -27,7 +27,7 @@ one_wide x items others a b =
     (λ k d l. b.whole (get_or items k d) (a.each k d l))
     (λ k d l. a.whole (get_or others k d) (b.each k d l))
 
--- the candidates of a stream that end behind a position
+-- the candidates of a stream that end after a position
 behind_of : (position : ℕ) (x : List ℤ) → (found : List Candidate) × AreCandidatesBehind position x found
 behind_of position x =
     let some = some_list x in
@@ -54,7 +54,7 @@ module _ (x y : List ℤ) where
   unfolding found_in
   found_is number = (behind_of (length (stream number x)) (stream number (x ++ y))).1
 
-  -- what five streams find behind their parts of the first samples
+  -- what five streams find after their parts of the first samples
   abbrev founds : List (List Candidate)
   founds = found_in 0 ∷ found_in 1 ∷ found_in 2 ∷ found_in 3 ∷ found_in 4 ∷ []
 

@@ -18,7 +18,7 @@ pub record HeldStream : Type 0 where
   pub skipped : ℕ
   pub found : Option (List Candidate)
 
--- how many samples stand before the next one of a stream, behind samples
+-- how many samples stand before the next one of a stream, after samples
 abbrev pub next_skipped : ℕ → List ℤ → ℕ
 next_skipped skipped [] = skipped
 next_skipped zero (sample ∷ x) = next_skipped 4 x
@@ -49,7 +49,7 @@ items_of (Some items) = items
 abbrev pub found_by : HeldStream → List Candidate
 found_by held = items_of held.found
 
--- what streams from a number on found, one behind the other, in the lanes of their streams
+-- what streams from a number on found, one after the other, in the lanes of their streams
 abbrev pub brought : ℕ → List (List Candidate) → List Candidate
 brought number [] = []
 brought number (found ∷ founds) = map (in_stream number) found ++ brought (suc number) founds

@@ -2,7 +2,7 @@
 -- samples a second.
 use Rattle.std.specs.Prelude.{ℕ, zero, suc, ℤ, List, [], ◌∷◌, length}
 
--- every fifth of the samples, behind so many that are skipped; so the stream of a number is what follows that many
+-- every fifth of the samples, after so many that are skipped; so the stream of a number is what follows that many
 abbrev pub stream : ℕ → List ℤ → List ℤ
 stream skipped [] = []
 stream zero (sample ∷ x) = sample ∷ stream 4 x

@@ -48,7 +48,7 @@ impl Gate for Meeting {
     }
 }
 
-/// The ends and lanes of the items, where the samples come in blocks of one length, on two threads if there is a gate.
+/// The ends and lanes of the items, if the samples come in blocks of one length, on two threads if there is a gate.
 fn items_in_blocks<R: Threads + Sync>(
     rt: &R,
     alloc: Global,

@@ -14,7 +14,7 @@ const SINE: [i16; 48] = [
     -5000, -3827, -2588, -1305,
 ];
 
-/// Samples at 48,000 a second: each of 9600 a second five times, eight a tone, where mark is 6 steps a sample and space
+/// Samples at 48,000 a second: each of 9600 a second five times, eight a tone; mark is 6 steps a sample and space
 /// 11. So many zeros stand before them.
 pub(crate) fn transmission(alloc: Global, zeros: usize) -> Result<Vec<i16>, AllocError> {
     let mut samples = vec![in alloc; 0; zeros]?;

@@ -8,7 +8,7 @@ use std::alloc::Global;
 use std::test::Fail;
 use tnc_base::OutOfMemory;
 
-/// True where two blocks give these candidates: the place where each ends, and its offset.
+/// True if two blocks give these candidates: the place where each ends, and its offset.
 fn gives(
     alloc: Global,
     first: &[i16],
@@ -50,7 +50,7 @@ fn a_transmission_is_heard_alike_however_it_is_cut(rt: HostRuntime) -> Result<()
     Ok(())
 }
 
-/// How many candidates come, where the samples come in blocks of one length.
+/// How many candidates come, if the samples come in blocks of one length.
 fn count_in_blocks(alloc: Global, samples: &[i16], length: usize) -> Result<usize, OutOfMemory>
     requires some { 0 < length }
     requires few { count samples.now < 2 ^ 32 }

@@ -8,7 +8,7 @@ use std::alloc::Global;
 use std::test::Fail;
 use tnc_base::OutOfMemory;
 
-/// The ends and offsets of the items, where the samples come in blocks of one length.
+/// The ends and offsets of the items, if the samples come in blocks of one length.
 fn items_in_blocks(
     alloc: Global,
     samples: &[i16],

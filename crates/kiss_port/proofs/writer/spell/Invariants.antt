@@ -1,4 +1,4 @@
--- The type and the octets so far are written behind a FEND.
+-- The type and the octets so far are written after a FEND.
 use Rattle.std.proofs.Common.{◌≡◌, ◌∷◌, take}
 use Rattle.kiss_port.specs.Escapes.{fend, spelled}
 use Rattle.kiss_port.proofs.writer.spell.Given as goal

@@ -17,7 +17,7 @@ product_bound sample weight product fits is =
     let small : unsigned_abs sample ≤ 32768 = omega (arith, ints) in
     rw is (unsigned_abs-product sample weight small)
 
--- a sum with one product more, where it fits
+-- a sum with one product more, if it fits
 sum_is : (sum product : ℤ) → FitsSigned w32 product → FitsSigned w32 (sum +ℤ product)
     → to_z w32 (of_z w32 (sum +ℤ to_z w32 (of_z w32 product))) ≡ sum +ℤ product
 sum_is sum product product_fits fits = grind (arith, to_z-of_z)
