@@ -3,9 +3,11 @@
 
   scripts/scores.py                 a table with 100 frames a row
   scripts/scores.py --frames 20     with another number
-  scripts/scores.py --beside        and what atest and multimon-ng hear of the same sound, where they are installed
+  scripts/scores.py --sensitive     and what `tnc decode --sensitive` hears
+  scripts/scores.py --beside        and what atest and multimon-ng hear of the same sound, if they are installed
   scripts/scores.py --check         12 frames a row, each count held against its bounds; status 1 outside
-  scripts/scores.py --noise 40      how many lines come of 40 hours of white noise, which holds no frame
+  scripts/scores.py --noise 40      how many lines come of 40 hours of white noise, which holds no frame; with --sensitive
+                                    too, of that decoder
   scripts/scores.py --tnc PROGRAM   of another program than bin/tnc
 
 The sound is made here and shares nothing with the program: frames with random text, inserted zeros, tones of continuous
@@ -193,14 +195,27 @@ CLOCKS = [
     (256, [(-100, 12, 12), (100, 12, 12), (-300, 12, 12), (300, 12, 12), (-1000, 0, 0), (1000, 0, 0)]),
 ]
 SECOND_AFTER = (12, 12)
+# What --sensitive hears at least, in the rows in which that is more than the eight lanes alone hear.
+SENSITIVE = {
+    "noise, 6 dB": 12,
+    "noise, 5 dB": 12,
+    "noise, 4 dB": 12,
+    "noise, 2 dB": 8,
+    **{f"clock {clock:+} ppm, 20 octets": 12 for clock in (-3000, 3000)},
+    **{f"clock {clock:+} ppm, 256 octets": 12 for clock in (-1000, 1000)},
+}
 SECOND_AT_ONCE = [(20, 12, 12), (10, 11, 12), (6, 10, 12), (3, 8, 12)]
 
 
-def heard_by_tnc(tnc, samples, _):
-    run = subprocess.run([tnc, "decode"], input=octets_of(samples), capture_output=True)
+def heard_by_tnc(tnc, samples, _, *options):
+    run = subprocess.run([tnc, "decode", *options], input=octets_of(samples), capture_output=True)
     if run.returncode:
         sys.exit(f"scores.py: tnc decode ended with status {run.returncode}: {run.stderr.decode().strip()}")
     return run.stdout.decode().split()
+
+
+def heard_by_sensitive(tnc, samples, room):
+    return heard_by_tnc(tnc, samples, room, "--sensitive")
 
 
 def resampled(samples, rate, kind, to):
@@ -232,13 +247,16 @@ def heard_by_multimon(_, samples, room):
     return [line for line in run.stdout.decode(errors="replace").splitlines() if not line.startswith("AFSK1200:")]
 
 
-def of_noise(tnc, hours):
-    """The lines that come of noise alone: samples that are drawn evenly, hour by hour."""
-    lines = 0
+def of_noise(tnc, hours, options):
+    """The lines that come of noise alone: samples that are drawn evenly, hour by hour. And how many of them are frames."""
+    lines = frames = 0
     for hour in range(hours):
         noise = random.Random(hour).randbytes(2 * RATE * 3600)
-        lines += subprocess.run([tnc, "decode"], input=noise, capture_output=True, check=True).stdout.count(b"\n")
-    print(f"{hours} hours of noise: {lines} lines")
+        found = subprocess.run([tnc, "decode", *options], input=noise, capture_output=True, check=True).stdout
+        shown = subprocess.run([tnc, "show"], input=found, capture_output=True, check=True).stdout
+        lines += found.count(b"\n")
+        frames += sum(not line.startswith(b"!") for line in shown.splitlines())
+    print(f"{hours} hours of noise: {lines} lines, {frames} of them frames of AX.25")
 
 
 def count_of(sent, others, heard):
@@ -252,15 +270,18 @@ def main():
     words = argparse.ArgumentParser(description="what tnc decode hears of sound that is not clean")
     words.add_argument("--frames", type=int, default=100)
     words.add_argument("--check", action="store_true")
+    words.add_argument("--sensitive", action="store_true")
     words.add_argument("--beside", action="store_true")
     words.add_argument("--tnc", default=f"{TOP}/bin/tnc")
     words.add_argument("--noise", type=int, metavar="HOURS")
     given = words.parse_args()
     if given.noise:
-        of_noise(given.tnc, given.noise)
+        of_noise(given.tnc, given.noise, ["--sensitive"] if given.sensitive else [])
         return
     count = CHECKED if given.check else given.frames
     columns = [("tnc", heard_by_tnc, bytes.hex)]
+    if given.sensitive or given.check:
+        columns.append(("--sensitive", heard_by_sensitive, bytes.hex))
     if given.beside:
         text_of = lambda frame: frame[16:].decode()
         peers = [("atest", heard_by_atest, bytes.hex), ("multimon-ng", heard_by_multimon, text_of)]
@@ -279,9 +300,10 @@ def main():
             for column, hears, spelled in columns:
                 heard, strays = count_of(map(spelled, sent), map(spelled, others), hears(given.tnc, samples, room))
                 cells.append(f"{heard}" + (f" (+{strays})" if strays else ""))
-                if given.check and (strays or not least <= heard <= most):
+                fewest, highest = (least, most) if column == "tnc" else (SENSITIVE.get(name, least), count)
+                if given.check and (strays or not fewest <= heard <= highest):
                     outside += 1
-                    print(f"scores.py: {name}: {heard} of {count}, and {strays} not sent; bounds {least} to {most}")
+                    print(f"scores.py: {column}: {name}: {heard} of {count}, and {strays} not sent; bounds {fewest} to {highest}")
             if not given.check:
                 print(f"| {name:40} | " + " | ".join(f"{cell:>11}" for cell in cells) + " |")
     sys.exit(outside > 0)
