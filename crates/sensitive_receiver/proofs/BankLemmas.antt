@@ -18,7 +18,7 @@ use Rattle.sensitive_receiver.specs.declared.readings.Readings.{Readings}
 use Rattle.sensitive_receiver.specs.Found.{AddsBelow, AddsBetween, AreAddedBetween}
 use Rattle.sensitive_receiver.specs.HeldLanes.{HeldLane, HeldBank, ClocksHaveTaken, LanesHaveRead, IsLastPlace, HasTaken, StandsFor}
 use Rattle.sensitive_receiver.specs.Lanes.{readings_at}
-use Rattle.sensitive_receiver.proofs.FoundLemmas.{adds_none, adds_join}
+use Rattle.sensitive_receiver.proofs.FoundLemmas.{adds_none, adds_next_places}
 use Rattle.sensitive_receiver.proofs.PrefixLanes.{bank_taken-append}
 
 abbrev pub bank_of : ℕ → HeldLists → Pull × Clock → Pull × Clock → Pull × Clock → List HeldLane → HeldBank
@@ -171,11 +171,9 @@ fed_more initial was now block found after n sample h inside is more take add =
       taken = λ x t room same. take x (h.taken x t room same) (omega arith) (is ∙ same n inside ∙ ap (λ k. get_or x k (pos 0)) (sym position));
       found = λ x t room same.
           let added = add x (h.taken x t room same) (omega arith) (is ∙ same n inside ∙ ap (λ k. get_or x k (pos 0)) (sym position)) in
-          adds_join (λ p l. (places_in initial.position ≤ p) × (p < places_in was.position)) (λ p l. (places_in was.position ≤ p) × (p < places_in (was.position + 1)))
-          (λ p l. (places_in initial.position ≤ p) × (p < places_in now.position)) x [] found after (h.found x t room same) added
-          (λ p l a. (a.0, (let b = a.1 in omega arith))) (λ p l a. ((let b = a.0 in omega arith), (let b = a.1 in omega arith)))
-          (λ p l c. elim (cases_lt p (places_in was.position)) [ inl lt ↦ inl (c.0, lt) | inr ge ↦ inr (ge, (let b = c.1 in omega arith)) ])
-          (λ p l a b. let u = a.1 in let v = b.0 in omega arith);
+          subst (λ m. AddsBetween (places_in initial.position) m x [] after) (let next : places_in (was.position + 1) ≡ places_in now.position = omega arith in next)
+          (adds_next_places (places_in initial.position) (places_in was.position) (places_in (was.position + 1)) x [] found after (omega arith) (omega arith)
+          (h.found x t room same) added);
     }
 
 -- the whole block

@@ -1,6 +1,7 @@
 -- What the added lanes find, joined.
 use Rattle.std.proofs.Common.{◌≡◌, ◌≢◌, ℕ, ◌+◌, ◌<◌, ◌≤◌, ℤ, List, [], ◌∷◌, ◌++◌, length, get_or, refl, ap, sym, subst, ◌∙◌, arith, append_assoc, inl, inr, ◌⊎◌}
 use Rattle.std.specs.List.{All}
+use Rattle.std.proofs.lemmas.Bool.{cases_lt}
 use Rattle.std.proofs.lemmas.List.{append-nil}
 use Rattle.std.proofs.lemmas.List.Elements.{All-nil, All-cons, All-append, Contains-append_left, Contains-append_right}
 use Rattle.frame_merge.specs.declared.candidate.Candidate.{Candidate}
@@ -9,7 +10,7 @@ use Rattle.hdlc_framer.specs.Frames.{EndsFrame}
 use Rattle.slicer_bank.proofs.CandidateLemmas.{AllPairs-append}
 use Rattle.sensitive_receiver.specs.Lanes.{delay_of, lane_bits}
 use Rattle.sensitive_receiver.specs.AddedCandidates.{EndsAtPlace}
-use Rattle.sensitive_receiver.specs.Found.{AreAddedWhere, AddsWhere, AddsAt, CanBePut}
+use Rattle.sensitive_receiver.specs.Found.{AreAddedWhere, AddsWhere, AddsAt, AddsBelow, AddsBetween, CanBePut}
 
 abbrev Apart : Candidate → Candidate → Type 0
 Apart item later = standing item ≢ standing later
@@ -114,3 +115,21 @@ adds_one x place lane before after item is of ends unique =
 -- what was found can be put into a merger, and so can one item more
 pub bounds_more : (found after : List Candidate) (item : Candidate) → after ≡ found ++ item ∷ [] → CanBePut item → All CanBePut found → All CanBePut after
 bounds_more found after item is can all = subst (All CanBePut) (sym is) (All-append CanBePut found (item ∷ []) all (All-cons CanBePut item [] can (All-nil CanBePut)))
+
+-- what the lanes below one find at a place, and what that one finds there
+pub adds_next_lane : (place lane : ℕ) (x : List ℤ) (before found after : List Candidate) → AddsBelow place lane x before found → AddsAt place lane x found after
+    → AddsBelow place (lane + 1) x before after
+adds_next_lane place lane x before found after a b =
+    adds_join (λ p q. (p ≡ place) × (q < lane)) (λ p q. (p ≡ place) × (q ≡ lane)) (λ p q. (p ≡ place) × (q < lane + 1)) x before found after a b
+    (λ p q h. (h.0, (let small = h.1 in omega arith))) (λ p q h. (h.0, (let same = h.1 in omega arith)))
+    (λ p q h. elim (cases_lt q lane) [ inl lt ↦ inl (h.0, lt) | inr ge ↦ inr (h.0, (let small = h.1 in omega arith)) ])
+    (λ p q h k. let small = h.1 in let same = k.1 in omega arith)
+
+-- what is found at places, and at the places that follow them
+pub adds_next_places : (from middle to : ℕ) (x : List ℤ) (before found after : List Candidate) → from ≤ middle → middle ≤ to
+    → AddsBetween from middle x before found → AddsBetween middle to x found after → AddsBetween from to x before after
+adds_next_places from middle to x before found after le le' a b =
+    adds_join (λ p l. (from ≤ p) × (p < middle)) (λ p l. (middle ≤ p) × (p < to)) (λ p l. (from ≤ p) × (p < to)) x before found after a b
+    (λ p l h. (h.0, (let high = h.1 in omega arith))) (λ p l h. ((let low = h.0 in omega arith), h.1))
+    (λ p l h. elim (cases_lt p middle) [ inl lt ↦ inl (h.0, lt) | inr ge ↦ inr (ge, h.1) ])
+    (λ p l h k. let high = h.1 in let low = k.0 in omega arith)

@@ -10,3 +10,6 @@ pub mod FewKept
 pub mod HeardLemmas
 pub mod MergedLemmas
 pub mod DecoderLemmas
+pub mod NameDecided
+pub mod PathDecided
+pub mod SomeList

@@ -9,7 +9,7 @@ use Rattle.sensitive_receiver.specs.declared.readings.Readings.{Readings}
 use Rattle.sensitive_receiver.specs.Found.{AddsAt, AddsBelow, CanBePut}
 use Rattle.sensitive_receiver.specs.HeldLanes.{HeldLane, LaneStandsFor, LanesHaveRead, IsLastPlace}
 use Rattle.sensitive_receiver.specs.Lanes.{lane_tones}
-use Rattle.sensitive_receiver.proofs.FoundLemmas.{adds_none, adds_join}
+use Rattle.sensitive_receiver.proofs.FoundLemmas.{adds_none, adds_next_lane}
 
 -- so many lanes that have read nothing
 pub record AreFresh (n : ℕ) (lanes : List HeldLane) : Type 0 where
@@ -81,10 +81,7 @@ module _ (lists : HeldLists) (readings : Readings) (old now : List HeldLane) (be
           | inr ne ↦ subst (λ t. LaneStandsFor t (lane_tones x (8 + k) (readings.place + 1))) (sym (get_or-set_other now n k lane d ne)) (h.read x k d last read (omega arith) small)
         ];
         found = λ x last read.
-            adds_join (λ p q. (p ≡ readings.place) × (q < 8 + n)) (λ p q. (p ≡ readings.place) × (q ≡ 8 + n)) (λ p q. (p ≡ readings.place) × (q < 8 + (n + 1))) x before found after
-            (h.found x last read) (adds x last (here x read))
-            (λ p q a. (a.0, (let small = a.1 in omega arith))) (λ p q b. (b.0, (let same = b.1 in omega arith)))
-            (λ p q c. elim (cases_lt q (8 + n)) [ inl lt ↦ inl (c.0, lt) | inr ge ↦ inr (c.0, (let small = c.1 in omega arith)) ])
-            (λ p q a b. let small = a.1 in let same = b.1 in omega arith);
+            subst (λ l. AddsBelow readings.place l x before after) (let next : 8 + n + 1 ≡ 8 + (n + 1) = omega arith in next)
+            (adds_next_lane readings.place (8 + n) x before found after (h.found x last read) (adds x last (here x read)));
         bounds = λ all. bound (h.bounds all);
       }

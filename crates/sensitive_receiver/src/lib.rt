@@ -12,8 +12,12 @@ mod added_bank;
 mod added_lane;
 mod decoder;
 mod hearing;
+mod laws;
 mod merging;
 mod readings;
 
 pub use added_bank::AddedBank;
 pub use decoder::SensitiveDecoder;
+pub use laws::{
+    one_list_of_all_lanes, sensitive_items_are_all, sensitive_items_join, some_list_of_all_lanes,
+};
