@@ -1,0 +1,15 @@
+pub mod LaneLemmas
+pub mod FoundLemmas
+pub mod VisitedLanes
+pub mod BankLemmas
+pub mod PrefixLemmas
+pub mod PrefixLanes
+pub mod HearLemmas
+pub mod FarFrames
+pub mod FewKept
+pub mod HeardLemmas
+pub mod MergedLemmas
+pub mod DecoderLemmas
+pub mod NameDecided
+pub mod PathDecided
+pub mod SomeList

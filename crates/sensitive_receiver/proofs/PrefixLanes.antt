@@ -1,0 +1,92 @@
+-- What the added lanes hear in samples stays as it is when more samples follow.
+use Rattle.std.proofs.Common.{◌≡◌, ℕ, zero, suc, ◌+◌, ◌<◌, ◌≤◌, Bool, true, false, ℤ, List, [], ◌∷◌, ◌++◌, length, get_or, refl, ap, sym, subst, ◌∙◌, arith, add-one}
+use Rattle.std.specs.Prelude.{not, ◌&&◌}
+use Rattle.nrzi_bits.specs.Line.{bits_of}
+use Rattle.hdlc_framer.specs.Frames.{EndsFrame}
+use Rattle.frame_merge.specs.declared.candidate.Candidate.{Candidate}
+use Rattle.tone_tracking.specs.declared.bit_clock.Pull.{Pull}
+use Rattle.tone_tracking.specs.declared.bit_clock.Pull.TheVariants.{Slow, Fast}
+use Rattle.tone_tracking.specs.declared.reach.Reach.{Reach}
+use Rattle.tone_tracking.specs.declared.reach.Reach.TheVariants.{Near, Far}
+use Rattle.tone_tracking.specs.Clock.{changes, clock_after, reads}
+use Rattle.tone_tracking.specs.Heard.{heard, places_in}
+use Rattle.sensitive_receiver.proofs.PrefixLemmas.{heard-append, heard_before-append, clock_after-agree, taken-append}
+use Rattle.sensitive_receiver.specs.Lanes.{delay_of, list_of, is_read_by, is_read_at, readings_at, tone_back, lane_tones}
+use Rattle.sensitive_receiver.specs.AddedCandidates.{EndsAtPlace, is_in_time}
+use Rattle.sensitive_receiver.specs.HeldLanes.{HeldBank, LaneStandsFor, HasTaken}
+use Rattle.sensitive_receiver.proofs.LaneLemmas.{lane_tones-read, lane_tones-not}
+use Rattle.sensitive_receiver.proofs.VisitedLanes.{tones_of_none}
+
+module _ (x y : List ℤ) where
+  clock-append : (pull : Pull) (reach : Reach) (count : ℕ) → count ≤ places_in (length x) → clock_after pull (heard reach x) count ≡ clock_after pull (heard reach (x ++ y)) count
+  clock-append pull reach count inside = clock_after-agree pull (heard reach x) (heard reach (x ++ y)) count (λ p l. heard-append reach x y p (omega arith))
+
+  pub readings-append : (place : ℕ) → place < places_in (length x) → readings_at x place ≡ readings_at (x ++ y) place
+  unfolding readings_at
+  readings-append place inside =
+      let a = clock-append Slow Near place (omega arith) in
+      let b = clock-append Slow Far place (omega arith) in
+      let c = clock-append Fast Near place (omega arith) in
+      λ i. record { place = place; slow_near = reads (a i); slow_far = reads (b i); fast_near = reads (c i) }
+
+  pub tone_back-append : (lane place back : ℕ) → place < places_in (length x) → tone_back x lane place back ≡ tone_back (x ++ y) lane place back
+  tone_back-append lane place back inside = heard_before-append (list_of lane) x y (place + 1) (delay_of lane + back) (omega arith)
+
+  one_more : (lane count : ℕ) (b : Bool) → count < places_in (length x) → is_read_at x lane count ≡ b → lane_tones x lane count ≡ lane_tones (x ++ y) lane count
+      → lane_tones x lane (count + 1) ≡ lane_tones (x ++ y) lane (count + 1)
+  one_more lane count true inside here before =
+      let there : is_read_at (x ++ y) lane count ≡ true = sym (ap (is_read_by lane) (readings-append count inside)) ∙ here in
+      lane_tones-read x lane count here ∙ (λ i. before i ++ tone_back-append lane count 0 inside i ∷ []) ∙ sym (lane_tones-read (x ++ y) lane count there)
+  one_more lane count false inside here before =
+      let there : is_read_at (x ++ y) lane count ≡ false = sym (ap (is_read_by lane) (readings-append count inside)) ∙ here in
+      lane_tones-not x lane count here ∙ before ∙ sym (lane_tones-not (x ++ y) lane count there)
+
+  pub lane_tones-append : (lane count : ℕ) → count ≤ places_in (length x) → lane_tones x lane count ≡ lane_tones (x ++ y) lane count
+  lane_tones-append lane zero inside = tones_of_none x lane ∙ sym (tones_of_none (x ++ y) lane)
+  lane_tones-append lane (suc count) inside =
+      ap (lane_tones x lane) (sym (add-one count))
+      ∙ one_more lane count (is_read_at x lane count) (omega arith) refl (lane_tones-append lane count (omega arith))
+      ∙ ap (lane_tones (x ++ y) lane) (add-one count)
+
+  in_time-append : (lane place : ℕ) → place < places_in (length x) → is_in_time x lane place ≡ is_in_time (x ++ y) lane place
+  in_time-append lane place inside =
+      let a = tone_back-append lane place 8 inside in
+      let b = tone_back-append lane place 0 inside in
+      let c = tone_back-append lane place 16 inside in
+      λ i. changes (a i) (b i) && not (changes (c i) (a i))
+
+  -- an item of a place of the first samples is one of all, and the other way round
+  pub ends-append : (item : Candidate) (place : ℕ) → place < places_in (length x) → EndsAtPlace x item place → EndsAtPlace (x ++ y) item place
+  ends-append item place inside h = record {
+    least = h.least;
+    most = h.most;
+    reads = sym (ap (is_read_by item.offset) (readings-append place inside)) ∙ h.reads;
+    end_of = h.end_of;
+    frame = subst (λ tones. EndsFrame (bits_of tones) item.octets) (lane_tones-append item.offset (place + 1) (omega arith)) h.frame;
+    path = h.path;
+    in_time = sym (in_time-append item.offset place inside) ∙ h.in_time;
+  }
+
+  pub ends-take : (item : Candidate) (place : ℕ) → place < places_in (length x) → EndsAtPlace (x ++ y) item place → EndsAtPlace x item place
+  ends-take item place inside h = record {
+    least = h.least;
+    most = h.most;
+    reads = ap (is_read_by item.offset) (readings-append place inside) ∙ h.reads;
+    end_of = h.end_of;
+    frame = subst (λ tones. EndsFrame (bits_of tones) item.octets) (sym (lane_tones-append item.offset (place + 1) (omega arith))) h.frame;
+    path = h.path;
+    in_time = in_time-append item.offset place inside ∙ h.in_time;
+  }
+
+  -- the bank has taken the first of more samples
+  pub bank_taken-append : (held : HeldBank) → held.position ≤ length x → HasTaken held x → HasTaken held (x ++ y)
+  bank_taken-append held inside h = record {
+    lists = taken-append held.lists x y h.lists;
+    count = h.count;
+    clocks = record {
+      slow_near = h.clocks.slow_near ∙ clock-append Slow Near (places_in held.position) (omega arith);
+      slow_far = h.clocks.slow_far ∙ clock-append Slow Far (places_in held.position) (omega arith);
+      fast_near = h.clocks.fast_near ∙ clock-append Fast Near (places_in held.position) (omega arith);
+    };
+    lanes = λ k d l. subst (λ tones. LaneStandsFor (get_or held.lanes k d) tones) (lane_tones-append (8 + k) (places_in held.position) (omega arith)) (h.lanes k d l);
+  }

@@ -1,0 +1,31 @@
+use Rattle.std.proofs.Common.{◌≡◌, ℤ, List, ◌++◌, sym, subst, length, false}
+use Rattle.std.specs.Prelude.{IfOk}
+use Rattle.std.proofs.lemmas.Result.{IfOk-weaker}
+use Rattle.slicer_bank.specs.Candidates.{AreCandidatesBehind}
+use Rattle.slicer_bank.specs.Held.{HeldBank, StandsFor as BankStandsFor}
+use Rattle.sensitive_receiver.specs.HeldDecoder.{HeldDecoder, HaveTaken, StandsFor}
+use Rattle.sensitive_receiver.specs.MergedItems.{AreMergedBetween, settled}
+use Rattle.sensitive_receiver.proofs.decoder.SensitiveDecoder.block.Goals as goal
+
+pub returns-clause-given : goal.returns-clause-given
+returns-clause-given c =
+    let block : List ℤ = c.args.block.now in
+    let was : HeldDecoder = record {
+      bank = c.self.inside.bank;
+      added = c.self.inside.added;
+      merger = c.self.inside.merger;
+      position = c.self.inside.position;
+      finished = c.self.inside.finished;
+      spent = c.self.inside.spent;
+    } in
+    let P : HeldDecoder → Type 0 = λ old. IfOk c.settle.result (λ items. (x : List ℤ) → StandsFor old x
+    → StandsFor c.settle.new.self (x ++ block) × AreMergedBetween (settled (length x)) (settled (length (x ++ block))) (x ++ block) items.items) in
+    subst P c.self.view_is (IfOk-weaker c.settle.result
+    (λ items. (before : HeldBank) (x : List ℤ) → c.self.inside.finished ≡ false → length x ≡ c.self.inside.position
+    → (BankStandsFor before x → BankStandsFor c.feed.new.self (x ++ block) × AreCandidatesBehind (length x) (x ++ block) c.in_ok-found.found.items)
+    → HaveTaken before c.self.inside.added c.self.inside.merger x
+    → StandsFor c.settle.new.self (x ++ block) × AreMergedBetween (settled (length x)) (settled (length (x ++ block))) (x ++ block) items.items)
+    (λ items. (x : List ℤ) → StandsFor was x
+    → StandsFor c.settle.new.self (x ++ block) × AreMergedBetween (settled (length x)) (settled (length (x ++ block))) (x ++ block) items.items)
+    (λ items given x h. given c.self.inside.bank x h.finished (sym h.count) (c.in_ok-found.ensures.found x) h.taken)
+    c.settle.ensures.given)

@@ -1,0 +1,12 @@
+use Rattle.std.proofs.Common.{refl}
+use Rattle.sensitive_receiver.proofs.DecoderLemmas.{taken_none}
+use Rattle.sensitive_receiver.proofs.decoder.SensitiveDecoder.new.Goals as goal
+
+pub returns-clause-stands_for : goal.returns-clause-stands_for
+returns-clause-stands_for c = record {
+  spent = refl;
+  finished = refl;
+  count = refl;
+  taken = taken_none c.in_ok-new.field-0 c.in_ok-new-2.field-0 c.in_ok-new-3.field-0 c.in_ok-new.ensures.stands_for c.in_ok-new-2.ensures.stands_for c.in_ok-new-3.ensures.stands_for
+      c.in_ok-new-3.ensures.stands_for.items;
+}

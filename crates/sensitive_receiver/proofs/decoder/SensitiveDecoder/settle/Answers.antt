@@ -1,0 +1,32 @@
+use Rattle.std.proofs.Common.{◌≡◌, ◌+◌, ◌∙◌, ap, sym, subst, refl, length, length-append, ◌++◌, ℤ, List, false}
+use Rattle.slicer_bank.specs.Candidates.{AreCandidatesBehind}
+use Rattle.slicer_bank.specs.Held.{HeldBank, StandsFor as BankStandsFor}
+use Rattle.sensitive_receiver.specs.HeldDecoder.{HeldDecoder, HaveTaken, StandsFor}
+use Rattle.sensitive_receiver.specs.MergedItems.{AreMergedBetween, settled}
+use Rattle.sensitive_receiver.proofs.decoder.SensitiveDecoder.settle.Goals as goal
+
+pub returns-clause-given : goal.returns-clause-given
+returns-clause-given c =
+    let block : List ℤ = c.args.block.now in
+    let now : HeldDecoder = record {
+      bank = c.self.inside.bank;
+      added = c.feed.new.self;
+      merger = c.merge_block.new.merger;
+      position = c.self.inside.position + length block;
+      finished = c.self.inside.finished;
+      spent = false;
+    } in
+    let P : HeldDecoder → Type 0 = λ old. (before : HeldBank) (x : List ℤ) → old.finished ≡ false → length x ≡ old.position
+    → (BankStandsFor before x → BankStandsFor old.bank (x ++ block) × AreCandidatesBehind (length x) (x ++ block) c.args.found.items)
+    → HaveTaken before old.added old.merger x
+    → StandsFor now (x ++ block) × AreMergedBetween (settled (length x)) (settled (length (x ++ block))) (x ++ block) c.in_ok-items.items.items in
+    subst P c.self.view_is (λ before x unfinished size heard h.
+    let taken = c.in_ok-items.ensures.given before c.self.inside.bank c.self.inside.added c.feed.new.self x block size refl heard (c.in_ok-added.ensures.found x) h in (
+      record {
+        spent = refl;
+        finished = unfinished;
+        count = sym (length-append x block ∙ ap (λ n. n + length block) size);
+        taken = taken.0;
+      },
+      taken.1,
+    ))

@@ -1,0 +1,39 @@
+-- What the added lanes find at some places.
+use Rattle.std.specs.Prelude.{◌≡◌, ◌≢◌, ℕ, ◌-◌, ◌^◌, ◌<◌, ◌≤◌, ℤ, List, ◌++◌}
+use Rattle.std.specs.List.{All, AllPairs, Contains}
+use Rattle.frame_merge.specs.declared.candidate.Candidate.{Candidate}
+use Rattle.frame_merge.specs.Order.{standing}
+use Rattle.sensitive_receiver.specs.AddedCandidates.{EndsAtPlace}
+
+-- what may be put into a merger of 23 lanes
+pub record CanBePut (item : Candidate) : Type 0 where
+  pub lane : item.offset < 23
+  pub end : item.end < 2 ^ 64 - 1
+
+-- the items are all that the added lanes hear where a place and a lane are of some kind, each once, in any order
+pub record AreAddedWhere (Of : ℕ → ℕ → Type 0) (x : List ℤ) (items : List Candidate) : Type 0 where
+  pub each : All (λ item. (place : ℕ) × Of place item.offset × EndsAtPlace x item place) items
+  pub whole : (item : Candidate) (place : ℕ) → Of place item.offset → EndsAtPlace x item place → Contains items item
+  pub apart : AllPairs (λ item later. standing item ≢ standing later) items
+
+-- what was found is followed by these items
+pub record AddsWhere (Of : ℕ → ℕ → Type 0) (x : List ℤ) (before after : List Candidate) : Type 0 where
+  pub heard : List Candidate
+  pub found : after ≡ before ++ heard
+  pub are : AreAddedWhere Of x heard
+
+-- at one place by one lane
+abbrev pub AddsAt : ℕ → ℕ → List ℤ → List Candidate → List Candidate → Type 0
+AddsAt place lane x before after = AddsWhere (λ p l. (p ≡ place) × (l ≡ lane)) x before after
+
+-- at one place by the lanes below one
+abbrev pub AddsBelow : ℕ → ℕ → List ℤ → List Candidate → List Candidate → Type 0
+AddsBelow place lane x before after = AddsWhere (λ p l. (p ≡ place) × (l < lane)) x before after
+
+-- at the places from one to below another
+abbrev pub AddsBetween : ℕ → ℕ → List ℤ → List Candidate → List Candidate → Type 0
+AddsBetween from to x before after = AddsWhere (λ p l. (from ≤ p) × (p < to)) x before after
+
+-- all items of the places from one to below another
+abbrev pub AreAddedBetween : ℕ → ℕ → List ℤ → List Candidate → Type 0
+AreAddedBetween from to x items = AreAddedWhere (λ p l. (from ≤ p) × (p < to)) x items

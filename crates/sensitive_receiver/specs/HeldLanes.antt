@@ -1,0 +1,60 @@
+-- What the added lanes keep of samples, and what that stands for.
+use Rattle.std.specs.Prelude.{◌≡◌, ℕ, ◌+◌, ◌<◌, ℤ, List, length, slice_index_or}
+use Rattle.tone_table.specs.declared.tone.Tone.{Tone}
+use Rattle.nrzi_bits.specs.Line.{bits_of, last_tone}
+use Rattle.hdlc_framer.specs.Held.{Held as HeldDeframer, StandsFor as DeframerStandsFor}
+use Rattle.tone_tracking.specs.declared.bit_clock.Pull.{Pull}
+use Rattle.tone_tracking.specs.declared.bit_clock.Pull.TheVariants.{Slow, Fast}
+use Rattle.tone_tracking.specs.declared.reach.Reach.TheVariants.{Near, Far}
+use Rattle.tone_tracking.specs.Clock.{Clock, clock_after}
+use Rattle.tone_tracking.specs.Heard.{heard, places_in}
+use Rattle.tone_tracking.specs.HeldLists.{HeldLists, HasTaken as ListsHaveTaken}
+use Rattle.sensitive_receiver.specs.declared.readings.Readings.{Readings}
+use Rattle.sensitive_receiver.specs.Lanes.{lane_tones, readings_at}
+
+-- the tone read last, and the deframer of the bits
+pub record HeldLane : Type 0 where
+  pub before : Tone
+  pub deframer : HeldDeframer
+
+-- the lane has read these tones
+pub record LaneStandsFor (held : HeldLane) (tones : List Tone) : Type 0 where
+  pub before : held.before ≡ last_tone tones
+  pub deframer : DeframerStandsFor held.deframer (bits_of tones)
+
+-- how many samples were taken, the lists of tones, the clocks on them, and the lanes from lane 8 on
+pub record HeldBank : Type 0 where
+  pub position : ℕ
+  pub lists : HeldLists
+  pub slow_near : Pull × Clock
+  pub slow_far : Pull × Clock
+  pub fast_near : Pull × Clock
+  pub lanes : List HeldLane
+
+-- the clocks have taken the tones of so many places of the samples
+pub record ClocksHaveTaken (first second third : Clock) (count : ℕ) (x : List ℤ) : Type 0 where
+  pub slow_near : first ≡ clock_after Slow (heard Near x) count
+  pub slow_far : second ≡ clock_after Slow (heard Far x) count
+  pub fast_near : third ≡ clock_after Fast (heard Near x) count
+
+-- each lane has read the tones of so many places of the samples
+abbrev pub LanesHaveRead : List HeldLane → ℕ → List ℤ → Type 0
+LanesHaveRead lanes count x = (k : ℕ) (d : HeldLane) → k < 15 → LaneStandsFor (slice_index_or lanes k d) (lane_tones x (8 + k) count)
+
+-- the place of the readings is the last one that is decided of the samples that the lists have taken
+pub record IsLastPlace (lists : HeldLists) (told : Readings) (x : List ℤ) : Type 0 where
+  pub taken : ListsHaveTaken lists x
+  pub last : places_in lists.count ≡ told.place + 1
+  pub readings : told ≡ readings_at x told.place
+
+-- the bank has taken so many of these samples as it has counted
+pub record HasTaken (held : HeldBank) (x : List ℤ) : Type 0 where
+  pub lists : ListsHaveTaken held.lists x
+  pub count : held.lists.count ≡ held.position
+  pub clocks : ClocksHaveTaken held.slow_near.1 held.slow_far.1 held.fast_near.1 (places_in held.position) x
+  pub lanes : LanesHaveRead held.lanes (places_in held.position) x
+
+-- the bank has taken these samples
+pub record StandsFor (held : HeldBank) (x : List ℤ) : Type 0 where
+  pub position : held.position ≡ length x
+  pub taken : HasTaken held x

@@ -1,0 +1,114 @@
+//! The fifteen lanes that are added to one for each offset of a bit.
+
+ghost use Rattle.std.specs.Prelude.{◌≡◌, ◌+◌, ◌<◌, ◌^◌, ℤ, pos, List, [], ◌++◌, length, IfOk, OnOk, slice_index_or};
+ghost use Rattle.std.specs.List.{All};
+ghost use Rattle.tone_tracking.specs.Heard.{places_in};
+ghost use Rattle.sensitive_receiver.specs.Found.{AddsBetween, AreAddedBetween, CanBePut};
+ghost use Rattle.sensitive_receiver.specs.HeldLanes.{HasTaken, LanesHaveRead, StandsFor};
+
+use crate::added_lane::AddedLane;
+use crate::hearing::hear_place;
+use crate::readings::{FIRST, LANES, Readings};
+use frame_merge::Candidate;
+use std::alloc::Global;
+use std::marker::Model;
+use tnc_base::OutOfMemory;
+use tone_tracking::{BitClock, Pull, Reach, ToneLists};
+
+/// Two lists of tones decided in phase, the clocks that follow them, and the lanes that read them. After want of memory
+/// nothing is said of what it gives.
+#[derive(Drop)]
+pub struct AddedBank {
+    alloc: Global,
+    position: u64,
+    lists: ToneLists,
+    slow_near: BitClock,
+    slow_far: BitClock,
+    fast_near: BitClock,
+    lanes: Vec<AddedLane>,
+}
+
+impl Model for AddedBank {
+    ghost use Rattle.std.specs.Prelude.{◌≡◌, length};
+    ghost use Rattle.tone_tracking.specs.declared.bit_clock.Pull.TheVariants.{Slow, Fast};
+    ghost use Rattle.sensitive_receiver.specs.HeldLanes.{HeldBank};
+
+    ghost Value = { HeldBank };
+
+    ghost view = { λ s. record { position = s.position; lists = s.lists; slow_near = s.slow_near; slow_far = s.slow_far; fast_near = s.fast_near; lanes = s.lanes.items } };
+
+    ghost invariant = { λ s. (length s.lanes.items ≡ 15) × (s.lists.count ≡ s.position) × (s.slow_near.0 ≡ Slow) × (s.slow_far.0 ≡ Slow) × (s.fast_near.0 ≡ Fast) };
+}
+
+impl AddedBank {
+    /// Lanes that have taken nothing.
+    pub fn new(alloc: Global) -> Result<AddedBank, OutOfMemory>
+        ensures stands_for { IfOk result (λ bank. StandsFor bank []) }
+        ensures position { IfOk result (λ bank. bank.position ≡ 0) }
+    {
+        Ok(AddedBank {
+            alloc,
+            position: 0,
+            lists: ToneLists::new(),
+            slow_near: BitClock::new(Pull::Slow),
+            slow_far: BitClock::new(Pull::Slow),
+            fast_near: BitClock::new(Pull::Fast),
+            lanes: new_lanes(alloc)?,
+        })
+    }
+
+    /// Takes a block of samples, and gives the candidates of the places that it decides, place by place.
+    pub fn feed(&mut self, block: &[i16]) -> Result<Vec<Candidate>, OutOfMemory>
+        requires { self.old.position + length block.now < 2 ^ 48 }
+        ensures found { IfOk result (λ found. (x : List ℤ) → StandsFor self.old x
+            → StandsFor self.new (x ++ block.now)
+            × AreAddedBetween (places_in (length x)) (places_in (length (x ++ block.now))) (x ++ block.now) found.items) }
+        ensures bounds { IfOk result (λ found. All CanBePut found.items) }
+        ensures position { OnOk result (self.new.position ≡ self.old.position + length block.now) }
+    {
+        let mut found = Vec::new(self.alloc);
+        for sample in block {
+            self.take(*sample, &mut found)?;
+        }
+        Ok(found)
+    }
+
+    /// Takes a sample, and adds to `found` the candidates of the place that it decides.
+    fn take(&mut self, sample: i16, found: &mut Vec<Candidate>) -> Result<(), OutOfMemory>
+        requires { self.old.position < 2 ^ 48 }
+        ensures has_taken { OnOk result ((x : List ℤ) → HasTaken self.old x → self.old.position < length x
+            → sample ≡ slice_index_or x self.old.position (pos 0) → HasTaken self.new x) }
+        ensures found { OnOk result ((x : List ℤ) → HasTaken self.old x → self.old.position < length x
+            → sample ≡ slice_index_or x self.old.position (pos 0)
+            → AddsBetween (places_in self.old.position) (places_in (self.old.position + 1)) x found.old.items found.new.items) }
+        ensures bounds { OnOk result (All CanBePut found.old.items → All CanBePut found.new.items) }
+        ensures position { self.new.position ≡ self.old.position + 1 }
+    {
+        let decided = self.lists.push(sample);
+        self.position += 1;
+        if !decided {
+            return Ok(());
+        }
+        let near = self.lists.tone_before(Reach::Near, 0);
+        let far = self.lists.tone_before(Reach::Far, 0);
+        let readings = Readings {
+            place: self.position - 24,
+            slow_near: self.slow_near.step(near),
+            slow_far: self.slow_far.step(far),
+            fast_near: self.fast_near.step(near),
+        };
+        hear_place(self.alloc, &self.lists, &mut self.lanes, &readings, found)
+    }
+}
+
+/// The lanes from lane 8 on, which have taken nothing.
+fn new_lanes(alloc: Global) -> Result<Vec<AddedLane>, OutOfMemory>
+    ensures count { IfOk result (λ lanes. length lanes.items ≡ 15) }
+    ensures read { IfOk result (λ lanes. (x : List ℤ) → LanesHaveRead lanes.items 0 x) }
+{
+    let mut lanes = Vec::new(alloc);
+    for _ in 0..LANES - FIRST {
+        lanes.push(AddedLane::new())?;
+    }
+    Ok(lanes)
+}

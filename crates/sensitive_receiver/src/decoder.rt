@@ -1,0 +1,179 @@
+//! The decoder: samples in blocks in, each frame that some of the 23 lanes hears in them once and in order out.
+
+ghost use Rattle.std.specs.Prelude.{◌≡◌, ◌+◌, ◌<◌, ◌≤◌, ◌^◌, ℤ, List, [], ◌++◌, length, replicate, true, false, IfOk, OnOk, OnErr, IsErr};
+ghost use Rattle.std.specs.List.{All};
+ghost use Rattle.slicer_bank.specs.Candidates.{AreCandidatesBehind};
+ghost use Rattle.slicer_bank.specs.Held.{HeldBank, StandsFor as BankStandsFor};
+ghost use Rattle.slicer_bank.specs.Merging.{CanBePut as CanBePutOfEight};
+ghost use Rattle.sensitive_receiver.specs.HeldDecoder.{HaveTaken, StandsFor};
+ghost use Rattle.sensitive_receiver.specs.MergedItems.{AreMergedBetween, settled};
+
+use crate::added_bank::AddedBank;
+use crate::merging::merge_block;
+use crate::readings::LANES;
+use frame_merge::{Candidate, Merger};
+use slicer_bank::{Bank, Gate};
+use std::alloc::Global;
+use std::marker::Model;
+use std::thread::Threads;
+use tnc_base::OutOfMemory;
+
+/// The eight lanes of a [`Bank`], those of an [`AddedBank`], and a [`Merger`]: `new`, then `block` for each block of
+/// samples, then `finish`. After want of memory it is spent: no later call gives items.
+#[derive(Drop)]
+pub struct SensitiveDecoder {
+    alloc: Global,
+    bank: Bank,
+    added: AddedBank,
+    merger: Merger,
+    position: u64,
+    finished: bool,
+    spent: bool,
+}
+
+impl Model for SensitiveDecoder {
+    ghost use Rattle.std.specs.Prelude.{◌≡◌, false, replicate};
+    ghost use Rattle.sensitive_receiver.specs.HeldDecoder.{HeldDecoder};
+    ghost use Rattle.sensitive_receiver.specs.MergedItems.{settled};
+
+    ghost Value = { HeldDecoder };
+
+    ghost view = { λ s. record { bank = s.bank; added = s.added; merger = s.merger; position = s.position; finished = s.finished; spent = s.spent } };
+
+    ghost invariant = { λ s. s.spent ≡ false → s.finished ≡ false → (s.bank.position ≡ s.position) × (s.added.position ≡ s.position) × (s.merger.marks ≡ replicate 23 (settled s.position)) };
+}
+
+impl SensitiveDecoder {
+    /// A decoder that has taken nothing.
+    pub fn new(alloc: Global) -> Result<SensitiveDecoder, OutOfMemory>
+        ensures stands_for { IfOk result (λ decoder. StandsFor decoder []) }
+        ensures position { IfOk result (λ decoder. decoder.position ≡ 0) }
+        ensures unfinished { IfOk result (λ decoder. decoder.finished ≡ false) }
+    {
+        Ok(SensitiveDecoder {
+            alloc,
+            bank: Bank::new(alloc)?,
+            added: AddedBank::new(alloc)?,
+            merger: Merger::new(alloc, LANES)?,
+            position: 0,
+            finished: false,
+            spent: false,
+        })
+    }
+
+    /// Takes a block of samples, and gives the items not given before that end more than 17 samples before the last one so
+    /// far.
+    pub fn block(&mut self, block: &[i16]) -> Result<Vec<Candidate>, OutOfMemory>
+        requires few { length block.now ≤ 2048 }
+        requires room { self.old.position + length block.now < 2 ^ 48 }
+        requires unfinished { self.old.finished ≡ false }
+        ensures given { IfOk result (λ items. (x : List ℤ) → StandsFor self.old x
+            → StandsFor self.new (x ++ block.now)
+            × AreMergedBetween (settled (length x)) (settled (length (x ++ block.now))) (x ++ block.now) items.items) }
+        ensures position { OnOk result (self.new.position ≡ self.old.position + length block.now) }
+        ensures stays { OnErr result (self.new.position ≡ self.old.position) }
+        ensures unfinished { self.new.finished ≡ false }
+        ensures fails { self.old.spent ≡ true → IsErr result }
+        ensures spent { OnErr result (self.new.spent ≡ true) }
+    {
+        if self.spent {
+            return Err(OutOfMemory);
+        }
+        self.spent = true;
+        let found = self.bank.feed(block)?;
+        self.settle(found, block)
+    }
+
+    /// Does what [`SensitiveDecoder::block`] does, with the eight lanes on two threads, as [`Bank::feed_threads`] has them.
+    pub fn block_threads<R: Threads + Sync, G: Gate>(
+        &mut self,
+        rt: &R,
+        block: &[i16],
+        gate: &G,
+    ) -> Result<Vec<Candidate>, OutOfMemory>
+        requires few { length block.now ≤ 2048 }
+        requires room { self.old.position + length block.now < 2 ^ 48 }
+        requires unfinished { self.old.finished ≡ false }
+        ensures given { IfOk result (λ items. (x : List ℤ) → StandsFor self.old x
+            → StandsFor self.new (x ++ block.now)
+            × AreMergedBetween (settled (length x)) (settled (length (x ++ block.now))) (x ++ block.now) items.items) }
+        ensures position { OnOk result (self.new.position ≡ self.old.position + length block.now) }
+        ensures stays { OnErr result (self.new.position ≡ self.old.position) }
+        ensures unfinished { self.new.finished ≡ false }
+        ensures fails { self.old.spent ≡ true → IsErr result }
+        ensures spent { OnErr result (self.new.spent ≡ true) }
+    {
+        if self.spent {
+            return Err(OutOfMemory);
+        }
+        self.spent = true;
+        let found = self.bank.feed_threads(rt, block, gate)?;
+        self.settle(found, block)
+    }
+
+    /// Has the added lanes hear a block in which the eight lanes found these candidates, and gives the items that it
+    /// settles. The decoder is spent until then.
+    fn settle(
+        &mut self,
+        found: Vec<Candidate>,
+        block: &[i16],
+    ) -> Result<Vec<Candidate>, OutOfMemory>
+        requires room { self.old.position + length block.now < 2 ^ 48 }
+        requires items { All CanBePutOfEight found.items }
+        requires spent { self.old.spent ≡ true }
+        requires marks { self.old.merger.marks ≡ replicate 23 (settled self.old.position) }
+        requires bank { self.old.bank.position ≡ self.old.position + length block.now }
+        requires added { self.old.added.position ≡ self.old.position }
+        ensures given { IfOk result (λ items. (before : HeldBank) (x : List ℤ) → self.old.finished ≡ false
+            → length x ≡ self.old.position
+            → (BankStandsFor before x → BankStandsFor self.old.bank (x ++ block.now) × AreCandidatesBehind (length x) (x ++ block.now) found.items)
+            → HaveTaken before self.old.added self.old.merger x
+            → StandsFor self.new (x ++ block.now)
+            × AreMergedBetween (settled (length x)) (settled (length (x ++ block.now))) (x ++ block.now) items.items) }
+        ensures position { OnOk result (self.new.position ≡ self.old.position + length block.now) }
+        ensures stays { OnErr result (self.new.position ≡ self.old.position) }
+        ensures finished { self.new.finished ≡ self.old.finished }
+        ensures spent { OnErr result (self.new.spent ≡ true) }
+    {
+        let added = self.added.feed(block)?;
+        let items = merge_block(&mut self.merger, self.position, block.len(), found, added)?;
+        self.position += block.len() as u64;
+        self.spent = false;
+        Ok(items)
+    }
+
+    /// Gives the rest of the items: the samples have ended.
+    pub fn finish(&mut self) -> Result<Vec<Candidate>, OutOfMemory>
+        ensures rest { IfOk result (λ items. (x : List ℤ) → length x < 2 ^ 48 → StandsFor self.old x
+            → AreMergedBetween (settled (length x)) (length x + 1) x items.items) }
+        ensures again { IfOk result (λ items. self.old.finished ≡ true → items.items ≡ []) }
+        ensures finished { OnOk result (self.new.finished ≡ true) }
+        ensures nothing_held { OnOk result ((x : List ℤ) → length x < 2 ^ 48 → StandsFor self.old x → length self.new.merger.items ≡ 0) }
+        ensures fails { self.old.spent ≡ true → IsErr result }
+        ensures spent { OnErr result (self.new.spent ≡ true) }
+    {
+        if self.spent {
+            return Err(OutOfMemory);
+        }
+        if self.finished {
+            return Ok(Vec::new(self.alloc));
+        }
+        self.finished = true;
+        self.merger.finish();
+        match self.merger.take_ready() {
+            Ok(items) => Ok(items),
+            Err(refusal) => {
+                self.spent = true;
+                Err(refusal)
+            }
+        }
+    }
+
+    /// How many candidates it keeps: at most one of each lane.
+    pub fn held(&self) -> usize
+        ensures value { result ≡ length self.now.merger.items }
+        ensures few { (x : List ℤ) → StandsFor self.now x → result ≤ 23 }
+    {
+        self.merger.held()
+    }
+}

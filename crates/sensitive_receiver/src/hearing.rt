@@ -1,0 +1,109 @@
+//! What the added lanes hear when a place is decided.
+
+ghost use Rattle.std.specs.Prelude.{◌≡◌, ◌+◌, ◌<◌, ◌≤◌, ◌^◌, ℕ, ℤ, List, length, OnOk};
+ghost use Rattle.std.specs.List.{All};
+ghost use Rattle.tone_tracking.specs.Clock.{changes};
+ghost use Rattle.tone_tracking.specs.Heard.{places_in};
+ghost use Rattle.tone_tracking.specs.HeldLists.{HasTaken as ListsHaveTaken};
+ghost use Rattle.sensitive_receiver.specs.AddedCandidates.{is_in_time};
+ghost use Rattle.sensitive_receiver.specs.Found.{AddsAt, AddsBelow, CanBePut};
+ghost use Rattle.sensitive_receiver.specs.HeldLanes.{IsLastPlace, LaneStandsFor, LanesHaveRead};
+ghost use Rattle.sensitive_receiver.specs.Lanes.{lane_tones};
+
+use crate::added_lane::{AddedLane, has_path};
+use crate::readings::{FIRST, Readings, delay_of, list_of};
+use frame_merge::Candidate;
+use std::alloc::Global;
+use tnc_base::{Octets, OutOfMemory};
+use tone_table::Tone;
+use tone_tracking::ToneLists;
+
+/// Has each lane read its bit, if it reads one at the place that was decided last, and adds what they hear to `found`.
+pub(crate) fn hear_place(
+    alloc: Global,
+    lists: &ToneLists,
+    lanes: &mut [AddedLane],
+    readings: &Readings,
+    found: &mut Vec<Candidate>,
+) -> Result<(), OutOfMemory>
+    requires lanes { length lanes.old ≡ 15 }
+    requires room { lists.now.count < 2 ^ 49 }
+    requires place { readings.now.place < 2 ^ 48 }
+    ensures lanes { length lanes.new ≡ 15 }
+    ensures read { OnOk result ((x : List ℤ) → IsLastPlace lists.now readings.now x → LanesHaveRead lanes.old readings.now.place x
+        → LanesHaveRead lanes.new (readings.now.place + 1) x) }
+    ensures found { OnOk result ((x : List ℤ) → IsLastPlace lists.now readings.now x → LanesHaveRead lanes.old readings.now.place x
+        → AddsBelow readings.now.place 23 x found.old.items found.new.items) }
+    ensures bounds { OnOk result (All CanBePut found.old.items → All CanBePut found.new.items) }
+{
+    for index in 0..15u8 {
+        let lane = &mut lanes[usize::from(index)];
+        hear(alloc, lists, lane, FIRST + index, readings, found)?;
+    }
+    Ok(())
+}
+
+/// Has a lane read its bit, if it reads one at the place that was decided last, and adds the frame that ends with it.
+fn hear(
+    alloc: Global,
+    lists: &ToneLists,
+    lane: &mut AddedLane,
+    number: u8,
+    readings: &Readings,
+    found: &mut Vec<Candidate>,
+) -> Result<(), OutOfMemory>
+    requires number { (8 ≤ number) × (number < 23) }
+    requires room { lists.now.count < 2 ^ 49 }
+    requires place { readings.now.place < 2 ^ 48 }
+    ensures read { (x : List ℤ) → IsLastPlace lists.now readings.now x → LaneStandsFor lane.old (lane_tones x number readings.now.place)
+        → LaneStandsFor lane.new (lane_tones x number (readings.now.place + 1)) }
+    ensures found { OnOk result ((x : List ℤ) → IsLastPlace lists.now readings.now x
+        → LaneStandsFor lane.old (lane_tones x number readings.now.place)
+        → AddsAt readings.now.place number x found.old.items found.new.items) }
+    ensures bounds { OnOk result (All CanBePut found.old.items → All CanBePut found.new.items) }
+{
+    if !readings.are_for(number) {
+        return Ok(());
+    }
+    let tone = lists.tone_before(list_of(number), delay_of(number));
+    if !lane.push(tone) {
+        return Ok(());
+    }
+    if !ends_in_time(lists, number) {
+        return Ok(());
+    }
+    if !has_path(lane.octets()) {
+        return Ok(());
+    }
+    let octets = Octets::from_slice(alloc, lane.octets())?;
+    found.push(Candidate {
+        end: readings.place + 8 - u64::from(delay_of(number)),
+        offset: number,
+        octets,
+    })?;
+    Ok(())
+}
+
+/// Whether the bit that a lane reads is the last of a flag, also by the plain count of samples: the tones two bits and one
+/// bit before agree, and the tone of the bit is another.
+fn ends_in_time(lists: &ToneLists, number: u8) -> bool
+    requires room { lists.now.count < 2 ^ 49 }
+    ensures { (x : List ℤ) (place : ℕ) → ListsHaveTaken lists.now x → places_in lists.now.count ≡ place + 1
+        → result ≡ is_in_time x number place }
+{
+    let (list, delay) = (list_of(number), delay_of(number));
+    let tone = lists.tone_before(list, delay);
+    let one_before = lists.tone_before(list, delay + 8);
+    let two_before = lists.tone_before(list, delay + 16);
+    has_changed(one_before, tone) && !has_changed(two_before, one_before)
+}
+
+/// Whether two tones differ.
+fn has_changed(before: Tone, tone: Tone) -> bool
+    ensures { result ≡ changes before tone }
+{
+    match (before, tone) {
+        (Tone::Mark, Tone::Mark) | (Tone::Space, Tone::Space) => false,
+        (Tone::Mark, Tone::Space) | (Tone::Space, Tone::Mark) => true,
+    }
+}

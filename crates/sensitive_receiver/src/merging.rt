@@ -1,0 +1,65 @@
+//! From what the lanes heard in a block to the items that it settles.
+
+ghost use Rattle.std.specs.Prelude.{◌≡◌, ◌+◌, ◌<◌, ◌^◌, ℤ, List, ◌++◌, length, replicate, IfOk, OnOk};
+ghost use Rattle.std.specs.List.{All};
+ghost use Rattle.tone_tracking.specs.Heard.{places_in};
+ghost use Rattle.frame_merge.specs.declared.candidate.Candidate.{Candidate};
+ghost use Rattle.frame_merge.specs.Held.{StandsFor};
+ghost use Rattle.slicer_bank.specs.Candidates.{AreCandidatesBehind};
+ghost use Rattle.slicer_bank.specs.Held.{HeldBank, StandsFor as BankStandsFor};
+ghost use Rattle.slicer_bank.specs.Merging.{CanBePut as CanBePutOfEight};
+ghost use Rattle.sensitive_receiver.specs.Found.{AreAddedBetween, CanBePut};
+ghost use Rattle.sensitive_receiver.specs.HeldDecoder.{HaveTaken};
+ghost use Rattle.sensitive_receiver.specs.HeldLanes.{HeldBank as HeldAdded, StandsFor as AddedStandsFor};
+ghost use Rattle.sensitive_receiver.specs.MergedItems.{AreMergedBetween, settled};
+
+use frame_merge::{Candidate, Merger};
+use tnc_base::OutOfMemory;
+
+/// How far behind the last sample the added lanes hear: no candidate to come ends lower.
+const BEHIND: u64 = 17;
+
+/// Gives what the eight lanes and the added ones heard in a block of `count` samples to a merger of all of them, which had
+/// taken `position` samples. Tells the items that the block settles.
+pub(crate) fn merge_block(
+    merger: &mut Merger,
+    position: u64,
+    count: usize,
+    found: Vec<Candidate>,
+    added: Vec<Candidate>,
+) -> Result<Vec<Candidate>, OutOfMemory>
+    requires room { position + count < 2 ^ 48 }
+    requires found { All CanBePutOfEight found.items }
+    requires added { All CanBePut added.items }
+    requires marks { merger.old.marks ≡ replicate 23 (settled position) }
+    ensures given { IfOk result (λ ready. (old new : HeldBank) (before after : HeldAdded) (x y : List ℤ) → length x ≡ position → length y ≡ count
+        → (BankStandsFor old x → BankStandsFor new (x ++ y) × AreCandidatesBehind (length x) (x ++ y) found.items)
+        → (AddedStandsFor before x → AddedStandsFor after (x ++ y)
+        × AreAddedBetween (places_in (length x)) (places_in (length (x ++ y))) (x ++ y) added.items)
+        → HaveTaken old before merger.old x
+        → HaveTaken new after merger.new (x ++ y)
+        × AreMergedBetween (settled (length x)) (settled (length (x ++ y))) (x ++ y) ready.items) }
+    ensures marks { OnOk result (merger.new.marks ≡ replicate 23 (settled (position + count))) }
+{
+    put_all(merger, found)?;
+    put_all(merger, added)?;
+    merger.mark_all((position + count as u64).saturating_sub(BEHIND));
+    let ready = merger.take_ready()?;
+    Ok(ready)
+}
+
+/// Puts candidates into a merger of 23 lanes, in their order. None of them ends below the mark of its lane.
+fn put_all(merger: &mut Merger, items: Vec<Candidate>) -> Result<(), OutOfMemory>
+    requires marks { length merger.old.marks ≡ 23 }
+    requires items { All CanBePut items.items }
+    ensures stands_for { OnOk result ((puts given : List Candidate) → StandsFor merger.old puts given → StandsFor merger.new (puts ++ items.items) given) }
+    ensures marks { merger.new.marks ≡ merger.old.marks }
+{
+    for item in items {
+        // No item is late, so want of memory is the one refusal.
+        let Ok(()) = merger.put(item) else {
+            return Err(OutOfMemory);
+        };
+    }
+    Ok(())
+}
