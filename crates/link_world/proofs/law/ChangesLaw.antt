@@ -18,21 +18,21 @@ use Rattle.link_world.specs.Windows.{WindowsFit}
 use Rattle.link_world.specs.World.{Side, World, seen_from, end_of, new_world, near_step, near_turn, staying, run}
 use Rattle.link_world.specs.Changes.{Change, kept, made_in, near_made, near_kept, changed, run_changes, is_quiet_change, AreQuiet, hears_valid_in, ChangesAreValid, ChangesLaw}
 use Rattle.link_world.specs.Changes.Change.{Makes, Happens, Keeps}
-use Rattle.link_world.proofs.law.Core.{End, SetUp as CoreSetUp, Tagged as CoreTagged, Kind, between}
-use Rattle.link_world.proofs.law.Core.Kind.{Sabm, Disc, Ua, Dm, IsNumbered}
-use Rattle.link_world.proofs.law.Core.Standing.{Idle}
-use Rattle.link_world.proofs.law.CoreMoves.{now}
-use Rattle.link_world.proofs.law.CoreOf.{end_behind}
+use Rattle.link_world.proofs.law.reduced.Core.{End, SetUp as CoreSetUp, Tagged as CoreTagged, Kind, between}
+use Rattle.link_world.proofs.law.reduced.Core.Kind.{Sabm, Disc, Ua, Dm, IsNumbered}
+use Rattle.link_world.proofs.law.reduced.Core.Standing.{Idle}
+use Rattle.link_world.proofs.law.reduced.CoreMoves.{now}
+use Rattle.link_world.proofs.law.reduced.CoreOf.{end_behind}
 use Rattle.link_world.proofs.law.Each.{each_weaker, each_removed}
-use Rattle.link_world.proofs.law.Invariant.{Invariant, CallsIn}
-use Rattle.link_world.proofs.law.Losing.{lose_keeps}
-use Rattle.link_world.proofs.law.PlacesFit.{sound_new}
-use Rattle.link_world.proofs.law.Shown.{core_set_ups, core_flight, core_tagged, Shown, IsWritten}
-use Rattle.link_world.proofs.law.Shown.Shown.{ShownIdle, ShownCalling, ShownUp, ShownReleasing}
-use Rattle.link_world.proofs.law.WorldSteps.{ShowsWorld, shows_mirror}
-use Rattle.link_world.proofs.law.Runs.{near_shows, new_shows, step_shows, fit_mirror}
-use Rattle.link_world.proofs.law.Conclusion.{near_got}
-use Rattle.link_world.proofs.law.WorldLaw.{ActedWorld, acted_mirror, near_acted, step_acted, step_valid, in_order}
+use Rattle.link_world.proofs.law.invariant.Invariant.{Invariant, CallsIn}
+use Rattle.link_world.proofs.law.moves.Losing.{lose_keeps}
+use Rattle.link_world.proofs.law.showing.PlacesFit.{sound_new}
+use Rattle.link_world.proofs.law.showing.Shown.{core_set_ups, core_flight, core_tagged, Shown, IsWritten}
+use Rattle.link_world.proofs.law.showing.Shown.Shown.{ShownIdle, ShownCalling, ShownUp, ShownReleasing}
+use Rattle.link_world.proofs.law.runs.WorldSteps.{ShowsWorld, shows_mirror}
+use Rattle.link_world.proofs.law.runs.Runs.{near_shows, new_shows, step_shows, fit_mirror}
+use Rattle.link_world.proofs.law.runs.Conclusion.{near_got}
+use Rattle.link_world.proofs.law.runs.WorldLaw.{ActedWorld, acted_mirror, near_acted, step_acted, step_valid, in_order}
 
 -- ---- an idle end with a new link
 

@@ -1,0 +1,6 @@
+pub mod Called
+pub mod Calls
+pub mod IdleEvents
+pub mod Ticks
+pub mod CallingEvents
+pub mod ReleasingEvents

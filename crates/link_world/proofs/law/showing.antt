@@ -1,0 +1,5 @@
+pub mod PlacesStored
+pub mod PlacesFit
+pub mod Shown
+pub mod Outcomes
+pub mod Readings
