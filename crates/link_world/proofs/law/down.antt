@@ -4,3 +4,4 @@ pub mod IdleEvents
 pub mod Ticks
 pub mod CallingEvents
 pub mod ReleasingEvents
+pub mod Ends

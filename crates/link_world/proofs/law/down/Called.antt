@@ -19,7 +19,7 @@ use Rattle.link_world.proofs.law.reduced.Core.{End, SetUp as CoreSetUp, Tagged a
 use Rattle.link_world.proofs.law.reduced.Core.Kind.{Sabm, Ua}
 use Rattle.link_world.proofs.law.reduced.Core.Standing.{Up}
 use Rattle.link_world.proofs.law.reduced.CoreMoves.{now, opened, called, in_modulus, of_end, setup_to}
-use Rattle.link_world.proofs.law.reduced.CoreOf.{stored_from, running_of, end_behind, up_end}
+use Rattle.link_world.proofs.law.reduced.CoreOf.{stored_from, end_behind, up_end}
 use Rattle.link_world.specs.SetUps.{SetUp, opened as opened_set_up}
 use Rattle.link_world.specs.Recorded.{RecordedEnd, Happening, told_of, opening, mate_of, noting, hears_ask, tagged}
 use Rattle.link_world.specs.Flight.{Tagged}
@@ -30,9 +30,9 @@ use Rattle.link_world.proofs.law.moves.Opening.{open_called_keeps, no_call_of_up
 use Rattle.link_world.proofs.law.invariant.Invariant.{Invariant}
 use Rattle.link_world.proofs.law.showing.Shown.{core_set_up, core_set_ups, core_flight, flight_of_up}
 use Rattle.link_world.proofs.law.showing.Shown.Shown.{ShownUp}
-use Rattle.link_world.proofs.law.up.Settling.{Outcome, end_with, all_of_last, length_of_last}
-use Rattle.link_world.proofs.law.showing.Outcomes.{outcome_behind, setup_written}
-use Rattle.link_world.proofs.law.up.Events.{Keeps, UpEnd}
+use Rattle.link_world.proofs.law.showing.Outcome.{Outcome, Keeps, end_with, outcome_behind}
+use Rattle.link_world.proofs.law.up.Settling.{all_of_last, length_of_last}
+use Rattle.link_world.proofs.law.up.Events.{UpEnd}
 
 take_none : (n : ℕ) → ◌≡◌ {A = List Packet} (take n []) []
 take_none zero = refl
@@ -52,14 +52,13 @@ called_end m qs mate modulus = called mate modulus (end_behind m (core_set_ups q
 
 -- a SABM or SABME opens a set-up, behind what was told of the one before
 pub open_called_outcome :
-    (h : Happening) (r : RecordedEnd) (y : End) (rest to_y : List CoreTagged) (told : List Told) (modulus : ℕ)
-    (flag : Bool)
-    → hears_ask h ≡ true → noting h r ≡ r → r.waiting ≡ [] → IsSound r.machine.params r.machine.incoming
+    {h : Happening} {r : RecordedEnd} {y : End} {rest to_y : List CoreTagged} (told : List Told) (modulus : ℕ)
+    (flag : Bool) → hears_ask h ≡ true → noting h r ≡ r → r.waiting ≡ [] → IsSound r.machine.params r.machine.incoming
     → IsModulus modulus → fold (told_of (opened_set_up (mate_of h) modulus [])) r.set_ups told ≡ r.set_ups
     → Invariant (between (called_end r.machine r.set_ups (mate_of h) modulus) y rest
     (to_y ++ of_end (called_end r.machine r.set_ups (mate_of h) modulus) Ua ∷ []))
     → Keeps h r y rest to_y (settled (open_called modulus flag (record (begin r.machine) { told = told })))
-open_called_outcome h r y rest to_y told modulus flag asks noted waiting sound is before inv =
+open_called_outcome {h} {r} {y} {rest} {to_y} told modulus flag asks noted waiting sound is before inv =
     subst (Keeps h r y rest to_y) (sym (nothing_settles turn window)) outcome
   where
     turn : Turn
@@ -97,35 +96,32 @@ open_called_outcome h r y rest to_y told modulus flag asks noted waiting sound i
     frames = flight_of_up true e (length (core_set_ups r.set_ups)) (ua ∷ []) refl (length_of_last r.set_ups new)
 
     outcome : Keeps h r y rest to_y turn
-    outcome alone = outcome_behind h r y rest to_y (hears_ask h) r.machine.params turn all [] set_ups_are refl
-        (subst (λ b. Outcome y rest to_y b r.machine.params e turn.sent) (sym asks) (record {
-          end_is = up_end turn.now (core_set_ups r.set_ups) (core_set_up new);
-          shown = ShownUp r.set_ups new refl refl refl;
-          params = refl;
-          sound = sound_new r.machine.params modulus is sound.room;
-          holds = subst (λ fs. Invariant (between (up_end turn.now (core_set_ups r.set_ups) (core_set_up new)) y rest
-              (to_y ++ fs))) (sym frames)
-              (subst (λ ss. Invariant (between
-              (now (Up (record (opened (mate_of h) modulus []) { stored = ss }))
-              (in_modulus modulus (end_behind r.machine (core_set_ups r.set_ups)))) y rest
-              (to_y ++ of_end z Ua ∷ []))) stored inv);
-          written = setup_written true e modulus UaFrame flag refl;
-        }))
+    outcome = record {
+      outcome = λ alone. outcome_behind h r turn set_ups_are refl
+          (subst (λ b. Outcome y rest to_y b r.machine.params e turn.sent) (sym asks) (record {
+            end_is = up_end turn.now (core_set_ups r.set_ups) (core_set_up new);
+            shown = ShownUp r.set_ups new refl refl refl;
+            params = refl;
+            sound = sound_new modulus is sound.room;
+            holds = subst (λ fs. Invariant (between (up_end turn.now (core_set_ups r.set_ups) (core_set_up new)) y rest
+                (to_y ++ fs))) (sym frames)
+                (subst (λ ss. Invariant (between
+                (now (Up (record (opened (mate_of h) modulus []) { stored = ss }))
+                (in_modulus modulus (end_behind r.machine (core_set_ups r.set_ups)))) y rest
+                (to_y ++ of_end z Ua ∷ []))) stored inv);
+            written = (record { kind = refl; answers = refl }, tt);
+          }));
+    }
 
 -- an end that is up hears a SABM or SABME
 pub up_hears_call :
-    (r : RecordedEnd) (ended : List SetUp) (last : SetUp) (f : Tagged) (modulus : ℕ) (flag : Bool) (y : End)
-    (rest to_y : List CoreTagged) → UpEnd r ended last → hears_ask (Hears f) ≡ true → noting (Hears f) r ≡ r
-    → IsModulus modulus
-    → Invariant (between (up_end r.machine (core_set_ups ended) (core_set_up last)) y
-    (setup_to f.set_up (Sabm modulus) ∷ rest) to_y)
+    {r : RecordedEnd} {ended : List SetUp} {last : SetUp} {f : Tagged} {modulus : ℕ} (flag : Bool) {y : End}
+    {rest to_y : List CoreTagged} → UpEnd r ended last y (setup_to f.set_up (Sabm modulus) ∷ rest) to_y
+    → hears_ask (Hears f) ≡ true → noting (Hears f) r ≡ r → IsModulus modulus
     → Keeps (Hears f) r y rest to_y (settled (open_again modulus flag (begin r.machine)))
-up_hears_call r ended last f modulus flag y rest to_y u asks noted is h =
-    let x = up_end r.machine (core_set_ups ended) (core_set_up last) in
+up_hears_call {r} {ended} {last} {f} {modulus} flag {y} {rest} {to_y} u asks noted is =
     let P : List CoreSetUp → Type 0 = λ qs. let z = called f.set_up modulus (end_behind r.machine qs) in
     Invariant (between z y rest (to_y ++ of_end z Ua ∷ [])) in
-    open_called_outcome (Hears f) r y rest to_y (Ended Reset ∷ []) modulus flag asks noted u.waiting u.sound is refl
-    (subst P (sym (ap core_set_ups u.set_ups ∙ all_of_last ended last))
-    (open_called_keeps x y f.set_up modulus rest to_y
-    (no_call_of_up (end_behind r.machine (core_set_ups ended)) y (running_of r.machine (core_set_up last))
-    (setup_to f.set_up (Sabm modulus) ∷ rest) to_y h) h))
+    open_called_outcome (Ended Reset ∷ []) modulus flag asks noted u.waiting u.sound is refl
+    (subst P (sym (ap core_set_ups u.set_ups ∙ all_of_last ended last)) (open_called_keeps
+    (no_call_of_up (end_behind r.machine (core_set_ups ended)) u.holds) u.holds))

@@ -1,5 +1,5 @@
 -- A call in a modulus: SABM in 8, SABME in 128.
-use Rattle.std.proofs.Common.{◌≡◌, ℕ, ◌+◌, Bool, true, false, ◌==◌, if◌then◌else◌, List, [], ◌∷◌, inl, inr, refl, sym, ap, subst, arith}
+use Rattle.std.proofs.Common.{◌≡◌, ℕ, ◌+◌, Bool, true, false, ◌==◌, if◌then◌else◌, List, [], ◌∷◌, inl, inr, refl, sym, ap, subst, arith, ◌∙◌, length}
 use Rattle.link_machine.specs.declared.params.Params.{Params}
 use Rattle.link_machine.specs.Params.{called_modulus}
 use Rattle.link_machine.specs.Sent.{SentIn, sent_in}
@@ -10,8 +10,10 @@ use Rattle.link_world.proofs.law.reduced.Core.Kind.{Sabm}
 use Rattle.link_world.proofs.law.reduced.CoreMoves.{asks, answers, ask_of}
 use Rattle.link_world.proofs.law.reduced.CoreOf.{setup_of}
 use Rattle.link_world.proofs.law.showing.PlacesFit.{IsModulus}
-use Rattle.link_world.proofs.law.showing.Shown.{AnswersAsSent}
-use Rattle.link_world.proofs.law.up.Settling.{IsAlone}
+use Rattle.link_world.proofs.law.showing.Shown.{AnswersAsSent, core_set_ups}
+use Rattle.link_world.specs.Recorded.{RecordedEnd}
+use Rattle.link_world.proofs.law.showing.Outcome.{IsAlone, IsSentAs}
+use Rattle.link_world.proofs.law.down.Ends.{IsDown, setup_sent}
 
 -- a link's call, in the modulus that it has
 abbrev pub call_in : ℕ → SentIn
@@ -19,8 +21,8 @@ call_in modulus = sent_in modulus (SetupSent (calling_frame (modulus == 128)) tr
 
 -- its frame says the modulus
 pub call_kind : (modulus : ℕ) → IsModulus modulus → setup_of false (calling_frame (modulus == 128)) ≡ Sabm modulus
-call_kind modulus (inl is) = subst (λ m. setup_of false (calling_frame (m == 128)) ≡ Sabm m) (sym is) refl
-call_kind modulus (inr is) = subst (λ m. setup_of false (calling_frame (m == 128)) ≡ Sabm m) (sym is) refl
+call_kind modulus (inl is) = rw is refl
+call_kind modulus (inr is) = rw is refl
 
 pub call_answers : (wide : Bool) → AnswersAsSent false (SetupSent (calling_frame wide) true)
 call_answers true = refl
@@ -55,3 +57,17 @@ pub narrow_is : (modulus : ℕ) → IsModulus modulus → (modulus == 128) ≡ f
 narrow_is modulus (inl is) narrow = is
 narrow_is modulus (inr is) narrow =
     absurd (Rattle.std.proofs.lemmas.Bool.false≢true (sym (subst (λ m. (m == 128) ≡ false) is narrow)))
+
+-- it goes out
+pub call_sent :
+    (r : RecordedEnd) (modulus : ℕ) → IsModulus modulus → IsDown r.machine.control.state r.machine.outgoing.packets
+    → IsSentAs false r (call_in modulus ∷ [])
+    (record { tag = length (core_set_ups r.set_ups); kind = Sabm modulus } ∷ [])
+call_sent r modulus is down =
+    let wide = modulus == 128 in
+    let sent = setup_sent false r modulus (calling_frame wide) true down (call_answers wide) in
+    record {
+      flight = sent.flight ∙ ap (λ k. record { tag = length (core_set_ups r.set_ups); kind = k } ∷ [])
+          (call_kind modulus is);
+      written = sent.written;
+    }

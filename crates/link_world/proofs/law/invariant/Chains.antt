@@ -24,28 +24,27 @@ pub record IsRising (rule : Rule) : Type 0 where
 
 -- a smaller start is weaker
 pub chain_from :
-    (rule : Rule) → IsRising rule → (a b : ℕ) (fs : List Tagged) → a ≤ b → Chain rule b fs → Chain rule a fs
-chain_from rule r a b [] le h = r.ends a b le h
-chain_from rule r a b (f ∷ fs) le h =
-    (r.weaker a b f le h.0, chain_from rule r (rule.next a f) (rule.next b f) fs (r.next a b f le) h.1)
+    {rule : Rule} → IsRising rule → (a b : ℕ) (fs : List Tagged) → a ≤ b → Chain rule b fs → Chain rule a fs
+chain_from r a b [] le h = r.ends a b le h
+chain_from {rule} r a b (f ∷ fs) le h =
+    (r.weaker a b f le h.0, chain_from r (rule.next a f) (rule.next b f) fs (r.next a b f le) h.1)
 
 -- what holds behind the last frame holds at the start
-pub chain_start : (rule : Rule) → IsRising rule → (a : ℕ) (fs : List Tagged) → Chain rule a fs → rule.Ends a
-chain_start rule r a [] h = h
-chain_start rule r a (f ∷ fs) h =
-    r.ends a (rule.next a f) (r.rises a f h.0) (chain_start rule r (rule.next a f) fs h.1)
+pub chain_start : {rule : Rule} → IsRising rule → (a : ℕ) (fs : List Tagged) → Chain rule a fs → rule.Ends a
+chain_start r a [] h = h
+chain_start {rule} r a (f ∷ fs) h = r.ends a (rule.next a f) (r.rises a f h.0) (chain_start r (rule.next a f) fs h.1)
 
 -- the first frame goes
 pub chain_tail :
-    (rule : Rule) → IsRising rule → (a : ℕ) (f : Tagged) (fs : List Tagged) → Chain rule a (f ∷ fs) → Chain rule a fs
-chain_tail rule r a f fs h = chain_from rule r a (rule.next a f) fs (r.rises a f h.0) h.1
+    {rule : Rule} → IsRising rule → (a : ℕ) (f : Tagged) (fs : List Tagged) → Chain rule a (f ∷ fs) → Chain rule a fs
+chain_tail {rule} r a f fs h = chain_from r a (rule.next a f) fs (r.rises a f h.0) h.1
 
 -- any frame goes
 pub chain_removed :
-    (rule : Rule) → IsRising rule → (a : ℕ) (before : List Tagged) (f : Tagged) (after : List Tagged)
+    {rule : Rule} → IsRising rule → (a : ℕ) (before : List Tagged) (f : Tagged) (after : List Tagged)
     → Chain rule a (before ++ f ∷ after) → Chain rule a (before ++ after)
-chain_removed rule r a [] f after h = chain_tail rule r a f after h
-chain_removed rule r a (g ∷ before) f after h = (h.0, chain_removed rule r (rule.next a g) before f after h.1)
+chain_removed r a [] f after h = chain_tail r a f after h
+chain_removed {rule} r a (g ∷ before) f after h = (h.0, chain_removed r (rule.next a g) before f after h.1)
 
 -- one frame more
 pub chain_pushed :
@@ -56,13 +55,13 @@ chain_pushed rule f fits a (g ∷ fs) h = (h.0, chain_pushed rule f fits (rule.n
 
 -- another rule asks for less, and its numbers are not larger
 pub chain_wider :
-    (rule other : Rule) → IsRising other → ((n : ℕ) (f : Tagged) → rule.Holds n f → other.Holds n f)
+    (rule : Rule) {other : Rule} → IsRising other → ((n : ℕ) (f : Tagged) → rule.Holds n f → other.Holds n f)
     → ((n : ℕ) (f : Tagged) → other.next n f ≤ rule.next n f) → ((n : ℕ) → rule.Ends n → other.Ends n)
     → (a : ℕ) (fs : List Tagged) → Chain rule a fs → Chain other a fs
-chain_wider rule other r holds less ends a [] h = ends a h
-chain_wider rule other r holds less ends a (f ∷ fs) h =
-    let rest = chain_wider rule other r holds less ends (rule.next a f) fs h.1 in
-    (holds a f h.0, chain_from other r (other.next a f) (rule.next a f) fs (less a f) rest)
+chain_wider rule r holds less ends a [] h = ends a h
+chain_wider rule {other} r holds less ends a (f ∷ fs) h =
+    let rest = chain_wider rule r holds less ends (rule.next a f) fs h.1 in
+    (holds a f h.0, chain_from r (other.next a f) (rule.next a f) fs (less a f) rest)
 
 -- one frame more, where the numbers stay within a bound
 pub chain_pushed_within :
@@ -76,9 +75,9 @@ chain_pushed_within rule bound f fits a (g ∷ fs) le within h =
 
 -- frames of which nothing is asked and which leave the number as it is
 pub chain_silent :
-    (rule : Rule) → IsRising rule → (a : ℕ) (fs : List Tagged)
+    {rule : Rule} → IsRising rule → (a : ℕ) (fs : List Tagged)
     → Each (λ f. (n : ℕ) → rule.Holds n f × (rule.next n f ≤ n)) fs → rule.Ends a → Chain rule a fs
-chain_silent rule r a [] silent ends = ends
-chain_silent rule r a (f ∷ fs) silent ends =
+chain_silent r a [] silent ends = ends
+chain_silent {rule} r a (f ∷ fs) silent ends =
     let one = silent.0 a in
-    (one.0, chain_silent rule r (rule.next a f) fs silent.1 (r.ends (rule.next a f) a one.1 ends))
+    (one.0, chain_silent r (rule.next a f) fs silent.1 (r.ends (rule.next a f) a one.1 ends))

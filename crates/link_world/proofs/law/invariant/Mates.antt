@@ -20,8 +20,8 @@ abbrev pub IsSilent : ℕ → Tagged → Type 0
 IsSilent mate f = of_mate mate f ≡ None
 
 -- a frame of the set-up
-pub of_mate_same : (mate : ℕ) (f : Tagged) → f.tag ≡ mate → of_mate mate f ≡ numbered f.kind
-of_mate_same mate f is = cond-true _ _ _ (eq-eqb f.tag mate is)
+pub of_mate_same : {mate : ℕ} (f : Tagged) → f.tag ≡ mate → of_mate mate f ≡ numbered f.kind
+of_mate_same {mate} f is = cond-true _ _ _ (eq-eqb f.tag mate is)
 
 -- a frame of another set-up
 pub of_mate_other : (mate : ℕ) (f : Tagged) → (f.tag ≡ mate → ⊥) → of_mate mate f ≡ None

@@ -9,10 +9,10 @@ pub record SetUpsGrow (before behind : List SetUp) : Type 0 where
   pub given : (n : ℕ) → IsPrefixOf (given_in before n) (given_in behind n)
   pub modulus : (n : ℕ) → n < length before → modulus_in behind n ≡ modulus_in before n
 
-pub set_ups_same : (qs : List SetUp) → SetUpsGrow qs qs
-set_ups_same qs = record {
+pub set_ups_same : {qs : List SetUp} → SetUpsGrow qs qs
+set_ups_same {qs} = record {
   count = le_refl (length qs);
-  given = λ n. prefix_same (given_in qs n);
+  given = λ n. prefix_same;
   modulus = λ n within. refl;
 }
 
@@ -20,8 +20,8 @@ given_last :
     (ended : List SetUp) (c d : SetUp) → IsPrefixOf c.given d.given → (n : ℕ)
     → IsPrefixOf (given_in (ended ++ c ∷ []) n) (given_in (ended ++ d ∷ []) n)
 given_last [] c d h zero = h
-given_last [] c d h (suc n) = prefix_none []
-given_last (e ∷ ended) c d h zero = prefix_same e.given
+given_last [] c d h (suc n) = prefix_none
+given_last (e ∷ ended) c d h zero = prefix_same
 given_last (e ∷ ended) c d h (suc n) = given_last ended c d h n
 
 pub length_last : (ended : List SetUp) (c : SetUp) → length (ended ++ c ∷ []) ≡ length ended + 1
@@ -46,8 +46,8 @@ grow_last ended c d h same = record {
 }
 
 given_new : (ended : List SetUp) (c : SetUp) (n : ℕ) → IsPrefixOf (given_in ended n) (given_in (ended ++ c ∷ []) n)
-given_new [] c n = prefix_none (given_in (c ∷ []) n)
-given_new (e ∷ ended) c zero = prefix_same e.given
+given_new [] c n = prefix_none
+given_new (e ∷ ended) c zero = prefix_same
 given_new (e ∷ ended) c (suc n) = given_new ended c n
 
 modulus_new :
@@ -57,8 +57,8 @@ modulus_new (e ∷ ended) c zero within = refl
 modulus_new (e ∷ ended) c (suc n) within = modulus_new ended c n (omega arith)
 
 -- another one is opened
-pub grow_new : (ended : List SetUp) (c : SetUp) → SetUpsGrow ended (ended ++ c ∷ [])
-grow_new ended c = record {
+pub grow_new : {ended : List SetUp} (c : SetUp) → SetUpsGrow ended (ended ++ c ∷ [])
+grow_new {ended} c = record {
   count = omega (arith, length_last ended c);
   given = given_new ended c;
   modulus = modulus_new ended c;

@@ -1,5 +1,5 @@
 -- x sends a UA: where y is calling, it sees x from then on.
-use Rattle.std.proofs.Common.{◌≡◌, ℕ, ◌<◌, List, [], ◌∷◌, ◌++◌, Option, Some, None, IfSome, length, arith, ap, refl, sym, subst, le_refl}
+use Rattle.std.proofs.Common.{◌≡◌, ℕ, ◌<◌, List, [], ◌∷◌, ◌++◌, Option, Some, IfSome, length, arith, ap, refl, sym, subst, le_refl}
 use Rattle.std.specs.List.{AllByRecursion as Each}
 use Rattle.selective_reject.specs.declared.packet.Packet.{Packet}
 use Rattle.link_world.proofs.law.reduced.Core.{End, Standing, SetUp, Tagged, set_ups, era, count, got_in, modulus_in}
@@ -11,7 +11,7 @@ use Rattle.link_world.proofs.law.Each.{each_pushed}
 use Rattle.link_world.proofs.law.invariant.SetUps.{at_none}
 use Rattle.link_world.proofs.law.numbers.AckChain.{acks_silent}
 use Rattle.link_world.proofs.law.numbers.InfoChain.{infos_silent}
-use Rattle.link_world.proofs.law.invariant.Views.{View, view, view_by, view_fresh, view_up}
+use Rattle.link_world.proofs.law.invariant.Views.{View, view, view_by, view_fresh}
 use Rattle.link_world.proofs.law.invariant.Options.{if_weaker}
 use Rattle.link_world.proofs.law.invariant.Exchanges.{ua_pushed_ua}
 use Rattle.link_world.proofs.law.moves.Sending.{both_sent, numbers_of_other}
@@ -31,10 +31,10 @@ pub record IsNewToMate (v : Option View) (x y : End) (to_x to_y : List Tagged) :
 
 -- x hears a partner that sees it with nothing sent yet
 seen_anew :
-    (v u : Option View) (x y : End) (to_x to_y : List Tagged) (tag : ℕ) → IfSome v (λ a. a.mate ≡ era y)
+    {v u : Option View} {x y : End} {to_x to_y : List Tagged} (tag : ℕ) → IfSome v (λ a. a.mate ≡ era y)
     → IfSome v (λ a. WasSent a to_x 0) → IfSome v (λ a. a.modulus ≡ y.modulus)
     → Hears v u x y to_x to_y → Hears v (Some (view_fresh y.modulus tag)) x y to_x to_y
-seen_anew v u x y to_x to_y tag mate sent modulus h = record {
+seen_anew tag mate sent modulus h = record {
   tags = h.tags;
   one_exchange = h.one_exchange;
   mates = record { last = h.mates.last; each_other = mate };
@@ -54,10 +54,10 @@ seen_anew v u x y to_x to_y tag mate sent modulus h = record {
 
 -- an end that is calling sees the set-up that a UA under way to it names
 sees_anew :
-    (v u : Option View) (x y : End) (waiting : List Packet) (to_x to_y : List Tagged)
+    {v u : Option View} {x : End} (y : End) {waiting : List Packet} {to_x to_y : List Tagged}
     → IsNewToMate v x (now (Calling waiting) y) to_x to_y → Hears u v (now (Calling waiting) y) x to_y to_x
     → Hears (Some (view_fresh y.modulus (era x))) v (now (Calling waiting) y) x to_y to_x
-sees_anew v u x y waiting to_x to_y new h =
+sees_anew {v} {x} y {to_y} new h =
     let xs = set_ups x in
     let got : length (got_in xs (era x)) ≡ 0 = ap length new.got in
     record {
@@ -65,16 +65,14 @@ sees_anew v u x y waiting to_x to_y new h =
       one_exchange = h.one_exchange;
       mates = record {
         last = count_le_era x;
-        each_other = if_weaker v (λ a. a.mate ≡ era y) (λ a. era x ≡ era x) (λ a is. refl) new.mate;
+        each_other = if_weaker v _ _ (λ a is. refl) new.mate;
       };
       keeps = tt;
       numbers = record {
         counts = ap (λ (q : SetUp). length q.got) (sym (at_none y.ended (era y) (le_refl (era y))));
         acks = acks_silent (era x) 0 (length (got_in xs (era x))) 0 to_y new.silent (omega arith) (omega arith);
         infos = infos_silent (era x) 0 0 (x.windows y.modulus) to_y new.silent;
-        sent = if_weaker v (λ a. WasSent a to_x 0 × Each (IsSilent (era x)) to_y)
-            (λ a. WasSent (view_fresh y.modulus (era x)) to_y a.top)
-            (λ a c. sent_of_silent y.modulus (era x) a.top to_y c.1) new.sent;
+        sent = if_weaker v _ _ (λ a c. sent_of_silent y.modulus (era x) c.1) new.sent;
       };
       packets = record {
         carries = h.packets.carries;
@@ -90,7 +88,7 @@ sees_anew v u x y waiting to_x to_y new h =
         own = tt;
         frames = h.moduli.frames;
         calls = h.moduli.calls;
-        same = if_weaker v (λ a. a.modulus ≡ y.modulus) (λ a. y.modulus ≡ a.modulus) (λ a is. sym is) new.modulus;
+        same = if_weaker v _ _ (λ a is. sym is) new.modulus;
         mate = new.own;
         origins = h.moduli.origins;
       };
@@ -98,17 +96,15 @@ sees_anew v u x y waiting to_x to_y new h =
 
 -- the UA itself says nothing of numbers
 new_behind_ua :
-    (v : Option View) (x y : End) (to_x to_y : List Tagged) → IsNewToMate v x y to_x to_y
+    {v : Option View} {x y : End} {to_x to_y : List Tagged} → IsNewToMate v x y to_x to_y
     → IsNewToMate v x y to_x (to_y ++ of_end x Ua ∷ [])
-new_behind_ua v x y to_x to_y new =
-    let silent : Each (IsSilent (era x)) (to_y ++ of_end x Ua ∷ []) =
-    each_pushed (IsSilent (era x)) to_y (of_end x Ua) new.silent (of_mate_none (era x) (of_end x Ua) refl) in
+new_behind_ua {v} {x} {to_y} new =
+    let silent = each_pushed _ to_y (of_end x Ua) new.silent (of_mate_none (era x) (of_end x Ua) refl) in
     record {
       silent = silent;
       got = new.got;
       mate = new.mate;
-      sent = if_weaker v (λ a. WasSent a to_x 0 × Each (IsSilent (era x)) to_y)
-          (λ a. WasSent a to_x 0 × Each (IsSilent (era x)) (to_y ++ of_end x Ua ∷ [])) (λ a c. (c.0, silent)) new.sent;
+      sent = if_weaker v _ _ (λ a c. (c.0, silent)) new.sent;
       earlier = new.earlier;
       modulus = new.modulus;
       own = new.own;
@@ -116,39 +112,33 @@ new_behind_ua v x y to_x to_y new =
 
 -- with what each end saw before
 ua_pushed_both :
-    (v u : Option View) (x y : End) (to_x to_y : List Tagged) → answers to_y ≡ 0 → asks to_x ≡ 0
+    {v u : Option View} {x y : End} {to_x to_y : List Tagged} → answers to_y ≡ 0 → asks to_x ≡ 0
     → BothHear v u x y to_x to_y → BothHear v u x y to_x (to_y ++ of_end x Ua ∷ [])
-ua_pushed_both v u x y to_x to_y none quiet h =
+ua_pushed_both none quiet h =
     let other = h.y_hears.one_exchange in
-    both_sent v u x y to_x to_y Ua tt tt (omega arith) (omega arith) tt tt tt
-    (numbers_of_other u v to_y (of_end x Ua) (set_ups x) x.windows refl) h
+    both_sent tt tt (omega arith) (omega arith) tt tt tt (numbers_of_other refl) h
 
 sent_ua_by :
-    (s : Standing) (v : Option View) (x y : End) (to_x to_y : List Tagged) → answers to_y ≡ 0 → asks to_x ≡ 0
-    → IsNewToMate v x (now s y) to_x to_y
-    → BothHear v (view (now s y) to_y) x (now s y) to_x to_y
+    (s : Standing) {v : Option View} {x : End} (y : End) {to_x to_y : List Tagged} → answers to_y ≡ 0 → asks to_x ≡ 0
+    → IsNewToMate v x (now s y) to_x to_y → BothHear v (view (now s y) to_y) x (now s y) to_x to_y
     → BothHear v (view (now s y) (to_y ++ of_end x Ua ∷ [])) x (now s y) to_x (to_y ++ of_end x Ua ∷ [])
-sent_ua_by Idle v x y to_x to_y none quiet new h = ua_pushed_both v None x (now Idle y) to_x to_y none quiet h
-sent_ua_by (Calling waiting) v x y to_x to_y none quiet new h =
+sent_ua_by Idle y none quiet new h = ua_pushed_both none quiet h
+sent_ua_by (Calling waiting) {v} {x} y {to_x} {to_y} none quiet new h =
     let z = now (Calling waiting) y in
     let to_z = to_y ++ of_end x Ua ∷ [] in
-    let u = view z to_y in
-    let pushed = ua_pushed_both v u x z to_x to_y none quiet h in
-    let behind = new_behind_ua v x z to_x to_y new in
+    let pushed = ua_pushed_both none quiet h in
+    let behind = new_behind_ua new in
     subst (λ t. BothHear v t x z to_x to_z) (ap (view_by y.modulus (Calling waiting)) (sym (ua_pushed_ua to_y (era x) none)))
     (record {
-      x_hears = seen_anew v u x z to_x to_z (era x) new.mate
-          (if_weaker v (λ a. WasSent a to_x 0 × Each (IsSilent (era x)) to_y) (λ a. WasSent a to_x 0) (λ a c. c.0)
-          new.sent) new.modulus pushed.x_hears;
-      y_hears = sees_anew v u x y waiting to_x to_z behind pushed.y_hears;
+      x_hears = seen_anew (era x) new.mate (if_weaker v _ _ (λ a c. c.0) new.sent) new.modulus pushed.x_hears;
+      y_hears = sees_anew y behind pushed.y_hears;
     })
-sent_ua_by (Up r) v x y to_x to_y none quiet new h =
-    ua_pushed_both v (Some (view_up y.modulus r)) x (now (Up r) y) to_x to_y none quiet h
-sent_ua_by Releasing v x y to_x to_y none quiet new h = ua_pushed_both v None x (now Releasing y) to_x to_y none quiet h
+sent_ua_by (Up r) y none quiet new h = ua_pushed_both none quiet h
+sent_ua_by Releasing y none quiet new h = ua_pushed_both none quiet h
 
 -- x sends a UA, while no other answer is under way to y, and y asks nothing more
 pub sent_ua_keeps :
-    (x y : End) (to_x to_y : List Tagged) → answers to_y ≡ 0 → asks to_x ≡ 0 → IsNewToMate (view x to_x) x y to_x to_y
+    {x y : End} {to_x to_y : List Tagged} → answers to_y ≡ 0 → asks to_x ≡ 0 → IsNewToMate (view x to_x) x y to_x to_y
     → Invariant (record { x = x; y = y; to_x = to_x; to_y = to_y })
     → Invariant (record { x = x; y = y; to_x = to_x; to_y = to_y ++ of_end x Ua ∷ [] })
-sent_ua_keeps x y to_x to_y none quiet new h = sent_ua_by y.standing (view x to_x) x y to_x to_y none quiet new h
+sent_ua_keeps {y} none quiet new h = sent_ua_by y.standing y none quiet new h

@@ -3,8 +3,8 @@ use Rattle.std.proofs.Common.{◌≡◌, ℕ, ◌+◌, false, List, [], ◌∷�
 use Rattle.selective_reject.specs.declared.packet.Packet.{Packet}
 use Rattle.link_world.proofs.law.reduced.Core.{End, Core, Tagged, between, mirror}
 use Rattle.link_world.proofs.law.reduced.Core.Kind.{Sabm, Disc, Dm}
-use Rattle.link_world.proofs.law.reduced.Core.Standing.{Calling, Up}
-use Rattle.link_world.proofs.law.reduced.CoreMoves.{Move, Moves, asks, answers, now, of_end, setup_to, new_end, new_core}
+use Rattle.link_world.proofs.law.reduced.Core.Standing.{Calling}
+use Rattle.link_world.proofs.law.reduced.CoreMoves.{Move, Moves, asks, answers, now, of_end, new_end, new_core}
 use Rattle.link_world.proofs.law.reduced.CoreMoves.Move.{Lose, AckFront, SetVs, SendInfo, SendSuper, SendSrej, AcceptFront, StoreFront, TakeStored, GiveUp, GiveCalling, LeaveToIdle, LeaveToReleasing, Begin, Call, Release, SendDm, DeclineByDm, DeclineIdle, DeclineReleasing, Agree, OpenCalled, OpenAgain, OpenAnswered}
 use Rattle.link_world.proofs.law.reduced.CoreMoves.Moves.{NoMove, ThenX, ThenY}
 use Rattle.link_world.proofs.law.reduced.CoreLaw.{ObeysPrefixLaw}
@@ -19,73 +19,66 @@ use Rattle.link_world.proofs.law.invariant.Invariant.{Hears, Invariant}
 
 -- asks of one end and answers to it make one exchange at most, so where there is none, one may begin
 pub call_keeps :
-    (x y : End) (waiting : List Packet) (to_x to_y : List Tagged) → asks to_y + answers to_x ≡ 0
+    (x : End) {y : End} {waiting : List Packet} {to_x to_y : List Tagged} → asks to_y + answers to_x ≡ 0
     → Invariant (between (now (Calling waiting) x) y to_x to_y)
     → Invariant (between (now (Calling waiting) x) y to_x (to_y ++ of_end x (Sabm x.modulus) ∷ []))
-call_keeps x y waiting to_x to_y quiet h =
+call_keeps x quiet h =
     let one = h.x_hears.one_exchange in
-    sent_other_keeps (now (Calling waiting) x) y to_x to_y (Sabm x.modulus) refl refl tt refl tt tt refl (omega arith) (omega arith) h
+    sent_other_keeps (Sabm x.modulus) refl refl tt refl tt tt refl (omega arith) (omega arith) h
 
 pub release_keeps :
-    (x y : End) (to_x to_y : List Tagged) → asks to_y + answers to_x ≡ 0
+    {x y : End} {to_x to_y : List Tagged} → asks to_y + answers to_x ≡ 0
     → Invariant (between x y to_x to_y) → Invariant (between x y to_x (to_y ++ of_end x Disc ∷ []))
-release_keeps x y to_x to_y quiet h =
+release_keeps quiet h =
     let one = h.x_hears.one_exchange in
-    sent_other_keeps x y to_x to_y Disc refl refl tt tt tt tt tt (omega arith) (omega arith) h
+    sent_other_keeps Disc refl refl tt tt tt tt tt (omega arith) (omega arith) h
 
 pub send_dm_keeps :
-    (x y : End) (to_x to_y : List Tagged) → Invariant (between x y to_x to_y)
+    {x y : End} {to_x to_y : List Tagged} → Invariant (between x y to_x to_y)
     → Invariant (between x y to_x (to_y ++ of_end x (Dm false) ∷ []))
-send_dm_keeps x y to_x to_y h =
+send_dm_keeps h =
     let one = h.x_hears.one_exchange in
     let other = h.y_hears.one_exchange in
-    sent_other_keeps x y to_x to_y (Dm false) refl refl tt tt tt tt tt (omega arith) (omega arith) h
+    sent_other_keeps (Dm false) refl refl tt tt tt tt tt (omega arith) (omega arith) h
 
 -- each move keeps what holds
-pub move_keeps : (w v : Core) → Move w v → Invariant w → Invariant v
-move_keeps w v (Lose x y before f after to_y) h = lose_keeps x y before f after to_y h
-move_keeps w v (AckFront x y r tag m nr n rest to_y is) h = ack_front_keeps x y r tag m nr n rest to_y is h
-move_keeps w v (SetVs x y r vs to_x to_y order) h = set_vs_keeps x y r vs to_x to_y order h
-move_keeps w v (SendInfo x y r n packet to_x to_y low high kept) h =
-    send_kept_keeps x y r n packet to_x to_y low high kept h
-move_keeps w v (SendSuper x y r to_x to_y) h = send_super_keeps x y r to_x to_y h
-move_keeps w v (SendSrej x y r n before s after to_x to_y is low high) h =
-    send_srej_keeps x y r n before s after to_x to_y is low high h
-move_keeps w v (AcceptFront x y r tag m nr packet rest to_y) h = accept_front_keeps x y r tag m nr packet rest to_y h
-move_keeps w v (StoreFront x y r tag m ns nr packet before after rest to_y is) h =
-    store_front_keeps x y r tag m ns nr packet before after rest to_y is h
-move_keeps w v (TakeStored x y r before s after to_x to_y is number some) h =
-    take_stored_keeps x y r before s after to_x to_y is number some h
-move_keeps w v (GiveUp x y r packet to_x to_y) h = give_up_keeps x y r packet to_x to_y h
-move_keeps w v (GiveCalling x y waiting packet to_x to_y) h =
-    give_calling_keeps x y waiting (waiting ++ packet ∷ []) to_x to_y h
-move_keeps w v (LeaveToIdle x y modulus to_x to_y) h = leave_to_idle_keeps x y modulus to_x to_y h
-move_keeps w v (LeaveToReleasing x y to_x to_y) h = leave_to_releasing_keeps x y to_x to_y h
-move_keeps w v (Begin x y modulus to_x to_y quiet) h =
-    begin_keeps x y modulus [] to_x to_y (omega arith) (omega arith) h
-move_keeps w v (Call x y waiting to_x to_y quiet) h = call_keeps x y waiting to_x to_y quiet h
-move_keeps w v (Release x y to_x to_y quiet) h = release_keeps x y to_x to_y quiet h
-move_keeps w v (SendDm x y to_x to_y) h = send_dm_keeps x y to_x to_y h
-move_keeps w v (DeclineByDm x y tag kind rest to_y one) h = decline_by_dm_keeps x y tag kind rest to_y one h
-move_keeps w v (DeclineIdle x y tag rest to_y) h = decline_idle_keeps x y tag rest to_y h
-move_keeps w v (DeclineReleasing x y tag rest to_y) h = decline_releasing_keeps x y tag rest to_y h
-move_keeps w v (Agree x y waiting tag rest to_y) h = agree_keeps x y waiting tag rest to_y h
-move_keeps w v (OpenCalled x y tag modulus rest to_y none) h = open_called_keeps x y tag modulus rest to_y none h
-move_keeps w v (OpenAgain x y r tag modulus rest to_y) h =
-    open_called_keeps (now (Up r) x) y tag modulus rest to_y
-    (no_call_of_up x y r (setup_to tag (Sabm modulus) ∷ rest) to_y h) h
-move_keeps w v (OpenAnswered x y waiting tag rest to_y) h = open_answered_keeps x y waiting tag rest to_y h
+pub move_keeps : {w v : Core} → Move w v → Invariant w → Invariant v
+move_keeps (Lose x y before f after to_y) h = lose_keeps before f after h
+move_keeps (AckFront x y r tag m nr n rest to_y is) h = ack_front_keeps x nr is h
+move_keeps (SetVs x y r vs to_x to_y order) h = set_vs_keeps x vs order h
+move_keeps (SendInfo x y r n packet to_x to_y low high kept) h = send_kept_keeps x n packet low high kept h
+move_keeps (SendSuper x y r to_x to_y) h = send_super_keeps x h
+move_keeps (SendSrej x y r n before s after to_x to_y is low high) h = send_srej_keeps x n before s after is low high h
+move_keeps (AcceptFront x y r tag m nr packet rest to_y) h = accept_front_keeps x h
+move_keeps (StoreFront x y r tag m ns nr packet before after rest to_y is) h = store_front_keeps x before after is h
+move_keeps (TakeStored x y r before s after to_x to_y is number some) h =
+    take_stored_keeps x before s after is number some h
+move_keeps (GiveUp x y r packet to_x to_y) h = give_up_keeps x packet h
+move_keeps (GiveCalling x y waiting packet to_x to_y) h = give_calling_keeps x h
+move_keeps (LeaveToIdle x y modulus to_x to_y) h = leave_to_idle_keeps modulus h
+move_keeps (LeaveToReleasing x y to_x to_y) h = leave_to_releasing_keeps h
+move_keeps (Begin x y modulus to_x to_y quiet) h = begin_keeps modulus [] (omega arith) (omega arith) h
+move_keeps (Call x y waiting to_x to_y quiet) h = call_keeps x quiet h
+move_keeps (Release x y to_x to_y quiet) h = release_keeps quiet h
+move_keeps (SendDm x y to_x to_y) h = send_dm_keeps h
+move_keeps (DeclineByDm x y tag kind rest to_y one) h = decline_by_dm_keeps one h
+move_keeps (DeclineIdle x y tag rest to_y) h = decline_idle_keeps x h
+move_keeps (DeclineReleasing x y tag rest to_y) h = decline_releasing_keeps x h
+move_keeps (Agree x y waiting tag rest to_y) h = agree_keeps x h
+move_keeps (OpenCalled x y tag modulus rest to_y none) h = open_called_keeps none h
+move_keeps (OpenAgain x y r tag modulus rest to_y) h = open_called_keeps
+    (no_call_of_up x h) h
+move_keeps (OpenAnswered x y waiting tag rest to_y) h = open_answered_keeps x h
 
 -- what holds is the same from the other end
-pub mirror_keeps : (w : Core) → Invariant w → Invariant (mirror w)
-mirror_keeps w h = record { x_hears = h.y_hears; y_hears = h.x_hears }
+pub mirror_keeps : {w : Core} → Invariant w → Invariant (mirror w)
+mirror_keeps h = record { x_hears = h.y_hears; y_hears = h.x_hears }
 
 -- and so does a run of moves
-pub moves_keep : (w v : Core) → Moves w v → Invariant w → Invariant v
-moves_keep w v (NoMove u) h = h
-moves_keep w v (ThenX u s t run move) h = move_keeps s t move (moves_keep u s run h)
-moves_keep w v (ThenY u s t run move) h =
-    mirror_keeps (mirror t) (move_keeps (mirror s) (mirror t) move (mirror_keeps s (moves_keep u s run h)))
+pub moves_keep : {w v : Core} → Moves w v → Invariant w → Invariant v
+moves_keep (NoMove u) h = h
+moves_keep (ThenX u s t run move) h = move_keeps move (moves_keep run h)
+moves_keep (ThenY u s t run move) h = mirror_keeps (move_keeps move (mirror_keeps (moves_keep run h)))
 
 -- an end that is new hears one that is new
 hears_new :
@@ -106,8 +99,8 @@ new_holds modulus windows other =
     record { x_hears = hears_new modulus windows other; y_hears = hears_new modulus other windows }
 
 -- the law follows from what holds
-pub law_holds : (w : Core) → Invariant w → ObeysPrefixLaw w
-law_holds w h = record {
+pub law_holds : {w : Core} → Invariant w → ObeysPrefixLaw w
+law_holds h = record {
   x_got = h.x_hears.packets.prefixes;
   y_got = h.y_hears.packets.prefixes;
   x_origins = h.x_hears.packets.origins;
@@ -119,6 +112,5 @@ law_holds w h = record {
 -- After any moves from two new ends, what a set-up got is a prefix of what was given in its origin, which has the same
 -- modulus, and origins rise strictly.
 pub prefix_law :
-    (modulus : ℕ) (windows other : ℕ → ℕ) (w : Core) → Moves (new_core modulus windows other) w → ObeysPrefixLaw w
-prefix_law modulus windows other w run =
-    law_holds w (moves_keep (new_core modulus windows other) w run (new_holds modulus windows other))
+    (modulus : ℕ) (windows other : ℕ → ℕ) {w : Core} → Moves (new_core modulus windows other) w → ObeysPrefixLaw w
+prefix_law modulus windows other run = law_holds (moves_keep run (new_holds modulus windows other))

@@ -6,9 +6,9 @@ use Rattle.link_world.proofs.law.reduced.Core.{End, Standing, SetUp, Tagged, Kin
 use Rattle.link_world.proofs.law.reduced.Core.Kind.{Sabm, Disc, Ua, Dm, IsNumbered}
 use Rattle.link_world.proofs.law.reduced.Core.Standing.{Idle, Calling, Up, Releasing}
 use Rattle.link_world.proofs.law.reduced.CoreMoves.{sabms, sabm_of}
-use Rattle.link_world.proofs.law.invariant.Mates.{IsSilent, of_mate, of_mate_other, of_mate_none}
+use Rattle.link_world.proofs.law.invariant.Mates.{IsSilent, of_mate_other, of_mate_none}
 use Rattle.link_world.proofs.law.Each.{each_weaker, each_before}
-use Rattle.link_world.proofs.law.numbers.InfoChain.{InfoBelow, info_below_silent}
+use Rattle.link_world.proofs.law.numbers.InfoChain.{info_below_silent}
 use Rattle.link_world.proofs.law.invariant.SetUps.{length_last}
 use Rattle.link_world.proofs.law.invariant.Views.{View, ua_by, ua_tag, view_by, view_fresh}
 use Rattle.link_world.proofs.law.reduced.CoreLaw.{GotBy, GotOf}
@@ -28,16 +28,14 @@ silent_by count mate tag (IsNumbered modulus n) le h =
 pub silent_of_unopened :
     (count mate : ℕ) (fs : List Tagged) → count ≤ mate → Each (λ f. OfSetUp count f.tag f.kind) fs
     → Each (IsSilent mate) fs
-silent_of_unopened count mate fs le h =
-    each_weaker (λ f. OfSetUp count f.tag f.kind) (IsSilent mate) (λ f o. silent_by count mate f.tag f.kind le o) fs h
+silent_of_unopened count mate fs le h = each_weaker _ _ (λ f o. silent_by count mate f.tag f.kind le o) fs h
 
 -- nothing is stored, and nothing under way has a number
 pub sent_of_silent :
-    (modulus mate top : ℕ) (fs : List Tagged) → Each (IsSilent mate) fs → WasSent (view_fresh modulus mate) fs top
-sent_of_silent modulus mate top fs silent = record {
+    (modulus mate : ℕ) {top : ℕ} {fs : List Tagged} → Each (IsSilent mate) fs → WasSent (view_fresh modulus mate) fs top
+sent_of_silent modulus mate {top} {fs} silent = record {
   stored = tt;
-  under_way = each_weaker (IsSilent mate) (λ f. InfoBelow top (of_mate mate f))
-      (λ f is. info_below_silent top (of_mate mate f) is) fs silent;
+  under_way = each_weaker _ _ (λ f is. info_below_silent top is) fs silent;
 }
 
 under_by : (ys : List SetUp) (got : List Packet) (o : Option ℕ) → GotBy ys got o → IfSome o (λ a. a < length ys)
@@ -46,7 +44,7 @@ under_by ys got (Some a) h = h.0
 
 -- origins are set-ups that were opened
 pub origins_opened : (ys xs : List SetUp) → Each (GotOf ys) xs → Each (OriginUnder (length ys)) xs
-origins_opened ys xs h = each_weaker (GotOf ys) (OriginUnder (length ys)) (λ q g. under_by ys q.got q.origin g) xs h
+origins_opened ys xs h = each_weaker _ _ (λ q g. under_by ys q.got q.origin g) xs h
 
 -- what holds of each tag holds of that of the UA
 pub ua_tag_of_each : (P : ℕ → Type 0) (fs : List Tagged) → Each (λ f. P f.tag) fs → IfSome (ua_tag fs) P
@@ -86,8 +84,7 @@ of_set_up_by count more tag (IsNumbered modulus n) le h = le_trans h le
 pub of_more_set_ups :
     (count more : ℕ) (fs : List Tagged) → count ≤ more → Each (λ f. OfSetUp count f.tag f.kind) fs
     → Each (λ f. OfSetUp more f.tag f.kind) fs
-of_more_set_ups count more fs le h =
-    each_weaker (λ f. OfSetUp count f.tag f.kind) (λ f. OfSetUp more f.tag f.kind)
+of_more_set_ups count more fs le h = each_weaker _ _
     (λ f o. of_set_up_by count more f.tag f.kind le o) fs h
 
 call_of_last : (count tag era : ℕ) (k : Kind) → IsCurrentCall count tag k → tag ≤ era → era < count → sabm_of k ≡ 0
@@ -138,12 +135,12 @@ ended_of_all P e h = go e.standing e.ended h
 
 -- an end whose last set-up is over, and which waits for no UA, sees nothing
 pub blind_of_down :
-    (modulus : ℕ) (s : Standing) (ended : List SetUp) (ua : Option ℕ)
+    (modulus : ℕ) (s : Standing) (ended : List SetUp) {ua : Option ℕ}
     → length (with_running s ended) ≤ length ended → ua ≡ None → view_by modulus s ua ≡ None
-blind_of_down modulus Idle ended ua le none = refl
-blind_of_down modulus (Calling waiting) ended ua le none = ap (view_by modulus (Calling waiting)) none
-blind_of_down modulus (Up r) ended ua le none = absurd (omega (arith, length_last ended r.set_up))
-blind_of_down modulus Releasing ended ua le none = refl
+blind_of_down modulus Idle ended le none = refl
+blind_of_down modulus (Calling waiting) ended le none = ap (view_by modulus (Calling waiting)) none
+blind_of_down modulus (Up r) ended le none = absurd (omega (arith, length_last ended r.set_up))
+blind_of_down modulus Releasing ended le none = refl
 
 -- what holds of the set-up that a UA names is what a calling end sees
 pub if_calling :

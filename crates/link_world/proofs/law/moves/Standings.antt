@@ -1,19 +1,18 @@
 -- x is no longer up, or begins to call; and more is given to it.
-use Rattle.std.proofs.Common.{◌≡◌, ℕ, ◌+◌, ◌<◌, ◌≤◌, List, [], ◌∷◌, ◌++◌, Option, Some, None, IfSome, length, arith, ap, refl, sym, ◌∙◌, subst, le_refl, length-append}
+use Rattle.std.proofs.Common.{◌≡◌, ℕ, ◌+◌, ◌≤◌, List, [], ◌∷◌, ◌++◌, Option, Some, None, IfSome, length, arith, ap, refl, sym, ◌∙◌, subst, le_refl, length-append}
 use Rattle.std.specs.List.{AllByRecursion as Each}
 use Rattle.std.proofs.lemmas.List.{drop-append-le}
 use Rattle.selective_reject.specs.declared.packet.Packet.{Packet}
-use Rattle.link_world.proofs.law.reduced.Core.{End, Running, Standing, SetUp, Tagged, with_running, set_ups, era, count, got_in, modulus_in}
+use Rattle.link_world.proofs.law.reduced.Core.{End, Running, Standing, SetUp, Tagged, with_running, set_ups, era}
 use Rattle.link_world.proofs.law.reduced.Core.Standing.{Idle, Calling, Up, Releasing}
 use Rattle.link_world.proofs.law.reduced.CoreMoves.{now, after_all, in_modulus, given_more, asks, answers}
 use Rattle.link_world.proofs.law.Each.{each_before, each_last, each_pushed}
 use Rattle.link_world.proofs.law.invariant.Prefixes.{prefix_push}
 use Rattle.link_world.proofs.law.invariant.SetUps.{at_last, got_same, length_last}
 use Rattle.link_world.proofs.law.invariant.Chains.{chain_from}
-use Rattle.link_world.proofs.law.invariant.TagChain.{TagsRise, tags_to, tags_rising, tags_higher}
+use Rattle.link_world.proofs.law.invariant.TagChain.{TagsRise, tags_rising, tags_higher}
 use Rattle.link_world.proofs.law.numbers.AckChain.{AcksRise}
-use Rattle.link_world.proofs.law.numbers.InfoChain.{InfosFit, held}
-use Rattle.link_world.proofs.law.invariant.Views.{View, view, view_by, view_up, ua_tag}
+use Rattle.link_world.proofs.law.invariant.Views.{View, view, view_by, ua_tag}
 use Rattle.link_world.proofs.law.invariant.Options.{if_weaker, if_all}
 use Rattle.link_world.proofs.law.invariant.Exchanges.{no_ua}
 use Rattle.link_world.proofs.law.moves.NoView.{mates_blind, numbers_blind}
@@ -23,7 +22,7 @@ use Rattle.link_world.proofs.law.moves.UpSending.{UpInvariant}
 use Rattle.link_world.proofs.law.moves.Receiving.{own_origin}
 use Rattle.link_world.proofs.law.invariant.Moduli.{moduli_up, no_calls_yet, no_caller}
 use Rattle.link_world.proofs.law.reduced.CoreLaw.{GotOf, OriginsRise, OriginAlike}
-use Rattle.link_world.proofs.law.invariant.Invariant.{low_by, OfSetUp, IsCurrentCall, HasModulus, OwnModulus, CallsIn, KeepsBy, Keeps, WasSent, Packets, Hears, BothHear, Invariant}
+use Rattle.link_world.proofs.law.invariant.Invariant.{low_by, OwnModulus, CallsIn, KeepsBy, Keeps, Packets, Hears, BothHear, Invariant}
 
 -- an end that sees nothing and has the same set-ups
 pub record IsDown (x z : End) : Type 0 where
@@ -36,19 +35,19 @@ pub record IsDown (x z : End) : Type 0 where
   pub own : OwnModulus z.standing z.modulus
 
 hears_down :
-    (v u : Option View) (x z y : End) (to_x to_y : List Tagged) → IsDown x z → Hears v u x y to_x to_y
+    {v u : Option View} {x z y : End} {to_x to_y : List Tagged} → IsDown x z → Hears v u x y to_x to_y
     → Hears None u z y to_x to_y
-hears_down v u x z y to_x to_y d h = record {
+hears_down {x} {y} {to_x} d h = record {
   tags = record {
     rise = subst (λ low. TagsRise low to_x (era y)) (sym d.low)
-        (chain_from (tags_to (era y)) (tags_rising (era y)) 0 (low_by x.standing) to_x (omega arith) h.tags.rise);
+        (chain_from (tags_rising (era y)) 0 (low_by x.standing) to_x (omega arith) h.tags.rise);
     of_set_up = h.tags.of_set_up;
     call_is_current = h.tags.call_is_current;
   };
   one_exchange = h.one_exchange;
-  mates = mates_blind u (era y) (count y);
+  mates = mates_blind;
   keeps = d.keeps;
-  numbers = numbers_blind u to_x (set_ups z) (era z) (set_ups y) y.windows;
+  numbers = numbers_blind;
   packets = record {
     carries = h.packets.carries;
     stored = tt;
@@ -69,52 +68,48 @@ hears_down v u x z y to_x to_y d h = record {
 }
 
 heard_down :
-    (v u : Option View) (x z y : End) (to_x to_y : List Tagged) → IsDown x z
+    {v u : Option View} {x z y : End} {to_x to_y : List Tagged} → IsDown x z
     → Each (λ f. CallsIn z.standing z.modulus f.kind) to_y → Hears u v y x to_y to_x → Hears u None y z to_y to_x
-heard_down v u x z y to_x to_y d calls h = record {
+heard_down {u} {x} {z} {y} {to_y} d calls h = record {
   tags = record {
     rise = tags_higher (low_by y.standing) (era x) (era z) to_y d.era h.tags.rise;
-    of_set_up = subst (λ xs. Each (λ f. OfSetUp (length xs) f.tag f.kind) to_y) (sym d.set_ups) h.tags.of_set_up;
-    call_is_current = subst (λ xs. Each (λ f. IsCurrentCall (length xs) f.tag f.kind) to_y) (sym d.set_ups)
-        h.tags.call_is_current;
+    of_set_up = rw d.set_ups h.tags.of_set_up;
+    call_is_current = rw d.set_ups h.tags.call_is_current;
   };
   one_exchange = h.one_exchange;
   mates = record {
     last = subst (λ xs. IfSome u (λ b. length xs ≤ b.mate + 1)) (sym d.set_ups) h.mates.last;
-    each_other = if_all u (λ b. Unit {0}) (λ b. tt);
+    each_other = if_all u _ (λ b. tt);
   };
   keeps = h.keeps;
   numbers = record {
     counts = h.numbers.counts;
-    acks = subst (λ xs. IfSome u (λ b. AcksRise b.mate b.va to_y (length (got_in xs b.mate)) b.top)) (sym d.set_ups)
-        h.numbers.acks;
-    infos = subst (λ ks. IfSome u (λ b. InfosFit b.mate (held b.vr b.stored) to_y b.vr (ks b.modulus)))
-        (sym d.windows) h.numbers.infos;
-    sent = if_all u (λ b. Unit {0}) (λ b. tt);
+    acks = rw d.set_ups h.numbers.acks;
+    infos = rw d.windows h.numbers.infos;
+    sent = if_all u _ (λ b. tt);
   };
   packets = subst (λ xs. Packets u to_y y.ended (set_ups y) xs) (sym d.set_ups) h.packets;
   moduli = record {
     window = h.moduli.window;
     own = h.moduli.own;
-    frames = subst (λ xs. Each (λ f. HasModulus xs f.tag f.kind) to_y) (sym d.set_ups) h.moduli.frames;
+    frames = rw d.set_ups h.moduli.frames;
     calls = calls;
-    same = if_all u (λ b. Unit {0}) (λ b. tt);
-    mate = subst (λ xs. IfSome u (λ b. b.mate < length xs → modulus_in xs b.mate ≡ b.modulus)) (sym d.set_ups)
-        h.moduli.mate;
+    same = if_all u _ (λ b. tt);
+    mate = rw d.set_ups h.moduli.mate;
     origins = subst (λ xs. Each (OriginAlike xs) (set_ups y)) (sym d.set_ups) h.moduli.origins;
   };
 }
 
 -- x becomes an end that sees nothing
 pub down_keeps :
-    (x z y : End) (to_x to_y : List Tagged) → IsDown x z
+    {x z y : End} {to_x to_y : List Tagged} → IsDown x z
     → Each (λ f. CallsIn z.standing z.modulus f.kind) to_y → view z to_x ≡ None
     → Invariant (record { x = x; y = y; to_x = to_x; to_y = to_y })
     → Invariant (record { x = z; y = y; to_x = to_x; to_y = to_y })
-down_keeps x z y to_x to_y d calls blind h =
+down_keeps {z} {y} {to_x} {to_y} d calls blind h =
     subst (λ v. BothHear v (view y to_y) z y to_x to_y) (sym blind) (record {
-      x_hears = hears_down (view x to_x) (view y to_y) x z y to_x to_y d h.x_hears;
-      y_hears = heard_down (view x to_x) (view y to_y) x z y to_x to_y d calls h.y_hears;
+      x_hears = hears_down d h.x_hears;
+      y_hears = heard_down d calls h.y_hears;
     })
 
 era_of_all : (s : Standing) (ended : List SetUp) → length ended ≤ length (with_running s ended)
@@ -125,25 +120,23 @@ era_of_all Releasing ended = le_refl (length ended)
 
 -- no set-up runs, and the end is idle, in another modulus
 pub leave_to_idle_keeps :
-    (x y : End) (modulus : ℕ) (to_x to_y : List Tagged)
-    → Invariant (record { x = x; y = y; to_x = to_x; to_y = to_y })
+    {x y : End} (modulus : ℕ) {to_x to_y : List Tagged} → Invariant (record { x = x; y = y; to_x = to_x; to_y = to_y })
     → Invariant (record { x = in_modulus modulus (after_all Idle x); y = y; to_x = to_x; to_y = to_y })
-leave_to_idle_keeps x y modulus to_x to_y h =
-    down_keeps x (in_modulus modulus (after_all Idle x)) y to_x to_y (record {
-      set_ups = refl;
-      windows = refl;
-      era = era_of_all x.standing x.ended;
-      low = refl;
-      keeps = tt;
-      window = refl;
-      own = tt;
-    }) (no_caller Idle modulus to_y (λ m. tt)) refl h
+leave_to_idle_keeps {x} modulus {to_y} h = down_keeps (record {
+  set_ups = refl;
+  windows = refl;
+  era = era_of_all x.standing x.ended;
+  low = refl;
+  keeps = tt;
+  window = refl;
+  own = tt;
+}) (no_caller Idle modulus to_y (λ m. tt)) refl h
 
 -- no set-up runs, and the end releases the link
 pub leave_to_releasing_keeps :
-    (x y : End) (to_x to_y : List Tagged) → Invariant (record { x = x; y = y; to_x = to_x; to_y = to_y })
+    {x y : End} {to_x to_y : List Tagged} → Invariant (record { x = x; y = y; to_x = to_x; to_y = to_y })
     → Invariant (record { x = after_all Releasing x; y = y; to_x = to_x; to_y = to_y })
-leave_to_releasing_keeps x y to_x to_y h = down_keeps x (after_all Releasing x) y to_x to_y (record {
+leave_to_releasing_keeps {x} {to_y} h = down_keeps (record {
   set_ups = refl;
   windows = refl;
   era = era_of_all x.standing x.ended;
@@ -155,19 +148,18 @@ leave_to_releasing_keeps x y to_x to_y h = down_keeps x (after_all Releasing x) 
 
 -- no set-up runs, and the end calls in a modulus, while it asks nothing and no answer is under way to it
 pub begin_keeps :
-    (x y : End) (modulus : ℕ) (waiting : List Packet) (to_x to_y : List Tagged) → asks to_y ≡ 0 → answers to_x ≡ 0
+    {x y : End} (modulus : ℕ) (waiting : List Packet) {to_x to_y : List Tagged} → asks to_y ≡ 0 → answers to_x ≡ 0
     → Invariant (record { x = x; y = y; to_x = to_x; to_y = to_y })
     → Invariant (record { x = in_modulus modulus (after_all (Calling waiting) x); y = y; to_x = to_x; to_y = to_y })
-begin_keeps x y modulus waiting to_x to_y quiet none h =
-    down_keeps x (in_modulus modulus (after_all (Calling waiting) x)) y to_x to_y (record {
-      set_ups = refl;
-      windows = refl;
-      era = era_of_all x.standing x.ended;
-      low = refl;
-      keeps = tt;
-      window = refl;
-      own = tt;
-    }) (no_calls_yet (Calling waiting) modulus to_y quiet) (ap (view_by modulus (Calling waiting)) (no_ua to_x none)) h
+begin_keeps {x} modulus waiting {to_x} {to_y} quiet none h = down_keeps (record {
+  set_ups = refl;
+  windows = refl;
+  era = era_of_all x.standing x.ended;
+  low = refl;
+  keeps = tt;
+  window = refl;
+  own = tt;
+}) (no_calls_yet (Calling waiting) modulus to_y quiet) (ap (view_by modulus (Calling waiting)) (no_ua to_x none)) h
 
 same_calling :
     (modulus : ℕ) (o : Option ℕ) (waiting more : List Packet)
@@ -177,10 +169,10 @@ same_calling modulus (Some tag) waiting more = refl
 
 -- more is given while calling
 pub give_calling_keeps :
-    (x y : End) (waiting more : List Packet) (to_x to_y : List Tagged)
+    (x : End) {y : End} {waiting more : List Packet} {to_x to_y : List Tagged}
     → Invariant (record { x = now (Calling waiting) x; y = y; to_x = to_x; to_y = to_y })
     → Invariant (record { x = now (Calling more) x; y = y; to_x = to_x; to_y = to_y })
-give_calling_keeps x y waiting more to_x to_y h =
+give_calling_keeps x {y} {waiting} {more} {to_x} {to_y} h =
     let v = view (now (Calling waiting) x) to_x in
     let u = view y to_y in
     let other : BothHear v u (now (Calling more) x) y to_x to_y = record {
@@ -219,29 +211,28 @@ give_calling_keeps x y waiting more to_x to_y h =
         };
       };
     } in
-    subst (λ t. BothHear t u (now (Calling more) x) y to_x to_y) (same_calling x.modulus (ua_tag to_x) waiting more) other
+    rw (← same_calling x.modulus (ua_tag to_x) waiting more) other
 
 -- more is given while up
 pub give_up_keeps :
-    (x y : End) (r : Running) (packet : Packet) (to_x to_y : List Tagged)
+    (x : End) {y : End} {r : Running} (packet : Packet) {to_x to_y : List Tagged}
     → UpInvariant x y r to_x to_y → UpInvariant x y (given_more packet r) to_x to_y
-give_up_keeps x y r packet to_x to_y h =
+give_up_keeps x {y} {r} packet {to_y} h =
     let s = given_more packet r in
     let ys = set_ups y in
     let u = view y to_y in
     let xs = set_ups (now (Up r) x) in
     let zs = set_ups (now (Up s) x) in
     let k : Keeps r x.window = h.x_hears.keeps in
-    let order = acked_got_top x y r to_x to_y h in
+    let order = acked_got_top x h in
     let same = got_same x.ended r.set_up s.set_up refl in
     let given = k.given in
-    let longer : length (r.set_up.given ++ packet ∷ []) ≡ length r.set_up.given + 1 =
-    length-append r.set_up.given (packet ∷ []) in
+    let longer = length-append r.set_up.given (packet ∷ []) in
     record {
       x_hears = record {
         tags = h.x_hears.tags;
         one_exchange = h.x_hears.one_exchange;
-        mates = record { last = h.x_hears.mates.last; each_other = h.x_hears.mates.each_other };
+        mates = h.x_hears.mates;
         keeps = record {
           order = k.order;
           window = k.window;
@@ -253,27 +244,21 @@ give_up_keeps x y r packet to_x to_y h =
           counts = h.x_hears.numbers.counts ∙ ap length (sym (same (era x)));
           acks = h.x_hears.numbers.acks;
           infos = h.x_hears.numbers.infos;
-          sent = if_weaker u (λ b. WasSent (view_up x.modulus r) to_x b.top) (λ b. WasSent (view_up x.modulus s) to_x b.top)
-              (λ b w. record { stored = w.stored; under_way = w.under_way }) h.x_hears.numbers.sent;
+          sent = if_weaker u _ _ (λ b w. w) h.x_hears.numbers.sent;
         };
         packets = record {
           carries = h.x_hears.packets.carries;
           stored = h.x_hears.packets.stored;
-          prefixes = each_pushed (GotOf ys) x.ended s.set_up
-              (each_before (GotOf ys) x.ended r.set_up h.x_hears.packets.prefixes)
-              (each_last (GotOf ys) x.ended r.set_up h.x_hears.packets.prefixes);
+          prefixes = each_pushed _ x.ended s.set_up (each_before _ x.ended r.set_up h.x_hears.packets.prefixes)
+              (each_last _ x.ended r.set_up h.x_hears.packets.prefixes);
           origins = origins_pushed x.ended s.set_up (origins_last x.ended r.set_up h.x_hears.packets.origins)
               (origins_before x.ended r.set_up h.x_hears.packets.origins);
-          own = subst (λ (q : SetUp). IfSome q.origin (λ o. o ≡ r.set_up.mate)) (sym (at_last x.ended s.set_up))
-              (own_origin x y r to_x to_y h);
+          own = rw (at_last x.ended s.set_up) (own_origin x h);
           earlier = h.x_hears.packets.earlier;
         };
-        moduli = moduli_up u x y r s to_x refl refl
-            (each_last (OriginAlike ys) x.ended r.set_up h.x_hears.moduli.origins) h.x_hears.moduli;
+        moduli = moduli_up x refl refl (each_last _ x.ended r.set_up h.x_hears.moduli.origins) h.x_hears.moduli;
       };
-      y_hears = last_changes u x y r s to_x to_y (prefix_push r.set_up.given packet) (le_refl r.top) refl
-          (if_weaker u (λ b. AcksRise b.mate b.va to_y (length (got_in xs b.mate)) b.top)
-          (λ b. AcksRise b.mate b.va to_y (length (got_in zs b.mate)) b.top)
+      y_hears = last_changes x (prefix_push packet) (le_refl r.top) refl (if_weaker u _ _
           (λ b c. subst (λ g. AcksRise b.mate b.va to_y (length g) b.top) (sym (same b.mate)) c) h.y_hears.numbers.acks)
           h.y_hears;
     }

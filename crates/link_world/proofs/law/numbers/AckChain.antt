@@ -69,25 +69,22 @@ pub acks_higher :
     (mate va got more top higher : ℕ) (fs : List Tagged) → got ≤ more → more ≤ higher → top ≤ higher
     → AcksRise mate va fs got top → AcksRise mate va fs more higher
 acks_higher mate va got more top higher fs le within up h =
-    chain_wider (acks mate got top) (acks mate more higher) (acks_rising mate more higher)
+    chain_wider (acks mate got top) (acks_rising mate more higher)
     (λ n f holds. ack_higher top higher n (of_mate mate f) up holds) (λ n f. le_refl (ack_next n (of_mate mate f)))
     (λ n ends. (le_trans ends.0 le, within)) va fs h
 
 -- what the mate got is from V(A) to the top
 pub acks_start : (mate va got top : ℕ) (fs : List Tagged) → AcksRise mate va fs got top → (va ≤ got) × (got ≤ top)
-acks_start mate va got top fs h = chain_start (acks mate got top) (acks_rising mate got top) va fs h
+acks_start mate va got top fs h = chain_start (acks_rising mate got top) va fs h
 
-ack_silent : (top n : ℕ) (o : Option Numbered) → o ≡ None → AckHolds top n o × (ack_next n o ≤ n)
-ack_silent top n o is = rw is (tt, le_refl n)
+ack_silent : (top n : ℕ) {o : Option Numbered} → o ≡ None → AckHolds top n o × (ack_next n o ≤ n)
+ack_silent top n is = rw is (tt, le_refl n)
 
 pub acks_silent :
     (mate va got top : ℕ) (fs : List Tagged) → Each (IsSilent mate) fs → va ≤ got → got ≤ top
     → AcksRise mate va fs got top
-acks_silent mate va got top fs silent low high =
-    chain_silent (acks mate got top) (acks_rising mate got top) va fs
-    (each_weaker (IsSilent mate) (λ f. (n : ℕ) → AckHolds top n (of_mate mate f) × (ack_next n (of_mate mate f) ≤ n))
-    (λ f is n. ack_silent top n (of_mate mate f) is) fs silent)
-    (low, high)
+acks_silent mate va got top fs silent low high = chain_silent (acks_rising mate got top) va fs
+    (each_weaker _ _ (λ f is n. ack_silent top n is) fs silent) (low, high)
 
 ack_pushed :
     (got top n : ℕ) (o : Option Numbered) → AckHolds top got o → (ack_next got o ≤ got) → (n ≤ got) × (got ≤ top)
@@ -102,8 +99,7 @@ ack_pushed got top n (Some (Srej nr)) holds next ends = ((le_trans ends.0 holds.
 pub acks_pushed :
     (mate va got top : ℕ) (fs : List Tagged) (f : Tagged) → AckHolds top got (of_mate mate f)
     → ack_next got (of_mate mate f) ≤ got → AcksRise mate va fs got top → AcksRise mate va (fs ++ f ∷ []) got top
-acks_pushed mate va got top fs f holds next h =
-    chain_pushed (acks mate got top) f (λ n ends. go n ends) va fs h
+acks_pushed mate va got top fs f holds next h = chain_pushed (acks mate got top) f (λ n ends. go n ends) va fs h
   where
     go : (n : ℕ) → (n ≤ got) × (got ≤ top)
         → AckHolds top n (of_mate mate f) × ((ack_next n (of_mate mate f) ≤ got) × (got ≤ top))
@@ -111,12 +107,11 @@ acks_pushed mate va got top fs f holds next h =
 
 -- the number of the first frame is the new V(A), where it acknowledges
 pub acks_advanced :
-    (mate va got top : ℕ) (f : Tagged) (fs : List Tagged) (nr : ℕ)
+    (mate va got top : ℕ) (f : Tagged) (fs : List Tagged) {nr : ℕ}
     → ((n : ℕ) → n ≤ nr → AckHolds top n (of_mate mate f)) → ack_next va (of_mate mate f) ≡ nr
-    → ack_next nr (of_mate mate f) ≡ nr
-    → AcksRise mate va (f ∷ fs) got top → AcksRise mate nr (f ∷ fs) got top
-acks_advanced mate va got top f fs nr holds is same h = (
+    → ack_next nr (of_mate mate f) ≡ nr → AcksRise mate va (f ∷ fs) got top → AcksRise mate nr (f ∷ fs) got top
+acks_advanced mate va got top f fs {nr} holds is same h = (
   holds nr (le_refl nr),
-  chain_from (acks mate got top) (acks_rising mate got top) (ack_next nr (of_mate mate f))
+  chain_from (acks_rising mate got top) (ack_next nr (of_mate mate f))
       (ack_next va (of_mate mate f)) fs (omega arith) h.1,
 )

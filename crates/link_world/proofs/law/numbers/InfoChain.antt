@@ -72,21 +72,17 @@ info_higher vr more k n (Some (Srej nr)) le h = tt
 pub infos_higher :
     (mate reached lower vr more k : ℕ) (fs : List Tagged) → lower ≤ reached → vr ≤ more
     → InfosFit mate reached fs vr k → InfosFit mate lower fs more k
-infos_higher mate reached lower vr more k fs le up h =
-    chain_from (infos mate more k) (infos_rising mate more k) lower reached fs le
-    (chain_wider (infos mate vr k) (infos mate more k) (infos_rising mate more k)
+infos_higher mate reached lower vr more k fs le up h = chain_from (infos_rising mate more k) lower reached fs le
+    (chain_wider (infos mate vr k) (infos_rising mate more k)
     (λ n f holds. info_higher vr more k n (of_mate mate f) up holds) (λ n f. le_refl (info_next n (of_mate mate f)))
     (λ n ends. tt) reached fs h)
 
-info_silent : (vr k n : ℕ) (o : Option Numbered) → o ≡ None → InfoHolds vr k n o × (info_next n o ≤ n)
-info_silent vr k n o is = rw is (tt, le_refl n)
+info_silent : (vr k n : ℕ) {o : Option Numbered} → o ≡ None → InfoHolds vr k n o × (info_next n o ≤ n)
+info_silent vr k n is = rw is (tt, le_refl n)
 
 pub infos_silent : (mate reached vr k : ℕ) (fs : List Tagged) → Each (IsSilent mate) fs → InfosFit mate reached fs vr k
-infos_silent mate reached vr k fs silent =
-    chain_silent (infos mate vr k) (infos_rising mate vr k) reached fs
-    (each_weaker (IsSilent mate) (λ f. (n : ℕ) → InfoHolds vr k n (of_mate mate f) × (info_next n (of_mate mate f) ≤ n))
-    (λ f is n. info_silent vr k n (of_mate mate f) is) fs silent)
-    tt
+infos_silent mate reached vr k fs silent = chain_silent (infos_rising mate vr k) reached fs
+    (each_weaker _ _ (λ f is n. info_silent vr k n is) fs silent) tt
 
 -- the number of an I frame is below a bound
 abbrev pub InfoBelow : ℕ → Option Numbered → Type 0
@@ -101,8 +97,8 @@ info_below_higher top higher (Some (Info ns nr packet)) le h = le_trans h le
 info_below_higher top higher (Some (Super nr)) le h = tt
 info_below_higher top higher (Some (Srej nr)) le h = tt
 
-pub info_below_silent : (top : ℕ) (o : Option Numbered) → o ≡ None → InfoBelow top o
-info_below_silent top o is = rw is tt
+pub info_below_silent : (top : ℕ) {o : Option Numbered} → o ≡ None → InfoBelow top o
+info_below_silent top is = rw is tt
 
 info_within : (top n : ℕ) (o : Option Numbered) → InfoBelow top o → n ≤ top → info_next n o ≤ top
 info_within top n None h le = le
@@ -118,8 +114,7 @@ pub infos_pushed :
     → ((n : ℕ) → n ≤ top → InfoHolds vr k n (of_mate mate f)) → InfosFit mate reached fs vr k
     → InfosFit mate reached (fs ++ f ∷ []) vr k
 infos_pushed mate reached vr k top fs f le below holds h =
-    chain_pushed_within (infos mate vr k) top f (λ n within ends. (holds n within, tt)) reached fs le
-    (each_weaker (λ g. InfoBelow top (of_mate mate g)) (λ g. (n : ℕ) → n ≤ top → info_next n (of_mate mate g) ≤ top)
+    chain_pushed_within (infos mate vr k) top f (λ n within ends. (holds n within, tt)) reached fs le (each_weaker _ _
     (λ g b n within. info_within top n (of_mate mate g) b within) fs below) h
 
 -- one frame more that is no I frame

@@ -1,5 +1,5 @@
 -- All I and S frames that a set-up acted on are of its mate.
-use Rattle.std.proofs.Common.{◌≡◌, ℕ, Bool, true, false, if◌then◌else◌, List, [], ◌∷◌, ◌++◌, All, Option, Some, is_some, refl, sym, ap, ◌∙◌, subst}
+use Rattle.std.proofs.Common.{◌≡◌, ℕ, Bool, true, false, if◌then◌else◌, List, [], ◌∷◌, ◌++◌, All, Some, is_some, refl, sym, ap, ◌∙◌, subst}
 use Rattle.std.specs.List.{AllByRecursion as Each, fold}
 use Rattle.std.proofs.lemmas.List.Elements.{All-from_recursion}
 use Rattle.ax25_frames.specs.declared.frame.Frame.{Frame}
@@ -14,8 +14,7 @@ use Rattle.link_machine.specs.Sent.Sent.{InfoSent, SuperSent, SetupSent}
 use Rattle.link_machine.specs.Step.{refusal_of}
 use Rattle.link_machine.specs.Turn.{Turn}
 use Rattle.link_world.proofs.law.reduced.Core.{End, Tagged as CoreTagged, between}
-use Rattle.link_world.proofs.law.reduced.Core.Numbered.{Info}
-use Rattle.link_world.proofs.law.reduced.CoreOf.{super_of, running_of, end_behind, up_end}
+use Rattle.link_world.proofs.law.reduced.CoreOf.{end_behind, up_end}
 use Rattle.link_world.specs.SetUps.{SetUp, change_last, last_changed, giving, getting, acting}
 use Rattle.link_world.specs.Flight.{Tagged, is_numbered}
 use Rattle.link_world.specs.Origin.{ActedOnOne}
@@ -51,8 +50,7 @@ told_keeps :
 told_keeps next qs [] none h = h
 told_keeps next qs (Opened ours ∷ told) none h =
     told_keeps next (qs ++ next ∷ []) told none (each_pushed ActedOnMate qs next h none)
-told_keeps next qs (Given packet ∷ told) none h =
-    told_keeps next (change_last (getting packet) qs) told none
+told_keeps next qs (Given packet ∷ told) none h = told_keeps next (change_last (getting packet) qs) told none
     (change_last_keeps ActedOnMate (getting packet) (λ q a. a) qs h)
 told_keeps next qs (Ended why ∷ told) none h = told_keeps next qs told none h
 
@@ -81,38 +79,33 @@ acted_sends packet r h = go (is_some (refusal_of r.machine (Send packet)))
 
 -- the last one acts on a frame of its mate
 acting_keeps :
-    (qs ended : List SetUp) (last : SetUp) (number : ℕ) (takes : Bool) → qs ≡ ended ++ last ∷ [] → number ≡ last.mate
+    (qs ended : List SetUp) (last : SetUp) {number : ℕ} (takes : Bool) → qs ≡ ended ++ last ∷ [] → number ≡ last.mate
     → Each ActedOnMate qs → Each ActedOnMate (change_last (acting number takes) qs)
-acting_keeps qs ended last number takes is mate h =
+acting_keeps qs ended last {number} takes is mate h =
     let all = subst (λ t. Each ActedOnMate t) is h in
     subst (λ t. Each ActedOnMate t) (sym (ap (change_last (acting number takes)) is
     ∙ change_last-push (acting number takes) ended last))
     (each_pushed ActedOnMate ended (acting number takes last) (each_before ActedOnMate ended last all)
-    (each_pushed (λ n. n ≡ last.mate) last.acted_on number (each_last ActedOnMate ended last all) mate))
+    (each_pushed _ last.acted_on number (each_last ActedOnMate ended last all) mate))
 
 -- the mate of the last set-up, of a frame that is acted on
 mate_of_front :
-    (r : RecordedEnd) (ended : List SetUp) (last : SetUp) (f : Tagged) (sent : Sent) (y : End)
-    (rest to_y : List CoreTagged)
-    → is_numbered (sent_kind f.modulus sent) ≡ true
+    (r : RecordedEnd) (ended : List SetUp) (last : SetUp) (f : Tagged) (sent : Sent) {y : End}
+    {rest to_y : List CoreTagged} → is_numbered (sent_kind f.modulus sent) ≡ true
     → Invariant (between (up_end r.machine (core_set_ups ended) (core_set_up last)) y
-    (core_tagged (record f { sent = sent }) ∷ rest) to_y)
-    → f.set_up ≡ last.mate
-mate_of_front r ended last f (InfoSent ns nr packet) y rest to_y is inv =
-    front_of_mate (end_behind r.machine (core_set_ups ended)) y (running_of r.machine (core_set_up last)) f.set_up
-    f.modulus (Info ns nr packet) rest to_y inv
-mate_of_front r ended last f (SuperSent which command nr flag) y rest to_y is inv =
-    front_of_mate (end_behind r.machine (core_set_ups ended)) y (running_of r.machine (core_set_up last)) f.set_up
-    f.modulus (super_of which nr flag) rest to_y inv
-mate_of_front r ended last f (SetupSent which flag) y rest to_y is inv =
-    absurd (Rattle.std.proofs.lemmas.Bool.false≢true is)
+    (core_tagged (record f { sent = sent }) ∷ rest) to_y) → f.set_up ≡ last.mate
+mate_of_front r ended last f (InfoSent ns nr packet) is inv =
+    front_of_mate (end_behind r.machine (core_set_ups ended)) inv
+mate_of_front r ended last f (SuperSent which command nr flag) is inv =
+    front_of_mate (end_behind r.machine (core_set_ups ended)) inv
+mate_of_front r ended last f (SetupSent which flag) is inv = absurd (Rattle.std.proofs.lemmas.Bool.false≢true is)
 
 pub acted_hears :
-    (r : RecordedEnd) (x y : End) (f : Tagged) (frame : Frame) (rest to_y : List CoreTagged) → Shown r x → IsWritten f
+    {r : RecordedEnd} {x y : End} {f : Tagged} (frame : Frame) {rest to_y : List CoreTagged} → Shown r x → IsWritten f
     → read_in r.machine.incoming.modulus f ≡ Some frame
     → Invariant (between x y (core_tagged f ∷ rest) to_y) → Each ActedOnMate r.set_ups
     → Each ActedOnMate (noting (Hears (record f { frame = frame })) r).set_ups
-acted_hears r x y f frame rest to_y shown written is inv h = by_state x shown inv
+acted_hears {r} {x} {y} {f} frame {rest} {to_y} shown written is inv h = by_state x shown inv
   where
     g : Tagged
     g = record f { frame = frame }
@@ -125,15 +118,13 @@ acted_hears r x y f frame rest to_y shown written is inv h = by_state x shown in
         subst (λ s. Each ActedOnMate (hearing s g r).set_ups) (sym state) (go (is_numbered frame.kind) refl)
       where
         kind : frame.kind ≡ sent_kind f.modulus f.sent
-        kind = kind_of_up r.machine ended last frame.kind f.modulus f.sent f.set_up f.answers y rest to_y
-            (read_frame_as r.machine.incoming.modulus f frame written is)
-            (read_frame_same r.machine.incoming.modulus f frame written is) inv
+        kind = kind_of_up r.machine ended last frame.kind f.modulus f.sent f.set_up f.answers
+            (read_frame_as r.machine.incoming.modulus frame written is) (read_frame_same frame written is) inv
 
-        go : (b : Bool) → is_numbered frame.kind ≡ b
-            → Each ActedOnMate (if b then record r
+        go : (b : Bool) → is_numbered frame.kind ≡ b → Each ActedOnMate (if b then record r
             { set_ups = change_last (acting f.set_up (accepts r.machine frame.kind)) r.set_ups } else r).set_ups
-        go true e = acting_keeps r.set_ups ended last f.set_up (accepts r.machine frame.kind) qs
-            (mate_of_front r ended last f f.sent y rest to_y (sym (ap is_numbered kind) ∙ e) inv) h
+        go true e = acting_keeps r.set_ups ended last (accepts r.machine frame.kind) qs
+            (mate_of_front r ended last f f.sent (sym (ap is_numbered kind) ∙ e) inv) h
         go false e = h
     by_state x (ShownReleasing state packets waiting) inv =
         subst (λ s. Each ActedOnMate (hearing s g r).set_ups) (sym state) h

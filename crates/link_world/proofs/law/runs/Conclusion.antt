@@ -2,8 +2,7 @@
 -- rise.
 use Rattle.std.proofs.Common.{◌≡◌, ◌≢◌, ℕ, zero, suc, ◌<◌, List, [], ◌∷◌, length, get_or, All, Option, Some, None, IfSome, refl, sym, ap, ◌∙◌, subst, arith}
 use Rattle.std.specs.Bool.{⊤}
-use Rattle.std.specs.List.{AllByRecursion as Each}
-use Rattle.std.specs.List.{cons_option}
+use Rattle.std.specs.List.{AllByRecursion as Each, cons_option}
 use Rattle.std.proofs.lemmas.List.Elements.{All-from_recursion}
 use Rattle.std.proofs.lemmas.Option.{slice_get-get_or}
 use Rattle.selective_reject.specs.declared.packet.Packet.{Packet}
@@ -15,17 +14,16 @@ use Rattle.link_world.specs.Recorded.{RecordedEnd}
 use Rattle.link_world.specs.World.{World}
 use Rattle.link_machine.specs.declared.params.Params.{Params}
 use Rattle.link_world.proofs.law.Each.{each_weaker, each_both}
-use Rattle.link_world.proofs.law.showing.Shown.{core_set_up, core_set_ups, Shown}
+use Rattle.link_world.proofs.law.showing.Shown.{core_set_up, core_set_ups, length_core, Shown}
 use Rattle.link_world.proofs.law.showing.Shown.Shown.{ShownIdle, ShownCalling, ShownUp, ShownReleasing}
 use Rattle.link_world.proofs.law.up.Settling.{all_of_last}
-use Rattle.link_world.proofs.law.showing.Outcomes.{length_core}
 use Rattle.link_world.proofs.law.runs.WorldSteps.{ShowsWorld}
 
-shown_set_ups : (r : RecordedEnd) (x : End) → Shown r x → set_ups x ≡ core_set_ups r.set_ups
-shown_set_ups r x (ShownIdle state packets waiting) = refl
-shown_set_ups r x (ShownCalling state waiting) = refl
-shown_set_ups r x (ShownUp ended last is state waiting) = sym (ap core_set_ups is ∙ all_of_last ended last)
-shown_set_ups r x (ShownReleasing state packets waiting) = refl
+shown_set_ups : {r : RecordedEnd} {x : End} → Shown r x → set_ups x ≡ core_set_ups r.set_ups
+shown_set_ups (ShownIdle state packets waiting) = refl
+shown_set_ups (ShownCalling state waiting) = refl
+shown_set_ups (ShownUp ended last is state waiting) = sym (ap core_set_ups is ∙ all_of_last ended last)
+shown_set_ups (ShownReleasing state packets waiting) = refl
 
 each_of_map : (P : CoreSetUp → Type 0) (qs : List SetUp) → Each P (core_set_ups qs) → Each (λ q. P (core_set_up q)) qs
 each_of_map P [] h = tt
@@ -52,8 +50,7 @@ origin_of_got (p ∷ got) accepted some = refl
 -- a set-up that got something
 got_prefix :
     (theirs : List SetUp) (q : SetUp) (accepted : Option ℕ) → q.accepted ≡ accepted
-    → GotBy (core_set_ups theirs) q.got accepted
-    → IfSome accepted (λ n. modulus_in (core_set_ups theirs) n ≡ q.modulus)
+    → GotBy (core_set_ups theirs) q.got accepted → IfSome accepted (λ n. modulus_in (core_set_ups theirs) n ≡ q.modulus)
     → q.got ≢ [] → GotPrefix theirs q
 got_prefix theirs q None is none alike some = absurd (some none)
 got_prefix theirs q (Some n) is h alike some =
@@ -72,10 +69,8 @@ got_prefix theirs q (Some n) is h alike some =
 pub prefixes_hold :
     (theirs ours : List SetUp) → Each (GotOf (core_set_ups theirs)) (core_set_ups ours)
     → Each (OriginAlike (core_set_ups theirs)) (core_set_ups ours) → All (GotNothingElse theirs) ours
-prefixes_hold theirs ours h alike =
-    All-from_recursion (GotNothingElse theirs) ours
-    (each_both (λ q. GotOf (core_set_ups theirs) (core_set_up q)) (λ q. OriginAlike (core_set_ups theirs) (core_set_up q))
-    (GotNothingElse theirs) (λ q g a some. got_prefix theirs q q.accepted refl g a some)
+prefixes_hold theirs ours h alike = All-from_recursion (GotNothingElse theirs) ours
+    (each_both _ _ _ (λ q g a some. got_prefix theirs q q.accepted refl g a some)
     ours (each_of_map (GotOf (core_set_ups theirs)) ours h) (each_of_map (OriginAlike (core_set_ups theirs)) ours alike))
 
 -- numbers that rise, by recursion
@@ -108,8 +103,7 @@ above_all n (q ∷ qs) h = go (origin q) h.0 (above_all n qs h.1)
 
 rises_by :
     (o : Option ℕ) (qs : List SetUp) → IfSome o (λ a. Each (λ q. IfSome (origin q) (λ m. a < m)) qs)
-    → Rising (origins qs)
-    → Rising (cons_option o (origins qs))
+    → Rising (origins qs) → Rising (cons_option o (origins qs))
 unfolding Rising
 rises_by None qs h rest = rest
 rises_by (Some a) qs h rest = (above_all a qs h, rest)
@@ -121,9 +115,7 @@ below_each q qs h =
   where
     go : (o : Option ℕ) → q.accepted ≡ o → IfSome o (λ a. Each (λ p. IfSome (origin p) (λ m. a < m)) qs)
     go None is = tt
-    go (Some a) is = each_weaker (λ p. OriginBelow (core_set_up q) (core_set_up p))
-        (λ p. IfSome (origin p) (λ m. a < m))
-        (λ p b. some_origin p.got p.accepted (λ m. a < m)
+    go (Some a) is = each_weaker _ _ (λ p b. some_origin p.got p.accepted (λ m. a < m)
         (subst (λ o. IfSome o (λ c. IfSome p.accepted (λ m. c < m))) is b))
         qs (each_of_map (OriginBelow (core_set_up q)) qs h)
 
@@ -141,15 +133,13 @@ pub record GotPrefixes (near far : RecordedEnd) : Type 0 where
   pub prefixes : All (GotNothingElse far.set_ups) near.set_ups
   pub origins_rise : RiseStrictly (origins near.set_ups)
 
-pub near_got : (a b : Params) (w : World) → ShowsWorld a b w → GotPrefixes w.a.end w.b.end
-near_got a b w s =
-    let ours = shown_set_ups w.a.end s.x s.near in
-    let theirs = shown_set_ups w.b.end s.y s.far in
+pub near_got : {a b : Params} {w : World} → ShowsWorld a b w → GotPrefixes w.a.end w.b.end
+near_got {w} s =
+    let ours = shown_set_ups s.near in
+    let theirs = shown_set_ups s.far in
     record {
       prefixes = prefixes_hold w.b.end.set_ups w.a.end.set_ups
-          (subst (λ qs. Each (GotOf qs) (core_set_ups w.a.end.set_ups)) theirs
-          (subst (λ qs. Each (GotOf (set_ups s.y)) qs) ours s.holds.x_hears.packets.prefixes))
-          (subst (λ qs. Each (OriginAlike qs) (core_set_ups w.a.end.set_ups)) theirs
-          (subst (λ qs. Each (OriginAlike (set_ups s.y)) qs) ours s.holds.x_hears.moduli.origins));
+          (rw (← theirs) (subst (λ qs. Each (GotOf (set_ups s.y)) qs) ours s.holds.x_hears.packets.prefixes))
+          (rw (← theirs) (subst (λ qs. Each (OriginAlike (set_ups s.y)) qs) ours s.holds.x_hears.moduli.origins));
       origins_rise = origins_hold w.a.end.set_ups (subst OriginsRise ours s.holds.x_hears.packets.origins);
     }

@@ -1,17 +1,15 @@
 -- No N(R) that an end reads is invalid, so no link is reset by a number.
-use Rattle.std.proofs.Common.{◌≡◌, ℕ, ◌-◌, ◌%◌, ◌<◌, ◌≤◌, true, List, [], ◌∷◌, Option, Some, None, refl, ap, sym, ◌∙◌, subst}
+use Rattle.std.proofs.Common.{◌≡◌, ℕ, ◌%◌, ◌<◌, true, List, [], ◌∷◌, Option, Some, None, refl, ap, sym, ◌∙◌, subst}
 use Rattle.std.proofs.lemmas.Bool.{le-leb}
 use Rattle.std.specs.List.{AllByRecursion as Each}
 use Rattle.ax25_frames.specs.declared.frame.Frame.{Frame}
-use Rattle.selective_reject.specs.Numbers.{ahead}
 use Rattle.link_machine.specs.declared.params.Params.{Params}
 use Rattle.link_machine.specs.Machine.{Machine, is_valid}
 use Rattle.link_machine.specs.Sent.{Sent, sent_kind}
 use Rattle.link_machine.specs.Sent.Sent.{InfoSent, SuperSent, SetupSent}
 use Rattle.link_world.proofs.law.reduced.Core.{End, Tagged as CoreTagged, Numbered, between}
-use Rattle.link_world.proofs.law.reduced.Core.Numbered.{Info}
 use Rattle.link_world.proofs.law.reduced.CoreMoves.{numbered_to}
-use Rattle.link_world.proofs.law.reduced.CoreOf.{super_of, running_of, end_behind, up_end}
+use Rattle.link_world.proofs.law.reduced.CoreOf.{end_behind, up_end}
 use Rattle.link_world.specs.SetUps.{SetUp}
 use Rattle.link_world.specs.Flight.{Tagged}
 use Rattle.link_world.specs.Recorded.{RecordedEnd}
@@ -30,35 +28,29 @@ use Rattle.link_world.proofs.law.showing.Shown.Shown.{ShownIdle, ShownCalling, S
 use Rattle.link_world.proofs.law.runs.WorldSteps.{ShowsWorld, windows_of}
 
 valid_by :
-    (m : Machine) (ended : List SetUp) (last : SetUp) (y : End) (tag k : ℕ) (n : Numbered) (nr : ℕ)
-    (rest to_y : List CoreTagged) → nr_of n ≡ nr → m.incoming.window < m.incoming.modulus
+    (m : Machine) (ended : List SetUp) (last : SetUp) {y : End} {tag k : ℕ} {n : Numbered} {nr : ℕ}
+    {rest to_y : List CoreTagged} → nr_of n ≡ nr → m.incoming.window < m.incoming.modulus
     → Invariant (between (up_end m (core_set_ups ended) (core_set_up last)) y (numbered_to tag k n ∷ rest) to_y)
     → is_valid (nr % k) m ≡ true
-valid_by m ended last y tag k n nr rest to_y is fits inv =
+valid_by m ended last {nr} is fits inv =
     let x = end_behind m (core_set_ups ended) in
-    let r = running_of m (core_set_up last) in
-    let named_by = nr_is_named m.incoming.modulus x y r tag k n rest to_y fits inv in
-    subst (λ c. is_valid (nr % c) m ≡ true) (sym (front_modulus x y r tag k n rest to_y inv))
-    (le-leb _ _ (subst (λ t. ahead m.incoming.modulus m.outgoing.va (t % m.incoming.modulus) ≤ m.outgoing.top -
-    m.outgoing.va) is named_by.0))
+    let named_by = nr_is_named m.incoming.modulus x fits inv in
+    subst (λ c. is_valid (nr % c) m ≡ true) (sym (front_modulus x inv)) (le-leb _ _ (rw (← is) named_by.0))
 
 names_by :
-    (m : Machine) (ended : List SetUp) (last : SetUp) (y : End) (f : Tagged) (sent : Sent) (rest to_y : List CoreTagged)
-    → m.incoming.window < m.incoming.modulus
-    → Invariant (between (up_end m (core_set_ups ended) (core_set_up last)) y
-    (core_tagged (record f { sent = sent }) ∷ rest) to_y)
-    → names_valid m (sent_kind f.modulus sent) ≡ true
-names_by m ended last y f (InfoSent ns nr packet) rest to_y fits inv =
-    valid_by m ended last y f.set_up f.modulus (Info ns nr packet) nr rest to_y refl fits inv
-names_by m ended last y f (SuperSent which command nr flag) rest to_y fits inv =
-    valid_by m ended last y f.set_up f.modulus (super_of which nr flag) nr rest to_y (nr_of_super which nr flag) fits inv
-names_by m ended last y f (SetupSent which flag) rest to_y fits inv = refl
+    (m : Machine) (ended : List SetUp) (last : SetUp) {y : End} (f : Tagged) (sent : Sent) {rest to_y : List CoreTagged}
+    → m.incoming.window < m.incoming.modulus → Invariant (between (up_end m (core_set_ups ended) (core_set_up last)) y
+    (core_tagged (record f { sent = sent }) ∷ rest) to_y) → names_valid m (sent_kind f.modulus sent) ≡ true
+names_by m ended last f (InfoSent ns nr packet) fits inv = valid_by m ended last refl fits inv
+names_by m ended last f (SuperSent which command nr flag) fits inv =
+    valid_by m ended last (nr_of_super which nr flag) fits inv
+names_by m ended last f (SetupSent which flag) fits inv = refl
 
 reads_by :
-    (a b : Params) (r : RecordedEnd) (towards : List Tagged) (far : Side) → WindowsFit a b
+    {a b : Params} {r : RecordedEnd} {towards : List Tagged} {far : Side} → WindowsFit a b
     → ShowsWorld a b (record { a = record { end = r; towards = towards }; b = far })
     → reads_valid r.machine.control.state r.machine towards ≡ true
-reads_by a b r towards far fit s = go s.x s.near s.holds towards s.near_written refl
+reads_by {a} {b} {r} {towards} {far} fit s = go s.x s.near s.holds towards s.near_written refl
   where
     w : World
     w = record { a = record { end = r; towards = towards }; b = far }
@@ -82,21 +74,18 @@ reads_by a b r towards far fit s = go s.x s.near s.holds towards s.near_written 
 
         by_read : (o : Option Frame) → read_in r.machine.incoming.modulus f ≡ o → read_names_valid r.machine o ≡ true
         by_read None read = refl
-        by_read (Some frame) read =
-            ap (names_valid r.machine)
-            (kind_of_up r.machine ended last frame.kind f.modulus f.sent f.set_up f.answers s.y (core_flight rest)
-            (core_flight far.towards) (read_frame_as r.machine.incoming.modulus f frame one read)
-            (read_frame_same r.machine.incoming.modulus f frame one read) front)
-            ∙ names_by r.machine ended last s.y f f.sent (core_flight rest) (core_flight far.towards)
-            (windows_of a b w fit s).own front
+        by_read (Some frame) read = ap (names_valid r.machine)
+            (kind_of_up r.machine ended last frame.kind f.modulus f.sent f.set_up f.answers (read_frame_as r.machine.incoming.modulus frame one read)
+            (read_frame_same frame one read) front)
+            ∙ names_by r.machine ended last f f.sent (windows_of fit s).own front
     go x (ShownReleasing state packets waiting) inv ts written is = ap (λ t. reads_valid t r.machine ts) state
 
 -- what the near end reads
 pub near_valid :
-    (a b : Params) (w : World) (event : Event) → WindowsFit a b → ShowsWorld a b w → hears_valid event w ≡ true
-near_valid a b w (Connect e) fit s = refl
-near_valid a b w (Send e packet) fit s = refl
-near_valid a b w (Disconnect e) fit s = refl
-near_valid a b w (Tick e waiting) fit s = refl
-near_valid a b w (Hear e) fit s = reads_by a b w.a.end w.a.towards w.b fit s
-near_valid a b w (Lose e index) fit s = refl
+    {a b : Params} {w : World} (event : Event) → WindowsFit a b → ShowsWorld a b w → hears_valid event w ≡ true
+near_valid (Connect e) fit s = refl
+near_valid (Send e packet) fit s = refl
+near_valid (Disconnect e) fit s = refl
+near_valid (Tick e waiting) fit s = refl
+near_valid (Hear e) fit s = reads_by fit s
+near_valid (Lose e index) fit s = refl

@@ -1,11 +1,10 @@
 -- Each event of a quiet run keeps what holds of a world.
-use Rattle.std.proofs.Common.{◌≡◌, ℕ, zero, suc, ◌+◌, ◌<◌, ◌≤◌, Option, Some, Bool, true, false, ◌==◌, cond, List, [], ◌∷◌, ◌++◌, map, ◌⊎◌, inl, inr, refl, sym, ap, ◌∙◌, subst, arith, append-nil}
+use Rattle.std.proofs.Common.{◌≡◌, ℕ, zero, suc, ◌+◌, ◌<◌, ◌≤◌, Some, Bool, true, false, ◌==◌, cond, List, [], ◌∷◌, ◌++◌, map, ◌⊎◌, inl, inr, refl, sym, ap, ◌∙◌, subst, arith, append-nil}
 use Rattle.std.specs.List.{AllByRecursion as Each, remove}
 use Rattle.std.proofs.lemmas.Bool.{eqb-true, or_cases}
 use Rattle.std.proofs.lemmas.List.{map-append}
 use Rattle.std.proofs.lemmas.List.Sums.{sum_by-cons}
 use Rattle.ax25_frames.specs.declared.frame.Frame.{Frame}
-use Rattle.ax25_frames.specs.declared.frame.U.{U}
 use Rattle.ax25_frames.specs.declared.frame.U.TheVariants.{Sabm as SabmFrame, Sabme as SabmeFrame, Disc as DiscFrame, Dm as DmFrame, Ua as UaFrame}
 use Rattle.selective_reject.specs.declared.window.Mode.{Mode}
 use Rattle.selective_reject.specs.declared.window.Mode.TheVariants.{Rej as RejMode, Srej as SrejMode}
@@ -23,7 +22,7 @@ use Rattle.link_world.specs.Flight.{Tagged, asks, asks_in, answers_in}
 use Rattle.link_world.specs.Recorded.{RecordedEnd, Happening, seen, hears_ask, behind, tagged}
 use Rattle.link_world.specs.Recorded.Happening.{Hears}
 use Rattle.link_world.specs.World.{World, read_in}
-use Rattle.link_world.specs.Quiet.{is_alone, is_sabm, is_sabm_frame}
+use Rattle.link_world.specs.Quiet.{is_alone, is_sabm}
 use Rattle.link_world.specs.Windows.{WindowsFit, HasHalfWindows}
 use Rattle.link_world.proofs.law.Each.{each_append, each_removed}
 use Rattle.link_world.proofs.law.invariant.Exchanges.{sabms_are_asks}
@@ -33,8 +32,8 @@ use Rattle.link_world.proofs.law.invariant.Invariant.{Invariant}
 use Rattle.link_world.proofs.law.up.Info.{WindowsOf}
 use Rattle.link_world.proofs.law.showing.Shown.{core_flight, core_tagged, Shown, IsWritten, AnswersAsSent}
 use Rattle.link_world.proofs.law.showing.Shown.Shown.{ShownIdle, ShownCalling, ShownUp, ShownReleasing}
-use Rattle.link_world.proofs.law.up.Settling.{Outcome, IsAlone}
-use Rattle.link_world.proofs.law.runs.EndSteps.{HearsNothing, hears_keeps, asks_keep}
+use Rattle.link_world.proofs.law.showing.Outcome.{IsAlone, Keeps}
+use Rattle.link_world.proofs.law.runs.EndSteps.{HearsNothing, CalledAlone, stands, hears_keeps, asks_keep}
 
 -- what holds of a world
 pub record ShowsWorld (a b : Params) (w : World) : Type 0 where
@@ -51,8 +50,8 @@ pub record ShowsWorld (a b : Params) (w : World) : Type 0 where
   pub far_written : Each IsWritten w.b.towards
 
 -- the same from the other end
-pub shows_mirror : (a b : Params) (w : World) → ShowsWorld a b w → ShowsWorld b a (record { a = w.b; b = w.a })
-shows_mirror a b w s = record {
+pub shows_mirror : {a b : Params} {w : World} → ShowsWorld a b w → ShowsWorld b a (record { a = w.b; b = w.a })
+shows_mirror s = record {
   x = s.y;
   y = s.x;
   near = s.far;
@@ -67,19 +66,19 @@ shows_mirror a b w s = record {
 }
 
 shown_window :
-    (r : RecordedEnd) (x : End) → Shown r x → x.window ≡ x.windows x.modulus
+    {r : RecordedEnd} {x : End} → Shown r x → x.window ≡ x.windows x.modulus
     → r.machine.incoming.window ≡ window_in r.machine.incoming.modulus r.machine.params
-shown_window r x (ShownIdle state packets waiting) is = is
-shown_window r x (ShownCalling state waiting) is = is
-shown_window r x (ShownUp ended last l state waiting) is = is
-shown_window r x (ShownReleasing state packets waiting) is = is
+shown_window (ShownIdle state packets waiting) is = is
+shown_window (ShownCalling state waiting) is = is
+shown_window (ShownUp ended last l state waiting) is = is
+shown_window (ShownReleasing state packets waiting) is = is
 
 shown_windows :
-    (r : RecordedEnd) (x : End) → Shown r x → (modulus : ℕ) → x.windows modulus ≡ window_in modulus r.machine.params
-shown_windows r x (ShownIdle state packets waiting) modulus = refl
-shown_windows r x (ShownCalling state waiting) modulus = refl
-shown_windows r x (ShownUp ended last is state waiting) modulus = refl
-shown_windows r x (ShownReleasing state packets waiting) modulus = refl
+    {r : RecordedEnd} {x : End} → Shown r x → (modulus : ℕ) → x.windows modulus ≡ window_in modulus r.machine.params
+shown_windows (ShownIdle state packets waiting) modulus = refl
+shown_windows (ShownCalling state waiting) modulus = refl
+shown_windows (ShownUp ended last is state waiting) modulus = refl
+shown_windows (ShownReleasing state packets waiting) modulus = refl
 
 narrow_below : (window : ℕ) (mode : Mode) → IsWindow 8 window mode → window < 8
 narrow_below window RejMode h = let high = h.1 in omega arith
@@ -105,14 +104,13 @@ window_half p modulus (inr is) h =
 
 -- the windows of the two ends fit
 pub windows_of :
-    (a b : Params) (w : World) → WindowsFit a b → (s : ShowsWorld a b w) → WindowsOf w.a.end.machine.incoming s.y
-windows_of a b w fit s =
+    {a b : Params} {w : World} → WindowsFit a b → (s : ShowsWorld a b w) → WindowsOf w.a.end.machine.incoming s.y
+windows_of {a} {b} {w} fit s =
     let i = w.a.end.machine.incoming in
     let is : IsModulus i.modulus = s.near_sound.modulus in
     let own : i.window ≡ window_in i.modulus a =
-    shown_window w.a.end s.x s.near s.holds.x_hears.moduli.window ∙ ap (window_in i.modulus) s.near_params in
-    let sender : s.y.windows i.modulus ≡ window_in i.modulus b =
-    shown_windows w.b.end s.y s.far i.modulus ∙ ap (window_in i.modulus) s.far_params in
+    shown_window s.near s.holds.x_hears.moduli.window ∙ ap (window_in i.modulus) s.near_params in
+    let sender = shown_windows s.far i.modulus ∙ ap (window_in i.modulus) s.far_params in
     record {
       own = subst (λ k. k < i.modulus) (sym own) (window_below a i.modulus is fit.of_a);
       sender = subst (λ k. k < i.modulus) (sym sender) (window_below b i.modulus is fit.of_b);
@@ -153,8 +151,7 @@ asks_sent on_ask r (s ∷ sent) =
 
 asks_flying : (fs : List Tagged) → Each IsWritten fs → asks_in fs ≡ core_asks (core_flight fs)
 asks_flying [] h = refl
-asks_flying (f ∷ fs) h =
-    sum_by-cons (λ (g : Tagged). cond (asks g.frame.kind) 1 0) f fs
+asks_flying (f ∷ fs) h = sum_by-cons (λ (g : Tagged). cond (asks g.frame.kind) 1 0) f fs
     ∙ ap (λ k. cond (asks k) 1 0 + asks_in fs) h.0.kind
     ∙ ap (λ n. n + asks_in fs) (ask_same f.modulus f.answers f.sent)
     ∙ ap (λ n. ask_of (kind_of f.answers f.modulus f.sent) + n) (asks_flying fs h.1)
@@ -173,41 +170,47 @@ answer_same answers modulus (SetupSent UaFrame flag) h = ap (λ b. cond b 1 0) h
 
 answers_flying : (fs : List Tagged) → Each IsWritten fs → answers_in fs ≡ core_answers (core_flight fs)
 answers_flying [] h = refl
-answers_flying (f ∷ fs) h =
-    sum_by-cons (λ (g : Tagged). cond g.answers 1 0) f fs
+answers_flying (f ∷ fs) h = sum_by-cons (λ (g : Tagged). cond g.answers 1 0) f fs
     ∙ ap (λ n. n + answers_in fs) (answer_same f.answers f.modulus f.sent h.0.answers)
     ∙ ap (λ n. answer_of (kind_of f.answers f.modulus f.sent) + n) (answers_flying fs h.1)
 
--- a SABM, SABME or DISC goes out alone
-alone_as_sent :
-    (h : Happening) (r : RecordedEnd) (stays : List Tagged) (flying : List Tagged) (sent : List SentIn)
-    → Each IsWritten stays → Each IsWritten flying
-    → let turn = link_step r.machine (seen h) in
-    is_alone (asks_in (map (tagged (hears_ask h) (behind h r turn)) sent)) (asks_in flying + answers_in stays) ≡ true
-    → IsAlone (core_flight stays) (core_flight flying) sent
-alone_as_sent h r stays flying sent stays_written flying_written alone =
-    let turn = link_step r.machine (seen h) in
-    let now = behind h r turn in
-    elim (alone_of (asks_in (map (tagged (hears_ask h) now) sent)) (asks_in flying + answers_in stays) alone) [
-      | inl none ↦ inl (sym (asks_sent (hears_ask h) now sent) ∙ none)
-      | inr quiet ↦ let one = asks_flying flying flying_written in
-          let other = answers_flying stays stays_written in
-          inr (omega arith)
-    ]
-
--- the world behind an event of its end
-shows_behind :
-    (a b : Params) (w : World) (s : ShowsWorld a b w) (h : Happening) (stays : List Tagged) → Each IsWritten stays
-    → let turn = link_step w.a.end.machine (seen h) in
-    Outcome s.y (core_flight stays) (core_flight w.b.towards) (hears_ask h) w.a.end.machine.params
-    (behind h w.a.end turn) turn.sent
-    → ShowsWorld a b (record {
-      a = record { end = behind h w.a.end turn; towards = stays };
-      b = record w.b { towards = w.b.towards ++ map (tagged (hears_ask h) (behind h w.a.end turn)) turn.sent };
-    })
-shows_behind a b w s h stays written o =
+-- the world after an event of its end, which leaves some of the frames under way to that end
+abbrev pub world_after : World → Happening → List Tagged → World
+world_after w h stays =
     let turn = link_step w.a.end.machine (seen h) in
     let now = behind h w.a.end turn in
+    record {
+      a = record { end = now; towards = stays };
+      b = record w.b { towards = w.b.towards ++ map (tagged (hears_ask h) now) turn.sent };
+    }
+
+-- what the event sends
+abbrev pub sent_by : World → Happening → List Tagged
+sent_by w h =
+    let turn = link_step w.a.end.machine (seen h) in
+    map (tagged (hears_ask h) (behind h w.a.end turn)) turn.sent
+
+-- a SABM, SABME or DISC goes out alone
+abbrev pub GoesAlone : World → Happening → List Tagged → Type 0
+GoesAlone w h stays = is_alone (asks_in (sent_by w h)) (asks_in w.b.towards + answers_in stays) ≡ true
+
+-- what the event keeps, the world shows
+shows_after :
+    {a b : Params} {w : World} (s : ShowsWorld a b w) (h : Happening) {stays : List Tagged} → Each IsWritten stays
+    → GoesAlone w h stays
+    → Keeps h w.a.end s.y (core_flight stays) (core_flight w.b.towards) (link_step w.a.end.machine (seen h))
+    → ShowsWorld a b (world_after w h stays)
+shows_after {w} s h {stays} written alone keeps =
+    let turn = link_step w.a.end.machine (seen h) in
+    let now = behind h w.a.end turn in
+    let goes : IsAlone (core_flight stays) (core_flight w.b.towards) turn.sent =
+    elim (alone_of (asks_in (sent_by w h)) (asks_in w.b.towards + answers_in stays) alone) [
+      | inl none ↦ inl (sym (asks_sent (hears_ask h) now turn.sent) ∙ none)
+      | inr quiet ↦ let one = asks_flying w.b.towards s.far_written in
+          let other = answers_flying stays written in
+          inr (omega arith)
+    ] in
+    let o = keeps.outcome goes in
     record {
       x = o.end_is;
       y = s.y;
@@ -218,54 +221,34 @@ shows_behind a b w s h stays written o =
       near_sound = subst (λ p. IsSound p now.machine.incoming) (sym o.params) o.sound;
       far_sound = s.far_sound;
       holds = subst (λ fs. Invariant (between o.end_is s.y (core_flight stays) fs))
-          (sym (map-append core_tagged w.b.towards (map (tagged (hears_ask h) now) turn.sent))) o.holds;
+          (sym (map-append core_tagged w.b.towards (sent_by w h))) o.holds;
       near_written = written;
-      far_written = each_append IsWritten w.b.towards (map (tagged (hears_ask h) now) turn.sent) s.far_written o.written;
+      far_written = each_append IsWritten w.b.towards (sent_by w h) s.far_written o.written;
     }
 
 -- what happens that is no frame heard
 pub near_asks :
-    (a b : Params) (w : World) (s : ShowsWorld a b w) (h : Happening) → HearsNothing h
-    → let turn = link_step w.a.end.machine (seen h) in
-    is_alone (asks_in (map (tagged (hears_ask h) (behind h w.a.end turn)) turn.sent))
-    (asks_in w.b.towards + answers_in w.a.towards) ≡ true
-    → ShowsWorld a b (record {
-      a = record { end = behind h w.a.end turn; towards = w.a.towards };
-      b = record w.b { towards = w.b.towards ++ map (tagged (hears_ask h) (behind h w.a.end turn)) turn.sent };
-    })
-near_asks a b w s h silent alone =
-    let turn = link_step w.a.end.machine (seen h) in
-    shows_behind a b w s h w.a.towards s.near_written
-    (asks_keep h w.a.end s.x s.y (core_flight w.a.towards) (core_flight w.b.towards) silent s.near s.near_sound s.holds
-    (alone_as_sent h w.a.end w.a.towards w.b.towards turn.sent s.near_written s.far_written alone))
+    {a b : Params} {w : World} (s : ShowsWorld a b w) (h : Happening) → HearsNothing h → GoesAlone w h w.a.towards
+    → ShowsWorld a b (world_after w h w.a.towards)
+near_asks s h silent alone =
+    shows_after s h s.near_written alone (asks_keep h silent (stands s.near s.near_sound s.holds))
 
 -- a frame that is heard, as it is read
 pub near_hears :
-    (a b : Params) (w : World) (s : ShowsWorld a b w) (f : Tagged) (frame : Frame) (rest : List Tagged) → WindowsFit a b
+    {a b : Params} {w : World} (s : ShowsWorld a b w) (f : Tagged) (frame : Frame) {rest : List Tagged} → WindowsFit a b
     → w.a.towards ≡ f ∷ rest → read_in w.a.end.machine.incoming.modulus f ≡ Some frame
-    → let h = Hears (record f { frame = frame }) in
-    let turn = link_step w.a.end.machine (seen h) in
-    is_alone (asks_in (map (tagged (hears_ask h) (behind h w.a.end turn)) turn.sent))
-    (asks_in w.b.towards + answers_in rest) ≡ true
+    → GoesAlone w (Hears (record f { frame = frame })) rest
     → (w.a.end.machine.control.state ≡ IdleState → is_sabm f.frame.kind ≡ true → asks_in w.b.towards ≡ 0)
-    → ShowsWorld a b (record {
-      a = record { end = behind h w.a.end turn; towards = rest };
-      b = record w.b { towards = w.b.towards ++ map (tagged (hears_ask h) (behind h w.a.end turn)) turn.sent };
-    })
-near_hears a b w s f frame rest fit is read alone called =
-    let h = Hears (record f { frame = frame }) in
-    let turn = link_step w.a.end.machine (seen h) in
+    → ShowsWorld a b (world_after w (Hears (record f { frame = frame })) rest)
+near_hears {w} s f frame {rest} fit is read alone called =
     let to_y = core_flight w.b.towards in
     let written : Each IsWritten (f ∷ rest) = subst (λ fs. Each IsWritten fs) is s.near_written in
     let front : Invariant (between s.x s.y (core_tagged f ∷ core_flight rest) to_y) =
     subst (λ fs. Invariant (between s.x s.y (core_flight fs) to_y)) is s.holds in
-    let quiet : w.a.end.machine.control.state ≡ IdleState → (which : U) (flag : Bool) → f.sent ≡ SetupSent which flag
-    → is_sabm_frame which ≡ true → sabms to_y ≡ 0 =
-    λ idle which flag sent sabm.
+    let quiet : CalledAlone w.a.end f.sent to_y = λ idle which flag sent sabm.
     none (called idle (ap is_sabm written.0.kind ∙ ap (λ t. is_sabm (sent_kind f.modulus t)) sent ∙ sabm)) in
-    shows_behind a b w s h rest written.1
-    (hears_keeps w.a.end f frame s.x s.y (core_flight rest) to_y s.near s.near_sound (windows_of a b w fit s) written.0
-    read quiet front (alone_as_sent h w.a.end rest w.b.towards turn.sent written.1 s.far_written alone))
+    shows_after s (Hears (record f { frame = frame })) written.1 alone
+    (hears_keeps frame (stands s.near s.near_sound front) (windows_of fit s) written.0 read quiet)
   where
     none : asks_in w.b.towards ≡ 0 → sabms (core_flight w.b.towards) ≡ 0
     none e =
@@ -285,13 +268,12 @@ removed_keeps P loses (x ∷ xs) (suc n) h =
     removed_keeps (λ ys. P (x ∷ ys)) (λ before y after. loses (x ∷ before) y after) xs n h
 
 -- a frame is lost
-pub near_loses : (a b : Params) (w : World) (n : ℕ) → ShowsWorld a b w
+pub near_loses : {a b : Params} {w : World} (n : ℕ) → ShowsWorld a b w
     → ShowsWorld a b (record {
       a = record w.a { towards = remove w.a.towards n };
-      b = record w.b
-          { towards = w.b.towards ++ [] };
+      b = record w.b { towards = w.b.towards ++ [] };
     })
-near_loses a b w n s = record {
+near_loses {w} n s = record {
   x = s.x;
   y = s.y;
   near = s.near;
@@ -300,15 +282,9 @@ near_loses a b w n s = record {
   far_params = s.far_params;
   near_sound = s.near_sound;
   far_sound = s.far_sound;
-  holds = subst (λ fs. Invariant (between s.x s.y (core_flight (remove w.a.towards n)) (core_flight fs)))
-      (sym (append-nil w.b.towards))
-      (removed_keeps (λ fs. Invariant (between s.x s.y (core_flight fs) (core_flight w.b.towards)))
-      (λ before f after inv. subst (λ fs. Invariant (between s.x s.y fs (core_flight w.b.towards)))
-      (sym (map-append core_tagged before after))
-      (lose_keeps s.x s.y (core_flight before) (core_tagged f) (core_flight after) (core_flight w.b.towards)
-      (subst (λ fs. Invariant (between s.x s.y fs (core_flight w.b.towards)))
-      (map-append core_tagged before (f ∷ after)) inv)))
-      w.a.towards n s.holds);
+  holds = rw (append-nil w.b.towards) (removed_keeps (λ fs. Invariant (between s.x s.y (core_flight fs) (core_flight w.b.towards)))
+      (λ before f after inv. rw (map-append core_tagged before after) (lose_keeps (core_flight before) (core_tagged f) (core_flight after)
+      (rw (← map-append core_tagged before (f ∷ after)) inv))) w.a.towards n s.holds);
   near_written = removed_keeps (λ fs. Each IsWritten fs)
       (λ before f after. each_removed IsWritten before f after) w.a.towards n s.near_written;
   far_written = subst (λ fs. Each IsWritten fs) (sym (append-nil w.b.towards)) s.far_written;

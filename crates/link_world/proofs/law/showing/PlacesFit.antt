@@ -25,8 +25,7 @@ first_of_empty (suc count) = refl
 length_moved :
     (count : ℕ) (ps : List Place) → count ≤ length ps
     → length (drop count ps ++ replicate count empty_place) ≡ length ps
-length_moved count ps le =
-    length-append (drop count ps) (replicate count empty_place)
+length_moved count ps le = length-append (drop count ps) (replicate count empty_place)
     ∙ ap (λ n. length (drop count ps) + n) (length-replicate count empty_place)
     ∙ ap (λ n. n + count) (length-drop count ps) ∙ omega arith
 
@@ -60,9 +59,9 @@ rej≢srej e = cc
 
 -- V(R) moves on behind a run
 pub fit_behind_run :
-    (i : Incoming) (packet : Packet) → i.mode ≡ SrejMode → IsFit i
+    {i : Incoming} (packet : Packet) → i.mode ≡ SrejMode → IsFit i
     → IsFit (moved_on (length (packet ∷ run (drop 1 i.places))) i)
-fit_behind_run i packet mode f =
+fit_behind_run {i} packet mode f =
     let ps : List Place = drop 1 i.places in
     let count : ℕ = length (packet ∷ run ps) in
     let short = short_run ps in
@@ -86,17 +85,15 @@ fit_behind_run i packet mode f =
     behind (p ∷ qs) h = h
 
 moved_empty : (w : ℕ) → 1 ≤ w → drop 1 (replicate w empty_place) ++ replicate 1 empty_place ≡ replicate w empty_place
-moved_empty w positive =
-    ap (λ t. t ++ replicate 1 empty_place) (drop-replicate 1 w empty_place)
+moved_empty w positive = ap (λ t. t ++ replicate 1 empty_place) (drop-replicate 1 w empty_place)
     ∙ replicate-append-replicate (w - 1) 1 empty_place
     ∙ ap (λ n. replicate n empty_place) (omega arith)
 
 -- by REJ V(R) moves on by one
-pub fit_behind_one : (i : Incoming) → i.mode ≡ RejMode → IsFit i → IsFit (moved_on 1 i)
-fit_behind_one i mode f =
-    let empty : i.places ≡ replicate i.window empty_place = f.in_order mode in
-    let same : drop 1 i.places ++ replicate 1 empty_place ≡ replicate i.window empty_place =
-    ap (λ ps. drop 1 ps ++ replicate 1 empty_place) empty ∙ moved_empty i.window f.positive in
+pub fit_behind_one : {i : Incoming} → i.mode ≡ RejMode → IsFit i → IsFit (moved_on 1 i)
+fit_behind_one {i} mode f =
+    let empty = f.in_order mode in
+    let same = ap (λ ps. drop 1 ps ++ replicate 1 empty_place) empty ∙ moved_empty i.window f.positive in
     record {
       places = ap length same ∙ length-replicate i.window empty_place;
       first = ap (λ ps. packet_at ps 0) same ∙ first_of_empty i.window;
@@ -106,9 +103,9 @@ fit_behind_one i mode f =
 
 -- a packet ahead is stored
 pub fit_with :
-    (i : Incoming) (k : ℕ) (packet : Packet) → i.mode ≡ SrejMode → 1 ≤ k → IsFit i
+    {i : Incoming} (k : ℕ) (packet : Packet) → i.mode ≡ SrejMode → 1 ≤ k → IsFit i
     → IsFit (record i { places = with_packet i.places k packet })
-fit_with i k packet mode ahead f = record {
+fit_with {i} k packet mode ahead f = record {
   places = length-set i.places k (filled_place packet (place_at i.places k)) ∙ f.places;
   first = ap (λ (p : Place). p.packet) (get_or-set_other i.places k 0 (filled_place packet (place_at i.places k))
       empty_place (λ e. omega arith)) ∙ f.first;
@@ -129,8 +126,8 @@ first_asked [] (suc k) = refl
 first_asked (p ∷ ps) (suc k) = refl
 
 -- some are asked for
-pub fit_asked : (i : Incoming) (k : ℕ) → i.mode ≡ SrejMode → IsFit i → IsFit (record i { places = asked i.places k })
-fit_asked i k mode f = record {
+pub fit_asked : {i : Incoming} (k : ℕ) → i.mode ≡ SrejMode → IsFit i → IsFit (record i { places = asked i.places k })
+fit_asked {i} k mode f = record {
   places = length_asked i.places k ∙ f.places;
   first = first_asked i.places k ∙ f.first;
   positive = f.positive;
@@ -139,9 +136,9 @@ fit_asked i k mode f = record {
 
 -- none is stored in a link that is new
 pub fit_new :
-    (modulus window : ℕ) (mode : Mode) → 1 ≤ window
+    {modulus window : ℕ} {mode : Mode} → 1 ≤ window
     → IsFit (record { modulus = modulus; window = window; mode = mode; vr = 0; places = replicate window empty_place })
-fit_new modulus window mode positive = record {
+fit_new {window} positive = record {
   places = length-replicate window empty_place;
   first = first_of_empty window;
   positive = positive;
@@ -153,8 +150,8 @@ pub record HasRoom (p : Params) : Type 0 where
   pub narrow : 1 ≤ p.window
   pub wide : 1 ≤ p.wide_window
 
-pub room_in : (p : Params) (modulus : ℕ) → HasRoom p → 1 ≤ window_in modulus p
-room_in p modulus h = go (modulus == 128)
+pub room_in : {p : Params} (modulus : ℕ) → HasRoom p → 1 ≤ window_in modulus p
+room_in {p} modulus h = go (modulus == 128)
   where
     go : (b : Bool) → 1 ≤ (if b then p.wide_window else p.window)
     go true = h.wide
@@ -173,19 +170,19 @@ pub record IsSound (p : Params) (i : Incoming) : Type 0 where
 
 -- a link that begins anew in a modulus
 pub sound_new :
-    (p : Params) (modulus : ℕ) → IsModulus modulus → HasRoom p
+    {p : Params} (modulus : ℕ) → IsModulus modulus → HasRoom p
     → IsSound p (empty_incoming modulus (window_in modulus p) p.mode)
-sound_new p modulus is room = record {
-  fit = fit_new modulus (window_in modulus p) p.mode (room_in p modulus room);
+sound_new modulus is room = record {
+  fit = fit_new (room_in modulus room);
   mode = refl;
   modulus = is;
   room = room;
 }
 
 -- and one that begins anew in its own
-pub sound_anew : (p : Params) (i : Incoming) → IsSound p i → IsSound p (empty_incoming i.modulus i.window i.mode)
-sound_anew p i s = record {
-  fit = fit_new i.modulus i.window i.mode s.fit.positive;
+pub sound_anew : {p : Params} {i : Incoming} → IsSound p i → IsSound p (empty_incoming i.modulus i.window i.mode)
+sound_anew s = record {
+  fit = fit_new s.fit.positive;
   mode = s.mode;
   modulus = s.modulus;
   room = s.room;
@@ -193,8 +190,8 @@ sound_anew p i s = record {
 
 -- its places change
 pub sound_same :
-    (p : Params) (i j : Incoming) → IsFit j → j.mode ≡ i.mode → j.modulus ≡ i.modulus → IsSound p i → IsSound p j
-sound_same p i j fit mode modulus s = record {
+    {p : Params} {i j : Incoming} → IsFit j → j.mode ≡ i.mode → j.modulus ≡ i.modulus → IsSound p i → IsSound p j
+sound_same fit mode modulus s = record {
   fit = fit;
   mode = mode ∙ s.mode;
   modulus = subst IsModulus (sym modulus) s.modulus;

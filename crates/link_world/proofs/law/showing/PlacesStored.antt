@@ -46,10 +46,9 @@ none_of_full None e = refl
 none_of_full (Some p) e = absurd (false≢true (sym e))
 
 placed_later :
-    (n k : ℕ) (packet : Packet) (o : Option Packet) (p : Place) (ps : List Place) → p.packet ≡ o
-    → IsPlaced (n + 1) k packet ps
-    → IsPlaced n (suc k) packet (p ∷ ps)
-placed_later n k packet None p ps is h =
+    {n k : ℕ} {packet : Packet} (o : Option Packet) {p : Place} {ps : List Place} → p.packet ≡ o
+    → IsPlaced (n + 1) k packet ps → IsPlaced n (suc k) packet (p ∷ ps)
+placed_later {n} {k} {packet} None {ps} is h =
     let further : n + 1 + k ≡ n + suc k = omega arith in
     record {
       before = h.before;
@@ -58,7 +57,7 @@ placed_later n k packet None p ps is h =
       is = ap (λ o. stored_before n o (stored_from (n + 1) (with_packet ps k packet))) is ∙ h.is
           ∙ ap (λ t. h.before ++ record { number = t; packet = packet } ∷ h.after) further;
     }
-placed_later n k packet (Some q) p ps is h =
+placed_later {n} {k} {packet} (Some q) {ps} is h =
     let further : n + 1 + k ≡ n + suc k = omega arith in
     record {
       before = record { number = n; packet = q } ∷ h.before;
@@ -72,9 +71,9 @@ placed_later n k packet (Some q) p ps is h =
 
 -- an empty place is filled
 pub place_filled :
-    (n k : ℕ) (packet : Packet) (ps : List Place) → k < length ps → is_full ps k ≡ false → IsPlaced n k packet ps
-place_filled n k packet [] within empty = absurd (omega arith)
-place_filled n zero packet (p ∷ ps) within empty =
+    (n k : ℕ) {packet : Packet} (ps : List Place) → k < length ps → is_full ps k ≡ false → IsPlaced n k packet ps
+place_filled n k [] within empty = absurd (omega arith)
+place_filled n zero {packet} (p ∷ ps) within empty =
     let here : n ≡ n + 0 = omega arith in
     record {
       before = [];
@@ -82,8 +81,8 @@ place_filled n zero packet (p ∷ ps) within empty =
       was = ap (λ o. stored_before n o (stored_from (n + 1) ps)) (none_of_full p.packet empty);
       is = ap (λ t. record { number = t; packet = packet } ∷ stored_from (n + 1) ps) here;
     }
-place_filled n (suc k) packet (p ∷ ps) within empty =
-    placed_later n k packet p.packet p ps refl (place_filled (n + 1) k packet ps (omega arith) empty)
+place_filled n (suc k) (p ∷ ps) within empty =
+    placed_later p.packet refl (place_filled (n + 1) k ps (omega arith) empty)
 
 range_below : (a k b : ℕ) → a + k ≤ b → Each (λ j. j < b) (range_with_len a k)
 range_below a zero b le = tt

@@ -1,6 +1,6 @@
 -- What a frame is read as, where it was written in another modulus: an I or S frame as one of them, or as none, and
 -- another as it is.
-use Rattle.std.proofs.Common.{◌≡◌, ℕ, ◌%◌, Bool, true, false, if◌then◌else◌, nat_lt, List, [], ◌∷◌, length, Option, Some, None, IfSome, refl, sym, subst}
+use Rattle.std.proofs.Common.{◌≡◌, ℕ, ◌%◌, Bool, true, false, if◌then◌else◌, nat_lt, List, [], ◌∷◌, length, Option, Some, None, IfSome, refl, subst}
 use Rattle.ax25_frames.specs.declared.frame.Kind.{Kind}
 use Rattle.ax25_frames.specs.declared.frame.Kind.TheVariants.{Info, Setup}
 use Rattle.ax25_frames.specs.declared.frame.Frame.{Frame}
@@ -56,9 +56,8 @@ kind_of_read P frame (Some kind) h = h
 pub read_as :
     (written read : Modulus) (frame : Frame) (modulus : ℕ) (s : Sent) → frame.kind ≡ sent_kind modulus s
     → IfSome (with_kind frame (kind_read written read frame.kind)) (λ f. IsReadAs s f.kind)
-read_as written read frame modulus s is =
-    kind_of_read (IsReadAs s) frame (kind_read written read frame.kind)
-    (subst (λ k. IfSome (kind_read written read k) (IsReadAs s)) (sym is) (reads_by written read modulus s))
+read_as written read frame modulus s is = kind_of_read (IsReadAs s) frame (kind_read written read frame.kind)
+    (rw is (reads_by written read modulus s))
 
 -- a frame that is read in the modulus in which it was written
 pub kind_same : (modulus : Modulus) (frame g : Frame) → frame_read modulus modulus frame ≡ Some g → g.kind ≡ frame.kind

@@ -1,5 +1,5 @@
 -- How an end of the world, with its record, shows an end as the law of two links reads it.
-use Rattle.std.proofs.Common.{◌≡◌, ℕ, ◌+◌, Bool, true, false, ◌&&◌, List, [], ◌∷◌, ◌++◌, length, map, refl, sym, ap, ◌∙◌, arith}
+use Rattle.std.proofs.Common.{◌≡◌, ℕ, suc, ◌+◌, Bool, true, false, ◌&&◌, List, [], ◌∷◌, ◌++◌, length, map, refl, sym, ap, ◌∙◌, arith}
 use Rattle.std.specs.List.{fold}
 use Rattle.std.specs.Bool.{⊤}
 use Rattle.std.proofs.lemmas.List.{append-nil, append_assoc}
@@ -23,6 +23,10 @@ core_set_up q =
 
 abbrev pub core_set_ups : List SetUp → List CoreSetUp
 core_set_ups qs = map core_set_up qs
+
+pub length_core : (qs : List SetUp) → length (core_set_ups qs) ≡ length qs
+length_core [] = refl
+length_core (q ∷ qs) = ap suc (length_core qs)
 
 abbrev pub core_tagged : Tagged → CoreTagged
 core_tagged f = core_sent f.answers f.set_up (sent_in f.modulus f.sent)
@@ -110,8 +114,7 @@ pub flight_of_up :
     → core_flight (map (tagged on_ask r) sent) ≡ cores_sent on_ask n sent
 flight_of_up on_ask r n [] up count = refl
 flight_of_up on_ask r n (s ∷ sent) up count =
-    let tag : set_up_of (sent_kind s.modulus s.frame) r.machine.control.state (length r.set_ups) ≡ n =
-    ap (λ t. set_up_of (sent_kind s.modulus s.frame) t (length r.set_ups)) up
+    let tag = ap (λ t. set_up_of (sent_kind s.modulus s.frame) t (length r.set_ups)) up
     ∙ ap (set_up_of (sent_kind s.modulus s.frame) UpState) count ∙ up_tag s.modulus n s.frame in
     ap (λ t. record {
       tag = t;

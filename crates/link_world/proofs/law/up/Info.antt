@@ -14,7 +14,7 @@ use Rattle.link_machine.specs.Machine.{Machine, named, ahead_of_vr}
 use Rattle.link_machine.specs.Sent.{SentIn, all_sent_in}
 use Rattle.link_machine.specs.Sent.Sent.{SuperSent}
 use Rattle.link_machine.specs.Turn.{Turn, changing, setting}
-use Rattle.link_machine.specs.Acts.{acknowledged, answer_poll, reject, owing, with_rej, run_with, moved_on, give, stored, ask, srej_for}
+use Rattle.link_machine.specs.Acts.{answer_poll, reject, owing, with_rej, run_with, moved_on, give, stored, ask, srej_for}
 use Rattle.link_machine.specs.Frames.{hear_up, hear_info, hear_info_by, hear_info_by_rej, hear_info_by_srej, take_in_sequence, refuse_out_of_sequence}
 use Rattle.link_world.proofs.law.reduced.Core.{End, Running, SetUp, Stored, Tagged, between}
 use Rattle.link_world.proofs.law.reduced.Core.Numbered.{Info, Srej}
@@ -41,14 +41,18 @@ progress_behind packets accepts tag incoming g = record g {
   incoming = incoming;
 }
 
-pub record HasHeard (y : End) (rest to_y : List Tagged) (tag : ℕ) (accepts : Bool) (g : Progress)
-    (turn : Turn) : Type 0 where
+pub record HasHeard (rest : List Tagged) (tag : ℕ) (accepts : Bool) (g : Progress) (turn : Turn) : Type 0 where
   pub packets : List Packet
   pub incoming : Incoming
   pub fit : IsFit incoming
   pub same : (incoming.mode ≡ g.incoming.mode) × (incoming.window ≡ g.incoming.window)
       × (incoming.modulus ≡ g.incoming.modulus)
-  pub up : IsUp y rest to_y (progress_behind packets accepts tag incoming g) turn
+  pub up : IsUp rest (progress_behind packets accepts tag incoming g) turn
+
+same_but_places :
+    {i j : Incoming} → i ≡ j → (i.mode ≡ j.mode) × (i.window ≡ j.window) × (i.modulus ≡ j.modulus)
+same_but_places is =
+    (ap (λ (i : Incoming). i.mode) is, ap (λ (i : Incoming). i.window) is, ap (λ (i : Incoming). i.modulus) is)
 
 -- the windows of a hearer in this mode, and of the sender, fit the modulus
 pub record WindowsOf (i : Incoming) (y : End) : Type 0 where
@@ -59,10 +63,10 @@ pub record WindowsOf (i : Incoming) (y : End) : Type 0 where
 
 -- nothing is got
 pub heard_nothing :
-    (y : End) (f : Tagged) (rest to_y : List Tagged) (tag : ℕ) (g : Progress) (turn : Turn) → IsFit g.incoming
-    → IsUp y (f ∷ rest) to_y g turn → HasHeard y rest to_y tag false g turn
-heard_nothing y f rest to_y tag g turn fit h =
-    let behind = passed_over y f rest to_y g turn h in
+    {f : Tagged} {rest : List Tagged} {tag : ℕ} {g : Progress} {turn : Turn} → IsFit g.incoming
+    → IsUp (f ∷ rest) g turn → HasHeard rest tag false g turn
+heard_nothing {g} fit h =
+    let behind = passed_over h in
     let q = g.open_now in
     record {
       packets = [];
@@ -71,21 +75,22 @@ heard_nothing y f rest to_y tag g turn fit h =
       same = (refl, refl, refl);
       up = record {
         state = behind.state;
-        told = behind.told ∙ sym (append-nil g.told);
-        params = behind.params;
-        incoming = behind.incoming;
+        so_far = record {
+          told_is = behind.so_far.told_is ∙ sym (append-nil g.told);
+          params_are = behind.so_far.params_are;
+          incoming_is = behind.so_far.incoming_is;
+        };
         fits = behind.fits;
-        holds = subst (λ t. Invariant (between (up_end turn.now g.ended (record q { got = t })) y rest
-            (to_y ++ cores_sent g.answers (length g.ended) turn.sent))) (sym (append-nil q.got)) behind.holds;
+        holds = rw (append-nil q.got) behind.holds;
       };
     }
 
 -- what follows keeps it
 pub heard_then :
-    (y : End) (rest to_y : List Tagged) (tag : ℕ) (accepts : Bool) (g : Progress) (turn behind : Turn)
-    → ((p : Progress) → IsUp y rest to_y p turn → IsUp y rest to_y p behind)
-    → HasHeard y rest to_y tag accepts g turn → HasHeard y rest to_y tag accepts g behind
-heard_then y rest to_y tag accepts g turn behind keeps h = record {
+    {rest : List Tagged} {tag : ℕ} {accepts : Bool} {g : Progress} {turn behind : Turn}
+    → ((p : Progress) → IsUp rest p turn → IsUp rest p behind)
+    → HasHeard rest tag accepts g turn → HasHeard rest tag accepts g behind
+heard_then {tag} {accepts} {g} keeps h = record {
   packets = h.packets;
   incoming = h.incoming;
   fit = h.fit;
@@ -93,88 +98,71 @@ heard_then y rest to_y tag accepts g turn behind keeps h = record {
   up = keeps (progress_behind h.packets accepts tag h.incoming g) h.up;
 }
 
--- V(R) moves on behind packets that are given
+-- V(R) moves on past packets that are given
 given_to :
-    (y : End) (rest to_y : List Tagged) (tag : ℕ) (g : Progress) (turn : Turn) (packets : List Packet)
-    → IsFit (moved_on (length packets) turn.now.incoming) → turn.told ≡ g.told → turn.now.incoming ≡ g.incoming
-    → IsUp y rest to_y (record g {
-      open_now = got_by packets (first_origin g.open_now.origin tag) g.open_now;
-      told =
-          g.told ++ map Given packets;
-      incoming = moved_on (length packets) turn.now.incoming;
-    }) (give packets turn)
-    → HasHeard y rest to_y tag true g (give packets turn)
-given_to y rest to_y tag g turn packets fit told incoming h = record {
+    {fs rest : List Tagged} {tag : ℕ} {g : Progress} {turn : Turn} (packets : List Packet) → IsUp fs g turn
+    → IsFit (moved_on (length packets) turn.now.incoming)
+    → Invariant (between (up_end (record turn.now { incoming = moved_on (length packets) turn.now.incoming }) g.ended
+    (got_by packets (first_origin g.open_now.origin tag) g.open_now)) g.partner rest
+    (g.before ++ cores_sent g.answers (length g.ended) turn.sent))
+    → HasHeard rest tag true g (give packets turn)
+given_to {turn} packets h fit holds = record {
   packets = packets;
   incoming = moved_on (length packets) turn.now.incoming;
   fit = fit;
-  same = (
-    ap (λ (i : Incoming). i.mode) incoming,
-    ap (λ (i : Incoming). i.window) incoming,
-    ap
-        (λ (i : Incoming). i.modulus) incoming,
-  );
-  up = h;
+  same = same_but_places h.so_far.incoming_is;
+  up = record {
+    state = h.state;
+    so_far = record {
+      told_is = ap (λ t. t ++ map Given packets) h.so_far.told_is;
+      params_are = h.so_far.params_are;
+      incoming_is = refl;
+    };
+    fits = h.fits;
+    holds = holds;
+  };
 }
 
 -- by REJ: the next in sequence
 sequence_heard :
-    (y : End) (tag c nr : ℕ) (packet : Packet) (rest to_y : List Tagged) (g : Progress) (turn : Turn) (ns : ℕ)
+    {tag c nr : ℕ} {packet : Packet} {rest : List Tagged} {g : Progress} {turn : Turn} {ns : ℕ}
     → turn.now.incoming.mode ≡ RejMode → IsFit turn.now.incoming → ns ≡ turn.now.incoming.vr
-    → IsUp y (numbered_to tag c (Info ns nr packet) ∷ rest) to_y g turn
-    → HasHeard y rest to_y tag true g (give (packet ∷ []) turn)
-sequence_heard y tag c nr packet rest to_y g turn ns mode fit is h =
-    let m = turn.now in
-    let under_way = to_y ++ cores_sent g.answers (length g.ended) turn.sent in
-    let front = subst (λ n. Invariant (between (up_end m g.ended g.open_now) y
-    (numbered_to tag c (Info n nr packet) ∷ rest) under_way)) is h.holds in
-    given_to y rest to_y tag g turn (packet ∷ []) (fit_behind_one m.incoming mode fit) h.told h.incoming (record {
-      state = h.state;
-      told = ap (λ t. t ++ Given packet ∷ []) h.told;
-      params = h.params;
-      incoming = refl;
-      fits = h.fits;
-      holds = one_taken y m g.ended g.open_now tag c nr packet rest under_way fit.first front;
-    })
+    → IsUp (numbered_to tag c (Info ns nr packet) ∷ rest) g turn → HasHeard rest tag true g (give (packet ∷ []) turn)
+sequence_heard {tag} {c} {nr} {packet} {rest} {g} {turn} mode fit is h =
+    let front = subst (λ n. Invariant (between (up_end turn.now g.ended g.open_now) g.partner
+    (numbered_to tag c (Info n nr packet) ∷ rest) (g.before ++ cores_sent g.answers (length g.ended) turn.sent))) is
+    h.holds in
+    given_to (packet ∷ []) h (fit_behind_one mode fit) (one_taken turn.now g.ended g.open_now fit.first front)
 
 -- by SREJ: the next in sequence, and those stored that follow it
 run_heard :
-    (y : End) (tag c nr : ℕ) (packet : Packet) (rest to_y : List Tagged) (g : Progress) (turn : Turn) (ns : ℕ)
+    {tag c nr : ℕ} {packet : Packet} {rest : List Tagged} {g : Progress} {turn : Turn} {ns : ℕ}
     → turn.now.incoming.mode ≡ SrejMode → IsFit turn.now.incoming → ns ≡ turn.now.incoming.vr
-    → IsUp y (numbered_to tag c (Info ns nr packet) ∷ rest) to_y g turn
-    → HasHeard y rest to_y tag true g (give (run_with packet turn.now) turn)
-run_heard y tag c nr packet rest to_y g turn ns mode fit is h =
-    let m = turn.now in
-    let under_way = to_y ++ cores_sent g.answers (length g.ended) turn.sent in
-    let front = subst (λ n. Invariant (between (up_end m g.ended g.open_now) y
-    (numbered_to tag c (Info n nr packet) ∷ rest) under_way)) is h.holds in
-    given_to y rest to_y tag g turn (run_with packet m) (fit_behind_run m.incoming packet mode fit) h.told h.incoming
-    (record {
-      state = h.state;
-      told = ap (λ t. t ++ map Given (run_with packet m)) h.told;
-      params = h.params;
-      incoming = refl;
-      fits = h.fits;
-      holds = run_with_taken y m g.ended g.open_now tag c nr packet rest under_way fit.first front;
-    })
+    → IsUp (numbered_to tag c (Info ns nr packet) ∷ rest) g turn
+    → HasHeard rest tag true g (give (run_with packet turn.now) turn)
+run_heard {tag} {c} {nr} {packet} {rest} {g} {turn} mode fit is h =
+    let front = subst (λ n. Invariant (between (up_end turn.now g.ended g.open_now) g.partner
+    (numbered_to tag c (Info n nr packet) ∷ rest) (g.before ++ cores_sent g.answers (length g.ended) turn.sent))) is
+    h.holds in
+    given_to (run_with packet turn.now) h (fit_behind_run packet mode fit)
+    (run_with_taken turn.now g.ended g.open_now fit.first front)
 
 -- SREJ goes out for some numbers below one that is stored
 srejs_go_out :
-    (x y : End) (r : Running) (k : ℕ) (before : List Stored) (s : Stored) (after : List Stored) (js : List ℕ)
-    (answers : Bool) (to_x to_y : List Tagged)
+    (x : End) {y : End} {r : Running} (k : ℕ) (before : List Stored) (s : Stored) (after : List Stored) (js : List ℕ)
+    (answers : Bool) {to_x to_y : List Tagged}
     → r.stored ≡ before ++ s ∷ after → s.number ≡ r.vr + k → Each (λ j. j < k) js → UpInvariant x y r to_x to_y
     → UpInvariant x y r to_x (to_y ++ cores_sent answers (length x.ended)
     (all_sent_in x.modulus (map (λ j. SuperSent SrejFrame false (r.vr + j) false) js)))
-srejs_go_out x y r k before s after [] answers to_x to_y is number below h =
+srejs_go_out x {y} {r} k before s after [] answers {to_x} {to_y} is number below h =
     subst (λ t. UpInvariant x y r to_x t) (sym (append-nil to_y)) h
-srejs_go_out x y r k before s after (j ∷ js) answers to_x to_y is number below h =
+srejs_go_out x {y} {r} k before s after (j ∷ js) answers {to_x} {to_y} is number below h =
     let f = of_end x (IsNumbered x.modulus (Srej (r.vr + j))) in
     let here : j < k = below.0 in
-    let one = send_srej_keeps x y r (r.vr + j) before s after to_x to_y is (omega arith) (omega arith) h in
-    subst (λ t. UpInvariant x y r to_x t)
-    (append_assoc to_y (f ∷ []) (cores_sent answers (length x.ended)
+    let one = send_srej_keeps x (r.vr + j) before s after is (omega arith) (omega arith) h in
+    subst (λ t. UpInvariant x y r to_x t) (append_assoc to_y (f ∷ []) (cores_sent answers (length x.ended)
     (all_sent_in x.modulus (map (λ i. SuperSent SrejFrame false (r.vr + i) false) js))))
-    (srejs_go_out x y r k before s after js answers to_x (to_y ++ f ∷ []) is number below.1 one)
+    (srejs_go_out x k before s after js answers is number below.1 one)
 
 srejs_fit :
     (answers : Bool) (modulus : ℕ) (m : Machine) (js : List ℕ)
@@ -184,86 +172,69 @@ srejs_fit answers modulus m (j ∷ js) = (tt, srejs_fit answers modulus m js)
 
 -- by SREJ: a packet that comes before its turn is stored, and what is missing before it is asked for
 stored_heard :
-    (y : End) (tag c nr : ℕ) (packet : Packet) (rest to_y : List Tagged) (g : Progress) (turn : Turn) (ns k : ℕ)
+    {tag c nr : ℕ} {packet : Packet} {rest : List Tagged} {g : Progress} {turn : Turn} {ns : ℕ} (k : ℕ)
     → turn.now.incoming.mode ≡ SrejMode → IsFit turn.now.incoming → ns ≡ turn.now.incoming.vr + k → 1 ≤ k
     → k < turn.now.incoming.window → is_full turn.now.incoming.places k ≡ false
-    → IsUp y (numbered_to tag c (Info ns nr packet) ∷ rest) to_y g turn
-    → HasHeard y rest to_y tag true g (ask k (changing (stored k packet) turn))
-stored_heard y tag c nr packet rest to_y g turn ns k mode fit is some within empty h =
+    → IsUp (numbered_to tag c (Info ns nr packet) ∷ rest) g turn
+    → HasHeard rest tag true g (ask k (changing (stored k packet) turn))
+stored_heard {tag} {packet} {rest} {g} {turn} k mode fit is some within empty h =
     let m = turn.now in
     let i = m.incoming in
     let x = end_behind m g.ended in
     let q = g.open_now in
     let q1 : SetUp = got_by [] (first_origin q.origin tag) q in
     let r = running_of m q in
-    let under_way = to_y ++ cores_sent g.answers (length g.ended) turn.sent in
+    let under_way = g.before ++ cores_sent g.answers (length g.ended) turn.sent in
     let places = with_packet i.places k packet in
     let length_is = fit.places in
-    let pl : IsPlaced i.vr k packet i.places = place_filled i.vr k packet i.places (omega arith) empty in
+    let pl : IsPlaced i.vr k packet i.places = place_filled i.vr k i.places (omega arith) empty in
     let s : Stored = record { number = i.vr + k; packet = packet } in
-    let front : UpInvariant x y (storing (pl.before ++ s ∷ pl.after) (first_origin q.origin tag) r) rest under_way =
-    subst (λ n. UpInvariant x y (storing (pl.before ++ record { number = n; packet = packet } ∷ pl.after)
-    (first_origin q.origin tag) r) rest under_way) is
-    (store_front_keeps x y r tag c ns nr packet pl.before pl.after rest under_way pl.was h.holds) in
-    let with_got : UpInvariant x y (record r { stored = pl.before ++ s ∷ pl.after; set_up = q1 }) rest under_way =
-    subst (λ t. UpInvariant x y (record r
+    let front = subst (λ n. UpInvariant x g.partner (storing (pl.before ++ record { number = n; packet = packet } ∷ pl.after)
+    (first_origin q.origin tag) r) rest under_way) is (store_front_keeps x pl.before pl.after pl.was h.holds) in
+    let with_got = subst (λ t. UpInvariant x g.partner (record r
     { stored = pl.before ++ s ∷ pl.after; set_up = record q { got = t; origin = first_origin q.origin tag } })
-    rest under_way)
-    (sym (append-nil q.got)) front in
-    let asked_for = srejs_go_out x y (record r { stored = pl.before ++ s ∷ pl.after; set_up = q1 }) k pl.before s
-    pl.after (missing places k) g.answers rest under_way
+    rest under_way) (sym (append-nil q.got)) front in
+    let asked_for = srejs_go_out x k pl.before s pl.after (missing places k) g.answers
     refl refl (missing_below places k) with_got in
-    let same : pl.before ++ s ∷ pl.after ≡ stored_from i.vr (asked places k) =
-    sym pl.is ∙ sym (stored_asked i.vr k places) in
+    let same = sym pl.is ∙ sym (stored_asked i.vr k places) in
     let sent : List SentIn = all_sent_in i.modulus (map (srej_for (stored k packet m)) (missing places k)) in
-    let all : UpInvariant x y (record r {
-      stored =
-          stored_from i.vr (asked places k);
-      set_up = q1;
-    }) rest
-    (to_y ++ cores_sent g.answers (length g.ended) (turn.sent ++ sent)) =
-    subst (λ t. UpInvariant x y (record r { stored = stored_from i.vr (asked places k); set_up = q1 }) rest t)
-    (sent_more g.answers (length g.ended) to_y turn.sent sent)
-    (subst (λ ss. UpInvariant x y (record r { stored = ss; set_up = q1 }) rest
+    let all = subst (λ t. UpInvariant x g.partner (record r { stored = stored_from i.vr (asked places k); set_up = q1 }) rest t)
+    (sent_more g.answers (length g.ended) g.before turn.sent sent)
+    (subst (λ ss. UpInvariant x g.partner (record r { stored = ss; set_up = q1 }) rest
     (under_way ++ cores_sent g.answers (length g.ended) sent)) same asked_for) in
     record {
       packets = [];
       incoming = record i { places = asked places k };
-      fit = fit_asked (record i { places = places }) k mode (fit_with i k packet mode some fit);
-      same = (
-        ap (λ (j : Incoming). j.mode) h.incoming,
-        ap (λ (j : Incoming). j.window) h.incoming,
-        ap
-            (λ (j : Incoming). j.modulus) h.incoming,
-      );
+      fit = fit_asked k mode (fit_with k packet mode some fit);
+      same = same_but_places h.so_far.incoming_is;
       up = record {
         state = h.state;
-        told = h.told ∙ sym (append-nil g.told);
-        params = h.params;
-        incoming = refl;
-        fits = each_append (SentFits g.answers) turn.sent sent h.fits
+        so_far = record {
+          told_is = h.so_far.told_is ∙ sym (append-nil g.told);
+          params_are = h.so_far.params_are;
+          incoming_is = refl;
+        };
+        fits = each_append _ turn.sent sent h.fits
             (srejs_fit g.answers i.modulus (stored k packet m) (missing places k));
         holds = all;
       };
     }
 
 behind_info :
-    (flag : Bool) (y : End) (rest to_y : List Tagged) (tag : ℕ) (accepts : Bool) (g : Progress) (turn : Turn)
-    → HasHeard y rest to_y tag accepts g turn
-    → HasHeard y rest to_y tag accepts g (answer_poll flag (setting owing turn))
-behind_info flag y rest to_y tag accepts g turn h =
-    heard_then y rest to_y tag accepts g turn (answer_poll flag (setting owing turn))
-    (λ p up. answer_poll_keeps flag rest y to_y p (setting owing turn)
-    (setting_keeps owing (λ c. refl) rest y to_y p turn up)) h
+    (flag : Bool) {rest : List Tagged} {tag : ℕ} {accepts : Bool} {g : Progress} {turn : Turn}
+    → HasHeard rest tag accepts g turn
+    → HasHeard rest tag accepts g (answer_poll flag (setting owing turn))
+behind_info flag h = heard_then
+    (λ p up. answer_poll_keeps flag (setting_keeps owing (λ c. refl) up)) h
 
 -- by REJ
 by_rej_heard :
-    (y : End) (tag c ns nr : ℕ) (packet : Packet) (rest to_y : List Tagged) (g : Progress) (turn : Turn) (flag : Bool)
-    → WindowsOf turn.now.incoming y → turn.now.incoming.mode ≡ RejMode → IsFit turn.now.incoming
-    → IsUp y (numbered_to tag c (Info ns nr packet) ∷ rest) to_y g turn
-    → HasHeard y rest to_y tag (ahead_of_vr (ns % turn.now.incoming.modulus) turn.now == 0) g
+    {tag c ns nr : ℕ} {packet : Packet} {rest : List Tagged} {g : Progress} {turn : Turn} (flag : Bool)
+    → WindowsOf turn.now.incoming g.partner → turn.now.incoming.mode ≡ RejMode → IsFit turn.now.incoming
+    → IsUp (numbered_to tag c (Info ns nr packet) ∷ rest) g turn
+    → HasHeard rest tag (ahead_of_vr (ns % turn.now.incoming.modulus) turn.now == 0) g
     (hear_info_by_rej (ns % turn.now.incoming.modulus) flag packet turn)
-by_rej_heard y tag c ns nr packet rest to_y g turn flag windows mode fit h = go (distance == 0) refl
+by_rej_heard {tag} {c} {ns} {nr} {packet} {rest} {g} {turn} flag windows mode fit h = go (distance == 0) refl
   where
     i : Incoming
     i = turn.now.incoming
@@ -278,35 +249,28 @@ by_rej_heard y tag c ns nr packet rest to_y g turn flag windows mode fit h = go 
     taken = give (packet ∷ []) turn
 
     go : (b : Bool) → (distance == 0) ≡ b
-        → HasHeard y rest to_y tag b g (if b then take_in_sequence flag packet turn else refuse_out_of_sequence flag
+        → HasHeard rest tag b g (if b then take_in_sequence flag packet turn else refuse_out_of_sequence flag
         turn)
     go true is =
-        let named_by = ns_by_rej i.modulus (end_behind turn.now g.ended) y (running_of turn.now g.open_now) tag c ns nr
-        packet rest
-        (to_y ++ cores_sent g.answers (length g.ended) turn.sent) windows.sender h.holds in
-        behind_info flag y rest to_y tag true g (setting (with_rej false) taken)
-        (heard_then y rest to_y tag true g taken (setting (with_rej false) taken)
-        (λ p up. setting_keeps (with_rej false) (λ c. refl) rest y to_y p taken up)
-        (sequence_heard y tag c nr packet rest to_y g turn ns mode fit (named_by.0 (eqb-true distance 0 is)) h))
+        let named_by = ns_by_rej i.modulus (end_behind turn.now g.ended) windows.sender h.holds in
+        behind_info flag (heard_then (λ p up. setting_keeps (with_rej false) (λ c. refl) up)
+        (sequence_heard mode fit (named_by.0 (eqb-true distance 0 is)) h))
     go false is = by_reject turn.now.control.rej
       where
         by_reject : (b : Bool)
-            → HasHeard y rest to_y tag false g (if b then answer_poll flag turn else reject flag turn)
-        by_reject true = heard_nothing y f rest to_y tag g (answer_poll flag turn) (subst IsFit h.incoming fit)
-            (answer_poll_keeps flag (f ∷ rest) y to_y g turn h)
-        by_reject false = heard_nothing y f rest to_y tag g (reject flag turn) (subst IsFit h.incoming fit)
-            (reject_keeps flag (f ∷ rest) y to_y g turn h)
+            → HasHeard rest tag false g (if b then answer_poll flag turn else reject flag turn)
+        by_reject true = heard_nothing (subst IsFit h.so_far.incoming_is fit) (answer_poll_keeps flag h)
+        by_reject false = heard_nothing (subst IsFit h.so_far.incoming_is fit) (reject_keeps flag h)
 
 -- by SREJ
 by_srej_heard :
-    (y : End) (tag c ns nr : ℕ) (packet : Packet) (rest to_y : List Tagged) (g : Progress) (turn : Turn) (flag : Bool)
-    → WindowsOf turn.now.incoming y → turn.now.incoming.mode ≡ SrejMode → IsFit turn.now.incoming
-    → IsUp y (numbered_to tag c (Info ns nr packet) ∷ rest) to_y g turn
+    {tag c ns nr : ℕ} {packet : Packet} {rest : List Tagged} {g : Progress} {turn : Turn} (flag : Bool)
+    → WindowsOf turn.now.incoming g.partner → turn.now.incoming.mode ≡ SrejMode → IsFit turn.now.incoming
+    → IsUp (numbered_to tag c (Info ns nr packet) ∷ rest) g turn
     → let k = ahead_of_vr (ns % turn.now.incoming.modulus) turn.now in
-    HasHeard y rest to_y tag ((k == 0) || (nat_lt k turn.now.incoming.window && not
-    (is_full turn.now.incoming.places k))) g
-    (hear_info_by_srej (ns % turn.now.incoming.modulus) flag packet turn)
-by_srej_heard y tag c ns nr packet rest to_y g turn flag windows mode fit h = go (k == 0) refl
+    HasHeard rest tag ((k == 0) || (nat_lt k turn.now.incoming.window && not
+    (is_full turn.now.incoming.places k))) g (hear_info_by_srej (ns % turn.now.incoming.modulus) flag packet turn)
+by_srej_heard {tag} {c} {ns} {nr} {packet} {rest} {g} {turn} flag windows mode fit h = go (k == 0) refl
   where
     i : Incoming
     i = turn.now.incoming
@@ -321,9 +285,7 @@ by_srej_heard y tag c ns nr packet rest to_y g turn flag windows mode fit h = go
     fits = nat_lt k i.window && not (is_full i.places k)
 
     named_by : (i.vr ≤ ns → k ≡ ns - i.vr) × (ns < i.vr → i.window ≤ k)
-    named_by = ns_by_srej i.modulus (end_behind turn.now g.ended) y (running_of turn.now g.open_now) tag c ns nr packet
-        rest
-        (to_y ++ cores_sent g.answers (length g.ended) turn.sent) (windows.halves mode).0 (windows.halves mode).1
+    named_by = ns_by_srej i.modulus (end_behind turn.now g.ended) (windows.halves mode).0 (windows.halves mode).1
         h.holds
 
     in_window : k < i.window → ns ≡ i.vr + k
@@ -332,66 +294,53 @@ by_srej_heard y tag c ns nr packet rest to_y g turn flag windows mode fit h = go
       | inr from ↦ let distance = named_by.0 from in omega arith
     ]
 
-    go : (b : Bool) → (k == 0) ≡ b
-        → HasHeard y rest to_y tag (b || fits) g
+    go : (b : Bool) → (k == 0) ≡ b → HasHeard rest tag (b || fits) g
         (answer_poll flag (setting owing (if b then give (run_with packet turn.now) turn
         else if fits then ask k (changing (stored k packet) turn) else turn)))
     go true is =
         let zero_is : k ≡ 0 = eqb-true k 0 is in
         let positive = fit.positive in
         let place = in_window (omega arith) in
-        behind_info flag y rest to_y tag true g (give (run_with packet turn.now) turn)
-        (run_heard y tag c nr packet rest to_y g turn ns mode fit (omega arith) h)
+        behind_info flag (run_heard mode fit (omega arith) h)
     go false is = by_fit fits refl
       where
-        by_fit : (c : Bool) → fits ≡ c
-            → HasHeard y rest to_y tag c g
+        by_fit : (c : Bool) → fits ≡ c → HasHeard rest tag c g
             (answer_poll flag (setting owing (if c then ask k (changing (stored k packet) turn) else turn)))
         by_fit true ok =
             let parts = and_parts (nat_lt k i.window) (not (is_full i.places k)) ok in
             let within : k < i.window = ltb-true k i.window parts.0 in
             let some : k ≡ 0 → ⊥ = eqb-false k 0 is in
-            behind_info flag y rest to_y tag true g (ask k (changing (stored k packet) turn))
-            (stored_heard y tag c nr packet rest to_y g turn ns k mode fit (in_window within) (omega arith) within
+            behind_info flag (stored_heard k mode fit (in_window within) (omega arith) within
             (not-true (is_full i.places k) parts.1) h)
-        by_fit false ok =
-            heard_nothing y f rest to_y tag g (answer_poll flag (setting owing turn)) (subst IsFit h.incoming fit)
-            (answer_poll_keeps flag (f ∷ rest) y to_y g (setting owing turn)
-            (setting_keeps owing (λ c. refl) (f ∷ rest) y to_y g turn h))
+        by_fit false ok = heard_nothing (subst IsFit h.so_far.incoming_is fit) (answer_poll_keeps flag
+            (setting_keeps owing (λ c. refl) h))
 
 -- by either
 by_mode_heard :
-    (y : End) (tag c ns nr : ℕ) (packet : Packet) (rest to_y : List Tagged) (g : Progress) (turn : Turn) (flag : Bool)
-    (mode : Mode)
-    → WindowsOf turn.now.incoming y → turn.now.incoming.mode ≡ mode → IsFit turn.now.incoming
-    → IsUp y (numbered_to tag c (Info ns nr packet) ∷ rest) to_y g turn
+    {tag c ns nr : ℕ} {packet : Packet} {rest : List Tagged} {g : Progress} {turn : Turn} (flag : Bool)
+    (mode : Mode) → WindowsOf turn.now.incoming g.partner → turn.now.incoming.mode ≡ mode → IsFit turn.now.incoming
+    → IsUp (numbered_to tag c (Info ns nr packet) ∷ rest) g turn
     → let k = ahead_of_vr (ns % turn.now.incoming.modulus) turn.now in
-    HasHeard y rest to_y tag (accepts_by mode turn.now.incoming.window (is_full turn.now.incoming.places k) k) g
+    HasHeard rest tag (accepts_by mode turn.now.incoming.window (is_full turn.now.incoming.places k) k) g
     (hear_info_by mode (ns % turn.now.incoming.modulus) flag packet turn)
-by_mode_heard y tag c ns nr packet rest to_y g turn flag RejMode windows mode fit h =
-    by_rej_heard y tag c ns nr packet rest to_y g turn flag windows mode fit h
-by_mode_heard y tag c ns nr packet rest to_y g turn flag SrejMode windows mode fit h =
-    by_srej_heard y tag c ns nr packet rest to_y g turn flag windows mode fit h
+by_mode_heard flag RejMode windows mode fit h = by_rej_heard flag windows mode fit h
+by_mode_heard flag SrejMode windows mode fit h = by_srej_heard flag windows mode fit h
 
 -- An I frame as it is heard.
 pub hear_info_heard :
-    (y : End) (tag c ns nr : ℕ) (packet : Packet) (rest to_y : List Tagged) (g : Progress) (turn : Turn)
-    (command flag : Bool)
-    → WindowsOf turn.now.incoming y → IsFit turn.now.incoming
-    → IsUp y (numbered_to tag c (Info ns nr packet) ∷ rest) to_y g turn
-    → let i = turn.now.incoming in
+    {tag c ns nr : ℕ} {packet : Packet} {rest : List Tagged} {g : Progress} {turn : Turn}
+    (command flag : Bool) → WindowsOf turn.now.incoming g.partner → IsFit turn.now.incoming
+    → IsUp (numbered_to tag c (Info ns nr packet) ∷ rest) g turn → let i = turn.now.incoming in
     let k = ahead_of_vr (ns % i.modulus) turn.now in
-    HasHeard y rest to_y tag (accepts_by i.mode i.window (is_full i.places k) k) g
+    HasHeard rest tag (accepts_by i.mode i.window (is_full i.places k) k) g
     (hear_up command (InfoKind (ns % i.modulus) (nr % i.modulus) flag packet.pid packet.octets) turn)
-hear_info_heard y tag c ns nr packet rest to_y g turn command flag windows fit h =
+hear_info_heard {tag} {ns} {nr} {packet} {rest} {g} {turn} command flag windows fit h =
     let m = turn.now in
     let i = m.incoming in
     let k = ahead_of_vr (ns % i.modulus) m in
     let accepts = accepts_by i.mode i.window (is_full i.places k) k in
-    let read : IsRead m nr = nr_is_read y tag c (Info ns nr packet) nr rest to_y g turn refl windows.own h in
-    let acked = acknowledged_keeps tag c nr (Info ns nr packet) rest refl y to_y g turn h in
-    subst (λ t. HasHeard y rest to_y tag accepts g t)
+    let read : IsRead m nr = nr_is_read refl windows.own h in
+    let acked = acknowledged_keeps nr refl h in
+    subst (λ t. HasHeard rest tag accepts g t)
     (sym (cond-true _ (hear_info (named (nr % i.modulus) m) (ns % i.modulus) flag packet turn) _ read.valid))
-    (subst (λ n. HasHeard y rest to_y tag accepts g (hear_info n (ns % i.modulus) flag packet turn)) (sym read.named_is)
-    (by_mode_heard y tag c ns nr packet rest to_y g (changing (acknowledged nr) turn) flag i.mode windows refl fit
-    acked))
+    (rw read.named_is (by_mode_heard flag i.mode windows refl fit acked))

@@ -30,49 +30,39 @@ taken_of vr packets ps q r =
     (got_by packets q.origin q) r
 
 none_taken :
-    (x y : End) (r : Running) (vr : ℕ) (q : SetUp) (ps : List Place) (to_x to_y : List Tagged)
+    (x : End) {y : End} (r : Running) (vr : ℕ) (q : SetUp) (ps : List Place) {to_x to_y : List Tagged}
     → UpInvariant x y (got_so_far vr (stored_from vr ps) q r) to_x to_y
     → UpInvariant x y (taken_of vr [] ps q r) to_x to_y
-none_taken x y r vr q ps to_x to_y h =
+none_taken x r vr q ps h =
     let none : vr ≡ vr + 0 = omega arith in
-    subst (λ n. UpInvariant x y (got_so_far n (stored_from n ps) (got_by [] q.origin q) r) to_x to_y) none
-    (subst (λ g. UpInvariant x y (got_so_far vr (stored_from vr ps) (record q { got = g }) r) to_x to_y)
-    (sym (append-nil q.got)) h)
+    rw (← none) (rw (append-nil q.got) h)
 
 some_taken :
-    (x y : End) (r : Running) (vr : ℕ) (q : SetUp) (p : Place) (ps : List Place) (to_x to_y : List Tagged)
-    (o : Option Packet)
-    → p.packet ≡ o → IsSome q.origin
+    (x : End) {y : End} (r : Running) (vr : ℕ) (q : SetUp) (p : Place) (ps : List Place) {to_x to_y : List Tagged}
+    (o : Option Packet) → p.packet ≡ o → IsSome q.origin
     → ((packet : Packet) → UpInvariant x y (got_so_far (vr + 1) (stored_from (vr + 1) ps)
     (got_by (packet ∷ []) q.origin q) r) to_x to_y
     → UpInvariant x y (taken_of (vr + 1) (run ps) ps (got_by (packet ∷ []) q.origin q) r) to_x to_y)
     → UpInvariant x y (got_so_far vr (stored_from vr (p ∷ ps)) q r) to_x to_y
     → UpInvariant x y (taken_of vr (before_gap o (run ps)) (p ∷ ps) q r) to_x to_y
-some_taken x y r vr q p ps to_x to_y None is some rest h = none_taken x y r vr q (p ∷ ps) to_x to_y h
-some_taken x y r vr q p ps to_x to_y (Some packet) is some rest h =
+some_taken x r vr q p ps None is some rest h = none_taken x r vr q (p ∷ ps) h
+some_taken x r vr q p ps (Some packet) is some rest h =
     let s : Stored = record { number = vr; packet = packet } in
     let before = got_so_far vr (stored_from vr (p ∷ ps)) q r in
-    let one : UpInvariant x y (got_so_far (vr + 1) (stored_from (vr + 1) ps) (got_by (packet ∷ []) q.origin q) r) to_x
-    to_y =
-    take_stored_keeps x y before [] s (stored_from (vr + 1) ps) to_x to_y
+    let one = take_stored_keeps x [] s (stored_from (vr + 1) ps)
     (ap (λ t. stored_before vr t (stored_from (vr + 1) ps)) is) refl some h in
     let further : vr + 1 + length (run ps) ≡ vr + length (packet ∷ run ps) = omega arith in
-    let got : (q.got ++ packet ∷ []) ++ run ps ≡ q.got ++ packet ∷ run ps = append_assoc q.got (packet ∷ []) (run ps) in
-    subst (λ g. UpInvariant x y (got_so_far (vr + length (packet ∷ run ps))
-    (stored_from (vr + length (packet ∷ run ps)) (drop (length (run ps)) ps)) (record q { got = g }) r) to_x to_y)
-    got
-    (subst (λ n. UpInvariant x y (got_so_far n (stored_from n (drop (length (run ps)) ps))
-    (record q { got = (q.got ++ packet ∷ []) ++ run ps }) r) to_x to_y) further (rest packet one))
+    let got = append_assoc q.got (packet ∷ []) (run ps) in
+    rw (← got) (rw (← further) (rest packet one))
 
 -- one behind another, up to the first place that is empty
 pub run_taken :
-    (x y : End) (r : Running) (vr : ℕ) (q : SetUp) (ps : List Place) (to_x to_y : List Tagged) → IsSome q.origin
+    (x : End) {y : End} (r : Running) (vr : ℕ) (q : SetUp) (ps : List Place) {to_x to_y : List Tagged} → IsSome q.origin
     → UpInvariant x y (got_so_far vr (stored_from vr ps) q r) to_x to_y
     → UpInvariant x y (taken_of vr (run ps) ps q r) to_x to_y
-run_taken x y r vr q [] to_x to_y some h = none_taken x y r vr q [] to_x to_y h
-run_taken x y r vr q (p ∷ ps) to_x to_y some h =
-    some_taken x y r vr q p ps to_x to_y p.packet refl some
-    (λ packet one. run_taken x y r (vr + 1) (got_by (packet ∷ []) q.origin q) ps to_x to_y some one) h
+run_taken x r vr q [] some h = none_taken x r vr q [] h
+run_taken x r vr q (p ∷ ps) some h = some_taken x r vr q p ps p.packet refl some
+    (λ packet one. run_taken x r (vr + 1) (got_by (packet ∷ []) q.origin q) ps some one) h
 
 first_is_some : (o : Option ℕ) (tag : ℕ) → IsSome (first_origin o tag)
 first_is_some None tag = refl
@@ -80,55 +70,46 @@ first_is_some (Some a) tag = refl
 
 -- The front frame has the packet with number V(R), whose place is empty.
 pub next_taken :
-    (y : End) (m : Machine) (ended : List SetUp) (q : SetUp) (tag k nr : ℕ) (packet : Packet) (rest to_y : List Tagged)
+    {y : End} (m : Machine) (ended : List SetUp) (q : SetUp) {tag k nr : ℕ} {packet : Packet} {rest to_y : List Tagged}
     → packet_at m.incoming.places 0 ≡ None
     → Invariant (between (up_end m ended q) y (numbered_to tag k (Info m.incoming.vr nr packet) ∷ rest) to_y)
     → UpInvariant (end_behind m ended) y
     (got_so_far (m.incoming.vr + 1) (stored_from (m.incoming.vr + 1) (drop 1 m.incoming.places))
     (got_by (packet ∷ []) (first_origin q.origin tag) q) (running_of m q)) rest to_y
-next_taken y m ended q tag k nr packet rest to_y none h =
-    subst (λ ss. UpInvariant (end_behind m ended) y
-    (got_so_far (m.incoming.vr + 1) ss (got_by (packet ∷ []) (first_origin q.origin tag) q) (running_of m q)) rest
-    to_y)
-    (sym (stored_first_empty m.incoming.vr m.incoming.places none))
-    (accept_front_keeps (end_behind m ended) y (running_of m q) tag k nr packet rest to_y h)
+next_taken m ended q none h = rw (stored_first_empty m.incoming.vr m.incoming.places none) (accept_front_keeps (end_behind m ended) h)
 
 -- so by REJ, where V(R) moves on by one
 pub one_taken :
-    (y : End) (m : Machine) (ended : List SetUp) (q : SetUp) (tag k nr : ℕ) (packet : Packet) (rest to_y : List Tagged)
+    {y : End} (m : Machine) (ended : List SetUp) (q : SetUp) {tag k nr : ℕ} {packet : Packet} {rest to_y : List Tagged}
     → packet_at m.incoming.places 0 ≡ None
     → Invariant (between (up_end m ended q) y (numbered_to tag k (Info m.incoming.vr nr packet) ∷ rest) to_y)
     → Invariant (between (up_end (record m { incoming = moved_on 1 m.incoming }) ended
     (got_by (packet ∷ []) (first_origin q.origin tag) q)) y rest to_y)
-one_taken y m ended q tag k nr packet rest to_y none h =
+one_taken m ended q none h =
     let i = m.incoming in
-    subst (λ ss. UpInvariant (end_behind m ended) y
-    (got_so_far (i.vr + 1) ss (got_by (packet ∷ []) (first_origin q.origin tag) q) (running_of m q)) rest to_y)
-    (sym (stored_behind (i.vr + 1) 1 (drop 1 i.places))) (next_taken y m ended q tag k nr packet rest to_y none h)
+    rw (stored_behind (i.vr + 1) 1 (drop 1 i.places)) (next_taken m ended q none h)
 
 -- and by SREJ, where V(R) moves on behind those stored that follow
 pub run_with_taken :
-    (y : End) (m : Machine) (ended : List SetUp) (q : SetUp) (tag k nr : ℕ) (packet : Packet) (rest to_y : List Tagged)
+    {y : End} (m : Machine) (ended : List SetUp) (q : SetUp) {tag k nr : ℕ} {packet : Packet} {rest to_y : List Tagged}
     → packet_at m.incoming.places 0 ≡ None
     → Invariant (between (up_end m ended q) y (numbered_to tag k (Info m.incoming.vr nr packet) ∷ rest) to_y)
     → Invariant (between (up_end (record m { incoming = moved_on (length (run_with packet m)) m.incoming }) ended
     (got_by (run_with packet m) (first_origin q.origin tag) q)) y rest to_y)
-run_with_taken y m ended q tag k nr packet rest to_y none h =
+run_with_taken {y} m ended q {tag} {k} {packet} {rest} {to_y} none h =
     let i = m.incoming in
     let more : List Packet = run (drop 1 i.places) in
     let q1 = got_by (packet ∷ []) (first_origin q.origin tag) q in
-    let all = run_taken (end_behind m ended) y (running_of m q) (i.vr + 1) q1 (drop 1 i.places) rest to_y
-    (first_is_some q.origin tag) (next_taken y m ended q tag k nr packet rest to_y none h) in
+    let all = run_taken (end_behind m ended) (running_of m q) (i.vr + 1) q1 (drop 1 i.places)
+    (first_is_some q.origin tag) (next_taken m ended q none h) in
     let further : i.vr + 1 + length more ≡ i.vr + length (packet ∷ more) = omega arith in
     let behind : 1 + length more ≡ length (packet ∷ more) = omega arith in
-    let places : drop (length more) (drop 1 i.places) ≡ drop (length (packet ∷ more)) i.places =
-    drop-drop (length more) 1 i.places ∙ ap (λ n. drop n i.places) behind in
-    let got : (q.got ++ packet ∷ []) ++ more ≡ q.got ++ packet ∷ more = append_assoc q.got (packet ∷ []) more in
+    let places = drop-drop (length more) 1 i.places ∙ ap (λ n. drop n i.places) behind in
+    let got = append_assoc q.got (packet ∷ []) more in
     let P : ℕ → List Stored → List Packet → Type 0 = λ n ss g. UpInvariant (end_behind m ended) y
     (got_so_far n ss (record q { got = g; origin = first_origin q.origin tag }) (running_of m q)) rest to_y in
     let n = i.vr + length (packet ∷ more) in
-    let last : P n (stored_from n (drop (length more) (drop 1 i.places))) (q.got ++ packet ∷ more) =
-    subst (λ g. P n (stored_from n (drop (length more) (drop 1 i.places))) g) got
+    let last = subst (λ g. P n (stored_from n (drop (length more) (drop 1 i.places))) g) got
     (subst (λ k. P k (stored_from k (drop (length more) (drop 1 i.places))) ((q.got ++ packet ∷ []) ++ more))
     further all) in
     subst (λ ss. P n ss (q.got ++ packet ∷ more))
