@@ -1,18 +1,12 @@
 -- The acts of a link that is up keep it.
-use Rattle.std.proofs.Common.{◌≡◌, ℕ, ◌+◌, ◌-◌, ◌≤◌, Bool, true, false, if◌then◌else◌, ◌&&◌, nat_lt, ◌==◌, List, [], ◌∷◌, length, take, drop, map, min, refl, ap, ◌∙◌, arith, Option, Some, None, zero, suc}
+use Rattle.std.proofs.Common.{ℕ, ◌+◌, ◌-◌, Bool, true, false, if◌then◌else◌, ◌&&◌, nat_lt, ◌==◌, List, [], ◌∷◌, length, take, drop, map, min, refl, zero, suc}
 use Rattle.std.specs.List.{AllByRecursion as Each}
-use Rattle.std.proofs.lemmas.List.{length-take, length-map}
-use Rattle.std.proofs.lemmas.List.FromFn.{length-range_with_len}
-use Rattle.std.proofs.lemmas.List.Sums.{length-filter, count_by-le-length}
 use Rattle.std.specs.Prelude.{slice_get, ◌||◌}
-use Rattle.std.specs.List.{range_with_len}
 use Rattle.std.specs.Option.{option_to_list}
 use Rattle.selective_reject.specs.declared.packet.Packet.{Packet}
-use Rattle.selective_reject.specs.declared.place.Place.{Place}
-use Rattle.selective_reject.specs.Outgoing.{Outgoing}
-use Rattle.selective_reject.specs.Places.{missing, is_missing}
+use Rattle.selective_reject.specs.Places.{missing}
 use Rattle.link_machine.specs.Machine.{Machine}
-use Rattle.link_machine.specs.Sent.{sent_in, all_sent_in, infos_from}
+use Rattle.link_machine.specs.Sent.{all_sent_in, infos_from}
 use Rattle.link_machine.specs.Sent.Sent.{SuperSent, SetupSent}
 use Rattle.link_machine.specs.Acts.{respond_ready, answer_poll, recover, poll, in_window, to_send, send_packets, flush, release, close, settle, reset, calling_frame, reject, give, ask, srej_for, send_again, sent_packet}
 use Rattle.ax25_frames.specs.declared.frame.S.TheVariants.{Rr, Rej}

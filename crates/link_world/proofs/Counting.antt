@@ -1,23 +1,22 @@
 -- A link that counts goes on doing so, and each frame that it sends may be written in its modulus.
-use Rattle.std.proofs.Common.{◌≡◌, ◌≤◌, ◌⊎◌, Bool, ℕ, List, [], ◌∷◌, ◌++◌, map, inl, inr, refl, sym, ap, subst, arith}
-use Rattle.std.specs.Prelude.{All, Result, Ok, Err, IfOk, OnErr}
+use Rattle.std.proofs.Common.{◌≡◌, Bool, ℕ, List, [], ◌∷◌, ◌++◌, map, inl, inr, sym, ap, subst, arith}
+use Rattle.std.specs.Prelude.{All}
 use Rattle.std.specs.List.{AllByRecursion as Each}
-use Rattle.std.proofs.lemmas.List.Elements.{All-map, All-append, All-from_recursion}
+use Rattle.std.proofs.lemmas.List.Elements.{All-append, All-from_recursion}
 use Rattle.ax25_address.specs.declared.path.Path.{Path}
 use Rattle.ax25_frames.specs.FrameOctets.{CanWrite}
 use Rattle.link_machine.specs.declared.acts.SentFrame.{SentFrame}
 use Rattle.link_machine.specs.declared.machine.Machine.{Machine as HeldLink}
 use Rattle.link_machine.specs.Done.{Done}
 use Rattle.link_machine.specs.Machine.{Machine, modulus_named}
-use Rattle.link_machine.specs.Sent.{Sent, SentIn, sent_kind, sent_frame, sent_frames, frame_of}
+use Rattle.link_machine.specs.Sent.{Sent, SentIn, sent_frames, frame_of}
 use Rattle.link_machine.specs.Sent.Sent.{InfoSent, SuperSent, SetupSent}
 use Rattle.link_machine.specs.StandsFor.{StandsFor as LinkStandsFor}
 use Rattle.link_machine.specs.Event.{Event}
-use Rattle.link_machine.specs.Turn.{begin}
 use Rattle.link_machine.specs.Step.{step, done_of}
 use Rattle.link_world.specs.declared.side.Side.{Side as HeldSide}
 use Rattle.link_world.specs.Held.{IsModulus, IsRunning, CanFly, IsSide, flying}
-use Rattle.link_world.proofs.Growth.{IsShortSent, IsGood, GoesOn}
+use Rattle.link_world.proofs.Growth.{IsShortSent, IsGood}
 use Rattle.link_world.proofs.StepGrowth.{step_keeps}
 
 -- the step of a link, where its calls say so

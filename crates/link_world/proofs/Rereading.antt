@@ -1,6 +1,6 @@
 -- A frame that is written in one modulus and read in another, in octets: what it is read as, and that it is read as
 -- nothing else.
-use Rattle.std.proofs.Common.{◌≡◌, ℕ, ◌+◌, ◌*◌, ◌/◌, ◌%◌, ◌<◌, ◌≤◌, Bool, true, false, ◌==◌, nat_lt, if◌then◌else◌, List, [], ◌∷◌, ◌++◌, length, drop, Option, Some, None, ◌⊎◌, inl, inr, refl, sym, ap, ◌∙◌, subst, arith}
+use Rattle.std.proofs.Common.{◌≡◌, ℕ, ◌+◌, ◌*◌, ◌/◌, ◌%◌, ◌<◌, ◌≤◌, Bool, true, false, ◌==◌, nat_lt, if◌then◌else◌, List, [], ◌∷◌, length, drop, Option, Some, None, ◌⊎◌, inl, inr, refl, sym, ap, ◌∙◌, subst, arith}
 use Rattle.std.specs.Prelude.{All, Result, Ok, Err, IfOk, IfErr}
 use Rattle.std.proofs.lemmas.List.Elements.{All-drop}
 use Rattle.std.proofs.lemmas.Bool.{eqb-true, eqb-false, ltb-true, ltb-false}
@@ -12,7 +12,6 @@ use Rattle.ax25_frames.specs.declared.frame.Kind.TheVariants.{Info, Super, Setup
 use Rattle.ax25_frames.specs.declared.frame.S.{S}
 use Rattle.ax25_frames.specs.declared.frame.U.TheVariants.{Sabm, Sabme, Disc, Dm, Ua}
 use Rattle.ax25_frames.specs.declared.frame.W.TheVariants.{Frmr, Xid, Test}
-use Rattle.ax25_frames.specs.ControlField.{supervisory_code}
 use Rattle.ax25_address.proofs.OneReading.{BeginsWithPath-same}
 use Rattle.ax25_frames.specs.declared.frame.Frame.{Frame}
 use Rattle.ax25_frames.specs.declared.fault.FrameFault.{FrameFault}

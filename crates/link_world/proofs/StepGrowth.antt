@@ -1,5 +1,5 @@
 -- Each event keeps a link.
-use Rattle.std.proofs.Common.{◌≡◌, ℕ, ◌≤◌, Bool, true, false, ◌==◌, nat_lt, nat_le, if◌then◌else◌, [], ◌∷◌, ◌++◌, length, inl, inr, refl, sym, arith, Option, Some, None}
+use Rattle.std.proofs.Common.{◌≡◌, ℕ, Bool, true, false, ◌==◌, nat_lt, nat_le, if◌then◌else◌, [], ◌∷◌, ◌++◌, length, inl, inr, refl, sym, arith, Option, Some, None}
 use Rattle.std.specs.Bool.{⊤}
 use Rattle.std.proofs.lemmas.Bool.{false≢true, ltb-false}
 use Rattle.selective_reject.specs.declared.packet.Packet.{Packet}
@@ -18,7 +18,7 @@ use Rattle.link_machine.specs.Turn.{begin, changing, setting}
 use Rattle.link_machine.specs.Acts.{calling_frame, poll}
 use Rattle.link_machine.specs.Frames.{end_call}
 use Rattle.link_machine.specs.Requests.{connect, joined, quitting, is_closed}
-use Rattle.link_machine.specs.Ticks.{runs_out, lowered, with_t1, with_t2, with_t3, t2_out, is_spent, retried, call_again, poll_again, release_again, t1_out, unretried, t3_out, tick_t2_of, tick_t2, tick_t3_of, tick_t1_of, tick_t1, tick_in, tick}
+use Rattle.link_machine.specs.Ticks.{runs_out, lowered, with_t1, with_t2, with_t3, t2_out, is_spent, retried, call_again, poll_again, release_again, t1_out, unretried, t3_out, tick_t2_of, tick_t2, tick_t3_of, tick_t1_of, tick_t1, tick_in}
 use Rattle.link_machine.specs.Event.{Event}
 use Rattle.link_machine.specs.Event.Event.{Connect, Send, Disconnect, Hear, Tick}
 use Rattle.link_machine.specs.Step.{refusal_of, row, settle_in, settled, step}

@@ -1,12 +1,12 @@
 -- Windows that fit are not refused.
-use Rattle.std.proofs.Common.{◌≡◌, ℕ, ◌⊎◌, inl, inr, refl, sym, ap, ◌∙◌, subst, arith, Result, Err}
+use Rattle.std.proofs.Common.{◌≡◌, ℕ, inl, inr, refl, sym, ap, ◌∙◌, subst, arith, Result, Err}
 use Rattle.std.specs.Prelude.{◌↔◌, IfErr}
 use Rattle.selective_reject.specs.declared.window.Mode.{Mode}
 use Rattle.selective_reject.specs.declared.window.BadWindow.{BadWindow}
 use Rattle.selective_reject.specs.Window.{IsWindow, IsBadWindow}
 use Rattle.link_machine.specs.declared.params.Params.{Params}
 use Rattle.link_machine.specs.declared.fault.NewFault.{NewFault}
-use Rattle.link_machine.specs.declared.fault.NewFault.TheVariants.{BadWindow as RefusedWindow, Memory}
+use Rattle.link_machine.specs.declared.fault.NewFault.TheVariants.{BadWindow as RefusedWindow}
 use Rattle.link_machine.specs.Params.{HasWindows, IsRefusedWindow}
 
 fits_or_not : (modulus window : ℕ) (mode : Mode) → IsWindow modulus window mode → IsBadWindow modulus window mode → ⊥

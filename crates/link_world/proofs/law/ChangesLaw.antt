@@ -18,21 +18,21 @@ use Rattle.link_world.specs.Windows.{WindowsFit}
 use Rattle.link_world.specs.World.{Side, World, seen_from, end_of, new_world, near_step, near_turn, staying, run}
 use Rattle.link_world.specs.Changes.{Change, kept, made_in, near_made, near_kept, changed, run_changes, is_quiet_change, AreQuiet, hears_valid_in, ChangesAreValid, ChangesLaw}
 use Rattle.link_world.specs.Changes.Change.{Makes, Happens, Keeps}
-use Rattle.link_world.proofs.law.Core.{End, SetUp as CoreSetUp, Tagged as CoreTagged, Kind, between}
-use Rattle.link_world.proofs.law.Core.Kind.{Sabm, Disc, Ua, Dm, IsNumbered}
-use Rattle.link_world.proofs.law.Core.Standing.{Idle}
-use Rattle.link_world.proofs.law.CoreMoves.{now}
-use Rattle.link_world.proofs.law.CoreOf.{end_behind}
+use Rattle.link_world.proofs.law.reduced.Core.{End, SetUp as CoreSetUp, Tagged as CoreTagged, Kind, between}
+use Rattle.link_world.proofs.law.reduced.Core.Kind.{Sabm, Disc, Ua, Dm, IsNumbered}
+use Rattle.link_world.proofs.law.reduced.Core.Standing.{Idle}
+use Rattle.link_world.proofs.law.reduced.CoreMoves.{now}
+use Rattle.link_world.proofs.law.reduced.CoreOf.{end_behind}
 use Rattle.link_world.proofs.law.Each.{each_weaker, each_removed}
-use Rattle.link_world.proofs.law.Invariant.{Invariant, CallsIn}
-use Rattle.link_world.proofs.law.Losing.{lose_keeps}
-use Rattle.link_world.proofs.law.PlacesFit.{sound_new}
-use Rattle.link_world.proofs.law.Shown.{core_set_ups, core_flight, core_tagged, Shown, IsWritten}
-use Rattle.link_world.proofs.law.Shown.Shown.{ShownIdle, ShownCalling, ShownUp, ShownReleasing}
-use Rattle.link_world.proofs.law.WorldSteps.{ShowsWorld, shows_mirror}
-use Rattle.link_world.proofs.law.Runs.{near_shows, new_shows, step_shows, fit_mirror}
-use Rattle.link_world.proofs.law.Conclusion.{near_got}
-use Rattle.link_world.proofs.law.WorldLaw.{ActedWorld, acted_mirror, near_acted, step_acted, step_valid, in_order}
+use Rattle.link_world.proofs.law.invariant.Invariant.{Invariant, CallsIn}
+use Rattle.link_world.proofs.law.moves.Losing.{lose_keeps}
+use Rattle.link_world.proofs.law.showing.PlacesFit.{sound_new}
+use Rattle.link_world.proofs.law.showing.Shown.{core_set_ups, core_flight, core_tagged, Shown, IsWritten}
+use Rattle.link_world.proofs.law.showing.Shown.Shown.{ShownIdle, ShownCalling, ShownUp, ShownReleasing}
+use Rattle.link_world.proofs.law.runs.WorldSteps.{ShowsWorld, shows_mirror}
+use Rattle.link_world.proofs.law.runs.Runs.{near_shows, new_shows, step_shows, fit_mirror}
+use Rattle.link_world.proofs.law.runs.Conclusion.{near_got}
+use Rattle.link_world.proofs.law.runs.WorldLaw.{ActedWorld, acted_mirror, near_acted, step_acted, step_valid, in_order}
 
 -- ---- an idle end with a new link
 
@@ -45,10 +45,10 @@ calls_of_idle own other (Dm answers) h = tt
 calls_of_idle own other (IsNumbered modulus n) h = tt
 
 renewed_holds :
-    (m : Machine) (path : Path) (qs : List CoreSetUp) (y : End) (to_x to_y : List CoreTagged)
+    (m : Machine) (path : Path) (qs : List CoreSetUp) {y : End} {to_x to_y : List CoreTagged}
     → Invariant (between (now Idle (end_behind m qs)) y to_x to_y)
     → Invariant (between (now Idle (end_behind (new_machine path m.params) qs)) y to_x to_y)
-renewed_holds m path qs y to_x to_y h = record {
+renewed_holds m path qs {to_y} h = record {
   x_hears = record {
     tags = h.x_hears.tags;
     one_exchange = h.x_hears.one_exchange;
@@ -77,9 +77,7 @@ renewed_holds m path qs y to_x to_y h = record {
       window = h.y_hears.moduli.window;
       own = h.y_hears.moduli.own;
       frames = h.y_hears.moduli.frames;
-      calls = each_weaker (λ (f : CoreTagged). CallsIn Idle m.incoming.modulus f.kind)
-          (λ (f : CoreTagged). CallsIn Idle 8 f.kind)
-          (λ f c. calls_of_idle m.incoming.modulus 8 f.kind c) to_y h.y_hears.moduli.calls;
+      calls = each_weaker _ _ (λ f c. calls_of_idle m.incoming.modulus 8 f.kind c) to_y h.y_hears.moduli.calls;
       same = h.y_hears.moduli.same;
       mate = h.y_hears.moduli.mate;
       origins = h.y_hears.moduli.origins;
@@ -94,26 +92,24 @@ record Renewed (r : RecordedEnd) (path : Path) (y : End) (to_x to_y : List CoreT
   holds : Invariant (between x y to_x to_y)
 
 renewed :
-    (r : RecordedEnd) (path : Path) (x y : End) (to_x to_y : List CoreTagged) → r.machine.control.state ≡ IdleState
+    {r : RecordedEnd} {path : Path} {x y : End} {to_x to_y : List CoreTagged} → r.machine.control.state ≡ IdleState
     → Shown r x → Invariant (between x y to_x to_y) → Renewed r path y to_x to_y
-renewed r path x y to_x to_y idle (ShownIdle state packets waiting) inv = record {
+renewed {r} {path} {x} idle (ShownIdle state packets waiting) inv = record {
   x = now Idle (end_behind (new_machine path r.machine.params) (core_set_ups r.set_ups));
   shown = ShownIdle refl refl waiting;
-  holds = renewed_holds r.machine path (core_set_ups r.set_ups) y to_x to_y inv;
+  holds = renewed_holds r.machine path (core_set_ups r.set_ups) inv;
 }
-renewed r path x y to_x to_y idle (ShownCalling state waiting) inv =
-    absurd (let e : IdleState ≡ CallingState = sym idle ∙ state in cc)
-renewed r path x y to_x to_y idle (ShownUp ended last l state waiting) inv =
-    absurd (let e : IdleState ≡ UpState = sym idle ∙ state in cc)
-renewed r path x y to_x to_y idle (ShownReleasing state packets waiting) inv =
+renewed idle (ShownCalling state waiting) inv = absurd (let e : IdleState ≡ CallingState = sym idle ∙ state in cc)
+renewed idle (ShownUp ended last l state waiting) inv = absurd (let e : IdleState ≡ UpState = sym idle ∙ state in cc)
+renewed idle (ShownReleasing state packets waiting) inv =
     absurd (let e : IdleState ≡ ReleasingState = sym idle ∙ state in cc)
 
 made_shows :
-    (a b : Params) (r : RecordedEnd) (towards : List Tagged) (far : Side) (path : Path) (state : LinkState)
+    {a b : Params} {r : RecordedEnd} {towards : List Tagged} {far : Side} (path : Path) (state : LinkState)
     → r.machine.control.state ≡ state → ShowsWorld a b (record { a = record { end = r; towards = towards }; b = far })
     → ShowsWorld a b (record { a = record { end = made_in state path r; towards = towards }; b = far })
-made_shows a b r towards far path IdleState is s =
-    let made = renewed r path s.x s.y (core_flight towards) (core_flight far.towards) is s.near s.holds in
+made_shows {far} path IdleState is s =
+    let made = renewed is s.near s.holds in
     record {
       x = made.x;
       y = s.y;
@@ -121,28 +117,27 @@ made_shows a b r towards far path IdleState is s =
       far = s.far;
       near_params = s.near_params;
       far_params = s.far_params;
-      near_sound = sound_new r.machine.params 8 (inl refl) s.near_sound.room;
+      near_sound = sound_new 8 (inl refl) s.near_sound.room;
       far_sound = s.far_sound;
       holds = made.holds;
       near_written = s.near_written;
       far_written = s.far_written;
     }
-made_shows a b r towards far path CallingState is s = s
-made_shows a b r towards far path UpState is s = s
-made_shows a b r towards far path ReleasingState is s = s
+made_shows path CallingState is s = s
+made_shows path UpState is s = s
+made_shows path ReleasingState is s = s
 
 near_made_shows :
-    (a b : Params) (w : World) (path : Path) → ShowsWorld a b w → ShowsWorld a b (near_made path w)
-near_made_shows a b w path s =
-    made_shows a b w.a.end w.a.towards w.b path w.a.end.machine.control.state refl s
+    {a b : Params} {w : World} (path : Path) → ShowsWorld a b w → ShowsWorld a b (near_made path w)
+near_made_shows {w} path s = made_shows path w.a.end.machine.control.state refl s
 
 made_acted :
-    (w : World) (path : Path) (state : LinkState) → ActedWorld w
+    {w : World} (path : Path) (state : LinkState) → ActedWorld w
     → ActedWorld (record w { a = record w.a { end = made_in state path w.a.end } })
-made_acted w path IdleState h = record { near = h.near; far = h.far }
-made_acted w path CallingState h = record { near = h.near; far = h.far }
-made_acted w path UpState h = record { near = h.near; far = h.far }
-made_acted w path ReleasingState h = record { near = h.near; far = h.far }
+made_acted path IdleState h = record { near = h.near; far = h.far }
+made_acted path CallingState h = record { near = h.near; far = h.far }
+made_acted path UpState h = record { near = h.near; far = h.far }
+made_acted path ReleasingState h = record { near = h.near; far = h.far }
 
 -- ---- frames that are lost as they are sent
 
@@ -154,20 +149,19 @@ kept_keeps :
 kept_keeps P loses [] before [] h = h
 kept_keeps P loses [] before (f ∷ fs) h = kept_keeps P loses [] before fs (loses before f fs h)
 kept_keeps P loses (mark ∷ marks) before [] h = h
-kept_keeps P loses (true ∷ marks) before (f ∷ fs) h =
-    subst P (append_assoc before (f ∷ []) (kept marks fs))
+kept_keeps P loses (true ∷ marks) before (f ∷ fs) h = subst P (append_assoc before (f ∷ []) (kept marks fs))
     (kept_keeps P loses marks (before ++ f ∷ []) fs (subst P (sym (append_assoc before (f ∷ []) fs)) h))
 kept_keeps P loses (false ∷ marks) before (f ∷ fs) h = kept_keeps P loses marks before fs (loses before f fs h)
 
 -- a frame towards the far end is lost
 far_loses :
-    (a b : Params) (near : Side) (far : RecordedEnd) (before : List Tagged) (f : Tagged) (after : List Tagged)
+    {a b : Params} {near : Side} {far : RecordedEnd} (before : List Tagged) (f : Tagged) (after : List Tagged)
     → ShowsWorld a b (record { a = near; b = record { end = far; towards = before ++ f ∷ after } })
     → ShowsWorld a b (record { a = near; b = record { end = far; towards = before ++ after } })
-far_loses a b near far before f after s =
-    let inv : Invariant (between s.x s.y (core_flight near.towards) (core_flight before ++ core_tagged f ∷ core_flight after)) =
+far_loses {near} {far} before f after s =
+    let inv =
     subst (λ fs. Invariant (between s.x s.y (core_flight near.towards) fs)) (map-append core_tagged before (f ∷ after)) s.holds in
-    let lost = lose_keeps s.y s.x (core_flight before) (core_tagged f) (core_flight after) (core_flight near.towards)
+    let lost = lose_keeps (core_flight before) (core_tagged f) (core_flight after)
     (record { x_hears = inv.y_hears; y_hears = inv.x_hears }) in
     record {
       x = s.x;
@@ -185,90 +179,86 @@ far_loses a b near far before f after s =
     }
 
 kept_shows :
-    (a b : Params) (w : World) (event : Event) (marks : List Bool) → ShowsWorld a b (near_step event w)
+    {a b : Params} (w : World) (event : Event) (marks : List Bool) → ShowsWorld a b (near_step event w)
     → ShowsWorld a b (near_kept event marks w)
-kept_shows a b w event marks s =
+kept_shows {a} {b} w event marks s =
     let turn = near_turn event w in
     let near : Side = record { end = turn.now; towards = staying event w.a.towards } in
     kept_keeps (λ fs. ShowsWorld a b (record { a = near; b = record { end = w.b.end; towards = fs } }))
-    (far_loses a b near w.b.end) marks w.b.towards turn.sent s
+    (far_loses) marks w.b.towards turn.sent s
 
 -- ---- a change of either end
 
 change_shows :
-    (a b : Params) (w : World) (change : Change) → WindowsFit a b → IsTrue (is_quiet_change w change) → ShowsWorld a b w
+    {a b : Params} {w : World} (change : Change) → WindowsFit a b → IsTrue (is_quiet_change w change) → ShowsWorld a b w
     → ShowsWorld a b (changed w change)
-change_shows a b w (Makes A path) fit quiet s = near_made_shows a b w path s
-change_shows a b w (Makes B path) fit quiet s =
-    shows_mirror b a (near_made path (seen_from B w)) (near_made_shows b a (seen_from B w) path (shows_mirror a b w s))
-change_shows a b w (Happens event) fit quiet s = step_shows a b w event fit quiet s
-change_shows a b w (Keeps event marks) fit quiet s = go (end_of event) (and_parts _ _ quiet)
+change_shows (Makes A path) fit quiet s = near_made_shows path s
+change_shows (Makes B path) fit quiet s = shows_mirror (near_made_shows path (shows_mirror s))
+change_shows (Happens event) fit quiet s = step_shows event fit quiet s
+change_shows {a} {b} {w} (Keeps event marks) fit quiet s = go (end_of event) (and_parts _ _ quiet)
   where
     go : (e : Name) → (sends_alone (seen_from e w) event ≡ true) × (called_alone (seen_from e w) event ≡ true)
         → ShowsWorld a b (seen_from e (near_kept event marks (seen_from e w)))
-    go A both = kept_shows a b w event marks (near_shows a b w event fit both.0 both.1 s)
-    go B both = shows_mirror b a (near_kept event marks (seen_from B w)) (kept_shows b a (seen_from B w) event marks
-        (near_shows b a (seen_from B w) event (fit_mirror a b fit) both.0 both.1 (shows_mirror a b w s)))
+    go A both = kept_shows w event marks (near_shows event fit both.0 both.1 s)
+    go B both = shows_mirror (kept_shows (seen_from B w) event marks
+        (near_shows event (fit_mirror a b fit) both.0 both.1 (shows_mirror s)))
 
 change_acted :
-    (a b : Params) (w : World) (change : Change) → ShowsWorld a b w → ActedWorld w → ActedWorld (changed w change)
-change_acted a b w (Makes A path) s h = made_acted w path w.a.end.machine.control.state h
-change_acted a b w (Makes B path) s h =
-    acted_mirror (near_made path (seen_from B w))
-    (made_acted (seen_from B w) path w.b.end.machine.control.state (acted_mirror w h))
-change_acted a b w (Happens event) s h = step_acted a b w event s h
-change_acted a b w (Keeps event marks) s h = go (end_of event)
+    {a b : Params} {w : World} (change : Change) → ShowsWorld a b w → ActedWorld w → ActedWorld (changed w change)
+change_acted {w} (Makes A path) s h = made_acted path w.a.end.machine.control.state h
+change_acted {w} (Makes B path) s h = acted_mirror
+    (made_acted path w.b.end.machine.control.state (acted_mirror h))
+change_acted (Happens event) s h = step_acted event s h
+change_acted {w} (Keeps event marks) s h = go (end_of event)
   where
     go : (e : Name) → ActedWorld (seen_from e (near_kept event marks (seen_from e w)))
-    go A = let acted = near_acted a b w event s h in record { near = acted.near; far = acted.far }
-    go B = let acted = near_acted b a (seen_from B w) event (shows_mirror a b w s) (acted_mirror w h) in
+    go A = let acted = near_acted event s h in record { near = acted.near; far = acted.far }
+    go B = let acted = near_acted event (shows_mirror s) (acted_mirror h) in
         record { near = acted.far; far = acted.near }
 
 change_valid :
-    (a b : Params) (w : World) (change : Change) → WindowsFit a b → ShowsWorld a b w
-    → IsTrue (hears_valid_in change w)
-change_valid a b w (Makes end path) fit s = refl
-change_valid a b w (Happens event) fit s = step_valid a b w event fit s
-change_valid a b w (Keeps event marks) fit s = step_valid a b w event fit s
+    {a b : Params} {w : World} (change : Change) → WindowsFit a b → ShowsWorld a b w → IsTrue (hears_valid_in change w)
+change_valid (Makes end path) fit s = refl
+change_valid (Happens event) fit s = step_valid event fit s
+change_valid (Keeps event marks) fit s = step_valid event fit s
 
 -- ---- a list of changes
 
 changes_show :
-    (a b : Params) (w : World) (changes : List Change) → WindowsFit a b → AreQuiet w changes → ShowsWorld a b w
+    {a b : Params} (w : World) (changes : List Change) → WindowsFit a b → AreQuiet w changes → ShowsWorld a b w
     → ShowsWorld a b (run_changes w changes)
-changes_show a b w [] fit quiet s = s
-changes_show a b w (change ∷ changes) fit quiet s =
-    changes_show a b (changed w change) changes fit quiet.1 (change_shows a b w change fit quiet.0 s)
+changes_show w [] fit quiet s = s
+changes_show w (change ∷ changes) fit quiet s =
+    changes_show (changed w change) changes fit quiet.1 (change_shows change fit quiet.0 s)
 
 changes_acted :
-    (a b : Params) (w : World) (changes : List Change) → WindowsFit a b → AreQuiet w changes → ShowsWorld a b w
+    {a b : Params} (w : World) (changes : List Change) → WindowsFit a b → AreQuiet w changes → ShowsWorld a b w
     → ActedWorld w → ActedWorld (run_changes w changes)
-changes_acted a b w [] fit quiet s h = h
-changes_acted a b w (change ∷ changes) fit quiet s h =
-    changes_acted a b (changed w change) changes fit quiet.1 (change_shows a b w change fit quiet.0 s)
-    (change_acted a b w change s h)
+changes_acted w [] fit quiet s h = h
+changes_acted w (change ∷ changes) fit quiet s h =
+    changes_acted (changed w change) changes fit quiet.1 (change_shows change fit quiet.0 s) (change_acted change s h)
 
 changes_valid :
-    (a b : Params) (w : World) (changes : List Change) → WindowsFit a b → AreQuiet w changes → ShowsWorld a b w
+    {a b : Params} (w : World) (changes : List Change) → WindowsFit a b → AreQuiet w changes → ShowsWorld a b w
     → ChangesAreValid w changes
-changes_valid a b w [] fit quiet s = tt
-changes_valid a b w (change ∷ changes) fit quiet s = (
-  change_valid a b w change fit s,
-  changes_valid a b (changed w change) changes fit quiet.1 (change_shows a b w change fit quiet.0 s),
+changes_valid w [] fit quiet s = tt
+changes_valid w (change ∷ changes) fit quiet s = (
+  change_valid change fit s,
+  changes_valid (changed w change) changes fit quiet.1 (change_shows change fit quiet.0 s),
 )
 
 -- the law
 pub changes_law_holds : ChangesLaw
 changes_law_holds to_b to_a a b fit changes quiet =
     let start = new_world to_b to_a a b in
-    let first : ShowsWorld a b start = new_shows to_b to_a a b fit in
+    let first : ShowsWorld a b start = new_shows to_b to_a fit in
     let w = run_changes start changes in
-    let s : ShowsWorld a b w = changes_show a b start changes fit quiet first in
-    let acted : ActedWorld w = changes_acted a b start changes fit quiet first (record { near = tt; far = tt }) in
+    let s : ShowsWorld a b w = changes_show start changes fit quiet first in
+    let acted : ActedWorld w = changes_acted start changes fit quiet first (record { near = tt; far = tt }) in
     record {
-      a = in_order w.a.end w.b.end (near_got a b w s) acted.near;
-      b = in_order w.b.end w.a.end (near_got b a (seen_from B w) (shows_mirror a b w s)) acted.far;
-      numbers = changes_valid a b start changes fit quiet first;
+      a = in_order (near_got s) acted.near;
+      b = in_order (near_got (shows_mirror s)) acted.far;
+      numbers = changes_valid start changes fit quiet first;
     }
 
 -- events alone make the run of the world

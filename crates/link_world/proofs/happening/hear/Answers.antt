@@ -1,7 +1,6 @@
 use Rattle.std.proofs.Common.{◌≡◌, Bool, List, drop, sym, subst, ap, ◌∙◌, inl, inr, refl, rules, tests, Some, None}
-use Rattle.std.specs.Prelude.{All, Option}
+use Rattle.std.specs.Prelude.{All}
 use Rattle.std.proofs.lemmas.List.Elements.{All-drop}
-use Rattle.ax25_frames.specs.declared.frame.Frame.{Frame}
 use Rattle.ax25_frames.specs.declared.frame.Modulus.{Modulus}
 use Rattle.link_machine.specs.declared.acts.Told.{Told}
 use Rattle.link_machine.specs.declared.machine.Machine.{Machine as HeldLink}
@@ -10,7 +9,7 @@ use Rattle.link_world.specs.declared.event.Event.TheVariants.{Hear}
 use Rattle.link_world.specs.declared.flight.InFlight.{InFlight}
 use Rattle.link_world.specs.declared.side.Side.{Side as HeldSide}
 use Rattle.link_world.specs.Reading.{frame_read}
-use Rattle.link_world.specs.Held.{CanFly, IsRefusal, Flew, Stayed, MadeStep}
+use Rattle.link_world.specs.Held.{CanFly, IsRefusal, Flew, MadeStep}
 use Rattle.link_world.proofs.Counting.{Steps, near_formed, far_formed}
 use Rattle.link_world.proofs.Sides.{ReadsFront, heard_made, heard_noisy, passed_made}
 use Rattle.link_world.proofs.happening.hear.Goals as goal

@@ -1,0 +1,7 @@
+pub mod Called
+pub mod Calls
+pub mod IdleEvents
+pub mod Ticks
+pub mod CallingEvents
+pub mod ReleasingEvents
+pub mod Ends

@@ -1,0 +1,12 @@
+pub mod Chains
+pub mod Mates
+pub mod TagChain
+pub mod Prefixes
+pub mod SetUps
+pub mod Views
+pub mod Invariant
+pub mod Options
+pub mod Exchanges
+pub mod Moduli
+pub mod Upward
+pub mod Growing

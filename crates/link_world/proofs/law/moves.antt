@@ -1,0 +1,10 @@
+pub mod NoView
+pub mod Losing
+pub mod Sending
+pub mod UpSending
+pub mod Receiving
+pub mod Standings
+pub mod Silences
+pub mod Answering
+pub mod Opening
+pub mod Kept

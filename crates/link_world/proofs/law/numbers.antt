@@ -1,0 +1,3 @@
+pub mod AckChain
+pub mod InfoChain
+pub mod Deciding

@@ -1,0 +1,27 @@
+-- A frame as an end hears it.
+use Rattle.std.specs.Prelude.{ℕ, Bool}
+use Rattle.ax25_address.specs.declared.path.Path.{Path}
+use Rattle.ax25_frames.specs.declared.frame.Kind.{Kind}
+use Rattle.link_machine.specs.Sent.{Sent, sent_kind}
+use Rattle.link_world.specs.Flight.{Tagged}
+
+-- what comes with a frame: its path, its modulus, its sender's set-up, and whether it answers a SABM, SABME or DISC
+pub record Arrival : Type 0 where
+  pub path : Path
+  pub modulus : ℕ
+  pub set_up : ℕ
+  pub answers : Bool
+
+-- a frame as it is read
+abbrev pub heard_as : Arrival → Kind → Sent → Tagged
+heard_as a kind sent = record {
+  frame = record { path = a.path; kind = kind };
+  modulus = a.modulus;
+  sent = sent;
+  set_up = a.set_up;
+  answers = a.answers;
+}
+
+-- and as it was written
+abbrev pub heard_frame : Arrival → Sent → Tagged
+heard_frame a sent = heard_as a (sent_kind a.modulus sent) sent

@@ -1,0 +1,199 @@
+-- The places of a link between two events: as many as the window, and nothing in the first; by REJ nothing in any.
+use Rattle.std.proofs.Common.{◌≡◌, ℕ, zero, suc, ◌+◌, ◌-◌, ◌≤◌, Bool, true, false, ◌==◌, if◌then◌else◌, ◌⊎◌, subst, List, [], ◌∷◌, ◌++◌, length, drop, replicate, Option, Some, None, refl, sym, ap, ◌∙◌, arith, length-append, length-drop, length-set}
+use Rattle.std.proofs.lemmas.List.{length-replicate, drop-replicate, replicate-append-replicate, get_or-set_other}
+use Rattle.selective_reject.specs.declared.packet.Packet.{Packet}
+use Rattle.selective_reject.specs.declared.place.Place.{Place}
+use Rattle.selective_reject.specs.declared.window.Mode.{Mode}
+use Rattle.selective_reject.specs.declared.window.Mode.TheVariants.{Rej as RejMode, Srej as SrejMode}
+use Rattle.selective_reject.specs.Incoming.{Incoming, empty_incoming}
+use Rattle.selective_reject.specs.Places.{empty_place, packet_at, with_packet, filled_place, place_at, asked}
+use Rattle.link_machine.specs.declared.params.Params.{Params}
+use Rattle.link_machine.specs.Params.{window_in}
+use Rattle.link_machine.specs.Acts.{run, before_gap, moved_on}
+
+pub record IsFit (i : Incoming) : Type 0 where
+  pub places : length i.places ≡ i.window
+  pub first : packet_at i.places 0 ≡ None
+  pub positive : 1 ≤ i.window
+  pub in_order : i.mode ≡ RejMode → i.places ≡ replicate i.window empty_place
+
+first_of_empty : (count : ℕ) → packet_at (replicate count empty_place) 0 ≡ None
+first_of_empty zero = refl
+first_of_empty (suc count) = refl
+
+-- places that are left behind make room for empty ones
+length_moved :
+    (count : ℕ) (ps : List Place) → count ≤ length ps
+    → length (drop count ps ++ replicate count empty_place) ≡ length ps
+length_moved count ps le = length-append (drop count ps) (replicate count empty_place)
+    ∙ ap (λ n. length (drop count ps) + n) (length-replicate count empty_place)
+    ∙ ap (λ n. n + count) (length-drop count ps) ∙ omega arith
+
+first_behind :
+    (count : ℕ) (ps : List Place) → packet_at ps 0 ≡ None → packet_at (ps ++ replicate count empty_place) 0 ≡ None
+first_behind count [] none = first_of_empty count
+first_behind count (p ∷ ps) none = none
+
+-- behind a run the first place is empty
+run_behind :
+    (count : ℕ) (ps : List Place) → packet_at (drop (length (run ps)) ps ++ replicate count empty_place) 0 ≡ None
+run_behind count [] = first_of_empty count
+run_behind count (p ∷ ps) = go p.packet refl (run_behind count ps)
+  where
+    go : (o : Option Packet) → p.packet ≡ o
+        → packet_at (drop (length (run ps)) ps ++ replicate count empty_place) 0 ≡ None
+        → packet_at (drop (length (before_gap o (run ps))) (p ∷ ps) ++ replicate count empty_place) 0 ≡ None
+    go None is rest = is
+    go (Some packet) is rest = rest
+
+short_run : (ps : List Place) → length (run ps) ≤ length ps
+short_run [] = omega arith
+short_run (p ∷ ps) = go p.packet (short_run ps)
+  where
+    go : (o : Option Packet) → length (run ps) ≤ length ps → length (before_gap o (run ps)) ≤ suc (length ps)
+    go None le = omega arith
+    go (Some packet) le = omega arith
+
+rej≢srej : RejMode ≡ SrejMode → ⊥
+rej≢srej e = cc
+
+-- V(R) moves on behind a run
+pub fit_behind_run :
+    {i : Incoming} (packet : Packet) → i.mode ≡ SrejMode → IsFit i
+    → IsFit (moved_on (length (packet ∷ run (drop 1 i.places))) i)
+fit_behind_run {i} packet mode f =
+    let ps : List Place = drop 1 i.places in
+    let count : ℕ = length (packet ∷ run ps) in
+    let short = short_run ps in
+    let many : length ps ≡ length i.places - 1 = length-drop 1 i.places in
+    let places = f.places in
+    let positive = f.positive in
+    let one : count ≡ suc (length (run ps)) = refl in
+    record {
+      places = length_moved count i.places (omega arith) ∙ f.places;
+      first = behind i.places (run_behind count ps);
+      positive = f.positive;
+      in_order = λ rej. absurd (rej≢srej (sym rej ∙ mode));
+    }
+  where
+    behind : (qs : List Place)
+        → packet_at (drop (length (run (drop 1 qs))) (drop 1 qs) ++ replicate (suc (length (run (drop 1 qs))))
+        empty_place) 0 ≡ None
+        → packet_at (drop (suc (length (run (drop 1 qs)))) qs ++ replicate (suc (length (run (drop 1 qs))))
+        empty_place) 0 ≡ None
+    behind [] h = refl
+    behind (p ∷ qs) h = h
+
+moved_empty : (w : ℕ) → 1 ≤ w → drop 1 (replicate w empty_place) ++ replicate 1 empty_place ≡ replicate w empty_place
+moved_empty w positive = ap (λ t. t ++ replicate 1 empty_place) (drop-replicate 1 w empty_place)
+    ∙ replicate-append-replicate (w - 1) 1 empty_place
+    ∙ ap (λ n. replicate n empty_place) (omega arith)
+
+-- by REJ V(R) moves on by one
+pub fit_behind_one : {i : Incoming} → i.mode ≡ RejMode → IsFit i → IsFit (moved_on 1 i)
+fit_behind_one {i} mode f =
+    let empty = f.in_order mode in
+    let same = ap (λ ps. drop 1 ps ++ replicate 1 empty_place) empty ∙ moved_empty i.window f.positive in
+    record {
+      places = ap length same ∙ length-replicate i.window empty_place;
+      first = ap (λ ps. packet_at ps 0) same ∙ first_of_empty i.window;
+      positive = f.positive;
+      in_order = λ rej. same;
+    }
+
+-- a packet ahead is stored
+pub fit_with :
+    {i : Incoming} (k : ℕ) (packet : Packet) → i.mode ≡ SrejMode → 1 ≤ k → IsFit i
+    → IsFit (record i { places = with_packet i.places k packet })
+fit_with {i} k packet mode ahead f = record {
+  places = length-set i.places k (filled_place packet (place_at i.places k)) ∙ f.places;
+  first = ap (λ (p : Place). p.packet) (get_or-set_other i.places k 0 (filled_place packet (place_at i.places k))
+      empty_place (λ e. omega arith)) ∙ f.first;
+  positive = f.positive;
+  in_order = λ rej. absurd (rej≢srej (sym rej ∙ mode));
+}
+
+length_asked : (ps : List Place) (k : ℕ) → length (asked ps k) ≡ length ps
+unfolding asked
+length_asked ps zero = refl
+length_asked [] (suc k) = refl
+length_asked (p ∷ ps) (suc k) = ap suc (length_asked ps k)
+
+first_asked : (ps : List Place) (k : ℕ) → packet_at (asked ps k) 0 ≡ packet_at ps 0
+unfolding asked
+first_asked ps zero = refl
+first_asked [] (suc k) = refl
+first_asked (p ∷ ps) (suc k) = refl
+
+-- some are asked for
+pub fit_asked : {i : Incoming} (k : ℕ) → i.mode ≡ SrejMode → IsFit i → IsFit (record i { places = asked i.places k })
+fit_asked {i} k mode f = record {
+  places = length_asked i.places k ∙ f.places;
+  first = first_asked i.places k ∙ f.first;
+  positive = f.positive;
+  in_order = λ rej. absurd (rej≢srej (sym rej ∙ mode));
+}
+
+-- none is stored in a link that is new
+pub fit_new :
+    {modulus window : ℕ} {mode : Mode} → 1 ≤ window
+    → IsFit (record { modulus = modulus; window = window; mode = mode; vr = 0; places = replicate window empty_place })
+fit_new {window} positive = record {
+  places = length-replicate window empty_place;
+  first = first_of_empty window;
+  positive = positive;
+  in_order = λ rej. refl;
+}
+
+-- each window takes a frame
+pub record HasRoom (p : Params) : Type 0 where
+  pub narrow : 1 ≤ p.window
+  pub wide : 1 ≤ p.wide_window
+
+pub room_in : {p : Params} (modulus : ℕ) → HasRoom p → 1 ≤ window_in modulus p
+room_in {p} modulus h = go (modulus == 128)
+  where
+    go : (b : Bool) → 1 ≤ (if b then p.wide_window else p.window)
+    go true = h.wide
+    go false = h.narrow
+
+-- a modulus is 8 or 128
+abbrev pub IsModulus : ℕ → Type 0
+IsModulus modulus = (modulus ≡ 8) ⊎ (modulus ≡ 128)
+
+-- what a link keeps of its partner's packets, by its parameters
+pub record IsSound (p : Params) (i : Incoming) : Type 0 where
+  pub fit : IsFit i
+  pub mode : i.mode ≡ p.mode
+  pub modulus : IsModulus i.modulus
+  pub room : HasRoom p
+
+-- a link that begins anew in a modulus
+pub sound_new :
+    {p : Params} (modulus : ℕ) → IsModulus modulus → HasRoom p
+    → IsSound p (empty_incoming modulus (window_in modulus p) p.mode)
+sound_new modulus is room = record {
+  fit = fit_new (room_in modulus room);
+  mode = refl;
+  modulus = is;
+  room = room;
+}
+
+-- and one that begins anew in its own
+pub sound_anew : {p : Params} {i : Incoming} → IsSound p i → IsSound p (empty_incoming i.modulus i.window i.mode)
+sound_anew s = record {
+  fit = fit_new s.fit.positive;
+  mode = s.mode;
+  modulus = s.modulus;
+  room = s.room;
+}
+
+-- its places change
+pub sound_same :
+    {p : Params} {i j : Incoming} → IsFit j → j.mode ≡ i.mode → j.modulus ≡ i.modulus → IsSound p i → IsSound p j
+sound_same fit mode modulus s = record {
+  fit = fit;
+  mode = mode ∙ s.mode;
+  modulus = subst IsModulus (sym modulus) s.modulus;
+  room = s.room;
+}

@@ -1,0 +1,162 @@
+-- A tick of an end that is up.
+use Rattle.std.proofs.Common.{◌≡◌, ℕ, Bool, true, false, if◌then◌else◌, List, [], ◌∷◌, ◌++◌, length, Option, Some, None, inl, refl, sym, ap, ◌∙◌, subst, append_assoc}
+use Rattle.std.specs.List.{fold}
+use Rattle.std.proofs.lemmas.Bool.{cond-false}
+use Rattle.ax25_frames.specs.declared.frame.U.TheVariants.{Dm as DmFrame}
+use Rattle.link_machine.specs.declared.state.LinkState.{LinkState}
+use Rattle.link_machine.specs.declared.state.LinkState.TheVariants.{Idle as IdleState, Up as UpState}
+use Rattle.link_machine.specs.declared.acts.Told.TheVariants.{Ended}
+use Rattle.link_machine.specs.Params.{window_in}
+use Rattle.selective_reject.specs.Incoming.{empty_incoming}
+use Rattle.link_machine.specs.Sent.{sent_in}
+use Rattle.link_machine.specs.Sent.Sent.{SetupSent}
+use Rattle.link_machine.specs.Turn.{Turn, begin, setting}
+use Rattle.link_machine.specs.Acts.{poll}
+use Rattle.link_machine.specs.Ticks.{runs_out, lowered, with_t1, with_t2, with_t3, t1_out, t2_out, t3_out, tick_t2, tick_t1_of, tick_t2_of, tick_t3_of, tick, tick_in, is_spent, poll_again, retried, unretried}
+use Rattle.link_machine.specs.Step.{settled}
+use Rattle.link_world.proofs.law.reduced.Core.{End, Tagged as CoreTagged, between}
+use Rattle.link_world.proofs.law.reduced.Core.Kind.{Dm}
+use Rattle.link_world.proofs.law.reduced.Core.Standing.{Idle}
+use Rattle.link_world.proofs.law.reduced.CoreMoves.{now, of_end}
+use Rattle.link_world.proofs.law.reduced.CoreOf.{cores_sent, end_behind}
+use Rattle.link_world.specs.SetUps.{SetUp, opened}
+use Rattle.link_world.specs.Recorded.{RecordedEnd, told_of}
+use Rattle.link_world.specs.Recorded.Happening.{Ticks}
+use Rattle.link_world.proofs.law.showing.PlacesFit.{IsSound, sound_new}
+use Rattle.link_world.proofs.law.moves.Standings.{leave_to_idle_keeps}
+use Rattle.link_world.proofs.law.moves.Kept.{send_dm_keeps}
+use Rattle.link_world.proofs.law.up.Acts.{IsUp, Progress, setting_keeps, respond_ready_keeps, poll_keeps, choice_keeps}
+use Rattle.link_world.proofs.law.invariant.Invariant.{Invariant}
+use Rattle.link_world.proofs.law.showing.Shown.{core_set_ups}
+use Rattle.link_world.proofs.law.showing.Outcome.{Keeps, end_with, sent_after}
+use Rattle.link_world.proofs.law.up.Settling.{all_of_last, length_of_last, numbered_sent}
+use Rattle.link_world.proofs.law.up.Events.{UpEnd, progress_of, up_begins, up_goes_on}
+use Rattle.link_world.proofs.law.down.Ends.{EndsDown, down_end, down_keeps, setup_sent}
+
+-- an act by the state, of a link that is up
+by_state :
+    (act : LinkState → Turn → Turn) {to_x : List CoreTagged} {g : Progress} (turn : Turn) {state : LinkState}
+    → state ≡ UpState → IsUp to_x g (act UpState turn) → IsUp to_x g (act state turn)
+by_state act {to_x} {g} turn is h = subst (λ s. IsUp to_x g (act s turn)) (sym is) h
+
+t2_keeps :
+    (o : Option ℕ) {to_x : List CoreTagged} {g : Progress} {turn : Turn} → IsUp to_x g turn
+    → IsUp to_x g (tick_t2_of o turn)
+t2_keeps None h = h
+t2_keeps (Some left) {turn} h =
+    let out = setting_keeps (with_t2 None) (λ c. refl) h in
+    choice_keeps (runs_out left) (by_state t2_out (setting (with_t2 None) turn) h.state (respond_ready_keeps false out))
+    (setting_keeps (with_t2 (lowered left)) (λ c. refl) h)
+
+t3_keeps :
+    (o : Option ℕ) {to_x : List CoreTagged} {g : Progress} {turn : Turn} → IsUp to_x g turn
+    → IsUp to_x g (tick_t3_of o turn)
+t3_keeps None h = h
+t3_keeps (Some left) {turn} h =
+    let out = setting_keeps (with_t3 None) (λ c. refl) h in
+    choice_keeps (runs_out left) (by_state t3_out (setting (with_t3 None) turn) h.state
+    (poll_keeps (setting_keeps unretried (λ c. refl) out))) (setting_keeps (with_t3 (lowered left)) (λ c. refl) h)
+
+-- the retries are spent: DM goes out, and the end is idle
+spent_outcome :
+    {r : RecordedEnd} {ended : List SetUp} {last : SetUp} (waiting : Bool) {y : End} {was to_x to_y : List CoreTagged}
+    {turn : Turn} → UpEnd r ended last y was to_y → IsUp to_x (progress_of r y to_y ended last) turn
+    → is_spent turn.now.control ≡ true → Keeps (Ticks waiting) r y to_x to_y (settled (poll_again turn))
+spent_outcome {r} {ended} {last} waiting {y} {was} {to_x} {to_y} {turn} u h spent =
+    subst (λ t. Keeps (Ticks waiting) r y to_x to_y (settled t)) (sym (ap (λ b. if b then gone else stays) spent))
+    (down_keeps ends (λ alone. subst (λ fs. Invariant (between idle y to_x fs))
+    (append_assoc to_y (cores_sent false n turn.sent) (of_end idle (Dm false) ∷ [])) (send_dm_keeps left)))
+  where
+    own : ℕ
+    own = turn.now.incoming.modulus
+
+    gone : Turn
+    gone = record {
+      now = record turn.now {
+        control = record turn.now.control {
+          state = IdleState;
+          quit = false;
+          t1 = None;
+          t2 = None;
+          t3 = None;
+        };
+        outgoing = Rattle.selective_reject.specs.Outgoing.empty_outgoing;
+        incoming = empty_incoming 8 (window_in 8 turn.now.params) turn.now.params.mode;
+      };
+      sent = turn.sent ++ sent_in own (SetupSent DmFrame false) ∷ [];
+      told = turn.told ++ Ended Rattle.link_machine.specs.declared.acts.Why.TheVariants.Failed ∷ [];
+    }
+
+    stays : Turn
+    stays = poll (setting retried turn)
+
+    all : List SetUp
+    all = ended ++ last ∷ []
+
+    n : ℕ
+    n = length (core_set_ups ended)
+
+    idle : End
+    idle = down_end IdleState gone.now all
+
+    after : RecordedEnd
+    after = end_with gone.now all []
+
+    left : Invariant (between idle y to_x (to_y ++ cores_sent false n turn.sent))
+    left = subst (λ qs. Invariant (between (now Idle (end_behind gone.now qs)) y to_x
+        (to_y ++ cores_sent false n turn.sent))) (sym (all_of_last ended last)) (leave_to_idle_keeps 8 h.holds)
+
+    ends : EndsDown (Ticks waiting) r gone IdleState all (cores_sent false n turn.sent ++ of_end idle (Dm false) ∷ [])
+    ends = record {
+      state_is = refl;
+      down = refl;
+      params = h.so_far.params_are;
+      sound = subst (λ q. IsSound r.machine.params (empty_incoming 8 (window_in 8 q) q.mode)) (sym h.so_far.params_are)
+          (sound_new 8 (inl refl) u.sound.room);
+      set_ups = ap (λ t. fold (told_of (opened 0 8 r.waiting)) r.set_ups
+          (t ++ Ended Rattle.link_machine.specs.declared.acts.Why.TheVariants.Failed ∷ [])) h.so_far.told_is ∙ u.set_ups;
+      waiting = refl;
+      sent = sent_after turn.sent (sent_in own (SetupSent DmFrame false) ∷ [])
+          (numbered_sent n (length_of_last ended last) h.fits) (setup_sent false after own DmFrame false refl tt);
+    }
+
+polls :
+    {r : RecordedEnd} {ended : List SetUp} {last : SetUp} (waiting : Bool) {y : End} {was to_x to_y : List CoreTagged}
+    {turn : Turn} → UpEnd r ended last y was to_y → IsUp to_x (progress_of r y to_y ended last) turn
+    → Keeps (Ticks waiting) r y to_x to_y (settled (poll_again turn))
+polls {r} waiting {y} {to_x} {to_y} {turn} u h = go (is_spent turn.now.control) refl
+  where
+    go : (b : Bool) → is_spent turn.now.control ≡ b → Keeps (Ticks waiting) r y to_x to_y (settled (poll_again turn))
+    go true spent = spent_outcome waiting u h spent
+    go false spent = subst (λ t. Keeps (Ticks waiting) r y to_x to_y (settled t))
+        (sym (cond-false _ _ (poll (setting retried turn)) spent))
+        (up_goes_on u refl refl (poll_keeps (setting_keeps retried (λ c. refl) h)))
+
+t1_ends :
+    (o : Option ℕ) (still : Bool) {r : RecordedEnd} {ended : List SetUp} {last : SetUp} (waiting : Bool) {y : End}
+    {was to_x to_y : List CoreTagged} {turn : Turn} → UpEnd r ended last y was to_y
+    → IsUp to_x (progress_of r y to_y ended last) turn
+    → Keeps (Ticks waiting) r y to_x to_y (settled (tick_t1_of o still turn))
+t1_ends None still waiting {turn} u h = up_goes_on u refl refl (t3_keeps turn.now.control.t3 h)
+t1_ends (Some left) true waiting u h = up_goes_on u refl refl h
+t1_ends (Some left) false {r} waiting {y} {to_x} {to_y} {turn} u h = go (runs_out left)
+  where
+    out : Turn
+    out = setting (with_t1 None) turn
+
+    go : (b : Bool) → Keeps (Ticks waiting) r y to_x to_y
+        (settled (if b then t1_out turn.now.control.state out else setting (with_t1 (lowered left)) turn))
+    go true = subst (λ s. Keeps (Ticks waiting) r y to_x to_y (settled (t1_out s out))) (sym h.state)
+        (polls waiting u (setting_keeps (with_t1 None) (λ c. refl) h))
+    go false = up_goes_on u refl refl (setting_keeps (with_t1 (lowered left)) (λ c. refl) h)
+
+-- a tick of an end that is up
+pub up_ticks :
+    {r : RecordedEnd} {ended : List SetUp} {last : SetUp} (waiting : Bool) {y : End} {to_x to_y : List CoreTagged}
+    → UpEnd r ended last y to_x to_y
+    → Keeps (Ticks waiting) r y to_x to_y (settled (tick waiting (begin r.machine)))
+up_ticks {r} waiting {y} {to_x} {to_y} u =
+    let first = t2_keeps r.machine.control.t2 (up_begins u) in
+    let turn = tick_t2 (begin r.machine) in
+    subst (λ s. Keeps (Ticks waiting) r y to_x to_y (settled (tick_in s waiting (begin r.machine)))) (sym u.state)
+    (t1_ends turn.now.control.t1 waiting waiting u first)
