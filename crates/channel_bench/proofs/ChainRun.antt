@@ -1,18 +1,12 @@
 -- In a joint run that is heard in order the events of a link at a station are a chain: each finds the machine that the one
 -- before it left. If only A calls and no N(R) is invalid, A hears no SABM, SABME or DISC, and no frame that resets its link.
-use Rattle.std.proofs.Common.{◌≡◌, ℕ, ◌+◌, ◌*◌, ◌/◌, ◌%◌, Bool, true, false, nat_lt, List, [], ◌∷◌, ◌++◌, length, take, cond, Option, Some, None, refl, sym, ap, ◌∙◌, subst, arith}
+use Rattle.std.proofs.Common.{◌≡◌, ℕ, ◌+◌, Bool, true, false, List, [], ◌∷◌, ◌++◌, length, take, Option, Some, None, refl, sym, ap, ◌∙◌, subst, arith}
 use Rattle.std.specs.Bool.{⊤}
 use Rattle.std.specs.Prelude.{slice_get}
 use Rattle.std.specs.List.{AllByRecursion as Each}
 use Rattle.std.proofs.Math.Seq.{take-append_seam}
 use Rattle.std.proofs.lemmas.List.{append_assoc, length-append}
-use Rattle.ax25_address.specs.AddressField.{bit}
 use Rattle.ax25_address.specs.declared.path.Path.{Path}
-use Rattle.ax25_frames.specs.declared.frame.Frame.{Frame}
-use Rattle.ax25_frames.specs.declared.frame.Kind.{Kind}
-use Rattle.ax25_frames.specs.declared.frame.Kind.TheVariants.{Info, Super, Setup, Ui, Other}
-use Rattle.ax25_frames.specs.declared.frame.Modulus.{Modulus}
-use Rattle.ax25_frames.specs.declared.frame.Modulus.TheVariants.{Eight, OneTwentyEight}
 use Rattle.link_machine.specs.declared.params.Params.{Params}
 use Rattle.link_machine.specs.declared.state.LinkState.{LinkState}
 use Rattle.link_machine.specs.declared.state.LinkState.TheVariants.{Idle, Calling, Up, Releasing}
@@ -26,7 +20,6 @@ use Rattle.link_world.specs.Changes.{Change, ChangesAreValid, changed, hears_val
 use Rattle.link_world.specs.Changes.Change.{Keeps}
 use Rattle.link_world.specs.Flight.{Tagged, asks, asks_in}
 use Rattle.link_world.specs.Law.{first_names_valid, hears_valid, names_valid, read_names_valid, reads_valid}
-use Rattle.link_world.specs.Reading.{frame_read, info_read_wide, is_odd, kind_read, with_kind}
 use Rattle.link_world.specs.Recorded.{RecordedEnd}
 use Rattle.link_world.specs.World.{Side, World, other, seen_from}
 use Rattle.link_world.proofs.law.Each.{each_append}
@@ -47,6 +40,7 @@ use Rattle.channel_bench.proofs.Framed.{framed, frames_at, frames_more}
 use Rattle.channel_bench.proofs.JointLaw.{StepDone, count_a, count_b, get_seam, new_sent, new_side, step_done}
 use Rattle.channel_bench.proofs.LinkDid.{HearsAsk, HearsWrong}
 use Rattle.channel_bench.proofs.NearQuiet.{back_all, back_by, made_far, made_towards, sends_none, sent_near, towards_by}
+use Rattle.channel_bench.proofs.ReadKinds.{frame_test}
 use Rattle.channel_bench.proofs.Runs.{Between}
 use Rattle.channel_bench.proofs.Tables.{not_both}
 
@@ -189,47 +183,6 @@ heard_valid e (LinkHear frame) x reads valid =
     )
 heard_valid e (LinkTick waiting) x reads valid = tt
 
--- a frame that is read in another modulus asks as it did when it was sent
-narrow_asks : (b : Bool) (kind found : Kind) → asks kind ≡ false → cond b (Some kind) None ≡ Some found → asks found ≡ false
-narrow_asks true kind found none is = let same : kind ≡ found = cc in ap asks (sym same) ∙ none
-narrow_asks false kind found none is = absurd (cc)
-
-wide_asks : (ns nr : ℕ) (poll : Bool) (second : ℕ) (octets : List ℕ) (found : Kind)
-    → info_read_wide ns nr poll second octets ≡ Some found → asks found ≡ false
-wide_asks ns nr poll second [] found is = absurd (cc)
-wide_asks ns nr poll second (pid ∷ octets) found is =
-    narrow_asks true (Info (16 * nr + 8 * bit poll + ns) (second / 2) (is_odd second) pid octets) found refl is
-
-same_asks : (kind found : Kind) → asks kind ≡ false → Some kind ≡ Some found → asks found ≡ false
-same_asks kind found none is = narrow_asks true kind found none is
-
-read_asks : (written read : Modulus) (kind found : Kind) → kind_read written read kind ≡ Some found → asks kind ≡ false
-    → asks found ≡ false
-read_asks Eight Eight kind found is none = same_asks kind found none is
-read_asks OneTwentyEight OneTwentyEight kind found is none = same_asks kind found none is
-read_asks Eight OneTwentyEight (Info ns nr poll pid octets) found is none = wide_asks ns nr poll pid octets found is
-read_asks Eight OneTwentyEight (Super which nr flag) found is none = absurd (cc)
-read_asks Eight OneTwentyEight (Setup which flag) found is none = same_asks (Setup which flag) found none is
-read_asks Eight OneTwentyEight (Ui flag pid octets) found is none = same_asks (Ui flag pid octets) found none is
-read_asks Eight OneTwentyEight (Other which flag octets) found is none = same_asks (Other which flag octets) found none is
-read_asks OneTwentyEight Eight (Info ns nr poll pid octets) found is none =
-    narrow_asks (nat_lt (length octets) 256)
-    (Info (ns % 8) (ns / 16) (is_odd (ns / 8)) (2 * nr + bit poll) (pid ∷ octets)) found refl is
-read_asks OneTwentyEight Eight (Super which nr flag) found is none = absurd (cc)
-read_asks OneTwentyEight Eight (Setup which flag) found is none = same_asks (Setup which flag) found none is
-read_asks OneTwentyEight Eight (Ui flag pid octets) found is none = same_asks (Ui flag pid octets) found none is
-read_asks OneTwentyEight Eight (Other which flag octets) found is none = same_asks (Other which flag octets) found none is
-
-frame_asks : (written read : Modulus) (f found : Frame) → frame_read written read f ≡ Some found → asks f.kind ≡ false
-    → asks found.kind ≡ false
-frame_asks written read f found is none = go (kind_read written read f.kind) refl is
-  where
-    go : (o : Option Kind) → kind_read written read f.kind ≡ o → with_kind f o ≡ Some found → asks found.kind ≡ false
-    go None e same = absurd (cc)
-    go (Some kind) e same =
-        let made : record f { kind = kind } ≡ found = cc in
-        ap (λ (x : Frame). asks x.kind) (sym made) ∙ read_asks written read f.kind kind e none
-
 first_asks : (f : Tagged) (rest : List Tagged) → asks_in (f ∷ rest) ≡ 0 → asks f.frame.kind ≡ false
 first_asks f rest none =
     go (asks f.frame.kind) (sym (count_cons (λ (g : Tagged). asks g.frame.kind) f rest) ∙ none)
@@ -247,7 +200,7 @@ no_ask LinkDisconnect x reads none ask = ask
 no_ask (LinkHear frame) x reads none ask =
     let front : asks reads.front.frame.kind ≡ false = first_asks reads.front reads.rest (ap asks_in (sym reads.towards) ∙ none) in
     let read : asks reads.as_read.kind ≡ false =
-    frame_asks (modulus_named reads.front.modulus) (modulus_named x.a.end.machine.incoming.modulus) reads.front.frame
+    frame_test asks (λ ns nr poll pid octets. refl) (modulus_named reads.front.modulus) (modulus_named x.a.end.machine.incoming.modulus) reads.front.frame
     reads.as_read reads.reading front in
     not_both (asks frame.kind) ask (ap asks (sym reads.kind) ∙ read)
 no_ask (LinkTick waiting) x reads none ask = ask

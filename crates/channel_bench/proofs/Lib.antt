@@ -32,7 +32,14 @@ mod Counts
 mod NearQuiet
 mod Naming
 mod BenchQuiet
+mod StillActs
+mod Sends
+mod LinkAsks
 mod Calm
+mod ReadKinds
+mod EndSends
+mod Exchanges
+mod CallerQuiet
 mod QuietRuns
 mod CalmRuns
 mod QuietJoint
