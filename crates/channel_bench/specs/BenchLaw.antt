@@ -1,14 +1,15 @@
 -- The law on a bench: in each set-up a host program got a first part of what its partner gave in one set-up of its own, in order.
 use Rattle.std.specs.Prelude.{All, List, [], ◌∷◌}
 use Rattle.channel_bench.specs.declared.words.BenchWords.{BenchWords}
+use Rattle.link_world.specs.declared.end.End.{End}
 use Rattle.link_world.specs.declared.end.End.TheVariants.{A, B}
 use Rattle.channel_bench.specs.BenchOrder.{SawSetUps, steps_of_run, the_calls}
 use Rattle.channel_bench.specs.BenchRun.{IsOver}
 use Rattle.channel_bench.specs.BenchState.{BenchState}
 use Rattle.channel_bench.specs.JointRun.{Step}
 use Rattle.channel_bench.specs.LinkOfCalls.{Calls, link_at_end}
-use Rattle.channel_bench.specs.LinkSteps.{steps_of}
-use Rattle.channel_bench.specs.MatchedLaw.{DropsNoAsk}
+use Rattle.channel_bench.specs.LinkSteps.{LinkStep, steps_of}
+use Rattle.channel_bench.specs.MatchedLaw.{AsksInRoom, DropsNoAsk}
 use Rattle.channel_bench.specs.KeepsOrder.{KeepsOrder}
 use Rattle.channel_bench.specs.Report.{Report}
 use Rattle.channel_bench.specs.SetUpsSeen.{AllGivenWhileUp}
@@ -18,6 +19,17 @@ abbrev pub NoAskDropped : Calls → List Step → Type 0
 NoAskDropped calls [] = Unit {0}
 NoAskDropped calls (step ∷ steps) =
     All DropsNoAsk (steps_of (link_at_end calls step.station) step) × NoAskDropped calls steps
+
+-- at A, of the events of a link that is not up; at B nothing is asked
+abbrev pub AsksFindRoomAt : End → LinkStep → Type 0
+AsksFindRoomAt A step = AsksInRoom step
+AsksFindRoomAt B step = Unit {0}
+
+-- in each step of a run
+abbrev pub AsksFindRoom : Calls → List Step → Type 0
+AsksFindRoom calls [] = Unit {0}
+AsksFindRoom calls (step ∷ steps) =
+    All (AsksFindRoomAt step.station) (steps_of (link_at_end calls step.station) step) × AsksFindRoom calls steps
 
 -- The host programs gave packets only while the link was up, and saw its set-ups.
 pub record IsFollowed (bench : BenchState) : Type 0 where

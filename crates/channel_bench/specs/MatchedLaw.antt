@@ -5,6 +5,8 @@ use Rattle.std.specs.Prelude.{◌≡◌, ℕ, ◌+◌, Bool, true, false, List, 
 use Rattle.std.specs.List.{list_any}
 use Rattle.link_machine.specs.Event.{Event as LinkEvent}
 use Rattle.link_machine.specs.Event.Event.{Connect as LinkConnect, Send as LinkSend, Disconnect as LinkDisconnect, Hear as LinkHear, Tick as LinkTick}
+use Rattle.link_machine.specs.declared.state.LinkState.{LinkState}
+use Rattle.link_machine.specs.declared.state.LinkState.TheVariants.{Idle, Calling, Up, Releasing}
 use Rattle.link_machine.specs.Sent.{SentIn, sent_kind}
 use Rattle.link_machine.specs.Step.{step as link_turn}
 use Rattle.link_world.specs.declared.end.End.{End}
@@ -54,6 +56,17 @@ asks_when_sent sent = is_ask_kind (sent_kind sent.modulus sent.frame)
 abbrev pub DropsNoAsk : LinkStep → Type 0
 DropsNoAsk step =
     list_any asks_when_sent (drop step.joined (link_turn step.link.machine step.event).sent) ≡ false
+
+-- Of the SABM, SABME and DISC that an event sends none finds the transmit queue full; of a link that is up nothing is asked.
+-- (If the first SABM of a call were dropped, an old UA could answer it. While a link is up nothing that asks or answers is in flight.)
+abbrev pub FindsRoom : LinkState → LinkStep → Type 0
+FindsRoom Idle step = DropsNoAsk step
+FindsRoom Calling step = DropsNoAsk step
+FindsRoom Up step = Unit {0}
+FindsRoom Releasing step = DropsNoAsk step
+
+abbrev pub AsksInRoom : LinkStep → Type 0
+AsksInRoom step = FindsRoom step.link.machine.control.state step
 
 -- no host connects or disconnects by it
 abbrev pub IsOfNoHost : LinkEvent → Type 0
