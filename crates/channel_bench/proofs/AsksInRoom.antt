@@ -35,21 +35,24 @@ module _ (w : BenchWords)
   -- A sends d, or C again
   asked_finds :
       (complete calls : Bool) (before after : BenchState) → TakesCall connects before.a.station
-      → MatchBool complete (IsAsked before after) (MatchBool calls (IsCalled before after) (after ≡ before)) → IsCalm after
-      → (before.a.program.calls ≡ calls) → Holds w before → FindingAt before → FindingAt after
+      → MatchBool complete (IsAsked before after) (MatchBool calls (IsCalled before after) (after ≡ before))
+      → IsCalm after → before.a.program.calls ≡ calls → Holds w before → FindingAt before → FindingAt after
   asked_finds true calls before after takes h calm is holds finding =
       let bench = with_asking before in
       at_end_finds w premises A (IsStep A (input_of A disconnects) None) bench after
       (λ next step c kept found.
-      step_near w premises bench A disconnects None (near A bench) next tt tt step c (knows_near w premises bench A (near A bench) kept) found) h calm
-      (reprogrammed w before bench refl refl refl refl refl refl refl refl refl (λ x. x) refl refl (λ x. x) holds) finding
+      step_near w premises bench A disconnects None (near A bench) next tt tt step c
+      (knows_near w premises bench A (near A bench) kept) found) h calm
+      (reprogrammed w before bench refl refl refl refl refl refl refl refl refl (λ x. x) refl refl (λ x. x) holds)
+      finding
   asked_finds false true before after takes h calm is holds finding =
       let bench = with_calling before in
       at_end_finds w premises A (IsStep A (input_of A connects) None) bench after
       (λ next step c kept found.
-      step_near w premises bench A connects None (near A bench) next tt takes step c (knows_near w premises bench A (near A bench) kept) found) h calm
-      (reprogrammed w before bench refl refl refl refl refl refl refl refl refl (λ x. absurd (cc)) refl refl (λ x. x) holds)
-      finding
+      step_near w premises bench A connects None (near A bench) next tt takes step c
+      (knows_near w premises bench A (near A bench) kept) found) h calm
+      (reprogrammed w before bench refl refl refl refl refl refl refl refl refl (λ x. absurd (cc)) refl refl (λ x. x)
+      holds) finding
   asked_finds false false before after takes h calm is holds finding = subst FindingAt (sym h) finding
 
   sounds_find : (before : BenchState) → FindingAt before → FindingAt (sounding w before)
@@ -70,26 +73,30 @@ module _ (w : BenchWords)
       → Holds w before → FindingAt before → FindingAt after
   part_finds (Tells e event) usual before after h calm holds finding =
       at_end_finds w premises e (IsTold e event) before after
-      (λ next told c kept found. told_finds w premises before e event (near e before) next usual told c kept found) h calm holds finding
+      (λ next told c kept found. told_finds w premises before e event (near e before) next usual told c kept found) h
+      calm holds finding
   part_finds (Gives e) usual before after h calm holds finding =
       at_end_finds w premises e (IsGiven w e) before after
-      (λ next given c kept found. given_finds w premises before e (near e before) next given c kept found) h calm holds finding
+      (λ next given c kept found. given_finds w premises before e (near e before) next given c kept found) h calm holds
+      finding
   part_finds AsksOrCalls usual before after h calm holds finding = go h.accepts refl h.sent
     where
       go : (b : Bool) → h.accepts ≡ b → MatchBool b (MatchBool (is_complete w before) (IsAsked before after)
-          (MatchBool before.a.program.calls (IsCalled before after) (after ≡ before))) (after ≡ before) → FindingAt after
+          (MatchBool before.a.program.calls (IsCalled before after) (after ≡ before))) (after ≡ before)
+          → FindingAt after
       go true is sent =
-          asked_finds (is_complete w before) before.a.program.calls before after (h.exactly.0 is).1.queue sent calm refl holds
-          finding
+          asked_finds (is_complete w before) before.a.program.calls before after (h.exactly.0 is).1.queue sent calm refl
+          holds finding
       go false is sent = subst FindingAt (sym sent) finding
   part_finds (Ticks e) usual before after h calm holds finding =
       at_end_finds w premises e (IsTicking e) before after
-      (λ next tick c kept found. ticking_finds w premises before e (near e before) next tick c kept found) h calm holds finding
+      (λ next tick c kept found. ticking_finds w premises before e (near e before) next tick c kept found) h calm holds
+      finding
   part_finds Sounds usual before after h calm holds finding = subst FindingAt (sym h) (sounds_find before finding)
   part_finds (Listens e) usual before after h calm holds finding =
       at_end_finds w premises e (IsListening e) before after
-      (λ next part c kept found. heard_finds w premises before e part.items (near e before) next part.heard c kept found) h calm holds
-      finding
+      (λ next part c kept found.
+      heard_finds w premises before e part.items (near e before) next part.heard c kept found) h calm holds finding
   part_finds Closes usual before after h calm holds finding = subst FindingAt (sym h) (closes_find before finding)
 
   -- ---- a run
@@ -105,7 +112,8 @@ module _ (w : BenchWords)
   parts_find f g [] lead usual before after h calm stands finding = subst FindingAt (sym h) finding
   parts_find f g (part ∷ parts) lead usual before after h calm stands finding =
       let p = parted w part parts before after h calm in
-      parts_find lead.0 g parts lead.2 usual.1 p.between after p.rest calm (lead.1 before p.between p.first p.calm stands)
+      parts_find lead.0 g parts lead.2 usual.1 p.between after p.rest calm
+      (lead.1 before p.between p.first p.calm stands)
       (part_finds part usual.0 before p.between p.first p.calm (holds_in f before stands) finding)
 
   usual_parts : (tick : ℕ) → Each IsUsualPart (parts_of w tick)
@@ -119,11 +127,12 @@ module _ (w : BenchWords)
       (count : ℕ) (before bench : BenchState) → ArePartsMade w (parts_of w before.ticks) before bench → IsCalm bench
       → Behind w count before → FindingAt before → FindingAt bench
   tick_finds zero before bench h calm is finding =
-      parts_find begins made (parts_of w before.ticks) (first_parts w before.ticks (ap (λ (b : BenchState). b.ticks) is))
-      (usual_parts before.ticks) before bench h calm (subst (Stands w begins) (sym is) (new_stands w)) finding
+      parts_find begins made (parts_of w before.ticks)
+      (first_parts w before.ticks (ap (λ (b : BenchState). b.ticks) is)) (usual_parts before.ticks) before bench h calm
+      (subst (Stands w begins) (sym is) (new_stands w)) finding
   tick_finds (suc count) before bench h calm stands finding =
-      parts_find goes made (parts_of w before.ticks) (later_parts w before.ticks stands.1) (usual_parts before.ticks) before
-      bench h calm stands.0 finding
+      parts_find goes made (parts_of w before.ticks) (later_parts w before.ticks stands.1) (usual_parts before.ticks)
+      before bench h calm stands.0 finding
 
   new_finds : FindingAt (new_bench w)
   new_finds = λ all. ((0, new_keyed), tt)

@@ -1,5 +1,4 @@
--- What a link that is not up asks for: by a connect or a tick it sends one frame at most, and nothing by a packet or a
--- disconnect.
+-- A link that is not up sends at most one frame by a connect or a tick, and none by a packet or a disconnect.
 use Rattle.std.proofs.Common.{◌≡◌, ℕ, zero, suc, ◌≤◌, Bool, true, false, List, [], ◌∷◌, ◌++◌, length, drop, cond, Option, Some, None, is_some, refl, sym, ap, ◌∙◌, subst, arith}
 use Rattle.std.specs.Bool.{⊤}
 use Rattle.std.specs.List.{list_any}

@@ -89,6 +89,28 @@ far_end e pairs n [] w = refl
 far_end e pairs n (step ∷ steps) w =
     far_end e pairs n steps (near_by e pairs n step w) ∙ ap (λ (x : Side). x.end) (made_far step.anew w)
 
+-- ---- what is heard is a frame of a link
+
+reads_link : (event : LinkEvent) (x : World) → ReadsFront event x → IsOfLink event
+reads_link LinkConnect x reads = tt
+reads_link (LinkSend packet) x reads = tt
+reads_link LinkDisconnect x reads = tt
+reads_link (LinkHear frame) x reads = reads.of_link
+reads_link (LinkTick waiting) x reads = tt
+
+near_link :
+    (e : End) (back : List Tagged) (pairs : List Pair) (n : ℕ) (steps : List LinkStep) (v : World)
+    → AllFollowNear e back pairs n steps v → Each OfLink steps
+near_link e back pairs n [] v follows = tt
+near_link e back pairs n (step ∷ steps) v follows = (
+  reads_link step.event (makes_near step.anew v) follows.0.reads,
+  near_link e back pairs n steps (near_by e pairs n step v) follows.1,
+)
+
+own_link : (e : End) (steps : List LinkStep) → Each OfLink steps → Each OfLink (at_end A e steps)
+own_link A steps h = h
+own_link B steps h = tt
+
 -- ---- the events of a step of either
 
 record StepChain (calls : Calls) (pairs : Pairs) (counts : Counts) (w : World) (step : Step) (e : End) : Type 0 where
@@ -188,27 +210,6 @@ heard_valid e (LinkHear frame) x reads valid =
           ∙ ap (first_names_valid m) (sym reads.towards) ∙ ap (λ s. reads_valid s m x.a.towards) (sym up) ∙ valid,
     )
 heard_valid e (LinkTick waiting) x reads valid = tt
-
--- what is heard is a frame of a link
-reads_link : (event : LinkEvent) (x : World) → ReadsFront event x → IsOfLink event
-reads_link LinkConnect x reads = tt
-reads_link (LinkSend packet) x reads = tt
-reads_link LinkDisconnect x reads = tt
-reads_link (LinkHear frame) x reads = reads.of_link
-reads_link (LinkTick waiting) x reads = tt
-
-near_link :
-    (e : End) (back : List Tagged) (pairs : List Pair) (n : ℕ) (steps : List LinkStep) (v : World)
-    → AllFollowNear e back pairs n steps v → Each OfLink steps
-near_link e back pairs n [] v follows = tt
-near_link e back pairs n (step ∷ steps) v follows = (
-  reads_link step.event (makes_near step.anew v) follows.0.reads,
-  near_link e back pairs n steps (near_by e pairs n step v) follows.1,
-)
-
-own_link : (e : End) (steps : List LinkStep) → Each OfLink steps → Each OfLink (at_end A e steps)
-own_link A steps h = h
-own_link B steps h = tt
 
 -- a frame that is read in another modulus asks as it did when it was sent
 narrow_asks : (b : Bool) (kind found : Kind) → asks kind ≡ false → cond b (Some kind) None ≡ Some found → asks found ≡ false
@@ -472,7 +473,8 @@ run_chain calls pairs a b full past (step ∷ rest) st counts w is run ca cb hea
       last_b = last_append w.b.end.machine own_b others_b ∙ ap (λ m. last_machine m others_b) here.last_b
           ∙ others.last_b ∙ ap (λ (x : World). x.b.end.machine) (sym after);
       of_link = each_append OfLink own_a others_a
-          (own_link e made (near_link e one.stays (heard_at (other e) pairs) (count_at e counts) made (seen_from e w) one.near))
+          (own_link e made
+          (near_link e one.stays (heard_at (other e) pairs) (count_at e counts) made (seen_from e w) one.near))
           others.of_link;
       well = λ valid holds calm none.
           let parts = valid_parts w changes later valid in

@@ -1,5 +1,5 @@
--- Each step of A's station that occurs in a bench keeps one key for all frames that wait there, and its SABM, SABME and DISC
--- find room, if A's link has no wish to disconnect while it is idle or calls.
+-- Each step of A's station in a bench keeps one key for all frames that wait there. Each SABM, SABME and DISC of its
+-- link that is not up finds room, if the link does not wish to disconnect while it is idle or calls.
 use Rattle.std.proofs.Common.{◌≡◌, ℕ, ◌<◌, Bool, true, false, nat_lt, List, [], ◌∷◌, length, drop, cond, Option, Some, None, is_none, refl, sym, ap, ◌∙◌, subst, arith, inl, inr}
 use Rattle.std.specs.Bool.{⊤}
 use Rattle.std.specs.List.{range_with_len, list_any, AllByRecursion as Each}
@@ -153,7 +153,7 @@ none_room s by = go s.event by
     go (LinkHear frame) c = absurd (cc)
     go (LinkTick waiting) c = absurd (cc)
 
--- what is heard is a frame of a link, which has no wish to disconnect while it is idle or calls
+-- what is heard is a frame of a link, and the link does not wish to disconnect while it is idle or calls
 pub record HearsCalm (s : LinkStep) : Type 0 where
   pub of_link : IsOfLink s.event
   pub wishes : WishesNothing s.link.machine.control.state s.link.machine.control.quit
@@ -209,10 +209,12 @@ pub record IsBefore (usual : Usual) (s : StationState) : Type 0 where
 comes_find :
     (usual : Usual) (s : StationState) (u : Turn) → IsBefore usual s
     → ((x : LinkStep) → IsBy (cause_in usual) x → AsksInRoom x) → Keyed u.now
-    → (turn : IsTurn (input_of A usual) (begin s) u) → Finds u (turn_steps (chosen A) (input_of A usual) (begin s) u turn)
+    → (turn : IsTurn (input_of A usual) (begin s) u)
+    → Finds u (turn_steps (chosen A) (input_of A usual) (begin s) u turn)
 comes_find usual s u before each keyed turn = (
   keyed,
-  comes_room (cause_in usual) (IsRefusable usual) (begin s) u (turn_steps (chosen A) (input_of A usual) (begin s) u turn) each
+  comes_room (cause_in usual) (IsRefusable usual) (begin s) u
+      (turn_steps (chosen A) (input_of A usual) (begin s) u turn) each
       (usual_comes A usual s u before.occurs before.hosts before.owns before.unshown before.from turn),
 )
 

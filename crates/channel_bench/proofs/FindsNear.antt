@@ -1,6 +1,5 @@
--- Near a station of the bench one key stays that of all frames that wait at A, and each SABM, SABME and DISC of A's link that
--- is not up finds room, if what the host programs have seen follows from that: what connections tell, what the host
--- programs give, a tick, and what is heard.
+-- What connections tell, what host programs give, a tick, and what is heard in the bench keep one key for all frames
+-- that wait at A. Each SABM, SABME and DISC of A's link that is not up finds room.
 use Rattle.std.proofs.Common.{◌≡◌, ℕ, zero, suc, Bool, true, false, List, [], ◌∷◌, ◌++◌, replicate, Option, Some, None, get_or, refl, sym, ap, ◌∙◌, subst, inr}
 use Rattle.std.specs.Prelude.{MatchBool}
 use Rattle.std.proofs.lemmas.List.{length-replicate}
@@ -179,8 +178,8 @@ module _ (w : BenchWords)
       let stray : next.common.trouble ≡ (with_stray octets n).common.trouble = ap (λ (x : Near). x.common.trouble) h in
       absurd (cc)
   item_finds bench e (Some number) octets n next h calm holds finding =
-      step_near bench e (hears octets) (Some number) (with_matched number n) next tt tt h calm (knows_near bench e n holds)
-      finding
+      step_near bench e (hears octets) (Some number) (with_matched number n) next tt tt h calm
+      (knows_near bench e n holds) finding
 
   pub heard_finds :
       (bench : BenchState) (e : End) (items : List Candidate) (n next : Near) → AreHeardAt e items n next

@@ -1,5 +1,5 @@
--- A frame of a link that a link hears which is not up makes it ask for nothing, if it has no wish to disconnect while it is
--- idle or calls.
+-- A link that is not up sends no SABM, SABME or DISC when it hears a frame of a link, if it does not wish to disconnect
+-- while it is idle or calls.
 use Rattle.std.proofs.Common.{◌≡◌, ◌&&◌, Bool, true, false, cond, if◌then◌else◌, is_some, refl, sym, ap, ◌∙◌, subst}
 use Rattle.std.specs.Bool.{⊤}
 use Rattle.std.specs.List.{list_any}
@@ -22,7 +22,7 @@ use Rattle.channel_bench.proofs.Calm.{CalmTurn, IsCalmState, calm_step, settled_
 use Rattle.channel_bench.proofs.Chains.{StandsAsked}
 use Rattle.channel_bench.proofs.LinkKinds.{IsLinkKind}
 
--- no wish to disconnect
+-- an idle link, and one that calls, does not wish to disconnect
 abbrev pub WishesNothing : LinkState → Bool → Type 0
 WishesNothing Idle quit = quit ≡ false
 WishesNothing Calling quit = quit ≡ false
@@ -92,7 +92,7 @@ releasing_quiet command (Super which nr flag) m link down = dm_quiet (command &&
 releasing_quiet command (Ui flag pid octets) m link down = absurd link
 releasing_quiet command (Other which flag octets) m link down = absurd link
 
--- a frame of a link makes it ask for nothing
+-- so a frame of a link makes it ask for nothing
 pub hear_asks :
     (m : Machine) (frame : Frame) → IsLinkKind frame.kind → IsDown m.control.state
     → WishesNothing m.control.state m.control.quit

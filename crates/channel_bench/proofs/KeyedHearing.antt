@@ -1,4 +1,4 @@
--- A frame that A's station in a bench hears keeps one key for all its frames that wait, and its link has no other event by it.
+-- When A's station in a bench hears a frame, all frames that wait there keep one key, and its link has no other event.
 use Rattle.std.proofs.Common.{◌≡◌, ℕ, Bool, true, false, List, [], ◌∷◌, map, cond, Option, Some, None, is_none, refl, sym, ap, ◌∙◌, subst}
 use Rattle.std.specs.Bool.{⊤}
 use Rattle.std.specs.Prelude.{MatchBool}
@@ -113,7 +113,8 @@ path_hears path true octets t u dest source digi owns keyed h = repeated_hears t
 path_hears path false octets t u dest source digi owns keyed h =
     key_hears (key_between path.dest path.source t.now.links) octets t u (λ vacant. none_there t.now owns
     (subst (λ (r : Callsign). is_none (key_between (call_at A) r t.now.links) ≡ true) source
-    (subst (λ (l : Callsign). is_none (key_between l path.source t.now.links) ≡ true) dest (ap is_none vacant)))) keyed h
+    (subst (λ (l : Callsign). is_none (key_between l path.source t.now.links) ≡ true) dest (ap is_none vacant)))) keyed
+    h
 
 by_path_hears :
     (path : Option Path) (octets : List ℕ) (t u : Turn) → IsPathOf octets path → t.now.digi ≡ None → OwnsAll A t.now

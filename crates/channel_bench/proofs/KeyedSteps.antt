@@ -1,5 +1,5 @@
--- The acts of A's station in a bench keep one key for all its frames that wait. So a SABM, SABME or DISC that a connect or a
--- tick makes its link send finds room in the transmit queue.
+-- The acts of A's station in a bench keep one key for all frames that wait. So a SABM, SABME or DISC that its link
+-- sends by a connect or a tick finds room in the transmit queue.
 use Rattle.std.proofs.Common.{◌≡◌, ℕ, ◌+◌, ◌<◌, ◌≤◌, ◌-◌, ◌&&◌, Bool, true, false, nat_lt, List, [], ◌∷◌, length, map, cond, Option, Some, None, is_none, refl, sym, ap, ◌∙◌, subst, arith}
 use Rattle.std.specs.Prelude.{MatchBool}
 use Rattle.std.specs.List.{list_any, AllByRecursion as Each}
@@ -142,7 +142,8 @@ none_there s owns none k = go (link_at k s.links) refl
     go (Some link) at =
         let own : IsOwn A link = subst (IsOwnPlace A) at (each_get (IsOwnPlace A) s.links.places k tt owns.links) in
         let never : chosen A (Some link) ≡ false =
-        sym (ap (chosen A) at) ∙ none_at (chosen A) s.links.places k refl (none_by_position (chosen A) s.links.places none) in
+        sym (ap (chosen A) at)
+        ∙ none_at (chosen A) s.links.places k refl (none_by_position (chosen A) s.links.places none) in
         absurd (not_both (chosen A (Some link)) (calls_chosen (call_at A) (call_at B) link own.local own.remote) never)
 
 made_finds :
@@ -154,13 +155,13 @@ made_finds :
 made_finds pid m route true t u may local remote owns keyed room h =
     let path = path_along route in
     let made = making h.0 program_id pid route.local route.remote path t in
-    let tests = and_parts (is_number program_id (registrar route.local t.now.registrations))
-    (is_none (key_between route.local route.remote t.now.links) && nat_lt (count_of_links t.now.links) most_links) may in
-    let vacant = and_parts (is_none (key_between route.local route.remote t.now.links))
-    (nat_lt (count_of_links t.now.links) most_links) tests.1 in
+    let vacant = is_none (key_between route.local route.remote t.now.links) in
+    let space = nat_lt (count_of_links t.now.links) most_links in
+    let tests = and_parts (is_number program_id (registrar route.local t.now.registrations)) (vacant && space) may in
+    let empty = (and_parts vacant space tests.1).0 in
     let none = none_there t.now owns
     (subst (λ (r : Callsign). is_none (key_between (call_at A) r t.now.links) ≡ true) remote
-    (subst (λ (l : Callsign). is_none (key_between l route.remote t.now.links) ≡ true) local vacant.0)) in
+    (subst (λ (l : Callsign). is_none (key_between l route.remote t.now.links) ≡ true) local empty)) in
     let next = made_keyed h.0 program_id pid route.local route.remote path t h.1 none keyed in (
       subst (λ (v : Turn). Keyed v.now) (sym h.2) (event_keyed h.0 LinkConnect made next),
       connect_room (Some path) h.0 made room,

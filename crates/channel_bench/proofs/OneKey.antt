@@ -1,5 +1,5 @@
--- At a station that has one link at a time all frames that wait carry one key: that of the link, or of the one before it.
--- So if no frame of its link waits, none waits at all.
+-- At a station that has one link at a time, all frames that wait carry one key: that of the link, or of the link before
+-- it. So if no frame of its link waits, no frame waits.
 use Rattle.std.proofs.Common.{◌≡◌, ◌⊎◌, ℕ, ◌+◌, ◌<◌, ◌≤◌, Bool, true, false, nat_lt, List, [], ◌∷◌, length, cond, Option, Some, None, get_or, set, refl, sym, ap, ◌∙◌, subst, arith, inl, inr}
 use Rattle.std.specs.List.{AllByRecursion as Each}
 use Rattle.std.proofs.lemmas.Bool.{cases_eq, cases_lt, cond-true, eq-eqb, lt-ltb, or_parts}
@@ -19,7 +19,7 @@ use Rattle.station.specs.NewLinks.{idle_link, making}
 use Rattle.station.specs.Registrations.{is_number}
 use Rattle.station.specs.State.{StationState}
 use Rattle.station.specs.Ticks.{waits}
-use Rattle.station.specs.Turn.{Turn, capacity, changing, dropping, entering}
+use Rattle.station.specs.Turn.{Turn, capacity, changing, dropping, entering, queueing}
 use Rattle.channel_bench.proofs.Queues.{link_stepped, octets_of}
 
 -- ---- what is so
@@ -31,7 +31,7 @@ abbrev pub HasNoLinks : Links → Type 0
 HasNoLinks links = (k : ℕ) → link_at k links ≡ None
 
 -- Each link has the key, and each frame that waits carries it. A link that is made when there is none gets it too, if a
--- frame waits.
+-- frame waits: it takes the key that was freed last.
 pub record IsKeyed (key : ℕ) (waiting : List WaitingFrame) (links : Links) : Type 0 where
   pub waiting_is : Each (HasKey key) waiting
   pub links_are : (k : ℕ) (link : Link) → link_at k links ≡ Some link → k ≡ key
@@ -48,7 +48,8 @@ Keyed s = (key : ℕ) × IsKeyedState key s
 
 -- a link of a changed table is at the place that changed, or was there before
 set_some :
-    (places : List (Option Link)) (key k : ℕ) (x : Option Link) (link : Link) → get_or (set places key x) k None ≡ Some link
+    (places : List (Option Link)) (key k : ℕ) (x : Option Link) (link : Link)
+    → get_or (set places key x) k None ≡ Some link
     → (k ≡ key) ⊎ (get_or places k None ≡ Some link)
 set_some places key k x link is = elim (cases_eq k key) [
   | inl same ↦ inl same
@@ -65,7 +66,7 @@ place_within places key link is = elim (cases_lt key (length places)) [
 -- ---- an event of the link
 
 one_key : (key : ℕ) (octets : List ℕ) (t : Turn) → Each (HasKey key) t.now.channel.waiting
-    → Each (HasKey key) (cond (nat_lt (length t.now.channel.waiting) capacity) (entering (Some key) octets t) (dropping t)).now.channel.waiting
+    → Each (HasKey key) (queueing (Some key) octets t).now.channel.waiting
 one_key key octets t h = go (nat_lt (length t.now.channel.waiting) capacity)
   where
     go : (b : Bool) → Each (HasKey key) (cond b (entering (Some key) octets t) (dropping t)).now.channel.waiting
@@ -104,7 +105,8 @@ settled_key key link now links at were size = go (is_idle now.control.state)
       | inr before ↦ were k x before
     ]
 
-    go : (b : Bool) → KeyOfLinks key (cond b (without_link key links) (with_link key (record link { machine = now }) links))
+    go : (b : Bool)
+        → KeyOfLinks key (cond b (without_link key links) (with_link key (record link { machine = now }) links))
     go true = record {
       links_are = same None;
       next = λ k new none. new.freed;
@@ -153,8 +155,8 @@ event_keyed key event t h = go (link_at key t.now.links) refl
 -- ---- a link that is made when there is none
 
 pub made_keyed :
-    (key id pid : ℕ) (local remote : Callsign) (path : Path) (t : Turn) → IsNewKey key t.now.links → HasNoLinks t.now.links
-    → Keyed t.now → Keyed (making key id pid local remote path t).now
+    (key id pid : ℕ) (local remote : Callsign) (path : Path) (t : Turn) → IsNewKey key t.now.links
+    → HasNoLinks t.now.links → Keyed t.now → Keyed (making key id pid local remote path t).now
 made_keyed key id pid local remote path t new none h = (
   key,
   record {

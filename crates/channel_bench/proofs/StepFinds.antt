@@ -1,5 +1,5 @@
--- A step of a station of the bench keeps one key for the frames that wait at A, and each SABM, SABME and DISC of A's link
--- that is not up finds room, from what is known before it of A's host program.
+-- A step of a station of the bench keeps one key for all frames that wait at A. Each SABM, SABME and DISC of A's link
+-- that is not up finds room, by what is known before the step.
 use Rattle.std.proofs.Common.{◌≡◌, ℕ, Bool, false, List, [], ◌∷◌, ◌++◌, Option, None, refl, sym, ap, ◌∙◌, subst}
 use Rattle.std.specs.Prelude.{All}
 use Rattle.std.specs.List.{AllByRecursion as Each}
@@ -47,7 +47,7 @@ use Rattle.channel_bench.proofs.Tables.{not_both}
 
 -- ---- what is known
 
--- what is known of A's station and of both hosts' asking, by what A's host program has seen
+-- what is known of A's station and its link, and of what B's link queued
 pub record KnownAtA (w : BenchWords) (moments : List Moment) (s : Stations) : Type 0 where
   pub noted : IsNoted w moments s
   pub hosts : HasHosts s.a
@@ -55,7 +55,7 @@ pub record KnownAtA (w : BenchWords) (moments : List Moment) (s : Stations) : Ty
   pub asks : Each AsksInSetUp (links_of A moments)
   pub queued : Each (λ (f : LinkFrame). IsOwnFrame B f.octets) (queue_of B moments)
 
--- what holds of a run: of A's station, and of each ask of A's link that is not up
+-- one key at A's station, and room for each SABM, SABME and DISC of A's link that is not up
 abbrev pub Finding : List Moment → Stations → Type 0
 Finding moments s = AreMatched moments nothing_sent → Keyed s.a × AsksFindRoom the_calls (steps_in moments)
 
@@ -69,13 +69,13 @@ Knows w moments s =
 -- the events of A's link one after another
 run_chain_of : (w : BenchWords) (moments : List Moment) (s : Stations) → IsNoted w moments s
     → AreMatched moments nothing_sent
-    → RunChain the_calls (pairs_in moments) (record { a = 0; b = 0 }) (first_world the_calls (params_of w) (params_of w))
-    (steps_in moments)
+    → RunChain the_calls (pairs_in moments) (record { a = 0; b = 0 })
+    (first_world the_calls (params_of w) (params_of w)) (steps_in moments)
 run_chain_of w moments s noted matched =
     let config = config_of w in
     let order = matched_in_order_holds moments matched in
-    run_chained config config (seed_at w A) (seed_at w B) (steps_in moments) (pairs_in moments) the_calls noted.run order.0
-    order.1
+    run_chained config config (seed_at w A) (seed_at w B) (steps_in moments) (pairs_in moments) the_calls noted.run
+    order.0 order.1
 
 hears_asks : (event : LinkEvent) → IsHearing event → is_disconnect event ≡ false
 hears_asks LinkConnect h = refl
@@ -141,7 +141,8 @@ finds_at_a w usual matched before after s occurs takes h calm at known keyed all
     let moments_are : after.common.moments ≡ next = ap (λ (n : Near). n.common.moments) h.is in
     let later = with_state A after.side.station s in
     let noted : IsNoted w next later =
-    subst (λ ms. IsNoted w ms later) moments_are ((noted_kept w).steps A usual matched before after s occurs h calm at known.noted) in
+    subst (λ ms. IsNoted w ms later) moments_are
+    ((noted_kept w).steps A usual matched before after s occurs h calm at known.noted) in
     usual_finds usual station h.turn (record {
       occurs = occurs;
       hosts = hosts;
@@ -151,8 +152,8 @@ finds_at_a w usual matched before after s occurs takes h calm at known keyed all
       takes = takes;
       keyed = keyed;
     }) h.makes (calm_in usual h.makes hosts owns from (λ hearing.
-    heard_calm w moments next later (steps_of (chosen A) step) noted all_matched (own_events A moments step matched refl) known.asks
-    hearing))
+    heard_calm w moments next later (steps_of (chosen A) step) noted all_matched
+    (own_events A moments step matched refl) known.asks hearing))
   where
     calm_in :
         (u : Usual) (turn : IsTurn (input_of A u) (begin before.side.station) h.turn) → HasHosts before.side.station
@@ -181,8 +182,8 @@ room_more calls [] step h one = (one, tt)
 room_more calls (first ∷ steps) step h one = (h.0, room_more calls steps step h.1 one)
 
 pub finding_step :
-    (w : BenchWords) (e : End) (usual : Usual) (matched : Option ℕ) (before after : Near) (s : Stations) → Occurs e usual
-    → TakesCall usual before.side.station → IsStep e (input_of e usual) matched before after
+    (w : BenchWords) (e : End) (usual : Usual) (matched : Option ℕ) (before after : Near) (s : Stations)
+    → Occurs e usual → TakesCall usual before.side.station → IsStep e (input_of e usual) matched before after
     → after.common.trouble ≡ None → before.side.station ≡ state_of e s → Knows w before.common.moments s
     → Finding before.common.moments s → Finding after.common.moments (with_state e after.side.station s)
 finding_step w A usual matched before after s occurs takes h calm at knows finding = λ all.
