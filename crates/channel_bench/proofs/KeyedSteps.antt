@@ -8,7 +8,6 @@ use Rattle.std.proofs.lemmas.List.{drop_all, length-map}
 use Rattle.ax25_address.specs.Callsign.{Callsign}
 use Rattle.ax25_address.specs.declared.path.Path.{Path}
 use Rattle.agwpe_port.specs.declared.message.AgwMessage.{AgwMessage}
-use Rattle.link_machine.specs.declared.acts.Told.{Told}
 use Rattle.link_machine.specs.Event.{Event as LinkEvent}
 use Rattle.link_machine.specs.Event.Event.{Connect as LinkConnect, Send as LinkSend, Disconnect as LinkDisconnect, Tick as LinkTick}
 use Rattle.link_machine.specs.Sent.{sent_frame}
@@ -16,7 +15,7 @@ use Rattle.link_machine.specs.Step.{done_of, step as link_turn}
 use Rattle.link_world.specs.declared.end.End.TheVariants.{A, B}
 use Rattle.link_world.proofs.law.Each.{each_append}
 use Rattle.station.specs.AgwRequests.{IsCall, IsCallMade, called_pid, data_pid, disconnecting, giving, giving_packet, may_call, packets_of, refused_reply, register_reply, registering, replying, with_registration}
-use Rattle.station.specs.LinkEvents.{event_at, event_of, queueing_frames, settled_link, telling_one, telling_to, with_links}
+use Rattle.station.specs.LinkEvents.{event_at, event_of, queueing_frames, settled_link, with_links}
 use Rattle.station.specs.Links.{Link, count_of_links, key_between, link_at, most_links}
 use Rattle.station.specs.NewLinks.{making}
 use Rattle.station.specs.Registrations.{is_number, may_register, registrar}
@@ -32,19 +31,12 @@ use Rattle.channel_bench.proofs.Acts.{asks_when_sent}
 use Rattle.channel_bench.proofs.AsksLittle.{connect_few, if_down, sends_none, tick_sends}
 use Rattle.channel_bench.proofs.OneKey.{HasNoLinks, Keyed, all_enter, empty_queue, event_keyed, made_keyed}
 use Rattle.channel_bench.proofs.OwnLinks.{IsOwn, IsOwnPlace, OwnsAll, chosen}
+use Rattle.channel_bench.proofs.Queues.{told_silent}
 use Rattle.channel_bench.proofs.Standing.{calls_chosen}
 use Rattle.channel_bench.proofs.Tables.{each_get, none_at, not_both}
 use Rattle.channel_bench.proofs.ValidCalls.{none_by_position}
 
 -- ---- frames that find room
-
--- what is told joins no queue
-told_queued : (owner : Option ℕ) (local remote : Callsign) (told : List Told) (t : Turn)
-    → (telling_to owner local remote told t).out.queued ≡ t.out.queued
-told_queued owner local remote [] t = refl
-told_queued None local remote (item ∷ told) t = told_queued None local remote told t
-told_queued (Some id) local remote (item ∷ told) t =
-    told_queued (Some id) local remote told (telling_one (Some id) local remote item t)
 
 -- If all that an event sends finds room, nothing of it is dropped.
 pub whole_joins :
@@ -58,9 +50,9 @@ whole_joins anew key event t link at room =
     let queued = queueing_frames key done.frames placed in
     let size : length done.frames ≡ length stepped.sent = length-map stepped.sent (sent_frame stepped.now.path) in
     let enters = all_enter key done.frames placed (omega arith) in
-    let made = told_queued link.owner link.local link.remote done.told queued in
+    let told = told_silent link.owner link.local link.remote done.told queued in
     let after : length (event_at key event t).out.queued ≡ length queued.out.queued =
-    ap (λ place. length (event_of key event place t).out.queued) at ∙ ap length made in
+    ap (λ place. length (event_of key event place t).out.queued) at ∙ ap length told.queued in
     let step : LinkStep = link_step anew key event t link in
     let joined : step.joined ≡ length (event_at key event t).out.queued - length t.out.queued = refl in
     ap (list_any asks_when_sent) (drop_all step.joined stepped.sent (omega arith))
