@@ -28,10 +28,7 @@ use Rattle.channel_bench.proofs.Sounded.{sounded}
 use Rattle.channel_bench.proofs.StepFinds.{Finding}
 use Rattle.channel_bench.proofs.TimedRun.{run_in_time}
 
--- Of a run whose asks find room the host programs have seen what they know.
-module _ (w : BenchWords)
-    (premises : (moments : List Moment) → AreMatched moments nothing_sent → AsksFindRoom the_calls (steps_in moments)
-    → Premises moments) where
+module _ (w : BenchWords) where
   -- A sends d, or C again
   asked_finds :
       (complete calls : Bool) (before after : BenchState) → TakesCall connects before.a.station
@@ -39,18 +36,18 @@ module _ (w : BenchWords)
       → IsCalm after → before.a.program.calls ≡ calls → Holds w before → FindingAt before → FindingAt after
   asked_finds true calls before after takes h calm is holds finding =
       let bench = with_asking before in
-      at_end_finds w premises A (IsStep A (input_of A disconnects) None) bench after
+      at_end_finds w A (IsStep A (input_of A disconnects) None) bench after
       (λ next step c kept found.
-      step_near w premises bench A disconnects None (near A bench) next tt tt step c
-      (knows_near w premises bench A (near A bench) kept) found) h calm
+      step_near w bench A disconnects None (near A bench) next tt tt step c
+      (knows_near w bench A (near A bench) kept) found) h calm
       (reprogrammed w before bench refl refl refl refl refl refl refl refl refl (λ x. x) refl refl (λ x. x) holds)
       finding
   asked_finds false true before after takes h calm is holds finding =
       let bench = with_calling before in
-      at_end_finds w premises A (IsStep A (input_of A connects) None) bench after
+      at_end_finds w A (IsStep A (input_of A connects) None) bench after
       (λ next step c kept found.
-      step_near w premises bench A connects None (near A bench) next tt takes step c
-      (knows_near w premises bench A (near A bench) kept) found) h calm
+      step_near w bench A connects None (near A bench) next tt takes step c
+      (knows_near w bench A (near A bench) kept) found) h calm
       (reprogrammed w before bench refl refl refl refl refl refl refl refl refl (λ x. absurd (cc)) refl refl (λ x. x)
       holds) finding
   asked_finds false false before after takes h calm is holds finding = subst FindingAt (sym h) finding
@@ -72,12 +69,12 @@ module _ (w : BenchWords)
       (part : Part) → IsUsualPart part → (before after : BenchState) → IsPart w part before after → IsCalm after
       → Holds w before → FindingAt before → FindingAt after
   part_finds (Tells e event) usual before after h calm holds finding =
-      at_end_finds w premises e (IsTold e event) before after
-      (λ next told c kept found. told_finds w premises before e event (near e before) next usual told c kept found) h
+      at_end_finds w e (IsTold e event) before after
+      (λ next told c kept found. told_finds w before e event (near e before) next usual told c kept found) h
       calm holds finding
   part_finds (Gives e) usual before after h calm holds finding =
-      at_end_finds w premises e (IsGiven w e) before after
-      (λ next given c kept found. given_finds w premises before e (near e before) next given c kept found) h calm holds
+      at_end_finds w e (IsGiven w e) before after
+      (λ next given c kept found. given_finds w before e (near e before) next given c kept found) h calm holds
       finding
   part_finds AsksOrCalls usual before after h calm holds finding = go h.accepts refl h.sent
     where
@@ -89,14 +86,14 @@ module _ (w : BenchWords)
           holds finding
       go false is sent = subst FindingAt (sym sent) finding
   part_finds (Ticks e) usual before after h calm holds finding =
-      at_end_finds w premises e (IsTicking e) before after
-      (λ next tick c kept found. ticking_finds w premises before e (near e before) next tick c kept found) h calm holds
+      at_end_finds w e (IsTicking e) before after
+      (λ next tick c kept found. ticking_finds w before e (near e before) next tick c kept found) h calm holds
       finding
   part_finds Sounds usual before after h calm holds finding = subst FindingAt (sym h) (sounds_find before finding)
   part_finds (Listens e) usual before after h calm holds finding =
-      at_end_finds w premises e (IsListening e) before after
+      at_end_finds w e (IsListening e) before after
       (λ next part c kept found.
-      heard_finds w premises before e part.items (near e before) next part.heard c kept found) h calm holds finding
+      heard_finds w before e part.items (near e before) next part.heard c kept found) h calm holds finding
   part_finds Closes usual before after h calm holds finding = subst FindingAt (sym h) (closes_find before finding)
 
   -- ---- a run
@@ -144,8 +141,8 @@ module _ (w : BenchWords)
       tick_finds count h.0 bench h.3 calm (behind_ticks w count h.0 h.1 h.2.no_trouble)
       (run_finds count h.0 h.1 h.2.no_trouble)
 
-  -- if what the host programs have seen follows from that
-  pub asks_find_room_by : (count : ℕ) (bench : BenchState) → AreTicks w count bench → bench.common.trouble ≡ None
-      → AsksFindRoom the_calls (steps_of_run bench)
-  asks_find_room_by count bench h calm =
-      (run_finds count bench h calm (run_in_time w count bench h calm).both.matched).1
+pub asks_find_room :
+    (w : BenchWords) (count : ℕ) (bench : BenchState) → AreTicks w count bench → bench.common.trouble ≡ None
+    → AsksFindRoom the_calls (steps_of_run bench)
+asks_find_room w count bench ticks none =
+    (run_finds w count bench ticks none (run_in_time w count bench ticks none).both.matched).1

@@ -78,14 +78,12 @@ passed sender below moments s finding = λ all.
     let found = finding (matched_front moments (Passes sender below) nothing_sent all) in
     (found.0, subst (AsksFindRoom the_calls) (sym (steps_passed moments sender below)) found.1)
 
--- Of a run whose asks find room the host programs have seen what they know.
-module _ (w : BenchWords)
-    (premises : (moments : List Moment) → AreMatched moments nothing_sent → AsksFindRoom the_calls (steps_in moments)
-    → Premises moments) where
+module _ (w : BenchWords) where
+  -- what the host programs have seen so far
   pub knows_near : (bench : BenchState) (e : End) (n : Near) → HoldsNear w bench e n
       → Knows w n.common.moments (with_state e n.side.station (stations_of bench))
   knows_near bench A n holds matched room =
-      let p = premises n.common.moments matched room in
+      let p : Premises n.common.moments = record { matched = matched; room = room } in
       let a = holds.sees_a p in
       record {
         noted = holds.noted;
@@ -95,7 +93,7 @@ module _ (w : BenchWords)
         queued = (holds.sees_b p).queued;
       }
   knows_near bench B n holds matched room =
-      let p = premises n.common.moments matched room in
+      let p : Premises n.common.moments = record { matched = matched; room = room } in
       let a = holds.sees_a p in
       record {
         noted = holds.noted;
