@@ -58,7 +58,7 @@ pub record Holds (w : BenchWords) (bench : BenchState) : Type 0 where
 
 -- ---- fewer moments
 
-matched_front : (moments : List Moment) (moment : Moment) (ways : BothWays) → AreMatched (moments ++ moment ∷ []) ways
+pub matched_front : (moments : List Moment) (moment : Moment) (ways : BothWays) → AreMatched (moments ++ moment ∷ []) ways
     → AreMatched moments ways
 matched_front [] moment ways h = tt
 matched_front (first ∷ moments) moment ways h = (h.0, matched_front moments moment (after_moment first ways) h.1)
@@ -285,7 +285,7 @@ at_end_holds w B part before after keeps h calm holds =
 
 -- ---- frames that are heard
 
-item_holds :
+pub item_holds :
     (w : BenchWords) (bench : BenchState) (e : End) (matched : Option ℕ) (octets : List ℕ) (n next : Near)
     → IsHeardAs e matched octets n next → next.common.trouble ≡ None → HoldsNear w bench e n → HoldsNear w bench e next
 item_holds w bench e None octets n next h calm holds =
@@ -336,7 +336,7 @@ giving_holds w bench e n next part calm holds =
     go false is h = subst (HoldsNear w bench e) (sym h) holds
 
 -- both programs change, and show the same
-reprogrammed :
+pub reprogrammed :
     (w : BenchWords) (bench next : BenchState) → next.common.moments ≡ bench.common.moments
     → next.a.station ≡ bench.a.station → next.b.station ≡ bench.b.station → next.a.there ≡ bench.a.there
     → next.b.there ≡ bench.b.there → next.a.stream ≡ bench.a.stream → next.b.stream ≡ bench.b.stream

@@ -45,11 +45,11 @@ pub record IsCalm (c : Control) : Type 0 where
   pub state : IsCalmState c.state
   pub quit : c.quit ≡ false
 
-record CalmTurn (turn : Turn) : Type 0 where
-  control : IsCalm turn.now.control
-  asked : list_any asks_when_sent turn.sent ≡ false
+pub record CalmTurn (turn : Turn) : Type 0 where
+  pub control : IsCalm turn.now.control
+  pub asked : list_any asks_when_sent turn.sent ≡ false
 
-abbrev Keeps : Act → Type 0
+abbrev pub Keeps : Act → Type 0
 Keeps act = (turn : Turn) → CalmTurn turn → CalmTurn (act turn)
 
 -- acts that send I and S frames alone
@@ -182,7 +182,7 @@ HearsValid (LinkTick waiting) m = ⊤
 begins_calm : (m : Machine) → IsCalm m.control → CalmTurn (begin m)
 begins_calm m calm = record { control = calm; asked = refl }
 
-settled_keeps : Keeps settled
+pub settled_keeps : Keeps settled
 settled_keeps turn h = go turn.now.control.state
   where
     go : (state : LinkState) → CalmTurn (settle_in state turn)

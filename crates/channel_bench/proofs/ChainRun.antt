@@ -34,11 +34,11 @@ use Rattle.channel_bench.specs.SetUpsSeen.{link_steps_at}
 use Rattle.channel_bench.proofs.Acts.{ReadsFront, is_asking}
 use Rattle.channel_bench.proofs.Along.{AllFollowNear, FollowsNear, by_seen, changes_seen, makes_near, makes_seen, near_all, near_by, run_changes-append}
 use Rattle.channel_bench.proofs.Calm.{HearsValid, IsCalm, StaysCalm, calm_step}
-use Rattle.channel_bench.proofs.Chains.{HearsWell, IsChain, chain_append, last_append, last_machine, made_by, made_of}
+use Rattle.channel_bench.proofs.Chains.{HearsWell, IsChain, OfLink, chain_append, last_append, last_machine, made_by, made_of}
 use Rattle.channel_bench.proofs.Counts.{count_cons, count_take, one}
 use Rattle.channel_bench.proofs.Framed.{framed, frames_at, frames_more}
 use Rattle.channel_bench.proofs.JointLaw.{StepDone, count_a, count_b, get_seam, new_sent, new_side, step_done}
-use Rattle.channel_bench.proofs.LinkDid.{HearsAsk, HearsWrong}
+use Rattle.channel_bench.proofs.LinkDid.{HearsAsk, HearsWrong, IsOfLink}
 use Rattle.channel_bench.proofs.NearQuiet.{back_all, back_by, made_far, made_towards, sends_none, sent_near, towards_by}
 use Rattle.channel_bench.proofs.ReadKinds.{frame_test}
 use Rattle.channel_bench.proofs.Runs.{Between}
@@ -82,6 +82,28 @@ far_end : (e : End) (pairs : List Pair) (n : ℕ) (steps : List LinkStep) (w : W
 far_end e pairs n [] w = refl
 far_end e pairs n (step ∷ steps) w =
     far_end e pairs n steps (near_by e pairs n step w) ∙ ap (λ (x : Side). x.end) (made_far step.anew w)
+
+-- ---- what is heard is a frame of a link
+
+reads_link : (event : LinkEvent) (x : World) → ReadsFront event x → IsOfLink event
+reads_link LinkConnect x reads = tt
+reads_link (LinkSend packet) x reads = tt
+reads_link LinkDisconnect x reads = tt
+reads_link (LinkHear frame) x reads = reads.of_link
+reads_link (LinkTick waiting) x reads = tt
+
+near_link :
+    (e : End) (back : List Tagged) (pairs : List Pair) (n : ℕ) (steps : List LinkStep) (v : World)
+    → AllFollowNear e back pairs n steps v → Each OfLink steps
+near_link e back pairs n [] v follows = tt
+near_link e back pairs n (step ∷ steps) v follows = (
+  reads_link step.event (makes_near step.anew v) follows.0.reads,
+  near_link e back pairs n steps (near_by e pairs n step v) follows.1,
+)
+
+own_link : (e : End) (steps : List LinkStep) → Each OfLink steps → Each OfLink (at_end A e steps)
+own_link A steps h = h
+own_link B steps h = tt
 
 -- ---- the events of a step of either
 
@@ -337,7 +359,9 @@ pub record RunChain (calls : Calls) (pairs : Pairs) (counts : Counts) (w : World
   pub last_b :
       last_machine w.b.end.machine (link_steps_at calls B steps)
       ≡ (run_changes w (changes_from calls pairs counts steps)).b.end.machine
-  -- what A hears, if nothing asks
+  -- what A hears
+  pub of_link : Each OfLink (link_steps_at calls A steps)
+  -- and if nothing asks
   pub well :
       ChangesAreValid w (changes_from calls pairs counts steps) → BIsPassive calls steps → IsCalm w.b.end.machine.control
       → asks_in w.a.towards ≡ 0 → Each HearsWell (link_steps_at calls A steps)
@@ -355,6 +379,7 @@ run_chain calls pairs a b full past [] st counts w is run ca cb heard_a heard_b 
       chain_b = tt;
       last_a = refl;
       last_b = refl;
+      of_link = tt;
       well = λ valid holds calm none. tt;
     }
 run_chain calls pairs a b full past (step ∷ rest) st counts w is run ca cb heard_a heard_b h =
@@ -400,6 +425,10 @@ run_chain calls pairs a b full past (step ∷ rest) st counts w is run ca cb hea
           ∙ others.last_a ∙ ap (λ (x : World). x.a.end.machine) (sym after);
       last_b = last_append w.b.end.machine own_b others_b ∙ ap (λ m. last_machine m others_b) here.last_b
           ∙ others.last_b ∙ ap (λ (x : World). x.b.end.machine) (sym after);
+      of_link = each_append OfLink own_a others_a
+          (own_link e made
+          (near_link e one.stays (heard_at (other e) pairs) (count_at e counts) made (seen_from e w) one.near))
+          others.of_link;
       well = λ valid holds calm none.
           let parts = valid_parts w changes later valid in
           let now : StepWell calls pairs counts w step e =

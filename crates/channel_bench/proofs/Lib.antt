@@ -102,3 +102,12 @@ mod GivesSees
 mod BenchSees
 mod RunSees
 mod OrderLaws
+mod AsksLittle
+mod HearsLittle
+mod OneKey
+mod KeyedSteps
+mod KeyedHearing
+mod FindingRoom
+mod StepFinds
+mod FindsNear
+mod AsksInRoom
