@@ -13,7 +13,7 @@ use Rattle.station.specs.Links.{most_links}
 use Rattle.station.specs.State.{StationState}
 use Rattle.channel_bench.specs.declared.report.SetUp.{SetUp}
 use Rattle.channel_bench.specs.declared.words.BenchWords.{BenchWords}
-use Rattle.channel_bench.specs.BenchLaw.{NoAskDropped}
+use Rattle.channel_bench.specs.BenchLaw.{AsksFindRoom}
 use Rattle.channel_bench.specs.BenchOrder.{IsNoted, stations_of, the_calls}
 use Rattle.channel_bench.specs.BenchState.{AtEnd, BenchState, Near, SideState, near, new_bench, new_side, side_at, with_near}
 use Rattle.channel_bench.specs.BenchSteps.{AreHeardAt, GoesOn, IsHeardAs, IsHeardAt, IsStep, IsTicking, match_of, with_matched, with_stray}
@@ -48,7 +48,7 @@ use Rattle.channel_bench.proofs.Ways.{queued_passed}
 -- what the laws ask of a run
 pub record Premises (moments : List Moment) : Type 0 where
   pub matched : AreMatched moments nothing_sent
-  pub dropped : NoAskDropped the_calls (steps_in moments)
+  pub room : AsksFindRoom the_calls (steps_in moments)
 
 pub record Holds (w : BenchWords) (bench : BenchState) : Type 0 where
   pub noted : IsNoted w bench.common.moments (stations_of bench)
@@ -58,27 +58,27 @@ pub record Holds (w : BenchWords) (bench : BenchState) : Type 0 where
 
 -- ---- fewer moments
 
-matched_front : (moments : List Moment) (moment : Moment) (ways : BothWays) → AreMatched (moments ++ moment ∷ []) ways
+pub matched_front : (moments : List Moment) (moment : Moment) (ways : BothWays) → AreMatched (moments ++ moment ∷ []) ways
     → AreMatched moments ways
 matched_front [] moment ways h = tt
 matched_front (first ∷ moments) moment ways h = (h.0, matched_front moments moment (after_moment first ways) h.1)
 
-dropped_front : (steps : List Step) (step : Step) → NoAskDropped the_calls (steps ++ step ∷ []) → NoAskDropped the_calls steps
-dropped_front [] step h = tt
-dropped_front (first ∷ steps) step h = (h.0, dropped_front steps step h.1)
+room_before : (steps : List Step) (step : Step) → AsksFindRoom the_calls (steps ++ step ∷ []) → AsksFindRoom the_calls steps
+room_before [] step h = tt
+room_before (first ∷ steps) step h = (h.0, room_before steps step h.1)
 
 pub front : (moments : List Moment) (step : Step) (found : Option ℕ) → Premises (moments ++ Steps step found ∷ [])
     → Premises moments
 front moments step found h = record {
   matched = matched_front moments (Steps step found) nothing_sent h.matched;
-  dropped = dropped_front (steps_in moments) step (subst (NoAskDropped the_calls) (steps_more moments step found) h.dropped);
+  room = room_before (steps_in moments) step (subst (AsksFindRoom the_calls) (steps_more moments step found) h.room);
 }
 
 front_passed : (moments : List Moment) (sender : End) (below : ℕ) → Premises (moments ++ Passes sender below ∷ [])
     → Premises moments
 front_passed moments sender below h = record {
   matched = matched_front moments (Passes sender below) nothing_sent h.matched;
-  dropped = subst (NoAskDropped the_calls) (steps_passed moments sender below) h.dropped;
+  room = subst (AsksFindRoom the_calls) (steps_passed moments sender below) h.room;
 }
 
 -- ---- what a side shows stays
@@ -186,11 +186,11 @@ stepped_holds w bench e usual matched before after occurs h calm holds keeps =
     let q : Premises next = subst Premises is p in
     let old = front moments step matched q in
     subst (BothSee w e after.side (side_at (other e) bench)) (sym is)
-    (keeps (record { noted = noted; little = little; matched = old.matched; dropped = old.dropped }) (record {
+    (keeps (record { noted = noted; little = little; matched = old.matched; room = old.room }) (record {
       noted = subst (λ ms. IsNoted w ms later) is noted_next;
       little = subst (λ ms. AskLittle ms later) is little_next;
       matched = q.matched;
-      dropped = q.dropped;
+      room = q.room;
     }) old))
 
 -- a step that gives nothing
@@ -234,11 +234,11 @@ given_holds w bench e piece n next is accepts h calm holds =
     let old = front moments step None q in
     subst (BothSee w e next.side (side_at (other e) bench)) (sym moments_are)
     (gives_sees w e piece n next (side_at (other e) bench) s is accepts h at
-    (record { noted = noted; little = little; matched = old.matched; dropped = old.dropped }) (record {
+    (record { noted = noted; little = little; matched = old.matched; room = old.room }) (record {
       noted = subst (λ ms. IsNoted w ms later) moments_are noted_next;
       little = subst (λ ms. AskLittle ms later) moments_are little_next;
       matched = q.matched;
-      dropped = q.dropped;
+      room = q.room;
     }) (both_of w bench e n holds old)))
 
 -- ---- what changes no more than a side
@@ -285,7 +285,7 @@ at_end_holds w B part before after keeps h calm holds =
 
 -- ---- frames that are heard
 
-item_holds :
+pub item_holds :
     (w : BenchWords) (bench : BenchState) (e : End) (matched : Option ℕ) (octets : List ℕ) (n next : Near)
     → IsHeardAs e matched octets n next → next.common.trouble ≡ None → HoldsNear w bench e n → HoldsNear w bench e next
 item_holds w bench e None octets n next h calm holds =
@@ -336,7 +336,7 @@ giving_holds w bench e n next part calm holds =
     go false is h = subst (HoldsNear w bench e) (sym h) holds
 
 -- both programs change, and show the same
-reprogrammed :
+pub reprogrammed :
     (w : BenchWords) (bench next : BenchState) → next.common.moments ≡ bench.common.moments
     → next.a.station ≡ bench.a.station → next.b.station ≡ bench.b.station → next.a.there ≡ bench.a.there
     → next.b.there ≡ bench.b.there → next.a.stream ≡ bench.a.stream → next.b.stream ≡ bench.b.stream

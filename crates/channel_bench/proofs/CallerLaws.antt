@@ -3,18 +3,21 @@
 use Rattle.std.proofs.Common.{◌≡◌, List, [], ◌∷◌, refl, sym, ap, ◌∙◌}
 use Rattle.std.specs.List.{AllByRecursion as Each}
 use Rattle.std.proofs.lemmas.List.Elements.{All-from_recursion, recursion_from_All}
+use Rattle.link_machine.specs.declared.state.LinkState.{LinkState}
+use Rattle.link_machine.specs.declared.state.LinkState.TheVariants.{Idle, Calling, Up, Releasing}
 use Rattle.link_world.specs.declared.end.End.{End}
 use Rattle.link_world.specs.declared.end.End.TheVariants.{A, B}
 use Rattle.link_world.specs.Changes.{ChangesLaw}
-use Rattle.link_world.proofs.law.Each.{each_both}
+use Rattle.link_world.proofs.law.Each.{each_weaker}
 use Rattle.station.specs.State.{StationState}
+use Rattle.channel_bench.specs.BenchLaw.{AsksFindRoomAt}
 use Rattle.channel_bench.specs.CallerLaw.{BAsksNothing, DroppedNothing, CallerLaw}
 use Rattle.channel_bench.specs.HostsAsk.{InputAsksNothing}
 use Rattle.channel_bench.specs.InFlight.{steps_in}
 use Rattle.channel_bench.specs.JointRun.{Step, Stations, new_stations, state_of, with_state, stepped, IsJointRun, all_stepped}
 use Rattle.channel_bench.specs.LinkOfCalls.{Calls, link_at_end}
 use Rattle.channel_bench.specs.LinkSteps.{LinkStep, steps_of}
-use Rattle.channel_bench.specs.MatchedLaw.{DropsNoAsk, IsOfNoHost, IsEventOfCaller, OnlyACalls}
+use Rattle.channel_bench.specs.MatchedLaw.{DropsNoAsk, FindsRoom, IsOfNoHost, IsEventOfCaller, OnlyACalls}
 use Rattle.channel_bench.proofs.Asking.{hosts_ask_nothing_holds}
 use Rattle.channel_bench.proofs.Dropping.{DropsNothing, drops_nothing}
 use Rattle.channel_bench.proofs.MatchedLaws.{matched_law_holds}
@@ -31,13 +34,23 @@ before_zero B state s h none_lost = record { a = h.a; b = none_lost }
 
 pub events_by :
     (e : End) (calls : Calls) (step : Step) → step.station ≡ e → (step.station ≡ B → InputAsksNothing step.input step.before)
-    → Each DropsNoAsk (steps_of (link_at_end calls e) step) → Each (IsEventOfCaller e) (steps_of (link_at_end calls e) step)
-events_by A calls step station asks joined = joined
-events_by B calls step station asks joined =
-    let steps = steps_of (link_at_end calls B) step in
-    each_both DropsNoAsk (λ (s : LinkStep). IsOfNoHost s.event) (IsEventOfCaller B) (λ s drops none. (drops, none)) steps joined
-    (recursion_from_All (λ (s : LinkStep). IsOfNoHost s.event) steps
-    (hosts_ask_nothing_holds (link_at_end calls B) step (asks station)))
+    → Each (AsksFindRoomAt e) (steps_of (link_at_end calls e) step)
+    → Each (IsEventOfCaller e) (steps_of (link_at_end calls e) step)
+events_by A calls step station asks room = room
+events_by B calls step station asks room =
+    recursion_from_All (λ (s : LinkStep). IsOfNoHost s.event) (steps_of (link_at_end calls B) step)
+    (hosts_ask_nothing_holds (link_at_end calls B) step (asks station))
+
+-- what drops no SABM, SABME or DISC finds room for each
+finds_room : (state : LinkState) (step : LinkStep) → DropsNoAsk step → FindsRoom state step
+finds_room Idle step drops = drops
+finds_room Calling step drops = drops
+finds_room Up step drops = tt
+finds_room Releasing step drops = drops
+
+room_at : (e : End) (step : LinkStep) → DropsNoAsk step → AsksFindRoomAt e step
+room_at A step drops = finds_room step.link.machine.control.state step drops
+room_at B step drops = tt
 
 record CallerHolds (calls : Calls) (steps : List Step) (st : Stations) : Type 0 where
   only : OnlyACalls calls steps
@@ -55,7 +68,8 @@ caller_holds calls (step ∷ steps) st run none_lost asks =
     record {
       only = (
         All-from_recursion (IsEventOfCaller e) (steps_of (link_at_end calls e) step)
-            (events_by e calls step refl asks.0 done.joined),
+            (events_by e calls step refl asks.0
+            (each_weaker DropsNoAsk (AsksFindRoomAt e) (room_at e) (steps_of (link_at_end calls e) step) done.joined)),
         rest.only,
       );
       before = before_zero e step.after.now st rest.before (ap (λ (s : StationState). s.dropped) (sym run.0) ∙ done.before);

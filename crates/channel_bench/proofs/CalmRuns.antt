@@ -1,6 +1,6 @@
 -- A step of the station whose hosts never connect nor disconnect: its end stays idle or up, sends nothing that asks, and finds
--- a quiet channel. That no N(R) is invalid, for which it would call, the law says of all that came before.
-use Rattle.std.proofs.Common.{◌≡◌, ℕ, ◌+◌, Bool, true, List, [], ◌∷◌, ◌++◌, take, Option, Some, None, refl, sym, ap, ◌∙◌, subst, arith, inl, inr}
+-- a quiet channel, since nothing of the kind is in flight either way. So no N(R) is invalid, for which it would call.
+use Rattle.std.proofs.Common.{◌≡◌, ℕ, ◌+◌, Bool, true, List, [], ◌∷◌, ◌++◌, Option, Some, None, refl, sym, ap, ◌∙◌, subst}
 use Rattle.std.specs.List.{AllByRecursion as Each}
 use Rattle.std.proofs.lemmas.List.{append_assoc}
 use Rattle.ax25_address.specs.declared.path.Path.{Path}
@@ -12,18 +12,19 @@ use Rattle.link_machine.specs.Machine.{Machine}
 use Rattle.link_world.specs.declared.end.End.TheVariants.{B}
 use Rattle.link_world.specs.Changes.{Change, changed, run_changes, made_in, AreQuiet, hears_valid_in, ChangesAreValid}
 use Rattle.link_world.specs.Changes.Change.{Keeps}
-use Rattle.link_world.specs.Flight.{Tagged, asks_in}
+use Rattle.link_world.specs.Flight.{Tagged}
 use Rattle.link_world.specs.Law.{names_valid, read_names_valid, first_names_valid, reads_valid, hears_valid}
 use Rattle.link_world.specs.Recorded.{RecordedEnd}
 use Rattle.link_world.specs.World.{World, seen_from}
 use Rattle.channel_bench.specs.LinkOfCalls.{Pairs, makes, marks_from, event_at_end, changes_by, all_changes_by}
 use Rattle.channel_bench.specs.LinkSteps.{LinkStep}
-use Rattle.channel_bench.specs.MatchedLaw.{DropsNoAsk, IsOfNoHost}
-use Rattle.channel_bench.proofs.Acts.{is_asking, ReadsFront}
+use Rattle.channel_bench.specs.MatchedLaw.{IsOfNoHost}
+use Rattle.channel_bench.proofs.Acts.{ReadsFront}
 use Rattle.channel_bench.proofs.Along.{makes_near, near_by, AllFollowNear, FollowsNear, by_seen, makes_seen, run_changes-append}
 use Rattle.channel_bench.proofs.Calm.{IsCalmState, IsCalm, HearsValid, StaysCalm, calm_step}
-use Rattle.channel_bench.proofs.Counts.{count_append, count_take}
-use Rattle.channel_bench.proofs.NearQuiet.{sent_near, joined_near, QuietNear, SendsAlone, one_quiet, towards_by, sends_none}
+use Rattle.channel_bench.proofs.CallerQuiet.{quiet_in}
+use Rattle.channel_bench.proofs.Exchanges.{AsksIn, AsksOut, in_made, in_moves}
+use Rattle.channel_bench.proofs.NearQuiet.{sends_none}
 use Rattle.channel_bench.proofs.QuietRuns.{quiet-append, quiet_by}
 
 -- ---- what is valid
@@ -75,36 +76,31 @@ made_calm (Some path) w calm = made_in_calm w.a.end.machine.control.state path w
 -- ---- its events
 
 abbrev pub IsPassive : LinkStep → Type 0
-IsPassive step = DropsNoAsk step × IsOfNoHost step.event
+IsPassive step = IsOfNoHost step.event
 
 pub record CalmQuiet (pairs : Pairs) (n : ℕ) (steps : List LinkStep) (w : World) : Type 0 where
   pub quiet : AreQuiet w (all_changes_by B pairs n steps)
-  pub none : asks_in (run_changes w (all_changes_by B pairs n steps)).a.towards ≡ 0
+  pub asks : AsksOut (run_changes w (all_changes_by B pairs n steps))
   pub calm : IsCalm (run_changes w (all_changes_by B pairs n steps)).b.end.machine.control
 
 pub calm_quiet :
     (start : World) (law : (changes : List Change) → AreQuiet start changes → ChangesAreValid start changes)
     (back : List Tagged) (pairs : Pairs) (n : ℕ) (steps : List LinkStep) (so_far : List Change) (w : World)
-    → w ≡ run_changes start so_far → AreQuiet start so_far → IsCalm w.b.end.machine.control → asks_in w.a.towards ≡ 0
-    → AllFollowNear B back pairs.at_a n steps (seen_from B w) → Each IsPassive steps
-    → SendsAlone (asks_in (joined_near B pairs.at_a n steps (seen_from B w))) (seen_from B w) back
-    → CalmQuiet pairs n steps w
-calm_quiet start law back pairs n [] so_far w is quiet calm none follows holds sends =
-    record { quiet = tt; none = none; calm = calm }
-calm_quiet start law back pairs n (step ∷ steps) so_far w is quiet calm none follows holds sends =
+    → w ≡ run_changes start so_far → AreQuiet start so_far → IsCalm w.b.end.machine.control → AsksOut w
+    → AllFollowNear B back pairs.at_a n steps (seen_from B w) → Each IsPassive steps → CalmQuiet pairs n steps w
+calm_quiet start law back pairs n [] so_far w is quiet calm asks follows holds =
+    record { quiet = tt; asks = asks; calm = calm }
+calm_quiet start law back pairs n (step ∷ steps) so_far w is quiet calm asks follows holds =
     let v = seen_from B w in
     let x = makes_near step.anew v in
     let y = near_by B pairs.at_a n step v in
     let event = event_at_end B step.event in
     let ms = marks_from pairs.at_a (n + step.first) step.joined in
-    let own = take step.joined (sent_near B step v) in
-    let both = count_append is_asking own (joined_near B pairs.at_a n steps y) in
     let changes = changes_by B pairs n step in
     let more = all_changes_by B pairs n steps in
     let next = run_changes w changes in
-    let here : QuietNear step.event B x =
-    one_quiet B back step v (asks_in (own ++ joined_near B pairs.at_a n steps y)) follows.0 holds.0.0 (omega arith) sends (inl none) in
-    let quiet_here : AreQuiet w changes = quiet_by B step.event ms step.anew w here in
+    let asked : AsksIn x = in_made step.anew v asks in
+    let quiet_here : AreQuiet w changes = quiet_by B step.event ms step.anew w (quiet_in B step.event x asked) in
     let quiet_now : AreQuiet start (so_far ++ changes) =
     quiet-append start so_far changes quiet (subst (λ z. AreQuiet z changes) is quiet_here) in
     let next_is : next ≡ run_changes start (so_far ++ changes) =
@@ -119,29 +115,20 @@ calm_quiet start law back pairs n (step ∷ steps) so_far w is quiet calm none f
     (law (so_far ++ changes) quiet_now)))) in
     let f : FollowsNear B back step x = follows.0 in
     let stays : StaysCalm step.link.machine step.event =
-    calm_step step.link.machine step.event holds.0.1
+    calm_step step.link.machine step.event holds.0
     (subst (HearsValid step.event) f.machine (heard_valid step.event x f.reads valid))
     (subst (λ (m : Machine). IsCalm m.control) f.machine (made_calm step.anew v calm)) in
     let seen : seen_from B next ≡ y = by_seen B pairs n step step.anew w in
-    let sent = sends_none B back step v f stays.none in
-    let part = count_take is_asking step.joined (sent_near B step v) in
-    let less = towards_by B pairs.at_a n step v in
-    let towards : asks_in next.a.towards ≡ asks_in y.b.towards = ap (λ (z : World). asks_in z.b.towards) seen in
-    let left : asks_in next.a.towards ≡ 0 = omega arith in
+    let asks_next : AsksOut next =
+    subst AsksIn (sym seen) (in_moves B step.event ms x (sends_none B back step v f stays.none) asked) in
     let calm_next : IsCalm next.b.end.machine.control =
     subst (λ (m : Machine). IsCalm m.control) (sym (ap (λ (z : World). z.a.end.machine) seen ∙ f.next)) stays.calm in
-    let later : SendsAlone (asks_in (joined_near B pairs.at_a n steps y)) y back =
-    elim sends [
-      | inl zero ↦ inl (omega arith)
-      | inr few ↦ let a = few.0 in inr (omega arith, few.1)
-    ] in
     let rest : CalmQuiet pairs n steps next =
-    calm_quiet start law back pairs n steps (so_far ++ changes) next next_is quiet_now calm_next left
-    (subst (AllFollowNear B back pairs.at_a n steps) (sym seen) follows.1) holds.1
-    (subst (λ z. SendsAlone (asks_in (joined_near B pairs.at_a n steps z)) z back) (sym seen) later) in
+    calm_quiet start law back pairs n steps (so_far ++ changes) next next_is quiet_now calm_next asks_next
+    (subst (AllFollowNear B back pairs.at_a n steps) (sym seen) follows.1) holds.1 in
     let after : run_changes w (changes ++ more) ≡ run_changes next more = run_changes-append changes more w in
     record {
       quiet = quiet-append w changes more quiet_here rest.quiet;
-      none = subst (λ (z : World). asks_in z.a.towards ≡ 0) (sym after) rest.none;
+      asks = subst AsksOut (sym after) rest.asks;
       calm = subst (λ (z : World). IsCalm z.b.end.machine.control) (sym after) rest.calm;
     }

@@ -1,18 +1,12 @@
 -- In a joint run that is heard in order the events of a link at a station are a chain: each finds the machine that the one
 -- before it left. If only A calls and no N(R) is invalid, A hears no SABM, SABME or DISC, and no frame that resets its link.
-use Rattle.std.proofs.Common.{◌≡◌, ℕ, ◌+◌, ◌*◌, ◌/◌, ◌%◌, Bool, true, false, nat_lt, List, [], ◌∷◌, ◌++◌, length, take, cond, Option, Some, None, refl, sym, ap, ◌∙◌, subst, arith}
+use Rattle.std.proofs.Common.{◌≡◌, ℕ, ◌+◌, Bool, true, false, List, [], ◌∷◌, ◌++◌, length, take, Option, Some, None, refl, sym, ap, ◌∙◌, subst, arith}
 use Rattle.std.specs.Bool.{⊤}
 use Rattle.std.specs.Prelude.{slice_get}
 use Rattle.std.specs.List.{AllByRecursion as Each}
 use Rattle.std.proofs.Math.Seq.{take-append_seam}
 use Rattle.std.proofs.lemmas.List.{append_assoc, length-append}
-use Rattle.ax25_address.specs.AddressField.{bit}
 use Rattle.ax25_address.specs.declared.path.Path.{Path}
-use Rattle.ax25_frames.specs.declared.frame.Frame.{Frame}
-use Rattle.ax25_frames.specs.declared.frame.Kind.{Kind}
-use Rattle.ax25_frames.specs.declared.frame.Kind.TheVariants.{Info, Super, Setup, Ui, Other}
-use Rattle.ax25_frames.specs.declared.frame.Modulus.{Modulus}
-use Rattle.ax25_frames.specs.declared.frame.Modulus.TheVariants.{Eight, OneTwentyEight}
 use Rattle.link_machine.specs.declared.params.Params.{Params}
 use Rattle.link_machine.specs.declared.state.LinkState.{LinkState}
 use Rattle.link_machine.specs.declared.state.LinkState.TheVariants.{Idle, Calling, Up, Releasing}
@@ -26,7 +20,6 @@ use Rattle.link_world.specs.Changes.{Change, ChangesAreValid, changed, hears_val
 use Rattle.link_world.specs.Changes.Change.{Keeps}
 use Rattle.link_world.specs.Flight.{Tagged, asks, asks_in}
 use Rattle.link_world.specs.Law.{first_names_valid, hears_valid, names_valid, read_names_valid, reads_valid}
-use Rattle.link_world.specs.Reading.{frame_read, info_read_wide, is_odd, kind_read, with_kind}
 use Rattle.link_world.specs.Recorded.{RecordedEnd}
 use Rattle.link_world.specs.World.{Side, World, other, seen_from}
 use Rattle.link_world.proofs.law.Each.{each_append}
@@ -41,12 +34,13 @@ use Rattle.channel_bench.specs.SetUpsSeen.{link_steps_at}
 use Rattle.channel_bench.proofs.Acts.{ReadsFront, is_asking}
 use Rattle.channel_bench.proofs.Along.{AllFollowNear, FollowsNear, by_seen, changes_seen, makes_near, makes_seen, near_all, near_by, run_changes-append}
 use Rattle.channel_bench.proofs.Calm.{HearsValid, IsCalm, StaysCalm, calm_step}
-use Rattle.channel_bench.proofs.Chains.{HearsWell, IsChain, chain_append, last_append, last_machine, made_by, made_of}
+use Rattle.channel_bench.proofs.Chains.{HearsWell, IsChain, OfLink, chain_append, last_append, last_machine, made_by, made_of}
 use Rattle.channel_bench.proofs.Counts.{count_cons, count_take, one}
 use Rattle.channel_bench.proofs.Framed.{framed, frames_at, frames_more}
 use Rattle.channel_bench.proofs.JointLaw.{StepDone, count_a, count_b, get_seam, new_sent, new_side, step_done}
-use Rattle.channel_bench.proofs.LinkDid.{HearsAsk, HearsWrong}
+use Rattle.channel_bench.proofs.LinkDid.{HearsAsk, HearsWrong, IsOfLink}
 use Rattle.channel_bench.proofs.NearQuiet.{back_all, back_by, made_far, made_towards, sends_none, sent_near, towards_by}
+use Rattle.channel_bench.proofs.ReadKinds.{frame_test}
 use Rattle.channel_bench.proofs.Runs.{Between}
 use Rattle.channel_bench.proofs.Tables.{not_both}
 
@@ -88,6 +82,28 @@ far_end : (e : End) (pairs : List Pair) (n : ℕ) (steps : List LinkStep) (w : W
 far_end e pairs n [] w = refl
 far_end e pairs n (step ∷ steps) w =
     far_end e pairs n steps (near_by e pairs n step w) ∙ ap (λ (x : Side). x.end) (made_far step.anew w)
+
+-- ---- what is heard is a frame of a link
+
+reads_link : (event : LinkEvent) (x : World) → ReadsFront event x → IsOfLink event
+reads_link LinkConnect x reads = tt
+reads_link (LinkSend packet) x reads = tt
+reads_link LinkDisconnect x reads = tt
+reads_link (LinkHear frame) x reads = reads.of_link
+reads_link (LinkTick waiting) x reads = tt
+
+near_link :
+    (e : End) (back : List Tagged) (pairs : List Pair) (n : ℕ) (steps : List LinkStep) (v : World)
+    → AllFollowNear e back pairs n steps v → Each OfLink steps
+near_link e back pairs n [] v follows = tt
+near_link e back pairs n (step ∷ steps) v follows = (
+  reads_link step.event (makes_near step.anew v) follows.0.reads,
+  near_link e back pairs n steps (near_by e pairs n step v) follows.1,
+)
+
+own_link : (e : End) (steps : List LinkStep) → Each OfLink steps → Each OfLink (at_end A e steps)
+own_link A steps h = h
+own_link B steps h = tt
 
 -- ---- the events of a step of either
 
@@ -189,47 +205,6 @@ heard_valid e (LinkHear frame) x reads valid =
     )
 heard_valid e (LinkTick waiting) x reads valid = tt
 
--- a frame that is read in another modulus asks as it did when it was sent
-narrow_asks : (b : Bool) (kind found : Kind) → asks kind ≡ false → cond b (Some kind) None ≡ Some found → asks found ≡ false
-narrow_asks true kind found none is = let same : kind ≡ found = cc in ap asks (sym same) ∙ none
-narrow_asks false kind found none is = absurd (cc)
-
-wide_asks : (ns nr : ℕ) (poll : Bool) (second : ℕ) (octets : List ℕ) (found : Kind)
-    → info_read_wide ns nr poll second octets ≡ Some found → asks found ≡ false
-wide_asks ns nr poll second [] found is = absurd (cc)
-wide_asks ns nr poll second (pid ∷ octets) found is =
-    narrow_asks true (Info (16 * nr + 8 * bit poll + ns) (second / 2) (is_odd second) pid octets) found refl is
-
-same_asks : (kind found : Kind) → asks kind ≡ false → Some kind ≡ Some found → asks found ≡ false
-same_asks kind found none is = narrow_asks true kind found none is
-
-read_asks : (written read : Modulus) (kind found : Kind) → kind_read written read kind ≡ Some found → asks kind ≡ false
-    → asks found ≡ false
-read_asks Eight Eight kind found is none = same_asks kind found none is
-read_asks OneTwentyEight OneTwentyEight kind found is none = same_asks kind found none is
-read_asks Eight OneTwentyEight (Info ns nr poll pid octets) found is none = wide_asks ns nr poll pid octets found is
-read_asks Eight OneTwentyEight (Super which nr flag) found is none = absurd (cc)
-read_asks Eight OneTwentyEight (Setup which flag) found is none = same_asks (Setup which flag) found none is
-read_asks Eight OneTwentyEight (Ui flag pid octets) found is none = same_asks (Ui flag pid octets) found none is
-read_asks Eight OneTwentyEight (Other which flag octets) found is none = same_asks (Other which flag octets) found none is
-read_asks OneTwentyEight Eight (Info ns nr poll pid octets) found is none =
-    narrow_asks (nat_lt (length octets) 256)
-    (Info (ns % 8) (ns / 16) (is_odd (ns / 8)) (2 * nr + bit poll) (pid ∷ octets)) found refl is
-read_asks OneTwentyEight Eight (Super which nr flag) found is none = absurd (cc)
-read_asks OneTwentyEight Eight (Setup which flag) found is none = same_asks (Setup which flag) found none is
-read_asks OneTwentyEight Eight (Ui flag pid octets) found is none = same_asks (Ui flag pid octets) found none is
-read_asks OneTwentyEight Eight (Other which flag octets) found is none = same_asks (Other which flag octets) found none is
-
-frame_asks : (written read : Modulus) (f found : Frame) → frame_read written read f ≡ Some found → asks f.kind ≡ false
-    → asks found.kind ≡ false
-frame_asks written read f found is none = go (kind_read written read f.kind) refl is
-  where
-    go : (o : Option Kind) → kind_read written read f.kind ≡ o → with_kind f o ≡ Some found → asks found.kind ≡ false
-    go None e same = absurd (cc)
-    go (Some kind) e same =
-        let made : record f { kind = kind } ≡ found = cc in
-        ap (λ (x : Frame). asks x.kind) (sym made) ∙ read_asks written read f.kind kind e none
-
 first_asks : (f : Tagged) (rest : List Tagged) → asks_in (f ∷ rest) ≡ 0 → asks f.frame.kind ≡ false
 first_asks f rest none =
     go (asks f.frame.kind) (sym (count_cons (λ (g : Tagged). asks g.frame.kind) f rest) ∙ none)
@@ -247,7 +222,7 @@ no_ask LinkDisconnect x reads none ask = ask
 no_ask (LinkHear frame) x reads none ask =
     let front : asks reads.front.frame.kind ≡ false = first_asks reads.front reads.rest (ap asks_in (sym reads.towards) ∙ none) in
     let read : asks reads.as_read.kind ≡ false =
-    frame_asks (modulus_named reads.front.modulus) (modulus_named x.a.end.machine.incoming.modulus) reads.front.frame
+    frame_test asks (λ ns nr poll pid octets. refl) (modulus_named reads.front.modulus) (modulus_named x.a.end.machine.incoming.modulus) reads.front.frame
     reads.as_read reads.reading front in
     not_both (asks frame.kind) ask (ap asks (sym reads.kind) ∙ read)
 no_ask (LinkTick waiting) x reads none ask = ask
@@ -384,7 +359,9 @@ pub record RunChain (calls : Calls) (pairs : Pairs) (counts : Counts) (w : World
   pub last_b :
       last_machine w.b.end.machine (link_steps_at calls B steps)
       ≡ (run_changes w (changes_from calls pairs counts steps)).b.end.machine
-  -- what A hears, if nothing asks
+  -- what A hears
+  pub of_link : Each OfLink (link_steps_at calls A steps)
+  -- and if nothing asks
   pub well :
       ChangesAreValid w (changes_from calls pairs counts steps) → BIsPassive calls steps → IsCalm w.b.end.machine.control
       → asks_in w.a.towards ≡ 0 → Each HearsWell (link_steps_at calls A steps)
@@ -402,6 +379,7 @@ run_chain calls pairs a b full past [] st counts w is run ca cb heard_a heard_b 
       chain_b = tt;
       last_a = refl;
       last_b = refl;
+      of_link = tt;
       well = λ valid holds calm none. tt;
     }
 run_chain calls pairs a b full past (step ∷ rest) st counts w is run ca cb heard_a heard_b h =
@@ -447,6 +425,10 @@ run_chain calls pairs a b full past (step ∷ rest) st counts w is run ca cb hea
           ∙ others.last_a ∙ ap (λ (x : World). x.a.end.machine) (sym after);
       last_b = last_append w.b.end.machine own_b others_b ∙ ap (λ m. last_machine m others_b) here.last_b
           ∙ others.last_b ∙ ap (λ (x : World). x.b.end.machine) (sym after);
+      of_link = each_append OfLink own_a others_a
+          (own_link e made
+          (near_link e one.stays (heard_at (other e) pairs) (count_at e counts) made (seen_from e w) one.near))
+          others.of_link;
       well = λ valid holds calm none.
           let parts = valid_parts w changes later valid in
           let now : StepWell calls pairs counts w step e =

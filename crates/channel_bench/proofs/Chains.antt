@@ -18,7 +18,7 @@ use Rattle.link_machine.specs.Turn.{Turn, begin}
 use Rattle.channel_bench.specs.LinkSteps.{LinkStep}
 use Rattle.channel_bench.specs.LinksTell.{RunsIn, runs_after}
 use Rattle.channel_bench.specs.RunsTell.{AllToldInOne, runs_behind, told_in}
-use Rattle.channel_bench.proofs.LinkDid.{Closes, DidIn, HearsAsk, HearsWrong, Steps, is_connect, is_disconnect, step_steps}
+use Rattle.channel_bench.proofs.LinkDid.{Closes, DidIn, HearsAsk, HearsWrong, IsOfLink, Steps, is_connect, is_disconnect, step_steps}
 use Rattle.channel_bench.proofs.LinkDid.Closes.{releases, stays}
 use Rattle.channel_bench.proofs.LinkDid.Did.{calls, ends, gives, is_called, opens, resets, wishes}
 use Rattle.channel_bench.proofs.LinkDid.Steps.{made, refused}
@@ -68,7 +68,7 @@ last_append m [] second = refl
 last_append m (step ∷ first) second = last_append (link_turn step.link.machine step.event).now first second
 
 -- what looks at the state and the wish to disconnect of a machine that is new when it is idle
-made_like :
+pub made_like :
     (P : LinkState → Bool → Type 0) → P Idle false → (anew : Option Path) (m : Machine)
     → P m.control.state m.control.quit → P (made_by anew m).control.state (made_by anew m).control.quit
 made_like P idle None m h = h
@@ -313,6 +313,10 @@ StandsCalled called Releasing = called ≡ true
 -- a frame that is heard neither calls nor makes the link call anew
 abbrev pub HearsWell : LinkStep → Type 0
 HearsWell step = (HearsAsk step.event → ⊥) × (HearsWrong step.link.machine step.event → ⊥)
+
+-- what is heard is a frame of a link
+abbrev pub OfLink : LinkStep → Type 0
+OfLink step = IsOfLink step.event
 
 called_more : (called more : Bool) (state : LinkState) → (called ≡ true → more ≡ true) → StandsCalled called state
     → StandsCalled more state

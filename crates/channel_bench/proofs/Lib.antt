@@ -32,7 +32,14 @@ mod Counts
 mod NearQuiet
 mod Naming
 mod BenchQuiet
+mod StillActs
+mod Sends
+mod LinkAsks
 mod Calm
+mod ReadKinds
+mod EndSends
+mod Exchanges
+mod CallerQuiet
 mod QuietRuns
 mod CalmRuns
 mod QuietJoint
@@ -95,3 +102,12 @@ mod GivesSees
 mod BenchSees
 mod RunSees
 mod OrderLaws
+mod AsksLittle
+mod HearsLittle
+mod OneKey
+mod KeyedSteps
+mod KeyedHearing
+mod FindingRoom
+mod StepFinds
+mod FindsNear
+mod AsksInRoom

@@ -1,5 +1,6 @@
 -- What an event of a link does to its set-up and to a wish to disconnect, act by act.
 use Rattle.std.proofs.Common.{◌≡◌, ℕ, ◌==◌, ◌&&◌, Bool, true, false, List, [], ◌∷◌, ◌++◌, length, cond, if◌then◌else◌, Option, Some, None, is_some, refl, sym, ap, ◌∙◌, subst}
+use Rattle.std.specs.Bool.{⊤}
 use Rattle.std.proofs.lemmas.Bool.{and_parts}
 use Rattle.std.proofs.lemmas.List.{append_assoc}
 use Rattle.ax25_frames.specs.FrameText.{is_command_of}
@@ -262,6 +263,14 @@ HearsAsk (Send packet) = ⊥
 HearsAsk Disconnect = ⊥
 HearsAsk (Hear frame) = asks frame.kind ≡ true
 HearsAsk (Tick waiting) = ⊥
+
+-- what is heard is a frame of a link
+abbrev pub IsOfLink : Event → Type 0
+IsOfLink Connect = ⊤
+IsOfLink (Send packet) = ⊤
+IsOfLink Disconnect = ⊤
+IsOfLink (Hear frame) = IsLinkKind frame.kind
+IsOfLink (Tick waiting) = ⊤
 
 -- a frame that makes the link call anew
 abbrev pub HearsWrong : Machine → Event → Type 0

@@ -8,7 +8,7 @@ use Rattle.link_world.specs.declared.end.End.TheVariants.{A, B}
 use Rattle.link_world.specs.Windows.{WindowsFit}
 use Rattle.link_world.proofs.law.ChangesLaw.{changes_law_holds}
 use Rattle.channel_bench.specs.declared.words.BenchWords.{BenchWords}
-use Rattle.channel_bench.specs.BenchLaw.{NoAskDropped}
+use Rattle.channel_bench.specs.BenchLaw.{AsksFindRoom, AsksFindRoomAt}
 use Rattle.channel_bench.specs.BenchOrder.{IsNoted, first_stations, the_calls}
 use Rattle.channel_bench.specs.BenchState.{config_of, params_of}
 use Rattle.channel_bench.specs.CallerLaw.{BAsksNothing}
@@ -17,7 +17,7 @@ use Rattle.channel_bench.specs.JointRun.{Step, Stations, all_stepped, state_of}
 use Rattle.channel_bench.specs.LinkOfCalls.{first_world, link_at_end, world_of}
 use Rattle.channel_bench.specs.LinkSteps.{LinkStep, steps_of}
 use Rattle.channel_bench.specs.LinksTell.{RunsIn}
-use Rattle.channel_bench.specs.MatchedLaw.{DropsNoAsk, IsEventOfCaller, OnlyACalls, pairs_in}
+use Rattle.channel_bench.specs.MatchedLaw.{IsEventOfCaller, OnlyACalls, pairs_in}
 use Rattle.channel_bench.specs.RunsTell.{AllToldInOne, runs_behind}
 use Rattle.channel_bench.specs.SetUpsSeen.{IsGivenWhileUp, link_steps_at, set_ups_seen}
 use Rattle.channel_bench.specs.StationsLaw.{IsMachineOf, LinkKeepsOrder, first_chosen}
@@ -38,7 +38,7 @@ pub record Known (w : BenchWords) (moments : List Moment) (s : Stations) : Type 
   pub noted : IsNoted w moments s
   pub little : AskLittle moments s
   pub matched : AreMatched moments nothing_sent
-  pub dropped : NoAskDropped the_calls (steps_in moments)
+  pub room : AsksFindRoom the_calls (steps_in moments)
 
 -- the windows of both stations fit
 pub windows : (w : BenchWords) → WindowsFit (params_of w) (params_of w)
@@ -50,22 +50,22 @@ windows w = record {
 }
 
 -- the events of the link that a caller may have
-pub only_a_calls : (steps : List Step) → BAsksNothing steps → NoAskDropped the_calls steps → OnlyACalls the_calls steps
-only_a_calls [] asks joined = tt
-only_a_calls (step ∷ steps) asks joined =
+pub only_a_calls : (steps : List Step) → BAsksNothing steps → AsksFindRoom the_calls steps → OnlyACalls the_calls steps
+only_a_calls [] asks room = tt
+only_a_calls (step ∷ steps) asks room =
     let e = step.station in
     let made = steps_of (link_at_end the_calls e) step in (
       All-from_recursion (IsEventOfCaller e) made
           (events_by e the_calls step refl asks.0
-          (recursion_from_All DropsNoAsk made joined.0)),
-      only_a_calls steps asks.1 joined.1,
+          (recursion_from_All (AsksFindRoomAt e) made room.0)),
+      only_a_calls steps asks.1 room.1,
     )
 
 passive_events : (e : End) (steps : List LinkStep) → Each (IsEventOfCaller e) steps → Each (EndAsks e) steps
 passive_events A [] h = tt
 passive_events B [] h = tt
 passive_events A (step ∷ steps) h = (tt, passive_events A steps h.1)
-passive_events B (step ∷ steps) h = (h.0.1, passive_events B steps h.1)
+passive_events B (step ∷ steps) h = (h.0, passive_events B steps h.1)
 
 passive : (steps : List Step) → OnlyACalls the_calls steps → BIsPassive the_calls steps
 passive [] h = tt
@@ -84,7 +84,7 @@ pub law_kept :
 law_kept w moments s known =
     let config = config_of w in
     matched_law_holds changes_law_holds config config (seed_at w A) (seed_at w B) moments known.noted.run known.matched
-    known.noted.quiet (windows w) the_calls (only_a_calls (steps_in moments) known.little.asks known.dropped)
+    known.noted.quiet (windows w) the_calls (only_a_calls (steps_in moments) known.little.asks known.room)
 
 -- the events of the link at an end
 abbrev pub links_of : End → List Moment → List LinkStep
@@ -154,7 +154,7 @@ machine_at w moments s known B =
 well : (w : BenchWords) (moments : List Moment) (s : Stations) → Known w moments s → Each HearsWell (links_of A moments)
 well w moments s known =
     (chained w moments s known).well (law_kept w moments s known).numbers
-    (passive (steps_in moments) (only_a_calls (steps_in moments) known.little.asks known.dropped))
+    (passive (steps_in moments) (only_a_calls (steps_in moments) known.little.asks known.room))
     (record { state = tt; quit = refl }) refl
 
 pub link_now :

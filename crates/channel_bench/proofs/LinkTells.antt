@@ -169,7 +169,7 @@ answer_gives asks t = either asks t _ t (respond_gives true t) (gives_same t)
 abbrev pub KeepsMode : Control → Control → Type 0
 KeepsMode c d = (d.state ≡ c.state) × (d.quit ≡ c.quit)
 
-poll_mode : (c : Control) → KeepsMode c (behind_poll c)
+pub poll_mode : (c : Control) → KeepsMode c (behind_poll c)
 poll_mode c = go c.busy
   where
     go : (b : Bool) → KeepsMode c (cond b (record c { poll = false; rc = 0; t1 = Some t1_ticks; t3 = None })
@@ -186,7 +186,7 @@ anew_mode : (all : Bool) (c : Control) → KeepsMode c (timed_anew all c)
 anew_mode true c = (refl, refl)
 anew_mode false c = (refl, refl)
 
-timed_mode : (some all : Bool) (c : Control) → KeepsMode c (timed_by some all c)
+pub timed_mode : (some all : Bool) (c : Control) → KeepsMode c (timed_by some all c)
 timed_mode some all c = go (some && not c.poll)
   where
     go : (b : Bool) → KeepsMode c (cond b (timed_anew all c) c)

@@ -107,13 +107,13 @@ only_a = (
         (
           All-from_recursion (IsEventOfCaller A) (steps_of (link_at_end calls A) a_calls) (refl, tt),
           (
-            All-from_recursion (IsEventOfCaller B) (steps_of (link_at_end calls B) b_hears_sabm) ((refl, tt), tt),
+            All-from_recursion (IsEventOfCaller B) (steps_of (link_at_end calls B) b_hears_sabm) (tt, tt),
             (
               All-from_recursion (IsEventOfCaller A) (steps_of (link_at_end calls A) a_hears_ua) (refl, tt),
               (
-                All-from_recursion (IsEventOfCaller A) (steps_of (link_at_end calls A) a_disconnects) (refl, tt),
+                All-from_recursion (IsEventOfCaller A) (steps_of (link_at_end calls A) a_disconnects) (tt, tt),
                 (
-                  All-from_recursion (IsEventOfCaller B) (steps_of (link_at_end calls B) b_hears_disc) ((refl, tt), tt),
+                  All-from_recursion (IsEventOfCaller B) (steps_of (link_at_end calls B) b_hears_disc) (tt, tt),
                   (All-from_recursion (IsEventOfCaller A) (steps_of (link_at_end calls A) a_hears_ua_again) (refl, tt), tt),
                 ),
               ),

@@ -51,7 +51,7 @@ quiet_link a b seed_a seed_b moments calls law fit run matched quiet holds =
       matched = matched;
       quiet = quiet;
       holds = events_hold calls (steps_in moments) holds;
-      none = refl;
+      asks = record { few = omega arith; up = λ is. refl; unasked = refl; unanswered = refl; marked = tt };
       start = start;
       law = λ changes calm. (law (path_between calls.a calls.b) (path_between calls.b calls.a) a.params b.params fit changes calm).numbers;
       so_far = [];

@@ -1,8 +1,7 @@
--- The events of a step find a quiet channel, as their end sees it, if at most one of the frames that they send asks for an
--- answer, and then nothing of the kind is in flight.
+-- When an event finds a quiet channel, as its end sees it, and what the events of a step leave in flight that asks for an answer.
 use Rattle.std.proofs.Common.{◌≡◌, ℕ, ◌+◌, ◌≤◌, Bool, true, false, not, ◌==◌, List, [], ◌∷◌, ◌++◌, length, map, take, drop, Option, Some, None, ◌⊎◌, refl, sym, ap, ◌∙◌, arith, inl, inr}
 use Rattle.std.specs.Bool.{⊤}
-use Rattle.std.specs.List.{count_by, list_any, AllByRecursion as Each}
+use Rattle.std.specs.List.{count_by, list_any}
 use Rattle.std.proofs.lemmas.Bool.{cases_eq, eq-eqb, or_left, or_right, not_from_false, and_right}
 use Rattle.std.proofs.lemmas.List.{drop-map}
 use Rattle.std.proofs.lemmas.List.FromFn.{length-map-range_with_len}
@@ -23,7 +22,7 @@ use Rattle.channel_bench.specs.LinkOfCalls.{is_named, marks_from, event_at_end}
 use Rattle.channel_bench.specs.LinkSteps.{LinkStep}
 use Rattle.channel_bench.specs.MatchedLaw.{DropsNoAsk}
 use Rattle.channel_bench.proofs.Acts.{is_asking, asks_when_sent}
-use Rattle.channel_bench.proofs.Along.{makes_near, near_by, near_all, AllFollowNear, FollowsNear}
+use Rattle.channel_bench.proofs.Along.{makes_near, near_by, near_all, FollowsNear}
 use Rattle.channel_bench.proofs.Counts.{one, count_cons, count_append, count_drop, count_take, count_none, count_map, count_kept}
 
 -- ---- the events of a step
@@ -57,7 +56,7 @@ pub made_far : (anew : Option Path) (w : World) → (makes_near anew w).b ≡ w.
 made_far None w = refl
 made_far (Some path) w = refl
 
-alone : (sent ahead : ℕ) → (sent ≡ 0) ⊎ (sent + ahead ≤ 1) → is_alone sent ahead ≡ true
+pub alone : (sent ahead : ℕ) → (sent ≡ 0) ⊎ (sent + ahead ≤ 1) → is_alone sent ahead ≡ true
 alone sent ahead (inl none) = or_left (sent == 0) (sent + ahead == 1) (eq-eqb sent 0 none)
 alone sent ahead (inr few) = elim (cases_eq sent 0) [
   | inl none ↦ or_left (sent == 0) (sent + ahead == 1) (eq-eqb sent 0 none)
@@ -149,85 +148,32 @@ back_by e pairs n step w =
 abbrev pub SendsAlone : ℕ → World → List Tagged → Type 0
 SendsAlone sent w back = (sent ≡ 0) ⊎ ((sent + asks_in w.b.towards ≤ 1) × (answers_in back ≡ 0))
 
--- no ask is in flight from it, or none to it
-abbrev pub CalledAlone : ℕ → World → Type 0
-CalledAlone sent w = (sent + asks_in w.b.towards ≡ 0) ⊎ (asks_in w.a.towards ≡ 0)
-
--- at one event: none is in flight from it, or none to it
-abbrev pub CalledHere : World → Type 0
-CalledHere w = (asks_in w.b.towards ≡ 0) ⊎ (asks_in w.a.towards ≡ 0)
+-- none that asks is in flight to it, so it is not called
+pub uncalled :
+    (e : End) (event : LinkEvent) (w : World) → asks_in w.a.towards ≡ 0 → called_alone w (event_at_end e event) ≡ true
+uncalled e event w none =
+    let called = is_called (event_at_end e event) w in
+    or_left (not called) (asks_in w.b.towards == 0) (not_from_false called (not_called e event w none))
 
 pub one_quiet :
     (e : End) (back : List Tagged) (step : LinkStep) (w : World) (total : ℕ)
     → FollowsNear e back step (makes_near step.anew w) → DropsNoAsk step
-    → asks_in (take step.joined (sent_near e step w)) ≤ total → SendsAlone total w back → CalledHere w
+    → asks_in (take step.joined (sent_near e step w)) ≤ total → SendsAlone total w back → asks_in w.a.towards ≡ 0
     → QuietNear step.event e (makes_near step.anew w)
-one_quiet e back step w total follows drops within sends called =
+one_quiet e back step w total follows drops within sends none =
     let v = makes_near step.anew w in
     let event = event_at_end e step.event in
     let sent : asks_in (sent_near e step w) ≡ asks_in (take step.joined (sent_near e step w)) = lost_none e back step w follows drops in
     let ahead : asks_in v.b.towards ≡ asks_in w.b.towards = ap (λ (x : Side). asks_in x.towards) (made_far step.anew w) in
     let answers : answers_in (staying event v.a.towards) ≡ answers_in back = ap answers_in follows.stays in (
       alone (asks_in (sent_near e step w)) (asks_in v.b.towards + answers_in (staying event v.a.towards)) (elim sends [
-        | inl none ↦ inl (omega arith)
+        | inl zero ↦ inl (omega arith)
         | inr few ↦ let a = few.0 in let b = few.1 in inr (omega arith)
       ]),
-      elim called [
-        | inl none ↦
-            or_right (not (is_called event v)) (asks_in v.b.towards == 0) (eq-eqb (asks_in v.b.towards) 0 (omega arith))
-        | inr none ↦
-            or_left (not (is_called event v)) (asks_in v.b.towards == 0)
-            (not_from_false (is_called event v) (not_called e step.event v (ap asks_in (made_towards step.anew w) ∙ none)))
-      ],
+      uncalled e step.event v (ap asks_in (made_towards step.anew w) ∙ none),
     )
 
-pub quiet_near :
-    (e : End) (back : List Tagged) (pairs : List Pair) (n : ℕ) (steps : List LinkStep) (w : World)
-    → AllFollowNear e back pairs n steps w → Each DropsNoAsk steps
-    → SendsAlone (asks_in (joined_near e pairs n steps w)) w back
-    → CalledAlone (asks_in (joined_near e pairs n steps w)) w → AllQuietNear e pairs n steps w
-quiet_near e back pairs n [] w follows drops sends called = tt
-quiet_near e back pairs n (step ∷ steps) w follows drops sends called =
-    let own = take step.joined (sent_near e step w) in
-    let next = near_by e pairs n step w in
-    let rest = joined_near e pairs n steps next in
-    let both : asks_in (own ++ rest) ≡ asks_in own + asks_in rest = count_append is_asking own rest in
-    let more = towards_by e pairs n step w in
-    let less = back_by e pairs n step w in (
-      one_quiet e back step w (asks_in (own ++ rest)) follows.0 drops.0 (omega arith) sends
-          (elim called [
-            | inl none ↦ inl (omega arith)
-            | inr none ↦ inr none
-          ]),
-      quiet_near e back pairs n steps next follows.1 drops.1
-          (elim sends [
-            | inl none ↦ inl (omega arith)
-            | inr few ↦
-                let a = few.0 in
-                elim (cases_eq (asks_in own) 0) [
-                  | inl none ↦ inr (omega arith, few.1)
-                  | inr some ↦ inl (omega arith)
-                ]
-          ])
-          (elim called [
-            | inl none ↦ inl (omega arith)
-            | inr none ↦ inr (omega arith)
-          ]),
-    )
-
--- what the events leave in flight
-pub towards_all :
-    (e : End) (pairs : List Pair) (n : ℕ) (steps : List LinkStep) (w : World)
-    → asks_in (near_all e pairs n steps w).b.towards ≤ asks_in w.b.towards + asks_in (joined_near e pairs n steps w)
-towards_all e pairs n [] w = omega arith
-towards_all e pairs n (step ∷ steps) w =
-    let own = take step.joined (sent_near e step w) in
-    let next = near_by e pairs n step w in
-    let both = count_append is_asking own (joined_near e pairs n steps next) in
-    let one = towards_by e pairs n step w in
-    let others = towards_all e pairs n steps next in
-    omega arith
-
+-- what the events leave in flight back to it
 pub back_all :
     (e : End) (pairs : List Pair) (n : ℕ) (steps : List LinkStep) (w : World)
     → asks_in (near_all e pairs n steps w).a.towards ≤ asks_in w.a.towards

@@ -9,7 +9,7 @@ use Rattle.link_world.specs.SetUps.{SetUp as LinkSetUp}
 use Rattle.link_world.proofs.law.ChangesLaw.{changes_law_holds}
 use Rattle.channel_bench.specs.declared.report.SetUp.{SetUp}
 use Rattle.channel_bench.specs.declared.words.BenchWords.{BenchWords}
-use Rattle.channel_bench.specs.BenchLaw.{BenchLaw, IsFollowed, NoAskDropped, ProgramsFollow}
+use Rattle.channel_bench.specs.BenchLaw.{BenchLaw, IsFollowed, AsksFindRoom, ProgramsFollow}
 use Rattle.channel_bench.specs.BenchOrder.{IsNoted, set_up_of, stations_of, steps_of_run, the_calls}
 use Rattle.channel_bench.specs.BenchState.{BenchState, config_of}
 use Rattle.channel_bench.specs.HostProgram.{ProgramState, set_ups_of}
@@ -54,13 +54,13 @@ order_of near far ours theirs order same_ours same_theirs =
 -- the host programs saw the set-ups of the link
 followed :
     (w : BenchWords) (report : Report) (over : IsOver w report) → AreMatched over.bench.common.moments nothing_sent
-    → NoAskDropped the_calls (steps_of_run over.bench) → IsFollowed over.bench
-followed w report over matched dropped =
+    → AsksFindRoom the_calls (steps_of_run over.bench) → IsFollowed over.bench
+followed w report over matched room =
     let bench = over.bench in
     let moments = bench.common.moments in
     let sees = run_sees w over.count bench over.ticks over.no_trouble in
-    let a = sees.sees_a (record { matched = matched; dropped = dropped }) in
-    let b = sees.sees_b (record { matched = matched; dropped = dropped }) in
+    let a = sees.sees_a (record { matched = matched; room = room }) in
+    let b = sees.sees_b (record { matched = matched; room = room }) in
     record {
       given = λ e. All-from_recursion GivenUp (links_of e moments) (both_ends GivenUp A moments a.given b.given e);
       seen_a = a.sees.set_ups;
@@ -68,11 +68,11 @@ followed w report over matched dropped =
     }
 
 pub programs_follow_holds : ProgramsFollow
-programs_follow_holds w report over dropped =
-    followed w report over (run_in_time w over.count over.bench over.ticks over.no_trouble).both.matched dropped
+programs_follow_holds w report over room =
+    followed w report over (run_in_time w over.count over.bench over.ticks over.no_trouble).both.matched room
 
 pub bench_law_holds : BenchLaw
-bench_law_holds w report over dropped =
+bench_law_holds w report over room =
     let bench = over.bench in
     let moments = bench.common.moments in
     let steps = steps_of_run bench in
@@ -85,11 +85,11 @@ bench_law_holds w report over dropped =
     over.ticks over.no_trouble in
     let matched = (run_in_time w over.count bench over.ticks over.no_trouble).both.matched in
     let order = matched_in_order_holds moments matched in
-    let h = followed w report over matched dropped in
+    let h = followed w report over matched room in
     let kept =
     matched_law_holds changes_law_holds config config (seed_at w A)
     (seed_at w B) moments noted.run matched noted.quiet (windows w)
-    the_calls (only_a_calls steps little.asks dropped) in
+    the_calls (only_a_calls steps little.asks room) in
     let seen = set_ups_law_holds config config (seed_at w A)
     (seed_at w B) steps pairs noted.run order.0 order.1 the_calls h.given in
     let world = world_of the_calls pairs config.params config.params steps in

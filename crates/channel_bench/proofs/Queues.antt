@@ -87,7 +87,7 @@ pub record IsSilent (before after : Turn) : Type 0 where
   pub links : after.now.links ≡ before.now.links
   pub parameters : after.now.parameters ≡ before.now.parameters
 
-told_silent :
+pub told_silent :
     (owner : Option ℕ) (local remote : Callsign) (told : List Told) (turn : Turn)
     → IsSilent turn (telling_to owner local remote told turn)
 told_silent owner local remote [] turn = record { queued = refl; links = refl; parameters = refl }

@@ -1,5 +1,5 @@
 -- A run whose frames find a quiet channel as far as one can know, moment by moment: the link of two calls is quiet.
-use Rattle.std.proofs.Common.{◌≡◌, ℕ, ◌+◌, ◌<◌, ◌≤◌, Bool, List, [], ◌∷◌, ◌++◌, length, take, Option, Some, None, is_some, refl, sym, ap, ◌∙◌, subst, arith, inr}
+use Rattle.std.proofs.Common.{◌≡◌, ℕ, ◌+◌, ◌<◌, ◌≤◌, Bool, List, [], ◌∷◌, ◌++◌, length, take, Option, Some, None, is_some, refl, sym, ap, ◌∙◌, subst, arith}
 use Rattle.std.specs.Prelude.{slice_get}
 use Rattle.std.specs.Bool.{⊤}
 use Rattle.std.specs.List.{AllByRecursion as Each}
@@ -11,7 +11,6 @@ use Rattle.link_machine.specs.declared.params.Params.{Params}
 use Rattle.link_world.specs.declared.end.End.{End}
 use Rattle.link_world.specs.declared.end.End.TheVariants.{A, B}
 use Rattle.link_world.specs.Changes.{Change, run_changes, AreQuiet, ChangesAreValid}
-use Rattle.link_world.specs.Flight.{asks_in}
 use Rattle.link_world.specs.Recorded.{RecordedEnd}
 use Rattle.link_world.specs.World.{World, Side, seen_from, other}
 use Rattle.link_world.proofs.law.Each.{each_weaker, each_append}
@@ -25,13 +24,15 @@ use Rattle.channel_bench.specs.LinkSteps.{LinkStep, steps_of}
 use Rattle.channel_bench.specs.MatchedLaw.{IsEventOfCaller, is_event, pair_of, pairs_from}
 use Rattle.channel_bench.proofs.Along.{near_by, near_all, changes_seen, run_changes-append}
 use Rattle.channel_bench.proofs.BenchQuiet.{quiet_one}
+use Rattle.channel_bench.proofs.CallerQuiet.{CallerQuiet, caller_quiet}
 use Rattle.channel_bench.proofs.Calm.{IsCalm}
 use Rattle.channel_bench.proofs.CalmRuns.{CalmQuiet, calm_quiet}
+use Rattle.channel_bench.proofs.Exchanges.{AsksOut}
 use Rattle.channel_bench.proofs.Framed.{framed, frames_at, frames_more}
-use Rattle.channel_bench.proofs.JointLaw.{mirror, StepDone, step_done, count_a, count_b, get_seam}
-use Rattle.channel_bench.proofs.NearQuiet.{AllQuietNear, made_far, quiet_near, back_all}
+use Rattle.channel_bench.proofs.JointLaw.{mirror, StepDone, step_done, step_near, count_a, count_b, get_seam}
+use Rattle.channel_bench.proofs.NearQuiet.{made_far}
 use Rattle.channel_bench.proofs.QuietRuns.{AheadFrom, SendStep, send_step, quiet-append, quiet_all, ahead_from, all_ahead, end_now}
-use Rattle.channel_bench.proofs.Runs.{Between}
+use Rattle.channel_bench.proofs.Runs.{Between, Stepped}
 use Rattle.channel_bench.proofs.Ways.{joined, queued_by, queued_passed, stepped_own, stepped_other}
 
 -- ---- what is asked of each event
@@ -92,7 +93,7 @@ past_queued (Some number) way = refl
 
 record StepQuiet (calls : Calls) (pairs : Pairs) (counts : Counts) (w : World) (step : Step) (e : End) : Type 0 where
   quiet : AreQuiet w (all_changes_by e pairs (count_at e counts) (steps_of (link_at_end calls e) step))
-  none : asks_in (run_changes w (all_changes_by e pairs (count_at e counts) (steps_of (link_at_end calls e) step))).a.towards ≡ 0
+  asks : AsksOut (run_changes w (all_changes_by e pairs (count_at e counts) (steps_of (link_at_end calls e) step)))
   calm : IsCalm (run_changes w (all_changes_by e pairs (count_at e counts) (steps_of (link_at_end calls e) step))).b.end.machine.control
 
 -- what holds before it
@@ -122,7 +123,7 @@ record Ready (calls : Calls) (pairs : Pairs) (a b : Params) (st : Stations) (pas
   calm : IsCalm w.b.end.machine.control
   ahead : (x : End) → Each (λ (p : Pair). (sent_by (other x) ways).front ≤ p.sent)
       (pairs_from x (length past) (Steps step found ∷ moments))
-  none : asks_in w.a.towards ≡ 0
+  asks : AsksOut w
 
 -- the pairs of the far side after this step
 later_ahead :
@@ -169,18 +170,14 @@ step_quiet calls pairs a b st past full counts w ways step found moments A r sta
     send_step A calls.a calls.b a b n st.b qa qb pairs.at_b pairs.at_a w full step ways.from_a back now station r.there
     (ap (frames_at B) r.taken) r.heard_b r.heard_a r.queued_a (past_queued found ways.from_b ∙ r.queued_b) r.fits.of_a out_ahead back_ahead
     (quiet_one A on step.after.out.queued (hearing_at A found ways) quiet) in
-    let near : AllQuietNear A pairs.at_b (length qa) steps w =
-    quiet_near A q.stays pairs.at_b (length qa) steps w q.follows holds q.sends (inr r.none) in
+    let near : CallerQuiet A pairs.at_b (length qa) steps w =
+    caller_quiet A q.stays pairs.at_b (length qa) steps w q.follows holds q.sends r.asks in
     let seen = changes_seen A pairs (length qa) steps w in
-    let less = back_all A pairs.at_b (length qa) steps w in
-    let same : asks_in (run_changes w (all_changes_by A pairs (length qa) steps)).a.towards
-    ≡ asks_in (near_all A pairs.at_b (length qa) steps w).a.towards =
-    ap (λ (x : World). asks_in x.a.towards) seen in
-    let zero = r.none in
-    let left : asks_in (run_changes w (all_changes_by A pairs (length qa) steps)).a.towards ≡ 0 = omega arith in
     record {
-      quiet = subst (λ k. AreQuiet w (all_changes_by A pairs k steps)) (sym r.count_at_a) (quiet_all A pairs (length qa) steps w near);
-      none = subst (λ k. asks_in (run_changes w (all_changes_by A pairs k steps)).a.towards ≡ 0) (sym r.count_at_a) left;
+      quiet = subst (λ k. AreQuiet w (all_changes_by A pairs k steps)) (sym r.count_at_a)
+          (quiet_all A pairs (length qa) steps w near.quiet);
+      asks = subst (λ k. AsksOut (run_changes w (all_changes_by A pairs k steps))) (sym r.count_at_a)
+          (subst AsksOut (sym seen) near.asks);
       calm = subst (λ k. IsCalm (run_changes w (all_changes_by A pairs k steps)).b.end.machine.control) (sym r.count_at_a)
           (subst (λ (x : RecordedEnd). IsCalm x.machine.control)
           (sym (ap (λ (x : World). x.b.end) seen ∙ far_same A pairs.at_b (length qa) steps w)) r.calm);
@@ -191,29 +188,19 @@ step_quiet calls pairs a b st past full counts w ways step found moments B r sta
     let qa = frames_at A past in
     let qb = frames_at B past in
     let steps = steps_of (link_at_end calls B) step in
-    let back : OneWay = past_heard found ways.from_a in
     let v = seen_from B w in
     let now : Between calls.b calls.a b a n step.before st.a qb qa pairs.at_a pairs.at_b v =
     subst (λ s. Between calls.b calls.a b a n s st.a qb qa pairs.at_a pairs.at_b v) (sym before)
     (mirror calls.a calls.b a b n st.a st.b qa qb pairs.at_b pairs.at_a w r.between) in
-    let out_ahead : Each (AheadFrom n ways.from_b.front) pairs.at_a =
-    subst (λ xs. Each (AheadFrom n ways.from_b.front) xs) (sym r.split_a)
-    (all_ahead n ways.from_b.front r.before_a (pairs_from A n (Steps step found ∷ moments)) r.past_a (r.ahead A)) in
-    let front : sent_by A (queueing_all B on step.after.out.queued (hearing_at B found ways)) ≡ back =
-    stepped_other B on step.after.out.queued found ways in
-    let back_ahead : Each (AheadFrom (n + 1) back.front) pairs.at_b =
-    later_ahead B step.station pairs.at_b r.before_b (is_event (steps_of is_some step)) n back.front found moments r.split_b r.past_b
-    (subst (λ (way : OneWay). Each (λ (p : Pair). way.front ≤ p.sent) (pairs_from B (n + 1) moments)) front later) in
-    let q : SendStep B pairs.at_a (length qb) steps v =
-    send_step B calls.b calls.a b a n st.a qb qa pairs.at_a pairs.at_b v full step ways.from_b back now station r.there
-    (ap (frames_at A) r.taken) r.heard_a r.heard_b r.queued_b (past_queued found ways.from_a ∙ r.queued_a) r.fits.of_b out_ahead back_ahead
-    (quiet_one B on step.after.out.queued (hearing_at B found ways) quiet) in
+    let moved : Stepped B on calls.b calls.a b a n st.a qb qa pairs.at_a pairs.at_b v step.after steps =
+    step_near B calls.b calls.a b a n st.a qb qa pairs.at_a pairs.at_b v full step now station r.there
+    (ap (frames_at A) r.taken) r.heard_a r.heard_b in
     let done : CalmQuiet pairs (length qb) steps w =
-    calm_quiet r.start r.law q.stays pairs (length qb) steps r.so_far w r.world_is r.quiet_so_far r.calm r.none q.follows holds
-    q.sends in
+    calm_quiet r.start r.law moved.stays pairs (length qb) steps r.so_far w r.world_is r.quiet_so_far r.calm r.asks
+    moved.follows holds in
     record {
       quiet = subst (λ k. AreQuiet w (all_changes_by B pairs k steps)) (sym r.count_at_b) done.quiet;
-      none = subst (λ k. asks_in (run_changes w (all_changes_by B pairs k steps)).a.towards ≡ 0) (sym r.count_at_b) done.none;
+      asks = subst (λ k. AsksOut (run_changes w (all_changes_by B pairs k steps))) (sym r.count_at_b) done.asks;
       calm = subst (λ k. IsCalm (run_changes w (all_changes_by B pairs k steps)).b.end.machine.control) (sym r.count_at_b)
           done.calm;
     }
@@ -239,7 +226,7 @@ pub record Now (calls : Calls) (pairs : Pairs) (a b : Params) (st : Stations) (p
   pub matched : AreMatched moments ways
   pub quiet : AreQuietThrough moments ways
   pub holds : EventsHold calls (steps_in moments)
-  pub none : asks_in w.a.towards ≡ 0
+  pub asks : AsksOut w
   pub start : World
   pub law : (changes : List Change) → AreQuiet start changes → ChangesAreValid start changes
   pub so_far : List Change
@@ -300,7 +287,7 @@ quiet_run calls pairs a b st past full counts w ways (Passes sender below ∷ mo
       matched = h.matched.1;
       quiet = h.quiet.1;
       holds = h.holds;
-      none = h.none;
+      asks = h.asks;
       start = h.start;
       law = h.law;
       so_far = h.so_far;
@@ -346,7 +333,7 @@ quiet_run calls pairs a b st past full counts w ways (Steps step found ∷ momen
       quiet_so_far = h.quiet_so_far;
       calm = h.calm;
       ahead = λ x. ahead_from x (length past) (Steps step found ∷ moments) ways h.matched;
-      none = h.none;
+      asks = h.asks;
     }) refl h.run.0 h.quiet.0 (ahead_from e (length past + 1) moments ways_next h.matched.1) h.holds.0 in
     let done : StepDone calls pairs a b (length past) st past counts w step e =
     step_done calls pairs a b (length past) st past full counts w step e h.between refl h.run.0 at taken h.count_at_a h.count_at_b
@@ -378,7 +365,7 @@ quiet_run calls pairs a b st past full counts w ways (Steps step found ∷ momen
       matched = h.matched.1;
       quiet = h.quiet.1;
       holds = h.holds.1;
-      none = one.none;
+      asks = one.asks;
       start = h.start;
       law = h.law;
       so_far = h.so_far ++ changes;

@@ -44,7 +44,7 @@ use Rattle.channel_bench.proofs.StepSees.{IsReady, links_more, unshown_of}
 -- ---- before the first call
 
 -- A has not called, and is not to call again
-abbrev Early : BenchWords → BenchState → Type 0
+abbrev pub Early : BenchWords → BenchState → Type 0
 Early w bench =
     Premises bench.common.moments
     → (bench.a.program.calls ≡ false) × (called_behind false (links_of A bench.common.moments) ≡ false)
@@ -172,7 +172,7 @@ early_step w bench B usual before after f occurs h holds early = λ p.
 
 -- ---- the phases of a run
 
-data Phase : Type 0 where
+pub data Phase : Type 0 where
   -- before the first call
   begins : Phase
   -- behind it
@@ -180,16 +180,16 @@ data Phase : Type 0 where
   -- a tick is made
   made : Phase
 
-abbrev Stands : BenchWords → Phase → BenchState → Type 0
+abbrev pub Stands : BenchWords → Phase → BenchState → Type 0
 Stands w begins bench = Holds w bench × Early w bench
 Stands w goes bench = Holds w bench
 Stands w made bench = Holds w bench × (1 ≤ bench.ticks)
 
-abbrev Leads : BenchWords → Phase → Part → Phase → Type 0
+abbrev pub Leads : BenchWords → Phase → Part → Phase → Type 0
 Leads w f part g =
     (before after : BenchState) → IsPart w part before after → IsCalm after → Stands w f before → Stands w g after
 
-abbrev AllLead : BenchWords → Phase → List Part → Phase → Type 0
+abbrev pub AllLead : BenchWords → Phase → List Part → Phase → Type 0
 AllLead w f [] g = f ≡ g
 AllLead w f (part ∷ parts) g = (h : Phase) × Leads w f part h × AllLead w h parts g
 
@@ -340,19 +340,19 @@ tick_leads w = (
 -- ---- a run
 
 -- at first, and behind each tick
-abbrev Behind : BenchWords → ℕ → BenchState → Type 0
+abbrev pub Behind : BenchWords → ℕ → BenchState → Type 0
 Behind w zero bench = bench ≡ new_bench w
 Behind w (suc count) bench = Stands w made bench
 
-new_stands : (w : BenchWords) → Stands w begins (new_bench w)
+pub new_stands : (w : BenchWords) → Stands w begins (new_bench w)
 new_stands w = (new_holds w, λ p. (refl, refl))
 
-first_parts : (w : BenchWords) (tick : ℕ) → tick ≡ 0 → AllLead w begins (parts_of w tick) made
+pub first_parts : (w : BenchWords) (tick : ℕ) → tick ≡ 0 → AllLead w begins (parts_of w tick) made
 first_parts w tick is =
     subst (λ n. AllLead w begins (parts_of w n) made) (sym is)
     (lead_append w begins goes made (beginning w) each_tick (beginning_leads w) (tick_leads w))
 
-later_parts : (w : BenchWords) (tick : ℕ) → 1 ≤ tick → AllLead w goes (parts_of w tick) made
+pub later_parts : (w : BenchWords) (tick : ℕ) → 1 ≤ tick → AllLead w goes (parts_of w tick) made
 later_parts w tick h =
     subst (λ b. AllLead w goes (cond b (beginning w ++ each_tick) each_tick) made)
     (sym (ne_eqb tick 0 (λ is. omega arith))) (tick_leads w)
@@ -367,7 +367,7 @@ tick_stands w (suc count) before bench made_parts calm stands =
     parts_lead w goes made (parts_of w before.ticks) (later_parts w before.ticks stands.1) before bench made_parts calm
     stands.0
 
-behind_ticks : (w : BenchWords) (count : ℕ) (bench : BenchState) → AreTicks w count bench → IsCalm bench
+pub behind_ticks : (w : BenchWords) (count : ℕ) (bench : BenchState) → AreTicks w count bench → IsCalm bench
     → Behind w count bench
 unfolding IsTick
 behind_ticks w zero bench h calm = h

@@ -7,6 +7,8 @@ use Rattle.link_machine.specs.Event.{Event as LinkEvent}
 use Rattle.link_machine.specs.Event.Event.{Connect as LinkConnect, Send as LinkSend, Disconnect as LinkDisconnect, Hear as LinkHear, Tick as LinkTick}
 use Rattle.link_machine.specs.Sent.{SentIn, sent_kind}
 use Rattle.link_machine.specs.Step.{step as link_turn}
+use Rattle.link_machine.specs.declared.state.LinkState.{LinkState}
+use Rattle.link_machine.specs.declared.state.LinkState.TheVariants.{Idle, Calling, Up, Releasing}
 use Rattle.link_world.specs.declared.end.End.{End}
 use Rattle.link_world.specs.declared.end.End.TheVariants.{A, B}
 use Rattle.link_world.specs.Flight.{asks as is_ask_kind}
@@ -49,11 +51,21 @@ pairs_in moments = record { at_a = pairs_from A 0 moments; at_b = pairs_from B 0
 abbrev pub asks_when_sent : SentIn → Bool
 asks_when_sent sent = is_ask_kind (sent_kind sent.modulus sent.frame)
 
--- Of the SABM, SABME and DISC that the event sends none finds the transmit queue full. (If the first SABM of a call were
--- dropped, an old UA could answer it.)
+-- Of the SABM, SABME and DISC that the event sends none finds the transmit queue full.
 abbrev pub DropsNoAsk : LinkStep → Type 0
 DropsNoAsk step =
     list_any asks_when_sent (drop step.joined (link_turn step.link.machine step.event).sent) ≡ false
+
+-- What is asked of an event, by the state of the link before it. (If the first SABM of a call were dropped, an old UA could
+-- answer it. While the link is up, nothing that asks or answers is in flight.)
+abbrev pub FindsRoom : LinkState → LinkStep → Type 0
+FindsRoom Idle step = DropsNoAsk step
+FindsRoom Calling step = DropsNoAsk step
+FindsRoom Up step = Unit {0}
+FindsRoom Releasing step = DropsNoAsk step
+
+abbrev pub AsksInRoom : LinkStep → Type 0
+AsksInRoom step = FindsRoom step.link.machine.control.state step
 
 -- no host connects or disconnects by it
 abbrev pub IsOfNoHost : LinkEvent → Type 0
@@ -64,10 +76,11 @@ IsOfNoHost (LinkHear frame) = Unit {0}
 IsOfNoHost (LinkTick waiting) = Unit {0}
 
 abbrev pub IsEventOfCaller : End → LinkStep → Type 0
-IsEventOfCaller A step = DropsNoAsk step
-IsEventOfCaller B step = DropsNoAsk step × IsOfNoHost step.event
+IsEventOfCaller A step = AsksInRoom step
+IsEventOfCaller B step = IsOfNoHost step.event
 
--- Of the link of two calls: hosts of A alone connect and disconnect, and no SABM, SABME or DISC finds a transmit queue full.
+-- Of the link of two calls: hosts of A alone connect and disconnect, and while it is not up at A, no SABM, SABME or DISC of A
+-- finds the transmit queue full.
 abbrev pub OnlyACalls : Calls → List Step → Type 0
 OnlyACalls calls [] = Unit {0}
 OnlyACalls calls (step ∷ steps) =

@@ -1,0 +1,282 @@
+-- Each step of A's station in a bench keeps one key for all frames that wait there. Each SABM, SABME and DISC of its
+-- link that is not up finds room, if the link does not wish to disconnect while it is idle or calls.
+use Rattle.std.proofs.Common.{◌≡◌, ℕ, ◌<◌, Bool, true, false, nat_lt, List, [], ◌∷◌, length, drop, cond, Option, Some, None, is_none, refl, sym, ap, ◌∙◌, subst, arith, inl, inr}
+use Rattle.std.specs.Bool.{⊤}
+use Rattle.std.specs.List.{range_with_len, list_any, AllByRecursion as Each}
+use Rattle.agwpe_port.specs.CallField.{call_field}
+use Rattle.agwpe_port.specs.Messages.{spelling}
+use Rattle.agwpe_port.specs.declared.message.AgwMessage.{AgwMessage}
+use Rattle.channel_access.specs.Channel.{Channel, after_rules, air_waiting, decision, with_decision}
+use Rattle.channel_access.specs.OnAir.{OnAir, bits_then, decided, names_next}
+use Rattle.channel_access.specs.Waiting.{WaitingFrame}
+use Rattle.link_machine.specs.Event.{Event as LinkEvent}
+use Rattle.link_machine.specs.Event.Event.{Connect as LinkConnect, Send as LinkSend, Disconnect as LinkDisconnect, Hear as LinkHear, Tick as LinkTick}
+use Rattle.link_machine.specs.Step.{step as link_turn}
+use Rattle.link_world.specs.declared.end.End.TheVariants.{A}
+use Rattle.link_world.proofs.law.Each.{each_weaker}
+use Rattle.station.specs.declared.host_event.PortKind.{PortKind}
+use Rattle.station.specs.declared.host_event.PortKind.TheVariants.{Kiss, Agw}
+use Rattle.station.specs.AgwKinds.{connect_kind, data_kind, disconnect_kind, register_kind}
+use Rattle.station.specs.AgwRequests.{IsAnswered, called_route, own_key}
+use Rattle.station.specs.CallFields.{call_in}
+use Rattle.station.specs.Connections.{most_connections}
+use Rattle.station.specs.Host.{joining, taking, with_host}
+use Rattle.station.specs.HostMessages.{no_call}
+use Rattle.station.specs.Links.{Links, most_links}
+use Rattle.station.specs.State.{StationState, most_waiting}
+use Rattle.station.specs.Ticks.{ticking_links}
+use Rattle.station.specs.Turn.{Turn, begin, changing, closing}
+use Rattle.channel_bench.specs.BenchSteps.{program_id}
+use Rattle.channel_bench.specs.BenchTick.{kiss_id}
+use Rattle.channel_bench.specs.HostProgram.{call_at, request, request_between}
+use Rattle.channel_bench.specs.JointRun.{IsTurn}
+use Rattle.channel_bench.specs.LinkSteps.{LinkStep, tick_steps, turn_steps}
+use Rattle.channel_bench.specs.MatchedLaw.{AsksInRoom}
+use Rattle.channel_bench.proofs.Acts.{asks_when_sent}
+use Rattle.channel_bench.proofs.AsksLittle.{disconnect_silent, drops_none, if_down, send_silent, sends_none}
+use Rattle.channel_bench.proofs.CoreRun.{Occurs, Usual, input_of}
+use Rattle.channel_bench.proofs.CoreRun.Usual.{connects, disconnects, gives, hears, joins_kiss, joins_program, registers, sets_full, ticks}
+use Rattle.channel_bench.proofs.HearsLittle.{WishesNothing, hear_asks}
+use Rattle.channel_bench.proofs.HostsStay.{HasHosts, IsSaid, IsSet, said_by, set_by}
+use Rattle.channel_bench.proofs.HostsStay.IsSaid.{said, unheard}
+use Rattle.channel_bench.proofs.HostsStay.IsSet.{full, unheard as alone}
+use Rattle.channel_bench.proofs.KeyedHearing.{Hearing, IsHearing, heard_hears}
+use Rattle.channel_bench.proofs.KeyedSteps.{Finds, call_finds, data_keyed, disconnect_keyed, registering_keyed, ticks_find}
+use Rattle.channel_bench.proofs.LinkDid.{IsOfLink}
+use Rattle.channel_bench.proofs.OneKey.{HasKey, IsKeyed, Keyed}
+use Rattle.channel_bench.proofs.OwnLinks.{Cause, IsBy, IsUnshown, OwnsAll, cause_of, chosen}
+use Rattle.channel_bench.proofs.OwnLinks.Cause.{disconnecting, nothing, sending}
+use Rattle.channel_bench.proofs.OwnMessages.{Comes, IsHeardFrom, IsRefusable, called, cause_in, said_go, usual_comes}
+use Rattle.channel_bench.proofs.OwnMessages.Comes.{by_link, joined, refused, replied}
+use Rattle.channel_bench.proofs.ProgramsAsk.{between_written, registers_written}
+
+-- ---- a tick of the channel
+
+-- each frame that waits then waited before
+air_keeps : (P : WaitingFrame → Type 0) (waiting : List WaitingFrame) (air : Option OnAir) → Each P waiting
+    → Each P (air_waiting waiting air)
+air_keeps P waiting None h = h
+air_keeps P waiting (Some t) h = go (names_next (bits_then t) (decided (bits_then t) waiting t))
+  where
+    fewer : (xs : List WaitingFrame) → Each P xs → Each P (drop 1 xs)
+    fewer [] k = k
+    fewer (x ∷ xs) k = k.1
+
+    go : (b : Bool) → Each P (cond b (drop 1 waiting) waiting)
+    go true = fewer waiting h
+    go false = h
+
+air_empty : (waiting : List WaitingFrame) (air : Option OnAir) → waiting ≡ [] → air_waiting waiting air ≡ []
+air_empty waiting None is = is
+air_empty waiting (Some t) is = go (names_next (bits_then t) (decided (bits_then t) waiting t))
+  where
+    go : (b : Bool) → cond b (drop 1 waiting) waiting ≡ []
+    go true = ap (drop 1) is
+    go false = is
+
+rules_keep : (busy : Bool) (c : Channel) → (after_rules busy c).waiting ≡ c.waiting
+rules_keep busy c = go (is_none c.air)
+  where
+    go : (b : Bool) → (cond b (with_decision (decision busy c) c) c).waiting ≡ c.waiting
+    go true = refl
+    go false = refl
+
+air_keyed :
+    (key : ℕ) (waiting : List WaitingFrame) (links : Links) (air : Option OnAir) → IsKeyed key waiting links
+    → IsKeyed key (air_waiting waiting air) links
+air_keyed key waiting links air h = record {
+  waiting_is = air_keeps (HasKey key) waiting air h.waiting_is;
+  links_are = h.links_are;
+  next = λ k new none. elim (h.next k new none) [
+    | inl same ↦ inl same
+    | inr empty ↦ inr (air_empty waiting air empty)
+  ];
+  size = h.size;
+}
+
+-- ---- the key
+
+-- C is taken only while few frames wait
+abbrev pub TakesCall : Usual → StationState → Type 0
+TakesCall joins_kiss s = ⊤
+TakesCall sets_full s = ⊤
+TakesCall joins_program s = ⊤
+TakesCall registers s = ⊤
+TakesCall connects s = length s.channel.waiting < most_waiting
+TakesCall (gives piece) s = ⊤
+TakesCall disconnects s = ⊤
+TakesCall (hears octets) s = ⊤
+TakesCall (ticks busy) s = ⊤
+
+joining_keyed : (id : ℕ) (kind : PortKind) (s : StationState) → Keyed s → Keyed (joining id kind (begin s)).now
+joining_keyed id kind s h = go (nat_lt (length s.connections) most_connections)
+  where
+    go : (b : Bool) → Keyed (cond b (changing (with_host id kind) (begin s)) (closing id (begin s))).now
+    go true = h
+    go false = h
+
+set_keyed : (t u : Turn) → Keyed t.now → IsSet t u → Keyed u.now
+set_keyed t u h (alone same) = subst (λ (v : Turn). Keyed v.now) (sym same) h
+set_keyed t u h (full same) = subst (λ (v : Turn). Keyed v.now) (sym same) h
+
+-- ---- events that are quiet whatever waits
+
+gives_room : (s : LinkStep) → IsBy sending s → AsksInRoom s
+gives_room s by = go s.event refl by
+  where
+    go : (event : LinkEvent) → s.event ≡ event → cause_of event ≡ sending → AsksInRoom s
+    go LinkConnect is c = absurd (cc)
+    go (LinkSend packet) is c = if_down s (λ down. sends_none s
+        (ap (λ event. (link_turn s.link.machine event).sent) is ∙ send_silent s.link.machine packet down))
+    go LinkDisconnect is c = absurd (cc)
+    go (LinkHear frame) is c = absurd (cc)
+    go (LinkTick waiting) is c = absurd (cc)
+
+disconnects_room : (s : LinkStep) → IsBy disconnecting s → AsksInRoom s
+disconnects_room s by = go s.event refl by
+  where
+    go : (event : LinkEvent) → s.event ≡ event → cause_of event ≡ disconnecting → AsksInRoom s
+    go LinkConnect is c = absurd (cc)
+    go (LinkSend packet) is c = absurd (cc)
+    go LinkDisconnect is c = if_down s (λ down. sends_none s
+        (ap (λ event. (link_turn s.link.machine event).sent) is ∙ disconnect_silent s.link.machine down))
+    go (LinkHear frame) is c = absurd (cc)
+    go (LinkTick waiting) is c = absurd (cc)
+
+none_room : (s : LinkStep) → IsBy nothing s → AsksInRoom s
+none_room s by = go s.event by
+  where
+    go : (event : LinkEvent) → cause_of event ≡ nothing → AsksInRoom s
+    go LinkConnect c = absurd (cc)
+    go (LinkSend packet) c = absurd (cc)
+    go LinkDisconnect c = absurd (cc)
+    go (LinkHear frame) c = absurd (cc)
+    go (LinkTick waiting) c = absurd (cc)
+
+-- what is heard is a frame of a link, and the link does not wish to disconnect while it is idle or calls
+pub record HearsCalm (s : LinkStep) : Type 0 where
+  pub of_link : IsOfLink s.event
+  pub wishes : WishesNothing s.link.machine.control.state s.link.machine.control.quit
+
+hears_room : (s : LinkStep) → Hearing s → HearsCalm s → AsksInRoom s
+hears_room s hearing calm = go s.event refl hearing calm.of_link
+  where
+    go : (event : LinkEvent) → s.event ≡ event → IsHearing event → IsOfLink event → AsksInRoom s
+    go LinkConnect is h link = absurd h
+    go (LinkSend packet) is h link = absurd h
+    go LinkDisconnect is h link = absurd h
+    go (LinkHear frame) is h link = if_down s (λ down. drops_none s
+        (ap (λ event. list_any asks_when_sent (link_turn s.link.machine event).sent) is
+        ∙ hear_asks s.link.machine frame link down calm.wishes))
+    go (LinkTick waiting) is h link = absurd h
+
+all_hear_room : (steps : List LinkStep) → Each Hearing steps → Each HearsCalm steps → Each AsksInRoom steps
+all_hear_room [] h k = tt
+all_hear_room (s ∷ steps) h k = (hears_room s h.0 k.0, all_hear_room steps h.1 k.1)
+
+comes_room :
+    (c : Cause) (may : Type 0) (t u : Turn) (steps : List LinkStep) → ((s : LinkStep) → IsBy c s → AsksInRoom s)
+    → Comes c may A t steps u → Each AsksInRoom steps
+comes_room c may t u steps each (by_link says) = each_weaker (IsBy c) AsksInRoom each steps says.causes
+comes_room c may t u steps each (replied reply none) = subst (Each AsksInRoom) (sym none) tt
+comes_room c may t u steps each (refused is reply none) = subst (Each AsksInRoom) (sym none) tt
+comes_room c may t u steps each (joined owns pieces queued none) = subst (Each AsksInRoom) (sym none) tt
+
+-- ---- each step that occurs
+
+-- what is asked of the events in it
+abbrev pub CalmIn : Usual → List LinkStep → Type 0
+CalmIn joins_kiss steps = ⊤
+CalmIn sets_full steps = ⊤
+CalmIn joins_program steps = ⊤
+CalmIn registers steps = ⊤
+CalmIn connects steps = ⊤
+CalmIn (gives piece) steps = ⊤
+CalmIn disconnects steps = ⊤
+CalmIn (hears octets) steps = Each HearsCalm steps
+CalmIn (ticks busy) steps = ⊤
+
+-- what is known of A's station before it
+pub record IsBefore (usual : Usual) (s : StationState) : Type 0 where
+  pub occurs : Occurs A usual
+  pub hosts : HasHosts s
+  pub owns : OwnsAll A s
+  pub unshown : Each IsUnshown s.connections
+  pub from : IsHeardFrom A usual
+  pub takes : TakesCall usual s
+  pub keyed : Keyed s
+
+comes_find :
+    (usual : Usual) (s : StationState) (u : Turn) → IsBefore usual s
+    → ((x : LinkStep) → IsBy (cause_in usual) x → AsksInRoom x) → Keyed u.now
+    → (turn : IsTurn (input_of A usual) (begin s) u)
+    → Finds u (turn_steps (chosen A) (input_of A usual) (begin s) u turn)
+comes_find usual s u before each keyed turn = (
+  keyed,
+  comes_room (cause_in usual) (IsRefusable usual) (begin s) u
+      (turn_steps (chosen A) (input_of A usual) (begin s) u turn) each
+      (usual_comes A usual s u before.occurs before.hosts before.owns before.unshown before.from turn),
+)
+
+said_keyed :
+    (m : AgwMessage) (t u : Turn) → Keyed t.now
+    → ((v : Turn) → Keyed v.now → IsAnswered program_id m v u → Keyed u.now) → IsSaid m t u → Keyed u.now
+said_keyed m t u h keeps (unheard same) = subst (λ (v : Turn). Keyed v.now) (sym same) h
+said_keyed m t u h keeps (said answered) = keeps (taking program_id (spelling m) t) h answered
+
+ticks_find_all : (s : StationState) → Keyed s → Finds (ticking_links (begin s)) (tick_steps (chosen A) (begin s))
+unfolding ticking_links
+ticks_find_all s keyed = ticks_find (range_with_len 0 most_links) (begin s) keyed
+
+pub usual_finds :
+    (usual : Usual) (s : StationState) (u : Turn) → IsBefore usual s
+    → (turn : IsTurn (input_of A usual) (begin s) u)
+    → CalmIn usual (turn_steps (chosen A) (input_of A usual) (begin s) u turn)
+    → Finds u (turn_steps (chosen A) (input_of A usual) (begin s) u turn)
+usual_finds joins_kiss s u before turn calm =
+    comes_find joins_kiss s u before none_room
+    (subst (λ (v : Turn). Keyed v.now) (sym turn) (joining_keyed kiss_id Kiss s before.keyed)) turn
+usual_finds sets_full s u before turn calm =
+    comes_find sets_full s u before none_room
+    (set_keyed (begin s) u before.keyed (set_by (begin s) u before.hosts turn)) turn
+usual_finds joins_program s u before turn calm =
+    comes_find joins_program s u before none_room
+    (subst (λ (v : Turn). Keyed v.now) (sym turn) (joining_keyed program_id Agw s before.keyed)) turn
+usual_finds registers s u before turn calm =
+    let field = call_field (call_at A) in
+    let m = request register_kind field no_call [] in
+    comes_find registers s u before none_room
+    (said_keyed m (begin s) u before.keyed (λ v k answered. subst (λ (x : Turn). Keyed x.now) (sym answered)
+    (registering_keyed field (call_in field) v k))
+    (said_by m (begin s) u (registers_written A) before.hosts turn)) turn
+usual_finds connects s u before turn calm =
+    let m = request_between connect_kind A [] in
+    said_go A m (begin s) (λ steps v. Finds v steps) (between_written connect_kind A [] (omega arith)) before.hosts
+    (λ missing. (before.keyed, tt))
+    (λ v h. call_finds m (called_route m) (taking program_id (spelling m) (begin s)) v (called A)
+    (record { links = before.owns.links; registered = before.owns.registered }) before.keyed before.takes h) u turn
+usual_finds (gives piece) s u before turn calm =
+    let m = request_between data_kind A piece in
+    comes_find (gives piece) s u before gives_room
+    (said_keyed m (begin s) u before.keyed (λ v k answered. subst (λ (x : Turn). Keyed x.now) (sym answered)
+    (data_keyed m (own_key program_id m v.now.links) v k))
+    (said_by m (begin s) u (between_written data_kind A piece before.occurs) before.hosts turn)) turn
+usual_finds disconnects s u before turn calm =
+    let m = request_between disconnect_kind A [] in
+    comes_find disconnects s u before disconnects_room
+    (said_keyed m (begin s) u before.keyed (λ v k answered. subst (λ (x : Turn). Keyed x.now) (sym answered)
+    (disconnect_keyed (own_key program_id m v.now.links) v k))
+    (said_by m (begin s) u (between_written disconnect_kind A [] (omega arith)) before.hosts turn)) turn
+usual_finds (hears octets) s u before turn calm =
+    let made = heard_hears octets (begin s) u before.hosts.digi before.owns before.from before.keyed turn in
+    (made.0, all_hear_room (turn_steps (chosen A) (input_of A (hears octets)) (begin s) u turn) made.1 calm)
+usual_finds (ticks busy) s u before turn calm =
+    let found = ticks_find_all s before.keyed in
+    let key = found.0.0 in
+    let now = (ticking_links (begin s)).now in
+    let rules = after_rules busy now.channel in
+    let keyed : IsKeyed key rules.waiting now.links =
+    subst (λ xs. IsKeyed key xs now.links) (sym (rules_keep busy now.channel)) found.0.1 in (
+      subst (λ (v : Turn). Keyed v.now) (sym turn.effect) (key, air_keyed key rules.waiting now.links rules.air keyed),
+      found.1,
+    )

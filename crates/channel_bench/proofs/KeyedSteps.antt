@@ -1,0 +1,202 @@
+-- The acts of A's station in a bench keep one key for all frames that wait. So a SABM, SABME or DISC that its link
+-- sends by a connect or a tick finds room in the transmit queue.
+use Rattle.std.proofs.Common.{◌≡◌, ℕ, ◌+◌, ◌<◌, ◌≤◌, ◌-◌, ◌&&◌, Bool, true, false, nat_lt, List, [], ◌∷◌, length, map, cond, Option, Some, None, is_none, refl, sym, ap, ◌∙◌, subst, arith}
+use Rattle.std.specs.Prelude.{MatchBool}
+use Rattle.std.specs.List.{list_any, AllByRecursion as Each}
+use Rattle.std.proofs.lemmas.Bool.{and_parts}
+use Rattle.std.proofs.lemmas.List.{drop_all, length-map}
+use Rattle.ax25_address.specs.Callsign.{Callsign}
+use Rattle.ax25_address.specs.declared.path.Path.{Path}
+use Rattle.agwpe_port.specs.declared.message.AgwMessage.{AgwMessage}
+use Rattle.link_machine.specs.Event.{Event as LinkEvent}
+use Rattle.link_machine.specs.Event.Event.{Connect as LinkConnect, Send as LinkSend, Disconnect as LinkDisconnect, Tick as LinkTick}
+use Rattle.link_machine.specs.Sent.{sent_frame}
+use Rattle.link_machine.specs.Step.{done_of, step as link_turn}
+use Rattle.link_world.specs.declared.end.End.TheVariants.{A, B}
+use Rattle.link_world.proofs.law.Each.{each_append}
+use Rattle.station.specs.AgwRequests.{IsCall, IsCallMade, called_pid, data_pid, disconnecting, giving, giving_packet, may_call, packets_of, refused_reply, register_reply, registering, replying, with_registration}
+use Rattle.station.specs.LinkEvents.{event_at, event_of, queueing_frames, settled_link, with_links}
+use Rattle.station.specs.Links.{Link, count_of_links, key_between, link_at, most_links}
+use Rattle.station.specs.NewLinks.{making}
+use Rattle.station.specs.Registrations.{is_number, may_register, registrar}
+use Rattle.station.specs.Routes.{Route, path_along}
+use Rattle.station.specs.State.{StationState, most_waiting}
+use Rattle.station.specs.Ticks.{ticking_at, waits}
+use Rattle.station.specs.Turn.{Act, Turn, capacity, changing, in_order}
+use Rattle.channel_bench.specs.BenchSteps.{program_id}
+use Rattle.channel_bench.specs.HostProgram.{call_at}
+use Rattle.channel_bench.specs.LinkSteps.{LinkStep, call_steps, link_step, made_steps, steps_along, steps_at, steps_for, ticks_at}
+use Rattle.channel_bench.specs.MatchedLaw.{AsksInRoom, DropsNoAsk}
+use Rattle.channel_bench.proofs.Acts.{asks_when_sent}
+use Rattle.channel_bench.proofs.AsksLittle.{connect_few, if_down, sends_none, tick_sends}
+use Rattle.channel_bench.proofs.OneKey.{HasNoLinks, Keyed, all_enter, empty_queue, event_keyed, made_keyed}
+use Rattle.channel_bench.proofs.OwnLinks.{IsOwn, IsOwnPlace, OwnsAll, chosen}
+use Rattle.channel_bench.proofs.Queues.{told_silent}
+use Rattle.channel_bench.proofs.Standing.{calls_chosen}
+use Rattle.channel_bench.proofs.Tables.{each_get, none_at, not_both}
+use Rattle.channel_bench.proofs.ValidCalls.{none_by_position}
+
+-- ---- frames that find room
+
+-- If all that an event sends finds room, nothing of it is dropped.
+pub whole_joins :
+    (anew : Option Path) (key : ℕ) (event : LinkEvent) (t : Turn) (link : Link) → link_at key t.now.links ≡ Some link
+    → length t.now.channel.waiting + length (link_turn link.machine event).sent ≤ capacity
+    → DropsNoAsk (link_step anew key event t link)
+whole_joins anew key event t link at room =
+    let stepped = link_turn link.machine event in
+    let placed = changing (with_links (settled_link key link stepped.now)) t in
+    let done = done_of stepped in
+    let queued = queueing_frames key done.frames placed in
+    let size : length done.frames ≡ length stepped.sent = length-map stepped.sent (sent_frame stepped.now.path) in
+    let enters = all_enter key done.frames placed (omega arith) in
+    let told = told_silent link.owner link.local link.remote done.told queued in
+    let after : length (event_at key event t).out.queued ≡ length queued.out.queued =
+    ap (λ place. length (event_of key event place t).out.queued) at ∙ ap length told.queued in
+    let step : LinkStep = link_step anew key event t link in
+    let joined : step.joined ≡ length (event_at key event t).out.queued - length t.out.queued = refl in
+    ap (list_any asks_when_sent) (drop_all step.joined stepped.sent (omega arith))
+
+-- ---- a connect
+
+connect_room : (anew : Option Path) (key : ℕ) (t : Turn) → length t.now.channel.waiting < most_waiting
+    → Each AsksInRoom (steps_at (chosen A) anew key LinkConnect t)
+connect_room anew key t room = go (link_at key t.now.links) refl
+  where
+    by_choice : (link : Link) (b : Bool) → AsksInRoom (link_step anew key LinkConnect t link)
+        → Each AsksInRoom (cond b (link_step anew key LinkConnect t link ∷ []) [])
+    by_choice link true h = (h, tt)
+    by_choice link false h = tt
+
+    go : (place : Option Link) → link_at key t.now.links ≡ place
+        → Each AsksInRoom (steps_for (chosen A) anew key LinkConnect t place)
+    go None at = tt
+    go (Some link) at =
+        let few = connect_few link.machine in
+        by_choice link (chosen A (Some link)) (if_down (link_step anew key LinkConnect t link)
+        (λ down. whole_joins anew key LinkConnect t link at (omega (arith, few, room))))
+
+-- ---- a tick of the link
+
+tick_room : (key : ℕ) (t : Turn) → Keyed t.now → Each AsksInRoom (ticks_at (chosen A) key t)
+tick_room key t keyed = go (link_at key t.now.links) refl
+  where
+    waiting : Bool
+    waiting = waits key t.now.channel.waiting
+
+    by_choice : (link : Link) (b : Bool) → AsksInRoom (link_step None key (LinkTick waiting) t link)
+        → Each AsksInRoom (cond b (link_step None key (LinkTick waiting) t link ∷ []) [])
+    by_choice link true h = (h, tt)
+    by_choice link false h = tt
+
+    go : (place : Option Link) → link_at key t.now.links ≡ place
+        → Each AsksInRoom (steps_for (chosen A) None key (LinkTick waiting) t place)
+    go None at = tt
+    go (Some link) at =
+        let s = link_step None key (LinkTick waiting) t link in
+        by_choice link (chosen A (Some link)) (if_down s (λ down.
+        let sends = tick_sends link.machine waiting down in
+        by_waiting waiting refl sends.few sends.still))
+      where
+        by_waiting : (b : Bool) → waits key t.now.channel.waiting ≡ b
+            → length (link_turn link.machine (LinkTick waiting)).sent ≤ 1
+            → (waiting ≡ true → (link_turn link.machine (LinkTick waiting)).sent ≡ [])
+            → DropsNoAsk (link_step None key (LinkTick waiting) t link)
+        by_waiting true is few still = sends_none (link_step None key (LinkTick waiting) t link) (still is)
+        by_waiting false is few still =
+            let none : length t.now.channel.waiting ≡ 0 = ap length (empty_queue key link t keyed at is) in
+            whole_joins None key (LinkTick waiting) t link at (omega (arith, few, none))
+
+-- what holds of a station, and of the events that led to it
+abbrev pub Finds : Turn → List LinkStep → Type 0
+Finds t steps = Keyed t.now × Each AsksInRoom steps
+
+pub ticks_find : (keys : List ℕ) (t : Turn) → Keyed t.now
+    → Finds (in_order (map ticking_at keys) t) (steps_along ticking_at (ticks_at (chosen A)) keys t)
+ticks_find [] t keyed = (keyed, tt)
+ticks_find (key ∷ keys) t keyed =
+    let next = event_keyed key (LinkTick (waits key t.now.channel.waiting)) t keyed in
+    let rest = ticks_find keys (ticking_at key t) next in (
+      rest.0,
+      each_append AsksInRoom (ticks_at (chosen A) key t)
+          (steps_along ticking_at (ticks_at (chosen A)) keys (ticking_at key t)) (tick_room key t keyed) rest.1,
+    )
+
+-- ---- a call
+
+-- there is no link if there is none between the calls
+pub none_there : (s : StationState) → OwnsAll A s → is_none (key_between (call_at A) (call_at B) s.links) ≡ true
+    → HasNoLinks s.links
+none_there s owns none k = go (link_at k s.links) refl
+  where
+    go : (place : Option Link) → link_at k s.links ≡ place → place ≡ None
+    go None at = refl
+    go (Some link) at =
+        let own : IsOwn A link = subst (IsOwnPlace A) at (each_get (IsOwnPlace A) s.links.places k tt owns.links) in
+        let never : chosen A (Some link) ≡ false =
+        sym (ap (chosen A) at)
+        ∙ none_at (chosen A) s.links.places k refl (none_by_position (chosen A) s.links.places none) in
+        absurd (not_both (chosen A (Some link)) (calls_chosen (call_at A) (call_at B) link own.local own.remote) never)
+
+made_finds :
+    (pid : ℕ) (m : AgwMessage) (route : Route) (may : Bool) (t u : Turn) → may_call program_id route t.now ≡ may
+    → route.local ≡ call_at A → route.remote ≡ call_at B → OwnsAll A t.now → Keyed t.now
+    → length t.now.channel.waiting < most_waiting
+    → (h : MatchBool may (IsCallMade program_id pid route t u) (u ≡ replying program_id (refused_reply m) t))
+    → Finds u (made_steps (chosen A) program_id pid m route may t u h)
+made_finds pid m route true t u may local remote owns keyed room h =
+    let path = path_along route in
+    let made = making h.0 program_id pid route.local route.remote path t in
+    let vacant = is_none (key_between route.local route.remote t.now.links) in
+    let space = nat_lt (count_of_links t.now.links) most_links in
+    let tests = and_parts (is_number program_id (registrar route.local t.now.registrations)) (vacant && space) may in
+    let empty = (and_parts vacant space tests.1).0 in
+    let none = none_there t.now owns
+    (subst (λ (r : Callsign). is_none (key_between (call_at A) r t.now.links) ≡ true) remote
+    (subst (λ (l : Callsign). is_none (key_between l route.remote t.now.links) ≡ true) local empty)) in
+    let next = made_keyed h.0 program_id pid route.local route.remote path t h.1 none keyed in (
+      subst (λ (v : Turn). Keyed v.now) (sym h.2) (event_keyed h.0 LinkConnect made next),
+      connect_room (Some path) h.0 made room,
+    )
+made_finds pid m route false t u may local remote owns keyed room h =
+    (subst (λ (v : Turn). Keyed v.now) (sym h) keyed, tt)
+
+pub call_finds :
+    (m : AgwMessage) (route : Option Route) (t u : Turn)
+    → route ≡ Some (let r : Route = record { local = call_at A; remote = call_at B; repeaters = [] } in r)
+    → OwnsAll A t.now → Keyed t.now → length t.now.channel.waiting < most_waiting
+    → (h : IsCall program_id m route t u) → Finds u (call_steps (chosen A) program_id m route t u h)
+call_finds m None t u known owns keyed room h = absurd (cc)
+call_finds m (Some route) t u known owns keyed room h =
+    let here : route ≡ (let r : Route = record { local = call_at A; remote = call_at B; repeaters = [] } in r) = cc in
+    made_finds (called_pid m) m route (may_call program_id route t.now) t u refl
+    (ap (λ (r : Route). r.local) here) (ap (λ (r : Route). r.remote) here) owns keyed room h
+
+-- ---- other messages
+
+pub registering_keyed : (from : List ℕ) (call : Option Callsign) (t : Turn) → Keyed t.now
+    → Keyed (registering program_id from call t).now
+registering_keyed from None t h = h
+registering_keyed from (Some call) t h = go (may_register program_id (registrar call t.now.registrations))
+  where
+    go : (b : Bool) → Keyed (cond b
+        (replying program_id (register_reply from true) (changing (with_registration call program_id) t))
+        (replying program_id (register_reply from false) t)).now
+    go true = h
+    go false = h
+
+along_keyed :
+    {T : Type 0} (act : T → Act) → ((item : T) (t : Turn) → Keyed t.now → Keyed (act item t).now) → (items : List T)
+    (t : Turn) → Keyed t.now → Keyed (in_order (map act items) t).now
+along_keyed act each [] t h = h
+along_keyed act each (item ∷ items) t h = along_keyed act each items (act item t) (each item t h)
+
+pub data_keyed : (m : AgwMessage) (key : Option ℕ) (t : Turn) → Keyed t.now → Keyed (giving m key t).now
+data_keyed m None t h = h
+data_keyed m (Some key) t h =
+    along_keyed (giving_packet key) (λ packet u k. event_keyed key (LinkSend packet) u k)
+    (packets_of (data_pid m.pid (link_at key t.now.links)) m.body) t h
+
+pub disconnect_keyed : (key : Option ℕ) (t : Turn) → Keyed t.now → Keyed (disconnecting key t).now
+disconnect_keyed None t h = h
+disconnect_keyed (Some key) t h = event_keyed key LinkDisconnect t h

@@ -1,0 +1,219 @@
+-- At a station that has one link at a time, all frames that wait carry one key: that of the link, or of the link before
+-- it. So if no frame of its link waits, no frame waits.
+use Rattle.std.proofs.Common.{◌≡◌, ◌⊎◌, ℕ, ◌+◌, ◌<◌, ◌≤◌, Bool, true, false, nat_lt, List, [], ◌∷◌, length, cond, Option, Some, None, get_or, set, refl, sym, ap, ◌∙◌, subst, arith, inl, inr}
+use Rattle.std.specs.List.{AllByRecursion as Each}
+use Rattle.std.proofs.lemmas.Bool.{cases_eq, cases_lt, cond-true, eq-eqb, lt-ltb, or_parts}
+use Rattle.std.proofs.lemmas.List.{get_or-set_other, get_or-set_same, get_or_past, length-append, length-set}
+use Rattle.ax25_address.specs.Callsign.{Callsign}
+use Rattle.ax25_address.specs.declared.path.Path.{Path}
+use Rattle.channel_access.specs.Waiting.{WaitingFrame}
+use Rattle.link_machine.specs.declared.acts.SentFrame.{SentFrame}
+use Rattle.link_machine.specs.declared.acts.Told.{Told}
+use Rattle.link_machine.specs.Event.{Event as LinkEvent}
+use Rattle.link_machine.specs.Machine.{Machine}
+use Rattle.link_machine.specs.Step.{done_of, step as link_turn}
+use Rattle.link_world.proofs.law.Each.{each_append}
+use Rattle.station.specs.LinkEvents.{event_at, event_of, is_idle, link_event, queueing_frame, queueing_frames, settled_link, telling_one, telling_to, with_links}
+use Rattle.station.specs.Links.{IsNewKey, Link, Links, link_at, most_links, with_link, without_link}
+use Rattle.station.specs.NewLinks.{idle_link, making}
+use Rattle.station.specs.Registrations.{is_number}
+use Rattle.station.specs.State.{StationState}
+use Rattle.station.specs.Ticks.{waits}
+use Rattle.station.specs.Turn.{Turn, capacity, changing, dropping, entering, queueing}
+use Rattle.channel_bench.proofs.Queues.{link_stepped, octets_of}
+
+-- ---- what is so
+
+abbrev pub HasKey : ℕ → WaitingFrame → Type 0
+HasKey key frame = frame.link ≡ Some key
+
+abbrev pub HasNoLinks : Links → Type 0
+HasNoLinks links = (k : ℕ) → link_at k links ≡ None
+
+-- Each link has the key, and each frame that waits carries it. A link that is made when there is none gets it too, if a
+-- frame waits: it takes the key that was freed last.
+pub record IsKeyed (key : ℕ) (waiting : List WaitingFrame) (links : Links) : Type 0 where
+  pub waiting_is : Each (HasKey key) waiting
+  pub links_are : (k : ℕ) (link : Link) → link_at k links ≡ Some link → k ≡ key
+  pub next : (k : ℕ) → IsNewKey k links → HasNoLinks links → (k ≡ key) ⊎ (waiting ≡ [])
+  pub size : length links.places ≡ most_links
+
+abbrev pub IsKeyedState : ℕ → StationState → Type 0
+IsKeyedState key s = IsKeyed key s.channel.waiting s.links
+
+abbrev pub Keyed : StationState → Type 0
+Keyed s = (key : ℕ) × IsKeyedState key s
+
+-- ---- places
+
+-- a link of a changed table is at the place that changed, or was there before
+set_some :
+    (places : List (Option Link)) (key k : ℕ) (x : Option Link) (link : Link)
+    → get_or (set places key x) k None ≡ Some link
+    → (k ≡ key) ⊎ (get_or places k None ≡ Some link)
+set_some places key k x link is = elim (cases_eq k key) [
+  | inl same ↦ inl same
+  | inr other ↦ inr (sym (get_or-set_other places key k x None other) ∙ is)
+]
+
+pub place_within : (places : List (Option Link)) (key : ℕ) (link : Link) → get_or places key None ≡ Some link
+    → key < length places
+place_within places key link is = elim (cases_lt key (length places)) [
+  | inl below ↦ below
+  | inr above ↦ (let clash : None ≡ Some link = sym (get_or_past places key None above) ∙ is in absurd (cc))
+]
+
+-- ---- an event of the link
+
+one_key : (key : ℕ) (octets : List ℕ) (t : Turn) → Each (HasKey key) t.now.channel.waiting
+    → Each (HasKey key) (queueing (Some key) octets t).now.channel.waiting
+one_key key octets t h = go (nat_lt (length t.now.channel.waiting) capacity)
+  where
+    go : (b : Bool) → Each (HasKey key) (cond b (entering (Some key) octets t) (dropping t)).now.channel.waiting
+    go true = each_append (HasKey key) t.now.channel.waiting _ h (refl, tt)
+    go false = h
+
+frames_keyed : (key : ℕ) (frames : List SentFrame) (t : Turn) → Each (HasKey key) t.now.channel.waiting
+    → Each (HasKey key) (queueing_frames key frames t).now.channel.waiting
+frames_keyed key [] t h = h
+frames_keyed key (f ∷ frames) t h =
+    frames_keyed key frames (queueing_frame key f t) (one_key key (octets_of f) t h)
+
+-- what is told changes no station
+pub told_now : (owner : Option ℕ) (local remote : Callsign) (told : List Told) (t : Turn)
+    → (telling_to owner local remote told t).now ≡ t.now
+told_now owner local remote [] t = refl
+told_now None local remote (item ∷ told) t = told_now None local remote told t
+told_now (Some id) local remote (item ∷ told) t =
+    told_now (Some id) local remote told (telling_one (Some id) local remote item t)
+
+-- the table after it
+record KeyOfLinks (key : ℕ) (links : Links) : Type 0 where
+  links_are : (k : ℕ) (link : Link) → link_at k links ≡ Some link → k ≡ key
+  next : (k : ℕ) → IsNewKey k links → HasNoLinks links → k ≡ key
+  size : length links.places ≡ most_links
+
+settled_key :
+    (key : ℕ) (link : Link) (now : Machine) (links : Links) → link_at key links ≡ Some link
+    → ((k : ℕ) (x : Link) → link_at k links ≡ Some x → k ≡ key) → length links.places ≡ most_links
+    → KeyOfLinks key (settled_link key link now links)
+settled_key key link now links at were size = go (is_idle now.control.state)
+  where
+    same : (place : Option Link) (k : ℕ) (x : Link) → get_or (set links.places key place) k None ≡ Some x → k ≡ key
+    same place k x is = elim (set_some links.places key k place x is) [
+      | inl here ↦ here
+      | inr before ↦ were k x before
+    ]
+
+    go : (b : Bool)
+        → KeyOfLinks key (cond b (without_link key links) (with_link key (record link { machine = now }) links))
+    go true = record {
+      links_are = same None;
+      next = λ k new none. new.freed;
+      size = length-set links.places key None ∙ size;
+    }
+    go false =
+        let next : Link = record link { machine = now } in
+        record {
+          links_are = same (Some next);
+          next = λ k new none.
+              let there : get_or (set links.places key (Some next)) key None ≡ Some next =
+              get_or-set_same links.places key (Some next) None (place_within links.places key link at) in
+              let clash : None ≡ Some next = sym (none key) ∙ there in
+              absurd (cc);
+          size = length-set links.places key (Some next) ∙ size;
+        }
+
+link_keyed : (key : ℕ) (event : LinkEvent) (link : Link) (t : Turn) → link_at key t.now.links ≡ Some link
+    → IsKeyedState key t.now → IsKeyedState key (link_event key event link t).now
+link_keyed key event link t at h =
+    let stepped = link_turn link.machine event in
+    let placed = changing (with_links (settled_link key link stepped.now)) t in
+    let done = done_of stepped in
+    let queued = queueing_frames key done.frames placed in
+    let told : (link_event key event link t).now ≡ queued.now =
+    told_now link.owner link.local link.remote done.told queued in
+    let made = link_stepped key event link t in
+    let table = settled_key key link stepped.now t.now.links at h.links_are h.size in
+    subst (IsKeyed key (link_event key event link t).now.channel.waiting) (sym made.links) (record {
+      waiting_is = subst (λ (s : StationState). Each (HasKey key) s.channel.waiting) (sym told)
+          (frames_keyed key done.frames placed h.waiting_is);
+      links_are = table.links_are;
+      next = λ k new none. inl (table.next k new none);
+      size = table.size;
+    })
+
+pub event_keyed : (key : ℕ) (event : LinkEvent) (t : Turn) → Keyed t.now → Keyed (event_at key event t).now
+event_keyed key event t h = go (link_at key t.now.links) refl
+  where
+    go : (place : Option Link) → link_at key t.now.links ≡ place → Keyed (event_of key event place t).now
+    go None at = h
+    go (Some link) at =
+        let same : key ≡ h.0 = h.1.links_are key link at in
+        (key, link_keyed key event link t at (subst (λ k. IsKeyedState k t.now) (sym same) h.1))
+
+-- ---- a link that is made when there is none
+
+pub made_keyed :
+    (key id pid : ℕ) (local remote : Callsign) (path : Path) (t : Turn) → IsNewKey key t.now.links
+    → HasNoLinks t.now.links → Keyed t.now → Keyed (making key id pid local remote path t).now
+made_keyed key id pid local remote path t new none h = (
+  key,
+  record {
+    waiting_is = waiting (h.1.next key new none);
+    links_are = λ k x is. elim (set_some t.now.links.places key k (Some link) x is) [
+      | inl here ↦ here
+      | inr before ↦ (let clash : None ≡ Some x = sym (none k) ∙ before in absurd (cc))
+    ];
+    next = λ k later empty.
+        let within : key < length t.now.links.places = let low = new.within in let size = h.1.size in omega arith in
+        let there : get_or (set t.now.links.places key (Some link)) key None ≡ Some link =
+        get_or-set_same t.now.links.places key (Some link) None within in
+        let clash : None ≡ Some link = sym (empty key) ∙ there in
+        absurd (cc);
+    size = length-set t.now.links.places key (Some link) ∙ h.1.size;
+  },
+)
+  where
+    link : Link
+    link = idle_link id pid local remote path t.now.parameters
+
+    waiting : (key ≡ h.0) ⊎ (t.now.channel.waiting ≡ []) → Each (HasKey key) t.now.channel.waiting
+    waiting (inl same) = subst (λ k. Each (HasKey k) t.now.channel.waiting) (sym same) h.1.waiting_is
+    waiting (inr empty) = subst (Each (HasKey key)) (sym empty) tt
+
+-- ---- if no frame of the link waits
+
+none_waits : (key : ℕ) (waiting : List WaitingFrame) → Each (HasKey key) waiting → waits key waiting ≡ false
+    → waiting ≡ []
+none_waits key [] h none = refl
+none_waits key (f ∷ waiting) h none =
+    let here : is_number key f.link ≡ true = ap (is_number key) h.0 ∙ eq-eqb key key refl in
+    let not_here : is_number key f.link ≡ false =
+    (or_parts (is_number key f.link) (waits key waiting) none).0 in
+    let clash : true ≡ false = sym here ∙ not_here in
+    absurd (cc)
+
+pub empty_queue :
+    (key : ℕ) (link : Link) (t : Turn) → Keyed t.now → link_at key t.now.links ≡ Some link
+    → waits key t.now.channel.waiting ≡ false → t.now.channel.waiting ≡ []
+empty_queue key link t h at none =
+    let same : key ≡ h.0 = h.1.links_are key link at in
+    none_waits key t.now.channel.waiting
+    (subst (λ k. Each (HasKey k) t.now.channel.waiting) (sym same) h.1.waiting_is) none
+
+-- ---- frames that find room
+
+pub all_enter :
+    (key : ℕ) (frames : List SentFrame) (t : Turn) → length t.now.channel.waiting + length frames ≤ capacity
+    → length (queueing_frames key frames t).out.queued ≡ length t.out.queued + length frames
+all_enter key [] t room = omega arith
+all_enter key (f ∷ frames) t room =
+    let next = entering (Some key) (octets_of f) t in
+    let waiting = length-append t.now.channel.waiting
+    ((let w : WaitingFrame = record { link = Some key; octets = octets_of f } in w) ∷ []) in
+    let queued = length-append t.out.queued (octets_of f ∷ []) in
+    let rest = all_enter key frames next (omega arith) in
+    let enters : queueing_frame key f t ≡ next =
+    cond-true (nat_lt (length t.now.channel.waiting) capacity) next (dropping t) (lt-ltb _ _ (omega arith)) in
+    ap (λ (u : Turn). length (queueing_frames key frames u).out.queued) enters ∙ (omega arith)
