@@ -8,3 +8,4 @@ pub mod Silences
 pub mod Answering
 pub mod Opening
 pub mod Kept
+pub mod Declining

@@ -6,3 +6,6 @@ pub mod Settling
 pub mod Events
 pub mod Changes
 pub mod Ticks
+pub mod Progress
+pub mod Flushing
+pub mod Accepting

@@ -41,7 +41,7 @@ use Rattle.link_world.proofs.law.showing.Shown.{core_set_ups, core_tagged}
 use Rattle.link_world.proofs.law.down.Ticks.{ticks_down}
 use Rattle.link_world.proofs.law.showing.Outcome.{Keeps, end_with, none_sent}
 use Rattle.link_world.proofs.law.showing.Heard.{Arrival, heard_as, heard_frame}
-use Rattle.link_world.proofs.law.up.Acts.{IsUp}
+use Rattle.link_world.proofs.law.up.Progress.{IsUp}
 use Rattle.link_world.proofs.law.up.Settling.{EndsUp, progress_in, up_ends}
 use Rattle.link_world.proofs.law.down.Ends.{DownEnd, EndsDown, IsDown, down_end, goes_on, down_keeps, down_stays, down_silent, down_passes, down_noted, down_answers, down_declines, down_ends}
 

@@ -28,7 +28,7 @@ use Rattle.link_world.proofs.law.invariant.Invariant.{Invariant}
 use Rattle.link_world.proofs.law.moves.Losing.{lose_keeps}
 use Rattle.link_world.proofs.law.moves.Kept.{send_dm_keeps}
 use Rattle.link_world.proofs.law.moves.Standings.{leave_to_idle_keeps}
-use Rattle.link_world.proofs.law.moves.Opening.{decline_by_dm_keeps}
+use Rattle.link_world.proofs.law.moves.Declining.{decline_by_dm_keeps}
 use Rattle.link_world.proofs.law.showing.PlacesFit.{IsSound, sound_new}
 use Rattle.link_world.proofs.law.showing.Shown.{core_set_ups, core_tagged, length_core, Shown, AnswersAsSent, kind_by}
 use Rattle.link_world.proofs.law.showing.Shown.Shown.{ShownIdle, ShownCalling, ShownReleasing}

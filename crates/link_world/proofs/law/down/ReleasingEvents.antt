@@ -23,7 +23,7 @@ use Rattle.link_world.specs.Recorded.{RecordedEnd, hears_ask}
 use Rattle.link_world.specs.Recorded.Happening.{Ticks, Hears}
 use Rattle.link_world.proofs.law.moves.Losing.{lose_keeps}
 use Rattle.link_world.proofs.law.moves.Kept.{release_keeps}
-use Rattle.link_world.proofs.law.moves.Opening.{decline_releasing_keeps}
+use Rattle.link_world.proofs.law.moves.Declining.{decline_releasing_keeps}
 use Rattle.link_world.proofs.law.showing.Shown.{core_set_ups, core_tagged}
 use Rattle.link_world.proofs.law.down.Ticks.{ticks_down}
 use Rattle.link_world.proofs.law.up.Settling.{disc_in}

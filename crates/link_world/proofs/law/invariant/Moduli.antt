@@ -66,21 +66,6 @@ moduli_unseen {v} h = record {
   origins = h.origins;
 }
 
--- y sees the same set-up, with other numbers
-pub moduli_seen :
-    {v : Option View} {b c : View} {x y : End} {fs : List Tagged} → c.modulus ≡ b.modulus → Moduli v (Some b) x y fs
-    → Moduli v (Some c) x y fs
-moduli_seen {v} {b} {c} is h = record {
-  window = h.window;
-  own = h.own;
-  frames = h.frames;
-  calls = h.calls;
-  same = if_both v (λ a. a.modulus ≡ b.modulus) (λ a. Unit {0}) (λ a. a.modulus ≡ c.modulus) (λ a e t. e ∙ sym is)
-      h.same (if_all v (λ a. Unit {0}) (λ a. tt));
-  mate = h.mate;
-  origins = h.origins;
-}
-
 -- the running set-up of x changes, and neither its modulus nor its mate
 pub moduli_up :
     {u : Option View} (x : End) {y : End} {r s : Running} {fs : List Tagged} → s.set_up.modulus ≡ r.set_up.modulus

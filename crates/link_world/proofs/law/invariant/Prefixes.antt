@@ -1,5 +1,5 @@
 -- A list that begins with another.
-use Rattle.std.proofs.Common.{◌≡◌, ℕ, zero, suc, ◌≤◌, List, [], ◌∷◌, ◌++◌, length, slice_get, Some, refl, sym, ap, ◌∙◌, append_assoc, append-nil, length-append, arith}
+use Rattle.std.proofs.Common.{◌≡◌, ℕ, zero, suc, List, [], ◌∷◌, ◌++◌, length, slice_get, Some, refl, sym, ap, ◌∙◌, append_assoc, append-nil}
 use Rattle.std.proofs.lemmas.Option.{none-some, same_Some}
 use Rattle.selective_reject.specs.declared.packet.Packet.{Packet}
 use Rattle.link_world.proofs.law.reduced.Core.{IsPrefixOf}
@@ -18,9 +18,6 @@ prefix_through {xs} h k = record {
   rest = h.rest ++ k.rest;
   is = k.is ∙ ap (λ t. t ++ k.rest) h.is ∙ append_assoc xs h.rest k.rest;
 }
-
-pub prefix_length : {xs ys : List Packet} → IsPrefixOf xs ys → length xs ≤ length ys
-prefix_length {xs} h = omega (arith, ap length h.is, length-append xs h.rest)
 
 get_front : (xs rest : List Packet) (n : ℕ) (p : Packet) → slice_get xs n ≡ Some p → slice_get (xs ++ rest) n ≡ Some p
 get_front [] rest n p h = absurd (none-some p h)

@@ -1,5 +1,5 @@
 -- The set-ups of an end by their numbers, when the last one changes or another is opened.
-use Rattle.std.proofs.Common.{◌≡◌, ℕ, zero, suc, ◌+◌, ◌<◌, ◌≤◌, List, [], ◌∷◌, ◌++◌, length, refl, arith, length-append, le_refl}
+use Rattle.std.proofs.Common.{◌≡◌, ℕ, zero, suc, ◌+◌, ◌<◌, ◌≤◌, List, [], ◌∷◌, ◌++◌, length, refl, arith, length-append}
 use Rattle.link_world.proofs.law.reduced.Core.{SetUp, IsPrefixOf, set_up_at, given_in, got_in, modulus_in, unopened}
 use Rattle.link_world.proofs.law.invariant.Prefixes.{prefix_same, prefix_none}
 
@@ -8,13 +8,6 @@ pub record SetUpsGrow (before behind : List SetUp) : Type 0 where
   pub count : length before ≤ length behind
   pub given : (n : ℕ) → IsPrefixOf (given_in before n) (given_in behind n)
   pub modulus : (n : ℕ) → n < length before → modulus_in behind n ≡ modulus_in before n
-
-pub set_ups_same : {qs : List SetUp} → SetUpsGrow qs qs
-set_ups_same {qs} = record {
-  count = le_refl (length qs);
-  given = λ n. prefix_same;
-  modulus = λ n within. refl;
-}
 
 given_last :
     (ended : List SetUp) (c d : SetUp) → IsPrefixOf c.given d.given → (n : ℕ)

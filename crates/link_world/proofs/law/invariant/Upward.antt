@@ -3,7 +3,7 @@
 use Rattle.std.proofs.Common.{◌≡◌, ℕ, ◌+◌, ◌-◌, ◌<◌, ◌≤◌, max, List, ◌∷◌, Option, Some, length, drop, arith, ap, refl, ◌∙◌, subst, le_trans, le_refl}
 use Rattle.std.proofs.lemmas.List.{drop-drop}
 use Rattle.selective_reject.specs.declared.packet.Packet.{Packet}
-use Rattle.link_world.proofs.law.reduced.Core.{End, Running, Tagged, Numbered, set_ups, count, got_in, modulus_in}
+use Rattle.link_world.proofs.law.reduced.Core.{between, End, Running, Tagged, Numbered, set_ups, count, got_in, modulus_in}
 use Rattle.link_world.proofs.law.reduced.Core.Numbered.{Info, Super, Srej}
 use Rattle.link_world.proofs.law.reduced.Core.Standing.{Up}
 use Rattle.link_world.proofs.law.reduced.CoreMoves.{now, sending_from, numbered_to, acknowledged_to, Acknowledges}
@@ -29,8 +29,8 @@ pub own_numbers_keep :
     (x : End) {y : End} {r : Running} (va vs top : ℕ) (kept : List Packet) {to_x to_y : List Tagged}
     → Keeps (sending_from va vs top kept r) x.window → r.top ≤ top
     → AcksRise r.set_up.mate va to_x (length (got_in (set_ups y) r.set_up.mate)) top
-    → Invariant (record { x = now (Up r) x; y = y; to_x = to_x; to_y = to_y })
-    → Invariant (record { x = now (Up (sending_from va vs top kept r)) x; y = y; to_x = to_x; to_y = to_y })
+    → Invariant (between (now (Up r) x) y to_x to_y)
+    → Invariant (between (now (Up (sending_from va vs top kept r)) x) y to_x to_y)
 own_numbers_keep x {y} {r} va vs top kept {to_x} {to_y} keeps le acks h = record {
   x_hears = record {
     tags = h.x_hears.tags;
@@ -84,7 +84,7 @@ own_numbers_keep x {y} {r} va vs top kept {to_x} {to_y} keeps le acks h = record
 -- what x acknowledges to itself, what its partner got, and the top are in order
 pub acked_got_top :
     (x : End) {y : End} {r : Running} {to_x to_y : List Tagged}
-    → Invariant (record { x = now (Up r) x; y = y; to_x = to_x; to_y = to_y })
+    → Invariant (between (now (Up r) x) y to_x to_y)
     → (r.va ≤ length (got_in (set_ups y) r.set_up.mate)) × (length (got_in (set_ups y) r.set_up.mate) ≤ r.top)
 acked_got_top x {y} {r} {to_x} h =
     acks_start r.set_up.mate r.va (length (got_in (set_ups y) r.set_up.mate)) r.top to_x h.x_hears.numbers.acks
@@ -92,8 +92,8 @@ acked_got_top x {y} {r} {to_x} h =
 -- V(S) is set anywhere from V(A) on
 pub set_vs_keeps :
     (x : End) {y : End} {r : Running} (vs : ℕ) {to_x to_y : List Tagged} → r.va ≤ vs
-    → Invariant (record { x = now (Up r) x; y = y; to_x = to_x; to_y = to_y })
-    → Invariant (record { x = now (Up (sending_from r.va vs r.top r.kept r)) x; y = y; to_x = to_x; to_y = to_y })
+    → Invariant (between (now (Up r) x) y to_x to_y)
+    → Invariant (between (now (Up (sending_from r.va vs r.top r.kept r)) x) y to_x to_y)
 set_vs_keeps x {r} vs order h =
     let k : Keeps r x.window = h.x_hears.keeps in
     own_numbers_keep x r.va vs r.top r.kept
@@ -103,8 +103,8 @@ set_vs_keeps x {r} vs order h =
 -- a number within the window and among the packets given will be sent
 pub raise_top_keeps :
     (x : End) {y : End} {r : Running} (top : ℕ) {to_x to_y : List Tagged} → r.top ≤ top → top ≤ r.va + x.window
-    → top ≤ length r.set_up.given → Invariant (record { x = now (Up r) x; y = y; to_x = to_x; to_y = to_y })
-    → Invariant (record { x = now (Up (sending_from r.va r.vs top r.kept r)) x; y = y; to_x = to_x; to_y = to_y })
+    → top ≤ length r.set_up.given → Invariant (between (now (Up r) x) y to_x to_y)
+    → Invariant (between (now (Up (sending_from r.va r.vs top r.kept r)) x) y to_x to_y)
 raise_top_keeps x {y} {r} top {to_x} le window given h =
     let k : Keeps r x.window = h.x_hears.keeps in
     let got = length (got_in (set_ups y) r.set_up.mate) in
@@ -117,7 +117,7 @@ raise_top_keeps x {y} {r} top {to_x} le window given h =
 -- An I or S frame under way to an end that is up is of its mate.
 pub front_of_mate :
     (x : End) {y : End} {r : Running} {tag m : ℕ} {n : Numbered} {rest to_y : List Tagged}
-    → Invariant (record { x = now (Up r) x; y = y; to_x = numbered_to tag m n ∷ rest; to_y = to_y }) → tag ≡ r.set_up.mate
+    → Invariant (between (now (Up r) x) y (numbered_to tag m n ∷ rest) to_y) → tag ≡ r.set_up.mate
 front_of_mate x {y} {r} {tag} h =
     let above : r.set_up.mate ≤ tag = h.x_hears.tags.rise.0 in
     let opened : tag < count y = h.x_hears.tags.of_set_up.0 in
@@ -127,7 +127,7 @@ front_of_mate x {y} {r} {tag} h =
 -- and it is written in the modulus of the end
 pub front_modulus :
     (x : End) {y : End} {r : Running} {tag m : ℕ} {n : Numbered} {rest to_y : List Tagged}
-    → Invariant (record { x = now (Up r) x; y = y; to_x = numbered_to tag m n ∷ rest; to_y = to_y }) → m ≡ x.modulus
+    → Invariant (between (now (Up r) x) y (numbered_to tag m n ∷ rest) to_y) → m ≡ x.modulus
 front_modulus x {y} {r} {tag} h =
     let is : tag ≡ r.set_up.mate = front_of_mate x h in
     let opened : tag < count y = h.x_hears.tags.of_set_up.0 in
@@ -144,8 +144,8 @@ acknowledging mate top nr n (Srej a) is same = absurd is
 -- The front frame acknowledges: V(A) is its N(R), and the packets below are no longer kept. The frame stays in front.
 pub ack_front_keeps :
     (x : End) {y : End} {r : Running} {tag m : ℕ} (nr : ℕ) {n : Numbered} {rest to_y : List Tagged} → Acknowledges n nr
-    → Invariant (record { x = now (Up r) x; y = y; to_x = numbered_to tag m n ∷ rest; to_y = to_y })
-    → Invariant (record { x = now (Up (acknowledged_to nr r)) x; y = y; to_x = numbered_to tag m n ∷ rest; to_y = to_y })
+    → Invariant (between (now (Up r) x) y (numbered_to tag m n ∷ rest) to_y)
+    → Invariant (between (now (Up (acknowledged_to nr r)) x) y (numbered_to tag m n ∷ rest) to_y)
 ack_front_keeps x {y} {r} {tag} {m} nr {n} {rest} is h =
     let f : Tagged = numbered_to tag m n in
     let k : Keeps r x.window = h.x_hears.keeps in

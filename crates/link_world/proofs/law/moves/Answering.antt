@@ -2,7 +2,7 @@
 use Rattle.std.proofs.Common.{◌≡◌, ℕ, ◌<◌, List, [], ◌∷◌, ◌++◌, Option, Some, IfSome, length, arith, ap, refl, sym, subst, le_refl}
 use Rattle.std.specs.List.{AllByRecursion as Each}
 use Rattle.selective_reject.specs.declared.packet.Packet.{Packet}
-use Rattle.link_world.proofs.law.reduced.Core.{End, Standing, SetUp, Tagged, set_ups, era, count, got_in, modulus_in}
+use Rattle.link_world.proofs.law.reduced.Core.{between, End, Standing, SetUp, Tagged, set_ups, era, count, got_in, modulus_in}
 use Rattle.link_world.proofs.law.reduced.Core.Kind.{Ua}
 use Rattle.link_world.proofs.law.reduced.Core.Standing.{Idle, Calling, Up, Releasing}
 use Rattle.link_world.proofs.law.reduced.CoreMoves.{now, of_end, asks, answers}
@@ -139,6 +139,6 @@ sent_ua_by Releasing y none quiet new h = ua_pushed_both none quiet h
 -- x sends a UA, while no other answer is under way to y, and y asks nothing more
 pub sent_ua_keeps :
     {x y : End} {to_x to_y : List Tagged} → answers to_y ≡ 0 → asks to_x ≡ 0 → IsNewToMate (view x to_x) x y to_x to_y
-    → Invariant (record { x = x; y = y; to_x = to_x; to_y = to_y })
-    → Invariant (record { x = x; y = y; to_x = to_x; to_y = to_y ++ of_end x Ua ∷ [] })
+    → Invariant (between x y to_x to_y)
+    → Invariant (between x y to_x (to_y ++ of_end x Ua ∷ []))
 sent_ua_keeps {y} none quiet new h = sent_ua_by y.standing y none quiet new h

@@ -14,7 +14,8 @@ use Rattle.link_world.proofs.law.invariant.Upward.{set_vs_keeps, ack_front_keeps
 use Rattle.link_world.proofs.law.moves.UpSending.{send_super_keeps, send_srej_keeps, send_kept_keeps}
 use Rattle.link_world.proofs.law.moves.Receiving.{accept_front_keeps, store_front_keeps, take_stored_keeps}
 use Rattle.link_world.proofs.law.moves.Standings.{leave_to_idle_keeps, leave_to_releasing_keeps, begin_keeps, give_calling_keeps, give_up_keeps}
-use Rattle.link_world.proofs.law.moves.Opening.{decline_by_dm_keeps, decline_idle_keeps, decline_releasing_keeps, agree_keeps, open_called_keeps, open_answered_keeps, no_call_of_up}
+use Rattle.link_world.proofs.law.moves.Opening.{agree_keeps, open_called_keeps, open_answered_keeps, no_call_of_up}
+use Rattle.link_world.proofs.law.moves.Declining.{decline_by_dm_keeps, decline_idle_keeps, decline_releasing_keeps}
 use Rattle.link_world.proofs.law.invariant.Invariant.{Hears, Invariant}
 
 -- asks of one end and answers to it make one exchange at most, so where there is none, one may begin

@@ -1,6 +1,6 @@
 -- A frame under way to x is lost.
 use Rattle.std.proofs.Common.{ℕ, List, ◌∷◌, ◌++◌, Option, length, arith}
-use Rattle.link_world.proofs.law.reduced.Core.{End, SetUp, Tagged, got_in}
+use Rattle.link_world.proofs.law.reduced.Core.{between, End, SetUp, Tagged, got_in}
 use Rattle.link_world.proofs.law.Each.{each_removed}
 use Rattle.link_world.proofs.law.invariant.Chains.{chain_removed}
 use Rattle.link_world.proofs.law.invariant.TagChain.{tags_rising}
@@ -89,8 +89,8 @@ both_lost before f after h =
 -- a lost frame: a UA takes the view away, and nothing else of what is seen changes
 pub lose_keeps :
     {x y : End} (before : List Tagged) (f : Tagged) (after : List Tagged) {to_y : List Tagged}
-    → Invariant (record { x = x; y = y; to_x = before ++ f ∷ after; to_y = to_y })
-    → Invariant (record { x = x; y = y; to_x = before ++ after; to_y = to_y })
+    → Invariant (between x y (before ++ f ∷ after) to_y)
+    → Invariant (between x y (before ++ after) to_y)
 lose_keeps {x} before f after h =
     let other = h.y_hears.one_exchange in
     let fades = view_fades x.modulus x.standing (ua_tag (before ++ after)) (ua_tag (before ++ f ∷ after))

@@ -1,11 +1,11 @@
 -- x hears a SABM, a DISC or a UA.
-use Rattle.std.proofs.Common.{◌≡◌, ℕ, ◌+◌, ◌≤◌, true, List, [], ◌∷◌, ◌++◌, Option, Some, None, IfSome, length, arith, ap, refl, sym, ◌∙◌, subst, le_refl}
+use Rattle.std.proofs.Common.{◌≡◌, ℕ, ◌+◌, ◌≤◌, List, [], ◌∷◌, ◌++◌, Option, Some, None, IfSome, length, arith, ap, refl, sym, ◌∙◌, subst, le_refl}
 use Rattle.std.specs.List.{AllByRecursion as Each}
 use Rattle.selective_reject.specs.declared.packet.Packet.{Packet}
-use Rattle.link_world.proofs.law.reduced.Core.{End, Running, Standing, SetUp, Tagged, Kind, set_ups, era, count, got_in, modulus_in}
-use Rattle.link_world.proofs.law.reduced.Core.Kind.{Sabm, Disc, Ua, Dm}
-use Rattle.link_world.proofs.law.reduced.Core.Standing.{Idle, Calling, Up, Releasing}
-use Rattle.link_world.proofs.law.reduced.CoreMoves.{now, called, opened, of_end, sabms, ask_of, setup_to}
+use Rattle.link_world.proofs.law.reduced.Core.{between, End, Running, SetUp, Tagged, set_ups, era, count, got_in, modulus_in}
+use Rattle.link_world.proofs.law.reduced.Core.Kind.{Sabm, Ua}
+use Rattle.link_world.proofs.law.reduced.Core.Standing.{Calling, Up}
+use Rattle.link_world.proofs.law.reduced.CoreMoves.{now, called, opened, of_end, sabms, setup_to}
 use Rattle.link_world.proofs.law.invariant.Mates.{IsSilent}
 use Rattle.link_world.proofs.law.Each.{each_both, each_of_all, each_pushed}
 use Rattle.link_world.proofs.law.invariant.SetUps.{at_last, at_none, grow_new, got_new, length_last}
@@ -13,70 +13,18 @@ use Rattle.link_world.proofs.law.invariant.Chains.{chain_start}
 use Rattle.link_world.proofs.law.invariant.TagChain.{TagsRise, tags_rising, tags_above, tags_below, tags_higher}
 use Rattle.link_world.proofs.law.numbers.AckChain.{AcksRise, acks_silent}
 use Rattle.link_world.proofs.law.numbers.InfoChain.{infos_silent}
-use Rattle.link_world.proofs.law.invariant.Views.{View, view, view_by, view_fresh, ua_tag}
+use Rattle.link_world.proofs.law.invariant.Views.{View, view, view_fresh, ua_tag}
 use Rattle.link_world.proofs.law.invariant.Options.{if_weaker, if_both, if_all}
 use Rattle.link_world.proofs.law.invariant.Exchanges.{no_ua, sabms_are_asks}
 use Rattle.link_world.proofs.law.moves.NoView.{mates_blind, numbers_blind, packets_blind}
 use Rattle.link_world.proofs.law.moves.Losing.{lose_keeps, both_lost}
-use Rattle.link_world.proofs.law.moves.Sending.{sent_other_keeps}
 use Rattle.link_world.proofs.law.invariant.Growing.{packets_grown, origins_pushed}
-use Rattle.link_world.proofs.law.moves.Silences.{silent_of_unopened, sent_of_silent, origins_opened, ua_tag_of_each, no_calls, of_more_set_ups, no_calls_of_up, era_le_count, ended_of_all, blind_of_down, if_calling}
+use Rattle.link_world.proofs.law.moves.Silences.{silent_of_unopened, sent_of_silent, origins_opened, ua_tag_of_each, no_calls, of_more_set_ups, no_calls_of_up, era_le_count, blind_of_down, if_calling}
 use Rattle.link_world.proofs.law.invariant.Moduli.{frames_grown, origins_grown, no_caller}
 use Rattle.link_world.proofs.law.moves.Answering.{sent_ua_keeps}
 use Rattle.link_world.proofs.law.reduced.CoreLaw.{OriginBelow}
 use Rattle.link_world.proofs.law.invariant.Invariant.{CallsBy, OriginUnder, WasSent, Hears, BothHear, Invariant}
-
--- a SABM or DISC is answered by DM
-pub decline_by_dm_keeps :
-    {x y : End} {tag : ℕ} {k : Kind} {rest to_y : List Tagged} → ask_of k ≡ 1
-    → Invariant (record { x = x; y = y; to_x = setup_to tag k ∷ rest; to_y = to_y })
-    → Invariant (record { x = x; y = y; to_x = rest; to_y = to_y ++ of_end x (Dm true) ∷ [] })
-decline_by_dm_keeps {tag} {k} {rest} asks_one h =
-    let behind = lose_keeps [] (setup_to tag k) rest h in
-    let one = h.x_hears.one_exchange in
-    let other = behind.y_hears.one_exchange in
-    sent_other_keeps (Dm true) refl refl tt tt tt tt tt (omega arith) (omega arith) behind
-
--- what y has got so far comes from set-ups that x has opened
-earlier_of :
-    {v u : Option View} {x y : End} {to_x to_y : List Tagged} → BothHear v u x y to_x to_y
-    → Each (OriginUnder (count x)) y.ended
-earlier_of {x} {y} h =
-    ended_of_all (OriginUnder (count x)) y (origins_opened (set_ups x) (set_ups y) h.y_hears.packets.prefixes)
-
--- an end that is not up, and sees nothing, answers a DISC by UA
-decline_by_ua :
-    {s : Standing} (x : End) {y : End} {tag : ℕ} {rest to_y : List Tagged} → set_ups (now s x) ≡ x.ended
-    → ((o : Option ℕ) → view_by x.modulus s o ≡ None)
-    → Invariant (record { x = now s x; y = y; to_x = setup_to tag Disc ∷ rest; to_y = to_y })
-    → Invariant (record { x = now s x; y = y; to_x = rest; to_y = to_y ++ of_end x Ua ∷ [] })
-decline_by_ua {s} x {y} {tag} {rest} {to_y} down blind h =
-    let z = now s x in
-    let behind = lose_keeps [] (setup_to tag Disc) rest h in
-    let one = h.x_hears.one_exchange in
-    let same : count z ≡ length x.ended = ap length down in
-    let le : count z ≤ length x.ended = omega arith in
-    sent_ua_keeps (omega arith) (omega arith) (record {
-      silent = silent_of_unopened (count z) (era z) to_y le behind.y_hears.tags.of_set_up;
-      got = ap (λ (q : SetUp). q.got) (at_none (set_ups z) (era z) le);
-      mate = subst (λ v. IfSome v (λ a. a.mate ≡ era y)) (sym (blind (ua_tag rest))) tt;
-      sent = rw (blind (ua_tag rest)) tt;
-      earlier = subst (λ n. Each (OriginUnder n) y.ended) same (earlier_of behind);
-      modulus = rw (blind (ua_tag rest)) tt;
-      own = λ within. absurd (omega arith);
-    }) behind
-
-pub decline_idle_keeps :
-    (x : End) {y : End} {tag : ℕ} {rest to_y : List Tagged}
-    → Invariant (record { x = now Idle x; y = y; to_x = setup_to tag Disc ∷ rest; to_y = to_y })
-    → Invariant (record { x = now Idle x; y = y; to_x = rest; to_y = to_y ++ of_end x Ua ∷ [] })
-decline_idle_keeps x h = decline_by_ua x refl (λ o. refl) h
-
-pub decline_releasing_keeps :
-    (x : End) {y : End} {tag : ℕ} {rest to_y : List Tagged}
-    → Invariant (record { x = now Releasing x; y = y; to_x = setup_to tag Disc ∷ rest; to_y = to_y })
-    → Invariant (record { x = now Releasing x; y = y; to_x = rest; to_y = to_y ++ of_end x Ua ∷ [] })
-decline_releasing_keeps x h = decline_by_ua x refl (λ o. refl) h
+use Rattle.link_world.proofs.law.moves.Declining.{earlier_of}
 
 -- behind a SABM every tag is that of the set-up that its sender would open next
 behind_call :
@@ -92,8 +40,8 @@ behind_call {tag} rest era is le rise =
 -- an end that is calling agrees to a call
 pub agree_keeps :
     (x : End) {y : End} {waiting : List Packet} {tag : ℕ} {rest to_y : List Tagged}
-    → Invariant (record { x = now (Calling waiting) x; y = y; to_x = setup_to tag (Sabm x.modulus) ∷ rest; to_y = to_y })
-    → Invariant (record { x = now (Calling waiting) x; y = y; to_x = rest; to_y = to_y ++ of_end x Ua ∷ [] })
+    → Invariant (between (now (Calling waiting) x) y (setup_to tag (Sabm x.modulus) ∷ rest) to_y)
+    → Invariant (between (now (Calling waiting) x) y rest (to_y ++ of_end x Ua ∷ []))
 agree_keeps x {y} {waiting} {tag} {rest} {to_y} h =
     let z = now (Calling waiting) x in
     let behind = lose_keeps [] (setup_to tag (Sabm x.modulus)) rest h in
@@ -206,12 +154,7 @@ opened_hears {x} {y} {mate} modulus {to_x} rise is h =
 -- x hears a SABM, while no SABM of its own is under way: it opens a set-up, and answers by UA
 pub open_called_keeps :
     {x y : End} {tag modulus : ℕ} {rest to_y : List Tagged} → sabms to_y ≡ 0
-    → Invariant (record { x = x; y = y; to_x = setup_to tag (Sabm modulus) ∷ rest; to_y = to_y }) → Invariant (record {
-      x = called tag modulus x;
-      y = y;
-      to_x = rest;
-      to_y = to_y ++ of_end (called tag modulus x) Ua ∷ [];
-    })
+    → Invariant (between x y (setup_to tag (Sabm modulus) ∷ rest) to_y) → Invariant (between (called tag modulus x) y rest (to_y ++ of_end (called tag modulus x) Ua ∷ []))
 open_called_keeps {x} {y} {tag} {modulus} {rest} {to_y} no_call h =
     let s = opened tag modulus [] in
     let z = called tag modulus x in
@@ -248,7 +191,7 @@ open_called_keeps {x} {y} {tag} {modulus} {rest} {to_y} no_call h =
 -- an end that is up, and hears a SABM, has none of its own under way
 pub no_call_of_up :
     (x : End) {y : End} {r : Running} {to_x to_y : List Tagged}
-    → Invariant (record { x = now (Up r) x; y = y; to_x = to_x; to_y = to_y }) → sabms to_y ≡ 0
+    → Invariant (between (now (Up r) x) y to_x to_y) → sabms to_y ≡ 0
 no_call_of_up x {r} {to_y} h = no_calls_of_up (count (now (Up r) x)) (era x) to_y h.y_hears.tags.call_is_current
     (tags_below _ (era x) to_y h.y_hears.tags.rise) (omega (arith, length_last x.ended r.set_up))
 
@@ -301,8 +244,8 @@ hears_answered {u} x {y} {waiting} mate {to_y} none h =
 -- x hears the UA to its call: the set-up opens, with what was given while calling
 pub open_answered_keeps :
     (x : End) {y : End} {waiting : List Packet} {tag : ℕ} {rest to_y : List Tagged}
-    → Invariant (record { x = now (Calling waiting) x; y = y; to_x = setup_to tag Ua ∷ rest; to_y = to_y })
-    → Invariant (record { x = now (Up (opened tag x.modulus waiting)) x; y = y; to_x = rest; to_y = to_y })
+    → Invariant (between (now (Calling waiting) x) y (setup_to tag Ua ∷ rest) to_y)
+    → Invariant (between (now (Up (opened tag x.modulus waiting)) x) y rest to_y)
 open_answered_keeps x {y} {waiting} {tag} {rest} {to_y} h =
     let s = opened tag x.modulus waiting in
     let z = now (Up s) x in

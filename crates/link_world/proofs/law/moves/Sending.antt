@@ -1,6 +1,6 @@
 -- x sends a frame.
 use Rattle.std.proofs.Common.{◌≡◌, ℕ, ◌+◌, ◌≤◌, List, [], ◌∷◌, ◌++◌, Option, None, IfSome, length, arith, ap, refl, le_refl}
-use Rattle.link_world.proofs.law.reduced.Core.{End, SetUp, Tagged, Kind, Numbered, set_ups, era, count, got_in}
+use Rattle.link_world.proofs.law.reduced.Core.{between, End, SetUp, Tagged, Kind, Numbered, set_ups, era, count, got_in}
 use Rattle.link_world.proofs.law.reduced.CoreMoves.{asks, answers, ask_of, answer_of, of_end}
 use Rattle.link_world.proofs.law.invariant.Mates.{of_mate, numbered, of_mate_none}
 use Rattle.link_world.proofs.law.Each.{each_pushed}
@@ -119,7 +119,7 @@ pub sent_other_keeps :
     → OfSetUp (count x) (era x) k → IsCurrentCall (count x) (era x) k → Carries (set_ups x) (era x) k
     → HasModulus (set_ups x) (era x) k → CallsIn x.standing x.modulus k
     → asks to_y + ask_of k + answers to_x ≤ 1 → asks to_x + (answers to_y + answer_of k) ≤ 1
-    → Invariant (record { x = x; y = y; to_x = to_x; to_y = to_y })
-    → Invariant (record { x = x; y = y; to_x = to_x; to_y = to_y ++ of_end x k ∷ [] })
+    → Invariant (between x y to_x to_y)
+    → Invariant (between x y to_x (to_y ++ of_end x k ∷ []))
 sent_other_keeps {x} {y} {to_y} k none no_ua of_set_up call carries has own one other h =
     rw (view_sent y to_y (of_end x k) no_ua) (both_sent of_set_up call one other carries has own (numbers_of_other none) h)

@@ -3,7 +3,7 @@ use Rattle.std.proofs.Common.{◌≡◌, ℕ, ◌+◌, ◌≤◌, List, [], ◌�
 use Rattle.std.specs.List.{AllByRecursion as Each}
 use Rattle.std.proofs.lemmas.List.{drop-append-le}
 use Rattle.selective_reject.specs.declared.packet.Packet.{Packet}
-use Rattle.link_world.proofs.law.reduced.Core.{End, Running, Standing, SetUp, Tagged, with_running, set_ups, era}
+use Rattle.link_world.proofs.law.reduced.Core.{between, End, Running, Standing, SetUp, Tagged, with_running, set_ups, era}
 use Rattle.link_world.proofs.law.reduced.Core.Standing.{Idle, Calling, Up, Releasing}
 use Rattle.link_world.proofs.law.reduced.CoreMoves.{now, after_all, in_modulus, given_more, asks, answers}
 use Rattle.link_world.proofs.law.Each.{each_before, each_last, each_pushed}
@@ -104,8 +104,8 @@ heard_down {u} {x} {z} {y} {to_y} d calls h = record {
 pub down_keeps :
     {x z y : End} {to_x to_y : List Tagged} → IsDown x z
     → Each (λ f. CallsIn z.standing z.modulus f.kind) to_y → view z to_x ≡ None
-    → Invariant (record { x = x; y = y; to_x = to_x; to_y = to_y })
-    → Invariant (record { x = z; y = y; to_x = to_x; to_y = to_y })
+    → Invariant (between x y to_x to_y)
+    → Invariant (between z y to_x to_y)
 down_keeps {z} {y} {to_x} {to_y} d calls blind h =
     subst (λ v. BothHear v (view y to_y) z y to_x to_y) (sym blind) (record {
       x_hears = hears_down d h.x_hears;
@@ -120,8 +120,8 @@ era_of_all Releasing ended = le_refl (length ended)
 
 -- no set-up runs, and the end is idle, in another modulus
 pub leave_to_idle_keeps :
-    {x y : End} (modulus : ℕ) {to_x to_y : List Tagged} → Invariant (record { x = x; y = y; to_x = to_x; to_y = to_y })
-    → Invariant (record { x = in_modulus modulus (after_all Idle x); y = y; to_x = to_x; to_y = to_y })
+    {x y : End} (modulus : ℕ) {to_x to_y : List Tagged} → Invariant (between x y to_x to_y)
+    → Invariant (between (in_modulus modulus (after_all Idle x)) y to_x to_y)
 leave_to_idle_keeps {x} modulus {to_y} h = down_keeps (record {
   set_ups = refl;
   windows = refl;
@@ -134,8 +134,8 @@ leave_to_idle_keeps {x} modulus {to_y} h = down_keeps (record {
 
 -- no set-up runs, and the end releases the link
 pub leave_to_releasing_keeps :
-    {x y : End} {to_x to_y : List Tagged} → Invariant (record { x = x; y = y; to_x = to_x; to_y = to_y })
-    → Invariant (record { x = after_all Releasing x; y = y; to_x = to_x; to_y = to_y })
+    {x y : End} {to_x to_y : List Tagged} → Invariant (between x y to_x to_y)
+    → Invariant (between (after_all Releasing x) y to_x to_y)
 leave_to_releasing_keeps {x} {to_y} h = down_keeps (record {
   set_ups = refl;
   windows = refl;
@@ -149,8 +149,8 @@ leave_to_releasing_keeps {x} {to_y} h = down_keeps (record {
 -- no set-up runs, and the end calls in a modulus, while it asks nothing and no answer is under way to it
 pub begin_keeps :
     {x y : End} (modulus : ℕ) (waiting : List Packet) {to_x to_y : List Tagged} → asks to_y ≡ 0 → answers to_x ≡ 0
-    → Invariant (record { x = x; y = y; to_x = to_x; to_y = to_y })
-    → Invariant (record { x = in_modulus modulus (after_all (Calling waiting) x); y = y; to_x = to_x; to_y = to_y })
+    → Invariant (between x y to_x to_y)
+    → Invariant (between (in_modulus modulus (after_all (Calling waiting) x)) y to_x to_y)
 begin_keeps {x} modulus waiting {to_x} {to_y} quiet none h = down_keeps (record {
   set_ups = refl;
   windows = refl;
@@ -170,8 +170,8 @@ same_calling modulus (Some tag) waiting more = refl
 -- more is given while calling
 pub give_calling_keeps :
     (x : End) {y : End} {waiting more : List Packet} {to_x to_y : List Tagged}
-    → Invariant (record { x = now (Calling waiting) x; y = y; to_x = to_x; to_y = to_y })
-    → Invariant (record { x = now (Calling more) x; y = y; to_x = to_x; to_y = to_y })
+    → Invariant (between (now (Calling waiting) x) y to_x to_y)
+    → Invariant (between (now (Calling more) x) y to_x to_y)
 give_calling_keeps x {y} {waiting} {more} {to_x} {to_y} h =
     let v = view (now (Calling waiting) x) to_x in
     let u = view y to_y in

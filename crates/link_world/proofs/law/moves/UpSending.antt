@@ -3,7 +3,7 @@ use Rattle.std.proofs.Common.{◌≡◌, ℕ, zero, suc, ◌+◌, ◌-◌, ◌<�
 use Rattle.std.specs.List.{AllByRecursion as Each}
 use Rattle.std.proofs.lemmas.Option.{slice_get_within}
 use Rattle.selective_reject.specs.declared.packet.Packet.{Packet}
-use Rattle.link_world.proofs.law.reduced.Core.{End, Running, SetUp, Stored, Tagged, Numbered, set_ups, era, count, got_in, given_in}
+use Rattle.link_world.proofs.law.reduced.Core.{between, End, Running, SetUp, Stored, Tagged, Numbered, set_ups, era, count, got_in, given_in}
 use Rattle.link_world.proofs.law.reduced.Core.Numbered.{Info, Super, Srej}
 use Rattle.link_world.proofs.law.reduced.Core.Kind.{IsNumbered}
 use Rattle.link_world.proofs.law.reduced.Core.Standing.{Up}
@@ -21,7 +21,7 @@ use Rattle.link_world.proofs.law.invariant.Invariant.{Carries, Keeps, WasSent, I
 
 -- x is up
 abbrev pub UpInvariant : End → End → Running → List Tagged → List Tagged → Type 0
-UpInvariant x y r to_x to_y = Invariant (record { x = now (Up r) x; y = y; to_x = to_x; to_y = to_y })
+UpInvariant x y r to_x to_y = Invariant (between (now (Up r) x) y to_x to_y)
 
 -- what y sees, where it sees x: the mate of its set-up is the one that x has open
 pub seen_of_own :

@@ -25,6 +25,7 @@ use Rattle.link_world.proofs.law.invariant.Upward.{front_of_mate}
 use Rattle.link_world.proofs.law.invariant.Invariant.{Invariant}
 use Rattle.link_world.proofs.law.showing.Shown.{core_set_up, core_set_ups, core_tagged, change_last-push, Shown, IsWritten}
 use Rattle.link_world.specs.World.{read_in}
+use Rattle.link_world.proofs.law.showing.Heard.{arrival_of}
 use Rattle.link_world.proofs.law.runs.EndSteps.{kind_of_up, read_frame_as, read_frame_same}
 use Rattle.link_world.proofs.law.showing.Shown.Shown.{ShownIdle, ShownCalling, ShownUp, ShownReleasing}
 
@@ -118,7 +119,7 @@ acted_hears {r} {x} {y} {f} frame {rest} {to_y} shown written is inv h = by_stat
         subst (λ s. Each ActedOnMate (hearing s g r).set_ups) (sym state) (go (is_numbered frame.kind) refl)
       where
         kind : frame.kind ≡ sent_kind f.modulus f.sent
-        kind = kind_of_up r.machine ended last frame.kind f.modulus f.sent f.set_up f.answers
+        kind = kind_of_up r.machine ended last frame.kind (arrival_of frame f) f.sent
             (read_frame_as r.machine.incoming.modulus frame written is) (read_frame_same frame written is) inv
 
         go : (b : Bool) → is_numbered frame.kind ≡ b → Each ActedOnMate (if b then record r

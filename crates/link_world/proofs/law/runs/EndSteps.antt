@@ -13,7 +13,7 @@ use Rattle.link_machine.specs.declared.state.LinkState.TheVariants.{Idle as Idle
 use Rattle.link_machine.specs.declared.fault.LinkFault.{LinkFault}
 use Rattle.link_machine.specs.declared.fault.LinkFault.TheVariants.{WrongState, Full, TooLong}
 use Rattle.link_machine.specs.Machine.{Machine, modulus_named, most_packets, most_octets}
-use Rattle.link_machine.specs.Sent.{Sent, sent_in, sent_kind}
+use Rattle.link_machine.specs.Sent.{Sent, sent_kind}
 use Rattle.link_machine.specs.Sent.Sent.{InfoSent, SuperSent, SetupSent}
 use Rattle.link_machine.specs.Turn.{begin, changing, setting}
 use Rattle.link_machine.specs.Event.Event.{Connect, Send, Disconnect, Hear}
@@ -23,7 +23,7 @@ use Rattle.link_machine.specs.Frames.{hear, hear_in, hear_up}
 use Rattle.link_machine.specs.Step.{step, settled, refusal_of}
 use Rattle.link_world.proofs.law.reduced.Core.{End, Tagged as CoreTagged, between}
 use Rattle.link_world.proofs.law.reduced.CoreMoves.{sabms}
-use Rattle.link_world.proofs.law.reduced.CoreOf.{core_sent, end_behind, up_end}
+use Rattle.link_world.proofs.law.reduced.CoreOf.{end_behind, up_end}
 use Rattle.link_world.proofs.law.invariant.Upward.{front_modulus}
 use Rattle.link_world.specs.Reading.{frame_read}
 use Rattle.link_world.specs.World.{read_in}
@@ -39,7 +39,7 @@ use Rattle.link_world.proofs.law.up.Info.{WindowsOf}
 use Rattle.link_world.proofs.law.showing.Shown.{core_set_up, core_set_ups, core_tagged, Shown, IsWritten}
 use Rattle.link_world.proofs.law.showing.Shown.Shown.{ShownIdle, ShownCalling, ShownUp, ShownReleasing}
 use Rattle.link_world.proofs.law.showing.Outcome.{Keeps}
-use Rattle.link_world.proofs.law.showing.Heard.{Arrival, heard_as, heard_frame}
+use Rattle.link_world.proofs.law.showing.Heard.{Arrival, arrival_of, heard_as, heard_frame}
 use Rattle.link_world.proofs.law.up.Settling.{EndsUp, stays_up}
 use Rattle.link_world.proofs.law.up.Events.{UpEnd, up_begins, up_sends, up_quits, up_hears_super, up_hears_info}
 use Rattle.link_world.proofs.law.up.Changes.{noted_nothing, up_hears_ua, up_hears_dm, up_hears_disc}
@@ -173,16 +173,17 @@ up_hears a (SetupSent UaFrame flag) windows u = up_hears_ua a flag u
 
 -- an end that is up reads a frame as it was written
 pub kind_of_up :
-    (m : Machine) (ended : List SetUp) (last : SetUp) (kind : Kind) (modulus : ℕ) (sent : Sent) (set_up : ℕ)
-    (answers : Bool) {y : End} {rest to_y : List CoreTagged} → IsReadAs sent kind
-    → (modulus ≡ m.incoming.modulus → kind ≡ sent_kind modulus sent)
+    (m : Machine) (ended : List SetUp) (last : SetUp) (kind : Kind) (a : Arrival) (sent : Sent) {y : End}
+    {rest to_y : List CoreTagged} → IsReadAs sent kind
+    → (a.modulus ≡ m.incoming.modulus → kind ≡ sent_kind a.modulus sent)
     → Invariant (between (up_end m (core_set_ups ended) (core_set_up last)) y
-    (core_sent answers set_up (sent_in modulus sent) ∷ rest) to_y) → kind ≡ sent_kind modulus sent
-kind_of_up m ended last kind modulus (InfoSent ns nr packet) set_up answers read same inv =
+    (core_tagged (heard_as a kind sent) ∷ rest) to_y)
+    → kind ≡ sent_kind a.modulus sent
+kind_of_up m ended last kind a (InfoSent ns nr packet) read same inv =
     same (front_modulus (end_behind m (core_set_ups ended)) inv)
-kind_of_up m ended last kind modulus (SuperSent which command nr flag) set_up answers read same inv =
+kind_of_up m ended last kind a (SuperSent which command nr flag) read same inv =
     same (front_modulus (end_behind m (core_set_ups ended)) inv)
-kind_of_up m ended last kind modulus (SetupSent which flag) set_up answers read same inv = read
+kind_of_up m ended last kind a (SetupSent which flag) read same inv = read
 
 -- an idle end hears a SABM or SABME only while none of its own is under way
 abbrev pub CalledAlone : RecordedEnd → Sent → List CoreTagged → Type 0
@@ -211,7 +212,7 @@ hear_read {r} a kind sent {y} {rest} {to_y} s windows read same quiet = by_state
     by_state (StandsUp ended last u) = subst P (sym u.state)
         (subst (λ k. Keeps (Hears (heard_as a k sent)) r y rest to_y
         (settled (hear_up (is_command_of a.path.role k) k (begin r.machine))))
-        (sym (kind_of_up r.machine ended last kind a.modulus sent a.set_up a.answers read same u.holds))
+        (sym (kind_of_up r.machine ended last kind a sent read same u.holds))
         (up_hears a sent windows u))
     by_state (StandsReleasing d) = subst P (sym d.state_is) (releasing_hears a kind sent command d read)
 
@@ -236,8 +237,7 @@ pub hears_keeps :
     → Keeps (Hears (record f { frame = frame })) r y rest to_y (step r.machine (Hear frame))
 unfolding step
 hears_keeps {r} {f} frame s windows written is quiet =
-    let a : Arrival = record { path = frame.path; modulus = f.modulus; set_up = f.set_up; answers = f.answers } in
-    hear_read a frame.kind f.sent s windows (read_frame_as r.machine.incoming.modulus frame written is)
+    hear_read (arrival_of frame f) frame.kind f.sent s windows (read_frame_as r.machine.incoming.modulus frame written is)
     (read_frame_same frame written is) quiet
 
 -- what happens is no frame that is heard

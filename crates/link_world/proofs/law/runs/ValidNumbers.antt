@@ -20,6 +20,7 @@ use Rattle.link_world.specs.declared.event.Event.{Event}
 use Rattle.link_world.specs.declared.event.Event.TheVariants.{Connect, Send, Disconnect, Tick, Hear, Lose}
 use Rattle.link_world.proofs.law.numbers.Deciding.{nr_of, nr_is_named}
 use Rattle.link_world.proofs.law.invariant.Upward.{front_modulus}
+use Rattle.link_world.proofs.law.showing.Heard.{arrival_of}
 use Rattle.link_world.proofs.law.runs.EndSteps.{kind_of_up, read_frame_as, read_frame_same}
 use Rattle.link_world.proofs.law.up.Hearing.{nr_of_super}
 use Rattle.link_world.proofs.law.invariant.Invariant.{Invariant}
@@ -75,7 +76,7 @@ reads_by {a} {b} {r} {towards} {far} fit s = go s.x s.near s.holds towards s.nea
         by_read : (o : Option Frame) → read_in r.machine.incoming.modulus f ≡ o → read_names_valid r.machine o ≡ true
         by_read None read = refl
         by_read (Some frame) read = ap (names_valid r.machine)
-            (kind_of_up r.machine ended last frame.kind f.modulus f.sent f.set_up f.answers (read_frame_as r.machine.incoming.modulus frame one read)
+            (kind_of_up r.machine ended last frame.kind (arrival_of frame f) f.sent (read_frame_as r.machine.incoming.modulus frame one read)
             (read_frame_same frame one read) front)
             ∙ names_by r.machine ended last f f.sent (windows_of fit s).own front
     go x (ShownReleasing state packets waiting) inv ts written is = ap (λ t. reads_valid t r.machine ts) state

@@ -2,6 +2,7 @@
 use Rattle.std.specs.Prelude.{ℕ, Bool}
 use Rattle.ax25_address.specs.declared.path.Path.{Path}
 use Rattle.ax25_frames.specs.declared.frame.Kind.{Kind}
+use Rattle.ax25_frames.specs.declared.frame.Frame.{Frame}
 use Rattle.link_machine.specs.Sent.{Sent, sent_kind}
 use Rattle.link_world.specs.Flight.{Tagged}
 
@@ -11,6 +12,10 @@ pub record Arrival : Type 0 where
   pub modulus : ℕ
   pub set_up : ℕ
   pub answers : Bool
+
+-- with this frame
+abbrev pub arrival_of : Frame → Tagged → Arrival
+arrival_of frame f = record { path = frame.path; modulus = f.modulus; set_up = f.set_up; answers = f.answers }
 
 -- a frame as it is read
 abbrev pub heard_as : Arrival → Kind → Sent → Tagged

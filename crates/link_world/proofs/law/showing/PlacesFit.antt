@@ -29,11 +29,6 @@ length_moved count ps le = length-append (drop count ps) (replicate count empty_
     ∙ ap (λ n. length (drop count ps) + n) (length-replicate count empty_place)
     ∙ ap (λ n. n + count) (length-drop count ps) ∙ omega arith
 
-first_behind :
-    (count : ℕ) (ps : List Place) → packet_at ps 0 ≡ None → packet_at (ps ++ replicate count empty_place) 0 ≡ None
-first_behind count [] none = first_of_empty count
-first_behind count (p ∷ ps) none = none
-
 -- behind a run the first place is empty
 run_behind :
     (count : ℕ) (ps : List Place) → packet_at (drop (length (run ps)) ps ++ replicate count empty_place) 0 ≡ None

@@ -4,7 +4,7 @@ use Rattle.std.specs.List.{AllByRecursion as Each, range_with_len}
 use Rattle.std.proofs.lemmas.Bool.{false≢true}
 use Rattle.selective_reject.specs.declared.packet.Packet.{Packet}
 use Rattle.selective_reject.specs.declared.place.Place.{Place}
-use Rattle.selective_reject.specs.Places.{empty_place, packet_at, is_full, with_packet, asked, asked_place, missing, is_missing}
+use Rattle.selective_reject.specs.Places.{empty_place, packet_at, is_full, with_packet, asked, missing, is_missing}
 use Rattle.link_world.proofs.law.reduced.Core.{Stored}
 use Rattle.link_world.proofs.law.reduced.CoreOf.{stored_before, stored_from}
 
@@ -23,9 +23,6 @@ pub stored_first_empty :
     (n : ℕ) (ps : List Place) → packet_at ps 0 ≡ None → stored_from (n + 1) (drop 1 ps) ≡ stored_from n ps
 stored_first_empty n [] none = refl
 stored_first_empty n (p ∷ ps) none = ap (λ o. stored_before n o (stored_from (n + 1) ps)) (sym none)
-
-asked_packet : (p : Place) → (asked_place p).packet ≡ p.packet
-asked_packet p = refl
 
 -- asking changes no packet
 pub stored_asked : (n k : ℕ) (ps : List Place) → stored_from n (asked ps k) ≡ stored_from n ps

@@ -20,7 +20,7 @@ use Rattle.link_world.specs.Recorded.Happening.{Hears}
 use Rattle.link_world.proofs.law.showing.PlacesFit.{sound_new}
 use Rattle.link_world.proofs.law.moves.Losing.{lose_keeps}
 use Rattle.link_world.proofs.law.moves.Standings.{leave_to_idle_keeps}
-use Rattle.link_world.proofs.law.moves.Opening.{decline_idle_keeps}
+use Rattle.link_world.proofs.law.moves.Declining.{decline_idle_keeps}
 use Rattle.link_world.proofs.law.up.Acts.{passed_over}
 use Rattle.link_world.proofs.law.invariant.Invariant.{Invariant}
 use Rattle.link_world.proofs.law.showing.Shown.{core_set_up, core_set_ups, core_tagged}

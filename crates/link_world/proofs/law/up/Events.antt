@@ -24,10 +24,12 @@ use Rattle.link_world.specs.Recorded.{RecordedEnd, Happening, accepts_by, accept
 use Rattle.link_world.specs.Recorded.Happening.{Sends, Disconnects, Hears}
 use Rattle.link_world.proofs.law.showing.PlacesFit.{IsSound, sound_same}
 use Rattle.link_world.proofs.law.moves.Standings.{give_up_keeps}
-use Rattle.link_world.proofs.law.up.Acts.{IsUp, Progress, setting_keeps}
+use Rattle.link_world.proofs.law.up.Acts.{setting_keeps}
+use Rattle.link_world.proofs.law.up.Progress.{IsUp, Progress}
 use Rattle.link_world.proofs.law.up.Taking.{got_by}
 use Rattle.link_world.proofs.law.up.Hearing.{IsRead, nr_is_read, hear_super_keeps}
-use Rattle.link_world.proofs.law.up.Info.{HasHeard, WindowsOf, hear_info_heard}
+use Rattle.link_world.proofs.law.up.Info.{WindowsOf, hear_info_heard}
+use Rattle.link_world.proofs.law.up.Accepting.{HasHeard}
 use Rattle.link_world.proofs.law.invariant.Invariant.{Invariant}
 use Rattle.link_world.proofs.law.showing.Shown.{core_set_up, core_set_ups, core_tagged, change_last-push, getting_all, told_given}
 use Rattle.link_world.proofs.law.showing.Outcome.{Keeps}

@@ -6,7 +6,6 @@ use Rattle.ax25_frames.specs.declared.frame.S.TheVariants.{Rr, Rnr, Rej as RejFr
 use Rattle.ax25_frames.specs.declared.frame.Kind.TheVariants.{Super as SuperKind}
 use Rattle.selective_reject.specs.declared.packet.Packet.{Packet}
 use Rattle.selective_reject.specs.Numbers.{ahead}
-use Rattle.link_machine.specs.declared.control.Control.{Control}
 use Rattle.link_machine.specs.Machine.{Machine, is_valid, named}
 use Rattle.link_machine.specs.Sent.{sent_in, all_sent_in, infos_from}
 use Rattle.link_machine.specs.Sent.Sent.{InfoSent}
@@ -22,10 +21,8 @@ use Rattle.link_world.proofs.law.moves.UpSending.{UpInvariant, send_kept_keeps}
 use Rattle.link_world.proofs.law.numbers.Deciding.{nr_of, nr_in_order, nr_is_named}
 use Rattle.link_world.proofs.law.invariant.Invariant.{Keeps}
 use Rattle.link_world.proofs.law.Each.{each_append, each_pushed}
-use Rattle.link_world.proofs.law.up.Acts.{IsUp, Progress, sent_one, setting_keeps, gone_back_keeps, acknowledged_keeps, answer_poll_keeps, recover_keeps, passed_over}
-
-watching_state : (c : Control) → (watching (nothing_due c)).state ≡ c.state
-watching_state c = refl
+use Rattle.link_world.proofs.law.up.Acts.{setting_keeps, gone_back_keeps, acknowledged_keeps, answer_poll_keeps, recover_keeps, passed_over}
+use Rattle.link_world.proofs.law.up.Progress.{IsUp, Progress, sent_one}
 
 -- An I frame that was sent goes out again.
 again_by :

@@ -25,7 +25,8 @@ use Rattle.link_world.proofs.law.moves.Standings.{leave_to_releasing_keeps}
 use Rattle.link_world.proofs.law.moves.Kept.{release_keeps}
 use Rattle.link_world.proofs.law.showing.PlacesFit.{IsSound}
 use Rattle.link_world.proofs.law.invariant.Invariant.{Invariant}
-use Rattle.link_world.proofs.law.up.Acts.{IsUp, Progress, IsNumberedSent, SentFits, flush_keeps}
+use Rattle.link_world.proofs.law.up.Flushing.{flush_keeps}
+use Rattle.link_world.proofs.law.up.Progress.{IsUp, Progress, IsNumberedSent, SentFits}
 use Rattle.link_world.proofs.law.showing.Shown.{core_set_up, core_set_ups, core_flight, IsWritten, AnswersAsSent, kind_by}
 use Rattle.link_world.proofs.law.showing.Shown.Shown.{ShownUp}
 use Rattle.link_machine.specs.declared.acts.Told.{Told}

@@ -25,7 +25,8 @@ use Rattle.link_world.specs.Recorded.Happening.{Ticks}
 use Rattle.link_world.proofs.law.showing.PlacesFit.{IsSound, sound_new}
 use Rattle.link_world.proofs.law.moves.Standings.{leave_to_idle_keeps}
 use Rattle.link_world.proofs.law.moves.Kept.{send_dm_keeps}
-use Rattle.link_world.proofs.law.up.Acts.{IsUp, Progress, setting_keeps, respond_ready_keeps, poll_keeps, choice_keeps}
+use Rattle.link_world.proofs.law.up.Acts.{setting_keeps, respond_ready_keeps, poll_keeps, choice_keeps}
+use Rattle.link_world.proofs.law.up.Progress.{IsUp, Progress}
 use Rattle.link_world.proofs.law.invariant.Invariant.{Invariant}
 use Rattle.link_world.proofs.law.showing.Shown.{core_set_ups}
 use Rattle.link_world.proofs.law.showing.Outcome.{Keeps, end_with, sent_after}
