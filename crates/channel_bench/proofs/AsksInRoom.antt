@@ -6,7 +6,6 @@ use Rattle.std.proofs.lemmas.List.{append_assoc}
 use Rattle.link_world.specs.declared.end.End.TheVariants.{A, B}
 use Rattle.link_world.proofs.law.Each.{each_append}
 use Rattle.channel_bench.specs.declared.words.BenchWords.{BenchWords}
-use Rattle.channel_bench.specs.BenchLaw.{AsksFindRoom}
 use Rattle.channel_bench.specs.BenchOrder.{stations_of, steps_of_run, the_calls}
 use Rattle.channel_bench.specs.BenchRun.{AreTicks}
 use Rattle.channel_bench.specs.BenchState.{BenchState, near, new_bench}
@@ -21,6 +20,7 @@ use Rattle.channel_bench.proofs.CoreRun.{IsUsualPart, beginning_usual, input_of,
 use Rattle.channel_bench.proofs.CoreRun.Usual.{connects, disconnects}
 use Rattle.channel_bench.proofs.FindingRoom.{TakesCall}
 use Rattle.channel_bench.proofs.FindsNear.{FindingAt, at_end_finds, given_finds, heard_finds, knows_near, new_keyed, passed, step_near, ticking_finds, told_finds}
+use Rattle.channel_bench.proofs.RoomForAsks.{AsksFindRoom}
 use Rattle.channel_bench.proofs.RunOfParts.{IsCalm, parted}
 use Rattle.channel_bench.proofs.RunSees.{AllLead, Behind, Phase, Stands, behind_ticks, first_parts, later_parts, new_stands}
 use Rattle.channel_bench.proofs.RunSees.Phase.{begins, goes, made}

@@ -13,7 +13,6 @@ use Rattle.station.specs.Links.{most_links}
 use Rattle.station.specs.State.{StationState}
 use Rattle.channel_bench.specs.declared.report.SetUp.{SetUp}
 use Rattle.channel_bench.specs.declared.words.BenchWords.{BenchWords}
-use Rattle.channel_bench.specs.BenchLaw.{AsksFindRoom}
 use Rattle.channel_bench.specs.BenchOrder.{IsNoted, stations_of, the_calls}
 use Rattle.channel_bench.specs.BenchState.{AtEnd, BenchState, Near, SideState, near, new_bench, new_side, side_at, with_near}
 use Rattle.channel_bench.specs.BenchSteps.{AreHeardAt, GoesOn, IsHeardAs, IsHeardAt, IsStep, IsTicking, match_of, with_matched, with_stray}
@@ -36,6 +35,7 @@ use Rattle.channel_bench.proofs.HostStreams.{IsWhole, new_stream}
 use Rattle.channel_bench.proofs.OwnLinks.{IsOwnPlace, OwnsAll}
 use Rattle.channel_bench.proofs.ProgramSees.{GaveAll, GaveAllIn}
 use Rattle.channel_bench.proofs.ProgramsAsk.{AskLittle, asks_kept}
+use Rattle.channel_bench.proofs.RoomForAsks.{AsksFindRoom}
 use Rattle.channel_bench.proofs.RunOfParts.{IsCalm}
 use Rattle.channel_bench.proofs.SideSees.{SideSees}
 use Rattle.channel_bench.proofs.Sounded.{heard_as, sounded}

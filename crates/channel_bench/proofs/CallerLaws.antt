@@ -10,7 +10,6 @@ use Rattle.link_world.specs.declared.end.End.TheVariants.{A, B}
 use Rattle.link_world.specs.Changes.{ChangesLaw}
 use Rattle.link_world.proofs.law.Each.{each_weaker}
 use Rattle.station.specs.State.{StationState}
-use Rattle.channel_bench.specs.BenchLaw.{AsksFindRoomAt}
 use Rattle.channel_bench.specs.CallerLaw.{BAsksNothing, DroppedNothing, CallerLaw}
 use Rattle.channel_bench.specs.HostsAsk.{InputAsksNothing}
 use Rattle.channel_bench.specs.InFlight.{steps_in}
@@ -21,6 +20,7 @@ use Rattle.channel_bench.specs.MatchedLaw.{DropsNoAsk, FindsRoom, IsOfNoHost, Is
 use Rattle.channel_bench.proofs.Asking.{hosts_ask_nothing_holds}
 use Rattle.channel_bench.proofs.Dropping.{DropsNothing, drops_nothing}
 use Rattle.channel_bench.proofs.MatchedLaws.{matched_law_holds}
+use Rattle.channel_bench.proofs.RoomForAsks.{AsksFindRoomAt}
 
 after_zero : (e : End) (state : StationState) (s : Stations) → DroppedNothing (with_state e state s) → state.dropped ≡ 0
 after_zero A state s h = h.a

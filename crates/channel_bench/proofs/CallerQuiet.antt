@@ -1,5 +1,5 @@
--- The events of the end that asks find a quiet channel: while it is up nothing that asks or answers is in flight, and else none
--- of its SABM, SABME and DISC is dropped. So do those of the end that never asks.
+-- The events of the end that asks find a quiet channel: while it is up nothing that asks or answers is in flight, and
+-- else none of its SABM, SABME and DISC is dropped. So do those of the end that never asks.
 use Rattle.std.proofs.Common.{◌≡◌, ℕ, ◌+◌, List, [], ◌∷◌, ◌++◌, take, refl, ap, ◌∙◌, arith, inl, inr, ◌==◌, ◌≤◌}
 use Rattle.std.specs.List.{AllByRecursion as Each}
 use Rattle.std.proofs.lemmas.Bool.{cases_eq, eq-eqb, or_right}
@@ -34,7 +34,8 @@ quiet_if_still e event w none =
     let m : Makes o w.a.end = end_makes o w.a.end in
     let few = m.few in
     let less = t.answered in (
-      alone (asks_in (near_turn at w).sent) (asks_in w.b.towards + answers_in (staying at w.a.towards)) (inr (omega arith)),
+      alone (asks_in (near_turn at w).sent) (asks_in w.b.towards + answers_in (staying at w.a.towards))
+          (inr (omega arith)),
       or_right _ (asks_in w.b.towards == 0) (eq-eqb (asks_in w.b.towards) 0 (omega arith)),
     )
 
@@ -81,8 +82,8 @@ caller_quiet e back pairs n (step ∷ steps) w follows room sends h =
     let both : asks_in (own ++ rest) ≡ asks_in own + asks_in rest = count_append is_asking own rest in
     let more = towards_by e pairs n step w in
     let here : QuietNear step.event e v =
-    quiet_by_state e back step w (asks_in (own ++ rest)) step.link.machine.control.state refl room.0 follows.0 (omega arith)
-    sends h in
+    quiet_by_state e back step w (asks_in (own ++ rest)) step.link.machine.control.state refl room.0 follows.0
+    (omega arith) sends h in
     let later : SendsAlone (asks_in rest) next back =
     elim sends [
       | inl none ↦ inl (omega arith)

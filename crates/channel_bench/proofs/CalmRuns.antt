@@ -1,5 +1,6 @@
--- A step of the station whose hosts never connect nor disconnect: its end stays idle or up, sends nothing that asks, and finds
--- a quiet channel, since nothing of the kind is in flight either way. So no N(R) is invalid, for which it would call.
+-- A step of the station whose hosts never connect nor disconnect: its end stays idle or up, and sends nothing that
+-- asks. None of its own asks is in flight and no answer to one, so each event finds a quiet channel, and by the law no
+-- N(R) is invalid, for which it would call.
 use Rattle.std.proofs.Common.{◌≡◌, ℕ, ◌+◌, Bool, true, List, [], ◌∷◌, ◌++◌, Option, Some, None, refl, sym, ap, ◌∙◌, subst}
 use Rattle.std.specs.List.{AllByRecursion as Each}
 use Rattle.std.proofs.lemmas.List.{append_assoc}

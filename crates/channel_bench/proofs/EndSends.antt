@@ -1,4 +1,5 @@
--- What an end takes from what is in flight to it, and what it sends: at most one frame that asks, and an answer only to one.
+-- What an end takes from what is in flight to it, and what it sends: at most one frame that asks, and an answer only to
+-- one.
 use Rattle.std.proofs.Common.{◌≡◌, ℕ, ◌+◌, ◌≤◌, Bool, true, false, ◌&&◌, List, [], ◌∷◌, map, Option, Some, None, refl, sym, ap, ◌∙◌, subst, arith}
 use Rattle.std.specs.List.{count_by, list_any, AllByRecursion as Each}
 use Rattle.std.proofs.lemmas.Bool.{or_parts}
@@ -49,7 +50,8 @@ pub record Takes (o : Option Happening) (before after : List Tagged) : Type 0 wh
   pub agreed : agreeing o ≡ true → Each IsMarked before → answers_in after + 1 ≤ answers_in before
   pub marked : Each IsMarked before → Each IsMarked after
 
-takes_none : (o : Option Happening) (towards : List Tagged) → asking o ≡ false → agreeing o ≡ false → Takes o towards towards
+takes_none :
+    (o : Option Happening) (towards : List Tagged) → asking o ≡ false → agreeing o ≡ false → Takes o towards towards
 takes_none o towards asks_none ua_none =
     let zero : one (asking o) ≡ 0 = ap one asks_none in
     record {
@@ -67,8 +69,8 @@ answers_cons f rest = count_cons (λ (g : Tagged). g.answers) f rest
 
 -- a test that the frame passes as it is read, it passes as it was sent
 test_read :
-    (test : Kind → Bool) → PassesNoInfo test → (modulus : ℕ) (f : Tagged) (frame : Frame) → read_in modulus f ≡ Some frame
-    → test frame.kind ≡ true → test f.frame.kind ≡ true
+    (test : Kind → Bool) → PassesNoInfo test → (modulus : ℕ) (f : Tagged) (frame : Frame)
+    → read_in modulus f ≡ Some frame → test frame.kind ≡ true → test f.frame.kind ≡ true
 test_read test no_info modulus f frame read passes = go (test f.frame.kind) refl
   where
     go : (b : Bool) → test f.frame.kind ≡ b → b ≡ true
@@ -134,7 +136,8 @@ asks_unnumbered s = go s.frame
     go (SuperSent which command nr flag) is = absurd (cc)
     go (SetupSent which flag) is = refl
 
-answers_unnumbered : (on : Bool) (s : SentIn) → (on && is_answer (sent_kind s.modulus s.frame)) ≡ true → is_unnumbered s ≡ true
+answers_unnumbered :
+    (on : Bool) (s : SentIn) → (on && is_answer (sent_kind s.modulus s.frame)) ≡ true → is_unnumbered s ≡ true
 answers_unnumbered false s is = absurd (cc)
 answers_unnumbered true s is = go s.frame is
   where
@@ -149,7 +152,8 @@ asks_sent :
     → asks_in (map (tagged on now) sent) ≡ count_by asks_when_sent sent
 asks_sent on now [] = refl
 asks_sent on now (s ∷ sent) =
-    asks_cons (tagged on now s) (map (tagged on now) sent) ∙ ap (λ n. one (asks_when_sent s) + n) (asks_sent on now sent)
+    asks_cons (tagged on now s) (map (tagged on now) sent)
+    ∙ ap (λ n. one (asks_when_sent s) + n) (asks_sent on now sent)
     ∙ sym (count_cons asks_when_sent s sent)
 
 -- answers are sent only if one that asks is heard

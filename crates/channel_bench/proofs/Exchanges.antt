@@ -1,5 +1,5 @@
--- An end that asks, and another that never does: of SABM, SABME, DISC and their answers at most one is in flight, and none
--- while the first end is up.
+-- An end that asks, and another that never does: of SABM, SABME, DISC and their answers at most one is in flight, and
+-- none while the first end is up.
 use Rattle.std.proofs.Common.{◌≡◌, ℕ, ◌+◌, ◌≤◌, ◌==◌, Bool, true, false, List, [], ◌∷◌, ◌++◌, length, Option, Some, None, ◌⊎◌, inl, inr, refl, ap, arith}
 use Rattle.std.specs.List.{count_by, AllByRecursion as Each}
 use Rattle.std.proofs.lemmas.Bool.{eqb-true, or_cases}
@@ -59,8 +59,8 @@ sent_alone n ahead is = elim (or_cases (n == 0) (n + ahead == 1) is) [
 ]
 
 by_agreeing :
-    (b : Bool) (o : Option Happening) (r : RecordedEnd) (out back stays : List Tagged) → agreeing o ≡ b → asking o ≡ false
-    → Takes o back stays → Makes o r → Exchange r.machine.control.state out back
+    (b : Bool) (o : Option Happening) (r : RecordedEnd) (out back stays : List Tagged) → agreeing o ≡ b
+    → asking o ≡ false → Takes o back stays → Makes o r → Exchange r.machine.control.state out back
     → (turn_of o r).now.machine.control.state ≡ Up → asks_in out + answers_in stays ≡ 0
 by_agreeing true o r out back stays is silent t m e up =
     let less = t.agreed is e.marked in let few = e.few in omega arith
@@ -146,8 +146,8 @@ pub in_moves :
     → AsksIn w → AsksIn (near_kept (event_at_end e event) ms w)
 in_moves e event ms w silent h =
     let modulus = w.a.end.machine.incoming.modulus in
-    answerer_moves w.b.end.machine.control.state (happening (event_at_end e event) modulus w.a.towards) w.a.end w.a.towards
-    w.b.towards _ ms (takes e event modulus w.a.towards) silent h
+    answerer_moves w.b.end.machine.control.state (happening (event_at_end e event) modulus w.a.towards) w.a.end
+    w.a.towards w.b.towards _ ms (takes e event modulus w.a.towards) silent h
 
 -- a link that is made is idle
 in_state :
@@ -173,7 +173,8 @@ pub out_made : (anew : Option Path) (w : World) → AsksOut w → AsksOut (makes
 out_made None w h = h
 out_made (Some path) w h =
     let state = w.a.end.machine.control.state in
-    in_state state (made_in state path w.a.end).machine.control.state w.b.towards w.a.towards (made_up state path w.a.end) h
+    in_state state (made_in state path w.a.end).machine.control.state w.b.towards w.a.towards
+    (made_up state path w.a.end) h
 
 pub in_made : (anew : Option Path) (w : World) → AsksIn w → AsksIn (makes_near anew w)
 in_made None w h = h

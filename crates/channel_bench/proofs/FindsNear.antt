@@ -10,7 +10,6 @@ use Rattle.station.specs.declared.host_event.HostEvent.{HostEvent}
 use Rattle.station.specs.declared.host_event.HostEvent.TheVariants.{Bytes}
 use Rattle.station.specs.Links.{Link, most_links, no_links}
 use Rattle.channel_bench.specs.declared.words.BenchWords.{BenchWords}
-use Rattle.channel_bench.specs.BenchLaw.{AsksFindRoom}
 use Rattle.channel_bench.specs.BenchOrder.{stations_of, the_calls}
 use Rattle.channel_bench.specs.BenchState.{AtEnd, BenchState, Near, SideState, near}
 use Rattle.channel_bench.specs.BenchSteps.{AreHeardAt, GoesOn, IsHeardAs, IsHeardAt, IsStep, IsTicking, IsTold, MayCome, match_of, program_id, with_matched, with_stray}
@@ -27,6 +26,7 @@ use Rattle.channel_bench.proofs.CoreRun.Usual.{connects, disconnects, gives, hea
 use Rattle.channel_bench.proofs.FindingRoom.{TakesCall}
 use Rattle.channel_bench.proofs.NotedRun.{steps_passed}
 use Rattle.channel_bench.proofs.OneKey.{IsKeyed}
+use Rattle.channel_bench.proofs.RoomForAsks.{AsksFindRoom}
 use Rattle.channel_bench.proofs.RunOfParts.{IsCalm}
 use Rattle.channel_bench.proofs.StepFinds.{Finding, Knows, finding_step}
 

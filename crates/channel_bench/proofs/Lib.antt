@@ -24,6 +24,7 @@ mod OwnerLemmas
 mod Pieces
 mod Asking
 mod Dropping
+mod RoomForAsks
 mod CallerLaws
 mod Growing
 mod Ways

@@ -48,10 +48,12 @@ HearsAs m kind u = Sends m (asks kind) (is_ua kind) u
 declines :
     (m : Machine) (asking ua flag : Bool) → IsDown m.control.state → Sends m asking ua (answer_dm flag (begin m))
 declines m asking ua flag down =
-    sends_one m asking ua (begin m) _ (sent_in m.incoming.modulus (SetupSent Dm flag)) (still_same (begin m)) refl down (λ is. refl)
+    let dm = sent_in m.incoming.modulus (SetupSent Dm flag) in
+    sends_one m asking ua (begin m) _ dm (still_same (begin m)) refl down (λ is. refl)
 
 idle_sends :
-    (command : Bool) (kind : Kind) (m : Machine) → m.control.state ≡ Idle → HearsAs m kind (hear_idle command kind (begin m))
+    (command : Bool) (kind : Kind) (m : Machine) → m.control.state ≡ Idle
+    → HearsAs m kind (hear_idle command kind (begin m))
 idle_sends command (Setup Sabm flag) m is = opened m false _ 8 flag refl refl
 idle_sends command (Setup Sabme flag) m is = opened m false _ 128 flag refl refl
 idle_sends command (Setup Disc flag) m is = declines m true false flag (idle_down m.control.state is)
@@ -70,7 +72,8 @@ agrees m flag u down state sent =
     (λ up. down (sym state ∙ up)) (λ never. absurd (cc))
 
 calling_sends :
-    (wide : Bool) (kind : Kind) (m : Machine) → m.control.state ≡ Calling → HearsAs m kind (hear_calling_in wide kind (begin m))
+    (wide : Bool) (kind : Kind) (m : Machine) → m.control.state ≡ Calling
+    → HearsAs m kind (hear_calling_in wide kind (begin m))
 calling_sends true (Setup Sabm flag) m is = stands m true false (begin m) (still_same (begin m))
 calling_sends false (Setup Sabm flag) m is = agrees m flag _ (calling_down m.control.state is) refl refl
 calling_sends true (Setup Sabme flag) m is = agrees m flag _ (calling_down m.control.state is) refl refl
@@ -103,9 +106,11 @@ releasing_sends :
 releasing_sends command (Setup Sabm flag) m is = declines m true false flag (releasing_down m.control.state is)
 releasing_sends command (Setup Sabme flag) m is = declines m true false flag (releasing_down m.control.state is)
 releasing_sends command (Setup Disc flag) m is = agrees m flag _ (releasing_down m.control.state is) refl refl
-releasing_sends command (Setup Dm true) m is = ends m false false (begin m) _ (still_same (begin m)) refl (λ up. absurd (cc))
+releasing_sends command (Setup Dm true) m is =
+    ends m false false (begin m) _ (still_same (begin m)) refl (λ up. absurd (cc))
 releasing_sends command (Setup Dm false) m is = stands m false false (begin m) (still_same (begin m))
-releasing_sends command (Setup Ua true) m is = ends m false true (begin m) _ (still_same (begin m)) refl (λ up. absurd (cc))
+releasing_sends command (Setup Ua true) m is =
+    ends m false true (begin m) _ (still_same (begin m)) refl (λ up. absurd (cc))
 releasing_sends command (Setup Ua false) m is = stands m false true (begin m) (still_same (begin m))
 releasing_sends command (Info ns nr flag pid octets) m is = dm_sends flag m (releasing_down m.control.state is)
 releasing_sends command (Super which nr flag) m is = dm_sends (command && flag) m (releasing_down m.control.state is)
@@ -114,8 +119,9 @@ releasing_sends command (Other which flag octets) m is = stands m false false (b
 
 resets : (m : Machine) → Sends m false false (reset (begin m))
 resets m =
-    sends_one m false false (begin m) _ (sent_in m.incoming.modulus (SetupSent (calling_frame (is_wide m)) true)) (still_same (begin m))
-    refl (λ up. absurd (cc)) (λ a. call_no_ua (is_wide m))
+    let call = sent_in m.incoming.modulus (SetupSent (calling_frame (is_wide m)) true) in
+    sends_one m false false (begin m) _ call (still_same (begin m)) refl (λ up. absurd (cc))
+    (λ a. call_no_ua (is_wide m))
 
 up_sends : (command : Bool) (kind : Kind) (m : Machine) → HearsAs m kind (hear_up command kind (begin m))
 up_sends command (Setup Sabm flag) m = opened m false _ 8 flag refl refl
@@ -152,12 +158,14 @@ t1_sends :
     → Sends m false false (t1_out state t)
 t1_sends Idle m t h is = stands m false false t h
 t1_sends Calling m t h is =
+    let call = sent_in t.now.incoming.modulus (SetupSent (calling_frame (is_wide t.now)) true) in
     one_of m false false (is_spent t.now.control) _ _ (ends m false false t _ h refl (λ up. absurd (cc)))
-    (sends_one m false false t _ (sent_in t.now.incoming.modulus (SetupSent (calling_frame (is_wide t.now)) true)) h refl
+    (sends_one m false false t _ call h refl
     (calling_down t.now.control.state (h.state ∙ is)) (λ a. call_no_ua (is_wide t.now)))
 t1_sends Up m t h is =
+    let dm = sent_in t.now.incoming.modulus (SetupSent Dm false) in
     one_of m false false (is_spent t.now.control) _ _
-    (sends_one m false false t _ (sent_in t.now.incoming.modulus (SetupSent Dm false)) h refl (λ up. absurd (cc)) (λ a. refl))
+    (sends_one m false false t _ dm h refl (λ up. absurd (cc)) (λ a. refl))
     (stands m false false _ (still_on (begin m) t _ h (poll_more_still t)))
 t1_sends Releasing m t h is =
     one_of m false false (is_spent t.now.control) _ _ (ends m false false t _ h refl (λ up. absurd (cc)))
@@ -191,8 +199,9 @@ tick_sends Releasing waiting m = timers_send waiting m
 row_sends : (m : Machine) (event : Event) → Sends m (hears_asking event) (hears_ua event) (row event (begin m))
 row_sends m Connect =
     let modulus = called_modulus m.params in
-    sends_one m false false (begin m) _ (sent_in modulus (SetupSent (calling_frame (modulus == 128)) true)) (still_same (begin m))
-    refl (λ up. absurd (cc)) (λ a. call_no_ua (modulus == 128))
+    let call = sent_in modulus (SetupSent (calling_frame (modulus == 128)) true) in
+    sends_one m false false (begin m) _ call (still_same (begin m)) refl (λ up. absurd (cc))
+    (λ a. call_no_ua (modulus == 128))
 row_sends m (Send packet) = stands m false false _ (still_none (begin m) _ refl refl refl)
 row_sends m Disconnect = numbers m false false (begin m) _ (still_same (begin m)) refl (λ a b is. is)
 row_sends m (Hear frame) =

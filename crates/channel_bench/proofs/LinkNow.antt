@@ -8,7 +8,6 @@ use Rattle.link_world.specs.declared.end.End.TheVariants.{A, B}
 use Rattle.link_world.specs.Windows.{WindowsFit}
 use Rattle.link_world.proofs.law.ChangesLaw.{changes_law_holds}
 use Rattle.channel_bench.specs.declared.words.BenchWords.{BenchWords}
-use Rattle.channel_bench.specs.BenchLaw.{AsksFindRoom, AsksFindRoomAt}
 use Rattle.channel_bench.specs.BenchOrder.{IsNoted, first_stations, the_calls}
 use Rattle.channel_bench.specs.BenchState.{config_of, params_of}
 use Rattle.channel_bench.specs.CallerLaw.{BAsksNothing}
@@ -30,6 +29,7 @@ use Rattle.channel_bench.proofs.MatchedLaws.{matched_law_holds}
 use Rattle.channel_bench.proofs.MatchedOrder.{matched_in_order_holds}
 use Rattle.channel_bench.proofs.OwnLinks.{chosen}
 use Rattle.channel_bench.proofs.ProgramsAsk.{AskLittle}
+use Rattle.channel_bench.proofs.RoomForAsks.{AsksFindRoom, AsksFindRoomAt}
 use Rattle.channel_bench.proofs.SeenLemmas.{set_ups_law_holds}
 use Rattle.channel_bench.proofs.Shorts.{GivenShort, GotShort, ShortStep, got_short, steps_given}
 

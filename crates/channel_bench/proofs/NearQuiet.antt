@@ -1,4 +1,4 @@
--- When an event finds a quiet channel, as its end sees it, and what the events of a step leave in flight that asks for an answer.
+-- When an event finds a quiet channel, as its end sees it, and how much the events of a step leave in flight that asks.
 use Rattle.std.proofs.Common.{◌≡◌, ℕ, ◌+◌, ◌≤◌, Bool, true, false, not, ◌==◌, List, [], ◌∷◌, ◌++◌, length, map, take, drop, Option, Some, None, ◌⊎◌, refl, sym, ap, ◌∙◌, arith, inl, inr}
 use Rattle.std.specs.Bool.{⊤}
 use Rattle.std.specs.List.{count_by, list_any}
@@ -84,7 +84,8 @@ no_sabm (f ∷ rest) none =
     sabm_asks f.frame.kind
     (none_in (asks f.frame.kind) (asks_in rest) (sym (count_cons (λ (g : Tagged). asks g.frame.kind) f rest) ∙ none))
 
-not_called : (e : End) (event : LinkEvent) (w : World) → asks_in w.a.towards ≡ 0 → is_called (event_at_end e event) w ≡ false
+not_called :
+    (e : End) (event : LinkEvent) (w : World) → asks_in w.a.towards ≡ 0 → is_called (event_at_end e event) w ≡ false
 not_called e LinkConnect w none = refl
 not_called e (LinkSend packet) w none = refl
 not_called e LinkDisconnect w none = refl
@@ -163,8 +164,10 @@ pub one_quiet :
 one_quiet e back step w total follows drops within sends none =
     let v = makes_near step.anew w in
     let event = event_at_end e step.event in
-    let sent : asks_in (sent_near e step w) ≡ asks_in (take step.joined (sent_near e step w)) = lost_none e back step w follows drops in
-    let ahead : asks_in v.b.towards ≡ asks_in w.b.towards = ap (λ (x : Side). asks_in x.towards) (made_far step.anew w) in
+    let sent : asks_in (sent_near e step w) ≡ asks_in (take step.joined (sent_near e step w)) =
+    lost_none e back step w follows drops in
+    let ahead : asks_in v.b.towards ≡ asks_in w.b.towards =
+    ap (λ (x : Side). asks_in x.towards) (made_far step.anew w) in
     let answers : answers_in (staying event v.a.towards) ≡ answers_in back = ap answers_in follows.stays in (
       alone (asks_in (sent_near e step w)) (asks_in v.b.towards + answers_in (staying event v.a.towards)) (elim sends [
         | inl zero ↦ inl (omega arith)

@@ -9,7 +9,7 @@ use Rattle.link_world.specs.SetUps.{SetUp as LinkSetUp}
 use Rattle.link_world.proofs.law.ChangesLaw.{changes_law_holds}
 use Rattle.channel_bench.specs.declared.report.SetUp.{SetUp}
 use Rattle.channel_bench.specs.declared.words.BenchWords.{BenchWords}
-use Rattle.channel_bench.specs.BenchLaw.{BenchLaw, IsFollowed, AsksFindRoom, ProgramsFollow}
+use Rattle.channel_bench.specs.BenchLaw.{BenchLaw, IsFollowed, ProgramsFollow}
 use Rattle.channel_bench.specs.BenchOrder.{IsNoted, set_up_of, stations_of, steps_of_run, the_calls}
 use Rattle.channel_bench.specs.BenchState.{BenchState, config_of}
 use Rattle.channel_bench.specs.HostProgram.{ProgramState, set_ups_of}
@@ -21,6 +21,7 @@ use Rattle.channel_bench.specs.LinkOfCalls.{world_of}
 use Rattle.channel_bench.specs.MatchedLaw.{pairs_in}
 use Rattle.channel_bench.specs.SetUpsSeen.{Seen, as_seen, set_ups_seen}
 use Rattle.channel_bench.specs.Words.{seed_at}
+use Rattle.channel_bench.proofs.AsksInRoom.{asks_find_room}
 use Rattle.channel_bench.proofs.CoreRun.{core_kept}
 use Rattle.channel_bench.proofs.LinkNow.{GivenUp, links_of, only_a_calls, windows}
 use Rattle.channel_bench.proofs.GotOctets.{octets_in_order, seen_as}
@@ -28,6 +29,7 @@ use Rattle.channel_bench.proofs.MatchedLaws.{matched_law_holds}
 use Rattle.channel_bench.proofs.MatchedOrder.{matched_in_order_holds}
 use Rattle.channel_bench.proofs.NotedRun.{noted_kept}
 use Rattle.channel_bench.proofs.ProgramsAsk.{AskLittle, asks_kept}
+use Rattle.channel_bench.proofs.RoomForAsks.{AsksFindRoom}
 use Rattle.channel_bench.proofs.RunOfParts.{ticks_keep}
 use Rattle.channel_bench.proofs.RunSees.{run_sees}
 use Rattle.channel_bench.proofs.StepSees.{both_ends}
@@ -68,11 +70,12 @@ followed w report over matched room =
     }
 
 pub programs_follow_holds : ProgramsFollow
-programs_follow_holds w report over room =
-    followed w report over (run_in_time w over.count over.bench over.ticks over.no_trouble).both.matched room
+programs_follow_holds w report over =
+    followed w report over (run_in_time w over.count over.bench over.ticks over.no_trouble).both.matched
+    (asks_find_room w over.count over.bench over.ticks over.no_trouble)
 
 pub bench_law_holds : BenchLaw
-bench_law_holds w report over room =
+bench_law_holds w report over =
     let bench = over.bench in
     let moments = bench.common.moments in
     let steps = steps_of_run bench in
@@ -84,6 +87,7 @@ bench_law_holds w report over room =
     (core_kept w AskLittle (asks_kept w)) over.count bench
     over.ticks over.no_trouble in
     let matched = (run_in_time w over.count bench over.ticks over.no_trouble).both.matched in
+    let room = asks_find_room w over.count bench over.ticks over.no_trouble in
     let order = matched_in_order_holds moments matched in
     let h = followed w report over matched room in
     let kept =

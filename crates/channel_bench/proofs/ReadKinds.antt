@@ -45,9 +45,9 @@ kind_test test no_info Eight OneTwentyEight (Ui flag pid octets) found is none =
 kind_test test no_info Eight OneTwentyEight (Other which flag octets) found is none =
     same_kind test (Other which flag octets) found none is
 kind_test test no_info OneTwentyEight Eight (Info ns nr poll pid octets) found is none =
-    let second = 2 * nr + bit poll in
-    narrow_kind test (nat_lt (length octets) 256) (Info (ns % 8) (ns / 16) (is_odd (ns / 8)) second (pid ∷ octets)) found
-    (no_info (ns % 8) (ns / 16) (is_odd (ns / 8)) second (pid ∷ octets)) is
+    let last = 2 * nr + bit poll in
+    narrow_kind test (nat_lt (length octets) 256) (Info (ns % 8) (ns / 16) (is_odd (ns / 8)) last (pid ∷ octets)) found
+    (no_info (ns % 8) (ns / 16) (is_odd (ns / 8)) last (pid ∷ octets)) is
 kind_test test no_info OneTwentyEight Eight (Super which nr flag) found is none = absurd (cc)
 kind_test test no_info OneTwentyEight Eight (Setup which flag) found is none =
     same_kind test (Setup which flag) found none is

@@ -1,5 +1,5 @@
--- The frames that acts of a link send: at most one SABM, SABME, DISC, UA or DM, none that asks if the link is up then, and UA
--- only in answer to one that asks. The link comes up only as it hears UA or one that asks.
+-- The frames that acts of a link send: at most one SABM, SABME, DISC, UA or DM, none that asks if the link is up then,
+-- and UA only in answer to one that asks. The link comes up only as it hears UA or one that asks.
 use Rattle.std.proofs.Common.{◌≡◌, ◌+◌, ◌≤◌, ◌==◌, ◌&&◌, ◌||◌, Bool, true, false, List, [], ◌∷◌, ◌++◌, length, cond, refl, sym, ap, ◌∙◌, subst, arith, ℕ}
 use Rattle.std.specs.List.{count_by, list_any}
 use Rattle.std.proofs.lemmas.Bool.{and_parts}
@@ -90,7 +90,9 @@ pub record Sends (m : Machine) (asking ua : Bool) (u : Turn) : Type 0 where
   -- so a DISC may follow
   pub quits : u.now.control.state ≡ Up → u.now.control.quit ≡ true → list_any is_unnumbered u.sent ≡ false
 
-count_one : (sent : List SentIn) (s : SentIn) → list_any is_unnumbered sent ≡ false → count_by is_unnumbered (sent ++ s ∷ []) ≤ 1
+count_one :
+    (sent : List SentIn) (s : SentIn) → list_any is_unnumbered sent ≡ false
+    → count_by is_unnumbered (sent ++ s ∷ []) ≤ 1
 count_one sent s none =
     let both = count_append is_unnumbered sent (s ∷ []) in
     let zero = count_none is_unnumbered sent none in
@@ -147,7 +149,8 @@ pub opened :
     (m : Machine) (ua : Bool) (u : Turn) (modulus : ℕ) (flag : Bool) → u.sent ≡ sent_in modulus (SetupSent Ua flag) ∷ []
     → u.now.control.quit ≡ false → Sends m true ua u
 opened m ua u modulus flag sent quit = record {
-  few = subst (λ xs. count_by is_unnumbered xs ≤ 1) (sym sent) (count_one [] (sent_in modulus (SetupSent Ua flag)) refl);
+  few = subst (λ xs. count_by is_unnumbered xs ≤ 1) (sym sent)
+      (count_one [] (sent_in modulus (SetupSent Ua flag)) refl);
   up = λ is. ap (list_any asks_when_sent) sent;
   was_up = λ never. absurd (cc);
   answers = λ never. absurd (cc);
@@ -195,7 +198,8 @@ released m asking ua t up wish h =
     }
 
 pub closes :
-    (m : Machine) (asking ua : Bool) (t : Turn) → t.now.control.state ≡ Up → Sends m asking ua t → Sends m asking ua (close t)
+    (m : Machine) (asking ua : Bool) (t : Turn) → t.now.control.state ≡ Up → Sends m asking ua t
+    → Sends m asking ua (close t)
 closes m asking ua t up h = go (t.now.control.quit && length t.now.outgoing.packets == 0) refl
   where
     go : (b : Bool) → (t.now.control.quit && length t.now.outgoing.packets == 0) ≡ b

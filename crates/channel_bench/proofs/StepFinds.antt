@@ -13,7 +13,6 @@ use Rattle.link_world.specs.declared.end.End.TheVariants.{A, B}
 use Rattle.link_world.proofs.law.Each.{each_of_all}
 use Rattle.station.specs.Turn.{begin}
 use Rattle.channel_bench.specs.declared.words.BenchWords.{BenchWords}
-use Rattle.channel_bench.specs.BenchLaw.{AsksFindRoom, AsksFindRoomAt}
 use Rattle.channel_bench.specs.BenchOrder.{IsNoted, the_calls}
 use Rattle.channel_bench.specs.BenchState.{Near, config_of, params_of}
 use Rattle.channel_bench.specs.BenchSteps.{IsStep}
@@ -42,6 +41,7 @@ use Rattle.channel_bench.proofs.NotedRun.{noted_kept, steps_more}
 use Rattle.channel_bench.proofs.OneKey.{Keyed}
 use Rattle.channel_bench.proofs.OwnLinks.{IsOwnFrame, OwnsAll, chosen}
 use Rattle.channel_bench.proofs.OwnMessages.{IsHeardFrom}
+use Rattle.channel_bench.proofs.RoomForAsks.{AsksFindRoom, AsksFindRoomAt}
 use Rattle.channel_bench.proofs.StepSees.{heard_from, matched_last, queue_of, unshown_of}
 use Rattle.channel_bench.proofs.Tables.{not_both}
 

@@ -149,13 +149,15 @@ rnr_still : (n : ℕ) (asks answers : Bool) (t : Turn) → Still t (hear_rnr n a
 rnr_still n asks answers t =
     let u = changing (acknowledged n) (setting (with_busy true) t) in
     let v = recover answers (answer_poll asks u) in
-    still_on t v _ (still_on t u v (busy_still true n t) (answered_still asks answers u)) (still_none v _ refl refl refl)
+    still_on t v _ (still_on t u v (busy_still true n t) (answered_still asks answers u))
+    (still_none v _ refl refl refl)
 
 rej_still : (n : ℕ) (asks answers : Bool) (t : Turn) → Still t (hear_rej n asks answers t)
 rej_still n asks answers t =
     let u = changing (acknowledged n) (setting (with_busy false) t) in
     let v = changing gone_back u in
-    still_on t v _ (still_on t u v (busy_still false n t) (still_none u v refl refl refl)) (answered_still asks answers v)
+    still_on t v _ (still_on t u v (busy_still false n t) (still_none u v refl refl refl))
+    (answered_still asks answers v)
 
 again_still : (n : ℕ) (t : Turn) → Still t (send_again n t)
 again_still n t =
@@ -197,7 +199,8 @@ in_sequence_still flag packet t =
 
 reject_still : (flag : Bool) (t : Turn) → Still t (reject flag t)
 reject_still flag t =
-    still_more t _ (sent_in t.now.incoming.modulus (SuperSent Rej false t.now.incoming.vr flag) ∷ []) refl refl refl refl
+    let rej = SuperSent Rej false t.now.incoming.vr flag in
+    still_more t _ (sent_in t.now.incoming.modulus rej ∷ []) refl refl refl refl
 
 out_of_sequence_still : (flag : Bool) (t : Turn) → Still t (refuse_out_of_sequence flag t)
 out_of_sequence_still flag t =

@@ -56,8 +56,8 @@ abbrev pub DropsNoAsk : LinkStep → Type 0
 DropsNoAsk step =
     list_any asks_when_sent (drop step.joined (link_turn step.link.machine step.event).sent) ≡ false
 
--- What is asked of an event, by the state of the link before it. (If the first SABM of a call were dropped, an old UA could
--- answer it. While the link is up, nothing that asks or answers is in flight.)
+-- What is asked of an event, by the state of the link before it. (If the first SABM of a call were dropped, an old UA
+-- could answer it. While the link is up, nothing that asks or answers is in flight.)
 abbrev pub FindsRoom : LinkState → LinkStep → Type 0
 FindsRoom Idle step = DropsNoAsk step
 FindsRoom Calling step = DropsNoAsk step
@@ -79,8 +79,8 @@ abbrev pub IsEventOfCaller : End → LinkStep → Type 0
 IsEventOfCaller A step = AsksInRoom step
 IsEventOfCaller B step = IsOfNoHost step.event
 
--- Of the link of two calls: hosts of A alone connect and disconnect, and while it is not up at A, no SABM, SABME or DISC of A
--- finds the transmit queue full.
+-- Of the link of two calls: hosts of A alone connect and disconnect, and while it is not up at A, no SABM, SABME or
+-- DISC of A finds the transmit queue full.
 abbrev pub OnlyACalls : Calls → List Step → Type 0
 OnlyACalls calls [] = Unit {0}
 OnlyACalls calls (step ∷ steps) =

@@ -47,8 +47,8 @@ pub fn matched_in_order()
 /// of its direction is heard, or it has passed. If each heard frame is matched with one in flight that has the same octets,
 /// each SABM, SABME and DISC that joins a transmit queue finds none of its station in flight, and no UA or DM that was sent on
 /// hearing one in flight to it, and the windows fit, then the link of two calls keeps the order of [`stations_law`], if hosts of
-/// A alone connect and disconnect it and, while it is not up at A, none of its SABM, SABME and DISC finds the transmit queue
-/// full there.
+/// A alone connect and disconnect it and, while it is not up at A, none of its SABM, SABME and DISC finds the transmit
+/// queue full there.
 pub fn matched_law()
     ensures { MatchedLaw }
 {}
@@ -78,8 +78,7 @@ pub fn programs_are_told()
 {}
 
 /// The law on a bench. In a run that is over, at each side each set-up that got octets has an origin, a set-up of the other
-/// side; what was got is a first part of what was given in it; and origins rise strictly from set-up to set-up. It asks of the
-/// run that no SABM, SABME or DISC of A found the transmit queue full while the link was not up there.
+/// side; what was got is a first part of what was given in it; and origins rise strictly from set-up to set-up.
 pub fn bench_law()
     ensures { BenchLaw }
 {}
@@ -96,9 +95,8 @@ pub fn runs_tell_in_one()
     ensures { RunsTellInOne }
 {}
 
-/// In a run of the bench that is over, in which no SABM, SABME or DISC of A found the transmit queue full while the link was not
-/// up there, the host programs gave only while it was up, which took each packet, and saw the set-ups of the link, each with the
-/// octets of its packets.
+/// In a run of the bench that is over, the host programs gave only while the link was up, which took each packet, and saw
+/// the set-ups of the link, each with the octets of its packets.
 pub fn programs_follow()
     ensures { ProgramsFollow }
 {}

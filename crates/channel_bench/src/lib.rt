@@ -4,7 +4,7 @@
 //! partner's host gave in one set-up of its own, packet for packet, and these set-ups come in order (`stations_law`).
 //!
 //! And two stations joined by sound in one process, with losses and noise: a run of them, and its report, are exactly
-//! those of the definition (`bench`).
+//! those of the definition, and what the report tells keeps that order (`bench`).
 #![tactic(auto)]
 
 mod air;

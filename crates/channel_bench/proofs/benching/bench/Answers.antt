@@ -4,6 +4,7 @@ use Rattle.std.proofs.lemmas.Result.{err_from_is_err_and}
 use Rattle.channel_bench.specs.BenchRun.{AreTicks}
 use Rattle.channel_bench.specs.BenchState.{new_bench}
 use Rattle.channel_bench.specs.HeldBench.{HasMade}
+use Rattle.channel_bench.proofs.OrderLaws.{bench_law_holds}
 use Rattle.channel_bench.proofs.benching.bench.Goals as goal
 
 pub loop-init : goal.loop-init
@@ -41,6 +42,9 @@ returns-then-is_over-clause-over c =
       over = sym (c.is_over.ensures c.args.words made.bench made.stands) ∙ c.if-is_over.true;
       told = c.in_ok-report.ensures c.args.words made.bench made.stands;
     }
+
+pub returns-then-is_over-clause-order : goal.returns-then-is_over-clause-order
+returns-then-is_over-clause-order c = bench_law_holds c.args.words _ (returns-then-is_over-clause-over c)
 
 pub returns-clause-fault : goal.returns-clause-fault
 returns-clause-fault c =
