@@ -15,8 +15,8 @@ use std::marker::Model;
 use tnc_base::OutOfMemory;
 use tone_tracking::{BitClock, Pull, Reach, ToneLists};
 
-/// Two lists of tones decided in phase, the clocks that follow them, and the lanes that read them: `new`, then `feed` for
-/// each block of samples. After want of memory no clause says what it gives.
+/// Two lists of tones decided in phase, the clocks that follow them, and the lanes that read them: `new`, then `feed`
+/// for each block of samples. After want of memory no clause says what it gives.
 #[derive(Drop)]
 pub struct AddedBank {
     alloc: Global,

@@ -33,7 +33,8 @@ pub(crate) fn hear_place(
     ensures read { OnOk result ((x : List ℤ) → IsLastPlace lists.now readings.now x
         → LanesHaveRead lanes.old readings.now.place x → LanesHaveRead lanes.new (readings.now.place + 1) x) }
     ensures found { OnOk result ((x : List ℤ) → IsLastPlace lists.now readings.now x
-        → LanesHaveRead lanes.old readings.now.place x → AddsBelow readings.now.place 23 x found.old.items found.new.items) }
+        → LanesHaveRead lanes.old readings.now.place x
+        → AddsBelow readings.now.place 23 x found.old.items found.new.items) }
     ensures bounds { OnOk result (All CanBePut found.old.items → All CanBePut found.new.items) }
 {
     for index in 0..15u8 {
@@ -85,8 +86,8 @@ fn hear(
     Ok(())
 }
 
-/// Whether the bit that a lane reads is the last 0 of a flag, also by the plain count of samples: the tones two bits and
-/// one bit before agree, and the tone of the bit is another.
+/// Whether the bit that a lane reads is the last 0 of a flag, also by the plain count of samples: the tones two bits
+/// and one bit before agree, and the tone of the bit is another.
 fn ends_in_time(lists: &ToneLists, number: u8) -> bool
     requires room { lists.now.count < 2 ^ 49 }
     ensures { (x : List ℤ) (place : ℕ) → ListsHaveTaken lists.now x → places_in lists.now.count ≡ place + 1

@@ -37,9 +37,9 @@ pub fn sensitive_items_are_all()
     ensures { (x : List ℤ) (items : List Candidate) → AreMergedBetween 0 (length x + 1) x items → AreMerged x items }
 {}
 
-/// Samples near a signal give the frames that were sent, each once, in order, if no candidate of any lane is stray: each
-/// transmission begins at a phase of its own and has a level of its own, each of its samples is off by at most a tenth
-/// of that level, and anything is heard before it and after it.
+/// Samples near a signal give the frames that were sent, each once, in order, if no candidate of any lane is stray.
+/// Each transmission begins at a phase of its own and has a level of its own, each of its samples is off by at most a
+/// tenth of that level, and anything is heard before it and after it.
 pub fn sensitive_near_frames()
     ensures { (received : List Received) (x : List ℤ) → All IsReceived received → IsNearAll received x
         → NoneStray (transmissions_of received) x → MergesTo (frames_of (transmissions_of received)) x }
