@@ -23,15 +23,25 @@ use Rattle.sensitive_receiver.proofs.PrefixLanes.{bank_taken-append}
 
 abbrev pub bank_of : ℕ → HeldLists → Pull × Clock → Pull × Clock → Pull × Clock → List HeldLane → HeldBank
 bank_of position lists slow_near slow_far fast_near lanes =
-    record { position = position; lists = lists; slow_near = slow_near; slow_far = slow_far; fast_near = fast_near; lanes = lanes }
+    record {
+      position = position;
+      lists = lists;
+      slow_near = slow_near;
+      slow_far = slow_far;
+      fast_near = fast_near;
+      lanes = lanes;
+    }
 
 -- the tone at the place that was decided last
-pub last_tone_is : (x : List ℤ) (reach : Reach) (count place : ℕ) (tone : Tone) → tone ≡ tone_before (heard reach x) (places_in count) 0 → places_in count ≡ place + 1
+pub last_tone_is : (x : List ℤ) (reach : Reach) (count place : ℕ) (tone : Tone)
+    → tone ≡ tone_before (heard reach x) (places_in count) 0 → places_in count ≡ place + 1
     → tone ≡ heard reach x place
-last_tone_is x reach count place tone is last = is ∙ ap (λ n. tone_before (heard reach x) n 0) last ∙ tone_before-last (heard reach x) place
+last_tone_is x reach count place tone is last = is ∙ ap (λ n. tone_before (heard reach x) n 0) last
+    ∙ tone_before-last (heard reach x) place
 
 -- what the clocks say of a place
-pub readings_are : (x : List ℤ) (place : ℕ) (a b c : Clock) (p q r : Bool) → ClocksHaveTaken a b c place x → p ≡ reads a → q ≡ reads b → r ≡ reads c
+pub readings_are : (x : List ℤ) (place : ℕ) (a b c : Clock) (p q r : Bool) → ClocksHaveTaken a b c place x → p ≡ reads a
+    → q ≡ reads b → r ≡ reads c
     → record { place = place; slow_near = p; slow_far = q; fast_near = r } ≡ readings_at x place
 unfolding readings_at
 readings_are x place a b c p q r h p_is q_is r_is =
@@ -41,8 +51,10 @@ readings_are x place a b c p q r h p_is q_is r_is =
     λ i. record { place = place; slow_near = one i; slow_far = two i; fast_near = three i }
 
 -- no place is decided by the sample
-pub taken_few : (position : ℕ) (was lists : HeldLists) (a b c : Pull × Clock) (lanes : List HeldLane) (x : List ℤ) → position + 1 < 24
-    → ListsHaveTaken lists x → lists.count ≡ position + 1 → HasTaken (bank_of position was a b c lanes) x → HasTaken (bank_of (position + 1) lists a b c lanes) x
+pub taken_few : (position : ℕ) (was lists : HeldLists) (a b c : Pull × Clock) (lanes : List HeldLane) (x : List ℤ)
+    → position + 1 < 24
+    → ListsHaveTaken lists x → lists.count ≡ position + 1 → HasTaken (bank_of position was a b c lanes) x
+    → HasTaken (bank_of (position + 1) lists a b c lanes) x
 taken_few position was lists a b c lanes x few taken count h =
     let same : places_in position ≡ places_in (position + 1) = omega arith in
     record {
@@ -53,45 +65,59 @@ taken_few position was lists a b c lanes x few taken count h =
     }
 
 -- and so nothing is found
-pub adds_few : (position : ℕ) (x : List ℤ) (found : List Candidate) → position + 1 < 24 → AddsBetween (places_in position) (places_in (position + 1)) x found found
+pub adds_few : (position : ℕ) (x : List ℤ) (found : List Candidate) → position + 1 < 24
+    → AddsBetween (places_in position) (places_in (position + 1)) x found found
 adds_few position x found few =
-    adds_none (λ p l. (places_in position ≤ p) × (p < places_in (position + 1))) x found (λ item place of ends. let a = of.0 in let b = of.1 in absurd (omega arith))
+    adds_none (λ p l. (places_in position ≤ p) × (p < places_in (position + 1))) x found
+    (λ item place of ends. let a = of.0 in let b = of.1 in absurd (omega arith))
 
 -- what the lanes below lane 23 add at a place is all that is added there
-pub adds_place : (place from to : ℕ) (x : List ℤ) (before after : List Candidate) → from ≡ place → to ≡ place + 1 → AddsBelow place 23 x before after → AddsBetween from to x before after
+pub adds_place : (place from to : ℕ) (x : List ℤ) (before after : List Candidate) → from ≡ place → to ≡ place + 1
+    → AddsBelow place 23 x before after → AddsBetween from to x before after
 adds_place place from to x before after from_is to_is a = record {
   heard = a.heard;
   found = a.found;
   are = record {
     each = λ k d l. let e = a.are.each k d l in (e.0, (let p = e.1.0 in (omega arith, omega arith)), e.2);
-    whole = λ item p of ends. let low = of.0 in let high = of.1 in a.are.whole item p ((let e : p ≡ place = omega arith in e), ends.most) ends;
+    whole = λ item p of ends. let low = of.0 in let high = of.1 in
+        a.are.whole item p ((let e : p ≡ place = omega arith in e), ends.most) ends;
     apart = a.are.apart;
   };
 }
 
 -- what was lent comes back as it was left
-pub given_back : (n : ℕ) (lanes before : List HeldLane) → n ≡ length lanes → take n (lanes ++ drop (length lanes) before) ≡ lanes
-given_back n lanes before full = ap (λ m. take m (lanes ++ drop (length lanes) before)) full ∙ take-append_seam lanes (drop (length lanes) before)
+pub given_back : (n : ℕ) (lanes before : List HeldLane) → n ≡ length lanes
+    → take n (lanes ++ drop (length lanes) before) ≡ lanes
+given_back n lanes before full = ap (λ m. take m (lanes ++ drop (length lanes) before)) full
+    ∙ take-append_seam lanes (drop (length lanes) before)
 
 -- whether a place is decided, as the lists tell it
-pub not_yet : (told : Bool) (count position : ℕ) → IsTrue told ↔ (23 ≤ count) → told ≡ false → count ≡ position → position + 1 < 24
+pub not_yet : (told : Bool) (count position : ℕ) → IsTrue told ↔ (23 ≤ count) → told ≡ false → count ≡ position
+    → position + 1 < 24
 not_yet told count position both is same = elim (cases_lt position 23) [
   | inl few ↦ omega arith
   | inr enough ↦ absurd (true≢false (sym (both.1 (omega arith)) ∙ is))
 ]
 
-pub already : (told : Bool) (count position : ℕ) → IsTrue told ↔ (23 ≤ count) → told ≡ true → count ≡ position → 23 ≤ position
+pub already : (told : Bool) (count position : ℕ) → IsTrue told ↔ (23 ≤ count) → told ≡ true → count ≡ position
+    → 23 ≤ position
 already told count position both is same = let enough = both.0 is in omega arith
 
 -- a place is decided by the sample
-module _ (position : ℕ) (was lists : HeldLists) (a b c a' b' c' : Pull × Clock) (lanes now : List HeldLane) (near far : Tone) (p q r : Bool) (x : List ℤ)
-    (enough : 23 ≤ position) (taken : ListsHaveTaken lists x) (count : lists.count ≡ position + 1) (h : HasTaken (bank_of position was a b c lanes) x)
-    (near_is : near ≡ tone_before (heard Near x) (places_in lists.count) 0) (far_is : far ≡ tone_before (heard Far x) (places_in lists.count) 0)
+module _ (position : ℕ) (was lists : HeldLists) (a b c a' b' c' : Pull × Clock) (lanes now : List HeldLane)
+    (near far : Tone) (p q r : Bool) (x : List ℤ)
+    (enough : 23 ≤ position) (taken : ListsHaveTaken lists x) (count : lists.count ≡ position + 1)
+    (h : HasTaken (bank_of position was a b c lanes) x)
+    (near_is : near ≡ tone_before (heard Near x) (places_in lists.count) 0)
+    (far_is : far ≡ tone_before (heard Far x) (places_in lists.count) 0)
     (p_is : p ≡ reads a.1) (q_is : q ≡ reads b.1) (r_is : r ≡ reads c.1)
     (a_pull : a.0 ≡ Slow) (b_pull : b.0 ≡ Slow) (c_pull : c.0 ≡ Fast)
-    (a_step : (tones : ℕ → Tone) (k : ℕ) → a.1 ≡ clock_after a.0 tones k → near ≡ tones k → a'.1 ≡ clock_after a.0 tones (k + 1))
-    (b_step : (tones : ℕ → Tone) (k : ℕ) → b.1 ≡ clock_after b.0 tones k → far ≡ tones k → b'.1 ≡ clock_after b.0 tones (k + 1))
-    (c_step : (tones : ℕ → Tone) (k : ℕ) → c.1 ≡ clock_after c.0 tones k → near ≡ tones k → c'.1 ≡ clock_after c.0 tones (k + 1)) where
+    (a_step : (tones : ℕ → Tone) (k : ℕ) → a.1 ≡ clock_after a.0 tones k → near ≡ tones k
+    → a'.1 ≡ clock_after a.0 tones (k + 1))
+    (b_step : (tones : ℕ → Tone) (k : ℕ) → b.1 ≡ clock_after b.0 tones k → far ≡ tones k
+    → b'.1 ≡ clock_after b.0 tones (k + 1))
+    (c_step : (tones : ℕ → Tone) (k : ℕ) → c.1 ≡ clock_after c.0 tones k → near ≡ tones k
+    → c'.1 ≡ clock_after c.0 tones (k + 1)) where
   abbrev pub place : ℕ
   place = position + 1 - 24
 
@@ -111,10 +137,13 @@ module _ (position : ℕ) (was lists : HeldLists) (a b c a' b' c' : Pull × Cloc
   last = record { taken = taken; last = next; readings = readings_are x place a.1 b.1 c.1 p q r before p_is q_is r_is }
 
   -- a clock one place on, its pull being known
-  stepped : (pull : Pull) (tones : ℕ → Tone) (old new : Pull × Clock) (tone : Tone) → old.0 ≡ pull → old.1 ≡ clock_after pull tones place → tone ≡ tones place
-      → ((t : ℕ → Tone) (k : ℕ) → old.1 ≡ clock_after old.0 t k → tone ≡ t k → new.1 ≡ clock_after old.0 t (k + 1)) → new.1 ≡ clock_after pull tones (place + 1)
+  stepped : (pull : Pull) (tones : ℕ → Tone) (old new : Pull × Clock) (tone : Tone) → old.0 ≡ pull
+      → old.1 ≡ clock_after pull tones place → tone ≡ tones place
+      → ((t : ℕ → Tone) (k : ℕ) → old.1 ≡ clock_after old.0 t k → tone ≡ t k → new.1 ≡ clock_after old.0 t (k + 1))
+      → new.1 ≡ clock_after pull tones (place + 1)
   stepped pull tones old new tone pull_is is tone_is step =
-      step tones place (is ∙ ap (λ w. clock_after w tones place) (sym pull_is)) tone_is ∙ ap (λ w. clock_after w tones (place + 1)) pull_is
+      step tones place (is ∙ ap (λ w. clock_after w tones place) (sym pull_is)) tone_is
+      ∙ ap (λ w. clock_after w tones (place + 1)) pull_is
 
   clocks : ClocksHaveTaken a'.1 b'.1 c'.1 (place + 1) x
   clocks =
@@ -129,7 +158,8 @@ module _ (position : ℕ) (was lists : HeldLists) (a b c a' b' c' : Pull × Cloc
   read_before : LanesHaveRead lanes place x
   read_before = subst (λ n. LanesHaveRead lanes n x) here h.lanes
 
-  pub taken_place : (IsLastPlace lists told x → LanesHaveRead lanes place x → LanesHaveRead now (place + 1) x) → HasTaken (bank_of (position + 1) lists a' b' c' now) x
+  pub taken_place : (IsLastPlace lists told x → LanesHaveRead lanes place x → LanesHaveRead now (place + 1) x)
+      → HasTaken (bank_of (position + 1) lists a' b' c' now) x
   taken_place read =
       let further : place + 1 ≡ places_in (position + 1) = omega arith in
       record {
@@ -139,9 +169,11 @@ module _ (position : ℕ) (was lists : HeldLists) (a b c a' b' c' : Pull × Cloc
         lanes = subst (λ n. LanesHaveRead now n x) further (read last read_before);
       }
 
-  pub found_place : (found after : List Candidate) → (IsLastPlace lists told x → LanesHaveRead lanes place x → AddsBelow place 23 x found after)
+  pub found_place : (found after : List Candidate)
+      → (IsLastPlace lists told x → LanesHaveRead lanes place x → AddsBelow place 23 x found after)
       → AddsBetween (places_in position) (places_in (position + 1)) x found after
-  found_place found after adds = adds_place place (places_in position) (places_in (position + 1)) x found after here (omega arith) (adds last read_before)
+  found_place found after adds = adds_place place (places_in position) (places_in (position + 1)) x found after here
+      (omega arith) (adds last read_before)
 
 -- what was found so far at the places of a block, with the samples of which more are known than are taken
 pub record HasFed (initial now : HeldBank) (block : List ℤ) (items : List Candidate) (n : ℕ) : Type 0 where
@@ -156,30 +188,40 @@ pub fed_none : (initial : HeldBank) (block : List ℤ) → HasFed initial initia
 fed_none initial block = record {
   position = omega arith;
   taken = λ x h room same. h;
-  found = λ x h room same. adds_none (λ p l. (places_in initial.position ≤ p) × (p < places_in initial.position)) x [] (λ item place of ends. let a = of.0 in let b = of.1 in absurd (omega arith));
+  found = λ x h room same. adds_none (λ p l. (places_in initial.position ≤ p) × (p < places_in initial.position)) x []
+      (λ item place of ends. let a = of.0 in let b = of.1 in absurd (omega arith));
 }
 
-pub fed_more : (initial was now : HeldBank) (block : List ℤ) (found after : List Candidate) (n : ℕ) (sample : ℤ) → HasFed initial was block found n → n < length block
+pub fed_more : (initial was now : HeldBank) (block : List ℤ) (found after : List Candidate) (n : ℕ) (sample : ℤ)
+    → HasFed initial was block found n → n < length block
     → sample ≡ get_or block n (pos 0) → now.position ≡ was.position + 1
-    → ((x : List ℤ) → HasTaken was x → was.position < length x → sample ≡ get_or x was.position (pos 0) → HasTaken now x)
-    → ((x : List ℤ) → HasTaken was x → was.position < length x → sample ≡ get_or x was.position (pos 0) → AddsBetween (places_in was.position) (places_in (was.position + 1)) x found after)
+    → ((x : List ℤ) → HasTaken was x → was.position < length x → sample ≡ get_or x was.position (pos 0)
+    → HasTaken now x)
+    → ((x : List ℤ) → HasTaken was x → was.position < length x → sample ≡ get_or x was.position (pos 0)
+    → AddsBetween (places_in was.position) (places_in (was.position + 1)) x found after)
     → HasFed initial now block after (n + 1)
 fed_more initial was now block found after n sample h inside is more take add =
     let position = h.position in
     record {
       position = omega arith;
-      taken = λ x t room same. take x (h.taken x t room same) (omega arith) (is ∙ same n inside ∙ ap (λ k. get_or x k (pos 0)) (sym position));
+      taken = λ x t room same. take x (h.taken x t room same) (omega arith)
+          (is ∙ same n inside ∙ ap (λ k. get_or x k (pos 0)) (sym position));
       found = λ x t room same.
-          let added = add x (h.taken x t room same) (omega arith) (is ∙ same n inside ∙ ap (λ k. get_or x k (pos 0)) (sym position)) in
-          subst (λ m. AddsBetween (places_in initial.position) m x [] after) (let next : places_in (was.position + 1) ≡ places_in now.position = omega arith in next)
-          (adds_next_places (places_in initial.position) (places_in was.position) (places_in (was.position + 1)) x [] found after (omega arith) (omega arith)
+          let added = add x (h.taken x t room same) (omega arith)
+          (is ∙ same n inside ∙ ap (λ k. get_or x k (pos 0)) (sym position)) in
+          subst (λ m. AddsBetween (places_in initial.position) m x [] after)
+          (let next : places_in (was.position + 1) ≡ places_in now.position = omega arith in next)
+          (adds_next_places (places_in initial.position) (places_in was.position)
+          (places_in (was.position + 1)) x [] found after (omega arith) (omega arith)
           (h.found x t room same) added);
     }
 
 -- the whole block
-pub fed_all : (initial now : HeldBank) (block : List ℤ) (items : List Candidate) (n : ℕ) → HasFed initial now block items n → n ≡ length block
+pub fed_all : (initial now : HeldBank) (block : List ℤ) (items : List Candidate) (n : ℕ)
+    → HasFed initial now block items n → n ≡ length block
     → (x : List ℤ) → StandsFor initial x
-    → StandsFor now (x ++ block) × AreAddedBetween (places_in (length x)) (places_in (length (x ++ block))) (x ++ block) items
+    → StandsFor now (x ++ block) × AreAddedBetween (places_in (length x)) (places_in (length (x ++ block)))
+    (x ++ block) items
 fed_all initial now block items n fed whole x h =
     let y : List ℤ = x ++ block in
     let size : length y ≡ length x + length block = length-append x block in
@@ -193,5 +235,6 @@ fed_all initial now block items n fed whole x h =
       record { position = end; taken = fed.taken y start (omega arith) same },
       subst (λ m. AreAddedBetween (places_in (length x)) (places_in m) y items) end
           (subst (λ m. AreAddedBetween (places_in m) (places_in now.position) y items) first
-          (subst (AreAddedBetween (places_in initial.position) (places_in now.position) y) (sym added.found) added.are)),
+          (subst (AreAddedBetween (places_in initial.position) (places_in now.position) y)
+          (sym added.found) added.are)),
     )

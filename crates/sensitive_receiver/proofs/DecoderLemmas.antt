@@ -21,7 +21,8 @@ use Rattle.sensitive_receiver.proofs.HeardLemmas.{all_of, heard_join, rest_late,
 use Rattle.sensitive_receiver.proofs.MergedLemmas.{rising_heard, end_gives, nothing_kept}
 
 -- nothing is taken
-pub taken_none : (bank : HeldBank) (added : HeldAdded) (merger : HeldMerger) → BankStandsFor bank [] → AddedStandsFor added [] → MergerStandsFor merger [] [] → merger.items ≡ []
+pub taken_none : (bank : HeldBank) (added : HeldAdded) (merger : HeldMerger) → BankStandsFor bank []
+    → AddedStandsFor added [] → MergerStandsFor merger [] [] → merger.items ≡ []
     → HaveTaken bank added merger []
 taken_none bank added merger b a m empty = record {
   samples = b;
@@ -36,20 +37,25 @@ taken_none bank added merger b a m empty = record {
 
 -- ---- a block more
 
-module _ (x y : List ℤ) (old new : HeldBank) (before after : HeldAdded) (was marked now : HeldMerger) (found added ready : List Candidate)
+module _ (x y : List ℤ) (old new : HeldBank) (before after : HeldAdded) (was marked now : HeldMerger)
+    (found added ready : List Candidate)
     (room : length (x ++ y) < 2 ^ 48)
     (h : HaveTaken old before was x)
     (heard : BankStandsFor old x → BankStandsFor new (x ++ y) × AreCandidatesBehind (length x) (x ++ y) found)
-    (read : AddedStandsFor before x → AddedStandsFor after (x ++ y) × AreAddedBetween (places_in (length x)) (places_in (length (x ++ y))) (x ++ y) added)
-    (puts : (p given : List Candidate) → MergerStandsFor was p given → MergerStandsFor marked ((p ++ found) ++ added) given)
+    (read : AddedStandsFor before x → AddedStandsFor after (x ++ y) × AreAddedBetween (places_in (length x))
+    (places_in (length (x ++ y))) (x ++ y) added)
+    (puts : (p given : List Candidate) → MergerStandsFor was p given
+    → MergerStandsFor marked ((p ++ found) ++ added) given)
     (marks : marked.marks ≡ replicate 23 (settled (length (x ++ y))))
     (gives : (p given : List Candidate) → MergerStandsFor marked p given
     → MergerStandsFor now p (given ++ ready) × (given ++ ready ≡ below (least marked.marks) (merged (in_order p))))
-    (keeps : (p given : List Candidate) → MergerStandsFor marked p given → now.items ≡ not_below (least marked.marks - 15) (in_order p)) where
+    (keeps : (p given : List Candidate) → MergerStandsFor marked p given
+    → now.items ≡ not_below (least marked.marks - 15) (in_order p)) where
   bank : BankStandsFor new (x ++ y) × AreCandidatesBehind (length x) (x ++ y) found
   bank = heard h.samples
 
-  lanes : AddedStandsFor after (x ++ y) × AreAddedBetween (places_in (length x)) (places_in (length (x ++ y))) (x ++ y) added
+  lanes : AddedStandsFor after (x ++ y) × AreAddedBetween (places_in (length x)) (places_in (length (x ++ y)))
+      (x ++ y) added
   lanes = read h.places
 
   candidates : List Candidate
@@ -79,15 +85,18 @@ module _ (x y : List ℤ) (old new : HeldBank) (before after : HeldAdded) (was m
   unfolding given candidates
   given_is =
       sym (below_more (settled (length x)) h.candidates (found ++ added) (heard_in_order x h.candidates h.are)
-      (rest_small x y h.candidates found added h.are bank.1 lanes.1) (rest_late x y h.candidates found added h.are bank.1 lanes.1))
+      (rest_small x y h.candidates found added h.are bank.1 lanes.1)
+      (rest_late x y h.candidates found added h.are bank.1 lanes.1))
 
-  pub block_gives : HaveTaken new after now (x ++ y) × AreMergedBetween (settled (length x)) (settled (length (x ++ y))) (x ++ y) ready
+  pub block_gives : HaveTaken new after now (x ++ y) × AreMergedBetween (settled (length x)) (settled (length (x ++ y)))
+      (x ++ y) ready
   unfolding given all_puts
   block_gives =
       let len = length-append x y in
       let step = gives all_puts given (puts h.puts given h.so_far) in
       let total : given ++ ready ≡ below (settled (length (x ++ y))) (merged candidates)
-      = step.1 ∙ ap (λ n. below n (merged (in_order all_puts))) at ∙ ap (λ c. below (settled (length (x ++ y))) (merged c)) ordered in (
+      = step.1 ∙ ap (λ n. below n (merged (in_order all_puts))) at
+      ∙ ap (λ c. below (settled (length (x ++ y))) (merged c)) ordered in (
         record {
           samples = bank.0;
           places = lanes.0;
@@ -120,7 +129,8 @@ module _ (x : List ℤ) (bank : HeldBank) (added : HeldAdded) (was marked now : 
       end_gives x h.candidates rest h.are (last h.puts given (puts h.puts given h.so_far) ∙ ap merged h.order)
 
   pub keeps_nothing : least marked.marks ≡ 2 ^ 64 - 1
-      → ((p given : List Candidate) → MergerStandsFor marked p given → now.items ≡ not_below (least marked.marks - 15) (in_order p))
+      → ((p given : List Candidate) → MergerStandsFor marked p given → now.items ≡ not_below (least marked.marks - 15)
+      (in_order p))
       → now.items ≡ []
   keeps_nothing far keeps =
       let given : List Candidate = below (settled (length x)) (merged h.candidates) in

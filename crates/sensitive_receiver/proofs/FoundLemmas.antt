@@ -20,7 +20,8 @@ pub delay_small : (lane : ℕ) → lane < 23 → delay_of lane ≤ 2
 delay_small lane small = grind arith
 
 -- two items of one standing were heard at one place by one lane
-pub one_place : (x : List ℤ) (item other : Candidate) (p q : ℕ) → EndsAtPlace x item p → EndsAtPlace x other q → standing item ≡ standing other
+pub one_place : (x : List ℤ) (item other : Candidate) (p q : ℕ) → EndsAtPlace x item p → EndsAtPlace x other q
+    → standing item ≡ standing other
     → (p ≡ q) × (item.offset ≡ other.offset)
 one_place x item other p q a b same =
     let small = a.most in
@@ -33,7 +34,8 @@ one_place x item other p q a b same =
     (omega arith, lane)
 
 -- nothing
-pub where_none : (Of : ℕ → ℕ → Type 0) (x : List ℤ) → ((item : Candidate) (place : ℕ) → Of place item.offset → EndsAtPlace x item place → ⊥) → AreAddedWhere Of x []
+pub where_none : (Of : ℕ → ℕ → Type 0) (x : List ℤ)
+    → ((item : Candidate) (place : ℕ) → Of place item.offset → EndsAtPlace x item place → ⊥) → AreAddedWhere Of x []
 where_none Of x never = record {
   each = All-nil (λ item. (place : ℕ) × Of place item.offset × EndsAtPlace x item place);
   whole = λ item place of ends. absurd (never item place of ends);
@@ -41,13 +43,17 @@ where_none Of x never = record {
 }
 
 -- items of two kinds, which are then of a third
-pub where_join : (A B C : ℕ → ℕ → Type 0) (x : List ℤ) (items more : List Candidate) → AreAddedWhere A x items → AreAddedWhere B x more
-    → ((p l : ℕ) → A p l → C p l) → ((p l : ℕ) → B p l → C p l) → ((p l : ℕ) → C p l → A p l ⊎ B p l) → ((p l : ℕ) → A p l → B p l → ⊥)
+pub where_join : (A B C : ℕ → ℕ → Type 0) (x : List ℤ) (items more : List Candidate) → AreAddedWhere A x items
+    → AreAddedWhere B x more
+    → ((p l : ℕ) → A p l → C p l) → ((p l : ℕ) → B p l → C p l) → ((p l : ℕ) → C p l → A p l ⊎ B p l)
+    → ((p l : ℕ) → A p l → B p l → ⊥)
     → AreAddedWhere C x (items ++ more)
 where_join A B C x items more a b from_a from_b either never =
     let P : Candidate → Type 0 = λ item. (place : ℕ) × C place item.offset × EndsAtPlace x item place in
     record {
-      each = All-append P items more (λ k d l. let e = a.each k d l in (e.0, from_a e.0 (get_or items k d).offset e.1, e.2)) (λ k d l. let e = b.each k d l in (e.0, from_b e.0 (get_or more k d).offset e.1, e.2));
+      each = All-append P items more
+          (λ k d l. let e = a.each k d l in (e.0, from_a e.0 (get_or items k d).offset e.1, e.2))
+          (λ k d l. let e = b.each k d l in (e.0, from_b e.0 (get_or more k d).offset e.1, e.2));
       whole = λ item place of ends. elim (either place item.offset of) [
         | inl in_a ↦ Contains-append_left items more item (a.whole item place in_a ends)
         | inr in_b ↦ Contains-append_right items more item (b.whole item place in_b ends)
@@ -56,12 +62,15 @@ where_join A B C x items more a b from_a from_b either never =
           let e = a.each i d il in
           let f = b.each j d jl in
           let one = one_place x (get_or items i d) (get_or more j d) e.0 f.0 e.2 f.2 same in
-          never f.0 (get_or more j d).offset (subst (λ p. A p (get_or more j d).offset) one.0 (subst (A e.0) one.1 e.1)) f.1);
+          never f.0 (get_or more j d).offset
+          (subst (λ p. A p (get_or more j d).offset) one.0 (subst (A e.0) one.1 e.1)) f.1);
     }
 
 -- what is added, and what is added after it
-pub adds_join : (A B C : ℕ → ℕ → Type 0) (x : List ℤ) (before middle after : List Candidate) → AddsWhere A x before middle → AddsWhere B x middle after
-    → ((p l : ℕ) → A p l → C p l) → ((p l : ℕ) → B p l → C p l) → ((p l : ℕ) → C p l → A p l ⊎ B p l) → ((p l : ℕ) → A p l → B p l → ⊥)
+pub adds_join : (A B C : ℕ → ℕ → Type 0) (x : List ℤ) (before middle after : List Candidate)
+    → AddsWhere A x before middle → AddsWhere B x middle after
+    → ((p l : ℕ) → A p l → C p l) → ((p l : ℕ) → B p l → C p l) → ((p l : ℕ) → C p l → A p l ⊎ B p l)
+    → ((p l : ℕ) → A p l → B p l → ⊥)
     → AddsWhere C x before after
 adds_join A B C x before middle after a b from_a from_b either never = record {
   heard = a.heard ++ b.heard;
@@ -69,12 +78,14 @@ adds_join A B C x before middle after a b from_a from_b either never = record {
   are = where_join A B C x a.heard b.heard a.are b.are from_a from_b either never;
 }
 
-pub adds_none : (Of : ℕ → ℕ → Type 0) (x : List ℤ) (before : List Candidate) → ((item : Candidate) (place : ℕ) → Of place item.offset → EndsAtPlace x item place → ⊥)
+pub adds_none : (Of : ℕ → ℕ → Type 0) (x : List ℤ) (before : List Candidate)
+    → ((item : Candidate) (place : ℕ) → Of place item.offset → EndsAtPlace x item place → ⊥)
     → AddsWhere Of x before before
 adds_none Of x before never = record { heard = []; found = sym (append-nil before); are = where_none Of x never }
 
 -- the same of another kind
-pub adds_same : (A C : ℕ → ℕ → Type 0) (x : List ℤ) (before after : List Candidate) → AddsWhere A x before after → ((p l : ℕ) → A p l → C p l) → ((p l : ℕ) → C p l → A p l)
+pub adds_same : (A C : ℕ → ℕ → Type 0) (x : List ℤ) (before after : List Candidate) → AddsWhere A x before after
+    → ((p l : ℕ) → A p l → C p l) → ((p l : ℕ) → C p l → A p l)
     → AddsWhere C x before after
 adds_same A C x before after a to from = record {
   heard = a.heard;
@@ -87,7 +98,8 @@ adds_same A C x before after a to from = record {
 }
 
 -- one frame of one lane at one place
-pub adds_one : (x : List ℤ) (place lane : ℕ) (before after : List Candidate) (item : Candidate) → after ≡ before ++ item ∷ [] → item.offset ≡ lane → EndsAtPlace x item place
+pub adds_one : (x : List ℤ) (place lane : ℕ) (before after : List Candidate) (item : Candidate)
+    → after ≡ before ++ item ∷ [] → item.offset ≡ lane → EndsAtPlace x item place
     → ((octets : List ℕ) → EndsFrame (lane_bits x lane (place + 1)) octets → item.octets ≡ octets)
     → AddsAt place lane x before after
 adds_one x place lane before after item is of ends unique =
@@ -98,38 +110,49 @@ adds_one x place lane before after item is of ends unique =
       are = record {
         each = All-cons P item [] (place, (refl, of), ends) (All-nil P);
         whole = λ other p which there.
-            let frame : EndsFrame (lane_bits x lane (place + 1)) other.octets = (λ (f : EndsFrame (lane_bits x other.offset (p + 1)) other.octets).
-            subst (λ l. EndsFrame (lane_bits x l (place + 1)) other.octets) which.1 (subst (λ q. EndsFrame (lane_bits x other.offset (q + 1)) other.octets) which.0 f)) there.frame in
+            let frame : EndsFrame (lane_bits x lane (place + 1)) other.octets
+            = (λ (f : EndsFrame (lane_bits x other.offset (p + 1)) other.octets).
+            subst (λ l. EndsFrame (lane_bits x l (place + 1)) other.octets) which.1
+            (subst (λ q. EndsFrame (lane_bits x other.offset (q + 1)) other.octets) which.0 f)) there.frame in
             let octets : item.octets ≡ other.octets = unique other.octets frame in
             let lanes : item.offset ≡ other.offset = of ∙ sym which.1 in
             let here = ends.end_of in
             let there_end = there.end_of in
             let delays : delay_of item.offset ≡ delay_of other.offset = ap delay_of lanes in
             let p_is = which.0 in
-            let end : item.end ≡ other.end = omega arith in
-            (0, (let l : 0 < length (item ∷ []) = omega arith in l), (λ i. record { end = end i; offset = lanes i; octets = octets i }));
+            let end : item.end ≡ other.end = omega arith in (
+              0,
+              (let l : 0 < length (item ∷ []) = omega arith in l),
+              (λ i. record { end = end i; offset = lanes i; octets = octets i }),
+            );
         apart = λ i j d ij jl. absurd (omega arith);
       };
     }
 
 -- what was found can be put into a merger, and so can one item more
-pub bounds_more : (found after : List Candidate) (item : Candidate) → after ≡ found ++ item ∷ [] → CanBePut item → All CanBePut found → All CanBePut after
-bounds_more found after item is can all = subst (All CanBePut) (sym is) (All-append CanBePut found (item ∷ []) all (All-cons CanBePut item [] can (All-nil CanBePut)))
+pub bounds_more : (found after : List Candidate) (item : Candidate) → after ≡ found ++ item ∷ [] → CanBePut item
+    → All CanBePut found → All CanBePut after
+bounds_more found after item is can all = subst (All CanBePut) (sym is)
+    (All-append CanBePut found (item ∷ []) all (All-cons CanBePut item [] can (All-nil CanBePut)))
 
 -- what the lanes below one find at a place, and what that one finds there
-pub adds_next_lane : (place lane : ℕ) (x : List ℤ) (before found after : List Candidate) → AddsBelow place lane x before found → AddsAt place lane x found after
+pub adds_next_lane : (place lane : ℕ) (x : List ℤ) (before found after : List Candidate)
+    → AddsBelow place lane x before found → AddsAt place lane x found after
     → AddsBelow place (lane + 1) x before after
 adds_next_lane place lane x before found after a b =
-    adds_join (λ p q. (p ≡ place) × (q < lane)) (λ p q. (p ≡ place) × (q ≡ lane)) (λ p q. (p ≡ place) × (q < lane + 1)) x before found after a b
+    adds_join (λ p q. (p ≡ place) × (q < lane)) (λ p q. (p ≡ place) × (q ≡ lane))
+    (λ p q. (p ≡ place) × (q < lane + 1)) x before found after a b
     (λ p q h. (h.0, (let small = h.1 in omega arith))) (λ p q h. (h.0, (let same = h.1 in omega arith)))
     (λ p q h. elim (cases_lt q lane) [ inl lt ↦ inl (h.0, lt) | inr ge ↦ inr (h.0, (let small = h.1 in omega arith)) ])
     (λ p q h k. let small = h.1 in let same = k.1 in omega arith)
 
 -- what is found at places, and at the places that follow them
-pub adds_next_places : (from middle to : ℕ) (x : List ℤ) (before found after : List Candidate) → from ≤ middle → middle ≤ to
+pub adds_next_places : (from middle to : ℕ) (x : List ℤ) (before found after : List Candidate) → from ≤ middle
+    → middle ≤ to
     → AddsBetween from middle x before found → AddsBetween middle to x found after → AddsBetween from to x before after
 adds_next_places from middle to x before found after le le' a b =
-    adds_join (λ p l. (from ≤ p) × (p < middle)) (λ p l. (middle ≤ p) × (p < to)) (λ p l. (from ≤ p) × (p < to)) x before found after a b
+    adds_join (λ p l. (from ≤ p) × (p < middle)) (λ p l. (middle ≤ p) × (p < to))
+    (λ p l. (from ≤ p) × (p < to)) x before found after a b
     (λ p l h. (h.0, (let high = h.1 in omega arith))) (λ p l h. ((let low = h.0 in omega arith), h.1))
     (λ p l h. elim (cases_lt p middle) [ inl lt ↦ inl (h.0, lt) | inr ge ↦ inr (ge, h.1) ])
     (λ p l h k. let high = h.1 in let low = k.0 in omega arith)

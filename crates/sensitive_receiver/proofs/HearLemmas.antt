@@ -18,12 +18,14 @@ use Rattle.sensitive_receiver.proofs.LaneLemmas.{lane_tones-not, reads_as_told, 
 use Rattle.sensitive_receiver.proofs.FoundLemmas.{adds_none, adds_one}
 
 -- a lane that does not read
-module _ (lists : HeldLists) (readings : Readings) (x : List ℤ) (number : ℕ) (lane : HeldLane) (told : Bool) (last : IsLastPlace lists readings x)
+module _ (lists : HeldLists) (readings : Readings) (x : List ℤ) (number : ℕ) (lane : HeldLane) (told : Bool)
+    (last : IsLastPlace lists readings x)
     (told_is : told ≡ is_read_by number readings) (not_read : told ≡ false) where
   no_reading : is_read_at x number readings.place ≡ false
   no_reading = sym (reads_as_told x number readings told last.readings told_is) ∙ not_read
 
-  pub reads_nothing : LaneStandsFor lane (lane_tones x number readings.place) → LaneStandsFor lane (lane_tones x number (readings.place + 1))
+  pub reads_nothing : LaneStandsFor lane (lane_tones x number readings.place)
+      → LaneStandsFor lane (lane_tones x number (readings.place + 1))
   reads_nothing h = subst (LaneStandsFor lane) (sym (lane_tones-not x number readings.place no_reading)) h
 
   pub hears_nothing : (found : List Candidate) → AddsAt readings.place number x found found
@@ -32,7 +34,8 @@ module _ (lists : HeldLists) (readings : Readings) (x : List ℤ) (number : ℕ)
       true≢false (sym ends.reads ∙ (λ i. is_read_at x (of.1 i) (of.0 i)) ∙ no_reading))
 
 -- a lane that reads a tone
-module _ (lists : HeldLists) (readings : Readings) (x : List ℤ) (number : ℕ) (old new : HeldLane) (told : Bool) (tone : Tone) (reach : Reach) (delay : ℕ)
+module _ (lists : HeldLists) (readings : Readings) (x : List ℤ) (number : ℕ) (old new : HeldLane) (told : Bool)
+    (tone : Tone) (reach : Reach) (delay : ℕ)
     (last : IsLastPlace lists readings x) (told_is : told ≡ is_read_by number readings) (read : told ≡ true)
     (tone_is : (y : List ℤ) → ListsHaveTaken lists y → tone ≡ tone_before (heard reach y) (places_in lists.count) delay)
     (reach_is : reach ≡ list_of number) (delay_is : delay ≡ delay_of number)
@@ -44,36 +47,49 @@ module _ (lists : HeldLists) (readings : Readings) (x : List ℤ) (number : ℕ)
   reading = sym (reads_as_told x number readings told last.readings told_is) ∙ read
 
   tone_there : tone ≡ tone_read x number place
-  tone_there = tone_is_back x number place (places_in lists.count) 0 delay reach tone (tone_is x last.taken) reach_is last.last (delay_is ∙ omega arith)
+  tone_there = tone_is_back x number place (places_in lists.count) 0 delay reach tone
+      (tone_is x last.taken) reach_is last.last (delay_is ∙ omega arith)
 
   pub pushed : lane_tones x number (place + 1) ≡ lane_tones x number place ++ tone ∷ []
   pushed = tones-pushed x number place tone reading tone_there
 
-  pub reads_tone : ((tones : List Tone) → LaneStandsFor old tones → LaneStandsFor new (tones ++ tone ∷ [])) → LaneStandsFor new (lane_tones x number (place + 1))
+  pub reads_tone : ((tones : List Tone) → LaneStandsFor old tones → LaneStandsFor new (tones ++ tone ∷ []))
+      → LaneStandsFor new (lane_tones x number (place + 1))
   reads_tone step = subst (LaneStandsFor new) (sym pushed) (step (lane_tones x number place) stood)
 
-  pub frame_there : (octets : List ℕ) → EndsFrame (lane_bits x number (place + 1)) octets → EndsFrame (bits_of (lane_tones x number place ++ tone ∷ [])) octets
+  pub frame_there : (octets : List ℕ) → EndsFrame (lane_bits x number (place + 1)) octets
+      → EndsFrame (bits_of (lane_tones x number place ++ tone ∷ [])) octets
   frame_there octets ends = subst (λ tones. EndsFrame (bits_of tones) octets) pushed ends
 
   -- an item that ends there is one that the lane hears
-  frame_of : (item : Candidate) (p : ℕ) → (p ≡ place) × (item.offset ≡ number) → EndsAtPlace x item p → EndsFrame (bits_of (lane_tones x number place ++ tone ∷ [])) item.octets
+  frame_of : (item : Candidate) (p : ℕ) → (p ≡ place) × (item.offset ≡ number) → EndsAtPlace x item p
+      → EndsFrame (bits_of (lane_tones x number place ++ tone ∷ [])) item.octets
   frame_of item p of ends =
-      frame_there item.octets (subst (λ l. EndsFrame (lane_bits x l (place + 1)) item.octets) of.1 (subst (λ q. EndsFrame (lane_bits x item.offset (q + 1)) item.octets) of.0 ends.frame))
+      frame_there item.octets
+      (subst (λ l. EndsFrame (lane_bits x l (place + 1)) item.octets) of.1
+      (subst (λ q. EndsFrame (lane_bits x item.offset (q + 1)) item.octets) of.0 ends.frame))
 
   -- no frame ends
-  pub no_frame : (found : List Candidate) → ((octets : List ℕ) → EndsFrame (bits_of (lane_tones x number place ++ tone ∷ [])) octets → ⊥) → AddsAt place number x found found
-  no_frame found never = adds_none (λ p l. (p ≡ place) × (l ≡ number)) x found (λ item p of ends. never item.octets (frame_of item p of ends))
+  pub no_frame : (found : List Candidate)
+      → ((octets : List ℕ) → EndsFrame (bits_of (lane_tones x number place ++ tone ∷ [])) octets → ⊥)
+      → AddsAt place number x found found
+  no_frame found never = adds_none (λ p l. (p ≡ place) × (l ≡ number)) x found
+      (λ item p of ends. never item.octets (frame_of item p of ends))
 
   -- it does not end in time
   pub not_in_time : (found : List Candidate) → is_in_time x number place ≡ false → AddsAt place number x found found
   not_in_time found late =
-      adds_none (λ p l. (p ≡ place) × (l ≡ number)) x found (λ item p of ends. true≢false (sym ends.in_time ∙ (λ i. is_in_time x (of.1 i) (of.0 i)) ∙ late))
+      adds_none (λ p l. (p ≡ place) × (l ≡ number)) x found
+      (λ item p of ends. true≢false (sym ends.in_time ∙ (λ i. is_in_time x (of.1 i) (of.0 i)) ∙ late))
 
   -- it has no path
-  pub no_path : (found : List Candidate) (octets : List ℕ) → ((o : List ℕ) → EndsFrame (bits_of (lane_tones x number place ++ tone ∷ [])) o → octets ≡ o) → (HasPath octets → ⊥)
+  pub no_path : (found : List Candidate) (octets : List ℕ)
+      → ((o : List ℕ) → EndsFrame (bits_of (lane_tones x number place ++ tone ∷ [])) o → octets ≡ o)
+      → (HasPath octets → ⊥)
       → AddsAt place number x found found
   no_path found octets unique lacks =
-      adds_none (λ p l. (p ≡ place) × (l ≡ number)) x found (λ item p of ends. lacks (subst HasPath (sym (unique item.octets (frame_of item p of ends))) ends.path))
+      adds_none (λ p l. (p ≡ place) × (l ≡ number)) x found
+      (λ item p of ends. lacks (subst HasPath (sym (unique item.octets (frame_of item p of ends))) ends.path))
 
   -- a frame that keeps both rules
   pub one_frame : (found after : List Candidate) (octets : List ℕ) (end : ℕ) → 8 ≤ number → number < 23

@@ -40,7 +40,8 @@ heard_more x y item (inr h) =
     inr (record { place = h.place; decided = omega arith; ends = ends-append x y item h.place h.decided h.ends })
 
 -- what the lanes hear in more samples
-module _ (x y : List ℤ) (candidates found added : List Candidate) (are : AreHeard x candidates) (new : AreCandidatesBehind (length x) (x ++ y) found)
+module _ (x y : List ℤ) (candidates found added : List Candidate) (are : AreHeard x candidates)
+    (new : AreCandidatesBehind (length x) (x ++ y) found)
     (late : AreAddedBetween (places_in (length x)) (places_in (length (x ++ y))) (x ++ y) added) where
   abbrev pub all_of : List Candidate
   all_of = fold (λ ordered item. place item ordered) candidates (found ++ added)
@@ -49,22 +50,38 @@ module _ (x y : List ℤ) (candidates found added : List Candidate) (are : AreHe
   Apart item later = standing item ≢ standing later
 
   -- an item of the eight lanes and one of the others do not stand alike
-  other_lane : (item other : Candidate) → IsCandidate (x ++ y) item → 8 ≤ other.offset → other.offset < 23 → standing item ≢ standing other
+  other_lane : (item other : Candidate) → IsCandidate (x ++ y) item → 8 ≤ other.offset → other.offset < 23
+      → standing item ≢ standing other
   other_lane item other a least most same = let small = a.offset in omega arith
 
   rest_apart : AllPairs (λ item later. standing item ≢ standing later) (found ++ added)
   rest_apart =
       AllPairs-append (λ item later. standing item ≢ standing later) found added
       (λ i j d ij jl same. let lt = new.order i j d ij jl in omega arith) late.apart
-      (λ i j d il jl. let e = new.each i d il in let f = late.each j d jl in other_lane (get_or found i d) (get_or added j d) e.0 f.2.least f.2.most)
+      (λ i j d il jl. let e = new.each i d il in let f = late.each j d jl in
+      other_lane (get_or found i d) (get_or added j d) e.0 f.2.least f.2.most)
 
   -- nothing new stands as what was heard before
-  apart_before : (item old : Candidate) → IsHeard x old → IsCandidate (x ++ y) item → length x < item.end → standing old ≢ standing item
-  apart_before item old (inl h) new_one behind same = let within = end_within x old h in let a = h.offset in let b = new_one.offset in omega arith
-  apart_before item old (inr h) new_one behind same = let least = h.ends.least in let most = h.ends.most in let small = new_one.offset in omega arith
+  apart_before : (item old : Candidate) → IsHeard x old → IsCandidate (x ++ y) item → length x < item.end
+      → standing old ≢ standing item
+  apart_before item old (inl h) new_one behind same =
+      let within = end_within x old h in
+      let a = h.offset in
+      let b = new_one.offset in
+      omega arith
+  apart_before item old (inr h) new_one behind same =
+      let least = h.ends.least in
+      let most = h.ends.most in
+      let small = new_one.offset in
+      omega arith
 
-  apart_added : (item old : Candidate) (at : ℕ) → IsHeard x old → places_in (length x) ≤ at → EndsAtPlace (x ++ y) item at → standing old ≢ standing item
-  apart_added item old at (inl h) from ends same = let least = ends.least in let most = ends.most in let small = h.offset in omega arith
+  apart_added : (item old : Candidate) (at : ℕ) → IsHeard x old → places_in (length x) ≤ at
+      → EndsAtPlace (x ++ y) item at → standing old ≢ standing item
+  apart_added item old at (inl h) from ends same =
+      let least = ends.least in
+      let most = ends.most in
+      let small = h.offset in
+      omega arith
   apart_added item old at (inr h) from ends same =
       let one = one_place (x ++ y) old item h.place at (ends-append x y old h.place h.decided h.ends) ends same in
       let p = one.0 in
@@ -82,19 +99,28 @@ module _ (x y : List ℤ) (candidates found added : List Candidate) (are : AreHe
         whole = λ item h. contains_more candidates (found ++ added) item (member item h);
         order = strictly_more candidates (found ++ added) are.order rest_apart
             (All-append D found added
-            (λ i d il k e l. let n = new.each i d il in apart_before (get_or found i d) (get_or candidates k e) (are.each k e l) n.0 n.1)
-            (λ i d il k e l. let n = late.each i d il in apart_added (get_or added i d) (get_or candidates k e) n.0 (are.each k e l) n.1.0 n.2));
+            (λ i d il k e l. let n = new.each i d il in apart_before (get_or found i d) (get_or candidates k e)
+            (are.each k e l) n.0 n.1)
+            (λ i d il k e l. let n = late.each i d il in apart_added (get_or added i d) (get_or candidates k e) n.0
+            (are.each k e l) n.1.0 n.2));
       }
     where
       member : (item : Candidate) → IsHeard (x ++ y) item → Contains (candidates ++ (found ++ added)) item
       member item (inl h) = elim (cases_lt (length x) item.end) [
-        | inl behind ↦ Contains-append_right candidates (found ++ added) item (Contains-append_left found added item (new.whole item h behind))
-        | inr before ↦ Contains-append_left candidates (found ++ added) item (are.whole item (inl (candidate_less x y item h before)))
+        | inl behind ↦ Contains-append_right candidates (found ++ added) item
+            (Contains-append_left found added item (new.whole item h behind))
+        | inr before ↦ Contains-append_left candidates (found ++ added) item
+            (are.whole item (inl (candidate_less x y item h before)))
       ]
       member item (inr h) = elim (cases_lt h.place (places_in (length x))) [
         | inl before ↦ Contains-append_left candidates (found ++ added) item
-            (are.whole item (inr (record { place = h.place; decided = before; ends = ends-take x y item h.place before h.ends })))
-        | inr behind ↦ Contains-append_right candidates (found ++ added) item (Contains-append_right found added item (late.whole item h.place (behind, h.decided) h.ends))
+            (are.whole item (inr (record {
+              place = h.place;
+              decided = before;
+              ends = ends-take x y item h.place before h.ends;
+            })))
+        | inr behind ↦ Contains-append_right candidates (found ++ added) item
+            (Contains-append_right found added item (late.whole item h.place (behind, h.decided) h.ends))
       ]
 
   -- nothing new ends below what is settled
@@ -102,7 +128,8 @@ module _ (x y : List ℤ) (candidates found added : List Candidate) (are : AreHe
   rest_late =
       All-append (λ item. settled (length x) ≤ item.end) found added
       (λ k d l. let n = new.each k d l in let behind = n.1 in omega arith)
-      (λ k d l. let n = late.each k d l in let from = n.1.0 in let end = n.2.end_of in let delay = delay_small (get_or added k d).offset n.2.most in omega arith)
+      (λ k d l. let n = late.each k d l in let from = n.1.0 in let end = n.2.end_of in
+      let delay = delay_small (get_or added k d).offset n.2.most in omega arith)
 
   pub rest_small : All (λ item. item.offset < 256) (found ++ added)
   rest_small =

@@ -20,53 +20,69 @@ range-more a (suc n) =
     ∙ ap (λ k. a ∷ (range_with_len (a + 1) n ++ k ∷ [])) (let e : a + 1 + n ≡ a + suc n = omega arith in e)
 
 -- the places that pass a test, with one more
-places-more : (p : ℕ → Bool) (n : ℕ) → filter p (range_with_len 0 (n + 1)) ≡ filter p (range_with_len 0 n) ++ filter p (n ∷ [])
+places-more : (p : ℕ → Bool) (n : ℕ) → filter p (range_with_len 0 (n + 1)) ≡ filter p (range_with_len 0 n) ++ filter p
+    (n ∷ [])
 places-more p n =
     let more : n + 1 ≡ suc n = omega arith in
     let at : 0 + n ≡ n = omega arith in
-    ap (λ k. filter p (range_with_len 0 k)) more ∙ ap (filter p) (range-more 0 n ∙ ap (λ k. range_with_len 0 n ++ k ∷ []) at)
+    ap (λ k. filter p (range_with_len 0 k)) more
+    ∙ ap (filter p) (range-more 0 n ∙ ap (λ k. range_with_len 0 n ++ k ∷ []) at)
     ∙ filter-append p (range_with_len 0 n) (n ∷ [])
 
 one_passes : (p : ℕ → Bool) (n : ℕ) (b : Bool) → p n ≡ b → filter p (n ∷ []) ≡ (if b then n ∷ [] else [])
 one_passes p n b is = ap (λ t. if t then n ∷ [] else []) is
 
 -- where the lane reads
-pub lane_tones-read : (x : List ℤ) (lane place : ℕ) → is_read_at x lane place ≡ true → lane_tones x lane (place + 1) ≡ lane_tones x lane place ++ tone_read x lane place ∷ []
+pub lane_tones-read : (x : List ℤ) (lane place : ℕ) → is_read_at x lane place ≡ true
+    → lane_tones x lane (place + 1) ≡ lane_tones x lane place ++ tone_read x lane place ∷ []
 unfolding lane_tones
 lane_tones-read x lane place reads =
-    ap (map (tone_read x lane)) (places-more (is_read_at x lane) place ∙ ap (λ t. filter (is_read_at x lane) (range_with_len 0 place) ++ t) (one_passes (is_read_at x lane) place true reads))
+    ap (map (tone_read x lane))
+    (places-more (is_read_at x lane) place ∙ ap (λ t. filter (is_read_at x lane) (range_with_len 0 place) ++ t)
+    (one_passes (is_read_at x lane) place true reads))
     ∙ map-append (tone_read x lane) (filter (is_read_at x lane) (range_with_len 0 place)) (place ∷ [])
 
 -- where it does not
-pub lane_tones-not : (x : List ℤ) (lane place : ℕ) → is_read_at x lane place ≡ false → lane_tones x lane (place + 1) ≡ lane_tones x lane place
+pub lane_tones-not : (x : List ℤ) (lane place : ℕ) → is_read_at x lane place ≡ false
+    → lane_tones x lane (place + 1) ≡ lane_tones x lane place
 unfolding lane_tones
 lane_tones-not x lane place reads =
-    ap (map (tone_read x lane)) (places-more (is_read_at x lane) place ∙ ap (λ t. filter (is_read_at x lane) (range_with_len 0 place) ++ t) (one_passes (is_read_at x lane) place false reads)
+    ap (map (tone_read x lane))
+    (places-more (is_read_at x lane) place ∙ ap (λ t. filter (is_read_at x lane) (range_with_len 0 place) ++ t)
+    (one_passes (is_read_at x lane) place false reads)
     ∙ append-nil (filter (is_read_at x lane) (range_with_len 0 place)))
 
 -- a tone of a list, as it was asked for, is one that the lane goes by
-pub tone_is_back : (x : List ℤ) (lane place count back delay : ℕ) (reach : Reach) (tone : Tone) → tone ≡ tone_before (heard reach x) count delay
+pub tone_is_back : (x : List ℤ) (lane place count back delay : ℕ) (reach : Reach) (tone : Tone)
+    → tone ≡ tone_before (heard reach x) count delay
     → reach ≡ list_of lane → count ≡ place + 1 → delay ≡ delay_of lane + back → tone ≡ tone_back x lane place back
 tone_is_back x lane place count back delay reach tone is same_list same_count same_delay =
     is ∙ (λ i. tone_before (heard (same_list i) x) (same_count i) (same_delay i))
 
 -- whether a lane reads, as the readings tell it
-pub reads_as_told : (x : List ℤ) (lane : ℕ) (readings : Readings) (b : Bool) → readings ≡ readings_at x readings.place → b ≡ is_read_by lane readings
+pub reads_as_told : (x : List ℤ) (lane : ℕ) (readings : Readings) (b : Bool) → readings ≡ readings_at x readings.place
+    → b ≡ is_read_by lane readings
     → b ≡ is_read_at x lane readings.place
 reads_as_told x lane readings b same is = is ∙ ap (is_read_by lane) same
 
 -- the tones with the one that the lane reads, as it was asked for
-pub tones-pushed : (x : List ℤ) (lane place : ℕ) (tone : Tone) → is_read_at x lane place ≡ true → tone ≡ tone_read x lane place
+pub tones-pushed : (x : List ℤ) (lane place : ℕ) (tone : Tone) → is_read_at x lane place ≡ true
+    → tone ≡ tone_read x lane place
     → lane_tones x lane (place + 1) ≡ lane_tones x lane place ++ tone ∷ []
-tones-pushed x lane place tone reads is = lane_tones-read x lane place reads ∙ ap (λ t. lane_tones x lane place ++ t ∷ []) (sym is)
+tones-pushed x lane place tone reads is = lane_tones-read x lane place reads
+    ∙ ap (λ t. lane_tones x lane place ++ t ∷ []) (sym is)
 
 -- whether a bit is the last of a flag in time, as the three tones that were asked for tell it
-pub in_time_told : (x : List ℤ) (lane place count delay : ℕ) (reach : Reach) (tone one two : Tone) → tone ≡ tone_before (heard reach x) count delay
+pub in_time_told : (x : List ℤ) (lane place count delay : ℕ) (reach : Reach) (tone one two : Tone)
+    → tone ≡ tone_before (heard reach x) count delay
     → one ≡ tone_before (heard reach x) count (delay + 8) → two ≡ tone_before (heard reach x) count (delay + 16)
     → reach ≡ list_of lane → count ≡ place + 1 → delay ≡ delay_of lane
     → (changes one tone && not (changes two one)) ≡ is_in_time x lane place
 in_time_told x lane place count delay reach tone one two tone_is one_is two_is same_list same_count same_delay =
-    let a = tone_is_back x lane place count 0 delay reach tone tone_is same_list same_count (same_delay ∙ omega arith) in
-    let b = tone_is_back x lane place count 8 (delay + 8) reach one one_is same_list same_count (ap (λ d. d + 8) same_delay) in
-    let c = tone_is_back x lane place count 16 (delay + 16) reach two two_is same_list same_count (ap (λ d. d + 16) same_delay) in
+    let a = tone_is_back x lane place count 0 delay reach tone tone_is same_list same_count
+    (same_delay ∙ omega arith) in
+    let b = tone_is_back x lane place count 8 (delay + 8) reach one one_is same_list same_count
+    (ap (λ d. d + 8) same_delay) in
+    let c = tone_is_back x lane place count 16 (delay + 16) reach two two_is same_list same_count
+    (ap (λ d. d + 16) same_delay) in
     λ i. changes (b i) (a i) && not (changes (c i) (b i))

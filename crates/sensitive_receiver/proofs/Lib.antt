@@ -13,3 +13,4 @@ pub mod DecoderLemmas
 pub mod NameDecided
 pub mod PathDecided
 pub mod SomeList
+pub mod SignalLaw

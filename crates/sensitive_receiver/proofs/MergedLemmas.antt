@@ -30,26 +30,32 @@ use Rattle.sensitive_receiver.proofs.HeardLemmas.{all_of, heard_join, rest_late,
 -- samples have one list of candidates
 pub one_list : (x : List ℤ) (items others : List Candidate) → AreHeard x items → AreHeard x others → items ≡ others
 one_list x items others a b =
-    same_list items others a.order b.order (λ k d l. b.whole (get_or items k d) (a.each k d l)) (λ k d l. a.whole (get_or others k d) (b.each k d l))
+    same_list items others a.order b.order (λ k d l. b.whole (get_or items k d) (a.each k d l))
+    (λ k d l. a.whole (get_or others k d) (b.each k d l))
 
 -- the merged candidates do not fall in their ends
-pub rising_heard : (x : List ℤ) (items : List Candidate) → AreHeard x items → IsNonDecreasingBy (λ item. item.end) (merged items)
+pub rising_heard : (x : List ℤ) (items : List Candidate) → AreHeard x items
+    → IsNonDecreasingBy (λ item. item.end) (merged items)
 rising_heard x items are = merged-rising (λ item. item.end) [] items (rising_ends items (heard_in_order x items are))
 
 -- each ends within the samples
 ends_within : (x : List ℤ) (items : List Candidate) → AreHeard x items → All (λ item. item.end < length x + 1) items
 ends_within x items are k d l = let within = heard_within x (get_or items k d) (are.each k d l) in omega arith
 
-below_all_of : (x : List ℤ) (items : List Candidate) → AreHeard x items → below (length x + 1) (merged items) ≡ merged items
-below_all_of x items are = below_all (length x + 1) (merged items) (All-merged (λ item. item.end < length x + 1) [] items (ends_within x items are))
+below_all_of : (x : List ℤ) (items : List Candidate) → AreHeard x items
+    → below (length x + 1) (merged items) ≡ merged items
+below_all_of x items are = below_all (length x + 1) (merged items)
+    (All-merged (λ item. item.end < length x + 1) [] items (ends_within x items are))
 
 -- what is left at the end of the samples
-pub end_gives : (x : List ℤ) (items rest : List Candidate) → AreHeard x items → below (settled (length x)) (merged items) ++ rest ≡ merged items
+pub end_gives : (x : List ℤ) (items rest : List Candidate) → AreHeard x items
+    → below (settled (length x)) (merged items) ++ rest ≡ merged items
     → AreMergedBetween (settled (length x)) (length x + 1) x rest
 end_gives x items rest are total = record {
   candidates = items;
   are = are;
-  is = next_is (settled (length x)) (length x + 1) (below (settled (length x)) (merged items)) rest (merged items) (omega arith) (rising_heard x items are) refl
+  is = next_is (settled (length x)) (length x + 1) (below (settled (length x)) (merged items)) rest (merged items)
+      (omega arith) (rising_heard x items are) refl
       (total ∙ sym (below_all_of x items are));
 }
 
@@ -57,12 +63,16 @@ end_gives x items rest are total = record {
 not_below_none : (position : ℕ) (xs : List Candidate) → All (λ y. y.end < position) xs → not_below position xs ≡ []
 not_below_none position [] h = refl
 not_below_none position (x ∷ xs) h =
-    ap (λ t. cond t (x ∷ not_below position xs) (not_below position xs)) (lt-leb position x.end (All-head (λ y. y.end < position) x xs h))
+    ap (λ t. cond t (x ∷ not_below position xs) (not_below position xs))
+    (lt-leb position x.end (All-head (λ y. y.end < position) x xs h))
     ∙ not_below_none position xs (All-tail (λ y. y.end < position) x xs h)
 
-pub nothing_kept : (position : ℕ) (x : List ℤ) (items : List Candidate) → length x < position → AreHeard x items → not_below position items ≡ []
+pub nothing_kept : (position : ℕ) (x : List ℤ) (items : List Candidate) → length x < position → AreHeard x items
+    → not_below position items ≡ []
 nothing_kept position x items far are =
-    not_below_none position items (All-weaker (λ item. item.end < length x + 1) (λ item. item.end < position) (λ item l. omega arith) items (ends_within x items are))
+    not_below_none position items
+    (All-weaker (λ item. item.end < length x + 1) (λ item. item.end < position) (λ item l. omega arith) items
+    (ends_within x items are))
 
 -- ---- more samples
 
@@ -74,9 +84,11 @@ module _ (x y : List ℤ) (items all : List Candidate) (are : AreHeard x items) 
   late : List Candidate
   late = filter is_late all
 
-  late_one : (item : Candidate) → IsHeard (x ++ y) item → is_late item ≡ true → IsCandidate (x ++ y) item × (length x < item.end)
+  late_one : (item : Candidate) → IsHeard (x ++ y) item → is_late item ≡ true
+      → IsCandidate (x ++ y) item × (length x < item.end)
   unfolding is_late
-  late_one item (inl h) passes = (h, ltb-true (length x) item.end (and_parts (nat_lt item.offset 8) (nat_lt (length x) item.end) passes).1)
+  late_one item (inl h) passes =
+      (h, ltb-true (length x) item.end (and_parts (nat_lt item.offset 8) (nat_lt (length x) item.end) passes).1)
   late_one item (inr h) passes =
       let small = ltb-true item.offset 8 (and_parts (nat_lt item.offset 8) (nat_lt (length x) item.end) passes).0 in
       let least = h.ends.least in
@@ -89,7 +101,8 @@ module _ (x y : List ℤ) (items all : List Candidate) (are : AreHeard x items) 
   late_are : AreCandidatesBehind (length x) (x ++ y) late
   unfolding late
   late_are = record {
-    each = λ k d l. late_one (get_or late k d) (All-filter is_late (IsHeard (x ++ y)) all whole.each k d l) (filter_passes is_late all k d l);
+    each = λ k d l. late_one (get_or late k d) (All-filter is_late (IsHeard (x ++ y)) all whole.each k d l)
+        (filter_passes is_late all k d l);
     whole = λ item h behind. contains_passing is_late all item (whole.whole item (inl h)) (late_passes item h behind);
     order = AllPairs-filter (λ item later. standing item < standing later) is_late all whole.order;
   }
@@ -109,18 +122,22 @@ module _ (x y : List ℤ) (items all : List Candidate) (are : AreHeard x items) 
   place_is item place h = let end = h.end_of in let small = delay_small item.offset h.most in omega arith
 
   added_one : (item : Candidate) → IsHeard (x ++ y) item → is_added item ≡ true
-      → (place : ℕ) × ((places_in (length x) ≤ place) × (place < places_in (length (x ++ y)))) × EndsAtPlace (x ++ y) item place
+      → (place : ℕ) × ((places_in (length x) ≤ place) × (place < places_in (length (x ++ y)))) × EndsAtPlace
+      (x ++ y) item place
   unfolding is_added
   added_one item (inl h) passes =
-      let large = leb-true 8 item.offset (and_parts (nat_le 8 item.offset) (nat_le (places_in (length x)) (place_of item)) passes).0 in
+      let large = leb-true 8 item.offset
+      (and_parts (nat_le 8 item.offset) (nat_le (places_in (length x)) (place_of item)) passes).0 in
       let small = h.offset in
       absurd (omega arith)
   added_one item (inr h) passes =
-      let behind = leb-true (places_in (length x)) (place_of item) (and_parts (nat_le 8 item.offset) (nat_le (places_in (length x)) (place_of item)) passes).1 in
+      let behind = leb-true (places_in (length x)) (place_of item)
+      (and_parts (nat_le 8 item.offset) (nat_le (places_in (length x)) (place_of item)) passes).1 in
       let is = place_is item h.place h.ends in
       (h.place, (omega arith, h.decided), h.ends)
 
-  added_passes : (item : Candidate) (place : ℕ) → places_in (length x) ≤ place → EndsAtPlace (x ++ y) item place → is_added item ≡ true
+  added_passes : (item : Candidate) (place : ℕ) → places_in (length x) ≤ place → EndsAtPlace (x ++ y) item place
+      → is_added item ≡ true
   unfolding is_added
   added_passes item place behind h =
       let is = place_is item place h in
@@ -131,9 +148,12 @@ module _ (x y : List ℤ) (items all : List Candidate) (are : AreHeard x items) 
   added_are =
       let rises = AllPairs-filter (λ item later. standing item < standing later) is_added all whole.order in
       record {
-        each = λ k d l. added_one (get_or added k d) (All-filter is_added (IsHeard (x ++ y)) all whole.each k d l) (filter_passes is_added all k d l);
+        each = λ k d l. added_one (get_or added k d) (All-filter is_added (IsHeard (x ++ y)) all whole.each k d l)
+            (filter_passes is_added all k d l);
         whole = λ item place of ends.
-            contains_passing is_added all item (whole.whole item (inr (record { place = place; decided = of.1; ends = ends }))) (added_passes item place of.0 ends);
+            contains_passing is_added all item
+            (whole.whole item (inr (record { place = place; decided = of.1; ends = ends })))
+            (added_passes item place of.0 ends);
         apart = λ i j d ij jl same. let lt = rises i j d ij jl in omega arith;
       }
 
@@ -141,13 +161,17 @@ module _ (x y : List ℤ) (items all : List Candidate) (are : AreHeard x items) 
   pub below_still : (to : ℕ) → to ≤ settled (length x) → below to (merged items) ≡ below to (merged all)
   below_still to within =
       let joined : List Candidate = all_of x y items late added are late_are added_are in
-      let same : joined ≡ all = one_list (x ++ y) joined all (heard_join x y items late added are late_are added_are) whole in
+      let same : joined ≡ all = one_list (x ++ y) joined all
+      (heard_join x y items late added are late_are added_are) whole in
       let kept : All (λ item. to ≤ item.end) (late ++ added)
-      = All-weaker (λ item. settled (length x) ≤ item.end) (λ item. to ≤ item.end) (λ item l. omega arith) (late ++ added) (rest_late x y items late added are late_are added_are) in
-      sym (below_more to items (late ++ added) (heard_in_order x items are) (rest_small x y items late added are late_are added_are) kept)
+      = All-weaker (λ item. settled (length x) ≤ item.end) (λ item. to ≤ item.end) (λ item l. omega arith)
+      (late ++ added) (rest_late x y items late added are late_are added_are) in
+      sym (below_more to items (late ++ added) (heard_in_order x items are)
+      (rest_small x y items late added are late_are added_are) kept)
       ∙ ap (λ t. below to (merged t)) same
 
-  pub between_still : (from to : ℕ) → from ≤ to → to ≤ settled (length x) → between from to (merged items) ≡ between from to (merged all)
+  pub between_still : (from to : ℕ) → from ≤ to → to ≤ settled (length x)
+      → between from to (merged items) ≡ between from to (merged all)
   between_still from to le within =
       append_cancel_left (below from (merged all)) (between from to (merged items)) (between from to (merged all))
       (ap (λ t. t ++ between from to (merged items)) (sym (below_still from (omega arith)))
@@ -156,8 +180,10 @@ module _ (x y : List ℤ) (items all : List Candidate) (are : AreHeard x items) 
       ∙ sym (below_between from to (merged all) le (rising_heard (x ++ y) all whole)))
 
 -- the items of samples and the next ones are those of all samples
-pub join : (from middle to : ℕ) (x y : List ℤ) (items more : List Candidate) → from ≤ middle → middle ≤ to → middle ≤ settled (length x)
-    → AreMergedBetween from middle x items → AreMergedBetween middle to (x ++ y) more → AreMergedBetween from to (x ++ y) (items ++ more)
+pub join : (from middle to : ℕ) (x y : List ℤ) (items more : List Candidate) → from ≤ middle → middle ≤ to
+    → middle ≤ settled (length x)
+    → AreMergedBetween from middle x items → AreMergedBetween middle to (x ++ y) more
+    → AreMergedBetween from to (x ++ y) (items ++ more)
 join from middle to x y items more le le' within h k = record {
   candidates = k.candidates;
   are = k.are;
@@ -171,5 +197,6 @@ pub all_items : (x : List ℤ) (items : List Candidate) → AreMergedBetween 0 (
 all_items x items h = record {
   candidates = h.candidates;
   are = h.are;
-  is = h.is ∙ between_all 0 (length x + 1) (merged h.candidates) (λ k d l. omega arith) ∙ below_all_of x h.candidates h.are;
+  is = h.is ∙ between_all 0 (length x + 1) (merged h.candidates) (λ k d l. omega arith)
+      ∙ below_all_of x h.candidates h.are;
 }

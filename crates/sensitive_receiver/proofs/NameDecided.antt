@@ -17,13 +17,25 @@ is_character : (c : ℕ) → Decided (IsCallCharacter c)
 is_character c = elim (cases_lt c 65) [
   | inr letter ↦ elim (cases_lt 90 c) [
     | inr within ↦ inl (inl (letter, within))
-    | inl past ↦ inr (λ h. elim h [ inl capital ↦ (let most = capital.1 in omega arith) | inr digit ↦ (let most = digit.1 in omega arith) ])
+    | inl past ↦ inr (λ h. elim h [
+      | inl capital ↦ (let most = capital.1 in omega arith)
+      | inr digit ↦
+          (let most = digit.1 in omega arith)
+    ])
   ]
   | inl low ↦ elim (cases_lt c 48) [
-    | inl under ↦ inr (λ h. elim h [ inl capital ↦ (let least = capital.0 in omega arith) | inr digit ↦ (let least = digit.0 in omega arith) ])
+    | inl under ↦ inr (λ h. elim h [
+      | inl capital ↦ (let least = capital.0 in omega arith)
+      | inr digit ↦
+          (let least = digit.0 in omega arith)
+    ])
     | inr from ↦ elim (cases_lt 57 c) [
       | inr within ↦ inl (inr (from, within))
-      | inl past ↦ inr (λ h. elim h [ inl capital ↦ (let least = capital.0 in omega arith) | inr digit ↦ (let most = digit.1 in omega arith) ])
+      | inl past ↦ inr (λ h. elim h [
+        | inl capital ↦ (let least = capital.0 in omega arith)
+        | inr digit ↦
+            (let most = digit.1 in omega arith)
+      ])
     ]
   ]
 ]
@@ -67,7 +79,10 @@ is_named octets k n = elim (all_characters (name_in octets k n)) [
     | inl some ↦ elim (cases_lt 6 (length (name_in octets k n))) [
       | inl long ↦ inr (λ h. let most = h.name.longest in omega arith)
       | inr fits ↦ elim (same_numbers (take 6 (drop (7 * k) octets)) (map (λ c. 2 * c) (padded (name_in octets k n)))) [
-        | inl same ↦ inl (record { name = record { shortest = some; longest = fits; characters = all }; spelling = same })
+        | inl same ↦ inl (record {
+          name = record { shortest = some; longest = fits; characters = all };
+          spelling = same;
+        })
         | inr differ ↦ inr (λ h. differ h.spelling)
       ]
     ]
@@ -75,18 +90,21 @@ is_named octets k n = elim (all_characters (name_in octets k n)) [
 ]
 
 -- a name of fewer than so many characters is read, or none
-pub named_below : (octets : List ℕ) (k m : ℕ) → ((n : ℕ) × IsNamed octets k n) ⊎ ((n : ℕ) → n < m → IsNamed octets k n → ⊥)
+pub named_below : (octets : List ℕ) (k m : ℕ)
+    → ((n : ℕ) × IsNamed octets k n) ⊎ ((n : ℕ) → n < m → IsNamed octets k n → ⊥)
 named_below octets k zero = inr (λ n l h. omega arith)
 named_below octets k (suc m) = elim (named_below octets k m) [
   | inl found ↦ inl found
   | inr none ↦ elim (is_named octets k m) [
     | inl here ↦ inl (m, here)
-    | inr against ↦ inr (λ n l h. elim (cases_eq n m) [ inl same ↦ against (subst (IsNamed octets k) same h) | inr other ↦ none n (omega arith) h ])
+    | inr against ↦ inr (λ n l h. elim
+        (cases_eq n m) [ inl same ↦ against (subst (IsNamed octets k) same h) | inr other ↦ none n (omega arith) h ])
   ]
 ]
 
 -- the name of a field is read there
-pub named_field : (call : Callsign) (top last : Bool) (octets : List ℕ) (k : ℕ) → IsField call top last (field_at octets k) → IsNamed octets k (length call.name)
+pub named_field : (call : Callsign) (top last : Bool) (octets : List ℕ) (k : ℕ)
+    → IsField call top last (field_at octets k) → IsNamed octets k (length call.name)
 unfolding name_in
 named_field call top last octets k h =
     let rest : List ℕ = drop (7 * k) octets in
@@ -99,8 +117,10 @@ named_field call top last octets k h =
     (λ i below.
     let inside : i < n = (let m = length-map (take n rest) (λ o. o / 2) in omega arith) in
     let doubled : get_or rest i 0 ≡ 2 * get_or call.name i 0
-    = sym (get_or-take 7 rest i 0 (omega arith)) ∙ field_octet call top last (field_at octets k) h i (omega arith) ∙ ap (λ c. 2 * c) (padded-name call.name i inside) in
-    get_or-map (λ o. o / 2) (take n rest) i 0 0 (omega arith) ∙ ap (λ o. o / 2) (get_or-take n rest i 0 inside ∙ doubled) ∙ omega arith) in
+    = sym (get_or-take 7 rest i 0 (omega arith)) ∙ field_octet call top last (field_at octets k) h i (omega arith)
+    ∙ ap (λ c. 2 * c) (padded-name call.name i inside) in
+    get_or-map (λ o. o / 2) (take n rest) i 0 0 (omega arith)
+    ∙ ap (λ o. o / 2) (get_or-take n rest i 0 inside ∙ doubled) ∙ omega arith) in
     let spelled : take 6 rest ≡ map (λ c. 2 * c) (padded call.name)
     = sym (take-take 6 7 rest (omega arith)) ∙ ap (λ xs. take 6 xs) h.spelling
     ∙ take_at (map (λ c. 2 * c) (padded call.name)) (ssid_octet top h.reserved call.ssid last ∷ []) 6

@@ -18,8 +18,10 @@ use Rattle.sensitive_receiver.proofs.LaneLemmas.{lane_tones-read, lane_tones-not
 use Rattle.sensitive_receiver.proofs.VisitedLanes.{tones_of_none}
 
 module _ (x y : List ℤ) where
-  clock-append : (pull : Pull) (reach : Reach) (count : ℕ) → count ≤ places_in (length x) → clock_after pull (heard reach x) count ≡ clock_after pull (heard reach (x ++ y)) count
-  clock-append pull reach count inside = clock_after-agree pull (heard reach x) (heard reach (x ++ y)) count (λ p l. heard-append reach x y p (omega arith))
+  clock-append : (pull : Pull) (reach : Reach) (count : ℕ) → count ≤ places_in (length x)
+      → clock_after pull (heard reach x) count ≡ clock_after pull (heard reach (x ++ y)) count
+  clock-append pull reach count inside = clock_after-agree pull (heard reach x) (heard reach (x ++ y)) count
+      (λ p l. heard-append reach x y p (omega arith))
 
   pub readings-append : (place : ℕ) → place < places_in (length x) → readings_at x place ≡ readings_at (x ++ y) place
   unfolding readings_at
@@ -29,26 +31,34 @@ module _ (x y : List ℤ) where
       let c = clock-append Fast Near place (omega arith) in
       λ i. record { place = place; slow_near = reads (a i); slow_far = reads (b i); fast_near = reads (c i) }
 
-  pub tone_back-append : (lane place back : ℕ) → place < places_in (length x) → tone_back x lane place back ≡ tone_back (x ++ y) lane place back
-  tone_back-append lane place back inside = heard_before-append (list_of lane) x y (place + 1) (delay_of lane + back) (omega arith)
+  pub tone_back-append : (lane place back : ℕ) → place < places_in (length x) → tone_back x lane place back ≡ tone_back
+      (x ++ y) lane place back
+  tone_back-append lane place back inside = heard_before-append (list_of lane) x y (place + 1) (delay_of lane + back)
+      (omega arith)
 
-  one_more : (lane count : ℕ) (b : Bool) → count < places_in (length x) → is_read_at x lane count ≡ b → lane_tones x lane count ≡ lane_tones (x ++ y) lane count
+  one_more : (lane count : ℕ) (b : Bool) → count < places_in (length x) → is_read_at x lane count ≡ b
+      → lane_tones x lane count ≡ lane_tones (x ++ y) lane count
       → lane_tones x lane (count + 1) ≡ lane_tones (x ++ y) lane (count + 1)
   one_more lane count true inside here before =
-      let there : is_read_at (x ++ y) lane count ≡ true = sym (ap (is_read_by lane) (readings-append count inside)) ∙ here in
-      lane_tones-read x lane count here ∙ (λ i. before i ++ tone_back-append lane count 0 inside i ∷ []) ∙ sym (lane_tones-read (x ++ y) lane count there)
+      let there : is_read_at (x ++ y) lane count ≡ true = sym (ap (is_read_by lane) (readings-append count inside))
+      ∙ here in
+      lane_tones-read x lane count here ∙ (λ i. before i ++ tone_back-append lane count 0 inside i ∷ [])
+      ∙ sym (lane_tones-read (x ++ y) lane count there)
   one_more lane count false inside here before =
-      let there : is_read_at (x ++ y) lane count ≡ false = sym (ap (is_read_by lane) (readings-append count inside)) ∙ here in
+      let there : is_read_at (x ++ y) lane count ≡ false = sym (ap (is_read_by lane) (readings-append count inside))
+      ∙ here in
       lane_tones-not x lane count here ∙ before ∙ sym (lane_tones-not (x ++ y) lane count there)
 
-  pub lane_tones-append : (lane count : ℕ) → count ≤ places_in (length x) → lane_tones x lane count ≡ lane_tones (x ++ y) lane count
+  pub lane_tones-append : (lane count : ℕ) → count ≤ places_in (length x)
+      → lane_tones x lane count ≡ lane_tones (x ++ y) lane count
   lane_tones-append lane zero inside = tones_of_none x lane ∙ sym (tones_of_none (x ++ y) lane)
   lane_tones-append lane (suc count) inside =
       ap (lane_tones x lane) (sym (add-one count))
       ∙ one_more lane count (is_read_at x lane count) (omega arith) refl (lane_tones-append lane count (omega arith))
       ∙ ap (lane_tones (x ++ y) lane) (add-one count)
 
-  in_time-append : (lane place : ℕ) → place < places_in (length x) → is_in_time x lane place ≡ is_in_time (x ++ y) lane place
+  in_time-append : (lane place : ℕ) → place < places_in (length x)
+      → is_in_time x lane place ≡ is_in_time (x ++ y) lane place
   in_time-append lane place inside =
       let a = tone_back-append lane place 8 inside in
       let b = tone_back-append lane place 0 inside in
@@ -56,24 +66,28 @@ module _ (x y : List ℤ) where
       λ i. changes (a i) (b i) && not (changes (c i) (a i))
 
   -- an item of a place of the first samples is one of all, and the other way round
-  pub ends-append : (item : Candidate) (place : ℕ) → place < places_in (length x) → EndsAtPlace x item place → EndsAtPlace (x ++ y) item place
+  pub ends-append : (item : Candidate) (place : ℕ) → place < places_in (length x) → EndsAtPlace x item place
+      → EndsAtPlace (x ++ y) item place
   ends-append item place inside h = record {
     least = h.least;
     most = h.most;
     reads = sym (ap (is_read_by item.offset) (readings-append place inside)) ∙ h.reads;
     end_of = h.end_of;
-    frame = subst (λ tones. EndsFrame (bits_of tones) item.octets) (lane_tones-append item.offset (place + 1) (omega arith)) h.frame;
+    frame = subst (λ tones. EndsFrame (bits_of tones) item.octets)
+        (lane_tones-append item.offset (place + 1) (omega arith)) h.frame;
     path = h.path;
     in_time = sym (in_time-append item.offset place inside) ∙ h.in_time;
   }
 
-  pub ends-take : (item : Candidate) (place : ℕ) → place < places_in (length x) → EndsAtPlace (x ++ y) item place → EndsAtPlace x item place
+  pub ends-take : (item : Candidate) (place : ℕ) → place < places_in (length x) → EndsAtPlace (x ++ y) item place
+      → EndsAtPlace x item place
   ends-take item place inside h = record {
     least = h.least;
     most = h.most;
     reads = ap (is_read_by item.offset) (readings-append place inside) ∙ h.reads;
     end_of = h.end_of;
-    frame = subst (λ tones. EndsFrame (bits_of tones) item.octets) (sym (lane_tones-append item.offset (place + 1) (omega arith))) h.frame;
+    frame = subst (λ tones. EndsFrame (bits_of tones) item.octets)
+        (sym (lane_tones-append item.offset (place + 1) (omega arith))) h.frame;
     path = h.path;
     in_time = in_time-append item.offset place inside ∙ h.in_time;
   }
@@ -88,5 +102,6 @@ module _ (x y : List ℤ) where
       slow_far = h.clocks.slow_far ∙ clock-append Slow Far (places_in held.position) (omega arith);
       fast_near = h.clocks.fast_near ∙ clock-append Fast Near (places_in held.position) (omega arith);
     };
-    lanes = λ k d l. subst (λ tones. LaneStandsFor (get_or held.lanes k d) tones) (lane_tones-append (8 + k) (places_in held.position) (omega arith)) (h.lanes k d l);
+    lanes = λ k d l. subst (λ tones. LaneStandsFor (get_or held.lanes k d) tones)
+        (lane_tones-append (8 + k) (places_in held.position) (omega arith)) (h.lanes k d l);
   }

@@ -15,7 +15,8 @@ use Rattle.tone_tracking.proofs.CorrelationLemmas.{correlations-agree}
 use Rattle.tone_tracking.proofs.TrackerLemmas.{past_at-first, tone_before-within, tone_before-outside}
 
 -- windows that agree up to a place give the same past
-past_of-agree : (reach : Reach) (v w : ℕ → Correlations) (first count limit : ℕ) → ((p : ℕ) → p ≤ limit → v p ≡ w p) → first + 8 * count + 8 ≤ limit
+past_of-agree : (reach : Reach) (v w : ℕ → Correlations) (first count limit : ℕ) → ((p : ℕ) → p ≤ limit → v p ≡ w p)
+    → first + 8 * count + 8 ≤ limit
     → past_of reach v first count ≡ past_of reach w first count
 unfolding past_of
 past_of-agree reach v w first zero limit agree inside = refl
@@ -27,12 +28,15 @@ past_of-agree reach v w first (suc count) limit agree inside =
     let later = agree (place + 16) (omega arith) in
     λ i. passed reach (decided (past i) (now i) (open_of reach (next i) (later i))) (now i) (past i)
 
-pub past_at-agree : (reach : Reach) (v w : ℕ → Correlations) (place limit : ℕ) → ((p : ℕ) → p ≤ limit → v p ≡ w p) → place + 8 ≤ limit
+pub past_at-agree : (reach : Reach) (v w : ℕ → Correlations) (place limit : ℕ) → ((p : ℕ) → p ≤ limit → v p ≡ w p)
+    → place + 8 ≤ limit
     → past_at reach v place ≡ past_at reach w place
 unfolding past_at
-past_at-agree reach v w place limit agree inside = past_of-agree reach v w (place % 8) (place / 8) limit agree (omega arith)
+past_at-agree reach v w place limit agree inside = past_of-agree reach v w (place % 8) (place / 8) limit agree
+    (omega arith)
 
-pub tone_at-agree : (reach : Reach) (v w : ℕ → Correlations) (place limit : ℕ) → ((p : ℕ) → p ≤ limit → v p ≡ w p) → place + 16 ≤ limit
+pub tone_at-agree : (reach : Reach) (v w : ℕ → Correlations) (place limit : ℕ) → ((p : ℕ) → p ≤ limit → v p ≡ w p)
+    → place + 16 ≤ limit
     → tone_at reach v place ≡ tone_at reach w place
 unfolding tone_at
 tone_at-agree reach v w place limit agree inside =
@@ -43,28 +47,36 @@ tone_at-agree reach v w place limit agree inside =
     λ i. decided (past i) (now i) (open_of reach (next i) (later i))
 
 -- the correlations of a window that lies in the first samples
-pub correlations-append : (x y : List ℤ) (place : ℕ) → place + 8 ≤ length x → correlations x place ≡ correlations (x ++ y) place
+pub correlations-append : (x y : List ℤ) (place : ℕ) → place + 8 ≤ length x
+    → correlations x place ≡ correlations (x ++ y) place
 correlations-append x y place inside =
-    correlations-agree x (x ++ y) place place (λ i small. sym (get_or_append_left x y (pos 0) (place + i) (omega arith)))
+    correlations-agree x (x ++ y) place place
+    (λ i small. sym (get_or_append_left x y (pos 0) (place + i) (omega arith)))
 
 -- and the tone of a place of the first samples
-pub heard-append : (reach : Reach) (x y : List ℤ) (place : ℕ) → place < places_in (length x) → heard reach x place ≡ heard reach (x ++ y) place
+pub heard-append : (reach : Reach) (x y : List ℤ) (place : ℕ) → place < places_in (length x)
+    → heard reach x place ≡ heard reach (x ++ y) place
 heard-append reach x y place inside =
-    tone_at-agree reach (correlations x) (correlations (x ++ y)) place (length x - 8) (λ p le. correlations-append x y p (omega arith)) (omega arith)
+    tone_at-agree reach (correlations x) (correlations (x ++ y)) place (length x - 8)
+    (λ p le. correlations-append x y p (omega arith)) (omega arith)
 
-tone_before-agree : (t u : ℕ → Tone) (count back : ℕ) → ((p : ℕ) → p < count → t p ≡ u p) → tone_before t count back ≡ tone_before u count back
+tone_before-agree : (t u : ℕ → Tone) (count back : ℕ) → ((p : ℕ) → p < count → t p ≡ u p)
+    → tone_before t count back ≡ tone_before u count back
 tone_before-agree t u count back agree = elim (cases_lt back count) [
-  | inl within ↦ tone_before-within t count back within ∙ agree (count - 1 - back) (omega arith) ∙ sym (tone_before-within u count back within)
+  | inl within ↦ tone_before-within t count back within ∙ agree (count - 1 - back) (omega arith)
+      ∙ sym (tone_before-within u count back within)
   | inr outside ↦ tone_before-outside t count back outside ∙ sym (tone_before-outside u count back outside)
 ]
 
 -- the tone some places before one of the first samples
 pub heard_before-append : (reach : Reach) (x y : List ℤ) (count back : ℕ) → count ≤ places_in (length x)
     → tone_before (heard reach x) count back ≡ tone_before (heard reach (x ++ y)) count back
-heard_before-append reach x y count back inside = tone_before-agree (heard reach x) (heard reach (x ++ y)) count back (λ p l. heard-append reach x y p (omega arith))
+heard_before-append reach x y count back inside = tone_before-agree (heard reach x) (heard reach (x ++ y)) count back
+    (λ p l. heard-append reach x y p (omega arith))
 
 -- tones that agree take a clock to the same place
-pub clock_after-agree : (pull : Pull) (t u : ℕ → Tone) (count : ℕ) → ((p : ℕ) → p < count → t p ≡ u p) → clock_after pull t count ≡ clock_after pull u count
+pub clock_after-agree : (pull : Pull) (t u : ℕ → Tone) (count : ℕ) → ((p : ℕ) → p < count → t p ≡ u p)
+    → clock_after pull t count ≡ clock_after pull u count
 unfolding clock_after
 clock_after-agree pull t u zero agree = refl
 clock_after-agree pull t u (suc count) agree =
@@ -77,19 +89,24 @@ clock_after-agree pull t u (suc count) agree =
 past-append : (reach : Reach) (x y : List ℤ) (count place : ℕ) → count ≤ length x → place < places_in count + 8
     → past_at reach (correlations x) place ≡ past_at reach (correlations (x ++ y)) place
 past-append reach x y count place inside near = elim (cases_lt place 8) [
-  | inl small ↦ past_at-first reach (correlations x) place small ∙ sym (past_at-first reach (correlations (x ++ y)) place small)
-  | inr large ↦ past_at-agree reach (correlations x) (correlations (x ++ y)) place (length x - 8) (λ p le. correlations-append x y p (omega arith)) (omega arith)
+  | inl small ↦ past_at-first reach (correlations x) place small
+      ∙ sym (past_at-first reach (correlations (x ++ y)) place small)
+  | inr large ↦ past_at-agree reach (correlations x) (correlations (x ++ y)) place (length x - 8)
+      (λ p le. correlations-append x y p (omega arith)) (omega arith)
 ]
 
-decided-append : (tracker : HeldTracker) (count : ℕ) (x y : List ℤ) → count ≤ length x → HasDecided tracker count x → HasDecided tracker count (x ++ y)
+decided-append : (tracker : HeldTracker) (count : ℕ) (x y : List ℤ) → count ≤ length x → HasDecided tracker count x
+    → HasDecided tracker count (x ++ y)
 decided-append tracker count x y inside h =
     let p = h.place in
     record {
       place = h.place;
       stands_for = record {
-        pasts = λ j d small. h.stands_for.pasts j d small ∙ past-append tracker.reach x y count (tracker.place + j) inside (omega arith);
+        pasts = λ j d small. h.stands_for.pasts j d small
+            ∙ past-append tracker.reach x y count (tracker.place + j) inside (omega arith);
         recent = λ back d small. h.stands_for.recent back d small
-            ∙ tone_before-agree (heard tracker.reach x) (heard tracker.reach (x ++ y)) tracker.place back (λ q l. heard-append tracker.reach x y q (omega arith));
+            ∙ tone_before-agree (heard tracker.reach x) (heard tracker.reach (x ++ y)) tracker.place back
+            (λ q l. heard-append tracker.reach x y q (omega arith));
       };
     }
 
@@ -101,8 +118,10 @@ taken-append held x y h =
     record {
       samples = record {
         within = omega arith;
-        window = λ i small enough. h.samples.window i small enough ∙ sym (get_or_append_left x y (pos 0) (held.count + i - 8) (omega arith));
-        recent = λ place d there late. h.samples.recent place d there late ∙ correlations-append x y place (omega arith);
+        window = λ i small enough. h.samples.window i small enough
+            ∙ sym (get_or_append_left x y (pos 0) (held.count + i - 8) (omega arith));
+        recent = λ place d there late. h.samples.recent place d there late
+            ∙ correlations-append x y place (omega arith);
       };
       near = decided-append held.near held.count x y inside h.near;
       far = decided-append held.far held.count x y inside h.far;

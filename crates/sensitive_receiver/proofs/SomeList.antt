@@ -24,29 +24,44 @@ module _ (x : List ℤ) (place lane : ℕ) (least : 8 ≤ lane) (most : lane < 2
   nothing never = (before, adds_none (λ p l. (p ≡ place) × (l ≡ lane)) x before never)
 
   -- what ends at the place in the lane, the place and the lane being named
-  frame_of : (item : Candidate) (p : ℕ) → (p ≡ place) × (item.offset ≡ lane) → EndsAtPlace x item p → EndsFrame (lane_bits x lane (place + 1)) item.octets
+  frame_of : (item : Candidate) (p : ℕ) → (p ≡ place) × (item.offset ≡ lane) → EndsAtPlace x item p
+      → EndsFrame (lane_bits x lane (place + 1)) item.octets
   frame_of item p of ends =
-      subst (λ l. EndsFrame (lane_bits x l (place + 1)) item.octets) of.1 (subst (λ q. EndsFrame (lane_bits x item.offset (q + 1)) item.octets) of.0 ends.frame)
+      subst (λ l. EndsFrame (lane_bits x l (place + 1)) item.octets) of.1
+      (subst (λ q. EndsFrame (lane_bits x item.offset (q + 1)) item.octets) of.0 ends.frame)
 
-  add_frame : (octets : List ℕ) → is_read_at x lane place ≡ true → EndsFrame (lane_bits x lane (place + 1)) octets → is_in_time x lane place ≡ true → Adds
+  add_frame : (octets : List ℕ) → is_read_at x lane place ≡ true → EndsFrame (lane_bits x lane (place + 1)) octets
+      → is_in_time x lane place ≡ true → Adds
   add_frame octets reads frame in_time = elim (path_or_none octets) [
     | inr none ↦ nothing (λ item p of ends.
-        none (subst HasPath (one_frame (lane_bits x lane (place + 1)) item.octets octets (frame_of item p of ends) frame).0 ends.path))
+        none (subst HasPath (one_frame (lane_bits x lane (place + 1)) item.octets octets
+        (frame_of item p of ends) frame).0 ends.path))
     | inl path ↦
         let item : Candidate = record { end = place + 8 - delay_of lane; offset = lane; octets = octets } in (
           before ++ item ∷ [],
           adds_one x place lane before (before ++ item ∷ []) item refl refl
-              (record { least = least; most = most; reads = reads; end_of = refl; frame = frame; path = path; in_time = in_time })
+              (record {
+                least = least;
+                most = most;
+                reads = reads;
+                end_of = refl;
+                frame = frame;
+                path = path;
+                in_time = in_time;
+              })
               (λ others ends. (one_frame (lane_bits x lane (place + 1)) octets others frame ends).0),
         )
   ]
 
-  add_in_time : (octets : List ℕ) → is_read_at x lane place ≡ true → EndsFrame (lane_bits x lane (place + 1)) octets → (b : Bool) → is_in_time x lane place ≡ b → Adds
+  add_in_time : (octets : List ℕ) → is_read_at x lane place ≡ true → EndsFrame (lane_bits x lane (place + 1)) octets
+      → (b : Bool) → is_in_time x lane place ≡ b → Adds
   add_in_time octets reads frame true in_time = add_frame octets reads frame in_time
-  add_in_time octets reads frame false late = nothing (λ item p of ends. true≢false (sym ends.in_time ∙ (λ i. is_in_time x (of.1 i) (of.0 i)) ∙ late))
+  add_in_time octets reads frame false late = nothing
+      (λ item p of ends. true≢false (sym ends.in_time ∙ (λ i. is_in_time x (of.1 i) (of.0 i)) ∙ late))
 
   add_read : (b : Bool) → is_read_at x lane place ≡ b → Adds
-  add_read false reads = nothing (λ item p of ends. true≢false (sym ends.reads ∙ (λ i. is_read_at x (of.1 i) (of.0 i)) ∙ reads))
+  add_read false reads = nothing
+      (λ item p of ends. true≢false (sym ends.reads ∙ (λ i. is_read_at x (of.1 i) (of.0 i)) ∙ reads))
   add_read true reads = elim (frame_or_none (lane_bits x lane (place + 1))) [
     | inl frame ↦ add_in_time frame.0 reads frame.1 (is_in_time x lane place) refl
     | inr none ↦ nothing (λ item p of ends. none item.octets (frame_of item p of ends))
@@ -57,18 +72,29 @@ module _ (x : List ℤ) (place lane : ℕ) (least : 8 ≤ lane) (most : lane < 2
   add_at = add_read (is_read_at x lane place) refl
 
 -- what the first of the added lanes hear at a place
-add_below : (x : List ℤ) (place n : ℕ) → n ≤ 15 → (before : List Candidate) → (after : List Candidate) × AddsBelow place (8 + n) x before after
-add_below x place zero few before =
-    (before, adds_none (λ p l. (p ≡ place) × (l < 8)) x before (λ item p of ends. let least = ends.least in let small = of.1 in absurd (omega arith)))
+add_below : (x : List ℤ) (place n : ℕ) → n ≤ 15 → (before : List Candidate) → (after : List Candidate) × AddsBelow place
+    (8 + n) x before after
+add_below x place zero few before = (
+  before,
+  adds_none (λ p l. (p ≡ place) × (l < 8)) x before (λ item p of ends. let least = ends.least in
+      let small = of.1 in absurd (omega arith)),
+)
 add_below x place (suc n) few before =
     let rest = add_below x place n (omega arith) before in
     let here = add_at x place (8 + n) (omega arith) (omega arith) rest.0 in
-    let next : 8 + n + 1 ≡ 8 + suc n = omega arith in
-    (here.0, subst (λ l. AddsBelow place l x before here.0) next (adds_next_lane place (8 + n) x before rest.0 here.0 rest.1 here.1))
+    let next : 8 + n + 1 ≡ 8 + suc n = omega arith in (
+      here.0,
+      subst (λ l. AddsBelow place l x before here.0) next
+          (adds_next_lane place (8 + n) x before rest.0 here.0 rest.1 here.1),
+    )
 
 -- what all of them hear at the first places
 add_first : (x : List ℤ) (n : ℕ) → (items : List Candidate) × AddsBetween 0 n x [] items
-add_first x zero = ([], adds_none (λ p l. (0 ≤ p) × (p < 0)) x [] (λ item p of ends. let low = of.1 in absurd (omega arith)))
+add_first x zero = (
+  [],
+  adds_none (λ p l. (0 ≤ p) × (p < 0)) x []
+      (λ item p of ends. let low = of.1 in absurd (omega arith)),
+)
 add_first x (suc n) =
     let rest = add_first x n in
     let here = add_below x n 15 (omega arith) rest.0 in
@@ -78,5 +104,7 @@ add_first x (suc n) =
 pub some_list : (x : List ℤ) → (items : List Candidate) × AreHeard x items
 some_list x =
     let eight = some_of_eight x in
-    let added = add_first x (places_in (length x)) in
-    (all_of [] x [] eight.0 added.1.heard none_heard eight.1 added.1.are, heard_join [] x [] eight.0 added.1.heard none_heard eight.1 added.1.are)
+    let added = add_first x (places_in (length x)) in (
+      all_of [] x [] eight.0 added.1.heard none_heard eight.1 added.1.are,
+      heard_join [] x [] eight.0 added.1.heard none_heard eight.1 added.1.are,
+    )

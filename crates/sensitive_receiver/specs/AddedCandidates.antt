@@ -14,14 +14,15 @@ pub record HasPath (octets : List ℕ) : Type 0 where
   pub len : ℕ
   pub begins : BeginsWithPath octets path len
 
--- The last 0 of a flag after its 1s, also by the plain count of samples: two bits and one bit before the reading the line
--- has one tone, and at the reading the other.
+-- The last 0 of a flag after its 1s, also by the plain count of samples: two bits and one bit before the reading the
+-- line has one tone, and at the reading the other.
 abbrev pub is_in_time : List ℤ → ℕ → ℕ → Bool
 is_in_time x lane place =
-    changes (tone_back x lane place 8) (tone_back x lane place 0) && not (changes (tone_back x lane place 16) (tone_back x lane place 8))
+    changes (tone_back x lane place 8) (tone_back x lane place 0)
+    && not (changes (tone_back x lane place 16) (tone_back x lane place 8))
 
--- A frame ends with the bit that a lane reads when a place is decided, and keeps both rules. Its end is the first sample
--- after the window that was read.
+-- A frame ends with the bit that a lane reads when a place is decided, and keeps both rules. Its end is the first
+-- sample after the window that was read.
 pub record EndsAtPlace (x : List ℤ) (item : Candidate) (place : ℕ) : Type 0 where
   pub least : 8 ≤ item.offset
   pub most : item.offset < 23

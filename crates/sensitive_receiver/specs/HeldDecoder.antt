@@ -17,7 +17,8 @@ pub record HeldDecoder : Type 0 where
   pub finished : Bool
   pub spent : Bool
 
--- both banks have taken these samples, and the merger all that they heard, in whatever order, of which it has given what is settled
+-- Both banks have taken these samples, and the merger all that they heard, in whatever order. It has given what is
+-- settled, and keeps what a candidate to come can repeat.
 pub record HaveTaken (bank : HeldBank) (added : HeldAdded) (merger : HeldMerger) (x : List ℤ) : Type 0 where
   pub samples : BankStandsFor bank x
   pub places : AddedStandsFor added x

@@ -39,7 +39,8 @@ pub record ClocksHaveTaken (first second third : Clock) (count : ℕ) (x : List 
 
 -- each lane has read the tones of so many places of the samples
 abbrev pub LanesHaveRead : List HeldLane → ℕ → List ℤ → Type 0
-LanesHaveRead lanes count x = (k : ℕ) (d : HeldLane) → k < 15 → LaneStandsFor (slice_index_or lanes k d) (lane_tones x (8 + k) count)
+LanesHaveRead lanes count x =
+    (k : ℕ) (d : HeldLane) → k < 15 → LaneStandsFor (slice_index_or lanes k d) (lane_tones x (8 + k) count)
 
 -- the place of the readings is the last one that is decided of the samples that the lists have taken
 pub record IsLastPlace (lists : HeldLists) (told : Readings) (x : List ℤ) : Type 0 where

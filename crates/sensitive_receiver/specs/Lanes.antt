@@ -1,8 +1,8 @@
--- The fifteen lanes that a sensitive receiver has beside one for each offset of a bit. Each reads its tones from one of the
--- two lists that are decided in phase.
--- Lanes 8 to 15 read the far list at each eighth place, from 0 to 7 on. The others read where a clock says, or one or two
--- places before: lanes 16 to 18 the near list by a slow clock, lanes 19 to 21 the far list by a slow clock, each 0, 1 and 2
--- places before, and lane 22 the near list by a fast clock, one place before.
+-- The fifteen lanes that a sensitive receiver has beside one for each offset of a bit. Each reads its tones from one of
+-- the two lists that are decided in phase.
+-- Lanes 8 to 15 read the far list at each eighth place, from 0 to 7 on. The others read where a clock says, or one or
+-- two places before: lanes 16 to 18 the near list by a slow clock, lanes 19 to 21 the far list by a slow clock, each 0,
+-- 1 and 2 places before, and lane 22 the near list by a fast clock, one place before.
 use Rattle.std.specs.Prelude.{ℕ, ◌+◌, ◌-◌, ◌%◌, ◌==◌, nat_lt, if◌then◌else◌, Bool, ℤ, List, map, filter}
 use Rattle.std.specs.List.{range_with_len}
 use Rattle.tone_table.specs.declared.tone.Tone.{Tone}
@@ -21,7 +21,11 @@ list_of lane = if nat_lt lane 16 then Far else if nat_lt lane 19 then Near else 
 
 -- how many places before the one that was decided last a lane reads
 abbrev pub delay_of : ℕ → ℕ
-delay_of lane = if nat_lt lane 16 then 0 else if nat_lt lane 19 then lane - 16 else if nat_lt lane 22 then lane - 19 else 1
+delay_of lane =
+    if nat_lt lane 16 then 0
+    else if nat_lt lane 19 then lane - 16
+    else if nat_lt lane 22 then lane - 19
+    else 1
 
 -- a lane reads a bit when a place is decided
 abbrev pub is_read_by : ℕ → Readings → Bool

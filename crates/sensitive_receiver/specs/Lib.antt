@@ -5,3 +5,4 @@ pub mod MergedItems
 pub mod HeldLanes
 pub mod Found
 pub mod HeldDecoder
+pub mod Stray

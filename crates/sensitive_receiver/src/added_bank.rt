@@ -15,8 +15,8 @@ use std::marker::Model;
 use tnc_base::OutOfMemory;
 use tone_tracking::{BitClock, Pull, Reach, ToneLists};
 
-/// Two lists of tones decided in phase, the clocks that follow them, and the lanes that read them. After want of memory
-/// nothing is said of what it gives.
+/// Two lists of tones decided in phase, the clocks that follow them, and the lanes that read them: `new`, then `feed`
+/// for each block of samples. After want of memory no clause says what it gives.
 #[derive(Drop)]
 pub struct AddedBank {
     alloc: Global,
@@ -35,9 +35,17 @@ impl Model for AddedBank {
 
     ghost Value = { HeldBank };
 
-    ghost view = { λ s. record { position = s.position; lists = s.lists; slow_near = s.slow_near; slow_far = s.slow_far; fast_near = s.fast_near; lanes = s.lanes.items } };
+    ghost view = { λ s. record {
+      position = s.position;
+      lists = s.lists;
+      slow_near = s.slow_near;
+      slow_far = s.slow_far;
+      fast_near = s.fast_near;
+      lanes = s.lanes.items;
+    } };
 
-    ghost invariant = { λ s. (length s.lanes.items ≡ 15) × (s.lists.count ≡ s.position) × (s.slow_near.0 ≡ Slow) × (s.slow_far.0 ≡ Slow) × (s.fast_near.0 ≡ Fast) };
+    ghost invariant = { λ s. (length s.lanes.items ≡ 15) × (s.lists.count ≡ s.position)
+        × (s.slow_near.0 ≡ Slow) × (s.slow_far.0 ≡ Slow) × (s.fast_near.0 ≡ Fast) };
 }
 
 impl AddedBank {
@@ -62,7 +70,8 @@ impl AddedBank {
         requires { self.old.position + length block.now < 2 ^ 48 }
         ensures found { IfOk result (λ found. (x : List ℤ) → StandsFor self.old x
             → StandsFor self.new (x ++ block.now)
-            × AreAddedBetween (places_in (length x)) (places_in (length (x ++ block.now))) (x ++ block.now) found.items) }
+            × AreAddedBetween (places_in (length x)) (places_in (length (x ++ block.now)))
+            (x ++ block.now) found.items) }
         ensures bounds { IfOk result (λ found. All CanBePut found.items) }
         ensures position { OnOk result (self.new.position ≡ self.old.position + length block.now) }
     {
@@ -80,7 +89,8 @@ impl AddedBank {
             → sample ≡ slice_index_or x self.old.position (pos 0) → HasTaken self.new x) }
         ensures found { OnOk result ((x : List ℤ) → HasTaken self.old x → self.old.position < length x
             → sample ≡ slice_index_or x self.old.position (pos 0)
-            → AddsBetween (places_in self.old.position) (places_in (self.old.position + 1)) x found.old.items found.new.items) }
+            → AddsBetween (places_in self.old.position) (places_in (self.old.position + 1)) x
+            found.old.items found.new.items) }
         ensures bounds { OnOk result (All CanBePut found.old.items → All CanBePut found.new.items) }
         ensures position { self.new.position ≡ self.old.position + 1 }
     {

@@ -42,7 +42,8 @@ impl AddedLane {
 
     /// Takes the next tone, and says whether a frame ends with it.
     pub(crate) fn push(&mut self, tone: Tone) -> bool
-        ensures stands_for { (tones : List Tone) → LaneStandsFor self.old tones → LaneStandsFor self.new (tones ++ tone ∷ []) }
+        ensures stands_for { (tones : List Tone) → LaneStandsFor self.old tones
+            → LaneStandsFor self.new (tones ++ tone ∷ []) }
         ensures holds { result ≡ true → (octets : List ℕ) × IsFrame octets × HoldsFrame self.new.deframer octets }
         ensures heard { (tones : List Tone) → LaneStandsFor self.old tones → result ≡ true
             → (octets : List ℕ) × EndsFrame (bits_of (tones ++ tone ∷ [])) octets }

@@ -19,7 +19,8 @@ use std::thread::Threads;
 use tnc_base::OutOfMemory;
 
 /// The eight lanes of a [`Bank`], those of an [`AddedBank`], and a [`Merger`]: `new`, then `block` for each block of
-/// samples, then `finish`. After want of memory it is spent: no later call gives items.
+/// samples, then `finish`. An item's end is the first sample after its closing flag, and its offset is the lane that
+/// heard it. After want of memory the decoder is spent: each later `block` or `finish` wants memory, too.
 #[derive(Drop)]
 pub struct SensitiveDecoder {
     alloc: Global,
@@ -38,9 +39,17 @@ impl Model for SensitiveDecoder {
 
     ghost Value = { HeldDecoder };
 
-    ghost view = { λ s. record { bank = s.bank; added = s.added; merger = s.merger; position = s.position; finished = s.finished; spent = s.spent } };
+    ghost view = { λ s. record {
+      bank = s.bank;
+      added = s.added;
+      merger = s.merger;
+      position = s.position;
+      finished = s.finished;
+      spent = s.spent;
+    } };
 
-    ghost invariant = { λ s. s.spent ≡ false → s.finished ≡ false → (s.bank.position ≡ s.position) × (s.added.position ≡ s.position) × (s.merger.marks ≡ replicate 23 (settled s.position)) };
+    ghost invariant = { λ s. s.spent ≡ false → s.finished ≡ false → (s.bank.position ≡ s.position)
+        × (s.added.position ≡ s.position) × (s.merger.marks ≡ replicate 23 (settled s.position)) };
 }
 
 impl SensitiveDecoder {
@@ -61,8 +70,8 @@ impl SensitiveDecoder {
         })
     }
 
-    /// Takes a block of samples, and gives the items not given before that end more than 17 samples before the last one so
-    /// far.
+    /// Takes a block of samples, and gives the items not given before that end more than 17 samples before the end of
+    /// what was taken so far.
     pub fn block(&mut self, block: &[i16]) -> Result<Vec<Candidate>, OutOfMemory>
         requires few { length block.now ≤ 2048 }
         requires room { self.old.position + length block.now < 2 ^ 48 }
@@ -84,7 +93,8 @@ impl SensitiveDecoder {
         self.settle(found, block)
     }
 
-    /// Does what [`SensitiveDecoder::block`] does, with the eight lanes on two threads, as [`Bank::feed_threads`] has them.
+    /// Does what [`SensitiveDecoder::block`] does, with the eight lanes on two threads, as [`Bank::feed_threads`] has
+    /// them.
     pub fn block_threads<R: Threads + Sync, G: Gate>(
         &mut self,
         rt: &R,
@@ -126,7 +136,8 @@ impl SensitiveDecoder {
         requires added { self.old.added.position ≡ self.old.position }
         ensures given { IfOk result (λ items. (before : HeldBank) (x : List ℤ) → self.old.finished ≡ false
             → length x ≡ self.old.position
-            → (BankStandsFor before x → BankStandsFor self.old.bank (x ++ block.now) × AreCandidatesBehind (length x) (x ++ block.now) found.items)
+            → (BankStandsFor before x → BankStandsFor self.old.bank (x ++ block.now)
+            × AreCandidatesBehind (length x) (x ++ block.now) found.items)
             → HaveTaken before self.old.added self.old.merger x
             → StandsFor self.new (x ++ block.now)
             × AreMergedBetween (settled (length x)) (settled (length (x ++ block.now))) (x ++ block.now) items.items) }
@@ -148,7 +159,8 @@ impl SensitiveDecoder {
             → AreMergedBetween (settled (length x)) (length x + 1) x items.items) }
         ensures again { IfOk result (λ items. self.old.finished ≡ true → items.items ≡ []) }
         ensures finished { OnOk result (self.new.finished ≡ true) }
-        ensures nothing_held { OnOk result ((x : List ℤ) → length x < 2 ^ 48 → StandsFor self.old x → length self.new.merger.items ≡ 0) }
+        ensures nothing_held { OnOk result ((x : List ℤ) → length x < 2 ^ 48 → StandsFor self.old x
+            → length self.new.merger.items ≡ 0) }
         ensures fails { self.old.spent ≡ true → IsErr result }
         ensures spent { OnErr result (self.new.spent ≡ true) }
     {

@@ -30,9 +30,10 @@ pub(crate) fn hear_place(
     requires room { lists.now.count < 2 ^ 49 }
     requires place { readings.now.place < 2 ^ 48 }
     ensures lanes { length lanes.new ≡ 15 }
-    ensures read { OnOk result ((x : List ℤ) → IsLastPlace lists.now readings.now x → LanesHaveRead lanes.old readings.now.place x
-        → LanesHaveRead lanes.new (readings.now.place + 1) x) }
-    ensures found { OnOk result ((x : List ℤ) → IsLastPlace lists.now readings.now x → LanesHaveRead lanes.old readings.now.place x
+    ensures read { OnOk result ((x : List ℤ) → IsLastPlace lists.now readings.now x
+        → LanesHaveRead lanes.old readings.now.place x → LanesHaveRead lanes.new (readings.now.place + 1) x) }
+    ensures found { OnOk result ((x : List ℤ) → IsLastPlace lists.now readings.now x
+        → LanesHaveRead lanes.old readings.now.place x
         → AddsBelow readings.now.place 23 x found.old.items found.new.items) }
     ensures bounds { OnOk result (All CanBePut found.old.items → All CanBePut found.new.items) }
 {
@@ -55,7 +56,8 @@ fn hear(
     requires number { (8 ≤ number) × (number < 23) }
     requires room { lists.now.count < 2 ^ 49 }
     requires place { readings.now.place < 2 ^ 48 }
-    ensures read { (x : List ℤ) → IsLastPlace lists.now readings.now x → LaneStandsFor lane.old (lane_tones x number readings.now.place)
+    ensures read { (x : List ℤ) → IsLastPlace lists.now readings.now x
+        → LaneStandsFor lane.old (lane_tones x number readings.now.place)
         → LaneStandsFor lane.new (lane_tones x number (readings.now.place + 1)) }
     ensures found { OnOk result ((x : List ℤ) → IsLastPlace lists.now readings.now x
         → LaneStandsFor lane.old (lane_tones x number readings.now.place)
@@ -84,8 +86,8 @@ fn hear(
     Ok(())
 }
 
-/// Whether the bit that a lane reads is the last of a flag, also by the plain count of samples: the tones two bits and one
-/// bit before agree, and the tone of the bit is another.
+/// Whether the bit that a lane reads is the last 0 of a flag, also by the plain count of samples: the tones two bits
+/// and one bit before agree, and the tone of the bit is another.
 fn ends_in_time(lists: &ToneLists, number: u8) -> bool
     requires room { lists.now.count < 2 ^ 49 }
     ensures { (x : List ℤ) (place : ℕ) → ListsHaveTaken lists.now x → places_in lists.now.count ≡ place + 1

@@ -1,11 +1,15 @@
-//! A receiver of 23 lanes, which hears in more noise and follows senders whose clock is off (Bell 202 at 1200 bits and 9600
-//! samples a second).
+//! A receiver of 23 lanes, which hears in more noise and follows senders whose clock is off (Bell 202 at 1200 bits and
+//! 9600 samples a second).
 //!
-//! Beside the eight lanes of `slicer_bank`, which decide each bit by itself at a fixed offset, fifteen lanes read tones that
-//! were decided in phase over several bits, eight of them at fixed offsets and seven where a clock says that follows the
-//! sender's. A lane that is added reports a frame only if it begins with a path and its last flag ends in time. All
-//! candidates are merged, so each frame comes once. The candidates of all samples are a definition over the whole list of
-//! samples: it does not matter in which blocks they came.
+//! The eight lanes of `slicer_bank` decide each bit by itself, at a fixed offset. Fifteen more read tones that
+//! `tone_tracking` decides in phase over several bits: eight at fixed offsets, and seven at the places that a clock
+//! gives, which follows the sender's. An added lane reports a frame only if the frame begins with a path (AX.25 2.2
+//! section 3.12) and its closing flag ends in time, since chance makes a frame of noise more often where more lanes
+//! listen. All candidates are merged, so each frame comes once.
+//!
+//! What is promised: the items are exactly the merged candidates of all lanes, which are a definition over the whole
+//! list of samples, however the samples were cut into blocks; and samples near a signal give the frames that were sent
+//! if no candidate is stray.
 #![tactic(auto)]
 
 mod added_bank;
@@ -19,5 +23,9 @@ mod readings;
 pub use added_bank::AddedBank;
 pub use decoder::SensitiveDecoder;
 pub use laws::{
-    one_list_of_all_lanes, sensitive_items_are_all, sensitive_items_join, some_list_of_all_lanes,
+    one_list_of_all_lanes, sensitive_carried_frames, sensitive_items_are_all, sensitive_items_join,
+    sensitive_level_frames, sensitive_near_frames, sensitive_none_stray, some_list_of_all_lanes,
 };
+
+#[cfg(test)]
+mod tests;

@@ -19,8 +19,8 @@ use tnc_base::OutOfMemory;
 /// How far behind the last sample the added lanes hear: no candidate to come ends lower.
 const BEHIND: u64 = 17;
 
-/// Gives what the eight lanes and the added ones heard in a block of `count` samples to a merger of all of them, which had
-/// taken `position` samples. Tells the items that the block settles.
+/// Gives what the eight lanes and the added ones heard in a block of `count` samples to a merger of all of them, which
+/// had taken `position` samples. Tells the items that the block settles.
 pub(crate) fn merge_block(
     merger: &mut Merger,
     position: u64,
@@ -32,7 +32,8 @@ pub(crate) fn merge_block(
     requires found { All CanBePutOfEight found.items }
     requires added { All CanBePut added.items }
     requires marks { merger.old.marks ≡ replicate 23 (settled position) }
-    ensures given { IfOk result (λ ready. (old new : HeldBank) (before after : HeldAdded) (x y : List ℤ) → length x ≡ position → length y ≡ count
+    ensures given { IfOk result (λ ready. (old new : HeldBank) (before after : HeldAdded) (x y : List ℤ)
+        → length x ≡ position → length y ≡ count
         → (BankStandsFor old x → BankStandsFor new (x ++ y) × AreCandidatesBehind (length x) (x ++ y) found.items)
         → (AddedStandsFor before x → AddedStandsFor after (x ++ y)
         × AreAddedBetween (places_in (length x)) (places_in (length (x ++ y))) (x ++ y) added.items)
@@ -52,7 +53,8 @@ pub(crate) fn merge_block(
 fn put_all(merger: &mut Merger, items: Vec<Candidate>) -> Result<(), OutOfMemory>
     requires marks { length merger.old.marks ≡ 23 }
     requires items { All CanBePut items.items }
-    ensures stands_for { OnOk result ((puts given : List Candidate) → StandsFor merger.old puts given → StandsFor merger.new (puts ++ items.items) given) }
+    ensures stands_for { OnOk result ((puts given : List Candidate) → StandsFor merger.old puts given
+        → StandsFor merger.new (puts ++ items.items) given) }
     ensures marks { merger.new.marks ≡ merger.old.marks }
 {
     for item in items {

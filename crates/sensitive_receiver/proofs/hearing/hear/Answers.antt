@@ -10,50 +10,72 @@ use Rattle.sensitive_receiver.proofs.hearing.hear.Goals as goal
 
 pub returns-then-not-are_for-clause-read : goal.returns-then-not-are_for-clause-read
 returns-then-not-are_for-clause-read c = λ x last h.
-    reads_nothing c.args.lists.now c.args.readings.now x c.args.number c.args.lane.now c.are_for.result last c.are_for.ensures c.if-not-are_for.true h
+    reads_nothing c.args.lists.now c.args.readings.now x c.args.number c.args.lane.now c.are_for.result last
+    c.are_for.ensures c.if-not-are_for.true h
 
 pub returns-then-not-are_for-clause-found : goal.returns-then-not-are_for-clause-found
 returns-then-not-are_for-clause-found c = λ x last h.
-    hears_nothing c.args.lists.now c.args.readings.now x c.args.number c.args.lane.now c.are_for.result last c.are_for.ensures c.if-not-are_for.true c.args.found.now.items
+    hears_nothing c.args.lists.now c.args.readings.now x c.args.number c.args.lane.now c.are_for.result last
+    c.are_for.ensures c.if-not-are_for.true c.args.found.now.items
 
 pub returns-then-not-push-clause-read : goal.returns-then-not-push-clause-read
 returns-then-not-push-clause-read c = λ x last h.
-    reads_tone c.args.lists.now c.args.readings.now x c.args.number c.args.lane.now c.push.new.self c.are_for.result c.tone_before-tone.result c.list_of.result c.delay_of.result last c.are_for.ensures c.if-not-are_for.false c.tone_before-tone.ensures c.list_of.ensures c.delay_of.ensures.delay h c.push.ensures.stands_for
+    reads_tone c.args.lists.now c.args.readings.now x c.args.number c.args.lane.now c.push.new.self c.are_for.result
+    c.tone_before-tone.result c.list_of.result c.delay_of.result last c.are_for.ensures c.if-not-are_for.false
+    c.tone_before-tone.ensures c.list_of.ensures c.delay_of.ensures.delay h c.push.ensures.stands_for
 
 pub returns-then-not-ends_in_time-clause-read : goal.returns-then-not-ends_in_time-clause-read
 returns-then-not-ends_in_time-clause-read c = λ x last h.
-    reads_tone c.args.lists.now c.args.readings.now x c.args.number c.args.lane.now c.push.new.self c.are_for.result c.tone_before-tone.result c.list_of.result c.delay_of.result last c.are_for.ensures c.if-not-are_for.false c.tone_before-tone.ensures c.list_of.ensures c.delay_of.ensures.delay h c.push.ensures.stands_for
+    reads_tone c.args.lists.now c.args.readings.now x c.args.number c.args.lane.now c.push.new.self c.are_for.result
+    c.tone_before-tone.result c.list_of.result c.delay_of.result last c.are_for.ensures c.if-not-are_for.false
+    c.tone_before-tone.ensures c.list_of.ensures c.delay_of.ensures.delay h c.push.ensures.stands_for
 
 pub returns-then-not-has_path-clause-read : goal.returns-then-not-has_path-clause-read
 returns-then-not-has_path-clause-read c = λ x last h.
-    reads_tone c.args.lists.now c.args.readings.now x c.args.number c.args.lane.now c.push.new.self c.are_for.result c.tone_before-tone.result c.list_of.result c.delay_of.result last c.are_for.ensures c.if-not-are_for.false c.tone_before-tone.ensures c.list_of.ensures c.delay_of.ensures.delay h c.push.ensures.stands_for
+    reads_tone c.args.lists.now c.args.readings.now x c.args.number c.args.lane.now c.push.new.self c.are_for.result
+    c.tone_before-tone.result c.list_of.result c.delay_of.result last c.are_for.ensures c.if-not-are_for.false
+    c.tone_before-tone.ensures c.list_of.ensures c.delay_of.ensures.delay h c.push.ensures.stands_for
 
 pub returns-in_err-octets-clause-read : goal.returns-in_err-octets-clause-read
 returns-in_err-octets-clause-read c = λ x last h.
-    reads_tone c.args.lists.now c.args.readings.now x c.args.number c.args.lane.now c.push.new.self c.are_for.result c.tone_before-tone.result c.list_of.result c.delay_of.result last c.are_for.ensures c.if-not-are_for.false c.tone_before-tone.ensures c.list_of.ensures c.delay_of.ensures.delay h c.push.ensures.stands_for
+    reads_tone c.args.lists.now c.args.readings.now x c.args.number c.args.lane.now c.push.new.self c.are_for.result
+    c.tone_before-tone.result c.list_of.result c.delay_of.result last c.are_for.ensures c.if-not-are_for.false
+    c.tone_before-tone.ensures c.list_of.ensures c.delay_of.ensures.delay h c.push.ensures.stands_for
 
 pub returns-in_err-push-clause-read : goal.returns-in_err-push-clause-read
 returns-in_err-push-clause-read c = λ x last h.
-    reads_tone c.args.lists.now c.args.readings.now x c.args.number c.args.lane.now c.push.new.self c.are_for.result c.tone_before-tone.result c.list_of.result c.delay_of.result last c.are_for.ensures c.if-not-are_for.false c.tone_before-tone.ensures c.list_of.ensures c.delay_of.ensures.delay h c.push.ensures.stands_for
+    reads_tone c.args.lists.now c.args.readings.now x c.args.number c.args.lane.now c.push.new.self c.are_for.result
+    c.tone_before-tone.result c.list_of.result c.delay_of.result last c.are_for.ensures c.if-not-are_for.false
+    c.tone_before-tone.ensures c.list_of.ensures c.delay_of.ensures.delay h c.push.ensures.stands_for
 
 pub returns-clause-read : goal.returns-clause-read
 returns-clause-read c = λ x last h.
-    reads_tone c.args.lists.now c.args.readings.now x c.args.number c.args.lane.now c.push.new.self c.are_for.result c.tone_before-tone.result c.list_of.result c.delay_of.result last c.are_for.ensures c.if-not-are_for.false c.tone_before-tone.ensures c.list_of.ensures c.delay_of.ensures.delay h c.push.ensures.stands_for
+    reads_tone c.args.lists.now c.args.readings.now x c.args.number c.args.lane.now c.push.new.self c.are_for.result
+    c.tone_before-tone.result c.list_of.result c.delay_of.result last c.are_for.ensures c.if-not-are_for.false
+    c.tone_before-tone.ensures c.list_of.ensures c.delay_of.ensures.delay h c.push.ensures.stands_for
 
 pub returns-then-not-push-clause-found : goal.returns-then-not-push-clause-found
 returns-then-not-push-clause-found c = λ x last h.
-    no_frame c.args.lists.now c.args.readings.now x c.args.number c.args.lane.now c.push.new.self c.are_for.result c.tone_before-tone.result c.list_of.result c.delay_of.result last c.are_for.ensures c.if-not-are_for.false c.tone_before-tone.ensures c.list_of.ensures c.delay_of.ensures.delay h c.args.found.now.items
-    (λ o ends. true≢false (sym (c.push.ensures.frame (lane_tones x c.args.number c.args.readings.now.place) o h ends).0 ∙ c.if-not-push.true))
+    no_frame c.args.lists.now c.args.readings.now x c.args.number c.args.lane.now c.push.new.self c.are_for.result
+    c.tone_before-tone.result c.list_of.result c.delay_of.result last c.are_for.ensures c.if-not-are_for.false
+    c.tone_before-tone.ensures c.list_of.ensures c.delay_of.ensures.delay h c.args.found.now.items
+    (λ o ends. true≢false (sym (c.push.ensures.frame (lane_tones x c.args.number c.args.readings.now.place) o h ends).0
+    ∙ c.if-not-push.true))
 
 pub returns-then-not-ends_in_time-clause-found : goal.returns-then-not-ends_in_time-clause-found
 returns-then-not-ends_in_time-clause-found c = λ x last h.
-    not_in_time c.args.lists.now c.args.readings.now x c.args.number c.args.lane.now c.push.new.self c.are_for.result c.tone_before-tone.result c.list_of.result c.delay_of.result last c.are_for.ensures c.if-not-are_for.false c.tone_before-tone.ensures c.list_of.ensures c.delay_of.ensures.delay h c.args.found.now.items
+    not_in_time c.args.lists.now c.args.readings.now x c.args.number c.args.lane.now c.push.new.self c.are_for.result
+    c.tone_before-tone.result c.list_of.result c.delay_of.result last c.are_for.ensures c.if-not-are_for.false
+    c.tone_before-tone.ensures c.list_of.ensures c.delay_of.ensures.delay h c.args.found.now.items
     (sym (c.ends_in_time.ensures x c.args.readings.now.place last.taken last.last) ∙ c.if-not-ends_in_time.true)
 
 pub returns-then-not-has_path-clause-found : goal.returns-then-not-has_path-clause-found
 returns-then-not-has_path-clause-found c = λ x last h.
-    no_path c.args.lists.now c.args.readings.now x c.args.number c.args.lane.now c.push.new.self c.are_for.result c.tone_before-tone.result c.list_of.result c.delay_of.result last c.are_for.ensures c.if-not-are_for.false c.tone_before-tone.ensures c.list_of.ensures c.delay_of.ensures.delay h c.args.found.now.items c.octets.result.now
-    (λ o ends. c.octets.ensures o ends.2 (c.push.ensures.frame (lane_tones x c.args.number c.args.readings.now.place) o h ends).1)
+    no_path c.args.lists.now c.args.readings.now x c.args.number c.args.lane.now c.push.new.self c.are_for.result
+    c.tone_before-tone.result c.list_of.result c.delay_of.result last c.are_for.ensures c.if-not-are_for.false
+    c.tone_before-tone.ensures c.list_of.ensures c.delay_of.ensures.delay h c.args.found.now.items c.octets.result.now
+    (λ o ends. c.octets.ensures o ends.2
+    (c.push.ensures.frame (lane_tones x c.args.number c.args.readings.now.place) o h ends).1)
     (λ path. true≢false (sym (c.has_path.ensures.lacks path) ∙ c.if-not-has_path.true))
 
 pub returns-clause-found : goal.returns-clause-found
@@ -64,7 +86,10 @@ returns-clause-found c = λ x last h.
     c.in_ok-octets.ensures ∙ c.octets-2.ensures o ends.2 (c.push.ensures.frame tones o h ends).1 in
     let is_o = unique heard.0 heard.1 in
     let same_o = c.octets.ensures heard.0 heard.1.2 (c.push.ensures.frame tones heard.0 h heard.1).1 in
-    one_frame c.args.lists.now c.args.readings.now x c.args.number c.args.lane.now c.push.new.self c.are_for.result c.tone_before-tone.result c.list_of.result c.delay_of.result last c.are_for.ensures c.if-not-are_for.false c.tone_before-tone.ensures c.list_of.ensures c.delay_of.ensures.delay h c.args.found.now.items c.push-2.new.self.items c.in_ok-octets.octets _
+    one_frame c.args.lists.now c.args.readings.now x c.args.number c.args.lane.now c.push.new.self c.are_for.result
+    c.tone_before-tone.result c.list_of.result c.delay_of.result last c.are_for.ensures c.if-not-are_for.false
+    c.tone_before-tone.ensures c.list_of.ensures c.delay_of.ensures.delay h c.args.found.now.items
+    c.push-2.new.self.items c.in_ok-octets.octets _
     c.requires.number.0 c.requires.number.1 c.in_ok-push.ensures.items
     (ap (λ d. c.args.readings.now.place + 8 - d) (c.from.ensures ∙ c.delay_of-2.ensures.delay))
     (subst (λ o. EndsFrame (bits_of (tones ++ c.tone_before-tone.result ∷ [])) o) (sym is_o) heard.1)
@@ -75,4 +100,5 @@ returns-clause-found c = λ x last h.
 pub returns-clause-bounds : goal.returns-clause-bounds
 returns-clause-bounds c = λ all.
     let small = c.requires.place in
-    bounds_more c.args.found.now.items c.push-2.new.self.items _ c.in_ok-push.ensures.items (record { lane = c.requires.number.1; end = omega arith }) all
+    bounds_more c.args.found.now.items c.push-2.new.self.items _ c.in_ok-push.ensures.items
+    (record { lane = c.requires.number.1; end = omega arith }) all

@@ -5,14 +5,18 @@ use Rattle.sensitive_receiver.proofs.merging.merge_block.Goals as goal
 
 pub returns-clause-given : goal.returns-clause-given
 returns-clause-given c = λ old new before after x y size more heard read h.
-    let len : length (x ++ y) ≡ c.args.position + c.args.count = length-append x y ∙ ap (λ n. n + length y) size ∙ ap (λ n. c.args.position + n) more in
+    let len : length (x ++ y) ≡ c.args.position + c.args.count = length-append x y ∙ ap (λ n. n + length y) size
+    ∙ ap (λ n. c.args.position + n) more in
     let room : length (x ++ y) < 2 ^ 48 = (let r = c.requires.room in omega arith) in
-    let many : length c.put_all-2.new.merger.marks ≡ 23 = ap length (c.in_ok-put_all-2.ensures.marks ∙ c.in_ok-put_all.ensures.marks ∙ c.requires.marks) in
+    let many : length c.put_all-2.new.merger.marks ≡ 23 = ap length
+    (c.in_ok-put_all-2.ensures.marks ∙ c.in_ok-put_all.ensures.marks ∙ c.requires.marks) in
     let marks : c.mark_all.new.self.marks ≡ replicate 23 (settled (length (x ++ y)))
     = c.mark_all.ensures.marks ∙ ap (λ n. replicate n c.saturating_sub.result) many
     ∙ ap (replicate 23) (c.saturating_sub.ensures ∙ ap settled (sym len)) in
-    block_gives x y old new before after c.args.merger.now c.mark_all.new.self c.take_ready.new.self c.args.found.items c.args.added.items c.in_ok-ready.ready.items
+    block_gives x y old new before after c.args.merger.now c.mark_all.new.self c.take_ready.new.self c.args.found.items
+    c.args.added.items c.in_ok-ready.ready.items
     room h heard read
     (λ puts given stands. c.mark_all.ensures.stands_for ((puts ++ c.args.found.items) ++ c.args.added.items) given
-    (c.in_ok-put_all-2.ensures.stands_for (puts ++ c.args.found.items) given (c.in_ok-put_all.ensures.stands_for puts given stands)))
+    (c.in_ok-put_all-2.ensures.stands_for (puts ++ c.args.found.items) given
+    (c.in_ok-put_all.ensures.stands_for puts given stands)))
     marks c.in_ok-ready.ensures.ready c.in_ok-ready.ensures.kept

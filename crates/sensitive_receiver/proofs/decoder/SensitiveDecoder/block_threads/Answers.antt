@@ -19,13 +19,17 @@ returns-clause-given g c =
       spent = c.self.inside.spent;
     } in
     let P : HeldDecoder → Type 0 = λ old. IfOk c.settle.result (λ items. (x : List ℤ) → StandsFor old x
-    → StandsFor c.settle.new.self (x ++ block) × AreMergedBetween (settled (length x)) (settled (length (x ++ block))) (x ++ block) items.items) in
+    → StandsFor c.settle.new.self (x ++ block) × AreMergedBetween (settled (length x)) (settled (length (x ++ block)))
+    (x ++ block) items.items) in
     subst P c.self.view_is (IfOk-weaker c.settle.result
     (λ items. (before : HeldBank) (x : List ℤ) → c.self.inside.finished ≡ false → length x ≡ c.self.inside.position
-    → (BankStandsFor before x → BankStandsFor c.feed_threads.new.self (x ++ block) × AreCandidatesBehind (length x) (x ++ block) c.in_ok-found.found.items)
+    → (BankStandsFor before x → BankStandsFor c.feed_threads.new.self (x ++ block) × AreCandidatesBehind (length x)
+    (x ++ block) c.in_ok-found.found.items)
     → HaveTaken before c.self.inside.added c.self.inside.merger x
-    → StandsFor c.settle.new.self (x ++ block) × AreMergedBetween (settled (length x)) (settled (length (x ++ block))) (x ++ block) items.items)
+    → StandsFor c.settle.new.self (x ++ block) × AreMergedBetween (settled (length x)) (settled (length (x ++ block)))
+    (x ++ block) items.items)
     (λ items. (x : List ℤ) → StandsFor was x
-    → StandsFor c.settle.new.self (x ++ block) × AreMergedBetween (settled (length x)) (settled (length (x ++ block))) (x ++ block) items.items)
+    → StandsFor c.settle.new.self (x ++ block) × AreMergedBetween (settled (length x)) (settled (length (x ++ block)))
+    (x ++ block) items.items)
     (λ items given x h. given c.self.inside.bank x h.finished (sym h.count) (c.in_ok-found.ensures.found x) h.taken)
     c.settle.ensures.given)

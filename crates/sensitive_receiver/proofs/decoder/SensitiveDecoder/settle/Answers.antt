@@ -16,12 +16,16 @@ returns-clause-given c =
       finished = c.self.inside.finished;
       spent = false;
     } in
-    let P : HeldDecoder → Type 0 = λ old. (before : HeldBank) (x : List ℤ) → old.finished ≡ false → length x ≡ old.position
-    → (BankStandsFor before x → BankStandsFor old.bank (x ++ block) × AreCandidatesBehind (length x) (x ++ block) c.args.found.items)
+    let P : HeldDecoder → Type 0 = λ old. (before : HeldBank) (x : List ℤ) → old.finished ≡ false
+    → length x ≡ old.position
+    → (BankStandsFor before x → BankStandsFor old.bank (x ++ block) × AreCandidatesBehind (length x)
+    (x ++ block) c.args.found.items)
     → HaveTaken before old.added old.merger x
-    → StandsFor now (x ++ block) × AreMergedBetween (settled (length x)) (settled (length (x ++ block))) (x ++ block) c.in_ok-items.items.items in
+    → StandsFor now (x ++ block) × AreMergedBetween (settled (length x)) (settled (length (x ++ block)))
+    (x ++ block) c.in_ok-items.items.items in
     subst P c.self.view_is (λ before x unfinished size heard h.
-    let taken = c.in_ok-items.ensures.given before c.self.inside.bank c.self.inside.added c.feed.new.self x block size refl heard (c.in_ok-added.ensures.found x) h in (
+    let taken = c.in_ok-items.ensures.given before c.self.inside.bank c.self.inside.added c.feed.new.self x block size
+    refl heard (c.in_ok-added.ensures.found x) h in (
       record {
         spent = refl;
         finished = unfinished;
