@@ -8,8 +8,12 @@ pieces, come from many hosts to both ports of the first station, some of which l
 random and mutated frames come from the second station. Then there is a calm, in which hosts that speak as they are to
 must be served: each question is answered, a frame that is heard is shown, and a whole connected session carries its
 octets both ways. At the end both stations must end with status 0, and must have reported nothing but connections that
-they closed. It prints one line and ends with status 0 where all is well. The seed tells what is said; how fast the
+they closed. It prints one line and ends with status 0 if all is well. The seed tells what is said; how fast the
 sockets are tells in which tick.
+
+A KISS host sets the channel for all: with a persistence near 0 the station hardly ever sends, and while a hundred frames wait it
+hears no host, so none can overrule that one. If a wait is given up in which the station sent next to nothing, and a random
+host had asked for such a persistence since the last calm, that is counted as a stilled channel, and two new stations begin.
 """
 import argparse
 import random
@@ -20,6 +24,8 @@ import time
 from air import Agw, Air, Kiss, Station
 
 PATIENCE = 300  # seconds: the longest wait for one thing
+STILL = 8  # a persistence below this stills the channel: fewer than one draw in 32 begins a transmission
+FEW = 5  # transmissions in a wait that is given up, if the channel is stilled
 MOST = 4000  # octets of a host in a storm: what a host sends while the station takes nothing waits in its socket
 CALLS = ["AAAA", "BBBB", "CCCC-7", "RAND", "RAND-15", "NOCALL-16", "a b", "", "ABCDEFGHIJ"]
 KINDS = b"RGgXxkKMVCvcDdYyPmHz\x00\xff"
@@ -102,10 +108,23 @@ class Words:
         return self.spoiled(head + body[:4096])
 
 
+class Stilled(Exception):
+    """A host has stilled the channel."""
+
+
+def persistences(octets):
+    """What a KISS stream sets the persistence to, one value after another."""
+    for part in octets.split(b"\xc0"):
+        plain = part.replace(b"\xdb\xdc", b"\xc0").replace(b"\xdb\xdd", b"\xdb")
+        if len(plain) > 1 and plain[0] & 15 == 2:
+            yield plain[1]
+
+
 class RandomHost:
     """A connection that says anything, and reads what it is sent, or does not."""
 
     def __init__(self, station, is_kiss, words, draws):
+        self.is_kiss, self.said = is_kiss, b""
         self.socket = station.connect(station.kiss if is_kiss else station.agw)
         self.socket.setblocking(False)
         self.words, self.draws = (words.kiss if is_kiss else words.agw), draws
@@ -119,6 +138,7 @@ class RandomHost:
         piece = self.waiting[: min(self.draws.choice([1, 7, 36, 500, 2000]), self.most)]
         try:
             count = self.socket.send(piece)
+            self.said += self.waiting[:count] if self.is_kiss else b""
             self.waiting = self.waiting[count:]
             self.sent += count
             self.most -= count
@@ -142,13 +162,33 @@ class Storms:
     def __init__(self, given):
         self.given, self.draws = given, random.Random(given.seed)
         self.words = Words(self.draws)
+        self.joined = self.said = self.calms = self.stilled = self.closed = self.ticks = 0
+        self.begin()
+
+    def begin(self):
+        """Two new stations, with a sane host at each."""
+        given = self.given
         words = ["--mode", given.mode, *(["--wide"] if given.wide else []), "--digi", "DIGI"]
         self.a = Station(given.tnc, "--seed", given.seed, *words)
         self.b = Station(given.tnc, "--seed", given.seed + 1, *words)
         self.air = Air(self.a, self.b, seed=given.seed)
         self.kiss_a, self.kiss_b = Kiss(self.a), Kiss(self.b)
         self.agw_a, self.agw_b = Agw(self.a, "SANEA"), Agw(self.b, "SANEB")
-        self.random_hosts, self.joined, self.said, self.calms = [], 0, 0, 0
+        self.random_hosts, self.least = [], 255
+
+    def end(self):
+        """Ends both stations, and tells what was wrong with how they ended."""
+        fault = ""
+        for at, station in enumerate((self.a, self.b)):
+            status, _, report = station.end()
+            strange = [line for line in report.splitlines() if not re.fullmatch(r"closed [0-9]+", line)]
+            if status != 0:
+                fault = fault or f"status {status}"
+            if strange:
+                fault = fault or f"report: {strange[0][:200]}"
+            self.closed += report.count("closed ") if at == 0 else 0
+        self.ticks += self.air.ticks
+        return fault
 
     def step(self):
         """A step of the air, and a turn of the sane hosts."""
@@ -170,6 +210,7 @@ class Storms:
                 if host.turn():
                     still.append(host)
                 else:
+                    self.note(host)
                     host.socket.close()
                 self.said += host.sent - before
             self.random_hosts = still
@@ -181,12 +222,21 @@ class Storms:
         self.kiss_b.frames()
         self.kiss_a.input = self.kiss_b.input = b""
 
+    def note(self, host):
+        """Notes the least persistence that a host has asked for."""
+        self.least = min([self.least, *persistences(host.said)])
+
     def until(self, what, holds):
         """Lets the air go on until something holds."""
-        patience = time.monotonic() + PATIENCE
+        patience, sent = time.monotonic() + PATIENCE, self.air.from_a.sent_count
         while not holds():
             if time.monotonic() > patience:
-                raise RuntimeError(f"gave up waiting: {what}")
+                for host in self.random_hosts:
+                    self.note(host)
+                sent = self.air.from_a.sent_count - sent
+                if self.least < STILL and sent < FEW:
+                    raise Stilled
+                raise RuntimeError(f"gave up waiting: {what}; {sent} transmissions, least persistence {self.least}")
             self.step()
 
     def answered(self, host, kind, to="", body=b"", pid=0):
@@ -227,6 +277,9 @@ class Storms:
             self.step()
         self.session()
         self.calms += 1
+        self.least = 255
+        for host in self.random_hosts:
+            host.said = b""
 
     def session(self):
         """A calls B, each gives the other some octets, and A ends it once both have all."""
@@ -269,23 +322,22 @@ def main(words):
     storms = Storms(given)
     fault = ""
     try:
-        while time.monotonic() - began < given.seconds:
-            storms.storm()
-            storms.calm()
+        while not fault and time.monotonic() - began < given.seconds:
+            try:
+                storms.storm()
+                storms.calm()
+            except Stilled:
+                storms.stilled += 1
+                fault = storms.end()
+                storms.begin()
     except (RuntimeError, OSError) as error:
         fault = str(error) or repr(error)
-    ends = [storms.a.end(), storms.b.end()]
+    fault = fault or storms.end()
     took = time.monotonic() - began
-    for status, _, report in ends:
-        strange = [line for line in report.splitlines() if not re.fullmatch(r"closed [0-9]+", line)]
-        if status != 0:
-            fault = fault or f"status {status}"
-        if strange:
-            fault = fault or f"report: {strange[0][:200]}"
-    closed = ends[0][2].count("closed ")
     print(
-        f"{storms.said} octets of {storms.joined} random hosts, {closed} of them closed by the station,"
-        f" in {took:.0f} s here and {storms.air.ticks / 100:.0f} s on the air; {storms.calms} calms; {fault or 'well'}"
+        f"{storms.said} octets of {storms.joined} random hosts, {storms.closed} of them closed by the station,"
+        f" in {took:.0f} s here and {storms.ticks / 100:.0f} s on the air; {storms.calms} calms,"
+        f" {storms.stilled} stilled channels; {fault or 'well'}"
     )
     return 1 if fault else 0
 

@@ -11,3 +11,6 @@ mod pieces;
 mod sending;
 
 pub use encoding::encode;
+
+#[cfg(test)]
+mod tests;
