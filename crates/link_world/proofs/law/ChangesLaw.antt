@@ -127,8 +127,7 @@ made_shows path CallingState is s = s
 made_shows path UpState is s = s
 made_shows path ReleasingState is s = s
 
-near_made_shows :
-    {a b : Params} {w : World} (path : Path) → ShowsWorld a b w → ShowsWorld a b (near_made path w)
+near_made_shows : {a b : Params} {w : World} (path : Path) → ShowsWorld a b w → ShowsWorld a b (near_made path w)
 near_made_shows {w} path s = made_shows path w.a.end.machine.control.state refl s
 
 made_acted :
@@ -159,8 +158,8 @@ far_loses :
     → ShowsWorld a b (record { a = near; b = record { end = far; towards = before ++ f ∷ after } })
     → ShowsWorld a b (record { a = near; b = record { end = far; towards = before ++ after } })
 far_loses {near} {far} before f after s =
-    let inv =
-    subst (λ fs. Invariant (between s.x s.y (core_flight near.towards) fs)) (map-append core_tagged before (f ∷ after)) s.holds in
+    let inv = subst (λ fs. Invariant (between s.x s.y (core_flight near.towards) fs))
+    (map-append core_tagged before (f ∷ after)) s.holds in
     let lost = lose_keeps (core_flight before) (core_tagged f) (core_flight after)
     (record { x_hears = inv.y_hears; y_hears = inv.x_hears }) in
     record {

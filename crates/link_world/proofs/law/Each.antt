@@ -52,7 +52,7 @@ pub each_inserted :
 each_inserted P [] x after here h = (here, h)
 each_inserted P (y ∷ before) x after here h = (h.0, each_inserted P before x after here h.1)
 
--- two lists, one behind the other
+-- two lists, one after the other
 pub each_append : {A : Type 0} (P : A → Type 0) (xs ys : List A) → Each P xs → Each P ys → Each P (xs ++ ys)
 each_append P [] ys h k = k
 each_append P (x ∷ xs) ys h k = (h.0, each_append P xs ys h.1 k)

@@ -38,7 +38,7 @@ take_none : (n : ℕ) → ◌≡◌ {A = List Packet} (take n []) []
 take_none zero = refl
 take_none (suc n) = refl
 
--- where nothing waits and no disconnect was asked for, nothing more is done
+-- if nothing waits and no disconnect was asked for, nothing more is done
 nothing_settles :
     (turn : Turn) (window : ℕ)
     → close (if length (in_window window (record { va = 0; vs = 0; top = 0; packets = [] })) == 0 then turn else
@@ -50,7 +50,7 @@ nothing_settles turn window =
 abbrev pub called_end : Machine → List SetUp → (mate modulus : ℕ) → End
 called_end m qs mate modulus = called mate modulus (end_behind m (core_set_ups qs))
 
--- a SABM or SABME opens a set-up, behind what was told of the one before
+-- a SABM or SABME opens a set-up, after what was told of the one before
 pub open_called_outcome :
     {h : Happening} {r : RecordedEnd} {y : End} {rest to_y : List CoreTagged} (told : List Told) (modulus : ℕ)
     (flag : Bool) → hears_ask h ≡ true → noting h r ≡ r → r.waiting ≡ [] → IsSound r.machine.params r.machine.incoming
@@ -104,8 +104,7 @@ open_called_outcome {h} {r} {y} {rest} {to_y} told modulus flag asks noted waiti
             params = refl;
             sound = sound_new modulus is sound.room;
             holds = subst (λ fs. Invariant (between (up_end turn.now (core_set_ups r.set_ups) (core_set_up new)) y rest
-                (to_y ++ fs))) (sym frames)
-                (subst (λ ss. Invariant (between
+                (to_y ++ fs))) (sym frames) (subst (λ ss. Invariant (between
                 (now (Up (record (opened (mate_of h) modulus []) { stored = ss }))
                 (in_modulus modulus (end_behind r.machine (core_set_ups r.set_ups)))) y rest
                 (to_y ++ of_end z Ua ∷ []))) stored inv);

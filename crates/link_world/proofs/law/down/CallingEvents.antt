@@ -65,8 +65,8 @@ calling_sends {r} packet {y} {to_x} {to_y} d taken =
       waiting = ap (λ (n : RecordedEnd). n.waiting) noted ∙ ap (λ w. w ++ packet ∷ []) d.waiting;
       sent = none_sent;
     } in
-    subst (λ s. Keeps (Sends packet) r y to_x to_y (settle_in s turn)) (sym d.state_is)
-    (down_keeps ends (λ alone. subst (λ fs. Invariant (between (now (Calling more) x) y to_x fs)) (sym (append-nil to_y))
+    subst (λ s. Keeps (Sends packet) r y to_x to_y (settle_in s turn)) (sym d.state_is) (down_keeps ends
+    (λ alone. subst (λ fs. Invariant (between (now (Calling more) x) y to_x fs)) (sym (append-nil to_y))
     (give_calling_keeps x d.holds)))
 
 -- a disconnect is asked for
@@ -89,7 +89,8 @@ calls_again {r} c waiting {y} {to_x} {to_y} d state = go (is_spent c)
     e = end_with (record r.machine { control = retried c }) r.set_ups r.machine.outgoing.packets
 
     go : (b : Bool) → Keeps (Ticks waiting) r y to_x to_y
-        (settled (if b then end_call Failed (goes_on r.machine c []) else goes_on r.machine (retried c) (call_in own ∷ [])))
+        (settled (if b then end_call Failed (goes_on r.machine c []) else goes_on r.machine (retried c)
+        (call_in own ∷ [])))
     go true = down_ends c Failed d refl d.holds
     go false = down_stays (retried c) (call_in own ∷ []) d state refl
         (call_sent e own d.sound.modulus (subst (λ s. IsDown s r.machine.outgoing.packets) (sym state) tt))
@@ -148,8 +149,7 @@ calling_hears_numbered wide (Other which flag octets) d numbered = absurd (false
 calling_agrees :
     {r : RecordedEnd} {f : Tagged} (flag : Bool) {modulus : ℕ} {y : End} {rest to_y : List CoreTagged}
     → DownEnd CallingState r y (setup_to f.set_up (Sabm modulus) ∷ rest) to_y → hears_ask (Hears f) ≡ true
-    → r.machine.incoming.modulus ≡ modulus
-    → Keeps (Hears f) r y rest to_y (settled (answer_ua flag (begin r.machine)))
+    → r.machine.incoming.modulus ≡ modulus → Keeps (Hears f) r y rest to_y (settled (answer_ua flag (begin r.machine)))
 calling_agrees {r} {f} flag {y} {rest} {to_y} d asks own =
     let x = end_behind r.machine (core_set_ups r.set_ups) in
     let inv = subst (λ k. Invariant (between (down_end CallingState r.machine r.set_ups) y

@@ -124,7 +124,8 @@ down_keeps {h} {r} {turn} {state} {qs} {y} {to_x} {to_y} e inv = record {
       });
 }
 
-settle_down : (state : LinkState) (packets : List Packet) (turn : Turn) → IsDown state packets → settle_in state turn ≡ turn
+settle_down : (state : LinkState) (packets : List Packet) (turn : Turn) → IsDown state packets
+    → settle_in state turn ≡ turn
 settle_down IdleState packets turn down = refl
 settle_down CallingState packets turn down = refl
 settle_down UpState packets turn down = absurd down
@@ -146,8 +147,7 @@ stays_down :
     {h : Happening} {state : LinkState} {r : RecordedEnd} {y : End} {to_x to_y frames : List CoreTagged} {c : Control}
     {sent : List SentIn} → DownEnd state r y to_x to_y → c.state ≡ state → noting h r ≡ r
     → IsSentAs (hears_ask h) (end_with (record r.machine { control = c }) r.set_ups r.machine.outgoing.packets) sent
-    frames
-    → EndsDown h r (goes_on r.machine c sent) state r.set_ups frames
+    frames → EndsDown h r (goes_on r.machine c sent) state r.set_ups frames
 stays_down {state} d is noted sent_as = record {
   state_is = is;
   down = d.down;
@@ -163,12 +163,12 @@ pub down_stays :
     {h : Happening} {state : LinkState} {r : RecordedEnd} {y : End} {was to_x to_y : List CoreTagged} (c : Control)
     (sent : List SentIn) {frames : List CoreTagged} → DownEnd state r y was to_y → c.state ≡ state → noting h r ≡ r
     → IsSentAs (hears_ask h) (end_with (record r.machine { control = c }) r.set_ups r.machine.outgoing.packets) sent
-    frames
-    → (IsAlone to_x to_y sent → Invariant (between (down_end state r.machine r.set_ups) y to_x (to_y ++ frames)))
+    frames → (IsAlone to_x to_y sent → Invariant (between (down_end state r.machine r.set_ups) y to_x (to_y ++ frames)))
     → Keeps h r y to_x to_y (settled (goes_on r.machine c sent))
 down_stays {h} {state} {r} {y} {to_x} {to_y} c sent d is noted sent_as inv =
     let turn = goes_on r.machine c sent in
-    subst (Keeps h r y to_x to_y) (sym (ap (λ s. settle_in s turn) is ∙ settle_down state r.machine.outgoing.packets turn d.down))
+    subst (Keeps h r y to_x to_y)
+    (sym (ap (λ s. settle_in s turn) is ∙ settle_down state r.machine.outgoing.packets turn d.down))
     (down_keeps (stays_down d is noted sent_as) inv)
 
 -- nothing happens to it
@@ -186,7 +186,8 @@ pub down_silent :
     → Invariant (between (down_end state r.machine r.set_ups) y to_x to_y)
     → Keeps h r y to_x to_y (settled (goes_on r.machine c []))
 down_silent {state} {r} {y} {to_x} {to_y} c d is noted inv = down_stays c [] d is noted none_sent
-    (λ alone. subst (λ fs. Invariant (between (down_end state r.machine r.set_ups) y to_x fs)) (sym (append-nil to_y)) inv)
+    (λ alone. subst (λ fs. Invariant (between (down_end state r.machine r.set_ups) y to_x fs))
+    (sym (append-nil to_y)) inv)
 
 hearing_down : (state : LinkState) (packets : List Packet) (f : Tagged) (r : RecordedEnd) → IsDown state packets
     → hearing state f r ≡ r
@@ -199,7 +200,8 @@ hearing_down ReleasingState packets f r down = refl
 pub down_noted :
     {state : LinkState} {r : RecordedEnd} {y : End} {to_x to_y : List CoreTagged} (f : Tagged)
     → DownEnd state r y to_x to_y → noting (Hears f) r ≡ r
-down_noted {state} {r} f d = ap (λ s. hearing s f r) d.state_is ∙ hearing_down state r.machine.outgoing.packets f r d.down
+down_noted {state} {r} f d = ap (λ s. hearing s f r) d.state_is
+    ∙ hearing_down state r.machine.outgoing.packets f r d.down
 
 -- a frame is passed over
 pub down_passes :
@@ -237,7 +239,8 @@ down_dm {f} {rest} flag d no_ask =
 
 -- a SABM, SABME or DISC is declined
 pub down_declines :
-    {state : LinkState} {r : RecordedEnd} {y : End} {f : Tagged} {kind : Kind} {rest to_y : List CoreTagged} (flag : Bool)
+    {state : LinkState} {r : RecordedEnd} {y : End} {f : Tagged} {kind : Kind} {rest to_y : List CoreTagged}
+    (flag : Bool)
     → DownEnd state r y (setup_to f.set_up kind ∷ rest) to_y → hears_ask (Hears f) ≡ true → ask_of kind ≡ 1
     → Keeps (Hears f) r y rest to_y (settled (answer_dm flag (begin r.machine)))
 down_declines flag d asks one = down_answers DmFrame flag d tt (ap Dm asks) (decline_by_dm_keeps one d.holds)
@@ -267,6 +270,5 @@ down_ends {h} {state} {r} {y} {to_x} {to_y} c why d noted inv =
       sent = none_sent;
     } in
     down_keeps ends (λ alone. subst (λ fs. Invariant (between (down_end IdleState turn.now r.set_ups) y to_x fs))
-    (sym (append-nil to_y))
-    (subst (λ qs. Invariant (between (now Idle (end_behind turn.now qs)) y to_x to_y))
+    (sym (append-nil to_y)) (subst (λ qs. Invariant (between (now Idle (end_behind turn.now qs)) y to_x to_y))
     (set_ups_down state r.machine.outgoing.packets (core_set_ups r.set_ups)) (leave_to_idle_keeps 8 inv)))

@@ -9,15 +9,13 @@ use Rattle.link_machine.specs.Ticks.{runs_out, lowered, with_t1, with_t2, with_t
 use Rattle.selective_reject.specs.declared.packet.Packet.{Packet}
 use Rattle.link_world.proofs.law.down.Ends.{IsDown, goes_on}
 
-t2_quiet :
-    (state : LinkState) (packets : List Packet) (turn : Turn) → IsDown state packets → t2_out state turn ≡ turn
+t2_quiet : (state : LinkState) (packets : List Packet) (turn : Turn) → IsDown state packets → t2_out state turn ≡ turn
 t2_quiet IdleState packets turn down = refl
 t2_quiet CallingState packets turn down = refl
 t2_quiet UpState packets turn down = absurd down
 t2_quiet ReleasingState packets turn down = refl
 
-t3_quiet :
-    (state : LinkState) (packets : List Packet) (turn : Turn) → IsDown state packets → t3_out state turn ≡ turn
+t3_quiet : (state : LinkState) (packets : List Packet) (turn : Turn) → IsDown state packets → t3_out state turn ≡ turn
 t3_quiet IdleState packets turn down = refl
 t3_quiet CallingState packets turn down = refl
 t3_quiet UpState packets turn down = absurd down

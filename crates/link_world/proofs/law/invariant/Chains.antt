@@ -6,9 +6,9 @@ use Rattle.link_world.proofs.law.reduced.Core.{Tagged}
 pub record Rule : Type 1 where
   -- what a frame is held to, at a number
   pub Holds : ℕ → Tagged → Type 0
-  -- the number behind a frame
+  -- the number after a frame
   pub next : ℕ → Tagged → ℕ
-  -- what holds of the number behind the last frame
+  -- what holds of the number after the last frame
   pub Ends : ℕ → Type 0
 
 abbrev pub Chain : Rule → ℕ → List Tagged → Type 0
@@ -29,7 +29,7 @@ chain_from r a b [] le h = r.ends a b le h
 chain_from {rule} r a b (f ∷ fs) le h =
     (r.weaker a b f le h.0, chain_from r (rule.next a f) (rule.next b f) fs (r.next a b f le) h.1)
 
--- what holds behind the last frame holds at the start
+-- what holds after the last frame holds at the start
 pub chain_start : {rule : Rule} → IsRising rule → (a : ℕ) (fs : List Tagged) → Chain rule a fs → rule.Ends a
 chain_start r a [] h = h
 chain_start {rule} r a (f ∷ fs) h = r.ends a (rule.next a f) (r.rises a f h.0) (chain_start r (rule.next a f) fs h.1)
@@ -63,7 +63,7 @@ chain_wider rule {other} r holds less ends a (f ∷ fs) h =
     let rest = chain_wider rule r holds less ends (rule.next a f) fs h.1 in
     (holds a f h.0, chain_from r (other.next a f) (rule.next a f) fs (less a f) rest)
 
--- one frame more, where the numbers stay within a bound
+-- one frame more, if the numbers stay within a bound
 pub chain_pushed_within :
     (rule : Rule) (bound : ℕ) (f : Tagged)
     → ((n : ℕ) → n ≤ bound → rule.Ends n → rule.Holds n f × rule.Ends (rule.next n f))

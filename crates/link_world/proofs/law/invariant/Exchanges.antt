@@ -59,12 +59,11 @@ pub no_ua : (fs : List Tagged) → answers fs ≡ 0 → ua_tag fs ≡ None
 no_ua [] h = refl
 no_ua (f ∷ fs) h = ua_none f.kind f.tag (ua_tag fs) (omega arith) ∙ no_ua fs (omega arith)
 
--- a UA behind frames that are no answers
+-- a UA after frames that are no answers
 pub ua_pushed_ua :
     (fs : List Tagged) (tag : ℕ) → answers fs ≡ 0 → ua_tag (fs ++ record { tag = tag; kind = Ua } ∷ []) ≡ Some tag
 ua_pushed_ua [] tag h = refl
-ua_pushed_ua (f ∷ fs) tag h =
-    ua_none f.kind f.tag (ua_tag (fs ++ record { tag = tag; kind = Ua } ∷ [])) (omega arith)
+ua_pushed_ua (f ∷ fs) tag h = ua_none f.kind f.tag (ua_tag (fs ++ record { tag = tag; kind = Ua } ∷ [])) (omega arith)
     ∙ ua_pushed_ua fs tag (omega arith)
 
 -- there is none now, or it is as it was
@@ -92,8 +91,7 @@ pub ua_removed :
     (before : List Tagged) (f : Tagged) (after : List Tagged) → answers (before ++ f ∷ after) ≤ 1
     → Fades (ua_tag (before ++ after)) (ua_tag (before ++ f ∷ after))
 ua_removed [] f after h = removed_first f.kind f.tag after h
-ua_removed (g ∷ before) f after h =
-    fades_by g.kind g.tag (ua_tag (before ++ after)) (ua_tag (before ++ f ∷ after))
+ua_removed (g ∷ before) f after h = fades_by g.kind g.tag (ua_tag (before ++ after)) (ua_tag (before ++ f ∷ after))
     (ua_removed before f after (omega arith))
 
 -- so with what an end sees

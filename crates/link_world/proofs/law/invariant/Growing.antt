@@ -62,8 +62,8 @@ mates_seen {v} is h = record {
 
 -- y hears of it
 pub last_changes :
-    {u : Option View} (x : End) {y : End} {r s : Running} {to_x to_y : List Tagged} → IsPrefixOf r.set_up.given s.set_up.given
-    → r.top ≤ s.top → s.set_up.modulus ≡ r.set_up.modulus
+    {u : Option View} (x : End) {y : End} {r s : Running} {to_x to_y : List Tagged}
+    → IsPrefixOf r.set_up.given s.set_up.given → r.top ≤ s.top → s.set_up.modulus ≡ r.set_up.modulus
     → IfSome u (λ b. AcksRise b.mate b.va to_y (length (got_in (set_ups (now (Up s) x)) b.mate)) b.top)
     → Hears u (Some (view_up x.modulus r)) y (now (Up r) x) to_y to_x
     → Hears u (Some (view_up x.modulus s)) y (now (Up s) x) to_y to_x

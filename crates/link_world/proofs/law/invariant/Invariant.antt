@@ -44,7 +44,7 @@ pub record Tags (low : ℕ) (fs : List Tagged) (era count : ℕ) : Type 0 where
   pub of_set_up : Each (λ f. OfSetUp count f.tag f.kind) fs
   pub call_is_current : Each (λ f. IsCurrentCall count f.tag f.kind) fs
 
--- What x sees, what y sees, and y's era and count: the mate is y's last set-up, or the next, and where both ends see
+-- What x sees, what y sees, and y's era and count: the mate is y's last set-up, or the next, and if both ends see
 -- each other, it is y's own.
 pub record MatesAgree (v u : Option View) (era count : ℕ) : Type 0 where
   pub last : IfSome v (λ a. count ≤ a.mate + 1)
@@ -63,7 +63,7 @@ KeepsBy (Calling waiting) k = ⊤
 KeepsBy (Up r) k = Keeps r k
 KeepsBy Releasing k = ⊤
 
--- what is stored and what is under way was sent: it is below the number behind the highest that was
+-- what is stored and what is under way was sent: it is below one past the highest number sent
 pub record WasSent (a : View) (fs : List Tagged) (top : ℕ) : Type 0 where
   pub stored : Each (λ (s : Stored). s.number < top) a.stored
   pub under_way : Each (λ f. InfoBelow top (of_mate a.mate f)) fs
@@ -86,7 +86,7 @@ Carries ys tag (IsNumbered modulus (Info ns nr packet)) = slice_get (given_in ys
 Carries ys tag (IsNumbered modulus (Super nr)) = ⊤
 Carries ys tag (IsNumbered modulus (Srej nr)) = ⊤
 
--- the origin, where there is one, is below a number
+-- the origin, if there is one, is below a number
 abbrev pub OriginUnder : ℕ → SetUp → Type 0
 OriginUnder mate q = IfSome q.origin (λ o. o < mate)
 

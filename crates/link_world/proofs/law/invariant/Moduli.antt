@@ -41,8 +41,7 @@ moduli_sent {fs} f has call h = record {
 }
 
 -- x sees nothing now
-pub moduli_blind :
-    {v u : Option View} {x y : End} {fs : List Tagged} → Moduli v u x y fs → Moduli None u x y fs
+pub moduli_blind : {v u : Option View} {x y : End} {fs : List Tagged} → Moduli v u x y fs → Moduli None u x y fs
 moduli_blind h = record {
   window = h.window;
   own = h.own;
@@ -54,8 +53,7 @@ moduli_blind h = record {
 }
 
 -- y sees nothing now
-pub moduli_unseen :
-    {v u : Option View} {x y : End} {fs : List Tagged} → Moduli v u x y fs → Moduli v None x y fs
+pub moduli_unseen : {v u : Option View} {x y : End} {fs : List Tagged} → Moduli v u x y fs → Moduli v None x y fs
 moduli_unseen {v} h = record {
   window = h.window;
   own = h.own;

@@ -68,7 +68,7 @@ at_none [] n h = refl
 at_none (q ∷ qs) zero h = absurd (omega arith)
 at_none (q ∷ qs) (suc n) h = at_none qs n (omega arith)
 
--- got in each set-up stays as it is, where it does in the last
+-- got in each set-up stays as it is, if it does in the last
 pub got_same :
     (ended : List SetUp) (c d : SetUp) → d.got ≡ c.got → (n : ℕ)
     → got_in (ended ++ d ∷ []) n ≡ got_in (ended ++ c ∷ []) n

@@ -1,4 +1,4 @@
--- x is up, and its own numbers change: V(A), V(S), the number behind the highest that was sent, and the packets it
+-- x is up, and its own numbers change: V(A), V(S), one past the highest number sent, and the packets it
 -- keeps.
 use Rattle.std.proofs.Common.{◌≡◌, ℕ, ◌+◌, ◌-◌, ◌<◌, ◌≤◌, max, List, ◌∷◌, Option, Some, length, drop, arith, ap, refl, ◌∙◌, subst, le_trans, le_refl}
 use Rattle.std.proofs.lemmas.List.{drop-drop}
@@ -83,8 +83,7 @@ own_numbers_keep x {y} {r} va vs top kept {to_x} {to_y} keeps le acks h = record
 
 -- what x acknowledges to itself, what its partner got, and the top are in order
 pub acked_got_top :
-    (x : End) {y : End} {r : Running} {to_x to_y : List Tagged}
-    → Invariant (between (now (Up r) x) y to_x to_y)
+    (x : End) {y : End} {r : Running} {to_x to_y : List Tagged} → Invariant (between (now (Up r) x) y to_x to_y)
     → (r.va ≤ length (got_in (set_ups y) r.set_up.mate)) × (length (got_in (set_ups y) r.set_up.mate) ≤ r.top)
 acked_got_top x {y} {r} {to_x} h =
     acks_start r.set_up.mate r.va (length (got_in (set_ups y) r.set_up.mate)) r.top to_x h.x_hears.numbers.acks

@@ -1,4 +1,4 @@
--- x sends a UA: where y is calling, it sees x from then on.
+-- x sends a UA: if y is calling, it sees x from then on.
 use Rattle.std.proofs.Common.{◌≡◌, ℕ, ◌<◌, List, [], ◌∷◌, ◌++◌, Option, Some, IfSome, length, arith, ap, refl, sym, subst, le_refl}
 use Rattle.std.specs.List.{AllByRecursion as Each}
 use Rattle.selective_reject.specs.declared.packet.Packet.{Packet}
@@ -25,7 +25,7 @@ pub record IsNewToMate (v : Option View) (x y : End) (to_x to_y : List Tagged) :
   pub mate : IfSome v (λ a. a.mate ≡ era y)
   pub sent : IfSome v (λ a. WasSent a to_x 0 × Each (IsSilent (era x)) to_y)
   pub earlier : Each (OriginUnder (era x)) y.ended
-  -- where y is calling, what it will see is in its modulus
+  -- if y is calling, what it will see is in its modulus
   pub modulus : IfSome v (λ a. CallsBy y.standing y.modulus a.modulus)
   pub own : era x < count x → CallsBy y.standing y.modulus (modulus_in (set_ups x) (era x))
 
@@ -116,7 +116,15 @@ ua_pushed_both :
     → BothHear v u x y to_x to_y → BothHear v u x y to_x (to_y ++ of_end x Ua ∷ [])
 ua_pushed_both none quiet h =
     let other = h.y_hears.one_exchange in
-    both_sent tt tt (omega arith) (omega arith) tt tt tt (numbers_of_other refl) h
+    both_sent (record {
+      of_set_up = tt;
+      current = tt;
+      asks_fit = omega arith;
+      answers_fit = omega arith;
+      carries = tt;
+      modulus = tt;
+      call_in = tt;
+    }) (numbers_of_other refl) h
 
 sent_ua_by :
     (s : Standing) {v : Option View} {x : End} (y : End) {to_x to_y : List Tagged} → answers to_y ≡ 0 → asks to_x ≡ 0
@@ -128,8 +136,8 @@ sent_ua_by (Calling waiting) {v} {x} y {to_x} {to_y} none quiet new h =
     let to_z = to_y ++ of_end x Ua ∷ [] in
     let pushed = ua_pushed_both none quiet h in
     let behind = new_behind_ua new in
-    subst (λ t. BothHear v t x z to_x to_z) (ap (view_by y.modulus (Calling waiting)) (sym (ua_pushed_ua to_y (era x) none)))
-    (record {
+    subst (λ t. BothHear v t x z to_x to_z)
+    (ap (view_by y.modulus (Calling waiting)) (sym (ua_pushed_ua to_y (era x) none))) (record {
       x_hears = seen_anew (era x) new.mate (if_weaker v _ _ (λ a c. c.0) new.sent) new.modulus pushed.x_hears;
       y_hears = sees_anew y behind pushed.y_hears;
     })
@@ -139,6 +147,5 @@ sent_ua_by Releasing y none quiet new h = ua_pushed_both none quiet h
 -- x sends a UA, while no other answer is under way to y, and y asks nothing more
 pub sent_ua_keeps :
     {x y : End} {to_x to_y : List Tagged} → answers to_y ≡ 0 → asks to_x ≡ 0 → IsNewToMate (view x to_x) x y to_x to_y
-    → Invariant (between x y to_x to_y)
-    → Invariant (between x y to_x (to_y ++ of_end x Ua ∷ []))
+    → Invariant (between x y to_x to_y) → Invariant (between x y to_x (to_y ++ of_end x Ua ∷ []))
 sent_ua_keeps {y} none quiet new h = sent_ua_by y.standing y none quiet new h

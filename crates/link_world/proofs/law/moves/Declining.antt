@@ -22,7 +22,15 @@ decline_by_dm_keeps {tag} {k} {rest} asks_one h =
     let behind = lose_keeps [] (setup_to tag k) rest h in
     let one = h.x_hears.one_exchange in
     let other = behind.y_hears.one_exchange in
-    sent_other_keeps (Dm true) refl refl tt tt tt tt tt (omega arith) (omega arith) behind
+    sent_other_keeps (Dm true) refl refl (record {
+      of_set_up = tt;
+      current = tt;
+      asks_fit = omega arith;
+      answers_fit = omega arith;
+      carries = tt;
+      modulus = tt;
+      call_in = tt;
+    }) behind
 
 -- what y has got so far comes from set-ups that x has opened
 pub earlier_of :
@@ -34,8 +42,7 @@ earlier_of {x} {y} h =
 -- an end that is not up, and sees nothing, answers a DISC by UA
 decline_by_ua :
     {s : Standing} (x : End) {y : End} {tag : ℕ} {rest to_y : List Tagged} → set_ups (now s x) ≡ x.ended
-    → ((o : Option ℕ) → view_by x.modulus s o ≡ None)
-    → Invariant (between (now s x) y (setup_to tag Disc ∷ rest) to_y)
+    → ((o : Option ℕ) → view_by x.modulus s o ≡ None) → Invariant (between (now s x) y (setup_to tag Disc ∷ rest) to_y)
     → Invariant (between (now s x) y rest (to_y ++ of_end x Ua ∷ []))
 decline_by_ua {s} x {y} {tag} {rest} {to_y} down blind h =
     let z = now s x in

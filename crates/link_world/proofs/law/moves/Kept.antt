@@ -18,21 +18,37 @@ use Rattle.link_world.proofs.law.moves.Opening.{agree_keeps, open_called_keeps, 
 use Rattle.link_world.proofs.law.moves.Declining.{decline_by_dm_keeps, decline_idle_keeps, decline_releasing_keeps}
 use Rattle.link_world.proofs.law.invariant.Invariant.{Hears, Invariant}
 
--- asks of one end and answers to it make one exchange at most, so where there is none, one may begin
+-- asks of one end and answers to it make one exchange at most, so if there is none, one may begin
 pub call_keeps :
     (x : End) {y : End} {waiting : List Packet} {to_x to_y : List Tagged} → asks to_y + answers to_x ≡ 0
     → Invariant (between (now (Calling waiting) x) y to_x to_y)
     → Invariant (between (now (Calling waiting) x) y to_x (to_y ++ of_end x (Sabm x.modulus) ∷ []))
 call_keeps x quiet h =
     let one = h.x_hears.one_exchange in
-    sent_other_keeps (Sabm x.modulus) refl refl tt refl tt tt refl (omega arith) (omega arith) h
+    sent_other_keeps (Sabm x.modulus) refl refl (record {
+      of_set_up = tt;
+      current = refl;
+      asks_fit = omega arith;
+      answers_fit = omega arith;
+      carries = tt;
+      modulus = tt;
+      call_in = refl;
+    }) h
 
 pub release_keeps :
     {x y : End} {to_x to_y : List Tagged} → asks to_y + answers to_x ≡ 0
     → Invariant (between x y to_x to_y) → Invariant (between x y to_x (to_y ++ of_end x Disc ∷ []))
 release_keeps quiet h =
     let one = h.x_hears.one_exchange in
-    sent_other_keeps Disc refl refl tt tt tt tt tt (omega arith) (omega arith) h
+    sent_other_keeps Disc refl refl (record {
+      of_set_up = tt;
+      current = tt;
+      asks_fit = omega arith;
+      answers_fit = omega arith;
+      carries = tt;
+      modulus = tt;
+      call_in = tt;
+    }) h
 
 pub send_dm_keeps :
     {x y : End} {to_x to_y : List Tagged} → Invariant (between x y to_x to_y)
@@ -40,7 +56,15 @@ pub send_dm_keeps :
 send_dm_keeps h =
     let one = h.x_hears.one_exchange in
     let other = h.y_hears.one_exchange in
-    sent_other_keeps (Dm false) refl refl tt tt tt tt tt (omega arith) (omega arith) h
+    sent_other_keeps (Dm false) refl refl (record {
+      of_set_up = tt;
+      current = tt;
+      asks_fit = omega arith;
+      answers_fit = omega arith;
+      carries = tt;
+      modulus = tt;
+      call_in = tt;
+    }) h
 
 -- each move keeps what holds
 pub move_keeps : {w v : Core} → Move w v → Invariant w → Invariant v

@@ -89,8 +89,7 @@ both_lost before f after h =
 -- a lost frame: a UA takes the view away, and nothing else of what is seen changes
 pub lose_keeps :
     {x y : End} (before : List Tagged) (f : Tagged) (after : List Tagged) {to_y : List Tagged}
-    → Invariant (between x y (before ++ f ∷ after) to_y)
-    → Invariant (between x y (before ++ after) to_y)
+    → Invariant (between x y (before ++ f ∷ after) to_y) → Invariant (between x y (before ++ after) to_y)
 lose_keeps {x} before f after h =
     let other = h.y_hears.one_exchange in
     let fades = view_fades x.modulus x.standing (ua_tag (before ++ after)) (ua_tag (before ++ f ∷ after))

@@ -26,7 +26,7 @@ use Rattle.link_world.proofs.law.reduced.CoreLaw.{OriginBelow}
 use Rattle.link_world.proofs.law.invariant.Invariant.{CallsBy, OriginUnder, WasSent, Hears, BothHear, Invariant}
 use Rattle.link_world.proofs.law.moves.Declining.{earlier_of}
 
--- behind a SABM every tag is that of the set-up that its sender would open next
+-- after a SABM every tag is that of the set-up that its sender would open next
 behind_call :
     {tag : ℕ} (rest : List Tagged) (era : ℕ) {count : ℕ} → tag ≡ count → era ≤ count → TagsRise tag rest era
     → (tag ≡ era) × Each (λ f. f.tag ≡ era) rest
@@ -55,10 +55,10 @@ agree_keeps x {y} {waiting} {tag} {rest} {to_y} h =
     sent_ua_keeps (omega arith) (omega arith) (record {
       silent = silent;
       got = ap (λ (q : SetUp). q.got) (at_none x.ended (era z) (le_refl (era z)));
-      mate = if_calling (λ a. a.mate ≡ era y) x.modulus waiting (ua_tag rest) (ua_tag_of_each (λ t. t ≡ era y) rest tags.1);
+      mate = if_calling (λ a. a.mate ≡ era y) x.modulus waiting (ua_tag rest)
+          (ua_tag_of_each (λ t. t ≡ era y) rest tags.1);
       sent = if_calling (λ a. WasSent a rest 0 × Each (IsSilent (era z)) to_y) x.modulus waiting (ua_tag rest)
-          (if_weaker (ua_tag rest) _ _
-          (λ t is. (
+          (if_weaker (ua_tag rest) _ _ (λ t is. (
             sent_of_silent x.modulus t (silent_of_unopened (count y) t rest (omega arith)
                 behind.x_hears.tags.of_set_up),
             silent,
@@ -154,7 +154,8 @@ opened_hears {x} {y} {mate} modulus {to_x} rise is h =
 -- x hears a SABM, while no SABM of its own is under way: it opens a set-up, and answers by UA
 pub open_called_keeps :
     {x y : End} {tag modulus : ℕ} {rest to_y : List Tagged} → sabms to_y ≡ 0
-    → Invariant (between x y (setup_to tag (Sabm modulus) ∷ rest) to_y) → Invariant (between (called tag modulus x) y rest (to_y ++ of_end (called tag modulus x) Ua ∷ []))
+    → Invariant (between x y (setup_to tag (Sabm modulus) ∷ rest) to_y)
+    → Invariant (between (called tag modulus x) y rest (to_y ++ of_end (called tag modulus x) Ua ∷ []))
 open_called_keeps {x} {y} {tag} {modulus} {rest} {to_y} no_call h =
     let s = opened tag modulus [] in
     let z = called tag modulus x in

@@ -34,13 +34,14 @@ pub record IsNext (x y : End) (r : Running) (packet : Packet) (stored : List Sto
 
 -- how many packets x got is V(R)
 pub own_got :
-    (x : End) {y : End} {r : Running} {to_x to_y : List Tagged} → UpInvariant x y r to_x to_y → r.vr ≡ length r.set_up.got
+    (x : End) {y : End} {r : Running} {to_x to_y : List Tagged} → UpInvariant x y r to_x to_y
+    → r.vr ≡ length r.set_up.got
 own_got x {r} h = h.x_hears.numbers.counts ∙ ap (λ (q : SetUp). length q.got) (at_last x.ended r.set_up)
 
 -- y acknowledges no less than before, and may have more acknowledged
 acks_of_got :
-    (x : End) {y : End} {r : Running} (s : Running) {to_x to_y : List Tagged} → UpInvariant x y r to_x to_y → length s.set_up.got ≡ r.vr + 1
-    → IfSome (view y to_y) (λ b. r.vr < b.top)
+    (x : End) {y : End} {r : Running} (s : Running) {to_x to_y : List Tagged} → UpInvariant x y r to_x to_y
+    → length s.set_up.got ≡ r.vr + 1 → IfSome (view y to_y) (λ b. r.vr < b.top)
     → IfSome (view y to_y) (λ b. AcksRise b.mate b.va to_y (length (got_in (set_ups (now (Up s) x)) b.mate)) b.top)
 acks_of_got x {y} {r} s {to_y} h more sent =
     let xs = set_ups (now (Up r) x) in
@@ -58,7 +59,7 @@ acks_of_got x {y} {r} s {to_y} h more sent =
     (if_both (view y to_y) (λ b. b.mate ≡ era x) (λ b. r.vr < b.top) (λ b. (b.mate ≡ era x) × (r.vr < b.top))
     (λ b is lt. (is, lt)) (seen_of_own x h) sent) h.y_hears.numbers.acks
 
--- the mate of x has the modulus of x, where it was opened
+-- the mate of x has the modulus of x, if it was opened
 own_modulus :
     (x : End) {y : End} {r : Running} {to_x to_y : List Tagged} → r.set_up.mate < count y → UpInvariant x y r to_x to_y
     → modulus_in (set_ups y) r.set_up.mate ≡ r.set_up.modulus
@@ -131,7 +132,7 @@ origin_is : {mate tag : ℕ} (o : Option ℕ) → tag ≡ mate → IfSome o (λ 
 origin_is None is same = ap (λ t. Some t) is
 origin_is (Some a) is same = ap (λ t. Some t) same
 
--- the mate of x, where it has accepted an I frame
+-- the mate of x, if it has accepted an I frame
 pub own_origin :
     (x : End) {y : End} {r : Running} {to_x to_y : List Tagged} → UpInvariant x y r to_x to_y
     → IfSome r.set_up.origin (λ a. a ≡ r.set_up.mate)
@@ -175,8 +176,8 @@ some_origin mate (Some a) some same = ap (λ t. Some t) same
 
 -- the packet with number V(R) was stored, and is got
 pub take_stored_keeps :
-    (x : End) {y : End} {r : Running} (before : List Stored) (s : Stored) (after : List Stored) {to_x to_y : List Tagged}
-    → r.stored ≡ before ++ s ∷ after → s.number ≡ r.vr → IsSome r.set_up.origin
+    (x : End) {y : End} {r : Running} (before : List Stored) (s : Stored) (after : List Stored)
+    {to_x to_y : List Tagged} → r.stored ≡ before ++ s ∷ after → s.number ≡ r.vr → IsSome r.set_up.origin
     → UpInvariant x y r to_x to_y → UpInvariant x y (got_more s.packet r.set_up.origin (before ++ after) r) to_x to_y
 take_stored_keeps x {y} {r} before s after {to_x} {to_y} is number some h =
     let mate = r.set_up.mate in
@@ -192,8 +193,8 @@ take_stored_keeps x {y} {r} before s after {to_x} {to_y} is number some h =
           let below = subst (λ ss. Each (λ (t : Stored). t.number < b.top) ss) is w.stored in
           let here : s.number < b.top = each_at _ before s after below in
           (omega arith, each_removed _ before s after below)) h.x_hears.numbers.sent;
-      infos = infos_higher mate (held r.vr r.stored) (held (r.vr + 1) (before ++ after)) r.vr (r.vr + 1) (y.windows x.modulus) to_x
-          lower (omega arith) h.x_hears.numbers.infos;
+      infos = infos_higher mate (held r.vr r.stored) (held (r.vr + 1) (before ++ after)) r.vr (r.vr + 1)
+          (y.windows x.modulus) to_x lower (omega arith) h.x_hears.numbers.infos;
       carried = each_removed _ before s after kept;
     } in
     subst (λ o. UpInvariant x y (got_more s.packet o (before ++ after) r) to_x to_y)
@@ -202,9 +203,10 @@ take_stored_keeps x {y} {r} before s after {to_x} {to_y} is number some h =
     le_of : (a b : ℕ) → a ≡ b → a ≤ b
     le_of a b e = omega arith
 
--- what y acknowledges and has acknowledged stays, where x got nothing more
+-- what y acknowledges and has acknowledged stays, if x got nothing more
 acks_of_same :
-    (x : End) {y : End} {r : Running} (s : Running) {to_x to_y : List Tagged} → UpInvariant x y r to_x to_y → s.set_up.got ≡ r.set_up.got
+    (x : End) {y : End} {r : Running} (s : Running) {to_x to_y : List Tagged} → UpInvariant x y r to_x to_y
+    → s.set_up.got ≡ r.set_up.got
     → IfSome (view y to_y) (λ b. AcksRise b.mate b.va to_y (length (got_in (set_ups (now (Up s) x)) b.mate)) b.top)
 acks_of_same x {y} {r} s {to_y} h same = if_weaker (view y to_y) _
     _ (λ b c. subst (λ g. AcksRise b.mate b.va to_y (length g) b.top)
@@ -261,7 +263,8 @@ held_with vr (t ∷ before) s after = let rest = held_with vr before s after in 
 
 -- The front frame has a packet that comes before its turn, which is stored.
 pub store_front_keeps :
-    (x : End) {y : End} {r : Running} {tag m ns nr : ℕ} {packet : Packet} (before after : List Stored) {rest to_y : List Tagged}
+    (x : End) {y : End} {r : Running} {tag m ns nr : ℕ} {packet : Packet} (before after : List Stored)
+    {rest to_y : List Tagged}
     → r.stored ≡ before ++ after → UpInvariant x y r (numbered_to tag m (Info ns nr packet) ∷ rest) to_y
     → UpInvariant x y
     (storing (before ++ record { number = ns; packet = packet } ∷ after) (first_origin r.set_up.origin tag) r) rest to_y
@@ -280,7 +283,8 @@ store_front_keeps x {y} {r} {tag} {m} {ns} {nr} {packet} before after {rest} {to
     let reached = info_next_of reach ns nr packet of in
     let there = ap (λ t. slice_get (given_in ys t) ns) (sym is) ∙ h.x_hears.packets.carries.0 in
     let behind : UpInvariant x y r rest to_y = lose_keeps [] f rest h in
-    rw (origin_is r.set_up.origin is (own_origin x behind)) (stored_keeps x stored (given_opened ys mate ns packet there)
+    rw (origin_is r.set_up.origin is (own_origin x behind))
+    (stored_keeps x stored (given_opened ys mate ns packet there)
     (if_weaker (view y to_y) _ _ (λ b w. each_inserted _ before s after
     (info_below_of b.top ns nr packet of w.under_way.0) (rw (← is_stored) w.stored)) h.x_hears.numbers.sent)
     (infos_higher mate (info_next reach (of_mate mate f)) (held r.vr stored) r.vr r.vr (y.windows x.modulus) rest

@@ -58,15 +58,24 @@ numbers_sent {v} {u} {fs} {f} {ys} one h = record {
   }) o c) one.sent h.sent;
 }
 
+-- what is asked of a frame that x sends, beside its numbers
+pub record MaySend (x y : End) (to_x to_y : List Tagged) (k : Kind) : Type 0 where
+  pub of_set_up : OfSetUp (count x) (era x) k
+  pub current : IsCurrentCall (count x) (era x) k
+  pub asks_fit : asks to_y + ask_of k + answers to_x ≤ 1
+  pub answers_fit : asks to_x + (answers to_y + answer_of k) ≤ 1
+  pub carries : Carries (set_ups x) (era x) k
+  pub modulus : HasModulus (set_ups x) (era x) k
+  pub call_in : CallsIn x.standing x.modulus k
+
 -- x sends a frame, and what each end sees stays
 pub both_sent :
-    {v u : Option View} {x y : End} {to_x to_y : List Tagged} {k : Kind} → OfSetUp (count x) (era x) k
-    → IsCurrentCall (count x) (era x) k
-    → asks to_y + ask_of k + answers to_x ≤ 1 → asks to_x + (answers to_y + answer_of k) ≤ 1
-    → Carries (set_ups x) (era x) k → HasModulus (set_ups x) (era x) k → CallsIn x.standing x.modulus k
+    {v u : Option View} {x y : End} {to_x to_y : List Tagged} {k : Kind} → MaySend x y to_x to_y k
     → NumbersOfOne u v to_y (of_end x k) (set_ups x) x.windows
     → BothHear v u x y to_x to_y → BothHear v u x y to_x (to_y ++ of_end x k ∷ [])
-both_sent {x} {to_y} {k} of_set_up call one other carries has own numbers h =
+both_sent {x} {to_y} {k} may numbers h =
+    let one = may.asks_fit in
+    let other = may.answers_fit in
     let f = of_end x k in
     let more = asks_pushed to_y f in
     let longer = answers_pushed to_y f in
@@ -81,13 +90,13 @@ both_sent {x} {to_y} {k} of_set_up call one other carries has own numbers h =
         moduli = h.x_hears.moduli;
       };
       y_hears = record {
-        tags = tags_sent f refl of_set_up call h.y_hears.tags;
+        tags = tags_sent f refl may.of_set_up may.current h.y_hears.tags;
         one_exchange = omega arith;
         mates = h.y_hears.mates;
         keeps = h.y_hears.keeps;
         numbers = numbers_sent numbers h.y_hears.numbers;
-        packets = packets_sent f carries h.y_hears.packets;
-        moduli = moduli_sent f has own h.y_hears.moduli;
+        packets = packets_sent f may.carries h.y_hears.packets;
+        moduli = moduli_sent f may.modulus may.call_in h.y_hears.moduli;
       };
     }
 
@@ -116,10 +125,7 @@ numbers_of_other {v} {u} {fs} {f} {ys} {windows} h = record {
 -- a frame without numbers that is no UA
 pub sent_other_keeps :
     {x y : End} {to_x to_y : List Tagged} (k : Kind) → numbered k ≡ None → ua_by k (era x) None ≡ None
-    → OfSetUp (count x) (era x) k → IsCurrentCall (count x) (era x) k → Carries (set_ups x) (era x) k
-    → HasModulus (set_ups x) (era x) k → CallsIn x.standing x.modulus k
-    → asks to_y + ask_of k + answers to_x ≤ 1 → asks to_x + (answers to_y + answer_of k) ≤ 1
-    → Invariant (between x y to_x to_y)
+    → MaySend x y to_x to_y k → Invariant (between x y to_x to_y)
     → Invariant (between x y to_x (to_y ++ of_end x k ∷ []))
-sent_other_keeps {x} {y} {to_y} k none no_ua of_set_up call carries has own one other h =
-    rw (view_sent y to_y (of_end x k) no_ua) (both_sent of_set_up call one other carries has own (numbers_of_other none) h)
+sent_other_keeps {x} {y} {to_y} k none no_ua may h =
+    rw (view_sent y to_y (of_end x k) no_ua) (both_sent may (numbers_of_other none) h)

@@ -103,8 +103,7 @@ heard_down {u} {x} {z} {y} {to_y} d calls h = record {
 -- x becomes an end that sees nothing
 pub down_keeps :
     {x z y : End} {to_x to_y : List Tagged} → IsDown x z
-    → Each (λ f. CallsIn z.standing z.modulus f.kind) to_y → view z to_x ≡ None
-    → Invariant (between x y to_x to_y)
+    → Each (λ f. CallsIn z.standing z.modulus f.kind) to_y → view z to_x ≡ None → Invariant (between x y to_x to_y)
     → Invariant (between z y to_x to_y)
 down_keeps {z} {y} {to_x} {to_y} d calls blind h =
     subst (λ v. BothHear v (view y to_y) z y to_x to_y) (sym blind) (record {
@@ -170,8 +169,7 @@ same_calling modulus (Some tag) waiting more = refl
 -- more is given while calling
 pub give_calling_keeps :
     (x : End) {y : End} {waiting more : List Packet} {to_x to_y : List Tagged}
-    → Invariant (between (now (Calling waiting) x) y to_x to_y)
-    → Invariant (between (now (Calling more) x) y to_x to_y)
+    → Invariant (between (now (Calling waiting) x) y to_x to_y) → Invariant (between (now (Calling more) x) y to_x to_y)
 give_calling_keeps x {y} {waiting} {more} {to_x} {to_y} h =
     let v = view (now (Calling waiting) x) to_x in
     let u = view y to_y in

@@ -23,7 +23,7 @@ use Rattle.link_world.proofs.law.invariant.Invariant.{Carries, Keeps, WasSent, I
 abbrev pub UpInvariant : End → End → Running → List Tagged → List Tagged → Type 0
 UpInvariant x y r to_x to_y = Invariant (between (now (Up r) x) y to_x to_y)
 
--- what y sees, where it sees x: the mate of its set-up is the one that x has open
+-- what y sees, if it sees x: the mate of its set-up is the one that x has open
 pub seen_of_own :
     (x : End) {y : End} {r : Running} {to_x to_y : List Tagged} → UpInvariant x y r to_x to_y
     → IfSome (view y to_y) (λ b. b.mate ≡ era x)
@@ -39,26 +39,36 @@ got_of_own x h = h.x_hears.numbers.counts
 pub sent_numbered_keeps :
     (x : End) {y : End} {r : Running} {n : Numbered} {to_x to_y : List Tagged}
     → Carries (set_ups (now (Up r) x)) (era x) (IsNumbered x.modulus n)
-    → NumbersOfOne (view y to_y) (Some (view_up x.modulus r)) to_y (of_end x (IsNumbered x.modulus n)) (set_ups (now (Up r) x)) x.windows
+    → NumbersOfOne (view y to_y) (Some (view_up x.modulus r)) to_y (of_end x (IsNumbered x.modulus n))
+    (set_ups (now (Up r) x)) x.windows
     → UpInvariant x y r to_x to_y → UpInvariant x y r to_x (to_y ++ of_end x (IsNumbered x.modulus n) ∷ [])
 sent_numbered_keeps x {y} {r} {n} {to_y} carries numbers h =
     let one = h.x_hears.one_exchange in
     let other = h.y_hears.one_exchange in
     let f = of_end x (IsNumbered x.modulus n) in
     let opened : length x.ended < count (now (Up r) x) = omega (arith, length_last x.ended r.set_up) in
-    rw (view_sent y to_y f refl) (both_sent opened tt (omega arith) (omega arith) carries
-    (sym h.x_hears.moduli.own ∙ ap (λ (q : SetUp). q.modulus) (sym (at_last x.ended r.set_up))) tt numbers h)
+    rw (view_sent y to_y f refl) (both_sent (record {
+      of_set_up = opened;
+      current = tt;
+      asks_fit = omega arith;
+      answers_fit = omega arith;
+      carries = carries;
+      modulus = sym h.x_hears.moduli.own ∙ ap (λ (q : SetUp). q.modulus) (sym (at_last x.ended r.set_up));
+      call_in = tt;
+    }) numbers h)
 
-super_acks :
-    (top : ℕ) {vr : ℕ} {got : ℕ} {o : Option Numbered} → o ≡ Some (Super vr) → vr ≡ got
-    → AckHolds top got o × (ack_next got o ≤ got)
-super_acks top is same = rw is (omega arith, omega arith)
+-- a frame of y's mate has its numbers
+ack_as :
+    (top got : ℕ) (n : Numbered) {o : Option Numbered} → o ≡ Some n
+    → AckHolds top got (Some n) × (ack_next got (Some n) ≤ got) → AckHolds top got o × (ack_next got o ≤ got)
+ack_as top got n is h = rw is h
 
-super_infos : (vr k n nr : ℕ) {o : Option Numbered} → o ≡ Some (Super nr) → InfoHolds vr k n o
-super_infos vr k n nr is = rw is tt
+info_as :
+    (vr k m : ℕ) (n : Numbered) {o : Option Numbered} → o ≡ Some n → InfoHolds vr k m (Some n) → InfoHolds vr k m o
+info_as vr k m n is h = rw is h
 
-super_below : (top nr : ℕ) {o : Option Numbered} → o ≡ Some (Super nr) → InfoBelow top o
-super_below top nr is = rw is tt
+below_as : (top : ℕ) (n : Numbered) {o : Option Numbered} → o ≡ Some n → InfoBelow top (Some n) → InfoBelow top o
+below_as top n is h = rw is h
 
 -- what x got, as y's mate
 pub got_as_mate :
@@ -71,26 +81,18 @@ pub send_super_keeps :
     (x : End) {y : End} {r : Running} {to_x to_y : List Tagged}
     → UpInvariant x y r to_x to_y → UpInvariant x y r to_x (to_y ++ of_end x (IsNumbered x.modulus (Super r.vr)) ∷ [])
 send_super_keeps x {y} {r} {to_y} h =
-    let f = of_end x (IsNumbered x.modulus (Super r.vr)) in
+    let n : Numbered = Super r.vr in
+    let f = of_end x (IsNumbered x.modulus n) in
+    let xs = set_ups (now (Up r) x) in
     let own = seen_of_own x h in
     sent_numbered_keeps x tt (record {
-      acks = if_weaker (view y to_y) _ _ (λ b is. super_acks b.top (of_mate_same f (sym is)) (got_as_mate x h is)) own;
+      acks = if_weaker (view y to_y) _ _ (λ b is. let same = got_as_mate x h is in
+          ack_as b.top (length (got_in xs b.mate)) n (of_mate_same f (sym is)) (omega arith, omega arith)) own;
       infos = if_weaker (view y to_y) _ _
           (λ b is c. infos_pushed_other b.mate (held b.vr b.stored) b.vr (x.windows b.modulus) to_y f
-          (λ n. super_infos b.vr (x.windows b.modulus) n r.vr (of_mate_same f (sym is))) c) own;
-      sent = if_weaker (view y to_y) _ _ (λ b is. super_below r.top r.vr (of_mate_same f (sym is))) own;
+          (λ m. info_as b.vr (x.windows b.modulus) m n (of_mate_same f (sym is)) tt) c) own;
+      sent = if_weaker (view y to_y) _ _ (λ b is. below_as r.top n (of_mate_same f (sym is)) tt) own;
     }) h
-
-srej_acks :
-    (top n got : ℕ) {o : Option Numbered} → o ≡ Some (Srej n) → got ≤ n → n < top
-    → AckHolds top got o × (ack_next got o ≤ got)
-srej_acks top n got is low high = rw is ((low, high), le_refl got)
-
-srej_infos : (vr k m n : ℕ) {o : Option Numbered} → o ≡ Some (Srej n) → InfoHolds vr k m o
-srej_infos vr k m n is = rw is tt
-
-srej_below : (top n : ℕ) {o : Option Numbered} → o ≡ Some (Srej n) → InfoBelow top o
-srej_below top n is = rw is tt
 
 -- SREJ asks for a number from V(R) on, below one that is stored
 pub send_srej_keeps :
@@ -105,11 +107,12 @@ send_srej_keeps x {y} {r} n before s after {to_y} is low high h =
     (subst (λ ss. Each (λ (t : Stored). t.number < b.top) ss) is w.stored)))) h.x_hears.numbers.sent in
     sent_numbered_keeps x tt (record {
       acks = if_both (view y to_y) _ _ _ (λ b is' under. let same = got_as_mate x h is' in
-          srej_acks b.top n (length (got_in xs b.mate)) (of_mate_same f (sym is')) (omega arith) under) own below;
+          ack_as b.top (length (got_in xs b.mate)) (Srej n) (of_mate_same f (sym is'))
+          ((omega arith, under), le_refl (length (got_in xs b.mate)))) own below;
       infos = if_weaker (view y to_y) _ _
           (λ b is' c. infos_pushed_other b.mate (held b.vr b.stored) b.vr (x.windows b.modulus) to_y f
-          (λ m. srej_infos b.vr (x.windows b.modulus) m n (of_mate_same f (sym is'))) c) own;
-      sent = if_weaker (view y to_y) _ _ (λ b is'. srej_below r.top n (of_mate_same f (sym is'))) own;
+          (λ m. info_as b.vr (x.windows b.modulus) m (Srej n) (of_mate_same f (sym is')) tt) c) own;
+      sent = if_weaker (view y to_y) _ _ (λ b is'. below_as r.top (Srej n) (of_mate_same f (sym is')) tt) own;
     }) h
   where
     lower : (a b : ℕ) → a < b → a ≤ b
@@ -124,21 +127,7 @@ held_within top vr (s ∷ stored) le h =
     let here : s.number < top = h.0 in
     omega arith
 
-info_acks :
-    (top n : ℕ) {vr got : ℕ} (packet : Packet) {o : Option Numbered} → o ≡ Some (Info n vr packet) → vr ≡ got
-    → AckHolds top got o × (ack_next got o ≤ got)
-info_acks top n packet is same = rw is (omega arith, omega arith)
-
-info_infos :
-    (vr k m n nr : ℕ) (packet : Packet) {o : Option Numbered} → o ≡ Some (Info n nr packet) → m ≤ n + k → n < vr + k
-    → InfoHolds vr k m o
-info_infos vr k m n nr packet is low high = rw is (low, high)
-
-info_below :
-    (top n nr : ℕ) (packet : Packet) {o : Option Numbered} → o ≡ Some (Info n nr packet) → n < top → InfoBelow top o
-info_below top n nr packet is high = rw is high
-
--- what y counts, where both see each other, is from V(A) to the top
+-- what y counts, if both see each other, is from V(A) to the top
 seen_vr :
     (x : End) {y : End} {r : Running} {to_x to_y : List Tagged} → UpInvariant x y r to_x to_y
     → IfSome (view y to_y) (λ b. (r.va ≤ b.vr) × (b.vr ≤ r.top))
@@ -149,7 +138,7 @@ seen_vr x {y} {to_y} h =
     let same = ap (λ t. length (got_in ys t)) mate in
     (omega arith, omega arith)) h.y_hears.numbers.counts h.x_hears.mates.each_other
 
--- y counts in the modulus of x, where both see each other
+-- y counts in the modulus of x, if both see each other
 seen_window :
     (x : End) {y : End} {r : Running} {to_x to_y : List Tagged} → UpInvariant x y r to_x to_y
     → IfSome (view y to_y) (λ b. x.window ≡ x.windows b.modulus)
@@ -160,10 +149,11 @@ seen_window x {y} {to_y} h = if_weaker (view y to_y) _ _
 -- packet.
 pub send_info_keeps :
     (x : End) {y : End} {r : Running} (n : ℕ) (packet : Packet) {to_x to_y : List Tagged}
-    → r.va ≤ n → n < r.top → slice_get r.set_up.given n ≡ Some packet
-    → UpInvariant x y r to_x to_y → UpInvariant x y r to_x (to_y ++ of_end x (IsNumbered x.modulus (Info n r.vr packet)) ∷ [])
+    → r.va ≤ n → n < r.top → slice_get r.set_up.given n ≡ Some packet → UpInvariant x y r to_x to_y
+    → UpInvariant x y r to_x (to_y ++ of_end x (IsNumbered x.modulus (Info n r.vr packet)) ∷ [])
 send_info_keeps x {y} {r} n packet {to_y} low high there h =
-    let f = of_end x (IsNumbered x.modulus (Info n r.vr packet)) in
+    let sent : Numbered = Info n r.vr packet in
+    let f = of_end x (IsNumbered x.modulus sent) in
     let xs = set_ups (now (Up r) x) in
     let k : Keeps r x.window = h.x_hears.keeps in
     let own = seen_of_own x h in
@@ -173,7 +163,8 @@ send_info_keeps x {y} {r} n packet {to_y} low high there h =
       acks = if_weaker (view y to_y) (λ b. b.mate ≡ era x)
           (λ b. AckHolds b.top (length (got_in xs b.mate)) (of_mate b.mate f)
           × (ack_next (length (got_in xs b.mate)) (of_mate b.mate f) ≤ length (got_in xs b.mate)))
-          (λ b is. info_acks b.top n packet (of_mate_same f (sym is)) (got_as_mate x h is)) own;
+          (λ b is. let same = got_as_mate x h is in
+          ack_as b.top (length (got_in xs b.mate)) sent (of_mate_same f (sym is)) (omega arith, omega arith)) own;
       infos = if_both (view y to_y)
           (λ b. (b.mate ≡ era x) × (r.va ≤ b.vr) × (b.vr ≤ r.top) × (x.window ≡ x.windows b.modulus))
           (λ b. WasSent b to_y r.top)
@@ -184,8 +175,8 @@ send_info_keeps x {y} {r} n packet {to_y} low high there h =
           let own : x.window ≡ x.windows b.modulus = order.3 in
           infos_pushed b.mate (held b.vr b.stored) b.vr (x.windows b.modulus) r.top to_y f
           (held_within r.top b.vr b.stored order.2 w.stored) w.under_way
-          (λ m within. info_infos b.vr (x.windows b.modulus) m n r.vr packet
-          (of_mate_same f (sym order.0)) (omega arith) (omega arith)) c)
+          (λ m within. info_as b.vr (x.windows b.modulus) m sent (of_mate_same f (sym order.0))
+          (omega arith, omega arith)) c)
           (if_both (view y to_y) (λ b. (b.mate ≡ era x) × (x.window ≡ x.windows b.modulus))
           (λ b. (r.va ≤ b.vr) × (b.vr ≤ r.top))
           (λ b. (b.mate ≡ era x) × (r.va ≤ b.vr) × (b.vr ≤ r.top) × (x.window ≡ x.windows b.modulus))
@@ -194,7 +185,7 @@ send_info_keeps x {y} {r} n packet {to_y} low high there h =
           (λ b. (b.mate ≡ era x) × (x.window ≡ x.windows b.modulus)) (λ b is k. (is, k)) own (seen_window x h))
           (seen_vr x h)) h.y_hears.numbers.sent;
       sent = if_weaker (view y to_y) (λ b. b.mate ≡ era x) (λ b. InfoBelow r.top (of_mate b.mate f))
-          (λ b is. info_below r.top n r.vr packet (of_mate_same f (sym is)) high) own;
+          (λ b is. below_as r.top sent (of_mate_same f (sym is)) high) own;
     }) h
 
 pub get_behind : (a n : ℕ) (xs : List Packet) → slice_get (drop a xs) n ≡ slice_get xs (a + n)
@@ -206,8 +197,8 @@ get_behind (suc a) n (x ∷ xs) =
 
 -- An I frame goes out, the first time or again, with the packet that is kept for its number.
 pub send_kept_keeps :
-    (x : End) {y : End} {r : Running} (n : ℕ) (packet : Packet) {to_x to_y : List Tagged} → r.va ≤ n → n < r.va + x.window
-    → slice_get r.kept (n - r.va) ≡ Some packet → UpInvariant x y r to_x to_y
+    (x : End) {y : End} {r : Running} (n : ℕ) (packet : Packet) {to_x to_y : List Tagged} → r.va ≤ n
+    → n < r.va + x.window → slice_get r.kept (n - r.va) ≡ Some packet → UpInvariant x y r to_x to_y
     → UpInvariant x y (sent_number n r) to_x (to_y ++ of_end x (IsNumbered x.modulus (Info n r.vr packet)) ∷ [])
 send_kept_keeps x {r} n packet low high kept h =
     let k : Keeps r x.window = h.x_hears.keeps in

@@ -28,7 +28,7 @@ acks mate got top = record {
   Ends = λ n. (n ≤ got) × (got ≤ top);
 }
 
--- from V(A), with what the mate got, and the number behind the highest that was ever sent
+-- from V(A), with what the mate got, and one past the highest number ever sent
 abbrev pub AcksRise : ℕ → ℕ → List Tagged → ℕ → ℕ → Type 0
 AcksRise mate va fs got top = Chain (acks mate got top) va fs
 
@@ -94,7 +94,7 @@ ack_pushed got top n (Some (Info ns nr packet)) holds next ends = (le_trans ends
 ack_pushed got top n (Some (Super nr)) holds next ends = (le_trans ends.0 holds, next, ends.1)
 ack_pushed got top n (Some (Srej nr)) holds next ends = ((le_trans ends.0 holds.0, holds.1), ends.0, ends.1)
 
--- One frame more. Where it acknowledges, it names what was got; where it asks, it asks for a number from there on,
+-- One frame more. If it acknowledges, it names what was got; if it asks, it asks for a number from there on,
 -- below the top.
 pub acks_pushed :
     (mate va got top : ℕ) (fs : List Tagged) (f : Tagged) → AckHolds top got (of_mate mate f)
@@ -105,7 +105,7 @@ acks_pushed mate va got top fs f holds next h = chain_pushed (acks mate got top)
         → AckHolds top n (of_mate mate f) × ((ack_next n (of_mate mate f) ≤ got) × (got ≤ top))
     go n ends = let all = ack_pushed got top n (of_mate mate f) holds next ends in (all.0, (all.1, all.2))
 
--- the number of the first frame is the new V(A), where it acknowledges
+-- the number of the first frame is the new V(A), if it acknowledges
 pub acks_advanced :
     (mate va got top : ℕ) (f : Tagged) (fs : List Tagged) {nr : ℕ}
     → ((n : ℕ) → n ≤ nr → AckHolds top n (of_mate mate f)) → ack_next va (of_mate mate f) ≡ nr

@@ -50,9 +50,10 @@ nr_in_order x {y} {r} {tag} {m} {n} {rest} h =
     nr_order r.va got r.top n of h.x_hears.numbers.acks.0
     (chain_start (acks_rising mate got r.top) (ack_next r.va (of_mate mate f)) rest h.x_hears.numbers.acks.1)
 
--- So it is valid, and names the true number, where the window is below the modulus.
+-- So it is valid, and names the true number, if the window is below the modulus.
 pub nr_is_named :
-    (modulus : ℕ) (x : End) {y : End} {r : Running} {tag m : ℕ} {n : Numbered} {rest to_y : List Tagged} → x.window < modulus
+    (modulus : ℕ) (x : End) {y : End} {r : Running} {tag m : ℕ} {n : Numbered} {rest to_y : List Tagged}
+    → x.window < modulus
     → UpInvariant x y r (numbered_to tag m n ∷ rest) to_y → (ahead modulus r.va (nr_of n % modulus) ≤ r.top - r.va)
     × (r.va + ahead modulus r.va (nr_of n % modulus) ≡ nr_of n)
 nr_is_named modulus x {r} {n} fits h =
@@ -83,7 +84,7 @@ ns_in_order x {y} {r} {tag} {m} {ns} {nr} {packet} h =
     let from = held_from r.vr r.stored in
     (omega arith, both.1)
 
--- by REJ: it is V(R) modulo the modulus exactly where it is V(R), where the sender's window is below the modulus
+-- by REJ: it is V(R) modulo the modulus exactly when it is V(R), if the sender's window is below the modulus
 pub ns_by_rej :
     (modulus : ℕ) (x : End) {y : End} {r : Running} {tag m ns nr : ℕ} {packet : Packet} {rest to_y : List Tagged}
     → (y.windows x.modulus) < modulus → UpInvariant x y r (numbered_to tag m (Info ns nr packet) ∷ rest) to_y
@@ -103,7 +104,7 @@ ns_by_rej modulus x {y} {r} {ns} fits h =
           ((λ e. omega arith), (λ e. omega arith))
     ]
 
--- By SREJ, where both windows are at most half the modulus: from V(R) on the distance is the true one, and below V(R)
+-- By SREJ, if both windows are at most half the modulus: from V(R) on the distance is the true one, and below V(R)
 -- it is outside the hearer's window.
 pub ns_by_srej :
     (modulus : ℕ) (x : End) {y : End} {r : Running} {tag m ns nr : ℕ} {packet : Packet} {rest to_y : List Tagged}

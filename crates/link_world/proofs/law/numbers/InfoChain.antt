@@ -9,7 +9,7 @@ use Rattle.link_world.proofs.law.invariant.Mates.{of_mate, IsSilent}
 use Rattle.link_world.proofs.law.Each.{each_weaker}
 use Rattle.link_world.proofs.law.invariant.Chains.{Rule, Chain, IsRising, chain_from, chain_wider, chain_pushed, chain_pushed_within, chain_silent}
 
--- behind the highest number that is stored or got
+-- one past the highest number that is stored or got
 abbrev pub held : ℕ → List Stored → ℕ
 held vr [] = vr
 held vr (s ∷ stored) = max (s.number + 1) (held vr stored)
@@ -106,7 +106,7 @@ info_within top n (Some (Info ns nr packet)) h le = omega arith
 info_within top n (Some (Super nr)) h le = le
 info_within top n (Some (Srej nr)) h le = le
 
--- One frame more, where all that is held or under way is below the top. An I frame has a number that is at most a
+-- One frame more, if all that is held or under way is below the top. An I frame has a number that is at most a
 -- window below the top and less than a window above V(R).
 pub infos_pushed :
     (mate reached vr k top : ℕ) (fs : List Tagged) (f : Tagged) → reached ≤ top

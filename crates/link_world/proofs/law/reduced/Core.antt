@@ -11,8 +11,8 @@ pub data Numbered : Type 0 where
   Super : (nr : ℕ) → Numbered
   Srej : (nr : ℕ) → Numbered
 
--- SABM, which calls in modulus 8, SABME, which calls in 128, and DISC ask; UA answers, and so does a DM that was sent on
--- hearing one of them. I and S frames are written in a modulus.
+-- SABM, which calls in modulus 8, SABME, which calls in 128, and DISC ask; UA answers, and so does a DM that was sent
+-- on hearing one of them. I and S frames are written in a modulus.
 pub data Kind : Type 0 where
   Sabm : (modulus : ℕ) → Kind
   Disc : Kind
@@ -26,8 +26,8 @@ pub record Tagged : Type 0 where
   pub tag : ℕ
   pub kind : Kind
 
--- A set-up of an end: the packets given in it and got in it, its modulus, the tag of the SABM or UA that opened it, which
--- is its mate, and the tag of the first I frame that it accepted, which is its origin.
+-- A set-up of an end: the packets given in it and got in it, its modulus, the tag of the SABM or UA that opened it,
+-- which is its mate, and the tag of the first I frame that it accepted, which is its origin.
 pub record SetUp : Type 0 where
   pub given : List Packet
   pub got : List Packet
@@ -40,7 +40,7 @@ pub record Stored : Type 0 where
   pub number : ℕ
   pub packet : Packet
 
--- What an end keeps while it is up: V(A), V(S), the number behind the highest that was ever sent, the packets given and
+-- What an end keeps while it is up: V(A), V(S), one past the highest number ever sent, the packets given and
 -- not acknowledged, V(R), the packets that came before their turn, and the set-up so far.
 pub record Running : Type 0 where
   pub va : ℕ
@@ -58,8 +58,8 @@ pub data Standing : Type 0 where
   Up : (running : Running) → Standing
   Releasing : Standing
 
--- an end: its windows, by the modulus; its modulus, and its window k there; the set-ups that ended, in order, and how it
--- stands
+-- an end: its windows, by the modulus; its modulus, and its window k there; the set-ups that ended, in order, and how
+-- it stands
 pub record End : Type 0 where
   pub windows : ℕ → ℕ
   pub modulus : ℕ

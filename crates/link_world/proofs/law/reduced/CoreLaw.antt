@@ -14,7 +14,7 @@ GotBy ys got (Some origin) = (origin < length ys) × IsPrefixOf got (given_in ys
 abbrev pub GotOf : List SetUp → SetUp → Type 0
 GotOf ys q = GotBy ys q.got q.origin
 
--- an origin is below another, where there are both
+-- an origin is below another, if there are both
 abbrev pub OriginBelow : SetUp → SetUp → Type 0
 OriginBelow q p = IfSome q.origin (λ a. IfSome p.origin (λ b. a < b))
 

@@ -122,7 +122,7 @@ sent_number n r = sending_from r.va r.vs (max r.top (n + 1)) r.kept r
 abbrev pub setup_to : ℕ → Kind → Tagged
 setup_to tag kind = record { tag = tag; kind = kind }
 
--- A move of x. Where a SABM or DISC goes out, none of x is under way, and no answer is under way to x.
+-- A move of x. If a SABM or DISC goes out, none of x is under way, and no answer is under way to x.
 pub data Move : Core → Core → Type 0 where
   -- a frame under way to x is lost, or passed over
   Lose : (x y : End) (before : List Tagged) (f : Tagged) (after to_y : List Tagged)
@@ -137,18 +137,15 @@ pub data Move : Core → Core → Type 0 where
       (between (now (Up (sending_from r.va vs r.top r.kept r)) x) y to_x to_y)
   -- an I frame goes out, the first time or again
   SendInfo : (x y : End) (r : Running) (n : ℕ) (packet : Packet) (to_x to_y : List Tagged) → r.va ≤ n
-      → n < r.va + x.window
-      → slice_get r.kept (n - r.va) ≡ Some packet
-      → Move (between (now (Up r) x) y to_x to_y)
-      (between (now (Up (sent_number n r)) x) y to_x (to_y ++ of_end x (IsNumbered x.modulus (Info n r.vr packet)) ∷ []))
+      → n < r.va + x.window → slice_get r.kept (n - r.va) ≡ Some packet → Move (between (now (Up r) x) y to_x to_y)
+      (between (now (Up (sent_number n r)) x) y to_x
+      (to_y ++ of_end x (IsNumbered x.modulus (Info n r.vr packet)) ∷ []))
   -- RR, RNR or REJ
-  SendSuper : (x y : End) (r : Running) (to_x to_y : List Tagged)
-      → Move (between (now (Up r) x) y to_x to_y)
+  SendSuper : (x y : End) (r : Running) (to_x to_y : List Tagged) → Move (between (now (Up r) x) y to_x to_y)
       (between (now (Up r) x) y to_x (to_y ++ of_end x (IsNumbered x.modulus (Super r.vr)) ∷ []))
   -- an SREJ, below a number that is stored
   SendSrej : (x y : End) (r : Running) (n : ℕ) (before : List Stored) (s : Stored) (after : List Stored)
-      (to_x to_y : List Tagged)
-      → r.stored ≡ before ++ s ∷ after → r.vr ≤ n → n < s.number
+      (to_x to_y : List Tagged) → r.stored ≡ before ++ s ∷ after → r.vr ≤ n → n < s.number
       → Move (between (now (Up r) x) y to_x to_y)
       (between (now (Up r) x) y to_x (to_y ++ of_end x (IsNumbered x.modulus (Srej n)) ∷ []))
   -- the front frame has the packet with number V(R), which is got
@@ -158,15 +155,12 @@ pub data Move : Core → Core → Type 0 where
   -- the front frame has a packet that comes before its turn, which is stored
   StoreFront : (x y : End) (r : Running) (tag m ns nr : ℕ) (packet : Packet) (before after : List Stored)
       (rest to_y : List Tagged) → r.stored ≡ before ++ after
-      → Move (between (now (Up r) x) y (numbered_to tag m (Info ns nr packet) ∷ rest) to_y)
-      (between
+      → Move (between (now (Up r) x) y (numbered_to tag m (Info ns nr packet) ∷ rest) to_y) (between
       (now (Up (storing (before ++ record { number = ns; packet = packet } ∷ after)
-      (first_origin r.set_up.origin tag) r)) x)
-      y rest to_y)
-  -- the packet with number V(R) was stored, and is got, behind one that was accepted
+      (first_origin r.set_up.origin tag) r)) x) y rest to_y)
+  -- the packet with number V(R) was stored, and is got, after one that was accepted
   TakeStored : (x y : End) (r : Running) (before : List Stored) (s : Stored) (after : List Stored)
-      (to_x to_y : List Tagged)
-      → r.stored ≡ before ++ s ∷ after → s.number ≡ r.vr → IsSome r.set_up.origin
+      (to_x to_y : List Tagged) → r.stored ≡ before ++ s ∷ after → s.number ≡ r.vr → IsSome r.set_up.origin
       → Move (between (now (Up r) x) y to_x to_y)
       (between (now (Up (got_more s.packet r.set_up.origin (before ++ after) r)) x) y to_x to_y)
   -- a packet is given
@@ -191,7 +185,7 @@ pub data Move : Core → Core → Type 0 where
       → Move (between x y to_x to_y) (between x y to_x (to_y ++ of_end x Disc ∷ []))
   SendDm : (x y : End) (to_x to_y : List Tagged)
       → Move (between x y to_x to_y) (between x y to_x (to_y ++ of_end x (Dm false) ∷ []))
-  -- a SABM or DISC is answered by DM, and a DISC by UA where no set-up is open
+  -- a SABM or DISC is answered by DM, and a DISC by UA if no set-up is open
   DeclineByDm : (x y : End) (tag : ℕ) (kind : Kind) (rest to_y : List Tagged) → ask_of kind ≡ 1
       → Move (between x y (setup_to tag kind ∷ rest) to_y) (between x y rest (to_y ++ of_end x (Dm true) ∷ []))
   DeclineIdle : (x y : End) (tag : ℕ) (rest to_y : List Tagged)
@@ -200,8 +194,8 @@ pub data Move : Core → Core → Type 0 where
   DeclineReleasing : (x y : End) (tag : ℕ) (rest to_y : List Tagged)
       → Move (between (now Releasing x) y (setup_to tag Disc ∷ rest) to_y)
       (between (now Releasing x) y rest (to_y ++ of_end x Ua ∷ []))
-  -- A SABM is answered by UA: while x is calling in the same modulus itself; while no SABM of x is under way; and while x
-  -- is up
+  -- A SABM is answered by UA: while x is calling in the same modulus itself; while no SABM of x is under way; and
+  -- while x is up
   Agree : (x y : End) (waiting : List Packet) (tag : ℕ) (rest to_y : List Tagged)
       → Move (between (now (Calling waiting) x) y (setup_to tag (Sabm x.modulus) ∷ rest) to_y)
       (between (now (Calling waiting) x) y rest (to_y ++ of_end x Ua ∷ []))

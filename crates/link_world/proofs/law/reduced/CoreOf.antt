@@ -43,7 +43,7 @@ setup_of answers DiscFrame = Disc
 setup_of answers DmFrame = Dm answers
 setup_of answers UaFrame = Ua
 
--- what a link sends in a modulus, where UA and DM answer a SABM, SABME or DISC or not
+-- what a link sends in a modulus; its UA and DM answer a SABM, SABME or DISC, or not
 abbrev pub kind_of : Bool → ℕ → Sent → Kind
 kind_of answers modulus (InfoSent number nr packet) = IsNumbered modulus (Info number nr packet)
 kind_of answers modulus (SuperSent which command nr flag) = IsNumbered modulus (super_of which nr flag)
@@ -67,7 +67,7 @@ running_of m q = record {
   set_up = q;
 }
 
--- an end behind some set-ups
+-- an end after some set-ups
 abbrev pub end_behind : Machine → List SetUp → End
 end_behind m ended = record {
   windows = λ modulus. window_in modulus m.params;

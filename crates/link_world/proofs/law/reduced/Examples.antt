@@ -55,31 +55,32 @@ both_got p q = got_more q (Some 0) [] (one_got p q)
 
 -- a call
 called : Moves (new_core 8 (λ modulus. 4) (λ modulus. 4)) (between (up fresh) (up fresh) [] [])
-called =
-    by_x (by_y (by_x (by_x (NoMove (new_core 8 (λ modulus. 4) (λ modulus. 4))) (Begin new new 8 [] [] refl)) (Call new new [] [] [] refl))
+called = by_x (by_y (by_x (by_x (NoMove (new_core 8 (λ modulus. 4) (λ modulus. 4))) (Begin new new 8 [] [] refl))
+    (Call new new [] [] [] refl))
     (OpenCalled new (now (Calling []) new) 0 8 [] [] refl)) (OpenAnswered new (up fresh) [] 0 [] [])
 
 -- two packets, of which the first is lost
-lost : (p q : Packet) → Moves (new_core 8 (λ modulus. 4) (λ modulus. 4)) (between (up (both_sent p q)) (up fresh) [] (second q ∷ []))
-lost p q =
-    by_y (by_x (by_x (by_x (by_x called (GiveUp new (up fresh) fresh p [] []))
+lost : (p q : Packet)
+    → Moves (new_core 8 (λ modulus. 4) (λ modulus. 4)) (between (up (both_sent p q)) (up fresh) [] (second q ∷ []))
+lost p q = by_y (by_x (by_x (by_x (by_x called (GiveUp new (up fresh) fresh p [] []))
     (GiveUp new (up fresh) (given_more p fresh) q [] []))
     (SendInfo new (up fresh) (given p q) 0 p [] [] (omega arith) (omega arith) refl))
     (SendInfo new (up fresh) (one_sent p q) 1 q [] (first p ∷ []) (omega arith) (omega arith) refl))
     (Lose (up fresh) (up (both_sent p q)) [] (first p) (second q ∷ []) [])
 
 -- the first goes out again
-again : (p q : Packet) → Moves (new_core 8 (λ modulus. 4) (λ modulus. 4)) (between (up (both_sent p q)) (up (one_stored q)) [] (first p ∷ []))
-again p q =
-    by_x (by_x (by_y (by_y (lost p q) (StoreFront new (up (both_sent p q)) fresh 0 8 1 0 q [] [] [] [] refl))
+again : (p q : Packet)
+    → Moves (new_core 8 (λ modulus. 4) (λ modulus. 4))
+    (between (up (both_sent p q)) (up (one_stored q)) [] (first p ∷ []))
+again p q = by_x (by_x (by_y (by_y (lost p q) (StoreFront new (up (both_sent p q)) fresh 0 8 1 0 q [] [] [] [] refl))
     (SendSrej new (up (both_sent p q)) (one_stored q) 0 [] (kept q) [] [] [] refl (omega arith) (omega arith)))
     (Lose (up (both_sent p q)) (up (one_stored q)) [] (numbered_to 0 8 (Srej 0)) [] []))
     (SendInfo new (up (one_stored q)) (both_sent p q) 0 p [] [] (omega arith) (omega arith) refl)
 
 -- both are got
-got : (p q : Packet) → Moves (new_core 8 (λ modulus. 4) (λ modulus. 4)) (between (up (both_sent p q)) (up (both_got p q)) [] [])
-got p q =
-    by_y (by_y (again p q) (AcceptFront new (up (both_sent p q)) (one_stored q) 0 8 0 p [] []))
+got : (p q : Packet)
+    → Moves (new_core 8 (λ modulus. 4) (λ modulus. 4)) (between (up (both_sent p q)) (up (both_got p q)) [] [])
+got p q = by_y (by_y (again p q) (AcceptFront new (up (both_sent p q)) (one_stored q) 0 8 0 p [] []))
     (TakeStored new (up (both_sent p q)) (one_got p q) [] (kept q) [] [] [] refl refl refl)
 
 pub in_order : (p q : Packet) → (set_up_at (set_ups (up (both_got p q))) 0).got ≡ p ∷ q ∷ []

@@ -113,7 +113,8 @@ acted_hears {r} {x} {y} {f} frame {rest} {to_y} shown written is inv h = by_stat
 
     by_state : (x : End) → Shown r x → Invariant (between x y (core_tagged f ∷ rest) to_y)
         → Each ActedOnMate (hearing r.machine.control.state g r).set_ups
-    by_state x (ShownIdle state packets waiting) inv = subst (λ s. Each ActedOnMate (hearing s g r).set_ups) (sym state) h
+    by_state x (ShownIdle state packets waiting) inv = subst (λ s. Each ActedOnMate (hearing s g r).set_ups)
+        (sym state) h
     by_state x (ShownCalling state waiting) inv = subst (λ s. Each ActedOnMate (hearing s g r).set_ups) (sym state) h
     by_state x (ShownUp ended last qs state waiting) inv =
         subst (λ s. Each ActedOnMate (hearing s g r).set_ups) (sym state) (go (is_numbered frame.kind) refl)

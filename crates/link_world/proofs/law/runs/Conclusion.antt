@@ -71,7 +71,8 @@ pub prefixes_hold :
     → Each (OriginAlike (core_set_ups theirs)) (core_set_ups ours) → All (GotNothingElse theirs) ours
 prefixes_hold theirs ours h alike = All-from_recursion (GotNothingElse theirs) ours
     (each_both _ _ _ (λ q g a some. got_prefix theirs q q.accepted refl g a some)
-    ours (each_of_map (GotOf (core_set_ups theirs)) ours h) (each_of_map (OriginAlike (core_set_ups theirs)) ours alike))
+    ours (each_of_map (GotOf (core_set_ups theirs)) ours h)
+    (each_of_map (OriginAlike (core_set_ups theirs)) ours alike))
 
 -- numbers that rise, by recursion
 Rising : List ℕ → Type 0

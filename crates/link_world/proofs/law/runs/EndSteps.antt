@@ -84,7 +84,7 @@ refused {h} {r} (StandsUp ended last u) no_ask noted =
     stays_up ends (up_begins u)
 refused (StandsReleasing d) no_ask noted = down_refuses d noted
 
--- refused where the link's state allows no such request
+-- refused if the link's state allows no such request
 connect_refused :
     (m : Machine) {state : LinkState} → m.control.state ≡ state → has_link state ≡ true
     → is_some (refusal_of m Connect) ≡ true
@@ -117,15 +117,15 @@ connect_keeps false is (StandsIdle d) = idle_connects d
 connect_keeps {r} false is (StandsCalling d) = absurd (false≢true (sym is ∙ connect_refused r.machine d.state_is refl))
 connect_keeps {r} false is (StandsUp ended last u) =
     absurd (false≢true (sym is ∙ connect_refused r.machine u.state refl))
-connect_keeps {r} false is (StandsReleasing d) = absurd (false≢true (sym is ∙ connect_refused r.machine d.state_is refl))
+connect_keeps {r} false is (StandsReleasing d) = absurd
+    (false≢true (sym is ∙ connect_refused r.machine d.state_is refl))
 
 send_keeps :
     {r : RecordedEnd} (packet : Packet) {y : End} {to_x to_y : List CoreTagged} (b : Bool)
     → is_some (refusal_of r.machine (Send packet)) ≡ b → Stands r y to_x to_y
     → Keeps (Sends packet) r y to_x to_y (if b then begin r.machine else settled
     (changing (joined packet) (begin r.machine)))
-send_keeps {r} packet true is s =
-    refused s refl (cond-true (is_some (refusal_of r.machine (Send packet))) r _ is)
+send_keeps {r} packet true is s = refused s refl (cond-true (is_some (refusal_of r.machine (Send packet))) r _ is)
 send_keeps {r} packet false is (StandsIdle d) =
     absurd (false≢true (sym is ∙ send_refused r.machine packet d.state_is refl))
 send_keeps packet false is (StandsCalling d) = calling_sends packet d is
@@ -164,7 +164,8 @@ up_hears {r} {ended} a (InfoSent ns nr packet) windows u =
 up_hears {r} {ended} a (SuperSent which command nr flag) windows u =
     up_hears_super a which command nr flag (front_modulus (end_behind r.machine (core_set_ups ended)) u.holds)
     windows.own u
-up_hears a (SetupSent SabmFrame flag) windows u = up_hears_call flag u refl (noted_nothing a SabmFrame flag u) (inl refl)
+up_hears a (SetupSent SabmFrame flag) windows u = up_hears_call flag u refl (noted_nothing a SabmFrame flag u)
+    (inl refl)
 up_hears a (SetupSent SabmeFrame flag) windows u =
     up_hears_call flag u refl (noted_nothing a SabmeFrame flag u) (inr refl)
 up_hears a (SetupSent DiscFrame flag) windows u = up_hears_disc a flag u
@@ -177,8 +178,7 @@ pub kind_of_up :
     {rest to_y : List CoreTagged} → IsReadAs sent kind
     → (a.modulus ≡ m.incoming.modulus → kind ≡ sent_kind a.modulus sent)
     → Invariant (between (up_end m (core_set_ups ended) (core_set_up last)) y
-    (core_tagged (heard_as a kind sent) ∷ rest) to_y)
-    → kind ≡ sent_kind a.modulus sent
+    (core_tagged (heard_as a kind sent) ∷ rest) to_y) → kind ≡ sent_kind a.modulus sent
 kind_of_up m ended last kind a (InfoSent ns nr packet) read same inv =
     same (front_modulus (end_behind m (core_set_ups ended)) inv)
 kind_of_up m ended last kind a (SuperSent which command nr flag) read same inv =
@@ -187,11 +187,10 @@ kind_of_up m ended last kind a (SetupSent which flag) read same inv = read
 
 -- an idle end hears a SABM or SABME only while none of its own is under way
 abbrev pub CalledAlone : RecordedEnd → Sent → List CoreTagged → Type 0
-CalledAlone r sent to_y =
-    r.machine.control.state ≡ IdleState → (which : U) (flag : Bool) → sent ≡ SetupSent which flag
+CalledAlone r sent to_y = r.machine.control.state ≡ IdleState → (which : U) (flag : Bool) → sent ≡ SetupSent which flag
     → is_sabm_frame which ≡ true → sabms to_y ≡ 0
 
--- a frame as it is read: where the modulus is the end's own, as it was written
+-- a frame as it is read: if the modulus is the end's own, as it was written
 hear_read :
     {r : RecordedEnd} (a : Arrival) (kind : Kind) (sent : Sent) {y : End} {rest to_y : List CoreTagged}
     → let e = heard_as a kind sent in
@@ -204,7 +203,8 @@ hear_read {r} a kind sent {y} {rest} {to_y} s windows read same quiet = by_state
     command = is_command_of a.path.role kind
 
     P : LinkState → Type 0
-    P state = Keeps (Hears (heard_as a kind sent)) r y rest to_y (settled (hear_in state command kind (begin r.machine)))
+    P state = Keeps (Hears (heard_as a kind sent)) r y rest to_y
+        (settled (hear_in state command kind (begin r.machine)))
 
     by_state : Stands r y (core_tagged (heard_as a kind sent) ∷ rest) to_y → P r.machine.control.state
     by_state (StandsIdle d) = subst P (sym d.state_is) (idle_hears a kind sent command d read (quiet d.state_is))
@@ -212,8 +212,7 @@ hear_read {r} a kind sent {y} {rest} {to_y} s windows read same quiet = by_state
     by_state (StandsUp ended last u) = subst P (sym u.state)
         (subst (λ k. Keeps (Hears (heard_as a k sent)) r y rest to_y
         (settled (hear_up (is_command_of a.path.role k) k (begin r.machine))))
-        (sym (kind_of_up r.machine ended last kind a sent read same u.holds))
-        (up_hears a sent windows u))
+        (sym (kind_of_up r.machine ended last kind a sent read same u.holds)) (up_hears a sent windows u))
     by_state (StandsReleasing d) = subst P (sym d.state_is) (releasing_hears a kind sent command d read)
 
 -- what a frame that was sent is read as
@@ -222,7 +221,7 @@ pub read_frame_as :
 read_frame_as own {f} frame written is = subst (λ o. IfSome o (λ g. IsReadAs f.sent g.kind)) is
     (read_as (modulus_named f.modulus) (modulus_named own) f.frame f.modulus f.sent written.kind)
 
--- where it was written in the modulus in which it is read, as it was sent
+-- if it was written in the modulus in which it is read, as it was sent
 pub read_frame_same :
     {own : ℕ} {f : Tagged} (frame : Frame) → IsWritten f → read_in own f ≡ Some frame → f.modulus ≡ own
     → frame.kind ≡ sent_kind f.modulus f.sent
@@ -236,9 +235,8 @@ pub hears_keeps :
     → read_in r.machine.incoming.modulus f ≡ Some frame → CalledAlone r f.sent to_y
     → Keeps (Hears (record f { frame = frame })) r y rest to_y (step r.machine (Hear frame))
 unfolding step
-hears_keeps {r} {f} frame s windows written is quiet =
-    hear_read (arrival_of frame f) frame.kind f.sent s windows (read_frame_as r.machine.incoming.modulus frame written is)
-    (read_frame_same frame written is) quiet
+hears_keeps {r} {f} frame s windows written is quiet = hear_read (arrival_of frame f) frame.kind f.sent s windows
+    (read_frame_as r.machine.incoming.modulus frame written is) (read_frame_same frame written is) quiet
 
 -- what happens is no frame that is heard
 abbrev pub HearsNothing : Happening → Type 0

@@ -34,7 +34,7 @@ called_by {state} {sabm} n h idle is =
     let only : (n == 0) ≡ true = sym (ap (λ b. not b || (n == 0)) both) ∙ h in
     eqb-true n 0 only
 
--- the frame in front is heard, where there is one, and where it is not refused
+-- the frame in front is heard, if there is one, and if it is not refused
 near_hear :
     {a b : Params} (r : RecordedEnd) (towards : List Tagged) (far : Side) (e : Name) → WindowsFit a b
     → let w : World = record { a = record { end = r; towards = towards }; b = far } in

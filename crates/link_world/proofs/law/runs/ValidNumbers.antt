@@ -76,8 +76,8 @@ reads_by {a} {b} {r} {towards} {far} fit s = go s.x s.near s.holds towards s.nea
         by_read : (o : Option Frame) → read_in r.machine.incoming.modulus f ≡ o → read_names_valid r.machine o ≡ true
         by_read None read = refl
         by_read (Some frame) read = ap (names_valid r.machine)
-            (kind_of_up r.machine ended last frame.kind (arrival_of frame f) f.sent (read_frame_as r.machine.incoming.modulus frame one read)
-            (read_frame_same frame one read) front)
+            (kind_of_up r.machine ended last frame.kind (arrival_of frame f) f.sent
+            (read_frame_as r.machine.incoming.modulus frame one read) (read_frame_same frame one read) front)
             ∙ names_by r.machine ended last f f.sent (windows_of fit s).own front
     go x (ShownReleasing state packets waiting) inv ts written is = ap (λ t. reads_valid t r.machine ts) state
 

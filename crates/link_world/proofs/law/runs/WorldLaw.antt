@@ -1,6 +1,6 @@
--- The law of two links: in every quiet run from a new world whose windows fit, what each set-up got is a prefix of what
--- the other end was given in its origin, which has the same modulus, origins rise strictly, all that a set-up acted on is of one set-up of the
--- other end, and no number is invalid.
+-- The law of two links: in every quiet run from a new world whose windows fit, what each set-up got is a prefix of
+-- what the other end was given in its origin, which has the same modulus, origins rise strictly, all that a set-up
+-- acted on is of one set-up of the other end, and no number is invalid.
 use Rattle.std.proofs.Common.{◌≡◌, true, List, [], ◌∷◌, Option, Some, None, refl}
 use Rattle.std.specs.Prelude.{IsTrue}
 use Rattle.std.specs.List.{AllByRecursion as Each}
@@ -70,7 +70,8 @@ near_acted {w} (Tick e waiting) s h = record {
 near_acted {w} (Hear e) s h = hear_acted w.a.end w.a.towards w.b e s h
 near_acted (Lose e index) s h = record { near = h.near; far = h.far }
 
-pub step_acted : {a b : Params} {w : World} (event : Event) → ShowsWorld a b w → ActedWorld w → ActedWorld (step w event)
+pub step_acted : {a b : Params} {w : World} (event : Event) → ShowsWorld a b w → ActedWorld w
+    → ActedWorld (step w event)
 step_acted {w} event s h = go (end_of event)
   where
     go : (e : Name) → ActedWorld (seen_from e (near_step event (seen_from e w)))

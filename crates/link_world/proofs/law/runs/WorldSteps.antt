@@ -256,7 +256,7 @@ near_hears {w} s f frame {rest} fit is read alone called =
         let few = sabms_are_asks (core_flight w.b.towards) in
         omega arith
 
--- what holds whatever element goes holds behind a removal
+-- what holds whatever element goes holds after a removal
 removed_keeps :
     {A : Type 0} (P : List A → Type 0)
     → ((before : List A) (x : A) (after : List A) → P (before ++ x ∷ after) → P (before ++ after))
@@ -282,8 +282,10 @@ near_loses {w} n s = record {
   far_params = s.far_params;
   near_sound = s.near_sound;
   far_sound = s.far_sound;
-  holds = rw (append-nil w.b.towards) (removed_keeps (λ fs. Invariant (between s.x s.y (core_flight fs) (core_flight w.b.towards)))
-      (λ before f after inv. rw (map-append core_tagged before after) (lose_keeps (core_flight before) (core_tagged f) (core_flight after)
+  holds = rw (append-nil w.b.towards)
+      (removed_keeps (λ fs. Invariant (between s.x s.y (core_flight fs) (core_flight w.b.towards)))
+      (λ before f after inv. rw (map-append core_tagged before after)
+      (lose_keeps (core_flight before) (core_tagged f) (core_flight after)
       (rw (← map-append core_tagged before (f ∷ after)) inv))) w.a.towards n s.holds);
   near_written = removed_keeps (λ fs. Each IsWritten fs)
       (λ before f after. each_removed IsWritten before f after) w.a.towards n s.near_written;

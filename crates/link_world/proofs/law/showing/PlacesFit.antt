@@ -29,7 +29,7 @@ length_moved count ps le = length-append (drop count ps) (replicate count empty_
     ∙ ap (λ n. length (drop count ps) + n) (length-replicate count empty_place)
     ∙ ap (λ n. n + count) (length-drop count ps) ∙ omega arith
 
--- behind a run the first place is empty
+-- after a run the first place is empty
 run_behind :
     (count : ℕ) (ps : List Place) → packet_at (drop (length (run ps)) ps ++ replicate count empty_place) 0 ≡ None
 run_behind count [] = first_of_empty count
@@ -52,7 +52,7 @@ short_run (p ∷ ps) = go p.packet (short_run ps)
 rej≢srej : RejMode ≡ SrejMode → ⊥
 rej≢srej e = cc
 
--- V(R) moves on behind a run
+-- V(R) moves on past a run
 pub fit_behind_run :
     {i : Incoming} (packet : Packet) → i.mode ≡ SrejMode → IsFit i
     → IsFit (moved_on (length (packet ∷ run (drop 1 i.places))) i)

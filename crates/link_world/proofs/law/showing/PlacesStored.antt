@@ -31,7 +31,7 @@ stored_asked n zero ps = refl
 stored_asked n (suc k) [] = refl
 stored_asked n (suc k) (p ∷ ps) = ap (λ t. stored_before n p.packet t) (stored_asked (n + 1) k ps)
 
--- the packets before a place and behind it
+-- the packets before a place and after it
 pub record IsPlaced (n k : ℕ) (packet : Packet) (ps : List Place) : Type 0 where
   pub before : List Stored
   pub after : List Stored

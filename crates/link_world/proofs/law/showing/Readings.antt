@@ -1,4 +1,4 @@
--- What a frame is read as, where it was written in another modulus: an I or S frame as one of them, or as none, and
+-- What a frame is read as, if it was written in another modulus: an I or S frame as one of them, or as none, and
 -- another as it is.
 use Rattle.std.proofs.Common.{◌≡◌, ℕ, ◌%◌, Bool, true, false, if◌then◌else◌, nat_lt, List, [], ◌∷◌, length, Option, Some, None, IfSome, refl, subst}
 use Rattle.ax25_frames.specs.declared.frame.Kind.{Kind}
@@ -24,8 +24,8 @@ read_self modulus (SetupSent which flag) = refl
 reads_wide : (modulus : ℕ) (s : Sent) → IfSome (read_wide (sent_kind modulus s)) (IsReadAs s)
 reads_wide modulus (InfoSent number nr packet) = go packet.octets
   where
-    go : (octets : List ℕ)
-        → IfSome (read_wide (Info (number % modulus) (nr % modulus) false packet.pid octets)) (λ k. is_numbered k ≡ true)
+    go : (octets : List ℕ) → IfSome (read_wide (Info (number % modulus) (nr % modulus) false packet.pid octets))
+        (λ k. is_numbered k ≡ true)
     go [] = tt
     go (pid ∷ octets) = refl
 reads_wide modulus (SuperSent which command nr flag) = tt
@@ -42,13 +42,15 @@ reads_narrow modulus (SuperSent which command nr flag) = tt
 reads_narrow modulus (SetupSent which flag) = refl
 
 reads_by :
-    (written read : Modulus) (modulus : ℕ) (s : Sent) → IfSome (kind_read written read (sent_kind modulus s)) (IsReadAs s)
+    (written read : Modulus) (modulus : ℕ) (s : Sent)
+    → IfSome (kind_read written read (sent_kind modulus s)) (IsReadAs s)
 reads_by Eight Eight modulus s = read_self modulus s
 reads_by Eight OneTwentyEight modulus s = reads_wide modulus s
 reads_by OneTwentyEight Eight modulus s = reads_narrow modulus s
 reads_by OneTwentyEight OneTwentyEight modulus s = read_self modulus s
 
-kind_of_read : (P : Kind → Type 0) (frame : Frame) (o : Option Kind) → IfSome o P → IfSome (with_kind frame o) (λ f. P f.kind)
+kind_of_read : (P : Kind → Type 0) (frame : Frame) (o : Option Kind) → IfSome o P
+    → IfSome (with_kind frame o) (λ f. P f.kind)
 kind_of_read P frame None h = tt
 kind_of_read P frame (Some kind) h = h
 

@@ -18,8 +18,7 @@ use Rattle.link_world.specs.Flight.{Tagged, is_answer, set_up_of}
 use Rattle.link_world.specs.Recorded.{RecordedEnd, told_of, tagged}
 
 abbrev pub core_set_up : SetUp → CoreSetUp
-core_set_up q =
-    record { given = q.given; got = q.got; modulus = q.modulus; mate = q.mate; origin = q.accepted }
+core_set_up q = record { given = q.given; got = q.got; modulus = q.modulus; mate = q.mate; origin = q.accepted }
 
 abbrev pub core_set_ups : List SetUp → List CoreSetUp
 core_set_ups qs = map core_set_up qs
@@ -110,8 +109,7 @@ up_tag modulus n (SetupSent which flag) = omega arith
 -- what an end that is up has sent, with its tags
 pub flight_of_up :
     (on_ask : Bool) (r : RecordedEnd) (n : ℕ) (sent : List SentIn) → r.machine.control.state ≡ UpState
-    → length r.set_ups ≡ n + 1
-    → core_flight (map (tagged on_ask r) sent) ≡ cores_sent on_ask n sent
+    → length r.set_ups ≡ n + 1 → core_flight (map (tagged on_ask r) sent) ≡ cores_sent on_ask n sent
 flight_of_up on_ask r n [] up count = refl
 flight_of_up on_ask r n (s ∷ sent) up count =
     let tag = ap (λ t. set_up_of (sent_kind s.modulus s.frame) t (length r.set_ups)) up

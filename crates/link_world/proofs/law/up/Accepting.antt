@@ -43,8 +43,7 @@ pub record HasHeard (rest : List Tagged) (tag : ℕ) (accepts : Bool) (g : Progr
       × (incoming.modulus ≡ g.incoming.modulus)
   pub up : IsUp rest (progress_behind packets accepts tag incoming g) turn
 
-same_but_places :
-    {i j : Incoming} → i ≡ j → (i.mode ≡ j.mode) × (i.window ≡ j.window) × (i.modulus ≡ j.modulus)
+same_but_places : {i j : Incoming} → i ≡ j → (i.mode ≡ j.mode) × (i.window ≡ j.window) × (i.modulus ≡ j.modulus)
 same_but_places is =
     (ap (λ (i : Incoming). i.mode) is, ap (λ (i : Incoming). i.window) is, ap (λ (i : Incoming). i.modulus) is)
 
@@ -91,8 +90,7 @@ given_to :
     → IsFit (moved_on (length packets) turn.now.incoming)
     → Invariant (between (up_end (record turn.now { incoming = moved_on (length packets) turn.now.incoming }) g.ended
     (got_by packets (first_origin g.open_now.origin tag) g.open_now)) g.partner rest
-    (g.before ++ cores_sent g.answers (length g.ended) turn.sent))
-    → HasHeard rest tag true g (give packets turn)
+    (g.before ++ cores_sent g.answers (length g.ended) turn.sent)) → HasHeard rest tag true g (give packets turn)
 given_to {turn} packets h fit holds = record {
   packets = packets;
   incoming = moved_on (length packets) turn.now.incoming;
@@ -176,7 +174,8 @@ stored_heard {tag} {packet} {rest} {g} {turn} k mode fit is some within empty h 
     let length_is = fit.places in
     let pl : IsPlaced i.vr k packet i.places = place_filled i.vr k i.places (omega arith) empty in
     let s : Stored = record { number = i.vr + k; packet = packet } in
-    let front = subst (λ n. UpInvariant x g.partner (storing (pl.before ++ record { number = n; packet = packet } ∷ pl.after)
+    let front = subst
+    (λ n. UpInvariant x g.partner (storing (pl.before ++ record { number = n; packet = packet } ∷ pl.after)
     (first_origin q.origin tag) r) rest under_way) is (store_front_keeps x pl.before pl.after pl.was h.holds) in
     let with_got = subst (λ t. UpInvariant x g.partner (record r
     { stored = pl.before ++ s ∷ pl.after; set_up = record q { got = t; origin = first_origin q.origin tag } })
@@ -185,7 +184,8 @@ stored_heard {tag} {packet} {rest} {g} {turn} k mode fit is some within empty h 
     refl refl (missing_below places k) with_got in
     let same = sym pl.is ∙ sym (stored_asked i.vr k places) in
     let sent : List SentIn = all_sent_in i.modulus (map (srej_for (stored k packet m)) (missing places k)) in
-    let all = subst (λ t. UpInvariant x g.partner (record r { stored = stored_from i.vr (asked places k); set_up = q1 }) rest t)
+    let all = subst
+    (λ t. UpInvariant x g.partner (record r { stored = stored_from i.vr (asked places k); set_up = q1 }) rest t)
     (sent_more g.answers (length g.ended) g.before turn.sent sent)
     (subst (λ ss. UpInvariant x g.partner (record r { stored = ss; set_up = q1 }) rest
     (under_way ++ cores_sent g.answers (length g.ended) sent)) same asked_for) in

@@ -23,8 +23,7 @@ use Rattle.link_world.proofs.law.up.Flushing.{awaiting_by}
 -- conditions, retries and timers change
 pub setting_keeps :
     (change : Control → Control) → ((c : Control) → (change c).state ≡ c.state)
-    → {to_x : List Tagged} {g : Progress} {turn : Turn}
-    → IsUp to_x g turn → IsUp to_x g (setting change turn)
+    → {to_x : List Tagged} {g : Progress} {turn : Turn} → IsUp to_x g turn → IsUp to_x g (setting change turn)
 setting_keeps change same {turn} h =
     record { state = same turn.now.control ∙ h.state; so_far = h.so_far; fits = h.fits; holds = h.holds }
 
@@ -39,8 +38,8 @@ sending_super_keeps which command flag is {to_x} {g} {turn} h =
     let r = running_of m g.open_now in
     let tag : ℕ = length g.ended in
     let s : SentIn = sent_in m.incoming.modulus (SuperSent which command m.incoming.vr flag) in
-    let gone =
-    subst (λ n. UpInvariant x g.partner r to_x ((g.before ++ cores_sent g.answers tag turn.sent) ++ of_end x (IsNumbered x.modulus n) ∷
+    let gone = subst (λ n. UpInvariant x g.partner r to_x
+    ((g.before ++ cores_sent g.answers tag turn.sent) ++ of_end x (IsNumbered x.modulus n) ∷
     [])) (sym (is m.incoming.vr)) (send_super_keeps x h.holds) in
     record {
       state = h.state;
@@ -71,22 +70,18 @@ pub answer_poll_keeps :
 answer_poll_keeps true h = respond_ready_keeps true h
 answer_poll_keeps false h = h
 
-pub poll_keeps :
-    {to_x : List Tagged} {g : Progress} {turn : Turn}
-    → IsUp to_x g turn → IsUp to_x g (poll turn)
+pub poll_keeps : {to_x : List Tagged} {g : Progress} {turn : Turn} → IsUp to_x g turn → IsUp to_x g (poll turn)
 poll_keeps h = setting_keeps polling (λ c. refl)
     (report_keeps Rr true true (λ vr. refl) h)
 
 pub reject_keeps :
-    (flag : Bool) {to_x : List Tagged} {g : Progress} {turn : Turn}
-    → IsUp to_x g turn → IsUp to_x g (reject flag turn)
+    (flag : Bool) {to_x : List Tagged} {g : Progress} {turn : Turn} → IsUp to_x g turn → IsUp to_x g (reject flag turn)
 reject_keeps flag h = setting_keeps (with_rej true) (λ c. refl)
     (report_keeps RejFrame false flag (λ vr. refl) h)
 
 -- V(S) goes back to V(A)
 pub gone_back_keeps :
-    {to_x : List Tagged} {g : Progress} {turn : Turn}
-    → IsUp to_x g turn → IsUp to_x g (changing gone_back turn)
+    {to_x : List Tagged} {g : Progress} {turn : Turn} → IsUp to_x g turn → IsUp to_x g (changing gone_back turn)
 gone_back_keeps {g} {turn} h =
     let m = turn.now in
     record {
@@ -141,8 +136,7 @@ acknowledged_keeps nr is {g} {turn} h =
 
 -- the front frame is passed over
 pub passed_over :
-    {f : Tagged} {rest : List Tagged} {g : Progress} {turn : Turn}
-    → IsUp (f ∷ rest) g turn → IsUp rest g turn
+    {f : Tagged} {rest : List Tagged} {g : Progress} {turn : Turn} → IsUp (f ∷ rest) g turn → IsUp rest g turn
 passed_over {f} {rest} h = record {
   state = h.state;
   so_far = h.so_far;

@@ -95,8 +95,7 @@ up_goes_on {h} {r} {ended} {last} u no_ask noted up =
 -- a disconnect is asked for
 pub up_quits :
     {r : RecordedEnd} {ended : List SetUp} {last : SetUp} {y : End} {to_x to_y : List CoreTagged}
-    → UpEnd r ended last y to_x to_y
-    → Keeps Disconnects r y to_x to_y (settled (setting quitting (begin r.machine)))
+    → UpEnd r ended last y to_x to_y → Keeps Disconnects r y to_x to_y (settled (setting quitting (begin r.machine)))
 up_quits u = up_goes_on u refl refl (setting_keeps quitting (λ c. refl) (up_begins u))
 
 -- an S frame is heard
@@ -117,8 +116,7 @@ up_hears_super {r} {ended} {last} a which command nr flag {y} {rest} {to_y} own 
     ∙ change_last-push (acting a.set_up false) ended last in
     let ends : EndsUp (Hears f) r ended acted [] r.machine.incoming =
     record { no_ask = refl; sound = u.sound; set_ups = noted } in
-    let up : IsUp rest (progress_of r y to_y ended acted) turn =
-    subst (λ m. IsUp rest (progress_of r y to_y ended last)
+    let up : IsUp rest (progress_of r y to_y ended acted) turn = subst (λ m. IsUp rest (progress_of r y to_y ended last)
     (hear_up (is_command_of a.path.role f.frame.kind) (SuperKind which (nr % m) flag) (begin r.machine))) (sym own)
     (hear_super_keeps nr which (is_command_of a.path.role f.frame.kind) flag fits (up_begins u)) in
     up_ends ends up
@@ -150,7 +148,8 @@ up_hears_info {r} {ended} {last} a ns nr packet {y} {rest} {to_y} own windows u 
     let up = up_begins u in
     let read : IsRead m nr = nr_is_read refl windows.own up in
     let acted = acting tag takes last in
-    let command = is_command_of a.path.role (InfoKind (ns % i.modulus) (nr % i.modulus) false packet.pid packet.octets) in
+    let command = is_command_of a.path.role
+    (InfoKind (ns % i.modulus) (nr % i.modulus) false packet.pid packet.octets) in
     let kind = InfoKind (ns % i.modulus) (nr % i.modulus) false packet.pid packet.octets in
     let heard : HasHeard rest tag takes g (hear_up command kind (begin m)) =
     hear_info_heard command false windows u.sound.fit up in
@@ -168,8 +167,7 @@ up_hears_info {r} {ended} {last} a ns nr packet {y} {rest} {to_y} own windows u 
           ∙ told_given next ended acted heard.packets;
     } in
     let got : IsUp rest (progress_in r y to_y ended after (map Given heard.packets) heard.incoming)
-    (hear_up command kind (begin m)) =
-    subst (λ o. IsUp rest (record g {
+    (hear_up command kind (begin m)) = subst (λ o. IsUp rest (record g {
       open_now = got_by heard.packets o (core_set_up last);
       told = map Given heard.packets;
       incoming = heard.incoming;

@@ -22,7 +22,8 @@ use Rattle.link_world.proofs.law.up.Progress.{SentFits, Progress, IsUp, sent_mor
 
 -- packets as I frames under way
 abbrev pub infos_under_way : (modulus tag number nr : ℕ) → List Packet → List Tagged
-infos_under_way modulus tag number nr packets = cores_sent false tag (all_sent_in modulus (infos_from number nr packets))
+infos_under_way modulus tag number nr packets = cores_sent false tag
+    (all_sent_in modulus (infos_from number nr packets))
 
 first_of_part :
     (ahead : ℕ) (kept : List Packet) (p : Packet) (rest : List Packet) → drop ahead kept ≡ p ∷ rest
@@ -119,7 +120,8 @@ packets_go_out {to_x} {g} {turn} p ps is h =
       so_far = h.so_far;
       fits = each_append _ turn.sent (all_sent_in m.incoming.modulus (infos_from o.vs m.incoming.vr (p ∷ ps))) h.fits
           (infos_fit g.answers m.incoming.modulus o.vs m.incoming.vr (p ∷ ps));
-      holds = subst (λ t. UpInvariant x g.partner s to_x t) (ap (λ t. (g.before ++ cores_sent g.answers tag turn.sent) ++ t)
+      holds = subst (λ t. UpInvariant x g.partner s to_x t)
+          (ap (λ t. (g.before ++ cores_sent g.answers tag turn.sent) ++ t)
           (infos_same g.answers m.incoming.modulus tag o.vs m.incoming.vr (p ∷ ps))
           ∙ sent_more g.answers tag g.before turn.sent
           (all_sent_in m.incoming.modulus (infos_from o.vs m.incoming.vr (p ∷ ps))))
@@ -127,9 +129,7 @@ packets_go_out {to_x} {g} {turn} p ps is h =
     }
 
 -- all that may go out goes out
-pub flush_keeps :
-    {to_x : List Tagged} {g : Progress} {turn : Turn}
-    → IsUp to_x g turn → IsUp to_x g (flush turn)
+pub flush_keeps : {to_x : List Tagged} {g : Progress} {turn : Turn} → IsUp to_x g turn → IsUp to_x g (flush turn)
 flush_keeps {to_x} {g} {turn} h = by_part (to_send turn.now) refl
   where
     P : Turn → Type 0

@@ -54,8 +54,8 @@ again_by {to_x} {g} {turn} n (Some p) is low high h =
       state = h.state;
       so_far = h.so_far;
       fits = each_pushed _ turn.sent (sent_in m.incoming.modulus (InfoSent n m.incoming.vr p)) h.fits tt;
-      holds = subst (λ t. UpInvariant x g.partner r to_x t)
-          (sent_one g.answers (length g.ended) g.before turn.sent (sent_in m.incoming.modulus (InfoSent n m.incoming.vr p))) sent;
+      holds = subst (λ t. UpInvariant x g.partner r to_x t) (sent_one g.answers (length g.ended) g.before turn.sent
+          (sent_in m.incoming.modulus (InfoSent n m.incoming.vr p))) sent;
     }
 
 pub send_again_keeps :
@@ -68,8 +68,8 @@ send_again_keeps {to_x} {g} {turn} n low h = go (nat_lt n turn.now.outgoing.top)
 
     go : (b : Bool) → nat_lt n turn.now.outgoing.top ≡ b → IsUp to_x g (if b then record turn {
       now = record turn.now { control = watching (nothing_due turn.now.control) };
-      sent = turn.sent
-          ++ all_sent_in turn.now.incoming.modulus (infos_from n turn.now.incoming.vr (if b then option_to_list o else []));
+      sent = turn.sent ++ all_sent_in turn.now.incoming.modulus
+          (infos_from n turn.now.incoming.vr (if b then option_to_list o else []));
     } else turn)
     go true is = again_by n o refl low (ltb-true n turn.now.outgoing.top is) h
     go false is = h
@@ -95,8 +95,7 @@ rej_keeps {nr} asks answers h =
 srej_keeps :
     {tag k : ℕ} (nr : ℕ) {rest : List Tagged} {g : Progress} {turn : Turn} (flag asks answers : Bool)
     → turn.now.outgoing.va ≤ nr → IsUp (numbered_to tag k (super_of SrejFrame nr flag) ∷ rest) g turn
-    → IsUp (numbered_to tag k (super_of SrejFrame nr flag) ∷ rest) g
-    (recover answers (answer_poll asks (send_again nr
+    → IsUp (numbered_to tag k (super_of SrejFrame nr flag) ∷ rest) g (recover answers (answer_poll asks (send_again nr
     (changing (acknowledged_by_srej nr flag) (setting (with_busy false) turn)))))
 srej_keeps nr true asks answers low h =
     recover_keeps answers (answer_poll_keeps asks (send_again_keeps nr (le_refl nr) (acknowledged_keeps nr refl

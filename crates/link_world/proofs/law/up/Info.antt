@@ -32,8 +32,7 @@ pub record WindowsOf (i : Incoming) (y : End) : Type 0 where
 
 behind_info :
     (flag : Bool) {rest : List Tagged} {tag : ℕ} {accepts : Bool} {g : Progress} {turn : Turn}
-    → HasHeard rest tag accepts g turn
-    → HasHeard rest tag accepts g (answer_poll flag (setting owing turn))
+    → HasHeard rest tag accepts g turn → HasHeard rest tag accepts g (answer_poll flag (setting owing turn))
 behind_info flag h = heard_then
     (λ p up. answer_poll_keeps flag (setting_keeps owing (λ c. refl) up)) h
 
@@ -59,16 +58,14 @@ by_rej_heard {tag} {c} {ns} {nr} {packet} {rest} {g} {turn} flag windows mode fi
     taken = give (packet ∷ []) turn
 
     go : (b : Bool) → (distance == 0) ≡ b
-        → HasHeard rest tag b g (if b then take_in_sequence flag packet turn else refuse_out_of_sequence flag
-        turn)
+        → HasHeard rest tag b g (if b then take_in_sequence flag packet turn else refuse_out_of_sequence flag turn)
     go true is =
         let named_by = ns_by_rej i.modulus (end_behind turn.now g.ended) windows.sender h.holds in
         behind_info flag (heard_then (λ p up. setting_keeps (with_rej false) (λ c. refl) up)
         (sequence_heard mode fit (named_by.0 (eqb-true distance 0 is)) h))
     go false is = by_reject turn.now.control.rej
       where
-        by_reject : (b : Bool)
-            → HasHeard rest tag false g (if b then answer_poll flag turn else reject flag turn)
+        by_reject : (b : Bool) → HasHeard rest tag false g (if b then answer_poll flag turn else reject flag turn)
         by_reject true = heard_nothing (subst IsFit h.so_far.incoming_is fit) (answer_poll_keeps flag h)
         by_reject false = heard_nothing (subst IsFit h.so_far.incoming_is fit) (reject_keeps flag h)
 

@@ -23,9 +23,9 @@ IsNumberedSent (SetupSent which flag) = ⊥
 abbrev pub SentFits : Bool → SentIn → Type 0
 SentFits answers s = IsNumberedSent s.frame
 
--- A link that is up, in the middle of an event: its partner, what was under way to the partner before, the set-ups that
--- ended, the one that is open, whether a UA or DM sent now answers a SABM or DISC, what was told so far, and what is kept
--- of the partner's packets.
+-- A link that is up, in the middle of an event: its partner, what was under way to the partner before, the set-ups
+-- that ended, the one that is open, whether a UA or DM sent now answers a SABM or DISC, what was told so far, and
+-- what is kept of the partner's packets.
 pub record Progress : Type 0 where
   pub partner : End
   pub before : List Tagged

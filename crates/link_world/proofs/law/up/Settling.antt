@@ -1,4 +1,4 @@
--- What an event of a link that is up ends with: what may go out goes out, and then, where it is time, the link is
+-- What an event of a link that is up ends with: what may go out goes out, and then, if it is time, the link is
 -- released.
 use Rattle.std.proofs.Common.{◌≡◌, ℕ, ◌+◌, Bool, true, false, ◌&&◌, ◌==◌, if◌then◌else◌, List, [], ◌∷◌, ◌++◌, length, map, inl, inr, refl, sym, ap, ◌∙◌, subst, arith, append_assoc}
 use Rattle.std.specs.List.{AllByRecursion as Each, fold}
@@ -48,7 +48,11 @@ pub numbered_written :
     → Each IsWritten (map (tagged on_ask r) sent)
 numbered_written on_ask r [] fits = tt
 numbered_written on_ask r (s ∷ sent) fits =
-    (record { kind = refl; answers = answers_by on_ask s.modulus s.frame fits.0 }, numbered_written on_ask r sent fits.1)
+    let here : IsWritten (tagged on_ask r s) = record {
+      kind = refl;
+      answers = answers_by on_ask s.modulus s.frame fits.0;
+    } in
+    (here, numbered_written on_ask r sent fits.1)
 
 numbered_tag :
     (modulus n : ℕ) (state : LinkState) (s : Sent) → IsNumberedSent s
@@ -138,7 +142,8 @@ set_ups_after :
     → fold (told_of (opening h (noting h r) turn)) (noting h r).set_ups turn.told ≡ ended ++ last ∷ []
 set_ups_after {h} {r} {incoming} {turn} e up =
     let n = noting h r in
-    ap (λ (i : Incoming). fold (told_of (opened (mate_of h) i.modulus n.waiting)) n.set_ups turn.told) up.so_far.incoming_is
+    ap (λ (i : Incoming). fold
+    (told_of (opened (mate_of h) i.modulus n.waiting)) n.set_ups turn.told) up.so_far.incoming_is
     ∙ ap (fold (told_of (opened (mate_of h) incoming.modulus n.waiting)) n.set_ups) up.so_far.told_is ∙ e.set_ups
 
 -- it stays up
@@ -192,8 +197,8 @@ releases {h} {r} {y} {to_x} {to_y} {ended} {last} {turn} e none up =
     let x = down_end ReleasingState t.now all in
     let after = end_with t.now all t.now.outgoing.packets in
     let frames = cores_sent false n turn.sent ++ of_end x Disc ∷ [] in
-    let sent : IsSentAs false after t.sent frames =
-    sent_after turn.sent (disc_in m ∷ []) (numbered_sent (length (core_set_ups ended)) (length_of_last ended last) up.fits)
+    let sent : IsSentAs false after t.sent frames = sent_after turn.sent (disc_in m ∷ [])
+    (numbered_sent (length (core_set_ups ended)) (length_of_last ended last) up.fits)
     (setup_sent false after m.incoming.modulus DiscFrame true none refl) in
     let ends : EndsDown h r t ReleasingState all frames = record {
       state_is = refl;
@@ -215,7 +220,7 @@ releases {h} {r} {y} {to_x} {to_y} {ended} {last} {turn} e none up =
     subst (λ fs. Invariant (between x y to_x fs))
     (append_assoc to_y (cores_sent false n turn.sent) (of_end x Disc ∷ [])) (release_keeps (omega arith) left))
 
--- release, where it is time
+-- release, if it is time
 close_keeps :
     {h : Happening} {r : RecordedEnd} {y : End} {to_x to_y : List CoreTagged} {ended : List SetUp} {last : SetUp}
     {told : List Told} {incoming : Incoming} {turn : Turn} → EndsUp h r ended last told incoming
@@ -227,7 +232,8 @@ close_keeps {h} {r} {y} {to_x} {to_y} {turn} e up =
         → Keeps h r y to_x to_y (if b then release turn else turn)
     go true is =
         let parts = and_parts turn.now.control.quit (length turn.now.outgoing.packets == 0) is in
-        releases e (nil_from_length turn.now.outgoing.packets (eqb-true (length turn.now.outgoing.packets) 0 parts.1)) up
+        releases e (nil_from_length turn.now.outgoing.packets
+        (eqb-true (length turn.now.outgoing.packets) 0 parts.1)) up
     go false is = stays_up e up
 
 -- an event of a link that is up ends so

@@ -55,7 +55,7 @@ some_taken x r vr q p ps (Some packet) is some rest h =
     let got = append_assoc q.got (packet ∷ []) (run ps) in
     rw (← got) (rw (← further) (rest packet one))
 
--- one behind another, up to the first place that is empty
+-- one after another, up to the first place that is empty
 pub run_taken :
     (x : End) {y : End} (r : Running) (vr : ℕ) (q : SetUp) (ps : List Place) {to_x to_y : List Tagged} → IsSome q.origin
     → UpInvariant x y (got_so_far vr (stored_from vr ps) q r) to_x to_y
@@ -76,9 +76,10 @@ pub next_taken :
     → UpInvariant (end_behind m ended) y
     (got_so_far (m.incoming.vr + 1) (stored_from (m.incoming.vr + 1) (drop 1 m.incoming.places))
     (got_by (packet ∷ []) (first_origin q.origin tag) q) (running_of m q)) rest to_y
-next_taken m ended q none h = rw (stored_first_empty m.incoming.vr m.incoming.places none) (accept_front_keeps (end_behind m ended) h)
+next_taken m ended q none h = rw (stored_first_empty m.incoming.vr m.incoming.places none)
+    (accept_front_keeps (end_behind m ended) h)
 
--- so by REJ, where V(R) moves on by one
+-- so by REJ, if V(R) moves on by one
 pub one_taken :
     {y : End} (m : Machine) (ended : List SetUp) (q : SetUp) {tag k nr : ℕ} {packet : Packet} {rest to_y : List Tagged}
     → packet_at m.incoming.places 0 ≡ None
@@ -89,7 +90,7 @@ one_taken m ended q none h =
     let i = m.incoming in
     rw (stored_behind (i.vr + 1) 1 (drop 1 i.places)) (next_taken m ended q none h)
 
--- and by SREJ, where V(R) moves on behind those stored that follow
+-- and by SREJ, if V(R) moves on past those stored that follow
 pub run_with_taken :
     {y : End} (m : Machine) (ended : List SetUp) (q : SetUp) {tag k nr : ℕ} {packet : Packet} {rest to_y : List Tagged}
     → packet_at m.incoming.places 0 ≡ None

@@ -115,7 +115,8 @@ spent_outcome {r} {ended} {last} waiting {y} {was} {to_x} {to_y} {turn} u h spen
       sound = subst (λ q. IsSound r.machine.params (empty_incoming 8 (window_in 8 q) q.mode)) (sym h.so_far.params_are)
           (sound_new 8 (inl refl) u.sound.room);
       set_ups = ap (λ t. fold (told_of (opened 0 8 r.waiting)) r.set_ups
-          (t ++ Ended Rattle.link_machine.specs.declared.acts.Why.TheVariants.Failed ∷ [])) h.so_far.told_is ∙ u.set_ups;
+          (t ++ Ended Rattle.link_machine.specs.declared.acts.Why.TheVariants.Failed ∷ [])) h.so_far.told_is
+          ∙ u.set_ups;
       waiting = refl;
       sent = sent_after turn.sent (sent_in own (SetupSent DmFrame false) ∷ [])
           (numbered_sent n (length_of_last ended last) h.fits) (setup_sent false after own DmFrame false refl tt);
@@ -154,8 +155,7 @@ t1_ends (Some left) false {r} waiting {y} {to_x} {to_y} {turn} u h = go (runs_ou
 -- a tick of an end that is up
 pub up_ticks :
     {r : RecordedEnd} {ended : List SetUp} {last : SetUp} (waiting : Bool) {y : End} {to_x to_y : List CoreTagged}
-    → UpEnd r ended last y to_x to_y
-    → Keeps (Ticks waiting) r y to_x to_y (settled (tick waiting (begin r.machine)))
+    → UpEnd r ended last y to_x to_y → Keeps (Ticks waiting) r y to_x to_y (settled (tick waiting (begin r.machine)))
 up_ticks {r} waiting {y} {to_x} {to_y} u =
     let first = t2_keeps r.machine.control.t2 (up_begins u) in
     let turn = tick_t2 (begin r.machine) in
