@@ -7,6 +7,7 @@ use Rattle.tnc_base.specs.Hash.{fnv_1a}
 use Rattle.channel_bench.specs.declared.report.SetUp.{SetUp}
 use Rattle.channel_bench.specs.declared.words.BenchWords.{BenchWords}
 use Rattle.channel_bench.specs.BenchRun.{IsOver}
+use Rattle.channel_bench.specs.KeepsOrder.{KeepsOrder}
 use Rattle.channel_bench.specs.Report.{Report}
 use Rattle.tnc_words.specs.declared.command.BenchOptions.{BenchOptions}
 
@@ -44,8 +45,10 @@ report_text report =
     ++ (codes " lost " ++ (decimal report.lost ++ (10 ∷ (set_up_lines (codes "A") 1 report.a
     ++ set_up_lines (codes "B") 1 report.b))))))))
 
--- The text tells of a run that is over, which the options ask for.
+-- The text tells of a run that is over, which the options ask for. In each set-up a side got a first part of what the other
+-- gave in one set-up of its own, and these come in order.
 pub record IsReportOf (options : BenchOptions) (text : List ℕ) : Type 0 where
   pub report : Report
   pub over : IsOver (words_of options) report
+  pub order : KeepsOrder report
   pub is : text ≡ report_text report
