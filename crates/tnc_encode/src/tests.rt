@@ -2,6 +2,7 @@
 
 use super::encode;
 use std::alloc::Global;
+use std::process::Abort;
 use std::test::Fail;
 use tnc_base::{MemSink, MemSource, fnv};
 use tnc_forms::{Fault, InputFault, LineFault, LineFlaw};
@@ -31,12 +32,17 @@ const WORDS: EncodeWords = EncodeWords {
 /// What is written of an input that comes in pieces of 31 octets, and how the command ends, if the source fails the reads and
 /// the sink the writes of these numbers.
 fn encoded(
+    rt: &impl Abort,
     alloc: Global,
     words: EncodeWords,
     input: &[u8],
     reads: &[u64],
     writes: &[u64],
 ) -> Result<(Vec<u8>, Result<(), Fault>), Fail> {
+    assert!(rt; words.opening >= 2);
+    assert!(rt; words.closing >= 1);
+    assert!(rt; words.level >= 10);
+    assert!(rt; words.level <= 32767);
     let mut source = MemSource::new(input.to_vec(alloc)?, 31, reads.to_vec(alloc)?);
     let mut sink = MemSink::new(alloc, 8192, writes.to_vec(alloc)?)?;
     let end = encode(alloc, words, &mut source, &mut sink);
@@ -74,7 +80,7 @@ fn frames_and_their_samples(rt: HostRuntime) -> Result<(), Fail> {
         (quiet, LINE, 2862, 0x1b64_0697_088c_f578),
         (WORDS, b"", 0, 0xcbf2_9ce4_8422_2325),
     ] {
-        let (written, end) = encoded(rt.alloc(), words, input, &[], &[])?;
+        let (written, end) = encoded(&rt, rt.alloc(), words, input, &[], &[])?;
         assert_eq!(rt; end, Ok(()));
         assert_eq!(rt; written.len(), count);
         assert_eq!(rt; fnv(&written), hash);
@@ -101,7 +107,7 @@ fn what_had_ended_stands_written(rt: HostRuntime) -> Result<(), Fail> {
             2592,
         ),
     ] {
-        let (written, end) = encoded(rt.alloc(), WORDS, input, reads, writes)?;
+        let (written, end) = encoded(&rt, rt.alloc(), WORDS, input, reads, writes)?;
         assert_eq!(rt; end, Err(fault));
         assert_eq!(rt; written.len(), count);
     }
