@@ -14,6 +14,7 @@ ghost use Rattle.tnc_decode.specs.Audio.{samples_of};
 ghost use Rattle.tnc_decode.specs.Modem.{modem_of};
 ghost use Rattle.tnc_decode.specs.Printing.{print};
 ghost use Rattle.channel_bench.specs.BenchRun.{IsOver};
+ghost use Rattle.channel_bench.specs.KeepsOrder.{KeepsOrder};
 ghost use Rattle.channel_bench.specs.Report.{Report};
 ghost use Rattle.tnc_bench.specs.Reported.{report_text, words_of as bench_words};
 ghost use Rattle.tnc_ports.specs.SampledRun.{outside_by};
@@ -102,7 +103,8 @@ pub fn run<
     ensures looped { (loop : LoopWords) → IsLoop (map string_bytes words.now) loop → result ≡ 0 → HeardAsMade loop }
     ensures benched { (bench : BenchOptions) → (before : List ℕ) → IsBench (map string_bytes words.now) bench
         → O.written output.old ≡ Some before → result ≡ 0
-        → (told : Report) × IsOver (bench_words bench) told × (O.written output.new ≡ Some (before ++ report_text told)) }
+        → (told : Report) × IsOver (bench_words bench) told × KeepsOrder told
+        × (O.written output.new ≡ Some (before ++ report_text told)) }
     ensures served { (options : ServeOptions) → IsServe (map string_bytes words.now) options
         → (status : Status) × (result ≡ code_of status)
         × RunsLive options status (input_by I.left I.faults input.old) (input_by I.left I.faults input.new)

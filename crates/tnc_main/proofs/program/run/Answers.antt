@@ -87,7 +87,7 @@ returns-in-Ok-clause-benched g c = λ bench before is was zero.
     let told : Makes c.in-Ok.command [] made.0 =
     subst (λ status. Writes c.in-Ok.command [] (g.I.Source.left c.perform-end.new.input) status made.0) (sym done) made.1 in
     let report : IsReportOf bench made.0 = subst (λ command. Makes command [] made.0) same told in
-    (report.report, report.over, made.2 ∙ ap (λ t. Some (before ++ t)) report.is)
+    (report.report, report.over, report.order, made.2 ∙ ap (λ t. Some (before ++ t)) report.is)
 
 pub returns-in-Ok-clause-unread : goal.returns-in-Ok-clause-unread
 returns-in-Ok-clause-unread g c = λ command asked none.
