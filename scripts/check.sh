@@ -118,6 +118,13 @@ decodes_wide() {
         && [ -z "$(sort "$1.frames" | comm -23 - <(sort "$room/raw.lines"))" ]
 }
 
+# RECORDING: 23 lanes hear each frame that eight hear, with threads as without.
+decodes_sensitively() {
+    "$tnc" decode --sensitive <"$1.raw" >"$room/more.lines" \
+        && "$tnc" decode --sensitive --threads <"$1.raw" | cmp -s - "$room/more.lines" \
+        && [ -z "$("$tnc" decode <"$1.raw" | sort | comm -23 - <(sort "$room/more.lines"))" ]
+}
+
 # FRAMES WORDS..: what encode sends at 300 bits a second is heard there, in order, and no frame of it at 1200.
 comes_back_on_short_wave() {
     "$tnc" encode --hf "${@:2}" <"$1" >"$room/hf.raw" \
@@ -340,6 +347,7 @@ for raw in samples/*.raw; do
     of=${raw%.raw}
     check "decode of $raw" decodes "$of"
     check "decode --kiss of $raw, and back" decodes_through_kiss "$of"
+    check "decode --sensitive of $raw" decodes_sensitively "$of"
     for size in 1 3 2047 4097; do
         check "decode of $raw in pieces of $size" decodes_pieces "$of" "$size"
     done
@@ -438,7 +446,7 @@ fi
 # Words that are refused, and streams that fail.
 check "a word that is no command" is_refused decod
 check "no word" is_refused
-for words in "decode --rate 44100" "decode --hf --threads" "decode --hf --rate 48000" "decode --wav=yes" \
+for words in "decode --rate 44100" "decode --hf --threads" "decode --hf --rate 48000" "decode --hf --sensitive" "decode --sensitive --rate 48000" "decode --wav=yes" \
     "decode recording.raw" "help nothing" "version 1" "bench" "bench --seed 7 --loss 91" "encode --opening 1" "encode --silence 1000001" "encode --level 9" "encode --level 32768" "show --modulo 16" "loop --seed 7" "loop --seed 7 --frames 1001"; do
     check "$words" is_refused $words
 done

@@ -16,7 +16,7 @@ use Rattle.tnc_words.specs.declared.command.AudioForm.{AudioForm}
 use Rattle.tnc_words.specs.declared.command.AudioForm.TheVariants.{Raw, Wav}
 use Rattle.tnc_words.specs.declared.command.DecodeWords.{DecodeWords}
 use Rattle.tnc_words.specs.declared.command.Receiving.{Receiving}
-use Rattle.tnc_words.specs.declared.command.Receiving.TheVariants.{Standard, ShortWave}
+use Rattle.tnc_words.specs.declared.command.Receiving.TheVariants.{Standard, Sensitive, ShortWave}
 use Rattle.tnc_decode.specs.declared.audio.Audio.{Audio}
 use Rattle.tnc_decode.specs.declared.audio.Audio.TheVariants.{Pcm, File}
 use Rattle.tnc_decode.specs.Audio.{rates_of, samples_at, samples_of, stopping_fault_at, form_fault_at, fault_in_verdict}
@@ -248,4 +248,5 @@ modem_stays words octets more = by_words words.receiving words.audio
         → (modem_for receiving form (octets ++ more) ≡ modem_for receiving form octets) ⊎ (samples_at (rates_of receiving) form octets ≡ [])
     by_words (Standard rate) Raw = inl refl
     by_words (Standard rate) Wav = of_file (rate_in NarrowOrWide octets) refl
+    by_words Sensitive form = inl refl
     by_words ShortWave form = inl refl

@@ -1,6 +1,7 @@
 pub mod WavFaults
 pub mod AudioLemmas
 pub mod ModemLemmas
+pub mod SensitiveLemmas
 pub mod SettledLemmas
 pub mod ReceiverLemmas
 pub mod DecodedLemmas

@@ -1,6 +1,5 @@
 -- What every modem has: samples have one list of candidates, and more samples change nothing of what is settled.
 use Rattle.std.proofs.Common.{◌≡◌, ℕ, ◌+◌, ◌/◌, ◌^◌, ◌<◌, ◌≤◌, ℤ, List, [], ◌++◌, length, refl, ap, sym, ◌∙◌, arith, length-append}
-use Rattle.std.specs.List.{All}
 use Rattle.std.specs.List.Sorted.{IsNonDecreasingBy}
 use Rattle.std.proofs.lemmas.List.{append_cancel_left}
 use Rattle.frame_merge.specs.declared.candidate.Candidate.{Candidate}
@@ -11,7 +10,7 @@ use Rattle.frame_merge.proofs.Forgetting.{below_then_rest}
 use Rattle.slicer_bank.specs.MergedItems.{AreMerged, AreMergedBetween}
 use Rattle.slicer_bank.proofs.CandidateLemmas.{candidates_none}
 use Rattle.slicer_bank.proofs.MergingLemmas.{is_in_order}
-use Rattle.slicer_bank.proofs.MergedLemmas.{all, join, given_still, between_between}
+use Rattle.slicer_bank.proofs.MergedLemmas.{all, given_still}
 use Rattle.slicer_bank.proofs.OneList.{one_list}
 use Rattle.slicer_bank.proofs.SomeList.{some_list}
 use Rattle.hf_modem.specs.MergedItems.{AreMerged as AreHfMerged, AreMergedBetween as AreHfMergedBetween}
@@ -19,6 +18,9 @@ use Rattle.hf_modem.proofs.CandidateLemmas.{candidates_none as no_hf}
 use Rattle.hf_modem.proofs.MergedLemmas.{is_in_order as hf_in_order, given_still as hf_still, all as hf_all}
 use Rattle.hf_modem.proofs.OneList.{one_list as one_hf}
 use Rattle.hf_modem.proofs.SomeList.{some_list as some_hf}
+use Rattle.sensitive_receiver.proofs.HeardLemmas.{none_heard as no_sensitive}
+use Rattle.sensitive_receiver.proofs.MergedLemmas.{one_list as one_sensitive, rising_heard as rising_sensitive, below_still as sensitive_still}
+use Rattle.sensitive_receiver.proofs.SomeList.{some_list as some_sensitive}
 use Rattle.wide_input.specs.Streams.{least_count}
 use Rattle.wide_input.specs.MergedItems.{AreWideMergedBetween, AreWideRest}
 use Rattle.wide_input.proofs.StreamLemmas.{least_count-is}
@@ -29,7 +31,7 @@ use Rattle.hf_modem.specs.HeldDecoder.{HeldDecoder as HeldHf, StandsFor as HfSta
 use Rattle.wide_input.specs.Held.{HeldWide, StandsFor as BankStandsFor}
 use Rattle.tnc_decode.specs.declared.decoders.Decoders.TheVariants.{Plain as PlainDecoder, Wide as WideDecoder, ShortWave as ShortWaveDecoder}
 use Rattle.tnc_decode.specs.declared.modem.Modem.{Modem}
-use Rattle.tnc_decode.specs.declared.modem.Modem.TheVariants.{Plain, Wide, ShortWave}
+use Rattle.tnc_decode.specs.declared.modem.Modem.TheVariants.{Plain, Wide, Sensitive, ShortWave}
 use Rattle.tnc_decode.specs.Held.{HasDecoded}
 use Rattle.tnc_decode.specs.Modem.{AreHeard, settled_count, AreGivenBetween, AreGivenBelow, AreGivenRest}
 
@@ -39,27 +41,32 @@ use Rattle.tnc_decode.specs.Modem.{AreHeard, settled_count, AreGivenBetween, Are
 pub none_heard : (modem : Modem) → AreHeard modem [] []
 none_heard Plain = candidates_none []
 none_heard Wide = no_wide
+none_heard Sensitive = no_sensitive
 none_heard ShortWave = no_hf []
 
 pub one_heard : (modem : Modem) (x : List ℤ) (items others : List Candidate) → AreHeard modem x items → AreHeard modem x others → items ≡ others
 one_heard Plain x items others a b = one_list x items others a b
 one_heard Wide x items others a b = one_wide x items others a b
+one_heard Sensitive x items others a b = one_sensitive x items others a b
 one_heard ShortWave x items others a b = one_hf x items others a b
 
 pub some_heard : (modem : Modem) (x : List ℤ) → (items : List Candidate) × AreHeard modem x items
 some_heard Plain x = some_list x
 some_heard Wide x = some_wide x
+some_heard Sensitive x = some_sensitive x
 some_heard ShortWave x = some_hf x
 
 -- the merged candidates do not fall in their ends
 pub rising_heard : (modem : Modem) (x : List ℤ) (items : List Candidate) → AreHeard modem x items → IsNonDecreasingBy (λ y. y.end) (merged items)
 rising_heard Plain x items are = merged-rising (λ y. y.end) [] items (rising_ends items (is_in_order x items are))
 rising_heard Wide x items are = rising_wide x items are
+rising_heard Sensitive x items are = rising_sensitive x items are
 rising_heard ShortWave x items are = merged-rising (λ y. y.end) [] items (rising_ends items (hf_in_order x items are))
 
 pub none_settled : (modem : Modem) → settled_count modem [] ≡ 0
 none_settled Plain = refl
 none_settled Wide = refl
+none_settled Sensitive = refl
 none_settled ShortWave = refl
 
 -- more samples settle no less, and no more than they are
@@ -70,10 +77,11 @@ settled_rises Wide x y =
     let more = least_count-is (x ++ y) in
     let size = length-append x y in
     (omega arith, omega arith)
+settled_rises Sensitive x y = let size = length-append x y in (omega arith, omega arith)
 settled_rises ShortWave x y = let size = length-append x y in (omega arith, omega arith)
 
 -- where all end at or after 0, the part from 0 is the part below
-from_zero : (to : ℕ) (items : List Candidate) → between 0 to items ≡ below to items
+pub from_zero : (to : ℕ) (items : List Candidate) → between 0 to items ≡ below to items
 from_zero to items = between_all 0 to items (λ k d l. omega arith)
 
 pub still_heard : (modem : Modem) (to : ℕ) (x y : List ℤ) (items whole : List Candidate) → to ≤ settled_count modem x → AreHeard modem x items → AreHeard modem (x ++ y) whole
@@ -83,6 +91,7 @@ still_heard Plain to x y items whole within are all_are =
     ∙ given_still 0 to x y (between 0 to (merged items)) whole within (record { candidates = items; are = are; is = refl }) all_are
     ∙ from_zero to (merged whole)
 still_heard Wide to x y items whole within are all_are = sym (below_still to x y items whole within are all_are)
+still_heard Sensitive to x y items whole within are all_are = sensitive_still x y items whole are all_are to within
 still_heard ShortWave to x y items whole within are all_are =
     sym (from_zero to (merged items))
     ∙ hf_still 0 to x y (between 0 to (merged items)) whole within (record { candidates = items; are = are; is = refl }) all_are
@@ -120,6 +129,7 @@ pub plain_block : (old new : HeldDecoder) (block : List ℤ) (items : List Candi
     → HasDecoded modem (PlainDecoder new) (x ++ block) × AreGivenBetween modem (settled_count modem x) (settled_count modem (x ++ block)) (x ++ block) items
 plain_block old new block items given Plain x h = let g = given x h in (g.0, given_plain (length x) (length (x ++ block)) (x ++ block) items g.1)
 plain_block old new block items given Wide x h = absurd h
+plain_block old new block items given Sensitive x h = absurd h
 plain_block old new block items given ShortWave x h = absurd h
 
 pub wide_block : (old new : HeldWide) (block : List ℤ) (items : List Candidate)
@@ -127,6 +137,7 @@ pub wide_block : (old new : HeldWide) (block : List ℤ) (items : List Candidate
     → (modem : Modem) (x : List ℤ) → HasDecoded modem (WideDecoder old) x
     → HasDecoded modem (WideDecoder new) (x ++ block) × AreGivenBetween modem (settled_count modem x) (settled_count modem (x ++ block)) (x ++ block) items
 wide_block old new block items given Plain x h = absurd h
+wide_block old new block items given Sensitive x h = absurd h
 wide_block old new block items given ShortWave x h = absurd h
 wide_block old new block items given Wide x h = let g = given x h in (g.0, given_wide (least_count x) (least_count (x ++ block)) (x ++ block) items g.1)
 
@@ -135,12 +146,14 @@ pub plain_finish : (old : HeldDecoder) (items : List Candidate) → old.position
     → (modem : Modem) (x : List ℤ) → HasDecoded modem (PlainDecoder old) x → AreGivenRest modem (settled_count modem x) x items
 plain_finish old items room rest Plain x h = rest_plain x items (rest x (let count = h.count in omega arith) h)
 plain_finish old items room rest Wide x h = absurd h
+plain_finish old items room rest Sensitive x h = absurd h
 plain_finish old items room rest ShortWave x h = absurd h
 
 pub wide_finish : (old : HeldWide) (items : List Candidate)
     → ((x : List ℤ) → BankStandsFor old x → AreWideRest (least_count x) x items)
     → (modem : Modem) (x : List ℤ) → HasDecoded modem (WideDecoder old) x → AreGivenRest modem (settled_count modem x) x items
 wide_finish old items rest Plain x h = absurd h
+wide_finish old items rest Sensitive x h = absurd h
 wide_finish old items rest ShortWave x h = absurd h
 wide_finish old items rest Wide x h = rest_wide x items (rest x h)
 
@@ -168,6 +181,7 @@ pub short_wave_block : (old new : HeldHf) (block : List ℤ) (items : List Candi
     → HasDecoded modem (ShortWaveDecoder new) (x ++ block) × AreGivenBetween modem (settled_count modem x) (settled_count modem (x ++ block)) (x ++ block) items
 short_wave_block old new block items given Plain x h = absurd h
 short_wave_block old new block items given Wide x h = absurd h
+short_wave_block old new block items given Sensitive x h = absurd h
 short_wave_block old new block items given ShortWave x h =
     let g = given x h in (g.0, given_short_wave (length x / 4) (length (x ++ block) / 4) (x ++ block) items g.1)
 
@@ -176,6 +190,7 @@ pub short_wave_finish : (old : HeldHf) (items : List Candidate) → old.position
     → (modem : Modem) (x : List ℤ) → HasDecoded modem (ShortWaveDecoder old) x → AreGivenRest modem (settled_count modem x) x items
 short_wave_finish old items room rest Plain x h = absurd h
 short_wave_finish old items room rest Wide x h = absurd h
+short_wave_finish old items room rest Sensitive x h = absurd h
 short_wave_finish old items room rest ShortWave x h = rest_short_wave x items (rest x (let count = h.count in omega arith) h)
 
 -- ---- of all

@@ -13,7 +13,7 @@ use Rattle.tnc_words.specs.declared.command.AudioForm.{AudioForm}
 use Rattle.tnc_words.specs.declared.command.AudioForm.TheVariants.{Raw, Wav}
 use Rattle.tnc_words.specs.declared.command.DecodeWords.{DecodeWords}
 use Rattle.tnc_words.specs.declared.command.Receiving.{Receiving}
-use Rattle.tnc_words.specs.declared.command.Receiving.TheVariants.{Standard, ShortWave}
+use Rattle.tnc_words.specs.declared.command.Receiving.TheVariants.{Standard, Sensitive, ShortWave}
 
 -- ---- of a form, where a WAV file may have some rates
 
@@ -49,6 +49,7 @@ audio_fault_at rates form octets =
 -- the rates that a WAV file may have
 abbrev pub rates_of : Receiving → Rates
 rates_of (Standard rate) = NarrowOrWide
+rates_of Sensitive = Narrow
 rates_of ShortWave = Narrow
 
 -- the samples of the input of words

@@ -4,6 +4,7 @@ use Rattle.tnc_base.specs.Streams.{WrotePart}
 use Rattle.slicer_bank.specs.HeldDecoder.{StandsFor as DecoderStandsFor}
 use Rattle.wide_input.specs.Held.{StandsFor as BankStandsFor}
 use Rattle.hf_modem.specs.HeldDecoder.{StandsFor as HfStandsFor}
+use Rattle.sensitive_receiver.specs.HeldDecoder.{StandsFor as SensitiveStandsFor}
 use Rattle.wav_file.specs.declared.rates.Rates.{Rates}
 use Rattle.wav_file.specs.Held.{StandsFor as FileStandsFor}
 use Rattle.wav_file.specs.Reading.{fault_in}
@@ -13,9 +14,10 @@ use Rattle.tnc_words.specs.declared.command.DecodeWords.{DecodeWords}
 use Rattle.tnc_decode.specs.declared.audio.Audio.{Audio}
 use Rattle.tnc_decode.specs.declared.audio.Audio.TheVariants.{Pcm, File}
 use Rattle.tnc_decode.specs.declared.decoders.Decoders.{Decoders}
-use Rattle.tnc_decode.specs.declared.decoders.Decoders.TheVariants.{Plain, Wide, ShortWave}
+use Rattle.tnc_decode.specs.declared.decoders.Decoders.TheVariants.{Plain, Wide, Sensitive, ShortWave}
 use Rattle.tnc_decode.specs.declared.modem.Modem.{Modem}
-use Rattle.tnc_decode.specs.declared.modem.Modem.TheVariants.{Plain as PlainModem, Wide as WideModem, ShortWave as ShortWaveModem}
+use Rattle.tnc_decode.specs.declared.modem.Modem.TheVariants.{Plain as PlainModem, Wide as WideModem, Sensitive as SensitiveModem}
+use Rattle.tnc_decode.specs.declared.modem.Modem.TheVariants.{ShortWave as ShortWaveModem}
 use Rattle.tnc_decode.specs.declared.receiver.Receiver.{Receiver}
 use Rattle.tnc_decode.specs.Audio.{rates_of, samples_of}
 use Rattle.tnc_decode.specs.Modem.{modem_of}
@@ -40,6 +42,7 @@ HasTaken words audio octets = HasTakenAt (rates_of words.receiving) words.audio 
 abbrev pub HasDecoded : Modem → Decoders → List ℤ → Type 0
 HasDecoded PlainModem (Plain decoder) x = DecoderStandsFor decoder x
 HasDecoded WideModem (Wide bank) x = BankStandsFor bank x
+HasDecoded SensitiveModem (Sensitive decoder) x = SensitiveStandsFor decoder x
 HasDecoded ShortWaveModem (ShortWave decoder) x = HfStandsFor decoder x
 HasDecoded modem decoder x = ⊥
 
@@ -47,11 +50,13 @@ HasDecoded modem decoder x = ⊥
 abbrev pub position_of : Decoders → ℕ
 position_of (Plain decoder) = decoder.position
 position_of (Wide bank) = bank.position
+position_of (Sensitive decoder) = decoder.position
 position_of (ShortWave decoder) = decoder.position
 
 abbrev pub finished_of : Decoders → Bool
 finished_of (Plain decoder) = decoder.finished
 finished_of (Wide bank) = bank.finished
+finished_of (Sensitive decoder) = decoder.finished
 finished_of (ShortWave decoder) = decoder.finished
 
 -- the receiver was given these octets, and has written this text

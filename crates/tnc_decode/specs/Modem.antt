@@ -4,6 +4,8 @@ use Rattle.frame_merge.specs.declared.candidate.Candidate.{Candidate}
 use Rattle.frame_merge.specs.Merged.{merged, below, between, not_below}
 use Rattle.slicer_bank.specs.Candidates.{AreCandidates}
 use Rattle.hf_modem.specs.Candidates.{AreCandidates as AreHfCandidates}
+use Rattle.sensitive_receiver.specs.Candidates.{AreHeard as AreSensitiveCandidates}
+use Rattle.sensitive_receiver.specs.MergedItems.{settled}
 use Rattle.wide_input.specs.Streams.{least_count}
 use Rattle.wide_input.specs.Candidates.{AreWideCandidates}
 use Rattle.wav_file.specs.declared.rates.Rates.TheVariants.{NarrowOrWide}
@@ -12,11 +14,12 @@ use Rattle.tnc_words.specs.declared.command.AudioForm.{AudioForm}
 use Rattle.tnc_words.specs.declared.command.AudioForm.TheVariants.{Raw, Wav}
 use Rattle.tnc_words.specs.declared.command.DecodeWords.{DecodeWords}
 use Rattle.tnc_words.specs.declared.command.Receiving.{Receiving}
-use Rattle.tnc_words.specs.declared.command.Receiving.TheVariants.{Standard, ShortWave as OnShortWave}
+use Rattle.tnc_words.specs.declared.command.Receiving.TheVariants.{Standard, Sensitive as AskedSensitive}
+use Rattle.tnc_words.specs.declared.command.Receiving.TheVariants.{ShortWave as OnShortWave}
 use Rattle.tnc_words.specs.declared.command.SampleRate.{SampleRate}
 use Rattle.tnc_words.specs.declared.command.SampleRate.TheVariants.{Narrow, Wide as WideRate}
 use Rattle.tnc_decode.specs.declared.modem.Modem.{Modem}
-use Rattle.tnc_decode.specs.declared.modem.Modem.TheVariants.{Plain, Wide, ShortWave}
+use Rattle.tnc_decode.specs.declared.modem.Modem.TheVariants.{Plain, Wide, Sensitive, ShortWave}
 
 -- ---- which one hears
 
@@ -33,6 +36,7 @@ modem_of_file (Some rate) = if rate == 48000 then Wide else Plain
 abbrev pub modem_for : Receiving → AudioForm → List ℕ → Modem
 modem_for (Standard rate) Raw octets = modem_of_rate rate
 modem_for (Standard rate) Wav octets = modem_of_file (rate_in NarrowOrWide octets)
+modem_for AskedSensitive form octets = Sensitive
 modem_for OnShortWave form octets = ShortWave
 
 -- the modem that hears the input of words
@@ -45,12 +49,14 @@ modem_of words octets = modem_for words.receiving words.audio octets
 abbrev pub AreHeard : Modem → List ℤ → List Candidate → Type 0
 AreHeard Plain x items = AreCandidates x items
 AreHeard Wide x items = AreWideCandidates x items
+AreHeard Sensitive x items = AreSensitiveCandidates x items
 AreHeard ShortWave x items = AreHfCandidates x items
 
 -- what ends below this position is settled by the samples, whatever follows
 abbrev pub settled_count : Modem → List ℤ → ℕ
 settled_count Plain x = length x
 settled_count Wide x = least_count x
+settled_count Sensitive x = settled (length x)
 settled_count ShortWave x = length x / 4
 
 -- the items are those of the samples' merged candidates that end from one position to below another

@@ -13,7 +13,8 @@ pub record IsPrintBelow (position : ℕ) (words : DecodeWords) (octets text : Li
   pub are : AreGivenBelow (modem_of words octets) position (samples_of words octets) items
   pub is : text ≡ print words.frames (frames_of items)
 
--- how many samples these octets have, as their modem counts them: of several streams those of the least
+-- how many samples these octets have, as their modem counts them: of several streams those of the least, by 23 lanes 17
+-- fewer
 abbrev pub sample_count : DecodeWords → List ℕ → ℕ
 sample_count words octets = settled_count (modem_of words octets) (samples_of words octets)
 

@@ -47,6 +47,7 @@ impl Audio {
     {
         let rate = match receiving {
             Receiving::Standard { rate } => rate,
+            Receiving::Sensitive => return Modem::Sensitive,
             Receiving::ShortWave => return Modem::ShortWave,
         };
         match self {
@@ -99,7 +100,7 @@ fn new_file(receiving: Receiving) -> WavIn
 {
     match receiving {
         Receiving::Standard { .. } => WavIn::any_rate(),
-        Receiving::ShortWave => WavIn::new(),
+        Receiving::Sensitive | Receiving::ShortWave => WavIn::new(),
     }
 }
 

@@ -7,6 +7,7 @@ ghost use Rattle.tnc_decode.specs.Held.{HasDecoded, position_of, finished_of};
 use crate::modem::Modem;
 use frame_merge::Candidate;
 use hf_modem::HfDecoder;
+use sensitive_receiver::SensitiveDecoder;
 use slicer_bank::{Decoder, OpenGate};
 use std::alloc::Global;
 use std::thread::Threads;
@@ -18,6 +19,7 @@ use wide_input::WideBank;
 pub(crate) enum Decoders {
     Plain(Decoder),
     Wide(WideBank),
+    Sensitive(SensitiveDecoder),
     ShortWave(HfDecoder),
 }
 
@@ -31,6 +33,7 @@ impl Decoders {
         match modem {
             Modem::Plain => Ok(Decoders::Plain(Decoder::new(alloc)?)),
             Modem::Wide => Ok(Decoders::Wide(WideBank::new(alloc)?)),
+            Modem::Sensitive => Ok(Decoders::Sensitive(SensitiveDecoder::new(alloc)?)),
             Modem::ShortWave => Ok(Decoders::ShortWave(HfDecoder::new(alloc)?)),
         }
     }
@@ -42,6 +45,7 @@ impl Decoders {
         match self {
             Decoders::Plain(_) => Modem::Plain,
             Decoders::Wide(_) => Modem::Wide,
+            Decoders::Sensitive(_) => Modem::Sensitive,
             Decoders::ShortWave(_) => Modem::ShortWave,
         }
     }
@@ -67,6 +71,8 @@ impl Decoders {
             Decoders::Plain(decoder) => decoder.block(block),
             Decoders::Wide(bank) if threads => bank.block_threads(rt, block, &OpenGate),
             Decoders::Wide(bank) => bank.block(block),
+            Decoders::Sensitive(decoder) if threads => decoder.block_threads(rt, block, &OpenGate),
+            Decoders::Sensitive(decoder) => decoder.block(block),
             Decoders::ShortWave(decoder) => decoder.block(block),
         }
     }
@@ -80,6 +86,7 @@ impl Decoders {
         match self {
             Decoders::Plain(decoder) => decoder.finish(),
             Decoders::Wide(bank) => bank.finish(),
+            Decoders::Sensitive(decoder) => decoder.finish(),
             Decoders::ShortWave(decoder) => decoder.finish(),
         }
     }

@@ -11,6 +11,8 @@ pub enum Modem {
     Plain,
     /// 1200 bits a second, at 48,000 samples a second.
     Wide,
+    /// 1200 bits a second, at 9600 samples a second, by 23 lanes.
+    Sensitive,
     /// 300 bits a second on short wave, at 9600 samples a second.
     ShortWave,
 }

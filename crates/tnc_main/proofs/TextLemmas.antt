@@ -15,7 +15,7 @@ use Rattle.tnc_forms.specs.Reading.{input_limit}
 use Rattle.tnc_decode.specs.Audio.{samples_of}
 use Rattle.hf_signal.proofs.Law.{near_law as hf_near_law}
 use Rattle.tnc_decode.specs.declared.modem.Modem.{Modem}
-use Rattle.tnc_decode.specs.declared.modem.Modem.TheVariants.{Plain, Wide, ShortWave}
+use Rattle.tnc_decode.specs.declared.modem.Modem.TheVariants.{Plain, Wide, Sensitive, ShortWave}
 use Rattle.tnc_decode.specs.Modem.{modem_of, AreHeard}
 use Rattle.tnc_decode.specs.Decoded.{IsDecoded}
 use Rattle.tnc_decode.specs.Printing.{print}
@@ -25,6 +25,7 @@ use Rattle.tnc_encode.proofs.EndedLemmas.{fault_kept}
 use Rattle.tnc_main.specs.Clean.{IsNearlyClean}
 use Rattle.tnc_main.specs.Commands.{Reads, fault_of}
 use Rattle.tnc_main.specs.Parts.{WritesAtEnd}
+use Rattle.sensitive_receiver.proofs.SignalLaw.{near_law as all_lanes_law}
 
 -- an input with too many octets is refused for that by a command that reads all of it first
 pub long_fault : (command : Command) (left : Option (List ℕ)) (octets : List ℕ) → WritesAtEnd command → Reads command left octets
@@ -53,6 +54,7 @@ near_merges : (modem : Modem) (x : List ℤ) (received : List Received) → IsNe
     → map (λ item. item.octets) (merged items) ≡ frames_of (transmissions_of received)
 near_merges Plain x received clean = near_law received x clean.each clean.near clean.no_stray
 near_merges Wide x received clean = near_stream_law clean.number received x clean.within clean.each clean.near clean.no_stray
+near_merges Sensitive x received clean = all_lanes_law received x clean.each clean.near clean.none_stray
 near_merges ShortWave x received clean = hf_near_law received x clean.each clean.near clean.no_stray
 
 pub near_text : (words : DecodeWords) (received : List Received) (octets text : List ℕ) → IsNearlyClean (modem_of words octets) (samples_of words octets) received

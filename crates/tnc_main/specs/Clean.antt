@@ -5,10 +5,11 @@ use Rattle.clean_signal.specs.NearSignal.{Received, IsReceived, IsNearAll, trans
 use Rattle.clean_signal.specs.Stray.{NoStray}
 use Rattle.hf_signal.specs.NearSignal.{IsReceived as IsHfReceived, IsNearAll as IsHfNearAll}
 use Rattle.hf_signal.specs.Stray.{NoStray as NoHfStray}
+use Rattle.sensitive_receiver.specs.Stray.{NoneStray}
 use Rattle.wide_input.specs.Streams.{stream}
 use Rattle.wide_input.specs.Stray.{NoWideStray}
 use Rattle.tnc_decode.specs.declared.modem.Modem.{Modem}
-use Rattle.tnc_decode.specs.declared.modem.Modem.TheVariants.{Plain, Wide, ShortWave}
+use Rattle.tnc_decode.specs.declared.modem.Modem.TheVariants.{Plain, Wide, Sensitive, ShortWave}
 
 -- the samples are near what these transmissions give, each from a phase and at a level of its own, and none of their
 -- candidates is stray
@@ -25,6 +26,12 @@ pub record IsCleanInStream (x : List ℤ) (received : List Received) : Type 0 wh
   pub near : IsNearAll received (stream number x)
   pub no_stray : NoWideStray number (transmissions_of received) x
 
+-- the samples are near what these transmissions give, and no candidate of any of the 23 lanes is stray
+pub record IsCleanOnAllLanes (x : List ℤ) (received : List Received) : Type 0 where
+  pub each : All IsReceived received
+  pub near : IsNearAll received x
+  pub none_stray : NoneStray (transmissions_of received) x
+
 -- the same on short wave
 pub record IsCleanOnShortWave (x : List ℤ) (received : List Received) : Type 0 where
   pub each : All IsHfReceived received
@@ -35,4 +42,5 @@ pub record IsCleanOnShortWave (x : List ℤ) (received : List Received) : Type 0
 abbrev pub IsNearlyClean : Modem → List ℤ → List Received → Type 0
 IsNearlyClean Plain x received = IsClean x received
 IsNearlyClean Wide x received = IsCleanInStream x received
+IsNearlyClean Sensitive x received = IsCleanOnAllLanes x received
 IsNearlyClean ShortWave x received = IsCleanOnShortWave x received

@@ -10,7 +10,7 @@ use Rattle.tnc_words.specs.declared.command.Command.{Command}
 use Rattle.tnc_words.specs.declared.command.Command.TheVariants.{Decode, Encode, Show, Loop, Bench, Serve, Help, Version}
 use Rattle.tnc_words.specs.declared.command.DecodeWords.{DecodeWords}
 use Rattle.tnc_words.specs.declared.command.Receiving.{Receiving}
-use Rattle.tnc_words.specs.declared.command.Receiving.TheVariants.{Standard, ShortWave}
+use Rattle.tnc_words.specs.declared.command.Receiving.TheVariants.{Standard, Sensitive, ShortWave}
 use Rattle.tnc_words.specs.declared.command.SampleRate.{SampleRate}
 use Rattle.tnc_words.specs.declared.command.SampleRate.TheVariants.{Narrow, Wide}
 use Rattle.tnc_words.specs.declared.command.EncodeWords.{EncodeWords}
@@ -49,9 +49,14 @@ one_rate Wide Narrow h = absurd (narrow_is_not 48000 refl (sym h))
 one_rate Wide Wide h = refl
 
 one_receiving : (found : List Row) (receiving other : Receiving) → HasReceiving found receiving → HasReceiving found other → receiving ≡ other
-one_receiving found (Standard rate) (Standard other) h k = ap Standard (one_rate rate other (one_number _ _ _ _ _ _ h.1 k.1))
+one_receiving found (Standard rate) (Standard other) h k = ap Standard (one_rate rate other (one_number _ _ _ _ _ _ h.2 k.2))
+one_receiving found (Standard rate) Sensitive h k = absurd (true≢false (sym k.1 ∙ h.1))
 one_receiving found (Standard rate) ShortWave h k = absurd (true≢false (sym k.0 ∙ h.0))
+one_receiving found Sensitive (Standard other) h k = absurd (true≢false (sym h.1 ∙ k.1))
+one_receiving found Sensitive Sensitive h k = refl
+one_receiving found Sensitive ShortWave h k = absurd (true≢false (sym k.0 ∙ h.0))
 one_receiving found ShortWave (Standard other) h k = absurd (true≢false (sym h.0 ∙ k.0))
+one_receiving found ShortWave Sensitive h k = absurd (true≢false (sym h.0 ∙ k.0))
 one_receiving found ShortWave ShortWave h k = refl
 
 -- ---- what was found gives one set of options

@@ -4,7 +4,7 @@ use Rattle.clap.specs.Words.{Row, first_of}
 use Rattle.tnc_words.specs.declared.command.SampleRate.{SampleRate}
 use Rattle.tnc_words.specs.declared.command.SampleRate.TheVariants.{Narrow, Wide}
 use Rattle.tnc_words.specs.declared.command.Receiving.{Receiving}
-use Rattle.tnc_words.specs.declared.command.Receiving.TheVariants.{Standard, ShortWave}
+use Rattle.tnc_words.specs.declared.command.Receiving.TheVariants.{Standard, Sensitive, ShortWave}
 use Rattle.tnc_words.specs.Numbers.{HasNumber}
 use Rattle.tnc_words.specs.Options.{is_used}
 
@@ -17,7 +17,12 @@ samples_a_second Wide = 48000
 abbrev pub HasRate : List Row → SampleRate → Type 0
 HasRate found rate = HasNumber (first_of (codes "rate") found) 9600 9600 48000 (samples_a_second rate)
 
--- [--hf], by 9600 samples a second and without threads
+-- [--hf] or [--sensitive], both at 9600 samples a second, and the first without threads
 abbrev pub HasReceiving : List Row → Receiving → Type 0
-HasReceiving found (Standard rate) = (is_used (codes "hf") found ≡ false) × HasRate found rate
-HasReceiving found ShortWave = (is_used (codes "hf") found ≡ true) × (is_used (codes "threads") found ≡ false) × HasRate found Narrow
+HasReceiving found (Standard rate) =
+    (is_used (codes "hf") found ≡ false) × (is_used (codes "sensitive") found ≡ false) × HasRate found rate
+HasReceiving found Sensitive =
+    (is_used (codes "hf") found ≡ false) × (is_used (codes "sensitive") found ≡ true) × HasRate found Narrow
+HasReceiving found ShortWave =
+    (is_used (codes "hf") found ≡ true) × (is_used (codes "sensitive") found ≡ false)
+    × (is_used (codes "threads") found ≡ false) × HasRate found Narrow

@@ -53,15 +53,13 @@ fn receiving(found: &ArgMatches) -> Option<Receiving>
     ensures none { IsNone result → (receiving : Receiving) → ¬ HasReceiving (rows_of (found_of found.now)) receiving }
 {
     let rate = sample_rate(text_of(found, "rate"))?;
-    if !has_flag(found, "hf") {
-        return Some(Receiving::Standard { rate });
-    }
-    if has_flag(found, "threads") {
-        return None;
-    }
-    match rate {
-        SampleRate::Narrow => Some(Receiving::ShortWave),
-        SampleRate::Wide => None,
+    match (has_flag(found, "hf"), has_flag(found, "sensitive"), rate) {
+        (false, false, rate) => Some(Receiving::Standard { rate }),
+        (false, true, SampleRate::Narrow) => Some(Receiving::Sensitive),
+        (true, false, SampleRate::Narrow) if !has_flag(found, "threads") => Some(
+            Receiving::ShortWave,
+        ),
+        (false, true, SampleRate::Wide) | (true, _, _) => None,
     }
 }
 

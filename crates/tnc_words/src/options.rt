@@ -7,13 +7,14 @@ ghost use Rattle.tnc_words.specs.Options.{flag_rule, needed_rule, option_rule, w
 use clap::{Arg, ArgAction, Command};
 use std::alloc::{AllocError, Global};
 
-/// `decode` with its four flags and its rate.
+/// `decode` with its five flags and its rate.
 pub(crate) fn decode_command<'a>(alloc: Global) -> Result<Command<'a>, AllocError>
     ensures { IfOk result (λ command. app_of command ≡ decode_app) }
 {
     let command = forms(alloc, Command::new(alloc, "decode"))?;
     let command = with(command, flag(alloc, "threads"))?;
     let command = with(command, flag(alloc, "hf"))?;
+    let command = with(command, flag(alloc, "sensitive"))?;
     with(command, option(alloc, "rate"))
 }
 

@@ -13,7 +13,7 @@ Usage: tnc COMMAND [OPTION]...
 
 A software terminal node controller for packet radio: AX.25 over the tones of Bell 202.
 
-  tnc decode [--wav] [--kiss] [--threads] [--hf] [--rate n]
+  tnc decode [--wav] [--kiss] [--threads] [--hf] [--sensitive] [--rate n]
   tnc encode [--kiss] [--wav] [--join] [--hf] [--opening n] [--closing n] [--silence n] [--level n]
   tnc show [--modulo n]
   tnc loop --seed n --frames n [--rough] [--threads]
@@ -35,7 +35,7 @@ little-endian, one channel. `tnc help COMMAND` says what the options are, and th
 ";
 
 const DECODE: &str = "\
-Usage: tnc decode [--wav] [--kiss] [--threads] [--hf] [--rate n]
+Usage: tnc decode [--wav] [--kiss] [--threads] [--hf] [--sensitive] [--rate n]
 
 Prints the frames that are heard in sound, a line of hexadecimal digits each, as soon as they have ended.
 
@@ -43,6 +43,7 @@ Prints the frames that are heard in sound, a line of hexadecimal digits each, as
   --kiss       the output is KISS frames, and not lines
   --threads    the receiver works on two threads
   --hf         the sound is of short wave, 300 bits a second, and not Bell 202; without --threads
+  --sensitive  hears in more noise and where the sender's clock is off, and takes longer; without --hf
   --rate n     samples a second of raw PCM, 9600 or 48000 (9600); a WAV file tells its own
 ";
 

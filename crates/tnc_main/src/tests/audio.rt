@@ -32,7 +32,7 @@ fn what_is_sent_is_heard(rt: HostRuntime) -> Result<(), Fail> {
     let alloc = rt.alloc();
     let ones = "9c946ea04040e09c6e988a9a406103f0ffff00ffffff7e7e\n";
     let join = ["encode", "--join", "--opening=2", "--closing=1"];
-    let table: [(&[&str], &[&str], &str, usize); 8] = [
+    let table: [(&[&str], &[&str], &str, usize); 9] = [
         (SHORT_FLAGS, &["decode"], TWICE, 5184),
         (&join, &["decode"], TWICE, 4928),
         (
@@ -43,6 +43,7 @@ fn what_is_sent_is_heard(rt: HostRuntime) -> Result<(), Fail> {
         ),
         (&["encode"], &["decode"], TWICE, 24_128),
         (&["encode"], &["decode"], ones, 13_344),
+        (&["encode"], &["decode", "--sensitive"], TWICE, 24_128),
         (&["encode"], &["decode"], "", 0),
         (&["encode", "--wav"], &["decode", "--wav"], TWICE, 24_172),
         (&["encode", "--wav"], &["decode", "--wav"], "", 44),

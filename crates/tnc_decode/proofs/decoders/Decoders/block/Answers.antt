@@ -5,15 +5,18 @@ use Rattle.slicer_bank.specs.HeldDecoder.{StandsFor}
 use Rattle.slicer_bank.specs.MergedItems.{AreMergedBetween}
 use Rattle.hf_modem.specs.HeldDecoder.{StandsFor as HfStandsFor}
 use Rattle.hf_modem.specs.MergedItems.{AreMergedBetween as AreHfMergedBetween}
+use Rattle.sensitive_receiver.specs.HeldDecoder.{StandsFor as SensitiveStandsFor}
+use Rattle.sensitive_receiver.specs.MergedItems.{AreMergedBetween as AreSensitiveMergedBetween, settled}
 use Rattle.wide_input.specs.Streams.{least_count}
 use Rattle.wide_input.specs.Held.{StandsFor as BankStandsFor}
 use Rattle.wide_input.specs.MergedItems.{AreWideMergedBetween}
 use Rattle.tnc_decode.specs.declared.decoders.Decoders.{Decoders}
-use Rattle.tnc_decode.specs.declared.decoders.Decoders.TheVariants.{Plain, Wide, ShortWave}
+use Rattle.tnc_decode.specs.declared.decoders.Decoders.TheVariants.{Plain, Wide, Sensitive, ShortWave}
 use Rattle.tnc_decode.specs.declared.modem.Modem.{Modem}
 use Rattle.tnc_decode.specs.Held.{HasDecoded}
 use Rattle.tnc_decode.specs.Modem.{settled_count, AreGivenBetween}
 use Rattle.tnc_decode.proofs.ModemLemmas.{plain_block, wide_block, short_wave_block}
+use Rattle.tnc_decode.proofs.SensitiveLemmas.{sensitive_block}
 use Rattle.tnc_decode.proofs.decoders.Decoders.block.Goals as goal
 
 pub returns-in-Plain-clause-given : goal.returns-in-Plain-clause-given
@@ -85,3 +88,41 @@ returns-in-ShortWave-clause-given g c =
     → HasDecoded modem (ShortWave new) (x ++ block) × AreGivenBetween modem (settled_count modem x) (settled_count modem (x ++ block)) (x ++ block) items.items)
     (λ items given. short_wave_block old new block items.items given)
     c.block-in-ShortWave.ensures.given)
+
+pub returns-in-Sensitive-clause-given : goal.returns-in-Sensitive-clause-given
+returns-in-Sensitive-clause-given g c =
+    let block : List ℤ = c.args.block.now in
+    let old = c.in-Sensitive.decoder in
+    let new = c.block_threads-in-Sensitive.new.self in
+    let P : Decoders → Type 0 = λ self. IfOk c.block_threads-in-Sensitive.result
+    (λ items. (modem : Modem) (x : List ℤ) → HasDecoded modem self x
+    → HasDecoded modem (Sensitive new) (x ++ block)
+    × AreGivenBetween modem (settled_count modem x) (settled_count modem (x ++ block)) (x ++ block) items.items) in
+    subst P (sym c.in-Sensitive.is) (IfOk-weaker c.block_threads-in-Sensitive.result
+    (λ items. (x : List ℤ) → SensitiveStandsFor old x
+    → SensitiveStandsFor new (x ++ block)
+    × AreSensitiveMergedBetween (settled (length x)) (settled (length (x ++ block))) (x ++ block) items.items)
+    (λ items. (modem : Modem) (x : List ℤ) → HasDecoded modem (Sensitive old) x
+    → HasDecoded modem (Sensitive new) (x ++ block)
+    × AreGivenBetween modem (settled_count modem x) (settled_count modem (x ++ block)) (x ++ block) items.items)
+    (λ items given. sensitive_block old new block items.items given)
+    c.block_threads-in-Sensitive.ensures.given)
+
+pub returns-in-Sensitive-2-clause-given : goal.returns-in-Sensitive-2-clause-given
+returns-in-Sensitive-2-clause-given g c =
+    let block : List ℤ = c.args.block.now in
+    let old = c.in-Sensitive.decoder in
+    let new = c.block-in-Sensitive-2.new.self in
+    let P : Decoders → Type 0 = λ self. IfOk c.block-in-Sensitive-2.result
+    (λ items. (modem : Modem) (x : List ℤ) → HasDecoded modem self x
+    → HasDecoded modem (Sensitive new) (x ++ block)
+    × AreGivenBetween modem (settled_count modem x) (settled_count modem (x ++ block)) (x ++ block) items.items) in
+    subst P (sym c.in-Sensitive.is) (IfOk-weaker c.block-in-Sensitive-2.result
+    (λ items. (x : List ℤ) → SensitiveStandsFor old x
+    → SensitiveStandsFor new (x ++ block)
+    × AreSensitiveMergedBetween (settled (length x)) (settled (length (x ++ block))) (x ++ block) items.items)
+    (λ items. (modem : Modem) (x : List ℤ) → HasDecoded modem (Sensitive old) x
+    → HasDecoded modem (Sensitive new) (x ++ block)
+    × AreGivenBetween modem (settled_count modem x) (settled_count modem (x ++ block)) (x ++ block) items.items)
+    (λ items given. sensitive_block old new block items.items given)
+    c.block-in-Sensitive-2.ensures.given)

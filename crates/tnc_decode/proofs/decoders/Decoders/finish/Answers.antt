@@ -5,12 +5,15 @@ use Rattle.slicer_bank.specs.HeldDecoder.{StandsFor}
 use Rattle.slicer_bank.specs.MergedItems.{AreMergedBetween}
 use Rattle.hf_modem.specs.HeldDecoder.{StandsFor as HfStandsFor}
 use Rattle.hf_modem.specs.MergedItems.{AreMergedBetween as AreHfMergedBetween}
+use Rattle.sensitive_receiver.specs.HeldDecoder.{StandsFor as SensitiveStandsFor}
+use Rattle.sensitive_receiver.specs.MergedItems.{AreMergedBetween as AreSensitiveMergedBetween, settled}
 use Rattle.tnc_decode.specs.declared.decoders.Decoders.{Decoders}
-use Rattle.tnc_decode.specs.declared.decoders.Decoders.TheVariants.{Plain, ShortWave}
+use Rattle.tnc_decode.specs.declared.decoders.Decoders.TheVariants.{Plain, Sensitive, ShortWave}
 use Rattle.tnc_decode.specs.declared.modem.Modem.{Modem}
 use Rattle.tnc_decode.specs.Held.{HasDecoded, position_of}
 use Rattle.tnc_decode.specs.Modem.{settled_count, AreGivenRest}
 use Rattle.tnc_decode.proofs.ModemLemmas.{plain_finish, short_wave_finish}
+use Rattle.tnc_decode.proofs.SensitiveLemmas.{sensitive_finish}
 use Rattle.tnc_decode.proofs.decoders.Decoders.finish.Goals as goal
 
 pub returns-in-Plain : goal.returns-in-Plain
@@ -38,4 +41,21 @@ returns-in-ShortWave c =
           (λ items. (modem : Modem) (x : List ℤ) → HasDecoded modem (ShortWave decoder) x → AreGivenRest modem (settled_count modem x) x items.items)
           (λ items rest. short_wave_finish decoder items.items room rest)
           c.finish-in-ShortWave.ensures.rest) c.requires.room;
+    }
+
+pub returns-in-Sensitive : goal.returns-in-Sensitive
+returns-in-Sensitive c =
+    let decoder = c.in-Sensitive.decoder in
+    let result = c.finish-in-Sensitive.result in
+    let P : Decoders → Type 0 = λ self. position_of self < 2 ^ 48 → IfOk result
+    (λ items. (modem : Modem) (x : List ℤ) → HasDecoded modem self x
+    → AreGivenRest modem (settled_count modem x) x items.items) in
+    record {
+      rest = subst P (sym c.in-Sensitive.is) (λ room. IfOk-weaker result
+          (λ items. (x : List ℤ) → length x < 2 ^ 48 → SensitiveStandsFor decoder x
+          → AreSensitiveMergedBetween (settled (length x)) (length x + 1) x items.items)
+          (λ items. (modem : Modem) (x : List ℤ) → HasDecoded modem (Sensitive decoder) x
+          → AreGivenRest modem (settled_count modem x) x items.items)
+          (λ items rest. sensitive_finish decoder items.items room rest)
+          c.finish-in-Sensitive.ensures.rest) c.requires.room;
     }
