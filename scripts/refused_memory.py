@@ -5,8 +5,8 @@
 
 A run has to end with status 3, an output that is a first part of the ordinary one and a report that is a first part of the
 ordinary one; or as it ends with all the memory that it asks for. A station that cannot open its ports for want of memory ends with
-status 10, as with any other cause. With --all-from no allocation succeeds from the refused one
-on. With --hosts it is two stations with a session between their hosts, and the first one is refused an allocation, drawn anew
+status 10, as with any other cause; one whose first thread is refused takes ten seconds to end. With --all-from no allocation
+succeeds from the refused one on. With --hosts it is two stations with a session between their hosts, and the first one is refused an allocation, drawn anew
 each time, for so many seconds. It prints a line for each command, and ends with status 0 where all is well."""
 import argparse
 import random

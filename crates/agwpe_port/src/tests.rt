@@ -96,13 +96,20 @@ fn a_length_over_4096_ends_the_messages(rt: HostRuntime) -> Result<(), Fail> {
 #[test]
 fn a_stream_that_failed_stays_so(rt: HostRuntime) -> Result<(), Fail> {
     let alloc = rt.alloc();
-    let mut reader = AgwIn::new(alloc);
-    for octet in &header(alloc, b"\x01\x10\0\0")? {
-        let _ = reader.push(*octet);
-    }
-    for octet in DATA {
-        let answer = reader.push(*octet).err();
-        assert_eq!(rt; answer, Some(AgwFault::Failed { len: 4097 }));
+    let table: [(&[u8], u32); 3] = [
+        (b"\x01\x10\0\0", 4097),
+        (b"\0\0\x01\0", 65_536),
+        (b"\xff\xff\xff\xff", u32::MAX),
+    ];
+    for (length, len) in table {
+        let mut reader = AgwIn::new(alloc);
+        for octet in &header(alloc, length)? {
+            let _ = reader.push(*octet);
+        }
+        for octet in DATA {
+            let answer = reader.push(*octet).err();
+            assert_eq!(rt; answer, Some(AgwFault::Failed { len }));
+        }
     }
     Ok(())
 }

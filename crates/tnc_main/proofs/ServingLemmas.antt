@@ -7,7 +7,7 @@ use Rattle.tnc_forms.specs.Reading.{input_limit}
 use Rattle.tnc_ports.specs.declared.looping.LoopEnd.{LoopEnd}
 use Rattle.tnc_ports.specs.declared.looping.LoopEnd.TheVariants.{Done as LoopDone, Memory as LoopMemory, WriteFault as LoopFault}
 use Rattle.tnc_ports.specs.declared.pumping.PumpEnd.{PumpEnd}
-use Rattle.tnc_ports.specs.declared.pumping.PumpEnd.TheVariants.{InputEnd, ReadFault as PumpFailed, TooLong as InputTooLong}
+use Rattle.tnc_ports.specs.declared.pumping.PumpEnd.TheVariants.{InputEnd, ReadFault as PumpFailed, TooLong as InputTooLong, NotBegun}
 use Rattle.tnc_ports.specs.declared.serve_words.ServeWords.{ServeWords}
 use Rattle.tnc_ports.specs.declared.serving.ServeEnd.{ServeEnd}
 use Rattle.tnc_ports.specs.declared.serving.ServeEnd.TheVariants.{Done, TooLong, Memory, ReadFault, WriteFault, NoPort}
@@ -37,6 +37,7 @@ module _ (words : ServeWords) (input left : InputSide) (before open_ports after 
   by_done LoopDone InputEnd is looped faults = (faults, all_written looped)
   by_done LoopDone PumpFailed is looped faults = cc is
   by_done LoopDone InputTooLong is looped faults = cc is
+  by_done LoopDone NotBegun is looped faults = cc is
   by_done LoopMemory pump is looped faults = cc is
   by_done LoopFault pump is looped faults = cc is
 
@@ -45,6 +46,7 @@ module _ (words : ServeWords) (input left : InputSide) (before open_ports after 
   by_too_long LoopDone InputEnd is looped = cc is
   by_too_long LoopDone PumpFailed is looped = cc is
   by_too_long LoopDone InputTooLong is looped = (refl, all_written looped)
+  by_too_long LoopDone NotBegun is looped = cc is
   by_too_long LoopMemory pump is looped = cc is
   by_too_long LoopFault pump is looped = cc is
 
@@ -52,6 +54,7 @@ module _ (words : ServeWords) (input left : InputSide) (before open_ports after 
   by_read_fault LoopDone InputEnd is faults = cc is
   by_read_fault LoopDone PumpFailed is faults = faults
   by_read_fault LoopDone InputTooLong is faults = cc is
+  by_read_fault LoopDone NotBegun is faults = cc is
   by_read_fault LoopMemory pump is faults = cc is
   by_read_fault LoopFault pump is faults = cc is
 
@@ -59,6 +62,7 @@ module _ (words : ServeWords) (input left : InputSide) (before open_ports after 
   by_write_fault LoopDone InputEnd is looped = cc is
   by_write_fault LoopDone PumpFailed is looped = cc is
   by_write_fault LoopDone InputTooLong is looped = cc is
+  by_write_fault LoopDone NotBegun is looped = cc is
   by_write_fault LoopMemory pump is looped = cc is
   by_write_fault LoopFault pump is looped = elim looped.2.failed [
     | inl output ↦ inl (subst (λ n. HasRisen n after.output_faults) only.output_faults output)

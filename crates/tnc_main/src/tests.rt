@@ -8,6 +8,7 @@ use tnc_base::{MemSink, MemSource};
 use tnc_ports::MemLive;
 
 mod audio;
+mod failing;
 mod lines;
 mod live;
 

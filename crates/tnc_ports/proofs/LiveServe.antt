@@ -25,7 +25,7 @@ use Rattle.tnc_ports.specs.declared.records.Listen.{Listen}
 use Rattle.tnc_ports.specs.declared.serving.ServeEnd.{ServeEnd}
 use Rattle.tnc_ports.specs.declared.serving.ServeEnd.TheVariants.{Memory as NoMemory}
 use Rattle.tnc_ports.specs.declared.pumping.PumpEnd.{PumpEnd}
-use Rattle.tnc_ports.specs.declared.pumping.PumpEnd.TheVariants.{InputEnd, ReadFault, TooLong}
+use Rattle.tnc_ports.specs.declared.pumping.PumpEnd.TheVariants.{InputEnd, ReadFault, TooLong, NotBegun}
 use Rattle.tnc_ports.specs.declared.serve_words.ServeWords.{ServeWords}
 use Rattle.tnc_ports.specs.Sampled.{Live, new_live, HaveEnded}
 use Rattle.tnc_ports.specs.declared.turning.Turning.{Turning}
@@ -43,6 +43,7 @@ pub read_faults : (end : PumpEnd) (before after : InputSide) → (end ≡ ReadFa
 read_faults InputEnd before after h g = g (λ e. cc e)
 read_faults ReadFault before after h g = h refl
 read_faults TooLong before after h g = g (λ e. cc e)
+read_faults NotBegun before after h g = g (λ e. cc e)
 
 -- ---- before the first turn
 
@@ -184,6 +185,7 @@ pub served : (words : ServeWords) (loop : LoopEnd) (pump : PumpEnd) (end : Serve
 served words LoopDone InputEnd end input left before after e h = subst (λ r. IsServed words r input left before after) (sym e) (subst (λ r. HasServed words r input left before after) e h)
 served words LoopDone ReadFault end input left before after e h = subst (λ r. IsServed words r input left before after) (sym e) (subst (λ r. HasServed words r input left before after) e h)
 served words LoopDone TooLong end input left before after e h = subst (λ r. IsServed words r input left before after) (sym e) (subst (λ r. HasServed words r input left before after) e h)
+served words LoopDone NotBegun end input left before after e h = subst (λ r. IsServed words r input left before after) (sym e) (inr (subst (λ r. HasServed words r input left before after) e h))
 served words Memory pump end input left before after e h = subst (λ r. IsServed words r input left before after) (sym e) (inr (subst (λ r. HasServed words r input left before after) e h))
 served words LoopFault pump end input left before after e h = subst (λ r. IsServed words r input left before after) (sym e) (subst (λ r. HasServed words r input left before after) e h)
 

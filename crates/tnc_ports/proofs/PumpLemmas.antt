@@ -5,7 +5,7 @@ use Rattle.std.proofs.lemmas.List.{take-append-drop, take_more, append-nil, leng
 use Rattle.tnc_base.specs.Streams.{Gives}
 use Rattle.wav_file.specs.Samples.{samples, sample_of}
 use Rattle.tnc_ports.specs.declared.pumping.PumpEnd.{PumpEnd}
-use Rattle.tnc_ports.specs.declared.pumping.PumpEnd.TheVariants.{InputEnd, ReadFault, TooLong}
+use Rattle.tnc_ports.specs.declared.pumping.PumpEnd.TheVariants.{InputEnd, ReadFault, TooLong, NotBegun}
 use Rattle.tnc_ports.specs.OddOctet.{odd_octet, odd_after, count_of, ended}
 use Rattle.tnc_ports.specs.Pumped.{IsPumped, most_input}
 use Rattle.tnc_ports.proofs.PairLemmas.{samples-snoc, odd-snoc}
@@ -113,6 +113,17 @@ pumped_too_much whole left published low total h long = record {
   left_over = h.left_over;
   samples_read = h.samples_read;
   stop = h.counted ∙ long;
+}
+
+-- nothing is read by a pump that has not begun
+pub pumped_none : (whole : List ℕ) (left : Option (List ℕ)) (published : List ℤ) → left ≡ Some whole → published ≡ [] → IsPumped whole left published NotBegun
+pumped_none whole left published left_over empty = record {
+  read = [];
+  rest = whole;
+  parts = refl;
+  left_over = left_over;
+  samples_read = empty;
+  stop = refl;
 }
 
 -- nothing is read yet

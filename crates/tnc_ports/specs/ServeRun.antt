@@ -5,7 +5,7 @@ use Rattle.sample_ring.specs.declared.view.Track.{Track}
 use Rattle.sample_ring.specs.Record.{StandsIn, answer}
 use Rattle.tnc_base.specs.Faults.{HasRisen}
 use Rattle.tnc_ports.specs.declared.pumping.PumpEnd.{PumpEnd}
-use Rattle.tnc_ports.specs.declared.pumping.PumpEnd.TheVariants.{InputEnd, ReadFault as PumpFailed, TooLong as InputTooLong}
+use Rattle.tnc_ports.specs.declared.pumping.PumpEnd.TheVariants.{InputEnd, ReadFault as PumpFailed, TooLong as InputTooLong, NotBegun}
 use Rattle.tnc_ports.specs.declared.serving.ServeEnd.{ServeEnd}
 use Rattle.tnc_ports.specs.declared.serving.ServeEnd.TheVariants.{Done, TooLong, Memory, ReadFault, WriteFault, NoPort}
 use Rattle.tnc_ports.specs.declared.serve_words.ServeWords.{ServeWords}
@@ -35,11 +35,13 @@ pub record LanesStandIn (published : List ℤ) (lanes : List (List Got)) : Type 
 
 -- ---- serving
 
--- how serving ends by the ends of the loop and of the pump, of which the loop's counts first
+-- How serving ends by the ends of the loop and of the pump, of which the loop's counts first. A pump that has not begun
+-- had no thread, which counts as want of memory.
 abbrev pub end_of : LoopEnd → PumpEnd → ServeEnd
 end_of LoopDone InputEnd = Done
 end_of LoopDone PumpFailed = ReadFault
 end_of LoopDone InputTooLong = TooLong
+end_of LoopDone NotBegun = Memory
 end_of LoopMemory pump = Memory
 end_of LoopFault pump = WriteFault
 
@@ -79,6 +81,7 @@ abbrev pub ReadFaults : PumpEnd → InputSide → InputSide → Type 0
 ReadFaults InputEnd before after = after.faults ≡ before.faults
 ReadFaults PumpFailed before after = HasRisen before.faults after.faults
 ReadFaults InputTooLong before after = after.faults ≡ before.faults
+ReadFaults NotBegun before after = after.faults ≡ before.faults
 
 -- The ports are opened. The pump publishes the samples of what it reads of the input, and beside it the loop's lanes read
 -- what is published.

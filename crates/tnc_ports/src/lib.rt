@@ -34,6 +34,7 @@ mod serve_words;
 mod serving;
 mod shutting;
 mod spawner;
+mod starting;
 mod taking;
 mod telling;
 mod turning;
@@ -59,7 +60,7 @@ pub use report_line::ReportLine;
 pub use sending::{OfferFault, offer};
 pub use serve_words::ServeWords;
 pub use serving::{ServeEnd, serve};
-pub use spawner::Spawner;
+pub use spawner::{Order, Spawner};
 pub use untaken::Untaken;
 
 #[cfg(test)]

@@ -5,7 +5,7 @@ ghost use Rattle.tnc_ports.specs.Scripts.{new_ports};
 
 use crate::live::Live;
 use crate::mem_ports::MemPorts;
-use crate::spawner::Spawner;
+use crate::spawner::{Order, Spawner};
 use station::HostEvent;
 use std::alloc::Global;
 
@@ -14,8 +14,8 @@ use std::alloc::Global;
 pub struct MemSpawner;
 
 impl Spawner for MemSpawner {
-    fn at_once(&self) -> bool {
-        false
+    fn order(&self) -> Order {
+        Order::PumpFirst
     }
 }
 

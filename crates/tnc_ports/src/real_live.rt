@@ -2,15 +2,15 @@
 
 use crate::live::Live;
 use crate::real_ports::RealPorts;
-use crate::spawner::Spawner;
+use crate::spawner::{Order, Spawner};
 
 /// Runs two jobs at once, one of them in a thread of its own.
 #[derive(Clone, Copy, Debug, Drop)]
 pub struct RealSpawner;
 
 impl Spawner for RealSpawner {
-    fn at_once(&self) -> bool {
-        true
+    fn order(&self) -> Order {
+        Order::AtOnce
     }
 }
 

@@ -1,19 +1,21 @@
 //! A live station from its first poll to the end of its input.
-ghost use Rattle.std.specs.Prelude.{◌≡◌, ℕ, ◌≤◌, All, replicate, []};
+ghost use Rattle.std.specs.Prelude.{◌≡◌, ℕ, List, ◌≤◌, Some, All, replicate, []};
 ghost use Rattle.std.specs.Thread.{IsSync};
 ghost use Rattle.link_machine.specs.Params.{IsRefusedWindow};
-ghost use Rattle.sample_ring.specs.Ends.{ring_id, ring_len, reader_ring};
+ghost use Rattle.sample_ring.specs.Ends.{ring_id, ring_len, reader_ring, writer_ring, done_ring, published_by, all_published};
 ghost use Rattle.slicer_bank.specs.RingLanes.{readers_in, answers_in, Listens};
+ghost use Rattle.tnc_ports.specs.Pumped.{IsPumped};
 ghost use Rattle.tnc_ports.specs.SampledPump.{IsWriting, HasPumped, IsClosed};
 ghost use Rattle.tnc_ports.specs.SampledRun.{IsLooped, outside_by};
-ghost use Rattle.tnc_ports.specs.ServeRun.{InputSide, IsServed, end_of, input_by};
+ghost use Rattle.tnc_ports.specs.ServeRun.{InputSide, ReadFaults, IsServed, end_of, input_by};
 
 use crate::live::Live;
 use crate::looping::{LoopEnd, station_loop};
 use crate::ports::Ports;
-use crate::pumping::{PumpEnd, Pumped, pump};
+use crate::pumping::{PumpEnd, Pumped, end_unread, pump};
 use crate::serve_words::ServeWords;
 use crate::spawner::Spawner;
+use crate::starting::Start;
 use sample_ring::{Ring, Writer};
 use slicer_bank::RingBank;
 use std::alloc::Global;
@@ -36,7 +38,7 @@ pub enum ServeEnd {
     Done,
     /// The input has more than 2^40 octets. All is written of those before.
     TooLong,
-    /// Memory was wanted and not given.
+    /// Memory was wanted and not given, or the thread of the pump. Without that thread nothing was read.
     Memory,
     /// The input failed. All is written of what was read.
     ReadFault,
@@ -56,7 +58,7 @@ pub enum Pumping {
 
 /// Opens the ports, reads the input to its end or until it fails, and serves hosts meanwhile: a pump publishes the
 /// samples of the input in a ring, and beside it the turns of the station read them there. It may wait for the input.
-/// What the turns met counts before what the pump met.
+/// What the turns met counts before what the pump met. If no thread can be started it ends, without a turn.
 pub fn serve<
     R: Threads + Wait + Net + Sync,
     I: Source + Send,
@@ -89,6 +91,7 @@ pub fn serve<
     let Ok(mut bank) = RingBank::listening(alloc, readers, words.dcd) else {
         return ServeEnd::Memory;
     };
+    let start = Start::new();
     let mut pumping = Pumping::Before(writer);
     let mut end = LoopEnd::Memory;
     run_beside(
@@ -96,6 +99,7 @@ pub fn serve<
         alloc,
         &words,
         &ring,
+        &start,
         &mut pumping,
         &mut bank,
         &mut end,
@@ -121,6 +125,7 @@ fn run_beside<
     alloc: Global,
     words: &ServeWords,
     ring: &Ring,
+    start: &Start,
     pumping: &mut Pumping,
     bank: &mut RingBank,
     end: &mut LoopEnd,
@@ -144,7 +149,7 @@ fn run_beside<
 {
     spawner.beside(
         rt,
-        &mut || pump_once(ring, pumping, input),
+        &mut || pump_once(ring, start, pumping, input),
         &mut ||
             requires { IsSync R.row
                 × ((window : ℕ) → ¬ IsRefusedWindow words.now.config.params window)
@@ -156,19 +161,63 @@ fn run_beside<
                 × IsLooped words.entry.now end.exit.now (answers_in (ring_len ring.entry.now) bank.exit.now)
                 (outside_by N.listens N.polls N.sends N.sent N.is_shut N.faults O.written O.faults E.written E.faults ports.entry.now output.entry.now report.entry.now)
                 (outside_by N.listens N.polls N.sends N.sent N.is_shut N.faults O.written O.faults E.written E.faults ports.exit.now output.exit.now report.exit.now) }
-        { *end = station_loop(rt, alloc, words, ring, bank, output, report, ports) },
+        { *end = turns(rt, alloc, words, ring, start, bank, output, report, ports) },
     );
 }
 
+/// Makes the turns once the pump has begun, and none if it has not begun in time.
+fn turns<R: Threads + Wait + Net + Sync, O: Sink, E: Sink, N: Ports>(
+    rt: &R,
+    alloc: Global,
+    words: &ServeWords,
+    ring: &Ring,
+    start: &Start,
+    bank: &mut RingBank,
+    output: &mut O,
+    report: &mut E,
+    ports: &mut N,
+) -> LoopEnd
+    requires window { (window : ℕ) → ¬ IsRefusedWindow words.now.config.params window }
+    requires readers { All (λ reader. reader_ring reader ≡ ring_id ring.now) (readers_in bank.old) }
+    requires new { answers_in (ring_len ring.now) bank.old ≡ replicate 8 [] }
+    requires listens { Listens (ring_len ring.now) bank.old }
+    requires flags { bank.old.flags ≡ words.now.dcd }
+    ensures readers { All (λ reader. reader_ring reader ≡ ring_id ring.now) (readers_in bank.new) }
+    ensures looped { IsLooped words.now result (answers_in (ring_len ring.now) bank.new)
+        (outside_by N.listens N.polls N.sends N.sent N.is_shut N.faults O.written O.faults E.written E.faults ports.old output.old report.old)
+        (outside_by N.listens N.polls N.sends N.sent N.is_shut N.faults O.written O.faults E.written E.faults ports.new output.new report.new) }
+{
+    if !start.wait(rt) {
+        return LoopEnd::Memory;
+    }
+    station_loop(rt, alloc, words, ring, bank, output, report, ports)
+}
+
 /// Lets the pump take the writer, and end the ring.
-fn pump_once<I: Source>(ring: &Ring, pumping: &mut Pumping, input: &mut I)
+fn pump_once<I: Source>(ring: &Ring, start: &Start, pumping: &mut Pumping, input: &mut I)
     requires { IsWriting ring.now pumping.old }
     ensures { HasPumped ring.now pumping.new (input_by I.left I.faults input.old) (input_by I.left I.faults input.new) }
 {
     match mem::replace(pumping, Pumping::Nothing) {
-        Pumping::Before(writer) => *pumping = Pumping::After(pump(input, ring, writer)),
+        Pumping::Before(writer) => *pumping = Pumping::After(pumped(ring, start, writer, input)),
         Pumping::After(_pumped) => {}
         Pumping::Nothing => {}
+    }
+}
+
+/// Pumps, unless the turns have given the pump up.
+fn pumped<I: Source>(ring: &Ring, start: &Start, writer: Writer, input: &mut I) -> Pumped
+    requires ring { writer_ring writer ≡ ring_id ring.now }
+    requires new { published_by writer ≡ [] }
+    ensures ring { done_ring result.done ≡ writer_ring writer }
+    ensures pumped { (octets : List ℕ) → I.left input.old ≡ Some octets
+        → IsPumped octets (I.left input.new) (all_published result.done) result.end }
+    ensures faults { ReadFaults result.end (input_by I.left I.faults input.old) (input_by I.left I.faults input.new) }
+{
+    if start.begin() {
+        pump(input, ring, writer)
+    } else {
+        end_unread(ring, writer)
     }
 }
 
@@ -201,6 +250,7 @@ fn end_of(end: LoopEnd, pump: PumpEnd) -> ServeEnd
         (LoopEnd::Done, PumpEnd::InputEnd) => ServeEnd::Done,
         (LoopEnd::Done, PumpEnd::ReadFault) => ServeEnd::ReadFault,
         (LoopEnd::Done, PumpEnd::TooLong) => ServeEnd::TooLong,
+        (LoopEnd::Done, PumpEnd::NotBegun) => ServeEnd::Memory,
     }
 }
 

@@ -4,13 +4,23 @@ use std::net::Net;
 use std::sync::Wait;
 use std::thread::{Threads, join_mut};
 
+/// In which order two jobs run.
+#[derive(Clone, Copy, Debug, PartialEq, Eq)]
+pub enum Order {
+    /// At once, the pump in a thread of its own. If that thread can't be started, the pump runs last.
+    AtOnce,
+    /// The pump first.
+    PumpFirst,
+    /// The pump last.
+    PumpLast,
+}
+
 /// Runs two jobs, at once or one after the other.
 pub trait Spawner {
-    /// Whether the two jobs run at once.
-    fn at_once(&self) -> bool;
+    /// In which order the two jobs run.
+    fn order(&self) -> Order;
 
     /// Calls `pump` once and `here` once, and returns after both have. Each closure is left as its one call leaves it.
-    /// Where the jobs don't run at once, or no thread can be started, the calls are made one after the other.
     final fn beside<R: Threads + Wait + Net + Sync, P: FnMut() + Send, S: FnMut()>(
         &mut self,
         rt: &R,
@@ -20,11 +30,18 @@ pub trait Spawner {
         requires { P.pre pump.old × S.pre here.old }
         ensures { P.step pump.old tt pump.new × S.step here.old tt here.new }
     {
-        if self.at_once() {
-            join_mut(rt, pump, here);
-        } else {
-            pump();
-            here();
+        match self.order() {
+            Order::AtOnce => {
+                join_mut(rt, pump, here);
+            }
+            Order::PumpFirst => {
+                pump();
+                here();
+            }
+            Order::PumpLast => {
+                here();
+                pump();
+            }
         }
     }
 }

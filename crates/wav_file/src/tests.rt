@@ -28,12 +28,13 @@ const FRONT: &[u8] = b"RIFF\xff\xff\xff\xffWAVE";
 // A format that is read.
 const FORMAT: &[u8] = b"fmt \x10\0\0\0\x01\0\x01\0\x80\x25\0\0\0\0\0\0\x02\0\x10\0";
 
-// What a reader made of octets: the samples, the first fault with the place of the octet that brought it, and what it
-// thinks of a file that ends there.
+// What a reader made of octets: the samples, the first fault with the place of the octet that brought it, how many octets
+// were answered by that fault, and what it thinks of a file that ends there.
 #[derive(Drop)]
 struct Read {
     samples: Vec<i16>,
     shown: Option<(usize, WavFault)>,
+    faults: usize,
     end: Result<(), WavFault>,
 }
 
@@ -41,16 +42,22 @@ fn read_all(alloc: Global, octets: &[u8]) -> Result<Read, AllocError> {
     let mut reader = WavIn::new();
     let mut samples = Vec::new(alloc);
     let mut shown = None;
+    let mut faults: usize = 0;
     for (place, octet) in octets.iter().enumerate() {
         match reader.push(*octet) {
             Ok(Some(sample)) => samples.push(sample)?,
             Ok(None) => {}
-            Err(fault) => shown = shown.or(Some((place, fault))),
+            Err(fault) => {
+                let (first, shows) = shown.unwrap_or((place, fault));
+                shown = Some((first, shows));
+                faults = faults.saturating_add(usize::from(fault == shows));
+            }
         }
     }
     Ok(Read {
         samples,
         shown,
+        faults,
         end: reader.finish(),
     })
 }
@@ -139,6 +146,9 @@ fn a_fault_comes_at_the_octet_that_shows_it(rt: HostRuntime) -> Result<(), Fail>
         let fault = found.shown.map(|(_, fault)| fault);
         assert_eq!(rt; fault, want, "octet {octet} at {place}");
         assert_eq!(rt; at, want.map(place_of), "octet {octet} at {place}");
+        // Every octet after it is answered by the same fault.
+        let after = found.shown.map_or(0, |(at, _)| file.len().saturating_sub(at));
+        assert_eq!(rt; found.faults, after, "octet {octet} at {place}");
         assert_eq!(rt;
             found.end,
             want.map_or(Ok(()), Err),

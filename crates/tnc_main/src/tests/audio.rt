@@ -106,7 +106,7 @@ fn a_wav_file_is_heard_up_to_its_fault(rt: HostRuntime) -> Result<(), Fail> {
     let alloc = rt.alloc();
     let words = ["encode", "--wav", "--opening", "2", "--closing=1"];
     let whole = run_over(&rt, alloc, &words, SHORTEST.as_bytes())?.output;
-    let table: [(usize, &[(usize, u8)], u8, bool, &str); 6] = [
+    let table: [(usize, &[(usize, u8)], u8, bool, &str); 10] = [
         (2636, &[], 0, true, ""),
         (2635, &[], 2, true, "tnc: bad input: truncated at 2635\n"),
         // A size as a writer into a pipe leaves it.
@@ -125,7 +125,11 @@ fn a_wav_file_is_heard_up_to_its_fault(rt: HostRuntime) -> Result<(), Fail> {
             false,
             "tnc: bad input: bad format 2 value 2 at 23\n",
         ),
+        (0, &[], 2, false, "tnc: bad input: truncated at 0\n"),
         (3, &[], 2, false, "tnc: bad input: truncated at 3\n"),
+        (12, &[], 2, false, "tnc: bad input: truncated at 12\n"),
+        (35, &[], 2, false, "tnc: bad input: truncated at 35\n"),
+        (43, &[], 2, false, "tnc: bad input: truncated at 43\n"),
     ];
     for (length, changes, status, is_heard, report) in table {
         let mut file = whole.to_vec(alloc)?;

@@ -4,7 +4,9 @@ ghost use Rattle.link_machine.specs.Params.{IsRefusedWindow};
 
 use super::{ServeEnd, serve};
 use crate::tests::script::Script;
-use crate::{Live, MemLive, PollFault, Ports, RealSpawner, ServeWords};
+use crate::{
+    Live, MemLive, MemPorts, Order, PollFault, Ports, RealSpawner, ServeWords, Spawner,
+};
 use afsk_modulator::transmission;
 use link_machine::Params;
 use station::{Config, HostEvent, PortKind};
@@ -48,12 +50,12 @@ struct Outcome {
 }
 
 /// A station with a monitor, whose hosts are on these sockets.
-fn served<R: Threads + Wait + Net + Sync>(
+fn served<R: Threads + Wait + Net + Sync, W: Spawner>(
     rt: &R,
     alloc: Global,
     input: Vec<u8>,
     [reads, writes, reports]: Failing<'_>,
-    live: &mut MemLive,
+    live: &mut Live<MemPorts, W>,
 ) -> Result<Outcome, OutOfMemory> {
     let mut source = MemSource::new(input, 4096, reads.to_vec(alloc)?);
     let mut output = MemSink::new(alloc, 200_000, writes.to_vec(alloc)?)?;
@@ -75,6 +77,16 @@ fn served<R: Threads + Wait + Net + Sync>(
     })
 }
 
+/// No thread can be started, so the pump runs last.
+#[derive(Clone, Copy, Debug, Drop)]
+struct NoThread;
+
+impl Spawner for NoThread {
+    fn order(&self) -> Order {
+        Order::PumpLast
+    }
+}
+
 /// So many samples of silence.
 fn silence(alloc: Global, samples: u32) -> Result<Vec<u8>, OutOfMemory> {
     Ok(vec![in alloc; 0; 2 * samples as usize]?)
@@ -94,6 +106,22 @@ fn silence_gives_silence(rt: HostRuntime) -> Result<(), Fail> {
     assert_eq!(rt; served.output.as_slice(), silence(alloc, 960)?.as_slice());
     assert_eq!(rt; served.report.len(), 0);
     assert_eq!(rt; live.ports.listens().len(), 1);
+    Ok(())
+}
+
+// The turns give the pump up after ten seconds: nothing is polled, and nothing goes out.
+#[test]
+fn without_a_thread_it_ends(rt: HostRuntime) -> Result<(), Fail> {
+    let alloc = rt.alloc();
+    let Live { ports, spawner: _ } = no_hosts(alloc)?;
+    let spawner = NoThread;
+    let mut live = Live { ports, spawner };
+    let served = served(&rt, alloc, silence(alloc, 960)?, NONE, &mut live)?;
+    assert_eq!(rt; served.end, ServeEnd::Memory);
+    assert_eq!(rt; served.output.len(), 0);
+    assert_eq!(rt; served.report.len(), 0);
+    assert_eq!(rt; live.ports.listens().len(), 1);
+    assert_eq!(rt; live.ports.polls().len(), 0);
     Ok(())
 }
 
