@@ -26,7 +26,7 @@ quiet_one B on [] ways h = tt
 quiet_one A on (octets ∷ queue) ways h = (h.0, quiet_one A on queue (queueing_at A on octets ways) h.1)
 quiet_one B on (octets ∷ queue) ways h = (h.0, quiet_one B on queue (queueing_at B on octets ways) h.1)
 
--- nothing asks, or one does where nothing of the kind is in flight
+-- nothing asks, or one does if nothing of the kind is in flight
 abbrev pub AsksAlone : ℕ → OneWay → OneWay → Type 0
 AsksAlone asked own back =
     (asked ≡ 0) ⊎ ((asked + count_by asks (in_flight own) ≤ 1) × (count_by answers (in_flight back) ≡ 0))

@@ -171,7 +171,7 @@ tick_keeps Releasing waiting calm = absurd calm
 
 -- ---- the step
 
--- what is heard is a frame of a link, and its numbers are valid where the link is up
+-- what is heard is a frame of a link, and its numbers are valid if the link is up
 abbrev pub HearsValid : LinkEvent → Machine → Type 0
 HearsValid LinkConnect m = ⊤
 HearsValid (LinkSend packet) m = ⊤

@@ -118,7 +118,7 @@ ticked_fits t waiting h = go (nat_le (length (bits_of t)) (bits_then t)) refl
           (arith, more);
     }
 
--- the flag behind the front one of the frames ends, or it does not
+-- the flag after the front one of the frames ends, or it does not
 named_or_not :
     (t : OnAir) (waiting : List WaitingFrame) (past rest : List (List ℕ)) (front : List ℕ) (others : List (List ℕ))
     → t.frames ≡ past ++ front ∷ others → t.named ≡ length past → map octets_of waiting ≡ (front ∷ others) ++ rest

@@ -1,4 +1,4 @@
--- SABM, SABME, DISC, UA and DM told by their control octet: the one behind the address is that of the frame as it is read.
+-- SABM, SABME, DISC, UA and DM told by their control octet: the one after the address is that of the frame as it is read.
 use Rattle.std.proofs.Common.{◌≡◌, ◌≢◌, ℕ, zero, suc, ◌+◌, ◌-◌, ◌*◌, ◌<◌, ◌==◌, ◌%◌, Bool, true, false, ◌||◌, List, [], ◌∷◌, ◌++◌, length, map, take, drop, cond, get_or, Option, Some, refl, sym, ap, ◌∙◌, subst, arith, inl, inr}
 use Rattle.std.proofs.lemmas.Bool.{cases_eq, eq-eqb, ne_eqb, or_from}
 use Rattle.std.proofs.lemmas.List.{append_assoc, take-append-drop, length-drop, drop-drop}
@@ -19,7 +19,7 @@ use Rattle.ax25_frames.specs.FrameOctets.{body_octets, IsFrame}
 use Rattle.link_world.specs.Flight.{asks, is_answer}
 use Rattle.channel_bench.specs.InFlight.{sabm, sabme, disc, ua, dm, is_control_of, first_of, control_octet, is_ask_control, is_answer_control, is_ask, is_ua_or_dm}
 
--- ---- the octet behind the address
+-- ---- the octet after the address
 
 -- octets of which the last one alone may be odd
 record EndsBy (last : Bool) (octets : List ℕ) : Type 0 where

@@ -30,7 +30,7 @@ use Rattle.channel_bench.proofs.Standing.{IsGoodLink, IsTable, between_calls, ow
 abbrev pub meant : Setting → Option Link → Bool
 meant s = is_between s.local s.remote
 
--- its end follows, where nothing is heard
+-- its end follows, if nothing is heard
 follows_asked :
     (e : End) (back : List Tagged) (step : LinkStep) (w : World) → w.a.end.machine ≡ step.link.machine → IsAsked step.event
     → w.a.towards ≡ back → FollowsNear e back step w

@@ -10,11 +10,11 @@ use Rattle.kiss_port.specs.declared.item.KissItem.TheVariants.{Set}
 use Rattle.station.specs.Host.{new_items, new_messages}
 use Rattle.channel_bench.specs.HostProgram.{full_duplex_octets}
 
--- messages, and what is read behind them
+-- messages, and what is read after them
 abbrev pub read_behind : List AgwMessage → Reading → Reading
 read_behind messages reading = record { messages = messages ++ reading.messages; bad = reading.bad }
 
--- what comes behind the stream is read by itself
+-- what comes after the stream is read by itself
 pub record IsWhole (stream : List ℕ) : Type 0 where
   pub messages : List AgwMessage
   pub read : (more : List ℕ) → reading (stream ++ more) ≡ read_behind messages (reading more)

@@ -175,7 +175,7 @@ early_step w bench B usual before after f occurs h holds early = λ p.
 pub data Phase : Type 0 where
   -- before the first call
   begins : Phase
-  -- behind it
+  -- after it
   goes : Phase
   -- a tick is made
   made : Phase
@@ -339,7 +339,7 @@ tick_leads w = (
 
 -- ---- a run
 
--- at first, and behind each tick
+-- at first, and after each tick
 abbrev pub Behind : BenchWords → ℕ → BenchState → Type 0
 Behind w zero bench = bench ≡ new_bench w
 Behind w (suc count) bench = Stands w made bench

@@ -60,7 +60,7 @@ unchanged_seen :
 unchanged_seen f same [] = refl
 unchanged_seen f same (q ∷ rest) = last_unseen f same q rest
 
--- what is told, where a set-up that opens has nothing given yet
+-- what is told, if a set-up that opens has nothing given yet
 told_seen :
     (next : SetUp) → next.given ≡ [] → next.got ≡ [] → (told : List Told) (set_ups : List SetUp)
     → all_seen (fold (told_of next) set_ups told) ≡ fold seen_told (all_seen set_ups) told

@@ -153,7 +153,7 @@ match_is item matched towards number is = go (position (is_match item) (drop mat
           near = ltb-true (distance sent.end item.end) 8 tests.1;
         }
 
--- an element stands where it stood if more come behind
+-- an element stands where it stood if more come after
 pub still_there : {X : Type 0} (xs ys : List X) (k : ℕ) (x : X) → slice_get xs k ≡ Some x
     → slice_get (xs ++ ys) k ≡ Some x
 still_there [] ys k x is = absurd (cc)

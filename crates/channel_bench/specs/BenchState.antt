@@ -63,7 +63,7 @@ ways_of common = after_moments common.moments nothing_sent
 
 -- ---- before the first tick
 
--- Both stations ask for lost frames by SREJ, with a window of 4, or of 32 where they count modulo 128, and repeat for
+-- Both stations ask for lost frames by SREJ, with a window of 4, or of 32 if they count modulo 128, and repeat for
 -- nobody.
 abbrev pub params_of : BenchWords → Params
 params_of w = record { mode = Srej; window = 4; wide = w.wide; wide_window = 32 }

@@ -32,7 +32,7 @@ abbrev pub first_of : List ℕ → Option ℕ
 first_of [] = None
 first_of (octet ∷ octets) = Some octet
 
--- the octet behind the address field, whose last octet alone has bit 0 set (AX.25 2.2 section 3.12)
+-- the octet after the address field, whose last octet alone has bit 0 set (AX.25 2.2 section 3.12)
 abbrev pub control_octet : List ℕ → Option ℕ
 control_octet [] = None
 control_octet (octet ∷ octets) = if octet % 2 == 1 then first_of octets else control_octet octets

@@ -258,7 +258,7 @@ fn is_control_of(control: u8, octet: u8) -> bool
     octet == control || octet == control + POLL
 }
 
-/// The octet behind the address field, whose last octet alone has bit 0 set.
+/// The octet after the address field, whose last octet alone has bit 0 set.
 fn control_octet(octets: &[u8]) -> Option<u8>
     ensures { result ≡ control_octet octets.now }
 {

@@ -19,7 +19,7 @@ use Rattle.link_world.specs.Held.{IsModulus, IsRunning, CanFly, IsSide, flying}
 use Rattle.link_world.proofs.Growth.{IsShortSent, IsGood}
 use Rattle.link_world.proofs.StepGrowth.{step_keeps}
 
--- the step of a link, where its calls say so
+-- the step of a link, if its calls say so
 pub record Steps (event : Event) (old new : HeldLink) (done : Done) : Type 0 where
   pub does : (m : Machine) → LinkStandsFor old m → done ≡ done_of (step m event)
   pub stands : (m : Machine) → LinkStandsFor old m → LinkStandsFor new (step m event).now
@@ -84,7 +84,7 @@ pub near_formed :
 near_formed event old new done h steps frames =
     record { link = running_behind event old.link new.link done h.link steps; frames = frames }
 
--- so is its partner, with the frames that were sent behind the others
+-- so is its partner, with the frames that were sent after the others
 pub far_formed :
     (event : Event) (on_ask : Bool) (near_old near far_old far : HeldSide) (done : Done) → IsSide near_old → IsSide
     far_old

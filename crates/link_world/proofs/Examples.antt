@@ -169,7 +169,7 @@ pub modulus_of_b : (crossed (called_again ++ Hear A ∷ Hear B ∷ [])).b.end.ma
 unfolding link_step
 modulus_of_b = refl
 
--- An I frame of modulus 8 with N(S) 3, N(R) 2 and three octets behind it, read modulo 128, and the other way round.
+-- An I frame of modulus 8 with N(S) 3, N(R) 2 and three octets after it, read modulo 128, and the other way round.
 pub info_read_as_wide :
     kind_read Eight OneTwentyEight (Info 3 2 false 240 (5 ∷ 6 ∷ [])) ≡ Some (Info 35 120 false 5 (6 ∷ []))
 info_read_as_wide = refl

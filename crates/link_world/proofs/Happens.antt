@@ -29,7 +29,7 @@ pub record IsAsked (event : Event) (h : Happening) (w : World) (back : List InFl
   pub behind : back ≡ all_in_flight (staying event w.a.towards)
   pub does : done ≡ done_of (step w.a.end.machine (seen h))
 
--- the frames that are sent may fly exactly where the event is quiet
+-- the frames that are sent may fly exactly when the event is quiet
 pub may_fly-sends_alone :
     (event : Event) (h : Happening) (w : World) (ahead back : List InFlight) (done : Done)
     → IsAsked event h w back done → ahead ≡ all_in_flight w.b.towards → may_fly done.frames ahead back ≡ sends_alone w
@@ -60,7 +60,7 @@ cause_is number event w refused quiet there r q =
     ∙ ap (λ x. cause_by x (sends_alone w event) number) r
     ∙ ap (λ x. cause_by refused x number) q
 
--- the frames that were sent fly behind the others
+-- the frames that were sent fly after the others
 sent_behind :
     (event : Event) (h : Happening) (w : World) (ahead back behind : List InFlight) (done : Done) (told : List Told)
     → IsAsked event h w back done → ahead ≡ all_in_flight w.b.towards → Flew done (hears_ask h) ahead back behind told

@@ -198,12 +198,12 @@ read_by OneTwentyEight Eight (Ui flag pid rest) is octets =
 read_by OneTwentyEight Eight (Other which flag rest) is octets =
     record { kind_is = record { numbered = tt; fits = tt }; spelling = refl }
 
--- what is read of the octets of a frame, where they are read as one frame at most
+-- what is read of the octets of a frame, if they are read as one frame at most
 pub record IsReading (read : Modulus) (octets : List ℕ) (answer : Result Frame FrameFault) : Type 0 where
   pub frame : IfOk answer (λ g. IsFrame g read octets)
   pub each_frame : (g : Frame) → IsFrame g read octets → (answer ≡ Ok g) ⊎ (answer ≡ Err Memory)
 
--- the octets behind the address are read as the kind
+-- the octets after the address are read as the kind
 body_read :
     (written read : Modulus) (frame : Frame) (octets : List ℕ) (is : IsFrame frame written octets)
     → All (λ o. o < 256) octets → IsReadBy read (drop is.len octets) (kind_read written read frame.kind)
@@ -212,7 +212,7 @@ body_read written read frame octets is low =
     (read_by written read frame.kind is.kind
     (subst (All (λ o. o < 256)) is.body (All-drop (λ o. o < 256) is.len octets low)))
 
--- where a kind is read, so is the frame
+-- if a kind is read, so is the frame
 frame_by :
     (written read : Modulus) (frame : Frame) (octets : List ℕ) → IsFrame frame written octets
     → All (λ o. o < 256) octets → (kind : Kind) → kind_read written read frame.kind ≡ Some kind
@@ -222,7 +222,7 @@ frame_by written read frame octets is low kind e =
     subst (IsReadBy read (drop is.len octets)) e (body_read written read frame octets is low) in
     record { len = is.len; path = is.path; kind = body.kind_is; body = body.spelling }
 
--- and where none is read, there is no frame
+-- and if none is read, there is no frame
 none_by :
     (written read : Modulus) (frame g : Frame) (octets : List ℕ) → IsFrame frame written octets
     → All (λ o. o < 256) octets → kind_read written read frame.kind ≡ None → IsFrame g read octets → ⊥

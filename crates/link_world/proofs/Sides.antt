@@ -100,7 +100,7 @@ asked_noisy request end number w near_old near far_old done fault both steps fre
     (steps.does w.a.end.machine both.of_near.link))
     (is_free request end w.a.end.machine free) both stayed
 
--- The frame at the front, where there is one, is what the end hears, as its link reads it.
+-- The frame at the front, if there is one, is what the end hears, as its link reads it.
 pub record IsHeard (end : End) (w : World) (frame : Frame) (back : List InFlight) (done : Done) : Type 0 where
   pub tagged : Tagged
   pub asked : IsAsked (Hear end) (Hears (record tagged { frame = frame })) w back done

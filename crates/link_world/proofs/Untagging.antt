@@ -19,7 +19,7 @@ use Rattle.link_world.specs.StandsFor.{sent_tagged}
 use Rattle.link_world.specs.Untagged.{UntaggedWorld, hear_frame, link_turn, frames, untagged, untagged_from, untagged_near_step, untagged_step}
 use Rattle.link_world.proofs.TagLemmas.{frames-tagged, map-remove}
 
--- frames that are sent go behind the others
+-- frames that are sent go after the others
 frames-sent :
     (h : Happening) (r : RecordedEnd) (ahead : List Tagged)
     → let turn = link_step r.machine (seen h) in
@@ -51,7 +51,7 @@ nothing_sent : (a b : Machine) (to_a : List SentFrame) (tags : List Tagged) → 
     world_of a b to_a (frames tags ++ [])
 nothing_sent a b to_a tags = ap (λ fs. world_of a b to_a fs) (map-append sent_tagged tags [])
 
--- the frame at the front is heard, where there is one and it is not refused
+-- the frame at the front is heard, if there is one and it is not refused
 heard :
     (end : End) (r : RecordedEnd) (tags : List Tagged) (b : Side)
     → let w : World = record { a = record { end = r; towards = tags }; b = b } in

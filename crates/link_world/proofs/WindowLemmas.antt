@@ -13,7 +13,7 @@ fits_or_not : (modulus window : ℕ) (mode : Mode) → IsWindow modulus window m
 fits_or_not modulus window mode h (inl none) = let low = h.0 in omega arith
 fits_or_not modulus window mode h (inr large) = let high = h.1 in omega arith
 
--- where both windows fit, none is refused
+-- if both windows fit, none is refused
 pub none_refused : (p : Params) (window : ℕ) → HasWindows p → IsRefusedWindow p window → ⊥
 none_refused p window h (inl r) = fits_or_not 8 p.window p.mode h.0 r.1
 none_refused p window h (inr r) = fits_or_not 128 p.wide_window p.mode h.1 r.2

@@ -43,7 +43,7 @@ is_numbered (Setup which flag) = false
 is_numbered (Ui flag pid octets) = false
 is_numbered (Other which flag octets) = false
 
--- The set-up that an unnumbered frame belongs to, of an end that has had so many: the running one where the end is up,
+-- The set-up that an unnumbered frame belongs to, of an end that has had so many: the running one if the end is up,
 -- and else the one that it would open next.
 abbrev pub set_up_now : LinkState → ℕ → ℕ
 set_up_now Idle count = count

@@ -119,7 +119,7 @@ asking frames = count_by (λ (f : InFlight). asks f.sent.frame.kind) frames
 abbrev pub answering : List InFlight → ℕ
 answering frames = count_by (λ (f : InFlight). f.answers) frames
 
--- whether the frames may be sent, where these are in flight to the other end and back
+-- whether the frames may be sent, if these are in flight to the other end and back
 abbrev pub may_fly : List SentFrame → List InFlight → List InFlight → Bool
 may_fly frames ahead back = is_alone (asking_frames frames) (asking ahead + answering back)
 
@@ -135,7 +135,7 @@ pub record MadeStep (event : Event) (number : ℕ) (w : World) (near far : HeldS
   pub stands : StandForBoth near far (near_step event w)
   pub tells : told ≡ (near_turn event w).told
 
--- the frames of an event went behind those in flight
+-- the frames of an event went after those in flight
 pub record Flew (done : Done) (on_ask : Bool) (ahead back behind : List InFlight) (told : List Told) : Type 0 where
   pub quiet : may_fly done.frames ahead back ≡ true
   pub towards : behind ≡ ahead ++ map (flying on_ask) done.frames

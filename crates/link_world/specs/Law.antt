@@ -53,7 +53,7 @@ NumbersAreValid w [] = Unit {0}
 NumbersAreValid w (event ∷ events) =
     IsTrue (hears_valid event (seen_from (end_of event) w)) × NumbersAreValid (step w event) events
 
--- what holds behind a run: each end got in order what the other was given
+-- what holds after a run: each end got in order what the other was given
 pub record KeepsOrder (w : World) (events : List Event) : Type 0 where
   pub a : let now = run w events in GotInOrder now.a.end now.b.end
   pub b : let now = run w events in GotInOrder now.b.end now.a.end

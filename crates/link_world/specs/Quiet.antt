@@ -57,7 +57,7 @@ is_called (Tick end waiting) w = false
 is_called (Hear end) w = is_idle w.a.end.machine.control.state && begins_with_sabm w.a.towards
 is_called (Lose end index) w = false
 
--- an idle end hears SABM or SABME only where no SABM, SABME or DISC of its own is in flight
+-- an idle end hears SABM or SABME only when no SABM, SABME or DISC of its own is in flight
 abbrev pub called_alone : World → Event → Bool
 called_alone w event = not (is_called event w) || (asks_in w.b.towards == 0)
 

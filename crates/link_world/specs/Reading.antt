@@ -12,14 +12,14 @@ use Rattle.ax25_frames.specs.declared.frame.Kind.TheVariants.{Info, Super, Setup
 abbrev pub is_odd : ℕ → Bool
 is_odd n = n % 2 == 1
 
--- An I frame of modulus 8, read modulo 128: the octet behind the control octet, its PID, is read as the second control
+-- An I frame of modulus 8, read modulo 128: the octet after the control octet, its PID, is read as the second control
 -- octet, and the next one as the PID. Without a next one it is refused.
 abbrev pub info_read_wide : (ns nr : ℕ) → Bool → (second : ℕ) → List ℕ → Option Kind
 info_read_wide ns nr poll second [] = None
 info_read_wide ns nr poll second (pid ∷ octets) =
     Some (Info (16 * nr + 8 * bit poll + ns) (second / 2) (is_odd second) pid octets)
 
--- An S frame has no octet behind it, and is refused. A U frame is the same in both.
+-- An S frame has no octet after it, and is refused. A U frame is the same in both.
 abbrev pub read_wide : Kind → Option Kind
 read_wide (Info ns nr poll pid octets) = info_read_wide ns nr poll pid octets
 read_wide (Super which nr flag) = None

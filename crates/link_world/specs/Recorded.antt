@@ -23,7 +23,7 @@ use Rattle.link_world.specs.SetUps.{SetUp, opened, giving, getting, acting, chan
 
 pub record RecordedEnd : Type 0 where
   pub machine : Machine
-  -- its set-ups so far; the last is the running one where the link is up
+  -- its set-ups so far; the last is the running one if the link is up
   pub set_ups : List SetUp
   -- the packets given in the call that is under way; they belong to the set-up that it opens
   pub waiting : List Packet
@@ -109,7 +109,7 @@ waiting_in Calling waiting = waiting
 waiting_in Up waiting = []
 waiting_in Releasing waiting = []
 
--- the end behind what happened, where its link makes this turn
+-- the end after what happened, if its link makes this turn
 abbrev pub behind : Happening → RecordedEnd → Turn → RecordedEnd
 behind h r turn =
     let noted = noting h r in

@@ -9,7 +9,7 @@ pub record HasHalfWindows (p : Params) : Type 0 where
   pub narrow : p.window ≤ 4
   pub wide : p.wide_window ≤ 64
 
--- Each end has windows of its mode. Where one of the two keeps frames ahead of a gap, all windows are at most half their
+-- Each end has windows of its mode. If one of the two keeps frames ahead of a gap, all windows are at most half their
 -- modulus.
 pub record WindowsFit (a b : Params) : Type 0 where
   pub of_a : HasWindows a

@@ -58,7 +58,7 @@ abbrev pub hearing_as : Tagged → Option Frame → Option Happening
 hearing_as tagged None = None
 hearing_as tagged (Some frame) = Some (Hears (record tagged { frame = frame }))
 
--- the end hears the frame at the front, where there is one, in its own modulus
+-- the end hears the frame at the front, if there is one, in its own modulus
 abbrev pub hearing_first : ℕ → List Tagged → Option Happening
 hearing_first modulus [] = None
 hearing_first modulus (tagged ∷ rest) = hearing_as tagged (read_in modulus tagged)
@@ -89,7 +89,7 @@ turn_of (Some h) r = end_turn h r
 abbrev pub near_turn : Event → World → EndTurn
 near_turn event w = turn_of (happening event w.a.end.machine.incoming.modulus w.a.towards) w.a.end
 
--- the frames that are sent go behind those in flight towards the other end
+-- the frames that are sent go after those in flight towards the other end
 abbrev pub near_step : Event → World → World
 near_step event w =
     let turn = near_turn event w in
@@ -105,7 +105,7 @@ step w event = seen_from (end_of event) (near_step event (seen_from (end_of even
 abbrev pub told_by : World → Event → List Told
 told_by w event = (near_turn event (seen_from (end_of event) w)).told
 
--- the world behind a list of events
+-- the world after a list of events
 abbrev pub run : World → List Event → World
 run w [] = w
 run w (event ∷ events) = run (step w event) events

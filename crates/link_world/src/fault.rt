@@ -20,7 +20,7 @@ pub enum WorldFault {
     /// stopped: every later event is refused so.
     #[error("event {index} enters a channel that is not quiet")]
     NotQuiet {
-        /// The number of the event, where all calls are counted from 1.
+        /// The number of the event, all calls counted from 1.
         index: u64,
     },
     /// Memory was not given.

@@ -21,7 +21,7 @@ pub(crate) struct InFlight {
 }
 
 impl InFlight {
-    /// What a link in a modulus reads in the octets of the frame; `None` where it refuses them.
+    /// What a link in a modulus reads in the octets of the frame; `None` if it refuses them.
     pub(crate) fn read_in(
         &self,
         alloc: Global,

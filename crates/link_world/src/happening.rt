@@ -142,7 +142,7 @@ fn hear(
     Ok(told)
 }
 
-/// Sends what a link sent on its way to `far`, where `heard` of the frames towards `near` were heard. A SABM, SABME or DISC
+/// Sends what a link sent on its way to `far`, if `heard` of the frames towards `near` were heard. A SABM, SABME or DISC
 /// is refused unless it is alone.
 fn deliver(
     near: &Side,

@@ -9,13 +9,13 @@ ghost use Rattle.link_world.specs.Changes.{ChangesLaw, AreQuiet, run_changes};
 ghost use Rattle.link_world.specs.Changes.Change.{Happens};
 
 /// What the two links do, and which frames are in flight, never depends on tags and records: without them the step of a
-/// world is one step of one machine, whose frames go behind those in flight to the other, or the loss of a frame.
+/// world is one step of one machine, whose frames go after those in flight to the other, or the loss of a frame.
 pub fn tags_do_not_matter()
     ensures { (w : World) (event : Event) → untagged (step w event) ≡ untagged_step (untagged w) event }
 {}
 
 /// The law of two links. In every run of events from a new world whose windows fit each other, in which each SABM and DISC
-/// enters a quiet channel and an idle end hears a SABM only where no SABM or DISC of its own is in flight: what each set-up
+/// enters a quiet channel and an idle end hears a SABM only when no SABM or DISC of its own is in flight: what each set-up
 /// of an end got is, packet for packet and in order, a prefix of what the other end was given in one set-up of its own, its
 /// origin; origins rise strictly; a set-up acts on frames of one set-up alone; and no link that is up hears an invalid N(R).
 /// So nothing is made up, doubled or put in another order, whatever is lost. That anything arrives is not said.

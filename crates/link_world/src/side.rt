@@ -57,7 +57,7 @@ impl Side {
             .count()
     }
 
-    /// How many answers to one are in flight towards it, behind the first `heard` frames.
+    /// How many answers to one are in flight towards it, after the first `heard` frames.
     pub(crate) fn answering(&self, heard: usize) -> usize
         ensures { result ≡ answering (drop heard self.now.towards.items) }
     {
@@ -68,7 +68,7 @@ impl Side {
             .count()
     }
 
-    /// Puts the frames behind those in flight towards it.
+    /// Puts the frames after those in flight towards it.
     pub(crate) fn append(&mut self, frames: Vec<SentFrame>, on_ask: bool)
         requires { deque_len self.old.towards + length frames.items ≤ deque_capacity self.old.towards }
         ensures link { self.new.link ≡ self.old.link }

@@ -80,7 +80,7 @@ impl World {
     /// and each leaves both links and all frames in flight as they were. Once the channel was not quiet the world has
     /// stopped, and refuses every event alike.
     pub fn apply(&mut self, event: Event) -> Result<Vec<Told>, WorldFault>
-        // Where the links and the frames stand for a world, the event is the step of that world.
+        // If the links and the frames stand for a world, the event is the step of that world.
         ensures stands_for { (w : State) → StandsFor self.old w → OnOk result (StandsFor self.new (step w event)) }
         ensures told { (w : State) → StandsFor self.old w → IfOk result (λ told. told.items ≡ told_by w event) }
         ensures unchanged { (w : State) → StandsFor self.old w → OnErr result (StandsFor self.new w) }
@@ -88,7 +88,7 @@ impl World {
         // What is refused leaves the links, the frames in flight and the one to be heard as they were.
         ensures kept { OnErr result (IsAlike self.old self.new) }
 
-        // It is refused exactly where there is a cause, or memory was not given.
+        // It is refused exactly when there is a cause, or memory was not given.
         ensures refused { (w : State) (fault : WorldFault) → StandsFor self.old w
             → cause_in self.old.stopped self.new.calls w event ≡ Some fault
             → (result ≡ Err fault) ⊎ (result ≡ Err WorldFault.Memory) }

@@ -31,7 +31,7 @@ impl Spent {
         self.calls = self.calls.saturating_add(more.calls);
     }
 
-    /// Picoseconds a call, and 0 where there was none.
+    /// Picoseconds a call, and 0 if there was none.
     fn picoseconds(&self) -> u128
         ensures { as_nanos self.now.time < 2 ^ 64 → result ≡ as_nanos self.now.time * 1000 / self.now.calls }
     {

@@ -32,7 +32,7 @@ places-more p n =
 one_passes : (p : ℕ → Bool) (n : ℕ) (b : Bool) → p n ≡ b → filter p (n ∷ []) ≡ (if b then n ∷ [] else [])
 one_passes p n b is = ap (λ t. if t then n ∷ [] else []) is
 
--- where the lane reads
+-- if the lane reads
 pub lane_tones-read : (x : List ℤ) (lane place : ℕ) → is_read_at x lane place ≡ true
     → lane_tones x lane (place + 1) ≡ lane_tones x lane place ++ tone_read x lane place ∷ []
 unfolding lane_tones

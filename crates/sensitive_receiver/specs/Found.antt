@@ -10,7 +10,7 @@ pub record CanBePut (item : Candidate) : Type 0 where
   pub lane : item.offset < 23
   pub end : item.end < 2 ^ 64 - 1
 
--- the items are all that the added lanes hear where a place and a lane are of some kind, each once, in any order
+-- the items are all that the added lanes hear at a place and in a lane of some kind, each once, in any order
 pub record AreAddedWhere (Of : ℕ → ℕ → Type 0) (x : List ℤ) (items : List Candidate) : Type 0 where
   pub each : All (λ item. (place : ℕ) × Of place item.offset × EndsAtPlace x item place) items
   pub whole : (item : Candidate) (place : ℕ) → Of place item.offset → EndsAtPlace x item place → Contains items item

@@ -4,7 +4,7 @@
 //! The eight lanes of `slicer_bank` decide each bit by itself, at a fixed offset. Fifteen more read tones that
 //! `tone_tracking` decides in phase over several bits: eight at fixed offsets, and seven at the places that a clock
 //! gives, which follows the sender's. An added lane reports a frame only if the frame begins with a path (AX.25 2.2
-//! section 3.12) and its closing flag ends in time, since chance makes a frame of noise more often where more lanes
+//! section 3.12) and its closing flag ends in time, since chance makes a frame of noise more often if more lanes
 //! listen. All candidates are merged, so each frame comes once.
 //!
 //! What is promised: the items are exactly the merged candidates of all lanes, which are a definition over the whole

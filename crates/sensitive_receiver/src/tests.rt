@@ -72,7 +72,7 @@ fn note(places: &mut Vec<(u64, u8)>, candidates: Vec<Candidate>) -> Result<(), O
     Ok(())
 }
 
-/// The ends and lanes of the items, where the samples come in blocks of one length.
+/// The ends and lanes of the items, if the samples come in blocks of one length.
 fn items_in_blocks(
     alloc: Global,
     samples: &[i16],

@@ -118,7 +118,7 @@ file_verdict rates Wav octets file verdict is h = ap fault_in_verdict (is octets
 
 -- ---- faults
 
--- a fault at which reading stops stops it where more follows, too
+-- a fault at which reading stops stops it if more follows, too
 pub stops_still : (rates : Rates) (form : AudioForm) (octets more : List ℕ) (fault : InputFault) → stopping_fault_at rates form octets ≡ Some fault → stopping_fault_at rates form (octets ++ more) ≡ Some fault
 stops_still rates Raw octets more fault e = absurd cc
 stops_still rates Wav octets more fault e = by_fault (fault_in rates octets) refl e
@@ -127,7 +127,7 @@ stops_still rates Wav octets more fault e = by_fault (fault_in rates octets) ref
     by_fault None is k = absurd cc
     by_fault (Some wav) is k = ap (option_map BadWav) (fault_stays rates octets more wav is) ∙ k
 
--- where it shows there is no sample
+-- if it shows there is no sample
 pub stops_silent : (rates : Rates) (form : AudioForm) (octets : List ℕ) (fault : InputFault) → stopping_fault_at rates form octets ≡ Some fault → samples_at rates form octets ≡ []
 stops_silent rates Raw octets fault e = absurd cc
 stops_silent rates Wav octets fault e = by_fault (fault_in rates octets) refl e
@@ -159,7 +159,7 @@ samples_begin (low ∷ []) [] = ([], refl)
 samples_begin (low ∷ []) (high ∷ more) = (samples (low ∷ high ∷ more), refl)
 samples_begin (low ∷ high ∷ octets) more = let h = samples_begin octets more in (h.0, ap (λ t. sample_of low high ∷ t) h.1)
 
--- the samples of what was taken are the first of those with more behind it
+-- the samples of what was taken are the first of those with more after it
 pub begins_with : (rates : Rates) (form : AudioForm) (audio : Audio) (octets more : List ℕ) → HasTakenAt rates form audio octets
     → (rest : List ℤ) × (samples_at rates form (octets ++ more) ≡ samples_at rates form octets ++ rest)
 begins_with rates Raw audio octets more h = samples_begin octets more

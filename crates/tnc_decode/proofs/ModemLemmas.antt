@@ -80,7 +80,7 @@ settled_rises Wide x y =
 settled_rises Sensitive x y = let size = length-append x y in (omega arith, omega arith)
 settled_rises ShortWave x y = let size = length-append x y in (omega arith, omega arith)
 
--- where all end at or after 0, the part from 0 is the part below
+-- if all end at or after 0, the part from 0 is the part below
 pub from_zero : (to : ℕ) (items : List Candidate) → between 0 to items ≡ below to items
 from_zero to items = between_all 0 to items (λ k d l. omega arith)
 

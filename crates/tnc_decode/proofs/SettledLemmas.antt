@@ -1,4 +1,4 @@
--- What octets settle: with more octets behind them, at the end of the input, and as a first part of what the whole input gives.
+-- What octets settle: with more octets after them, at the end of the input, and as a first part of what the whole input gives.
 use Rattle.std.proofs.Common.{◌≡◌, ℕ, ◌-◌, ◌≤◌, ℤ, List, [], ◌++◌, length, refl, ap, sym, subst, ◌∙◌, arith, append_assoc, inl, inr}
 use Rattle.std.specs.Prelude.{Option, Some}
 use Rattle.std.proofs.lemmas.List.{append-nil, map-append}
@@ -167,7 +167,7 @@ early_part words front octets rest text all_text y parts longer few h d =
       s.2 ∙ ap (λ t. print words.frames (frames_of t)) halves.1 ∙ print-append words.frames early halves.0,
     )
 
--- where the output failed at what followed
+-- if the output failed at what followed
 pub wrote_most : (words : DecodeWords) (front read piece text next rest before : List ℕ) (y : List ℤ) (now : Option (List ℕ)) → read ≡ front ++ piece
     → samples_of words read ≡ samples_of words front ++ y → length y ≤ 2048
     → IsSettled words front text → IsDecoded words read ((text ++ next) ++ rest)

@@ -74,7 +74,7 @@ module _ (rates : Rates) where
   widths [] = 0
   widths (field ∷ others) = width_of field + widths others
 
-  -- fields that are there are judged alike with more octets behind them
+  -- fields that are there are judged alike with more octets after them
   fields_whole : (list : List Field) (place : ℕ) (octets more : List ℕ) → widths list ≤ length octets
       → field_fault rates list place (octets ++ more) ≡ field_fault rates list place octets
   fields_whole [] place octets more enough = refl
@@ -99,7 +99,7 @@ module _ (rates : Rates) where
 
   -- ---- chunks
 
-  -- behind the format no fault shows
+  -- after the format no fault shows
   faultless : (rate : Option ℕ) (list : List Chunk) → (formatted rate list).fault ≡ None
   faultless rate [] = refl
   faultless rate (chunk ∷ others) =
@@ -156,7 +156,7 @@ module _ (rates : Rates) where
         let both : None ≡ Some shown = sym (ap (λ list. tells (unformatted rates list)) (chunks_short place octets short) ∙ nothing) ∙ e in
         cc
 
-    -- a fault in the first chunk stays, and so does one behind it, where each fault of fewer octets does
+    -- a fault in the first chunk stays, and so does one after it, if each fault of fewer octets does
     chunk_stays : (place : ℕ) (octets more : List ℕ) (shown : X)
         → ((place : ℕ) (others : List ℕ) → length others < length octets → tells (unformatted rates (chunks place others)) ≡ Some shown → tells (unformatted rates (chunks place (others ++ more))) ≡ Some shown)
         → (size : ℕ) → little_number 4 (drop 4 octets) ≡ size → 8 ≤ length octets → tells (unformatted rates (chunks place octets)) ≡ Some shown
@@ -312,7 +312,7 @@ module _ (rates : Rates) where
   quiet_unless (Some fault) r h e = refl
   quiet_unless None r h e = h e
 
-  -- behind a format that is not there to its end stands no chunk
+  -- after a format that is not there to its end stands no chunk
   quiet_formatted : (place size : ℕ) (behind : List ℕ) → 16 ≤ size → IsQuiet (formatted (rate_at_front behind) (chunks place (drop (padded size) behind)))
   quiet_formatted place size behind large e =
       elim (cases_lt (length behind) 16) [

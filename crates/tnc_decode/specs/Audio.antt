@@ -15,9 +15,9 @@ use Rattle.tnc_words.specs.declared.command.DecodeWords.{DecodeWords}
 use Rattle.tnc_words.specs.declared.command.Receiving.{Receiving}
 use Rattle.tnc_words.specs.declared.command.Receiving.TheVariants.{Standard, Sensitive, ShortWave}
 
--- ---- of a form, where a WAV file may have some rates
+-- ---- of a form, if a WAV file may have some rates
 
--- the samples of an input, those before a fault where there is one
+-- the samples of an input, those before a fault if there is one
 abbrev pub samples_at : Rates → AudioForm → List ℕ → List ℤ
 samples_at rates Raw octets = samples octets
 samples_at rates Wav octets = samples_in rates octets

@@ -1,4 +1,4 @@
--- What of a decoded text was written, where the output failed.
+-- What of a decoded text was written, if the output failed.
 use Rattle.std.specs.Prelude.{◌≡◌, ℕ, ◌-◌, List, ◌++◌, Option, Some}
 use Rattle.tnc_words.specs.declared.command.DecodeWords.{DecodeWords}
 use Rattle.tnc_decode.specs.Decoded.{IsDecoded}

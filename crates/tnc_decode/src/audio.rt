@@ -122,7 +122,7 @@ fn take_pcm(low: &mut Option<u8>, octets: &[u8], samples: &mut Vec<i16>) -> Resu
     Ok(())
 }
 
-/// Appends the samples of octets by twos, and gives an odd octet behind them.
+/// Appends the samples of octets by twos, and gives an odd octet after them.
 #[tactic(auto, unfolding(wav_file::specs::Samples::sample_of))]
 fn take_pairs(octets: &[u8], samples: &mut Vec<i16>) -> Result<Option<u8>, OutOfMemory>
     ensures odd { IfOk result (λ odd. odd ≡ odd_octet octets.now) }

@@ -166,7 +166,7 @@ stray_part (Serve options) octets text h = absurd h
 stray_part (Help topic) octets text h = absurd h
 stray_part Version octets text h = absurd h
 
--- what a command wrote is what its run wrote, also where its line could not be told
+-- what a command wrote is what its run wrote, also if its line could not be told
 module _ (command : Command) (octets : List ℕ) (left : Option (List ℕ)) (text : List ℕ) where
   pub told_writes : (end : Result (Unit {0}) Stop) (status : Status) → EndsAs end status
       → ((fault : InputFault) → end ≡ Err (Input fault) → fault_of command octets ≡ Some fault)

@@ -58,7 +58,7 @@ not_quiet_line index = codes "tnc: not quiet" ++ at_place index
 abbrev pub spent_line : ℕ → List ℕ
 spent_line ticks = codes "tnc: spent after " ++ (decimal ticks ++ (codes " ticks" ++ 10 ∷ []))
 
--- the line for what stopped a command, where there is one
+-- the line for what stopped a command, if there is one
 abbrev pub line_of : Stop → List ℕ
 line_of (Input fault) = input_line fault
 line_of (Stray octets) = stray_line octets

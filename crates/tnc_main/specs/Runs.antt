@@ -58,7 +58,7 @@ Writes command octets left NotQuiet text = text ≡ []
 Writes command octets left Spent text = text ≡ []
 Writes command octets left NoPort text = ⊥
 
--- Why a run ends with a status, where that lies in the octets or in what the command sent to itself.
+-- Why a run ends with a status, if that lies in the octets or in what the command sent to itself.
 abbrev pub IsCaused : Command → List ℕ → Status → Type 0
 IsCaused command octets Done = fault_of command octets ≡ None
 IsCaused command octets BadWords = ⊥

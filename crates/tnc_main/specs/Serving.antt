@@ -33,7 +33,7 @@ status_of_end ReadFault = InputFailed
 status_of_end WriteFault = OutputFailed
 status_of_end NoPort = PortsFailed
 
--- the last line of the report, where an end has one
+-- the last line of the report, if an end has one
 abbrev pub last_line : ServeEnd → Option (List ℕ)
 last_line Done = None
 last_line TooLong = Some (input_line InputTooLong)
@@ -60,7 +60,7 @@ pub record LacksLine (line : List ℕ) (before after : Outside) : Type 0 where
   pub failed : HasRisen before.report_faults after.report_faults
   pub others : StaysButReport before after
 
--- A line is told with its status, or it could not be written, which is a write fault. Where there is none, nothing is told.
+-- A line is told with its status, or it could not be written, which is a write fault. If there is none, nothing is told.
 abbrev pub IsToldAs : Option (List ℕ) → Status → Status → Outside → Outside → Type 0
 IsToldAs None own status before after = (status ≡ own) × (after ≡ before)
 IsToldAs (Some line) own status before after =

@@ -60,7 +60,7 @@ status_of (Err Memory) = NoMemory
 status_of (Err Read) = ReadFault
 status_of (Err Write) = WriteFault
 
--- an end has its own status, or where its line could not be made or written that of want of memory or of a write fault
+-- an end has its own status, or if its line could not be made or written that of want of memory or of a write fault
 abbrev pub EndsAs : Result (Unit {0}) Stop → Status → Type 0
 EndsAs end status = (status ≡ status_of end) ⊎ (IsErrAnd end IsTold × ((status ≡ NoMemory) ⊎ (status ≡ WriteFault)))
 

@@ -77,7 +77,7 @@ pub fn run<
     report: &mut E,
     live: &mut Live<N, W>,
 ) -> u8
-    // what the words may be: where they ask for nothing, nothing is touched but the report, and no port is opened but by serve
+    // what the words may be: if they ask for nothing, nothing is touched but the report, and no port is opened but by serve
     ensures bad_words { result ≡ 1 → AskNothing (map string_bytes words.now) }
     ensures refused { AskNothing (map string_bytes words.now) → (input.new ≡ input.old) × (output.new ≡ output.old)
         × ((result ≡ 1) ⊎ ((result ≡ 3) ⊎ (result ≡ 5))) }

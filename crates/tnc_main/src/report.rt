@@ -86,7 +86,7 @@ pub(crate) fn of_spent(alloc: Global, ticks: u64) -> Result<String, OutOfMemory>
     Ok(format!(in alloc; "tnc: spent after {ticks} ticks\n")?)
 }
 
-/// Reports the line, and answers the status that it explains, or a write fault where the report can't be written.
+/// Reports the line, and answers the status that it explains, or a write fault if the report can't be written.
 pub(crate) fn told<E: Sink>(report: &mut E, line: &str, status: Status) -> Status
     requires { status ≢ Status.WriteFault }
     ensures status { (result ≡ status) ⊎ (result ≡ Status.WriteFault) }

@@ -191,7 +191,7 @@ served words LoopFault pump end input left before after e h = subst (λ r. IsSer
 
 -- ---- the ports
 
--- the ports are opened where listening is no error
+-- the ports are opened if listening is no error
 pub has_opened : {T E : Type 0} → (words : ServeWords) (before after : Outside) (r : Result T E) (failed : Bool) → failed ≡ is_err r → failed ≡ false
     → ((was : List Listen) → before.listens ≡ Some was → OnOk r (after.listens ≡ Some (was ++ (record { kiss = words.kiss; agw = words.agw }) ∷ [])))
     → OnlyListens before after → HasOpened words before after

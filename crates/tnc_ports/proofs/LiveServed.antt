@@ -31,7 +31,7 @@ pub record IsServed (live : Live) : Type 0 where
   pub gaps : AreAllGaps live
   pub size : HasTicked live
 
--- where a turn is cut short, the last gaps may be missing
+-- if a turn is cut short, the last gaps may be missing
 pub record IsServedInPart (live : Live) : Type 0 where
   pub accounted : IsAccountedFor live
   pub gaps : AreFirstGaps live

@@ -29,7 +29,7 @@ use Rattle.tnc_ports.proofs.LiveWrites.{both_puts, reports_more, writes_more, no
 
 -- ---- lines
 
--- where all lines are printed, they may be any others
+-- if all lines are printed, they may be any others
 pub relined : (held : HeldHosts) (hosts : Hosts) (report : List ReportLine) → StandsFor held hosts.report hosts → StandsFor held report (record hosts { report = report })
 relined held hosts report h =
     let none : held.parts.report.items ≡ [] =
@@ -276,7 +276,7 @@ ticks_some busy count first before after live o o' o'' r r' r'' h so sr failed =
       (subst (λ f. WritesMore first.failed f live h.next o o' r r') (sym failed) h.writes));
 }
 
--- what holds at an error holds where there is one
+-- what holds at an error holds if there is one
 pub on_err : {T E : Type 0} → (r : Result T E) → (P : Type 0) → P → OnErr r P
 on_err (Ok v) P p = tt
 on_err (Err e) P p = p

@@ -62,7 +62,7 @@ fewer_ids id [] found = absurd (false≢true found)
 fewer_ids id (one ∷ ids) found =
     fewer_step (one == id) one (filter (λ other. not (other == id)) ids) ids (length_without_ids id ids) (λ here. fewer_ids id ids (rest_found (one == id) (is_among id ids) here found))
 
--- ---- the ids behind an event
+-- ---- the ids after an event
 
 pub among_there : (id : ℕ) (ids : List ℕ) → is_among id ids ≡ true → Any (λ other. other ≡ id) ids
 among_there id ids found =

@@ -25,7 +25,7 @@ is_full (Err Memory) = false
 pub memory_or_full : {T : Type 0} (r : Result T AppendFault) (fault : AppendFault) → r ≡ Err fault → fault ≡ Memory → r ≡ Err Full → ⊥
 memory_or_full r fault is memory full = false≢true (sym (ap is_full (is ∙ ap (λ f. Err f) memory)) ∙ ap is_full full)
 
--- what follows where there is a value
+-- what follows if there is a value
 pub on_ok_two : {T E P Q R : Type 0} (r : Result T E) → (P → Q → R) → OnOk r P → OnOk r Q → OnOk r R
 on_ok_two (Ok x) f p q = f p q
 on_ok_two (Err e) f p q = tt

@@ -1,4 +1,4 @@
--- The part of a turn that is for hosts, where memory is wanted in it and not given.
+-- The part of a turn that is for hosts, if memory is wanted in it and not given.
 use Rattle.std.specs.Prelude.{◌≡◌, ℕ, ◌⊎◌, List, [], ◌++◌}
 use Rattle.tnc_ports.specs.AskedPorts.{Told, AreUnasked, IsAsked}
 use Rattle.tnc_ports.specs.Hosts.{Hosts}

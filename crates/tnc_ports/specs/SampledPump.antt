@@ -26,7 +26,7 @@ HasPumped ring (After pumped) input left =
     × ReadFaults pumped.end input left
 HasPumped ring Nothing input left = ⊥
 
--- the ring is closed behind the loop and the pump
+-- the ring is closed after the loop and the pump
 pub record IsClosed (loop : LoopEnd) (end : ServeEnd) (lanes : List (List Got)) (input left : InputSide) : Type 0 where
   pub pump : PumpEnd
   pub published : List ℤ

@@ -25,7 +25,7 @@ pub record PutsAll (octets : List ℕ) (before after : Stream) : Type 0 where
 pub record PutsPart (octets : List ℕ) (before after : Stream) : Type 0 where
   pub written : (was : List ℕ) → before.written ≡ Some was → WrotePart was octets after.written
 
--- a write of octets, where `failed` says before and after it that a write failed
+-- a write of octets, if `failed` says before and after it that a write failed
 abbrev pub Puts : Bool → Bool → List ℕ → Stream → Stream → Type 0
 Puts true failed octets before after = (failed ≡ true) × (after ≡ before)
 Puts false false octets before after = PutsAll octets before after

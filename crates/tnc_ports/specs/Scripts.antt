@@ -62,7 +62,7 @@ abbrev pub has_to_wait : List ℕ → List HostEvent → HostEvent → Bool
 has_to_wait paused upto event =
     if is_paused paused (id_of event) then list_any (is_octets_of (id_of event)) upto else false
 
--- of these events, behind those before them, the ones that have to wait, and the ones that need not
+-- of these events, after those before them, the ones that have to wait, and the ones that need not
 abbrev pub waiting_of : List ℕ → List HostEvent → List HostEvent → List HostEvent
 waiting_of paused before [] = []
 waiting_of paused before (event ∷ events) =

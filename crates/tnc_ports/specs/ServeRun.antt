@@ -26,7 +26,7 @@ abbrev pub answers_of_record : Track → List Got
 answers_of_record track = map (answer ring_cells) track.reads
 
 -- The records of the lanes' readers stand in the published list: each sample is that of its position, and each gap is a
--- part that was overwritten. Where every lane has met the end, samples and gaps tile the whole list.
+-- part that was overwritten. If every lane has met the end, samples and gaps tile the whole list.
 pub record LanesStandIn (published : List ℤ) (lanes : List (List Got)) : Type 0 where
   pub records : List Track
   pub answers : lanes ≡ map answers_of_record records
@@ -76,7 +76,7 @@ pub record InputSide : Type 0 where
 abbrev pub input_by : {I : Type 0} → (I → Option (List ℕ)) → (I → ℕ) → I → InputSide
 input_by left faults input = record { left = left input; faults = faults input }
 
--- reading failed exactly where the pump says so
+-- reading failed exactly when the pump says so
 abbrev pub ReadFaults : PumpEnd → InputSide → InputSide → Type 0
 ReadFaults InputEnd before after = after.faults ≡ before.faults
 ReadFaults PumpFailed before after = HasRisen before.faults after.faults

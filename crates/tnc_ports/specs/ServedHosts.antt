@@ -52,7 +52,7 @@ closed_by (SentLine text) = []
 abbrev pub ids_closed : List ReportLine → List ℕ
 ids_closed lines = flat_map closed_by lines
 
--- the first of the turns that shuts a connection finds that it had come, where these polls were made before
+-- the first of the turns that shuts a connection finds that it had come, if these polls were made before
 abbrev pub IsShutHavingCome : ℕ → List Poll → List Asked → Type 0
 IsShutHavingCome id polls [] = ⊥
 IsShutHavingCome id polls (asked ∷ turns) =

@@ -21,7 +21,7 @@ abbrev pub front_of : List (List ℕ) → List ℕ
 front_of [] = []
 front_of (piece ∷ pieces) = piece
 
--- what waits behind a piece of which this rest is left
+-- what waits after a piece of which this rest is left
 abbrev pub behind : List ℕ → List (List ℕ) → List (List ℕ)
 behind [] pieces = pieces
 behind (octet ∷ octets) pieces = (octet ∷ octets) ∷ pieces

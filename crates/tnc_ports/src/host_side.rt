@@ -144,7 +144,7 @@ impl HostSide {
     }
 
     /// The modulus in which a frame between two calls is read for who watches the channel: that of the link from the
-    /// first to the second, else of the link from the second to the first, and 8 where there is neither.
+    /// first to the second, else of the link from the second to the first, and 8 if there is neither.
     pub fn modulus(&self, first: &Call, second: &Call) -> Modulus
         ensures { (hosts : Hosts) (printed : List ReportLine) → StandsFor self.now printed hosts
             → result ≡ modulus_between first.now second.now hosts.station.links }

@@ -2,7 +2,7 @@
 //!
 //! A pump reads the sound and publishes its samples in a ring. Beside it the station's turns take the samples from
 //! there, and in each turn poll the sockets once and offer each host the rest of one piece. The sockets and the threads
-//! are behind two traits, so that all of this also runs in memory. What is promised: what the pump publishes is the
+//! are after two traits, so that all of this also runs in memory. What is promised: what the pump publishes is the
 //! samples of what it read; a host is sent its pieces whole and in order; a paused host gives no octets.
 #![tactic(auto)]
 

@@ -35,7 +35,7 @@ impl Live<MemPorts, MemSpawner> {
         }
     }
 
-    /// The same, where each send takes at most `takes` octets.
+    /// The same, if each send takes at most `takes` octets.
     pub fn taking(
         alloc: Global,
         script: Vec<(u64, HostEvent)>,

@@ -6,7 +6,7 @@ use ax25_frames::{FrameFault, Modulus, read_frame, text_of, text_of_fault};
 use std::alloc::Global;
 use tnc_base::{Octets, OutOfMemory};
 
-/// The text of the frame that the octets are, or of what is wrong with them where they are none.
+/// The text of the frame that the octets are, or of what is wrong with them if they are none.
 pub(crate) fn frame_text(
     alloc: Global,
     octets: &[u8],

@@ -88,14 +88,14 @@ impl Outgoing {
         Ok(())
     }
 
-    /// True where nothing waits.
+    /// True if nothing waits.
     pub fn is_empty(&self) -> bool
         ensures { result ≡ (length self.now == 0) }
     {
         self.lens.is_empty()
     }
 
-    /// The rest of the front piece, in two parts that follow one another. Nothing, where nothing waits.
+    /// The rest of the front piece, in two parts that follow one another. Nothing, if nothing waits.
     pub fn front(&self) -> (&[u8], &[u8])
         ensures rest { result.0.now ++ result.1.now ≡ front_of self.now }
     {

@@ -2,7 +2,7 @@
 //!
 //! The calls are made in this order: `listen`, and then in each turn one `poll` and the `send`s. Like a stream, the
 //! sockets count their faults, so that nobody can blame them for a failure of its own, and they tell what was done
-//! with them where they know it. A contract on code that works with them can then say what it does to each connection.
+//! with them if they know it. A contract on code that works with them can then say what it does to each connection.
 ghost use Rattle.std.specs.Prelude.{◌≡◌, ◌≢◌, ℕ, ◌≤◌, ◌<◌, Bool, true, List, Option, Some, [], ◌∷◌, ◌++◌, All, length, take, IfOk, OnOk, OnErr, IsErrOf};
 ghost use Rattle.tnc_base.specs.Faults.{HasRisen};
 ghost use Rattle.tnc_ports.specs.declared.records.Listen.{Listen};
@@ -36,19 +36,19 @@ impl From<OutOfMemory> for PollFault {
 
 /// Where host programs connect.
 pub trait Ports {
-    /// The ports of each listen that did not fail, where the object tells them.
+    /// The ports of each listen that did not fail, if the object tells them.
     ghost listens: { Self → Option (List Listen) };
 
-    /// The polls, where the object tells them.
+    /// The polls, if the object tells them.
     ghost polls: { Self → Option (List Poll) };
 
-    /// Whether the connection of an id came and was shut, where the object tells it.
+    /// Whether the connection of an id came and was shut, if the object tells it.
     ghost is_shut: { Self → ℕ → Option Bool };
 
-    /// The octets that the connection of an id was sent, where the object tells them.
+    /// The octets that the connection of an id was sent, if the object tells them.
     ghost sent: { Self → ℕ → Option (List ℕ) };
 
-    /// The sends that did not fail, where the object tells them.
+    /// The sends that did not fail, if the object tells them.
     ghost sends: { Self → Option (List Send) };
 
     /// How often a call has failed.

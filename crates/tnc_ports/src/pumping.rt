@@ -102,7 +102,7 @@ fn fill<I: Source>(source: &mut I, ring: &Ring, writer: &mut Writer) -> PumpEnd
     PumpEnd::TooLong
 }
 
-/// Publishes the samples that end in these octets, where `low` is the low octet of a sample that is not whole yet.
+/// Publishes the samples that end in these octets; `low` is the low octet of a sample that is not whole yet.
 fn publish(ring: &Ring, writer: &mut Writer, low: &mut Option<u8>, octets: &[u8])
     requires ring { writer_ring writer.old ≡ ring_id ring.now }
     requires room { length (published_by writer.old) + length octets.now < 2 ^ 48 - 2 }

@@ -2,7 +2,7 @@
 //!
 //! `mio` reports a change once. So each socket keeps whether it may have more octets, from the event that says so until
 //! a read would block, also while its connection is paused. A poll takes one piece of each such socket, and waits only
-//! where none is left that may have more.
+//! if none is left that may have more.
 ghost use Rattle.std.specs.Prelude.{◌≡◌, ◌≢◌, ℕ, List, ◌≤◌, None, All, length, IfSome, OnOk};
 ghost use Rattle.tnc_base.specs.Faults.{next_count};
 ghost use Rattle.tnc_ports.specs.Sockets.{MayCome};
@@ -202,7 +202,7 @@ fn open_door<R: Net>(
     })
 }
 
-/// How long a poll waits: not at all where a connection that is not paused may have more octets.
+/// How long a poll waits: not at all if a connection that is not paused may have more octets.
 fn wait_of(sockets: &[Socket], wait_ms: u32, paused: &[u32]) -> Duration {
     for socket in sockets {
         if socket.ready && !paused.contains(&socket.id) {

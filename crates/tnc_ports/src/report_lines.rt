@@ -19,7 +19,7 @@ pub(crate) fn text_of_lines(alloc: Global, lines: &[ReportLine]) -> Result<Vec<u
     Ok(text)
 }
 
-/// The text of some lines and of those behind them.
+/// The text of some lines and of those after them.
 pub(crate) fn text_of_both(
     alloc: Global,
     lines: &[ReportLine],
@@ -51,7 +51,7 @@ fn text_of_line(alloc: Global, line: &ReportLine) -> Result<Vec<u8>, OutOfMemory
     }
 }
 
-/// The text of a frame behind a word.
+/// The text of a frame after a word.
 fn shown(alloc: Global, word: &[u8], text: &Octets) -> Result<Vec<u8>, OutOfMemory>
     ensures { IfOk result (λ line. line.items ≡ word.now ++ text.now ++ 10 ∷ []) }
 {

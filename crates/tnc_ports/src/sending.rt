@@ -75,7 +75,7 @@ pub fn offer<R: Net, N: Ports>(
     Ok(count)
 }
 
-/// Sends the rest of the front piece. The two parts are joined only where the ring ends inside the piece.
+/// Sends the rest of the front piece. The two parts are joined only when the ring ends inside the piece.
 fn send_front<R: Net, N: Ports>(
     rt: &R,
     alloc: Global,

@@ -1,6 +1,6 @@
 //! One turn of a live station.
 //!
-//! Each step writes what it has to say once nothing of it can fail any more. So where memory is wanted, no line and no
+//! Each step writes what it has to say once nothing of it can fail any more. So if memory is wanted, no line and no
 //! sample is written of a step that did not come to its end.
 
 ghost use Rattle.std.specs.Prelude.{◌≡◌, ℕ, ◌+◌, ◌-◌, ◌*◌, ◌/◌, ◌^◌, ◌<◌, ◌≤◌, Bool, true, false, List, Option, Some, None, length, map, slice_index, fold, min, All, IfOk, OnOk, OnErr};
@@ -248,7 +248,7 @@ impl Turning {
         Ok(())
     }
 
-    /// The line of a frame that is heard, where a monitor asks for it.
+    /// The line of a frame that is heard, if a monitor asks for it.
     fn received_lines(&self, octets: &[u8]) -> Result<Vec<ReportLine>, OutOfMemory>
         ensures { (hosts : Hosts) (printed : List ReportLine) → StandsFor self.now.hosts printed hosts
             → IfOk result (λ lines. AreReceivedLines self.now.words.monitor octets.now hosts.station.links lines.items) }
@@ -262,7 +262,7 @@ impl Turning {
         Ok(lines)
     }
 
-    /// The line of the frame whose sending has ended with a tick, where there is one and a monitor asks for it.
+    /// The line of the frame whose sending has ended with a tick, if there is one and a monitor asks for it.
     fn sent_lines(&self, air: &AirTick) -> Result<Vec<ReportLine>, OutOfMemory>
         ensures { (hosts : Hosts) (printed : List ReportLine) → StandsFor self.now.hosts printed hosts
             → IfOk result (λ lines. AreSentLines self.now.words.monitor air.now.sent hosts.station.links lines.items) }

@@ -7,7 +7,7 @@ use Rattle.tnc_words.specs.declared.command.BenchOptions.{BenchOptions}
 use Rattle.tnc_words.specs.Commands.{IsEncode, IsLoop, IsBench}
 use Rattle.tnc_words.specs.Numbers.{GivesNumber, HasNumber}
 
--- a number is within bounds where the default is
+-- a number is within bounds if the default is
 at_least : (text : Option Text) (default least greatest number : ℕ) → HasNumber text default least greatest number
     → least ≤ default → least ≤ number
 at_least None default least greatest number h low = omega arith

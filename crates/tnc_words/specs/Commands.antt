@@ -21,7 +21,7 @@ use Rattle.tnc_words.specs.Numbers.{GivesNumber, HasNumber}
 abbrev pub first_word : List Text → Option Text
 first_word words = slice_get words 0
 
--- The options of decode. The rate is read also with --wav, where the file tells its own.
+-- The options of decode. The rate is read also with --wav, if the file tells its own.
 pub record HasDecodeOptions (found : List Row) (decode : DecodeWords) : Type 0 where
   pub audio : decode.audio ≡ audio_form found
   pub frames : decode.frames ≡ frame_form found
@@ -52,7 +52,7 @@ pub record IsEncode (words : List Text) (encode : EncodeWords) : Type 0 where
   pub taken : encode_faults words ≡ []
   pub options : HasEncodeOptions (encode_rows words) encode
 
--- The option of show: a modulus by how many sequence numbers it has, and 8 where none was given.
+-- The option of show: a modulus by how many sequence numbers it has, and 8 if none was given.
 pub record HasShowOptions (found : List Row) (show : ShowWords) : Type 0 where
   pub modulus : HasNumber (first_of (codes "modulo") found) 8 8 128 (numbers show.modulus)
 

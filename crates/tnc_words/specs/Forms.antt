@@ -1,4 +1,4 @@
--- How samples and frames come and go: raw PCM of Bell 202 and lines of hexadecimal digits, where no flag says otherwise.
+-- How samples and frames come and go: raw PCM of Bell 202 and lines of hexadecimal digits, if no flag says otherwise.
 use Rattle.std.specs.Prelude.{List, codes, if◌then◌else◌}
 use Rattle.clap.specs.Words.{Row}
 use Rattle.tnc_words.specs.declared.command.AudioForm.{AudioForm}

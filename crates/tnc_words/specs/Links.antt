@@ -15,7 +15,7 @@ abbrev pub mode_name : Mode → Text
 mode_name Rej = codes "rej"
 mode_name Srej = codes "srej"
 
--- the mode that an option names, or REJ where it was not given
+-- the mode that an option names, or REJ if it was not given
 abbrev pub HasMode : Option Text → Mode → Type 0
 HasMode None mode = mode ≡ Rej
 HasMode (Some text) mode = text ≡ mode_name mode
@@ -33,7 +33,7 @@ pub record HasParams (found : List Row) (params : Params) : Type 0 where
   pub said : SaysParams found params
   pub fit : HasWindows params
 
--- the call that an option spells, or none where it was not given
+-- the call that an option spells, or none if it was not given
 abbrev pub HasCall : Option Text → Option Callsign → Type 0
 HasCall None call = call ≡ None
 HasCall (Some text) call = (spelled : Callsign) × IsCallText text spelled × (call ≡ Some spelled)

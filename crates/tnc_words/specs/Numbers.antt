@@ -13,7 +13,7 @@ abbrev pub GivesNumber : Option Text → ℕ → ℕ → ℕ → Type 0
 GivesNumber None least greatest number = ⊥
 GivesNumber (Some text) least greatest number = IsNumber text number × (least ≤ number) × (number ≤ greatest)
 
--- an option's number, or the default where it was not given
+-- an option's number, or the default if it was not given
 abbrev pub HasNumber : Option Text → ℕ → ℕ → ℕ → ℕ → Type 0
 HasNumber None default least greatest number = number ≡ default
 HasNumber (Some text) default least greatest number = GivesNumber (Some text) least greatest number

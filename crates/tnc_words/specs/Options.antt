@@ -78,7 +78,7 @@ with_station app = with_rule (with_rule (with_rule app
 abbrev pub serve_app : App
 serve_app = with_station (with_wide_window (with_window (with_rule (with_ports (new_app (codes "serve"))) (option_rule (codes "seed")))))
 
--- Why clap refuses words, of which the first is the command's own: nothing where it takes them.
+-- Why clap refuses words, of which the first is the command's own: nothing if it takes them.
 unfoldable pub decode_faults : List Text → Kinds
 decode_faults words = fault_of decode_app words
 

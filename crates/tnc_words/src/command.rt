@@ -154,7 +154,7 @@ pub struct ServeOptions {
     pub seed: u64,
     /// What new links are made with. Each window fits its modulus.
     pub params: Params,
-    /// The call for which frames are repeated, where any are.
+    /// The call for which frames are repeated, if any are.
     pub digi: Option<Call>,
     /// From how many flags in a row on the channel is busy, 1 to 8.
     pub dcd: u8,

@@ -23,7 +23,7 @@ const RATES: Bounds = Bounds {
     greatest: 48_000,
 };
 
-/// `decode` and its options, behind its own word.
+/// `decode` and its options, after its own word.
 pub(crate) fn read_decode(alloc: Global, words: &[String]) -> Result<DecodeWords, WordsFault>
     requires { first_word (map string_bytes words.now) ≡ Some (codes "decode") }
     ensures taken { IfOk result (IsDecode (map string_bytes words.now)) }

@@ -37,7 +37,7 @@ const LEVEL: Bounds = Bounds {
     greatest: 32_767,
 };
 
-/// `encode` and its options, behind its own word.
+/// `encode` and its options, after its own word.
 pub(crate) fn read_encode(alloc: Global, words: &[String]) -> Result<EncodeWords, WordsFault>
     requires { first_word (map string_bytes words.now) ≡ Some (codes "encode") }
     ensures taken { IfOk result (IsEncode (map string_bytes words.now)) }

@@ -7,7 +7,7 @@ use crate::command::{AudioForm, FrameForm, Modem};
 use crate::parsing::has_flag;
 use clap::ArgMatches;
 
-/// The form of samples: a WAV file where `--wav` was given.
+/// The form of samples: a WAV file if `--wav` was given.
 pub(crate) fn audio_form(found: &ArgMatches) -> AudioForm
     ensures { result ≡ form_of_audio (rows_of (found_of found.now)) }
 {
@@ -17,7 +17,7 @@ pub(crate) fn audio_form(found: &ArgMatches) -> AudioForm
     AudioForm::Raw
 }
 
-/// The form of frames: KISS where `--kiss` was given.
+/// The form of frames: KISS if `--kiss` was given.
 pub(crate) fn frame_form(found: &ArgMatches) -> FrameForm
     ensures { result ≡ form_of_frames (rows_of (found_of found.now)) }
 {

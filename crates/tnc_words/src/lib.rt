@@ -2,7 +2,7 @@
 //! command, so that no other part looks at strings. Each command is a command of `clap`, an option is
 //! `--name value` or `--name=value`, and a number is decimal digits. What is promised: the command is
 //! exactly the one that the words ask for by the function of words that `clap` stands for, and words are
-//! refused exactly where they ask for none.
+//! refused exactly when they ask for none.
 #![tactic(auto)]
 
 mod bench_words;

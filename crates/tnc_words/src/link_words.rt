@@ -54,7 +54,7 @@ fn has_windows(params: Params) -> bool
         && check_window(128, params.wide_window, params.mode).is_ok()
 }
 
-/// The mode with the name in a text, or REJ where there is no text.
+/// The mode with the name in a text, or REJ if there is no text.
 fn mode(text: Option<&str>) -> Option<Mode>
     ensures mode { IfSome result (HasMode (option_map (λ t. t.now) text.entry)) }
     ensures none { IsNone result → (mode : Mode) → ¬ HasMode (option_map (λ t. t.now) text.entry) mode }
@@ -69,7 +69,7 @@ fn mode(text: Option<&str>) -> Option<Mode>
     }
 }
 
-/// The call of a text, or no call where there is no text. `None` where a text is no call.
+/// The call of a text, or no call if there is no text. `None` if a text is no call.
 pub(crate) fn call_said(text: Option<&str>) -> Option<Option<Call>>
     ensures call { IfSome result (HasCall (option_map (λ t. t.now) text.entry)) }
     ensures none { IsNone result → (call : Option Callsign) → ¬ HasCall (option_map (λ t. t.now) text.entry) call }

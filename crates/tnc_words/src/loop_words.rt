@@ -24,7 +24,7 @@ const FRAMES: Bounds = Bounds {
     greatest: 1000,
 };
 
-/// `loop` and its options, behind its own word.
+/// `loop` and its options, after its own word.
 pub(crate) fn read_loop(alloc: Global, words: &[String]) -> Result<LoopWords, WordsFault>
     requires { first_word (map string_bytes words.now) ≡ Some (codes "loop") }
     ensures taken { IfOk result (IsLoop (map string_bytes words.now)) }

@@ -9,7 +9,7 @@ pub(crate) struct Bounds {
     pub greatest: u64,
 }
 
-/// The number of an option: that of its text, or the default where it has none.
+/// The number of an option: that of its text, or the default if it has none.
 pub(crate) fn number_or_default(text: Option<&str>, default: u64, bounds: Bounds) -> Option<u64>
     ensures number { IfSome result
         (HasNumber (option_map (λ t. t.now) text.entry) default bounds.least bounds.greatest) }
@@ -34,7 +34,7 @@ pub(crate) fn number_within(text: &str, bounds: Bounds) -> Option<u64>
     Some(number)
 }
 
-/// The number of one or more decimal digits. `None` where a text is none, or a number of 2^64 or more.
+/// The number of one or more decimal digits. `None` if a text is none, or a number of 2^64 or more.
 fn number_of(text: &str) -> Option<u64>
     ensures number { IfSome result (IsNumber text.now) }
     ensures none { IsNone result → (number : ℕ) → number < 2 ^ 64 → ¬ IsNumber text.now number }

@@ -27,7 +27,7 @@ pub(crate) fn parsed<'a>(
     }
 }
 
-/// The text of an option, where it was given.
+/// The text of an option, if it was given.
 pub(crate) fn text_of<'a>(found: &ArgMatches<'a>, name: &str) -> Option<&'a str>
     ensures { option_map (λ text. text.now) result ≡ first_of name.now (rows_of (found_of found.now)) }
 {

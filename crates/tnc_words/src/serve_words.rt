@@ -31,7 +31,7 @@ const FLAGS: Bounds = Bounds {
     greatest: 8,
 };
 
-/// `serve` and its options, behind its own word.
+/// `serve` and its options, after its own word.
 pub(crate) fn read_serve(alloc: Global, words: &[String]) -> Result<ServeOptions, WordsFault>
     requires { first_word (map string_bytes words.now) ≡ Some (codes "serve") }
     ensures taken { IfOk result (IsServe (map string_bytes words.now)) }

@@ -22,7 +22,7 @@ const MODULO: Bounds = Bounds {
     greatest: 128,
 };
 
-/// `show` and its option, behind its own word.
+/// `show` and its option, after its own word.
 pub(crate) fn read_show(alloc: Global, words: &[String]) -> Result<ShowWords, WordsFault>
     requires { first_word (map string_bytes words.now) ≡ Some (codes "show") }
     ensures taken { IfOk result (IsShow (map string_bytes words.now)) }
@@ -43,7 +43,7 @@ fn show_options(found: &ArgMatches) -> Option<ShowWords>
     })
 }
 
-/// The modulus with the number of a text, or 8 where there is no text.
+/// The modulus with the number of a text, or 8 if there is no text.
 fn modulus(text: Option<&str>) -> Option<Modulus>
     ensures modulus { IfSome result (λ modulus.
         HasNumber (option_map (λ t. t.now) text.entry) 8 8 128 (numbers modulus)) }

@@ -162,7 +162,7 @@ fn rej_sends_again_from_the_lost_frame_on(rt: HostRuntime) -> Result<(), Fail> {
 }
 
 /// Four packets by SREJ with a window of four. Frame 0 is lost, is asked for once, and alone is sent again. RR for all
-/// comes at the 30th tick behind the first that came.
+/// comes at the 30th tick after the first that came.
 #[test]
 fn srej_sends_the_lost_frame_again(rt: HostRuntime) -> Result<(), Fail> {
     let params = Params {

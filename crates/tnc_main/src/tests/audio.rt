@@ -6,7 +6,7 @@ use std::test::Fail;
 /// The shortest frame in two lines.
 const TWICE: &str = "9c946ea04040e09c6e988a9a40613f\n9c946ea04040e09c6e988a9a40613f\n";
 
-/// The shortest transmission, with two flags before a frame and one behind it.
+/// The shortest transmission, with two flags before a frame and one after it.
 const SHORT_FLAGS: &[&str] = &["encode", "--opening", "2", "--closing=1"];
 
 #[test]

@@ -8,7 +8,7 @@ use Rattle.link_world.specs.Held.{MadeStep}
 use Rattle.link_world.proofs.Sides.{lost_made}
 use Rattle.link_world.proofs.happening.lose.Goals as goal
 
--- what holds of a value holds where there is one
+-- what holds of a value holds if there is one
 on_some : {T P : Type 0} (r : Option T) → is_some r ≡ true → OnSome r P → P
 on_some None some h = absurd (false≢true some)
 on_some (Some x) some h = h

@@ -1,4 +1,4 @@
--- What an event leaves behind.
+-- What an event leaves after.
 use Rattle.std.proofs.Common.{refl, [], ◌≡◌, ◌+◌, Bool, false, List, ◌++◌, map, ◌⊎◌, ap, ◌∙◌, sym, subst}
 use Rattle.std.proofs.lemmas.List.{map-append}
 use Rattle.link_world.proofs.law.Each.{each_append}
