@@ -1,7 +1,7 @@
 #!/usr/bin/env bash
 # Whether the manual page and the program agree: each command, option, range and default of the page is what the program
 # takes, each option that the program knows is on the page, each report line too, and the examples of the page run.
-#   scripts/check_manual.sh [PROGRAM]      bin/tnc, where no other is named
+#   scripts/check_manual.sh [PROGRAM]      bin/tnc, if no other is named
 set -euo pipefail
 cd "$(dirname "$0")/.."
 tnc=$(realpath "${1:-bin/tnc}")
@@ -122,7 +122,7 @@ for command in $commands; do
             is_refused "$command" $beside "$option" || fault "$command $option is taken, and not on the page"
             is_refused "$command" $beside "$option" 8 || fault "$command $option 8 is taken, and not on the page"
             continue
-        elif [[ $entry == *"|$option name|"* && $text =~ ([a-z]+)\ or\ ([a-z]+)\;\ ([a-z]+)\ where ]]; then
+        elif [[ $entry == *"|$option name|"* && $text =~ ([a-z]+)\ or\ ([a-z]+)\;\ ([a-z]+)\ if ]]; then
             takes_words "$command" "$option" "${BASH_REMATCH[1]}" "${BASH_REMATCH[2]}"
             [ "${BASH_REMATCH[3]}" = "${BASH_REMATCH[1]}" ] || fault "$command $option has another default"
             continue
@@ -149,7 +149,7 @@ for command in $commands; do
         is_refused "$command" $beside "$option" || fault "$command $option is taken without its number"
         does_not_take "$command" "$option" +8 8x ""
         # the default, or that there is none
-        if [[ $text =~ \;\ ([0-9]+)\ where\ it\ is\ not\ given ]]; then
+        if [[ $text =~ \;\ ([0-9]+)\ if\ it\ is\ not\ given ]]; then
             given=samples/minimodem-clean.frames
             "$tnc" "$command" $beside <$given >"$room/without"
             "$tnc" "$command" $beside "$option" "${BASH_REMATCH[1]}" <$given | cmp -s - "$room/without" \
@@ -197,7 +197,7 @@ for command in $commands; do
         if [[ $text =~ From\ ([0-9]+)\ to\ ([0-9]+) ]]; then
             grep -q "\b${BASH_REMATCH[1]} to ${BASH_REMATCH[2]}\b" <<<"$line" || fault "help $command: $option has another range"
         fi
-        if [[ $text =~ \;\ ([0-9a-z]+)\ where\ it\ is\ not\ given ]]; then
+        if [[ $text =~ \;\ ([0-9a-z]+)\ if\ it\ is\ not\ given ]]; then
             [[ $line = *"(${BASH_REMATCH[1]})"* ]] || fault "help $command: $option has another default"
         fi
     done < <(grep "^$command|" <<<"$entries" || true)
