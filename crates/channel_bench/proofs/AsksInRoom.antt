@@ -12,10 +12,9 @@ use Rattle.channel_bench.specs.BenchState.{BenchState, near, new_bench}
 use Rattle.channel_bench.specs.BenchSteps.{IsStep, IsTicking, IsTold}
 use Rattle.channel_bench.specs.BenchTick.{ArePartsMade, IsAsked, IsCalled, IsGiven, IsListening, IsPart, IsTick, Part, beginning, each_tick, is_complete, parts_of, with_asking, with_calling}
 use Rattle.channel_bench.specs.BenchTick.Part.{AsksOrCalls, Closes, Gives, Listens, Sounds, Tells, Ticks}
-use Rattle.channel_bench.specs.InFlight.{AreMatched, Moment, nothing_sent, steps_in}
 use Rattle.channel_bench.specs.InFlight.Moment.{Passes}
 use Rattle.channel_bench.specs.Sounding.{passed_below, sounding, ticked}
-use Rattle.channel_bench.proofs.BenchSees.{Holds, Premises, reprogrammed}
+use Rattle.channel_bench.proofs.BenchSees.{Holds, reprogrammed}
 use Rattle.channel_bench.proofs.CoreRun.{IsUsualPart, beginning_usual, input_of, tick_usual}
 use Rattle.channel_bench.proofs.CoreRun.Usual.{connects, disconnects}
 use Rattle.channel_bench.proofs.FindingRoom.{TakesCall}

@@ -7,7 +7,6 @@ use Rattle.std.proofs.lemmas.Bool.{or_from, cond-true}
 use Rattle.ax25_frames.specs.FrameText.{is_command_of}
 use Rattle.ax25_frames.specs.declared.frame.Kind.{Kind}
 use Rattle.ax25_frames.specs.declared.frame.Kind.TheVariants.{Info, Super, Setup, Ui, Other}
-use Rattle.ax25_frames.specs.declared.frame.S.{S}
 use Rattle.ax25_frames.specs.declared.frame.U.TheVariants.{Sabm, Sabme, Disc, Dm, Ua}
 use Rattle.selective_reject.specs.declared.packet.Packet.{Packet}
 use Rattle.link_machine.specs.declared.state.LinkState.{LinkState}

@@ -15,7 +15,7 @@ use Rattle.channel_bench.specs.BenchState.{AtEnd, BenchState, Near, SideState, n
 use Rattle.channel_bench.specs.BenchSteps.{AreHeardAt, GoesOn, IsHeardAs, IsHeardAt, IsStep, IsTicking, IsTold, MayCome, match_of, program_id, with_matched, with_stray}
 use Rattle.channel_bench.specs.BenchTick.{IsGiven, IsGivenPiece, with_giving}
 use Rattle.channel_bench.specs.HostProgram.{connect_octets, next_piece}
-use Rattle.channel_bench.specs.InFlight.{AreMatched, Moment, nothing_sent, steps_in}
+use Rattle.channel_bench.specs.InFlight.{Moment, nothing_sent}
 use Rattle.channel_bench.specs.InFlight.Moment.{Passes}
 use Rattle.channel_bench.specs.JointRun.{Stations, with_state}
 use Rattle.channel_bench.specs.JointRun.Input.{FromHost}
