@@ -18,19 +18,33 @@ fn push_words(alloc: Global, words: &mut Vec<String>, line: &str) -> Result<(), 
     Ok(())
 }
 
-/// What the words of a line ask for after those of `front`.
-fn asked(alloc: Global, front: &str, line: &str) -> Result<Result<Command, WordsFault>, Fail> {
+/// The words of `front` and then those of a line.
+fn words_of(alloc: Global, front: &str, line: &str) -> Result<Vec<String>, Fail> {
     let mut words = Vec::new(alloc);
     push_words(alloc, &mut words, front)?;
     push_words(alloc, &mut words, line)?;
-    Ok(read_words(alloc, &words))
+    Ok(words)
+}
+
+/// What the words of a line ask for after those of `front`.
+fn asked(alloc: Global, front: &str, line: &str) -> Result<Result<Command, WordsFault>, Fail> {
+    Ok(read_words(alloc, &words_of(alloc, front, line)?))
+}
+
+/// Whether the words of a line are refused after those of `front`.
+fn is_refused(alloc: Global, front: &str, line: &str) -> Result<bool, Fail> {
+    match read_words(alloc, &words_of(alloc, front, line)?) {
+        Err(WordsFault::Refused) => Ok(true),
+        Err(WordsFault::Memory) => Ok(false),
+        Ok(_) => Ok(false),
+    }
 }
 
 /// The lines whose words are not refused after those of `front`.
 fn taken(alloc: Global, front: &str, lines: &str) -> Result<String, Fail> {
     let mut taken = String::new(alloc);
     for line in lines.lines() {
-        if !matches!(asked(alloc, front, line)?, Err(WordsFault::Refused)) {
+        if !is_refused(alloc, front, line)? {
             taken.push_str(line)?;
             taken.push_str("\n")?;
         }
