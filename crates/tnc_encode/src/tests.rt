@@ -12,8 +12,7 @@ use tnc_words::{AudioForm, EncodeWords, FrameForm, Modem};
 const LINE: &[u8] = b"9c946ea04040e09c6e988a9a40613f\n";
 
 /// The same as a KISS frame on port 0.
-const KISS: &[u8] =
-    b"\xc0\x00\x9c\x94\x6e\xa0\x40\x40\xe0\x9c\x6e\x98\x8a\x9a\x40\x61\x3f\xc0";
+const KISS: &[u8] = b"\xc0\x00\x9c\x94\x6e\xa0\x40\x40\xe0\x9c\x6e\x98\x8a\x9a\x40\x61\x3f\xc0";
 
 /// The SABM, an empty line, and a UA between the same stations.
 const TWO: &[u8] = b"9c946ea04040e09c6e988a9a40613f\n\n9c946ea04040e09c6e988a9a406163\n";

@@ -1,8 +1,8 @@
 //! Lines of hexadecimal digits read whole and in pieces, what is printed, and inputs that are read.
 
 use super::{
-    Fault, HexIn, InputFault, LineFault, LineFlaw, PIECE, print_hex_line, read_all, read_hex_frames,
-    read_piece, write_pcm,
+    Fault, HexIn, InputFault, LineFault, LineFlaw, PIECE, print_hex_line, read_all,
+    read_hex_frames, read_piece, write_pcm,
 };
 use std::test::Fail;
 use tnc_base::MemSource;
@@ -44,7 +44,9 @@ fn a_line_in_pieces(rt: HostRuntime) -> Result<(), Fail> {
     let (count, frame) = reader.take(b"00f")?;
     assert_eq!(rt; count, 3);
     assert!(rt; frame.is_none());
-    assert!(rt; matches!(reader.finish(), Err(Fault::Input(fault)) if fault == bad(LineFlaw::OddLine, 6)));
+    assert!(rt;
+        matches!(reader.finish(), Err(Fault::Input(fault)) if fault == bad(LineFlaw::OddLine, 6))
+    );
     Ok(())
 }
 

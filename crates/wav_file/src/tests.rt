@@ -147,7 +147,9 @@ fn a_fault_comes_at_the_octet_that_shows_it(rt: HostRuntime) -> Result<(), Fail>
         assert_eq!(rt; fault, want, "octet {octet} at {place}");
         assert_eq!(rt; at, want.map(place_of), "octet {octet} at {place}");
         // Every octet after it is answered by the same fault.
-        let after = found.shown.map_or(0, |(at, _)| file.len().saturating_sub(at));
+        let after = found
+            .shown
+            .map_or(0, |(at, _)| file.len().saturating_sub(at));
         assert_eq!(rt; found.faults, after, "octet {octet} at {place}");
         assert_eq!(rt;
             found.end,

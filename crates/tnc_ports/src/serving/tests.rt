@@ -4,9 +4,7 @@ ghost use Rattle.link_machine.specs.Params.{IsRefusedWindow};
 
 use super::{ServeEnd, serve};
 use crate::tests::script::Script;
-use crate::{
-    Live, MemLive, MemPorts, Order, PollFault, Ports, RealSpawner, ServeWords, Spawner,
-};
+use crate::{Live, MemLive, MemPorts, Order, PollFault, Ports, RealSpawner, ServeWords, Spawner};
 use afsk_modulator::transmission;
 use link_machine::Params;
 use station::{Config, HostEvent, PortKind};
