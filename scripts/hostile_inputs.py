@@ -40,6 +40,7 @@ def rows(tnc, times=1):
     short = ["--opening", "2", "--closing", "1"]
     yield Row("decode", ["decode"], sound)
     yield Row("decode, threads", ["decode", "--threads"], sound)
+    yield Row("decode, sensitive", ["decode", "--sensitive"], sound)
     yield Row("decode to KISS", ["decode", "--kiss"], sound)
     yield Row("decode of WAV", ["decode", "--wav"], wav)
     yield Row("decode of a cut WAV", ["decode", "--wav"], wav[:-1])
@@ -57,6 +58,7 @@ def rows(tnc, times=1):
     yield Row("show of a long line", ["show"], lines + b"4" * 2049)
     yield Row("loop", ["loop", "--seed", "7", "--frames", "3"], b"")
     yield Row("loop, rough, threads", ["loop", "--seed", "7", "--frames", "3", "--rough", "--threads"], b"")
+    yield Row("bench", ["bench", "--seed", "7", "--octets", "0", "--full"], b"")
     yield Row("no command", ["decode", "--no"], b"")
 
 
