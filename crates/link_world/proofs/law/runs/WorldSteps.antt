@@ -80,18 +80,15 @@ shown_windows (ShownCalling state waiting) modulus = refl
 shown_windows (ShownUp ended last is state waiting) modulus = refl
 shown_windows (ShownReleasing state packets waiting) modulus = refl
 
-narrow_below : (window : ℕ) (mode : Mode) → IsWindow 8 window mode → window < 8
-narrow_below window RejMode h = let high = h.1 in omega arith
-narrow_below window SrejMode h = let high = h.1 in omega arith
-
-wide_below : (window : ℕ) (mode : Mode) → IsWindow 128 window mode → window < 128
-wide_below window RejMode h = let high = h.1 in omega arith
-wide_below window SrejMode h = let high = h.1 in omega arith
-
 -- a window is below its modulus
+below : (modulus window : ℕ) (mode : Mode) → 1 ≤ modulus → IsWindow modulus window mode → window < modulus
+below modulus window RejMode some h = let high = h.1 in omega arith
+below modulus window SrejMode some h = let high = h.1 in omega arith
+
+-- so is that which a link has in a modulus
 window_below : (p : Params) (modulus : ℕ) → IsModulus modulus → HasWindows p → window_in modulus p < modulus
-window_below p modulus (inl is) h = subst (λ m. window_in m p < m) (sym is) (narrow_below p.window p.mode h.0)
-window_below p modulus (inr is) h = subst (λ m. window_in m p < m) (sym is) (wide_below p.wide_window p.mode h.1)
+window_below p modulus (inl is) h = subst (λ m. window_in m p < m) (sym is) (below 8 p.window p.mode (omega arith) h.0)
+window_below p modulus (inr is) h = subst (λ m. window_in m p < m) (sym is) (below 128 p.wide_window p.mode (omega arith) h.1)
 
 -- and perhaps at most half of it
 window_half :
