@@ -26,7 +26,7 @@ fn a_station_without_hosts_sends_silence(rt: HostRuntime) -> Result<(), Fail> {
         let got = run_live(&rt, rt.alloc(), &words, &silence, failing)?;
         assert_eq!(rt;
             (got.status, got.output.len(), got.listens),
-            (status, 2 * sent, listens),
+            (status, sent.saturating_mul(2), listens),
             "of {samples}, {failing:?}"
         );
         assert!(rt; got.output.iter().all(|octet| *octet == 0));
