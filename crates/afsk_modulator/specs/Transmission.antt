@@ -3,6 +3,7 @@ use Rattle.std.specs.Prelude.{ℕ, ◌<◌, ◌⊎◌, ℤ, List, [], length, sl
 use Rattle.tone_table.specs.Wave.{wave_from, wave}
 use Rattle.nrzi_bits.specs.Line.{line}
 use Rattle.hdlc_framer.specs.Body.{body}
+use Rattle.hdlc_framer.specs.FrameLength.{IsBadLength}
 use Rattle.afsk_modulator.specs.Level.{at_level}
 
 -- the wave, from phase 0 on, of the tones, from mark on, of the flags and frames
@@ -16,10 +17,6 @@ transmission_at phase level frames opening closing = at_level level (wave_from p
 -- fewer than two flags open it, or none closes it
 abbrev pub AreFewFlags : ℕ → ℕ → Type 0
 AreFewFlags opening closing = (opening < 2) ⊎ (closing < 1)
-
--- a frame, without its check sequence, that is too short or too long
-abbrev pub IsBadLength : List ℕ → Type 0
-IsBadLength octets = (length octets < 15) ⊎ (1024 < length octets)
 
 -- the first frame that is too short or too long
 pub record IsFirstBadLength (frames : List (List ℕ)) (index : ℕ) : Type 0 where

@@ -12,7 +12,7 @@ mod sending;
 
 pub use fault::ModFault;
 pub use modulator::Modulator;
-pub use sending::{transmission, transmission_at};
+pub use sending::{first_bad_length, transmission, transmission_at};
 
 #[cfg(test)]
 mod tests;

@@ -2,11 +2,12 @@
 ghost use Rattle.std.specs.Prelude.{◌≡◌, ℕ, ◌↔◌, All, IfOk, OnOk, IsErrOf, IfSome, IsNone};
 ghost use Rattle.nrzi_bits.specs.Line.{line};
 ghost use Rattle.afsk_modulator.specs.Modulation.{wave_of, IsBitPhase, IsLevel};
-ghost use Rattle.afsk_modulator.specs.Transmission.{transmission, transmission_at, AreFewFlags, IsBadLength, IsFirstBadLength};
+ghost use Rattle.afsk_modulator.specs.Transmission.{transmission, transmission_at, AreFewFlags, IsFirstBadLength};
+ghost use Rattle.hdlc_framer.specs.FrameLength.{IsBadLength};
 
 use crate::fault::ModFault;
 use crate::modulator::{FULL_LEVEL, Modulator};
-use hdlc_framer::stuff;
+use hdlc_framer::{has_frame_length, stuff};
 use nrzi_bits::NrziOut;
 use std::alloc::Global;
 use tnc_base::{Octets, OutOfMemory};
@@ -16,12 +17,6 @@ const LEAST_OPENING: u16 = 2;
 
 /// The fewest flags that close one.
 const LEAST_CLOSING: u16 = 1;
-
-/// The fewest octets of a frame: two addresses and a control octet.
-const LEAST_LENGTH: usize = 15;
-
-/// The most octets of a frame.
-const GREATEST_LENGTH: usize = 1024;
 
 /// The samples of one transmission: `opening` flags, the frames with one flag between neighbours, and
 /// `closing` flags, on a line that stands at mark, from phase 0 on. A frame is its octets without the
@@ -69,14 +64,13 @@ pub fn transmission_at(
     Ok(modulated(alloc, Modulator::start(phase, level), &bits)?)
 }
 
-/// The place of the first frame with fewer than 15 or more than 1024 octets.
-fn first_bad_length(frames: &[Octets]) -> Option<usize>
+/// The place of the first frame that is too short or too long, without its check sequence.
+pub fn first_bad_length(frames: &[Octets]) -> Option<usize>
     ensures found { IfSome result (IsFirstBadLength frames.now) }
     ensures none { IsNone result → All (λ octets. ¬ IsBadLength octets) frames.now }
 {
     for (index, frame) in frames.iter().enumerate() {
-        let length = frame.len();
-        if length < LEAST_LENGTH || length > GREATEST_LENGTH {
+        if !has_frame_length(frame.as_slice()) {
             return Some(index);
         }
     }

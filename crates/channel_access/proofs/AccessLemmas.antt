@@ -7,7 +7,8 @@ use Rattle.rand_pcg.specs.Lcg.{Lcg}
 use Rattle.channel_access.specs.declared.parameters.Parameters.{Parameters}
 use Rattle.channel_access.specs.declared.sending.Sending.{Sending}
 use Rattle.channel_access.specs.Parameters.{opening_flags}
-use Rattle.channel_access.specs.Waiting.{WaitingFrame, HasFrameLength}
+use Rattle.channel_access.specs.Waiting.{WaitingFrame}
+use Rattle.hdlc_framer.specs.FrameLength.{HasFrameLength}
 use Rattle.channel_access.specs.OnAir.{OnAir, bits_then, decided, with_tick}
 use Rattle.channel_access.specs.Channel.{Channel, Decision, decision, begun, air_samples, air_sent, air_waiting, air_after, air_tick, after_tick, Takes}
 use Rattle.channel_access.specs.Held.{Held, new_sending}

@@ -18,8 +18,9 @@ use Rattle.hdlc_framer.specs.Frames.{frame_bits}
 use Rattle.channel_access.specs.declared.sending.Sending.{Sending}
 use Rattle.channel_access.specs.declared.stage.Stage.{Stage}
 use Rattle.channel_access.specs.declared.stage.Stage.TheVariants.{Opening, Frame, Following, Closing, Over}
-use Rattle.channel_access.specs.Waiting.{WaitingFrame, HasFrameLength}
-use Rattle.channel_access.specs.OnAir.{OnAir, bits_then, bits_of, samples_of, decided, followed_by, has_sent_frames, names_next, with_named, frame_named, tick_samples, with_tick, most_frames}
+use Rattle.channel_access.specs.Waiting.{WaitingFrame}
+use Rattle.hdlc_framer.specs.FrameLength.{HasFrameLength}
+use Rattle.channel_access.specs.OnAir.{OnAir, bits_then, bits_of, samples_on_air, decided, followed_by, has_sent_frames, names_next, with_named, frame_named, tick_samples, with_tick, most_frames}
 use Rattle.channel_access.specs.Held.{Run, tick_start, stage_over}
 use Rattle.channel_access.specs.HeldTick.{run_of, going_on}
 use Rattle.channel_access.specs.StandsFor.{Stands, Counts, Sends, Goes, StandsForAir, flag_rest, frame_rest}
@@ -143,9 +144,9 @@ bits_of-with_named bits t =
 
 -- ---- the samples of a tick
 
-pub samples_of-is : (t : OnAir) → samples_of t ≡ wave (line (bits_of t))
-unfolding samples_of bits_of transmission
-samples_of-is t = refl
+pub samples_on_air-is : (t : OnAir) → samples_on_air t ≡ wave (line (bits_of t))
+unfolding samples_on_air bits_of transmission
+samples_on_air-is t = refl
 
 pub wave-append : (sent rest : List Bool) → (later : List ℤ) × (wave (line (sent ++ rest)) ≡ wave (line sent) ++ later)
 wave-append sent rest =
@@ -157,13 +158,13 @@ wave-append sent rest =
 -- the samples so far are the first of all samples with zeros after them
 first_samples : (total : ℕ) (t : OnAir) (sent rest : List Bool) → sent ++ rest ≡ bits_of t → length sent ≤ total
     → (rest ≡ []) ⊎ (length sent ≡ total) → total ≤ length sent + 12
-    → (later : List ℤ) × (samples_of t ++ replicate 96 (pos 0) ≡ padded total sent ++ later)
+    → (later : List ℤ) × (samples_on_air t ++ replicate 96 (pos 0) ≡ padded total sent ++ later)
 unfolding padded
 first_samples total t sent rest whole short (inl over) near =
     let zeros : ℕ = 8 * (total - length sent) in
     let all : zeros + (96 - zeros) ≡ 96 = omega arith in
-    let same : samples_of t ≡ wave (line sent) =
-    samples_of-is t ∙ ap (λ xs. wave (line xs)) (sym whole ∙ ap (λ xs. sent ++ xs) over ∙ append-nil sent) in (
+    let same : samples_on_air t ≡ wave (line sent) =
+    samples_on_air-is t ∙ ap (λ xs. wave (line xs)) (sym whole ∙ ap (λ xs. sent ++ xs) over ∙ append-nil sent) in (
       replicate (96 - zeros) (pos 0),
       ap (λ xs. xs ++ replicate 96 (pos 0)) same
           ∙ ap (λ n. wave (line sent) ++ replicate n (pos 0)) (sym all)
@@ -172,8 +173,8 @@ first_samples total t sent rest whole short (inl over) near =
     )
 first_samples total t sent rest whole short (inr full) near =
     let later = wave-append sent rest in
-    let same : samples_of t ≡ wave (line sent) ++ later.0 =
-    samples_of-is t ∙ ap (λ xs. wave (line xs)) (sym whole) ∙ later.1 in (
+    let same : samples_on_air t ≡ wave (line sent) ++ later.0 =
+    samples_on_air-is t ∙ ap (λ xs. wave (line xs)) (sym whole) ∙ later.1 in (
       later.0 ++ replicate 96 (pos 0),
       ap (λ xs. xs ++ replicate 96 (pos 0)) same ∙ append_assoc (wave (line sent)) later.0 (replicate 96 (pos 0))
           ∙ ap (λ xs. xs ++ (later.0 ++ replicate 96 (pos 0))) (sym (padded-full total sent full)),
@@ -330,17 +331,17 @@ module _ (s : Sending) (waiting : List WaitingFrame) (t : OnAir) (g : Goes s wai
       ] in
       let first = first_samples (bits_then t) then_on_air b.more left.0 left.1.whole short ended
       (omega (arith, b.grows)) in
-      let same : samples_of decided_then ≡ samples_of then_on_air =
-      samples_of-is decided_then ∙ ap (λ xs. wave (line xs)) (sym (bits_of-with_named (bits_then t) decided_then))
-      ∙ sym (samples_of-is then_on_air) in
-      let whole : samples_of decided_then ++ replicate 96 (pos 0) ≡
+      let same : samples_on_air decided_then ≡ samples_on_air then_on_air =
+      samples_on_air-is decided_then ∙ ap (λ xs. wave (line xs)) (sym (bits_of-with_named (bits_then t) decided_then))
+      ∙ sym (samples_on_air-is then_on_air) in
+      let whole : samples_on_air decided_then ++ replicate 96 (pos 0) ≡
       (padded (12 * t.ticks) g.sent ++ run.samples) ++ first.0 =
       ap (λ xs. xs ++ replicate 96 (pos 0)) same ∙ first.1 ∙ ap (λ xs. xs ++ first.0) b.samples in
       let before = length-padded (12 * t.ticks) g.sent (omega arith) in
       let behind = length-padded (bits_then t) b.more short in
       let ticks : 96 * (decided (bits_then t) waiting t).ticks ≡ 96 * t.ticks =
       ap (λ n. 96 * n) (ticks-decided (bits_then t) waiting t) in
-      middle (padded (12 * t.ticks) g.sent) run.samples first.0 (samples_of decided_then ++ replicate 96 (pos 0))
+      middle (padded (12 * t.ticks) g.sent) run.samples first.0 (samples_on_air decided_then ++ replicate 96 (pos 0))
       (96 * decided_then.ticks) 96 whole (omega arith)
       (omega (arith, ap length b.samples, length-append (padded (12 * t.ticks) g.sent) run.samples))
 

@@ -5,7 +5,7 @@ use Rattle.hdlc_framer.specs.Body.{body}
 use Rattle.hdlc_framer.specs.CheckSequence.{fcs_of}
 use Rattle.hdlc_framer.specs.Frames.{with_fcs, frame_bits}
 use Rattle.channel_access.specs.declared.parameters.Param.TheVariants.{FullDuplex, Persist}
-use Rattle.channel_access.specs.Words.{generator_of, draw, behind_draw}
+use Rattle.channel_access.specs.Words.{generator_of, draw_stream, draw, after_word}
 use Rattle.channel_access.specs.OnAir.{OnAir, bits_of, flag_end, followed_by, frame_named}
 use Rattle.channel_access.specs.Channel.{Channel, new_channel, with_frame, with_setting, decision, begun}
 
@@ -45,10 +45,10 @@ unfolding fcs_of octet_bits with_fcs frame_bits body flag_end
 not_before = refl
 
 -- the draws of seed 2 begin with 102 and 40
-draws : draw (generator_of 2) ≡ 102
+draws : draw (generator_of 2 draw_stream) ≡ 102
 draws = refl
 
-next_draws : draw (behind_draw (generator_of 2)) ≡ 40
+next_draws : draw (after_word (generator_of 2 draw_stream)) ≡ 40
 next_draws = refl
 
 -- at most P begins, and above it a slot has to pass

@@ -8,7 +8,8 @@ use Rattle.hdlc_framer.specs.Body.{body}
 use Rattle.channel_access.specs.declared.frame_bits.FrameBits.{FrameBits}
 use Rattle.channel_access.specs.declared.stage.Stage.{Stage}
 use Rattle.channel_access.specs.declared.stage.Stage.TheVariants.{Opening, Frame, Following, Closing, Over}
-use Rattle.channel_access.specs.Waiting.{WaitingFrame, HasFrameLength}
+use Rattle.channel_access.specs.Waiting.{WaitingFrame}
+use Rattle.hdlc_framer.specs.FrameLength.{HasFrameLength}
 use Rattle.channel_access.specs.OnAir.{OnAir, most_frames, has_sent_frames, followed_by, decided, names_next, frames_end, flag_end}
 use Rattle.channel_access.specs.StandsFor.{Stands, Counts, InFrame}
 use Rattle.channel_access.proofs.BodyLemmas.{frame_bits-long}

@@ -13,7 +13,8 @@ use Rattle.afsk_modulator.proofs.WaveLemmas.{behind-push, wave-push}
 use Rattle.channel_access.specs.declared.sending.Sending.{Sending}
 use Rattle.channel_access.specs.declared.stage.Stage.{Stage}
 use Rattle.channel_access.specs.declared.stage.Stage.TheVariants.{Opening, Frame, Following, Closing, Over}
-use Rattle.channel_access.specs.Waiting.{WaitingFrame, HasFrameLength}
+use Rattle.channel_access.specs.Waiting.{WaitingFrame}
+use Rattle.hdlc_framer.specs.FrameLength.{HasFrameLength}
 use Rattle.channel_access.specs.OnAir.{OnAir, names_next, decided, flag_end}
 use Rattle.channel_access.specs.Held.{Step, step_of, with_step, behind_bit, window_of}
 use Rattle.channel_access.specs.StandsFor.{Sends, Counts}

@@ -12,7 +12,8 @@ use Rattle.channel_access.specs.declared.frame_bits.FrameBits.{FrameBits}
 use Rattle.channel_access.specs.declared.stage.Stage.{Stage}
 use Rattle.channel_access.specs.declared.stage.Stage.TheVariants.{Opening, Frame, Following, Closing, Over}
 use Rattle.channel_access.specs.Parameters.{closing_flags}
-use Rattle.channel_access.specs.Waiting.{WaitingFrame, HasFrameLength}
+use Rattle.channel_access.specs.Waiting.{WaitingFrame}
+use Rattle.hdlc_framer.specs.FrameLength.{HasFrameLength}
 use Rattle.channel_access.specs.OnAir.{OnAir, most_frames, has_sent_frames, followed_by, decided, names_next, with_named, waiting_with_named, frames_end, flag_end}
 use Rattle.channel_access.specs.Held.{Step, flag_bit, stage_step, frame_step, behind_opening, frame_start, frame_over, joins, other_closing}
 use Rattle.channel_access.specs.StandsFor.{Stands, Counts, InOpening, InFrame, InFlag, InClosing, IsSent, flag_rest, frame_rest}

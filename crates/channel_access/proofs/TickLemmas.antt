@@ -6,7 +6,8 @@ use Rattle.std.proofs.lemmas.Bool.Decides.{nat_tests}
 use Rattle.std.proofs.lemmas.List.Elements.{All-tail}
 use Rattle.channel_access.specs.declared.air_tick.Sent.{Sent}
 use Rattle.channel_access.specs.declared.sending.Sending.{Sending}
-use Rattle.channel_access.specs.Waiting.{WaitingFrame, HasFrameLength}
+use Rattle.channel_access.specs.Waiting.{WaitingFrame}
+use Rattle.hdlc_framer.specs.FrameLength.{HasFrameLength}
 use Rattle.channel_access.specs.OnAir.{OnAir, decided, names_next, with_named, waiting_with_named, flag_end}
 use Rattle.channel_access.specs.Held.{Run, step_of, with_step, behind_bit, window_of, sent_with, with_bit, with_bits, tick_start}
 use Rattle.channel_access.specs.StandsFor.{Sends}

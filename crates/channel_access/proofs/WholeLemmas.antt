@@ -12,7 +12,7 @@ use Rattle.nrzi_bits.proofs.LineLemmas.{length-line_from}
 use Rattle.tone_table.specs.declared.tone.Tone.TheVariants.{Mark}
 use Rattle.tone_table.specs.Wave.{wave}
 use Rattle.channel_access.specs.Waiting.{WaitingFrame}
-use Rattle.channel_access.specs.OnAir.{OnAir, bits_then, bits_of, samples_of, frames_end, has_sent_frames, followed_by, decided, tick_samples, most_frames}
+use Rattle.channel_access.specs.OnAir.{OnAir, bits_then, bits_of, samples_on_air, frames_end, has_sent_frames, followed_by, decided, tick_samples, most_frames}
 use Rattle.channel_access.proofs.BodyLemmas.{body-closing}
 use Rattle.channel_access.proofs.StageLemmas.{by_test}
 use Rattle.channel_access.proofs.SendingLemmas.{length-wave_from}
@@ -69,13 +69,13 @@ decided_adds bits waiting t =
     (followed_by (drop 1 waiting) t) t (λ ended. followed_adds (drop 1 waiting) t (open_when_ended bits t ended))
     (λ _. ([], sym (append-nil (bits_of t))))
 
-pub whole_at_end : (t : OnAir) → t.ends ≡ true → samples_of t ≡ transmission t.frames t.opening t.closing
-unfolding samples_of
+pub whole_at_end : (t : OnAir) → t.ends ≡ true → samples_on_air t ≡ transmission t.frames t.opening t.closing
+unfolding samples_on_air
 whole_at_end t ends = ap (λ b. transmission t.frames t.opening (cond b t.closing 0)) ends
 
-length-samples_of : (t : OnAir) → length (samples_of t) ≡ 8 * length (bits_of t)
-length-samples_of t =
-    ap length (samples_of-is t) ∙ length-wave_from 0 (line (bits_of t))
+length-samples_on_air : (t : OnAir) → length (samples_on_air t) ≡ 8 * length (bits_of t)
+length-samples_on_air t =
+    ap length (samples_on_air-is t) ∙ length-wave_from 0 (line (bits_of t))
     ∙ ap (λ n. 8 * n) (length-line_from Mark (bits_of t))
 
 -- a piece of a list is there with anything after the list
@@ -87,12 +87,12 @@ piece xs ys start size within =
 
 pub tick_in_whole : (t whole : OnAir) (rest : List Bool) → bits_of whole ≡ bits_of t ++ rest
     → bits_then t ≤ length (bits_of t)
-    → tick_samples t ≡ take 96 (drop (96 * t.ticks) (samples_of whole))
+    → tick_samples t ≡ take 96 (drop (96 * t.ticks) (samples_on_air whole))
 unfolding tick_samples
 tick_in_whole t whole rest adds within =
     let later = wave-append (bits_of t) rest in
-    let all : samples_of whole ≡ samples_of t ++ later.0 =
-    samples_of-is whole ∙ ap (λ xs. wave (line xs)) adds ∙ later.1 ∙ ap (λ xs. xs ++ later.0) (sym (samples_of-is t)) in
-    let long : 96 * t.ticks + 96 ≤ length (samples_of t) = omega (arith, length-samples_of t) in
-    piece (samples_of t) (replicate 96 (pos 0)) (96 * t.ticks) 96 long
-    ∙ sym (ap (λ xs. take 96 (drop (96 * t.ticks) xs)) all ∙ piece (samples_of t) later.0 (96 * t.ticks) 96 long)
+    let all : samples_on_air whole ≡ samples_on_air t ++ later.0 =
+    samples_on_air-is whole ∙ ap (λ xs. wave (line xs)) adds ∙ later.1 ∙ ap (λ xs. xs ++ later.0) (sym (samples_on_air-is t)) in
+    let long : 96 * t.ticks + 96 ≤ length (samples_on_air t) = omega (arith, length-samples_on_air t) in
+    piece (samples_on_air t) (replicate 96 (pos 0)) (96 * t.ticks) 96 long
+    ∙ sym (ap (λ xs. take 96 (drop (96 * t.ticks) xs)) all ∙ piece (samples_on_air t) later.0 (96 * t.ticks) 96 long)

@@ -8,7 +8,7 @@ use Rattle.channel_access.specs.declared.parameters.Param.{Param}
 use Rattle.channel_access.specs.declared.parameters.Parameters.{Parameters}
 use Rattle.channel_access.specs.Parameters.{default_parameters, with_param, opening_flags, closing_flags}
 use Rattle.channel_access.specs.Waiting.{WaitingFrame}
-use Rattle.channel_access.specs.Words.{generator_of, draw, behind_draw}
+use Rattle.channel_access.specs.Words.{generator_of, draw_stream, draw, after_word}
 use Rattle.channel_access.specs.OnAir.{OnAir, bits_then, decided, with_named, waiting_with_named, frame_named, tick_samples, with_tick}
 
 -- The frames that wait, in order, with those of the transmission under way that are not named as sent yet; the ticks
@@ -22,7 +22,7 @@ pub record Channel : Type 0 where
 
 abbrev pub new_channel : ℕ → Channel
 new_channel seed =
-    record { waiting = []; parameters = default_parameters; generator = generator_of seed; slot = 0; air = None }
+    record { waiting = []; parameters = default_parameters; generator = generator_of seed draw_stream; slot = 0; air = None }
 
 -- with one frame more
 abbrev pub with_frame : Option ℕ → List ℕ → Channel → Channel
@@ -50,8 +50,8 @@ decision busy channel =
     else if nat_lt 0 channel.slot
     then record { begins = false; slot = channel.slot - 1; generator = channel.generator }
     else if nat_le (draw channel.generator) channel.parameters.persist
-    then record { begins = true; slot = channel.slot; generator = behind_draw channel.generator }
-    else record { begins = false; slot = channel.parameters.slot_time; generator = behind_draw channel.generator }
+    then record { begins = true; slot = channel.slot; generator = after_word channel.generator }
+    else record { begins = false; slot = channel.parameters.slot_time; generator = after_word channel.generator }
 
 -- a transmission that begins now, with the front one of the frames that wait
 abbrev pub begun : Channel → OnAir

@@ -32,8 +32,8 @@ flags_behind t = if t.ends then t.closing else 0
 unfoldable pub bits_of : OnAir → List Bool
 bits_of t = body t.frames t.opening (flags_behind t)
 
-unfoldable pub samples_of : OnAir → List ℤ
-samples_of t = transmission t.frames t.opening (flags_behind t)
+unfoldable pub samples_on_air : OnAir → List ℤ
+samples_on_air t = transmission t.frames t.opening (flags_behind t)
 
 -- how many bits are sent when the last bit of its last frame is sent
 unfoldable pub frames_end : OnAir → ℕ
@@ -83,7 +83,7 @@ frame_named bits t =
 
 -- the samples of the next tick: 96 of the transmission, or what is left of it and then zeros
 unfoldable pub tick_samples : OnAir → List ℤ
-tick_samples t = take 96 (drop (96 * t.ticks) (samples_of t ++ replicate 96 (pos 0)))
+tick_samples t = take 96 (drop (96 * t.ticks) (samples_on_air t ++ replicate 96 (pos 0)))
 
 -- with the next tick sent, unless all of it is sent then
 abbrev pub with_tick : OnAir → Option OnAir

@@ -12,7 +12,8 @@ use Rattle.channel_access.specs.declared.stage.Stage.{Stage}
 use Rattle.channel_access.specs.declared.stage.Stage.TheVariants.{Opening, Frame, Following, Closing, Over}
 use Rattle.channel_access.specs.declared.sending.Sending.{Sending}
 use Rattle.channel_access.specs.Parameters.{closing_flags}
-use Rattle.channel_access.specs.Waiting.{WaitingFrame, HasFrameLength}
+use Rattle.channel_access.specs.Waiting.{WaitingFrame}
+use Rattle.hdlc_framer.specs.FrameLength.{HasFrameLength}
 use Rattle.channel_access.specs.OnAir.{OnAir}
 use Rattle.channel_access.specs.Channel.{Channel}
 use Rattle.channel_access.specs.Held.{Held, bits_in, frame_over, flag_bit, stage_over}

@@ -1,16 +1,11 @@
 -- The transmit queue.
-use Rattle.std.specs.Prelude.{◌≡◌, ℕ, ◌≤◌, Option, Some, List, length}
+use Rattle.std.specs.Prelude.{◌≡◌, ℕ, Option, Some, List}
 use Rattle.std.specs.List.{Any}
 
 -- a frame that waits, without its check sequence, and the key of the link that it belongs to, if it belongs to one
 pub record WaitingFrame : Type 0 where
   pub link : Option ℕ
   pub octets : List ℕ
-
--- a frame has 15 to 1024 octets
-pub record HasFrameLength (octets : List ℕ) : Type 0 where
-  pub least : 15 ≤ length octets
-  pub most : length octets ≤ 1024
 
 -- some frame of the link waits
 abbrev pub IsWaiting : ℕ → List WaitingFrame → Type 0

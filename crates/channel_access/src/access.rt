@@ -1,7 +1,8 @@
 //! The queue and the channel.
 ghost use Rattle.std.specs.Prelude.{◌≡◌, ◌≤◌, ◌<◌, ◌↔◌, length, IfOk, IfErr, OnOk, IsErr, IsTrue};
-ghost use Rattle.channel_access.specs.Waiting.{HasFrameLength, IsWaiting};
-ghost use Rattle.channel_access.specs.Words.{draw, behind_draw};
+ghost use Rattle.channel_access.specs.Waiting.{IsWaiting};
+ghost use Rattle.hdlc_framer.specs.FrameLength.{HasFrameLength};
+ghost use Rattle.channel_access.specs.Words.{draw, after_word};
 
 use crate::air_tick::{AirTick, SAMPLES, Sent};
 use crate::parameters::{Param, Parameters};
@@ -160,7 +161,7 @@ impl Access {
     /// The low eight bits of the next word.
     fn draw(&mut self) -> u8
         ensures value { result ≡ draw self.old.generator }
-        ensures held { self.new ≡ record self.old { generator = behind_draw self.old.generator } }
+        ensures held { self.new ≡ record self.old { generator = after_word self.old.generator } }
     {
         (self.generator.next_word() % 256) as u8
     }

@@ -2,7 +2,7 @@
 ghost use Rattle.std.specs.Prelude.{◌≡◌, ℕ, ◌*◌, ◌≤◌, true, List, Bool, ◌++◌, length, take, drop};
 ghost use Rattle.afsk_modulator.specs.Transmission.{transmission};
 ghost use Rattle.channel_access.specs.Waiting.{WaitingFrame};
-ghost use Rattle.channel_access.specs.OnAir.{OnAir, bits_then, bits_of, samples_of, decided, tick_samples};
+ghost use Rattle.channel_access.specs.OnAir.{OnAir, bits_then, bits_of, samples_on_air, decided, tick_samples};
 
 /// What is decided of a transmission while it runs only adds bits after those that were decided before.
 pub fn decisions_add_bits()
@@ -12,7 +12,7 @@ pub fn decisions_add_bits()
 
 /// If no further frame follows, its samples are those of one transmission of all its frames.
 pub fn the_end_is_a_transmission()
-    ensures { (t : OnAir) → t.ends ≡ true → samples_of t ≡ transmission t.frames t.opening t.closing }
+    ensures { (t : OnAir) → t.ends ≡ true → samples_on_air t ≡ transmission t.frames t.opening t.closing }
 {}
 
 /// A tick whose bits are decided has the samples that stand at its place in the whole transmission, whatever bits are
@@ -20,5 +20,5 @@ pub fn the_end_is_a_transmission()
 pub fn a_tick_is_a_part_of_the_whole()
     ensures { (t whole : OnAir) (rest : List Bool) → bits_of whole ≡ bits_of t ++ rest
         → bits_then t ≤ length (bits_of t)
-        → tick_samples t ≡ take 96 (drop (96 * t.ticks) (samples_of whole)) }
+        → tick_samples t ≡ take 96 (drop (96 * t.ticks) (samples_on_air whole)) }
 {}

@@ -1,7 +1,8 @@
 //! The frames that wait to be sent.
 ghost use Rattle.std.specs.Prelude.{◌≡◌, ◌≤◌, ◌<◌, ◌↔◌, List, [], ◌∷◌, ◌++◌, length, drop, Ok, IfOk, OnOk, IfErr, IsErr, IfSome, IsTrue, option_map, slice_get};
 ghost use Rattle.std.specs.Option.{option_copied};
-ghost use Rattle.channel_access.specs.Waiting.{WaitingFrame, HasFrameLength, IsWaiting};
+ghost use Rattle.channel_access.specs.Waiting.{WaitingFrame, IsWaiting};
+ghost use Rattle.hdlc_framer.specs.FrameLength.{HasFrameLength};
 
 use circular_buffer::HeapCircularBuffer;
 use std::alloc::Global;
@@ -20,7 +21,8 @@ pub(crate) struct Waiting {
 }
 
 impl Model for Waiting {
-    ghost use Rattle.channel_access.specs.Waiting.{WaitingFrame, HasFrameLength};
+    ghost use Rattle.channel_access.specs.Waiting.{WaitingFrame};
+    ghost use Rattle.hdlc_framer.specs.FrameLength.{HasFrameLength};
 
     ghost Value = { WaitingFrame };
 

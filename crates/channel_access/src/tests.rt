@@ -1,5 +1,5 @@
 ghost use Rattle.std.specs.Prelude.{IfOk};
-ghost use Rattle.channel_access.specs.Waiting.{HasFrameLength};
+ghost use Rattle.hdlc_framer.specs.FrameLength.{HasFrameLength};
 
 use super::{
     Access, Param, a_tick_is_a_part_of_the_whole, decisions_add_bits, the_end_is_a_transmission,

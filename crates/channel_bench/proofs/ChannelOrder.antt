@@ -12,7 +12,7 @@ use Rattle.hdlc_framer.proofs.BitLemmas.{length-sent_bits}
 use Rattle.hdlc_framer.proofs.StuffingLemmas.{stuffed_is}
 use Rattle.channel_access.specs.declared.air_tick.Sent.{Sent}
 use Rattle.channel_access.specs.Channel.{Channel, air_after, air_samples, air_sent, air_waiting, after_rules, after_tick, air_tick, begun, decision, with_decision}
-use Rattle.channel_access.specs.OnAir.{OnAir, bits_of, bits_then, decided, flag_end, followed_by, frame_named, frames_end, has_sent_frames, most_frames, names_next, samples_of, tick_samples, waiting_with_named, with_named, with_tick}
+use Rattle.channel_access.specs.OnAir.{OnAir, bits_of, bits_then, decided, flag_end, followed_by, frame_named, frames_end, has_sent_frames, most_frames, names_next, samples_on_air, tick_samples, waiting_with_named, with_named, with_tick}
 use Rattle.channel_access.specs.Waiting.{WaitingFrame}
 use Rattle.tone_table.specs.declared.tone.Tone.TheVariants.{Mark}
 use Rattle.nrzi_bits.specs.Line.{line}
@@ -341,21 +341,21 @@ air_sends (Some t) waiting h =
     (decided_sends t waiting h.parts)
 
 -- a tick has 96 samples
-length-samples_of : (t : OnAir) → length (samples_of t) ≡ 8 * length (bits_of t)
-length-samples_of t =
-    ap length (samples_of-is t) ∙ length-wave_from 0 (line (bits_of t))
+length-samples_on_air : (t : OnAir) → length (samples_on_air t) ≡ 8 * length (bits_of t)
+length-samples_on_air t =
+    ap length (samples_on_air-is t) ∙ length-wave_from 0 (line (bits_of t))
     ∙ ap (λ n. 8 * n) (length-line_from Mark (bits_of t))
 
 length-tick : (t : OnAir) → 12 * t.ticks ≤ length (bits_of t) → length (tick_samples t) ≡ 96
 unfolding tick_samples
 length-tick t long =
     let quiet : List ℤ = replicate 96 (pos 0) in
-    let all = samples_of t ++ quiet in
+    let all = samples_on_air t ++ quiet in
     omega (
       arith,
       long,
-      length-samples_of t,
-      length-append (samples_of t) quiet,
+      length-samples_on_air t,
+      length-append (samples_on_air t) quiet,
       length-replicate 96 (pos 0),
       length-drop (96 * t.ticks) all,
       length-take 96 (drop (96 * t.ticks) all),

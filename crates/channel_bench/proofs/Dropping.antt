@@ -27,7 +27,8 @@ use Rattle.station.specs.declared.host_event.HostEvent.TheVariants.{Joined, Byte
 use Rattle.station.specs.declared.host_event.PortKind.{PortKind}
 use Rattle.station.specs.declared.host_event.PortKind.TheVariants.{Kiss, Agw}
 use Rattle.station.specs.AgwKinds.{version_kind, ports_kind, capabilities_kind, register_kind, unregister_kind, toggle_kind, monitor_kind, raw_kind, unproto_kind, unproto_via_kind, data_kind, disconnect_kind, pending_kind, waiting_kind}
-use Rattle.station.specs.AgwRequests.{replying, version_reply, ports_reply, capabilities_reply, toggled, monitor_toggled, register_reply, with_registration, registering, unregistering, is_frame_length, queueing_raw, most_information, unnumbered_frame, sending_unnumbered, refused_reply, may_call, calls, called_route, called_pid, IsCall, IsCallMade, own_key, giving, giving_packet, packets_of, data_pid, disconnecting, pending_in, pending_reply, waiting_reply, answering_else, AreAnswered}
+use Rattle.station.specs.AgwRequests.{replying, version_reply, ports_reply, capabilities_reply, toggled, monitor_toggled, register_reply, with_registration, registering, unregistering, queueing_raw, most_information, unnumbered_frame, sending_unnumbered, refused_reply, may_call, calls, called_route, called_pid, IsCall, IsCallMade, own_key, giving, giving_packet, packets_of, data_pid, disconnecting, pending_in, pending_reply, waiting_reply, answering_else, AreAnswered}
+use Rattle.hdlc_framer.specs.FrameLength.{has_frame_length}
 use Rattle.station.specs.CallFields.{call_in}
 use Rattle.station.specs.Connections.{Connection, connection_of, most_connections}
 use Rattle.station.specs.FrameSpelling.{frame_octets}
@@ -234,7 +235,7 @@ queueing_joins link octets turn = go (nat_lt (length turn.now.channel.waiting) c
     go false = λ nothing_lost. absurd (never_zero turn.now.dropped nothing_lost)
 
 raw_joins : (octets : List ℕ) (turn : Turn) → Joins turn [] (queueing_raw octets turn)
-raw_joins octets turn = go (is_frame_length octets)
+raw_joins octets turn = go (has_frame_length octets)
   where
     go : (b : Bool) → Joins turn [] ((if b then queueing None octets else (λ t. t)) turn)
     go true = queueing_joins None octets turn

@@ -3,7 +3,7 @@ use Rattle.std.proofs.Common.{◌≡◌, ℕ, ◌+◌, ◌^◌, ◌<◌, ◌≤�
 use Rattle.std.specs.Prelude.{All}
 use Rattle.std.specs.List.Sorted.{IsNonDecreasingBy}
 use Rattle.std.proofs.lemmas.List.Elements.{All-filter}
-use Rattle.channel_access.specs.Waiting.{HasFrameLength}
+use Rattle.hdlc_framer.specs.FrameLength.{HasFrameLength}
 use Rattle.frame_merge.specs.declared.candidate.Candidate.{Candidate}
 use Rattle.frame_merge.specs.Held.{Held as HeldMerger, StandsFor as MergerStandsFor, least}
 use Rattle.frame_merge.specs.Order.{in_order}

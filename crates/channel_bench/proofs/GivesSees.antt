@@ -29,7 +29,8 @@ use Rattle.channel_bench.specs.LinksTell.{AreToldInOne, RunsIn}
 use Rattle.channel_bench.specs.RunsTell.{runs_behind, told_in}
 use Rattle.channel_bench.specs.SetUpsSeen.{IsGivenWhileUp, seen_by_all}
 use Rattle.channel_bench.specs.StationsLaw.{IsMachineOf, first_chosen}
-use Rattle.channel_bench.specs.Words.{generator_of, text_at, text_of, words, after_word}
+use Rattle.channel_bench.specs.Words.{text_at, text_of}
+use Rattle.channel_access.specs.Words.{words, after_word, generator_of}
 use Rattle.channel_bench.proofs.Chains.{IsChain, StandsAsked, asked_append, asked_behind, behind_append, called_append, called_behind, chain_parts, last_machine, made_by}
 use Rattle.channel_bench.proofs.CoreRun.{input_of}
 use Rattle.channel_bench.proofs.CoreRun.Usual.{gives}

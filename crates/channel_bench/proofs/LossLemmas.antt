@@ -9,7 +9,8 @@ use Rattle.channel_bench.specs.declared.words.BenchWords.{BenchWords}
 use Rattle.channel_bench.specs.BenchState.{BenchState, Common, Near, near, with_near}
 use Rattle.channel_bench.specs.HeldBench.{EarStandsFor, StandsForCommon, StandsForNear, StandsForRun, StandsForSide}
 use Rattle.channel_bench.specs.Sounding.{is_lost, with_loss, with_losses, with_transmission}
-use Rattle.channel_bench.specs.Words.{after_word, text_at}
+use Rattle.channel_bench.specs.Words.{text_at}
+use Rattle.channel_access.specs.Words.{after_word}
 use Rattle.channel_bench.proofs.SideLemmas.{KeepsStation, stands_kept}
 
 -- none begins

@@ -11,7 +11,7 @@ use Rattle.nrzi_bits.specs.Line.{line}
 use Rattle.hdlc_framer.specs.Body.{body}
 use Rattle.afsk_modulator.specs.Transmission.{transmission}
 use Rattle.channel_access.specs.Channel.{Channel, after_rules, air_samples}
-use Rattle.channel_access.specs.OnAir.{OnAir, bits_then, decided, flags_behind, samples_of, tick_samples}
+use Rattle.channel_access.specs.OnAir.{OnAir, bits_then, decided, flags_behind, samples_on_air, tick_samples}
 use Rattle.channel_access.specs.Waiting.{WaitingFrame}
 use Rattle.station.specs.State.{StationState}
 use Rattle.station.specs.Ticks.{air_of, ticking_links}
@@ -37,8 +37,8 @@ within-transmission : (frames : List (List ℕ)) (opening closing : ℕ)
 unfolding transmission
 within-transmission frames opening closing = within-wave_from 0 (line (body frames opening closing))
 
-within-samples : (t : OnAir) → All IsLoudAtMost (samples_of t)
-unfolding samples_of
+within-samples : (t : OnAir) → All IsLoudAtMost (samples_on_air t)
+unfolding samples_on_air
 within-samples t = within-transmission t.frames t.opening (flags_behind t)
 
 pub silence_within : (n : ℕ) → All IsLoudAtMost (replicate n (pos 0))
@@ -47,10 +47,10 @@ silence_within n = All-replicate IsLoudAtMost n (pos 0) (omega arith)
 within-tick : (t : OnAir) → All IsLoudAtMost (tick_samples t)
 unfolding tick_samples
 within-tick t =
-    let all : List ℤ = samples_of t ++ replicate 96 (pos 0) in
+    let all : List ℤ = samples_on_air t ++ replicate 96 (pos 0) in
     All-take IsLoudAtMost 96 (drop (96 * t.ticks) all)
     (All-drop IsLoudAtMost (96 * t.ticks) all
-    (All-append IsLoudAtMost (samples_of t) (replicate 96 (pos 0)) (within-samples t) (silence_within 96)))
+    (All-append IsLoudAtMost (samples_on_air t) (replicate 96 (pos 0)) (within-samples t) (silence_within 96)))
 
 within-air : (waiting : List WaitingFrame) (air : Option OnAir) → All IsLoudAtMost (air_samples waiting air)
 within-air waiting None = silence_within 96

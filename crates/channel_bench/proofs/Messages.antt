@@ -18,7 +18,8 @@ use Rattle.station.specs.declared.host_event.HostEvent.TheVariants.{Joined, Byte
 use Rattle.station.specs.declared.host_event.PortKind.{PortKind}
 use Rattle.station.specs.declared.host_event.PortKind.TheVariants.{Kiss, Agw}
 use Rattle.station.specs.AgwKinds.{version_kind, ports_kind, capabilities_kind, register_kind, unregister_kind, toggle_kind, monitor_kind, raw_kind, unproto_kind, unproto_via_kind, connect_via_kind, data_kind, disconnect_kind, pending_kind, waiting_kind}
-use Rattle.station.specs.AgwRequests.{replying, register_reply, with_registration, registering, unregistering, is_frame_length, queueing_raw, most_information, unnumbered_frame, sending_unnumbered, refused_reply, may_call, calls, called_route, called_pid, IsCall, IsCallMade, own_key, giving, disconnecting, pending_in, pending_reply, waiting_reply, answering_else, AreAnswered}
+use Rattle.station.specs.AgwRequests.{replying, register_reply, with_registration, registering, unregistering, queueing_raw, most_information, unnumbered_frame, sending_unnumbered, refused_reply, may_call, calls, called_route, called_pid, IsCall, IsCallMade, own_key, giving, disconnecting, pending_in, pending_reply, waiting_reply, answering_else, AreAnswered}
+use Rattle.hdlc_framer.specs.FrameLength.{has_frame_length}
 use Rattle.station.specs.CallFields.{call_in}
 use Rattle.station.specs.Connections.{Connection, connection_of, most_connections}
 use Rattle.station.specs.FrameSpelling.{frame_octets}
@@ -61,7 +62,7 @@ raw_still octets turn = go (nat_lt (length turn.now.channel.waiting) capacity)
     go false = record { links = refl; parameters = refl; queued = refl }
 
 pub kiss_raw_still : (octets : List ℕ) (turn : Turn) → IsStill turn (queueing_raw octets turn)
-kiss_raw_still octets turn = go (is_frame_length octets)
+kiss_raw_still octets turn = go (has_frame_length octets)
   where
     go : (b : Bool) → IsStill turn ((if b then queueing None octets else (λ t. t)) turn)
     go true = raw_still octets turn

@@ -28,7 +28,8 @@ use Rattle.station.specs.declared.host_event.PortKind.{PortKind}
 use Rattle.station.specs.declared.host_event.PortKind.TheVariants.{Kiss, Agw}
 use Rattle.station.specs.declared.host_out.Piece.{Piece}
 use Rattle.station.specs.AgwKinds.{version_kind, ports_kind, capabilities_kind, register_kind, unregister_kind, toggle_kind, monitor_kind, raw_kind, unproto_kind, unproto_via_kind, connect_kind, data_kind, disconnect_kind, pending_kind, waiting_kind}
-use Rattle.station.specs.AgwRequests.{replying, version_reply, ports_reply, capabilities_reply, toggled, monitor_toggled, register_reply, with_registration, registering, unregistering, is_frame_length, queueing_raw, most_information, unnumbered_frame, sending_unnumbered, refused_reply, may_call, calls, called_route, called_pid, IsCall, IsCallMade, own_key, giving, giving_packet, packets_of, data_pid, disconnecting, pending_in, pending_reply, waiting_reply, answering_else, AreAnswered}
+use Rattle.station.specs.AgwRequests.{replying, version_reply, ports_reply, capabilities_reply, toggled, monitor_toggled, register_reply, with_registration, registering, unregistering, queueing_raw, most_information, unnumbered_frame, sending_unnumbered, refused_reply, may_call, calls, called_route, called_pid, IsCall, IsCallMade, own_key, giving, giving_packet, packets_of, data_pid, disconnecting, pending_in, pending_reply, waiting_reply, answering_else, AreAnswered}
+use Rattle.hdlc_framer.specs.FrameLength.{has_frame_length}
 use Rattle.station.specs.CallFields.{call_in}
 use Rattle.station.specs.Connections.{Connection, connection_of, most_connections}
 use Rattle.station.specs.FrameSpelling.{frame_octets}
@@ -195,7 +196,7 @@ queueing_tells id link octets turn =
     nothing_told id turn (queueing link octets turn) (ap (of_links id) (queued_pieces link octets turn))
 
 raw_tells : (id : ℕ) (octets : List ℕ) (turn : Turn) → Tells id turn [] (queueing_raw octets turn)
-raw_tells id octets turn = go (is_frame_length octets)
+raw_tells id octets turn = go (has_frame_length octets)
   where
     go : (b : Bool) → Tells id turn [] ((if b then queueing None octets else (λ t. t)) turn)
     go true = queueing_tells id None octets turn

@@ -6,7 +6,7 @@ use Rattle.link_world.specs.declared.end.End.TheVariants.{A, B}
 use Rattle.channel_bench.specs.declared.words.BenchWords.{BenchWords}
 use Rattle.channel_bench.specs.BenchState.{BenchState, Near, SideState, near, with_near}
 use Rattle.channel_bench.specs.Sounding.{after_noise, carried, is_lost, reaching, sends, sent_in, sounding, with_loss, with_losses, with_noise, with_samples, with_transmission, with_words}
-use Rattle.channel_bench.specs.Words.{after_word}
+use Rattle.channel_access.specs.Words.{after_word}
 
 -- a transmission that begins is lost or not
 abbrev lost_as : Bool → Lcg → ℕ → ℕ → Near → Near

@@ -3,7 +3,7 @@ use Rattle.std.proofs.Common.{◌≡◌, ℕ, suc, ◌+◌, ◌-◌, ◌%◌, �
 use Rattle.std.proofs.lemmas.List.{drop_more, drop_all}
 use Rattle.rand_pcg.specs.Lcg.{Lcg}
 use Rattle.rand_pcg.specs.Pcg.{pcg32}
-use Rattle.channel_bench.specs.Words.{next_word, after_word, words}
+use Rattle.channel_access.specs.Words.{words, after_word, next_word}
 use Rattle.channel_bench.specs.Sounding.{noise_of, with_words, after_words}
 
 abbrev pub octet_of : ℕ → ℕ

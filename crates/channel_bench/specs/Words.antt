@@ -1,27 +1,9 @@
--- Random words: those of PCG XSH RR 64/32 (O'Neill, "PCG: a family of simple fast space-efficient statistically good
--- algorithms for random number generation"), by a seed and a stream. And what the bench makes of them.
-use Rattle.std.specs.Prelude.{ℕ, zero, suc, ◌+◌, ◌*◌, ◌/◌, ◌%◌, ◌^◌, ◌≤◌, List, [], ◌∷◌, map}
-use Rattle.rand_pcg.specs.Lcg.{Lcg, started, increment_of}
-use Rattle.rand_pcg.specs.Pcg.{multiplier_64, pcg32}
+-- What the bench makes of random words.
+use Rattle.std.specs.Prelude.{ℕ, ◌+◌, ◌*◌, ◌/◌, ◌%◌, ◌^◌, ◌≤◌, List, map}
+use Rattle.channel_access.specs.Words.{generator_of, words}
 use Rattle.link_world.specs.declared.end.End.{End}
 use Rattle.link_world.specs.declared.end.End.TheVariants.{A, B}
 use Rattle.channel_bench.specs.declared.words.BenchWords.{BenchWords}
-
--- the generator of a seed and a stream
-abbrev pub generator_of : ℕ → ℕ → Lcg
-generator_of seed stream = started 64 multiplier_64 seed (increment_of 64 stream)
-
--- the next word, of 32 bits, and the generator after it
-abbrev pub next_word : Lcg → ℕ
-next_word generator = (pcg32 generator).0
-
-abbrev pub after_word : Lcg → Lcg
-after_word generator = (pcg32 generator).1
-
--- so many words, one after another
-abbrev pub words : ℕ → Lcg → List ℕ
-words zero generator = []
-words (suc count) generator = next_word generator ∷ words count (after_word generator)
 
 -- so many octets, each the low eight bits of a word
 unfoldable pub text_of : ℕ → ℕ → ℕ → List ℕ

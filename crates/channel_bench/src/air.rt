@@ -2,7 +2,7 @@
 ghost use Rattle.std.specs.Prelude.{◌≡◌, ◌≤◌, ◌*◌, ◌%◌, ◌+◌, length, replicate, pos, unsigned_abs, All, IfOk, OnOk};
 ghost use Rattle.std.specs.List.{list_any};
 ghost use Rattle.channel_bench.specs.Sounding.{is_sound, noise_of, with_words, after_words, with_noise, after_noise};
-ghost use Rattle.channel_bench.specs.Words.{next_word, after_word};
+ghost use Rattle.channel_access.specs.Words.{after_word, next_word};
 
 use rand_core::utils::NextWord;
 use rand_pcg::Lcg64Xsh32;

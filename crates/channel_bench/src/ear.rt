@@ -1,7 +1,7 @@
 //! What a station hears of the samples that reach it.
 ghost use Rattle.std.specs.Prelude.{◌≡◌, ◌+◌, ◌-◌, ◌<◌, ◌≤◌, ◌^◌, ◌↔◌, ℕ, ℤ, List, [], ◌++◌, length, IfOk, OnOk, IsTrue};
 ghost use Rattle.std.specs.List.{All};
-ghost use Rattle.channel_access.specs.Waiting.{HasFrameLength};
+ghost use Rattle.hdlc_framer.specs.FrameLength.{HasFrameLength};
 ghost use Rattle.frame_merge.specs.declared.candidate.Candidate.{Candidate};
 ghost use Rattle.frame_merge.specs.Held.{StandsFor as MergerStandsFor};
 ghost use Rattle.slicer_bank.specs.Busy.{HearsCarrier};

@@ -2,7 +2,7 @@
 ghost use Rattle.std.specs.Prelude.{◌≡◌, ◌+◌, ◌++◌, ◌<◌, ◌≤◌, ◌^◌, ℕ, All, List, None, length, IfOk, OnOk};
 ghost use Rattle.channel_bench.specs.declared.words.BenchWords.{BenchWords};
 ghost use Rattle.channel_bench.specs.BenchRun.{is_over, report_of};
-ghost use Rattle.channel_access.specs.Waiting.{HasFrameLength};
+ghost use Rattle.hdlc_framer.specs.FrameLength.{HasFrameLength};
 ghost use Rattle.station.specs.Held.{IsAdmitted};
 ghost use Rattle.station.specs.declared.host_event.HostEvent.{HostEvent};
 ghost use Rattle.channel_bench.specs.BenchState.{BenchState, SideState, AtEnd, config_of, new_bench};

@@ -33,7 +33,7 @@ impl Shared {
     ghost use Rattle.channel_bench.specs.HeldBench.{StandsForCommon, StandsForWays};
     ghost use Rattle.channel_bench.specs.InFlight.{BothWays, queueing_all};
     ghost use Rattle.channel_bench.specs.Sounding.{is_lost};
-    ghost use Rattle.channel_bench.specs.Words.{after_word};
+    ghost use Rattle.channel_access.specs.Words.{after_word};
 
     /// Nothing came to pass yet.
     pub(crate) fn new(alloc: Global, seed: u64) -> Shared

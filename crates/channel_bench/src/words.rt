@@ -1,6 +1,7 @@
 //! What a run of the bench is made of: its words, and the random words that they stand for.
 ghost use Rattle.std.specs.Prelude.{◌≡◌, IfOk};
-ghost use Rattle.channel_bench.specs.Words.{generator_of, text_of};
+ghost use Rattle.channel_bench.specs.Words.{text_of};
+ghost use Rattle.channel_access.specs.Words.{generator_of};
 
 use rand_core::utils::NextWord;
 use rand_pcg::Lcg64Xsh32;

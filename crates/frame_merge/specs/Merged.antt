@@ -21,8 +21,8 @@ abbrev pub merged : List Candidate → List Candidate
 merged items = merged_after [] items
 
 -- the frames of candidates
-abbrev pub frames_of : List Candidate → List (List ℕ)
-frames_of items = map (λ item. item.octets) items
+abbrev pub candidate_frames : List Candidate → List (List ℕ)
+candidate_frames items = map (λ item. item.octets) items
 
 -- the part of a list that ends below a position
 abbrev pub below : ℕ → List Candidate → List Candidate

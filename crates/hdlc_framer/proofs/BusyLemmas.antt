@@ -1,12 +1,12 @@
 -- A carrier of one flag, told from the last flag.
-use Rattle.std.proofs.Common.{◌≡◌, ℕ, zero, suc, ◌+◌, ◌-◌, ◌<◌, ◌≤◌, ◌⊎◌, Bool, true, false, List, [], ◌∷◌, ◌++◌, length, get_or, take, refl, ap, subst, ◌∙◌, sym, inl, inr, arith, length-append}
+use Rattle.std.proofs.Common.{◌≡◌, ℕ, zero, suc, ◌+◌, ◌-◌, ◌<◌, ◌≤◌, ◌⊎◌, Bool, true, false, List, [], ◌∷◌, ◌++◌, length, get_or, take, ap, subst, ◌∙◌, sym, inl, inr, arith, length-append}
 use Rattle.std.proofs.Math.Seq.{take-suc}
 use Rattle.std.proofs.lemmas.Bool.{cases_lt, cases_eq, cases_Bool, true≢false}
 use Rattle.std.proofs.lemmas.List.{take_all, take-take, length-take-le}
 use Rattle.hdlc_framer.specs.Stuffing.{flag}
-use Rattle.hdlc_framer.specs.Frames.{EndsFlag, EndsAbort}
+use Rattle.hdlc_framer.specs.Frames.{EndsFlag}
 use Rattle.hdlc_framer.specs.Held.{line_after}
-use Rattle.hdlc_framer.specs.Carrier.{IsQuiet, IsLost, HoldsCarrier, IsBusy, most_quiet}
+use Rattle.hdlc_framer.specs.Carrier.{IsQuiet, IsLost, HoldsCarrier, IsBusy}
 use Rattle.hdlc_framer.proofs.FrameEnds.{ends_flag, ends_on_zero, no_flag_on_one}
 
 -- a flag ends with a bit, or none does

@@ -3,13 +3,14 @@ use Rattle.std.specs.Prelude.{◌≡◌, ℕ, ◌/◌, ◌%◌, ◌<◌, ◌≤�
 use Rattle.std.specs.List.{All, suffix_len}
 use Rattle.hdlc_framer.specs.BitOrder.{sent_bits}
 use Rattle.hdlc_framer.specs.CheckSequence.{fcs_of}
+use Rattle.hdlc_framer.specs.FrameLength.{least_frame_length, most_frame_length}
 use Rattle.hdlc_framer.specs.Stuffing.{flag, stuffed}
 
--- a frame without its check sequence: 15 to 1024 octets
+-- a frame without its check sequence
 pub record IsFrame (octets : List ℕ) : Type 0 where
   pub octets_fit : All (λ octet. octet < 256) octets
-  pub least : 15 ≤ length octets
-  pub most : length octets ≤ 1024
+  pub least : least_frame_length ≤ length octets
+  pub most : length octets ≤ most_frame_length
 
 -- octets followed by their check sequence, its low octet first
 unfoldable pub with_fcs : List ℕ → List ℕ

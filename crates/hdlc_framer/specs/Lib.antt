@@ -1,6 +1,7 @@
 pub mod BitOrder
 pub mod CheckSequence
 pub mod Stuffing
+pub mod FrameLength
 pub mod Frames
 pub mod Held
 pub mod Events

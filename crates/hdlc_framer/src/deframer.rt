@@ -2,6 +2,7 @@
 
 ghost use Rattle.std.specs.Prelude.{◌≡◌, ◌↔◌, ℕ, ◌≤◌, Bool, false, List, [], ◌∷◌, ◌++◌, length, IsTrue};
 ghost use Rattle.hdlc_framer.specs.Carrier.{HoldsCarrier};
+ghost use Rattle.hdlc_framer.specs.FrameLength.{least_frame_length, most_frame_length};
 ghost use Rattle.hdlc_framer.specs.Frames.{IsFrame, EndsFrame};
 ghost use Rattle.hdlc_framer.specs.Held.{StandsFor, HoldsFrame, flags_asked, line_of};
 
@@ -100,12 +101,12 @@ impl Deframer {
         self.carrier.is_held()
     }
 
-    /// The octets of the frame that the last bit ended, without its check sequence: 15 to 1024 of them.
+    /// The octets of the frame that the last bit ended, without its check sequence.
     pub fn octets(&self) -> &[u8]
         requires { (octets : List ℕ) × IsFrame octets × HoldsFrame self.now octets }
         ensures frame { (octets : List ℕ) → IsFrame octets → HoldsFrame self.now octets → result.now ≡ octets }
-        ensures least { 15 ≤ length result.now }
-        ensures most { length result.now ≤ 1024 }
+        ensures least { least_frame_length ≤ length result.now }
+        ensures most { length result.now ≤ most_frame_length }
     {
         self.line.frame()
     }

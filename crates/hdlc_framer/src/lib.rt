@@ -10,6 +10,7 @@ mod check_sequence;
 mod content;
 mod deframer;
 mod event;
+mod frame_length;
 mod laws;
 mod line;
 mod stuffing;
@@ -17,6 +18,7 @@ mod stuffing;
 pub use check_sequence::fcs;
 pub use deframer::Deframer;
 pub use event::Event;
+pub use frame_length::{LEAST_FRAME_LENGTH, MOST_FRAME_LENGTH, has_frame_length};
 pub use laws::{one_event_comes, one_flag_makes_busy, one_frame_ends, remainder_is_of_division};
 pub use stuffing::stuff;
 

@@ -1,15 +1,16 @@
 //! Frames as the samples of one transmission.
-ghost use Rattle.std.specs.Prelude.{◌≡◌, ℕ, ◌+◌, ◌*◌, ◌%◌, ◌<◌, ◌≤◌, ◌↔◌, List, ℤ, All, IfOk, OnOk, IsErrOf, IfSome, IsNone, unsigned_abs};
+ghost use Rattle.std.specs.Prelude.{◌≡◌, ℕ, ◌+◌, ◌*◌, ◌%◌, ◌<◌, ◌≤◌, ◌↔◌, List, ℤ, All, IfOk, OnOk, IsErrOf, unsigned_abs};
 ghost use Rattle.nrzi_bits.specs.Line.{line};
 ghost use Rattle.tone_table.specs.Sine.{wave_sample};
 ghost use Rattle.afsk_modulator.specs.Level.{sample_at, at_level};
 ghost use Rattle.afsk_modulator.specs.Modulation.{IsLevel};
-ghost use Rattle.afsk_modulator.specs.Transmission.{AreFewFlags, IsBadLength, IsFirstBadLength};
+ghost use Rattle.afsk_modulator.specs.Transmission.{AreFewFlags, IsFirstBadLength};
+ghost use Rattle.hdlc_framer.specs.FrameLength.{IsBadLength};
 ghost use Rattle.hf_modem.specs.Tones.{phase_step, next_phase};
 ghost use Rattle.hf_modem.specs.Wave.{pure_window, wave};
 ghost use Rattle.hf_modem.specs.Transmission.{hf_transmission};
 
-use afsk_modulator::ModFault;
+use afsk_modulator::{ModFault, first_bad_length};
 use hdlc_framer::stuff;
 use nrzi_bits::NrziOut;
 use std::alloc::Global;
@@ -21,12 +22,6 @@ const LEAST_OPENING: u16 = 2;
 
 /// The fewest flags that close one.
 const LEAST_CLOSING: u16 = 1;
-
-/// The fewest octets of a frame: two addresses and a control octet.
-const LEAST_LENGTH: usize = 15;
-
-/// The most octets of a frame.
-const GREATEST_LENGTH: usize = 1024;
 
 /// The amplitude of the tables of the wave.
 const FULL_LEVEL: i32 = 10000;
@@ -57,20 +52,6 @@ pub fn hf_transmission(
     }
     let bits = stuff(alloc, frames, opening, closing)?;
     Ok(modulated(alloc, level, &bits)?)
-}
-
-/// The place of the first frame with fewer than 15 or more than 1024 octets.
-fn first_bad_length(frames: &[Octets]) -> Option<usize>
-    ensures found { IfSome result (IsFirstBadLength frames.now) }
-    ensures none { IsNone result → All (λ octets. ¬ IsBadLength octets) frames.now }
-{
-    for (index, frame) in frames.iter().enumerate() {
-        let length = frame.len();
-        if length < LEAST_LENGTH || length > GREATEST_LENGTH {
-            return Some(index);
-        }
-    }
-    None
 }
 
 /// The wave of bits, from phase 0 on, on a line that stands at mark.

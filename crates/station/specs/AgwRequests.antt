@@ -75,13 +75,9 @@ monitor_toggled id s = record s { connections = with_connection id turned_monito
 
 -- ---- K, M, V
 
--- a frame without its check sequence has 15 to 1024 octets
-abbrev pub is_frame_length : List ℕ → Bool
-is_frame_length octets = nat_le 15 (length octets) && nat_le (length octets) 1024
-
 -- what is no frame is passed over
 abbrev pub queueing_raw : List ℕ → Act
-queueing_raw octets = if is_frame_length octets then queueing None octets else nothing
+queueing_raw octets = if has_frame_length octets then queueing None octets else nothing
 
 -- the most octets that an unnumbered frame carries
 abbrev pub most_information : ℕ

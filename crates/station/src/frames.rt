@@ -1,6 +1,6 @@
 //! Frames as they are queued.
 ghost use Rattle.std.specs.Prelude.{◌≡◌, ◌≤◌, length, IfOk, IsTrue};
-ghost use Rattle.channel_access.specs.Waiting.{HasFrameLength};
+ghost use Rattle.hdlc_framer.specs.FrameLength.{HasFrameLength};
 ghost use Rattle.ax25_frames.specs.ControlField.{numbers};
 ghost use Rattle.ax25_frames.specs.FrameOctets.{CanWrite};
 ghost use Rattle.station.specs.FrameSpelling.{frame_octets};

@@ -5,7 +5,7 @@ ghost use Rattle.ax25_address.specs.declared.path.Role.TheVariants.{Command};
 ghost use Rattle.ax25_frames.specs.ControlField.{IsNumbered};
 ghost use Rattle.ax25_frames.specs.FrameOctets.{control_of};
 ghost use Rattle.ax25_frames.specs.declared.frame.Modulus.TheVariants.{Eight};
-ghost use Rattle.channel_access.specs.Waiting.{HasFrameLength};
+ghost use Rattle.hdlc_framer.specs.FrameLength.{HasFrameLength};
 ghost use Rattle.station.specs.Heard.{IsReadAs, IsHeard, IsRepeatedFor, AreOctetsHeard, AreHeardAt, IsHeardAnew, waits_for_repeater, makes_link, is_command_to_set_up};
 ghost use Rattle.station.specs.Held.{ids_in};
 ghost use Rattle.station.specs.Registrations.{registrar};

@@ -1,8 +1,9 @@
 //! What KISS asks of a station.
-ghost use Rattle.std.specs.Prelude.{◌≡◌, ◌≤◌, ◌↔◌, length, IsTrue, OnOk};
+ghost use Rattle.std.specs.Prelude.{◌≡◌, ◌↔◌, IsTrue, OnOk};
 ghost use Rattle.channel_access.specs.Channel.{Channel, with_setting};
 ghost use Rattle.channel_access.specs.StandsFor.{StandsFor as StandsForChannel};
-ghost use Rattle.station.specs.AgwRequests.{queueing_raw, is_frame_length};
+ghost use Rattle.station.specs.AgwRequests.{queueing_raw};
+ghost use Rattle.hdlc_framer.specs.FrameLength.{has_frame_length};
 ghost use Rattle.station.specs.Held.{ids_in};
 ghost use Rattle.station.specs.Kiss.{heeding, heeding_all, param_of, with_param};
 ghost use Rattle.station.specs.StandsFor.{Shows};
@@ -11,6 +12,7 @@ ghost use Rattle.station.specs.Turn.{Out, Turn, changing};
 use crate::host_out::HostOut;
 use crate::parts::Parts;
 use channel_access::Param;
+use hdlc_framer::has_frame_length;
 use kiss_port::KissItem;
 use std::alloc::Global;
 use tnc_base::{Octets, OutOfMemory};
@@ -77,7 +79,7 @@ impl Parts {
         ensures ids { OnOk result (ids_in self.new ≡ ids_in self.old) }
         ensures closed { OnOk result (out.new.closed ≡ out.old.closed) }
     {
-        if !is_frame_length(octets) {
+        if !has_frame_length(octets) {
             return Ok(());
         }
         let frame = Octets::from_slice(alloc, octets)?;
@@ -94,10 +96,7 @@ impl Parts {
     }
 }
 
-/// Whether octets are as long as a frame without its check sequence.
-fn is_frame_length(octets: &[u8]) -> bool
-    ensures { result ≡ is_frame_length octets.now }
-{
+
     15 <= octets.len() && octets.len() <= 1024
 }
 

@@ -1,7 +1,7 @@
 //! Frames that are heard, as hosts are shown them.
 ghost use Rattle.std.specs.Prelude.{◌≡◌, ◌∷◌, ◌++◌, length, IfOk, OnOk};
 ghost use Rattle.agwpe_port.specs.Messages.{spelling};
-ghost use Rattle.channel_access.specs.Waiting.{HasFrameLength};
+ghost use Rattle.hdlc_framer.specs.FrameLength.{HasFrameLength};
 ghost use Rattle.station.specs.Heard.{showing, with_shown, kiss_data};
 ghost use Rattle.station.specs.HeldConnections.{kind_of};
 ghost use Rattle.station.specs.HostMessages.{raw_message};

@@ -19,7 +19,7 @@ use Rattle.tnc_words.specs.declared.command.Receiving.{Receiving}
 use Rattle.tnc_words.specs.declared.command.Receiving.TheVariants.{Standard, Sensitive, ShortWave}
 use Rattle.tnc_decode.specs.declared.audio.Audio.{Audio}
 use Rattle.tnc_decode.specs.declared.audio.Audio.TheVariants.{Pcm, File}
-use Rattle.tnc_decode.specs.Audio.{rates_of, samples_at, samples_of, stopping_fault_at, form_fault_at, fault_in_verdict}
+use Rattle.tnc_decode.specs.Audio.{rates_of, samples_at, samples_read, stopping_fault_at, form_fault_at, fault_in_verdict}
 use Rattle.tnc_decode.specs.Modem.{modem_of, modem_for, modem_of_file}
 use Rattle.tnc_decode.specs.Held.{odd_octet, HasTakenAt}
 use Rattle.tnc_decode.proofs.WavFaults.{fault_stays, rate_stays, silent_before, quiet_before}
@@ -236,7 +236,7 @@ form_is_wav rates Wav octets fault e = by_verdict (verdict_of rates octets) e
 -- ---- the modem
 
 -- Once a modem is chosen it stays; before that there is no sample.
-pub modem_stays : (words : DecodeWords) (octets more : List ℕ) → (modem_of words (octets ++ more) ≡ modem_of words octets) ⊎ (samples_of words octets ≡ [])
+pub modem_stays : (words : DecodeWords) (octets more : List ℕ) → (modem_of words (octets ++ more) ≡ modem_of words octets) ⊎ (samples_read words octets ≡ [])
 modem_stays words octets more = by_words words.receiving words.audio
   where
     of_file : (rate : Option ℕ) → rate_in NarrowOrWide octets ≡ rate

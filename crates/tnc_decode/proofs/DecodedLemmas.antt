@@ -4,14 +4,14 @@ use Rattle.std.specs.Prelude.{Some, None, if◌then◌else◌}
 use Rattle.std.specs.Option.{option_or}
 use Rattle.std.proofs.Math.Seq.{take-append-add, take-append_seam}
 use Rattle.std.proofs.lemmas.Bool.{cases_lt, lt-ltb, le-ltb}
-use Rattle.frame_merge.specs.Merged.{merged, frames_of}
+use Rattle.frame_merge.specs.Merged.{merged, candidate_frames}
 use Rattle.wav_file.specs.declared.rates.Rates.{Rates}
 use Rattle.tnc_words.specs.declared.command.DecodeWords.{DecodeWords}
 use Rattle.tnc_words.specs.declared.command.AudioForm.{AudioForm}
 use Rattle.tnc_forms.specs.declared.fault.InputFault.{InputFault}
 use Rattle.tnc_forms.specs.declared.fault.InputFault.TheVariants.{TooLong}
 use Rattle.tnc_forms.specs.Reading.{input_limit}
-use Rattle.tnc_decode.specs.Audio.{samples_of, form_fault_at, stopping_fault_at, audio_fault_at}
+use Rattle.tnc_decode.specs.Audio.{samples_read, form_fault_at, stopping_fault_at, audio_fault_at}
 use Rattle.tnc_decode.specs.Modem.{modem_of}
 use Rattle.tnc_decode.specs.Decoded.{IsDecoded}
 use Rattle.tnc_decode.specs.Printing.{print}
@@ -21,13 +21,13 @@ use Rattle.tnc_decode.proofs.ModemLemmas.{one_heard, some_heard}
 -- an input has a text
 pub some_text : (words : DecodeWords) (octets : List ℕ) → (text : List ℕ) × IsDecoded words octets text
 some_text words octets =
-    let found = some_heard (modem_of words octets) (samples_of words octets) in
-    (print words.frames (frames_of (merged found.0)), record { candidates = found.0; are = found.1; is = refl })
+    let found = some_heard (modem_of words octets) (samples_read words octets) in
+    (print words.frames (candidate_frames (merged found.0)), record { candidates = found.0; are = found.1; is = refl })
 
 -- and no two
 pub one_text : (words : DecodeWords) (octets text other : List ℕ) → IsDecoded words octets text → IsDecoded words octets other → text ≡ other
 one_text words octets text other h k =
-    h.is ∙ ap (λ t. print words.frames (frames_of (merged t))) (one_heard (modem_of words octets) (samples_of words octets) h.candidates k.candidates h.are k.are) ∙ sym k.is
+    h.is ∙ ap (λ t. print words.frames (candidate_frames (merged t))) (one_heard (modem_of words octets) (samples_read words octets) h.candidates k.candidates h.are k.are) ∙ sym k.is
 
 -- an input that is not too long is refused for what is wrong with its form
 pub audio_fault_short : (rates : Rates) (form : AudioForm) (octets : List ℕ) → length octets ≤ input_limit → audio_fault_at rates form octets ≡ form_fault_at rates form octets

@@ -11,7 +11,7 @@ use Rattle.tnc_forms.proofs.ReadingLemmas.{read_on}
 use Rattle.tnc_forms.proofs.WrittenParts.{wrote_front, wrote_behind, wrote_all}
 use Rattle.tnc_words.specs.declared.command.DecodeWords.{DecodeWords}
 use Rattle.tnc_decode.specs.declared.receiver.Receiver.{Receiver}
-use Rattle.tnc_decode.specs.Audio.{rates_of, samples_of, form_fault, stopping_fault, audio_fault}
+use Rattle.tnc_decode.specs.Audio.{rates_of, samples_read, form_fault, stopping_fault, audio_fault}
 use Rattle.tnc_decode.specs.Decoded.{IsDecoded}
 use Rattle.tnc_decode.specs.Held.{HasHeard, HasTaken, CutShort}
 use Rattle.tnc_decode.specs.Settled.{IsSettled}
@@ -46,7 +46,7 @@ first_of_whole : (words : DecodeWords) (receiver : Receiver) (whole read rest te
     → IsSettled words read text → IsDecoded words whole all → (more : List ℕ) × (all ≡ text ++ more)
 first_of_whole words receiver whole read rest text all is taken settled decoded =
     let y = begins_with (rates_of words.receiving) words.audio receiver.audio read rest taken in
-    settled_first words read whole rest text all y.0 is (ap (samples_of words) is ∙ y.1) settled decoded
+    settled_first words read whole rest text all y.0 is (ap (samples_read words) is ∙ y.1) settled decoded
 
 module _ (words : DecodeWords) (whole : List ℕ) (left : Option (List ℕ)) (receiver : Receiver) (was mid : Option (List ℕ)) (total : ℕ)
     (p : Progress words whole left receiver was mid total) where
@@ -106,8 +106,8 @@ module _ (words : DecodeWords) (whole : List ℕ) (left : Option (List ℕ)) (re
     -- and then nothing is heard of the whole
     pub piece_silent : (fault : InputFault) → stopping_fault words (p.read ++ piece) ≡ Some fault → IsDecoded words whole [] × (p.text ≡ [])
     piece_silent fault stops =
-        let silent : samples_of words whole ≡ []
-        = ap (samples_of words) piece_read.parts
+        let silent : samples_read words whole ≡ []
+        = ap (samples_read words) piece_read.parts
         ∙ stops_silent (rates_of words.receiving) words.audio ((p.read ++ piece) ++ piece_read.rest) fault (stops_still (rates_of words.receiving) words.audio (p.read ++ piece) piece_read.rest fault stops) in
         let nothing : IsDecoded words whole [] = silent_text words whole silent in
         let first = first_of_whole words receiver whole p.read p.taken.rest p.text [] p.taken.parts p.heard.audio p.heard.settled nothing in
@@ -119,7 +119,7 @@ module _ (words : DecodeWords) (whole : List ℕ) (left : Option (List ℕ)) (re
       piece_most before w =
           let y = begins_with (rates_of words.receiving) words.audio receiver.audio p.read piece p.heard.audio in
           let rest = decoded_behind words (p.read ++ piece) (p.text ++ cut.more) cut.settled in
-          let few : length y.0 ≤ 2048 = (let a = cut.few in let b = ap length y.1 in omega (arith, length-append (samples_of words p.read) y.0)) in
+          let few : length y.0 ≤ 2048 = (let a = cut.few in let b = ap length y.1 in omega (arith, length-append (samples_read words p.read) y.0)) in
           wrote_most words p.read (p.read ++ piece) piece p.text cut.more rest.0 before y.0 now refl y.1 few p.heard.settled rest.1 (cut.written (before ++ p.text) (p.written before w))
 
       pub piece_cut : (before text : List ℕ) → was ≡ Some before → IsDecoded words whole text → WrotePart before text now
@@ -161,7 +161,7 @@ module _ (words : DecodeWords) (whole : List ℕ) (left : Option (List ℕ)) (re
 
     pub end_most : (now : Option (List ℕ)) → ((b : List ℕ) → mid ≡ Some b → WrotePart b more now) → (before : List ℕ) → was ≡ Some before → WroteMost words p.read before now
     end_most now wrote before w =
-        let x : List ℤ = samples_of words p.read in
+        let x : List ℤ = samples_read words p.read in
         wrote_most words p.read p.read [] p.text more [] before [] now (sym (append-nil p.read)) (sym (append-nil x)) (omega arith) p.heard.settled
         (subst (λ t. IsDecoded words p.read t) (sym (append-nil (p.text ++ more))) decoded) (wrote (before ++ p.text) (p.written before w))
 

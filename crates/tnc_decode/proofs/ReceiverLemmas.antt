@@ -1,12 +1,12 @@
 -- A receiver with octets more, and at the end of the input.
 use Rattle.std.proofs.Common.{◌≡◌, ℕ, ◌+◌, ◌≤◌, ℤ, List, [], ◌++◌, length, ap, sym, subst, ◌∙◌, arith, length-append, inl, inr}
 use Rattle.frame_merge.specs.declared.candidate.Candidate.{Candidate}
-use Rattle.frame_merge.specs.Merged.{frames_of}
+use Rattle.frame_merge.specs.Merged.{candidate_frames}
 use Rattle.tnc_words.specs.declared.command.DecodeWords.{DecodeWords}
 use Rattle.tnc_decode.specs.declared.decoders.Decoders.{Decoders}
 use Rattle.tnc_decode.specs.declared.modem.Modem.{Modem}
 use Rattle.tnc_decode.specs.declared.receiver.Receiver.{Receiver}
-use Rattle.tnc_decode.specs.Audio.{rates_of, samples_of}
+use Rattle.tnc_decode.specs.Audio.{rates_of, samples_read}
 use Rattle.tnc_decode.specs.Decoded.{IsDecoded}
 use Rattle.tnc_decode.specs.Held.{HasDecoded, HasHeard, HasTaken}
 use Rattle.tnc_decode.specs.Modem.{modem_of, settled_count, AreGivenBetween, AreGivenRest}
@@ -29,30 +29,30 @@ heard_none receiver words same receiving audio decoder = record {
 pub tuned : (words : DecodeWords) (before octets : List ℕ) (modem : Modem) (old new : Decoders) → modem ≡ modem_of words (before ++ octets)
     → ((x : List ℤ) → HasDecoded modem old x → HasDecoded modem new x)
     → ((other : Modem) → HasDecoded other old [] → HasDecoded modem new [])
-    → HasDecoded (modem_of words before) old (samples_of words before)
-    → HasDecoded (modem_of words (before ++ octets)) new (samples_of words before)
+    → HasDecoded (modem_of words before) old (samples_read words before)
+    → HasDecoded (modem_of words (before ++ octets)) new (samples_read words before)
 tuned words before octets modem old new is still fresh h =
-    subst (λ m. HasDecoded m new (samples_of words before)) is (elim (modem_stays words before octets) [
-      | inl same ↦ still (samples_of words before) (subst (λ m. HasDecoded m old (samples_of words before)) (sym same ∙ sym is) h)
+    subst (λ m. HasDecoded m new (samples_read words before)) is (elim (modem_stays words before octets) [
+      | inl same ↦ still (samples_read words before) (subst (λ m. HasDecoded m old (samples_read words before)) (sym same ∙ sym is) h)
       | inr none ↦ subst (λ (x : List ℤ). HasDecoded modem new x) (sym none)
           (fresh (modem_of words before) (subst (λ (x : List ℤ). HasDecoded (modem_of words before) old x) none h))
     ])
 
 module _ (old new : Receiver) (words : DecodeWords) (before octets text : List ℕ) (found block : List ℤ) (items : List Candidate)
     (h : HasHeard old words before text)
-    (took : HasTaken words new.audio (before ++ octets) × (samples_of words (before ++ octets) ≡ samples_of words before ++ found))
+    (took : HasTaken words new.audio (before ++ octets) × (samples_read words (before ++ octets) ≡ samples_read words before ++ found))
     (is : block ≡ found)
-    (gave : HasDecoded (modem_of words (before ++ octets)) new.decoder (samples_of words before ++ block)
-    × AreGivenBetween (modem_of words (before ++ octets)) (settled_count (modem_of words (before ++ octets)) (samples_of words before))
-    (settled_count (modem_of words (before ++ octets)) (samples_of words before ++ block)) (samples_of words before ++ block) items) where
-  longer : samples_of words (before ++ octets) ≡ samples_of words before ++ block
-  longer = took.1 ∙ ap (λ t. samples_of words before ++ t) (sym is)
+    (gave : HasDecoded (modem_of words (before ++ octets)) new.decoder (samples_read words before ++ block)
+    × AreGivenBetween (modem_of words (before ++ octets)) (settled_count (modem_of words (before ++ octets)) (samples_read words before))
+    (settled_count (modem_of words (before ++ octets)) (samples_read words before ++ block)) (samples_read words before ++ block) items) where
+  longer : samples_read words (before ++ octets) ≡ samples_read words before ++ block
+  longer = took.1 ∙ ap (λ t. samples_read words before ++ t) (sym is)
 
   -- what is settled now
-  pub settles : IsSettled words (before ++ octets) (text ++ print old.frames (frames_of items))
-  settles = settled_more words before octets text (print old.frames (frames_of items)) block items longer h.settled gave.1 (ap (λ form. print form (frames_of items)) h.frames)
+  pub settles : IsSettled words (before ++ octets) (text ++ print old.frames (candidate_frames items))
+  settles = settled_more words before octets text (print old.frames (candidate_frames items)) block items longer h.settled gave.1 (ap (λ form. print form (candidate_frames items)) h.frames)
 
-  pub heard_more : new.frames ≡ old.frames → new.receiving ≡ old.receiving → HasHeard new words (before ++ octets) (text ++ print old.frames (frames_of items))
+  pub heard_more : new.frames ≡ old.frames → new.receiving ≡ old.receiving → HasHeard new words (before ++ octets) (text ++ print old.frames (candidate_frames items))
   heard_more same receiving = record {
     frames = same ∙ h.frames;
     receiving = receiving ∙ h.receiving;
@@ -61,14 +61,14 @@ module _ (old new : Receiver) (words : DecodeWords) (before octets text : List �
     settled = settles;
   }
 
-  pub few_more : length found ≤ 2048 → length (samples_of words (before ++ octets)) ≤ length (samples_of words before) + 2048
-  few_more few = (let size = ap length took.1 ∙ length-append (samples_of words before) found in omega arith)
+  pub few_more : length found ≤ 2048 → length (samples_read words (before ++ octets)) ≤ length (samples_read words before) + 2048
+  few_more few = (let size = ap length took.1 ∙ length-append (samples_read words before) found in omega arith)
 
 -- the end of the input
 pub heard_all : (receiver : Receiver) (words : DecodeWords) (octets text : List ℕ) (items shown : List Candidate) → HasHeard receiver words octets text
-    → AreGivenRest (modem_of words octets) (sample_count words octets) (samples_of words octets) items
+    → AreGivenRest (modem_of words octets) (sample_count words octets) (samples_read words octets) items
     → shown ≡ items
-    → IsDecoded words octets (text ++ print receiver.frames (frames_of shown))
+    → IsDecoded words octets (text ++ print receiver.frames (candidate_frames shown))
 heard_all receiver words octets text items shown h rest is =
-    decoded_at_end words octets text (print receiver.frames (frames_of shown)) items h.settled rest
-    (ap (λ form. print form (frames_of shown)) h.frames ∙ ap (λ t. print words.frames (frames_of t)) is)
+    decoded_at_end words octets text (print receiver.frames (candidate_frames shown)) items h.settled rest
+    (ap (λ form. print form (candidate_frames shown)) h.frames ∙ ap (λ t. print words.frames (candidate_frames t)) is)

@@ -53,8 +53,8 @@ rates_of Sensitive = Narrow
 rates_of ShortWave = Narrow
 
 -- the samples of the input of words
-abbrev pub samples_of : DecodeWords → List ℕ → List ℤ
-samples_of words octets = samples_at (rates_of words.receiving) words.audio octets
+abbrev pub samples_read : DecodeWords → List ℕ → List ℤ
+samples_read words octets = samples_at (rates_of words.receiving) words.audio octets
 
 abbrev pub form_fault : DecodeWords → List ℕ → Option InputFault
 form_fault words octets = form_fault_at (rates_of words.receiving) words.audio octets

@@ -1,9 +1,9 @@
 -- What decode makes of the octets of its input.
 use Rattle.std.specs.Prelude.{◌≡◌, ℕ, List}
 use Rattle.frame_merge.specs.declared.candidate.Candidate.{Candidate}
-use Rattle.frame_merge.specs.Merged.{merged, frames_of}
+use Rattle.frame_merge.specs.Merged.{merged, candidate_frames}
 use Rattle.tnc_words.specs.declared.command.DecodeWords.{DecodeWords}
-use Rattle.tnc_decode.specs.Audio.{samples_of}
+use Rattle.tnc_decode.specs.Audio.{samples_read}
 use Rattle.tnc_decode.specs.Modem.{modem_of, AreHeard}
 use Rattle.tnc_decode.specs.Printing.{print}
 
@@ -11,5 +11,5 @@ use Rattle.tnc_decode.specs.Printing.{print}
 -- input has one text.
 pub record IsDecoded (words : DecodeWords) (octets text : List ℕ) : Type 0 where
   pub candidates : List Candidate
-  pub are : AreHeard (modem_of words octets) (samples_of words octets) candidates
-  pub is : text ≡ print words.frames (frames_of (merged candidates))
+  pub are : AreHeard (modem_of words octets) (samples_read words octets) candidates
+  pub is : text ≡ print words.frames (candidate_frames (merged candidates))

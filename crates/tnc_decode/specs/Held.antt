@@ -19,7 +19,7 @@ use Rattle.tnc_decode.specs.declared.modem.Modem.{Modem}
 use Rattle.tnc_decode.specs.declared.modem.Modem.TheVariants.{Plain as PlainModem, Wide as WideModem, Sensitive as SensitiveModem}
 use Rattle.tnc_decode.specs.declared.modem.Modem.TheVariants.{ShortWave as ShortWaveModem}
 use Rattle.tnc_decode.specs.declared.receiver.Receiver.{Receiver}
-use Rattle.tnc_decode.specs.Audio.{rates_of, samples_of}
+use Rattle.tnc_decode.specs.Audio.{rates_of, samples_read}
 use Rattle.tnc_decode.specs.Modem.{modem_of}
 use Rattle.tnc_decode.specs.Settled.{IsSettled}
 
@@ -64,13 +64,13 @@ pub record HasHeard (receiver : Receiver) (words : DecodeWords) (octets text : L
   pub frames : receiver.frames ≡ words.frames
   pub receiving : receiver.receiving ≡ words.receiving
   pub audio : HasTaken words receiver.audio octets
-  pub decoder : HasDecoded (modem_of words octets) receiver.decoder (samples_of words octets)
+  pub decoder : HasDecoded (modem_of words octets) receiver.decoder (samples_read words octets)
   pub settled : IsSettled words octets text
 
 -- the receiver was given octets more, of which not all that they settled was written
 pub record CutShort (receiver : Receiver) (words : DecodeWords) (before octets text : List ℕ) (was now : Option (List ℕ)) : Type 0 where
   pub more : List ℕ
   pub audio : HasTaken words receiver.audio (before ++ octets)
-  pub few : length (samples_of words (before ++ octets)) ≤ length (samples_of words before) + 2048
+  pub few : length (samples_read words (before ++ octets)) ≤ length (samples_read words before) + 2048
   pub settled : IsSettled words (before ++ octets) (text ++ more)
   pub written : (written : List ℕ) → was ≡ Some written → WrotePart written more now

@@ -1,6 +1,6 @@
 //! Heard frames as text.
 ghost use Rattle.std.specs.Prelude.{◌≡◌, ◌++◌, IfOk, OnOk};
-ghost use Rattle.frame_merge.specs.Merged.{frames_of};
+ghost use Rattle.frame_merge.specs.Merged.{candidate_frames};
 ghost use Rattle.tnc_decode.specs.Printing.{print, printed};
 
 use frame_merge::Candidate;
@@ -12,7 +12,7 @@ use tnc_words::FrameForm;
 
 /// The frames of candidates in a form, in order.
 pub fn print(alloc: Global, form: FrameForm, items: &[Candidate]) -> Result<Vec<u8>, OutOfMemory>
-    ensures { IfOk result (λ text. text.items ≡ print form (frames_of items.now)) }
+    ensures { IfOk result (λ text. text.items ≡ print form (candidate_frames items.now)) }
 {
     let mut text = Vec::new(alloc);
     for item in items {

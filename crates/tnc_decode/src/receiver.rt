@@ -2,7 +2,7 @@
 ghost use Rattle.std.specs.Prelude.{◌≡◌, ◌≤◌, ◌<◌, ◌+◌, ◌^◌, ◌++◌, ◌⊎◌, List, ℕ, ℤ, [], Some, Err, false, length, IsOk, IfOk, OnOk, IsErrOf};
 ghost use Rattle.tnc_base.specs.Faults.{HasRisen};
 ghost use Rattle.tnc_base.specs.Streams.{WrotePart};
-ghost use Rattle.frame_merge.specs.Merged.{frames_of};
+ghost use Rattle.frame_merge.specs.Merged.{candidate_frames};
 ghost use Rattle.tnc_forms.specs.declared.fault.InputFault.{InputFault};
 ghost use Rattle.tnc_words.specs.declared.command.DecodeWords.{DecodeWords};
 ghost use Rattle.tnc_decode.specs.Audio.{form_fault, stopping_fault};
@@ -144,9 +144,9 @@ fn write_items<O: Sink>(
     output: &mut O,
 ) -> Result<(), Fault>
     ensures written { (was : List ℕ) → O.written output.old ≡ Some was
-        → OnOk result (O.written output.new ≡ Some (was ++ print form (frames_of items.now))) }
+        → OnOk result (O.written output.new ≡ Some (was ++ print form (candidate_frames items.now))) }
     ensures cut { (was : List ℕ) → O.written output.old ≡ Some was
-        → IsErrOf result Fault.Write → WrotePart was (print form (frames_of items.now)) (O.written output.new) }
+        → IsErrOf result Fault.Write → WrotePart was (print form (candidate_frames items.now)) (O.written output.new) }
     ensures later { O.faults output.old ≤ O.faults output.new }
     ensures faultless { OnOk result (O.faults output.new ≡ O.faults output.old) }
     ensures write { IsErrOf result Fault.Write → HasRisen (O.faults output.old) (O.faults output.new) }

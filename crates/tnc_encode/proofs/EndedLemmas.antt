@@ -18,7 +18,7 @@ use Rattle.tnc_words.specs.declared.command.AudioForm.{AudioForm}
 use Rattle.tnc_words.specs.declared.command.AudioForm.TheVariants.{Raw, Wav}
 use Rattle.tnc_words.specs.declared.command.EncodeWords.{EncodeWords}
 use Rattle.tnc_encode.specs.Encoded.{encode_fault, encoded, encoded_before, encoded_so_far, fault_of_pieces, fault_of_whole, first_of, keeps_frames, length_fault, samples_sent, signal_of, written_as, written_before}
-use Rattle.tnc_encode.specs.Frames.{form_fault, form_fault_so_far, frames_of, frames_so_far}
+use Rattle.tnc_encode.specs.Frames.{form_fault, form_fault_so_far, frames_of_input, frames_so_far}
 use Rattle.tnc_encode.specs.HeldFrames.{IsSignal, form_of}
 use Rattle.tnc_encode.proofs.FormLemmas.{forms_stay, signals_join}
 
@@ -51,11 +51,11 @@ module _ (words : EncodeWords) (sent : keeps_frames words.audio words.join ≡ f
   raw = (raw_apart words.audio words.join sent).0
 
   module _ (octets : List ℕ) where
-    encoded_raw : encoded words octets ≡ pcm (signal_of words (frames_of words.frames octets))
+    encoded_raw : encoded words octets ≡ pcm (signal_of words (frames_of_input words.frames octets))
     unfolding encoded
     encoded_raw = ap (λ form. written_as form (samples_sent words octets)) raw
 
-    before_raw : encoded_before words octets ≡ pcm (signal_of words (frames_of words.frames octets))
+    before_raw : encoded_before words octets ≡ pcm (signal_of words (frames_of_input words.frames octets))
     unfolding encoded_before
     before_raw = ap (λ form. written_before form (samples_sent words octets)) raw
 
@@ -83,7 +83,7 @@ module _ (words : EncodeWords) (sent : keeps_frames words.audio words.join ≡ f
   signal_both frames others = sym ((signals_join words apart).more frames others (pcm (signal_of words frames)) (pcm (signal_of words others)) refl refl)
 
   -- it is a first part of the signal of the whole
-  part_of : (octets : List ℕ) (frames others : List (List ℕ)) (was now : Option (List ℕ)) (before : List ℕ) → frames_of words.frames octets ≡ frames ++ others
+  part_of : (octets : List ℕ) (frames others : List (List ℕ)) (was now : Option (List ℕ)) (before : List ℕ) → frames_of_input words.frames octets ≡ frames ++ others
       → was ≡ Some before → WroteFrames (IsSignal words) frames was now → WrotePart before (encoded words octets) now
   part_of octets frames others was now before known w h = (
     pcm (signal_of words frames),
@@ -105,7 +105,7 @@ module _ (words : EncodeWords) (sent : keeps_frames words.audio words.join ≡ f
     to_good (Err e) h = tt
 
     pub to_encoded : (r : Result (Unit {0}) Fault) → Ended r → (before : List ℕ) → was ≡ Some before → OnOk r (now ≡ Some (before ++ encoded words octets))
-    to_encoded (Ok x) h before w = wrote_is (frames_of words.frames octets) was now before w h.wrote ∙ ap (λ t. Some (before ++ t)) (sym (encoded_raw octets))
+    to_encoded (Ok x) h before w = wrote_is (frames_of_input words.frames octets) was now before w h.wrote ∙ ap (λ t. Some (before ++ t)) (sym (encoded_raw octets))
     to_encoded (Err e) h before w = tt
 
     pub to_bad : (r : Result (Unit {0}) Fault) → Ended r → (fault : InputFault) → r ≡ Err (Input fault) → encode_fault words octets ≡ Some fault
@@ -115,7 +115,7 @@ module _ (words : EncodeWords) (sent : keeps_frames words.audio words.join ≡ f
         → r ≡ Err (Input fault) → now ≡ Some (before ++ encoded_before words octets)
     to_before r h before fault w short is =
         let f = subst Ended is h in
-        wrote_is (frames_of words.frames octets) was now before w (f.wrote short) ∙ ap (λ t. Some (before ++ t)) (sym (before_raw octets))
+        wrote_is (frames_of_input words.frames octets) was now before w (f.wrote short) ∙ ap (λ t. Some (before ++ t)) (sym (before_raw octets))
 
     pub to_many : (r : Result (Unit {0}) Fault) → Ended r → (before : List ℕ) (fault : InputFault) → was ≡ Some before → input_limit < length octets
         → r ≡ Err (Input fault) → now ≡ Some (before ++ encoded_so_far words (take input_limit octets))
@@ -188,16 +188,16 @@ module _ (words : EncodeWords) (sent : keeps_frames words.audio words.join ≡ f
       | inl over ↦
           let first = first_frames (IsSignal words) (signals_join words apart) (form_of words.frames) (forms_stay words.frames) (take input_limit octets) (drop input_limit octets) in
           part_of octets (frames_so_far words.frames (take input_limit octets)) first.0 was now before
-          (ap (frames_of words.frames) (sym (take-append-drop input_limit octets)) ∙ first.1) w (h.wrote_of_many over)
-      | inr short ↦ part_of octets (frames_of words.frames octets) [] was now before (sym (append-nil (frames_of words.frames octets))) w (h.wrote short)
+          (ap (frames_of_input words.frames) (sym (take-append-drop input_limit octets)) ∙ first.1) w (h.wrote_of_many over)
+      | inr short ↦ part_of octets (frames_of_input words.frames octets) [] was now before (sym (append-nil (frames_of_input words.frames octets))) w (h.wrote short)
     ]
     to_cut (Err Memory) h before w =
         let first = first_frames (IsSignal words) (signals_join words apart) (form_of words.frames) (forms_stay words.frames) h.front (h.rest ++ h.taken.rest) in
         part_of octets (frames_so_far words.frames h.front) first.0 was now before
-        (ap (frames_of words.frames) (h.taken.parts ∙ ap (λ o. o ++ h.taken.rest) h.parts ∙ append_assoc h.front h.rest h.taken.rest) ∙ first.1) w h.wrote
+        (ap (frames_of_input words.frames) (h.taken.parts ∙ ap (λ o. o ++ h.taken.rest) h.parts ∙ append_assoc h.front h.rest h.taken.rest) ∙ first.1) w h.wrote
     to_cut (Err Read) h before w =
         let first = first_frames (IsSignal words) (signals_join words apart) (form_of words.frames) (forms_stay words.frames) h.read h.taken.rest in
-        part_of octets (frames_so_far words.frames h.read) first.0 was now before (ap (frames_of words.frames) h.taken.parts ∙ first.1) w h.wrote
+        part_of octets (frames_so_far words.frames h.read) first.0 was now before (ap (frames_of_input words.frames) h.taken.parts ∙ first.1) w h.wrote
     to_cut (Err Write) h before w =
         let b = h.before in
         let first : List ℕ = pcm (signal_of words (frames_so_far words.frames b.front)) in

@@ -9,11 +9,11 @@ use Rattle.std.proofs.lemmas.List.Elements.{All-cons, All-nil, filter_map-append
 use Rattle.kiss_port.specs.declared.item.KissItem.{KissItem}
 use Rattle.kiss_port.specs.declared.item.KissItem.TheVariants.{Frame, Set, Hardware, Return, TooLong, Other}
 use Rattle.kiss_port.specs.Items.{items_in}
-use Rattle.afsk_modulator.specs.Transmission.{IsBadLength}
+use Rattle.hdlc_framer.specs.FrameLength.{IsBadLength}
 use Rattle.tnc_forms.proofs.HexFrameLemmas.{frames_of-good}
 use Rattle.tnc_words.specs.declared.command.FrameForm.{FrameForm}
 use Rattle.tnc_words.specs.declared.command.FrameForm.TheVariants.{Hex, Kiss}
-use Rattle.tnc_encode.specs.Frames.{frame_of, frames_of, kiss_frames}
+use Rattle.tnc_encode.specs.Frames.{frame_of, frames_of_input, kiss_frames}
 
 abbrev pub IsSendable : List ℕ → Type 0
 IsSendable octets = ¬ IsBadLength octets
@@ -47,10 +47,10 @@ items_sendable [] = All-nil IsSendable
 items_sendable (item ∷ items) = with_option (frame_of item) (filter_map frame_of items) (item_sendable item) (items_sendable items)
 
 -- each frame of an input can be sent
-pub frames_of-sendable : (form : FrameForm) (octets : List ℕ) → All IsSendable (frames_of form octets)
+pub frames_of_input-sendable : (form : FrameForm) (octets : List ℕ) → All IsSendable (frames_of_input form octets)
 unfolding kiss_frames
-frames_of-sendable Hex octets = λ k d below. let good = frames_of-good 15 octets k d below in sendable _ good.0.enough good.0.most
-frames_of-sendable Kiss octets = items_sendable (items_in octets)
+frames_of_input-sendable Hex octets = λ k d below. let good = frames_of_input-good 15 octets k d below in sendable _ good.0.enough good.0.most
+frames_of_input-sendable Kiss octets = items_sendable (items_in octets)
 
 module _ (octets : List ℕ) (index : ℕ) (below : index < length octets) (frames : List (List ℕ)) where
   -- one octet more, which ended these items

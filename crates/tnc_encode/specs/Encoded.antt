@@ -12,7 +12,7 @@ use Rattle.tnc_words.specs.declared.command.AudioForm.{AudioForm}
 use Rattle.tnc_words.specs.declared.command.AudioForm.TheVariants.{Raw, Wav}
 use Rattle.tnc_words.specs.declared.command.EncodeWords.{EncodeWords}
 use Rattle.tnc_encode.specs.Sending.{samples_by, signal_by}
-use Rattle.tnc_encode.specs.Frames.{form_fault, form_fault_so_far, frames_of, frames_so_far}
+use Rattle.tnc_encode.specs.Frames.{form_fault, form_fault_so_far, frames_of_input, frames_so_far}
 
 -- frames that are sent at one go, as the words say
 abbrev pub sent_at_once : EncodeWords → List (List ℕ) → Transmission
@@ -38,7 +38,7 @@ signal_of words frames = signal_by words.modem words.level (transmissions words 
 
 -- the signal of the input's frames
 abbrev pub samples_sent : EncodeWords → List ℕ → List ℤ
-samples_sent words input = signal_of words (frames_of words.frames input)
+samples_sent words input = signal_of words (frames_of_input words.frames input)
 
 -- samples as raw PCM, or as a WAV file
 abbrev pub written_as : AudioForm → List ℤ → List ℕ

@@ -10,7 +10,8 @@ use Rattle.tnc_words.specs.declared.command.FrameForm.TheVariants.{Hex, Kiss}
 use Rattle.tnc_encode.specs.declared.frame_in.FrameIn.{FrameIn}
 use Rattle.tnc_encode.specs.declared.frame_in.FrameIn.TheVariants.{Lines, Items}
 use Rattle.tnc_encode.specs.Encoded.{signal_of}
-use Rattle.tnc_encode.specs.Frames.{form_fault, form_fault_so_far, frames_of, frames_so_far, least_frame}
+use Rattle.tnc_encode.specs.Frames.{form_fault, form_fault_so_far, frames_of_input, frames_so_far}
+use Rattle.hdlc_framer.specs.FrameLength.{least_frame_length}
 
 -- the octets were taken, and no fault is known of them
 abbrev pub HasTaken : FrameForm → FrameIn → List ℕ → Type 0
@@ -20,7 +21,7 @@ HasTaken form other octets = ⊥
 
 -- lines are read as those of frames
 abbrev pub IsReader : FrameIn → Type 0
-IsReader (Lines lines) = lines.least ≡ least_frame
+IsReader (Lines lines) = lines.least ≡ least_frame_length
 IsReader (Items items) = ⊤
 
 -- how many octets have come, as far as that is kept
@@ -31,7 +32,7 @@ position (Items items) = 0
 abbrev pub form_of : FrameForm → Form
 form_of form = record {
   frames_so_far = frames_so_far form;
-  frames_of = frames_of form;
+  frames_of = frames_of_input form;
   fault_so_far = form_fault_so_far form;
   fault_of = form_fault form;
 }

@@ -3,7 +3,7 @@ ghost use Rattle.std.specs.Prelude.{◌≡◌, ◌≢◌, ◌≤◌, ◌<◌, �
 ghost use Rattle.tnc_base.specs.Faults.{HasRisen};
 ghost use Rattle.tnc_base.specs.Streams.{WrotePart};
 ghost use Rattle.afsk_modulator.specs.Modulation.{IsLevel};
-ghost use Rattle.afsk_modulator.specs.Transmission.{IsBadLength};
+ghost use Rattle.hdlc_framer.specs.FrameLength.{IsBadLength};
 ghost use Rattle.wav_file.specs.Head.{head_of};
 ghost use Rattle.tnc_forms.specs.declared.fault.InputFault.{InputFault};
 ghost use Rattle.tnc_forms.specs.Pcm.{pcm};

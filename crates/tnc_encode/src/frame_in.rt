@@ -1,13 +1,14 @@
 //! Frames as their octets come, in their two forms.
 ghost use Rattle.std.specs.Prelude.{◌≡◌, ◌≤◌, ◌<◌, ◌+◌, ◌^◌, ◌++◌, [], ℕ, List, Some, None, length, take, IfOk, IfSome, OnOk, IsErrOf};
 ghost use Rattle.std.specs.Option.{option_to_list};
-ghost use Rattle.afsk_modulator.specs.Transmission.{IsBadLength};
+ghost use Rattle.hdlc_framer.specs.FrameLength.{IsBadLength};
 ghost use Rattle.tnc_forms.specs.declared.fault.InputFault.{InputFault};
 ghost use Rattle.tnc_words.specs.declared.command.FrameForm.{FrameForm};
-ghost use Rattle.tnc_encode.specs.Frames.{form_fault, form_fault_so_far, frames_of, frames_so_far};
+ghost use Rattle.tnc_encode.specs.Frames.{form_fault, form_fault_so_far, frames_of_input, frames_so_far};
 ghost use Rattle.tnc_encode.specs.HeldFrames.{HasTaken, IsReader, position};
 
-use crate::frames::{LEAST, frame_of_item};
+use crate::frames::frame_of_item;
+use hdlc_framer::LEAST_FRAME_LENGTH;
 use kiss_port::KissIn;
 use std::alloc::Global;
 use tnc_base::{Octets, OutOfMemory};
@@ -31,7 +32,7 @@ impl FrameIn {
         ensures position { position result ≡ 0 }
     {
         match form {
-            FrameForm::Hex => FrameIn::Lines(HexIn::new(alloc, LEAST)),
+            FrameForm::Hex => FrameIn::Lines(HexIn::new(alloc, LEAST_FRAME_LENGTH)),
             FrameForm::Kiss => FrameIn::Items(KissIn::new(alloc)),
         }
     }
@@ -69,12 +70,12 @@ impl FrameIn {
         requires room { position self.now < 2 ^ 64 }
         ensures size { IfOk result (λ frame. IfSome frame (λ octets. ¬ IsBadLength octets)) }
         ensures frame { (form : FrameForm) (octets : List ℕ) → HasTaken form self.now octets
-            → IfOk result (λ frame. frames_of form octets ≡ frames_so_far form octets ++ option_to_list frame) }
+            → IfOk result (λ frame. frames_of_input form octets ≡ frames_so_far form octets ++ option_to_list frame) }
         ensures good { (form : FrameForm) (octets : List ℕ) → HasTaken form self.now octets
             → OnOk result (form_fault form octets ≡ None) }
         ensures bad { (form : FrameForm) (octets : List ℕ) → (fault : InputFault) → HasTaken form self.now octets
             → IsErrOf result (Fault.Input fault)
-            → (form_fault form octets ≡ Some fault) × (frames_of form octets ≡ frames_so_far form octets) }
+            → (form_fault form octets ≡ Some fault) × (frames_of_input form octets ≡ frames_so_far form octets) }
         ensures read { ¬ IsErrOf result Fault.Read }
         ensures write { ¬ IsErrOf result Fault.Write }
     {

@@ -2,20 +2,15 @@
 ghost use Rattle.std.specs.Prelude.{◌≡◌, ◌++◌, All, IfOk, IfSome, OnOk};
 ghost use Rattle.std.specs.List.{filter_map};
 ghost use Rattle.std.specs.Option.{option_to_list};
-ghost use Rattle.afsk_modulator.specs.Transmission.{IsBadLength};
-ghost use Rattle.tnc_encode.specs.Frames.{form_fault, frame_of, frames_of, kiss_frames};
+ghost use Rattle.hdlc_framer.specs.FrameLength.{IsBadLength};
+ghost use Rattle.tnc_encode.specs.Frames.{form_fault, frame_of, frames_of_input, kiss_frames};
 
+use hdlc_framer::{LEAST_FRAME_LENGTH, has_frame_length};
 use kiss_port::{KissIn, KissItem};
 use std::alloc::Global;
 use tnc_base::{Octets, OutOfMemory};
 use tnc_forms::{InputFault, read_hex_frames};
 use tnc_words::FrameForm;
-
-/// The fewest octets of a frame.
-pub(crate) const LEAST: usize = 15;
-
-/// The most octets of a frame.
-const MOST: usize = 1024;
 
 /// The frames of an input.
 #[derive(Drop)]
@@ -32,13 +27,13 @@ pub(crate) fn read_frames(
     form: FrameForm,
     octets: &[u8],
 ) -> Result<Frames, OutOfMemory>
-    ensures frames { IfOk result (λ read. read.frames.items ≡ frames_of form octets.now) }
+    ensures frames { IfOk result (λ read. read.frames.items ≡ frames_of_input form octets.now) }
     ensures fault { IfOk result (λ read. read.fault ≡ form_fault form octets.now) }
     ensures lengths { IfOk result (λ read. All (λ octets. ¬ IsBadLength octets) read.frames.items) }
 {
     match form {
         FrameForm::Hex => {
-            let lines = read_hex_frames(alloc, LEAST, octets)?;
+            let lines = read_hex_frames(alloc, LEAST_FRAME_LENGTH, octets)?;
             Ok(Frames {
                 frames: lines.frames,
                 fault: lines.fault,
@@ -92,6 +87,5 @@ fn frame_to_send(item: KissItem) -> Option<Octets>
     let KissItem::Frame { port: 0, octets } = item else {
         return None;
     };
-    let has_good_length = LEAST <= octets.len() && octets.len() <= MOST;
-    has_good_length.then_some(octets)
+    has_frame_length(octets.as_slice()).then_some(octets)
 }

@@ -3,7 +3,7 @@ ghost use Rattle.std.specs.Prelude.{◌≡◌, ◌≤◌, ◌<◌, ◌+◌, ◌^
 ghost use Rattle.std.specs.Option.{option_to_list};
 ghost use Rattle.tnc_base.specs.Faults.{HasRisen};
 ghost use Rattle.afsk_modulator.specs.Modulation.{IsLevel};
-ghost use Rattle.afsk_modulator.specs.Transmission.{IsBadLength};
+ghost use Rattle.hdlc_framer.specs.FrameLength.{IsBadLength};
 ghost use Rattle.tnc_forms.specs.declared.fault.InputFault.{InputFault};
 ghost use Rattle.tnc_forms.specs.Streaming.{IsEnded, IsFinished, IsTaken, WroteFrames, WroteSome};
 ghost use Rattle.tnc_words.specs.declared.command.FrameForm.{FrameForm};

@@ -1,7 +1,8 @@
 //! Frames as the octets of their signal.
 ghost use Rattle.std.specs.Prelude.{◌≡◌, ◌≤◌, ◌↔◌, ℕ, All, IfOk, IsErrOf};
 ghost use Rattle.afsk_modulator.specs.Modulation.{IsLevel};
-ghost use Rattle.afsk_modulator.specs.Transmission.{AreFewFlags, IsBadLength, IsFirstBadLength};
+ghost use Rattle.afsk_modulator.specs.Transmission.{AreFewFlags, IsFirstBadLength};
+ghost use Rattle.hdlc_framer.specs.FrameLength.{IsBadLength};
 ghost use Rattle.tnc_encode.specs.Encoded.{samples_at_once};
 ghost use Rattle.tnc_encode.specs.Sending.{transmission_by};
 

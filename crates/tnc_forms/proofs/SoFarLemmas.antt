@@ -14,7 +14,7 @@ use Rattle.tnc_forms.specs.declared.line_fault.LineFault.{LineFault}
 use Rattle.tnc_forms.specs.declared.line_fault.LineFlaw.{LineFlaw}
 use Rattle.tnc_forms.specs.declared.line_fault.LineFlaw.TheVariants.{LongLine}
 use Rattle.tnc_forms.specs.Faults.{fault_in_line, hex_fault}
-use Rattle.tnc_forms.specs.HexFrames.{fault_in, fault_of, fault_of_lines, frame_in, frame_of, frames_of, frames_of_lines, line_fault, text_of, text_of_digits}
+use Rattle.tnc_forms.specs.HexFrames.{fault_in, fault_of, fault_of_lines, frame_in, frame_of, frames_of_lines, frames_of_lines, line_fault, text_of, text_of_digits}
 use Rattle.tnc_forms.specs.HexLines.{Line, ended_of, lines_from, lines_of, parts_of}
 use Rattle.tnc_forms.specs.LinesSoFar.{fault_so_far, frames_so_far, is_over, known_of}
 use Rattle.tnc_forms.proofs.CutLemmas.{CutFrom, cut_from, ended_now, ended_of_more, first_line, inside_none, known_now, known_of_more, strip_size}
@@ -166,8 +166,8 @@ module _ (least : ℕ) (octets : List ℕ) where
 
   module _ (more : List ℕ) where
     -- no line is bad yet: the frames so far are the first
-    pub frames_whole : fault_so_far least octets ≡ None → (frames : List (List ℕ)) × (frames_of least (octets ++ more) ≡ frames_so_far least octets ++ frames)
-    unfolding frames_of
+    pub frames_whole : fault_so_far least octets ≡ None → (frames : List (List ℕ)) × (frames_of_lines least (octets ++ more) ≡ frames_so_far least octets ++ frames)
+    unfolding frames_of_lines
     frames_whole none =
         let rest = lines_from the_cut.place (parts_of (the_cut.part ++ more)) in (
           frames_of_lines least rest,
@@ -189,11 +189,11 @@ module _ (least : ℕ) (octets : List ℕ) where
     abbrev StaysBad : InputFault → Type 0
     StaysBad fault =
         (fault_so_far least (octets ++ more) ≡ Some fault) × (hex_fault least (octets ++ more) ≡ Some fault)
-        × (frames_so_far least (octets ++ more) ≡ frames_so_far least octets) × (frames_of least (octets ++ more) ≡ frames_so_far least octets)
+        × (frames_so_far least (octets ++ more) ≡ frames_so_far least octets) × (frames_of_lines least (octets ++ more) ≡ frames_so_far least octets)
 
     -- among the lines that have ended
     bad_ended : (bad : LineFault) (fault : InputFault) → fault_of_lines least the_cut.ended ≡ Some bad → Some (BadLine bad) ≡ Some fault → StaysBad fault
-    unfolding frames_so_far fault_so_far frames_of line_fault
+    unfolding frames_so_far fault_so_far frames_of_lines line_fault
     bad_ended bad fault is same =
         let next = first_line the_cut.place the_cut.part more the_cut.inside in
         let lines : lines_of (octets ++ more) ≡ the_cut.ended ++ next.first ∷ next.rest = lines_more more ∙ ap (λ ls. the_cut.ended ++ ls) next.cut in
@@ -211,7 +211,7 @@ module _ (least : ℕ) (octets : List ℕ) where
     -- or the last line, for its length
     bad_last : (fault : InputFault) → fault_of_lines least the_cut.ended ≡ None → 2048 < length (strip_carriage_return the_cut.part)
         → Some (BadLine (line_fault_at LongLine the_cut.place)) ≡ Some fault → StaysBad fault
-    unfolding frames_so_far fault_so_far frames_of line_fault
+    unfolding frames_so_far fault_so_far frames_of_lines line_fault
     bad_last fault none over same =
         let next = first_line the_cut.place the_cut.part more the_cut.inside in
         let others = next.known over in

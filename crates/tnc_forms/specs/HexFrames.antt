@@ -1,6 +1,7 @@
 -- Frames as lines of hexadecimal digits, two for an octet, in capitals or not.
 use Rattle.std.specs.Prelude.{ℕ, ◌≤◌, ◌+◌, ◌==◌, nat_lt, Bool, not, List, length, Option, Some, None, is_some, option_and_then, find, take_while, Result, Ok, Err, if◌then◌else◌}
 use Rattle.std.specs.List.{filter_map}
+use Rattle.hdlc_framer.specs.FrameLength.{most_frame_length}
 use Rattle.hex.specs.Hex.{decode_of}
 use Rattle.hex.specs.declared.error.FromHexError.{FromHexError}
 use Rattle.hex.specs.declared.error.FromHexError.TheVariants.{InvalidHexCharacter}
@@ -10,10 +11,10 @@ use Rattle.tnc_forms.specs.declared.hex_line.LineText.{LineText}
 use Rattle.tnc_forms.specs.declared.hex_line.LineText.TheVariants.{Nothing, Frame, Refused}
 use Rattle.tnc_forms.specs.HexLines.{Line, lines_of}
 
--- a frame that is to be read has so many octets or more, and at most 1024
+-- a frame that is to be read has so many octets or more, and at most as many as a frame can have
 pub record HasGoodLength (least : ℕ) (octets : List ℕ) : Type 0 where
   pub enough : least ≤ length octets
-  pub most : length octets ≤ 1024
+  pub most : length octets ≤ most_frame_length
 
 -- what comes of the digits: enough octets are a frame. An odd count is found first, then the first octet that is no
 -- digit, at its place in the line.
@@ -53,8 +54,8 @@ is_bad least line = is_some (fault_of least line)
 abbrev pub frames_of_lines : ℕ → List Line → List (List ℕ)
 frames_of_lines least lines = filter_map (frame_of least) (take_while (λ line. not (is_bad least line)) lines)
 
-unfoldable pub frames_of : ℕ → List ℕ → List (List ℕ)
-frames_of least input = frames_of_lines least (lines_of input)
+unfoldable pub frames_of_lines : ℕ → List ℕ → List (List ℕ)
+frames_of_lines least input = frames_of_lines least (lines_of input)
 
 -- the fault of the first bad line
 abbrev pub fault_of_lines : ℕ → List Line → Option LineFault

@@ -11,7 +11,8 @@ use Rattle.clean_signal.specs.GoodTransmission.{IsTransmission}
 use Rattle.clean_signal.specs.NearSignal.{IsReceived}
 use Rattle.clean_signal.proofs.Law.{all_transmissions}
 use Rattle.tnc_words.specs.declared.command.LoopWords.{LoopWords}
-use Rattle.tnc_loop.specs.Words.{generator_of, behind, word_at, words}
+use Rattle.tnc_loop.specs.Words.{loop_generator, behind, word_at}
+use Rattle.channel_access.specs.Words.{words}
 use Rattle.tnc_loop.specs.Drawn.{length_drawn, octets_drawn, transmission_drawn, behind_transmission, heard_of, behind_heard, all_heard, heard_drawn, received_drawn, drawn}
 
 abbrev pub octet_of : ℕ → ℕ
@@ -163,7 +164,7 @@ all_received rough (suc count) g (suc k) d l =
 
 pub received_good : (words : LoopWords) → All IsReceived (received_drawn words)
 unfolding received_drawn heard_drawn
-received_good words = all_received words.rough words.frames (generator_of words.seed)
+received_good words = all_received words.rough words.frames (loop_generator words.seed)
 
 pub drawn_good : (words : LoopWords) → All IsTransmission (drawn words)
 unfolding drawn

@@ -19,7 +19,8 @@ use Rattle.clean_signal.proofs.NearLemmas.{clean-near}
 use Rattle.clean_signal.proofs.WaveLemmas.{length-wave_from}
 use Rattle.nrzi_bits.proofs.LineLemmas.{length-line_from}
 use Rattle.tnc_words.specs.declared.command.LoopWords.{LoopWords}
-use Rattle.tnc_loop.specs.Words.{generator_of, behind, words}
+use Rattle.tnc_loop.specs.Words.{loop_generator, behind}
+use Rattle.channel_access.specs.Words.{words}
 use Rattle.tnc_loop.specs.Rough.{level_drawn, noise_of, rough_samples, rough_received, exact_samples, with_errors, behind_rough}
 use Rattle.tnc_loop.specs.Drawn.{Heard, heard_of, behind_heard, all_heard, transmission_drawn, behind_transmission, heard_drawn, received_drawn, drawn, samples_drawn}
 use Rattle.tnc_loop.proofs.DrawingLemmas.{length-words, received_good}
@@ -88,7 +89,7 @@ all_near rough (suc count) g =
 -- what is heard is near what was drawn
 pub drawn_near : (words : LoopWords) → IsNearAll (received_drawn words) (samples_drawn words)
 unfolding received_drawn samples_drawn heard_drawn
-drawn_near words = all_near words.rough words.frames (generator_of words.seed)
+drawn_near words = all_near words.rough words.frames (loop_generator words.seed)
 
 -- so it gives the frames that were drawn, if none is stray
 pub drawn_law : (words : LoopWords) → NoStray (drawn words) (samples_drawn words) → MergesTo (frames_of (drawn words)) (samples_drawn words)

@@ -16,7 +16,7 @@ use Rattle.clean_signal.specs.GoodTransmission.{sample_count}
 use Rattle.clean_signal.proofs.CarriedFrames.{length-flags}
 use Rattle.clean_signal.proofs.WaveLemmas.{length-samples_of}
 use Rattle.tnc_words.specs.declared.command.LoopWords.{LoopWords}
-use Rattle.tnc_loop.specs.Words.{generator_of, word_at}
+use Rattle.tnc_loop.specs.Words.{loop_generator, word_at}
 use Rattle.tnc_loop.specs.Drawn.{length_drawn, octets_drawn, transmission_drawn, behind_transmission, heard_of, behind_heard, all_heard, heard_drawn}
 use Rattle.tnc_loop.specs.Held.{sent_of}
 use Rattle.tnc_loop.proofs.HeardLemmas.{transmission-heard}
@@ -73,4 +73,4 @@ transmissions-most rough (suc count) g =
 pub signal_fits : (words : LoopWords) → words.frames ≤ 65535 → length (signal (sent_of (heard_drawn words))) < 2 ^ 48
 unfolding heard_drawn
 signal_fits words few =
-    let most = transmissions-most words.rough words.frames (generator_of words.seed) in omega arith
+    let most = transmissions-most words.rough words.frames (loop_generator words.seed) in omega arith

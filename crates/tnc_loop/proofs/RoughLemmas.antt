@@ -11,7 +11,8 @@ use Rattle.afsk_modulator.specs.Transmission.{transmission_at}
 use Rattle.afsk_modulator.specs.Signal.{Transmission}
 use Rattle.afsk_modulator.proofs.LevelLemmas.{sample_at-close}
 use Rattle.clean_signal.proofs.NearLemmas.{length-at_level}
-use Rattle.tnc_loop.specs.Words.{behind, word_at, words}
+use Rattle.tnc_loop.specs.Words.{behind, word_at}
+use Rattle.channel_access.specs.Words.{words}
 use Rattle.tnc_loop.specs.Rough.{phase_drawn, level_drawn, noise_of, most_error, error_of, with_errors, rough_received, exact_samples, rough_samples, behind_rough}
 
 -- ---- one error more

@@ -14,7 +14,7 @@ use Rattle.clean_signal.proofs.WaveLemmas.{length-samples_of, signal-push}
 use Rattle.tnc_words.specs.declared.command.LoopWords.{LoopWords}
 use Rattle.tnc_loop.specs.declared.drawing.Drawn.{Drawn}
 use Rattle.tnc_loop.specs.declared.sending.Sent.{Sent}
-use Rattle.tnc_loop.specs.Words.{generator_of}
+use Rattle.tnc_loop.specs.Words.{loop_generator}
 use Rattle.tnc_loop.specs.Drawn.{Heard, transmission_drawn, behind_transmission, heard_of, behind_heard, all_heard, heard_drawn}
 use Rattle.tnc_loop.specs.Held.{drawn_as, sent_of, HasSent, IsGood}
 use Rattle.tnc_loop.proofs.HeardLemmas.{transmission-heard}
@@ -85,7 +85,7 @@ pub record HasSentSome (words : LoopWords) (place : ℕ) (generator : Lcg) (sent
   pub has : HasSent sent done
   pub parts : done ++ all_heard words.rough (words.frames - place) generator ≡ heard_drawn words
 
-pub sent_none : (words : LoopWords) (generator : Lcg) (sent : Sent) → generator ≡ generator_of words.seed → sent.samples.items ≡ [] → sent.ends.items ≡ []
+pub sent_none : (words : LoopWords) (generator : Lcg) (sent : Sent) → generator ≡ loop_generator words.seed → sent.samples.items ≡ [] → sent.ends.items ≡ []
     → HasSentSome words 0 generator sent
 unfolding signal heard_drawn
 sent_none words generator sent is samples ends = record {

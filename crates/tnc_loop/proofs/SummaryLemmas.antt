@@ -6,7 +6,7 @@ use Rattle.std.specs.Prelude.{not}
 use Rattle.std.proofs.lemmas.List.{drop_more, drop_all}
 use Rattle.std.proofs.lemmas.List.Elements.{All-head, All-tail}
 use Rattle.frame_merge.specs.declared.candidate.Candidate.{Candidate}
-use Rattle.frame_merge.specs.Merged.{frames_of as frames_heard, merged}
+use Rattle.frame_merge.specs.Merged.{candidate_frames as frames_heard, merged}
 use Rattle.slicer_bank.proofs.OneList.{one_list}
 use Rattle.clean_signal.specs.declared.true_end.TrueEnd.{TrueEnd}
 use Rattle.clean_signal.specs.GoodTransmission.{frames_of}

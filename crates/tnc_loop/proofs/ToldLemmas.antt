@@ -3,7 +3,7 @@ use Rattle.std.proofs.Common.{◌≡◌, ℕ, zero, suc, ℤ, Bool, true, false,
 use Rattle.std.specs.Prelude.{Option, Some, None, is_some, option_map, find, not}
 use Rattle.std.specs.List.{All}
 use Rattle.frame_merge.specs.declared.candidate.Candidate.{Candidate}
-use Rattle.frame_merge.specs.Merged.{frames_of as frames_heard, merged}
+use Rattle.frame_merge.specs.Merged.{candidate_frames as frames_heard, merged}
 use Rattle.slicer_bank.specs.Candidates.{AreCandidates}
 use Rattle.clean_signal.specs.declared.true_end.TrueEnd.{TrueEnd}
 use Rattle.clean_signal.specs.TrueEnds.{true_ends}

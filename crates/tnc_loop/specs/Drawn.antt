@@ -3,15 +3,17 @@
 use Rattle.std.specs.Prelude.{ℕ, zero, suc, ◌+◌, ◌%◌, ℤ, Bool, List, [], ◌∷◌, map, if◌then◌else◌}
 use Rattle.std.specs.List.{flat_map}
 use Rattle.rand_pcg.specs.Lcg.{Lcg}
+use Rattle.hdlc_framer.specs.FrameLength.{least_frame_length}
 use Rattle.afsk_modulator.specs.Signal.{Transmission, samples_of}
 use Rattle.clean_signal.specs.NearSignal.{Received, transmissions_of}
 use Rattle.tnc_words.specs.declared.command.LoopWords.{LoopWords}
-use Rattle.tnc_loop.specs.Words.{generator_of, behind, word_at, words}
+use Rattle.tnc_loop.specs.Words.{loop_generator, behind, word_at}
+use Rattle.channel_access.specs.Words.{words}
 use Rattle.tnc_loop.specs.Rough.{rough_received, rough_samples, behind_rough}
 
 -- how many octets the next frame has
 abbrev pub length_drawn : Lcg → ℕ
-length_drawn generator = 15 + word_at 3 generator % 986
+length_drawn generator = least_frame_length + word_at 3 generator % 986
 
 -- its octets, each the low eight bits of a word
 abbrev pub octets_drawn : Lcg → List ℕ
@@ -57,7 +59,7 @@ all_heard rough (suc count) generator =
 
 -- as many as the words ask for, from their seed
 unfoldable pub heard_drawn : LoopWords → List Heard
-heard_drawn words = all_heard words.rough words.frames (generator_of words.seed)
+heard_drawn words = all_heard words.rough words.frames (loop_generator words.seed)
 
 -- the transmissions of words, as they are received, without phases and levels, and all their samples in order
 unfoldable pub received_drawn : LoopWords → List Received

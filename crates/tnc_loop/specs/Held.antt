@@ -2,6 +2,7 @@
 use Rattle.std.specs.Prelude.{◌≡◌, ℕ, ◌≤◌, List, [], ◌∷◌, length, map, Option, Some, None}
 use Rattle.std.specs.List.{flat_map}
 use Rattle.afsk_modulator.specs.Signal.{Transmission, signal}
+use Rattle.hdlc_framer.specs.FrameLength.{least_frame_length}
 use Rattle.clean_signal.specs.NearSignal.{transmissions_of}
 use Rattle.clean_signal.specs.TrueEnds.{true_ends}
 use Rattle.clean_signal.specs.Stray.{NoStray}
@@ -20,7 +21,7 @@ drawn_as drawn =
 pub record IsGood (drawn : Drawn) : Type 0 where
   pub opening : 2 ≤ drawn.opening
   pub closing : 1 ≤ drawn.closing
-  pub least : 15 ≤ length drawn.octets
+  pub least : least_frame_length ≤ length drawn.octets
   pub most : length drawn.octets ≤ 1000
 
 -- the transmissions of what is heard

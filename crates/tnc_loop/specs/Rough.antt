@@ -6,7 +6,8 @@ use Rattle.rand_pcg.specs.Lcg.{Lcg}
 use Rattle.afsk_modulator.specs.Signal.{Transmission}
 use Rattle.afsk_modulator.specs.Transmission.{transmission_at}
 use Rattle.clean_signal.specs.NearSignal.{Received}
-use Rattle.tnc_loop.specs.Words.{behind, word_at, words}
+use Rattle.tnc_loop.specs.Words.{behind, word_at}
+use Rattle.channel_access.specs.Words.{words}
 
 -- one of the six phases at which a bit can begin
 abbrev pub phase_drawn : Lcg → ℕ

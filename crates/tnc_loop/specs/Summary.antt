@@ -5,7 +5,7 @@ use Rattle.std.specs.List.{concat}
 use Rattle.hex.specs.Hex.{encode_lower}
 use Rattle.tnc_base.specs.Hash.{fnv_1a}
 use Rattle.frame_merge.specs.declared.candidate.Candidate.{Candidate}
-use Rattle.frame_merge.specs.Merged.{frames_of as frames_heard, merged}
+use Rattle.frame_merge.specs.Merged.{candidate_frames as frames_heard, merged}
 use Rattle.slicer_bank.specs.Candidates.{AreCandidates}
 use Rattle.clean_signal.specs.declared.true_end.TrueEnd.{TrueEnd}
 use Rattle.clean_signal.specs.GoodTransmission.{frames_of}

@@ -1,6 +1,7 @@
 //! Transmissions drawn from random words.
 ghost use Rattle.std.specs.Prelude.{◌≡◌, ◌<◌, ◌≤◌, ◌%◌, length, map, IfOk, OnOk};
-ghost use Rattle.tnc_loop.specs.Words.{generator_of, behind, word_at, words};
+ghost use Rattle.tnc_loop.specs.Words.{loop_generator, behind, word_at};
+ghost use Rattle.channel_access.specs.Words.{words};
 ghost use Rattle.tnc_loop.specs.Drawn.{transmission_drawn, behind_transmission};
 ghost use Rattle.tnc_loop.specs.Held.{drawn_as, IsGood};
 
@@ -27,7 +28,7 @@ pub(crate) struct Drawn {
 
 /// The generator of a seed.
 pub(crate) fn generator(seed: u64) -> Lcg64Xsh32
-    ensures { result ≡ generator_of seed }
+    ensures { result ≡ loop_generator seed }
 {
     Lcg64Xsh32::new(seed, STREAM)
 }

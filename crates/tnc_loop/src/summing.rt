@@ -1,7 +1,7 @@
 //! The summary of what was heard.
 ghost use Rattle.std.specs.Prelude.{◌≡◌, IfOk, string_bytes};
 ghost use Rattle.std.specs.List.{concat};
-ghost use Rattle.frame_merge.specs.Merged.{frames_of};
+ghost use Rattle.frame_merge.specs.Merged.{candidate_frames};
 ghost use Rattle.tnc_loop.specs.Summary.{summary};
 
 use frame_merge::Candidate;
@@ -16,7 +16,7 @@ pub(crate) fn summary(
     heard: &[Candidate],
     stray: usize,
 ) -> Result<String, OutOfMemory>
-    ensures { IfOk result (λ text. string_bytes text ≡ summary made (frames_of heard.now) stray) }
+    ensures { IfOk result (λ text. string_bytes text ≡ summary made (candidate_frames heard.now) stray) }
 {
     let hash = hex::encode(alloc, fnv(&octets_of(alloc, heard)?).to_be_bytes())?;
     let heard = heard.len();
@@ -25,7 +25,7 @@ pub(crate) fn summary(
 
 /// The octets of all that was heard.
 fn octets_of(alloc: Global, heard: &[Candidate]) -> Result<Vec<u8>, OutOfMemory>
-    ensures { IfOk result (λ octets. octets.items ≡ concat (frames_of heard.now)) }
+    ensures { IfOk result (λ octets. octets.items ≡ concat (candidate_frames heard.now)) }
 {
     let mut octets = Vec::new(alloc);
     for item in heard {

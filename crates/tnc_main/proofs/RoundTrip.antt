@@ -21,13 +21,13 @@ use Rattle.wav_file.specs.declared.rates.Rates.TheVariants.{NarrowOrWide}
 use Rattle.tnc_forms.specs.declared.fault.InputFault.{InputFault}
 use Rattle.tnc_forms.specs.declared.fault.InputFault.TheVariants.{LongWav, TooLong}
 use Rattle.tnc_forms.specs.Reading.{input_limit}
-use Rattle.tnc_decode.specs.Audio.{audio_fault, fault_in_verdict, form_fault, form_fault_at, rates_of, samples_at, samples_of, stopping_fault}
+use Rattle.tnc_decode.specs.Audio.{audio_fault, fault_in_verdict, form_fault, form_fault_at, rates_of, samples_at, samples_read, stopping_fault}
 use Rattle.tnc_decode.specs.declared.modem.Modem.{Modem}
 use Rattle.tnc_decode.specs.declared.modem.Modem.TheVariants.{Plain, ShortWave as HearsShortWave}
 use Rattle.tnc_decode.specs.Modem.{modem_of, modem_for, modem_of_file, AreHeard}
 use Rattle.tnc_decode.specs.Decoded.{IsDecoded}
 use Rattle.tnc_decode.specs.Printing.{print}
-use Rattle.tnc_encode.specs.Frames.{form_fault as frames_fault, frames_of}
+use Rattle.tnc_encode.specs.Frames.{form_fault as frames_fault, frames_of_input}
 use Rattle.tnc_encode.specs.Encoded.{encode_fault, encoded, fault_of_whole, first_of, keeps_frames, length_fault, most_samples, samples_sent, signal_of, transmissions, written_as}
 use Rattle.tnc_encode.specs.Sending.{signal_by}
 use Rattle.tnc_encode.proofs.EndedLemmas.{fault_kept}
@@ -98,7 +98,7 @@ written_good rates Wav x few = ap fault_in_verdict (wav_whole x (few refl) rates
 
 module _ (encode : EncodeWords) (decode : DecodeWords) (octets : List ℕ) (none : encode_fault encode octets ≡ None) (same : decode.audio ≡ encode.audio) where
   abbrev frames : List (List ℕ)
-  frames = frames_of encode.frames octets
+  frames = frames_of_input encode.frames octets
 
   -- decode takes what encode wrote
   pub taken : length (encoded encode octets) ≤ input_limit → audio_fault decode (encoded encode octets) ≡ None
@@ -107,7 +107,7 @@ module _ (encode : EncodeWords) (decode : DecodeWords) (octets : List ℕ) (none
       ap (λ b. if b then option_or (stopping_fault decode (take (input_limit + 1) (encoded encode octets))) (Some TooLong) else form_fault decode (encoded encode octets)) (le-ltb input_limit (length (encoded encode octets)) short)
       ∙ ap (λ form. form_fault_at (rates_of decode.receiving) form (encoded encode octets)) same ∙ written_good (rates_of decode.receiving) encode.audio (signal_of encode frames) (wav_fits encode octets none)
 
-  same_samples : IsLevel encode.level → samples_of decode (encoded encode octets) ≡ signal_of encode frames
+  same_samples : IsLevel encode.level → samples_read decode (encoded encode octets) ≡ signal_of encode frames
   unfolding encoded
   same_samples level =
       ap (λ form. samples_at (rates_of decode.receiving) form (encoded encode octets)) same
@@ -125,9 +125,9 @@ module _ (encode : EncodeWords) (decode : DecodeWords) (octets : List ℕ) (none
       → IsWithoutStray encode.modem (transmissions encode frames) (signal_of encode frames)
       → (text : List ℕ) → IsDecoded decode (encoded encode octets) text → text ≡ print decode.frames frames
   heard alike each opening closing level no_stray text is =
-      let good = transmissions_good encode opening closing frames (frames_of-fit encode.frames octets each) in
+      let good = transmissions_good encode opening closing frames (frames_of_input-fit encode.frames octets each) in
       merged_text decode (all_frames (transmissions encode frames)) (encoded encode octets) text
       (λ items are. sent_merges encode.modem encode.level (transmissions encode frames) items level good no_stray
       (subst (λ x. AreHeard (hearing encode.modem) x items) (same_samples level)
-      (subst (λ modem. AreHeard modem (samples_of decode (encoded encode octets)) items) (hears alike) are))) is
+      (subst (λ modem. AreHeard modem (samples_read decode (encoded encode octets)) items) (hears alike) are))) is
       ∙ ap (print decode.frames) (frames_sent encode frames)

@@ -19,7 +19,7 @@ use Rattle.tnc_forms.proofs.HexFrameLemmas.{frames_of-good}
 use Rattle.tnc_words.specs.declared.command.FrameForm.{FrameForm}
 use Rattle.tnc_words.specs.declared.command.FrameForm.TheVariants.{Hex, Kiss}
 use Rattle.tnc_words.specs.declared.command.EncodeWords.{EncodeWords}
-use Rattle.tnc_encode.specs.Frames.{frame_of, frames_of, kiss_frames}
+use Rattle.tnc_encode.specs.Frames.{frame_of, frames_of_input, kiss_frames}
 use Rattle.tnc_encode.specs.Encoded.{joined, sent_at_once, transmissions}
 
 abbrev pub AreOctets : List ℕ → Type 0
@@ -141,17 +141,17 @@ frames_fit (item ∷ items) each =
 -- ---- the frames of an input
 
 -- each frame of an input can be sent
-pub frames_of-fit : (form : FrameForm) (octets : List ℕ) → AreOctets octets → All IsFrame (frames_of form octets)
+pub frames_of_input-fit : (form : FrameForm) (octets : List ℕ) → AreOctets octets → All IsFrame (frames_of_input form octets)
 unfolding kiss_frames items_in
-frames_of-fit Hex octets each = λ k d below.
-    let good = frames_of-good 15 octets k d below in
-    let frame : List ℕ = get_or (frames_of Hex octets) k d in
+frames_of_input-fit Hex octets each = λ k d below.
+    let good = frames_of_input-good 15 octets k d below in
+    let frame : List ℕ = get_or (frames_of_input Hex octets) k d in
     record {
       octets_fit = λ i e small. subst (λ o. o < 256) (get_or_default frame i 0 e small) (good.1 i);
       least = good.0.enough;
       most = good.0.most;
     }
-frames_of-fit Kiss octets each = frames_fit (items_in octets) (items_fit (pieces octets) (pieces_fit octets each))
+frames_of_input-fit Kiss octets each = frames_fit (items_in octets) (items_fit (pieces octets) (pieces_fit octets each))
 
 -- ---- transmissions
 

@@ -12,7 +12,7 @@ use Rattle.tnc_words.specs.declared.command.Command.TheVariants.{Decode, Encode,
 use Rattle.tnc_words.specs.declared.command.DecodeWords.{DecodeWords}
 use Rattle.tnc_forms.specs.declared.fault.InputFault.TheVariants.{TooLong}
 use Rattle.tnc_forms.specs.Reading.{input_limit}
-use Rattle.tnc_decode.specs.Audio.{samples_of}
+use Rattle.tnc_decode.specs.Audio.{samples_read}
 use Rattle.hf_signal.proofs.Law.{near_law as hf_near_law}
 use Rattle.tnc_decode.specs.declared.modem.Modem.{Modem}
 use Rattle.tnc_decode.specs.declared.modem.Modem.TheVariants.{Plain, Wide, Sensitive, ShortWave}
@@ -45,7 +45,7 @@ long_fault Version left octets last read long = let none : length octets ≡ 0 =
 
 -- what decode makes of samples whose merged candidates are these frames
 pub merged_text : (words : DecodeWords) (frames : List (List ℕ)) (octets text : List ℕ)
-    → ((items : List Candidate) → AreHeard (modem_of words octets) (samples_of words octets) items → map (λ item. item.octets) (merged items) ≡ frames)
+    → ((items : List Candidate) → AreHeard (modem_of words octets) (samples_read words octets) items → map (λ item. item.octets) (merged items) ≡ frames)
     → IsDecoded words octets text → text ≡ print words.frames frames
 merged_text words frames octets text merges h = h.is ∙ ap (print words.frames) (merges h.candidates h.are)
 
@@ -57,8 +57,8 @@ near_merges Wide x received clean = near_stream_law clean.number received x clea
 near_merges Sensitive x received clean = all_lanes_law received x clean.each clean.near clean.none_stray
 near_merges ShortWave x received clean = hf_near_law received x clean.each clean.near clean.no_stray
 
-pub near_text : (words : DecodeWords) (received : List Received) (octets text : List ℕ) → IsNearlyClean (modem_of words octets) (samples_of words octets) received
+pub near_text : (words : DecodeWords) (received : List Received) (octets text : List ℕ) → IsNearlyClean (modem_of words octets) (samples_read words octets) received
     → IsDecoded words octets text → text ≡ print words.frames (frames_of (transmissions_of received))
 near_text words received octets text clean h =
     merged_text words (frames_of (transmissions_of received)) octets text
-    (near_merges (modem_of words octets) (samples_of words octets) received clean) h
+    (near_merges (modem_of words octets) (samples_read words octets) received clean) h

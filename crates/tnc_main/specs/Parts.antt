@@ -3,7 +3,7 @@
 use Rattle.std.specs.Prelude.{◌≡◌, ℕ, ⊤, ◌≤◌, ◌<◌, ◌-◌, ◌⊎◌, true, false, List, [], ◌++◌, length, take, Option, Some, None}
 use Rattle.tnc_forms.specs.declared.fault.InputFault.{InputFault}
 use Rattle.tnc_forms.specs.declared.fault.InputFault.TheVariants.{TooLong}
-use Rattle.tnc_forms.specs.HexFrames.{frames_of as frames_of_lines}
+use Rattle.tnc_forms.specs.HexFrames.{frames_of_lines}
 use Rattle.tnc_forms.specs.Reading.{input_limit, piece_limit}
 use Rattle.tnc_forms.specs.Taken.{WereRead}
 use Rattle.tnc_words.specs.declared.command.Command.{Command}

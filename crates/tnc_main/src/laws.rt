@@ -10,7 +10,7 @@ ghost use Rattle.tnc_decode.specs.Audio.{audio_fault};
 ghost use Rattle.tnc_decode.specs.Decoded.{IsDecoded};
 ghost use Rattle.tnc_decode.specs.Printing.{print};
 ghost use Rattle.tnc_encode.specs.Encoded.{encode_fault, encoded, signal_of, transmissions};
-ghost use Rattle.tnc_encode.specs.Frames.{frames_of};
+ghost use Rattle.tnc_encode.specs.Frames.{frames_of_input};
 ghost use Rattle.tnc_main.specs.RoundTrip.{receiving_of, IsWithoutStray};
 
 /// What `encode` writes is heard by `decode`. Of an input without a fault, `decode` in the same form of audio takes
@@ -22,10 +22,10 @@ pub fn decode_of_encode()
         → All (λ octet. octet < 256) octets → 2 ≤ encode.opening → 1 ≤ encode.closing → IsLevel encode.level
         → encode_fault encode octets ≡ None → decode.audio ≡ encode.audio
         → decode.receiving ≡ receiving_of encode.modem
-        → IsWithoutStray encode.modem (transmissions encode (frames_of encode.frames octets))
-        (signal_of encode (frames_of encode.frames octets))
+        → IsWithoutStray encode.modem (transmissions encode (frames_of_input encode.frames octets))
+        (signal_of encode (frames_of_input encode.frames octets))
         → IsDecoded decode (encoded encode octets) text
-        → text ≡ print decode.frames (frames_of encode.frames octets) }
+        → text ≡ print decode.frames (frames_of_input encode.frames octets) }
     ensures taken { (encode : EncodeWords) → (decode : DecodeWords) → (octets : List ℕ)
         → encode_fault encode octets ≡ None → decode.audio ≡ encode.audio
         → length (encoded encode octets) ≤ input_limit

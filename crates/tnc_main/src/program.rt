@@ -10,7 +10,7 @@ ghost use Rattle.tnc_words.specs.declared.command.LoopWords.{LoopWords};
 ghost use Rattle.tnc_words.specs.declared.command.ServeOptions.{ServeOptions};
 ghost use Rattle.tnc_words.specs.Commands.{Asks, IsBench, IsLoop, IsServe};
 ghost use Rattle.tnc_forms.specs.Reading.{input_limit};
-ghost use Rattle.tnc_decode.specs.Audio.{samples_of};
+ghost use Rattle.tnc_decode.specs.Audio.{samples_read};
 ghost use Rattle.tnc_decode.specs.Modem.{modem_of};
 ghost use Rattle.tnc_decode.specs.Printing.{print};
 ghost use Rattle.channel_bench.specs.BenchRun.{IsOver};
@@ -95,7 +95,7 @@ pub fn run<
         → WritesAtEnd job.command → input_limit < length job.octets → result ≡ 2 → output.new ≡ output.old }
     ensures heard { (job : Job (map string_bytes words.now) (I.left input.old) result) → (decode : DecodeWords)
         → (received : List Received) → (before : List ℕ) → job.command ≡ Command.Decode decode
-        → IsNearlyClean (modem_of decode job.octets) (samples_of decode job.octets) received → O.written output.old ≡ Some before
+        → IsNearlyClean (modem_of decode job.octets) (samples_read decode job.octets) received → O.written output.old ≡ Some before
         → result ≡ 0
         → O.written output.new ≡ Some (before ++ print decode.frames (frames_of (transmissions_of received))) }
     ensures unread { (command : Command) → Asks (map string_bytes words.now) command → ReadsNothing command

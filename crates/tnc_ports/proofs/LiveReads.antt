@@ -5,7 +5,7 @@ use Rattle.std.proofs.lemmas.List.{get_or_default}
 use Rattle.std.proofs.lemmas.List.Elements.{All-weaker, All-filter, Contains-append_right}
 use Rattle.std.proofs.lemmas.List.{map-append, length-map}
 use Rattle.std.proofs.Math.ListN.{get_or-map}
-use Rattle.channel_access.specs.Waiting.{HasFrameLength}
+use Rattle.hdlc_framer.specs.FrameLength.{HasFrameLength}
 use Rattle.frame_merge.specs.declared.candidate.Candidate.{Candidate}
 use Rattle.frame_merge.specs.Held.{Held as HeldMerger, least}
 use Rattle.frame_merge.specs.Merged.{merged}

@@ -6,7 +6,7 @@
 //! is shut. After want of memory the side is spent, and each later call answers that again.
 ghost use Rattle.std.specs.Prelude.{◌≡◌, ℕ, ◌≤◌, ◌↔◌, true, List, Some, [], ◌∷◌, ◌++◌, All, IfOk, OnOk, OnErr, IsErr};
 ghost use Rattle.std.specs.Result.{IsErrOf};
-ghost use Rattle.channel_access.specs.Waiting.{HasFrameLength};
+ghost use Rattle.hdlc_framer.specs.FrameLength.{HasFrameLength};
 ghost use Rattle.link_machine.specs.declared.fault.NewFault.{NewFault};
 ghost use Rattle.link_machine.specs.Params.{IsRefusedWindow};
 ghost use Rattle.station.specs.Monitored.{modulus_between};

@@ -1,7 +1,7 @@
 //! The steps of the station, each with what it says delivered.
 ghost use Rattle.std.specs.Prelude.{◌≡◌, ◌≤◌, true, IfOk, OnOk};
 ghost use Rattle.std.specs.List.{list_any};
-ghost use Rattle.channel_access.specs.Waiting.{HasFrameLength};
+ghost use Rattle.hdlc_framer.specs.FrameLength.{HasFrameLength};
 ghost use Rattle.station.specs.Heard.{IsHeard};
 ghost use Rattle.station.specs.Held.{IsAdmitted};
 ghost use Rattle.station.specs.Host.{IsHostTurn};

@@ -4,7 +4,7 @@
 //! sample is written of a step that did not come to its end.
 
 ghost use Rattle.std.specs.Prelude.{◌≡◌, ℕ, ◌+◌, ◌-◌, ◌*◌, ◌/◌, ◌^◌, ◌<◌, ◌≤◌, Bool, true, false, List, Option, Some, None, length, map, slice_index, fold, min, All, IfOk, OnOk, OnErr};
-ghost use Rattle.channel_access.specs.Waiting.{HasFrameLength};
+ghost use Rattle.hdlc_framer.specs.FrameLength.{HasFrameLength};
 ghost use Rattle.frame_merge.specs.Held.{least};
 ghost use Rattle.ax25_address.specs.declared.path.Path.{Path};
 ghost use Rattle.sample_ring.specs.Ends.{ring_id, ring_len, reader_ring};

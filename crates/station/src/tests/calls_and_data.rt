@@ -1,5 +1,5 @@
 //! Calls of hosts, the data that they give to links, and disconnects.
-ghost use Rattle.channel_access.specs.Waiting.{HasFrameLength};
+ghost use Rattle.hdlc_framer.specs.FrameLength.{HasFrameLength};
 
 use super::desk::field;
 use crate::{Config, HostOut, Parts, Registration, Station};

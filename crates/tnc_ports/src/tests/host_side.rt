@@ -1,5 +1,5 @@
 //! The hosts' side of a station, turn by turn.
-ghost use Rattle.channel_access.specs.Waiting.{HasFrameLength};
+ghost use Rattle.hdlc_framer.specs.FrameLength.{HasFrameLength};
 
 use crate::tests::script::{Script, came};
 use crate::{HostSide, MemLive, MemPorts, ReportLine};

@@ -1,5 +1,5 @@
 use Rattle.std.proofs.Common.{ℕ, ◌<◌, [], get_or}
-use Rattle.afsk_modulator.specs.Transmission.{IsBadLength}
+use Rattle.hdlc_framer.specs.FrameLength.{IsBadLength}
 use Rattle.afsk_modulator.proofs.sending.first_bad_length.Given as goal
 
 abbrev pub invariant-loop-index : goal.invariant-loop-index

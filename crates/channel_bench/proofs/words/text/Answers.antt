@@ -1,6 +1,7 @@
 use Rattle.std.proofs.Common.{rules, map, ap, ◌∙◌}
 use Rattle.channel_bench.proofs.WordLemmas.{octet_of, has_drawn_none, has_drawn_more, has_drawn_all}
-use Rattle.channel_bench.specs.Words.{words, text_of}
+use Rattle.channel_bench.specs.Words.{text_of}
+use Rattle.channel_access.specs.Words.{words}
 use Rattle.channel_bench.proofs.words.text.Goals as goal
 
 pub loop-init : goal.loop-init

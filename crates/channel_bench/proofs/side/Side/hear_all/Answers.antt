@@ -1,7 +1,7 @@
 -- One frame after another.
 use Rattle.std.proofs.Common.{sym, subst}
 use Rattle.std.proofs.lemmas.List.{take_all}
-use Rattle.channel_access.specs.Waiting.{HasFrameLength}
+use Rattle.hdlc_framer.specs.FrameLength.{HasFrameLength}
 use Rattle.frame_merge.specs.declared.candidate.Candidate.{Candidate}
 use Rattle.channel_bench.specs.BenchSteps.{AreHeardAt}
 use Rattle.channel_bench.proofs.HearLemmas.{heard_more}

@@ -1,7 +1,7 @@
 use Rattle.std.proofs.Common.{Err, ap, sym, ◌∙◌}
 use Rattle.std.proofs.lemmas.Result.{err_from_is_err_and}
-use Rattle.frame_merge.specs.Merged.{frames_of}
-use Rattle.tnc_decode.specs.Audio.{samples_of}
+use Rattle.frame_merge.specs.Merged.{candidate_frames}
+use Rattle.tnc_decode.specs.Audio.{samples_read}
 use Rattle.tnc_decode.specs.Modem.{modem_of}
 use Rattle.tnc_decode.specs.Printing.{print}
 use Rattle.tnc_decode.proofs.ReceiverLemmas.{heard_all}
@@ -11,24 +11,24 @@ pub returns-in_err-write_items-clause-cut : goal.returns-in_err-write_items-clau
 returns-in_err-write_items-clause-cut g c = λ words octets text is h.
     let told = err_from_is_err_and c.from_residual-in_err-write_items.result c.from_residual-in_err-write_items.ensures.1 in
     let same = ap Err (sym told.2) ∙ sym told.1 ∙ is in
-    let rest = c.in_ok-items.ensures.rest (modem_of words octets) (samples_of words octets) h.decoder in (
-      print c.args.self.now.frames (frames_of c.deref.result.now),
+    let rest = c.in_ok-items.ensures.rest (modem_of words octets) (samples_read words octets) h.decoder in (
+      print c.args.self.now.frames (candidate_frames c.deref.result.now),
       heard_all c.args.self.now words octets text c.in_ok-items.items.items c.deref.result.now h rest c.deref.ensures.value,
       λ was w. c.in_err-write_items.ensures.cut was w same,
     )
 
 pub returns-in-None-clause-wrote : goal.returns-in-None-clause-wrote
 returns-in-None-clause-wrote g c = λ words octets text h ended.
-    let rest = c.in_ok-items.ensures.rest (modem_of words octets) (samples_of words octets) h.decoder in (
-      print c.args.self.now.frames (frames_of c.deref.result.now),
+    let rest = c.in_ok-items.ensures.rest (modem_of words octets) (samples_read words octets) h.decoder in (
+      print c.args.self.now.frames (candidate_frames c.deref.result.now),
       heard_all c.args.self.now words octets text c.in_ok-items.items.items c.deref.result.now h rest c.deref.ensures.value,
       λ was w. c.in_ok-write_items.ensures.written was w,
     )
 
 pub returns-clause-wrote : goal.returns-clause-wrote
 returns-clause-wrote g c = λ words octets text h ended.
-    let rest = c.in_ok-items.ensures.rest (modem_of words octets) (samples_of words octets) h.decoder in (
-      print c.args.self.now.frames (frames_of c.deref.result.now),
+    let rest = c.in_ok-items.ensures.rest (modem_of words octets) (samples_read words octets) h.decoder in (
+      print c.args.self.now.frames (candidate_frames c.deref.result.now),
       heard_all c.args.self.now words octets text c.in_ok-items.items.items c.deref.result.now h rest c.deref.ensures.value,
       λ was w. c.in_ok-write_items.ensures.written was w,
     )
