@@ -96,10 +96,6 @@ impl Parts {
     }
 }
 
-
-    15 <= octets.len() && octets.len() <= 1024
-}
-
 /// The parameter that a command sets.
 fn param_of(command: u8, value: u8) -> Param
     ensures { result ≡ param_of command value }
