@@ -19,11 +19,14 @@ unfolding fcs_of octet_bits with_fcs frame_bits body transmission pure_window
 shortest_length = refl
 
 -- the first bit of the first flag is a space from phase 0 on
-first_window : take 8 (transmission (shortest ∷ []) 2 1) ≡ pos 0 ∷ pos 9914 ∷ pos 2588 ∷ negsuc 9238 ∷ negsuc 4999 ∷ pos 7934 ∷ pos 7071 ∷ negsuc 6087 ∷ []
+first_window : take 8 (transmission (shortest ∷ []) 2 1)
+    ≡ pos 0 ∷ pos 9914 ∷ pos 2588 ∷ negsuc 9238 ∷ negsuc 4999 ∷ pos 7934 ∷ pos 7071 ∷ negsuc 6087 ∷ []
 unfolding fcs_of octet_bits with_fcs frame_bits body transmission pure_window wave_sample cycle_sample half_wave quarter
 first_window = refl
 
 -- at level 10 the same window, a thousandth of it and rounded towards zero
-quiet_window : take 8 (transmission_at 0 10 (shortest ∷ []) 2 1) ≡ pos 0 ∷ pos 9 ∷ pos 2 ∷ negsuc 8 ∷ negsuc 4 ∷ pos 7 ∷ pos 7 ∷ negsuc 5 ∷ []
-unfolding fcs_of octet_bits with_fcs frame_bits body transmission_at at_level sample_at pure_window wave_sample cycle_sample half_wave quarter
+quiet_window : take 8 (transmission_at 0 10 (shortest ∷ []) 2 1)
+    ≡ pos 0 ∷ pos 9 ∷ pos 2 ∷ negsuc 8 ∷ negsuc 4 ∷ pos 7 ∷ pos 7 ∷ negsuc 5 ∷ []
+unfolding fcs_of octet_bits with_fcs frame_bits body transmission_at at_level sample_at pure_window wave_sample
+    cycle_sample half_wave quarter
 quiet_window = refl

@@ -1,5 +1,6 @@
 -- Samples at a level.
-use Rattle.std.proofs.Common.{◌≡◌, ℕ, zero, suc, ◌*◌, ◌<◌, ◌≤◌, ℤ, pos, ◌*ℤ◌, ◌+ℤ◌, ◌-ℤ◌, List, [], ◌∷◌, ◌++◌, map, replicate, unsigned_abs, refl, ap, ◌∙◌, arith}
+use Rattle.std.proofs.Common.{◌≡◌, ℕ, zero, suc, ◌*◌, ◌<◌, ◌≤◌, ℤ, pos, ◌*ℤ◌, ◌+ℤ◌, ◌-ℤ◌, List, [], ◌∷◌, ◌++◌, map,
+    replicate, unsigned_abs, refl, ap, ◌∙◌, arith}
 use Rattle.std.specs.Prelude.{int_rem}
 use Rattle.std.proofs.lemmas.Int.{ints, quot-rem, rem_below, unsigned_abs-mul}
 use Rattle.std.proofs.lemmas.List.{map-append}
@@ -15,7 +16,8 @@ parts : (level : ℕ) (sample : ℤ)
     → (rest : ℤ) × (sample_at level sample *ℤ pos 10000 +ℤ rest ≡ pos level *ℤ sample) × (unsigned_abs rest < 10000)
 unfolding sample_at
 parts level sample =
-    (int_rem (pos level *ℤ sample) (pos 10000), quot-rem (pos level *ℤ sample) (pos 10000), rem_below (pos level *ℤ sample) (pos 10000) (omega arith))
+    (int_rem (pos level *ℤ sample) (pos 10000), quot-rem (pos level *ℤ sample) (pos 10000),
+        rem_below (pos level *ℤ sample) (pos 10000) (omega arith))
 
 -- a sample at the full level is the sample
 sample_at-full : (sample : ℤ) → sample_at 10000 sample ≡ sample
@@ -38,7 +40,8 @@ unfolding at_level
 at_level-append level xs ys = map-append (sample_at level) xs ys
 
 -- no sample is louder than the level
-pub unsigned_abs-sample_at : (level : ℕ) (sample : ℤ) → unsigned_abs sample ≤ 10000 → unsigned_abs (sample_at level sample) ≤ level
+pub unsigned_abs-sample_at : (level : ℕ) (sample : ℤ) → unsigned_abs sample ≤ 10000
+    → unsigned_abs (sample_at level sample) ≤ level
 unsigned_abs-sample_at level sample small =
     let p = parts level sample in
     let most : level * unsigned_abs sample ≤ level * 10000 = mul-le-mul_left level small in

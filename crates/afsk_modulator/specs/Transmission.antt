@@ -12,7 +12,8 @@ transmission frames opening closing = wave (line (body frames opening closing))
 
 -- the wave from any phase on, at any level
 unfoldable pub transmission_at : ℕ → ℕ → List (List ℕ) → ℕ → ℕ → List ℤ
-transmission_at phase level frames opening closing = at_level level (wave_from phase (line (body frames opening closing)))
+transmission_at phase level frames opening closing =
+    at_level level (wave_from phase (line (body frames opening closing)))
 
 -- fewer than two flags open it, or none closes it
 abbrev pub AreFewFlags : ℕ → ℕ → Type 0

@@ -1,5 +1,6 @@
 -- Messages one by one.
-use Rattle.std.proofs.Common.{◌≡◌, ℕ, zero, suc, ◌+◌, ◌<◌, ◌≤◌, ltb, cond, List, [], ◌++◌, length, take, drop, refl, ap, ◌∙◌, sym, inl, inr, arith, length-drop, length-append, Some, None}
+use Rattle.std.proofs.Common.{◌≡◌, ℕ, zero, suc, ◌+◌, ◌<◌, ◌≤◌, ltb, cond, List, [], ◌++◌, length, take, drop, refl, ap,
+    ◌∙◌, sym, inl, inr, arith, length-drop, length-append, Some, None}
 use Rattle.std.proofs.lemmas.Bool.{cond-true, cond-false, lt-ltb, le-ltb, cases_lt}
 use Rattle.std.proofs.lemmas.List.{take_at, drop_at}
 use Rattle.agwpe_port.specs.Messages.{Reading, and_then, told_length, message_of, reading, reading_upto}
@@ -12,30 +13,37 @@ nothing = record { messages = []; bad = None }
 abbrev pub behind_header : (List ℕ → Reading) → List ℕ → List ℕ → Reading
 behind_header next header behind =
     cond (ltb 4096 (told_length header)) (record { messages = []; bad = Some (told_length header) })
-    (cond (ltb (length behind) (told_length header)) nothing (and_then (message_of header (take (told_length header) behind)) (next (drop (told_length header) behind))))
+    (cond (ltb (length behind) (told_length header)) nothing
+        (and_then (message_of header (take (told_length header) behind)) (next (drop (told_length header) behind))))
 
 -- with one message more
 abbrev one_more : ℕ → List ℕ → Reading
-one_more most stream = cond (ltb (length stream) 36) nothing (behind_header (reading_upto most) (take 36 stream) (drop 36 stream))
+one_more most stream = cond (ltb (length stream) 36) nothing
+    (behind_header (reading_upto most) (take 36 stream) (drop 36 stream))
 
 short_more : (most : ℕ) (stream : List ℕ) → length stream < 36 → one_more most stream ≡ nothing
 short_more most stream short = cond-true _ _ _ (lt-ltb (length stream) 36 short)
 
-header_more : (most : ℕ) (stream : List ℕ) → 36 ≤ length stream → one_more most stream ≡ behind_header (reading_upto most) (take 36 stream) (drop 36 stream)
+header_more : (most : ℕ) (stream : List ℕ) → 36 ≤ length stream
+    → one_more most stream ≡ behind_header (reading_upto most) (take 36 stream) (drop 36 stream)
 header_more most stream whole = cond-false _ _ _ (le-ltb (length stream) 36 whole)
 
 -- two ways to read what follows that agree there
-same_next : (first second : List ℕ → Reading) (header behind : List ℕ) → first (drop (told_length header) behind) ≡ second (drop (told_length header) behind)
+same_next : (first second : List ℕ → Reading) (header behind : List ℕ)
+    → first (drop (told_length header) behind) ≡ second (drop (told_length header) behind)
     → behind_header first header behind ≡ behind_header second header behind
 same_next first second header behind same =
     ap (λ r. cond (ltb 4096 (told_length header)) (record { messages = []; bad = Some (told_length header) })
-    (cond (ltb (length behind) (told_length header)) nothing (and_then (message_of header (take (told_length header) behind)) r))) same
+    (cond (ltb (length behind) (told_length header)) nothing
+        (and_then (message_of header (take (told_length header) behind)) r))) same
 
-rest_le : (count most : ℕ) (stream : List ℕ) → 36 ≤ length stream → length stream ≤ suc most → length (drop count (drop 36 stream)) ≤ most
+rest_le : (count most : ℕ) (stream : List ℕ) → 36 ≤ length stream → length stream ≤ suc most
+    → length (drop count (drop 36 stream)) ≤ most
 rest_le count most stream whole fits = omega (arith, length-drop count (drop 36 stream), length-drop 36 stream)
 
 -- so the most does not matter where it is enough
-enough : (m n : ℕ) (stream : List ℕ) → length stream ≤ m → length stream ≤ n → reading_upto m stream ≡ reading_upto n stream
+enough : (m n : ℕ) (stream : List ℕ) → length stream ≤ m → length stream ≤ n
+    → reading_upto m stream ≡ reading_upto n stream
 enough zero zero stream first second = refl
 enough zero (suc n) stream first second = sym (short_more n stream (omega arith))
 enough (suc m) zero stream first second = short_more m stream (omega arith)
@@ -46,17 +54,20 @@ enough (suc m) (suc n) stream first second =
           let header : List ℕ = take 36 stream in
           header_more m stream whole
           ∙ same_next (reading_upto m) (reading_upto n) header (drop 36 stream)
-          (enough m n (drop (told_length header) (drop 36 stream)) (rest_le (told_length header) m stream whole first) (rest_le (told_length header) n stream whole second))
+          (enough m n (drop (told_length header) (drop 36 stream)) (rest_le (told_length header) m stream whole first)
+              (rest_le (told_length header) n stream whole second))
           ∙ sym (header_more n stream whole)
     ]
 
 -- fewer octets than a header
 pub reading_short : (stream : List ℕ) → length stream < 36 → reading stream ≡ nothing
 unfolding reading
-reading_short stream short = enough (length stream) (suc (length stream)) stream (omega arith) (omega arith) ∙ short_more (length stream) stream short
+reading_short stream short = enough (length stream) (suc (length stream)) stream (omega arith) (omega arith)
+    ∙ short_more (length stream) stream short
 
 -- a header, and what stands after it
-pub reading_header : (header behind : List ℕ) → length header ≡ 36 → reading (header ++ behind) ≡ behind_header reading header behind
+pub reading_header : (header behind : List ℕ) → length header ≡ 36
+    → reading (header ++ behind) ≡ behind_header reading header behind
 unfolding reading
 reading_header header behind size =
     let stream : List ℕ = header ++ behind in
@@ -72,18 +83,22 @@ reading_header header behind size =
     (enough (length stream) (length rest) rest (omega (arith, length-drop (told_length header) behind)) (omega arith))
 
 -- a header that tells too long a body
-pub reading_bad : (header behind : List ℕ) → length header ≡ 36 → 4096 < told_length header → reading (header ++ behind) ≡ record { messages = []; bad = Some (told_length header) }
-reading_bad header behind size long = reading_header header behind size ∙ cond-true _ _ _ (lt-ltb 4096 (told_length header) long)
+pub reading_bad : (header behind : List ℕ) → length header ≡ 36 → 4096 < told_length header
+    → reading (header ++ behind) ≡ record { messages = []; bad = Some (told_length header) }
+reading_bad header behind size long = reading_header header behind size
+    ∙ cond-true _ _ _ (lt-ltb 4096 (told_length header) long)
 
 -- a header whose body is not there to its end
-pub reading_open : (header body : List ℕ) → length header ≡ 36 → told_length header ≤ 4096 → length body < told_length header → reading (header ++ body) ≡ nothing
+pub reading_open : (header body : List ℕ) → length header ≡ 36 → told_length header ≤ 4096
+    → length body < told_length header → reading (header ++ body) ≡ nothing
 reading_open header body size fits short =
     reading_header header body size
     ∙ cond-false _ _ _ (le-ltb 4096 (told_length header) fits)
     ∙ cond-true _ _ _ (lt-ltb (length body) (told_length header) short)
 
 -- a whole message, and what stands after it
-pub reading_whole : (header body more : List ℕ) → length header ≡ 36 → told_length header ≤ 4096 → length body ≡ told_length header
+pub reading_whole : (header body more : List ℕ) → length header ≡ 36 → told_length header ≤ 4096
+    → length body ≡ told_length header
     → reading (header ++ (body ++ more)) ≡ and_then (message_of header body) (reading more)
 reading_whole header body more size fits whole =
     let len : ℕ = told_length header in

@@ -1,5 +1,6 @@
 -- What is written is read as the message that it was.
-use Rattle.std.proofs.Common.{◌≡◌, ℕ, ◌+◌, ◌≤◌, List, [], ◌∷◌, ◌++◌, length, take, drop, ap, ◌∙◌, sym, arith, append_assoc, length-append}
+use Rattle.std.proofs.Common.{◌≡◌, ℕ, ◌+◌, ◌≤◌, List, [], ◌∷◌, ◌++◌, length, take, drop, ap, ◌∙◌, sym, arith,
+    append_assoc, length-append}
 use Rattle.std.proofs.lemmas.List.{take_at, drop_at, drop-drop}
 use Rattle.byteorder.specs.Endian.{little_bytes, little_number}
 use Rattle.byteorder.specs.Numbers.{little_number-reads_back}
@@ -24,24 +25,30 @@ calls_of message = message.from ++ (message.to ++ tail_of message)
 module _ (message : AgwMessage) (written : IsWritten message) where
   header_length : length (header_of message) ≡ 36
   header_length =
-      let calls : length (calls_of message) ≡ length message.from + length (message.to ++ tail_of message) = length-append message.from (message.to ++ tail_of message) in
-      let later : length (message.to ++ tail_of message) ≡ length message.to + 8 = length-append message.to (tail_of message) in
+      let calls : length (calls_of message) ≡ length message.from + length (message.to ++ tail_of message) =
+          length-append message.from (message.to ++ tail_of message) in
+      let later : length (message.to ++ tail_of message) ≡ length message.to + 8 =
+          length-append message.to (tail_of message) in
       omega (arith, calls, later, written.from, written.to)
 
   behind_from : drop 10 (calls_of message) ≡ message.to ++ tail_of message
   behind_from = drop_at message.from (message.to ++ tail_of message) 10 written.from
 
   behind_calls : drop 20 (calls_of message) ≡ tail_of message
-  behind_calls = sym (drop-drop 10 10 (calls_of message)) ∙ ap (drop 10) behind_from ∙ drop_at message.to (tail_of message) 10 written.to
+  behind_calls = sym (drop-drop 10 10 (calls_of message)) ∙ ap (drop 10) behind_from
+      ∙ drop_at message.to (tail_of message) 10 written.to
 
   length_back : told_length (header_of message) ≡ length message.body
-  length_back = ap (little_number 4) behind_calls ∙ little_number-reads_back 4 (length message.body) (0 ∷ 0 ∷ 0 ∷ 0 ∷ []) (omega (arith, written.body))
+  length_back = ap (little_number 4) behind_calls ∙ little_number-reads_back 4 (length message.body)
+      (0 ∷ 0 ∷ 0 ∷ 0 ∷ []) (omega (arith, written.body))
 
   message_back : message_of (header_of message) message.body ≡ message
   message_back =
-      ap (λ from. record { port = message.port; kind = message.kind; pid = message.pid; from = from; to = take 10 (drop 10 (calls_of message)); body = message.body })
+      ap (λ from. record { port = message.port; kind = message.kind; pid = message.pid; from = from;
+          to = take 10 (drop 10 (calls_of message)); body = message.body })
       (take_at message.from (message.to ++ tail_of message) 10 written.from)
-      ∙ ap (λ to. record { port = message.port; kind = message.kind; pid = message.pid; from = message.from; to = to; body = message.body })
+      ∙ ap (λ to. record { port = message.port; kind = message.kind; pid = message.pid; from = message.from; to = to;
+          body = message.body })
       (ap (take 10) behind_from ∙ take_at message.to (tail_of message) 10 written.to)
 
   -- The octets of a message are that message, whatever follows.
@@ -49,15 +56,19 @@ module _ (message : AgwMessage) (written : IsWritten message) where
   unfolding spelling
   written_reads more =
       ap reading (append_assoc (header_of message) message.body more)
-      ∙ reading_whole (header_of message) message.body more header_length (omega (arith, length_back, written.body)) (sym length_back)
+      ∙ reading_whole (header_of message) message.body more header_length (omega (arith, length_back, written.body))
+          (sym length_back)
       ∙ ap (λ m. and_then m (reading more)) message_back
 
 -- the parts of a message, one after the other
 pub in_parts : (message : AgwMessage)
-    → (((((message.port ∷ 0 ∷ 0 ∷ 0 ∷ message.kind ∷ 0 ∷ message.pid ∷ 0 ∷ []) ++ message.from) ++ message.to) ++ little_bytes 4 (length message.body)) ++ 0 ∷ 0 ∷ 0 ∷ 0 ∷ []) ++ message.body
+    → (((((message.port ∷ 0 ∷ 0 ∷ 0 ∷ message.kind ∷ 0 ∷ message.pid ∷ 0 ∷ []) ++ message.from) ++ message.to)
+        ++ little_bytes 4 (length message.body)) ++ 0 ∷ 0 ∷ 0 ∷ 0 ∷ []) ++ message.body
     ≡ spelling message
 unfolding spelling
 in_parts message =
-    let parts : ((message.from ++ message.to) ++ little_bytes 4 (length message.body)) ++ 0 ∷ 0 ∷ 0 ∷ 0 ∷ [] ≡ calls_of message =
-    append_assoc (message.from ++ message.to) (little_bytes 4 (length message.body)) (0 ∷ 0 ∷ 0 ∷ 0 ∷ []) ∙ append_assoc message.from message.to (tail_of message) in
+    let parts : ((message.from ++ message.to) ++ little_bytes 4 (length message.body)) ++ 0 ∷ 0 ∷ 0 ∷ 0 ∷ []
+        ≡ calls_of message =
+    append_assoc (message.from ++ message.to) (little_bytes 4 (length message.body)) (0 ∷ 0 ∷ 0 ∷ 0 ∷ [])
+        ∙ append_assoc message.from message.to (tail_of message) in
     ap (λ xs. (message.port ∷ 0 ∷ 0 ∷ 0 ∷ message.kind ∷ 0 ∷ message.pid ∷ 0 ∷ xs) ++ message.body) parts

@@ -1,5 +1,7 @@
--- What is kept of a stream of messages: the message under way. No public clause looks inside: they cite `StandsFor` alone.
-use Rattle.std.specs.Prelude.{◌≡◌, ℕ, ◌+◌, ◌<◌, ◌≤◌, ◌⊎◌, ◌==◌, nat_lt, if◌then◌else◌, List, [], ◌∷◌, ◌++◌, length, Option, Some, None}
+-- What is kept of a stream of messages: the message under way. No public clause looks inside: they cite `StandsFor`
+-- alone.
+use Rattle.std.specs.Prelude.{◌≡◌, ℕ, ◌+◌, ◌<◌, ◌≤◌, ◌⊎◌, ◌==◌, nat_lt, if◌then◌else◌, List, [], ◌∷◌, ◌++◌, length,
+    Option, Some, None}
 use Rattle.agwpe_port.specs.declared.message.AgwMessage.{AgwMessage}
 use Rattle.agwpe_port.specs.Messages.{Reading, reading, header_size, most_body, told_length, message_of}
 
@@ -17,7 +19,8 @@ new_held = record { header = []; body = []; bad = None }
 -- after the last octet of a header
 abbrev pub header_ended : Held → Held
 header_ended held =
-    if nat_lt most_body (told_length held.header) then record { header = held.header; body = held.body; bad = Some (told_length held.header) } else
+    if nat_lt most_body (told_length held.header) then record { header = held.header; body = held.body;
+        bad = Some (told_length held.header) } else
     if told_length held.header == 0 then record { header = []; body = []; bad = held.bad } else held
 
 abbrev pub told_by_header : Held → Option AgwMessage
@@ -33,10 +36,12 @@ with_body held octet = record { header = held.header; body = held.body ++ octet 
 
 -- is the body there to its end?
 abbrev pub taken_of_body : Held → Held
-taken_of_body held = if nat_lt (length held.body) (told_length held.header) then held else record { header = []; body = []; bad = held.bad }
+taken_of_body held = if nat_lt (length held.body) (told_length held.header) then held
+    else record { header = []; body = []; bad = held.bad }
 
 abbrev pub told_by_body : Held → Option AgwMessage
-told_by_body held = if nat_lt (length held.body) (told_length held.header) then None else Some (message_of held.header held.body)
+told_by_body held = if nat_lt (length held.body) (told_length held.header) then None
+    else Some (message_of held.header held.body)
 
 -- what is kept after an octet
 abbrev pub taken : Held → ℕ → Held
@@ -70,4 +75,5 @@ behind before r = record { messages = before ++ r.messages; bad = r.bad }
 pub record StandsFor (held : Held) (stream : List ℕ) : Type 0 where
   pub under_way : held.bad ≡ None → IsOpen held.header held.body
   -- whatever comes, the stream is the messages so far, and what is kept and comes
-  pub rest : (more : List ℕ) → reading (stream ++ more) ≡ behind (reading stream).messages (rest_reading held.bad (held.header ++ held.body) more)
+  pub rest : (more : List ℕ) → reading (stream ++ more)
+      ≡ behind (reading stream).messages (rest_reading held.bad (held.header ++ held.body) more)

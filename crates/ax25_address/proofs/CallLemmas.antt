@@ -1,6 +1,8 @@
 -- Facts on names and on their faults.
-use Rattle.std.proofs.Common.{◌≡◌, ℕ, suc, ◌+◌, ◌-◌, ◌<◌, ◌≤◌, ◌++◌, List, [], ◌∷◌, length, get_or, set, take, replicate, refl, sym, ap, subst, ◌∙◌, arith, None, Some, inl, inr, append_assoc, length-append}
-use Rattle.std.proofs.lemmas.List.{set_at, take_at, take_all, take_more, length-take-le, length-replicate, get_or_default}
+use Rattle.std.proofs.Common.{◌≡◌, ℕ, suc, ◌+◌, ◌-◌, ◌<◌, ◌≤◌, ◌++◌, List, [], ◌∷◌, length, get_or, set, take,
+    replicate, refl, sym, ap, subst, ◌∙◌, arith, None, Some, inl, inr, append_assoc, length-append}
+use Rattle.std.proofs.lemmas.List.{set_at, take_at, take_all, take_more, length-take-le, length-replicate,
+    get_or_default}
 use Rattle.std.proofs.lemmas.Bool.{cases_lt}
 use Rattle.ax25_address.specs.Callsign.{IsName, IsCallCharacter, padded}
 use Rattle.ax25_address.specs.Held.{IsHeld}
@@ -39,13 +41,15 @@ good_is_not_bad name i h g = g.here (h.characters i 0 g.within)
 pub IsFaultOf-same : (name : List ℕ) (P : Type 0) (a b : CallFault) → IsFaultOf name P a → IsFaultOf name P b → a ≡ b
 IsFaultOf-same name P Empty Empty h g = refl
 IsFaultOf-same name P Empty TooLong h g = absurd (let n : length name ≡ 0 = ap length h in omega arith)
-IsFaultOf-same name P Empty (BadChar j) h g = absurd (let n : length name ≡ 0 = ap length h in omega (arith, g.1.within))
+IsFaultOf-same name P Empty (BadChar j) h g = absurd (let n : length name ≡ 0 = ap length h in
+    omega (arith, g.1.within))
 IsFaultOf-same name P Empty BadSsid h g = absurd (let n : length name ≡ 0 = ap length h in omega (arith, g.0.shortest))
 IsFaultOf-same name P TooLong Empty h g = absurd (let n : length name ≡ 0 = ap length g in omega arith)
 IsFaultOf-same name P TooLong TooLong h g = refl
 IsFaultOf-same name P TooLong (BadChar j) h g = absurd (omega arith)
 IsFaultOf-same name P TooLong BadSsid h g = absurd (omega (arith, g.0.longest))
-IsFaultOf-same name P (BadChar i) Empty h g = absurd (let n : length name ≡ 0 = ap length g in omega (arith, h.1.within))
+IsFaultOf-same name P (BadChar i) Empty h g = absurd (let n : length name ≡ 0 = ap length g in
+    omega (arith, h.1.within))
 IsFaultOf-same name P (BadChar i) TooLong h g = absurd (omega arith)
 IsFaultOf-same name P (BadChar i) (BadChar j) h g = ap BadChar (same_bad name i j h.1 g.1)
 IsFaultOf-same name P (BadChar i) BadSsid h g = absurd (good_is_not_bad name i g.0 h.1)
@@ -55,36 +59,47 @@ IsFaultOf-same name P BadSsid (BadChar j) h g = absurd (good_is_not_bad name j h
 IsFaultOf-same name P BadSsid BadSsid h g = refl
 
 -- and none where it is one and its SSID is not bad
-pub name_has_no_fault : (name : List ℕ) (P : Type 0) (fault : CallFault) → IsName name → (P → ⊥) → IsFaultOf name P fault → ⊥
+pub name_has_no_fault : (name : List ℕ) (P : Type 0) (fault : CallFault) → IsName name → (P → ⊥)
+    → IsFaultOf name P fault → ⊥
 name_has_no_fault name P Empty h good g = let n : length name ≡ 0 = ap length g in omega (arith, h.shortest)
 name_has_no_fault name P TooLong h good g = omega (arith, h.longest)
 name_has_no_fault name P (BadChar i) h good g = good_is_not_bad name i h g.1
 name_has_no_fault name P BadSsid h good g = good g.1
 
 -- a good character more
-pub IsFilling-more : (name characters : List ℕ) (n : ℕ) → n < length name → n < 6 → IsCallCharacter (get_or name n 0) → IsFilling name characters n → IsFilling name (set characters n (get_or name n 0)) (n + 1)
+pub IsFilling-more : (name characters : List ℕ) (n : ℕ) → n < length name → n < 6 → IsCallCharacter (get_or name n 0)
+    → IsFilling name characters n → IsFilling name (set characters n (get_or name n 0)) (n + 1)
 IsFilling-more name characters n inside six letter h =
     let x : ℕ = get_or name n 0 in
     let rest : List ℕ = replicate (6 - (n + 1)) 32 in
-    let spaces : replicate (6 - n) 32 ≡ 32 ∷ rest = let e : 6 - n ≡ suc (6 - (n + 1)) = omega arith in ap (λ m. replicate m 32) e in
+    let spaces : replicate (6 - n) 32 ≡ 32 ∷ rest = let e : 6 - n ≡ suc (6 - (n + 1)) = omega arith in
+        ap (λ m. replicate m 32) e in
     record {
       good = λ k below. elim (cases_lt k n) [
         | inl earlier ↦ h.good k earlier
-        | inr from ↦ (let here : n ≡ k = omega arith in subst (λ (j : ℕ). IsCallCharacter (get_or name j 0)) here letter)
+        | inr from ↦ (let here : n ≡ k = omega arith in subst (λ (j : ℕ). IsCallCharacter (get_or name j 0))
+            here letter)
       ];
-      filled = ap (λ xs. set xs n x) h.filled ∙ ap (λ r. set (take n name ++ r) n x) spaces ∙ set_at (take n name) 32 rest x n (length-take-le n name (omega arith))
+      filled = ap (λ xs. set xs n x) h.filled ∙ ap (λ r. set (take n name ++ r) n x) spaces
+          ∙ set_at (take n name) 32 rest x n (length-take-le n name (omega arith))
           ∙ sym (append_assoc (take n name) (x ∷ []) rest) ∙ ap (λ t. t ++ rest) (sym (take_more name n 0 inside));
     }
 
 -- a name whose characters are all good is held by its six characters
-pub IsHeld-filling : (name characters : List ℕ) (n : ℕ) → 0 < length name → length name ≤ 6 → n ≡ length name → IsFilling name characters n → IsHeld characters (length name) 0
+pub IsHeld-filling : (name characters : List ℕ) (n : ℕ) → 0 < length name → length name ≤ 6 → n ≡ length name
+    → IsFilling name characters n → IsHeld characters (length name) 0
 IsHeld-filling name characters n some six all h =
-    let whole : characters ≡ padded name = h.filled ∙ ap (λ k. take k name ++ replicate (6 - k) 32) all ∙ ap (λ t. t ++ replicate (6 - length name) 32) (take_all (length name) name (omega arith)) in
-    let front : take (length name) characters ≡ name = ap (λ xs. take (length name) xs) whole ∙ take_at name (replicate (6 - length name) 32) (length name) refl in
+    let whole : characters ≡ padded name = h.filled ∙ ap (λ k. take k name ++ replicate (6 - k) 32) all
+        ∙ ap (λ t. t ++ replicate (6 - length name) 32) (take_all (length name) name (omega arith)) in
+    let front : take (length name) characters ≡ name = ap (λ xs. take (length name) xs) whole
+        ∙ take_at name (replicate (6 - length name) 32) (length name) refl in
     record {
-      size = ap length whole ∙ length-append name (replicate (6 - length name) 32) ∙ ap (λ k. length name + k) (length-replicate (6 - length name) 32) ∙ omega arith;
+      size = ap length whole ∙ length-append name (replicate (6 - length name) 32)
+          ∙ ap (λ k. length name + k) (length-replicate (6 - length name) 32) ∙ omega arith;
       fits = six;
-      name = subst (λ (xs : List ℕ). IsName xs) (sym front) (record { shortest = some; longest = six; characters = λ k d below. subst (λ (c : ℕ). IsCallCharacter c) (get_or_default name k 0 d below) (h.good k (omega arith)) });
+      name = subst (λ (xs : List ℕ). IsName xs) (sym front)
+          (record { shortest = some; longest = six; characters = λ k d below.
+          subst (λ (c : ℕ). IsCallCharacter c) (get_or_default name k 0 d below) (h.good k (omega arith)) });
       filled = whole ∙ ap (λ xs. padded xs) (sym front);
       ssid = omega arith;
     }

@@ -1,5 +1,6 @@
 -- Octets spell at most one path, or show one fault, but not both.
-use Rattle.std.proofs.Common.{◌≡◌, ℕ, zero, suc, ◌+◌, ◌-◌, ◌*◌, ◌/◌, ◌%◌, ◌<◌, ◌≤◌, ◌⊎◌, List, length, get_or, take, refl, sym, ap, subst, arith, inl, inr, ◌∙◌, Bool, true, false, eqb, Result, Ok, Err, IfOk, IfErr}
+use Rattle.std.proofs.Common.{◌≡◌, ℕ, zero, suc, ◌+◌, ◌-◌, ◌*◌, ◌/◌, ◌%◌, ◌<◌, ◌≤◌, ◌⊎◌, List, length, get_or, take,
+    refl, sym, ap, subst, arith, inl, inr, ◌∙◌, Bool, true, false, eqb, Result, Ok, Err, IfOk, IfErr}
 use Rattle.std.proofs.lemmas.List.{ext_get_or, same_lists, length-take-le}
 use Rattle.std.proofs.lemmas.Bool.{cases_lt}
 use Rattle.std.proofs.lemmas.Bool.Decides.{nat_tests}
@@ -14,16 +15,20 @@ use Rattle.ax25_address.specs.declared.path.Role.{Role}
 use Rattle.ax25_address.specs.declared.path.Role.TheVariants.{Command, Response, Old}
 use Rattle.ax25_address.specs.declared.fault.AddrFault.{AddrFault}
 use Rattle.ax25_address.specs.declared.fault.AddrFault.TheVariants.{Short, BadChar, OneAddress, NoEnd}
-use Rattle.ax25_address.proofs.FieldLemmas.{bit_small, bit_same, field_octet, last_octet, padded-name, padded-space, HasNameUpTo-field, field_end}
+use Rattle.ax25_address.proofs.FieldLemmas.{bit_small, bit_same, field_octet, last_octet, padded-name, padded-space,
+    HasNameUpTo-field, field_end}
 use Rattle.ax25_address.proofs.PathLemmas.{field_at-take}
 
 -- a name that ends earlier has a space where the other has a character
-not_shorter : (a b : Callsign) (ta la tb lb : Bool) (octets : List ℕ) → IsField a ta la octets → IsField b tb lb octets → length a.name < length b.name → ⊥
+not_shorter : (a b : Callsign) (ta la tb lb : Bool) (octets : List ℕ) → IsField a ta la octets → IsField b tb lb octets
+    → length a.name < length b.name → ⊥
 not_shorter a b ta la tb lb octets h g short =
     let k : ℕ = length a.name in
     let below : k < 6 = omega (arith, g.valid.name.longest) in
-    let blank : get_or octets k 0 ≡ 64 = field_octet a ta la octets h k below ∙ ap (λ c. 2 * c) (padded-space a.name k (omega arith) below) in
-    let letter : get_or octets k 0 ≡ 2 * get_or b.name k 0 = field_octet b tb lb octets g k below ∙ ap (λ c. 2 * c) (padded-name b.name k short) in
+    let blank : get_or octets k 0 ≡ 64 = field_octet a ta la octets h k below
+        ∙ ap (λ c. 2 * c) (padded-space a.name k (omega arith) below) in
+    let letter : get_or octets k 0 ≡ 2 * get_or b.name k 0 = field_octet b tb lb octets g k below
+        ∙ ap (λ c. 2 * c) (padded-name b.name k short) in
     elim (g.valid.name.characters k 0 short) [ inl capital ↦ omega arith | inr digit ↦ omega arith ]
 
 -- octets are the field of one call with one bit 7 and one end bit
@@ -32,9 +37,11 @@ pub record IsSameField (a : Callsign) (ta la : Bool) (b : Callsign) (tb lb : Boo
   pub top : ta ≡ tb
   pub last : la ≡ lb
 
-pub field_same : (a : Callsign) (ta la : Bool) (b : Callsign) (tb lb : Bool) (octets : List ℕ) → IsField a ta la octets → IsField b tb lb octets → IsSameField a ta la b tb lb
+pub field_same : (a : Callsign) (ta la : Bool) (b : Callsign) (tb lb : Bool) (octets : List ℕ) → IsField a ta la octets
+    → IsField b tb lb octets → IsSameField a ta la b tb lb
 field_same a ta la b tb lb octets h g =
-    let octet : ssid_octet ta h.reserved a.ssid la ≡ ssid_octet tb g.reserved b.ssid lb = sym (last_octet a ta la octets h) ∙ last_octet b tb lb octets g in
+    let octet : ssid_octet ta h.reserved a.ssid la ≡ ssid_octet tb g.reserved b.ssid lb =
+        sym (last_octet a ta la octets h) ∙ last_octet b tb lb octets g in
     let p = bit_small ta in
     let q = bit_small la in
     let r = bit_small tb in
@@ -50,8 +57,10 @@ field_same a ta la b tb lb octets h g =
       call = call_same a b
           (ext_get_or 0 a.name b.name n (λ k below.
           let six : k < 6 = omega (arith, h.valid.name.longest) in
-          let x : get_or octets k 0 ≡ 2 * get_or a.name k 0 = field_octet a ta la octets h k six ∙ ap (λ c. 2 * c) (padded-name a.name k below) in
-          let y : get_or octets k 0 ≡ 2 * get_or b.name k 0 = field_octet b tb lb octets g k six ∙ ap (λ c. 2 * c) (padded-name b.name k (omega arith)) in
+          let x : get_or octets k 0 ≡ 2 * get_or a.name k 0 = field_octet a ta la octets h k six
+              ∙ ap (λ c. 2 * c) (padded-name a.name k below) in
+          let y : get_or octets k 0 ≡ 2 * get_or b.name k 0 = field_octet b tb lb octets g k six
+              ∙ ap (λ c. 2 * c) (padded-name b.name k (omega arith)) in
           omega arith))
           (omega (arith, octet, h.valid.ssid, g.valid.ssid, h.two_bits, g.two_bits));
       top = bit_same ta tb (omega (arith, octet, h.valid.ssid, g.valid.ssid, h.two_bits, g.two_bits));
@@ -74,9 +83,11 @@ hop_same a b call done =
     let hop : Callsign → Bool → Hop = λ c d. record { call = c; done = d } in
     ap (λ c. hop c a.done) call ∙ ap (λ d. hop b.call d) done
 
-path_same : (p q : Path) → p.dest ≡ q.dest → p.source ≡ q.source → p.repeaters.items ≡ q.repeaters.items → p.role ≡ q.role → p ≡ q
+path_same : (p q : Path) → p.dest ≡ q.dest → p.source ≡ q.source → p.repeaters.items ≡ q.repeaters.items
+    → p.role ≡ q.role → p ≡ q
 path_same p q dest source hops role =
-    let path : Callsign → Callsign → List Hop → Role → Path = λ d s h r. record { dest = d; source = s; repeaters = record { items = h }; role = r } in
+    let path : Callsign → Callsign → List Hop → Role → Path =
+        λ d s h r. record { dest = d; source = s; repeaters = record { items = h }; role = r } in
     ap (λ d. path d p.source p.repeaters.items p.role) dest ∙ ap (λ s. path q.dest s p.repeaters.items p.role) source
     ∙ ap (λ h. path q.dest q.source h p.role) hops ∙ ap (λ r. path q.dest q.source q.repeaters.items r) role
 
@@ -88,7 +99,8 @@ IsPath-same p q octets h g =
     let source = field_same _ _ _ _ _ _ (field_at octets 1) h.source g.source in
     path_same p q dest.call source.call
     (same_lists p.repeaters.items q.repeaters.items n (λ k d below.
-    let hop = field_same _ _ _ _ _ _ (field_at octets (k + 2)) (h.repeaters k d below) (g.repeaters k d (omega arith)) in
+    let hop = field_same _ _ _ _ _ _ (field_at octets (k + 2)) (h.repeaters k d below) (g.repeaters k d (omega arith))
+        in
     hop_same (get_or p.repeaters.items k d) (get_or q.repeaters.items k d) hop.call hop.top))
     (role_same p.role q.role dest.top source.top)
 
@@ -123,7 +135,8 @@ pub record EndsAt (octets : List ℕ) (len : ℕ) : Type 0 where
   pub end_bit : get_or octets (len - 1) 0 % 2 ≡ 1
 
 -- some call's field stands at each place of a path
-any_field : (octets : List ℕ) (path : Path) (len k : ℕ) → BeginsWithPath octets path len → k < 2 + repeater_count path → (call : Callsign) × (top : Bool) × IsField call top (eqb (k + 1) (2 + repeater_count path)) (field_at octets k)
+any_field : (octets : List ℕ) (path : Path) (len k : ℕ) → BeginsWithPath octets path len → k < 2 + repeater_count path
+    → (call : Callsign) × (top : Bool) × IsField call top (eqb (k + 1) (2 + repeater_count path)) (field_at octets k)
 any_field octets path len zero h below =
     let size : 14 ≤ len = omega (arith, h.1.size, length-take-le len octets h.0) in
     let open_field : eqb (0 + 1) (2 + repeater_count path) ≡ false = grind (arith, nat_tests) in
@@ -135,9 +148,11 @@ any_field octets path len (suc zero) h below =
 any_field octets path len (suc (suc k)) h below =
     let size : len ≡ 14 + 7 * repeater_count path = omega (arith, h.1.size, length-take-le len octets h.0) in
     let hop : Hop = get_or path.repeaters.items k (record { call = path.dest; done = false }) in
-    let flag : eqb (suc (suc k) + 1) (2 + repeater_count path) ≡ eqb (k + 1) (repeater_count path) = grind (arith, nat_tests) in
+    let flag : eqb (suc (suc k) + 1) (2 + repeater_count path) ≡ eqb (k + 1) (repeater_count path) =
+        grind (arith, nat_tests) in
     let place : suc (suc k) ≡ k + 2 = omega arith in
-    (hop.call, hop.done, rw (flag, place, ← field_at-take octets len (k + 2) (omega arith)) (h.1.repeaters k (record { call = path.dest; done = false }) (omega arith)))
+    (hop.call, hop.done, rw (flag, place, ← field_at-take octets len (k + 2) (omega arith))
+        (h.1.repeaters k (record { call = path.dest; done = false }) (omega arith)))
 
 EndsAt-path : (octets : List ℕ) (path : Path) (len : ℕ) → BeginsWithPath octets path len → EndsAt octets len
 EndsAt-path octets path len h =
@@ -155,7 +170,8 @@ EndsAt-path octets path len h =
             character = λ name. HasNameUpTo-field f.0 f.1 _ octets k f.2 at (omega arith) (omega arith) (omega arith);
             end_bit = λ six.
                 let here : at ≡ 7 * k + 6 = omega arith in
-                let open_field : eqb (k + 1) (2 + count) ≡ false = let inside : k + 1 < 2 + count = omega arith in grind (arith, nat_tests) in
+                let open_field : eqb (k + 1) (2 + count) ≡ false = let inside : k + 1 < 2 + count = omega arith in
+                    grind (arith, nat_tests) in
                 ap (λ n. get_or octets n 0 % 2) here ∙ field_end f.0 f.1 _ octets k f.2 ∙ ap bit open_field;
           };
       end_bit =
@@ -170,7 +186,8 @@ StopsAt-path octets len h = record {
   within = omega (arith, h.whole);
   few = omega (arith, h.most);
   before = h.before;
-  stops = inr (inr (λ on. let even : get_or octets (len - 1) 0 % 2 ≡ 0 = on.end_bit (omega (arith, h.fields, h.least)) in omega (arith, h.end_bit)));
+  stops = inr (inr (λ on. let even : get_or octets (len - 1) 0 % 2 ≡ 0 =
+      on.end_bit (omega (arith, h.fields, h.least)) in omega (arith, h.end_bit)));
 }
 
 -- where a fault stops
@@ -183,7 +200,8 @@ fault_place NoEnd = 70
 StopsAt-fault : (octets : List ℕ) (fault : AddrFault) → ShowsFault octets fault → StopsAt octets (fault_place fault)
 unfolding fault_place
 StopsAt-fault octets (Short at) h = record { within = omega arith; few = omega arith; before = h.2; stops = inl h.0 }
-StopsAt-fault octets (BadChar at) h = record { within = omega arith; few = omega arith; before = h.3; stops = inr (inr (λ on. h.4 (on.character h.2))) }
+StopsAt-fault octets (BadChar at) h = record { within = omega arith; few = omega arith; before = h.3;
+    stops = inr (inr (λ on. h.4 (on.character h.2))) }
 StopsAt-fault octets OneAddress h = record {
   within = omega arith;
   few = omega arith;
@@ -192,7 +210,8 @@ StopsAt-fault octets OneAddress h = record {
 }
 StopsAt-fault octets NoEnd h = record { within = omega arith; few = omega arith; before = h.1; stops = inr (inl refl) }
 
-one_fault : (octets : List ℕ) (a b : AddrFault) → ShowsFault octets a → ShowsFault octets b → fault_place a ≡ fault_place b → a ≡ b
+one_fault : (octets : List ℕ) (a b : AddrFault) → ShowsFault octets a → ShowsFault octets b
+    → fault_place a ≡ fault_place b → a ≡ b
 unfolding fault_place
 one_fault octets (Short at) (Short to) h g e = ap Short e
 one_fault octets (Short at) (BadChar to) h g e = absurd (omega arith)
@@ -213,9 +232,11 @@ one_fault octets NoEnd NoEnd h g e = refl
 
 -- octets show at most one fault
 pub ShowsFault-same : (octets : List ℕ) (a b : AddrFault) → ShowsFault octets a → ShowsFault octets b → a ≡ b
-ShowsFault-same octets a b h g = one_fault octets a b h g (same_place octets _ _ (StopsAt-fault octets a h) (StopsAt-fault octets b g))
+ShowsFault-same octets a b h g = one_fault octets a b h g
+    (same_place octets _ _ (StopsAt-fault octets a h) (StopsAt-fault octets b g))
 
-end_is_no_fault : (octets : List ℕ) (len : ℕ) (fault : AddrFault) → EndsAt octets len → ShowsFault octets fault → len - 1 ≡ fault_place fault → ⊥
+end_is_no_fault : (octets : List ℕ) (len : ℕ) (fault : AddrFault) → EndsAt octets len → ShowsFault octets fault
+    → len - 1 ≡ fault_place fault → ⊥
 unfolding fault_place
 end_is_no_fault octets len (Short at) h g e = omega (arith, h.whole, h.least)
 end_is_no_fault octets len (BadChar at) h g e = omega (arith, h.fields, h.least)
@@ -223,13 +244,16 @@ end_is_no_fault octets len OneAddress h g e = omega (arith, h.least)
 end_is_no_fault octets len NoEnd h g e = omega (arith, h.most)
 
 -- and none if they begin with a path
-pub no_fault : (octets : List ℕ) (path : Path) (len : ℕ) (fault : AddrFault) → BeginsWithPath octets path len → ShowsFault octets fault → ⊥
+pub no_fault : (octets : List ℕ) (path : Path) (len : ℕ) (fault : AddrFault) → BeginsWithPath octets path len
+    → ShowsFault octets fault → ⊥
 no_fault octets path len fault h g =
     let end : EndsAt octets len = EndsAt-path octets path len h in
-    end_is_no_fault octets len fault end g (same_place octets _ _ (StopsAt-path octets len end) (StopsAt-fault octets fault g))
+    end_is_no_fault octets len fault end g (same_place octets _ _ (StopsAt-path octets len end)
+        (StopsAt-fault octets fault g))
 
 -- octets begin with at most one path
-pub BeginsWithPath-same : (octets : List ℕ) (p q : Path) (m n : ℕ) → BeginsWithPath octets p m → BeginsWithPath octets q n → (p ≡ q) × (m ≡ n)
+pub BeginsWithPath-same : (octets : List ℕ) (p q : Path) (m n : ℕ) → BeginsWithPath octets p m
+    → BeginsWithPath octets q n → (p ≡ q) × (m ≡ n)
 BeginsWithPath-same octets p q m n h g =
     let a : EndsAt octets m = EndsAt-path octets p m h in
     let b : EndsAt octets n = EndsAt-path octets q n g in
@@ -248,13 +272,15 @@ pub record IsOneReading (octets : List ℕ) (reading : Reading) : Type 0 where
   pub each_path : (path : Path) (len : ℕ) → BeginsWithPath octets path len → reading ≡ Ok (path, len)
   pub each_fault : (fault : AddrFault) → ShowsFault octets fault → reading ≡ Err fault
 
-pub IsOneReading-path : (octets : List ℕ) (p : Path) (m : ℕ) → BeginsWithPath octets p m → IsOneReading octets (Ok (p, m))
+pub IsOneReading-path : (octets : List ℕ) (p : Path) (m : ℕ) → BeginsWithPath octets p m
+    → IsOneReading octets (Ok (p, m))
 IsOneReading-path octets p m h =
     let ok : Path → ℕ → Reading = λ q n. Ok (q, n) in
     record {
       path = h;
       fault = tt;
-      each_path = λ path len g. let same = BeginsWithPath-same octets p path m len h g in ap (λ q. ok q m) same.0 ∙ ap (λ n. ok path n) same.1;
+      each_path = λ path len g. let same = BeginsWithPath-same octets p path m len h g in ap (λ q. ok q m) same.0
+          ∙ ap (λ n. ok path n) same.1;
       each_fault = λ fault g. absurd (no_fault octets p m fault h g);
     }
 

@@ -1,5 +1,6 @@
 -- Paths field by field.
-use Rattle.std.proofs.Common.{◌≡◌, ℕ, ◌+◌, ◌-◌, ◌*◌, ◌<◌, ◌≤◌, ◌++◌, List, [], ◌∷◌, length, get_or, take, drop, sym, ap, arith, inl, inr, ◌∙◌, Bool, true, false, eqb}
+use Rattle.std.proofs.Common.{◌≡◌, ℕ, ◌+◌, ◌-◌, ◌*◌, ◌<◌, ◌≤◌, ◌++◌, List, [], ◌∷◌, length, get_or, take, drop, sym, ap,
+    arith, inl, inr, ◌∙◌, Bool, true, false, eqb}
 use Rattle.std.proofs.lemmas.List.{length_push, get_or_append_left, get_or_push, drop-take, take-take, length-take-le}
 use Rattle.std.proofs.lemmas.Bool.{cases_lt}
 use Rattle.std.proofs.lemmas.Bool.Decides.{nat_tests}
@@ -17,17 +18,22 @@ pub record AreOpenRepeaters (hops : List Hop) (k : ℕ) (octets : List ℕ) : Ty
   pub count : length hops + 2 ≡ k
   pub few : k ≤ 10
   pub whole : 7 * k ≤ length octets
-  pub fields : (j : ℕ) (d : Hop) → j < length hops → let hop = get_or hops j d in IsField hop.call hop.done false (field_at octets (j + 2))
+  pub fields : (j : ℕ) (d : Hop) → j < length hops → let hop = get_or hops j d in
+      IsField hop.call hop.done false (field_at octets (j + 2))
   pub goes_on : GoesOnFor octets (7 * k)
 
 last_flag : (j : ℕ) (hops : List Hop) (new : Hop) → j < length hops → eqb (j + 1) (length (hops ++ new ∷ [])) ≡ false
-last_flag j hops new earlier = let n : length (hops ++ new ∷ []) ≡ length hops + 1 = length_push hops new in grind (arith, nat_tests)
+last_flag j hops new earlier = let n : length (hops ++ new ∷ []) ≡ length hops + 1 = length_push hops new in
+    grind (arith, nat_tests)
 
 end_flag : (j : ℕ) (hops : List Hop) (new : Hop) → j ≡ length hops → eqb (j + 1) (length (hops ++ new ∷ [])) ≡ true
-end_flag j hops new here = let n : length (hops ++ new ∷ []) ≡ length hops + 1 = length_push hops new in grind (arith, nat_tests)
+end_flag j hops new here = let n : length (hops ++ new ∷ []) ≡ length hops + 1 = length_push hops new in
+    grind (arith, nat_tests)
 
 -- a field with the end bit ends the repeaters
-pub AreRepeaters-push : (hops : List Hop) (k : ℕ) (octets : List ℕ) (call : Callsign) (top : Bool) → AreOpenRepeaters hops k octets → k < 10 → IsField call top true (field_at octets k) → let new : Hop = record { call = call; done = top } in AreRepeaters (hops ++ new ∷ []) (7 * k + 7) octets
+pub AreRepeaters-push : (hops : List Hop) (k : ℕ) (octets : List ℕ) (call : Callsign) (top : Bool)
+    → AreOpenRepeaters hops k octets → k < 10 → IsField call top true (field_at octets k)
+    → let new : Hop = record { call = call; done = top } in AreRepeaters (hops ++ new ∷ []) (7 * k + 7) octets
 AreRepeaters-push hops k octets call top h few field =
     let new : Hop = record { call = call; done = top } in
     let n : length (hops ++ new ∷ []) ≡ length hops + 1 = length_push hops new in
@@ -37,7 +43,8 @@ AreRepeaters-push hops k octets call top h few field =
       size = omega (arith, h.count);
       whole = whole_field call top true octets k field;
       fields = λ j d below. elim (cases_lt j (length hops)) [
-        | inl earlier ↦ rw (get_or_append_left hops (new ∷ []) d j earlier, last_flag j hops new earlier) (h.fields j d earlier)
+        | inl earlier ↦ rw (get_or_append_left hops (new ∷ []) d j earlier, last_flag j hops new earlier)
+            (h.fields j d earlier)
         | inr from ↦ (let here : j ≡ length hops = omega arith in
             let place : j + 2 ≡ k = omega (arith, h.count) in
             rw (get_or_push hops new d j (sym here), end_flag j hops new here, place) field)
@@ -45,7 +52,9 @@ AreRepeaters-push hops k octets call top h few field =
     }
 
 -- a field without it goes on
-pub AreOpenRepeaters-push : (hops : List Hop) (k : ℕ) (octets : List ℕ) (call : Callsign) (top : Bool) → AreOpenRepeaters hops k octets → k < 10 → IsField call top false (field_at octets k) → let new : Hop = record { call = call; done = top } in AreOpenRepeaters (hops ++ new ∷ []) (k + 1) octets
+pub AreOpenRepeaters-push : (hops : List Hop) (k : ℕ) (octets : List ℕ) (call : Callsign) (top : Bool)
+    → AreOpenRepeaters hops k octets → k < 10 → IsField call top false (field_at octets k)
+    → let new : Hop = record { call = call; done = top } in AreOpenRepeaters (hops ++ new ∷ []) (k + 1) octets
 AreOpenRepeaters-push hops k octets call top h few field =
     let new : Hop = record { call = call; done = top } in
     let n : length (hops ++ new ∷ []) ≡ length hops + 1 = length_push hops new in
@@ -67,10 +76,18 @@ AreOpenRepeaters-push hops k octets call top h few field =
 pub field_at-take : (octets : List ℕ) (len k : ℕ) → 7 * k + 7 ≤ len → field_at (take len octets) k ≡ field_at octets k
 field_at-take octets len k h =
     let parts : 7 * k + (len - 7 * k) ≡ len = omega arith in
-    ap (λ n. take 7 (drop (7 * k) (take n octets))) (sym parts) ∙ ap (λ xs. take 7 xs) (drop-take (7 * k) (len - 7 * k) octets) ∙ take-take 7 (len - 7 * k) (drop (7 * k) octets) (omega arith)
+    ap (λ n. take 7 (drop (7 * k) (take n octets))) (sym parts)
+        ∙ ap (λ xs. take 7 xs) (drop-take (7 * k) (len - 7 * k) octets)
+        ∙ take-take 7 (len - 7 * k) (drop (7 * k) octets) (omega arith)
 
 -- the fields at the front of the octets are a path that they begin with
-pub BeginsWithPath-fields : (octets : List ℕ) (path : Path) (len : ℕ) → repeater_count path ≤ 8 → len ≡ 14 + 7 * repeater_count path → len ≤ length octets → IsField path.dest (destination_bit path.role) false (field_at octets 0) → IsField path.source (source_bit path.role) (eqb (repeater_count path) 0) (field_at octets 1) → ((k : ℕ) (d : Hop) → k < repeater_count path → let hop = get_or path.repeaters.items k d in IsField hop.call hop.done (eqb (k + 1) (repeater_count path)) (field_at octets (k + 2))) → BeginsWithPath octets path len
+pub BeginsWithPath-fields : (octets : List ℕ) (path : Path) (len : ℕ) → repeater_count path ≤ 8
+    → len ≡ 14 + 7 * repeater_count path → len ≤ length octets
+    → IsField path.dest (destination_bit path.role) false (field_at octets 0)
+    → IsField path.source (source_bit path.role) (eqb (repeater_count path) 0) (field_at octets 1)
+    → ((k : ℕ) (d : Hop) → k < repeater_count path → let hop = get_or path.repeaters.items k d in
+    IsField hop.call hop.done (eqb (k + 1) (repeater_count path)) (field_at octets (k + 2)))
+    → BeginsWithPath octets path len
 BeginsWithPath-fields octets path len few size whole dest source hops = (
   whole,
   record {

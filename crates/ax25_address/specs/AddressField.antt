@@ -1,4 +1,5 @@
--- One address field, after AX.25 2.2 section 3.12: the six characters of a call, each shifted left by one, and the SSID octet.
+-- One address field, after AX.25 2.2 section 3.12: the six characters of a call, each shifted left by one, and the SSID
+-- octet.
 use Rattle.std.specs.Prelude.{◌≡◌, ℕ, ◌+◌, ◌*◌, ◌<◌, Bool, true, false, List, [], ◌∷◌, ◌++◌, map}
 use Rattle.ax25_address.specs.Callsign.{Callsign, IsCall, padded}
 

@@ -15,7 +15,9 @@ HasNameUpTo octets start n = (at : ℕ) → start ≤ at → at < n → at < sta
 
 -- the fault that the field shows
 abbrev pub IsFieldFault : List ℕ → ℕ → AddrFault → Type 0
-IsFieldFault octets start (Short at) = (at ≡ length octets) × (start ≤ at) × (at < start + 7) × HasNameUpTo octets start at
-IsFieldFault octets start (BadChar at) = (at < length octets) × (start ≤ at) × (at < start + 6) × HasNameUpTo octets start at × ¬ IsNamePlace octets at
+IsFieldFault octets start (Short at) = (at ≡ length octets) × (start ≤ at) × (at < start + 7)
+    × HasNameUpTo octets start at
+IsFieldFault octets start (BadChar at) = (at < length octets) × (start ≤ at) × (at < start + 6)
+    × HasNameUpTo octets start at × ¬ IsNamePlace octets at
 IsFieldFault octets start OneAddress = ⊥
 IsFieldFault octets start NoEnd = ⊥

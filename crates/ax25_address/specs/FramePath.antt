@@ -1,7 +1,9 @@
--- A path in octets, after AX.25 2.2 section 3.12: destination, source and, as this project has it, up to eight repeaters.
+-- A path in octets, after AX.25 2.2 section 3.12: destination, source and, as this project has it, up to eight
+-- repeaters.
 -- The end bit stands on the last field alone, the C bits of the first two tell the role, and each H bit whether that
 -- repeater has repeated the frame.
-use Rattle.std.specs.Prelude.{◌≡◌, ℕ, ◌+◌, ◌*◌, ◌<◌, ◌≤◌, ◌==◌, Bool, true, false, List, length, map, reverse, take, drop, slice_index_or}
+use Rattle.std.specs.Prelude.{◌≡◌, ℕ, ◌+◌, ◌*◌, ◌<◌, ◌≤◌, ◌==◌, Bool, true, false, List, length, map, reverse, take,
+    drop, slice_index_or}
 use Rattle.ax25_address.specs.Callsign.{Callsign}
 use Rattle.ax25_address.specs.AddressField.{IsField, IsWrittenField}
 use Rattle.ax25_address.specs.declared.path.Path.{Path}
@@ -35,7 +37,9 @@ pub record AreFields (F : Callsign → Bool → Bool → List ℕ → Type 0) (p
   pub size : length octets ≡ 14 + 7 * repeater_count path
   pub destination : F path.dest (destination_bit path.role) false (field_at octets 0)
   pub source : F path.source (source_bit path.role) (repeater_count path == 0) (field_at octets 1)
-  pub repeaters : (k : ℕ) (d : Hop) → k < repeater_count path → let hop = slice_index_or path.repeaters.items k d in F hop.call hop.done (k + 1 == repeater_count path) (field_at octets (k + 2))
+  pub repeaters : (k : ℕ) (d : Hop) → k < repeater_count path
+      → let hop = slice_index_or path.repeaters.items k d in
+      F hop.call hop.done (k + 1 == repeater_count path) (field_at octets (k + 2))
 
 -- octets that are read as a path
 abbrev pub IsPath : Path → List ℕ → Type 0

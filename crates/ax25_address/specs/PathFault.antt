@@ -33,6 +33,7 @@ GoesOnFor octets n = (at : ℕ) → at < n → GoesOn octets at
 -- character of a call, at a space that is the first of its field, and at a character after a space
 abbrev pub ShowsFault : List ℕ → AddrFault → Type 0
 ShowsFault octets (Short at) = (at ≡ length octets) × (at < 70) × GoesOnFor octets at
-ShowsFault octets (BadChar at) = (at < length octets) × (at < 70) × (at % 7 < 6) × GoesOnFor octets at × ¬ IsNamePlace octets at
+ShowsFault octets (BadChar at) = (at < length octets) × (at < 70) × (at % 7 < 6) × GoesOnFor octets at
+    × ¬ IsNamePlace octets at
 ShowsFault octets OneAddress = (6 < length octets) × GoesOnFor octets 6 × (slice_index octets 6 % 2 ≡ 1)
 ShowsFault octets NoEnd = (69 < length octets) × GoesOnFor octets 70

@@ -10,4 +10,5 @@ pub record AreRepeaters (hops : List Hop) (len : ℕ) (octets : List ℕ) : Type
   pub count : length hops ≤ 8
   pub size : len ≡ 14 + 7 * length hops
   pub whole : len ≤ length octets
-  pub fields : (k : ℕ) (d : Hop) → k < length hops → let hop = slice_index_or hops k d in IsField hop.call hop.done (k + 1 == length hops) (field_at octets (k + 2))
+  pub fields : (k : ℕ) (d : Hop) → k < length hops → let hop = slice_index_or hops k d in
+      IsField hop.call hop.done (k + 1 == length hops) (field_at octets (k + 2))

@@ -1,4 +1,5 @@
--- The control field of a frame, after AX.25 2.2 section 4.2: one octet modulo 8, and modulo 128 two octets in I and S frames.
+-- The control field of a frame, after AX.25 2.2 section 4.2: one octet modulo 8, and modulo 128 two octets in I and S
+-- frames.
 use Rattle.std.specs.Prelude.{ℕ, ◌+◌, ◌*◌, ◌<◌, List, [], ◌∷◌}
 use Rattle.ax25_address.specs.AddressField.{bit}
 use Rattle.ax25_frames.specs.declared.frame.Modulus.{Modulus}

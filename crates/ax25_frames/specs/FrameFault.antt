@@ -1,4 +1,5 @@
--- Why octets are no frame, after AX.25 2.2 sections 3.1 and 4.2: the first fault in the order of address, control field,
+-- Why octets are no frame, after AX.25 2.2 sections 3.1 and 4.2: the first fault in the order of address, control
+-- field,
 -- PID and what follows. Places are counted from 0.
 use Rattle.std.specs.Prelude.{◌≡◌, ℕ, ◌+◌, ◌<◌, Bool, List, ◌∷◌, ◌++◌, length, drop}
 use Rattle.ax25_address.specs.FramePath.{BeginsWithPath}
@@ -10,7 +11,8 @@ use Rattle.ax25_frames.specs.declared.control.Control.{Control}
 use Rattle.ax25_frames.specs.declared.control.Control.TheVariants.{Info, Super, Unnumbered}
 use Rattle.ax25_frames.specs.declared.control.Unnumbered.TheVariants.{Setup, Ui, Other}
 use Rattle.ax25_frames.specs.declared.fault.FrameFault.{FrameFault}
-use Rattle.ax25_frames.specs.declared.fault.FrameFault.TheVariants.{Address, NoControl, NoPid, UnknownControl, InfoTooLong, StrayInfo, Memory}
+use Rattle.ax25_frames.specs.declared.fault.FrameFault.TheVariants.{Address, NoControl, NoPid, UnknownControl,
+    InfoTooLong, StrayInfo, Memory}
 
 -- a PID stands after this control field: in I and UI frames
 abbrev pub HasPid : Control → Type 0
@@ -47,7 +49,8 @@ pub record LacksPid (modulus : Modulus) (body : List ℕ) : Type 0 where
 pub record BeginsUnknown (modulus : Modulus) (body : List ℕ) (octet : ℕ) : Type 0 where
   pub rest : List ℕ
   pub first : body ≡ octet ∷ rest
-  pub unknown : (control : Control) (more : List ℕ) → IsNumbered modulus control → control_octets modulus control ≡ octet ∷ more → ⊥
+  pub unknown : (control : Control) (more : List ℕ) → IsNumbered modulus control
+      → control_octets modulus control ≡ octet ∷ more → ⊥
 
 -- an I frame with more information than N1 allows
 pub record IsTooLong (modulus : Modulus) (body : List ℕ) (len : ℕ) : Type 0 where

@@ -1,5 +1,6 @@
 -- A frame in octets, after AX.25 2.2 section 3.1: its path, its control field, a PID in I and UI frames alone, and
--- information, which RR, RNR, REJ, SREJ, SABM, SABME, DISC, DM and UA do not have. An I frame has at most 256 octets of it.
+-- information, which RR, RNR, REJ, SREJ, SABM, SABME, DISC, DM and UA do not have. An I frame has at most 256 octets of
+-- it.
 use Rattle.std.specs.Prelude.{◌≡◌, ℕ, ◌≤◌, List, [], ◌∷◌, ◌++◌, length, drop}
 use Rattle.ax25_address.specs.FramePath.{BeginsWithPath, IsWrittenPath}
 use Rattle.ax25_frames.specs.ControlField.{control_octets, IsNumbered}
@@ -8,8 +9,10 @@ use Rattle.ax25_frames.specs.declared.frame.Frame.{Frame}
 use Rattle.ax25_frames.specs.declared.frame.Kind.{Kind}
 use Rattle.ax25_frames.specs.declared.frame.Kind.TheVariants.{Info, Super, Setup, Ui, Other}
 use Rattle.ax25_frames.specs.declared.control.Control.{Control}
-use Rattle.ax25_frames.specs.declared.control.Control.TheVariants.{Info as InfoControl, Super as SuperControl, Unnumbered}
-use Rattle.ax25_frames.specs.declared.control.Unnumbered.TheVariants.{Setup as SetupFrame, Ui as UiFrame, Other as OtherFrame}
+use Rattle.ax25_frames.specs.declared.control.Control.TheVariants.{Info as InfoControl, Super as SuperControl,
+    Unnumbered}
+use Rattle.ax25_frames.specs.declared.control.Unnumbered.TheVariants.{Setup as SetupFrame, Ui as UiFrame,
+    Other as OtherFrame}
 
 -- the control field of a kind of frame
 abbrev pub control_of : Kind → Control

@@ -1,6 +1,8 @@
--- A frame as one line of text: `SOURCE>DEST,REPEATER*` and what the frame says. An asterisk stands after a repeater that
+-- A frame as one line of text: `SOURCE>DEST,REPEATER*` and what the frame says. An asterisk stands after a repeater
+-- that
 -- has repeated the frame, and information is in hexadecimal.
-use Rattle.std.specs.Prelude.{ℕ, ◌==◌, Bool, true, false, if◌then◌else◌, List, [], ◌∷◌, ◌++◌, length, flat_map, codes, decimal}
+use Rattle.std.specs.Prelude.{ℕ, ◌==◌, Bool, true, false, if◌then◌else◌, List, [], ◌∷◌, ◌++◌, length, flat_map, codes,
+    decimal}
 use Rattle.hex.specs.Hex.{encode_lower}
 use Rattle.ax25_address.specs.CallText.{text_of_call}
 use Rattle.ax25_address.specs.AddressField.{bit}
@@ -20,7 +22,8 @@ use Rattle.ax25_frames.specs.declared.frame.U.TheVariants.{Sabm, Sabme, Disc, Dm
 use Rattle.ax25_frames.specs.declared.frame.W.{W}
 use Rattle.ax25_frames.specs.declared.frame.W.TheVariants.{Frmr, Xid, Test}
 use Rattle.ax25_frames.specs.declared.fault.FrameFault.{FrameFault}
-use Rattle.ax25_frames.specs.declared.fault.FrameFault.TheVariants.{Address, NoControl, NoPid, UnknownControl, InfoTooLong, StrayInfo, Memory}
+use Rattle.ax25_frames.specs.declared.fault.FrameFault.TheVariants.{Address, NoControl, NoPid, UnknownControl,
+    InfoTooLong, StrayInfo, Memory}
 
 -- a frame is a command by its C bits
 abbrev pub has_command_bits : Role → Bool
@@ -55,7 +58,8 @@ hop_text hop = codes "," ++ text_of_call hop.call ++ (if hop.done then codes "*"
 
 -- a path
 abbrev pub path_text : Path → List ℕ
-path_text path = text_of_call path.source ++ codes ">" ++ text_of_call path.dest ++ flat_map hop_text path.repeaters.items
+path_text path = text_of_call path.source ++ codes ">" ++ text_of_call path.dest
+    ++ flat_map hop_text path.repeaters.items
 
 abbrev pub role_word : Bool → List ℕ
 role_word command = if command then codes "cmd" else codes "rsp"
@@ -90,16 +94,22 @@ pid_text pid = codes " pid=" ++ encode_lower (pid ∷ [])
 -- what a frame says
 abbrev pub kind_text : Bool → Kind → List ℕ
 kind_text command (Info ns nr poll pid octets) =
-    codes "I " ++ role_word command ++ codes " ns=" ++ decimal ns ++ codes " nr=" ++ decimal nr ++ codes " p=" ++ decimal (bit poll) ++ pid_text pid ++ information_text octets
+    codes "I " ++ role_word command ++ codes " ns=" ++ decimal ns ++ codes " nr=" ++ decimal nr ++ codes " p="
+        ++ decimal (bit poll) ++ pid_text pid ++ information_text octets
 kind_text command (Super which nr flag) =
-    supervisory_name which ++ codes " " ++ role_word command ++ codes " nr=" ++ decimal nr ++ codes " f=" ++ decimal (bit flag)
-kind_text command (Setup which flag) = setup_name which ++ codes " " ++ role_word command ++ codes " f=" ++ decimal (bit flag)
-kind_text command (Ui flag pid octets) = codes "UI " ++ role_word command ++ codes " f=" ++ decimal (bit flag) ++ pid_text pid ++ information_text octets
-kind_text command (Other which flag octets) = other_name which ++ codes " " ++ role_word command ++ codes " f=" ++ decimal (bit flag) ++ information_text octets
+    supervisory_name which ++ codes " " ++ role_word command ++ codes " nr=" ++ decimal nr ++ codes " f="
+        ++ decimal (bit flag)
+kind_text command (Setup which flag) = setup_name which ++ codes " " ++ role_word command ++ codes " f="
+    ++ decimal (bit flag)
+kind_text command (Ui flag pid octets) = codes "UI " ++ role_word command ++ codes " f=" ++ decimal (bit flag)
+    ++ pid_text pid ++ information_text octets
+kind_text command (Other which flag octets) = other_name which ++ codes " " ++ role_word command ++ codes " f="
+    ++ decimal (bit flag) ++ information_text octets
 
 -- the line of a frame
 abbrev pub text_of_frame : Frame → List ℕ
-text_of_frame frame = path_text frame.path ++ codes " " ++ kind_text (is_command_of frame.path.role frame.kind) frame.kind
+text_of_frame frame = path_text frame.path ++ codes " " ++ kind_text (is_command_of frame.path.role frame.kind)
+    frame.kind
 
 abbrev pub address_fault_text : AddrFault → List ℕ
 address_fault_text (Short at) = codes "! short at " ++ decimal at

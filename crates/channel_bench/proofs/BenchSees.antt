@@ -1,5 +1,7 @@
--- In a run of the bench each host program sees the set-ups of its link, and gives only while the link is up: part by part.
-use Rattle.std.proofs.Common.{◌≡◌, ℕ, zero, suc, ◌==◌, ◌&&◌, not, Bool, true, false, List, [], ◌∷◌, ◌++◌, length, replicate, Option, Some, None, is_some, refl, sym, ap, ◌∙◌, subst}
+-- In a run of the bench each host program sees the set-ups of its link, and gives only while the link is up: part by
+-- part.
+use Rattle.std.proofs.Common.{◌≡◌, ℕ, zero, suc, ◌==◌, ◌&&◌, not, Bool, true, false, List, [], ◌∷◌, ◌++◌, length,
+    replicate, Option, Some, None, is_some, refl, sym, ap, ◌∙◌, subst}
 use Rattle.std.specs.Prelude.{MatchBool}
 use Rattle.std.specs.List.{AllByRecursion as Each}
 use Rattle.std.specs.Option.{option_to_list}
@@ -14,11 +16,15 @@ use Rattle.station.specs.State.{StationState}
 use Rattle.channel_bench.specs.declared.report.SetUp.{SetUp}
 use Rattle.channel_bench.specs.declared.words.BenchWords.{BenchWords}
 use Rattle.channel_bench.specs.BenchOrder.{IsNoted, stations_of, the_calls}
-use Rattle.channel_bench.specs.BenchState.{AtEnd, BenchState, Near, SideState, near, new_bench, new_side, side_at, with_near}
-use Rattle.channel_bench.specs.BenchSteps.{AreHeardAt, GoesOn, IsHeardAs, IsHeardAt, IsStep, IsTicking, match_of, with_matched, with_stray}
-use Rattle.channel_bench.specs.BenchTick.{AcceptsProgram, IsAsked, IsAskedOrCalled, IsCalled, IsGiven, IsGivenPiece, IsListening, is_complete, with_asking, with_calling, with_giving}
+use Rattle.channel_bench.specs.BenchState.{AtEnd, BenchState, Near, SideState, near, new_bench, new_side, side_at,
+    with_near}
+use Rattle.channel_bench.specs.BenchSteps.{AreHeardAt, GoesOn, IsHeardAs, IsHeardAt, IsStep, IsTicking, match_of,
+    with_matched, with_stray}
+use Rattle.channel_bench.specs.BenchTick.{AcceptsProgram, IsAsked, IsAskedOrCalled, IsCalled, IsGiven, IsGivenPiece,
+    IsListening, is_complete, with_asking, with_calling, with_giving}
 use Rattle.channel_bench.specs.HostProgram.{ProgramState, has_all, has_all_in, next_piece}
-use Rattle.channel_bench.specs.InFlight.{AreMatched, BothWays, LinkFrame, Moment, after_moment, after_moments, nothing_sent, sent_by, steps_in}
+use Rattle.channel_bench.specs.InFlight.{AreMatched, BothWays, LinkFrame, Moment, after_moment, after_moments,
+    nothing_sent, sent_by, steps_in}
 use Rattle.channel_bench.specs.InFlight.Moment.{Passes, Steps}
 use Rattle.channel_bench.specs.JointRun.{Step, Stations, state_of, with_state}
 use Rattle.channel_bench.specs.LinkSteps.{LinkStep}
@@ -58,12 +64,14 @@ pub record Holds (w : BenchWords) (bench : BenchState) : Type 0 where
 
 -- ---- fewer moments
 
-pub matched_front : (moments : List Moment) (moment : Moment) (ways : BothWays) → AreMatched (moments ++ moment ∷ []) ways
+pub matched_front : (moments : List Moment) (moment : Moment) (ways : BothWays)
+    → AreMatched (moments ++ moment ∷ []) ways
     → AreMatched moments ways
 matched_front [] moment ways h = tt
 matched_front (first ∷ moments) moment ways h = (h.0, matched_front moments moment (after_moment first ways) h.1)
 
-room_before : (steps : List Step) (step : Step) → AsksFindRoom the_calls (steps ++ step ∷ []) → AsksFindRoom the_calls steps
+room_before : (steps : List Step) (step : Step) → AsksFindRoom the_calls (steps ++ step ∷ [])
+    → AsksFindRoom the_calls steps
 room_before [] step h = tt
 room_before (first ∷ steps) step h = (h.0, room_before steps step h.1)
 
@@ -133,7 +141,8 @@ state_now : (e : End) (state : StationState) (s : Stations) → state ≡ state_
 state_now A state s = refl
 state_now B state s = refl
 
-state_again : (e : End) (one two : StationState) (s : Stations) → with_state e two (with_state e one s) ≡ with_state e two s
+state_again : (e : End) (one two : StationState) (s : Stations)
+    → with_state e two (with_state e one s) ≡ with_state e two s
 state_again A one two s = refl
 state_again B one two s = refl
 
@@ -141,7 +150,8 @@ holds_of :
     (w : BenchWords) (bench : BenchState) (e : End) (n : Near)
     → IsNoted w n.common.moments (with_state e n.side.station (stations_of bench))
     → AskLittle n.common.moments (with_state e n.side.station (stations_of bench))
-    → (Premises n.common.moments → BothSee w e n.side (side_at (other e) bench) n.common.moments) → HoldsNear w bench e n
+    → (Premises n.common.moments → BothSee w e n.side (side_at (other e) bench) n.common.moments)
+        → HoldsNear w bench e n
 holds_of w bench A n noted little both = record {
   noted = noted;
   little = little;
@@ -203,7 +213,8 @@ pub near_holds :
 near_holds w bench e usual matched before after occurs h calm holds ready =
     stepped_holds w bench e usual matched before after occurs h calm holds
     (λ known later old.
-    step_sees w e usual matched before after (side_at (other e) bench) (with_state e before.side.station (stations_of bench))
+    step_sees w e usual matched before after (side_at (other e) bench)
+        (with_state e before.side.station (stations_of bench))
     occurs h (state_now e before.side.station (stations_of bench)) known later (both_of w bench e before holds old)
     (ready old))
 
@@ -344,7 +355,8 @@ pub reprogrammed :
     → (next.a.program.calls ≡ true → bench.a.program.calls ≡ true)
     → next.b.program.ended ≡ bench.b.program.ended → next.b.program.running ≡ bench.b.program.running
     → (next.b.program.calls ≡ true → bench.b.program.calls ≡ true) → Holds w bench → Holds w next
-reprogrammed w bench next moments a b there_a there_b stream_a stream_b ended_a running_a calls_a ended_b running_b calls_b h =
+reprogrammed w bench next moments a b there_a there_b stream_a stream_b ended_a running_a calls_a ended_b running_b
+    calls_b h =
     let stations : stations_of next ≡ stations_of bench =
     ap (λ x. let s : Stations = record { a = x; b = next.b.station } in s) a
     ∙ ap (λ x. let s : Stations = record { a = bench.a.station; b = x } in s) b in
@@ -354,10 +366,12 @@ reprogrammed w bench next moments a b there_a there_b stream_a stream_b ended_a 
       little = subst (λ ms. AskLittle ms (stations_of next)) (sym moments)
           (subst (AskLittle bench.common.moments) (sym stations) h.little);
       sees_a = λ p. subst (SeesAt w A next.a) (sym moments)
-          (resees w A bench.a next.a (links_of A bench.common.moments) (queue_of A bench.common.moments) a there_a stream_a
+          (resees w A bench.a next.a (links_of A bench.common.moments) (queue_of A bench.common.moments)
+              a there_a stream_a
           ended_a running_a calls_a (h.sees_a (subst Premises moments p)));
       sees_b = λ p. subst (SeesAt w B next.b) (sym moments)
-          (resees w B bench.b next.b (links_of B bench.common.moments) (queue_of B bench.common.moments) b there_b stream_b
+          (resees w B bench.b next.b (links_of B bench.common.moments) (queue_of B bench.common.moments)
+              b there_b stream_b
           ended_b running_b calls_b (h.sees_b (subst Premises moments p)));
     }
 
@@ -365,18 +379,22 @@ reprogrammed w bench next moments a b there_a there_b stream_a stream_b ended_a 
 complete_ready : (w : BenchWords) (bench : BenchState) → is_complete w bench ≡ true
     → GaveAll w.octets bench.a.program × (is_some bench.a.program.running ≡ true)
 complete_ready w bench is =
-    let both = and_parts (not bench.a.program.asked) (has_all w.octets bench.a.program && has_all w.octets bench.b.program) is in
-    go bench.a.program.running (and_parts (has_all w.octets bench.a.program) (has_all w.octets bench.b.program) both.1).0
+    let both = and_parts (not bench.a.program.asked) (has_all w.octets bench.a.program
+        && has_all w.octets bench.b.program) is in
+    go bench.a.program.running (and_parts (has_all w.octets bench.a.program) (has_all w.octets bench.b.program)
+        both.1).0
   where
     go : (o : Option SetUp) → has_all_in w.octets o ≡ true → GaveAllIn w.octets o × (is_some o ≡ true)
     go None h = absurd (cc)
     go (Some q) h =
-        (eqb-true (length q.given) w.octets (and_parts (length q.given == w.octets) (length q.got == w.octets) h).0, refl)
+        (eqb-true (length q.given) w.octets (and_parts (length q.given == w.octets) (length q.got == w.octets) h).0,
+            refl)
 
 asked_holds :
     (w : BenchWords) (complete calls : Bool) (before after : BenchState) → is_complete w before ≡ complete
     → before.a.program.calls ≡ calls
-    → MatchBool complete (IsAsked before after) (MatchBool calls (IsCalled before after) (after ≡ before)) → IsCalm after
+    → MatchBool complete (IsAsked before after) (MatchBool calls (IsCalled before after) (after ≡ before))
+        → IsCalm after
     → Holds w before → Holds w after
 asked_holds w true calls before after is calls_is h calm holds =
     let bench = with_asking before in
@@ -389,7 +407,8 @@ asked_holds w false true before after is calls_is h calm holds =
     at_end_holds w A (IsStep A (input_of A connects) None) bench after
     (λ next step c kept. near_holds w bench A connects None (near A bench) next tt step c kept
     (λ p. (refl, (holds.sees_a p).calls calls_is))) h calm
-    (reprogrammed w before bench refl refl refl refl refl refl refl refl refl (λ x. absurd (cc)) refl refl (λ x. x) holds)
+    (reprogrammed w before bench refl refl refl refl refl refl refl refl refl (λ x. absurd (cc)) refl refl (λ x. x)
+        holds)
 asked_holds w false false before after is calls_is h calm holds = subst (Holds w) (sym h) holds
 
 pub asks_or_calls_holds : (w : BenchWords) (before after : BenchState) → IsAskedOrCalled w before after → IsCalm after

@@ -1,4 +1,5 @@
--- The law in the terms of host programs: what it asks of the events of a link follows from what hosts ask and from the counts
+-- The law in the terms of host programs: what it asks of the events of a link follows from what hosts ask and from the
+-- counts
 -- of dropped frames.
 use Rattle.std.proofs.Common.{◌≡◌, List, [], ◌∷◌, refl, sym, ap, ◌∙◌}
 use Rattle.std.specs.List.{AllByRecursion as Each}
@@ -13,7 +14,8 @@ use Rattle.station.specs.State.{StationState}
 use Rattle.channel_bench.specs.CallerLaw.{BAsksNothing, DroppedNothing, CallerLaw}
 use Rattle.channel_bench.specs.HostsAsk.{InputAsksNothing}
 use Rattle.channel_bench.specs.InFlight.{steps_in}
-use Rattle.channel_bench.specs.JointRun.{Step, Stations, new_stations, state_of, with_state, stepped, IsJointRun, all_stepped}
+use Rattle.channel_bench.specs.JointRun.{Step, Stations, new_stations, state_of, with_state, stepped, IsJointRun,
+    all_stepped}
 use Rattle.channel_bench.specs.LinkOfCalls.{Calls, link_at_end}
 use Rattle.channel_bench.specs.LinkSteps.{LinkStep, steps_of}
 use Rattle.channel_bench.specs.MatchedLaw.{DropsNoAsk, FindsRoom, IsOfNoHost, IsEventOfCaller, OnlyACalls}
@@ -33,7 +35,8 @@ before_zero A state s h none_lost = record { a = none_lost; b = h.b }
 before_zero B state s h none_lost = record { a = h.a; b = none_lost }
 
 pub events_by :
-    (e : End) (calls : Calls) (step : Step) → step.station ≡ e → (step.station ≡ B → InputAsksNothing step.input step.before)
+    (e : End) (calls : Calls) (step : Step) → step.station ≡ e
+        → (step.station ≡ B → InputAsksNothing step.input step.before)
     → Each (AsksFindRoomAt e) (steps_of (link_at_end calls e) step)
     → Each (IsEventOfCaller e) (steps_of (link_at_end calls e) step)
 events_by A calls step station asks room = room
@@ -62,7 +65,8 @@ caller_holds :
 caller_holds calls [] st run none_lost asks = record { only = tt; before = none_lost }
 caller_holds calls (step ∷ steps) st run none_lost asks =
     let e = step.station in
-    let rest : CallerHolds calls steps (stepped step st) = caller_holds calls steps (stepped step st) run.1 none_lost asks.1 in
+    let rest : CallerHolds calls steps (stepped step st) =
+        caller_holds calls steps (stepped step st) run.1 none_lost asks.1 in
     let done : DropsNothing (link_at_end calls e) step =
     drops_nothing (link_at_end calls e) step (after_zero e step.after.now st rest.before) in
     record {
@@ -72,7 +76,8 @@ caller_holds calls (step ∷ steps) st run none_lost asks =
             (each_weaker DropsNoAsk (AsksFindRoomAt e) (room_at e) (steps_of (link_at_end calls e) step) done.joined)),
         rest.only,
       );
-      before = before_zero e step.after.now st rest.before (ap (λ (s : StationState). s.dropped) (sym run.0) ∙ done.before);
+      before = before_zero e step.after.now st rest.before (ap (λ (s : StationState). s.dropped) (sym run.0)
+          ∙ done.before);
     }
 
 pub caller_law_holds : ChangesLaw → CallerLaw

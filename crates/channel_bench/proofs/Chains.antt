@@ -1,6 +1,8 @@
--- The events of a link at a station, each with the machine that the event before it left: what they tell, and how the link
+-- The events of a link at a station, each with the machine that the event before it left: what they tell, and how the
+-- link
 -- stands then.
-use Rattle.std.proofs.Common.{◌≡◌, ◌||◌, Bool, true, false, List, [], ◌∷◌, ◌++◌, map, if◌then◌else◌, cond, Option, Some, None, refl, sym, ap, ◌∙◌, subst}
+use Rattle.std.proofs.Common.{◌≡◌, ◌||◌, Bool, true, false, List, [], ◌∷◌, ◌++◌, map, if◌then◌else◌, cond, Option, Some,
+    None, refl, sym, ap, ◌∙◌, subst}
 use Rattle.std.specs.Bool.{⊤}
 use Rattle.std.specs.List.{AllByRecursion as Each}
 use Rattle.std.proofs.lemmas.Bool.{or_left, or_right}
@@ -18,7 +20,8 @@ use Rattle.link_machine.specs.Turn.{Turn, begin}
 use Rattle.channel_bench.specs.LinkSteps.{LinkStep}
 use Rattle.channel_bench.specs.LinksTell.{RunsIn, runs_after}
 use Rattle.channel_bench.specs.RunsTell.{AllToldInOne, runs_behind, told_in}
-use Rattle.channel_bench.proofs.LinkDid.{Closes, DidIn, HearsAsk, HearsWrong, IsOfLink, Steps, is_connect, is_disconnect, step_steps}
+use Rattle.channel_bench.proofs.LinkDid.{Closes, DidIn, HearsAsk, HearsWrong, IsOfLink, Steps, is_connect,
+    is_disconnect, step_steps}
 use Rattle.channel_bench.proofs.LinkDid.Closes.{releases, stays}
 use Rattle.channel_bench.proofs.LinkDid.Did.{calls, ends, gives, is_called, opens, resets, wishes}
 use Rattle.channel_bench.proofs.LinkDid.Steps.{made, refused}
@@ -198,10 +201,12 @@ wish_stands Calling quit has = absurd has
 wish_stands Up quit has = λ wish. refl
 wish_stands Releasing quit has = refl
 
-quit_calling : (asked : Bool) (state : LinkState) (quit : Bool) → state ≡ Calling → StandsAsked asked state quit → quit ≡ false
+quit_calling : (asked : Bool) (state : LinkState) (quit : Bool) → state ≡ Calling → StandsAsked asked state quit
+    → quit ≡ false
 quit_calling asked state quit is h = subst (λ x. StandsAsked asked x quit) is h
 
-quit_idle : (asked : Bool) (state : LinkState) (quit : Bool) → state ≡ Idle → StandsAsked asked state quit → quit ≡ false
+quit_idle : (asked : Bool) (state : LinkState) (quit : Bool) → state ≡ Idle → StandsAsked asked state quit
+    → quit ≡ false
 quit_idle asked state quit is h = subst (λ x. StandsAsked asked x quit) is h
 
 asked_did :
@@ -261,12 +266,14 @@ asked_step m event asked up h = go (link_turn m event) (step_steps m event)
     go : (u : Turn) → Steps m event u
         → StandsAsked (asked_after asked (is_disconnect event) u.told) u.now.control.state u.now.control.quit
     go u (refused is) =
-        subst (λ (x : Turn). StandsAsked (asked_after asked (is_disconnect event) x.told) x.now.control.state x.now.control.quit)
+        subst (λ (x : Turn). StandsAsked (asked_after asked (is_disconnect event) x.told)
+            x.now.control.state x.now.control.quit)
         (sym is)
         (stands_more asked (asked || is_disconnect event) m.control.state m.control.quit
         (or_left asked (is_disconnect event)) h)
     go u (made t did closes) =
-        subst (λ told. StandsAsked (asked_after asked (is_disconnect event) told) u.now.control.state u.now.control.quit)
+        subst (λ told. StandsAsked (asked_after asked (is_disconnect event) told)
+            u.now.control.state u.now.control.quit)
         (sym (closes_told t u closes))
         (asked_closes (asked_after asked (is_disconnect event) t.told) t u (asked_did m event t asked up h did) closes)
 
@@ -294,7 +301,8 @@ chain_asked asked m (step ∷ steps) chain up h =
     let there : StandsAsked asked step.link.machine.control.state step.link.machine.control.quit =
     subst (λ (x : Machine). StandsAsked asked x.control.state x.control.quit) chain.0
     (made_like (StandsAsked asked) refl step.anew m h) in
-    chain_asked (asked_after asked (is_disconnect step.event) (told_in step)) (link_turn step.link.machine step.event).now
+    chain_asked (asked_after asked (is_disconnect step.event) (told_in step))
+        (link_turn step.link.machine step.event).now
     steps chain.1 up.1 (asked_step step.link.machine step.event asked up.0 there)
 
 -- ---- a link that its own host called
@@ -408,7 +416,8 @@ called_step m event called no_ask right h = go (link_turn m event) (step_steps m
     go : (u : Turn) → Steps m event u → TellsCalled called (is_connect event) u
     go u (refused is) =
         subst (TellsCalled called (is_connect event)) (sym is) (record {
-          stands = called_more called (called || is_connect event) m.control.state (or_left called (is_connect event)) h;
+          stands = called_more called (called || is_connect event) m.control.state (or_left called (is_connect event))
+              h;
           opens = λ some. absurd (cc);
         })
     go u (made t did closes) =

@@ -1,5 +1,7 @@
--- SABM, SABME, DISC, UA and DM told by their control octet: the one after the address is that of the frame as it is read.
-use Rattle.std.proofs.Common.{◌≡◌, ◌≢◌, ℕ, zero, suc, ◌+◌, ◌-◌, ◌*◌, ◌<◌, ◌==◌, ◌%◌, Bool, true, false, ◌||◌, List, [], ◌∷◌, ◌++◌, length, map, take, drop, cond, get_or, Option, Some, refl, sym, ap, ◌∙◌, subst, arith, inl, inr}
+-- SABM, SABME, DISC, UA and DM told by their control octet: the one after the address is that of the frame as it is
+-- read.
+use Rattle.std.proofs.Common.{◌≡◌, ◌≢◌, ℕ, zero, suc, ◌+◌, ◌-◌, ◌*◌, ◌<◌, ◌==◌, ◌%◌, Bool, true, false, ◌||◌, List, [],
+    ◌∷◌, ◌++◌, length, map, take, drop, cond, get_or, Option, Some, refl, sym, ap, ◌∙◌, subst, arith, inl, inr}
 use Rattle.std.proofs.lemmas.Bool.{cases_eq, eq-eqb, ne_eqb, or_from}
 use Rattle.std.proofs.lemmas.List.{append_assoc, take-append-drop, length-drop, drop-drop}
 use Rattle.ax25_address.specs.AddressField.{bit, ssid_octet, IsField}
@@ -17,7 +19,8 @@ use Rattle.ax25_frames.specs.declared.frame.W.TheVariants.{Frmr, Xid, Test}
 use Rattle.ax25_frames.specs.ControlField.{supervisory_code}
 use Rattle.ax25_frames.specs.FrameOctets.{body_octets, IsFrame}
 use Rattle.link_world.specs.Flight.{asks, is_answer}
-use Rattle.channel_bench.specs.InFlight.{sabm, sabme, disc, ua, dm, is_control_of, first_of, control_octet, is_ask_control, is_answer_control, is_ask, is_ua_or_dm}
+use Rattle.channel_bench.specs.InFlight.{sabm, sabme, disc, ua, dm, is_control_of, first_of, control_octet,
+    is_ask_control, is_answer_control, is_ask, is_ua_or_dm}
 
 -- ---- the octet after the address
 
@@ -106,7 +109,8 @@ pub past_path :
     → control_octet octets ≡ first_of (drop len octets)
 past_path octets path len h =
     ap control_octet (sym (take-append-drop len octets))
-    ∙ past_fields (repeater_count path + 1) (take len octets) (drop len octets) (h.1.size ∙ count (repeater_count path)) each
+    ∙ past_fields (repeater_count path + 1) (take len octets) (drop len octets) (h.1.size ∙ count (repeater_count path))
+        each
   where
     count : (n : ℕ) → 14 + 7 * n ≡ 7 * (n + 1 + 1)
     count n = omega arith
@@ -114,9 +118,11 @@ past_path octets path len h =
     fields : IsPath path (take len octets)
     fields = h.1
 
-    each : (k : ℕ) → k < repeater_count path + 1 + 1 → EndsBy (k == repeater_count path + 1) (field_at (take len octets) k)
+    each : (k : ℕ) → k < repeater_count path + 1 + 1
+        → EndsBy (k == repeater_count path + 1) (field_at (take len octets) k)
     each zero less =
-        subst (λ b. EndsBy b (field_at (take len octets) 0)) (sym (ne_eqb 0 (repeater_count path + 1) (λ e. absurd (omega arith))))
+        subst (λ b. EndsBy b (field_at (take len octets) 0))
+            (sym (ne_eqb 0 (repeater_count path + 1) (λ e. absurd (omega arith))))
         (field_ends path.dest _ false (field_at (take len octets) 0) fields.destination)
     each (suc zero) less =
         subst (λ b. EndsBy b (field_at (take len octets) 1)) (same (repeater_count path))
@@ -168,14 +174,16 @@ even_tells : (n k : ℕ) → n ≡ 2 * k → TellsNothing n
 even_tells n k is = record {
   ask = no_control n (λ e. absurd (omega arith)) (λ e. absurd (omega arith)) (λ e. absurd (omega arith))
       (λ e. absurd (omega arith)) (λ e. absurd (omega arith)) (λ e. absurd (omega arith));
-  answer = no_answer n (λ e. absurd (omega arith)) (λ e. absurd (omega arith)) (λ e. absurd (omega arith)) (λ e. absurd (omega arith));
+  answer = no_answer n (λ e. absurd (omega arith)) (λ e. absurd (omega arith)) (λ e. absurd (omega arith))
+      (λ e. absurd (omega arith));
 }
 
 super_tells : (n k : ℕ) → n ≡ 4 * k + 1 → TellsNothing n
 super_tells n k is = record {
   ask = no_control n (λ e. absurd (omega arith)) (λ e. absurd (omega arith)) (λ e. absurd (omega arith))
       (λ e. absurd (omega arith)) (λ e. absurd (omega arith)) (λ e. absurd (omega arith));
-  answer = no_answer n (λ e. absurd (omega arith)) (λ e. absurd (omega arith)) (λ e. absurd (omega arith)) (λ e. absurd (omega arith));
+  answer = no_answer n (λ e. absurd (omega arith)) (λ e. absurd (omega arith)) (λ e. absurd (omega arith))
+      (λ e. absurd (omega arith));
 }
 
 -- a body tells its kind

@@ -1,5 +1,6 @@
 -- How many frames of a kind are in flight: as many at most as are among those that were queued from a number on.
-use Rattle.std.proofs.Common.{◌≡◌, ℕ, ◌+◌, ◌-◌, ◌≤◌, Bool, true, false, List, [], ◌∷◌, ◌++◌, length, map, take, drop, cond, get_or, Option, Some, None, refl, sym, ap, ◌∙◌, subst, arith, inl, inr}
+use Rattle.std.proofs.Common.{◌≡◌, ℕ, ◌+◌, ◌-◌, ◌≤◌, Bool, true, false, List, [], ◌∷◌, ◌++◌, length, map, take, drop,
+    cond, get_or, Option, Some, None, refl, sym, ap, ◌∙◌, subst, arith, inl, inr}
 use Rattle.std.specs.List.{count_by, list_any}
 use Rattle.std.proofs.lemmas.Bool.{cases_lt, or_parts}
 use Rattle.std.proofs.lemmas.List.{drop-drop, get_or_past}
@@ -27,7 +28,8 @@ count_append p xs ys = sum_by-append (λ y. cond (p y) 1 0) xs ys
 pub count_drop : {A : Type 0} (p : A → Bool) (n : ℕ) (xs : List A) → count_by p (drop n xs) ≤ count_by p xs
 count_drop p n xs = let both = sum_by-take-drop (λ y. cond (p y) 1 0) xs n in omega arith
 
-pub count_take : {A : Type 0} (p : A → Bool) (n : ℕ) (xs : List A) → count_by p (take n xs) + count_by p (drop n xs) ≡ count_by p xs
+pub count_take : {A : Type 0} (p : A → Bool) (n : ℕ) (xs : List A)
+    → count_by p (take n xs) + count_by p (drop n xs) ≡ count_by p xs
 count_take p n xs = sum_by-take-drop (λ y. cond (p y) 1 0) xs n
 
 -- from a later place on there are no more
@@ -97,7 +99,8 @@ flight_count l r t u tells tags queue tagged h s (p ∷ ps) rises =
     elim (cases_lt p.sent (length queue)) [
       | inl within ↦
           let tag = tag_of l r tags queue p.sent tagged within in
-          let cell : count_by u (drop p.sent queue) ≡ one (u (get_or queue p.sent nothing)) + count_by u (drop (p.sent + 1) queue) =
+          let cell : count_by u (drop p.sent queue) ≡ one (u (get_or queue p.sent nothing)) + count_by u
+              (drop (p.sent + 1) queue) =
           sum_by-drop_more (λ y. cond (u y) 1 0) queue p.sent nothing within in
           let later = count_later u s p.sent queue low in
           let here = one_tag l r t u tells (tag_at tags p.sent) (get_or queue p.sent nothing) (flight tags ps) tag in

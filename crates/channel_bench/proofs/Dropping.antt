@@ -1,5 +1,6 @@
 -- A step after which a station has dropped no frame: each frame that its links sent joined the queue.
-use Rattle.std.proofs.Common.{◌≡◌, ℕ, ◌+◌, ◌-◌, Bool, true, false, ◌==◌, nat_lt, nat_le, List, [], ◌∷◌, ◌++◌, length, map, drop, cond, if◌then◌else◌, Option, Some, None, refl, sym, ap, ◌∙◌, subst, arith, inl, inr}
+use Rattle.std.proofs.Common.{◌≡◌, ℕ, ◌+◌, ◌-◌, Bool, true, false, ◌==◌, nat_lt, nat_le, List, [], ◌∷◌, ◌++◌, length,
+    map, drop, cond, if◌then◌else◌, Option, Some, None, refl, sym, ap, ◌∙◌, subst, arith, inl, inr}
 use Rattle.std.specs.Prelude.{MatchBool}
 use Rattle.std.specs.List.{range_with_len, list_any, AllByRecursion as Each}
 use Rattle.std.proofs.lemmas.Bool.{ltb-false, eqb-true}
@@ -14,11 +15,13 @@ use Rattle.agwpe_port.specs.Messages.{bad_length_in}
 use Rattle.agwpe_port.specs.declared.message.AgwMessage.{AgwMessage}
 use Rattle.digipeater.specs.Repeated.{repeated}
 use Rattle.kiss_port.specs.declared.item.KissItem.{KissItem}
-use Rattle.kiss_port.specs.declared.item.KissItem.TheVariants.{Frame as KissFrame, Set, Hardware, Return, TooLong, Other}
+use Rattle.kiss_port.specs.declared.item.KissItem.TheVariants.{Frame as KissFrame, Set, Hardware, Return, TooLong,
+    Other}
 use Rattle.link_machine.specs.declared.acts.SentFrame.{SentFrame}
 use Rattle.link_machine.specs.declared.acts.Told.{Told}
 use Rattle.link_machine.specs.Event.{Event as LinkEvent}
-use Rattle.link_machine.specs.Event.Event.{Connect as LinkConnect, Send as LinkSend, Disconnect as LinkDisconnect, Hear as LinkHear, Tick as LinkTick}
+use Rattle.link_machine.specs.Event.Event.{Connect as LinkConnect, Send as LinkSend, Disconnect as LinkDisconnect,
+    Hear as LinkHear, Tick as LinkTick}
 use Rattle.link_machine.specs.Sent.{sent_frame}
 use Rattle.link_machine.specs.Step.{step as link_turn, done_of}
 use Rattle.link_world.proofs.law.Each.{each_append}
@@ -26,17 +29,27 @@ use Rattle.station.specs.declared.host_event.HostEvent.{HostEvent}
 use Rattle.station.specs.declared.host_event.HostEvent.TheVariants.{Joined, Bytes, Left}
 use Rattle.station.specs.declared.host_event.PortKind.{PortKind}
 use Rattle.station.specs.declared.host_event.PortKind.TheVariants.{Kiss, Agw}
-use Rattle.station.specs.AgwKinds.{version_kind, ports_kind, capabilities_kind, register_kind, unregister_kind, toggle_kind, monitor_kind, raw_kind, unproto_kind, unproto_via_kind, data_kind, disconnect_kind, pending_kind, waiting_kind}
-use Rattle.station.specs.AgwRequests.{replying, version_reply, ports_reply, capabilities_reply, toggled, monitor_toggled, register_reply, with_registration, registering, unregistering, queueing_raw, most_information, unnumbered_frame, sending_unnumbered, refused_reply, may_call, calls, called_route, called_pid, IsCall, IsCallMade, own_key, giving, giving_packet, packets_of, data_pid, disconnecting, pending_in, pending_reply, waiting_reply, answering_else, AreAnswered}
+use Rattle.station.specs.AgwKinds.{version_kind, ports_kind, capabilities_kind, register_kind, unregister_kind,
+    toggle_kind, monitor_kind, raw_kind, unproto_kind, unproto_via_kind, data_kind, disconnect_kind, pending_kind,
+    waiting_kind}
+use Rattle.station.specs.AgwRequests.{replying, version_reply, ports_reply, capabilities_reply, toggled,
+    monitor_toggled, register_reply, with_registration, registering, unregistering, queueing_raw, most_information,
+    unnumbered_frame, sending_unnumbered, refused_reply, may_call, calls, called_route, called_pid, IsCall, IsCallMade,
+    own_key, giving, giving_packet, packets_of, data_pid, disconnecting, pending_in, pending_reply, waiting_reply,
+    answering_else, AreAnswered}
 use Rattle.hdlc_framer.specs.FrameLength.{has_frame_length}
 use Rattle.station.specs.CallFields.{call_in}
 use Rattle.station.specs.Connections.{Connection, connection_of, most_connections}
 use Rattle.station.specs.FrameSpelling.{frame_octets}
-use Rattle.station.specs.Heard.{IsHeardBy, IsHeardAnew, IsHeardMaking, IsReadingHeardAnew, IsRepeatedFor, AreHeardAt, AreOctetsHeard, may_make, hearing_at, showing_to, shown_to_hosts, source_field, destination_field, waits_for_repeater}
-use Rattle.station.specs.Host.{joining, with_host, new_messages, new_items, taking, ending, AreTaken, AreTakenBy, IsHostTurn}
+use Rattle.station.specs.Heard.{IsHeardBy, IsHeardAnew, IsHeardMaking, IsReadingHeardAnew, IsRepeatedFor, AreHeardAt,
+    AreOctetsHeard, may_make, hearing_at, showing_to, shown_to_hosts, source_field, destination_field,
+    waits_for_repeater}
+use Rattle.station.specs.Host.{joining, with_host, new_messages, new_items, taking, ending, AreTaken, AreTakenBy,
+    IsHostTurn}
 use Rattle.station.specs.Kiss.{param_of, with_param, heeding, heeding_all}
 use Rattle.station.specs.Leaving.{giving_up, giving_up_all, giving_up_link, leaving, without_host, without_owner}
-use Rattle.station.specs.LinkEvents.{settled_link, telling_one, telling_to, queueing_frame, queueing_frames, link_event, event_of, event_at, with_links}
+use Rattle.station.specs.LinkEvents.{settled_link, telling_one, telling_to, queueing_frame, queueing_frames, link_event,
+    event_of, event_at, with_links}
 use Rattle.station.specs.Links.{Link, key_between, link_at, most_links, with_link}
 use Rattle.station.specs.NewLinks.{making, no_layer_3}
 use Rattle.station.specs.Registrations.{registrar, may_register, is_number}
@@ -46,7 +59,10 @@ use Rattle.station.specs.Ticks.{ticking, ticking_at, ticking_links, waits}
 use Rattle.station.specs.Turn.{Turn, Act, begin, in_order, changing, closing, queueing, entering, dropping, capacity}
 use Rattle.channel_bench.specs.JointRun.{Input, IsTurn, Step}
 use Rattle.channel_bench.specs.JointRun.Input.{FromHost, OffAir, OfClock}
-use Rattle.channel_bench.specs.LinkSteps.{LinkStep, Choice, link_step, steps_for, steps_at, steps_along, ticks_at, tick_steps, given_up, gives_up_at, leaving_steps, made_steps, call_steps, sends_at, data_steps, disconnect_steps, else_steps, answer_steps, message_steps, ending_steps, octet_steps_by, octet_steps, host_steps, hears_at, new_steps, anew_steps, reading_steps, key_steps, path_steps, by_path_steps, turn_steps, steps_of}
+use Rattle.channel_bench.specs.LinkSteps.{LinkStep, Choice, link_step, steps_for, steps_at, steps_along, ticks_at,
+    tick_steps, given_up, gives_up_at, leaving_steps, made_steps, call_steps, sends_at, data_steps, disconnect_steps,
+    else_steps, answer_steps, message_steps, ending_steps, octet_steps_by, octet_steps, host_steps, hears_at, new_steps,
+    anew_steps, reading_steps, key_steps, path_steps, by_path_steps, turn_steps, steps_of}
 use Rattle.channel_bench.specs.MatchedLaw.{DropsNoAsk, asks_when_sent}
 use Rattle.channel_bench.proofs.Queues.{octets_of}
 
@@ -96,7 +112,8 @@ record Entered (turn after : Turn) : Type 0 where
   before : turn.now.dropped ≡ 0
   queued : length after.out.queued ≡ length turn.out.queued + 1
 
-entered : (key : ℕ) (octets : List ℕ) (turn : Turn) → (queueing (Some key) octets turn).now.dropped ≡ 0 → Entered turn (queueing (Some key) octets turn)
+entered : (key : ℕ) (octets : List ℕ) (turn : Turn) → (queueing (Some key) octets turn).now.dropped ≡ 0
+    → Entered turn (queueing (Some key) octets turn)
 entered key octets turn nothing_lost = go (nat_lt (length turn.now.channel.waiting) capacity) nothing_lost
   where
     go : (b : Bool) → (cond b (entering (Some key) octets turn) (dropping turn)).now.dropped ≡ 0
@@ -173,29 +190,36 @@ ticks_join : (chosen : Choice) (turn : Turn) → Joins turn (tick_steps chosen t
 unfolding ticking_links
 ticks_join chosen turn =
     joins_along ticking_at (ticks_at chosen)
-    (λ key t. event_joins chosen None key (LinkTick (waits key t.now.channel.waiting)) t) (range_with_len 0 most_links) turn
+    (λ key t. event_joins chosen None key (LinkTick (waits key t.now.channel.waiting)) t) (range_with_len 0 most_links)
+        turn
 
 -- ---- a host program leaves
 
-gives_up_joins : (chosen : Choice) (host key : ℕ) (turn : Turn) → Joins turn (gives_up_at chosen host key turn) (giving_up host key turn)
+gives_up_joins : (chosen : Choice) (host key : ℕ) (turn : Turn)
+    → Joins turn (gives_up_at chosen host key turn) (giving_up host key turn)
 gives_up_joins chosen host key turn = by_place (link_at key turn.now.links)
   where
     by_owner : (link : Link) (b : Bool)
         → let given = changing (with_links (with_link key (without_owner link))) turn in
-        Joins turn (cond b (steps_at chosen None key LinkDisconnect given) []) (cond b (event_at key LinkDisconnect given) turn)
+        Joins turn (cond b (steps_at chosen None key LinkDisconnect given) [])
+            (cond b (event_at key LinkDisconnect given) turn)
     by_owner link true = λ nothing_lost.
-        let done = event_joins chosen None key LinkDisconnect (changing (with_links (with_link key (without_owner link))) turn) nothing_lost in
+        let done = event_joins chosen None key LinkDisconnect
+            (changing (with_links (with_link key (without_owner link))) turn) nothing_lost in
         record { before = done.before; joined = done.joined }
     by_owner link false = same_joins turn turn refl
 
-    by_place : (place : Option Link) → Joins turn (given_up chosen host key place turn) (giving_up_link host key place turn)
+    by_place : (place : Option Link) → Joins turn (given_up chosen host key place turn)
+        (giving_up_link host key place turn)
     by_place None = same_joins turn turn refl
     by_place (Some link) = by_owner link (is_number host link.owner)
 
-leaving_joins : (chosen : Choice) (host : ℕ) (turn : Turn) → Joins turn (leaving_steps chosen host turn) (leaving host turn)
+leaving_joins : (chosen : Choice) (host : ℕ) (turn : Turn)
+    → Joins turn (leaving_steps chosen host turn) (leaving host turn)
 unfolding giving_up_all
 leaving_joins chosen host turn nothing_lost =
-    let done = joins_along (giving_up host) (gives_up_at chosen host) (gives_up_joins chosen host) (range_with_len 0 most_links)
+    let done = joins_along (giving_up host) (gives_up_at chosen host) (gives_up_joins chosen host)
+        (range_with_len 0 most_links)
     (changing (without_host host) turn) nothing_lost in
     record { before = done.before; joined = done.joined }
 
@@ -210,17 +234,21 @@ data_joins chosen message (Some key) turn =
     (packets_of (data_pid message.pid (link_at key turn.now.links)) message.body) turn
 
 disconnect_joins :
-    (chosen : Choice) (key : Option ℕ) (turn : Turn) → Joins turn (disconnect_steps chosen key turn) (disconnecting key turn)
+    (chosen : Choice) (key : Option ℕ) (turn : Turn)
+        → Joins turn (disconnect_steps chosen key turn) (disconnecting key turn)
 disconnect_joins chosen None turn = same_joins turn turn refl
 disconnect_joins chosen (Some key) turn = event_joins chosen None key LinkDisconnect turn
 
-registering_joins : (host : ℕ) (from : List ℕ) (call : Option Callsign) (turn : Turn) → Joins turn [] (registering host from call turn)
+registering_joins : (host : ℕ) (from : List ℕ) (call : Option Callsign) (turn : Turn)
+    → Joins turn [] (registering host from call turn)
 registering_joins host from None turn = same_joins turn (replying host (register_reply from false) turn) refl
 registering_joins host from (Some call) turn = go (may_register host (registrar call turn.now.registrations))
   where
-    go : (b : Bool) → Joins turn [] (cond b (replying host (register_reply from true) (changing (with_registration call host) turn))
+    go : (b : Bool) → Joins turn [] (cond b (replying host (register_reply from true)
+        (changing (with_registration call host) turn))
         (replying host (register_reply from false) turn))
-    go true = same_joins turn (replying host (register_reply from true) (changing (with_registration call host) turn)) refl
+    go true = same_joins turn (replying host (register_reply from true) (changing (with_registration call host) turn))
+        refl
     go false = same_joins turn (replying host (register_reply from false) turn) refl
 
 unregistering_joins : (host : ℕ) (call : Option Callsign) (turn : Turn) → Joins turn [] (unregistering host call turn)
@@ -241,12 +269,14 @@ raw_joins octets turn = go (has_frame_length octets)
     go true = queueing_joins None octets turn
     go false = same_joins turn turn refl
 
-unnumbered_joins : (pid : ℕ) (information : List ℕ) (route : Option Route) (turn : Turn) → Joins turn [] (sending_unnumbered pid information route turn)
+unnumbered_joins : (pid : ℕ) (information : List ℕ) (route : Option Route) (turn : Turn)
+    → Joins turn [] (sending_unnumbered pid information route turn)
 unnumbered_joins pid information None turn = same_joins turn turn refl
 unnumbered_joins pid information (Some route) turn = go (nat_le (length information) most_information)
   where
     go : (b : Bool)
-        → Joins turn [] ((if b then queueing None (frame_octets Eight (unnumbered_frame route pid information)) else (λ t. t)) turn)
+        → Joins turn [] ((if b then queueing None (frame_octets Eight (unnumbered_frame route pid information))
+            else (λ t. t)) turn)
     go true = queueing_joins None (frame_octets Eight (unnumbered_frame route pid information)) turn
     go false = same_joins turn turn refl
 
@@ -275,32 +305,50 @@ else_joins chosen host message turn =
     let calm : (c : ℕ) (after : Turn) → choice c xs ys ≡ [] → Joins turn [] after → k ≡ c → P after (choice k xs ys) =
     λ c after none h is. subst (λ steps. Joins turn steps after) (sym (ap (λ n. choice n xs ys) is ∙ none)) h in
     by_kind P k version_kind (replying host version_reply turn) _ _
-    (calm version_kind (replying host version_reply turn) refl (same_joins turn (replying host version_reply turn) refl))
+    (calm version_kind (replying host version_reply turn) refl
+        (same_joins turn (replying host version_reply turn) refl))
     (by_kind P k ports_kind (replying host ports_reply turn) _ _
     (calm ports_kind (replying host ports_reply turn) refl (same_joins turn (replying host ports_reply turn) refl))
     (by_kind P k capabilities_kind (replying host (capabilities_reply turn.now) turn) _ _
-    (calm capabilities_kind (replying host (capabilities_reply turn.now) turn) refl (same_joins turn (replying host (capabilities_reply turn.now) turn) refl))
-    (by_kind P k register_kind (registering host message.from (call_in message.from) turn) _ _ (calm register_kind (registering host message.from (call_in message.from) turn) refl (registering_joins host message.from (call_in message.from) turn))
-    (by_kind P k unregister_kind (unregistering host (call_in message.from) turn) _ _ (calm unregister_kind (unregistering host (call_in message.from) turn) refl (unregistering_joins host (call_in message.from) turn))
+    (calm capabilities_kind (replying host (capabilities_reply turn.now) turn) refl
+        (same_joins turn (replying host (capabilities_reply turn.now) turn) refl))
+    (by_kind P k register_kind (registering host message.from (call_in message.from) turn) _ _
+        (calm register_kind (registering host message.from (call_in message.from) turn) refl
+        (registering_joins host message.from (call_in message.from) turn))
+    (by_kind P k unregister_kind (unregistering host (call_in message.from) turn) _ _
+        (calm unregister_kind (unregistering host (call_in message.from) turn) refl
+        (unregistering_joins host (call_in message.from) turn))
     (by_kind P k toggle_kind (changing (toggled host) turn) _ _
     (calm toggle_kind (changing (toggled host) turn) refl (same_joins turn (changing (toggled host) turn) refl))
     (by_kind P k monitor_kind (changing (monitor_toggled host) turn) _ _
-    (calm monitor_kind (changing (monitor_toggled host) turn) refl (same_joins turn (changing (monitor_toggled host) turn) refl))
-    (by_kind P k raw_kind (queueing_raw (drop 1 message.body) turn) _ _ (calm raw_kind (queueing_raw (drop 1 message.body) turn) refl (raw_joins (drop 1 message.body) turn))
-    (by_kind P k unproto_kind (sending_unnumbered message.pid message.body (route_in message.from message.to (Some [])) turn) _ _
-    (calm unproto_kind (sending_unnumbered message.pid message.body (route_in message.from message.to (Some [])) turn) refl (unnumbered_joins message.pid message.body (route_in message.from message.to (Some [])) turn))
-    (by_kind P k unproto_via_kind (sending_unnumbered message.pid (behind_repeaters message.body) (route_in message.from message.to (repeaters_in message.body)) turn) _ _
-    (calm unproto_via_kind (sending_unnumbered message.pid (behind_repeaters message.body) (route_in message.from message.to (repeaters_in message.body)) turn) refl (unnumbered_joins message.pid (behind_repeaters message.body)
+    (calm monitor_kind (changing (monitor_toggled host) turn) refl
+        (same_joins turn (changing (monitor_toggled host) turn) refl))
+    (by_kind P k raw_kind (queueing_raw (drop 1 message.body) turn) _ _
+        (calm raw_kind (queueing_raw (drop 1 message.body) turn) refl (raw_joins (drop 1 message.body) turn))
+    (by_kind P k unproto_kind (sending_unnumbered message.pid message.body (route_in message.from message.to (Some []))
+        turn) _ _
+    (calm unproto_kind (sending_unnumbered message.pid message.body (route_in message.from message.to (Some [])) turn)
+        refl (unnumbered_joins message.pid message.body (route_in message.from message.to (Some [])) turn))
+    (by_kind P k unproto_via_kind (sending_unnumbered message.pid (behind_repeaters message.body)
+        (route_in message.from message.to (repeaters_in message.body)) turn) _ _
+    (calm unproto_via_kind (sending_unnumbered message.pid (behind_repeaters message.body)
+        (route_in message.from message.to (repeaters_in message.body)) turn) refl
+        (unnumbered_joins message.pid (behind_repeaters message.body)
     (route_in message.from message.to (repeaters_in message.body)) turn))
-    (rest (k == data_kind) (k == disconnect_kind) xs ys (data_joins chosen message key turn) (disconnect_joins chosen key turn)))))))))))
+    (rest (k == data_kind) (k == disconnect_kind) xs ys (data_joins chosen message key turn)
+        (disconnect_joins chosen key turn)))))))))))
   where
-    last : Joins turn [] (cond (message.kind == pending_kind) (replying host (pending_reply message (pending_in message turn.now.links)) turn)
-        (cond (message.kind == waiting_kind) (replying host (waiting_reply (length turn.now.channel.waiting)) turn) turn))
+    last : Joins turn [] (cond (message.kind == pending_kind)
+        (replying host (pending_reply message (pending_in message turn.now.links)) turn)
+        (cond (message.kind == waiting_kind) (replying host (waiting_reply (length turn.now.channel.waiting)) turn)
+            turn))
     last = go (message.kind == pending_kind) (message.kind == waiting_kind)
       where
-        go : (b d : Bool) → Joins turn [] (cond b (replying host (pending_reply message (pending_in message turn.now.links)) turn)
+        go : (b d : Bool)
+            → Joins turn [] (cond b (replying host (pending_reply message (pending_in message turn.now.links)) turn)
             (cond d (replying host (waiting_reply (length turn.now.channel.waiting)) turn) turn))
-        go true d = same_joins turn (replying host (pending_reply message (pending_in message turn.now.links)) turn) refl
+        go true d = same_joins turn (replying host (pending_reply message (pending_in message turn.now.links)) turn)
+            refl
         go false true = same_joins turn (replying host (waiting_reply (length turn.now.channel.waiting)) turn) refl
         go false false = same_joins turn turn refl
 
@@ -311,27 +359,32 @@ else_joins chosen host message turn =
         → Joins turn (cond b xs (cond d ys []))
         (cond b (giving message (own_key host message turn.now.links) turn)
         (cond d (disconnecting (own_key host message turn.now.links) turn)
-        (cond (message.kind == pending_kind) (replying host (pending_reply message (pending_in message turn.now.links)) turn)
-        (cond (message.kind == waiting_kind) (replying host (waiting_reply (length turn.now.channel.waiting)) turn) turn))))
+        (cond (message.kind == pending_kind) (replying host (pending_reply message (pending_in message turn.now.links))
+            turn)
+        (cond (message.kind == waiting_kind) (replying host (waiting_reply (length turn.now.channel.waiting)) turn)
+            turn))))
     rest true d xs ys one two = one
     rest false true xs ys one two = two
     rest false false xs ys one two = last
 
 made_joins :
     (chosen : Choice) (host pid : ℕ) (message : AgwMessage) (route : Route) (may : Bool) (before after : Turn)
-    → (h : MatchBool may (IsCallMade host pid route before after) (after ≡ replying host (refused_reply message) before))
+    → (h : MatchBool may (IsCallMade host pid route before after)
+        (after ≡ replying host (refused_reply message) before))
     → Joins before (made_steps chosen host pid message route may before after h) after
 made_joins chosen host pid message route true before after h =
     let path = path_along route in
     subst (Joins before (made_steps chosen host pid message route true before after h)) (sym h.2)
-    (λ nothing_lost. let done = event_joins chosen (Some path) h.0 LinkConnect (making h.0 host pid route.local route.remote path before) nothing_lost in
+    (λ nothing_lost. let done = event_joins chosen (Some path) h.0 LinkConnect
+        (making h.0 host pid route.local route.remote path before) nothing_lost in
     record { before = done.before; joined = done.joined })
 made_joins chosen host pid message route false before after h =
     subst (Joins before []) (sym h) (same_joins before (replying host (refused_reply message) before) refl)
 
 call_joins :
     (chosen : Choice) (host : ℕ) (message : AgwMessage) (route : Option Route) (before after : Turn)
-    → (h : IsCall host message route before after) → Joins before (call_steps chosen host message route before after h) after
+    → (h : IsCall host message route before after) → Joins before (call_steps chosen host message route before after h)
+        after
 call_joins chosen host message None before after h =
     subst (Joins before []) (sym h) (same_joins before (replying host (refused_reply message) before) refl)
 call_joins chosen host message (Some route) before after h =
@@ -339,14 +392,17 @@ call_joins chosen host message (Some route) before after h =
 
 answer_joins :
     (chosen : Choice) (host : ℕ) (message : AgwMessage) (calling : Bool) (before after : Turn)
-    → (h : MatchBool calling (IsCall host message (called_route message) before after) (after ≡ answering_else host message before))
+    → (h : MatchBool calling (IsCall host message (called_route message) before after)
+        (after ≡ answering_else host message before))
     → Joins before (answer_steps chosen host message calling before after h) after
-answer_joins chosen host message true before after h = call_joins chosen host message (called_route message) before after h
+answer_joins chosen host message true before after h =
+    call_joins chosen host message (called_route message) before after h
 answer_joins chosen host message false before after h =
     subst (Joins before (else_steps chosen host message before)) (sym h) (else_joins chosen host message before)
 
 messages_join :
-    (chosen : Choice) (host : ℕ) (messages : List AgwMessage) (before after : Turn) → (h : AreAnswered host messages before after)
+    (chosen : Choice) (host : ℕ) (messages : List AgwMessage) (before after : Turn)
+        → (h : AreAnswered host messages before after)
     → Joins before (message_steps chosen host messages before after h) after
 messages_join chosen host [] before after h = subst (Joins before []) (sym h) (same_joins before before refl)
 messages_join chosen host (message ∷ messages) before after h =
@@ -354,14 +410,17 @@ messages_join chosen host (message ∷ messages) before after h =
     (message_steps chosen host messages h.0 after h.2) (answer_joins chosen host message (calls message) before h.0 h.1)
     (messages_join chosen host messages h.0 after h.2)
 
-ending_joins : (chosen : Choice) (host : ℕ) (len : Option ℕ) (turn : Turn) → Joins turn (ending_steps chosen host len turn) (ending host len turn)
+ending_joins : (chosen : Choice) (host : ℕ) (len : Option ℕ) (turn : Turn)
+    → Joins turn (ending_steps chosen host len turn) (ending host len turn)
 ending_joins chosen host None turn = same_joins turn turn refl
 ending_joins chosen host (Some len) turn = λ nothing_lost.
-    let done = leaving_joins chosen host (closing host turn) nothing_lost in record { before = done.before; joined = done.joined }
+    let done = leaving_joins chosen host (closing host turn) nothing_lost in
+        record { before = done.before; joined = done.joined }
 
 -- ---- KISS
 
-on_port_joins : (port : ℕ) (act : Act) (turn : Turn) → Joins turn [] (act turn) → Joins turn [] (cond (port == 0) (act turn) turn)
+on_port_joins : (port : ℕ) (act : Act) (turn : Turn) → Joins turn [] (act turn)
+    → Joins turn [] (cond (port == 0) (act turn) turn)
 on_port_joins port act turn h = go (port == 0)
   where
     go : (b : Bool) → Joins turn [] (cond b (act turn) turn)
@@ -392,14 +451,16 @@ octets_join_by :
     → Joins before (octet_steps_by chosen kind connection octets before after h) after
 octets_join_by chosen Kiss connection octets before after h =
     subst (Joins before []) (sym h)
-    (λ nothing_lost. let done = heeding_all_joins (new_items connection.stream octets) (taking connection.id octets before) nothing_lost in
+    (λ nothing_lost. let done = heeding_all_joins (new_items connection.stream octets)
+        (taking connection.id octets before) nothing_lost in
     record { before = done.before; joined = tt })
 octets_join_by chosen Agw connection octets before after h =
     let taken = taking connection.id octets before in
     let len = bad_length_in (connection.stream ++ octets) in
     let messages = new_messages connection.stream octets in
     subst (Joins before (octet_steps_by chosen Agw connection octets before after h)) (sym h.2)
-    (λ nothing_lost. let done = joins_on taken h.0 (ending connection.id len h.0) (message_steps chosen connection.id messages taken h.0 h.1)
+    (λ nothing_lost. let done = joins_on taken h.0 (ending connection.id len h.0)
+        (message_steps chosen connection.id messages taken h.0 h.1)
     (ending_steps chosen connection.id len h.0) (messages_join chosen connection.id messages taken h.0 h.1)
     (ending_joins chosen connection.id len h.0) nothing_lost in
     record { before = done.before; joined = done.joined })
@@ -434,7 +495,8 @@ shown_same :
     (from to octets : List ℕ) (connections : List Connection) (turn : Turn)
     → (in_order (map (showing_to from to octets) connections) turn).now.dropped ≡ turn.now.dropped
 shown_same from to octets [] turn = refl
-shown_same from to octets (c ∷ connections) turn = shown_same from to octets connections (showing_to from to octets c turn)
+shown_same from to octets (c ∷ connections) turn = shown_same from to octets connections
+    (showing_to from to octets c turn)
 
 repeated_joins :
     (digi : Option Callsign) (octets : List ℕ) (before after : Turn) → IsRepeatedFor digi octets before after
@@ -442,7 +504,8 @@ repeated_joins :
 repeated_joins None octets before after h = subst (Joins before []) (sym h) (same_joins before before refl)
 repeated_joins (Some call) octets before after (inl is) =
     subst (Joins before []) (sym is.2) (queueing_joins None (repeated octets is.0) before)
-repeated_joins (Some call) octets before after (inr is) = subst (Joins before []) (sym is.1) (same_joins before before refl)
+repeated_joins (Some call) octets before after (inr is) =
+    subst (Joins before []) (sym is.1) (same_joins before before refl)
 
 at_key_joins :
     (chosen : Choice) (key : ℕ) (reading : Option Frame) (turn : Turn)
@@ -463,7 +526,8 @@ new_joins chosen host frame true before after h =
 new_joins chosen host frame false before after h = subst (Joins before []) (sym h) (same_joins before before refl)
 
 anew_joins :
-    (chosen : Choice) (registered : Option ℕ) (frame : Frame) (before after : Turn) → (h : IsHeardAnew registered frame before after)
+    (chosen : Choice) (registered : Option ℕ) (frame : Frame) (before after : Turn)
+        → (h : IsHeardAnew registered frame before after)
     → Joins before (anew_steps chosen registered frame before after h) after
 anew_joins chosen None frame before after h = subst (Joins before []) (sym h) (same_joins before before refl)
 anew_joins chosen (Some host) frame before after h =
@@ -477,25 +541,30 @@ reading_joins chosen (Some frame) before after h =
     anew_joins chosen (registrar frame.path.dest before.now.registrations) frame before after h
 
 key_joins :
-    (chosen : Choice) (key : Option ℕ) (octets : List ℕ) (before after : Turn) → (h : AreHeardAt key octets before after)
+    (chosen : Choice) (key : Option ℕ) (octets : List ℕ) (before after : Turn)
+        → (h : AreHeardAt key octets before after)
     → Joins before (key_steps chosen key octets before after h) after
 key_joins chosen (Some key) octets before after h =
-    subst (Joins before (key_steps chosen (Some key) octets before after h)) (sym h.2) (at_key_joins chosen key h.0 before)
+    subst (Joins before (key_steps chosen (Some key) octets before after h)) (sym h.2)
+        (at_key_joins chosen key h.0 before)
 key_joins chosen None octets before after h = reading_joins chosen h.0 before after h.2
 
 path_joins :
     (chosen : Choice) (path : Path) (waiting : Bool) (octets : List ℕ) (before after : Turn)
-    → (h : MatchBool waiting (IsRepeatedFor before.now.digi octets before after) (AreOctetsHeard path octets before after))
+    → (h : MatchBool waiting (IsRepeatedFor before.now.digi octets before after)
+        (AreOctetsHeard path octets before after))
     → Joins before (path_steps chosen path waiting octets before after h) after
 path_joins chosen path true octets before after h = repeated_joins before.now.digi octets before after h
 path_joins chosen path false octets before after h =
     key_joins chosen (key_between path.dest path.source before.now.links) octets before after h
 
 by_path_joins :
-    (chosen : Choice) (path : Option Path) (octets : List ℕ) (before after : Turn) → (h : IsHeardBy path octets before after)
+    (chosen : Choice) (path : Option Path) (octets : List ℕ) (before after : Turn)
+        → (h : IsHeardBy path octets before after)
     → Joins before (by_path_steps chosen path octets before after h) after
 by_path_joins chosen None octets before after h = subst (Joins before []) (sym h) (same_joins before before refl)
-by_path_joins chosen (Some path) octets before after h = path_joins chosen path (waits_for_repeater path) octets before after h
+by_path_joins chosen (Some path) octets before after h =
+    path_joins chosen path (waits_for_repeater path) octets before after h
 
 -- ---- each step
 
@@ -506,10 +575,13 @@ turn_joins chosen (FromHost event) before after turn = host_joins chosen event b
 turn_joins chosen (OffAir octets) before after turn = λ nothing_lost.
     let from = source_field turn.path in
     let to = destination_field turn.path in
-    let done = by_path_joins chosen turn.path octets (shown_to_hosts turn.path octets turn.monitored before) after turn.effect nothing_lost in
-    record { before = sym (shown_same from to octets before.now.connections before) ∙ done.before; joined = done.joined }
+    let done = by_path_joins chosen turn.path octets (shown_to_hosts turn.path octets turn.monitored before)
+        after turn.effect nothing_lost in
+    record { before = sym (shown_same from to octets before.now.connections before) ∙ done.before;
+        joined = done.joined }
 turn_joins chosen (OfClock busy) before after turn = λ nothing_lost.
-    let ticked : (ticking busy turn.monitored before).now.dropped ≡ 0 = ap (λ (t : Turn). t.now.dropped) (sym turn.effect) ∙ nothing_lost in
+    let ticked : (ticking busy turn.monitored before).now.dropped ≡ 0 =
+        ap (λ (t : Turn). t.now.dropped) (sym turn.effect) ∙ nothing_lost in
     ticks_join chosen before ticked
 
 pub record DropsNothing (chosen : Choice) (step : Step) : Type 0 where

@@ -1,5 +1,6 @@
 -- The worked joint run is heard in order, so that the law on any two stations speaks of it.
-use Rattle.std.specs.Prelude.{◌≡◌, ◌≢◌, ℕ, zero, suc, ◌<◌, All, AllPairs, Contains, List, [], ◌∷◌, length, Some, None, slice_get, refl}
+use Rattle.std.specs.Prelude.{◌≡◌, ◌≢◌, ℕ, zero, suc, ◌<◌, All, AllPairs, Contains, List, [], ◌∷◌, length, Some, None,
+    slice_get, refl}
 use Rattle.std.proofs.Common.{arith, get_or, inl, inr, sym, ◌∙◌, subst}
 use Rattle.std.proofs.lemmas.List.Elements.{All-from_recursion, All-contains_itself}
 use Rattle.std.proofs.lemmas.List.Kept.{AllPairs-cons}
@@ -16,8 +17,11 @@ use Rattle.link_world.proofs.law.ChangesLaw.{changes_law_holds}
 use Rattle.channel_bench.specs.JointRun.{Step, new_stations, all_stepped}
 use Rattle.channel_bench.specs.StationsLaw.{LinkKeepsOrder}
 use Rattle.channel_bench.proofs.JointLaw.{stations_law_holds}
-use Rattle.channel_bench.specs.HeardInOrder.{Pair, RiseBoth, AreAlikeButForH, HearsLinkFrame, IsHeardPair, HasPair, AreHeardInOrder}
-use Rattle.channel_bench.proofs.Examples.{sabm, disc, ua, command_path, response_path, command_begins, response_begins, a_joins, b_joins, a_registers, b_registers, a_calls, b_hears_sabm, a_hears_ua, a_disconnects, b_hears_disc, a_hears_ua_again, config, steps, calls, pairs, is_run, is_quiet_run}
+use Rattle.channel_bench.specs.HeardInOrder.{Pair, RiseBoth, AreAlikeButForH, HearsLinkFrame, IsHeardPair, HasPair,
+    AreHeardInOrder}
+use Rattle.channel_bench.proofs.Examples.{sabm, disc, ua, command_path, response_path, command_begins, response_begins,
+    a_joins, b_joins, a_registers, b_registers, a_calls, b_hears_sabm, a_hears_ua, a_disconnects, b_hears_disc,
+    a_hears_ua_again, config, steps, calls, pairs, is_run, is_quiet_run}
 
 no_pairs_rise : AllPairs RiseBoth []
 no_pairs_rise = λ i j d less within. absurd (omega (arith, less, within))
@@ -31,7 +35,8 @@ same_some : (x y : Step) → Some x ≡ Some y → x ≡ y
 same_some x y e = cc
 
 -- a step of the other station, or one that hears nothing
-of_other : (hearer : End) (found step : Step) (octets : List ℕ) → found.station ≢ hearer → Some found ≡ Some step → HearsLinkFrame hearer step octets → ⊥
+of_other : (hearer : End) (found step : Step) (octets : List ℕ) → found.station ≢ hearer → Some found ≡ Some step
+    → HearsLinkFrame hearer step octets → ⊥
 of_other hearer found step octets other is hears =
     other (subst (λ (s : Step). HearsLinkFrame hearer s octets) (sym (same_some found step is)) hears).station
 
@@ -106,29 +111,39 @@ second_pair = record {
   alike = same_disc;
 }
 
-has_itself : (ps : List Pair) (k : ℕ) (p d : Pair) → All (Contains ps) ps → k < length ps → p ≡ get_or ps k d → HasPair ps p.heard
+has_itself : (ps : List Pair) (k : ℕ) (p d : Pair) → All (Contains ps) ps → k < length ps → p ≡ get_or ps k d
+    → HasPair ps p.heard
 has_itself ps k p d all within is = record {
   pair = p;
   contains = subst (Contains ps) (sym is) (all k d within);
   is = refl;
 }
 
-all_b : (number : ℕ) (step : Step) (octets : List ℕ) → slice_get steps number ≡ Some step → HearsLinkFrame B step octets → HasPair pairs.at_b number
+all_b : (number : ℕ) (step : Step) (octets : List ℕ) → slice_get steps number ≡ Some step → HearsLinkFrame B step octets
+    → HasPair pairs.at_b number
 unfolding reading call_of_text link_turn
 all_b zero step octets is hears = absurd (of_other B a_joins step octets a_is_not_b is hears)
-all_b (suc zero) step octets is hears = absurd (subst (λ (s : Step). HearsLinkFrame B s octets) (sym (same_some b_joins step is)) hears).input
+all_b (suc zero) step octets is hears =
+    absurd (subst (λ (s : Step). HearsLinkFrame B s octets) (sym (same_some b_joins step is)) hears).input
 all_b (suc (suc zero)) step octets is hears = absurd (of_other B a_registers step octets a_is_not_b is hears)
-all_b (suc (suc (suc zero))) step octets is hears = absurd (subst (λ (s : Step). HearsLinkFrame B s octets) (sym (same_some b_registers step is)) hears).input
+all_b (suc (suc (suc zero))) step octets is hears =
+    absurd (subst (λ (s : Step). HearsLinkFrame B s octets) (sym (same_some b_registers step is)) hears).input
 all_b (suc (suc (suc (suc zero)))) step octets is hears = absurd (of_other B a_calls step octets a_is_not_b is hears)
 all_b (suc (suc (suc (suc (suc zero))))) step octets is hears =
-    has_itself pairs.at_b 0 (record { heard = 5; sent = 0 }) (record { heard = 0; sent = 0 }) (All-contains_itself pairs.at_b) (omega arith) refl
-all_b (suc (suc (suc (suc (suc (suc zero)))))) step octets is hears = absurd (of_other B a_hears_ua step octets a_is_not_b is hears)
-all_b (suc (suc (suc (suc (suc (suc (suc zero))))))) step octets is hears = absurd (of_other B a_disconnects step octets a_is_not_b is hears)
+    has_itself pairs.at_b 0 (record { heard = 5; sent = 0 }) (record { heard = 0; sent = 0 })
+        (All-contains_itself pairs.at_b) (omega arith) refl
+all_b (suc (suc (suc (suc (suc (suc zero)))))) step octets is hears =
+    absurd (of_other B a_hears_ua step octets a_is_not_b is hears)
+all_b (suc (suc (suc (suc (suc (suc (suc zero))))))) step octets is hears =
+    absurd (of_other B a_disconnects step octets a_is_not_b is hears)
 all_b (suc (suc (suc (suc (suc (suc (suc (suc zero)))))))) step octets is hears =
-    has_itself pairs.at_b 1 (record { heard = 8; sent = 1 }) (record { heard = 0; sent = 0 }) (All-contains_itself pairs.at_b) (omega arith) refl
-all_b (suc (suc (suc (suc (suc (suc (suc (suc (suc zero))))))))) step octets is hears = absurd (of_other B a_hears_ua_again step octets a_is_not_b is hears)
+    has_itself pairs.at_b 1 (record { heard = 8; sent = 1 }) (record { heard = 0; sent = 0 })
+        (All-contains_itself pairs.at_b) (omega arith) refl
+all_b (suc (suc (suc (suc (suc (suc (suc (suc (suc zero))))))))) step octets is hears =
+    absurd (of_other B a_hears_ua_again step octets a_is_not_b is hears)
 all_b (suc (suc (suc (suc (suc (suc (suc (suc (suc (suc n)))))))))) step octets is hears =
-    absurd (let none : slice_get steps (suc (suc (suc (suc (suc (suc (suc (suc (suc (suc n)))))))))) ≡ None = slice_get_past steps (suc (suc (suc (suc (suc (suc (suc (suc (suc (suc n)))))))))) (omega arith) in
+    absurd (let none : slice_get steps (suc (suc (suc (suc (suc (suc (suc (suc (suc (suc n)))))))))) ≡ None =
+        slice_get_past steps (suc (suc (suc (suc (suc (suc (suc (suc (suc (suc n)))))))))) (omega arith) in
     let clash : None ≡ Some step = sym none ∙ is in cc)
 
 heard_at_b : AreHeardInOrder B steps pairs.at_b
@@ -176,20 +191,29 @@ all_a :
     (number : ℕ) (step : Step) (octets : List ℕ) → slice_get steps number ≡ Some step → HearsLinkFrame A step octets
     → HasPair pairs.at_a number
 unfolding reading call_of_text link_turn
-all_a zero step octets is hears = absurd (subst (λ (s : Step). HearsLinkFrame A s octets) (sym (same_some a_joins step is)) hears).input
+all_a zero step octets is hears = absurd (subst (λ (s : Step). HearsLinkFrame A s octets)
+    (sym (same_some a_joins step is)) hears).input
 all_a (suc zero) step octets is hears = absurd (of_other A b_joins step octets b_is_not_a is hears)
-all_a (suc (suc zero)) step octets is hears = absurd (subst (λ (s : Step). HearsLinkFrame A s octets) (sym (same_some a_registers step is)) hears).input
+all_a (suc (suc zero)) step octets is hears =
+    absurd (subst (λ (s : Step). HearsLinkFrame A s octets) (sym (same_some a_registers step is)) hears).input
 all_a (suc (suc (suc zero))) step octets is hears = absurd (of_other A b_registers step octets b_is_not_a is hears)
-all_a (suc (suc (suc (suc zero)))) step octets is hears = absurd (subst (λ (s : Step). HearsLinkFrame A s octets) (sym (same_some a_calls step is)) hears).input
-all_a (suc (suc (suc (suc (suc zero))))) step octets is hears = absurd (of_other A b_hears_sabm step octets b_is_not_a is hears)
+all_a (suc (suc (suc (suc zero)))) step octets is hears =
+    absurd (subst (λ (s : Step). HearsLinkFrame A s octets) (sym (same_some a_calls step is)) hears).input
+all_a (suc (suc (suc (suc (suc zero))))) step octets is hears =
+    absurd (of_other A b_hears_sabm step octets b_is_not_a is hears)
 all_a (suc (suc (suc (suc (suc (suc zero)))))) step octets is hears =
-    has_itself pairs.at_a 0 (record { heard = 6; sent = 0 }) (record { heard = 0; sent = 0 }) (All-contains_itself pairs.at_a) (omega arith) refl
-all_a (suc (suc (suc (suc (suc (suc (suc zero))))))) step octets is hears = absurd (subst (λ (s : Step). HearsLinkFrame A s octets) (sym (same_some a_disconnects step is)) hears).input
-all_a (suc (suc (suc (suc (suc (suc (suc (suc zero)))))))) step octets is hears = absurd (of_other A b_hears_disc step octets b_is_not_a is hears)
+    has_itself pairs.at_a 0 (record { heard = 6; sent = 0 }) (record { heard = 0; sent = 0 })
+        (All-contains_itself pairs.at_a) (omega arith) refl
+all_a (suc (suc (suc (suc (suc (suc (suc zero))))))) step octets is hears =
+    absurd (subst (λ (s : Step). HearsLinkFrame A s octets) (sym (same_some a_disconnects step is)) hears).input
+all_a (suc (suc (suc (suc (suc (suc (suc (suc zero)))))))) step octets is hears =
+    absurd (of_other A b_hears_disc step octets b_is_not_a is hears)
 all_a (suc (suc (suc (suc (suc (suc (suc (suc (suc zero))))))))) step octets is hears =
-    has_itself pairs.at_a 1 (record { heard = 9; sent = 1 }) (record { heard = 0; sent = 0 }) (All-contains_itself pairs.at_a) (omega arith) refl
+    has_itself pairs.at_a 1 (record { heard = 9; sent = 1 }) (record { heard = 0; sent = 0 })
+        (All-contains_itself pairs.at_a) (omega arith) refl
 all_a (suc (suc (suc (suc (suc (suc (suc (suc (suc (suc n)))))))))) step octets is hears =
-    absurd (let none : slice_get steps (suc (suc (suc (suc (suc (suc (suc (suc (suc (suc n)))))))))) ≡ None = slice_get_past steps (suc (suc (suc (suc (suc (suc (suc (suc (suc (suc n)))))))))) (omega arith) in
+    absurd (let none : slice_get steps (suc (suc (suc (suc (suc (suc (suc (suc (suc (suc n)))))))))) ≡ None =
+        slice_get_past steps (suc (suc (suc (suc (suc (suc (suc (suc (suc (suc n)))))))))) (omega arith) in
     let clash : None ≡ Some step = sym none ∙ is in cc)
 
 heard_at_a : AreHeardInOrder A steps pairs.at_a
@@ -212,4 +236,5 @@ fits = record {
 }
 
 keeps_order : LinkKeepsOrder calls pairs config config steps (all_stepped steps (new_stations config 1 config 2))
-keeps_order = stations_law_holds changes_law_holds config config 1 2 steps pairs is_run heard_at_a heard_at_b fits calls is_quiet_run
+keeps_order = stations_law_holds changes_law_holds config config 1 2 steps pairs is_run heard_at_a heard_at_b fits calls
+    is_quiet_run

@@ -1,4 +1,5 @@
--- A worked joint run with no data: a host at AAAA calls BBBB (SABM, UA) and disconnects (DISC, UA). What its definitions
+-- A worked joint run with no data: a host at AAAA calls BBBB (SABM, UA) and disconnects (DISC, UA). What its
+-- definitions
 -- compute to, and what one lost frame makes of them.
 use Rattle.std.specs.Prelude.{◌≡◌, ℕ, ◌<◌, true, false, All, nat_lt, List, [], ◌∷◌, ◌++◌, Some, None, refl}
 use Rattle.std.proofs.Common.{inl, arith}
@@ -54,7 +55,8 @@ aaaa_valid = record {
     shortest = omega arith;
     longest = omega arith;
     characters = All-from_recursion IsCallCharacter (65 ∷ 65 ∷ 65 ∷ 65 ∷ [])
-        (inl (omega arith, omega arith), (inl (omega arith, omega arith), (inl (omega arith, omega arith), (inl (omega arith, omega arith), tt))));
+        (inl (omega arith, omega arith), (inl (omega arith, omega arith),
+            (inl (omega arith, omega arith), (inl (omega arith, omega arith), tt))));
   };
   ssid = omega arith;
 }
@@ -65,7 +67,8 @@ bbbb_valid = record {
     shortest = omega arith;
     longest = omega arith;
     characters = All-from_recursion IsCallCharacter (66 ∷ 66 ∷ 66 ∷ 66 ∷ [])
-        (inl (omega arith, omega arith), (inl (omega arith, omega arith), (inl (omega arith, omega arith), (inl (omega arith, omega arith), tt))));
+        (inl (omega arith, omega arith), (inl (omega arith, omega arith),
+            (inl (omega arith, omega arith), (inl (omega arith, omega arith), tt))));
   };
   ssid = omega arith;
 }
@@ -217,7 +220,8 @@ unfolding reading call_of_text
 a_calls =
     let octets = header 67 (field 65) (field 66) in
     let before = a_registers.after.now in
-    let after = event_at 0 LinkConnect (making 0 1 no_layer_3 aaaa bbbb (path_along route) (takes before octets)) in record {
+    let after = event_at 0 LinkConnect (making 0 1 no_layer_3 aaaa bbbb (path_along route) (takes before octets)) in
+        record {
       station = A;
       input = FromHost (Bytes 1 octets);
       before = before;
@@ -233,7 +237,8 @@ abbrev pub b_hears_sabm : Step
 unfolding reading call_of_text
 b_hears_sabm =
     let before = b_registers.after.now in
-    let made = making 0 1 no_layer_3 bbbb aaaa (way_back command_path Command) (shown command_path sabm sabm_frame before) in
+    let made = making 0 1 no_layer_3 bbbb aaaa (way_back command_path Command)
+        (shown command_path sabm sabm_frame before) in
     let after = event_at 0 (LinkHear sabm_frame) made in record {
       station = B;
       input = OffAir sabm;

@@ -1,10 +1,13 @@
--- What is in flight from the links of a station: the frames that were queued, each with its tags if it is a frame of the
+-- What is in flight from the links of a station: the frames that were queued, each with its tags if it is a frame of
+-- the
 -- link that is meant, read along the pairs that are still to be heard.
-use Rattle.std.proofs.Common.{◌≡◌, ℕ, zero, suc, ◌+◌, ◌<◌, ◌≤◌, Bool, true, false, ◌||◌, List, [], ◌∷◌, ◌++◌, length, map, Option, Some, None, get_or, refl, sym, ap, ◌∙◌, arith, inl, inr}
+use Rattle.std.proofs.Common.{◌≡◌, ℕ, zero, suc, ◌+◌, ◌<◌, ◌≤◌, Bool, true, false, ◌||◌, List, [], ◌∷◌, ◌++◌, length,
+    map, Option, Some, None, get_or, refl, sym, ap, ◌∙◌, arith, inl, inr}
 use Rattle.std.specs.Bool.{⊤}
 use Rattle.std.specs.List.{range_with_len, AllByRecursion as Each}
 use Rattle.std.proofs.lemmas.Bool.{cases_lt, cases_eq, eq-eqb, ne_eqb}
-use Rattle.std.proofs.lemmas.List.{append-nil, append_assoc, get_or_append_left, get_or-append-add, get_or_past, length-append}
+use Rattle.std.proofs.lemmas.List.{append-nil, append_assoc, get_or_append_left, get_or-append-add, get_or_past,
+    length-append}
 use Rattle.link_world.specs.Flight.{Tagged}
 use Rattle.link_world.specs.Changes.{kept, kept_by}
 use Rattle.channel_bench.specs.HeardInOrder.{Pair}
@@ -34,7 +37,8 @@ rise_lower h k s t [] low below r = tt
 rise_lower h k s t (p ∷ ps) low below r = let a = r.0 in let b = r.1 in (omega arith, omega arith, r.2)
 
 -- past the end there is nothing
-pub flight_past : (tags : List (Option Tagged)) (h s : ℕ) (ps : List Pair) → length tags ≤ s → RiseFrom h s ps → flight tags ps ≡ []
+pub flight_past : (tags : List (Option Tagged)) (h s : ℕ) (ps : List Pair) → length tags ≤ s → RiseFrom h s ps
+    → flight tags ps ≡ []
 flight_past tags h s [] past r = refl
 flight_past tags h s (p ∷ ps) past r =
     let at = r.1 in
@@ -51,7 +55,8 @@ none_at [] k h = refl
 none_at (o ∷ tags) zero h = h.0
 none_at (o ∷ tags) (suc k) h = none_at tags k h.1
 
-tag_append_none : (tags others : List (Option Tagged)) (k : ℕ) → AreNone others → tag_at (tags ++ others) k ≡ tag_at tags k
+tag_append_none : (tags others : List (Option Tagged)) (k : ℕ) → AreNone others
+    → tag_at (tags ++ others) k ≡ tag_at tags k
 tag_append_none [] others k h = none_at others k h
 tag_append_none (o ∷ tags) others zero h = refl
 tag_append_none (o ∷ tags) others (suc k) h = tag_append_none tags others k h
@@ -85,7 +90,8 @@ flight_more tags f h s (p ∷ ps) r = elim (cases_lt p.sent (length tags)) [
       let rest = flight_more tags f (p.heard + 1) (p.sent + 1) ps r.2 in
       let same : is_named (p ∷ ps) (length tags) ≡ is_named ps (length tags) =
       ap (λ b. b || is_named ps (length tags)) (ne_eqb p.sent (length tags) other) in
-      ap (λ o. before_flight o (flight (tags ++ Some f ∷ []) ps)) (get_or_append_left tags (Some f ∷ []) None p.sent before)
+      ap (λ o. before_flight o (flight (tags ++ Some f ∷ []) ps))
+          (get_or_append_left tags (Some f ∷ []) None p.sent before)
       ∙ ap (before_flight (tag_at tags p.sent)) rest
       ∙ before_append (tag_at tags p.sent) (flight tags ps) (kept_by (is_named ps (length tags)) f [])
       ∙ ap (λ b. flight tags (p ∷ ps) ++ kept_by b f []) (sym same)
@@ -93,7 +99,8 @@ flight_more tags f h s (p ∷ ps) r = elim (cases_lt p.sent (length tags)) [
     | inl here ↦
         let past : length (tags ++ Some f ∷ []) ≤ p.sent + 1 = let n = one_past tags (Some f) in omega arith in
         let there : tag_at (tags ++ Some f ∷ []) p.sent ≡ Some f =
-        ap (tag_at (tags ++ Some f ∷ [])) (here ∙ sym (plus_zero (length tags))) ∙ get_or-append-add tags (Some f ∷ []) 0 None in
+        ap (tag_at (tags ++ Some f ∷ [])) (here ∙ sym (plus_zero (length tags)))
+            ∙ get_or-append-add tags (Some f ∷ []) 0 None in
         let named : is_named (p ∷ ps) (length tags) ≡ true =
         ap (λ b. b || is_named ps (length tags)) (eq-eqb p.sent (length tags) here) in
         let none : tag_at tags p.sent ≡ None = get_or_past tags p.sent None (omega arith) in
@@ -155,7 +162,8 @@ named_rest [] rest bound number h low = refl
 named_rest (p ∷ done) rest bound number h low =
     let less : p.sent < bound = h.0 in
     let other : p.sent ≡ number → ⊥ = λ e. absurd (omega arith) in
-    ap (λ b. b || is_named (done ++ rest) number) (ne_eqb p.sent number other) ∙ named_rest done rest bound number h.1 low
+    ap (λ b. b || is_named (done ++ rest) number) (ne_eqb p.sent number other)
+        ∙ named_rest done rest bound number h.1 low
 
 marks_rest :
     (done rest : List Pair) (bound first count : ℕ) → Each (λ (p : Pair). p.sent < bound) done → bound ≤ first
@@ -165,7 +173,8 @@ marks_rest done rest bound first (suc count) h low =
     ap (λ b. b ∷ marks (done ++ rest) (first + 1) count) (named_rest done rest bound first h low)
     ∙ ap (λ bs. is_named rest first ∷ bs) (marks_rest done rest bound (first + 1) count h (omega arith))
 
-pub marks_as_map : (ps : List Pair) (first from count : ℕ) → map (λ k. is_named ps (first + k)) (range_with_len from count) ≡ marks ps (first + from) count
+pub marks_as_map : (ps : List Pair) (first from count : ℕ)
+    → map (λ k. is_named ps (first + k)) (range_with_len from count) ≡ marks ps (first + from) count
 marks_as_map ps first from zero = refl
 marks_as_map ps first from (suc count) =
     let next : first + (from + 1) ≡ first + from + 1 = omega arith in

@@ -1,6 +1,7 @@
 -- The host programs of a bench: which connections they have, what has come from each, and that a step of a station
 -- changes no more of that than what comes in it.
-use Rattle.std.proofs.Common.{◌≡◌, ℕ, ◌==◌, Bool, true, false, List, [], ◌∷◌, length, cond, nat_lt, Option, Some, None, refl, sym, ap, ◌∙◌, subst}
+use Rattle.std.proofs.Common.{◌≡◌, ℕ, ◌==◌, Bool, true, false, List, [], ◌∷◌, length, cond, nat_lt, Option, Some, None,
+    refl, sym, ap, ◌∙◌, subst}
 use Rattle.std.specs.List.{AllByRecursion as Each}
 use Rattle.std.proofs.lemmas.Bool.{eqb-true}
 use Rattle.agwpe_port.specs.Messages.{spelling}
@@ -18,12 +19,14 @@ use Rattle.station.specs.Turn.{Turn, begin, changing, closing}
 use Rattle.channel_bench.specs.BenchSteps.{program_id}
 use Rattle.channel_bench.specs.BenchTick.{kiss_id}
 use Rattle.channel_bench.specs.HostProgram.{full_duplex_octets}
-use Rattle.channel_bench.proofs.HostStreams.{IsSetting, IsWhole, none_bad, one_new, one_setting, setting_more, whole_more}
+use Rattle.channel_bench.proofs.HostStreams.{IsSetting, IsWhole, none_bad, one_new, one_setting, setting_more,
+    whole_more}
 use Rattle.channel_bench.proofs.TurnWalks.{Kept, kept_by_acts}
 
 -- ---- the connections
 
--- A connection of the bench: of the host program by AGWPE, and another by KISS. What came by AGWPE are whole messages, and
+-- A connection of the bench: of the host program by AGWPE, and another by KISS. What came by AGWPE are whole messages,
+-- and
 -- what came by KISS sets full duplex.
 pub record IsHosts (c : Connection) : Type 0 where
   pub kiss : c.id ≡ kiss_id → c.kind ≡ Kiss
@@ -123,7 +126,8 @@ kiss_hosts c is h = record {
   monitors = h.monitors;
 }
 
--- What the octets of one message of the host program do: nothing, if it has no connection, and else what the message does.
+-- What the octets of one message of the host program do: nothing, if it has no connection, and else what the message
+-- does.
 pub data IsSaid (message : AgwMessage) (before after : Turn) : Type 0 where
   unheard : after ≡ before → IsSaid message before after
   said : IsAnswered program_id message (taking program_id (spelling message) before) after → IsSaid message before after

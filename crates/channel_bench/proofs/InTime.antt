@@ -1,6 +1,7 @@
 -- A heard frame is matched with one in flight: what a station sends comes to the other one in order, and a frame that
 -- a mark has passed is not heard later.
-use Rattle.std.proofs.Common.{◌≡◌, ℕ, cond, ◌+◌, ◌-◌, ◌*◌, ◌<◌, ◌≤◌, ◌==◌, ◌⊎◌, max, Bool, true, false, List, [], ◌∷◌, ◌++◌, length, map, drop, get_or, Option, Some, None, refl, sym, ap, ◌∙◌, subst, inl, inr, arith, length-append}
+use Rattle.std.proofs.Common.{◌≡◌, ℕ, cond, ◌+◌, ◌-◌, ◌*◌, ◌<◌, ◌≤◌, ◌==◌, ◌⊎◌, max, Bool, true, false, List, [], ◌∷◌,
+    ◌++◌, length, map, drop, get_or, Option, Some, None, refl, sym, ap, ◌∙◌, subst, inl, inr, arith, length-append}
 use Rattle.std.specs.Prelude.{count_by, option_map, slice_get}
 use Rattle.std.proofs.Math.Nat.{max-le}
 use Rattle.std.proofs.lemmas.Bool.{cases_lt}
@@ -17,7 +18,8 @@ use Rattle.station.specs.Ticks.{air_of}
 use Rattle.channel_bench.specs.declared.matching.SentAt.{SentAt}
 use Rattle.channel_bench.specs.BenchState.{Near, SideState}
 use Rattle.channel_bench.specs.BenchSteps.{IsStep, distance, program_id, told_octets, told_piece, told_pieces}
-use Rattle.channel_bench.specs.InFlight.{Moment, AreMatched, BothWays, IsInFlight, IsMatched, IsMatchedIn, LinkFrame, OneWay, after_moment, after_moments, hears_ask, hearing_at, nothing_sent, sent_by, steps_in}
+use Rattle.channel_bench.specs.InFlight.{Moment, AreMatched, BothWays, IsInFlight, IsMatched, IsMatchedIn, LinkFrame,
+    OneWay, after_moment, after_moments, hears_ask, hearing_at, nothing_sent, sent_by, steps_in}
 use Rattle.channel_bench.specs.InFlight.Moment.{Steps, Passes}
 use Rattle.channel_bench.specs.JointRun.{Input, Step, at_end, queued_at}
 use Rattle.channel_bench.specs.JointRun.Input.{OffAir, OfClock}
@@ -26,7 +28,8 @@ use Rattle.channel_bench.proofs.ChannelOrder.{octets_of, sent_octets}
 use Rattle.channel_bench.proofs.Framed.{framed, octets_framed, octets_in}
 use Rattle.channel_bench.proofs.NotedRun.{moments_more, steps_more}
 use Rattle.channel_bench.proofs.SentInOrder.{InOrder, sent_at, sent_in_step, sent_more}
-use Rattle.channel_bench.proofs.TowardsLemmas.{IsMatchAt, Rising, counted_within, has_passed, octets_at, passed_counted, rising_later, rising_more, still_there}
+use Rattle.channel_bench.proofs.TowardsLemmas.{IsMatchAt, Rising, counted_within, has_passed, octets_at, passed_counted,
+    rising_later, rising_more, still_there}
 use Rattle.channel_bench.proofs.Ways.{hearing_one, hearing_none, queued_by, queued_passed, stepped_other, stepped_own}
 
 -- ---- the frames that links have queued, in a run with its matches
@@ -81,7 +84,8 @@ matched_more (first ∷ moments) moment ways matched next =
 
 -- ---- one direction
 
--- The frames that a station has sent are those whose sending has ended and one that is still to be told of. Those that are no
+-- The frames that a station has sent are those whose sending has ended and one that is still to be told of. Those that
+-- are no
 -- longer in flight were matched, or a mark has passed them.
 pub record WayHolds (pending : Option Sent) (sent : List (List ℕ)) (front ticks : ℕ) (towards : List SentAt)
     (matched samples : ℕ)

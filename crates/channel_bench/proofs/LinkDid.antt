@@ -1,5 +1,6 @@
 -- What an event of a link does to its set-up and to a wish to disconnect, act by act.
-use Rattle.std.proofs.Common.{◌≡◌, ℕ, ◌==◌, ◌&&◌, Bool, true, false, List, [], ◌∷◌, ◌++◌, length, cond, if◌then◌else◌, Option, Some, None, is_some, refl, sym, ap, ◌∙◌, subst}
+use Rattle.std.proofs.Common.{◌≡◌, ℕ, ◌==◌, ◌&&◌, Bool, true, false, List, [], ◌∷◌, ◌++◌, length, cond, if◌then◌else◌,
+    Option, Some, None, is_some, refl, sym, ap, ◌∙◌, subst}
 use Rattle.std.specs.Bool.{⊤}
 use Rattle.std.proofs.lemmas.Bool.{and_parts}
 use Rattle.std.proofs.lemmas.List.{append_assoc}
@@ -19,15 +20,18 @@ use Rattle.link_machine.specs.declared.state.LinkState.TheVariants.{Idle, Callin
 use Rattle.link_machine.specs.Acts.{close, flush, release, reset, send_packets, to_send, nothing_due}
 use Rattle.link_machine.specs.Event.{Event}
 use Rattle.link_machine.specs.Event.Event.{Connect, Send, Disconnect, Hear, Tick}
-use Rattle.link_machine.specs.Frames.{answer_dm, hear_calling_in, hear_idle, hear_in, hear_info, hear_releasing, hear_supervisory, hear_up, open_again}
+use Rattle.link_machine.specs.Frames.{answer_dm, hear_calling_in, hear_idle, hear_in, hear_info, hear_releasing,
+    hear_supervisory, hear_up, open_again}
 use Rattle.link_machine.specs.Machine.{Machine, is_valid, is_wide, named}
 use Rattle.link_machine.specs.Step.{refusal_of, row, settle_in, settled, step}
-use Rattle.link_machine.specs.Ticks.{is_spent, runs_out, t1_out, t2_out, t3_out, tick_in, tick_t1, tick_t1_of, tick_t2, tick_t2_of, tick_t3_of, with_t1, with_t2, with_t3}
+use Rattle.link_machine.specs.Ticks.{is_spent, runs_out, t1_out, t2_out, t3_out, tick_in, tick_t1, tick_t1_of, tick_t2,
+    tick_t2_of, tick_t3_of, with_t1, with_t2, with_t3}
 use Rattle.link_machine.specs.Turn.{Turn, begin, setting}
 use Rattle.link_world.specs.Flight.{asks}
 use Rattle.link_world.specs.Law.{names_valid}
 use Rattle.channel_bench.proofs.LinkKinds.{IsLinkKind}
-use Rattle.channel_bench.proofs.LinkTells.{Gives, awaiting_mode, gives_none, gives_on, idle_is, info_gives, supervisory_gives}
+use Rattle.channel_bench.proofs.LinkTells.{Gives, awaiting_mode, gives_none, gives_on, idle_is, info_gives,
+    supervisory_gives}
 use Rattle.channel_bench.proofs.Tables.{not_both}
 
 -- What acts do, by what they were: a connect, a disconnect, a frame that asks, or one that makes the link call anew.
@@ -35,7 +39,8 @@ pub data Did (connects disconnects called wrong : Type 0) (t u : Turn) : Type 0 
   -- data at most is told of, and the link stands as before
   gives : Gives t u → Did connects disconnects called wrong t u
   -- a wish to disconnect
-  wishes : disconnects → u.told ≡ t.told → u.now.control.state ≡ t.now.control.state → Did connects disconnects called wrong t u
+  wishes : disconnects → u.told ≡ t.told → u.now.control.state ≡ t.now.control.state
+      → Did connects disconnects called wrong t u
   -- the link calls
   calls :
       connects → u.told ≡ t.told → t.now.control.state ≡ Idle → u.now.control.state ≡ Calling
@@ -123,7 +128,8 @@ reset_did t wrong = resets wrong (Ended Reset ∷ []) refl refl refl
 
 again_did : {k c d w : Type 0} (modulus : ℕ) (flag : Bool) (t : Turn) → d → Did k c d w t (open_again modulus flag t)
 again_did modulus flag t called =
-    is_called called (Ended Reset ∷ Opened false ∷ []) (append_assoc t.told (Ended Reset ∷ []) (Opened false ∷ [])) refl refl
+    is_called called (Ended Reset ∷ Opened false ∷ []) (append_assoc t.told (Ended Reset ∷ []) (Opened false ∷ []))
+        refl refl
 
 -- one of two acts, by whether a number is valid
 by_valid :
@@ -143,7 +149,8 @@ up_did command (Info ns nr flag pid octets) t up =
     by_valid (Info ns nr flag pid octets) (is_valid nr t.now) t (hear_info (named nr t.now) ns flag packet t) refl up
     (info_gives (named nr t.now) ns flag packet t)
 up_did command (Super which nr flag) t up =
-    by_valid (Super which nr flag) (is_valid nr t.now) t (hear_supervisory which (named nr t.now) command flag t) refl up
+    by_valid (Super which nr flag) (is_valid nr t.now) t (hear_supervisory which (named nr t.now) command flag t)
+        refl up
     (supervisory_gives which (named nr t.now) command flag t)
 up_did command (Ui flag pid octets) t up = none t _ refl refl refl
 up_did command (Other Frmr flag octets) t up = reset_did t (λ right. right.0)
@@ -303,7 +310,8 @@ by_ticking m waiting t u (opens calling told state quit) = opens calling told st
 by_ticking m waiting t u (is_called never more told state quit) = absurd never
 by_ticking m waiting t u (resets never more told state quit) = absurd never
 
-row_did : (m : Machine) (event : Event) → is_some (refusal_of m event) ≡ false → DidIn m event (begin m) (row event (begin m))
+row_did : (m : Machine) (event : Event) → is_some (refusal_of m event) ≡ false
+    → DidIn m event (begin m) (row event (begin m))
 row_did m Connect taken = calls refl refl (idle_is m.control.state _ taken) refl refl
 row_did m (Send packet) taken = none (begin m) _ refl refl refl
 row_did m Disconnect taken = wishes refl refl refl
@@ -353,7 +361,8 @@ pub step_steps : (m : Machine) (event : Event) → Steps m event (step m event)
 unfolding step
 step_steps m event = go (is_some (refusal_of m event)) refl
   where
-    go : (b : Bool) → is_some (refusal_of m event) ≡ b → Steps m event (cond b (begin m) (settled (row event (begin m))))
+    go : (b : Bool) → is_some (refusal_of m event) ≡ b
+        → Steps m event (cond b (begin m) (settled (row event (begin m))))
     go true is = refused refl
     go false is =
         let t = row event (begin m) in

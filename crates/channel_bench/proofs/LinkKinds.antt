@@ -25,7 +25,8 @@ abbrev IsLinkRead : Option Kind → Type 0
 IsLinkRead None = ⊤
 IsLinkRead (Some kind) = IsLinkKind kind
 
-wide_read : (ns nr : ℕ) (poll : Bool) (second : ℕ) (octets : List ℕ) → IsLinkRead (info_read_wide ns nr poll second octets)
+wide_read : (ns nr : ℕ) (poll : Bool) (second : ℕ) (octets : List ℕ)
+    → IsLinkRead (info_read_wide ns nr poll second octets)
 wide_read ns nr poll second [] = tt
 wide_read ns nr poll second (pid ∷ octets) = tt
 

@@ -23,7 +23,8 @@ use Rattle.channel_bench.specs.StationsLaw.{IsMachineOf, LinkKeepsOrder, first_c
 use Rattle.channel_bench.specs.Words.{seed_at}
 use Rattle.channel_bench.proofs.CallerLaws.{events_by}
 use Rattle.channel_bench.proofs.ChainRun.{BIsPassive, EndAsks, RunChain, run_chained}
-use Rattle.channel_bench.proofs.Chains.{AsksInSetUp, HearsWell, IsChain, StandsAsked, StandsCalled, asked_behind, called_behind, chain_asked, chain_called, chain_tells, last_machine}
+use Rattle.channel_bench.proofs.Chains.{AsksInSetUp, HearsWell, IsChain, StandsAsked, StandsCalled, asked_behind,
+    called_behind, chain_asked, chain_called, chain_tells, last_machine}
 use Rattle.channel_bench.proofs.LinkTells.{none_idle}
 use Rattle.channel_bench.proofs.MatchedLaws.{matched_law_holds}
 use Rattle.channel_bench.proofs.MatchedOrder.{matched_in_order_holds}
@@ -96,12 +97,14 @@ first_machine w A = (first_world the_calls (params_of w) (params_of w)).a.end.ma
 first_machine w B = (first_world the_calls (params_of w) (params_of w)).b.end.machine
 
 chained : (w : BenchWords) (moments : List Moment) (s : Stations) → Known w moments s
-    → RunChain the_calls (pairs_in moments) (record { a = 0; b = 0 }) (first_world the_calls (params_of w) (params_of w))
+    → RunChain the_calls (pairs_in moments) (record { a = 0; b = 0 })
+        (first_world the_calls (params_of w) (params_of w))
     (steps_in moments)
 chained w moments s known =
     let config = config_of w in
     let order = matched_in_order_holds moments known.matched in
-    run_chained config config (seed_at w A) (seed_at w B) (steps_in moments) (pairs_in moments) the_calls known.noted.run
+    run_chained config config (seed_at w A) (seed_at w B) (steps_in moments) (pairs_in moments)
+        the_calls known.noted.run
     order.0 order.1
 
 pub link_chain : (w : BenchWords) (moments : List Moment) (s : Stations) → Known w moments s → (e : End)
@@ -120,7 +123,8 @@ link_told w moments s known B =
 -- how the link stands
 pub record LinkNow (w : BenchWords) (moments : List Moment) (s : Stations) (e : End) : Type 0 where
   pub chain : IsChain (first_machine w e) (links_of e moments)
-  pub runs : RunsIn (runs_behind false (links_of e moments)) (last_machine (first_machine w e) (links_of e moments)).control.state
+  pub runs : RunsIn (runs_behind false (links_of e moments))
+      (last_machine (first_machine w e) (links_of e moments)).control.state
   pub stands :
       let last = last_machine (first_machine w e) (links_of e moments) in
       StandsAsked (asked_behind false (links_of e moments)) last.control.state last.control.quit
@@ -130,7 +134,8 @@ pub record LinkNow (w : BenchWords) (moments : List Moment) (s : Stations) (e : 
       → StandsCalled (called_behind false (links_of e moments))
       (last_machine (first_machine w e) (links_of e moments)).control.state
   pub machine :
-      IsMachineOf (first_chosen (chosen e) (state_of e s).links.places) (last_machine (first_machine w e) (links_of e moments))
+      IsMachineOf (first_chosen (chosen e) (state_of e s).links.places)
+          (last_machine (first_machine w e) (links_of e moments))
 
 machine_at :
     (w : BenchWords) (moments : List Moment) (s : Stations) (known : Known w moments s) (e : End)
@@ -166,7 +171,8 @@ link_now w moments s known A asks =
       chain = chain;
       runs = (chain_tells false (first_machine w A) (links_of A moments) chain none_idle).now;
       stands = chain_asked false (first_machine w A) (links_of A moments) chain asks refl;
-      called = λ is. (chain_called false (first_machine w A) (links_of A moments) chain (well w moments s known) tt).now;
+      called = λ is. (chain_called false (first_machine w A) (links_of A moments) chain (well w moments s known)
+          tt).now;
       machine = machine_at w moments s known A;
     }
 link_now w moments s known B asks =

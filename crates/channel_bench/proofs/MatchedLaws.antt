@@ -16,11 +16,13 @@ use Rattle.channel_bench.proofs.QuietJoint.{EventsHold, quiet_run}
 events_hold : (calls : Calls) (steps : List Step) → OnlyACalls calls steps → EventsHold calls steps
 events_hold calls [] h = tt
 events_hold calls (step ∷ steps) h =
-    (recursion_from_All (IsEventOfCaller step.station) (steps_of (link_at_end calls step.station) step) h.0, events_hold calls steps h.1)
+    (recursion_from_All (IsEventOfCaller step.station) (steps_of (link_at_end calls step.station) step) h.0,
+        events_hold calls steps h.1)
 
 -- the link of two calls is quiet
 quiet_link :
-    (a b : Config) (seed_a seed_b : ℕ) (moments : List Moment) (calls : Calls) → ChangesLaw → WindowsFit a.params b.params
+    (a b : Config) (seed_a seed_b : ℕ) (moments : List Moment) (calls : Calls) → ChangesLaw
+        → WindowsFit a.params b.params
     → IsJointRun (new_stations a seed_a b seed_b) (steps_in moments) → AreMatched moments nothing_sent
     → AreQuietThrough moments nothing_sent → OnlyACalls calls (steps_in moments)
     → IsQuietLink calls (pairs_in moments) a.params b.params (steps_in moments)
@@ -53,7 +55,8 @@ quiet_link a b seed_a seed_b moments calls law fit run matched quiet holds =
       holds = events_hold calls (steps_in moments) holds;
       asks = record { few = omega arith; up = λ is. refl; unasked = refl; unanswered = refl; marked = tt };
       start = start;
-      law = λ changes calm. (law (path_between calls.a calls.b) (path_between calls.b calls.a) a.params b.params fit changes calm).numbers;
+      law = λ changes calm. (law (path_between calls.a calls.b) (path_between calls.b calls.a)
+          a.params b.params fit changes calm).numbers;
       so_far = [];
       world_is = refl;
       quiet_so_far = tt;

@@ -1,6 +1,8 @@
--- At a station of a bench each link is between the two calls, and the host program owns it: what the acts of a step make of
+-- At a station of a bench each link is between the two calls, and the host program owns it: what the acts of a step
+-- make of
 -- that, what the program is sent, and which frames join the queue.
-use Rattle.std.proofs.Common.{◌≡◌, ℕ, ◌==◌, nat_lt, Bool, true, false, List, [], ◌∷◌, ◌++◌, length, map, cond, Option, Some, None, refl, sym, ap, ◌∙◌, subst}
+use Rattle.std.proofs.Common.{◌≡◌, ℕ, ◌==◌, nat_lt, Bool, true, false, List, [], ◌∷◌, ◌++◌, length, map, cond, Option,
+    Some, None, refl, sym, ap, ◌∙◌, subst}
 use Rattle.std.specs.Bool.{⊤}
 use Rattle.std.specs.Prelude.{MatchBool, filter, find, flat_map, option_map}
 use Rattle.std.specs.List.{range_with_len, AllByRecursion as Each}
@@ -22,7 +24,8 @@ use Rattle.agwpe_port.specs.declared.message.AgwMessage.{AgwMessage}
 use Rattle.link_machine.specs.declared.acts.SentFrame.{SentFrame}
 use Rattle.link_machine.specs.declared.acts.Told.{Told}
 use Rattle.link_machine.specs.Event.{Event as LinkEvent}
-use Rattle.link_machine.specs.Event.Event.{Connect as LinkConnect, Send as LinkSend, Disconnect as LinkDisconnect, Hear as LinkHear, Tick as LinkTick}
+use Rattle.link_machine.specs.Event.Event.{Connect as LinkConnect, Send as LinkSend, Disconnect as LinkDisconnect,
+    Hear as LinkHear, Tick as LinkTick}
 use Rattle.link_machine.specs.Machine.{Machine, modulus_named}
 use Rattle.link_machine.specs.Sent.{SentIn, frame_of, sent_frame}
 use Rattle.link_machine.specs.Step.{done_of, step as link_turn}
@@ -35,9 +38,12 @@ use Rattle.station.specs.declared.host_out.Piece.{Piece}
 use Rattle.station.specs.declared.registration.Registration.{Registration}
 use Rattle.station.specs.Connections.{Connection}
 use Rattle.station.specs.FrameSpelling.{path_octets}
-use Rattle.station.specs.Heard.{AreHeardAt, AreOctetsHeard, IsHeard, IsHeardAnew, IsHeardBy, IsHeardMaking, IsReadAs, IsReadingHeardAnew, IsRepeatedFor, destination_field, hearing_at, kiss_data, may_make, showing, showing_to, shown_to_hosts, source_field, waits_for_repeater, with_shown}
+use Rattle.station.specs.Heard.{AreHeardAt, AreOctetsHeard, IsHeard, IsHeardAnew, IsHeardBy, IsHeardMaking, IsReadAs,
+    IsReadingHeardAnew, IsRepeatedFor, destination_field, hearing_at, kiss_data, may_make, showing, showing_to,
+    shown_to_hosts, source_field, waits_for_repeater, with_shown}
 use Rattle.station.specs.HostMessages.{message_of_told}
-use Rattle.station.specs.LinkEvents.{event_at, event_of, is_idle, link_event, queueing_frame, queueing_frames, settled_link, telling_one, telling_to, with_links}
+use Rattle.station.specs.LinkEvents.{event_at, event_of, is_idle, link_event, queueing_frame, queueing_frames,
+    settled_link, telling_one, telling_to, with_links}
 use Rattle.station.specs.Links.{Link, Links, key_between, link_at, most_links, with_link, without_link}
 use Rattle.station.specs.Monitoring.{monitor_pieces, piece_for, to_monitors}
 use Rattle.station.specs.NewLinks.{idle_link, making, no_layer_3}
@@ -49,7 +55,8 @@ use Rattle.channel_bench.specs.BenchOrder.{the_calls}
 use Rattle.channel_bench.specs.BenchSteps.{program_id}
 use Rattle.channel_bench.specs.HostProgram.{call_at}
 use Rattle.channel_bench.specs.LinkOfCalls.{link_at_end}
-use Rattle.channel_bench.specs.LinkSteps.{Choice, LinkStep, anew_steps, by_path_steps, heard_steps, hears_at, key_steps, link_step, new_steps, path_steps, reading_steps, steps_along, steps_at, steps_for, tick_steps, ticks_at}
+use Rattle.channel_bench.specs.LinkSteps.{Choice, LinkStep, anew_steps, by_path_steps, heard_steps, hears_at, key_steps,
+    link_step, new_steps, path_steps, reading_steps, steps_along, steps_at, steps_for, tick_steps, ticks_at}
 use Rattle.channel_bench.specs.Owners.{pieces_to}
 use Rattle.channel_bench.specs.RunsTell.{told_in}
 use Rattle.channel_bench.proofs.Addresses.{IsGoodPath, frame_spelled}
@@ -179,7 +186,8 @@ IsFromPartner e octets =
 module _ (c : Cause) where
   -- ---- acts one after another
 
-  -- What acts make of a turn: the host program is sent what the events of the link tell, and the frames of the link join.
+  -- What acts make of a turn: the host program is sent what the events of the link tell, and the frames of the link
+  -- join.
   pub record Says (e : End) (t : Turn) (steps : List LinkStep) (u : Turn) : Type 0 where
     pub owns : OwnsAll e u.now
     pub closed : u.out.closed ≡ t.out.closed
@@ -329,7 +337,8 @@ module _ (c : Cause) where
       → IsOwn e (record link { machine = now }) → Each (IsOwnPlace e) (settled_link key link now links).places
   own_settled e key link now links all own = go (is_idle now.control.state)
     where
-      go : (b : Bool) → Each (IsOwnPlace e) (cond b (without_link key links) (with_link key (record link { machine = now }) links)).places
+      go : (b : Bool) → Each (IsOwnPlace e) (cond b (without_link key links)
+          (with_link key (record link { machine = now }) links)).places
       go true = each_set (IsOwnPlace e) links.places key None all tt
       go false = each_set (IsOwnPlace e) links.places key (Some (record link { machine = now })) all own
 
@@ -380,11 +389,13 @@ module _ (c : Cause) where
 
   -- ---- ticks
 
-  pub ticks_say : (e : End) (t : Turn) → others ≡ c → OwnsAll e t.now → Says e t (tick_steps (chosen e) t) (ticking_links t)
+  pub ticks_say : (e : End) (t : Turn) → others ≡ c → OwnsAll e t.now
+      → Says e t (tick_steps (chosen e) t) (ticking_links t)
   unfolding ticking_links
   ticks_say e t by owns =
       says_along e ticking_at (ticks_at (chosen e))
-      (λ key u h. event_says e None key (LinkTick (waits key u.now.channel.waiting)) u by h) (range_with_len 0 most_links) t owns
+      (λ key u h. event_says e None key (LinkTick (waits key u.now.channel.waiting)) u by h)
+          (range_with_len 0 most_links) t owns
 
   -- ---- a link that is made
 
@@ -571,4 +582,5 @@ module _ (c : Cause) where
       let calm = shown_calm (source_field h.path) (destination_field h.path) octets t.now.connections t in
       let first = shown_says e h.path octets h.monitored t owns unshown in
       says_on e t shown u [] (by_path_steps (chosen e) h.path octets shown u h.effect) first
-      (by_path_says e h.path octets shown u by (ap (λ (s : StationState). s.digi) calm.now ∙ none) first.owns from h.effect)
+      (by_path_says e h.path octets shown u by (ap (λ (s : StationState). s.digi) calm.now ∙ none)
+          first.owns from h.effect)

@@ -1,23 +1,27 @@
 -- What an event of a link sends to hosts.
-use Rattle.std.proofs.Common.{◌≡◌, ℕ, Bool, true, false, nat_lt, List, [], ◌∷◌, ◌++◌, length, cond, Option, Some, None, refl, sym, ap, ◌∙◌}
+use Rattle.std.proofs.Common.{◌≡◌, ℕ, Bool, true, false, nat_lt, List, [], ◌∷◌, ◌++◌, length, cond, Option, Some, None,
+    refl, sym, ap, ◌∙◌}
 use Rattle.std.proofs.lemmas.List.{append-nil, append_assoc}
 use Rattle.ax25_address.specs.Callsign.{Callsign}
 use Rattle.link_machine.specs.declared.acts.SentFrame.{SentFrame}
 use Rattle.link_machine.specs.declared.acts.Told.{Told}
 use Rattle.link_machine.specs.Step.{step, done_of}
-use Rattle.station.specs.LinkEvents.{settled_link, with_links, telling_one, telling_to, queueing_frame, queueing_frames, event_of}
+use Rattle.station.specs.LinkEvents.{settled_link, with_links, telling_one, telling_to, queueing_frame, queueing_frames,
+    event_of}
 use Rattle.station.specs.Turn.{Turn, changing, queueing, entering, dropping, capacity}
 use Rattle.channel_bench.specs.Owners.{piece_of, pieces_to, OwnersAreTold}
 
 -- a frame that is queued is nothing to a host
-pub queued_pieces : (link : Option ℕ) (octets : List ℕ) (turn : Turn) → (queueing link octets turn).out.pieces ≡ turn.out.pieces
+pub queued_pieces : (link : Option ℕ) (octets : List ℕ) (turn : Turn)
+    → (queueing link octets turn).out.pieces ≡ turn.out.pieces
 queued_pieces link octets turn = go (nat_lt (length turn.now.channel.waiting) capacity)
   where
     go : (b : Bool) → (cond b (entering link octets turn) (dropping turn)).out.pieces ≡ turn.out.pieces
     go true = refl
     go false = refl
 
-frames_pieces : (key : ℕ) (frames : List SentFrame) (turn : Turn) → (queueing_frames key frames turn).out.pieces ≡ turn.out.pieces
+frames_pieces : (key : ℕ) (frames : List SentFrame) (turn : Turn)
+    → (queueing_frames key frames turn).out.pieces ≡ turn.out.pieces
 frames_pieces key [] turn = refl
 frames_pieces key (f ∷ frames) turn =
     frames_pieces key frames (queueing_frame key f turn) ∙ queued_pieces (Some key) _ turn

@@ -1,5 +1,6 @@
 -- Whatever happens to a link, it stays on its path, and keeps what it was made with.
-use Rattle.std.proofs.Common.{◌≡◌, ℕ, Bool, true, false, if◌then◌else◌, ◌&&◌, not, nat_lt, ◌==◌, [], ◌∷◌, length, refl, ◌∙◌, Option, Some, None, is_some}
+use Rattle.std.proofs.Common.{◌≡◌, ℕ, Bool, true, false, if◌then◌else◌, ◌&&◌, not, nat_lt, ◌==◌, [], ◌∷◌, length, refl,
+    ◌∙◌, Option, Some, None, is_some}
 use Rattle.ax25_frames.specs.FrameText.{is_command_of}
 use Rattle.ax25_frames.specs.declared.frame.Kind.{Kind}
 use Rattle.ax25_frames.specs.declared.frame.Kind.TheVariants.{Info, Super, Setup, Ui, Other}
@@ -17,9 +18,15 @@ use Rattle.link_machine.specs.declared.state.LinkState.TheVariants.{Idle, Callin
 use Rattle.link_machine.specs.declared.acts.Why.TheVariants.{Failed}
 use Rattle.link_machine.specs.Machine.{Machine, is_wide, is_valid, named, ahead_of_vr}
 use Rattle.link_machine.specs.Turn.{Turn, Act, begin, changing, setting, in_order}
-use Rattle.link_machine.specs.Acts.{acknowledged, answer_poll, respond_ready, recover, gone_back, reset, owing, watching, with_rej, reject, run_with, give, stored, ask, send_again, to_send, send_packets, flush, release, close, settle}
-use Rattle.link_machine.specs.Frames.{answer_dm, end_call, hear_idle, hear_calling_in, hear_releasing, with_busy, hear_rr, hear_rnr, hear_rej, acknowledged_by_srej, hear_srej, hear_supervisory, take_in_sequence, refuse_out_of_sequence, hear_info_by_rej, take_selected, hear_info_by_srej, hear_info_by, hear_info, hear_up, hear_in}
-use Rattle.link_machine.specs.Ticks.{runs_out, with_t1, with_t2, with_t3, t2_out, is_spent, call_again, poll_again, release_again, t1_out, t3_out, tick_t2_of, tick_t2, tick_t3_of, tick_t1_of, tick_t1, tick_in}
+use Rattle.link_machine.specs.Acts.{acknowledged, answer_poll, respond_ready, recover, gone_back, reset, owing,
+    watching, with_rej, reject, run_with, give, stored, ask, send_again, to_send, send_packets, flush, release, close,
+    settle}
+use Rattle.link_machine.specs.Frames.{answer_dm, end_call, hear_idle, hear_calling_in, hear_releasing, with_busy,
+    hear_rr, hear_rnr, hear_rej, acknowledged_by_srej, hear_srej, hear_supervisory, take_in_sequence,
+    refuse_out_of_sequence, hear_info_by_rej, take_selected, hear_info_by_srej, hear_info_by, hear_info, hear_up,
+    hear_in}
+use Rattle.link_machine.specs.Ticks.{runs_out, with_t1, with_t2, with_t3, t2_out, is_spent, call_again, poll_again,
+    release_again, t1_out, t3_out, tick_t2_of, tick_t2, tick_t3_of, tick_t1_of, tick_t1, tick_in}
 use Rattle.link_machine.specs.Event.{Event}
 use Rattle.link_machine.specs.Event.Event.{Connect, Send, Disconnect, Hear, Tick}
 use Rattle.link_machine.specs.Step.{refusal_of, row, settle_in, settled, step}
@@ -42,22 +49,27 @@ setting_stays : (f : Control → Control) → Keeps (setting f)
 setting_stays f = λ t. (record { path = refl; params = refl })
 
 answer_poll_stays : (asks : Bool) → Keeps (answer_poll asks)
-answer_poll_stays asks = λ t. either asks t (respond_ready true t) t (record { path = refl; params = refl }) (record { path = refl; params = refl })
+answer_poll_stays asks = λ t. either asks t (respond_ready true t) t (record { path = refl; params = refl })
+    (record { path = refl; params = refl })
 
 recover_stays : (answers : Bool) → Keeps (recover answers)
-recover_stays answers = λ t. either (t.now.control.poll && answers) t _ t (record { path = refl; params = refl }) (record { path = refl; params = refl })
+recover_stays answers = λ t. either (t.now.control.poll && answers) t _ t (record { path = refl; params = refl })
+    (record { path = refl; params = refl })
 
 flush_stays : Keeps flush
-flush_stays = λ t. either (length (to_send t.now) == 0) t t (send_packets (to_send t.now) t) (record { path = refl; params = refl }) (record { path = refl; params = refl })
+flush_stays = λ t. either (length (to_send t.now) == 0) t t (send_packets (to_send t.now) t)
+    (record { path = refl; params = refl }) (record { path = refl; params = refl })
 
 close_stays : Keeps close
-close_stays = λ t. either (t.now.control.quit && length t.now.outgoing.packets == 0) t (release t) t (record { path = refl; params = refl }) (record { path = refl; params = refl })
+close_stays = λ t. either (t.now.control.quit && length t.now.outgoing.packets == 0) t (release t) t
+    (record { path = refl; params = refl }) (record { path = refl; params = refl })
 
 settle_stays : Keeps settle
 settle_stays = both flush close flush_stays close_stays
 
 send_again_stays : (n : ℕ) → Keeps (send_again n)
-send_again_stays n = λ t. either (nat_lt n t.now.outgoing.top) t _ t (record { path = refl; params = refl }) (record { path = refl; params = refl })
+send_again_stays n = λ t. either (nat_lt n t.now.outgoing.top) t _ t (record { path = refl; params = refl })
+    (record { path = refl; params = refl })
 
 hear_idle_stays : (command : Bool) (kind : Kind) → Keeps (hear_idle command kind)
 hear_idle_stays command (Setup Sabm flag) = λ t. (record { path = refl; params = refl })
@@ -153,7 +165,8 @@ take_in_sequence_stays flag packet =
 
 refuse_stays : (flag : Bool) → Keeps (refuse_out_of_sequence flag)
 refuse_stays flag = λ t.
-    either t.now.control.rej t (answer_poll flag t) (reject flag t) (answer_poll_stays flag t) (record { path = refl; params = refl })
+    either t.now.control.rej t (answer_poll flag t) (reject flag t) (answer_poll_stays flag t)
+        (record { path = refl; params = refl })
 
 hear_info_by_rej_stays : (ns : ℕ) (flag : Bool) (packet : Packet) → Keeps (hear_info_by_rej ns flag packet)
 hear_info_by_rej_stays ns flag packet = λ t.
@@ -195,9 +208,11 @@ hear_up_stays command (Setup Dm flag) = λ t. (record { path = refl; params = re
 hear_up_stays command (Setup Ua flag) = λ t. (record { path = refl; params = refl })
 hear_up_stays command (Info ns nr flag pid octets) = λ t.
     either (is_valid nr t.now) t _ (reset t)
-    (hear_info_stays (named nr t.now) ns flag (record { pid = pid; octets = octets }) t) (record { path = refl; params = refl })
+    (hear_info_stays (named nr t.now) ns flag (record { pid = pid; octets = octets }) t)
+        (record { path = refl; params = refl })
 hear_up_stays command (Super which nr flag) = λ t.
-    either (is_valid nr t.now) t _ (reset t) (hear_supervisory_stays which (named nr t.now) command flag t) (record { path = refl; params = refl })
+    either (is_valid nr t.now) t _ (reset t) (hear_supervisory_stays which (named nr t.now) command flag t)
+        (record { path = refl; params = refl })
 hear_up_stays command (Ui flag pid octets) = λ t. (record { path = refl; params = refl })
 hear_up_stays command (Other Frmr flag octets) = λ t. (record { path = refl; params = refl })
 hear_up_stays command (Other Xid flag octets) = λ t. (record { path = refl; params = refl })
@@ -216,13 +231,16 @@ t2_out_stays Up = λ t. (record { path = refl; params = refl })
 t2_out_stays Releasing = λ t. (record { path = refl; params = refl })
 
 call_again_stays : Keeps call_again
-call_again_stays = λ t. either (is_spent t.now.control) t (end_call Failed t) _ (record { path = refl; params = refl }) (record { path = refl; params = refl })
+call_again_stays = λ t. either (is_spent t.now.control) t (end_call Failed t) _ (record { path = refl; params = refl })
+    (record { path = refl; params = refl })
 
 release_again_stays : Keeps release_again
-release_again_stays = λ t. either (is_spent t.now.control) t (end_call Failed t) _ (record { path = refl; params = refl }) (record { path = refl; params = refl })
+release_again_stays = λ t. either (is_spent t.now.control) t (end_call Failed t) _
+    (record { path = refl; params = refl }) (record { path = refl; params = refl })
 
 poll_again_stays : Keeps poll_again
-poll_again_stays = λ t. either (is_spent t.now.control) t _ _ (record { path = refl; params = refl }) (record { path = refl; params = refl })
+poll_again_stays = λ t. either (is_spent t.now.control) t _ _ (record { path = refl; params = refl })
+    (record { path = refl; params = refl })
 
 t1_out_stays : (state : LinkState) → Keeps (t1_out state)
 t1_out_stays Idle = λ t. (record { path = refl; params = refl })
@@ -285,5 +303,6 @@ settle_in_stays Releasing = λ t. (record { path = refl; params = refl })
 pub step_stays : (m : Machine) (event : Event) → Stays (begin m) (step m event)
 unfolding step
 step_stays m event =
-    either (is_some (refusal_of m event)) (begin m) (begin m) (settled (row event (begin m))) (record { path = refl; params = refl })
+    either (is_some (refusal_of m event)) (begin m) (begin m) (settled (row event (begin m)))
+        (record { path = refl; params = refl })
     (both (row event) settled (row_stays event) (λ t. settle_in_stays t.now.control.state t) (begin m))

@@ -1,5 +1,6 @@
 -- What a step sends to host programs, act by act: C and D are told by events of links alone.
-use Rattle.std.proofs.Common.{◌≡◌, ℕ, Bool, true, false, ◌==◌, ◌||◌, nat_lt, nat_le, List, [], ◌∷◌, ◌++◌, length, map, drop, cond, if◌then◌else◌, Option, Some, None, is_some, refl, sym, ap, ◌∙◌, subst, inl, inr}
+use Rattle.std.proofs.Common.{◌≡◌, ℕ, Bool, true, false, ◌==◌, ◌||◌, nat_lt, nat_le, List, [], ◌∷◌, ◌++◌, length, map,
+    drop, cond, if◌then◌else◌, Option, Some, None, is_some, refl, sym, ap, ◌∙◌, subst, inl, inr}
 use Rattle.std.specs.Prelude.{MatchBool, filter, flat_map}
 use Rattle.std.specs.List.{range_with_len, AllByRecursion as Each}
 use Rattle.std.proofs.lemmas.Bool.{and_left, and_right, eqb-true, false_from_ne_true}
@@ -18,23 +19,34 @@ use Rattle.agwpe_port.specs.Messages.{bad_length_in, spelling}
 use Rattle.agwpe_port.specs.declared.message.AgwMessage.{AgwMessage}
 use Rattle.digipeater.specs.Repeated.{repeated}
 use Rattle.kiss_port.specs.declared.item.KissItem.{KissItem}
-use Rattle.kiss_port.specs.declared.item.KissItem.TheVariants.{Frame as KissFrame, Set, Hardware, Return, TooLong, Other}
+use Rattle.kiss_port.specs.declared.item.KissItem.TheVariants.{Frame as KissFrame, Set, Hardware, Return, TooLong,
+    Other}
 use Rattle.link_machine.specs.Event.{Event as LinkEvent}
-use Rattle.link_machine.specs.Event.Event.{Connect as LinkConnect, Send as LinkSend, Disconnect as LinkDisconnect, Hear as LinkHear, Tick as LinkTick}
+use Rattle.link_machine.specs.Event.Event.{Connect as LinkConnect, Send as LinkSend, Disconnect as LinkDisconnect,
+    Hear as LinkHear, Tick as LinkTick}
 use Rattle.link_machine.specs.Step.{step as link_turn}
 use Rattle.station.specs.declared.host_event.HostEvent.{HostEvent}
 use Rattle.station.specs.declared.host_event.HostEvent.TheVariants.{Joined, Bytes, Left}
 use Rattle.station.specs.declared.host_event.PortKind.{PortKind}
 use Rattle.station.specs.declared.host_event.PortKind.TheVariants.{Kiss, Agw}
 use Rattle.station.specs.declared.host_out.Piece.{Piece}
-use Rattle.station.specs.AgwKinds.{version_kind, ports_kind, capabilities_kind, register_kind, unregister_kind, toggle_kind, monitor_kind, raw_kind, unproto_kind, unproto_via_kind, connect_kind, data_kind, disconnect_kind, pending_kind, waiting_kind}
-use Rattle.station.specs.AgwRequests.{replying, version_reply, ports_reply, capabilities_reply, toggled, monitor_toggled, register_reply, with_registration, registering, unregistering, queueing_raw, most_information, unnumbered_frame, sending_unnumbered, refused_reply, may_call, calls, called_route, called_pid, IsCall, IsCallMade, own_key, giving, giving_packet, packets_of, data_pid, disconnecting, pending_in, pending_reply, waiting_reply, answering_else, AreAnswered}
+use Rattle.station.specs.AgwKinds.{version_kind, ports_kind, capabilities_kind, register_kind, unregister_kind,
+    toggle_kind, monitor_kind, raw_kind, unproto_kind, unproto_via_kind, connect_kind, data_kind, disconnect_kind,
+    pending_kind, waiting_kind}
+use Rattle.station.specs.AgwRequests.{replying, version_reply, ports_reply, capabilities_reply, toggled,
+    monitor_toggled, register_reply, with_registration, registering, unregistering, queueing_raw, most_information,
+    unnumbered_frame, sending_unnumbered, refused_reply, may_call, calls, called_route, called_pid, IsCall, IsCallMade,
+    own_key, giving, giving_packet, packets_of, data_pid, disconnecting, pending_in, pending_reply, waiting_reply,
+    answering_else, AreAnswered}
 use Rattle.hdlc_framer.specs.FrameLength.{has_frame_length}
 use Rattle.station.specs.CallFields.{call_in}
 use Rattle.station.specs.Connections.{Connection, connection_of, most_connections}
 use Rattle.station.specs.FrameSpelling.{frame_octets}
-use Rattle.station.specs.Heard.{IsHeard, IsHeardBy, IsHeardAnew, IsHeardMaking, IsReadingHeardAnew, IsRepeatedFor, AreHeardAt, AreOctetsHeard, may_make, hearing_at, kiss_data, with_shown, showing, shown_to_hosts, showing_to, source_field, destination_field, waits_for_repeater}
-use Rattle.station.specs.Host.{joining, with_host, new_messages, new_items, taking, ending, AreTaken, AreTakenBy, IsHostTurn}
+use Rattle.station.specs.Heard.{IsHeard, IsHeardBy, IsHeardAnew, IsHeardMaking, IsReadingHeardAnew, IsRepeatedFor,
+    AreHeardAt, AreOctetsHeard, may_make, hearing_at, kiss_data, with_shown, showing, shown_to_hosts, showing_to,
+    source_field, destination_field, waits_for_repeater}
+use Rattle.station.specs.Host.{joining, with_host, new_messages, new_items, taking, ending, AreTaken, AreTakenBy,
+    IsHostTurn}
 use Rattle.station.specs.HostMessages.{raw_message}
 use Rattle.station.specs.Kiss.{param_of, with_param, heeding, heeding_all}
 use Rattle.station.specs.Leaving.{giving_up, giving_up_all, giving_up_link, leaving, without_host, without_owner}
@@ -48,7 +60,10 @@ use Rattle.station.specs.Ticks.{ticking_at, ticking_links, waits}
 use Rattle.station.specs.Turn.{Out, Turn, Act, begin, in_order, changing, closing, queueing}
 use Rattle.channel_bench.specs.JointRun.{Input, IsTurn}
 use Rattle.channel_bench.specs.JointRun.Input.{FromHost, OffAir, OfClock}
-use Rattle.channel_bench.specs.LinkSteps.{LinkStep, steps_for, steps_at, steps_along, ticks_at, tick_steps, given_up, gives_up_at, leaving_steps, made_steps, call_steps, sends_at, data_steps, disconnect_steps, else_steps, answer_steps, message_steps, ending_steps, octet_steps_by, octet_steps, host_steps, hears_at, new_steps, anew_steps, reading_steps, key_steps, path_steps, by_path_steps, heard_steps, turn_steps}
+use Rattle.channel_bench.specs.LinkSteps.{LinkStep, steps_for, steps_at, steps_along, ticks_at, tick_steps, given_up,
+    gives_up_at, leaving_steps, made_steps, call_steps, sends_at, data_steps, disconnect_steps, else_steps,
+    answer_steps, message_steps, ending_steps, octet_steps_by, octet_steps, host_steps, hears_at, new_steps, anew_steps,
+    reading_steps, key_steps, path_steps, by_path_steps, heard_steps, turn_steps}
 use Rattle.channel_bench.specs.Owners.{pieces_to}
 use Rattle.channel_bench.specs.ProgramsTold.{kind_of, is_of_link, of_links, told_by, ProgramsAreTold}
 use Rattle.channel_bench.proofs.OwnerLemmas.{owners_are_told, queued_pieces}
@@ -59,7 +74,8 @@ use Rattle.channel_bench.proofs.OwnerLemmas.{owners_are_told, queued_pieces}
 abbrev Tells : ℕ → Turn → List LinkStep → Turn → Type 0
 Tells id turn steps after = of_links id after.out.pieces ≡ of_links id turn.out.pieces ++ flat_map (told_by id) steps
 
-links_append : (id : ℕ) (first second : List Piece) → of_links id (first ++ second) ≡ of_links id first ++ of_links id second
+links_append : (id : ℕ) (first second : List Piece) → of_links id (first ++ second)
+    ≡ of_links id first ++ of_links id second
 links_append id [] second = refl
 links_append id (p ∷ first) second = go (is_of_link id p) (links_append id first second)
   where
@@ -69,13 +85,15 @@ links_append id (p ∷ first) second = go (is_of_link id p) (links_append id fir
     go true is = ap (λ ps. p ∷ ps) is
     go false is = is
 
-told_append : (id : ℕ) (first second : List LinkStep) → flat_map (told_by id) (first ++ second) ≡ flat_map (told_by id) first ++ flat_map (told_by id) second
+told_append : (id : ℕ) (first second : List LinkStep) → flat_map (told_by id) (first ++ second)
+    ≡ flat_map (told_by id) first ++ flat_map (told_by id) second
 told_append id [] second = refl
 told_append id (step ∷ first) second =
     ap (λ ps. told_by id step ++ ps) (told_append id first second)
     ∙ sym (append_assoc (told_by id step) (flat_map (told_by id) first) (flat_map (told_by id) second))
 
-nothing_told : (id : ℕ) (turn after : Turn) → of_links id after.out.pieces ≡ of_links id turn.out.pieces → Tells id turn [] after
+nothing_told : (id : ℕ) (turn after : Turn) → of_links id after.out.pieces ≡ of_links id turn.out.pieces
+    → Tells id turn [] after
 nothing_told id turn after is = is ∙ sym (append-nil (of_links id turn.out.pieces))
 
 same_told : (id : ℕ) (turn : Turn) → Tells id turn [] turn
@@ -122,16 +140,20 @@ ticks_tell id turn =
 
 -- ---- a host program leaves
 
-gives_up_tells : (id host key : ℕ) (turn : Turn) → Tells id turn (gives_up_at is_some host key turn) (giving_up host key turn)
+gives_up_tells : (id host key : ℕ) (turn : Turn)
+    → Tells id turn (gives_up_at is_some host key turn) (giving_up host key turn)
 gives_up_tells id host key turn = by_place (link_at key turn.now.links)
   where
     by_owner : (link : Link) (b : Bool)
         → let given = changing (with_links (with_link key (without_owner link))) turn in
-        Tells id turn (cond b (steps_at is_some None key LinkDisconnect given) []) (cond b (event_at key LinkDisconnect given) turn)
-    by_owner link true = event_tells id None key LinkDisconnect (changing (with_links (with_link key (without_owner link))) turn)
+        Tells id turn (cond b (steps_at is_some None key LinkDisconnect given) [])
+            (cond b (event_at key LinkDisconnect given) turn)
+    by_owner link true = event_tells id None key LinkDisconnect
+        (changing (with_links (with_link key (without_owner link))) turn)
     by_owner link false = same_told id turn
 
-    by_place : (place : Option Link) → Tells id turn (given_up is_some host key place turn) (giving_up_link host key place turn)
+    by_place : (place : Option Link) → Tells id turn (given_up is_some host key place turn)
+        (giving_up_link host key place turn)
     by_place None = same_told id turn
     by_place (Some link) = by_owner link (is_number host link.owner)
 
@@ -175,23 +197,29 @@ reply_told id host message turn other =
 
 reply_tells :
     (id host : ℕ) (message : AgwMessage) (turn : Turn)
-    → ((message.kind == connect_kind) || (message.kind == data_kind)) ≡ false → Tells id turn [] (replying host message turn)
-reply_tells id host message turn other = nothing_told id turn (replying host message turn) (reply_told id host message turn other)
+    → ((message.kind == connect_kind) || (message.kind == data_kind)) ≡ false
+        → Tells id turn [] (replying host message turn)
+reply_tells id host message turn other = nothing_told id turn (replying host message turn)
+    (reply_told id host message turn other)
 
-registering_tells : (id host : ℕ) (from : List ℕ) (call : Option Callsign) (turn : Turn) → Tells id turn [] (registering host from call turn)
+registering_tells : (id host : ℕ) (from : List ℕ) (call : Option Callsign) (turn : Turn)
+    → Tells id turn [] (registering host from call turn)
 registering_tells id host from None turn = reply_tells id host (register_reply from false) turn refl
 registering_tells id host from (Some call) turn = go (may_register host (registrar call turn.now.registrations))
   where
-    go : (b : Bool) → Tells id turn [] (cond b (replying host (register_reply from true) (changing (with_registration call host) turn))
+    go : (b : Bool) → Tells id turn []
+        (cond b (replying host (register_reply from true) (changing (with_registration call host) turn))
         (replying host (register_reply from false) turn))
     go true = reply_tells id host (register_reply from true) (changing (with_registration call host) turn) refl
     go false = reply_tells id host (register_reply from false) turn refl
 
-unregistering_tells : (id host : ℕ) (call : Option Callsign) (turn : Turn) → Tells id turn [] (unregistering host call turn)
+unregistering_tells : (id host : ℕ) (call : Option Callsign) (turn : Turn)
+    → Tells id turn [] (unregistering host call turn)
 unregistering_tells id host None turn = same_told id turn
 unregistering_tells id host (Some call) turn = same_told id turn
 
-queueing_tells : (id : ℕ) (link : Option ℕ) (octets : List ℕ) (turn : Turn) → Tells id turn [] (queueing link octets turn)
+queueing_tells : (id : ℕ) (link : Option ℕ) (octets : List ℕ) (turn : Turn)
+    → Tells id turn [] (queueing link octets turn)
 queueing_tells id link octets turn =
     nothing_told id turn (queueing link octets turn) (ap (of_links id) (queued_pieces link octets turn))
 
@@ -202,12 +230,14 @@ raw_tells id octets turn = go (has_frame_length octets)
     go true = queueing_tells id None octets turn
     go false = same_told id turn
 
-unnumbered_tells : (id pid : ℕ) (information : List ℕ) (route : Option Route) (turn : Turn) → Tells id turn [] (sending_unnumbered pid information route turn)
+unnumbered_tells : (id pid : ℕ) (information : List ℕ) (route : Option Route) (turn : Turn)
+    → Tells id turn [] (sending_unnumbered pid information route turn)
 unnumbered_tells id pid information None turn = same_told id turn
 unnumbered_tells id pid information (Some route) turn = go (nat_le (length information) most_information)
   where
     go : (b : Bool)
-        → Tells id turn [] ((if b then queueing None (frame_octets Eight (unnumbered_frame route pid information)) else (λ t. t)) turn)
+        → Tells id turn [] ((if b then queueing None (frame_octets Eight (unnumbered_frame route pid information))
+            else (λ t. t)) turn)
     go true = queueing_tells id None (frame_octets Eight (unnumbered_frame route pid information)) turn
     go false = same_told id turn
 
@@ -233,29 +263,51 @@ else_tells id host message turn =
     let xs = data_steps is_some message key turn in
     let ys = disconnect_steps is_some key turn in
     let P : Turn → List LinkStep → Type 0 = λ after steps. Tells id turn steps after in
-    let calm : (c : ℕ) (after : Turn) → choice c xs ys ≡ [] → Tells id turn [] after → k ≡ c → P after (choice k xs ys) =
+    let calm : (c : ℕ) (after : Turn) → choice c xs ys ≡ [] → Tells id turn [] after → k ≡ c
+        → P after (choice k xs ys) =
     λ c after none h is. subst (λ steps. Tells id turn steps after) (sym (ap (λ n. choice n xs ys) is ∙ none)) h in
-    by_kind P k version_kind (replying host version_reply turn) _ (else_steps is_some host message turn) (calm version_kind (replying host version_reply turn) refl (reply_tells id host version_reply turn refl))
-    (by_kind P k ports_kind (replying host ports_reply turn) _ (else_steps is_some host message turn) (calm ports_kind (replying host ports_reply turn) refl (reply_tells id host ports_reply turn refl))
-    (by_kind P k capabilities_kind (replying host (capabilities_reply turn.now) turn) _ (else_steps is_some host message turn) (calm capabilities_kind (replying host (capabilities_reply turn.now) turn) refl (reply_tells id host (capabilities_reply turn.now) turn refl))
-    (by_kind P k register_kind (registering host message.from (call_in message.from) turn) _ (else_steps is_some host message turn) (calm register_kind (registering host message.from (call_in message.from) turn) refl (registering_tells id host message.from (call_in message.from) turn))
-    (by_kind P k unregister_kind (unregistering host (call_in message.from) turn) _ (else_steps is_some host message turn) (calm unregister_kind (unregistering host (call_in message.from) turn) refl (unregistering_tells id host (call_in message.from) turn))
-    (by_kind P k toggle_kind (changing (toggled host) turn) _ (else_steps is_some host message turn) (calm toggle_kind (changing (toggled host) turn) refl (same_told id turn))
+    by_kind P k version_kind (replying host version_reply turn) _ (else_steps is_some host message turn)
+        (calm version_kind (replying host version_reply turn) refl (reply_tells id host version_reply turn refl))
+    (by_kind P k ports_kind (replying host ports_reply turn) _ (else_steps is_some host message turn)
+        (calm ports_kind (replying host ports_reply turn) refl (reply_tells id host ports_reply turn refl))
+    (by_kind P k capabilities_kind (replying host (capabilities_reply turn.now) turn) _
+        (else_steps is_some host message turn) (calm capabilities_kind
+        (replying host (capabilities_reply turn.now) turn) refl
+        (reply_tells id host (capabilities_reply turn.now) turn refl))
+    (by_kind P k register_kind (registering host message.from (call_in message.from) turn) _
+        (else_steps is_some host message turn) (calm register_kind
+        (registering host message.from (call_in message.from) turn) refl
+        (registering_tells id host message.from (call_in message.from) turn))
+    (by_kind P k unregister_kind (unregistering host (call_in message.from) turn) _
+        (else_steps is_some host message turn) (calm unregister_kind (unregistering host (call_in message.from) turn)
+        refl (unregistering_tells id host (call_in message.from) turn))
+    (by_kind P k toggle_kind (changing (toggled host) turn) _ (else_steps is_some host message turn)
+        (calm toggle_kind (changing (toggled host) turn) refl (same_told id turn))
     (by_kind P k monitor_kind (changing (monitor_toggled host) turn) _ (else_steps is_some host message turn)
     (calm monitor_kind (changing (monitor_toggled host) turn) refl (same_told id turn))
-    (by_kind P k raw_kind (queueing_raw (drop 1 message.body) turn) _ (else_steps is_some host message turn) (calm raw_kind (queueing_raw (drop 1 message.body) turn) refl (raw_tells id (drop 1 message.body) turn))
-    (by_kind P k unproto_kind (sending_unnumbered message.pid message.body (route_in message.from message.to (Some [])) turn) _ (else_steps is_some host message turn)
-    (calm unproto_kind (sending_unnumbered message.pid message.body (route_in message.from message.to (Some [])) turn) refl (unnumbered_tells id message.pid message.body (route_in message.from message.to (Some [])) turn))
-    (by_kind P k unproto_via_kind (sending_unnumbered message.pid (behind_repeaters message.body) (route_in message.from message.to (repeaters_in message.body)) turn) _ (else_steps is_some host message turn)
-    (calm unproto_via_kind (sending_unnumbered message.pid (behind_repeaters message.body) (route_in message.from message.to (repeaters_in message.body)) turn) refl (unnumbered_tells id message.pid (behind_repeaters message.body)
+    (by_kind P k raw_kind (queueing_raw (drop 1 message.body) turn) _ (else_steps is_some host message turn)
+        (calm raw_kind (queueing_raw (drop 1 message.body) turn) refl (raw_tells id (drop 1 message.body) turn))
+    (by_kind P k unproto_kind (sending_unnumbered message.pid message.body (route_in message.from message.to (Some []))
+        turn) _ (else_steps is_some host message turn)
+    (calm unproto_kind (sending_unnumbered message.pid message.body (route_in message.from message.to (Some [])) turn)
+        refl (unnumbered_tells id message.pid message.body (route_in message.from message.to (Some [])) turn))
+    (by_kind P k unproto_via_kind (sending_unnumbered message.pid (behind_repeaters message.body)
+        (route_in message.from message.to (repeaters_in message.body)) turn) _ (else_steps is_some host message turn)
+    (calm unproto_via_kind (sending_unnumbered message.pid (behind_repeaters message.body)
+        (route_in message.from message.to (repeaters_in message.body)) turn) refl
+        (unnumbered_tells id message.pid (behind_repeaters message.body)
     (route_in message.from message.to (repeaters_in message.body)) turn))
-    (rest (k == data_kind) (k == disconnect_kind) xs ys (data_tells id message key turn) (disconnect_tells id key turn)))))))))))
+    (rest (k == data_kind) (k == disconnect_kind) xs ys (data_tells id message key turn)
+        (disconnect_tells id key turn)))))))))))
   where
-    last : Tells id turn [] (cond (message.kind == pending_kind) (replying host (pending_reply message (pending_in message turn.now.links)) turn)
-        (cond (message.kind == waiting_kind) (replying host (waiting_reply (length turn.now.channel.waiting)) turn) turn))
+    last : Tells id turn [] (cond (message.kind == pending_kind)
+        (replying host (pending_reply message (pending_in message turn.now.links)) turn)
+        (cond (message.kind == waiting_kind) (replying host (waiting_reply (length turn.now.channel.waiting)) turn)
+            turn))
     last = go (message.kind == pending_kind) (message.kind == waiting_kind)
       where
-        go : (b d : Bool) → Tells id turn [] (cond b (replying host (pending_reply message (pending_in message turn.now.links)) turn)
+        go : (b d : Bool) → Tells id turn []
+            (cond b (replying host (pending_reply message (pending_in message turn.now.links)) turn)
             (cond d (replying host (waiting_reply (length turn.now.channel.waiting)) turn) turn))
         go true d = reply_tells id host (pending_reply message (pending_in message turn.now.links)) turn refl
         go false true = reply_tells id host (waiting_reply (length turn.now.channel.waiting)) turn refl
@@ -268,15 +320,18 @@ else_tells id host message turn =
         → Tells id turn (cond b xs (cond d ys []))
         (cond b (giving message (own_key host message turn.now.links) turn)
         (cond d (disconnecting (own_key host message turn.now.links) turn)
-        (cond (message.kind == pending_kind) (replying host (pending_reply message (pending_in message turn.now.links)) turn)
-        (cond (message.kind == waiting_kind) (replying host (waiting_reply (length turn.now.channel.waiting)) turn) turn))))
+        (cond (message.kind == pending_kind) (replying host (pending_reply message (pending_in message turn.now.links))
+            turn)
+        (cond (message.kind == waiting_kind) (replying host (waiting_reply (length turn.now.channel.waiting)) turn)
+            turn))))
     rest true d xs ys one two = one
     rest false true xs ys one two = two
     rest false false xs ys one two = last
 
 made_tells :
     (id host pid : ℕ) (message : AgwMessage) (route : Route) (may : Bool) (before after : Turn)
-    → (h : MatchBool may (IsCallMade host pid route before after) (after ≡ replying host (refused_reply message) before))
+    → (h : MatchBool may (IsCallMade host pid route before after)
+        (after ≡ replying host (refused_reply message) before))
     → Tells id before (made_steps is_some host pid message route may before after h) after
 made_tells id host pid message route true before after h =
     let path = path_along route in
@@ -287,7 +342,8 @@ made_tells id host pid message route false before after h =
 
 call_tells :
     (id host : ℕ) (message : AgwMessage) (route : Option Route) (before after : Turn)
-    → (h : IsCall host message route before after) → Tells id before (call_steps is_some host message route before after h) after
+    → (h : IsCall host message route before after) → Tells id before
+        (call_steps is_some host message route before after h) after
 call_tells id host message None before after h =
     subst (Tells id before []) (sym h) (reply_tells id host (refused_reply message) before refl)
 call_tells id host message (Some route) before after h =
@@ -295,7 +351,8 @@ call_tells id host message (Some route) before after h =
 
 answer_tells :
     (id host : ℕ) (message : AgwMessage) (calling : Bool) (before after : Turn)
-    → (h : MatchBool calling (IsCall host message (called_route message) before after) (after ≡ answering_else host message before))
+    → (h : MatchBool calling (IsCall host message (called_route message) before after)
+        (after ≡ answering_else host message before))
     → Tells id before (answer_steps is_some host message calling before after h) after
 answer_tells id host message true before after h = call_tells id host message (called_route message) before after h
 answer_tells id host message false before after h =
@@ -310,13 +367,15 @@ messages_tell id host (message ∷ messages) before after h =
     (message_steps is_some host messages h.0 after h.2) (answer_tells id host message (calls message) before h.0 h.1)
     (messages_tell id host messages h.0 after h.2)
 
-ending_tells : (id host : ℕ) (len : Option ℕ) (turn : Turn) → Tells id turn (ending_steps is_some host len turn) (ending host len turn)
+ending_tells : (id host : ℕ) (len : Option ℕ) (turn : Turn)
+    → Tells id turn (ending_steps is_some host len turn) (ending host len turn)
 ending_tells id host None turn = same_told id turn
 ending_tells id host (Some len) turn = leaving_tells id host (closing host turn)
 
 -- ---- KISS
 
-on_port_tells : (id port : ℕ) (act : Act) (turn : Turn) → Tells id turn [] (act turn) → Tells id turn [] (cond (port == 0) (act turn) turn)
+on_port_tells : (id port : ℕ) (act : Act) (turn : Turn) → Tells id turn [] (act turn)
+    → Tells id turn [] (cond (port == 0) (act turn) turn)
 on_port_tells id port act turn h = go (port == 0)
   where
     go : (b : Bool) → Tells id turn [] (cond b (act turn) turn)
@@ -324,7 +383,8 @@ on_port_tells id port act turn h = go (port == 0)
     go false = same_told id turn
 
 heeding_tells : (id : ℕ) (item : KissItem) (turn : Turn) → Tells id turn [] (heeding item turn)
-heeding_tells id (KissFrame port octets) turn = on_port_tells id port (queueing_raw octets) turn (raw_tells id octets turn)
+heeding_tells id (KissFrame port octets) turn = on_port_tells id port (queueing_raw octets) turn
+    (raw_tells id octets turn)
 heeding_tells id (Set port command value) turn =
     on_port_tells id port (changing (with_param (param_of command value))) turn (same_told id turn)
 heeding_tells id (Hardware port octets) turn = same_told id turn
@@ -361,7 +421,8 @@ octets_tell :
     → (h : AreTaken connection octets before after)
     → Tells id before (octet_steps is_some connection octets before after h) after
 octets_tell id None octets before after h = subst (Tells id before []) (sym h) (same_told id before)
-octets_tell id (Some connection) octets before after h = octets_tell_by id connection.kind connection octets before after h
+octets_tell id (Some connection) octets before after h =
+    octets_tell_by id connection.kind connection octets before after h
 
 joining_tells : (id host : ℕ) (kind : PortKind) (turn : Turn) → Tells id turn [] (joining host kind turn)
 joining_tells id host kind turn = go (nat_lt (length turn.now.connections) most_connections)
@@ -383,9 +444,11 @@ host_tells id (Left host) before after h =
 
 -- a piece that is no C or D
 piece_told :
-    (id : ℕ) (p : Piece) (pieces : List Piece) → is_of_link id p ≡ false → of_links id (pieces ++ p ∷ []) ≡ of_links id pieces
+    (id : ℕ) (p : Piece) (pieces : List Piece) → is_of_link id p ≡ false
+        → of_links id (pieces ++ p ∷ []) ≡ of_links id pieces
 piece_told id p pieces none =
-    links_append id pieces (p ∷ []) ∙ ap (λ b. of_links id pieces ++ cond b (p ∷ []) []) none ∙ append-nil (of_links id pieces)
+    links_append id pieces (p ∷ []) ∙ ap (λ b. of_links id pieces ++ cond b (p ∷ []) []) none
+        ∙ append-nil (of_links id pieces)
 
 abbrev is_data : List ℕ → Bool
 is_data octets = (kind_of octets == connect_kind) || (kind_of octets == data_kind)
@@ -470,7 +533,8 @@ repeated_tells id (Some call) octets before after (inl is) =
 repeated_tells id (Some call) octets before after (inr is) = subst (Tells id before []) (sym is.1) (same_told id before)
 
 at_key_tells :
-    (id key : ℕ) (reading : Option Frame) (turn : Turn) → Tells id turn (hears_at is_some key reading turn) (hearing_at key reading turn)
+    (id key : ℕ) (reading : Option Frame) (turn : Turn)
+        → Tells id turn (hears_at is_some key reading turn) (hearing_at key reading turn)
 at_key_tells id key None turn = same_told id turn
 at_key_tells id key (Some frame) turn = event_tells id None key (LinkHear frame) turn
 
@@ -486,10 +550,12 @@ new_tells id host frame true before after h =
 new_tells id host frame false before after h = subst (Tells id before []) (sym h) (same_told id before)
 
 anew_tells :
-    (id : ℕ) (registered : Option ℕ) (frame : Frame) (before after : Turn) → (h : IsHeardAnew registered frame before after)
+    (id : ℕ) (registered : Option ℕ) (frame : Frame) (before after : Turn)
+        → (h : IsHeardAnew registered frame before after)
     → Tells id before (anew_steps is_some registered frame before after h) after
 anew_tells id None frame before after h = subst (Tells id before []) (sym h) (same_told id before)
-anew_tells id (Some host) frame before after h = new_tells id host frame (may_make frame.kind before.now.links) before after h
+anew_tells id (Some host) frame before after h = new_tells id host frame (may_make frame.kind before.now.links)
+    before after h
 
 reading_tells :
     (id : ℕ) (reading : Option Frame) (before after : Turn) → (h : IsReadingHeardAnew reading before after)
@@ -502,12 +568,14 @@ key_tells :
     (id : ℕ) (key : Option ℕ) (octets : List ℕ) (before after : Turn) → (h : AreHeardAt key octets before after)
     → Tells id before (key_steps is_some key octets before after h) after
 key_tells id (Some key) octets before after h =
-    subst (Tells id before (key_steps is_some (Some key) octets before after h)) (sym h.2) (at_key_tells id key h.0 before)
+    subst (Tells id before (key_steps is_some (Some key) octets before after h)) (sym h.2)
+        (at_key_tells id key h.0 before)
 key_tells id None octets before after h = reading_tells id h.0 before after h.2
 
 path_tells :
     (id : ℕ) (path : Path) (waiting : Bool) (octets : List ℕ) (before after : Turn)
-    → (h : MatchBool waiting (IsRepeatedFor before.now.digi octets before after) (AreOctetsHeard path octets before after))
+    → (h : MatchBool waiting (IsRepeatedFor before.now.digi octets before after)
+        (AreOctetsHeard path octets before after))
     → Tells id before (path_steps is_some path waiting octets before after h) after
 path_tells id path true octets before after h = repeated_tells id before.now.digi octets before after h
 path_tells id path false octets before after h =

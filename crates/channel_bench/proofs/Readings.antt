@@ -1,4 +1,5 @@
--- What a station reads of a frame of a link that it hears: the kind that its modulus makes of the one that was sent, in the
+-- What a station reads of a frame of a link that it hears: the kind that its modulus makes of the one that was sent, in
+-- the
 -- same role.
 use Rattle.std.proofs.Common.{◌≡◌, ℕ, ◌<◌, List, drop, Option, Some, None, refl, sym, ap, ◌∙◌, subst, inl}
 use Rattle.std.specs.Prelude.{All, Result, Ok}
@@ -67,7 +68,8 @@ reread local remote f heard queued read frame tag alike low is =
     reads : Some frame ≡ frame_read written read sent
     reads = reads_frame written read sent frame heard (Ok frame)
         (record { len = again.len; path = again.begins; kind = tag.kind; body = again.body }) low
-        (record { frame = is; each_frame = λ g h. inl (let ok : Frame → Result Frame FrameFault = λ x. Ok x in ap ok (one_frame read heard frame g is h)) }) refl
+        (record { frame = is; each_frame = λ g h. inl (let ok : Frame
+            → Result Frame FrameFault = λ x. Ok x in ap ok (one_frame read heard frame g is h)) }) refl
 
     go : (o : Option Kind) → kind_read written read f.frame.kind ≡ o → IsReread f read frame
     go None e = absurd (let clash : Some frame ≡ None = reads ∙ ap (with_kind sent) e in cc)

@@ -1,12 +1,14 @@
 -- In a run of the bench each host program sees the set-ups of its link: the first call, and then tick by tick.
-use Rattle.std.proofs.Common.{◌≡◌, ℕ, zero, suc, ◌+◌, ◌≤◌, Bool, true, false, List, [], ◌∷◌, ◌++◌, map, cond, None, refl, sym, ap, ◌∙◌, subst, arith}
+use Rattle.std.proofs.Common.{◌≡◌, ℕ, zero, suc, ◌+◌, ◌≤◌, Bool, true, false, List, [], ◌∷◌, ◌++◌, map, cond, None,
+    refl, sym, ap, ◌∙◌, subst, arith}
 use Rattle.std.specs.Bool.{⊤}
 use Rattle.std.specs.Prelude.{MatchBool}
 use Rattle.std.specs.List.{AllByRecursion as Each}
 use Rattle.std.proofs.lemmas.Bool.{ne_eqb}
 use Rattle.std.proofs.lemmas.List.{append-nil}
 use Rattle.link_machine.specs.Event.{Event as LinkEvent}
-use Rattle.link_machine.specs.Event.Event.{Connect as LinkConnect, Send as LinkSend, Disconnect as LinkDisconnect, Hear as LinkHear, Tick as LinkTick}
+use Rattle.link_machine.specs.Event.Event.{Connect as LinkConnect, Send as LinkSend, Disconnect as LinkDisconnect,
+    Hear as LinkHear, Tick as LinkTick}
 use Rattle.link_world.specs.declared.end.End.{End}
 use Rattle.link_world.specs.declared.end.End.TheVariants.{A, B}
 use Rattle.station.specs.declared.host_event.HostEvent.{HostEvent}
@@ -16,7 +18,8 @@ use Rattle.channel_bench.specs.declared.words.BenchWords.{BenchWords}
 use Rattle.channel_bench.specs.BenchRun.{AreTicks}
 use Rattle.channel_bench.specs.BenchState.{BenchState, Near, SideState, near, new_bench, with_near}
 use Rattle.channel_bench.specs.BenchSteps.{IsStep, IsTold, program_id, there_after}
-use Rattle.channel_bench.specs.BenchTick.{ArePartsMade, IsPart, IsTick, Part, beginning, each_tick, joins, parts_of, sets_duplex, sets_full_duplex}
+use Rattle.channel_bench.specs.BenchTick.{ArePartsMade, IsPart, IsTick, Part, beginning, each_tick, joins, parts_of,
+    sets_duplex, sets_full_duplex}
 use Rattle.channel_bench.specs.BenchTick.Part.{Closes, Tells}
 use Rattle.channel_bench.specs.HostProgram.{ProgramState, connect_octets}
 use Rattle.channel_bench.specs.InFlight.Moment.{Steps}
@@ -24,10 +27,12 @@ use Rattle.channel_bench.specs.JointRun.{IsTurn}
 use Rattle.channel_bench.specs.JointRun.Input.{FromHost}
 use Rattle.channel_bench.specs.LinkSteps.{LinkStep, steps_of, turn_steps}
 use Rattle.channel_bench.specs.Sounding.{ticked}
-use Rattle.channel_bench.proofs.BenchSees.{Holds, HoldsNear, Premises, asks_or_calls_holds, at_end_holds, both_of, closes_hold, front, gives_hold, listens_hold, near_holds, near_there, new_holds, sounds_hold, ticks_hold}
+use Rattle.channel_bench.proofs.BenchSees.{Holds, HoldsNear, Premises, asks_or_calls_holds, at_end_holds, both_of,
+    closes_hold, front, gives_hold, listens_hold, near_holds, near_there, new_holds, sounds_hold, ticks_hold}
 use Rattle.channel_bench.proofs.Chains.{called_behind}
 use Rattle.channel_bench.proofs.CoreRun.{Occurs, Usual, input_of}
-use Rattle.channel_bench.proofs.CoreRun.Usual.{connects, disconnects, gives, hears, joins_kiss, joins_program, registers, sets_full, ticks}
+use Rattle.channel_bench.proofs.CoreRun.Usual.{connects, disconnects, gives, hears, joins_kiss, joins_program,
+    registers, sets_full, ticks}
 use Rattle.channel_bench.proofs.HostStreams.{IsWhole}
 use Rattle.channel_bench.proofs.HostsStay.{HasHosts}
 use Rattle.channel_bench.proofs.LinkNow.{links_of}
@@ -84,7 +89,8 @@ quiet_comes e side there made turn whole (by_link says) =
     let none = none_by made says.causes in
     let mid : SideState = record side { station = turn.now; there = there } in (
       none,
-      (pieces_told turn.out.pieces [] mid (says.pieces ∙ ap (λ xs. map piece_to (messages_of e xs)) none) tt whole).program,
+      (pieces_told turn.out.pieces [] mid (says.pieces ∙ ap (λ xs. map piece_to (messages_of e xs)) none)
+          tt whole).program,
     )
 quiet_comes e side there made turn whole (replied reply none) =
     let mid : SideState = record side { station = turn.now; there = there } in (
@@ -97,7 +103,8 @@ quiet_comes e side there made turn whole (joined owns pieces queued none) =
     let mid : SideState = record side { station = turn.now; there = there } in
     (none, (pieces_told turn.out.pieces [] mid pieces tt whole).program)
 
-hosts_near : (w : BenchWords) (bench : BenchState) (e : End) (n : Near) → HoldsNear w bench e n → HasHosts n.side.station
+hosts_near : (w : BenchWords) (bench : BenchState) (e : End) (n : Near) → HoldsNear w bench e n
+    → HasHosts n.side.station
 hosts_near w bench A n h = h.little.a
 hosts_near w bench B n h = h.little.b
 
@@ -105,15 +112,20 @@ hosts_near w bench B n h = h.little.b
 front_comes :
     (e : End) (usual : Usual) (side : SideState) (after : Turn) → IsFront usual → Occurs e usual → HasHosts side.station
     → OwnsAll e side.station → (turn : IsTurn (input_of e usual) (begin side.station) after)
-    → Comes nothing ⊥ e (begin side.station) (turn_steps (chosen e) (input_of e usual) (begin side.station) after turn) after
+    → Comes nothing ⊥ e (begin side.station) (turn_steps (chosen e) (input_of e usual) (begin side.station) after turn)
+        after
 front_comes e joins_kiss side after f occurs hosts owns turn =
-    usual_comes e joins_kiss side.station after occurs hosts owns (unshown_of side.station.connections hosts.connections) tt turn
+    usual_comes e joins_kiss side.station after occurs hosts owns
+        (unshown_of side.station.connections hosts.connections) tt turn
 front_comes e sets_full side after f occurs hosts owns turn =
-    usual_comes e sets_full side.station after occurs hosts owns (unshown_of side.station.connections hosts.connections) tt turn
+    usual_comes e sets_full side.station after occurs hosts owns (unshown_of side.station.connections hosts.connections)
+        tt turn
 front_comes e joins_program side after f occurs hosts owns turn =
-    usual_comes e joins_program side.station after occurs hosts owns (unshown_of side.station.connections hosts.connections) tt turn
+    usual_comes e joins_program side.station after occurs hosts owns
+        (unshown_of side.station.connections hosts.connections) tt turn
 front_comes e registers side after f occurs hosts owns turn =
-    usual_comes e registers side.station after occurs hosts owns (unshown_of side.station.connections hosts.connections) tt turn
+    usual_comes e registers side.station after occurs hosts owns (unshown_of side.station.connections hosts.connections)
+        tt turn
 front_comes e connects side after f occurs hosts owns turn = absurd f
 front_comes e (gives piece) side after f occurs hosts owns turn = absurd f
 front_comes e disconnects side after f occurs hosts owns turn = absurd f
@@ -133,18 +145,21 @@ front_ready w (hears octets) p events f = absurd f
 front_ready w (ticks busy) p events f = absurd f
 
 quiet_step :
-    (w : BenchWords) (bench : BenchState) (e : End) (usual : Usual) (before after : Near) → IsFront usual → Occurs e usual
+    (w : BenchWords) (bench : BenchState) (e : End) (usual : Usual) (before after : Near) → IsFront usual
+        → Occurs e usual
     → (h : IsStep e (input_of e usual) None before after) → HoldsNear w bench e before → Premises before.common.moments
     → (steps_of (chosen e) (noted_step e usual None before after h) ≡ []) × (after.side.program ≡ before.side.program)
 quiet_step w bench e usual before after f occurs h holds p =
     let own = (both_of w bench e before holds p).own in
     let there = there_after (input_of e usual) h.turn.out.closed before.side.there in
-    let q = quiet_comes e before.side there (steps_of (chosen e) (noted_step e usual None before after h)) h.turn own.whole
+    let q = quiet_comes e before.side there (steps_of (chosen e) (noted_step e usual None before after h))
+        h.turn own.whole
     (front_comes e usual before.side h.turn f occurs (hosts_near w bench e before holds) own.owns h.makes) in
     (q.0, ap (λ (n : Near). n.side.program) h.is ∙ q.1)
 
 early_step :
-    (w : BenchWords) (bench : BenchState) (e : End) (usual : Usual) (before after : Near) → IsFront usual → Occurs e usual
+    (w : BenchWords) (bench : BenchState) (e : End) (usual : Usual) (before after : Near) → IsFront usual
+        → Occurs e usual
     → IsStep e (input_of e usual) None before after → HoldsNear w bench e before → EarlyNear w bench e before
     → EarlyNear w bench e after
 early_step w bench A usual before after f occurs h holds early = λ p.
@@ -288,7 +303,8 @@ beginning_leads w =
     (lead_append w begins begins goes (joins B) _ (joins_lead w B) (goes, call_leads w, refl)))
   where
     duplex : (b : Bool) → AllLead w begins (cond b (sets_full_duplex A ++ sets_full_duplex B) []) begins
-    duplex true = lead_append w begins begins begins (sets_full_duplex A) (sets_full_duplex B) (duplex_leads w A) (duplex_leads w B)
+    duplex true = lead_append w begins begins begins (sets_full_duplex A) (sets_full_duplex B) (duplex_leads w A)
+        (duplex_leads w B)
     duplex false = refl
 
 -- ---- a tick
@@ -361,7 +377,8 @@ tick_stands :
     (w : BenchWords) (count : ℕ) (before bench : BenchState) → ArePartsMade w (parts_of w before.ticks) before bench
     → IsCalm bench → Behind w count before → Stands w made bench
 tick_stands w zero before bench made_parts calm is =
-    parts_lead w begins made (parts_of w before.ticks) (first_parts w before.ticks (ap (λ (b : BenchState). b.ticks) is))
+    parts_lead w begins made (parts_of w before.ticks)
+        (first_parts w before.ticks (ap (λ (b : BenchState). b.ticks) is))
     before bench made_parts calm (subst (Stands w begins) (sym is) (new_stands w))
 tick_stands w (suc count) before bench made_parts calm stands =
     parts_lead w goes made (parts_of w before.ticks) (later_parts w before.ticks stands.1) before bench made_parts calm

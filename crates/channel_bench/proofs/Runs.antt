@@ -1,5 +1,6 @@
 -- A joint run, step by step: the two ends of the link between two calls follow it.
-use Rattle.std.proofs.Common.{◌≡◌, ◌≢◌, ℕ, zero, suc, ◌+◌, ◌<◌, ◌≤◌, Bool, true, false, List, [], ◌∷◌, ◌++◌, length, take, Option, Some, None, get_or, refl, sym, ap, ◌∙◌, subst, arith, inl, inr}
+use Rattle.std.proofs.Common.{◌≡◌, ◌≢◌, ℕ, zero, suc, ◌+◌, ◌<◌, ◌≤◌, Bool, true, false, List, [], ◌∷◌, ◌++◌, length,
+    take, Option, Some, None, get_or, refl, sym, ap, ◌∙◌, subst, arith, inl, inr}
 use Rattle.std.specs.Prelude.{slice_get, is_some}
 use Rattle.std.specs.List.{AllByRecursion as Each}
 use Rattle.std.proofs.lemmas.Bool.{cases_eq}
@@ -20,7 +21,8 @@ use Rattle.station.specs.Links.{is_between}
 use Rattle.station.specs.Turn.{Turn, begin}
 use Rattle.channel_bench.specs.JointRun.{Input, IsTurn, HasOctets, Step, queued_at}
 use Rattle.channel_bench.specs.JointRun.Input.{FromHost, OffAir, OfClock}
-use Rattle.channel_bench.specs.HeardInOrder.{AreAlikeButForH, Pair, IsOffAir, HearsLinkFrame, IsHeardPair, HasPair, AreHeardInOrder}
+use Rattle.channel_bench.specs.HeardInOrder.{AreAlikeButForH, Pair, IsOffAir, HearsLinkFrame, IsHeardPair, HasPair,
+    AreHeardInOrder}
 use Rattle.channel_bench.specs.InFlight.{LinkFrame, is_ask}
 use Rattle.channel_bench.specs.LinkSteps.{LinkStep, turn_steps}
 use Rattle.channel_bench.proofs.Acts.{Setting, Holds, still_holds}
@@ -38,7 +40,8 @@ use Rattle.channel_bench.proofs.Tags.{IsTag, AreTags}
 -- ---- between two steps
 
 -- a station and its end
-pub record SideHolds (local remote : Callsign) (params : Params) (state : StationState) (machine : Machine) : Type 0 where
+pub record SideHolds (local remote : Callsign) (params : Params) (state : StationState) (machine : Machine)
+    : Type 0 where
   pub parameters : state.parameters ≡ params
   pub table : IsTable params (is_between local remote) state.links machine
   pub end_params : machine.params ≡ params
@@ -75,7 +78,8 @@ sent_later l r queue pairs n towards s rises = record {
   split = s.split;
   rises = rises;
   below = s.below;
-  before = each_weaker (λ (p : Pair). p.heard < n) (λ (p : Pair). p.heard < n + 1) (λ p less. omega arith) s.done s.before;
+  before = each_weaker (λ (p : Pair). p.heard < n) (λ (p : Pair). p.heard < n + 1) (λ p less. omega arith)
+      s.done s.before;
   tags = s.tags;
   tagged = s.tagged;
   ahead = s.ahead;
@@ -97,7 +101,8 @@ each_right P [] ys h = h
 each_right P (x ∷ xs) ys h = each_right P xs ys h.1
 
 -- a pair that is heard in a step is heard by that one
-same_step : (full : List Step) (n : ℕ) (step found : Step) → slice_get full n ≡ Some step → slice_get full n ≡ Some found → found ≡ step
+same_step : (full : List Step) (n : ℕ) (step found : Step) → slice_get full n ≡ Some step
+    → slice_get full n ≡ Some found → found ≡ step
 same_step full n step found is there = let e : Some found ≡ Some step = sym there ∙ is in cc
 
 hears_at_number :
@@ -142,7 +147,8 @@ abbrev pub nothing : LinkFrame
 nothing = one_framed false []
 
 pub tag_of :
-    (l r : Callsign) (tags : List (Option Tagged)) (queue : List LinkFrame) (k : ℕ) → AreTags l r tags queue → k < length queue
+    (l r : Callsign) (tags : List (Option Tagged)) (queue : List LinkFrame) (k : ℕ) → AreTags l r tags queue
+        → k < length queue
     → IsTag l r (tag_at tags k) (get_or queue k nothing)
 tag_of l r [] [] k h within = absurd (omega arith)
 tag_of l r [] (queued ∷ rest) k h within = absurd h
@@ -182,19 +188,23 @@ pub popped_by :
     → Each (λ (p : Pair). p.sent < length queue) done → Each (λ (p : Pair). p.heard < n) done
     → AreTags s.remote s.local tags queue → towards ≡ flight tags rest → (found : HasPair pairs n)
     → Popped s octets queue pairs n towards
-popped_by s hearer full pairs queue n towards step octets done [] tags order is hears caused queue_is split rises below before tagged
+popped_by s hearer full pairs queue n towards step octets done []
+    tags order is hears caused queue_is split rises below before tagged
     ahead found =
     let others : Each (λ (p : Pair). p.heard ≢ n) done =
-    each_weaker (λ (p : Pair). p.heard < n) (λ (p : Pair). p.heard ≢ n) (λ p less e. absurd (omega arith)) done before in
+    each_weaker (λ (p : Pair). p.heard < n) (λ (p : Pair). p.heard ≢ n) (λ p less e. absurd (omega arith))
+        done before in
     absurd (All-contains (λ (p : Pair). p.heard ≢ n) pairs found.pair
     (All-from_recursion (λ (p : Pair). p.heard ≢ n) pairs
     (subst (λ ps. Each (λ (p : Pair). p.heard ≢ n) ps) (sym (split ∙ append-nil done)) others)) found.contains found.is)
-popped_by s hearer full pairs queue n towards step octets done (p ∷ ps) tags order is hears caused queue_is split rises below before
+popped_by s hearer full pairs queue n towards step octets done (p ∷ ps)
+    tags order is hears caused queue_is split rises below before
     tagged ahead found = elim (cases_eq p.heard n) [
       | inr ne ↦
           let low = rises.0 in
           let others : Each (λ (q : Pair). q.heard ≢ n) done =
-          each_weaker (λ (q : Pair). q.heard < n) (λ (q : Pair). q.heard ≢ n) (λ q less e. absurd (omega arith)) done before in
+          each_weaker (λ (q : Pair). q.heard < n) (λ (q : Pair). q.heard ≢ n) (λ q less e. absurd (omega arith))
+              done before in
           let more : n < p.heard = omega arith in
           let later : Each (λ (q : Pair). q.heard ≢ n) (p ∷ ps) =
           (ne, all_rise n (p.heard + 1) ps (p.sent + 1) (omega arith) rises.2) in
@@ -203,15 +213,19 @@ popped_by s hearer full pairs queue n towards step octets done (p ∷ ps) tags o
           (subst (λ qs. Each (λ (q : Pair). q.heard ≢ n) qs) (sym split)
           (each_append (λ (q : Pair). q.heard ≢ n) done (p ∷ ps) others later))) found.contains found.is)
       | inl at ↦
-          let all : Each (IsHeardPair hearer full) pairs = recursion_from_All (IsHeardPair hearer full) pairs order.each in
+          let all : Each (IsHeardPair hearer full) pairs = recursion_from_All (IsHeardPair hearer full)
+              pairs order.each in
           let here : IsHeardPair hearer full p =
-          (each_right (IsHeardPair hearer full) done (p ∷ ps) (subst (λ qs. Each (IsHeardPair hearer full) qs) split all)).0 in
+          (each_right (IsHeardPair hearer full) done (p ∷ ps)
+              (subst (λ qs. Each (IsHeardPair hearer full) qs) split all)).0 in
           let same : here.octets ≡ octets =
-          same_octets step.input here.octets octets (hears_at_number hearer full n step p is here at).input hears.input in
+          same_octets step.input here.octets octets (hears_at_number hearer full n step p is here at).input hears.input
+              in
           let octets_are : octets_in queue ≡ queued_at (other hearer) (take n full) =
           ap octets_in (sym queue_is) ∙ octets_at (other hearer) (take n full) in
           let queued : slice_get (octets_in queue) p.sent ≡ Some here.queued =
-          ap (λ q. slice_get q p.sent) (octets_are ∙ ap (λ k. queued_at (other hearer) (take k full)) (sym at)) ∙ here.before in
+          ap (λ q. slice_get q p.sent) (octets_are ∙ ap (λ k. queued_at (other hearer) (take k full)) (sym at))
+              ∙ here.before in
           let within : p.sent < length queue =
           let less = slice_get_within (octets_in queue) p.sent here.queued queued in
           let size : length (octets_in queue) ≡ length queue = length-map queue (λ (f : LinkFrame). f.octets) in
@@ -219,12 +233,14 @@ popped_by s hearer full pairs queue n towards step octets done (p ∷ ps) tags o
           let frame : LinkFrame = get_or queue p.sent nothing in
           let same_queued : here.queued ≡ frame.octets =
           sym (get_or_from_slice_get (octets_in queue) p.sent here.queued [] queued) ∙ sym (octets_get queue p.sent) in
-          let tag : IsTag s.remote s.local (tag_at tags p.sent) frame = tag_of s.remote s.local tags queue p.sent tagged within in
+          let tag : IsTag s.remote s.local (tag_at tags p.sent) frame =
+              tag_of s.remote s.local tags queue p.sent tagged within in
           record {
             stays = flight tags ps;
             pop = subst (λ ts. Pop s octets ts (flight tags ps)) (sym ahead)
                 (by_tag s octets frame (tag_at tags p.sent) (flight tags ps)
-                (subst (λ o. AreAlikeButForH octets o) same_queued (subst (λ o. AreAlikeButForH o here.queued) same here.alike))
+                (subst (λ o. AreAlikeButForH octets o) same_queued
+                    (subst (λ o. AreAlikeButForH o here.queued) same here.alike))
                 tag caused);
             sent = record {
               done = done ++ p ∷ [];
@@ -233,7 +249,8 @@ popped_by s hearer full pairs queue n towards step octets done (p ∷ ps) tags o
               rises = rise_lower (p.heard + 1) (n + 1) (p.sent + 1) 0 ps (omega arith) (omega arith) rises.2;
               below = each_pushed (λ (q : Pair). q.sent < length queue) done p below within;
               before = each_pushed (λ (q : Pair). q.heard < n + 1) done p
-                  (each_weaker (λ (q : Pair). q.heard < n) (λ (q : Pair). q.heard < n + 1) (λ q less. omega arith) done before)
+                  (each_weaker (λ (q : Pair). q.heard < n) (λ (q : Pair). q.heard < n + 1) (λ q less. omega arith)
+                      done before)
                   (omega arith);
               tags = tags;
               tagged = tagged;
@@ -286,7 +303,8 @@ ends on l r pa pb n sa sb qa qb out_pairs back_pairs w h rises stays back after 
   near = record { parameters = H.parameters; table = H.table; end_params = H.end_params };
   far = record {
     parameters = h.far.parameters;
-    table = subst (λ (m : Machine). IsTable pb (is_between r l) sb.links m) (sym (ap (λ (x : RecordedEnd). x.machine) H.far_is)) h.far.table;
+    table = subst (λ (m : Machine). IsTable pb (is_between r l) sb.links m)
+        (sym (ap (λ (x : RecordedEnd). x.machine) H.far_is)) h.far.table;
     end_params = ap (λ (x : RecordedEnd). x.machine.params) H.far_is ∙ h.far.end_params;
   };
   out = record {
@@ -294,9 +312,11 @@ ends on l r pa pb n sa sb qa qb out_pairs back_pairs w h rises stays back after 
     rest = h.out.rest;
     split = h.out.split;
     rises = rises;
-    below = each_weaker (λ (p : Pair). p.sent < length qa) (λ (p : Pair). p.sent < length (qa ++ framed on after.out.queued))
+    below = each_weaker (λ (p : Pair). p.sent < length qa) (λ (p : Pair). p.sent
+        < length (qa ++ framed on after.out.queued))
         (λ p less. let size = length-append qa (framed on after.out.queued) in omega arith) h.out.done h.out.below;
-    before = each_weaker (λ (p : Pair). p.heard < n) (λ (p : Pair). p.heard < n + 1) (λ p less. omega arith) h.out.done h.out.before;
+    before = each_weaker (λ (p : Pair). p.heard < n) (λ (p : Pair). p.heard < n + 1) (λ p less. omega arith)
+        h.out.done h.out.before;
     tags = H.tags;
     tagged = H.tagged_as;
     ahead = H.ahead;
@@ -305,7 +325,8 @@ ends on l r pa pb n sa sb qa qb out_pairs back_pairs w h rises stays back after 
 }
 
 -- what a step comes to
-pub record Stepped (e : End) (on : Bool) (l r : Callsign) (pa pb : Params) (n : ℕ) (sb : StationState) (qa qb : List LinkFrame)
+pub record Stepped (e : End) (on : Bool) (l r : Callsign) (pa pb : Params) (n : ℕ) (sb : StationState)
+    (qa qb : List LinkFrame)
     (out_pairs back_pairs : List Pair) (w : World) (after : Turn) (steps : List LinkStep) : Type 0 where
   pub between : Between l r pa pb (n + 1) after.now sb (qa ++ framed on after.out.queued) qb out_pairs back_pairs
       (near_all e out_pairs (length qa) steps w)
@@ -322,7 +343,8 @@ finishes :
     → Kept (setting_of on l r pa pb n sa sb qa qb out_pairs back_pairs w h) e stays after steps w
     → Stepped e on l r pa pb n sb qa qb out_pairs back_pairs w after steps
 finishes e on l r pa pb n sa sb qa qb out_pairs back_pairs w h rises stays back after steps k = record {
-  between = subst (λ ps. Between l r pa pb (n + 1) after.now sb (qa ++ framed on after.out.queued) qb out_pairs back_pairs
+  between = subst (λ ps. Between l r pa pb (n + 1) after.now sb (qa ++ framed on after.out.queued)
+      qb out_pairs back_pairs
       (near_all e ps (length qa) steps w)) (sym h.out.split)
       (ends on l r pa pb n sa sb qa qb out_pairs back_pairs w h rises stays back after
       (near_all e (h.out.done ++ h.out.rest) (length qa) steps w) k.0);
@@ -341,17 +363,20 @@ pub takes :
     → Sent r l qb back_pairs (n + 1) w.a.towards)
     → ((octets : List ℕ) → IsOffAir input octets → turn_steps is_some input (begin sa) after turn ≢ []
     → Popped (setting_of on l r pa pb n sa sb qa qb out_pairs back_pairs w h) octets qb back_pairs n w.a.towards)
-    → Stepped e on l r pa pb n sb qa qb out_pairs back_pairs w after (turn_steps (is_between l r) input (begin sa) after turn)
+    → Stepped e on l r pa pb n sb qa qb out_pairs back_pairs w after
+        (turn_steps (is_between l r) input (begin sa) after turn)
 takes e on l r pa pb n sa sb qa qb out_pairs back_pairs w h rises (FromHost event) after turn octets calm popped =
     finishes e on l r pa pb n sa sb qa qb out_pairs back_pairs w h rises w.a.towards (calm (λ o off some. off)) after
     (turn_steps (is_between l r) (FromHost event) (begin sa) after turn)
-    (host_goes (setting_of on l r pa pb n sa sb qa qb out_pairs back_pairs w h) e w.a.towards event (begin sa) after turn w
+    (host_goes (setting_of on l r pa pb n sa sb qa qb out_pairs back_pairs w h) e w.a.towards event (begin sa)
+        after turn w
     (begins on l r pa pb n sa sb qa qb out_pairs back_pairs w h))
 takes e on l r pa pb n sa sb qa qb out_pairs back_pairs w h rises (OfClock busy) after turn octets calm popped =
     let s = setting_of on l r pa pb n sa sb qa qb out_pairs back_pairs w h in
     let ticked = ticks_go s e w.a.towards (begin sa) w (begins on l r pa pb n sa sb qa qb out_pairs back_pairs w h) in
     let steps = turn_steps (is_between l r) (OfClock busy) (begin sa) after turn in
-    finishes e on l r pa pb n sa sb qa qb out_pairs back_pairs w h rises w.a.towards (calm (λ o off some. off)) after steps
+    finishes e on l r pa pb n sa sb qa qb out_pairs back_pairs w h rises w.a.towards (calm (λ o off some. off))
+        after steps
     (subst (λ t. Kept s e w.a.towards t steps w) (sym turn.effect) (
       still_holds s w.a.towards (ticking_links (begin sa)) (ticking busy turn.monitored (begin sa))
           (near_all e (s.done ++ s.rest) (length s.earlier) steps w)

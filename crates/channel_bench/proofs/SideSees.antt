@@ -1,5 +1,7 @@
--- At each side of a bench the host program has seen the set-ups of its link: what holds of a side, and how a step keeps it.
-use Rattle.std.proofs.Common.{◌≡◌, ℕ, ◌==◌, ◌||◌, Bool, true, false, List, [], ◌∷◌, ◌++◌, map, cond, Option, Some, None, is_some, refl, sym, ap, ◌∙◌, subst, inl, inr}
+-- At each side of a bench the host program has seen the set-ups of its link: what holds of a side, and how a step keeps
+-- it.
+use Rattle.std.proofs.Common.{◌≡◌, ℕ, ◌==◌, ◌||◌, Bool, true, false, List, [], ◌∷◌, ◌++◌, map, cond, Option, Some, None,
+    is_some, refl, sym, ap, ◌∙◌, subst, inl, inr}
 use Rattle.std.specs.List.{AllByRecursion as Each}
 use Rattle.std.specs.Option.{option_to_list}
 use Rattle.std.proofs.lemmas.Bool.{or_cases}
@@ -7,7 +9,8 @@ use Rattle.std.proofs.lemmas.List.{append-nil}
 use Rattle.agwpe_port.specs.declared.message.AgwMessage.{AgwMessage}
 use Rattle.agwpe_port.proofs.WrittenLemmas.{IsWritten}
 use Rattle.link_machine.specs.Event.{Event as LinkEvent}
-use Rattle.link_machine.specs.Event.Event.{Connect as LinkConnect, Send as LinkSend, Disconnect as LinkDisconnect, Hear as LinkHear, Tick as LinkTick}
+use Rattle.link_machine.specs.Event.Event.{Connect as LinkConnect, Send as LinkSend, Disconnect as LinkDisconnect,
+    Hear as LinkHear, Tick as LinkTick}
 use Rattle.link_world.specs.declared.end.End.{End}
 use Rattle.link_world.proofs.law.Each.{each_append}
 use Rattle.station.specs.AgwKinds.{connect_kind, data_kind, disconnect_kind, register_kind}
@@ -17,7 +20,8 @@ use Rattle.channel_bench.specs.declared.words.BenchWords.{BenchWords}
 use Rattle.channel_bench.specs.BenchOrder.{set_up_of}
 use Rattle.channel_bench.specs.BenchState.{SideState}
 use Rattle.channel_bench.specs.BenchSteps.{told_pieces}
-use Rattle.channel_bench.specs.HostProgram.{ProgramState, closing, getting, opening, set_ups_of, told as told_message, told_all}
+use Rattle.channel_bench.specs.HostProgram.{ProgramState, closing, getting, opening, set_ups_of, told as told_message,
+    told_all}
 use Rattle.channel_bench.specs.InFlight.{LinkFrame}
 use Rattle.channel_bench.specs.LinkSteps.{LinkStep}
 use Rattle.channel_bench.specs.RunsTell.{runs_behind, told_in}
@@ -30,7 +34,8 @@ use Rattle.channel_bench.proofs.LinkNow.{GivenUp}
 use Rattle.channel_bench.proofs.OwnLinks.{Cause, IsOwnFrame, OwnsAll, Says, cause_of, messages_of, own_pieces}
 use Rattle.channel_bench.proofs.OwnLinks.Cause.{connecting, disconnecting, sending}
 use Rattle.channel_bench.proofs.OwnMessages.{Replied}
-use Rattle.channel_bench.proofs.ProgramSees.{GaveAll, GivesNothing, Sees, items_asked, items_called, items_of, pieces_told, told_items}
+use Rattle.channel_bench.proofs.ProgramSees.{GaveAll, GivesNothing, Sees, items_asked, items_called, items_of,
+    pieces_told, told_items}
 use Rattle.channel_bench.proofs.Shorts.{GivesShort, IsSome, ShortStep}
 use Rattle.channel_bench.proofs.Tables.{not_both}
 use Rattle.channel_bench.proofs.ThereStays.{HasProgram, is_there}
@@ -97,7 +102,8 @@ by_disconnect c other LinkDisconnect is = absurd (other (sym is))
 by_disconnect c other (LinkHear frame) is = refl
 by_disconnect c other (LinkTick waiting) is = refl
 
-pub by_connect : (c : Cause) → (c ≡ connecting → ⊥) → (event : LinkEvent) → cause_of event ≡ c → is_connect event ≡ false
+pub by_connect : (c : Cause) → (c ≡ connecting → ⊥) → (event : LinkEvent) → cause_of event ≡ c
+    → is_connect event ≡ false
 by_connect c other LinkConnect is = absurd (other (sym is))
 by_connect c other (LinkSend packet) is = refl
 by_connect c other LinkDisconnect is = refl
@@ -197,7 +203,8 @@ linked w e c side p events made queue there turn on own says written sees asked 
       owns = subst (OwnsAll e) (sym told.station) says.owns;
       there = λ is. subst HasProgram (sym told.station) (has (sym (ap is_there told.there) ∙ is));
       whole = told.whole;
-      sees = subst (λ x. Sees x (seen_by_all (events ++ made) []) (runs_behind false (events ++ made))) (sym told.program) sees;
+      sees = subst (λ x. Sees x (seen_by_all (events ++ made) []) (runs_behind false (events ++ made)))
+          (sym told.program) sees;
       asked = λ is. subst (GaveAll w.octets) (sym told.program) (asked is);
       calls = λ is. calls (sym (ap (λ (x : ProgramState). x.calls) told.program) ∙ is);
       given = each_append GivenUp events made own.given given;

@@ -1,5 +1,6 @@
 -- The table of links of a station, and the machine of the end that stands for its link between two calls.
-use Rattle.std.proofs.Common.{◌≡◌, ℕ, ◌<◌, Bool, true, false, ◌&&◌, length, cond, Option, Some, None, get_or, set, refl, sym, ap, ◌∙◌, subst, arith}
+use Rattle.std.proofs.Common.{◌≡◌, ℕ, ◌<◌, Bool, true, false, ◌&&◌, length, cond, Option, Some, None, get_or, set, refl,
+    sym, ap, ◌∙◌, subst, arith}
 use Rattle.std.specs.Bool.{⊤}
 use Rattle.std.specs.List.{AllByRecursion as Each}
 use Rattle.std.proofs.lemmas.Bool.{and_parts}
@@ -17,12 +18,14 @@ use Rattle.link_world.specs.Held.{IsCounting}
 use Rattle.link_world.proofs.StepGrowth.{step_keeps}
 use Rattle.station.specs.LinkEvents.{is_idle, settled_link}
 use Rattle.station.specs.Leaving.{without_owner}
-use Rattle.station.specs.Links.{Link, Links, IsNewKey, is_between, link_at, most_links, with_link, with_new_link, without_link}
+use Rattle.station.specs.Links.{Link, Links, IsNewKey, is_between, link_at, most_links, with_link, with_new_link,
+    without_link}
 use Rattle.channel_bench.specs.LinkSteps.{Choice}
 use Rattle.channel_bench.specs.StationsLaw.{first_chosen, IsMachineOf}
 use Rattle.channel_bench.proofs.Addresses.{IsGoodPath}
 use Rattle.channel_bench.proofs.PathStays.{step_stays}
-use Rattle.channel_bench.proofs.Tables.{ChoosesOne, not_both, none_chosen, one_of_none, chosen_at, each_set, each_get, other_first, other_one, chosen_set, chosen_goes, chosen_comes, none_of_first}
+use Rattle.channel_bench.proofs.Tables.{ChoosesOne, not_both, none_chosen, one_of_none, chosen_at, each_set, each_get,
+    other_first, other_one, chosen_set, chosen_goes, chosen_comes, none_of_first}
 
 -- a link whose path can be written, between its calls
 pub record IsGoodLink (params : Params) (link : Link) : Type 0 where
@@ -46,7 +49,8 @@ pub record IsTable (params : Params) (chosen : Choice) (links : Links) (machine 
 -- a test of links looks at their calls alone, and takes none for none
 pub record LooksAtCalls (chosen : Choice) : Type 0 where
   pub empty : chosen None ≡ false
-  pub calls : (link next : Link) → next.local ≡ link.local → next.remote ≡ link.remote → chosen (Some next) ≡ chosen (Some link)
+  pub calls : (link next : Link) → next.local ≡ link.local → next.remote ≡ link.remote
+      → chosen (Some next) ≡ chosen (Some link)
 
 pub between_calls : (local remote : Callsign) → LooksAtCalls (is_between local remote)
 between_calls local remote = record {
@@ -60,7 +64,8 @@ pub record HasCalls (local remote : Callsign) (link : Link) : Type 0 where
   pub local_is : link.local ≡ local
   pub remote_is : link.remote ≡ remote
 
-pub chosen_calls : (local remote : Callsign) (link : Link) → is_between local remote (Some link) ≡ true → HasCalls local remote link
+pub chosen_calls : (local remote : Callsign) (link : Link) → is_between local remote (Some link) ≡ true
+    → HasCalls local remote link
 chosen_calls local remote link is =
     let both = and_parts (is_same_call link.local local) (is_same_call link.remote remote) is in
     record {
@@ -68,7 +73,8 @@ chosen_calls local remote link is =
       remote_is = (is_same_call-Decides link.remote remote).0 both.1;
     }
 
-pub calls_chosen : (local remote : Callsign) (link : Link) → link.local ≡ local → link.remote ≡ remote → is_between local remote (Some link) ≡ true
+pub calls_chosen : (local remote : Callsign) (link : Link) → link.local ≡ local → link.remote ≡ remote
+    → is_between local remote (Some link) ≡ true
 calls_chosen local remote link l r =
     ap (λ b. b && is_same_call link.remote remote) ((is_same_call-Decides link.local local).1 l)
     ∙ (is_same_call-Decides link.remote remote).1 r
@@ -124,7 +130,8 @@ own_table params chosen links before key link now looks table at is good = go (i
           size = length-set links.places key None ∙ table.size;
           good = each_set (IsGoodPlace params) links.places key None table.good tt;
           one = one_of_none chosen (set links.places key None) gone;
-          machine_is = subst (λ place. IsMachineOf place now) (sym (none_chosen chosen (set links.places key None) gone))
+          machine_is = subst (λ place. IsMachineOf place now)
+              (sym (none_chosen chosen (set links.places key None) gone))
               (idle_state now.control.state idle);
         }
     go false busy =
@@ -139,7 +146,8 @@ own_table params chosen links before key link now looks table at is good = go (i
 
 -- a place that is not chosen changes
 other_place :
-    (params : Params) (chosen : Choice) (links : Links) (machine : Machine) (key : ℕ) (place : Option Link) (freed : Option ℕ)
+    (params : Params) (chosen : Choice) (links : Links) (machine : Machine) (key : ℕ) (place : Option Link)
+        (freed : Option ℕ)
     → IsTable params chosen links machine → chosen (get_or links.places key None) ≡ false → chosen place ≡ false
     → IsGoodPlace params place
     → IsTable params chosen (record { places = set links.places key place; freed = freed }) machine
@@ -147,7 +155,8 @@ other_place params chosen links machine key place freed table was is good = reco
   size = length-set links.places key place ∙ table.size;
   good = each_set (IsGoodPlace params) links.places key place table.good good;
   one = other_one chosen links.places key place is table.one;
-  machine_is = subst (λ p. IsMachineOf p machine) (sym (other_first chosen links.places key place was is)) table.machine_is;
+  machine_is = subst (λ p. IsMachineOf p machine) (sym (other_first chosen links.places key place was is))
+      table.machine_is;
 }
 
 -- another link
@@ -167,7 +176,8 @@ other_table params chosen links machine key link now looks table at is good = go
     go : (b : Bool) → IsTable params chosen (cond b (without_link key links) (with_link key next links)) machine
     go true = other_place params chosen links machine key None (Some key) table was looks.empty tt
     go false =
-        other_place params chosen links machine key (Some next) links.freed table was (looks.calls link next refl refl ∙ is) good
+        other_place params chosen links machine key (Some next) links.freed table was (looks.calls link next refl refl
+            ∙ is) good
 
 -- a link that nobody owns any more
 pub owner_table :
@@ -211,7 +221,8 @@ pub made_table :
     → IsTable params chosen (with_new_link key link links) link.machine
 made_table params chosen links before key link looks table new none is good =
     let within : key < length links.places = let low = new.within in let size = table.size in omega arith in
-    let there = chosen_comes chosen links.places key (Some link) (none_of_first chosen links.places looks.empty none) within is in
+    let there = chosen_comes chosen links.places key (Some link) (none_of_first chosen links.places looks.empty none)
+        within is in
     record {
       size = length-set links.places key (Some link) ∙ table.size;
       good = each_set (IsGoodPlace params) links.places key (Some link) table.good good;

@@ -1,5 +1,6 @@
 -- A step of a bench keeps what its host programs have seen, by the laws of the link.
-use Rattle.std.proofs.Common.{◌≡◌, ℕ, Bool, true, false, List, [], ◌∷◌, ◌++◌, cond, Option, Some, None, is_some, refl, sym, ap, ◌∙◌, subst, arith, inl, inr}
+use Rattle.std.proofs.Common.{◌≡◌, ℕ, Bool, true, false, List, [], ◌∷◌, ◌++◌, cond, Option, Some, None, is_some, refl,
+    sym, ap, ◌∙◌, subst, arith, inl, inr}
 use Rattle.std.specs.Bool.{⊤}
 use Rattle.std.specs.Prelude.{MatchBool}
 use Rattle.std.specs.List.{AllByRecursion as Each}
@@ -18,7 +19,8 @@ use Rattle.link_world.specs.declared.end.End.TheVariants.{A, B}
 use Rattle.link_world.specs.World.{other}
 use Rattle.station.specs.declared.host_event.PortKind.TheVariants.{Kiss, Agw}
 use Rattle.station.specs.AgwKinds.{connect_kind, disconnect_kind}
-use Rattle.station.specs.AgwRequests.{IsCall, called_pid, called_route, may_call, own_key, refused_reply, replying, IsCallMade}
+use Rattle.station.specs.AgwRequests.{IsCall, called_pid, called_route, may_call, own_key, refused_reply, replying,
+    IsCallMade}
 use Rattle.station.specs.Connections.{Connection}
 use Rattle.station.specs.Host.{taking}
 use Rattle.station.specs.Links.{Link}
@@ -30,18 +32,22 @@ use Rattle.channel_bench.specs.BenchOrder.{the_calls}
 use Rattle.channel_bench.specs.BenchState.{SideState}
 use Rattle.channel_bench.specs.BenchSteps.{program_id}
 use Rattle.channel_bench.specs.HostProgram.{ProgramState, request_between, told_all}
-use Rattle.channel_bench.specs.InFlight.{AreMatched, BothWays, IsMatched, IsMatchedIn, LinkFrame, Moment, OneWay, after_moment, after_moments, hears_ask, nothing_sent, sent_by, steps_in}
+use Rattle.channel_bench.specs.InFlight.{AreMatched, BothWays, IsMatched, IsMatchedIn, LinkFrame, Moment, OneWay,
+    after_moment, after_moments, hears_ask, nothing_sent, sent_by, steps_in}
 use Rattle.channel_bench.specs.InFlight.Moment.{Steps}
 use Rattle.channel_bench.specs.JointRun.{IsTurn, Step, Stations, at_end}
 use Rattle.channel_bench.specs.JointRun.Input.{OffAir}
 use Rattle.channel_bench.specs.LinkOfCalls.{Calls, link_at_end}
-use Rattle.channel_bench.specs.LinkSteps.{Choice, LinkStep, call_steps, disconnect_steps, link_step, made_steps, steps_for, steps_of, turn_steps}
+use Rattle.channel_bench.specs.LinkSteps.{Choice, LinkStep, call_steps, disconnect_steps, link_step, made_steps,
+    steps_for, steps_of, turn_steps}
 use Rattle.channel_bench.specs.LinksTell.{RunsIn}
 use Rattle.channel_bench.specs.RunsTell.{AllToldInOne, runs_behind, told_in}
 use Rattle.channel_bench.specs.SetUpsSeen.{link_steps_at, seen_by_all}
-use Rattle.channel_bench.proofs.Chains.{AsksInSetUp, HasSetUp, IsChain, StandsCalled, asked_append, asked_behind, called_append, called_behind, made_by, made_of, told_append}
+use Rattle.channel_bench.proofs.Chains.{AsksInSetUp, HasSetUp, IsChain, StandsCalled, asked_append, asked_behind,
+    called_append, called_behind, made_by, made_of, told_append}
 use Rattle.channel_bench.proofs.CoreRun.{Usual, input_of}
-use Rattle.channel_bench.proofs.CoreRun.Usual.{connects, disconnects, gives, hears, joins_kiss, joins_program, registers, sets_full, ticks}
+use Rattle.channel_bench.proofs.CoreRun.Usual.{connects, disconnects, gives, hears, joins_kiss, joins_program,
+    registers, sets_full, ticks}
 use Rattle.channel_bench.proofs.Framed.{framed}
 use Rattle.channel_bench.proofs.HostsStay.{HasHosts, IsHosts}
 use Rattle.channel_bench.proofs.LinkDid.{is_connect, is_disconnect}
@@ -53,7 +59,8 @@ use Rattle.channel_bench.proofs.OwnMessages.{IsHeardFrom, cause_in, said_go}
 use Rattle.channel_bench.proofs.ProgramSees.{GaveAll, Sees}
 use Rattle.channel_bench.proofs.ProgramsAsk.{between_written}
 use Rattle.channel_bench.proofs.Shorts.{GotShort, ShortStep, TellsShort, each_slice, steps_short}
-use Rattle.channel_bench.proofs.SideSees.{SideSees, asked_kept, asked_one, called_kept, called_one, each_map, never_asks, seen_append, some_seen}
+use Rattle.channel_bench.proofs.SideSees.{SideSees, asked_kept, asked_one, called_kept, called_one, each_map,
+    never_asks, seen_append, some_seen}
 use Rattle.channel_bench.proofs.Tables.{not_both}
 use Rattle.channel_bench.proofs.Ways.{queued_by}
 
@@ -116,7 +123,8 @@ far_sees w e far moments step found is h =
 
 -- ---- what is heard comes from the other station
 
-pub matched_last : (moments : List Moment) (moment : Moment) (ways : BothWays) → AreMatched (moments ++ moment ∷ []) ways
+pub matched_last : (moments : List Moment) (moment : Moment) (ways : BothWays)
+    → AreMatched (moments ++ moment ∷ []) ways
     → IsMatchedIn moment (after_moments moments ways)
 matched_last [] moment ways h = h.0
 matched_last (first ∷ moments) moment ways h = matched_last moments moment (after_moment first ways) h.1
@@ -208,7 +216,8 @@ pub disconnects_one :
 disconnects_one e s after hosts turn =
     let m = request_between disconnect_kind e [] in
     said_go e m (begin s) (λ steps u. AtMostOne steps) (between_written disconnect_kind e [] (omega arith)) hosts
-    (λ missing. tt) (λ u h. disconnect_one (chosen e) (own_key program_id m (taking program_id (spelling m) (begin s)).now.links) _)
+    (λ missing. tt) (λ u h. disconnect_one (chosen e)
+        (own_key program_id m (taking program_id (spelling m) (begin s)).now.links) _)
     after turn
 
 -- ---- wishes and calls in a step
@@ -296,7 +305,8 @@ runs_set_up runs state h run = elim (h.only run) [
 ]
 
 -- a link that was not called has no set-up
-pub uncalled_rests : (called runs : Bool) (state : LinkState) → StandsCalled called state → RunsIn runs state → called ≡ false
+pub uncalled_rests : (called runs : Bool) (state : LinkState) → StandsCalled called state → RunsIn runs state
+    → called ≡ false
     → runs ≡ false
 uncalled_rests called runs Idle h in_state none = go runs refl
   where
@@ -321,7 +331,8 @@ IsReady w disconnects p events = GaveAll w.octets p × (is_some p.running ≡ tr
 IsReady w (hears octets) p events = ⊤
 IsReady w (ticks busy) p events = ⊤
 
-pub not_sending : (w : BenchWords) (usual : Usual) (p : ProgramState) (events : List LinkStep) → IsReady w usual p events
+pub not_sending : (w : BenchWords) (usual : Usual) (p : ProgramState) (events : List LinkStep)
+    → IsReady w usual p events
     → cause_in usual ≡ sending → ⊥
 not_sending w joins_kiss p events h is = cc
 not_sending w sets_full p events h is = cc
@@ -348,7 +359,8 @@ pub record StepLaws (e : End) (events made : List LinkStep) : Type 0 where
 pub step_laws :
     (w : BenchWords) (e : End) (moments later : List Moment) (s : Stations) (side far : SideState) (p : ProgramState)
     (made : List LinkStep) → Known w later s → links_of e later ≡ links_of e moments ++ made
-    → SeesAt w (other e) far later → Each GivenUp (links_of e moments ++ made) → Each ShortStep (links_of e moments ++ made)
+    → SeesAt w (other e) far later → Each GivenUp (links_of e moments ++ made)
+        → Each ShortStep (links_of e moments ++ made)
     → Sees p (seen_by_all (links_of e moments) []) (runs_behind false (links_of e moments))
     → StepLaws e (links_of e moments) made
 step_laws w e moments later s side far p made known is far_sees given short sees =

@@ -1,5 +1,6 @@
 -- The one link of a table that is chosen, when a place of the table changes.
-use Rattle.std.proofs.Common.{◌≡◌, ℕ, zero, suc, ◌<◌, Bool, true, false, List, [], ◌∷◌, length, Option, None, get_or, set, refl, sym, ap, ◌∙◌, arith}
+use Rattle.std.proofs.Common.{◌≡◌, ℕ, zero, suc, ◌<◌, Bool, true, false, List, [], ◌∷◌, length, Option, None, get_or,
+    set, refl, sym, ap, ◌∙◌, arith}
 use Rattle.std.specs.Bool.{⊤}
 use Rattle.std.specs.List.{AllByRecursion as Each}
 use Rattle.std.proofs.lemmas.Bool.{cond-true, cond-false, false≢true}
@@ -19,17 +20,20 @@ pub not_both : (b : Bool) → b ≡ true → b ≡ false → ⊥
 not_both b so empty = false≢true (sym empty ∙ so)
 
 -- if none is chosen
-pub none_chosen : (chosen : Choice) (places : List (Option Link)) → Each (NotChosen chosen) places → first_chosen chosen places ≡ None
+pub none_chosen : (chosen : Choice) (places : List (Option Link)) → Each (NotChosen chosen) places
+    → first_chosen chosen places ≡ None
 none_chosen chosen [] h = refl
 none_chosen chosen (place ∷ places) h =
     cond-false (chosen place) place (first_chosen chosen places) h.0 ∙ none_chosen chosen places h.1
 
-pub none_at : (chosen : Choice) (places : List (Option Link)) (key : ℕ) → chosen None ≡ false → Each (NotChosen chosen) places → chosen (get_or places key None) ≡ false
+pub none_at : (chosen : Choice) (places : List (Option Link)) (key : ℕ) → chosen None ≡ false
+    → Each (NotChosen chosen) places → chosen (get_or places key None) ≡ false
 none_at chosen [] key empty h = empty
 none_at chosen (place ∷ places) zero empty h = h.0
 none_at chosen (place ∷ places) (suc key) empty h = none_at chosen places key empty h.1
 
-pub one_of_none : (chosen : Choice) (places : List (Option Link)) → Each (NotChosen chosen) places → ChoosesOne chosen places
+pub one_of_none : (chosen : Choice) (places : List (Option Link)) → Each (NotChosen chosen) places
+    → ChoosesOne chosen places
 one_of_none chosen [] h = tt
 one_of_none chosen (place ∷ places) h = ((λ is. h.1), one_of_none chosen places h.1)
 
@@ -39,35 +43,42 @@ pub chosen_at :
     → chosen None ≡ false → chosen (get_or places key None) ≡ true → first_chosen chosen places ≡ get_or places key None
 chosen_at chosen [] key one empty is = absurd (not_both (chosen None) is empty)
 chosen_at chosen (place ∷ places) zero one empty is = cond-true (chosen place) place (first_chosen chosen places) is
-chosen_at chosen (place ∷ places) (suc key) one empty is = go (chosen place) refl (chosen_at chosen places key one.1 empty is)
+chosen_at chosen (place ∷ places) (suc key) one empty is =
+    go (chosen place) refl (chosen_at chosen places key one.1 empty is)
   where
     go : (b : Bool) → chosen place ≡ b → first_chosen chosen places ≡ get_or places key None
         → first_chosen chosen (place ∷ places) ≡ get_or places key None
-    go true here rest = absurd (not_both (chosen (get_or places key None)) is (none_at chosen places key empty (one.0 here)))
+    go true here rest = absurd (not_both (chosen (get_or places key None)) is
+        (none_at chosen places key empty (one.0 here)))
     go false here rest = cond-false (chosen place) place (first_chosen chosen places) here ∙ rest
 
-pub each_set : (P : Option Link → Type 0) (places : List (Option Link)) (key : ℕ) (x : Option Link) → Each P places → P x → Each P (set places key x)
+pub each_set : (P : Option Link → Type 0) (places : List (Option Link)) (key : ℕ) (x : Option Link) → Each P places
+    → P x → Each P (set places key x)
 each_set P [] key x h k = tt
 each_set P (place ∷ places) zero x h k = (k, h.1)
 each_set P (place ∷ places) (suc key) x h k = (h.0, each_set P places key x h.1 k)
 
-pub each_get : (P : Option Link → Type 0) (places : List (Option Link)) (key : ℕ) → P None → Each P places → P (get_or places key None)
+pub each_get : (P : Option Link → Type 0) (places : List (Option Link)) (key : ℕ) → P None → Each P places
+    → P (get_or places key None)
 each_get P [] key none h = none
 each_get P (place ∷ places) zero none h = h.0
 each_get P (place ∷ places) (suc key) none h = each_get P places key none h.1
 
 -- a place of a link that is not chosen changes, and has none then
 pub other_first :
-    (chosen : Choice) (places : List (Option Link)) (key : ℕ) (x : Option Link) → chosen (get_or places key None) ≡ false
+    (chosen : Choice) (places : List (Option Link)) (key : ℕ) (x : Option Link)
+        → chosen (get_or places key None) ≡ false
     → chosen x ≡ false → first_chosen chosen (set places key x) ≡ first_chosen chosen places
 other_first chosen [] key x was is = refl
 other_first chosen (place ∷ places) zero x was is =
-    cond-false (chosen x) x (first_chosen chosen places) is ∙ sym (cond-false (chosen place) place (first_chosen chosen places) was)
+    cond-false (chosen x) x (first_chosen chosen places) is
+        ∙ sym (cond-false (chosen place) place (first_chosen chosen places) was)
 other_first chosen (place ∷ places) (suc key) x was is = go (chosen place) refl (other_first chosen places key x was is)
   where
     go : (b : Bool) → chosen place ≡ b → first_chosen chosen (set places key x) ≡ first_chosen chosen places
         → first_chosen chosen (place ∷ set places key x) ≡ first_chosen chosen (place ∷ places)
-    go true here rest = cond-true (chosen place) place (first_chosen chosen (set places key x)) here ∙ sym (cond-true (chosen place) place (first_chosen chosen places) here)
+    go true here rest = cond-true (chosen place) place (first_chosen chosen (set places key x)) here
+        ∙ sym (cond-true (chosen place) place (first_chosen chosen places) here)
     go false here rest =
         cond-false (chosen place) place (first_chosen chosen (set places key x)) here ∙ rest
         ∙ sym (cond-false (chosen place) place (first_chosen chosen places) here)
@@ -94,7 +105,8 @@ chosen_set chosen (place ∷ places) (suc key) x one empty was is =
     go : (b : Bool) → chosen place ≡ b
         → (first_chosen chosen (set places key x) ≡ x) × ChoosesOne chosen (set places key x)
         → (first_chosen chosen (place ∷ set places key x) ≡ x) × ChoosesOne chosen (place ∷ set places key x)
-    go true here rest = absurd (not_both (chosen (get_or places key None)) was (none_at chosen places key empty (one.0 here)))
+    go true here rest = absurd (not_both (chosen (get_or places key None)) was
+        (none_at chosen places key empty (one.0 here)))
     go false here rest = (
       cond-false (chosen place) place (first_chosen chosen (set places key x)) here ∙ rest.0,
       ((λ so. absurd (not_both (chosen place) so here)), rest.1),
@@ -111,7 +123,8 @@ chosen_goes chosen (place ∷ places) (suc key) one empty was =
   where
     go : (b : Bool) → chosen place ≡ b → Each (NotChosen chosen) (set places key None)
         → Each (NotChosen chosen) (place ∷ set places key None)
-    go true here rest = absurd (not_both (chosen (get_or places key None)) was (none_at chosen places key empty (one.0 here)))
+    go true here rest = absurd (not_both (chosen (get_or places key None)) was
+        (none_at chosen places key empty (one.0 here)))
     go false here rest = (here, rest)
 
 -- a chosen one comes if there was none

@@ -1,6 +1,8 @@
--- The frames that the links of a station have queued: each is a frame of the link between two calls, with its tags, or of
+-- The frames that the links of a station have queued: each is a frame of the link between two calls, with its tags, or
+-- of
 -- another.
-use Rattle.std.proofs.Common.{◌≡◌, ℕ, suc, Bool, true, List, [], ◌∷◌, ◌++◌, length, map, Option, Some, None, refl, sym, ap, ◌∙◌, subst, arith, inl, inr}
+use Rattle.std.proofs.Common.{◌≡◌, ℕ, suc, Bool, true, List, [], ◌∷◌, ◌++◌, length, map, Option, Some, None, refl, sym,
+    ap, ◌∙◌, subst, arith, inl, inr}
 use Rattle.std.specs.Bool.{⊤}
 use Rattle.std.specs.List.{AllByRecursion as Each}
 use Rattle.std.proofs.lemmas.Bool.{and_parts}
@@ -52,7 +54,8 @@ AreTags local remote [] (queued ∷ rest) = ⊥
 AreTags local remote (tag ∷ tags) [] = ⊥
 AreTags local remote (tag ∷ tags) (queued ∷ rest) = IsTag local remote tag queued × AreTags local remote tags rest
 
-pub tags_length : (l r : Callsign) (tags : List (Option Tagged)) (queue : List LinkFrame) → AreTags l r tags queue → length tags ≡ length queue
+pub tags_length : (l r : Callsign) (tags : List (Option Tagged)) (queue : List LinkFrame) → AreTags l r tags queue
+    → length tags ≡ length queue
 tags_length l r [] [] h = refl
 tags_length l r [] (queued ∷ rest) h = absurd h
 tags_length l r (tag ∷ tags) [] h = absurd h
@@ -77,9 +80,12 @@ wide_kind (InfoSent number nr packet) short = record { numbered = (omega arith, 
 wide_kind (SuperSent which command nr flag) short = record { numbered = omega arith; fits = tt }
 wide_kind (SetupSent which flag) short = record { numbered = tt; fits = tt }
 
-kind_by : (modulus : ℕ) (sent : Sent) → IsModulus modulus → IsShortSent sent → IsKind (modulus_named modulus) (sent_kind modulus sent)
-kind_by modulus sent (inl is) short = subst (λ m. IsKind (modulus_named m) (sent_kind m sent)) (sym is) (narrow_kind sent short)
-kind_by modulus sent (inr is) short = subst (λ m. IsKind (modulus_named m) (sent_kind m sent)) (sym is) (wide_kind sent short)
+kind_by : (modulus : ℕ) (sent : Sent) → IsModulus modulus → IsShortSent sent
+    → IsKind (modulus_named modulus) (sent_kind modulus sent)
+kind_by modulus sent (inl is) short = subst (λ m. IsKind (modulus_named m) (sent_kind m sent)) (sym is)
+    (narrow_kind sent short)
+kind_by modulus sent (inr is) short = subst (λ m. IsKind (modulus_named m) (sent_kind m sent)) (sym is)
+    (wide_kind sent short)
 
 -- another role leaves a path good
 good_in_role : (path : Path) (sent : Sent) → IsGoodPath path → IsGoodPath (record path { role = sent_role sent })
@@ -106,7 +112,8 @@ own_more l r on f sent x first tag more = record {
 
 pub own_tags :
     (l r : Callsign) (on on_ask : Bool) (now : RecordedEnd) (sent : List SentIn) (first rest : List SentFrame)
-    → (on_ask ≡ true → on ≡ true) → IsGoodPath now.machine.path → now.machine.path.source ≡ l → now.machine.path.dest ≡ r → Each IsGood sent
+    → (on_ask ≡ true → on ≡ true) → IsGoodPath now.machine.path → now.machine.path.source ≡ l
+        → now.machine.path.dest ≡ r → Each IsGood sent
     → map (sent_frame now.machine.path) sent ≡ first ++ rest → OwnTags l r on (map (tagged on_ask now) sent) first
 own_tags l r on on_ask now sent [] rest caused good source dest all is =
     record { joined = []; lost = map (tagged on_ask now) sent; split = refl; count = refl; tags = tt }
@@ -140,7 +147,8 @@ other_frame :
 other_frame l r path s good other = λ found len begins source dest.
     let frame = frame_of s.modulus path s.frame in
     let spelled = frame_spelled (modulus_named s.modulus) frame (good_in_role path s.frame good) in
-    let same : found ≡ frame.path = (BeginsWithPath-same (frame_octets (modulus_named s.modulus) frame) found frame.path len
+    let same : found ≡ frame.path = (BeginsWithPath-same (frame_octets (modulus_named s.modulus) frame)
+        found frame.path len
     (length (path_octets frame.path)) begins spelled.begins).0 in
     other (ap (λ (p : Path). p.source) (sym same) ∙ source) (ap (λ (p : Path). p.dest) (sym same) ∙ dest)
 

@@ -1,9 +1,12 @@
 -- Calls that a host program names or a frame carries are calls, and their paths can be written.
-use Rattle.std.proofs.Common.{◌≡◌, ℕ, zero, suc, ◌+◌, ◌-◌, ◌==◌, take, drop, ◌*◌, ◌<◌, ◌≤◌, Bool, true, false, ◌&&◌, nat_lt, nat_le, List, [], ◌∷◌, length, map, reverse, cond, if◌then◌else◌, Option, Some, None, get_or, refl, sym, ap, ◌∙◌, subst, arith, inl, inr}
+use Rattle.std.proofs.Common.{◌≡◌, ℕ, zero, suc, ◌+◌, ◌-◌, ◌==◌, take, drop, ◌*◌, ◌<◌, ◌≤◌, Bool, true, false, ◌&&◌,
+    nat_lt, nat_le, List, [], ◌∷◌, length, map, reverse, cond, if◌then◌else◌, Option, Some, None, get_or, refl, sym, ap,
+    ◌∙◌, subst, arith, inl, inr}
 use Rattle.std.specs.Prelude.{find, position, is_none, option_map}
 use Rattle.std.specs.Bool.{⊤}
 use Rattle.std.specs.List.{range_with_len, list_all, position_or_len, AllByRecursion as Each}
-use Rattle.std.proofs.lemmas.Bool.{and_parts, cond-true, cond-false, false≢true, ltb-true, ltb-false, leb-true, or_cases}
+use Rattle.std.proofs.lemmas.Bool.{and_parts, cond-true, cond-false, false≢true, ltb-true, ltb-false, leb-true,
+    or_cases}
 use Rattle.std.proofs.lemmas.List.{length-map, length-reverse, get_or-reverse}
 use Rattle.std.proofs.lemmas.List.Sums.{fails_before_first, passes_at_first}
 use Rattle.std.proofs.lemmas.List.Elements.{All-from_recursion}
@@ -16,7 +19,8 @@ use Rattle.ax25_address.specs.declared.path.Path.{Path}
 use Rattle.ax25_address.specs.declared.path.Role.{Role}
 use Rattle.station.specs.CallFields.{is_call_character, is_name, told_ssid, named, call_of_text, call_in, field_text}
 use Rattle.station.specs.Links.{Link}
-use Rattle.station.specs.Routes.{Route, before_calls, calls_in, repeaters_in, route_of, route_in, waiting_hop, path_along}
+use Rattle.station.specs.Routes.{Route, before_calls, calls_in, repeaters_in, route_of, route_in, waiting_hop,
+    path_along}
 use Rattle.channel_bench.specs.LinkSteps.{Choice}
 use Rattle.channel_bench.proofs.Addresses.{IsGoodPath}
 use Rattle.channel_bench.proofs.Tables.{NotChosen}
@@ -50,8 +54,10 @@ ssid_low tail ssid is =
 
 character : (c : ℕ) → is_call_character c ≡ true → IsCallCharacter c
 character c is = elim (or_cases (nat_le 65 c && nat_le c 90) (nat_le 48 c && nat_le c 57) is) [
-  | inl capital ↦ let both = and_parts (nat_le 65 c) (nat_le c 90) capital in inl (leb-true 65 c both.0, leb-true c 90 both.1)
-  | inr digit ↦ let both = and_parts (nat_le 48 c) (nat_le c 57) digit in inr (leb-true 48 c both.0, leb-true c 57 both.1)
+  | inl capital ↦ let both = and_parts (nat_le 65 c) (nat_le c 90) capital in
+      inl (leb-true 65 c both.0, leb-true c 90 both.1)
+  | inr digit ↦ let both = and_parts (nat_le 48 c) (nat_le c 57) digit in
+      inr (leb-true 48 c both.0, leb-true c 57 both.1)
 ]
 
 characters : (name : List ℕ) → list_all is_call_character name ≡ true → Each IsCallCharacter name
@@ -85,7 +91,8 @@ text_valid text call is = go (is_name (name_part text)) refl
     go true here =
         named_valid (name_part text) (told_ssid (ssid_part text)) call (name_valid (name_part text) here)
         (ssid_low (ssid_part text)) (sym (cond-true (is_name (name_part text)) _ None here) ∙ is)
-    go false here = absurd (let e : None ≡ Some call = sym (cond-false (is_name (name_part text)) _ None here) ∙ is in cc)
+    go false here = absurd (let e : None ≡ Some call = sym (cond-false (is_name (name_part text)) _ None here)
+        ∙ is in cc)
 
 pub call_valid : (field : List ℕ) (call : Callsign) → call_in field ≡ Some call → IsCall call
 call_valid field call is = text_valid (field_text field) call is
@@ -162,7 +169,8 @@ pub no_or_few : (b : Bool) (body : List ℕ) → AreFewCalls (if b then repeater
 no_or_few true body = few_calls body
 no_or_few false body = (tt, omega arith)
 
-waiting_valid : (calls : List Callsign) → Each IsCall calls → Each (λ (hop : Hop). IsCall hop.call) (map waiting_hop calls)
+waiting_valid : (calls : List Callsign) → Each IsCall calls
+    → Each (λ (hop : Hop). IsCall hop.call) (map waiting_hop calls)
 waiting_valid [] h = tt
 waiting_valid (call ∷ calls) h = (h.0, waiting_valid calls h.1)
 
@@ -176,11 +184,13 @@ along_good route valid = record {
 
 -- ---- a path that was heard
 
-hops_valid : (hops : List Hop) → ((k : ℕ) (d : Hop) → k < length hops → IsCall (get_or hops k d).call) → Each (λ (hop : Hop). IsCall hop.call) hops
+hops_valid : (hops : List Hop) → ((k : ℕ) (d : Hop) → k < length hops → IsCall (get_or hops k d).call)
+    → Each (λ (hop : Hop). IsCall hop.call) hops
 hops_valid [] h = tt
 hops_valid (hop ∷ hops) h = (h 0 hop (omega arith), hops_valid hops (λ k d less. h (suc k) d (omega arith)))
 
-undone_valid : (xs : List Hop) → Each (λ (hop : Hop). IsCall hop.call) xs → Each (λ (hop : Hop). IsCall hop.call) (map undone xs)
+undone_valid : (xs : List Hop) → Each (λ (hop : Hop). IsCall hop.call) xs
+    → Each (λ (hop : Hop). IsCall hop.call) (map undone xs)
 undone_valid [] k = tt
 undone_valid (x ∷ xs) k = (k.0, undone_valid xs k.1)
 
@@ -206,7 +216,8 @@ heard_good octets path len role h = record {
 
 -- ---- the first place that is chosen
 
-each_from : (P : Option Link → Type 0) (xs : List (Option Link)) → ((k : ℕ) → k < length xs → P (get_or xs k None)) → Each P xs
+each_from : (P : Option Link → Type 0) (xs : List (Option Link)) → ((k : ℕ) → k < length xs → P (get_or xs k None))
+    → Each P xs
 each_from P [] h = tt
 each_from P (x ∷ xs) h = (h 0 (omega arith), each_from P xs (λ k less. h (suc k) (omega arith)))
 
@@ -219,7 +230,8 @@ none_by_position chosen places is =
     each_from (NotChosen chosen) places (λ k less. fails_before_first chosen places k None (omega arith))
   where
     past : (b : Bool) → nat_lt (position_or_len chosen places) (length places) ≡ b
-        → is_none (cond b (Some (position_or_len chosen places)) None) ≡ true → length places ≤ position_or_len chosen places
+        → is_none (cond b (Some (position_or_len chosen places)) None) ≡ true
+            → length places ≤ position_or_len chosen places
     past true here e = absurd (false≢true e)
     past false here e = let high = ltb-false (position_or_len chosen places) (length places) here in omega arith
 

@@ -1,7 +1,9 @@
 -- The steps of a station of the bench, and what its host program and the channel make of each: the program is told what
--- it is sent, and each frame that a link queues is in flight. A SABM, SABME or DISC that finds no quiet channel ends the
+-- it is sent, and each frame that a link queues is in flight. A SABM, SABME or DISC that finds no quiet channel ends
+-- the
 -- run.
-use Rattle.std.specs.Prelude.{◌≡◌, ◌≢◌, ℕ, ◌+◌, ◌-◌, ◌==◌, nat_lt, ◌&&◌, Bool, IsTrue, ◌↔◌, MatchBool, if◌then◌else◌, List, [], ◌∷◌, ◌++◌, length, All, Any, drop, position, Option, Some, None, option_map}
+use Rattle.std.specs.Prelude.{◌≡◌, ◌≢◌, ℕ, ◌+◌, ◌-◌, ◌==◌, nat_lt, ◌&&◌, Bool, IsTrue, ◌↔◌, MatchBool, if◌then◌else◌,
+    List, [], ◌∷◌, ◌++◌, length, All, Any, drop, position, Option, Some, None, option_map}
 use Rattle.std.specs.Str.{bytes_eq}
 use Rattle.frame_merge.specs.declared.candidate.Candidate.{Candidate}
 use Rattle.link_world.specs.declared.end.End.{End}
@@ -90,7 +92,8 @@ pub record IsStep (end : End) (input : Input) (matched : Option ℕ) (before aft
   pub makes : IsTurn input (begin before.side.station) turn
   pub octets : HasOctets input
   pub is : after ≡ stepped_near
-      (record { station = end; input = input; before = before.side.station; after = turn; turn = makes; octets = octets })
+      (record { station = end; input = input; before = before.side.station; after = turn; turn = makes;
+          octets = octets })
       matched before
 
 -- ---- what comes from hosts

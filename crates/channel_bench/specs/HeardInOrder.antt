@@ -1,6 +1,8 @@
--- Frames that are heard in the order in which they were sent, each once, and none that was not sent: one list of pairs for
+-- Frames that are heard in the order in which they were sent, each once, and none that was not sent: one list of pairs
+-- for
 -- each direction, over all links.
-use Rattle.std.specs.Prelude.{◌≡◌, ◌≢◌, ℕ, ◌<◌, List, [], map, take, drop, All, AllPairs, Contains, slice_get, Some, is_some}
+use Rattle.std.specs.Prelude.{◌≡◌, ◌≢◌, ℕ, ◌<◌, List, [], map, take, drop, All, AllPairs, Contains, slice_get, Some,
+    is_some}
 use Rattle.ax25_address.specs.FramePath.{BeginsWithPath, undone}
 use Rattle.ax25_address.specs.declared.path.Path.{Path}
 use Rattle.link_world.specs.declared.end.End.{End}
@@ -13,7 +15,8 @@ use Rattle.channel_bench.specs.LinkSteps.{steps_of}
 abbrev pub with_none_done : Path → Path
 with_none_done path = record path { repeaters = record { items = map undone path.repeaters.items } }
 
--- Two frames in octets, equal but for the H bits of their repeaters: they begin with paths that are the same but for them,
+-- Two frames in octets, equal but for the H bits of their repeaters: they begin with paths that are the same but for
+-- them,
 -- and all else is the same. (The two reserved bits of a call are no part of a path, and may differ as well.)
 pub record AreAlikeButForH (heard sent : List ℕ) : Type 0 where
   pub len : ℕ

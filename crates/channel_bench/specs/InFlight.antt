@@ -1,8 +1,11 @@
 -- What is in flight between two stations, to someone who sees which sent frame each heard one is, but who cannot know
--- beforehand which will be heard. A frame of a link is in flight from the moment at which it joins the transmit queue until
--- it is heard, a later one of its direction is heard, or it has passed the other station. So of each direction the frames
+-- beforehand which will be heard. A frame of a link is in flight from the moment at which it joins the transmit queue
+-- until
+-- it is heard, a later one of its direction is heard, or it has passed the other station. So of each direction the
+-- frames
 -- from a number on are in flight.
-use Rattle.std.specs.Prelude.{◌≡◌, ℕ, ◌+◌, ◌≤◌, ◌%◌, ◌==◌, ◌||◌, ◌&&◌, max, not, Bool, false, if◌then◌else◌, List, [], ◌∷◌, ◌++◌, length, drop, slice_get, Option, Some, None, IsTrue}
+use Rattle.std.specs.Prelude.{◌≡◌, ℕ, ◌+◌, ◌≤◌, ◌%◌, ◌==◌, ◌||◌, ◌&&◌, max, not, Bool, false, if◌then◌else◌, List, [],
+    ◌∷◌, ◌++◌, length, drop, slice_get, Option, Some, None, IsTrue}
 use Rattle.std.specs.List.{list_any}
 use Rattle.link_world.specs.declared.end.End.{End}
 use Rattle.link_world.specs.declared.end.End.TheVariants.{A, B}
@@ -131,7 +134,8 @@ queueing_at sender on_ask octets ways =
 -- the frames of a step join, one after another
 abbrev pub queueing_all : End → Bool → List (List ℕ) → BothWays → BothWays
 queueing_all sender on_ask [] ways = ways
-queueing_all sender on_ask (octets ∷ rest) ways = queueing_all sender on_ask rest (queueing_at sender on_ask octets ways)
+queueing_all sender on_ask (octets ∷ rest) ways = queueing_all sender on_ask rest
+    (queueing_at sender on_ask octets ways)
 
 abbrev pub hearing_at : End → Option ℕ → BothWays → BothWays
 hearing_at hearer matched ways =
@@ -156,7 +160,8 @@ pub record IsInFlight (octets : List ℕ) (number : ℕ) (way : OneWay) : Type 0
   pub is_there : slice_get way.queued number ≡ Some frame
   pub same : frame.octets ≡ octets
 
--- each frame that is heard is matched with one in flight, of the same octets, and nothing else is; only what was queued can
+-- each frame that is heard is matched with one in flight, of the same octets, and nothing else is; only what was queued
+-- can
 -- have passed
 abbrev pub IsMatched : Input → Option ℕ → OneWay → Type 0
 IsMatched (FromHost event) matched way = matched ≡ None
@@ -181,7 +186,8 @@ asks frame = is_ask frame.octets
 abbrev pub answers : LinkFrame → Bool
 answers frame = frame.on_ask && is_ua_or_dm frame.octets
 
--- A station queues SABM, SABME or DISC only if no earlier one of its own is in flight, and no answer to one is in flight
+-- A station queues SABM, SABME or DISC only if no earlier one of its own is in flight, and no answer to one is in
+-- flight
 -- to it.
 abbrev pub is_quiet_for : List ℕ → OneWay → OneWay → Bool
 is_quiet_for octets own back =

@@ -1,4 +1,5 @@
--- Two host programs in order: in each set-up a program got a first part of what its partner gave in one set-up of its own, and
+-- Two host programs in order: in each set-up a program got a first part of what its partner gave in one set-up of its
+-- own, and
 -- these come in order.
 use Rattle.std.specs.Prelude.{◌≡◌, ℕ, ◌<◌, Bool, true, false, List, [], ◌∷◌, ◌++◌, filter, AllPairs, slice_get, Some}
 use Rattle.channel_bench.specs.declared.report.SetUp.{SetUp}
@@ -7,7 +8,8 @@ use Rattle.channel_bench.specs.Report.{Report}
 abbrev pub IsFirstPartOf : List ℕ → List ℕ → Type 0
 IsFirstPartOf part whole = (rest : List ℕ) × (whole ≡ part ++ rest)
 
--- What a set-up got is a first part of what was given in its origin: the set-up of the other side that has this number, from 0.
+-- What a set-up got is a first part of what was given in its origin: the set-up of the other side that has this number,
+-- from 0.
 pub record IsGotFrom (theirs : List SetUp) (origin : ℕ) (q : SetUp) : Type 0 where
   pub giver : SetUp
   pub is_there : slice_get theirs origin ≡ Some giver

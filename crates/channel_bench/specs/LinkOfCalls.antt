@@ -1,13 +1,17 @@
--- The link of two calls in a joint run, as a world of two ends. What a station did to it happens to its end. Of the frames
--- that an event sends those are in flight that some pair names, from the event until they are heard; the others were sent
--- and lost, also those that found the transmit queue full. So what is in flight is what was sent and is still to be heard.
+-- The link of two calls in a joint run, as a world of two ends. What a station did to it happens to its end. Of the
+-- frames
+-- that an event sends those are in flight that some pair names, from the event until they are heard; the others were
+-- sent
+-- and lost, also those that found the transmit queue full. So what is in flight is what was sent and is still to be
+-- heard.
 use Rattle.std.specs.Prelude.{◌≡◌, ℕ, ◌+◌, ◌==◌, Bool, List, [], ◌∷◌, ◌++◌, length, map, Option, Some, None}
 use Rattle.std.specs.List.{range_with_len, list_any}
 use Rattle.ax25_address.specs.Callsign.{Callsign}
 use Rattle.ax25_address.specs.declared.path.Path.{Path}
 use Rattle.ax25_address.specs.declared.path.Role.TheVariants.{Command}
 use Rattle.link_machine.specs.Event.{Event as LinkEvent}
-use Rattle.link_machine.specs.Event.Event.{Connect as LinkConnect, Send as LinkSend, Disconnect as LinkDisconnect, Hear as LinkHear, Tick as LinkTick}
+use Rattle.link_machine.specs.Event.Event.{Connect as LinkConnect, Send as LinkSend, Disconnect as LinkDisconnect,
+    Hear as LinkHear, Tick as LinkTick}
 use Rattle.link_machine.specs.Step.{step as link_turn}
 use Rattle.link_machine.specs.declared.params.Params.{Params}
 use Rattle.link_world.specs.declared.end.End.{End}
@@ -106,7 +110,8 @@ path_between local remote =
 abbrev pub first_world : Calls → Params → Params → World
 first_world calls a b = new_world (path_between calls.a calls.b) (path_between calls.b calls.a) a b
 
--- The two ends after the run, each with its record: the set-ups of the link with the packets that the host programs gave in
+-- The two ends after the run, each with its record: the set-ups of the link with the packets that the host programs
+-- gave in
 -- each, and those that its owner was told of.
 abbrev pub world_of : Calls → Pairs → Params → Params → List Step → World
 world_of calls pairs a b steps = run_changes (first_world calls a b) (changes_of calls pairs steps)
@@ -115,7 +120,8 @@ world_of calls pairs a b steps = run_changes (first_world calls a b) (changes_of
 -- its owner.
 pub record Follows (end : End) (step : LinkStep) (w : World) : Type 0 where
   pub machine : (seen_from end w).a.end.machine ≡ step.link.machine
-  pub told : (near_turn (event_at_end end step.event) (seen_from end w)).told ≡ (link_turn step.link.machine step.event).told
+  pub told : (near_turn (event_at_end end step.event) (seen_from end w)).told
+      ≡ (link_turn step.link.machine step.event).told
 
 -- in each event
 abbrev pub FollowsAll : End → Pairs → ℕ → List LinkStep → World → Type 0

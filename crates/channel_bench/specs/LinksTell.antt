@@ -8,7 +8,8 @@ use Rattle.link_machine.specs.Event.{Event}
 use Rattle.link_machine.specs.Machine.{Machine}
 use Rattle.link_machine.specs.Step.{step}
 
--- whether a set-up runs after what is told, by whether one ran before: from when it is told to be open until it has ended
+-- whether a set-up runs after what is told, by whether one ran before: from when it is told to be open until it has
+-- ended
 abbrev pub runs_after : Bool → List Told → Bool
 runs_after runs [] = runs
 runs_after runs (Opened ours ∷ told) = runs_after true told

@@ -1,10 +1,14 @@
--- The law on two stations of which only one ever calls, over a run whose heard frames are matched as they are heard: each
--- with a frame that was then in flight, as far as one could know. The map of frames heard to frames sent is found so, and a
+-- The law on two stations of which only one ever calls, over a run whose heard frames are matched as they are heard:
+-- each
+-- with a frame that was then in flight, as far as one could know. The map of frames heard to frames sent is found so,
+-- and a
 -- channel that is quiet by this wider count of what is in flight is quiet.
-use Rattle.std.specs.Prelude.{◌≡◌, ℕ, ◌+◌, Bool, true, false, List, [], ◌∷◌, ◌++◌, drop, All, Option, Some, None, is_some}
+use Rattle.std.specs.Prelude.{◌≡◌, ℕ, ◌+◌, Bool, true, false, List, [], ◌∷◌, ◌++◌, drop, All, Option, Some, None,
+    is_some}
 use Rattle.std.specs.List.{list_any}
 use Rattle.link_machine.specs.Event.{Event as LinkEvent}
-use Rattle.link_machine.specs.Event.Event.{Connect as LinkConnect, Send as LinkSend, Disconnect as LinkDisconnect, Hear as LinkHear, Tick as LinkTick}
+use Rattle.link_machine.specs.Event.Event.{Connect as LinkConnect, Send as LinkSend, Disconnect as LinkDisconnect,
+    Hear as LinkHear, Tick as LinkTick}
 use Rattle.link_machine.specs.Sent.{SentIn, sent_kind}
 use Rattle.link_machine.specs.Step.{step as link_turn}
 use Rattle.link_machine.specs.declared.state.LinkState.{LinkState}
@@ -95,7 +99,8 @@ MatchedInOrder =
     → AreHeardInOrder A (steps_in moments) (pairs_in moments).at_a
     × AreHeardInOrder B (steps_in moments) (pairs_in moments).at_b
 
--- Over each joint run of two new stations whose windows fit, if each heard frame is matched with one in flight, and each
+-- Over each joint run of two new stations whose windows fit, if each heard frame is matched with one in flight, and
+-- each
 -- SABM, SABME and DISC finds a quiet channel, the link of two calls keeps the order, if only A calls.
 abbrev pub MatchedLaw : Type 0
 MatchedLaw =

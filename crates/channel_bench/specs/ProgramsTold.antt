@@ -1,4 +1,5 @@
--- What a host program is told of its links in a step: the connections that open and the data, one AGWPE message each, in the
+-- What a host program is told of its links in a step: the connections that open and the data, one AGWPE message each,
+-- in the
 -- order of the events.
 use Rattle.std.specs.Prelude.{◌≡◌, ℕ, ◌==◌, ◌||◌, ◌&&◌, Bool, All, List, filter, flat_map, slice_index, is_some}
 use Rattle.link_machine.specs.Step.{step as link_turn}
@@ -26,7 +27,8 @@ of_links id pieces = filter (is_of_link id) pieces
 -- what the event of a link tells a connection, which is its owner
 abbrev pub told_by : ℕ → LinkStep → List Piece
 told_by id step =
-    of_links id (pieces_to step.link.owner step.link.local step.link.remote (link_turn step.link.machine step.event).told)
+    of_links id (pieces_to step.link.owner step.link.local step.link.remote
+        (link_turn step.link.machine step.event).told)
 
 -- a connection of that id speaks AGWPE
 abbrev pub SpeaksAgwpe : ℕ → StationState → Type 0

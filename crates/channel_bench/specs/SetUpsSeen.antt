@@ -1,4 +1,5 @@
--- The set-ups of a link at one of its stations, as a host program sees them: one begins when the link tells that it is open.
+-- The set-ups of a link at one of its stations, as a host program sees them: one begins when the link tells that it is
+-- open.
 -- It has the packets that were given in it and those that were told of, in order.
 use Rattle.std.specs.Prelude.{◌≡◌, ℕ, List, [], ◌∷◌, ◌++◌, All, fold, map, None}
 use Rattle.selective_reject.specs.declared.packet.Packet.{Packet}
@@ -6,7 +7,8 @@ use Rattle.link_machine.specs.declared.acts.Told.{Told}
 use Rattle.link_machine.specs.declared.acts.Told.TheVariants.{Opened, Given, Ended}
 use Rattle.link_machine.specs.declared.state.LinkState.TheVariants.{Up}
 use Rattle.link_machine.specs.Event.{Event as LinkEvent}
-use Rattle.link_machine.specs.Event.Event.{Connect as LinkConnect, Send as LinkSend, Disconnect as LinkDisconnect, Hear as LinkHear, Tick as LinkTick}
+use Rattle.link_machine.specs.Event.Event.{Connect as LinkConnect, Send as LinkSend, Disconnect as LinkDisconnect,
+    Hear as LinkHear, Tick as LinkTick}
 use Rattle.link_machine.specs.Machine.{Machine}
 use Rattle.link_machine.specs.Step.{refusal_of, step as link_turn}
 use Rattle.link_world.specs.declared.end.End.{End}
@@ -89,11 +91,15 @@ as_seen q = record { given = q.given; got = q.got }
 
 -- both ends' set-ups are those that are seen at their stations
 pub record AreSetUpsSeen (calls : Calls) (pairs : Pairs) (a b : Config) (steps : List Step) : Type 0 where
-  pub at_a : let w = world_of calls pairs a.params b.params steps in map as_seen w.a.end.set_ups ≡ set_ups_seen calls A steps
-  pub at_b : let w = world_of calls pairs a.params b.params steps in map as_seen w.b.end.set_ups ≡ set_ups_seen calls B steps
+  pub at_a : let w = world_of calls pairs a.params b.params steps in
+      map as_seen w.a.end.set_ups ≡ set_ups_seen calls A steps
+  pub at_b : let w = world_of calls pairs a.params b.params steps in
+      map as_seen w.b.end.set_ups ≡ set_ups_seen calls B steps
 
--- Over every joint run of two new stations that is heard in order in both directions, if packets are given only while the link
--- is up, the set-ups of the link's two ends are those that are seen at the stations: as many, each with the packets that were
+-- Over every joint run of two new stations that is heard in order in both directions, if packets are given only while
+-- the link
+-- is up, the set-ups of the link's two ends are those that are seen at the stations: as many, each with the packets
+-- that were
 -- given in it and those that were told of.
 abbrev pub SetUpsLaw : Type 0
 SetUpsLaw =

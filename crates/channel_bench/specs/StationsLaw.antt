@@ -11,7 +11,8 @@ use Rattle.station.specs.Links.{Link}
 use Rattle.channel_bench.specs.JointRun.{Step, Stations, new_stations, IsJointRun, all_stepped}
 use Rattle.channel_bench.specs.LinkSteps.{Choice}
 use Rattle.channel_bench.specs.HeardInOrder.{AreHeardInOrder}
-use Rattle.channel_bench.specs.LinkOfCalls.{Calls, Pairs, link_at_end, changes_of, first_world, world_of, FollowsThrough, IsQuietLink}
+use Rattle.channel_bench.specs.LinkOfCalls.{Calls, Pairs, link_at_end, changes_of, first_world, world_of,
+    FollowsThrough, IsQuietLink}
 
 -- the link that is meant, if the station has it: the first one that is chosen
 abbrev pub first_chosen : Choice → List (Option Link) → Option Link
@@ -31,7 +32,8 @@ pub record AreEndsOf (calls : Calls) (a b : Machine) (s : Stations) : Type 0 whe
 -- the two ends follow the link in each event of a run, and are its own after it
 pub record EndsFollow (calls : Calls) (pairs : Pairs) (a b : Config) (steps : List Step) (now : Stations) : Type 0 where
   pub through : FollowsThrough calls pairs (record { a = 0; b = 0 }) steps (first_world calls a.params b.params)
-  pub after : let w = world_of calls pairs a.params b.params steps in AreEndsOf calls w.a.end.machine w.b.end.machine now
+  pub after : let w = world_of calls pairs a.params b.params steps in
+      AreEndsOf calls w.a.end.machine w.b.end.machine now
 
 -- what holds of the link of two calls after a joint run
 pub record LinkKeepsOrder (calls : Calls) (pairs : Pairs) (a b : Config) (steps : List Step) (now : Stations)
@@ -44,7 +46,8 @@ pub record LinkKeepsOrder (calls : Calls) (pairs : Pairs) (a b : Config) (steps 
   -- the ends are those of the link at the two stations
   pub ends : EndsFollow calls pairs a b steps now
 
--- Over every joint run of two new stations that is heard in order in both directions, the two ends of each link follow it,
+-- Over every joint run of two new stations that is heard in order in both directions, the two ends of each link follow
+-- it,
 -- whether its channel is quiet or not.
 abbrev pub FollowingLaw : Type 0
 FollowingLaw =
@@ -53,7 +56,8 @@ FollowingLaw =
     IsJointRun start steps → AreHeardInOrder A steps pairs.at_a → AreHeardInOrder B steps pairs.at_b
     → (calls : Calls) → EndsFollow calls pairs a b steps (all_stepped steps start)
 
--- Over every joint run of two new stations that is heard in order in both directions, each link whose windows fit and whose
+-- Over every joint run of two new stations that is heard in order in both directions, each link whose windows fit and
+-- whose
 -- channel is quiet keeps the order.
 abbrev pub StationsLaw : Type 0
 StationsLaw =

@@ -1,6 +1,7 @@
 -- Merging when candidates lie in clusters: equal octets and ends at most 15 apart, each cluster more than 15 after the
 -- one before. One candidate of each cluster remains.
-use Rattle.std.proofs.Common.{◌≡◌, ℕ, ◌+◌, ◌<◌, ◌≤◌, Bool, true, false, List, [], ◌∷◌, ◌++◌, map, refl, ap, sym, ◌∙◌, arith, inl, inr}
+use Rattle.std.proofs.Common.{◌≡◌, ℕ, ◌+◌, ◌<◌, ◌≤◌, Bool, true, false, List, [], ◌∷◌, ◌++◌, map, refl, ap, sym, ◌∙◌,
+    arith, inl, inr}
 use Rattle.std.specs.Prelude.{◌⊎◌, nat_le, ◌||◌, ◌&&◌}
 use Rattle.std.specs.List.{AllByRecursion, list_any}
 use Rattle.std.specs.Str.{bytes_eq}
@@ -47,7 +48,8 @@ Rising from (item ∷ items) = (from ≤ item.end) × Rising item.end items
 abbrev pub Below : ℕ → List Candidate → Type 0
 Below place items = AllByRecursion (λ item. item.end ≤ place) items
 
--- an item of the cluster under way, which ends at a place, repeats one before it; each other item is in a cluster to come
+-- an item of the cluster under way, which ends at a place, repeats one before it; each other item is in a cluster to
+-- come
 abbrev pub IsKnown : List Candidate → ℕ → List Cluster → Candidate → Type 0
 IsKnown before place cs item = ((item.end ≤ place) × (list_any (repeats item) before ≡ true)) ⊎ IsInOne cs item
 
@@ -67,12 +69,14 @@ or_true true = refl
 or_true false = refl
 
 -- two items of one cluster: the later one repeats the earlier
-repeats_last : (c : Cluster) (item earlier : Candidate) (before : List Candidate) → c.high ≤ c.low + 15 → IsIn c earlier → IsIn c item
+repeats_last : (c : Cluster) (item earlier : Candidate) (before : List Candidate) → c.high ≤ c.low + 15 → IsIn c earlier
+    → IsIn c item
     → list_any (repeats item) (before ++ earlier ∷ []) ≡ true
 repeats_last c item earlier before narrow first second =
     let low = first.low in
     let high = second.high in
-    let octets : bytes_eq earlier.octets item.octets ≡ true = (bytes_eq-Decides earlier.octets item.octets).1 (first.octets ∙ sym second.octets) in
+    let octets : bytes_eq earlier.octets item.octets ≡ true =
+        (bytes_eq-Decides earlier.octets item.octets).1 (first.octets ∙ sym second.octets) in
     let near : nat_le item.end (earlier.end + 15) ≡ true = le-leb item.end (earlier.end + 15) (omega arith) in
     let one : list_any (repeats item) (earlier ∷ []) ≡ true = rw (octets, near) refl in
     list_any-append (repeats item) before (earlier ∷ [])
@@ -89,29 +93,35 @@ repeats_none item place [] below far = refl
 repeats_none item place (earlier ∷ before) below far =
     let end : earlier.end ≤ place = below.0 in
     let late : nat_le item.end (earlier.end + 15) ≡ false = lt-leb item.end (earlier.end + 15) (omega arith) in
-    let not : repeats item earlier ≡ false = ap (λ b. bytes_eq earlier.octets item.octets && b) late ∙ and_false (bytes_eq earlier.octets item.octets) in
+    let not : repeats item earlier ≡ false = ap (λ b. bytes_eq earlier.octets item.octets && b) late
+        ∙ and_false (bytes_eq earlier.octets item.octets) in
     ap (λ b. b || list_any (repeats item) before) not ∙ repeats_none item place before below.1 far
 
 -- ---- places
 
-below_more : (place more : ℕ) (before : List Candidate) (item : Candidate) → place ≤ more → Below place before → item.end ≤ more
+below_more : (place more : ℕ) (before : List Candidate) (item : Candidate) → place ≤ more → Below place before
+    → item.end ≤ more
     → Below more (before ++ item ∷ [])
 below_more place more [] item le below end = (end, tt)
 below_more place more (earlier ∷ before) item le below end =
     let first = below.0 in (omega arith, below_more place more before item le below.1 end)
 
 -- an item of a cluster to come ends far after the place
-later_end : (place : ℕ) (cs : List Cluster) (item : Candidate) → AreApart place cs → IsInOne cs item → place + 15 < item.end
+later_end : (place : ℕ) (cs : List Cluster) (item : Candidate) → AreApart place cs → IsInOne cs item
+    → place + 15 < item.end
 later_end place [] item apart is = absurd is
 later_end place (c ∷ cs) item apart (inl is) = omega (arith, apart.0.far, is.low)
-later_end place (c ∷ cs) item apart (inr is) = omega (arith, apart.0.far, apart.0.rising, later_end c.high cs item apart.1 is)
+later_end place (c ∷ cs) item apart (inr is) = omega (arith, apart.0.far, apart.0.rising,
+    later_end c.high cs item apart.1 is)
 
 -- an item that ends early is in no cluster to come
-has_one_later : (item : Candidate) (items : List Candidate) (c : Cluster) → item.end < c.low → HasOne (item ∷ items) c → HasOne items c
+has_one_later : (item : Candidate) (items : List Candidate) (c : Cluster) → item.end < c.low → HasOne (item ∷ items) c
+    → HasOne items c
 has_one_later item items c early (inl is) = absurd (omega (arith, is.low))
 has_one_later item items c early (inr has) = has
 
-have_one_later : (item : Candidate) (items : List Candidate) (place : ℕ) (cs : List Cluster) → item.end ≤ place → AreApart place cs
+have_one_later : (item : Candidate) (items : List Candidate) (place : ℕ) (cs : List Cluster) → item.end ≤ place
+    → AreApart place cs
     → AllByRecursion (HasOne (item ∷ items)) cs → AllByRecursion (HasOne items) cs
 have_one_later item items place [] early apart has = tt
 have_one_later item items place (c ∷ cs) early apart has =
@@ -124,7 +134,8 @@ have_one_later item items place (c ∷ cs) early apart has =
 none_behind : (items : List Candidate) (from : ℕ) (c : Cluster) → c.high < from → Rising from items → ¬ HasOne items c
 none_behind [] from c late rising has = has
 none_behind (item ∷ items) from c late rising (inl is) = omega (arith, rising.0, is.high)
-none_behind (item ∷ items) from c late rising (inr has) = none_behind items item.end c (omega (arith, rising.0)) rising.1 has
+none_behind (item ∷ items) from c late rising (inr has) =
+    none_behind items item.end c (omega (arith, rising.0)) rising.1 has
 
 -- ---- what is known of the items that are left
 
@@ -138,7 +149,8 @@ known_kept before place cs item (next ∷ items) known = (kept known.0, known_ke
     kept (inr is) = inr is
 
 -- the first cluster to come becomes the one under way with its first item
-known_next : (before : List Candidate) (place : ℕ) (c : Cluster) (cs : List Cluster) (item : Candidate) (items : List Candidate)
+known_next : (before : List Candidate) (place : ℕ) (c : Cluster) (cs : List Cluster) (item : Candidate)
+    (items : List Candidate)
     → IsBehind place c → IsIn c item → Known before place (c ∷ cs) items → Known (before ++ item ∷ []) c.high cs items
 known_next before place c cs item [] behind is known = tt
 known_next before place c cs item (next ∷ items) behind is known =
@@ -152,7 +164,8 @@ known_next before place c cs item (next ∷ items) behind is known =
 -- ---- the theorem
 
 -- an item that repeats one before it is left out
-left_out : (item : Candidate) (items before : List Candidate) (frames : List (List ℕ)) → list_any (repeats item) before ≡ true
+left_out : (item : Candidate) (items before : List Candidate) (frames : List (List ℕ))
+    → list_any (repeats item) before ≡ true
     → map (λ x. x.octets) (merged_after (before ++ item ∷ []) items) ≡ frames
     → map (λ x. x.octets) (merged_after before (item ∷ items)) ≡ frames
 left_out item items before frames is rest =
@@ -160,7 +173,8 @@ left_out item items before frames is rest =
     ap (λ xs. map (λ x. x.octets) xs) (cond-true (list_any (repeats item) before) after (item ∷ after) is) ∙ rest
 
 -- an item that repeats none remains
-kept : (item : Candidate) (items before : List Candidate) (octets : List ℕ) (frames : List (List ℕ)) → list_any (repeats item) before ≡ false
+kept : (item : Candidate) (items before : List Candidate) (octets : List ℕ) (frames : List (List ℕ))
+    → list_any (repeats item) before ≡ false
     → item.octets ≡ octets → map (λ x. x.octets) (merged_after (before ++ item ∷ []) items) ≡ frames
     → map (λ x. x.octets) (merged_after before (item ∷ items)) ≡ octets ∷ frames
 kept item items before octets frames is_none is rest =
@@ -172,7 +186,8 @@ kept item items before octets frames is_none is rest =
 abbrev pub Keeps : List Candidate → Type 0
 Keeps items =
     (before : List Candidate) (place from : ℕ) (cs : List Cluster)
-    → Below place before → Rising from items → Known before place cs items → AreApart place cs → AllByRecursion (HasOne items) cs
+    → Below place before → Rising from items → Known before place cs items → AreApart place cs
+        → AllByRecursion (HasOne items) cs
     → map (λ item. item.octets) (merged_after before items) ≡ map (λ c. c.octets) cs
 
 keeps_nil : Keeps []
@@ -194,8 +209,10 @@ keeps_cons item items rest before place from (c ∷ cs) below rising known apart
         → map (λ x. x.octets) (merged_after before (item ∷ items)) ≡ c.octets ∷ map (λ c. c.octets) cs
     by_first (inl old) =
         left_out item items before (c.octets ∷ map (λ c. c.octets) cs) old.1
-        (rest (before ++ item ∷ []) place item.end (c ∷ cs) (below_more place place before item (omega arith) below old.0)
-        rising.1 (known_kept before place (c ∷ cs) item items known.1) apart (have_one_later item items place (c ∷ cs) old.0 apart has))
+        (rest (before ++ item ∷ []) place item.end (c ∷ cs)
+            (below_more place place before item (omega arith) below old.0)
+        rising.1 (known_kept before place (c ∷ cs) item items known.1) apart
+            (have_one_later item items place (c ∷ cs) old.0 apart has))
     by_first (inr (inl is)) =
         kept item items before c.octets (map (λ c. c.octets) cs)
         (repeats_none item place before below (omega (arith, apart.0.far, is.low))) is.octets
@@ -204,7 +221,8 @@ keeps_cons item items rest before place from (c ∷ cs) below rising known apart
         rising.1 (known_next before place c cs item items apart.0 is known.1) apart.1
         (have_one_later item items c.high cs is.high apart.1 has.1))
     by_first (inr (inr later)) =
-        absurd (none_behind (item ∷ items) item.end c (omega (arith, later_end c.high cs item apart.1 later)) (omega arith, rising.1) has.0)
+        absurd (none_behind (item ∷ items) item.end c (omega (arith, later_end c.high cs item apart.1 later))
+            (omega arith, rising.1) has.0)
 
 pub merge_keeps : (items : List Candidate) → Keeps items
 merge_keeps [] = keeps_nil

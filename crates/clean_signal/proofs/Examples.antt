@@ -19,7 +19,8 @@ abbrev shortest : List ℕ
 shortest = 0x9C ∷ 0x94 ∷ 0x6E ∷ 0xA0 ∷ 0x40 ∷ 0x40 ∷ 0xE0 ∷ 0x9C ∷ 0x6E ∷ 0x98 ∷ 0x8A ∷ 0x9A ∷ 0x40 ∷ 0x61 ∷ 0x3F ∷ []
 
 abbrev sent : ℕ → List (List ℕ) → ℕ → ℕ → Transmission
-sent silence frames opening closing = record { silence = silence; frames = frames; opening = opening; closing = closing }
+sent silence frames opening closing = record { silence = silence; frames = frames; opening = opening;
+    closing = closing }
 
 abbrev ends_at : ℕ → TrueEnd
 ends_at end = record { end = end; octets = shortest }
@@ -42,7 +43,8 @@ shortest_end = refl
 
 -- After 100 silent samples one frame with three closing flags, 178 bits, and right after it, with three opening flags,
 -- two frames with one flag between them: a frame and its flag take 146 bits.
-three_ends : true_ends (sent 100 (shortest ∷ []) 2 3 ∷ sent 0 (shortest ∷ shortest ∷ []) 3 1 ∷ []) ≡ ends_at 1396 ∷ ends_at 2884 ∷ ends_at 4052 ∷ []
+three_ends : true_ends (sent 100 (shortest ∷ []) 2 3 ∷ sent 0 (shortest ∷ shortest ∷ []) 3 1 ∷ [])
+    ≡ ends_at 1396 ∷ ends_at 2884 ∷ ends_at 4052 ∷ []
 unfolding fcs_of octet_bits with_fcs frame_bits body
 three_ends = refl
 
@@ -59,7 +61,8 @@ one_bit_late = refl
 none_sent : is_sent [] (heard 1294 6) ≡ false
 none_sent = refl
 
--- At level 10 a wave sample of 9914 is 9.914, and a tenth of the level is 1: 9 and 10 are near it, and 8 and 11 are not.
+-- At level 10 a wave sample of 9914 is 9.914, and a tenth of the level is 1: 9 and 10 are near it, and 8 and 11 are
+-- not.
 nine_is_near : distance 10 (pos 9914) (pos 9) ≡ 9140
 nine_is_near = refl
 

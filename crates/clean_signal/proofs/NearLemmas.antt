@@ -1,5 +1,6 @@
 -- Samples near a signal carry its transmissions, and a signal at a level is near its own.
-use Rattle.std.proofs.Common.{◌≡◌, ℕ, ◌*◌, ◌/◌, ◌<◌, ◌≤◌, ℤ, pos, List, [], ◌∷◌, ◌++◌, length, map, get_or, replicate, refl, ap, sym, subst, ◌∙◌, arith, append_assoc}
+use Rattle.std.proofs.Common.{◌≡◌, ℕ, ◌*◌, ◌/◌, ◌<◌, ◌≤◌, ℤ, pos, List, [], ◌∷◌, ◌++◌, length, map, get_or, replicate,
+    refl, ap, sym, subst, ◌∙◌, arith, append_assoc}
 use Rattle.std.specs.List.{All, AllByRecursion}
 use Rattle.std.proofs.lemmas.List.Elements.{recursion_from_All}
 use Rattle.std.proofs.lemmas.List.{length-map, length-replicate, get_or-map}
@@ -21,15 +22,18 @@ use Rattle.clean_signal.proofs.WaveLemmas.{length-wave_from}
 
 -- ---- what they carry
 
-wave_carries : (level phase : ℕ) (tones : List Tone) (x : List ℤ) → 1 ≤ level → IsBitPhase phase → IsNear level (wave_from phase tones) x → Carries tones x
+wave_carries : (level phase : ℕ) (tones : List Tone) (x : List ℤ) → 1 ≤ level → IsBitPhase phase
+    → IsNear level (wave_from phase tones) x → Carries tones x
 wave_carries level phase tones x some at near =
     let sixth : phase ≡ 8 * (phase / 8) = omega (arith, at.sixth) in
     let below : phase / 8 < 6 = omega (arith, at.below) in record {
       size = near.size ∙ length-wave_from phase tones;
-      decided = tones_at-near level tones (phase / 8) x some below (subst (λ p. IsNear level (wave_from p tones) x) sixth near);
+      decided = tones_at-near level tones (phase / 8) x some below
+          (subst (λ p. IsNear level (wave_from p tones) x) sixth near);
     }
 
-pub near_carries : (received : List Received) (x : List ℤ) → AllByRecursion IsReceived received → IsNearAll received x → CarriesAll (transmissions_of received) x
+pub near_carries : (received : List Received) (x : List ℤ) → AllByRecursion IsReceived received → IsNearAll received x
+    → CarriesAll (transmissions_of received) x
 near_carries [] x good near = tt
 near_carries (r ∷ received) x (good, others) (gap, part, rest, whole, silence, here, behind) = (
   gap,
@@ -53,12 +57,14 @@ unfolding at_level
 at_level-near level w least = record {
   size = length-at_level level w;
   close = λ i below.
-      let same : distance level (get_or w i (pos 0)) (sample_at level (get_or w i (pos 0))) ≡ distance level (get_or w i (pos 0)) (get_or (map (sample_at level) w) i (pos 0))
+      let same : distance level (get_or w i (pos 0)) (sample_at level (get_or w i (pos 0)))
+          ≡ distance level (get_or w i (pos 0)) (get_or (map (sample_at level) w) i (pos 0))
       = ap (distance level (get_or w i (pos 0))) (sym (get_or-map (sample_at level) w i (pos 0) (pos 0) below)) in
       omega (arith, same, sample_at-close level (get_or w i (pos 0)));
 }
 
-part_near : (level : ℕ) (t : Transmission) → 10 ≤ level → IsNear level (wave (line (body_of t))) (at_level level (transmission t.frames t.opening t.closing))
+part_near : (level : ℕ) (t : Transmission) → 10 ≤ level
+    → IsNear level (wave (line (body_of t))) (at_level level (transmission t.frames t.opening t.closing))
 unfolding transmission
 part_near level t least = at_level-near level (wave (line (body_of t))) least
 
@@ -69,7 +75,8 @@ clean-near t =
     subst (λ (x : List ℤ). IsNear 10000 (wave (line (body_of t))) x) (at_level-full (wave (line (body_of t))))
     (at_level-near 10000 (wave (line (body_of t))) (omega arith))
 
-sent_at-good : (level : ℕ) (transmissions : List Transmission) → IsLevel level → AllByRecursion IsTransmission transmissions
+sent_at-good : (level : ℕ) (transmissions : List Transmission) → IsLevel level
+    → AllByRecursion IsTransmission transmissions
     → AllByRecursion IsReceived (sent_at level transmissions)
 sent_at-good level [] fits good = tt
 sent_at-good level (t ∷ transmissions) fits (first, others) = (
@@ -83,7 +90,8 @@ sent_at-good level (t ∷ transmissions) fits (first, others) = (
 )
 
 -- a signal at a level is near its transmissions
-pub signal_at-near : (level : ℕ) (transmissions : List Transmission) → 10 ≤ level → IsNearAll (sent_at level transmissions) (signal_at level transmissions)
+pub signal_at-near : (level : ℕ) (transmissions : List Transmission) → 10 ≤ level
+    → IsNearAll (sent_at level transmissions) (signal_at level transmissions)
 unfolding signal_at signal
 signal_at-near level [] least = tt
 signal_at-near level (t ∷ transmissions) least =
@@ -101,7 +109,8 @@ signal_at-near level (t ∷ transmissions) least =
     )
 
 -- what was sent, without phases and levels
-pub transmissions_of-sent_at : (level : ℕ) (transmissions : List Transmission) → transmissions_of (sent_at level transmissions) ≡ transmissions
+pub transmissions_of-sent_at : (level : ℕ) (transmissions : List Transmission)
+    → transmissions_of (sent_at level transmissions) ≡ transmissions
 transmissions_of-sent_at level [] = refl
 transmissions_of-sent_at level (t ∷ transmissions) = ap (λ ts. t ∷ ts) (transmissions_of-sent_at level transmissions)
 
@@ -111,8 +120,10 @@ unfolding signal_at
 signal_at-full transmissions = at_level-full (signal transmissions)
 
 -- a signal at a level from 10 on carries its transmissions
-pub signal_at-carries : (level : ℕ) (transmissions : List Transmission) → IsLevel level → All IsTransmission transmissions → CarriesAll transmissions (signal_at level transmissions)
+pub signal_at-carries : (level : ℕ) (transmissions : List Transmission) → IsLevel level
+    → All IsTransmission transmissions → CarriesAll transmissions (signal_at level transmissions)
 signal_at-carries level transmissions fits good =
     subst (λ ts. CarriesAll ts (signal_at level transmissions)) (transmissions_of-sent_at level transmissions)
     (near_carries (sent_at level transmissions) (signal_at level transmissions)
-    (sent_at-good level transmissions fits (recursion_from_All IsTransmission transmissions good)) (signal_at-near level transmissions fits.least))
+    (sent_at-good level transmissions fits (recursion_from_All IsTransmission transmissions good))
+        (signal_at-near level transmissions fits.least))

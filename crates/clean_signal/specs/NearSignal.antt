@@ -24,7 +24,8 @@ pub record IsReceived (r : Received) : Type 0 where
 abbrev pub transmissions_of : List Received → List Transmission
 transmissions_of received = map (λ r. r.transmission) received
 
--- For each transmission as many samples as its silence, of any value, and then samples near its wave; any samples follow.
+-- For each transmission as many samples as its silence, of any value, and then samples near its wave; any samples
+-- follow.
 abbrev pub IsNearAll : List Received → List ℤ → Type 0
 IsNearAll [] x = Unit {0}
 IsNearAll (r ∷ received) x =

@@ -1,4 +1,5 @@
--- Which candidates are frames that were sent. One that is not is stray: noise, or bits of a frame, that meet the check sequence.
+-- Which candidates are frames that were sent. One that is not is stray: noise, or bits of a frame, that meet the check
+-- sequence.
 use Rattle.std.specs.Prelude.{◌≡◌, ◌+◌, ℤ, List, Bool, true, nat_lt, ◌&&◌}
 use Rattle.std.specs.List.{list_any}
 use Rattle.std.specs.Str.{bytes_eq}

@@ -14,9 +14,11 @@ end_of begin octets = begin + 8 * length (frame_bits octets ++ flag)
 -- the ends of frames with one flag between neighbours, so that each begins where the one before ends
 abbrev pub ends_from : ℕ → List (List ℕ) → List TrueEnd
 ends_from begin [] = []
-ends_from begin (octets ∷ frames) = record { end = end_of begin octets; octets = octets } ∷ ends_from (end_of begin octets) frames
+ends_from begin (octets ∷ frames) = record { end = end_of begin octets; octets = octets }
+    ∷ ends_from (end_of begin octets) frames
 
--- the ends of a transmission that begins at a sample: silence and opening flags, 64 samples each, stand before its frames
+-- the ends of a transmission that begins at a sample: silence and opening flags, 64 samples each, stand before its
+-- frames
 abbrev pub ends_of : ℕ → Transmission → List TrueEnd
 ends_of begin t = ends_from (begin + t.silence + 64 * t.opening) t.frames
 

@@ -5,7 +5,8 @@ use Rattle.tone_table.specs.declared.tone.Tone.{Tone}
 use Rattle.tone_table.specs.declared.tone.Tone.TheVariants.{Mark}
 use Rattle.tone_table.specs.Tones.{phase_step}
 
--- the phase, in forty-eighths of a cycle, at which the eight samples of a tone begin: each tone before moved it by eight steps
+-- the phase, in forty-eighths of a cycle, at which the eight samples of a tone begin: each tone before moved it by
+-- eight steps
 abbrev pub start_of : List Tone → ℕ → ℕ
 start_of tones place = 8 * sum_by phase_step (take place tones)
 

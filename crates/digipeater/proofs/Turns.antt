@@ -1,5 +1,6 @@
 -- Whose turn it is.
-use Rattle.std.proofs.Common.{◌≡◌, ℕ, ◌<◌, true, false, not, List, length, get_or, sym, refl, ap, ◌∙◌, arith, inl, inr, subst, [], Bool, Result, Ok}
+use Rattle.std.proofs.Common.{◌≡◌, ℕ, ◌<◌, true, false, not, List, length, get_or, sym, refl, ap, ◌∙◌, arith, inl, inr,
+    subst, [], Bool, Result, Ok}
 use Rattle.std.proofs.lemmas.Bool.{cases_lt, false≢true}
 use Rattle.ax25_address.specs.Callsign.{Callsign}
 use Rattle.ax25_address.specs.SameCall.{is_same_call, is_same_call-Decides}
@@ -23,7 +24,8 @@ IsNextRepeater-same hops k j h g = elim (cases_lt k j) [
 ]
 
 -- and none if all are done
-pub none_is_next : (hops : List Hop) (k : ℕ) → ((j : ℕ) (d : Hop) → j < length hops → (get_or hops j d).done ≡ true) → IsNextRepeater hops k → ⊥
+pub none_is_next : (hops : List Hop) (k : ℕ) → ((j : ℕ) (d : Hop) → j < length hops → (get_or hops j d).done ≡ true)
+    → IsNextRepeater hops k → ⊥
 none_is_next hops k all h = false≢true (sym (h.waits no_hop) ∙ all k no_hop h.within)
 
 -- a path that the octets begin with is the one that was read
@@ -31,10 +33,15 @@ pub same_read : (p q : Path) (m n : ℕ) → ◌≡◌ {A = Result (Path × ℕ)
 same_read p q m n e = let pair : ◌≡◌ {A = Path × ℕ} (p, m) (q, n) = cc in ap (λ (r : Path × ℕ). r.0) pair
 
 -- so it is the turn of the next repeater of that path
-pub turn_of_read : (call : Callsign) (octets : List ℕ) (path : Path) (len k : ℕ) (hops : List Hop) → hops ≡ path.repeaters.items → ((q : Path) (n : ℕ) → BeginsWithPath octets q n → ◌≡◌ {A = Result (Path × ℕ) AddrFault} (Ok (path, len)) (Ok (q, n))) → IsTurnOf call octets k → IsNextRepeater hops k × ((d : Hop) → (get_or hops k d).call ≡ call)
+pub turn_of_read : (call : Callsign) (octets : List ℕ) (path : Path) (len k : ℕ) (hops : List Hop)
+    → hops ≡ path.repeaters.items → ((q : Path) (n : ℕ) → BeginsWithPath octets q n
+    → ◌≡◌ {A = Result (Path × ℕ) AddrFault} (Ok (path, len)) (Ok (q, n))) → IsTurnOf call octets k
+    → IsNextRepeater hops k × ((d : Hop) → (get_or hops k d).call ≡ call)
 turn_of_read call octets path len k hops items each turn =
-    let e : turn.path.repeaters.items ≡ hops = ap (λ (p : Path). p.repeaters.items) (sym (same_read path turn.path len turn.len (each turn.path turn.len turn.begins))) ∙ sym items in
-    (subst (λ (xs : List Hop). IsNextRepeater xs k) e turn.next, λ d. ap (λ (xs : List Hop). (get_or xs k d).call) (sym e) ∙ turn.called d)
+    let e : turn.path.repeaters.items ≡ hops = ap (λ (p : Path). p.repeaters.items)
+        (sym (same_read path turn.path len turn.len (each turn.path turn.len turn.begins))) ∙ sym items in
+    (subst (λ (xs : List Hop). IsNextRepeater xs k) e turn.next,
+        λ d. ap (λ (xs : List Hop). (get_or xs k d).call) (sym e) ∙ turn.called d)
 
 -- a call that `!=` tells apart is another
 pub other_call : (a b : Callsign) → not (is_same_call a b) ≡ true → a ≡ b → ⊥
@@ -49,7 +56,9 @@ same_call a b h = (is_same_call-Decides a b).0 (from_not (is_same_call a b) h)
     from_not false e = absurd (false≢true (sym e))
 
 -- the next repeater of the path that was read is the call
-pub IsTurnOf-read : (call : Callsign) (octets : List ℕ) (path : Path) (len k : ℕ) (hops : List Hop) (hop : Hop) → hops ≡ path.repeaters.items → BeginsWithPath octets path len → IsNextRepeater hops k → ((d : Hop) → get_or hops k d ≡ hop) → hop.call ≡ call → IsTurnOf call octets k
+pub IsTurnOf-read : (call : Callsign) (octets : List ℕ) (path : Path) (len k : ℕ) (hops : List Hop) (hop : Hop)
+    → hops ≡ path.repeaters.items → BeginsWithPath octets path len → IsNextRepeater hops k
+    → ((d : Hop) → get_or hops k d ≡ hop) → hop.call ≡ call → IsTurnOf call octets k
 IsTurnOf-read call octets path len k hops hop items begins next here called = record {
   path = path;
   len = len;

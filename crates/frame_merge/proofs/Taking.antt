@@ -1,5 +1,6 @@
 -- What is taken from a merger: the merged candidates up to the least mark.
-use Rattle.std.proofs.Common.{◌≡◌, ℕ, ◌+◌, ◌-◌, ◌^◌, ◌<◌, ◌≤◌, List, [], ◌∷◌, ◌++◌, true, false, ◌&&◌, not, cond, ap, sym, ◌∙◌, arith, length, get_or, take, min, refl, zero, suc, replicate}
+use Rattle.std.proofs.Common.{◌≡◌, ℕ, ◌+◌, ◌-◌, ◌^◌, ◌<◌, ◌≤◌, List, [], ◌∷◌, ◌++◌, true, false, ◌&&◌, not, cond, ap,
+    sym, ◌∙◌, arith, length, get_or, take, min, refl, zero, suc, replicate}
 use Rattle.std.specs.Prelude.{fold, nat_lt, nat_le, if◌then◌else◌}
 use Rattle.std.specs.List.{All, list_any}
 use Rattle.std.proofs.lemmas.Bool.{lt-ltb, leb-true}
@@ -15,18 +16,23 @@ use Rattle.frame_merge.proofs.Forgetting.{between-kept, not_below-not_below}
 
 -- the part of one candidate after `earlier`
 between_one : (from to : ℕ) (earlier : List Candidate) (item : Candidate)
-    → between from to (merged_after earlier (item ∷ [])) ≡ (if is_ready_after from to earlier item then item ∷ [] else [])
+    → between from to (merged_after earlier (item ∷ []))
+        ≡ (if is_ready_after from to earlier item then item ∷ [] else [])
 between_one from to earlier item =
     elim (list_any (repeats item) earlier)
-    as (λ t. between from to (if t then [] else item ∷ []) ≡ (if (nat_le from item.end && nat_lt item.end to) && not t then item ∷ [] else [])) [
-      | true ↦ elim (nat_le from item.end && nat_lt item.end to) as (λ u. [] ≡ (if u && false then item ∷ [] else [])) [ true ↦ refl | false ↦ refl ]
-      | false ↦ elim (nat_le from item.end && nat_lt item.end to) as (λ u. cond u (item ∷ []) [] ≡ (if u && true then item ∷ [] else [])) [ true ↦ refl | false ↦ refl ]
+    as (λ t. between from to (if t then [] else item ∷ [])
+        ≡ (if (nat_le from item.end && nat_lt item.end to) && not t then item ∷ [] else [])) [
+      | true ↦ elim (nat_le from item.end && nat_lt item.end to) as (λ u. [] ≡ (if u && false then item ∷ [] else []))
+          [ true ↦ refl | false ↦ refl ]
+      | false ↦ elim (nat_le from item.end && nat_lt item.end to) as
+          (λ u. cond u (item ∷ []) [] ≡ (if u && true then item ∷ [] else [])) [ true ↦ refl | false ↦ refl ]
     ]
 
 -- one more candidate, if what is ready so far is known
 pub between_more : (from to : ℕ) (items : List Candidate) (i : ℕ) (d : Candidate) → i < length items
     → between from to (merged (take (i + 1) items))
-    ≡ between from to (merged (take i items)) ++ (if is_ready_after from to (take i items) (get_or items i d) then get_or items i d ∷ [] else [])
+    ≡ between from to (merged (take i items)) ++ (if is_ready_after from to (take i items) (get_or items i d)
+        then get_or items i d ∷ [] else [])
 between_more from to items i d l =
     ap (λ t. between from to (merged t)) (take_more items i d l)
     ∙ ap (between from to) (merged_after-append [] (take i items) (get_or items i d ∷ []))
@@ -34,17 +40,24 @@ between_more from to items i d l =
     ∙ ap (λ t. between from to (merged (take i items)) ++ t) (between_one from to (take i items) (get_or items i d))
 
 -- the same if that candidate is ready, and if it is not
-pub ready_more : (from to : ℕ) (items : List Candidate) (i : ℕ) (item : Candidate) → i < length items → item ≡ get_or items i item
+pub ready_more : (from to : ℕ) (items : List Candidate) (i : ℕ) (item : Candidate) → i < length items
+    → item ≡ get_or items i item
     → is_ready_after from to (take i items) item ≡ true
     → between from to (merged (take (i + 1) items)) ≡ between from to (merged (take i items)) ++ item ∷ []
-ready_more from to items i item l is ready = between_more from to items i item l ∙ ap (λ x. between from to (merged (take i items)) ++ (if is_ready_after from to (take i items) x then x ∷ [] else [])) (sym is)
+ready_more from to items i item l is ready = between_more from to items i item l
+    ∙ ap (λ x. between from to (merged (take i items)) ++ (if is_ready_after from to (take i items) x then x ∷ []
+    else [])) (sym is)
     ∙ ap (λ t. between from to (merged (take i items)) ++ (if t then item ∷ [] else [])) ready
 
-pub ready_same : (from to : ℕ) (items : List Candidate) (i : ℕ) (item : Candidate) → i < length items → item ≡ get_or items i item
+pub ready_same : (from to : ℕ) (items : List Candidate) (i : ℕ) (item : Candidate) → i < length items
+    → item ≡ get_or items i item
     → is_ready_after from to (take i items) item ≡ false
     → between from to (merged (take (i + 1) items)) ≡ between from to (merged (take i items))
-ready_same from to items i item l is ready = between_more from to items i item l ∙ ap (λ x. between from to (merged (take i items)) ++ (if is_ready_after from to (take i items) x then x ∷ [] else [])) (sym is)
-    ∙ ap (λ t. between from to (merged (take i items)) ++ (if t then item ∷ [] else [])) ready ∙ append-nil (between from to (merged (take i items)))
+ready_same from to items i item l is ready = between_more from to items i item l
+    ∙ ap (λ x. between from to (merged (take i items)) ++ (if is_ready_after from to (take i items) x then x ∷ []
+    else [])) (sym is)
+    ∙ ap (λ t. between from to (merged (take i items)) ++ (if t then item ∷ [] else [])) ready
+        ∙ append-nil (between from to (merged (take i items)))
 
 -- the least of the marks is at most each mark, and at least what none is below
 fold_min-le : (a : ℕ) (xs : List ℕ) → fold min a xs ≤ a
@@ -61,7 +74,8 @@ least-each marks k d l = fold_min-each (2 ^ 64 - 1) marks k d l
 
 le-fold_min : (b a : ℕ) (xs : List ℕ) → b ≤ a → All (λ x. b ≤ x) xs → b ≤ fold min a xs
 le-fold_min b a [] le h = le
-le-fold_min b a (x ∷ xs) le h = let first : b ≤ x = All-head (λ y. b ≤ y) x xs h in le-fold_min b (min a x) xs (omega arith) (All-tail (λ y. b ≤ y) x xs h)
+le-fold_min b a (x ∷ xs) le h = let first : b ≤ x = All-head (λ y. b ≤ y) x xs h in
+    le-fold_min b (min a x) xs (omega arith) (All-tail (λ y. b ≤ y) x xs h)
 
 pub le-least : (b : ℕ) (marks : List ℕ) → b ≤ 2 ^ 64 - 1 → All (λ mark. b ≤ mark) marks → b ≤ least marks
 le-least b marks le h = le-fold_min b (2 ^ 64 - 1) marks le h
@@ -82,7 +96,8 @@ so_far_more old to ready puts given rises is h =
 -- what is kept then is what would be kept of all
 pub kept_now : (old : Held) (to : ℕ) (puts given : List Candidate) → old.given_below ≤ to → StandsFor old puts given
     → not_below (to - 15) old.items ≡ not_below (to - 15) (in_order puts)
-kept_now old to puts given rises h = ap (not_below (to - 15)) h.items ∙ not_below-not_below (old.given_below - 15) (to - 15) (in_order puts) (omega arith)
+kept_now old to puts given rises h = ap (not_below (to - 15)) h.items
+    ∙ not_below-not_below (old.given_below - 15) (to - 15) (in_order puts) (omega arith)
 
 -- the merger after that
 pub stands_for_ready : (old new : Held) (to : ℕ) (ready puts given : List Candidate)
@@ -105,7 +120,8 @@ stands_for_ready old new to ready puts given rises is at kept h =
 
 -- each candidate that is kept ends at most 15 samples before
 pub kept_bound : (to : ℕ) (items : List Candidate) → All (λ item. to ≤ item.end + 15) (not_below (to - 15) items)
-kept_bound to items = All-weaker (λ item. nat_le (to - 15) item.end ≡ true) (λ item. to ≤ item.end + 15) (λ item le. near item.end le) (not_below (to - 15) items) (filter_passes (λ item. nat_le (to - 15) item.end) items)
+kept_bound to items = All-weaker (λ item. nat_le (to - 15) item.end ≡ true) (λ item. to ≤ item.end + 15)
+    (λ item le. near item.end le) (not_below (to - 15) items) (filter_passes (λ item. nat_le (to - 15) item.end) items)
   where
     near : (end : ℕ) → nat_le (to - 15) end ≡ true → to ≤ end + 15
     near end le = let l = leb-true (to - 15) end le in omega arith
@@ -114,19 +130,24 @@ kept_bound to items = All-weaker (λ item. nat_le (to - 15) item.end ≡ true) (
 pub below_all : (position : ℕ) (xs : List Candidate) → All (λ x. x.end < position) xs → below position xs ≡ xs
 below_all position [] h = refl
 below_all position (x ∷ xs) h =
-    ap (λ t. cond t (x ∷ below position xs) (below position xs)) (lt-ltb x.end position (All-head (λ y. y.end < position) x xs h))
+    ap (λ t. cond t (x ∷ below position xs) (below position xs))
+        (lt-ltb x.end position (All-head (λ y. y.end < position) x xs h))
     ∙ ap (λ t. x ∷ t) (below_all position xs (All-tail (λ y. y.end < position) x xs h))
 
-pub below_end : (puts : List Candidate) → All (λ x. x.end < 2 ^ 64 - 1) puts → below (2 ^ 64 - 1) (merged (in_order puts)) ≡ merged (in_order puts)
-below_end puts h = below_all (2 ^ 64 - 1) (merged (in_order puts)) (All-merged (λ x. x.end < 2 ^ 64 - 1) [] (in_order puts) (All-in_order (λ x. x.end < 2 ^ 64 - 1) puts h))
+pub below_end : (puts : List Candidate) → All (λ x. x.end < 2 ^ 64 - 1) puts
+    → below (2 ^ 64 - 1) (merged (in_order puts)) ≡ merged (in_order puts)
+below_end puts h = below_all (2 ^ 64 - 1) (merged (in_order puts))
+    (All-merged (λ x. x.end < 2 ^ 64 - 1) [] (in_order puts) (All-in_order (λ x. x.end < 2 ^ 64 - 1) puts h))
 
 -- the least of marks that are all at one position
 pub least-one : (n position : ℕ) → position ≤ 2 ^ 64 - 1 → least (replicate (suc n) position) ≡ position
-least-one n position le = ap (λ a. fold min a (replicate n position)) (let m : min (2 ^ 64 - 1) position ≡ position = omega arith in m) ∙ settled n
+least-one n position le = ap (λ a. fold min a (replicate n position))
+    (let m : min (2 ^ 64 - 1) position ≡ position = omega arith in m) ∙ settled n
   where
     settled : (n : ℕ) → fold min position (replicate n position) ≡ position
     settled zero = refl
-    settled (suc n) = ap (λ a. fold min a (replicate n position)) (let m : min position position ≡ position = omega arith in m) ∙ settled n
+    settled (suc n) = ap (λ a. fold min a (replicate n position))
+        (let m : min position position ≡ position = omega arith in m) ∙ settled n
 
 -- the least of marks that are all at the greatest position
 pub least-replicate : (n : ℕ) → least (replicate n (2 ^ 64 - 1)) ≡ 2 ^ 64 - 1

@@ -8,7 +8,8 @@ use Rattle.frame_merge.specs.declared.candidate.Candidate.{Candidate}
 abbrev pub repeats : Candidate → Candidate → Bool
 repeats item earlier = bytes_eq earlier.octets item.octets && nat_le item.end (earlier.end + 15)
 
--- of `items`, which come after `earlier`, those that repeat none before them, whether or not that one was itself left out
+-- of `items`, which come after `earlier`, those that repeat none before them, whether or not that one was itself left
+-- out
 abbrev pub merged_after : List Candidate → List Candidate → List Candidate
 merged_after earlier [] = []
 merged_after earlier (item ∷ items) =
@@ -38,4 +39,5 @@ between from to items = filter (λ item. nat_le from item.end && nat_lt item.end
 
 -- `item` ends from one position to below another, and repeats none of `earlier`
 abbrev pub is_ready_after : ℕ → ℕ → List Candidate → Candidate → Bool
-is_ready_after from to earlier item = (nat_le from item.end && nat_lt item.end to) && not (list_any (repeats item) earlier)
+is_ready_after from to earlier item = (nat_le from item.end && nat_lt item.end to)
+    && not (list_any (repeats item) earlier)

@@ -1,5 +1,7 @@
 -- One bit more of a carrier: which flags are in a row, and whether it is held.
-use Rattle.std.proofs.Common.{◌≡◌, ◌↔◌, ℕ, zero, suc, ◌+◌, ◌-◌, ◌<◌, ◌≤◌, min, Bool, true, false, ◌||◌, cond, eqb, List, [], ◌∷◌, ◌++◌, length, take, ap, subst, ◌∙◌, sym, inl, inr, arith, append_assoc, length-append, length-take-le, take_all, take-take}
+use Rattle.std.proofs.Common.{◌≡◌, ◌↔◌, ℕ, zero, suc, ◌+◌, ◌-◌, ◌<◌, ◌≤◌, min, Bool, true, false, ◌||◌, cond, eqb, List,
+    [], ◌∷◌, ◌++◌, length, take, ap, subst, ◌∙◌, sym, inl, inr, arith, append_assoc, length-append, length-take-le,
+    take_all, take-take}
 use Rattle.std.specs.Prelude.{◌⊎◌}
 use Rattle.std.proofs.Math.Seq.{take-length, take-append-add}
 use Rattle.std.proofs.lemmas.Bool.{cases_lt, cases_eq, eq-eqb, ne_eqb, false≢true}
@@ -10,14 +12,16 @@ use Rattle.hdlc_framer.specs.Stuffing.{flag}
 use Rattle.hdlc_framer.specs.Frames.{EndsFlag, EndsAbort}
 use Rattle.hdlc_framer.specs.Events.{EventAt}
 use Rattle.hdlc_framer.specs.Carrier.{EndsFlags, IsQuiet, IsLost, HoldsCarrier}
-use Rattle.hdlc_framer.specs.HeldCarrier.{HeldCarrier, IsRow, CarrierStandsFor, new_carrier, bit_later, row_with, flag_later, next_carrier}
+use Rattle.hdlc_framer.specs.HeldCarrier.{HeldCarrier, IsRow, CarrierStandsFor, new_carrier, bit_later, row_with,
+    flag_later, next_carrier}
 use Rattle.hdlc_framer.proofs.FrameEnds.{no_flag_on_one, flag_no_abort, frame_flag}
 
 -- ---- flags lie 7 bits apart or more
 
 -- no flag ends inside a flag
 inside : (before front : List Bool) → EndsFlag (before ++ (front ++ true ∷ [])) → ⊥
-inside before front ends = no_flag_on_one (before ++ front) (subst EndsFlag (sym (append_assoc before front (true ∷ []))) ends)
+inside before front ends = no_flag_on_one (before ++ front)
+    (subst EndsFlag (sym (append_assoc before front (true ∷ []))) ends)
 
 no_flag_inside : (before : List Bool) (m : ℕ) → 2 ≤ m → m ≤ 7 → ¬ EndsFlag (before ++ take m flag)
 no_flag_inside before zero least most ends = absurd (omega arith)
@@ -25,9 +29,12 @@ no_flag_inside before (suc zero) least most ends = absurd (omega arith)
 no_flag_inside before (suc (suc zero)) least most ends = inside before (false ∷ []) ends
 no_flag_inside before (suc (suc (suc zero))) least most ends = inside before (false ∷ true ∷ []) ends
 no_flag_inside before (suc (suc (suc (suc zero)))) least most ends = inside before (false ∷ true ∷ true ∷ []) ends
-no_flag_inside before (suc (suc (suc (suc (suc zero))))) least most ends = inside before (false ∷ true ∷ true ∷ true ∷ []) ends
-no_flag_inside before (suc (suc (suc (suc (suc (suc zero)))))) least most ends = inside before (false ∷ true ∷ true ∷ true ∷ true ∷ []) ends
-no_flag_inside before (suc (suc (suc (suc (suc (suc (suc zero))))))) least most ends = inside before (false ∷ true ∷ true ∷ true ∷ true ∷ true ∷ []) ends
+no_flag_inside before (suc (suc (suc (suc (suc zero))))) least most ends =
+    inside before (false ∷ true ∷ true ∷ true ∷ []) ends
+no_flag_inside before (suc (suc (suc (suc (suc (suc zero)))))) least most ends =
+    inside before (false ∷ true ∷ true ∷ true ∷ true ∷ []) ends
+no_flag_inside before (suc (suc (suc (suc (suc (suc (suc zero))))))) least most ends =
+    inside before (false ∷ true ∷ true ∷ true ∷ true ∷ true ∷ []) ends
 no_flag_inside before (suc (suc (suc (suc (suc (suc (suc (suc m)))))))) least most ends = absurd (omega arith)
 
 no_flag_near : (bits : List Bool) (j : ℕ) → EndsFlag bits → 1 ≤ j → j ≤ 6 → ¬ EndsFlag (take (length bits - j) bits)
@@ -43,13 +50,16 @@ no_flag_near bits j ends least most near =
 further : (bits : List Bool) (i j : ℕ) → i ≤ j
     → take (length (take (length bits - i) bits) - (j - i)) (take (length bits - i) bits) ≡ take (length bits - j) bits
 further bits i j le =
-    let size : length (take (length bits - i) bits) ≡ length bits - i = length-take-le (length bits - i) bits (omega arith) in
+    let size : length (take (length bits - i) bits) ≡ length bits - i =
+        length-take-le (length bits - i) bits (omega arith) in
     let at : length (take (length bits - i) bits) - (j - i) ≡ length bits - j = omega arith in
     ap (λ n. take n (take (length bits - i) bits)) at ∙ take-take (length bits - j) (length bits - i) bits (omega arith)
 
-apart : (bits : List Bool) (i j : ℕ) → i < j → j ≤ i + 6 → EndsFlag (take (length bits - i) bits) → ¬ EndsFlag (take (length bits - j) bits)
+apart : (bits : List Bool) (i j : ℕ) → i < j → j ≤ i + 6 → EndsFlag (take (length bits - i) bits)
+    → ¬ EndsFlag (take (length bits - j) bits)
 apart bits i j lt near ends other =
-    no_flag_near (take (length bits - i) bits) (j - i) ends (omega arith) (omega arith) (subst EndsFlag (sym (further bits i j (omega arith))) other)
+    no_flag_near (take (length bits - i) bits) (j - i) ends (omega arith) (omega arith)
+        (subst EndsFlag (sym (further bits i j (omega arith))) other)
 
 -- ---- flags in a row
 
@@ -124,7 +134,8 @@ module _ (bits : List Bool) (bit : Bool) where
       },
       λ lost.
           let size = length_push bits bit in
-          h.kept (length (bits ++ bit ∷ [])) (omega arith) (omega arith) (subst IsLost (sym (take-length (bits ++ bit ∷ []))) lost),
+          h.kept (length (bits ++ bit ∷ [])) (omega arith) (omega arith)
+              (subst IsLost (sym (take-length (bits ++ bit ∷ []))) lost),
     )
   ]
 
@@ -140,7 +151,8 @@ abbrev Follows : ℕ → Type 0
 Follows since = (since ≡ 6) ⊎ (since ≡ 7)
 
 row_following : (c : HeldCarrier) → Follows c.since_flag → row_with c ≡ min (c.in_a_row + 1) c.flags
-row_following c (inl six) = ap (λ t. cond (t || eqb c.since_flag 7) (min (c.in_a_row + 1) c.flags) 1) (eq-eqb c.since_flag 6 six)
+row_following c (inl six) = ap (λ t. cond (t || eqb c.since_flag 7) (min (c.in_a_row + 1) c.flags) 1)
+    (eq-eqb c.since_flag 6 six)
 row_following c (inr seven) =
     ap (λ n. cond (eqb n 6 || eqb n 7) (min (c.in_a_row + 1) c.flags) 1) seven
 
@@ -151,30 +163,40 @@ row_alone c not_six not_seven =
 
 module _ (bits : List Bool) (bit : Bool) (ends : EndsFlag (bits ++ bit ∷ [])) (since : ℕ)
     (quiet : (k : ℕ) → k < since → ¬ EndsFlag (take (length bits - k) bits)) where
-  longer_row : (m : ℕ) → Follows since → EndsFlags (suc m) (take (length bits - since) bits) → EndsFlags (suc (suc m)) (bits ++ bit ∷ [])
+  longer_row : (m : ℕ) → Follows since → EndsFlags (suc m) (take (length bits - since) bits)
+      → EndsFlags (suc (suc m)) (bits ++ bit ∷ [])
   longer_row m (inl six) row =
-      (ends, inl (subst (EndsFlags (suc m)) (sym (back bits bit 6)) (subst (λ n. EndsFlags (suc m) (take (length bits - n) bits)) six row)))
+      (ends, inl (subst (EndsFlags (suc m)) (sym (back bits bit 6))
+          (subst (λ n. EndsFlags (suc m) (take (length bits - n) bits)) six row)))
   longer_row m (inr seven) row =
-      (ends, inr (subst (EndsFlags (suc m)) (sym (back bits bit 7)) (subst (λ n. EndsFlags (suc m) (take (length bits - n) bits)) seven row)))
+      (ends, inr (subst (EndsFlags (suc m)) (sym (back bits bit 7))
+          (subst (λ n. EndsFlags (suc m) (take (length bits - n) bits)) seven row)))
 
-  shorter_row : (m : ℕ) → Follows since → EndsFlag (take (length bits - since) bits) → EndsFlags (suc (suc m)) (bits ++ bit ∷ [])
+  shorter_row : (m : ℕ) → Follows since → EndsFlag (take (length bits - since) bits)
+      → EndsFlags (suc (suc m)) (bits ++ bit ∷ [])
       → EndsFlags (suc m) (take (length bits - since) bits)
   shorter_row m (inl six) last row = elim row.1 [
-    | inl at ↦ subst (λ n. EndsFlags (suc m) (take (length bits - n) bits)) (sym six) (subst (EndsFlags (suc m)) (back bits bit 6) at)
+    | inl at ↦ subst (λ n. EndsFlags (suc m) (take (length bits - n) bits)) (sym six)
+        (subst (EndsFlags (suc m)) (back bits bit 6) at)
     | inr at ↦
-        let seventh : EndsFlag (take (length bits - 7) bits) = last_of_row m _ (subst (EndsFlags (suc m)) (back bits bit 7) at) in
-        let sixth : EndsFlag (take (length bits - 6) bits) = subst (λ n. EndsFlag (take (length bits - n) bits)) six last in
+        let seventh : EndsFlag (take (length bits - 7) bits) =
+            last_of_row m _ (subst (EndsFlags (suc m)) (back bits bit 7) at) in
+        let sixth : EndsFlag (take (length bits - 6) bits) =
+            subst (λ n. EndsFlag (take (length bits - n) bits)) six last in
         absurd (apart bits 6 7 (omega arith) (omega arith) sixth seventh)
   ]
   shorter_row m (inr seven) last row = elim row.1 [
     | inl at ↦
-        let sixth : EndsFlag (take (length bits - 6) bits) = last_of_row m _ (subst (EndsFlags (suc m)) (back bits bit 6) at) in
+        let sixth : EndsFlag (take (length bits - 6) bits) =
+            last_of_row m _ (subst (EndsFlags (suc m)) (back bits bit 6) at) in
         absurd (quiet 6 (omega arith) sixth)
-    | inr at ↦ subst (λ n. EndsFlags (suc m) (take (length bits - n) bits)) (sym seven) (subst (EndsFlags (suc m)) (back bits bit 7) at)
+    | inr at ↦ subst (λ n. EndsFlags (suc m) (take (length bits - n) bits)) (sym seven)
+        (subst (EndsFlags (suc m)) (back bits bit 7) at)
   ]
 
   -- a flag that follows none in a row
-  no_two : (since < 10000 → EndsFlag (take (length bits - since) bits)) → (since ≡ 6 → ⊥) → (since ≡ 7 → ⊥) → ¬ EndsFlags 2 (bits ++ bit ∷ [])
+  no_two : (since < 10000 → EndsFlag (take (length bits - since) bits)) → (since ≡ 6 → ⊥) → (since ≡ 7 → ⊥)
+      → ¬ EndsFlags 2 (bits ++ bit ∷ [])
   no_two last not_six not_seven two = elim two.1 [
     | inl at ↦ at_distance 6 (omega arith) (omega arith) (subst EndsFlag (back bits bit 6) at)
     | inr at ↦ at_distance 7 (omega arith) (omega arith) (subst EndsFlag (back bits bit 7) at)
@@ -187,7 +209,8 @@ module _ (bits : List Bool) (bit : Bool) (ends : EndsFlag (bits ++ bit ∷ [])) 
             (subst EndsFlag (sym (back bits bit since)) (last (omega arith)))
       ]
 
-  row_grows : (flags row : ℕ) → Follows since → IsRow flags row (take (length bits - since) bits) → IsRow flags (min (row + 1) flags) (bits ++ bit ∷ [])
+  row_grows : (flags row : ℕ) → Follows since → IsRow flags row (take (length bits - since) bits)
+      → IsRow flags (min (row + 1) flags) (bits ++ bit ∷ [])
   row_grows flags zero follows h = absurd (let least = h.some_flag in omega arith)
   row_grows flags (suc m) follows h = elim (cases_lt (suc m) flags) [
     | inl lt ↦
@@ -215,20 +238,24 @@ row_more c bits bit h ends = elim (cases_eq c.since_flag 6) [
   | inl six ↦ following (inl six) (omega arith)
   | inr not_six ↦ elim (cases_eq c.since_flag 7) [
     | inl seven ↦ following (inr seven) (omega arith)
-    | inr not_seven ↦ subst (λ row. IsRow c.flags row (bits ++ bit ∷ [])) (sym (row_alone c not_six not_seven)) (record {
+    | inr not_seven ↦ subst (λ row. IsRow c.flags row (bits ++ bit ∷ [])) (sym (row_alone c not_six not_seven))
+        (record {
       some_flag = omega arith;
       most = h.asked;
       ends = ends;
-      no_more = λ less two. no_two bits bit ends c.since_flag h.quiet (λ lt. let row = h.last lt in last_of_any c.in_a_row row.some_flag row.ends) not_six not_seven two;
+      no_more = λ less two. no_two bits bit ends c.since_flag h.quiet
+          (λ lt. let row = h.last lt in last_of_any c.in_a_row row.some_flag row.ends) not_six not_seven two;
     })
   ]
 ]
   where
     following : Follows c.since_flag → c.since_flag < 10000 → IsRow c.flags (row_with c) (bits ++ bit ∷ [])
     following follows lt =
-        subst (λ row. IsRow c.flags row (bits ++ bit ∷ [])) (sym (row_following c follows)) (row_grows bits bit ends c.since_flag h.quiet c.flags c.in_a_row follows (h.last lt))
+        subst (λ row. IsRow c.flags row (bits ++ bit ∷ [])) (sym (row_following c follows))
+            (row_grows bits bit ends c.since_flag h.quiet c.flags c.in_a_row follows (h.last lt))
 
-    last_of_any : (row : ℕ) → 1 ≤ row → EndsFlags row (take (length bits - c.since_flag) bits) → EndsFlag (take (length bits - c.since_flag) bits)
+    last_of_any : (row : ℕ) → 1 ≤ row → EndsFlags row (take (length bits - c.since_flag) bits)
+        → EndsFlag (take (length bits - c.since_flag) bits)
     last_of_any zero least row = absurd (omega arith)
     last_of_any (suc m) least row = last_of_row m _ row
 
@@ -239,7 +266,8 @@ quiet_now : (c : HeldCarrier) (bits : List Bool) (bit : Bool) → CarrierStandsF
     → (k : ℕ) → k < min (c.since_flag + 1) 10000 → ¬ EndsFlag (take (length (bits ++ bit ∷ []) - k) (bits ++ bit ∷ []))
 quiet_now c bits bit h none k lt = quiet_more bits bit c.since_flag none h.quiet k (omega arith)
 
-last_now : (c : HeldCarrier) (bits : List Bool) (bit : Bool) → CarrierStandsFor c bits → min (c.since_flag + 1) 10000 < 10000
+last_now : (c : HeldCarrier) (bits : List Bool) (bit : Bool) → CarrierStandsFor c bits
+    → min (c.since_flag + 1) 10000 < 10000
     → IsRow c.flags c.in_a_row (take (length (bits ++ bit ∷ []) - min (c.since_flag + 1) 10000) (bits ++ bit ∷ []))
 last_now c bits bit h lt =
     let at : min (c.since_flag + 1) 10000 ≡ suc c.since_flag = omega arith in
@@ -247,26 +275,32 @@ last_now c bits bit h lt =
     (subst (IsRow c.flags c.in_a_row) (sym (back bits bit c.since_flag)) (h.last (omega arith)))
 
 -- the last flag is not so far back that the line is quiet
-not_quiet : (c : HeldCarrier) (bits : List Bool) (bit : Bool) → CarrierStandsFor c bits → c.since_flag + 1 < 10000 → ¬ IsQuiet (bits ++ bit ∷ [])
+not_quiet : (c : HeldCarrier) (bits : List Bool) (bit : Bool) → CarrierStandsFor c bits → c.since_flag + 1 < 10000
+    → ¬ IsQuiet (bits ++ bit ∷ [])
 not_quiet c bits bit h lt quiet =
     let row = h.last (omega arith) in
-    quiet (suc c.since_flag) (omega arith) (subst EndsFlag (sym (back bits bit c.since_flag)) (by_row c.in_a_row row.some_flag row.ends))
+    quiet (suc c.since_flag) (omega arith) (subst EndsFlag (sym (back bits bit c.since_flag))
+        (by_row c.in_a_row row.some_flag row.ends))
   where
-    by_row : (row : ℕ) → 1 ≤ row → EndsFlags row (take (length bits - c.since_flag) bits) → EndsFlag (take (length bits - c.since_flag) bits)
+    by_row : (row : ℕ) → 1 ≤ row → EndsFlags row (take (length bits - c.since_flag) bits)
+        → EndsFlag (take (length bits - c.since_flag) bits)
     by_row zero least row = absurd (omega arith)
     by_row (suc m) least row = last_of_row m _ row
 
-held_at_none : (c : HeldCarrier) (bits : List Bool) (bit : Bool) → CarrierStandsFor c bits → ¬ EndsFlag (bits ++ bit ∷ []) → ¬ EndsAbort (bits ++ bit ∷ [])
+held_at_none : (c : HeldCarrier) (bits : List Bool) (bit : Bool) → CarrierStandsFor c bits
+    → ¬ EndsFlag (bits ++ bit ∷ []) → ¬ EndsAbort (bits ++ bit ∷ [])
     → ((bit_later c).held ≡ true) ↔ HoldsCarrier c.flags (bits ++ bit ∷ [])
 held_at_none c bits bit h none no_abort = elim (cases_eq (min (c.since_flag + 1) 10000) 10000) [
   | inl far ↦
-      let off : (bit_later c).held ≡ false = ap (λ t. cond t false c.held) (eq-eqb (min (c.since_flag + 1) 10000) 10000 far) in
+      let off : (bit_later c).held ≡ false = ap (λ t. cond t false c.held)
+          (eq-eqb (min (c.since_flag + 1) 10000) 10000 far) in
       let lost : IsLost (bits ++ bit ∷ []) = inr (λ k lt. quiet_now c bits bit h none k (omega arith)) in (
         (λ on. absurd (false≢true (sym off ∙ on))),
         (λ held. absurd ((held_before bits bit c.flags held (no_row bits bit c.flags h.asked none)).1 lost)),
       )
   | inr near ↦
-      let same : (bit_later c).held ≡ c.held = ap (λ t. cond t false c.held) (ne_eqb (min (c.since_flag + 1) 10000) 10000 near) in
+      let same : (bit_later c).held ≡ c.held = ap (λ t. cond t false c.held)
+          (ne_eqb (min (c.since_flag + 1) 10000) 10000 near) in
       let not_lost : IsLost (bits ++ bit ∷ []) → ⊥ = λ lost. elim lost [
         | inl abort ↦ no_abort abort
         | inr quiet ↦ not_quiet c bits bit h (omega arith) quiet
@@ -287,7 +321,8 @@ held_at_flag c bits bit h ends = elim (cases_eq (row_with c) c.flags) [
       let same : (flag_later c).held ≡ c.held = ap (λ t. cond t true c.held) (ne_eqb (row_with c) c.flags fewer) in
       let most = row.most in (
         (λ on. holds_on bits bit c.flags (h.held.0 (sym same ∙ on)) not_lost),
-        (λ held. same ∙ h.held.1 (held_before bits bit c.flags held (λ all. row.no_more (omega arith) (as_many c.flags (row_with c) (bits ++ bit ∷ []) (omega arith) all))).0),
+        (λ held. same ∙ h.held.1 (held_before bits bit c.flags held
+            (λ all. row.no_more (omega arith) (as_many c.flags (row_with c) (bits ++ bit ∷ []) (omega arith) all))).0),
       )
 ]
   where
@@ -303,13 +338,15 @@ held_at_flag c bits bit h ends = elim (cases_eq (row_with c) c.flags) [
     -- more flags in a row are as many as one more than fewer
     as_many : (n row : ℕ) (xs : List Bool) → row < n → EndsFlags n xs → EndsFlags (suc row) xs
     as_many zero row xs lt all = absurd (omega arith)
-    as_many (suc zero) row xs lt all = let only : row ≡ 0 = omega arith in subst (λ n. EndsFlags (suc n) xs) (sym only) all
+    as_many (suc zero) row xs lt all = let only : row ≡ 0 = omega arith in
+        subst (λ n. EndsFlags (suc n) xs) (sym only) all
     as_many (suc (suc n)) row xs lt all = elim (cases_eq row (suc n)) [
       | inl last ↦ subst (λ m. EndsFlags (suc m) xs) (sym last) all
       | inr less ↦ as_many (suc n) row xs (omega arith) (one_fewer n xs all)
     ]
 
-at_flag : (c : HeldCarrier) (bits : List Bool) (bit : Bool) → CarrierStandsFor c bits → EndsFlag (bits ++ bit ∷ []) → CarrierStandsFor (flag_later c) (bits ++ bit ∷ [])
+at_flag : (c : HeldCarrier) (bits : List Bool) (bit : Bool) → CarrierStandsFor c bits → EndsFlag (bits ++ bit ∷ [])
+    → CarrierStandsFor (flag_later c) (bits ++ bit ∷ [])
 at_flag c bits bit h ends = record {
   asked = h.asked;
   quiet = λ k lt. absurd (omega arith);
@@ -332,7 +369,8 @@ at_abort c bits bit h abort =
     }
 
 -- The detector goes on by the event of each bit.
-pub carrier_next : (c : HeldCarrier) (bits : List Bool) (bit : Bool) (event : Event) → CarrierStandsFor c bits → EventAt (bits ++ bit ∷ []) event
+pub carrier_next : (c : HeldCarrier) (bits : List Bool) (bit : Bool) (event : Event) → CarrierStandsFor c bits
+    → EventAt (bits ++ bit ∷ []) event
     → CarrierStandsFor (next_carrier c event) (bits ++ bit ∷ [])
 carrier_next c bits bit NoEvent h at = record {
   asked = h.asked;
@@ -360,7 +398,8 @@ carrier_new flags asked = record {
 
     row_in_none : (flags place : ℕ) → 1 ≤ flags → EndsFlags flags (take place []) → ⊥
     row_in_none zero place least row = omega arith
-    row_in_none (suc m) place least row = no_flag_in_none (subst EndsFlag (take_all place [] (omega arith)) (last_of_row m _ row))
+    row_in_none (suc m) place least row = no_flag_in_none
+        (subst EndsFlag (take_all place [] (omega arith)) (last_of_row m _ row))
 
     none_held : (flags : ℕ) → 1 ≤ flags → HoldsCarrier flags [] → ⊥
     none_held flags least h = row_in_none flags h.place least h.found

@@ -1,5 +1,7 @@
 -- The frame check sequence as a register of 16 bits that takes one bit, or one octet, at a time.
-use Rattle.std.proofs.Common.{◌≡◌, ◌↔◌, ℕ, zero, suc, ◌+◌, ◌-◌, ◌*◌, ◌/◌, ◌%◌, ◌^◌, ◌<◌, ◌≤◌, Bool, true, false, not, cond, eqb, bit_xor, List, [], ◌∷◌, ◌++◌, map, length, take, drop, replicate, refl, ap, subst, ◌∙◌, sym, inl, inr, arith, length-append}
+use Rattle.std.proofs.Common.{◌≡◌, ◌↔◌, ℕ, zero, suc, ◌+◌, ◌-◌, ◌*◌, ◌/◌, ◌%◌, ◌^◌, ◌<◌, ◌≤◌, Bool, true, false, not,
+    cond, eqb, bit_xor, List, [], ◌∷◌, ◌++◌, map, length, take, drop, replicate, refl, ap, subst, ◌∙◌, sym, inl, inr,
+    arith, length-append}
 use Rattle.std.specs.List.{fold}
 use Rattle.std.specs.Int.Bits.{xor_zero_l, xor_zero_r}
 use Rattle.std.proofs.Math.Nat.{pow-suc}
@@ -23,11 +25,13 @@ length-divide : (steps : ℕ) (p : List Bool) → length (divide steps p) ≡ le
 length-divide zero p = omega arith
 length-divide (suc steps) [] = omega arith
 length-divide (suc steps) (false ∷ p) = omega (arith, length-divide steps p)
-length-divide (suc steps) (true ∷ p) = omega (arith, length-divide steps (add_front generator_rest p), length-add_front generator_rest p)
+length-divide (suc steps) (true ∷ p) = omega (arith, length-divide steps (add_front generator_rest p),
+    length-add_front generator_rest p)
 
 length-invert_front : (p : List Bool) → length (invert_front p) ≡ length p
 length-invert_front p =
-    omega (arith, length-append (map not (take 16 p)) (drop 16 p), length-map (take 16 p) not, length-take 16 p, length-drop 16 p)
+    omega (arith, length-append (map not (take 16 p)) (drop 16 p), length-map (take 16 p) not, length-take 16 p,
+        length-drop 16 p)
 
 -- what is divided
 abbrev dividend : List ℕ → List Bool
@@ -37,9 +41,12 @@ pub fcs_of-lt : (octets : List ℕ) → fcs_of octets < 65536
 unfolding fcs_of
 fcs_of-lt octets =
     let p = invert_front (dividend octets) in
-    let least : 16 ≤ length p = omega (arith, length-invert_front (dividend octets), length-append (sent_bits octets) (replicate 16 false)) in
-    let size : length (map not (remainder p)) ≡ 16 = omega (arith, length-map (remainder p) not, length-divide (length p - 16) p) in
-    let below : number_of (map not (remainder p)) < 2 ^ 16 = subst (λ n. number_of (map not (remainder p)) < 2 ^ n) size (number_of-lt (map not (remainder p))) in
+    let least : 16 ≤ length p = omega (arith, length-invert_front (dividend octets),
+        length-append (sent_bits octets) (replicate 16 false)) in
+    let size : length (map not (remainder p)) ≡ 16 = omega (arith, length-map (remainder p) not,
+        length-divide (length p - 16) p) in
+    let below : number_of (map not (remainder p)) < 2 ^ 16 =
+        subst (λ n. number_of (map not (remainder p)) < 2 ^ n) size (number_of-lt (map not (remainder p))) in
     below
 
 -- ---- on lists: the division takes the bits one at a time
@@ -76,7 +83,8 @@ add_front-zeros : (r : List Bool) (n : ℕ) → length r ≡ n → add_front r (
 add_front-zeros [] zero size = refl
 add_front-zeros [] (suc n) size = absurd (omega arith)
 add_front-zeros (a ∷ r) zero size = absurd (omega arith)
-add_front-zeros (a ∷ r) (suc n) size = ap (λ b. b ∷ add_front r (replicate n false)) (plus-false a) ∙ ap (λ xs. a ∷ xs) (add_front-zeros r n (omega arith))
+add_front-zeros (a ∷ r) (suc n) size = ap (λ b. b ∷ add_front r (replicate n false)) (plus-false a)
+    ∙ ap (λ xs. a ∷ xs) (add_front-zeros r n (omega arith))
 
 add_front-push : (r p : List Bool) → length r < length p → add_front (r ++ false ∷ []) p ≡ add_front r p
 add_front-push [] [] short = absurd (omega arith)
@@ -84,14 +92,17 @@ add_front-push [] (b ∷ p) short = refl
 add_front-push (a ∷ r) [] short = refl
 add_front-push (a ∷ r) (b ∷ p) short = ap (λ xs. plus a b ∷ xs) (add_front-push r p (omega arith))
 
-add_front-add_front : (q r p : List Bool) → length q ≤ length r → add_front q (add_front r p) ≡ add_front (add_front q r) p
+add_front-add_front : (q r p : List Bool) → length q ≤ length r
+    → add_front q (add_front r p) ≡ add_front (add_front q r) p
 add_front-add_front [] r p size = refl
 add_front-add_front (a ∷ q) [] p size = absurd (omega arith)
 add_front-add_front (a ∷ q) (b ∷ r) [] size = refl
 add_front-add_front (a ∷ q) (b ∷ r) (c ∷ p) size =
-    ap (λ x. x ∷ add_front q (add_front r p)) (plus_assoc a b c) ∙ ap (λ xs. plus (plus a b) c ∷ xs) (add_front-add_front q r p (omega arith))
+    ap (λ x. x ∷ add_front q (add_front r p)) (plus_assoc a b c)
+        ∙ ap (λ xs. plus (plus a b) c ∷ xs) (add_front-add_front q r p (omega arith))
 
-reduced-add_front : (a : Bool) (rest p : List Bool) → length rest ≡ 15 → 16 ≤ length p → reduced a (add_front rest p) ≡ add_front (shift_by a rest) p
+reduced-add_front : (a : Bool) (rest p : List Bool) → length rest ≡ 15 → 16 ≤ length p
+    → reduced a (add_front rest p) ≡ add_front (shift_by a rest) p
 reduced-add_front false rest p size least = sym (add_front-push rest p (omega arith))
 reduced-add_front true rest p size least =
     ap (add_front generator_rest) (sym (add_front-push rest p (omega arith)))
@@ -102,7 +113,8 @@ length-shift_by false rest = length-append rest (false ∷ [])
 length-shift_by true rest = length-add_front generator_rest (rest ++ false ∷ []) ∙ length-append rest (false ∷ [])
 
 -- the register instead of the division
-divide-register : (bits r : List Bool) → length r ≡ 16 → divide (length bits) (add_front r (bits ++ replicate 16 false)) ≡ fold shift_in r bits
+divide-register : (bits r : List Bool) → length r ≡ 16 → divide (length bits) (add_front r (bits ++ replicate 16 false))
+    ≡ fold shift_in r bits
 divide-register [] r size = add_front-zeros r 16 size
 divide-register (bit ∷ bits) [] size = absurd (omega arith)
 divide-register (bit ∷ bits) (a ∷ rest) size =
@@ -112,17 +124,20 @@ divide-register (bit ∷ bits) (a ∷ rest) size =
     ∙ ap (divide (length bits)) (reduced-add_front (plus a bit) rest more (omega arith) least)
     ∙ divide-register bits (shift_by (plus a bit) rest) (omega (arith, length-shift_by (plus a bit) rest))
 
-invert_front-is : (n : ℕ) (p : List Bool) → n ≤ length p → map not (take n p) ++ drop n p ≡ add_front (replicate n true) p
+invert_front-is : (n : ℕ) (p : List Bool) → n ≤ length p → map not (take n p) ++ drop n p
+    ≡ add_front (replicate n true) p
 invert_front-is zero p least = refl
 invert_front-is (suc n) [] least = absurd (omega arith)
 invert_front-is (suc n) (b ∷ p) least = ap (λ xs. not b ∷ xs) (invert_front-is n p (omega arith))
 
-remainder-register : (bits : List Bool) → remainder (invert_front (bits ++ replicate 16 false)) ≡ fold shift_in (replicate 16 true) bits
+remainder-register : (bits : List Bool) → remainder (invert_front (bits ++ replicate 16 false))
+    ≡ fold shift_in (replicate 16 true) bits
 remainder-register bits =
     let p = bits ++ replicate 16 false in
     let size : length p ≡ length bits + 16 = length-append bits (replicate 16 false) in
     let steps : length (invert_front p) - 16 ≡ length bits = omega (arith, length-invert_front p) in
-    ap (λ n. divide n (invert_front p)) steps ∙ ap (divide (length bits)) (invert_front-is 16 p (omega arith)) ∙ divide-register bits (replicate 16 true) refl
+    ap (λ n. divide n (invert_front p)) steps ∙ ap (divide (length bits)) (invert_front-is 16 p (omega arith))
+        ∙ divide-register bits (replicate 16 true) refl
 
 -- ---- the remainder is that of a division
 
@@ -134,7 +149,8 @@ plus-twice true true = refl
 add_front-twice : (q p : List Bool) → add_front q (add_front q p) ≡ p
 add_front-twice [] p = refl
 add_front-twice (a ∷ q) [] = refl
-add_front-twice (a ∷ q) (b ∷ p) = ap (λ x. x ∷ add_front q (add_front q p)) (plus-twice a b) ∙ ap (λ xs. b ∷ xs) (add_front-twice q p)
+add_front-twice (a ∷ q) (b ∷ p) = ap (λ x. x ∷ add_front q (add_front q p)) (plus-twice a b)
+    ∙ ap (λ xs. b ∷ xs) (add_front-twice q p)
 
 zeros-add_front : (n : ℕ) (p : List Bool) → add_front (replicate n false) p ≡ p
 zeros-add_front zero p = refl
@@ -144,34 +160,41 @@ zeros-add_front (suc n) (b ∷ p) = ap (λ xs. b ∷ xs) (zeros-add_front n p)
 length-times_generator : (q : List Bool) → length (times_generator q) ≡ length q + 16
 length-times_generator [] = refl
 length-times_generator (false ∷ q) = omega (arith, length-times_generator q)
-length-times_generator (true ∷ q) = omega (arith, length-times_generator q, length-add_front generator_rest (times_generator q))
+length-times_generator (true ∷ q) = omega (arith, length-times_generator q,
+    length-add_front generator_rest (times_generator q))
 
 -- a quotient times the generator, and a remainder
 abbrev with_remainder : List Bool → List Bool → List Bool
 with_remainder q r = add_front (times_generator q) (replicate (length q) false ++ r)
 
 -- the generator added once more if the quotient begins with 1
-with_generator : (q r : List Bool) → add_front generator_rest (with_remainder q r) ≡ add_front (add_front generator_rest (times_generator q)) (replicate (length q) false ++ r)
-with_generator q r = add_front-add_front generator_rest (times_generator q) (replicate (length q) false ++ r) (omega (arith, length-times_generator q))
+with_generator : (q r : List Bool) → add_front generator_rest (with_remainder q r)
+    ≡ add_front (add_front generator_rest (times_generator q)) (replicate (length q) false ++ r)
+with_generator q r = add_front-add_front generator_rest (times_generator q) (replicate (length q) false ++ r)
+    (omega (arith, length-times_generator q))
 
-divide-quotient : (steps : ℕ) (p : List Bool) → length p ≡ steps + 16 → (q : List Bool) × (length q ≡ steps) × (p ≡ with_remainder q (divide steps p))
+divide-quotient : (steps : ℕ) (p : List Bool) → length p ≡ steps + 16
+    → (q : List Bool) × (length q ≡ steps) × (p ≡ with_remainder q (divide steps p))
 divide-quotient zero p size = ([], refl, sym (zeros-add_front 16 p))
 divide-quotient (suc steps) [] size = absurd (omega arith)
 divide-quotient (suc steps) (false ∷ p) size =
     let rest = divide-quotient steps p (omega arith) in
     (false ∷ rest.0, ap suc rest.1, ap (λ xs. false ∷ xs) rest.2)
 divide-quotient (suc steps) (true ∷ p) size =
-    let rest = divide-quotient steps (add_front generator_rest p) (omega (arith, length-add_front generator_rest p)) in (
+    let rest = divide-quotient steps (add_front generator_rest p) (omega (arith, length-add_front generator_rest p)) in
+        (
       true ∷ rest.0,
       ap suc rest.1,
-      ap (λ xs. true ∷ xs) (sym (add_front-twice generator_rest p) ∙ ap (add_front generator_rest) rest.2 ∙ with_generator rest.0 (divide steps (add_front generator_rest p))),
+      ap (λ xs. true ∷ xs) (sym (add_front-twice generator_rest p) ∙ ap (add_front generator_rest) rest.2
+          ∙ with_generator rest.0 (divide steps (add_front generator_rest p))),
     )
 
 divide-with_remainder : (q r : List Bool) → length r ≡ 16 → divide (length q) (with_remainder q r) ≡ r
 divide-with_remainder [] r size = zeros-add_front 16 r
 divide-with_remainder (false ∷ q) r size = divide-with_remainder q r size
 divide-with_remainder (true ∷ q) r size =
-    ap (divide (length q)) (ap (add_front generator_rest) (sym (with_generator q r)) ∙ add_front-twice generator_rest (with_remainder q r)) ∙ divide-with_remainder q r size
+    ap (divide (length q)) (ap (add_front generator_rest) (sym (with_generator q r))
+        ∙ add_front-twice generator_rest (with_remainder q r)) ∙ divide-with_remainder q r size
 
 -- There is one remainder, and the definition computes it.
 pub remainder-is : (p r : List Bool) → 16 ≤ length p → IsRemainder p r ↔ (r ≡ remainder p)
@@ -181,7 +204,8 @@ remainder-is p r least = (one, found)
     one is =
         let q = is.quotient.0 in
         let steps : length q ≡ length p - 16 = omega (arith, is.quotient.1) in
-        sym (divide-with_remainder q r is.size) ∙ ap (divide (length q)) (sym is.quotient.2) ∙ ap (λ n. divide n p) steps
+        sym (divide-with_remainder q r is.size) ∙ ap (divide (length q)) (sym is.quotient.2)
+            ∙ ap (λ n. divide n p) steps
 
     found : r ≡ remainder p → IsRemainder p r
     found same =
@@ -207,7 +231,8 @@ bit_number-plus false true = refl
 bit_number-plus true false = refl
 bit_number-plus true true = refl
 
-number_of-add_front : (q r : List Bool) → length q ≡ length r → number_of (add_front q r) ≡ bit_xor (number_of q) (number_of r)
+number_of-add_front : (q r : List Bool) → length q ≡ length r
+    → number_of (add_front q r) ≡ bit_xor (number_of q) (number_of r)
 number_of-add_front [] [] size = refl
 number_of-add_front [] (b ∷ r) size = absurd (omega arith)
 number_of-add_front (a ∷ q) [] size = absurd (omega arith)
@@ -235,38 +260,46 @@ unfolding shifted
 shifted-bit false n =
     let half : (n * 2 + 0) / 2 ≡ n = omega arith in
     let even : eqb ((n * 2 + 0) % 2) 1 ≡ false = ne_eqb ((n * 2 + 0) % 2) 1 (omega arith) in
-    ap (λ m. bit_xor m (cond (eqb ((n * 2 + 0) % 2) 1) generator_number 0)) half ∙ ap (λ t. bit_xor n (cond t generator_number 0)) even
+    ap (λ m. bit_xor m (cond (eqb ((n * 2 + 0) % 2) 1) generator_number 0)) half
+        ∙ ap (λ t. bit_xor n (cond t generator_number 0)) even
 shifted-bit true n =
     let half : (n * 2 + 1) / 2 ≡ n = omega arith in
     let odd : eqb ((n * 2 + 1) % 2) 1 ≡ true = eq-eqb ((n * 2 + 1) % 2) 1 (omega arith) in
-    ap (λ m. bit_xor m (cond (eqb ((n * 2 + 1) % 2) 1) generator_number 0)) half ∙ ap (λ t. bit_xor n (cond t generator_number 0)) odd
+    ap (λ m. bit_xor m (cond (eqb ((n * 2 + 1) % 2) 1) generator_number 0)) half
+        ∙ ap (λ t. bit_xor n (cond t generator_number 0)) odd
 
-number_of-shift_by : (a : Bool) (rest : List Bool) → length rest ≡ 15 → number_of (shift_by a rest) ≡ bit_xor (number_of rest) (cond a generator_number 0)
+number_of-shift_by : (a : Bool) (rest : List Bool) → length rest ≡ 15
+    → number_of (shift_by a rest) ≡ bit_xor (number_of rest) (cond a generator_number 0)
 number_of-shift_by false rest size = number_of-push_zero rest ∙ sym (xor_zero_r (number_of rest))
 number_of-shift_by true rest size =
     number_of-add_front generator_rest (rest ++ false ∷ []) (omega (arith, length-append rest (false ∷ [])))
     ∙ ap (bit_xor generator_number) (number_of-push_zero rest) ∙ xor_comm generator_number (number_of rest)
 
-number_of-shift_in : (r : List Bool) (bit : Bool) → length r ≡ 16 → number_of (shift_in r bit) ≡ after_bit (number_of r) bit
+number_of-shift_in : (r : List Bool) (bit : Bool) → length r ≡ 16
+    → number_of (shift_in r bit) ≡ after_bit (number_of r) bit
 unfolding after_bit
 number_of-shift_in [] bit size = absurd (omega arith)
 number_of-shift_in (a ∷ rest) bit size =
     let alone : bit_number bit ≡ 0 * 2 ^ 1 + bit_number bit = omega arith in
     let taken : bit_xor (number_of (a ∷ rest)) (bit_number bit) ≡ number_of rest * 2 + bit_number (plus a bit) =
-    ap (λ n. bit_xor n (bit_number bit)) (number_of-cons a rest) ∙ ap (bit_xor (number_of rest * 2 ^ 1 + bit_number a)) alone
+    ap (λ n. bit_xor n (bit_number bit)) (number_of-cons a rest)
+        ∙ ap (bit_xor (number_of rest * 2 ^ 1 + bit_number a)) alone
     ∙ xor_block 1 (number_of rest) 0 (bit_number a) (bit_number bit) (bit_number-lt a) (bit_number-lt bit)
     ∙ ap (λ n. n * 2 + bit_xor (bit_number a) (bit_number bit)) (xor_zero_r (number_of rest))
     ∙ ap (λ n. number_of rest * 2 + n) (sym (bit_number-plus a bit)) in
-    number_of-shift_by (plus a bit) rest (omega arith) ∙ sym (shifted-bit (plus a bit) (number_of rest)) ∙ ap shifted (sym taken)
+    number_of-shift_by (plus a bit) rest (omega arith) ∙ sym (shifted-bit (plus a bit) (number_of rest))
+        ∙ ap shifted (sym taken)
 
 length-shift_in : (r : List Bool) (bit : Bool) → length r ≡ 16 → length (shift_in r bit) ≡ 16
 length-shift_in [] bit size = absurd (omega arith)
 length-shift_in (a ∷ rest) bit size = length-shift_by (plus a bit) rest ∙ omega arith
 
-number_of-register : (bits r : List Bool) → length r ≡ 16 → number_of (fold shift_in r bits) ≡ fold after_bit (number_of r) bits
+number_of-register : (bits r : List Bool) → length r ≡ 16 → number_of (fold shift_in r bits)
+    ≡ fold after_bit (number_of r) bits
 number_of-register [] r size = refl
 number_of-register (bit ∷ bits) r size =
-    number_of-register bits (shift_in r bit) (length-shift_in r bit size) ∙ ap (λ n. fold after_bit n bits) (number_of-shift_in r bit size)
+    number_of-register bits (shift_in r bit) (length-shift_in r bit size)
+        ∙ ap (λ n. fold after_bit n bits) (number_of-shift_in r bit size)
 
 length-register : (bits r : List Bool) → length r ≡ 16 → length (fold shift_in r bits) ≡ 16
 length-register [] r size = size
@@ -277,7 +310,8 @@ after_octets : (octets : List ℕ) (check : ℕ) → fold after_bit check (sent_
 unfolding after_octet
 after_octets [] check = refl
 after_octets (octet ∷ octets) check =
-    fold-append after_bit check (octet_bits octet) (sent_bits octets) ∙ after_octets octets (fold after_bit check (octet_bits octet))
+    fold-append after_bit check (octet_bits octet) (sent_bits octets)
+        ∙ after_octets octets (fold after_bit check (octet_bits octet))
 
 -- The check sequence is the inverted register.
 pub fcs_of-register : (octets : List ℕ) → fcs_of octets ≡ 65535 - fold after_octet 65535 octets
@@ -302,12 +336,16 @@ shifted-xor c o =
     let g : ℕ → ℕ = λ n. cond (eqb n 1) generator_number 0 in
     let half : bit_xor c o / 2 ≡ bit_xor (c / 2) (o / 2) = xor_shr c o 1 in
     let low : o % 2 / 2 ≡ 0 = omega arith in
-    let low_half : bit_xor c (o % 2) / 2 ≡ c / 2 = xor_shr c (o % 2) 1 ∙ ap (bit_xor (c / 2)) low ∙ xor_zero_r (c / 2) in
+    let low_half : bit_xor c (o % 2) / 2 ≡ c / 2 = xor_shr c (o % 2) 1 ∙ ap (bit_xor (c / 2)) low
+        ∙ xor_zero_r (c / 2) in
     let twice : o % 2 % 2 ≡ o % 2 = omega arith in
-    let odd : bit_xor c o % 2 ≡ bit_xor c (o % 2) % 2 = xor_mod c o 1 ∙ ap (bit_xor (c % 2)) (sym twice) ∙ sym (xor_mod c (o % 2) 1) in
+    let odd : bit_xor c o % 2 ≡ bit_xor c (o % 2) % 2 = xor_mod c o 1 ∙ ap (bit_xor (c % 2)) (sym twice)
+        ∙ sym (xor_mod c (o % 2) 1) in
     ap (λ n. bit_xor n (g (bit_xor c o % 2))) half ∙ ap (λ n. bit_xor (bit_xor (c / 2) (o / 2)) (g n)) odd
-    ∙ xor_assoc (c / 2) (o / 2) (g (bit_xor c (o % 2) % 2)) ∙ ap (bit_xor (c / 2)) (xor_comm (o / 2) (g (bit_xor c (o % 2) % 2)))
-    ∙ sym (xor_assoc (c / 2) (g (bit_xor c (o % 2) % 2)) (o / 2)) ∙ ap (λ n. bit_xor (bit_xor n (g (bit_xor c (o % 2) % 2))) (o / 2)) (sym low_half)
+    ∙ xor_assoc (c / 2) (o / 2) (g (bit_xor c (o % 2) % 2))
+        ∙ ap (bit_xor (c / 2)) (xor_comm (o / 2) (g (bit_xor c (o % 2) % 2)))
+    ∙ sym (xor_assoc (c / 2) (g (bit_xor c (o % 2) % 2)) (o / 2))
+        ∙ ap (λ n. bit_xor (bit_xor n (g (bit_xor c (o % 2) % 2))) (o / 2)) (sym low_half)
 
 odd_number : (n : ℕ) → bit_number (eqb (n % 2) 1) ≡ n % 2
 odd_number n =
@@ -336,21 +374,25 @@ shifts-high (suc k) x y =
     let double : o ≡ y * 2 ^ k * 2 = ap (λ n. y * n) (pow-suc 2 k) ∙ omega arith in
     let even : o % 2 ≡ 0 = omega arith in
     let half : o / 2 ≡ y * 2 ^ k = omega arith in
-    ap (shifts k) (shifted-xor x o ∙ ap (λ n. bit_xor (shifted (bit_xor x n)) (o / 2)) even ∙ ap (λ n. bit_xor (shifted n) (o / 2)) (xor_zero_r x) ∙ ap (bit_xor (shifted x)) half)
+    ap (shifts k) (shifted-xor x o ∙ ap (λ n. bit_xor (shifted (bit_xor x n)) (o / 2)) even
+        ∙ ap (λ n. bit_xor (shifted n) (o / 2)) (xor_zero_r x) ∙ ap (bit_xor (shifted x)) half)
     ∙ shifts-high k (shifted x) y
 
 -- One octet: the high octet of the register, and eight steps of the low one with the octet added.
-pub after_octet-is : (check octet : ℕ) → octet < 256 → after_octet check octet ≡ bit_xor (check / 256) (step_of (bit_xor (check % 256) octet))
+pub after_octet-is : (check octet : ℕ) → octet < 256 → after_octet check octet
+    ≡ bit_xor (check / 256) (step_of (bit_xor (check % 256) octet))
 unfolding after_octet octet_bits step_of
 after_octet-is check octet below =
     let d = bit_xor check octet in
     let none : octet / 256 ≡ 0 = omega arith in
     let all : octet % 256 ≡ octet = omega arith in
-    let high : d / 256 ≡ check / 256 = xor_shr check octet 8 ∙ ap (bit_xor (check / 256)) none ∙ xor_zero_r (check / 256) in
+    let high : d / 256 ≡ check / 256 = xor_shr check octet 8 ∙ ap (bit_xor (check / 256)) none
+        ∙ xor_zero_r (check / 256) in
     let low : d % 256 ≡ bit_xor (check % 256) octet = xor_mod check octet 8 ∙ ap (bit_xor (check % 256)) all in
     let parts : bit_xor (d % 256) (d / 256 * 2 ^ 8) ≡ d =
     ap (λ n. bit_xor n (d / 256 * 2 ^ 8)) (omega arith) ∙ ap (bit_xor (0 * 2 ^ 8 + d % 256)) (omega arith)
-    ∙ xor_block 8 0 (d / 256) (d % 256) 0 (omega arith) (omega arith) ∙ ap (λ n. n * 2 ^ 8 + bit_xor (d % 256) 0) (xor_zero_l (d / 256))
+    ∙ xor_block 8 0 (d / 256) (d % 256) 0 (omega arith) (omega arith)
+        ∙ ap (λ n. n * 2 ^ 8 + bit_xor (d % 256) 0) (xor_zero_l (d / 256))
     ∙ ap (λ n. d / 256 * 2 ^ 8 + n) (xor_zero_r (d % 256)) ∙ omega arith in
     taken_at_once 8 check octet below ∙ ap (shifts 8) (sym parts) ∙ shifts-high 8 (d % 256) (d / 256)
     ∙ ap (λ n. bit_xor (shifts 8 n) (d / 256)) low ∙ ap (bit_xor (shifts 8 (bit_xor (check % 256) octet))) high

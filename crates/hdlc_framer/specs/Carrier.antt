@@ -1,9 +1,11 @@
--- When a receiver hears a carrier, by the bits alone (AX.25 2.2 sections 3.1, 3.9 and 6.4.2 leave it to the modem): flags
+-- When a receiver hears a carrier, by the bits alone (AX.25 2.2 sections 3.1, 3.9 and 6.4.2 leave it to the modem):
+-- flags
 -- show that another station sends, and an abort or a long stretch without a flag that it sends no more.
 use Rattle.std.specs.Prelude.{ℕ, zero, suc, ◌+◌, ◌-◌, ◌<◌, ◌≤◌, ◌⊎◌, ⊤, Bool, List, length, take}
 use Rattle.hdlc_framer.specs.Frames.{EndsFlag, EndsAbort}
 
--- So many flags in a row end with the last bit. Two in a row share a 0, so that the first ends 7 bits before the second, or
+-- So many flags in a row end with the last bit. Two in a row share a 0, so that the first ends 7 bits before the
+-- second, or
 -- follow one another at once, so that it ends 8 bits before.
 abbrev pub EndsFlags : ℕ → List Bool → Type 0
 EndsFlags zero bits = ⊤

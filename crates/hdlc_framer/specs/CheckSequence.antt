@@ -1,6 +1,7 @@
 -- The 16-bit frame check sequence (ISO/IEC 3309, AX.25 2.2 section 3.7): a division of polynomials
 -- over two elements. A list of bits is a polynomial by its coefficients, that of the highest power first.
-use Rattle.std.specs.Prelude.{ℕ, zero, suc, ◌-◌, Bool, true, false, not, List, [], ◌∷◌, ◌++◌, map, length, take, drop, replicate}
+use Rattle.std.specs.Prelude.{ℕ, zero, suc, ◌-◌, Bool, true, false, not, List, [], ◌∷◌, ◌++◌, map, length, take, drop,
+    replicate}
 use Rattle.hdlc_framer.specs.BitOrder.{sent_bits, number_of}
 
 -- the sum of two coefficients
@@ -17,7 +18,8 @@ add_front (a ∷ q) (b ∷ p) = plus a b ∷ add_front q p
 -- what follows the highest power of the generator x^16 + x^12 + x^5 + 1: its coefficients of x^15 down to 1
 abbrev pub generator_rest : List Bool
 generator_rest =
-    false ∷ false ∷ false ∷ true ∷ false ∷ false ∷ false ∷ false ∷ false ∷ false ∷ true ∷ false ∷ false ∷ false ∷ false ∷ true ∷ []
+    false ∷ false ∷ false ∷ true ∷ false ∷ false ∷ false ∷ false ∷ false ∷ false ∷ true ∷ false ∷ false ∷ false ∷ false
+        ∷ true ∷ []
 
 -- Long division: each step takes the highest power away, and where its coefficient is 1 the generator is added.
 abbrev pub divide : ℕ → List Bool → List Bool

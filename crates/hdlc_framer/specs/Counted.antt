@@ -1,4 +1,5 @@
--- Inserted zeros as a sender counts them: how many more 1s may come before the fifth of a run. No public clause cites it.
+-- Inserted zeros as a sender counts them: how many more 1s may come before the fifth of a run. No public clause cites
+-- it.
 use Rattle.std.specs.Prelude.{ℕ, zero, suc, Bool, true, false, List, [], ◌∷◌}
 
 -- bits with inserted zeros if so many more 1s may come before the fifth of a run

@@ -11,4 +11,5 @@ times_generator (true ∷ q) = true ∷ add_front generator_rest (times_generato
 -- p is some polynomial times the generator, and r, which has no power above x^15
 pub record IsRemainder (p r : List Bool) : Type 0 where
   pub size : length r ≡ 16
-  pub quotient : (q : List Bool) × (length q + 16 ≡ length p) × (p ≡ add_front (times_generator q) (replicate (length q) false ++ r))
+  pub quotient : (q : List Bool) × (length q + 16 ≡ length p)
+      × (p ≡ add_front (times_generator q) (replicate (length q) false ++ r))

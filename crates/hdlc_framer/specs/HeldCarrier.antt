@@ -1,11 +1,13 @@
 -- What a carrier detector keeps of the bits. No public clause looks inside: they cite `CarrierStandsFor` alone.
-use Rattle.std.specs.Prelude.{◌≡◌, ◌↔◌, ℕ, suc, ◌+◌, ◌-◌, ◌==◌, ◌||◌, ◌<◌, ◌≤◌, min, if◌then◌else◌, Bool, true, false, List, length, take}
+use Rattle.std.specs.Prelude.{◌≡◌, ◌↔◌, ℕ, suc, ◌+◌, ◌-◌, ◌==◌, ◌||◌, ◌<◌, ◌≤◌, min, if◌then◌else◌, Bool, true, false,
+    List, length, take}
 use Rattle.hdlc_framer.specs.declared.event.Event.{Event}
 use Rattle.hdlc_framer.specs.declared.event.Event.TheVariants.{None as NoEvent, Flag, Abort, Frame}
 use Rattle.hdlc_framer.specs.Frames.{EndsFlag}
 use Rattle.hdlc_framer.specs.Carrier.{EndsFlags, HoldsCarrier}
 
--- how many flags in a row it asks for, how many ended with the last flag (no more than it asks for), the bits since that
+-- how many flags in a row it asks for, how many ended with the last flag (no more than it asks for), the bits since
+-- that
 -- flag (10,000 stands for more, and for no flag at all), and whether a carrier is held
 pub record HeldCarrier : Type 0 where
   pub flags : ℕ

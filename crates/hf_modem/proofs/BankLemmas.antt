@@ -1,5 +1,6 @@
 -- A bank with one sample more, and what is heard with it.
-use Rattle.std.proofs.Common.{◌≡◌, ℕ, ◌+◌, ◌-◌, ◌*◌, ◌/◌, ◌%◌, ◌<◌, ◌≤◌, ℤ, List, [], ◌∷◌, ◌++◌, Option, length, get_or, set, ap, sym, ◌∙◌, arith, subst}
+use Rattle.std.proofs.Common.{◌≡◌, ℕ, ◌+◌, ◌-◌, ◌*◌, ◌/◌, ◌%◌, ◌<◌, ◌≤◌, ℤ, List, [], ◌∷◌, ◌++◌, Option, length, get_or,
+    set, ap, sym, ◌∙◌, arith, subst}
 use Rattle.std.specs.Option.{option_to_list}
 use Rattle.std.proofs.lemmas.List.{length_push}
 use Rattle.tone_table.specs.declared.tone.Tone.{Tone}
@@ -24,7 +25,8 @@ module _ (lanes : List HeldLane) (recent now : List ℤ) (position : ℕ) (x : L
   further = let count = h.count in let more = length_push x sample in omega arith
 
   -- before the 32nd sample
-  pub bank_early : position + 1 < 32 → BankStandsFor (record { lanes = lanes; recent = now; position = position + 1 }) all × AreCandidatesAfter (length x) all []
+  pub bank_early : position + 1 < 32 → BankStandsFor (record { lanes = lanes; recent = now; position = position + 1 })
+      all × AreCandidatesAfter (length x) all []
   bank_early few =
       let count = h.count in (
         record { count = further; recent = push x h.recent; lanes = lanes_none lanes x sample (omega arith) h.lanes },
@@ -32,11 +34,14 @@ module _ (lanes : List HeldLane) (recent now : List ℤ) (position : ℕ) (x : L
       )
 
   -- from then on
-  pub bank_more : (offset : ℕ) (was lane : HeldLane) (tone : Tone) (heard : Option Candidate) → length lanes ≡ 32 → 32 ≤ position + 1 → offset ≡ (position + 1) % 32
+  pub bank_more : (offset : ℕ) (was lane : HeldLane) (tone : Tone) (heard : Option Candidate) → length lanes ≡ 32
+      → 32 ≤ position + 1 → offset ≡ (position + 1) % 32
       → tone ≡ tone_of now
       → ((tones : List Tone) → LaneStandsFor (get_or lanes offset was) tones → LaneStandsFor lane (tones ++ tone ∷ []))
-      → ((tones : List Tone) → LaneStandsFor (get_or lanes offset was) tones → IsHeard offset (position + 1) (bits_of (tones ++ tone ∷ [])) heard)
-      → BankStandsFor (record { lanes = set lanes offset lane; recent = now; position = position + 1 }) all × AreCandidatesAfter (length x) all (option_to_list heard)
+      → ((tones : List Tone) → LaneStandsFor (get_or lanes offset was) tones
+          → IsHeard offset (position + 1) (bits_of (tones ++ tone ∷ [])) heard)
+      → BankStandsFor (record { lanes = set lanes offset lane; recent = now; position = position + 1 }) all
+          × AreCandidatesAfter (length x) all (option_to_list heard)
   unfolding bits
   bank_more offset was lane tone heard whole enough is decided step hears =
       let count = h.count in
@@ -49,7 +54,8 @@ module _ (lanes : List HeldLane) (recent now : List ℤ) (position : ℕ) (x : L
       let more : tones_at offset x ++ tone ∷ [] ≡ tones_at offset all
       = ap (λ t. tones_at offset x ++ t ∷ []) last ∙ sym (tones_at-last offset w x sample ends) in
       let here : IsHeard offset (position + 1) (bits offset all) heard
-      = subst (λ ts. IsHeard offset (position + 1) (bits_of ts) heard) more (hears (tones_at offset x) (h.lanes offset was small)) in (
+      = subst (λ ts. IsHeard offset (position + 1) (bits_of ts) heard) more
+          (hears (tones_at offset x) (h.lanes offset was small)) in (
         record {
           count = further;
           recent = push x h.recent;

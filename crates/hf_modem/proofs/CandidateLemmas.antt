@@ -1,5 +1,6 @@
 -- The candidates of samples, with one sample more.
-use Rattle.std.proofs.Common.{◌≡◌, ℕ, ◌+◌, ◌*◌, ◌/◌, ◌%◌, ◌<◌, ◌≤◌, ℤ, List, [], ◌++◌, length, get_or, take, ap, sym, ◌∙◌, arith, subst, length-append, inl, inr}
+use Rattle.std.proofs.Common.{◌≡◌, ℕ, ◌+◌, ◌*◌, ◌/◌, ◌%◌, ◌<◌, ◌≤◌, ℤ, List, [], ◌++◌, length, get_or, take, ap, sym,
+    ◌∙◌, arith, subst, length-append, inl, inr}
 use Rattle.std.proofs.lemmas.Bool.{cases_lt}
 use Rattle.std.proofs.lemmas.List.{take-take, take_all}
 use Rattle.std.proofs.lemmas.List.Elements.{All-append, All-nil, Contains-append_left, Contains-append_right}
@@ -12,11 +13,13 @@ use Rattle.hf_modem.specs.Candidates.{EndsAtBit, IsCandidate, AreCandidatesAfter
 use Rattle.slicer_bank.proofs.CandidateLemmas.{AllPairs-append}
 
 -- the sample at which a frame ends, from its end and offset
-pub end_sample-is : (x : List ℤ) (item : Candidate) (index : ℕ) → EndsAtBit x item index → end_sample item ≡ item.offset + 32 * (index + 1)
+pub end_sample-is : (x : List ℤ) (item : Candidate) (index : ℕ) → EndsAtBit x item index
+    → end_sample item ≡ item.offset + 32 * (index + 1)
 end_sample-is x item index h = let e = h.end_of in omega arith
 
 -- and back
-end_is : (item : Candidate) (index : ℕ) → end_sample item ≡ item.offset + 32 * (index + 1) → item.end ≡ (item.offset + 32 * (index + 1)) / 4
+end_is : (item : Candidate) (index : ℕ) → end_sample item ≡ item.offset + 32 * (index + 1)
+    → item.end ≡ (item.offset + 32 * (index + 1)) / 4
 end_is item index h = omega arith
 
 -- a candidate ends within the samples
@@ -28,7 +31,8 @@ end_within x item h =
     omega arith
 
 -- by end and then offset candidates stand as the samples at which they end
-pub standing-rises : (x : List ℤ) (item later : Candidate) → IsCandidate x item → IsCandidate x later → end_sample item < end_sample later
+pub standing-rises : (x : List ℤ) (item later : Candidate) → IsCandidate x item → IsCandidate x later
+    → end_sample item < end_sample later
     → standing item < standing later
 standing-rises x item later h k less =
     let e = end_sample-is x item h.index h.ends in
@@ -47,10 +51,12 @@ standing-rises x item later h k less =
     ]
 
 -- the bits that the first samples give
-first_bits : (offset : ℕ) (x y : List ℤ) (index : ℕ) → index < length (bits offset x) → take (index + 1) (bits offset (x ++ y)) ≡ take (index + 1) (bits offset x)
+first_bits : (offset : ℕ) (x y : List ℤ) (index : ℕ) → index < length (bits offset x)
+    → take (index + 1) (bits offset (x ++ y)) ≡ take (index + 1) (bits offset x)
 first_bits offset x y index l =
     let n = length-bits offset x in
-    sym (ap (take (index + 1)) (bits-append offset x y) ∙ take-take (index + 1) (windows_in offset (length x)) (bits offset (x ++ y)) (omega arith))
+    sym (ap (take (index + 1)) (bits-append offset x y)
+        ∙ take-take (index + 1) (windows_in offset (length x)) (bits offset (x ++ y)) (omega arith))
 
 -- a candidate of the first samples is one of them all
 pub candidate_more : (x y : List ℤ) (item : Candidate) → IsCandidate x item → IsCandidate (x ++ y) item
@@ -58,14 +64,16 @@ candidate_more x y item h = record {
   offset = h.offset;
   index = h.index;
   ends = record {
-    within = (let n = length-bits item.offset x in let m = length-bits item.offset (x ++ y) in let len = length-append x y in let w = h.ends.within in omega arith);
+    within = (let n = length-bits item.offset x in let m = length-bits item.offset (x ++ y) in let len =
+        length-append x y in let w = h.ends.within in omega arith);
     end_of = h.ends.end_of;
     frame = subst (λ b. EndsFrame b item.octets) (sym (first_bits item.offset x y h.index h.ends.within)) h.ends.frame;
   };
 }
 
 -- a candidate that ends within the first samples is one of them
-pub candidate_less : (x y : List ℤ) (item : Candidate) → IsCandidate (x ++ y) item → end_sample item ≤ length x → IsCandidate x item
+pub candidate_less : (x y : List ℤ) (item : Candidate) → IsCandidate (x ++ y) item → end_sample item ≤ length x
+    → IsCandidate x item
 candidate_less x y item h e =
     let n = length-bits item.offset x in
     let end = end_sample-is (x ++ y) item h.index h.ends in
@@ -73,30 +81,36 @@ candidate_less x y item h e =
     record {
       offset = h.offset;
       index = h.index;
-      ends = record { within = within; end_of = h.ends.end_of; frame = subst (λ b. EndsFrame b item.octets) (first_bits item.offset x y h.index within) h.ends.frame };
+      ends = record { within = within; end_of = h.ends.end_of; frame =
+          subst (λ b. EndsFrame b item.octets) (first_bits item.offset x y h.index within) h.ends.frame };
     }
 
 -- a candidate that ends with the last of the samples is what its lane hears there
-pub ends_with_last : (x : List ℤ) (item : Candidate) → IsCandidate x item → end_sample item ≡ length x → EndsWith item.offset x item.octets
+pub ends_with_last : (x : List ℤ) (item : Candidate) → IsCandidate x item → end_sample item ≡ length x
+    → EndsWith item.offset x item.octets
 ends_with_last x item h e =
     let n = length-bits item.offset x in
     let end = end_sample-is x item h.index h.ends in
-    let all : take (h.index + 1) (bits item.offset x) ≡ bits item.offset x = take_all (h.index + 1) (bits item.offset x) (omega arith) in
+    let all : take (h.index + 1) (bits item.offset x) ≡ bits item.offset x =
+        take_all (h.index + 1) (bits item.offset x) (omega arith) in
     record {
       window = (h.index, sym e ∙ end);
       frame = subst (λ b. EndsFrame b item.octets) all h.ends.frame;
     }
 
 -- what a lane hears with the last of the samples is a candidate
-pub candidate_at_last : (x : List ℤ) (item : Candidate) → item.offset < 32 → end_sample item ≡ length x → EndsWith item.offset x item.octets → IsCandidate x item
+pub candidate_at_last : (x : List ℤ) (item : Candidate) → item.offset < 32 → end_sample item ≡ length x
+    → EndsWith item.offset x item.octets → IsCandidate x item
 candidate_at_last x item small e h =
     let n = length-bits item.offset x in
     let size = h.window.1 in
-    let all : take (h.window.0 + 1) (bits item.offset x) ≡ bits item.offset x = take_all (h.window.0 + 1) (bits item.offset x) (omega arith) in
+    let all : take (h.window.0 + 1) (bits item.offset x) ≡ bits item.offset x =
+        take_all (h.window.0 + 1) (bits item.offset x) (omega arith) in
     record {
       offset = small;
       index = h.window.0;
-      ends = record { within = omega arith; end_of = end_is item h.window.0 (e ∙ size); frame = subst (λ b. EndsFrame b item.octets) (sym all) h.frame };
+      ends = record { within = omega arith; end_of = end_is item h.window.0 (e ∙ size);
+          frame = subst (λ b. EndsFrame b item.octets) (sym all) h.frame };
     }
 
 -- no candidate ends after the samples
@@ -129,5 +143,6 @@ candidates_join position x y found more le h new =
           let b = new.each j d jl in
           let within = end_within x (get_or found i d) a.0 in
           let later = b.1 in
-          standing-rises (x ++ y) (get_or found i d) (get_or more j d) (candidate_more x y (get_or found i d) a.0) b.0 (omega arith));
+          standing-rises (x ++ y) (get_or found i d) (get_or more j d) (candidate_more x y (get_or found i d) a.0) b.0
+              (omega arith));
     }

@@ -1,5 +1,6 @@
 -- What is heard of one sample more.
-use Rattle.std.proofs.Common.{◌≡◌, ℕ, ◌+◌, ◌/◌, ◌<◌, ℤ, List, [], ◌∷◌, ◌++◌, Option, Some, None, length, ap, sym, ◌∙◌, arith, subst}
+use Rattle.std.proofs.Common.{◌≡◌, ℕ, ◌+◌, ◌/◌, ◌<◌, ℤ, List, [], ◌∷◌, ◌++◌, Option, Some, None, length, ap, sym, ◌∙◌,
+    arith, subst}
 use Rattle.std.specs.Option.{option_to_list}
 use Rattle.std.proofs.lemmas.List.{length_push}
 use Rattle.std.proofs.lemmas.List.Elements.{All-nil, All-cons}
@@ -11,7 +12,8 @@ use Rattle.hf_modem.specs.Candidates.{IsCandidate, AreCandidatesAfter, candidate
 use Rattle.hf_modem.specs.Heard.{IsHeard}
 use Rattle.hf_modem.proofs.CandidateLemmas.{candidate_at_last, ends_with_last, end_within, end_sample-is}
 
-module _ (offset : ℕ) (x : List ℤ) (sample : ℤ) (small : offset < 32) (window : EndsWindow offset (x ++ sample ∷ [])) where
+module _ (offset : ℕ) (x : List ℤ) (sample : ℤ) (small : offset < 32) (window : EndsWindow offset (x ++ sample ∷ []))
+    where
   abbrev pub all : List ℤ
   all = x ++ sample ∷ []
 
@@ -28,19 +30,22 @@ module _ (offset : ℕ) (x : List ℤ) (sample : ℤ) (small : offset < 32) (win
   ends_here : end_sample (candidate_at (length all) offset []) ≡ length all
   ends_here = let size = window.1 in omega arith
 
-  one_heard : (octets : List ℕ) → EndsFrame (bits offset all) octets → AreCandidatesAfter (length x) all (candidate_at (length all) offset octets ∷ [])
+  one_heard : (octets : List ℕ) → EndsFrame (bits offset all) octets
+      → AreCandidatesAfter (length x) all (candidate_at (length all) offset octets ∷ [])
   one_heard octets ends =
       let item : Candidate = candidate_at (length all) offset octets in
       let P : Candidate → Type 0 = λ i. IsCandidate all i × (length x < end_sample i) in
       let more : length all ≡ length x + 1 = length_push x sample in
       let here : end_sample item ≡ length all = ends_here in
       record {
-        each = All-cons P item [] (candidate_at_last all item small here (record { window = window; frame = ends }), omega arith) (All-nil P);
+        each = All-cons P item [] (candidate_at_last all item small here (record { window = window; frame = ends }),
+            omega arith) (All-nil P);
         whole = λ other c after.
             let within = end_within all other c in
             let last : end_sample other ≡ length all = omega arith in
             let there : other.offset ≡ offset = same_offset other c last in
-            let frame : EndsFrame (bits offset all) other.octets = subst (λ t. EndsFrame (bits t all) other.octets) there (ends_with_last all other c last).frame in
+            let frame : EndsFrame (bits offset all) other.octets =
+                subst (λ t. EndsFrame (bits t all) other.octets) there (ends_with_last all other c last).frame in
             let same : octets ≡ other.octets = (one_frame (bits offset all) octets other.octets ends frame).0 in
             let end : (length all) / 4 ≡ other.end = omega arith in
             let is : item ≡ other = ap (candidate_at (length all) offset) same
@@ -58,7 +63,8 @@ module _ (offset : ℕ) (x : List ℤ) (sample : ℤ) (small : offset < 32) (win
         whole = λ other c after.
             let within = end_within all other c in
             let last : end_sample other ≡ length all = omega arith in
-            absurd (never other.octets (subst (λ t. EndsFrame (bits t all) other.octets) (same_offset other c last) (ends_with_last all other c last).frame));
+            absurd (never other.octets (subst (λ t. EndsFrame (bits t all) other.octets) (same_offset other c last)
+                (ends_with_last all other c last).frame));
         order = λ i j d ij jl. absurd (omega arith);
       }
 
@@ -67,7 +73,8 @@ module _ (offset : ℕ) (x : List ℤ) (sample : ℤ) (small : offset < 32) (win
       → AreCandidatesAfter (length x) all (option_to_list heard)
   lane_hears at None is h = none_heard h
   lane_hears at (Some item) is h =
-      subst (λ i. AreCandidatesAfter (length x) all (i ∷ [])) (ap (λ n. candidate_at n offset h.0) (sym is) ∙ sym h.1) (one_heard h.0 h.2)
+      subst (λ i. AreCandidatesAfter (length x) all (i ∷ [])) (ap (λ n. candidate_at n offset h.0) (sym is) ∙ sym h.1)
+          (one_heard h.0 h.2)
 
 -- before the 32nd sample no window ends, and nothing is heard
 pub nothing_heard : (x : List ℤ) (sample : ℤ) → length x + 1 < 32 → AreCandidatesAfter (length x) (x ++ sample ∷ []) []
@@ -76,6 +83,7 @@ nothing_heard x sample few =
     let more : length all ≡ length x + 1 = length_push x sample in
     record {
       each = All-nil (λ i. IsCandidate all i × (length x < end_sample i));
-      whole = λ item c after. let within = end_within all item c in let end = end_sample-is all item c.index c.ends in absurd (omega arith);
+      whole = λ item c after. let within = end_within all item c in let end = end_sample-is all item c.index c.ends in
+          absurd (omega arith);
       order = λ i j d ij jl. absurd (omega arith);
     }

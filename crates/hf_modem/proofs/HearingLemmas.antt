@@ -1,5 +1,6 @@
 -- A block, sample by sample, and what a decoder has taken with it and at the end.
-use Rattle.std.proofs.Common.{◌≡◌, ℕ, ◌+◌, ◌/◌, ◌^◌, ◌<◌, ◌≤◌, ℤ, get_or, List, [], ◌∷◌, ◌++◌, length, replicate, ap, sym, ◌∙◌, arith, subst, append_assoc, length-append}
+use Rattle.std.proofs.Common.{◌≡◌, ℕ, ◌+◌, ◌/◌, ◌^◌, ◌<◌, ◌≤◌, ℤ, get_or, List, [], ◌∷◌, ◌++◌, length, replicate, ap,
+    sym, ◌∙◌, arith, subst, append_assoc, length-append}
 use Rattle.std.specs.List.{All}
 use Rattle.std.proofs.lemmas.List.{append-nil, length-replicate, get_or-replicate}
 use Rattle.frame_merge.specs.declared.candidate.Candidate.{Candidate}
@@ -18,7 +19,8 @@ use Rattle.hf_modem.proofs.MergedLemmas.{block_gives, end_gives}
 
 -- ---- samples
 
-pub heard_none : (bank : HeldBank) (merger : HeldMerger) (x : List ℤ) (puts given : List Candidate) → BankStandsFor bank x → MergerStandsFor merger puts given
+pub heard_none : (bank : HeldBank) (merger : HeldMerger) (x : List ℤ) (puts given : List Candidate)
+    → BankStandsFor bank x → MergerStandsFor merger puts given
     → HasHeard bank merger x [] puts given
 heard_none bank merger x puts given b m = record {
   samples = subst (BankStandsFor bank) (sym (append-nil x)) b;
@@ -27,9 +29,11 @@ heard_none bank merger x puts given b m = record {
   put = subst (λ ps. MergerStandsFor merger ps given) (sym (append-nil puts)) m;
 }
 
-pub heard_more : (bank next : HeldBank) (merger then : HeldMerger) (x block longer : List ℤ) (sample : ℤ) (puts given more : List Candidate)
+pub heard_more : (bank next : HeldBank) (merger then : HeldMerger) (x block longer : List ℤ) (sample : ℤ)
+    (puts given more : List Candidate)
     → HasHeard bank merger x block puts given → longer ≡ block ++ sample ∷ []
-    → ((y : List ℤ) → BankStandsFor bank y → BankStandsFor next (y ++ sample ∷ []) × AreCandidatesAfter (length y) (y ++ sample ∷ []) more)
+    → ((y : List ℤ) → BankStandsFor bank y → BankStandsFor next (y ++ sample ∷ [])
+        × AreCandidatesAfter (length y) (y ++ sample ∷ []) more)
     → ((ps gs : List Candidate) → MergerStandsFor merger ps gs → MergerStandsFor then (ps ++ more) gs)
     → HasHeard next then x longer puts given
 heard_more bank next merger then x block longer sample puts given more h is step put =
@@ -40,35 +44,42 @@ heard_more bank next merger then x block longer sample puts given more h is step
     record {
       samples = subst (BankStandsFor next) all both.0;
       found = h.found ++ more;
-      are = subst (λ xs. AreCandidatesAfter (length x) xs (h.found ++ more)) all (candidates_join (length x) y (sample ∷ []) h.found more (omega arith) h.are both.1);
-      put = subst (λ ps. MergerStandsFor then ps given) (append_assoc puts h.found more) (put (puts ++ h.found) given h.put);
+      are = subst (λ xs. AreCandidatesAfter (length x) xs (h.found ++ more)) all
+          (candidates_join (length x) y (sample ∷ []) h.found more (omega arith) h.are both.1);
+      put = subst (λ ps. MergerStandsFor then ps given) (append_assoc puts h.found more)
+          (put (puts ++ h.found) given h.put);
     }
 
 -- ---- a decoder
 
 -- marks that are all the same are at most what is no lower
-pub marks_rise : (marks : List ℕ) (low high : ℕ) → marks ≡ replicate 32 low → low ≤ high → All (λ mark. mark ≤ high) marks
+pub marks_rise : (marks : List ℕ) (low high : ℕ) → marks ≡ replicate 32 low → low ≤ high
+    → All (λ mark. mark ≤ high) marks
 marks_rise marks low high is le k d l =
     let size : length marks ≡ 32 = ap length is ∙ length-replicate 32 low in
     let at : get_or marks k d ≡ low = ap (λ ms. get_or ms k d) is ∙ get_or-replicate 32 k low d (omega arith) in
     omega (arith, at, le)
 
 -- nothing is taken
-pub taken_none : (bank : HeldBank) (merger : HeldMerger) → BankStandsFor bank [] → MergerStandsFor merger [] [] → HaveTaken bank merger []
+pub taken_none : (bank : HeldBank) (merger : HeldMerger) → BankStandsFor bank [] → MergerStandsFor merger [] []
+    → HaveTaken bank merger []
 taken_none bank merger b m = record { samples = b; candidates = []; are = candidates_none []; so_far = m }
 
 -- a block, and a merger that gives what is ready, with all lanes marked at a quarter of the number of samples
 module _ (x y : List ℤ) (old new : HeldBank) (was heard marked now : HeldMerger) (ready : List Candidate)
     (room : length (x ++ y) < 2 ^ 48)
-    (hears : (puts given : List Candidate) → BankStandsFor old x → MergerStandsFor was puts given → HasHeard new heard x y puts given)
+    (hears : (puts given : List Candidate) → BankStandsFor old x → MergerStandsFor was puts given
+        → HasHeard new heard x y puts given)
     (marking : (puts given : List Candidate) → MergerStandsFor heard puts given → MergerStandsFor marked puts given)
     (marks : marked.marks ≡ replicate 32 (length (x ++ y) / 4))
     (gives : (puts given : List Candidate) → MergerStandsFor marked puts given
-    → MergerStandsFor now puts (given ++ ready) × (given ++ ready ≡ below (least marked.marks) (merged (in_order puts)))) where
+    → MergerStandsFor now puts (given ++ ready)
+        × (given ++ ready ≡ below (least marked.marks) (merged (in_order puts)))) where
   at : least marked.marks ≡ length (x ++ y) / 4
   at = ap least marks ∙ least-one 31 (length (x ++ y) / 4) (omega arith)
 
-  pub taken_more : HaveTaken old was x → HaveTaken new now (x ++ y) × AreMergedBetween (length x / 4) (length (x ++ y) / 4) (x ++ y) ready
+  pub taken_more : HaveTaken old was x → HaveTaken new now (x ++ y)
+      × AreMergedBetween (length x / 4) (length (x ++ y) / 4) (x ++ y) ready
   taken_more h =
       let given : List Candidate = below (length x / 4) (merged h.candidates) in
       let has = hears h.candidates given h.samples h.so_far in
@@ -77,7 +88,8 @@ module _ (x y : List ℤ) (old new : HeldBank) (was heard marked now : HeldMerge
       let ordered : in_order all ≡ all = in_order-strictly all are.order in
       let step = gives all given (marking all given has.put) in
       let total : given ++ ready ≡ below (length (x ++ y) / 4) (merged all)
-      = step.1 ∙ ap (λ t. below t (merged (in_order all))) at ∙ ap (λ t. below (length (x ++ y) / 4) (merged t)) ordered in (
+      = step.1 ∙ ap (λ t. below t (merged (in_order all))) at
+          ∙ ap (λ t. below (length (x ++ y) / 4) (merged t)) ordered in (
         record {
           samples = has.samples;
           candidates = all;
@@ -94,4 +106,5 @@ pub gives_rest : (x : List ℤ) (bank : HeldBank) (was marked : HeldMerger) (res
     → AreMergedBetween (length x / 4) (length x / 4 + 1) x rest
 gives_rest x bank was marked rest h puts last =
     let given : List Candidate = below (length x / 4) (merged h.candidates) in
-    end_gives x h.candidates rest h.are (last h.candidates given (puts h.candidates given h.so_far) ∙ ap merged (in_order-strictly h.candidates h.are.order))
+    end_gives x h.candidates rest h.are (last h.candidates given (puts h.candidates given h.so_far)
+        ∙ ap merged (in_order-strictly h.candidates h.are.order))

@@ -1,9 +1,12 @@
 -- What one sample more changes: the window that ends with it, and the tones and bits of an offset.
-use Rattle.std.proofs.Common.{◌≡◌, ◌↔◌, ◌⊎◌, inl, inr, ℕ, ◌+◌, ◌-◌, ◌*◌, ◌/◌, ◌%◌, ◌<◌, ◌≤◌, ℤ, pos, List, [], ◌∷◌, ◌++◌, Bool, true, length, map, take, drop, set, nat_eq, ap, sym, ◌∙◌, arith, length-append, length-drop, append_assoc}
+use Rattle.std.proofs.Common.{◌≡◌, ◌↔◌, ◌⊎◌, inl, inr, ℕ, ◌+◌, ◌-◌, ◌*◌, ◌/◌, ◌%◌, ◌<◌, ◌≤◌, ℤ, pos, List, [], ◌∷◌,
+    ◌++◌, Bool, true, length, map, take, drop, set, nat_eq, ap, sym, ◌∙◌, arith, length-append, length-drop,
+    append_assoc}
 use Rattle.std.specs.List.{copy_within}
 use Rattle.std.proofs.Math.Seq.{drop-append-add}
 use Rattle.std.proofs.lemmas.Bool.{cases_eq, eq-eqb, eqb-true}
-use Rattle.std.proofs.lemmas.List.{drop-append-le, drop-drop, take_all, take_more_set, length-set, length_push, length-replicate, append-nil}
+use Rattle.std.proofs.lemmas.List.{drop-append-le, drop-drop, take_all, take_more_set, length-set, length_push,
+    length-replicate, append-nil}
 use Rattle.std.proofs.lemmas.List.Edits.{take-paste}
 use Rattle.std.proofs.lemmas.List.FromFn.{take-map-range_with_len, map-range_with_len_more}
 use Rattle.std.specs.List.{range_with_len}
@@ -17,10 +20,12 @@ use Rattle.hf_modem.proofs.WindowLemmas.{length-tones_at, tones_at-append}
 -- ---- the last 32 samples
 
 pub length-last_window : (x : List ℤ) → length (last_window x) ≡ 32
-length-last_window x = omega (arith, length-drop (length x) (silence ++ x), length-append silence x, length-replicate 32 (pos 0))
+length-last_window x = omega (arith, length-drop (length x) (silence ++ x), length-append silence x,
+    length-replicate 32 (pos 0))
 
 -- with one sample more
-pub last_window-push : (x : List ℤ) (sample : ℤ) → last_window (x ++ sample ∷ []) ≡ drop 1 (last_window x) ++ sample ∷ []
+pub last_window-push : (x : List ℤ) (sample : ℤ) → last_window (x ++ sample ∷ [])
+    ≡ drop 1 (last_window x) ++ sample ∷ []
 last_window-push x sample =
     let inside : length x ≤ length (silence ++ x) = omega (arith, length-append silence x) in
     let some : 1 ≤ length (last_window x) = omega (arith, length-last_window x) in
@@ -37,7 +42,8 @@ last_window_whole x enough =
     ap (λ n. drop n (silence ++ x)) at ∙ drop-append-add silence x (length x - 32)
 
 -- 32 samples of which the first has gone and a new one has come
-pub shifted : (window moved : List ℤ) (sample : ℤ) → length window ≡ 32 → length moved ≡ length window → moved ≡ copy_within window 1 32 0
+pub shifted : (window moved : List ℤ) (sample : ℤ) → length window ≡ 32 → length moved ≡ length window
+    → moved ≡ copy_within window 1 32 0
     → set moved 31 sample ≡ drop 1 window ++ sample ∷ []
 shifted window moved sample whole same is =
     let rest : length (drop 1 window) ≡ 31 = omega (arith, length-drop 1 window) in
@@ -51,15 +57,18 @@ shifted window moved sample whole same is =
 -- ---- tones
 
 -- a sample that ends no window adds no tone
-pub tones_at-push_none : (offset : ℕ) (x : List ℤ) (sample : ℤ) → windows_in offset (length x + 1) ≡ windows_in offset (length x)
+pub tones_at-push_none : (offset : ℕ) (x : List ℤ) (sample : ℤ)
+    → windows_in offset (length x + 1) ≡ windows_in offset (length x)
     → tones_at offset (x ++ sample ∷ []) ≡ tones_at offset x
 tones_at-push_none offset x sample none =
     let count : length (tones_at offset (x ++ sample ∷ [])) ≡ windows_in offset (length x)
     = length-tones_at offset (x ++ sample ∷ []) ∙ ap (windows_in offset) (length_push x sample) ∙ none in
-    sym (tones_at-append offset x (sample ∷ []) ∙ take_all (windows_in offset (length x)) (tones_at offset (x ++ sample ∷ [])) (omega arith))
+    sym (tones_at-append offset x (sample ∷ []) ∙ take_all (windows_in offset (length x))
+        (tones_at offset (x ++ sample ∷ [])) (omega arith))
 
 -- a sample that ends a window adds the tone of that window
-pub tones_at-push_one : (offset : ℕ) (x : List ℤ) (sample : ℤ) → windows_in offset (length x + 1) ≡ windows_in offset (length x) + 1
+pub tones_at-push_one : (offset : ℕ) (x : List ℤ) (sample : ℤ)
+    → windows_in offset (length x + 1) ≡ windows_in offset (length x) + 1
     → tones_at offset (x ++ sample ∷ [])
     ≡ tones_at offset x ++ tone_of (window_at offset (x ++ sample ∷ []) (windows_in offset (length x))) ∷ []
 unfolding tones_at
@@ -72,7 +81,8 @@ tones_at-push_one offset x sample one =
     ap (λ m. map tone (range_with_len 0 m)) count
     ∙ map-range_with_len_more tone 0 n n (omega arith)
     ∙ ap (λ tones. tones ++ tone n ∷ [])
-    (sym (take-map-range_with_len tone 0 (windows_in offset (length all)) n fits) ∙ sym (tones_at-append offset x (sample ∷ [])))
+    (sym (take-map-range_with_len tone 0 (windows_in offset (length all)) n fits)
+        ∙ sym (tones_at-append offset x (sample ∷ [])))
 
 -- ---- where a window of an offset ends
 
@@ -129,7 +139,8 @@ unfolding bits
 bits-push_none offset x sample none = ap bits_of none ∙ sym (append-nil (bits_of (tones_at offset x)))
 
 -- a sample that ends a window adds the bit of its tone
-pub bits-push_one : (offset : ℕ) (x : List ℤ) (sample : ℤ) (tone : Tone) (bit : Bool) → tones_at offset (x ++ sample ∷ []) ≡ tones_at offset x ++ tone ∷ []
+pub bits-push_one : (offset : ℕ) (x : List ℤ) (sample : ℤ) (tone : Tone) (bit : Bool)
+    → tones_at offset (x ++ sample ∷ []) ≡ tones_at offset x ++ tone ∷ []
     → bits_of (tones_at offset x ++ tone ∷ []) ≡ bits_of (tones_at offset x) ++ bit ∷ []
     → bits offset (x ++ sample ∷ []) ≡ bits offset x ++ bit ∷ []
 unfolding bits

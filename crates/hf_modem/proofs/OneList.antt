@@ -4,7 +4,8 @@ use Rattle.frame_merge.specs.declared.candidate.Candidate.{Candidate}
 use Rattle.slicer_bank.proofs.OneList.{same_list}
 use Rattle.hf_modem.specs.Candidates.{AreCandidates}
 
-pub one_list : (x : List ℤ) (items others : List Candidate) → AreCandidates x items → AreCandidates x others → items ≡ others
+pub one_list : (x : List ℤ) (items others : List Candidate) → AreCandidates x items → AreCandidates x others
+    → items ≡ others
 one_list x items others a b =
     same_list items others a.order b.order
     (λ k d l. let e = a.each k d l in b.whole (get_or items k d) e.0 e.1)

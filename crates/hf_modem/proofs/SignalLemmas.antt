@@ -13,6 +13,7 @@ pub hf_signal-one : (level : ℕ) (t : Transmission) → hf_signal level (t ∷ 
 unfolding hf_signal
 hf_signal-one level t = append-nil (hf_samples_of level t)
 
-pub hf_signal-append : (level : ℕ) (ts us : List Transmission) → hf_signal level (ts ++ us) ≡ hf_signal level ts ++ hf_signal level us
+pub hf_signal-append : (level : ℕ) (ts us : List Transmission)
+    → hf_signal level (ts ++ us) ≡ hf_signal level ts ++ hf_signal level us
 unfolding hf_signal
 hf_signal-append level ts us = flat_map-append (hf_samples_of level) ts us

@@ -1,5 +1,6 @@
 -- Samples have a list of candidates: it is found sample by sample.
-use Rattle.std.proofs.Common.{ℕ, ◌+◌, ◌-◌, ◌/◌, ◌%◌, ◌<◌, ◌≤◌, ℤ, List, [], ◌∷◌, ◌++◌, Some, None, length, inl, inr, refl, subst, sym, arith, append_assoc}
+use Rattle.std.proofs.Common.{ℕ, ◌+◌, ◌-◌, ◌/◌, ◌%◌, ◌<◌, ◌≤◌, ℤ, List, [], ◌∷◌, ◌++◌, Some, None, length, inl, inr,
+    refl, subst, sym, arith, append_assoc}
 use Rattle.std.proofs.lemmas.Bool.{cases_lt}
 use Rattle.std.proofs.lemmas.List.{append-nil, length_push}
 use Rattle.slicer_bank.proofs.FrameDecided.{frame_or_none}
@@ -14,7 +15,8 @@ pub window_ends : (x : List ℤ) (sample : ℤ) → 32 ≤ length x + 1 → Ends
 window_ends x sample enough = ((length x + 1) / 32 - 1, let more = length_push x sample in omega arith)
 
 -- what is heard with one sample more
-heard_with : (x : List ℤ) (sample : ℤ) → (heard : List Candidate) × AreCandidatesAfter (length x) (x ++ sample ∷ []) heard
+heard_with : (x : List ℤ) (sample : ℤ) → (heard : List Candidate)
+    × AreCandidatesAfter (length x) (x ++ sample ∷ []) heard
 heard_with x sample = elim (cases_lt (length x + 1) 32) [
   | inl few ↦ ([], nothing_heard x sample few)
   | inr enough ↦
@@ -25,14 +27,16 @@ heard_with x sample = elim (cases_lt (length x + 1) 32) [
       elim (frame_or_none (bits offset all)) [
         | inl frame ↦ (
           candidate_at (length all) offset frame.0 ∷ [],
-          lane_hears offset x sample small window (length all) (Some (candidate_at (length all) offset frame.0)) refl (frame.0, refl, frame.1),
+          lane_hears offset x sample small window (length all) (Some (candidate_at (length all) offset frame.0)) refl
+              (frame.0, refl, frame.1),
         )
         | inr none ↦ ([], lane_hears offset x sample small window (length all) None refl none)
       ]
 ]
 
 -- with more samples there is a list if there was one
-more_candidates : (x y : List ℤ) (items : List Candidate) → AreCandidates x items → (all : List Candidate) × AreCandidates (x ++ y) all
+more_candidates : (x y : List ℤ) (items : List Candidate) → AreCandidates x items
+    → (all : List Candidate) × AreCandidates (x ++ y) all
 more_candidates x [] items are = (items, subst (λ xs. AreCandidates xs items) (sym (append-nil x)) are)
 more_candidates x (sample ∷ y) items are =
     let heard = heard_with x sample in

@@ -1,8 +1,11 @@
 -- The windows, tones and bits of samples that are put together and cut.
-use Rattle.std.proofs.Common.{◌≡◌, ℕ, zero, suc, ◌+◌, ◌*◌, ◌≤◌, ℤ, List, [], ◌∷◌, ◌++◌, length, map, take, drop, refl, ap, sym, ◌∙◌, arith, length-append, length-drop}
+use Rattle.std.proofs.Common.{◌≡◌, ℕ, zero, suc, ◌+◌, ◌*◌, ◌≤◌, ℤ, List, [], ◌∷◌, ◌++◌, length, map, take, drop, refl,
+    ap, sym, ◌∙◌, arith, length-append, length-drop}
 use Rattle.std.proofs.Math.Seq.{drop-append-add}
-use Rattle.std.proofs.lemmas.List.{take-append-le, drop-append-le, take-append-drop, length-take-le, append-nil, append_assoc}
-use Rattle.std.proofs.lemmas.List.FromFn.{length-map-range_with_len, get_or-map-range_with_len, take-map-range_with_len, map-range_with_len_more, fill_by_all}
+use Rattle.std.proofs.lemmas.List.{take-append-le, drop-append-le, take-append-drop, length-take-le, append-nil,
+    append_assoc}
+use Rattle.std.proofs.lemmas.List.FromFn.{length-map-range_with_len, get_or-map-range_with_len, take-map-range_with_len,
+    map-range_with_len_more, fill_by_all}
 use Rattle.std.specs.List.{range_with_len}
 use Rattle.tone_table.specs.declared.tone.Tone.{Tone}
 use Rattle.tone_table.specs.declared.tone.Tone.TheVariants.{Mark}
@@ -22,7 +25,8 @@ window_at-append offset x y k inside =
 
 pub length-tones_at : (offset : ℕ) (x : List ℤ) → length (tones_at offset x) ≡ windows_in offset (length x)
 unfolding tones_at
-length-tones_at offset x = length-map-range_with_len (λ k. tone_of (window_at offset x k)) 0 (windows_in offset (length x))
+length-tones_at offset x = length-map-range_with_len (λ k. tone_of (window_at offset x k)) 0
+    (windows_in offset (length x))
 
 -- the tones of the first samples are the first of the tones
 pub tones_at-append : (offset : ℕ) (x y : List ℤ)
@@ -43,12 +47,15 @@ unfolding bits
 length-bits offset x = length-bits_from Mark (tones_at offset x) ∙ length-tones_at offset x
 
 -- the bits of the first samples are the first of the bits
-pub bits-append : (offset : ℕ) (x y : List ℤ) → bits offset x ≡ take (windows_in offset (length x)) (bits offset (x ++ y))
+pub bits-append : (offset : ℕ) (x y : List ℤ) → bits offset x
+    ≡ take (windows_in offset (length x)) (bits offset (x ++ y))
 unfolding bits
 bits-append offset x y =
-    ap bits_of (tones_at-append offset x y) ∙ bits_from-take (windows_in offset (length x)) Mark (tones_at offset (x ++ y))
+    ap bits_of (tones_at-append offset x y) ∙ bits_from-take (windows_in offset (length x)) Mark
+        (tones_at offset (x ++ y))
 
-pub bits-take : (offset : ℕ) (x : List ℤ) (n : ℕ) → n ≤ length x → bits offset (take n x) ≡ take (windows_in offset n) (bits offset x)
+pub bits-take : (offset : ℕ) (x : List ℤ) (n : ℕ) → n ≤ length x
+    → bits offset (take n x) ≡ take (windows_in offset n) (bits offset x)
 bits-take offset x n inside =
     bits-append offset (take n x) (drop n x)
     ∙ ap (λ count. take (windows_in offset count) (bits offset (take n x ++ drop n x))) (length-take-le n x inside)

@@ -1,5 +1,7 @@
--- The candidates of samples: every frame that the slicer at one of the 32 offsets of a bit hears, with where it ends. A bit
--- has four times the samples of one at 1200 bits a second, so an end counts fours of samples, rounded down: then slicers
+-- The candidates of samples: every frame that the slicer at one of the 32 offsets of a bit hears, with where it ends. A
+-- bit
+-- has four times the samples of one at 1200 bits a second, so an end counts fours of samples, rounded down: then
+-- slicers
 -- that hear one frame do so at ends within 15, as at 1200 bits a second.
 use Rattle.std.specs.Prelude.{◌≡◌, ℕ, ◌+◌, ◌*◌, ◌/◌, ◌%◌, ◌<◌, ℤ, List, length, take}
 use Rattle.std.specs.List.{All, AllPairs, Contains}
@@ -8,7 +10,8 @@ use Rattle.frame_merge.specs.declared.candidate.Candidate.{Candidate}
 use Rattle.frame_merge.specs.Order.{standing}
 use Rattle.hf_modem.specs.Windows.{bits, EndsWindow}
 
--- a frame ends at bit `index` of the bits at the item's offset, and the item's end is a quarter of the place of the first
+-- a frame ends at bit `index` of the bits at the item's offset, and the item's end is a quarter of the place of the
+-- first
 -- sample after that bit's window, rounded down
 pub record EndsAtBit (x : List ℤ) (item : Candidate) (index : ℕ) : Type 0 where
   pub within : index < length (bits item.offset x)
@@ -21,7 +24,8 @@ pub record IsCandidate (x : List ℤ) (item : Candidate) : Type 0 where
   pub index : ℕ
   pub ends : EndsAtBit x item index
 
--- the first sample after the last window of an item: its windows begin at all places that are its offset modulo 32, so the
+-- the first sample after the last window of an item: its windows begin at all places that are its offset modulo 32, so
+-- the
 -- rest that rounding took away is that of its offset
 abbrev pub end_sample : Candidate → ℕ
 end_sample item = 4 * item.end + item.offset % 4

@@ -12,7 +12,8 @@ IsHeard offset at bits None = (octets : List ℕ) → ¬ EndsFrame bits octets
 IsHeard offset at bits (Some item) = (octets : List ℕ) × (item ≡ candidate_at at offset octets) × EndsFrame bits octets
 
 -- the bank has taken a block after these samples, and what it heard in it was put into the merger
-pub record HasHeard (bank : HeldBank) (merger : HeldMerger) (x block : List ℤ) (puts given : List Candidate) : Type 0 where
+pub record HasHeard (bank : HeldBank) (merger : HeldMerger) (x block : List ℤ) (puts given : List Candidate)
+    : Type 0 where
   pub samples : BankStandsFor bank (x ++ block)
   pub found : List Candidate
   pub are : AreCandidatesAfter (length x) (x ++ block) found

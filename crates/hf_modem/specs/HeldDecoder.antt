@@ -18,7 +18,8 @@ pub record CanBePut (item : Candidate) : Type 0 where
   pub lane : item.offset < 32
   pub end : item.end < 2 ^ 64 - 1
 
--- The bank has taken these samples, and the merger their candidates, of which it has given those whose end is below a quarter
+-- The bank has taken these samples, and the merger their candidates, of which it has given those whose end is below a
+-- quarter
 -- of their number, rounded down.
 pub record HaveTaken (bank : HeldBank) (merger : HeldMerger) (x : List ℤ) : Type 0 where
   pub samples : BankStandsFor bank x

@@ -1,5 +1,6 @@
 -- How far apart true ends are, and with which frames they are.
-use Rattle.std.proofs.Common.{◌≡◌, ℕ, zero, suc, ◌+◌, ◌*◌, ◌≤◌, Bool, true, false, List, [], ◌∷◌, ◌++◌, length, map, refl, ap, sym, ◌∙◌, arith, length-append}
+use Rattle.std.proofs.Common.{◌≡◌, ℕ, zero, suc, ◌+◌, ◌*◌, ◌≤◌, Bool, true, false, List, [], ◌∷◌, ◌++◌, length, map,
+    refl, ap, sym, ◌∙◌, arith, length-append}
 use Rattle.std.specs.List.{AllByRecursion}
 use Rattle.std.proofs.lemmas.List.{map-append}
 use Rattle.std.proofs.lemmas.List.Concat.{flat_map-cons}
@@ -39,25 +40,31 @@ abbrev pub Spaced : ℕ → List TrueEnd → Type 0
 Spaced place [] = Unit {0}
 Spaced place (e ∷ ends) = (place + 4608 ≤ e.end) × Spaced e.end ends
 
-spaced_frames : (frames : List (List ℕ)) (begin place : ℕ) (rest : List TrueEnd) → place ≤ begin → AllByRecursion IsFrame frames
-    → ((n : ℕ) → n ≤ begin + 32 * length (closed frames) → Spaced n rest) → Spaced place (ends_from begin frames ++ rest)
+spaced_frames : (frames : List (List ℕ)) (begin place : ℕ) (rest : List TrueEnd) → place ≤ begin
+    → AllByRecursion IsFrame frames
+    → ((n : ℕ) → n ≤ begin + 32 * length (closed frames) → Spaced n rest)
+        → Spaced place (ends_from begin frames ++ rest)
 spaced_frames [] begin place rest le fits follow = follow place (omega arith)
 spaced_frames (octets ∷ frames) begin place rest le fits follow =
     let size = length-append (frame_bits octets) flag in
     let all = length-append (frame_bits octets) (flag ++ closed frames) in
     let many = length-frame_bits octets fits.0 in (
       omega arith,
-      spaced_frames frames (end_of begin octets) (end_of begin octets) rest (omega arith) fits.1 (λ n l. follow n (omega arith)),
+      spaced_frames frames (end_of begin octets) (end_of begin octets) rest (omega arith) fits.1
+          (λ n l. follow n (omega arith)),
     )
 
-pub spaced : (transmissions : List Transmission) (begin place : ℕ) → place ≤ begin → AllByRecursion IsTransmission transmissions
+pub spaced : (transmissions : List Transmission) (begin place : ℕ) → place ≤ begin
+    → AllByRecursion IsTransmission transmissions
     → Spaced place (true_ends_from begin transmissions)
 spaced [] begin place le fits = tt
 spaced (t ∷ transmissions) begin place le fits =
     let good : IsTransmission t = fits.0 in
     let body = length-body t.frames t.opening t.closing good.closing in
-    spaced_frames t.frames (begin + t.silence + 256 * t.opening) place (true_ends_from (begin + sample_count t) transmissions) (omega arith)
-    (recursion_from_All IsFrame t.frames good.frames) (λ n l. spaced transmissions (begin + sample_count t) n (omega arith) fits.1)
+    spaced_frames t.frames (begin + t.silence + 256 * t.opening) place
+        (true_ends_from (begin + sample_count t) transmissions) (omega arith)
+    (recursion_from_All IsFrame t.frames good.frames)
+        (λ n l. spaced transmissions (begin + sample_count t) n (omega arith) fits.1)
 
 -- ---- with which frames
 
@@ -65,10 +72,12 @@ octets-ends_from : (frames : List (List ℕ)) (begin : ℕ) → map (λ e. e.oct
 octets-ends_from [] begin = refl
 octets-ends_from (octets ∷ frames) begin = ap (λ os. octets ∷ os) (octets-ends_from frames (end_of begin octets))
 
-pub octets-true_ends_from : (transmissions : List Transmission) (begin : ℕ) → map (λ e. e.octets) (true_ends_from begin transmissions) ≡ frames_of transmissions
+pub octets-true_ends_from : (transmissions : List Transmission) (begin : ℕ)
+    → map (λ e. e.octets) (true_ends_from begin transmissions) ≡ frames_of transmissions
 octets-true_ends_from [] begin = refl
 octets-true_ends_from (t ∷ transmissions) begin =
     map-append (λ e. e.octets) (ends_of begin t) (true_ends_from (begin + sample_count t) transmissions)
-    ∙ ap (λ os. os ++ map (λ e. e.octets) (true_ends_from (begin + sample_count t) transmissions)) (octets-ends_from t.frames (begin + t.silence + 256 * t.opening))
+    ∙ ap (λ os. os ++ map (λ e. e.octets) (true_ends_from (begin + sample_count t) transmissions))
+        (octets-ends_from t.frames (begin + t.silence + 256 * t.opening))
     ∙ ap (λ os. t.frames ++ os) (octets-true_ends_from transmissions (begin + sample_count t))
     ∙ sym (flat_map-cons (λ t. t.frames) t transmissions)

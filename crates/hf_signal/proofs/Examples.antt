@@ -19,11 +19,13 @@ shortest = 0x9C ∷ 0x94 ∷ 0x6E ∷ 0xA0 ∷ 0x40 ∷ 0x40 ∷ 0xE0 ∷ 0x9C �
 -- its first samples at level 10000, those of a space from phase 0 on
 first_samples : take 8 (hf_transmission 10000 (shortest ∷ []) 2 1)
     ≡ pos 0 ∷ pos 9239 ∷ pos 7071 ∷ negsuc 3826 ∷ negsuc 9999 ∷ negsuc 3826 ∷ pos 7071 ∷ pos 9239 ∷ []
-unfolding fcs_of octet_bits with_fcs frame_bits body hf_transmission at_level sample_at pure_window wave_sample cycle_sample half_wave quarter
+unfolding fcs_of octet_bits with_fcs frame_bits body hf_transmission at_level sample_at pure_window wave_sample
+    cycle_sample half_wave quarter
 first_samples = refl
 
 -- between two flags and one it is 162 bits, of 32 samples each, and its flag ends with the last of them
-shortest_end : true_ends (record { silence = 0; frames = shortest ∷ []; opening = 2; closing = 1 } ∷ []) ≡ record { end = 5184; octets = shortest } ∷ []
+shortest_end : true_ends (record { silence = 0; frames = shortest ∷ []; opening = 2; closing = 1 } ∷ [])
+    ≡ record { end = 5184; octets = shortest } ∷ []
 unfolding fcs_of octet_bits with_fcs frame_bits body
 shortest_end = refl
 

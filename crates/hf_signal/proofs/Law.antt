@@ -1,5 +1,7 @@
--- The law of signals near a clean one: from the candidates of the samples to clusters of them, and from there to the frames.
-use Rattle.std.proofs.Common.{◌≡◌, ℕ, zero, suc, ◌+◌, ◌-◌, ◌/◌, ◌<◌, ℤ, true, List, [], ◌∷◌, get_or, map, refl, ap, sym, subst, ◌∙◌, arith, inl, inr}
+-- The law of signals near a clean one: from the candidates of the samples to clusters of them, and from there to the
+-- frames.
+use Rattle.std.proofs.Common.{◌≡◌, ℕ, zero, suc, ◌+◌, ◌-◌, ◌/◌, ◌<◌, ℤ, true, List, [], ◌∷◌, get_or, map, refl, ap, sym,
+    subst, ◌∙◌, arith, inl, inr}
 use Rattle.std.specs.Prelude.{nat_lt, ◌&&◌}
 use Rattle.std.specs.List.{All, AllPairs, AllByRecursion, Contains}
 use Rattle.std.specs.Str.{bytes_eq}
@@ -41,7 +43,8 @@ apart (e ∷ ends) place spaces =
 
 is_in : (item : Candidate) (e : TrueEnd) → is_of item e ≡ true → IsIn (cluster_of e) item
 is_in item e is =
-    let parts = and_parts (bytes_eq item.octets e.octets) (nat_lt (end_sample item) (e.end + 30) && nat_lt e.end (end_sample item + 30)) is in
+    let parts = and_parts (bytes_eq item.octets e.octets)
+        (nat_lt (end_sample item) (e.end + 30) && nat_lt e.end (end_sample item + 30)) is in
     let near = and_parts (nat_lt (end_sample item) (e.end + 30)) (nat_lt e.end (end_sample item + 30)) parts.1 in
     let soon : end_sample item < e.end + 30 = ltb-true (end_sample item) (e.end + 30) near.0 in
     let late : e.end < end_sample item + 30 = ltb-true e.end (end_sample item + 30) near.1 in
@@ -50,11 +53,14 @@ is_in item e is =
 in_one : (item : Candidate) (ends : List TrueEnd) → is_sent ends item ≡ true → IsInOne (map cluster_of ends) item
 in_one item [] is = cc
 in_one item (e ∷ ends) is =
-    elim (or_cases (is_of item e) (is_sent ends item) is) [ inl here ↦ inl (is_in item e here) | inr later ↦ inr (in_one item ends later) ]
+    elim (or_cases (is_of item e) (is_sent ends item) is)
+        [ inl here ↦ inl (is_in item e here) | inr later ↦ inr (in_one item ends later) ]
 
-all_known : (items : List Candidate) (place : ℕ) (cs : List Cluster) → All (λ item. IsInOne cs item) items → Known [] place cs items
+all_known : (items : List Candidate) (place : ℕ) (cs : List Cluster) → All (λ item. IsInOne cs item) items
+    → Known [] place cs items
 all_known [] place cs all = tt
-all_known (item ∷ items) place cs all = (inr (All-head (λ i. IsInOne cs i) item items all), all_known items place cs (All-tail (λ i. IsInOne cs i) item items all))
+all_known (item ∷ items) place cs all = (inr (All-head (λ i. IsInOne cs i) item items all),
+    all_known items place cs (All-tail (λ i. IsInOne cs i) item items all))
 
 -- ---- each cluster has a candidate
 
@@ -63,13 +69,15 @@ has_one [] c item is (k, within, there) = absurd (omega arith)
 has_one (first ∷ items) c item is (zero, within, there) = inl (subst (IsIn c) (sym there) is)
 has_one (first ∷ items) c item is (suc k, within, there) = inr (has_one items c item is (k, omega arith, there))
 
-all_have_one : (x : List ℤ) (items : List Candidate) (ends : List TrueEnd) → AreCandidates x items → AllByRecursion (IsFound x) ends
+all_have_one : (x : List ℤ) (items : List Candidate) (ends : List TrueEnd) → AreCandidates x items
+    → AllByRecursion (IsFound x) ends
     → AllByRecursion (HasOne items) (map cluster_of ends)
 all_have_one x items [] are found = tt
 all_have_one x items (e ∷ ends) are ((offset, is), others) =
     let item : Candidate = candidate_at e.end offset e.octets in
     let positive : 0 < end_sample item = omega (arith, end_sample-is x item is.index is.ends) in (
-      has_one items (cluster_of e) item (record { octets = refl; low = omega arith; high = omega arith }) (are.whole item is positive),
+      has_one items (cluster_of e) item (record { octets = refl; low = omega arith; high = omega arith })
+          (are.whole item is positive),
       all_have_one x items ends are others,
     )
 
@@ -82,10 +90,12 @@ rising_after item (next ∷ items) order small =
     let less = order 0 1 item (omega arith) (omega arith) in
     let low = small 1 item (omega arith) in (
       omega arith,
-      rising_after next items (λ i j d ij jl. order (suc i) (suc j) d (omega arith) (omega arith)) (All-tail (λ a. a.offset < 32) item (next ∷ items) small),
+      rising_after next items (λ i j d ij jl. order (suc i) (suc j) d (omega arith) (omega arith))
+          (All-tail (λ a. a.offset < 32) item (next ∷ items) small),
     )
 
-rising : (items : List Candidate) → AllPairs (λ a b. standing a < standing b) items → All (λ a. a.offset < 32) items → Rising 0 items
+rising : (items : List Candidate) → AllPairs (λ a b. standing a < standing b) items → All (λ a. a.offset < 32) items
+    → Rising 0 items
 rising [] order small = tt
 rising (item ∷ items) order small = (omega arith, rising_after item items order small)
 
@@ -95,17 +105,20 @@ octets-clusters : (ends : List TrueEnd) → map (λ c. c.octets) (map cluster_of
 octets-clusters [] = refl
 octets-clusters (e ∷ ends) = ap (λ os. e.octets ∷ os) (octets-clusters ends)
 
-pub all_transmissions : (received : List Received) → AllByRecursion IsReceived received → All IsTransmission (transmissions_of received)
+pub all_transmissions : (received : List Received) → AllByRecursion IsReceived received
+    → All IsTransmission (transmissions_of received)
 all_transmissions [] good k d l = absurd (omega arith)
 all_transmissions (r ∷ received) good zero d l = good.0.transmission
 all_transmissions (r ∷ received) good (suc k) d l = all_transmissions received good.1 k d (omega arith)
 
 -- carried transmissions without a stray give their frames
-pub carried_law : (sent : List Transmission) (x : List ℤ) → All IsTransmission sent → CarriesAll sent x → NoStray sent x → MergesTo (frames_of sent) x
+pub carried_law : (sent : List Transmission) (x : List ℤ) → All IsTransmission sent → CarriesAll sent x → NoStray sent x
+    → MergesTo (frames_of sent) x
 carried_law sent x good carries no_stray items are =
     let fits : AllByRecursion IsTransmission sent = recursion_from_All IsTransmission sent good in
     let cs : List Cluster = map cluster_of (true_ends sent) in
-    let known : All (λ item. IsInOne cs item) items = λ k d l. in_one (get_or items k d) (true_ends sent) (no_stray (get_or items k d) (are.each k d l).0) in
+    let known : All (λ item. IsInOne cs item) items = λ k d l. in_one (get_or items k d) (true_ends sent)
+        (no_stray (get_or items k d) (are.each k d l).0) in
     let small : All (λ item. item.offset < 32) items = λ k d l. (are.each k d l).0.offset in
     merge_keeps items [] 7 0 cs tt (rising items are.order small) (all_known items 7 cs known)
     (apart (true_ends sent) 0 (spaced sent 0 0 (omega arith) fits))
@@ -113,20 +126,26 @@ carried_law sent x good carries no_stray items are =
     ∙ octets-clusters (true_ends sent) ∙ octets-true_ends_from sent 0
 
 -- so do samples near them
-pub near_law : (received : List Received) (x : List ℤ) → All IsReceived received → IsNearAll received x → NoStray (transmissions_of received) x
+pub near_law : (received : List Received) (x : List ℤ) → All IsReceived received → IsNearAll received x
+    → NoStray (transmissions_of received) x
     → MergesTo (frames_of (transmissions_of received)) x
 near_law received x good near no_stray =
     let fits : AllByRecursion IsReceived received = recursion_from_All IsReceived received good in
-    carried_law (transmissions_of received) x (all_transmissions received fits) (near_carries received x fits near) no_stray
+    carried_law (transmissions_of received) x (all_transmissions received fits) (near_carries received x fits near)
+        no_stray
 
 -- so does what is sent at a level
-pub level_law : (level : ℕ) (sent : List Transmission) → IsLevel level → All IsTransmission sent → NoStray sent (hf_signal level sent)
+pub level_law : (level : ℕ) (sent : List Transmission) → IsLevel level → All IsTransmission sent
+    → NoStray sent (hf_signal level sent)
     → MergesTo (frames_of sent) (hf_signal level sent)
 level_law level sent fits good no_stray =
     let received : List Received = sent_at level sent in
-    let each : AllByRecursion IsReceived received = sent_at-good level sent fits (recursion_from_All IsTransmission sent good) in
-    let carries : CarriesAll (transmissions_of received) (hf_signal level sent) = near_carries received (hf_signal level sent) each (signal_near level sent fits.least) in
-    carried_law sent (hf_signal level sent) good (subst (λ ts. CarriesAll ts (hf_signal level sent)) (transmissions_of-sent_at level sent) carries) no_stray
+    let each : AllByRecursion IsReceived received = sent_at-good level sent fits
+        (recursion_from_All IsTransmission sent good) in
+    let carries : CarriesAll (transmissions_of received) (hf_signal level sent) =
+        near_carries received (hf_signal level sent) each (signal_near level sent fits.least) in
+    carried_law sent (hf_signal level sent) good (subst (λ ts. CarriesAll ts (hf_signal level sent))
+        (transmissions_of-sent_at level sent) carries) no_stray
 
 -- what holds of each of all candidates holds of every candidate
 pub no_stray_of : (sent : List Transmission) (x : List ℤ) (items : List Candidate) → AreCandidates x items

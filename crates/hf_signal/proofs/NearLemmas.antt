@@ -1,5 +1,6 @@
 -- Samples near a signal carry its transmissions, and what is sent at a level is near its wave.
-use Rattle.std.proofs.Common.{◌≡◌, ℕ, ◌*◌, ◌/◌, ◌<◌, ◌≤◌, ℤ, pos, List, [], ◌∷◌, length, replicate, refl, subst, ◌∙◌, arith, append_assoc, length-append}
+use Rattle.std.proofs.Common.{◌≡◌, ℕ, ◌*◌, ◌/◌, ◌<◌, ◌≤◌, ℤ, pos, List, [], ◌∷◌, length, replicate, refl, subst, ◌∙◌,
+    arith, append_assoc, length-append}
 use Rattle.std.specs.List.{AllByRecursion}
 use Rattle.std.proofs.lemmas.List.{length-replicate}
 use Rattle.std.proofs.lemmas.List.Concat.{flat_map-cons}
@@ -24,17 +25,21 @@ use Rattle.hf_signal.proofs.NearWaves.{tones_at-near}
 length-wave_from : (phase : ℕ) (tones : List Tone) → length (wave_from phase tones) ≡ 32 * length tones
 length-wave_from phase [] = refl
 length-wave_from phase (tone ∷ tones) =
-    omega (arith, length-append (pure_window phase tone) (wave_from (next_phase phase tone) tones), length-pure_window phase tone, length-wave_from (next_phase phase tone) tones)
+    omega (arith, length-append (pure_window phase tone) (wave_from (next_phase phase tone) tones),
+        length-pure_window phase tone, length-wave_from (next_phase phase tone) tones)
 
-wave_carries : (level phase : ℕ) (tones : List Tone) (x : List ℤ) → 1 ≤ level → IsBitPhase phase → IsNear level (wave_from phase tones) x → Carries tones x
+wave_carries : (level phase : ℕ) (tones : List Tone) (x : List ℤ) → 1 ≤ level → IsBitPhase phase
+    → IsNear level (wave_from phase tones) x → Carries tones x
 wave_carries level phase tones x some at near =
     let third : phase ≡ 16 * (phase / 16) = omega (arith, at.third) in
     let below : phase / 16 < 3 = omega (arith, at.below) in record {
       size = near.size ∙ length-wave_from phase tones;
-      decided = tones_at-near level tones (phase / 16) x some below (subst (λ p. IsNear level (wave_from p tones) x) third near);
+      decided = tones_at-near level tones (phase / 16) x some below
+          (subst (λ p. IsNear level (wave_from p tones) x) third near);
     }
 
-pub near_carries : (received : List Received) (x : List ℤ) → AllByRecursion IsReceived received → IsNearAll received x → CarriesAll (transmissions_of received) x
+pub near_carries : (received : List Received) (x : List ℤ) → AllByRecursion IsReceived received → IsNearAll received x
+    → CarriesAll (transmissions_of received) x
 near_carries [] x good near = tt
 near_carries (r ∷ received) x (good, others) (gap, part, rest, whole, silence, here, after) = (
   gap,
@@ -53,7 +58,8 @@ unfolding hf_transmission
 sent_near level frames opening closing least = at_level-near level (wave (line (body frames opening closing))) least
 
 -- and so is a signal
-pub signal_near : (level : ℕ) (transmissions : List Transmission) → 10 ≤ level → IsNearAll (sent_at level transmissions) (hf_signal level transmissions)
+pub signal_near : (level : ℕ) (transmissions : List Transmission) → 10 ≤ level
+    → IsNearAll (sent_at level transmissions) (hf_signal level transmissions)
 unfolding hf_signal
 signal_near level [] least = tt
 signal_near level (t ∷ transmissions) least =
@@ -69,7 +75,8 @@ signal_near level (t ∷ transmissions) least =
     )
 
 -- as it is received: from phase 0 on, at the level of all
-pub sent_at-good : (level : ℕ) (transmissions : List Transmission) → IsLevel level → AllByRecursion IsTransmission transmissions
+pub sent_at-good : (level : ℕ) (transmissions : List Transmission) → IsLevel level
+    → AllByRecursion IsTransmission transmissions
     → AllByRecursion IsReceived (sent_at level transmissions)
 sent_at-good level [] fits good = tt
 sent_at-good level (t ∷ transmissions) fits (first, others) = (

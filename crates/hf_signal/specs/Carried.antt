@@ -1,4 +1,5 @@
--- Samples that carry transmissions at 300 bits a second: where each is due, the windows are decided as its tones. Nothing is
+-- Samples that carry transmissions at 300 bits a second: where each is due, the windows are decided as its tones.
+-- Nothing is
 -- said of the other samples.
 use Rattle.std.specs.Prelude.{◌≡◌, ◌*◌, ℤ, List, [], ◌∷◌, ◌++◌, length}
 use Rattle.tone_table.specs.declared.tone.Tone.{Tone}
@@ -12,7 +13,8 @@ pub record Carries (tones : List Tone) (x : List ℤ) : Type 0 where
   pub size : length x ≡ 32 * length tones
   pub decided : tones_at 0 x ≡ tones
 
--- for each transmission as many samples as its silence, of any kind, and then the windows of its line; any samples follow
+-- for each transmission as many samples as its silence, of any kind, and then the windows of its line; any samples
+-- follow
 abbrev pub CarriesAll : List Transmission → List ℤ → Type 0
 CarriesAll [] x = Unit {0}
 CarriesAll (t ∷ transmissions) x =

@@ -1,4 +1,5 @@
--- Samples near a signal of 300 bits a second. Receivers differ in level, they add noise, and before a transmission and after
+-- Samples near a signal of 300 bits a second. Receivers differ in level, they add noise, and before a transmission and
+-- after
 -- it stands whatever they hear.
 use Rattle.std.specs.Prelude.{◌≡◌, ◌≤◌, ℤ, List, [], ◌∷◌, ◌++◌, length}
 use Rattle.nrzi_bits.specs.Line.{line}
@@ -14,7 +15,8 @@ pub record IsReceived (r : Received) : Type 0 where
   pub least : 1 ≤ r.level
   pub most : r.level ≤ 32767
 
--- For each transmission as many samples as its silence, of any value, and then samples near its wave; any samples follow.
+-- For each transmission as many samples as its silence, of any value, and then samples near its wave; any samples
+-- follow.
 abbrev pub IsNearAll : List Received → List ℤ → Type 0
 IsNearAll [] x = Unit {0}
 IsNearAll (r ∷ received) x =

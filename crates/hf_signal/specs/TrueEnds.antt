@@ -1,4 +1,5 @@
--- Where the frames of transmissions end at 300 bits a second: the true end of a frame is the first sample after the last
+-- Where the frames of transmissions end at 300 bits a second: the true end of a frame is the first sample after the
+-- last
 -- window of the flag that follows it.
 use Rattle.std.specs.Prelude.{ℕ, ◌+◌, ◌*◌, List, [], ◌∷◌, ◌++◌, length}
 use Rattle.hdlc_framer.specs.Frames.{frame_bits}
@@ -18,9 +19,11 @@ end_of begin octets = begin + 32 * length (frame_bits octets ++ flag)
 -- the ends of frames with one flag between neighbours, so that each begins where the one before ends
 abbrev pub ends_from : ℕ → List (List ℕ) → List TrueEnd
 ends_from begin [] = []
-ends_from begin (octets ∷ frames) = record { end = end_of begin octets; octets = octets } ∷ ends_from (end_of begin octets) frames
+ends_from begin (octets ∷ frames) = record { end = end_of begin octets; octets = octets }
+    ∷ ends_from (end_of begin octets) frames
 
--- the ends of a transmission that begins at a sample: silence and opening flags, 256 samples each, stand before its frames
+-- the ends of a transmission that begins at a sample: silence and opening flags, 256 samples each, stand before its
+-- frames
 abbrev pub ends_of : ℕ → Transmission → List TrueEnd
 ends_of begin t = ends_from (begin + t.silence + 256 * t.opening) t.frames
 

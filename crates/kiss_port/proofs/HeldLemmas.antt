@@ -1,5 +1,6 @@
 -- What is kept stands for all octets so far.
-use Rattle.std.proofs.Common.{◌≡◌, ◌≢◌, ℕ, suc, ◌+◌, eqb, ltb, cond, Bool, true, false, List, [], ◌∷◌, ◌++◌, length, take, min, refl, ap, subst, ◌∙◌, sym, inl, inr, arith, append_assoc, append-nil, length-take, Some}
+use Rattle.std.proofs.Common.{◌≡◌, ◌≢◌, ℕ, suc, ◌+◌, eqb, ltb, cond, Bool, true, false, List, [], ◌∷◌, ◌++◌, length,
+    take, min, refl, ap, subst, ◌∙◌, sym, inl, inr, arith, append_assoc, append-nil, length-take, Some}
 use Rattle.std.specs.Option.{option_to_list}
 use Rattle.std.specs.List.{flat_map}
 use Rattle.std.proofs.lemmas.Bool.{cond-true, cond-false, eq-eqb, ne_eqb, lt-ltb, le-ltb, cases_eq, cases_lt}
@@ -8,7 +9,8 @@ use Rattle.std.proofs.lemmas.List.Concat.{flat_map-append}
 use Rattle.kiss_port.specs.Escapes.{fend, fesc, tfend, tfesc, meant, unescaped, spelled}
 use Rattle.kiss_port.specs.Pieces.{pieces}
 use Rattle.kiss_port.specs.Items.{item_of, items_in}
-use Rattle.kiss_port.specs.Held.{Held, StandsForPiece, StandsFor, rest_of_piece, new_held, kept_item, held_item, keeping, unmarked, behind_escape, with_octet}
+use Rattle.kiss_port.specs.Held.{Held, StandsForPiece, StandsFor, rest_of_piece, new_held, kept_item, held_item,
+    keeping, unmarked, behind_escape, with_octet}
 use Rattle.kiss_port.proofs.PieceLemmas.{inside-append, pieces_inside, pieces_end}
 use Rattle.kiss_port.proofs.EscapeLemmas.{unescaped_plain, spelled_back, spelled_piece}
 
@@ -18,7 +20,8 @@ record Keeps (held : Held) (meaning : List ℕ) : Type 0 where
   kept : held.kept ≡ take 1025 meaning
   long : held.long ≡ ltb 1025 (length meaning)
 
-keeps_more : (held : Held) (meaning : List ℕ) (octet : ℕ) → Keeps held meaning → Keeps (keeping held octet) (meaning ++ octet ∷ [])
+keeps_more : (held : Held) (meaning : List ℕ) (octet : ℕ) → Keeps held meaning
+    → Keeps (keeping held octet) (meaning ++ octet ∷ [])
 keeps_more held meaning octet keeps =
     let K : Held → Type 0 = λ h. Keeps h (meaning ++ octet ∷ []) in
     let count : length held.kept ≡ min 1025 (length meaning) = ap length keeps.kept ∙ length-take 1025 meaning in
@@ -31,8 +34,10 @@ keeps_more held meaning octet keeps =
           })
       | inr room ↦
           subst K (sym (cond-false _ _ _ (ne_eqb (length held.kept) 1025 room))) (record {
-            kept = ap (λ xs. xs ++ octet ∷ []) (keeps.kept ∙ take_all 1025 meaning (omega arith)) ∙ sym (take_all 1025 (meaning ++ octet ∷ []) (omega arith));
-            long = keeps.long ∙ le-ltb 1025 (length meaning) (omega arith) ∙ sym (le-ltb 1025 (length (meaning ++ octet ∷ [])) (omega arith));
+            kept = ap (λ xs. xs ++ octet ∷ []) (keeps.kept ∙ take_all 1025 meaning (omega arith))
+                ∙ sym (take_all 1025 (meaning ++ octet ∷ []) (omega arith));
+            long = keeps.long ∙ le-ltb 1025 (length meaning) (omega arith)
+                ∙ sym (le-ltb 1025 (length (meaning ++ octet ∷ [])) (omega arith));
           })
     ]
 
@@ -56,8 +61,10 @@ pub piece_new : StandsForPiece new_held []
 piece_new = record { inside = tt; meaning = []; rest = λ more. refl; kept = refl; long = refl }
 
 -- how the piece is read with an octet more
-longer : (held next : Held) (piece : List ℕ) (octet : ℕ) (meaning : List ℕ) (escaped : Bool) → octet ≢ fend → (stands : StandsForPiece held piece) → Keeps next meaning
-    → next.escaped ≡ escaped → ((more : List ℕ) → stands.meaning ++ rest_of_piece held.escaped (octet ∷ more) ≡ meaning ++ rest_of_piece escaped more)
+longer : (held next : Held) (piece : List ℕ) (octet : ℕ) (meaning : List ℕ) (escaped : Bool) → octet ≢ fend
+    → (stands : StandsForPiece held piece) → Keeps next meaning
+    → next.escaped ≡ escaped → ((more : List ℕ) → stands.meaning ++ rest_of_piece held.escaped (octet ∷ more)
+        ≡ meaning ++ rest_of_piece escaped more)
     → StandsForPiece next (piece ++ octet ∷ [])
 longer held next piece octet meaning escaped other stands keeps mark further = record {
   inside = inside-append piece (octet ∷ []) stands.inside (other, tt);
@@ -85,13 +92,15 @@ unmarked_keeps : (held : Held) (meaning : List ℕ) → Keeps held meaning → K
 unmarked_keeps held meaning keeps = record { kept = keeps.kept; long = keeps.long }
 
 -- an octet that is no FEND
-pub piece_octet : (held : Held) (piece : List ℕ) (octet : ℕ) → octet ≢ fend → StandsForPiece held piece → StandsForPiece (with_octet held octet) (piece ++ octet ∷ [])
+pub piece_octet : (held : Held) (piece : List ℕ) (octet : ℕ) → octet ≢ fend → StandsForPiece held piece
+    → StandsForPiece (with_octet held octet) (piece ++ octet ∷ [])
 piece_octet held piece octet other = by_escape held.kept held.long held.escaped
   where
     S : Held → Type 0
     S next = StandsForPiece next (piece ++ octet ∷ [])
 
-    by_escape : (kept : List ℕ) (long escaped : Bool) → let h : Held = record { kept = kept; long = long; escaped = escaped } in StandsForPiece h piece → S (with_octet h octet)
+    by_escape : (kept : List ℕ) (long escaped : Bool) → let h : Held =
+        record { kept = kept; long = long; escaped = escaped } in StandsForPiece h piece → S (with_octet h octet)
     by_escape kept long true stands = behind
       where
         h : Held
@@ -104,13 +113,17 @@ piece_octet held piece octet other = by_escape held.kept held.long held.escaped
         as_other : (mark meaning : ℕ) → octet ≡ mark → meant mark ≡ meaning ∷ [] → S (unmarked (keeping h meaning))
         as_other mark meaning is means =
             longer h (unmarked (keeping h meaning)) piece octet (stands.meaning ++ meaning ∷ []) false other stands
-            (unmarked_keeps (keeping h meaning) (stands.meaning ++ meaning ∷ []) (keeps_more h stands.meaning meaning keeps)) refl
-            (λ more. ap (λ ms. stands.meaning ++ (ms ++ unescaped more)) (ap meant is ∙ means) ∙ sym (append_assoc stands.meaning (meaning ∷ []) (unescaped more)))
+            (unmarked_keeps (keeping h meaning) (stands.meaning ++ meaning ∷ [])
+                (keeps_more h stands.meaning meaning keeps)) refl
+            (λ more. ap (λ ms. stands.meaning ++ (ms ++ unescaped more)) (ap meant is ∙ means)
+                ∙ sym (append_assoc stands.meaning (meaning ∷ []) (unescaped more)))
 
         as_none : octet ≢ tfend → octet ≢ tfesc → S (unmarked h)
         as_none no_tfend no_tfesc =
-            longer h (unmarked h) piece octet stands.meaning false other stands (unmarked_keeps h stands.meaning keeps) refl
-            (λ more. ap (λ ms. stands.meaning ++ (ms ++ unescaped more)) (cond-false _ _ _ (ne_eqb octet tfend no_tfend) ∙ cond-false _ _ _ (ne_eqb octet tfesc no_tfesc)))
+            longer h (unmarked h) piece octet stands.meaning false other stands (unmarked_keeps h stands.meaning keeps)
+                refl
+            (λ more. ap (λ ms. stands.meaning ++ (ms ++ unescaped more)) (cond-false _ _ _ (ne_eqb octet tfend no_tfend)
+                ∙ cond-false _ _ _ (ne_eqb octet tfesc no_tfesc)))
 
         behind : S (behind_escape h octet)
         behind =
@@ -120,7 +133,8 @@ piece_octet held piece octet other = by_escape held.kept held.long held.escaped
                   subst S (sym (cond-false _ _ _ (ne_eqb octet tfend no_tfend)))
                   (elim (cases_eq octet tfesc) [
                     | inl is ↦ subst S (sym (cond-true _ _ _ (eq-eqb octet tfesc is))) (as_other tfesc fesc is refl)
-                    | inr no_tfesc ↦ subst S (sym (cond-false _ _ _ (ne_eqb octet tfesc no_tfesc))) (as_none no_tfend no_tfesc)
+                    | inr no_tfesc ↦ subst S (sym (cond-false _ _ _ (ne_eqb octet tfesc no_tfesc)))
+                        (as_none no_tfend no_tfesc)
                   ])
             ]
     by_escape kept long false stands = plain
@@ -136,20 +150,26 @@ piece_octet held piece octet other = by_escape held.kept held.long held.escaped
             elim (cases_eq octet fesc) [
               | inl is ↦
                   subst S (sym (cond-true _ _ _ (eq-eqb octet fesc is)))
-                  (longer h (record { kept = kept; long = long; escaped = true }) piece octet stands.meaning true other stands (record { kept = stands.kept; long = stands.long }) refl
+                  (longer h (record { kept = kept; long = long; escaped = true })
+                      piece octet stands.meaning true other stands (record { kept = stands.kept; long = stands.long })
+                      refl
                   (λ more. ap (λ n. stands.meaning ++ unescaped (n ∷ more)) is))
               | inr no_fesc ↦
                   subst S (sym (cond-false _ _ _ (ne_eqb octet fesc no_fesc)))
-                  (longer h (keeping h octet) piece octet (stands.meaning ++ octet ∷ []) false other stands (keeps_more h stands.meaning octet keeps) (keeping_mark h octet)
-                  (λ more. ap (λ xs. stands.meaning ++ xs) (unescaped_plain octet more no_fesc) ∙ sym (append_assoc stands.meaning (octet ∷ []) (unescaped more))))
+                  (longer h (keeping h octet) piece octet (stands.meaning ++ octet ∷ []) false other stands
+                      (keeps_more h stands.meaning octet keeps) (keeping_mark h octet)
+                  (λ more. ap (λ xs. stands.meaning ++ xs) (unescaped_plain octet more no_fesc)
+                      ∙ sym (append_assoc stands.meaning (octet ∷ []) (unescaped more))))
             ]
 
 -- what is kept of a piece tells its item
 pub piece_says : (held : Held) (piece : List ℕ) → StandsForPiece held piece → held_item held ≡ item_of (unescaped piece)
 piece_says held piece stands =
     let all : unescaped piece ≡ stands.meaning =
-    ap unescaped (sym (append-nil piece)) ∙ stands.rest [] ∙ ap (λ xs. stands.meaning ++ xs) (nothing held.escaped) ∙ append-nil stands.meaning in
-    ap (λ b. kept_item b held.kept) stands.long ∙ ap (kept_item (ltb 1025 (length stands.meaning))) stands.kept ∙ kept_says stands.meaning ∙ ap item_of (sym all)
+    ap unescaped (sym (append-nil piece)) ∙ stands.rest [] ∙ ap (λ xs. stands.meaning ++ xs) (nothing held.escaped)
+        ∙ append-nil stands.meaning in
+    ap (λ b. kept_item b held.kept) stands.long ∙ ap (kept_item (ltb 1025 (length stands.meaning))) stands.kept
+        ∙ kept_says stands.meaning ∙ ap item_of (sym all)
   where
     nothing : (escaped : Bool) → rest_of_piece escaped [] ≡ []
     nothing true = refl
@@ -160,7 +180,8 @@ piece_says held piece stands =
 module _ (held : Held) (stream : List ℕ) (stands : StandsFor held stream) where
   -- the pieces at a FEND
   pieces_there : (more : List ℕ) → pieces (stream ++ fend ∷ more) ≡ pieces stream ++ (stands.piece ∷ pieces more)
-  pieces_there more = stands.cut (fend ∷ more) ∙ ap (λ xs. pieces stream ++ xs) (pieces_end stands.piece more stands.piece_held.inside)
+  pieces_there more = stands.cut (fend ∷ more) ∙ ap (λ xs. pieces stream ++ xs)
+      (pieces_end stands.piece more stands.piece_held.inside)
 
   pub items_end : items_in (stream ++ fend ∷ []) ≡ items_in stream ++ option_to_list (held_item held)
   unfolding items_in
@@ -185,12 +206,14 @@ module _ (held : Held) (stream : List ℕ) (stands : StandsFor held stream) wher
     pieces_same : pieces (stream ++ octet ∷ []) ≡ pieces stream
     pieces_same =
         stands.cut (octet ∷ [])
-        ∙ ap (λ xs. pieces stream ++ xs) (pieces_inside (stands.piece ++ octet ∷ []) (inside-append stands.piece (octet ∷ []) stands.piece_held.inside (other, tt)))
+        ∙ ap (λ xs. pieces stream ++ xs) (pieces_inside (stands.piece ++ octet ∷ [])
+            (inside-append stands.piece (octet ∷ []) stands.piece_held.inside (other, tt)))
         ∙ append-nil (pieces stream)
 
     pub items_same : items_in (stream ++ octet ∷ []) ≡ items_in stream ++ []
     unfolding items_in
-    items_same = ap (flat_map (λ piece. option_to_list (item_of (unescaped piece)))) pieces_same ∙ sym (append-nil (items_in stream))
+    items_same = ap (flat_map (λ piece. option_to_list (item_of (unescaped piece)))) pieces_same
+        ∙ sym (append-nil (items_in stream))
 
     pub stands_octet : StandsFor (with_octet held octet) (stream ++ octet ∷ [])
     stands_octet = record {
@@ -204,7 +227,8 @@ module _ (held : Held) (stream : List ℕ) (stands : StandsFor held stream) wher
     }
 
 -- the one item of a written piece
-pub item_written : (kind : ℕ) (octets : List ℕ) → items_in (fend ∷ (spelled (kind ∷ octets) ++ fend ∷ [])) ≡ option_to_list (item_of (kind ∷ octets))
+pub item_written : (kind : ℕ) (octets : List ℕ) → items_in (fend ∷ (spelled (kind ∷ octets) ++ fend ∷ []))
+    ≡ option_to_list (item_of (kind ∷ octets))
 unfolding items_in
 item_written kind octets =
     ap (flat_map (λ piece. option_to_list (item_of (unescaped piece)))) (spelled_piece (kind ∷ octets))

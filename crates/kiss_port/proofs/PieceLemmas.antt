@@ -20,7 +20,8 @@ pieces_inside (octet ∷ piece) inside = step octet piece inside.0 ∙ ap (onto_
 -- the FEND ends what stands before it
 pub pieces_end : (piece more : List ℕ) → IsInside piece → pieces (piece ++ fend ∷ more) ≡ piece ∷ pieces more
 pieces_end [] more inside = refl
-pieces_end (octet ∷ piece) more inside = step octet (piece ++ fend ∷ more) inside.0 ∙ ap (onto_first octet) (pieces_end piece more inside.1)
+pieces_end (octet ∷ piece) more inside = step octet (piece ++ fend ∷ more) inside.0
+    ∙ ap (onto_first octet) (pieces_end piece more inside.1)
 
 pub inside-append : (before behind : List ℕ) → IsInside before → IsInside behind → IsInside (before ++ behind)
 inside-append [] behind first second = second

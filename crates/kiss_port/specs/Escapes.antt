@@ -22,7 +22,8 @@ meant octet = if octet == tfend then fend ∷ [] else if octet == tfesc then fes
 abbrev pub unescaped : List ℕ → List ℕ
 unescaped [] = []
 unescaped (octet ∷ []) = if octet == fesc then [] else octet ∷ []
-unescaped (octet ∷ next ∷ piece) = if octet == fesc then meant next ++ unescaped piece else octet ∷ unescaped (next ∷ piece)
+unescaped (octet ∷ next ∷ piece) = if octet == fesc then meant next ++ unescaped piece
+    else octet ∷ unescaped (next ∷ piece)
 
 -- an octet as it is written
 abbrev pub escape_of : ℕ → List ℕ

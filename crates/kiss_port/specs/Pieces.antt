@@ -7,7 +7,8 @@ abbrev pub onto_first : ℕ → List (List ℕ) → List (List ℕ)
 onto_first octet [] = []
 onto_first octet (piece ∷ others) = (octet ∷ piece) ∷ others
 
--- The stream is cut at each FEND. These are the pieces that a FEND ends; what stands after the last FEND is no piece yet.
+-- The stream is cut at each FEND. These are the pieces that a FEND ends; what stands after the last FEND is no piece
+-- yet.
 abbrev pub pieces : List ℕ → List (List ℕ)
 pieces [] = []
 pieces (octet ∷ stream) = if octet == fend then [] ∷ pieces stream else onto_first octet (pieces stream)

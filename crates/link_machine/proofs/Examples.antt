@@ -80,7 +80,8 @@ window_is_full p = refl
 -- RR for two of the four lets the fifth go
 pub window_opens :
     (p : Path) →
-    (from_new p RejMode (four_sent p ++ Send (packet 4) ∷ hears p Response (Super Rr 2 false) ∷ [])).sent ≡ eight (InfoSent 4 0 (packet 4) ∷ [])
+    (from_new p RejMode (four_sent p ++ Send (packet 4) ∷ hears p Response (Super Rr 2 false) ∷ [])).sent
+        ≡ eight (InfoSent 4 0 (packet 4) ∷ [])
 unfolding step ahead
 window_opens p = refl
 
@@ -95,7 +96,8 @@ rejected p = refl
 -- SREJ with N(R) 1 and F = 0: that one is sent again, and nothing is acknowledged
 pub selectively_rejected :
     (p : Path) →
-    (from_new p SrejMode (four_sent p ++ hears p Response (Super Srej 1 false) ∷ [])).sent ≡ eight (InfoSent 1 0 (packet 1) ∷ [])
+    (from_new p SrejMode (four_sent p ++ hears p Response (Super Srej 1 false) ∷ [])).sent
+        ≡ eight (InfoSent 1 0 (packet 1) ∷ [])
 unfolding step ahead
 selectively_rejected p = refl
 
@@ -103,7 +105,8 @@ selectively_rejected p = refl
 abbrev called : Path → List Event
 called p = hears p Command (Setup Sabm true) ∷ []
 
-pub asks_once : (p : Path) → (from_new p SrejMode (called p ++ info p 1 0 ∷ [])).sent ≡ eight (SuperSent Srej false 0 false ∷ [])
+pub asks_once : (p : Path) → (from_new p SrejMode (called p ++ info p 1 0 ∷ [])).sent
+    ≡ eight (SuperSent Srej false 0 false ∷ [])
 unfolding step ahead missing asked
 asks_once p = refl
 
@@ -124,7 +127,8 @@ gives_all p = refl
 -- the 30th tick sends RR with N(R) 4
 pub responds_late :
     (p : Path) →
-    (from_new p SrejMode (three_came p ++ info p 0 0 ∷ [] ++ replicate 30 (Tick false))).sent ≡ eight (SuperSent Rr false 4 false ∷ [])
+    (from_new p SrejMode (three_came p ++ info p 0 0 ∷ [] ++ replicate 30 (Tick false))).sent
+        ≡ eight (SuperSent Rr false 4 false ∷ [])
 unfolding step ahead missing asked
 responds_late p = refl
 
@@ -141,12 +145,14 @@ rejects_no_more p = refl
 -- a disconnect waits for the packets
 pub releases :
     (p : Path) →
-    (from_new p RejMode (opened p ++ Send (packet 0) ∷ Disconnect ∷ hears p Response (Super Rr 1 false) ∷ [])).sent ≡ eight (SetupSent Disc true ∷ [])
+    (from_new p RejMode (opened p ++ Send (packet 0) ∷ Disconnect ∷ hears p Response (Super Rr 1 false) ∷ [])).sent
+        ≡ eight (SetupSent Disc true ∷ [])
 unfolding step ahead
 releases p = refl
 
 pub is_released :
-    (p : Path) → (from_new p RejMode (opened p ++ Disconnect ∷ hears p Response (Setup Ua true) ∷ [])).told ≡ Ended Asked ∷ []
+    (p : Path) → (from_new p RejMode (opened p ++ Disconnect ∷ hears p Response (Setup Ua true) ∷ [])).told
+        ≡ Ended Asked ∷ []
 unfolding step
 is_released p = refl
 
@@ -174,7 +180,8 @@ unfolding step
 opens_narrow p = refl
 
 pub counts_narrow :
-    (p : Path) → (from_wide p RejMode (refused_wide p ++ hears p Response (Setup Ua true) ∷ [])).now.incoming.modulus ≡ 8
+    (p : Path) → (from_wide p RejMode (refused_wide p ++ hears p Response (Setup Ua true) ∷ [])).now.incoming.modulus
+        ≡ 8
 unfolding step
 counts_narrow p = refl
 

@@ -1,5 +1,6 @@
 -- What becomes of the packet of an I frame.
-use Rattle.std.proofs.Common.{◌≡◌, ℕ, zero, suc, ◌+◌, ◌%◌, ◌<◌, ◌≤◌, ◌==◌, ◌&&◌, not, Bool, true, false, if◌then◌else◌, List, [], ◌∷◌, ◌++◌, length, drop, map, replicate, Some, refl, sym, ◌∙◌, ap, arith, nat_lt, eqb-true}
+use Rattle.std.proofs.Common.{◌≡◌, ℕ, zero, suc, ◌+◌, ◌%◌, ◌<◌, ◌≤◌, ◌==◌, ◌&&◌, not, Bool, true, false, if◌then◌else◌,
+    List, [], ◌∷◌, ◌++◌, length, drop, map, replicate, Some, refl, sym, ◌∙◌, ap, arith, nat_lt, eqb-true}
 use Rattle.std.proofs.lemmas.List.{length-map}
 use Rattle.std.specs.Prelude.{filter}
 use Rattle.std.specs.List.{range_with_len}
@@ -12,7 +13,8 @@ use Rattle.selective_reject.specs.declared.window.Mode.{Mode}
 use Rattle.selective_reject.specs.declared.window.Mode.TheVariants.{Rej, Srej}
 use Rattle.selective_reject.specs.Numbers.{ahead}
 use Rattle.selective_reject.specs.Places.{empty_place, packet_at, is_full, with_packet, missing, asked, is_missing}
-use Rattle.selective_reject.specs.Incoming.{Incoming, taking_by, took, keeps, after_accept, empty_incoming, before_number, numbers_to_ask}
+use Rattle.selective_reject.specs.Incoming.{Incoming, taking_by, took, keeps, after_accept, empty_incoming,
+    before_number, numbers_to_ask}
 use Rattle.link_machine.specs.Acts.{moved_on, srej_for}
 use Rattle.link_machine.specs.Machine.{Machine}
 use Rattle.link_machine.specs.declared.machine.Machine.{Machine as Held}
@@ -58,7 +60,9 @@ keeps_none Outside h k = refl
 full_at : (ps : List Place) (d : ℕ) → is_full ps 0 ≡ false → (d == 0) ≡ true → is_full ps d ≡ false
 full_at ps d h e = ap (λ k. is_full ps k) (eqb-true d 0 e) ∙ h
 
-by_rej : (b full : Bool) → (b ≡ true → full ≡ false) → (is_next (if b then (if full then Again else Next) else NotNext) ≡ b) × (is_stored (if b then (if full then Again else Next) else NotNext) ≡ false)
+by_rej : (b full : Bool) → (b ≡ true → full ≡ false)
+    → (is_next (if b then (if full then Again else Next) else NotNext) ≡ b)
+    × (is_stored (if b then (if full then Again else Next) else NotNext) ≡ false)
 by_rej true true h = absurd (false≢true (sym (h refl)))
 by_rej true false h = (refl, refl)
 by_rej false full h = (refl, refl)
@@ -75,7 +79,8 @@ took_by_rej i ns mode next =
 
 by_srej : (within full b : Bool) → (b ≡ true → full ≡ false) → (b ≡ true → within ≡ true)
     → (is_next (if within then (if full then Again else (if b then Next else Stored)) else Outside) ≡ b)
-    × (is_stored (if within then (if full then Again else (if b then Next else Stored)) else Outside) ≡ (if b then false else (within && not full)))
+    × (is_stored (if within then (if full then Again else (if b then Next else Stored)) else Outside)
+        ≡ (if b then false else (within && not full)))
 by_srej true true true h k = absurd (false≢true (sym (h refl)))
 by_srej true true false h k = (refl, refl)
 by_srej true false true h k = (refl, refl)
@@ -86,17 +91,20 @@ by_srej false full false h k = (refl, refl)
 pub took_by_srej :
     (i : Incoming) (ns : ℕ) → i.mode ≡ Srej → is_full i.places 0 ≡ false → 1 ≤ i.window →
     let d = ahead i.modulus i.vr ns in
-    (is_next (took i ns) ≡ (d == 0)) × (is_stored (took i ns) ≡ (if d == 0 then false else (nat_lt d i.window && not (is_full i.places d))))
+    (is_next (took i ns) ≡ (d == 0)) × (is_stored (took i ns)
+        ≡ (if d == 0 then false else (nat_lt d i.window && not (is_full i.places d))))
 took_by_srej i ns mode next some =
     let d = ahead i.modulus i.vr ns in
-    let both = by_srej (nat_lt d i.window) (is_full i.places d) (d == 0) (full_at i.places d next) (λ e. let z : d ≡ 0 = eqb-true d 0 e in lt-ltb d i.window (omega arith)) in (
+    let both = by_srej (nat_lt d i.window) (is_full i.places d) (d == 0) (full_at i.places d next)
+        (λ e. let z : d ≡ 0 = eqb-true d 0 e in lt-ltb d i.window (omega arith)) in (
       ap (λ m. is_next (taking_by m i.window d (is_full i.places d))) mode ∙ both.0,
       ap (λ m. is_stored (taking_by m i.window d (is_full i.places d))) mode ∙ both.1,
     )
 
 -- what an accepted packet leaves
 keeping : (i : Incoming) (d : ℕ) (packet : Packet) (b : Bool) → b ≡ true
-    → (if b then record i { places = with_packet i.places d packet } else i) ≡ record i { places = with_packet i.places d packet }
+    → (if b then record i { places = with_packet i.places d packet } else i)
+        ≡ record i { places = with_packet i.places d packet }
 keeping i d packet true e = refl
 keeping i d packet false e = absurd (false≢true e)
 
@@ -125,7 +133,8 @@ replicate-push : (n : ℕ) → replicate n empty_place ++ empty_place ∷ [] ≡
 replicate-push zero = refl
 replicate-push (suc n) = ap (λ xs. empty_place ∷ xs) (replicate-push n)
 
-pub places_in_sequence : (ps : List Place) (window : ℕ) (packet : Packet) → 1 ≤ window → ps ≡ replicate window empty_place
+pub places_in_sequence : (ps : List Place) (window : ℕ) (packet : Packet) → 1 ≤ window
+    → ps ≡ replicate window empty_place
     → drop 1 (with_packet ps 0 packet) ++ empty_place ∷ [] ≡ replicate window empty_place
 places_in_sequence ps zero packet h e = absurd (none h)
   where
@@ -134,7 +143,8 @@ places_in_sequence ps zero packet h e = absurd (none h)
 places_in_sequence ps (suc n) packet h e =
     ap (λ xs. drop 1 (with_packet xs 0 packet) ++ empty_place ∷ []) e ∙ replicate-push n
 
-pub there_with : (ps : List Place) (packet : Packet) → 1 ≤ length ps → packet_at (with_packet ps 0 packet) 0 ≡ Some packet
+pub there_with : (ps : List Place) (packet : Packet) → 1 ≤ length ps
+    → packet_at (with_packet ps 0 packet) 0 ≡ Some packet
 there_with [] packet h = absurd (none h)
   where
     none : 1 ≤ 0 → ⊥
@@ -146,11 +156,14 @@ drop_with [] n packet = refl
 drop_with (p ∷ ps) n packet = refl
 
 -- the next packet with those that follow
-pub moved_with : (i : Incoming) (n : ℕ) (packet : Packet) → moved_on (suc n) (record i { places = with_packet i.places 0 packet }) ≡ moved_on (suc n) i
-moved_with i n packet = ap (λ ps. record i { vr = i.vr + suc n; places = ps ++ replicate (suc n) empty_place }) (drop_with i.places n packet)
+pub moved_with : (i : Incoming) (n : ℕ) (packet : Packet)
+    → moved_on (suc n) (record i { places = with_packet i.places 0 packet }) ≡ moved_on (suc n) i
+moved_with i n packet = ap (λ ps. record i { vr = i.vr + suc n; places = ps ++ replicate (suc n) empty_place })
+    (drop_with i.places n packet)
 
 -- a packet further ahead leaves the first place
-pub first_kept : (ps : List Place) (d : ℕ) (packet : Packet) → (d == 0) ≡ false → is_full (with_packet ps d packet) 0 ≡ is_full ps 0
+pub first_kept : (ps : List Place) (d : ℕ) (packet : Packet) → (d == 0) ≡ false
+    → is_full (with_packet ps d packet) 0 ≡ is_full ps 0
 first_kept ps zero packet e = absurd (false≢true (sym e))
 first_kept [] (suc d) packet e = refl
 first_kept (p ∷ ps) (suc d) packet e = refl
@@ -187,7 +200,8 @@ pub length-missing : (ps : List Place) (n : ℕ) → length (missing ps n) ≤ n
 unfolding missing
 length-missing ps n =
     let e : length (range_with_len 0 n) ≡ n = length-range 0 n in
-    let h : length (filter (is_missing ps) (range_with_len 0 n)) ≤ length (range_with_len 0 n) = length-filter_le (is_missing ps) (range_with_len 0 n) in
+    let h : length (filter (is_missing ps) (range_with_len 0 n)) ≤ length (range_with_len 0 n) =
+        length-filter_le (is_missing ps) (range_with_len 0 n) in
     omega arith
 
 count_in_window : (d w : ℕ) (b : Bool) → b ≡ nat_lt d w → (if b then d else 0) ≤ w
@@ -197,12 +211,15 @@ count_in_window d w false e = omega arith
 pub asks_at_most : (i : Incoming) (ns : ℕ) → length (numbers_to_ask i ns) ≤ i.window
 asks_at_most i ns =
     let n = before_number i ns in
-    let e : length (numbers_to_ask i ns) ≡ length (missing i.places n) = length-map (missing i.places n) (λ k. (i.vr + k) % i.modulus) in
+    let e : length (numbers_to_ask i ns) ≡ length (missing i.places n) =
+        length-map (missing i.places n) (λ k. (i.vr + k) % i.modulus) in
     let h : length (missing i.places n) ≤ n = length-missing i.places n in
-    let w : n ≤ i.window = count_in_window (ahead i.modulus i.vr ns) i.window (nat_lt (ahead i.modulus i.vr ns) i.window) refl in
+    let w : n ≤ i.window = count_in_window (ahead i.modulus i.vr ns) i.window
+        (nat_lt (ahead i.modulus i.vr ns) i.window) refl in
     omega arith
 
-pub before_in_window : (i : Incoming) (ns : ℕ) → ahead i.modulus i.vr ns < i.window → before_number i ns ≡ ahead i.modulus i.vr ns
+pub before_in_window : (i : Incoming) (ns : ℕ) → ahead i.modulus i.vr ns < i.window
+    → before_number i ns ≡ ahead i.modulus i.vr ns
 before_in_window i ns h = cond-true _ _ _ (lt-ltb (ahead i.modulus i.vr ns) i.window h)
 
 pub rej_is_not_srej : Rej ≡ Srej → ⊥

@@ -53,7 +53,8 @@ shows_setting f held room t h = record {
 
 -- the machine changes and stays on its path
 pub shows_changing :
-    (f : Machine → Machine) (held behind : Held) (room : Room) (t : Turn) → (f t.now).path ≡ t.now.path → Shows held room t
+    (f : Machine → Machine) (held behind : Held) (room : Room) (t : Turn) → (f t.now).path ≡ t.now.path
+        → Shows held room t
     → Holds behind (f t.now) → Shows behind room (changing f t)
 shows_changing f held behind room t path h new = record {
   holds = new;
@@ -64,15 +65,18 @@ shows_changing f held behind room t path h new = record {
 -- a frame is sent
 pub shows_sending :
     (x : Sent) (held : Held) (room behind : Room) (t : Turn) → Shows held room t
-    → behind.frames.items ≡ room.frames.items ++ sent_frame held.path (sent_in held.incoming.modulus x) ∷ [] → behind.told ≡ room.told
+    → behind.frames.items ≡ room.frames.items ++ sent_frame held.path (sent_in held.incoming.modulus x) ∷ []
+        → behind.told ≡ room.told
     → Shows held behind (sending x t)
 shows_sending x held room behind t h frames told = record {
   holds = h.holds;
   frames =
       frames
       ∙ ap (λ fs. fs ++ sent_frame held.path (sent_in held.incoming.modulus x) ∷ []) h.frames
-      ∙ ap (λ p. sent_frames t.now.path t.sent ++ sent_frame p (sent_in held.incoming.modulus x) ∷ []) h.holds.stands.path
-      ∙ ap (λ k. sent_frames t.now.path t.sent ++ sent_frame t.now.path (sent_in k x) ∷ []) h.holds.stands.incoming.modulus
+      ∙ ap (λ p. sent_frames t.now.path t.sent ++ sent_frame p (sent_in held.incoming.modulus x) ∷ [])
+          h.holds.stands.path
+      ∙ ap (λ k. sent_frames t.now.path t.sent ++ sent_frame t.now.path (sent_in k x) ∷ [])
+          h.holds.stands.incoming.modulus
       ∙ sym (map-append (sent_frame t.now.path) t.sent (sent_in t.now.incoming.modulus x ∷ []));
   told = ap (λ v. v.items) told ∙ h.told;
 }
@@ -90,7 +94,8 @@ shows_telling x held room behind t h told frames = record {
 
 -- the same of a turn
 pub shows_control :
-    (f : Control → Control) (held : Held) (c : Control) (room : Room) (t : Turn) → c ≡ f held.control → Shows held room t
+    (f : Control → Control) (held : Held) (c : Control) (room : Room) (t : Turn) → c ≡ f held.control
+        → Shows held room t
     → Shows (record held { control = c }) room (setting f t)
 shows_control f held c room t e h =
     let P : Control → Type 0 = λ x. Shows (record held { control = x }) room (setting f t) in
@@ -103,11 +108,13 @@ pub vr_as_sent :
 vr_as_sent held m nr h e = e ∙ ap (λ k. m.incoming.vr % k) (sym h.stands.incoming.modulus)
 
 -- a set-up begins
-pub shows_fresh : (held behind : Held) (room : Room) (t : Turn) → Shows held room t → ((m : Machine) → Holds held m → Holds behind (fresh m)) → Shows behind room (changing fresh t)
+pub shows_fresh : (held behind : Held) (room : Room) (t : Turn) → Shows held room t
+    → ((m : Machine) → Holds held m → Holds behind (fresh m)) → Shows behind room (changing fresh t)
 shows_fresh held behind room t h new = shows_changing fresh held behind room t refl h (new t.now h.holds)
 
 -- what waits is forgotten
-pub shows_emptied : (held behind : Held) (room : Room) (t : Turn) → Shows held room t → ((m : Machine) → Holds held m → Holds behind (emptied m)) → Shows behind room (changing emptied t)
+pub shows_emptied : (held behind : Held) (room : Room) (t : Turn) → Shows held room t
+    → ((m : Machine) → Holds held m → Holds behind (emptied m)) → Shows behind room (changing emptied t)
 shows_emptied held behind room t h new = shows_changing emptied held behind room t refl h (new t.now h.holds)
 
 -- numbers are modulo another modulus
@@ -139,7 +146,8 @@ holds_outgoing held m behind o h formed stands = record {
 
 -- packets are given, and V(R) has moved on
 pub holds_incoming :
-    (held : Held) (m : Machine) (behind i : Incoming) → Holds held m → StandsForIncoming behind i → IsIncoming behind → IsReady behind
+    (held : Held) (m : Machine) (behind i : Incoming) → Holds held m → StandsForIncoming behind i → IsIncoming behind
+        → IsReady behind
     → Holds (record held { incoming = behind }) (record m { incoming = i })
 holds_incoming held m behind i h stands formed ready = record {
   stands = record {
@@ -157,7 +165,8 @@ holds_incoming held m behind i h stands formed ready = record {
 }
 
 pub shows_incoming :
-    (held : Held) (behind : Incoming) (room after : Room) (t : Turn) (i : Incoming) (packets : List Packet) → Shows held room t
+    (held : Held) (behind : Incoming) (room after : Room) (t : Turn) (i : Incoming) (packets : List Packet)
+        → Shows held room t
     → StandsForIncoming behind (moved_on (length packets) t.now.incoming) → IsIncoming behind → IsReady behind
     → after.told.items ≡ room.told.items ++ map Given packets → after.frames ≡ room.frames
     → Shows (record held { incoming = behind }) after (give packets t)
@@ -168,7 +177,8 @@ shows_incoming held behind room after t i packets h stands formed ready told fra
 }
 
 pub same_incoming :
-    (held : Held) (behind : Incoming) (room : Room) (t : Turn) → Shows held room t → StandsForIncoming behind t.now.incoming → IsIncoming behind
+    (held : Held) (behind : Incoming) (room : Room) (t : Turn) → Shows held room t
+        → StandsForIncoming behind t.now.incoming → IsIncoming behind
     → IsReady behind → Shows (record held { incoming = behind }) room t
 same_incoming held behind room t h stands formed ready = record {
   holds = holds_incoming held t.now behind t.now.incoming h.holds stands formed ready;
@@ -177,6 +187,8 @@ same_incoming held behind room t h stands formed ready = record {
 }
 
 pub shows_as :
-    (held : Held) (behind : Incoming) (room : Room) (t u : Turn) → t ≡ u → Shows (record held { incoming = behind }) room t
+    (held : Held) (behind : Incoming) (room : Room) (t u : Turn) → t ≡ u
+        → Shows (record held { incoming = behind }) room t
     → Shows (record held { incoming = behind }) room u
-shows_as held behind room t u e h = let P : Turn → Type 0 = λ x. Shows (record held { incoming = behind }) room x in subst P e h
+shows_as held behind room t u e h = let P : Turn → Type 0 = λ x. Shows (record held { incoming = behind }) room x in
+    subst P e h

@@ -1,5 +1,6 @@
 -- The acts of a link that is up (AX.25 2.2 section 6.4), each by itself.
-use Rattle.std.specs.Prelude.{ℕ, ◌+◌, ◌-◌, Bool, true, false, nat_lt, ◌==◌, not, ◌&&◌, ◌||◌, if◌then◌else◌, List, [], ◌∷◌, ◌++◌, length, take, drop, map, min, max, replicate, slice_get, Option, Some, None, is_none}
+use Rattle.std.specs.Prelude.{ℕ, ◌+◌, ◌-◌, Bool, true, false, nat_lt, ◌==◌, not, ◌&&◌, ◌||◌, if◌then◌else◌, List, [],
+    ◌∷◌, ◌++◌, length, take, drop, map, min, max, replicate, slice_get, Option, Some, None, is_none}
 use Rattle.std.specs.Option.{option_to_list}
 use Rattle.ax25_frames.specs.declared.frame.S.TheVariants.{Rr, Rej, Srej}
 use Rattle.ax25_frames.specs.declared.frame.U.{U}
@@ -26,7 +27,8 @@ running ticks (Some left) = Some left
 -- The packets below a number are acknowledged. If at least one is and no poll awaits its answer, the retries
 -- begin anew, and T1 runs exactly where something that was sent is still not acknowledged.
 abbrev pub timed_anew : Bool → Control → Control
-timed_anew all c = if all then record c { rc = 0; t1 = None; t3 = Some t3_ticks } else record c { rc = 0; t1 = Some t1_ticks }
+timed_anew all c = if all then record c { rc = 0; t1 = None; t3 = Some t3_ticks }
+    else record c { rc = 0; t1 = Some t1_ticks }
 
 abbrev pub timed_by : Bool → Bool → Control → Control
 timed_by some all c = if some && not c.poll then timed_anew all c else c
@@ -63,7 +65,8 @@ behind_poll c =
     else record c { poll = false; rc = 0; t1 = None; t3 = Some t3_ticks }
 
 abbrev pub recover : Bool → Act
-recover answers turn = if turn.now.control.poll && answers then in_order (setting behind_poll ∷ changing gone_back ∷ []) turn else turn
+recover answers turn = if turn.now.control.poll && answers
+    then in_order (setting behind_poll ∷ changing gone_back ∷ []) turn else turn
 
 -- an RR command with P = 1, whose answer is awaited
 abbrev pub polling : Control → Control
@@ -102,7 +105,8 @@ flush turn = if length (to_send turn.now) == 0 then turn else send_packets (to_s
 
 -- if a disconnect was asked for and no packet waits, the link is released
 abbrev pub releasing : Control → Control
-releasing c = record c { state = Releasing; poll = false; due = false; rc = 0; t1 = Some t1_ticks; t2 = None; t3 = None }
+releasing c = record c { state = Releasing; poll = false; due = false; rc = 0; t1 = Some t1_ticks; t2 = None;
+    t3 = None }
 
 abbrev pub release : Act
 release = in_order (setting releasing ∷ sending (SetupSent Disc true) ∷ [])
@@ -168,7 +172,8 @@ give packets turn = record turn {
 
 -- a packet ahead of V(R) is stored
 abbrev pub stored : ℕ → Packet → Machine → Machine
-stored ahead packet m = record m { incoming = record m.incoming { places = with_packet m.incoming.places ahead packet } }
+stored ahead packet m = record m { incoming = record m.incoming { places =
+    with_packet m.incoming.places ahead packet } }
 
 -- SREJ for each number that is neither stored nor asked for, from V(R) up to one ahead of it; they are then asked for
 abbrev pub srej_for : Machine → ℕ → Sent

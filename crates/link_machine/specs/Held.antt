@@ -1,5 +1,6 @@
 -- What a link keeps in one event, act by act. No public clause speaks of this.
-use Rattle.std.specs.Prelude.{All, ◌≤◌, replicate, ◌<◌, Result, Ok, Err, ◌≡◌, ℕ, ◌+◌, Bool, false, ◌++◌, ◌∷◌, [], length, if◌then◌else◌, List}
+use Rattle.std.specs.Prelude.{All, ◌≤◌, replicate, ◌<◌, Result, Ok, Err, ◌≡◌, ℕ, ◌+◌, Bool, false, ◌++◌, ◌∷◌, [],
+    length, if◌then◌else◌, List}
 use Rattle.link_machine.specs.Sent.Sent.{InfoSent}
 use Rattle.selective_reject.specs.Outgoing.{Outgoing, IsOutgoing, after_next, acknowledged, back}
 use Rattle.selective_reject.specs.Incoming.{Incoming, IsIncoming}
@@ -60,7 +61,8 @@ pub record Shows (held : Held) (room : Room) (turn : Turn) : Type 0 where
 
 -- what waits to be acknowledged, once so many more are and V(S) has perhaps gone back
 abbrev pub outgoing_behind : ℕ → Bool → Outgoing → Outgoing
-outgoing_behind count goes_back o = if goes_back then back (acknowledged (o.va + count) o) else acknowledged (o.va + count) o
+outgoing_behind count goes_back o = if goes_back then back (acknowledged (o.va + count) o)
+    else acknowledged (o.va + count) o
 
 -- the room that closing may need
 abbrev pub frames_to_close : Held → ℕ

@@ -1,10 +1,12 @@
 -- Lists of bits and tones that are put together, cut and turned back.
-use Rattle.std.proofs.Common.{◌≡◌, ℕ, zero, suc, List, [], ◌∷◌, ◌++◌, Bool, true, false, length, take, refl, sym, ap, ◌∙◌}
+use Rattle.std.proofs.Common.{◌≡◌, ℕ, zero, suc, List, [], ◌∷◌, ◌++◌, Bool, true, false, length, take, refl, sym, ap,
+    ◌∙◌}
 use Rattle.tone_table.specs.declared.tone.Tone.{Tone}
 use Rattle.tone_table.specs.declared.tone.Tone.TheVariants.{Mark, Space}
 use Rattle.nrzi_bits.specs.Line.{sent_tone, line_from, line, same_tone, bits_from, bits_of, last_from, last_tone}
 
-pub last_from-append : (before : Tone) (ts us : List Tone) → last_from before (ts ++ us) ≡ last_from (last_from before ts) us
+pub last_from-append : (before : Tone) (ts us : List Tone)
+    → last_from before (ts ++ us) ≡ last_from (last_from before ts) us
 last_from-append before [] us = refl
 last_from-append before (t ∷ ts) us = last_from-append t ts us
 
@@ -55,7 +57,8 @@ length-line_from before [] = refl
 length-line_from before (b ∷ bits) = ap suc (length-line_from (sent_tone before b) bits)
 
 -- the bits of the first tones are the first of the bits
-pub bits_from-take : (n : ℕ) (before : Tone) (tones : List Tone) → bits_from before (take n tones) ≡ take n (bits_from before tones)
+pub bits_from-take : (n : ℕ) (before : Tone) (tones : List Tone)
+    → bits_from before (take n tones) ≡ take n (bits_from before tones)
 bits_from-take zero before tones = refl
 bits_from-take (suc n) before [] = refl
 bits_from-take (suc n) before (t ∷ tones) = ap (λ bits. same_tone before t ∷ bits) (bits_from-take n t tones)

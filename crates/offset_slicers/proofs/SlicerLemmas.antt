@@ -1,6 +1,8 @@
 -- What one sample more changes of the tones, and of what a slicer keeps.
-use Rattle.std.proofs.Common.{◌≡◌, ℕ, ◌+◌, ◌-◌, ◌*◌, ◌/◌, ◌%◌, ◌<◌, ◌≤◌, ℤ, List, [], ◌∷◌, ◌++◌, Bool, length, map, take, drop, set, refl, ap, subst, sym, ◌∙◌, arith, length-drop}
-use Rattle.std.proofs.lemmas.List.{drop-append-le, take_all, drop_all, take_more_set, length-set, length_push, append-nil}
+use Rattle.std.proofs.Common.{◌≡◌, ℕ, ◌+◌, ◌-◌, ◌*◌, ◌/◌, ◌%◌, ◌<◌, ◌≤◌, ℤ, List, [], ◌∷◌, ◌++◌, Bool, length, map,
+    take, drop, set, refl, ap, subst, sym, ◌∙◌, arith, length-drop}
+use Rattle.std.proofs.lemmas.List.{drop-append-le, take_all, drop_all, take_more_set, length-set, length_push,
+    append-nil}
 use Rattle.std.proofs.lemmas.List.FromFn.{take-map-range_with_len, map-range_with_len_more}
 use Rattle.std.specs.List.{range_with_len}
 use Rattle.tone_table.specs.declared.tone.Tone.{Tone}
@@ -13,15 +15,18 @@ use Rattle.offset_slicers.specs.Held.{Held, held_of, part_behind, offset_from, S
 use Rattle.offset_slicers.proofs.WindowLemmas.{length-tones_at, tones_at-append}
 
 -- a sample that ends no window adds no tone
-pub tones_at-push_none : (offset : ℕ) (x : List ℤ) (sample : ℤ) → windows_in offset (length x + 1) ≡ windows_in offset (length x)
+pub tones_at-push_none : (offset : ℕ) (x : List ℤ) (sample : ℤ)
+    → windows_in offset (length x + 1) ≡ windows_in offset (length x)
     → tones_at offset (x ++ sample ∷ []) ≡ tones_at offset x
 tones_at-push_none offset x sample none =
     let count : length (tones_at offset (x ++ sample ∷ [])) ≡ windows_in offset (length x)
     = length-tones_at offset (x ++ sample ∷ []) ∙ ap (windows_in offset) (length_push x sample) ∙ none in
-    sym (tones_at-append offset x (sample ∷ []) ∙ take_all (windows_in offset (length x)) (tones_at offset (x ++ sample ∷ [])) (omega arith))
+    sym (tones_at-append offset x (sample ∷ []) ∙ take_all (windows_in offset (length x))
+        (tones_at offset (x ++ sample ∷ [])) (omega arith))
 
 -- a sample that ends a window adds the tone of that window
-pub tones_at-push_one : (offset : ℕ) (x : List ℤ) (sample : ℤ) → windows_in offset (length x + 1) ≡ windows_in offset (length x) + 1
+pub tones_at-push_one : (offset : ℕ) (x : List ℤ) (sample : ℤ)
+    → windows_in offset (length x + 1) ≡ windows_in offset (length x) + 1
     → tones_at offset (x ++ sample ∷ [])
     ≡ tones_at offset x ++ tone_of (window_at offset (x ++ sample ∷ []) (windows_in offset (length x))) ∷ []
 unfolding tones_at
@@ -34,17 +39,20 @@ tones_at-push_one offset x sample one =
     ap (λ m. map tone (range_with_len 0 m)) count
     ∙ map-range_with_len_more tone 0 n n (omega arith)
     ∙ ap (λ tones. tones ++ tone n ∷ [])
-    (sym (take-map-range_with_len tone 0 (windows_in offset (length all)) n fits) ∙ sym (tones_at-append offset x (sample ∷ [])))
+    (sym (take-map-range_with_len tone 0 (windows_in offset (length all)) n fits)
+        ∙ sym (tones_at-append offset x (sample ∷ [])))
 
 -- the window that a sample ends
-pub window_at-push : (offset : ℕ) (x : List ℤ) (sample : ℤ) (window : List ℤ) → offset ≤ length x → (length x - offset) % 8 ≡ 7
+pub window_at-push : (offset : ℕ) (x : List ℤ) (sample : ℤ) (window : List ℤ) → offset ≤ length x
+    → (length x - offset) % 8 ≡ 7
     → length window ≡ 8 → take 7 window ≡ part_behind offset x
     → window_at offset (x ++ sample ∷ []) (windows_in offset (length x)) ≡ set window 7 sample
 unfolding window_at
 window_at-push offset x sample window begun last size part =
     let at : ℕ = offset + 8 * windows_in offset (length x) in
     let inside : at ≤ length x = omega arith in
-    let short : length (drop at x ++ sample ∷ []) ≤ 8 = omega (arith, length_push (drop at x) sample, length-drop at x) in
+    let short : length (drop at x ++ sample ∷ []) ≤ 8 = omega (arith, length_push (drop at x) sample, length-drop at x)
+        in
     let whole : length (set window 7 sample) ≤ 8 = omega (arith, length-set window 7 sample) in
     ap (take 8) (drop-append-le at x (sample ∷ []) inside)
     ∙ take_all 8 (drop at x ++ sample ∷ []) short
@@ -103,7 +111,8 @@ tones_at-last offset position window before x sample h begun last whole =
     let count : position ≡ length x = h.count in
     let part : take 7 window ≡ part_behind offset x = ap (λ n. take n window) (sym last) ∙ h.part in
     tones_at-push_one offset x sample (omega arith)
-    ∙ ap (λ w. tones_at offset x ++ tone_of w ∷ []) (window_at-push offset x sample window (omega arith) (omega arith) whole part)
+    ∙ ap (λ w. tones_at offset x ++ tone_of w ∷ []) (window_at-push offset x sample window (omega arith) (omega arith)
+        whole part)
 
 -- the last sample of a window
 keeps_last : (offset position : ℕ) (window : List ℤ) (before : Tone) (x : List ℤ) (sample : ℤ)
@@ -122,7 +131,8 @@ keeps_last offset position window before x sample h begun last whole =
     }
 
 -- what is kept of a stretch, by its own count of samples
-stands_of : (offset first position begin r n : ℕ) (window : List ℤ) (before : Tone) (x : List ℤ) → r ≡ offset_from offset begin → position ≡ begin + n → first ≡ begin + r
+stands_of : (offset first position begin r n : ℕ) (window : List ℤ) (before : Tone) (x : List ℤ)
+    → r ≡ offset_from offset begin → position ≡ begin + n → first ≡ begin + r
     → Keeps r n window before x → StandsFor (held_of offset first position window before) begin x
 stands_of offset first position begin r n window before x is count begins keeps =
     let behind : position - first ≡ n - r = omega arith in
@@ -134,7 +144,8 @@ stands_of offset first position begin r n window before x is count begins keeps 
     }
 
 -- a stretch without a sample, and a line at mark
-pub stands_empty : (offset first begin : ℕ) (window : List ℤ) (before : Tone) → first ≡ begin + offset_from offset begin → before ≡ Mark
+pub stands_empty : (offset first begin : ℕ) (window : List ℤ) (before : Tone) → first ≡ begin + offset_from offset begin
+    → before ≡ Mark
     → StandsFor (held_of offset first begin window before) begin []
 unfolding tones_at
 stands_empty offset first begin window before begins at_mark =
@@ -149,7 +160,8 @@ stands_empty offset first begin window before begins at_mark =
     }
 
 -- a stretch of samples, of which the first window of the offset begins after r samples, and one sample more
-module _ (offset first position begin : ℕ) (window : List ℤ) (before : Tone) (x : List ℤ) (sample : ℤ) (r : ℕ) (is : r ≡ offset_from offset begin)
+module _ (offset first position begin : ℕ) (window : List ℤ) (before : Tone) (x : List ℤ) (sample : ℤ) (r : ℕ)
+    (is : r ≡ offset_from offset begin)
     (h : StandsFor (held_of offset first position window before) begin x) where
   begins : first ≡ begin + r
   begins = h.first ∙ ap (λ m. begin + m) (sym is)
@@ -169,7 +181,8 @@ module _ (offset first position begin : ℕ) (window : List ℤ) (before : Tone)
   further = let count = h.count in omega arith
 
   -- a sample before the first window
-  pub stands_before : position < first → StandsFor (held_of offset first (position + 1) window before) begin (x ++ sample ∷ [])
+  pub stands_before : position < first → StandsFor (held_of offset first (position + 1) window before) begin
+      (x ++ sample ∷ [])
   stands_before early =
       let count = h.count in
       let first_at = begins in
@@ -178,16 +191,19 @@ module _ (offset first position begin : ℕ) (window : List ℤ) (before : Tone)
 
   -- a sample within a window
   pub stands_within : first ≤ position → (position - first) % 8 < 7 → length window ≡ 8
-      → StandsFor (held_of offset first (position + 1) (set window ((position - first) % 8) sample) before) begin (x ++ sample ∷ [])
+      → StandsFor (held_of offset first (position + 1) (set window ((position - first) % 8) sample) before) begin
+          (x ++ sample ∷ [])
   stands_within late within whole =
       let count = h.count in
       let first_at = begins in
       let place : (length x - r) % 8 < 7 = subst (λ m. m % 8 < 7) behind within in
       let P : ℕ → Type 0 = λ m. Keeps r (length x + 1) (set window (m % 8) sample) before (x ++ sample ∷ []) in
-      stands_of offset first (position + 1) begin r (length x + 1) (set window ((position - first) % 8) sample) before (x ++ sample ∷ []) is further begins
+      stands_of offset first (position + 1) begin r (length x + 1) (set window ((position - first) % 8) sample) before
+          (x ++ sample ∷ []) is further begins
       (subst P (sym behind) (keeps_within r (length x) window before x sample keeps (omega arith) place whole))
 
-  module _ (late : first ≤ position) (last : 7 ≤ (position - first) % 8) (whole : length window ≡ 8) (stored : ℤ) (after : Tone) (same : stored ≡ sample)
+  module _ (late : first ≤ position) (last : 7 ≤ (position - first) % 8) (whole : length window ≡ 8) (stored : ℤ)
+      (after : Tone) (same : stored ≡ sample)
       (tone : after ≡ tone_of (set window ((position - first) % 8) stored)) where
     at_last : (position - first) % 8 ≡ 7
     at_last = omega arith
@@ -196,33 +212,39 @@ module _ (offset first position begin : ℕ) (window : List ℤ) (before : Tone)
     place_last = ap (λ m. m % 8) (sym behind) ∙ at_last
 
     tone_last : tone_of (set window 7 sample) ≡ after
-    tone_last = ap (λ z. tone_of (set window 7 z)) (sym same) ∙ ap (λ m. tone_of (set window m stored)) (sym at_last) ∙ sym tone
+    tone_last = ap (λ z. tone_of (set window 7 z)) (sym same) ∙ ap (λ m. tone_of (set window m stored)) (sym at_last)
+        ∙ sym tone
 
     window_last : set window 7 sample ≡ set window ((position - first) % 8) stored
     window_last = ap (λ z. set window 7 z) (sym same) ∙ ap (λ m. set window m stored) (sym at_last)
 
     -- the last sample of a window
-    pub stands_last : StandsFor (held_of offset first (position + 1) (set window ((position - first) % 8) stored) after) begin (x ++ sample ∷ [])
+    pub stands_last : StandsFor (held_of offset first (position + 1) (set window ((position - first) % 8) stored) after)
+        begin (x ++ sample ∷ [])
     stands_last =
         let count = h.count in
         let first_at = begins in
         let P : List ℤ → Type 0 = λ w. Keeps r (length x + 1) w after (x ++ sample ∷ []) in
         let Q : Tone → Type 0 = λ t. Keeps r (length x + 1) (set window 7 sample) t (x ++ sample ∷ []) in
-        stands_of offset first (position + 1) begin r (length x + 1) (set window ((position - first) % 8) stored) after (x ++ sample ∷ []) is further begins
-        (subst P window_last (subst Q tone_last (keeps_last r (length x) window before x sample keeps (omega arith) place_last whole)))
+        stands_of offset first (position + 1) begin r (length x + 1) (set window ((position - first) % 8) stored) after
+            (x ++ sample ∷ []) is further begins
+        (subst P window_last (subst Q tone_last (keeps_last r (length x) window before x sample keeps (omega arith)
+            place_last whole)))
 
     -- and its tone
     pub tones_last : tones_at r (x ++ sample ∷ []) ≡ tones_at r x ++ after ∷ []
     tones_last =
         let count = h.count in
         let first_at = begins in
-        tones_at-last r (length x) window before x sample keeps (omega arith) place_last whole ∙ ap (λ t. tones_at r x ++ t ∷ []) tone_last
+        tones_at-last r (length x) window before x sample keeps (omega arith) place_last whole
+            ∙ ap (λ t. tones_at r x ++ t ∷ []) tone_last
 
   -- no window ends before the first one begins, and none within a window
   pub early_windows : position < first → windows_in r (length x + 1) ≡ windows_in r (length x)
   early_windows early = let count = h.count in let first_at = begins in omega arith
 
-  pub same_windows : first ≤ position → (position - first) % 8 < 7 → windows_in r (length x + 1) ≡ windows_in r (length x)
+  pub same_windows : first ≤ position → (position - first) % 8 < 7
+      → windows_in r (length x + 1) ≡ windows_in r (length x)
   same_windows late within =
       let count = h.count in
       let first_at = begins in
@@ -239,16 +261,20 @@ module _ (offset first position begin : ℕ) (window : List ℤ) (before : Tone)
       ((length x - r) / 8, omega arith)
 
   pub no_window : windows_in r (length x + 1) ≡ windows_in r (length x) → ¬ EndsWindow r (x ++ sample ∷ [])
-  no_window same ends = let size : length (x ++ sample ∷ []) ≡ length x + 1 = length_push x sample in let at = ends.1 in omega arith
+  no_window same ends = let size : length (x ++ sample ∷ []) ≡ length x + 1 = length_push x sample in let at = ends.1 in
+      omega arith
 
 -- a sample that ends no window adds no bit
-pub bits-push_none : (offset : ℕ) (x : List ℤ) (sample : ℤ) → windows_in offset (length x + 1) ≡ windows_in offset (length x)
+pub bits-push_none : (offset : ℕ) (x : List ℤ) (sample : ℤ)
+    → windows_in offset (length x + 1) ≡ windows_in offset (length x)
     → bits offset (x ++ sample ∷ []) ≡ bits offset x ++ []
 unfolding bits
-bits-push_none offset x sample none = ap bits_of (tones_at-push_none offset x sample none) ∙ sym (append-nil (bits_of (tones_at offset x)))
+bits-push_none offset x sample none = ap bits_of (tones_at-push_none offset x sample none)
+    ∙ sym (append-nil (bits_of (tones_at offset x)))
 
 -- a sample that ends a window adds the bit of its tone
-pub bits-push_one : (offset : ℕ) (x : List ℤ) (sample : ℤ) (tone : Tone) (bit : Bool) → tones_at offset (x ++ sample ∷ []) ≡ tones_at offset x ++ tone ∷ []
+pub bits-push_one : (offset : ℕ) (x : List ℤ) (sample : ℤ) (tone : Tone) (bit : Bool)
+    → tones_at offset (x ++ sample ∷ []) ≡ tones_at offset x ++ tone ∷ []
     → bits_of (tones_at offset x ++ tone ∷ []) ≡ bits_of (tones_at offset x) ++ bit ∷ []
     → bits offset (x ++ sample ∷ []) ≡ bits offset x ++ bit ∷ []
 unfolding bits

@@ -1,5 +1,6 @@
 -- What a reader finds in the cell of its position, and what `answer` then computes to.
-use Rattle.std.proofs.Common.{◌≡◌, ◌≢◌, ℕ, ◌+◌, ◌-◌, ◌%◌, ◌<◌, ◌≤◌, List, length, Some, Bool, false, sym, ap, ◌∙◌, subst, inl, inr, arith, lt_of_not-le, eq-eqb, ne_eqb, if◌then◌else◌}
+use Rattle.std.proofs.Common.{◌≡◌, ◌≢◌, ℕ, ◌+◌, ◌-◌, ◌%◌, ◌<◌, ◌≤◌, List, length, Some, Bool, false, sym, ap, ◌∙◌,
+    subst, inl, inr, arith, lt_of_not-le, eq-eqb, ne_eqb, if◌then◌else◌}
 use Rattle.std.specs.Prelude.{ℤ, slice_get, nat_lt, ◌==◌}
 use Rattle.std.proofs.Math.Nat.{mod-le, add-mod, add-mod_right}
 use Rattle.std.proofs.lemmas.Bool.{lt-ltb, le-ltb}
@@ -25,9 +26,11 @@ oldest : (n at p : ℕ) → n ≤ p → p % n ≡ at % n → (p + 1 - n) % n ≡
 oldest n at p le same =
     let r : ℕ = p + 1 - n in
     let back : r + n ≡ p + 1 = omega arith in
-    sym (add-mod_right r n) ∙ ap (λ k. k % n) back ∙ add-mod p 1 n ∙ ap (λ k. (k + 1 % n) % n) same ∙ sym (add-mod at 1 n)
+    sym (add-mod_right r n) ∙ ap (λ k. k % n) back ∙ add-mod p 1 n ∙ ap (λ k. (k + 1 % n) % n) same
+        ∙ sym (add-mod at 1 n)
 
-pub finds : (n : ℕ) (published : List ℤ) (at word : ℕ) → 0 < n → at ≤ length published → TellsCell n published (at % n) word → Finds n published at word
+pub finds : (n : ℕ) (published : List ℤ) (at word : ℕ) → 0 < n → at ≤ length published
+    → TellsCell n published (at % n) word → Finds n published at word
 finds n published at word some within (inl (is_zero, none_yet)) =
     let lap : lap_of word ≡ 0 = ap lap_of is_zero in
     let low : at % n ≤ at = mod-le at n in
@@ -39,31 +42,40 @@ finds n published at word some within (inl (is_zero, none_yet)) =
       within = λ lt. absurd (omega arith);
     }
 finds n published at word some within (inr (p, same, inside, newest, lap, sample)) =
-    let far_of : at < p → at + n ≤ p = λ lt. dite (dec_le (at + n) p) (λ le. le) (λ gt. let near : p < at + n = lt_of_not-le gt in let one : at ≡ p = one_turn at p n (omega arith) near (sym same) in absurd (omega arith)) in
+    let far_of : at < p → at + n ≤ p = λ lt. dite (dec_le (at + n) p) (λ le. le)
+        (λ gt. let near : p < at + n = lt_of_not-le gt in let one : at ≡ p =
+        one_turn at p n (omega arith) near (sym same) in absurd (omega arith)) in
     record {
       empty = λ le. dite (dec_le (p + n) at) (λ past. omega arith)
-          (λ gt. let near : at < p + n = lt_of_not-le gt in let one : p ≡ at = one_turn p at n (omega arith) near same in absurd (omega arith));
-      own = λ e. let one : p ≡ at = omega arith in subst (λ (k : ℕ). slice_get published k ≡ Some (sample_of word)) one sample;
+          (λ gt. let near : at < p + n = lt_of_not-le gt in let one : p ≡ at =
+              one_turn p at n (omega arith) near same in absurd (omega arith));
+      own = λ e. let one : p ≡ at = omega arith in subst (λ (k : ℕ). slice_get published k ≡ Some (sample_of word))
+          one sample;
       far = λ lt. let wide : at + n ≤ p = far_of (omega arith) in omega arith;
-      turn = λ lt. let wide : at + n ≤ p = far_of (omega arith) in ap (λ k. (k - n) % n) lap ∙ oldest n at p (omega arith) same;
+      turn = λ lt. let wide : at + n ≤ p = far_of (omega arith) in ap (λ k. (k - n) % n) lap
+          ∙ oldest n at p (omega arith) same;
       within = λ lt. omega arith;
     }
 
 -- `answer` by its three tests
 abbrev tested : Bool → Bool → Bool → ℕ → Entry → Got
-tested own later last n e = if own then Item e.at (sample_of e.cell) else if later then Gap e.at (lap_of e.cell - n) else if last then End e.at else Empty e.at
+tested own later last n e = if own then Item e.at (sample_of e.cell) else if later then Gap e.at (lap_of e.cell - n)
+    else if last then End e.at else Empty e.at
 
 pub answer_item : (n : ℕ) (e : Entry) → lap_of e.cell ≡ e.at + 1 → answer n e ≡ Item e.at (sample_of e.cell)
-answer_item n e h = ap (λ own. tested own (nat_lt (e.at + 1) (lap_of e.cell)) (e.last == e.at + 1) n e) (eq-eqb (lap_of e.cell) (e.at + 1) h)
+answer_item n e h = ap (λ own. tested own (nat_lt (e.at + 1) (lap_of e.cell)) (e.last == e.at + 1) n e)
+    (eq-eqb (lap_of e.cell) (e.at + 1) h)
 
 pub answer_gap : (n : ℕ) (e : Entry) → e.at + 1 < lap_of e.cell → answer n e ≡ Gap e.at (lap_of e.cell - n)
 answer_gap n e h =
-    ap (λ own. tested own (nat_lt (e.at + 1) (lap_of e.cell)) (e.last == e.at + 1) n e) (ne_eqb (lap_of e.cell) (e.at + 1) (λ same. omega arith))
+    ap (λ own. tested own (nat_lt (e.at + 1) (lap_of e.cell)) (e.last == e.at + 1) n e)
+        (ne_eqb (lap_of e.cell) (e.at + 1) (λ same. omega arith))
     ∙ ap (λ later. tested false later (e.last == e.at + 1) n e) (lt-ltb (e.at + 1) (lap_of e.cell) h)
 
 nothing_there : (n : ℕ) (e : Entry) → lap_of e.cell ≤ e.at → answer n e ≡ tested false false (e.last == e.at + 1) n e
 nothing_there n e h =
-    ap (λ own. tested own (nat_lt (e.at + 1) (lap_of e.cell)) (e.last == e.at + 1) n e) (ne_eqb (lap_of e.cell) (e.at + 1) (λ same. omega arith))
+    ap (λ own. tested own (nat_lt (e.at + 1) (lap_of e.cell)) (e.last == e.at + 1) n e)
+        (ne_eqb (lap_of e.cell) (e.at + 1) (λ same. omega arith))
     ∙ ap (λ later. tested false later (e.last == e.at + 1) n e) (le-ltb (e.at + 1) (lap_of e.cell) (omega arith))
 
 pub answer_end : (n : ℕ) (e : Entry) → lap_of e.cell ≤ e.at → e.last ≡ e.at + 1 → answer n e ≡ End e.at

@@ -1,4 +1,5 @@
--- What contracts see of a ring and its ends: to which ring each belongs, the published list, what a reader knows and read.
+-- What contracts see of a ring and its ends: to which ring each belongs, the published list, what a reader knows and
+-- read.
 use Rattle.std.specs.Prelude.{◌≡◌, ℕ, ◌-◌, ◌^◌, ◌<◌, List, [], ◌∷◌, ◌++◌, ℤ}
 use Rattle.atomic_table.specs.Seated.{TableId}
 use Rattle.sample_ring.specs.declared.got.Got.{Got}
@@ -73,9 +74,11 @@ pub record IsNew (reader : Reader) : Type 0 where
 -- one read is added to the record: at the position and with the count that the reader had, with the words that were
 -- loaded, and with the result as its answer
 abbrev pub AddsRead : ℕ → Reader → Got → Reader → Type 0
-AddsRead len before result after = (e : Entry) × (e.at ≡ position_of before) × (e.known ≡ known_by before) × (reads_of after ≡ reads_of before ++ e ∷ []) × (result ≡ answer len e)
+AddsRead len before result after = (e : Entry) × (e.at ≡ position_of before) × (e.known ≡ known_by before)
+    × (reads_of after ≡ reads_of before ++ e ∷ []) × (result ≡ answer len e)
 
--- The answer is of this position. A sample's position is below 2^48 - 1, and a gap goes forward to a position below 2^48.
+-- The answer is of this position. A sample's position is below 2^48 - 1, and a gap goes forward to a position below
+-- 2^48.
 abbrev pub GoesForward : ℕ → Got → Type 0
 GoesForward position (Item at sample) = (at ≡ position) × (at < 2 ^ 48 - 1)
 GoesForward position (Gap from to) = (from ≡ position) × (from < to) × (to < 2 ^ 48)

@@ -15,7 +15,8 @@ published step me word after = after ≡ (record me.0 { published = me.0.publish
 abbrev pub ended : Step (Unit {0}) → Me (Unit {0}) View → ℕ → Me (Unit {0}) View → Type 0
 ended step me word after = after ≡ (record me.0 { ended = true }, me.1)
 
--- What a reader may reckon with after a load of its cell: the position has room, a cell that was overwritten is at least a
+-- What a reader may reckon with after a load of its cell: the position has room, a cell that was overwritten is at
+-- least a
 -- whole ring ahead, and in an empty one no more was published than the reader's position.
 pub record Tells (v : View) (cell : ℕ) : Type 0 where
   pub room : v.track.at < 2 ^ 48 - 1
@@ -32,4 +33,5 @@ looked_last step me word after = after ≡ (looked_last_view me.0 word, me.1)
 
 -- a seat looked after a join, which leaves it as it is: the records that the writer keeps stand in the published list
 abbrev pub settled : Step (Unit {0}) → Me (Unit {0}) View → ℕ → Me (Unit {0}) View → Type 0
-settled step me word after = (after ≡ me) × (me.0.writes ≡ true → All (StandsIn me.0.len me.0.published me.0.ended) me.0.kept)
+settled step me word after = (after ≡ me) × (me.0.writes ≡ true
+    → All (StandsIn me.0.len me.0.published me.0.ended) me.0.kept)

@@ -1,13 +1,16 @@
 -- What is decided by numbers on the air is decided by whole numbers, and by true numbers.
-use Rattle.std.proofs.Common.{◌≡◌, ℕ, ◌+◌, ◌-◌, ◌*◌, ◌/◌, ◌%◌, ◌<◌, ◌≤◌, Bool, true, false, max, nat_lt, nat_le, List, drop, slice_get, Option, None, Result, Ok, Err, if◌then◌else◌, ap, sym, ◌∙◌, refl, subst, inl, inr, arith}
+use Rattle.std.proofs.Common.{◌≡◌, ℕ, ◌+◌, ◌-◌, ◌*◌, ◌/◌, ◌%◌, ◌<◌, ◌≤◌, Bool, true, false, max, nat_lt, nat_le, List,
+    drop, slice_get, Option, None, Result, Ok, Err, if◌then◌else◌, ap, sym, ◌∙◌, refl, subst, inl, inr, arith}
 use Rattle.std.proofs.lemmas.Bool.{lt-ltb, le-leb, leb-true}
 use Rattle.selective_reject.specs.declared.packet.Packet.{Packet}
 use Rattle.selective_reject.specs.declared.outgoing.BadNr.{BadNr}
 use Rattle.selective_reject.specs.Numbers.{IsModulus, ahead}
-use Rattle.selective_reject.specs.Outgoing.{Outgoing, IsOutgoing, StandsForOutgoing, acknowledged, is_named, acknowledgement, after_acknowledge, reduced_outgoing, sent_packet}
+use Rattle.selective_reject.specs.Outgoing.{Outgoing, IsOutgoing, StandsForOutgoing, acknowledged, is_named,
+    acknowledgement, after_acknowledge, reduced_outgoing, sent_packet}
 use Rattle.selective_reject.proofs.Distances.{ahead-mod_128, ahead-at_or_ahead, mod-mod_128}
 
-same_ahead : (held store : Outgoing) (m nr : ℕ) → IsModulus m → StandsForOutgoing held store → ahead m held.va nr ≡ ahead m store.va nr
+same_ahead : (held store : Outgoing) (m nr : ℕ) → IsModulus m → StandsForOutgoing held store
+    → ahead m held.va nr ≡ ahead m store.va nr
 same_ahead held store m nr is h = ap (λ t. ahead m t nr) h.va ∙ ahead-mod_128 m store.va nr is
 
 same_reach : (held store : Outgoing) → StandsForOutgoing held store → held.top - held.va ≡ store.top - store.va
@@ -23,7 +26,8 @@ same_top held store m (inr is) h = rw is (omega (arith, h.va, h.top))
 sent_at : ℕ → ℕ → List Packet → Option Packet
 sent_at place reach packets = if nat_lt place reach then slice_get packets place else None
 
-pub same_sent_packet : (held store : Outgoing) (m nr : ℕ) → IsModulus m → StandsForOutgoing held store → sent_packet m nr held ≡ sent_packet m nr store
+pub same_sent_packet : (held store : Outgoing) (m nr : ℕ) → IsModulus m → StandsForOutgoing held store
+    → sent_packet m nr held ≡ sent_packet m nr store
 unfolding sent_at
 same_sent_packet held store m nr is h =
     ap (λ t. sent_at t (held.top - held.va) held.packets) (same_ahead held store m nr is h)
@@ -36,17 +40,21 @@ pub sent_packet-at : (store : Outgoing) (m n : ℕ) → store.va ≤ n → n < s
 unfolding sent_at
 sent_packet-at store m n low sent high =
     ap (λ t. sent_at t (store.top - store.va) store.packets) (ahead-at_or_ahead m store.va n low high)
-    ∙ ap (λ t. if t then slice_get store.packets (n - store.va) else None) (lt-ltb (n - store.va) (store.top - store.va) (omega arith))
+    ∙ ap (λ t. if t then slice_get store.packets (n - store.va) else None)
+        (lt-ltb (n - store.va) (store.top - store.va) (omega arith))
 
 pub sent_packet-truly : (held store : Outgoing) (m n nr : ℕ) → IsModulus m → StandsForOutgoing held store
-    → store.va ≤ n → n < store.top → store.top < store.va + m → nr ≡ n % m → sent_packet m nr held ≡ slice_get store.packets (n - store.va)
+    → store.va ≤ n → n < store.top → store.top < store.va + m → nr ≡ n % m
+        → sent_packet m nr held ≡ slice_get store.packets (n - store.va)
 sent_packet-truly held store m n nr is h low sent high number =
-    same_sent_packet held store m nr is h ∙ ap (λ t. sent_packet m t store) number ∙ sent_packet-at store m n low sent (omega arith)
+    same_sent_packet held store m nr is h ∙ ap (λ t. sent_packet m t store) number
+        ∙ sent_packet-at store m n low sent (omega arith)
 
 answer_at : ℕ → ℕ → ℕ → ℕ → Result ℕ BadNr
 answer_at d reach va top = if nat_le d reach then Ok d else Err (record { va = va; top = top })
 
-pub same_acknowledgement : (held store : Outgoing) (m nr : ℕ) → IsModulus m → StandsForOutgoing held store → acknowledgement m nr held ≡ acknowledgement m nr store
+pub same_acknowledgement : (held store : Outgoing) (m nr : ℕ) → IsModulus m → StandsForOutgoing held store
+    → acknowledgement m nr held ≡ acknowledgement m nr store
 unfolding answer_at
 same_acknowledgement held store m nr is h =
     ap (λ t. answer_at t (held.top - held.va) (held.va % m) (held.top % m)) (same_ahead held store m nr is h)
@@ -54,27 +62,31 @@ same_acknowledgement held store m nr is h =
     ∙ ap (λ t. answer_at (ahead m store.va nr) (store.top - store.va) t (held.top % m)) (same_va held store m is h)
     ∙ ap (λ t. answer_at (ahead m store.va nr) (store.top - store.va) (store.va % m) t) (same_top held store m is h)
 
-same_named : (held store : Outgoing) (m nr : ℕ) → IsModulus m → StandsForOutgoing held store → is_named m nr held ≡ is_named m nr store
+same_named : (held store : Outgoing) (m nr : ℕ) → IsModulus m → StandsForOutgoing held store
+    → is_named m nr held ≡ is_named m nr store
 same_named held store m nr is h =
     ap (λ t. nat_le t (held.top - held.va)) (same_ahead held store m nr is h)
     ∙ ap (nat_le (ahead m store.va nr)) (same_reach held store h)
 
 cut : (held store : Outgoing) (d : ℕ) (b : Bool) → IsOutgoing held → StandsForOutgoing held store
     → (b ≡ true → held.va + d ≤ held.top)
-    → StandsForOutgoing (reduced_outgoing (if b then acknowledged (held.va + d) held else held)) (if b then acknowledged (store.va + d) store else store)
+    → StandsForOutgoing (reduced_outgoing (if b then acknowledged (held.va + d) held else held))
+        (if b then acknowledged (store.va + d) store else store)
 cut held store d true formed h within =
     let reach : held.va + d ≤ held.top = within refl in
     let below : held.va + d - held.va ≡ d = omega arith in
     let below_whole : store.va + d - store.va ≡ d = omega arith in
     let rounds = 128 * ((held.va + d) / 128) in
     let same : (held.va + d) % 128 ≡ (store.va + d) % 128 = omega (arith, h.va) in
-    let next : max held.vs (held.va + d) - rounds + (store.va + d) ≡ max store.vs (store.va + d) + (held.va + d) % 128 = omega (arith, h.vs) in
+    let next : max held.vs (held.va + d) - rounds + (store.va + d) ≡ max store.vs (store.va + d) + (held.va + d) % 128 =
+        omega (arith, h.vs) in
     let highest : held.top - rounds + (store.va + d) ≡ store.top + (held.va + d) % 128 = omega (arith, h.top) in
     record {
       va = same;
       vs = next;
       top = highest;
-      packets = ap (λ t. drop t held.packets) below ∙ ap (drop d) h.packets ∙ sym (ap (λ t. drop t store.packets) below_whole);
+      packets = ap (λ t. drop t held.packets) below ∙ ap (drop d) h.packets
+          ∙ sym (ap (λ t. drop t store.packets) below_whole);
     }
 cut held store d false formed h within =
     let small : held.va < 128 = formed.va in
@@ -83,39 +95,52 @@ cut held store d false formed h within =
     let highest : held.top - 128 * (held.va / 128) + store.va ≡ store.top + held.va % 128 = omega (arith, h.top) in
     record { va = same; vs = next; top = highest; packets = h.packets }
 
-pub stands_for-after_acknowledge : (held store : Outgoing) (m nr : ℕ) → IsModulus m → IsOutgoing held → StandsForOutgoing held store
+pub stands_for-after_acknowledge : (held store : Outgoing) (m nr : ℕ) → IsModulus m → IsOutgoing held
+    → StandsForOutgoing held store
     → StandsForOutgoing (reduced_outgoing (after_acknowledge m nr held)) (after_acknowledge m nr store)
 stands_for-after_acknowledge held store m nr is formed h =
-    let P : ℕ → Type 0 = λ t. StandsForOutgoing (reduced_outgoing (after_acknowledge m nr held)) (if is_named m nr held then acknowledged (store.va + t) store else store) in
-    let Q : Bool → Type 0 = λ b. StandsForOutgoing (reduced_outgoing (after_acknowledge m nr held)) (if b then acknowledged (store.va + ahead m store.va nr) store else store) in
+    let P : ℕ → Type 0 = λ t. StandsForOutgoing (reduced_outgoing (after_acknowledge m nr held))
+        (if is_named m nr held then acknowledged (store.va + t) store else store) in
+    let Q : Bool → Type 0 = λ b. StandsForOutgoing (reduced_outgoing (after_acknowledge m nr held))
+        (if b then acknowledged (store.va + ahead m store.va nr) store else store) in
     let within : is_named m nr held ≡ true → held.va + ahead m held.va nr ≤ held.top =
     λ e. omega (arith, formed.vs, formed.top, leb-true (ahead m held.va nr) (held.top - held.va) e) in
-    subst Q (same_named held store m nr is h) (subst P (same_ahead held store m nr is h) (cut held store (ahead m held.va nr) (is_named m nr held) formed h within))
+    subst Q (same_named held store m nr is h) (subst P (same_ahead held store m nr is h)
+        (cut held store (ahead m held.va nr) (is_named m nr held) formed h within))
 
 -- a number from va to top is the one that is named
 named : (store : Outgoing) (m n : ℕ) → store.va ≤ n → n ≤ store.top → n < store.va + m → is_named m (n % m) store ≡ true
 named store m n low sent high =
-    ap (λ t. nat_le t (store.top - store.va)) (ahead-at_or_ahead m store.va n low high) ∙ le-leb (n - store.va) (store.top - store.va) (omega arith)
+    ap (λ t. nat_le t (store.top - store.va)) (ahead-at_or_ahead m store.va n low high)
+        ∙ le-leb (n - store.va) (store.top - store.va) (omega arith)
 
-pub acknowledgement-at : (store : Outgoing) (m n : ℕ) → store.va ≤ n → n ≤ store.top → n < store.va + m → acknowledgement m (n % m) store ≡ Ok (n - store.va)
+pub acknowledgement-at : (store : Outgoing) (m n : ℕ) → store.va ≤ n → n ≤ store.top → n < store.va + m
+    → acknowledgement m (n % m) store ≡ Ok (n - store.va)
 unfolding answer_at
 acknowledgement-at store m n low sent high =
-    ap (λ t. if t then Ok (ahead m store.va (n % m)) else Err (record { va = store.va % m; top = store.top % m })) (named store m n low sent high)
+    ap (λ t. if t then Ok (ahead m store.va (n % m)) else Err (record { va = store.va % m; top = store.top % m }))
+        (named store m n low sent high)
     ∙ ap Ok (ahead-at_or_ahead m store.va n low high)
 
-pub after_acknowledge-at : (store : Outgoing) (m n : ℕ) → store.va ≤ n → n ≤ store.top → n < store.va + m → after_acknowledge m (n % m) store ≡ acknowledged n store
+pub after_acknowledge-at : (store : Outgoing) (m n : ℕ) → store.va ≤ n → n ≤ store.top → n < store.va + m
+    → after_acknowledge m (n % m) store ≡ acknowledged n store
 after_acknowledge-at store m n low sent high =
     let sum : store.va + (n - store.va) ≡ n = omega arith in
-    ap (λ t. if t then acknowledged (store.va + ahead m store.va (n % m)) store else store) (named store m n low sent high)
+    ap (λ t. if t then acknowledged (store.va + ahead m store.va (n % m)) store else store)
+        (named store m n low sent high)
     ∙ ap (λ t. acknowledged (store.va + t) store) (ahead-at_or_ahead m store.va n low high)
     ∙ ap (λ t. acknowledged t store) sum
 
-pub acknowledge-truly : (held store : Outgoing) (m n nr : ℕ) → IsModulus m → IsOutgoing held → StandsForOutgoing held store
+pub acknowledge-truly : (held store : Outgoing) (m n nr : ℕ) → IsModulus m → IsOutgoing held
+    → StandsForOutgoing held store
     → store.va ≤ n → n ≤ store.top → store.top < store.va + m → nr ≡ n % m
-    → (acknowledgement m nr held ≡ Ok (n - store.va)) × StandsForOutgoing (reduced_outgoing (after_acknowledge m nr held)) (acknowledged n store)
+    → (acknowledgement m nr held ≡ Ok (n - store.va))
+        × StandsForOutgoing (reduced_outgoing (after_acknowledge m nr held)) (acknowledged n store)
 acknowledge-truly held store m n nr is formed h low sent high number =
     let P : Outgoing → Type 0 = λ t. StandsForOutgoing (reduced_outgoing (after_acknowledge m nr held)) t in
     let below : n < store.va + m = omega arith in (
-      same_acknowledgement held store m nr is h ∙ ap (λ t. acknowledgement m t store) number ∙ acknowledgement-at store m n low sent below,
-      subst P (ap (λ t. after_acknowledge m t store) number ∙ after_acknowledge-at store m n low sent below) (stands_for-after_acknowledge held store m nr is formed h),
+      same_acknowledgement held store m nr is h ∙ ap (λ t. acknowledgement m t store) number
+          ∙ acknowledgement-at store m n low sent below,
+      subst P (ap (λ t. after_acknowledge m t store) number ∙ after_acknowledge-at store m n low sent below)
+          (stands_for-after_acknowledge held store m nr is formed h),
     )

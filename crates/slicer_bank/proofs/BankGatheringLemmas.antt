@@ -1,5 +1,6 @@
 -- What the eight lanes of a bank heard, each in a job of its own, as one list.
-use Rattle.std.proofs.Common.{◌≡◌, ℕ, ◌+◌, ◌<◌, ℤ, List, [], length, get_or, Option, Some, None, refl, ap, sym, arith, subst}
+use Rattle.std.proofs.Common.{◌≡◌, ℕ, ◌+◌, ◌<◌, ℤ, List, [], length, get_or, Option, Some, None, refl, ap, sym, arith,
+    subst}
 use Rattle.std.specs.List.{All, flat_map}
 use Rattle.std.specs.List.Sorted.{IsPermutation, IsNonDecreasingBy}
 use Rattle.std.proofs.lemmas.List.Sorted.{Contains-permutation, All-permutation}
@@ -23,13 +24,16 @@ heard_by lane = items_of lane.heard
 abbrev pub GaveHeard : ℕ → HeldLane → HeldLane → Type 0
 GaveHeard offset was lane = AreAlike lane was × ((items : List Candidate) × (was.heard ≡ Some items))
 
-module _ (lanes : List HeldLane) (eight : length lanes ≡ 8) (heard : (k : ℕ) (d : HeldLane) → k < 8 → (items : List Candidate) × ((get_or lanes k d).heard ≡ Some items))
+module _ (lanes : List HeldLane) (eight : length lanes ≡ 8) (heard : (k : ℕ) (d : HeldLane) → k < 8
+    → (items : List Candidate) × ((get_or lanes k d).heard ≡ Some items))
     (sorted : List Candidate) (moved : IsPermutation (flat_map heard_by lanes) sorted) where
   pub fit_there : LanesKeepFit lanes → All CanBePut sorted
   fit_there keep = All-permutation CanBePut (flat_map heard_by lanes) sorted moved
-      (flat_all CanBePut heard_by lanes (λ k d l. let h = heard k d (omega arith) in subst (All CanBePut) (sym (ap items_of h.1)) (keep k d h.0 (omega arith) h.1)))
+      (flat_all CanBePut heard_by lanes (λ k d l. let h = heard k d (omega arith) in
+          subst (All CanBePut) (sym (ap items_of h.1)) (keep k d h.0 (omega arith) h.1)))
 
-  pub lanes_in_order : (position : ℕ) (x : List ℤ) → IsNonDecreasingBy (λ item. item.end) sorted → LanesKeep position x lanes → AreCandidatesBehind position x sorted
+  pub lanes_in_order : (position : ℕ) (x : List ℤ) → IsNonDecreasingBy (λ item. item.end) sorted
+      → LanesKeep position x lanes → AreCandidatesBehind position x sorted
   lanes_in_order position x rises keep =
       let P : Candidate → Type 0 = λ item. IsCandidate x item × (position < item.end) in
       record {
@@ -44,10 +48,12 @@ module _ (lanes : List HeldLane) (eight : length lanes ≡ 8) (heard : (k : ℕ)
             let end = c.ends.end_of in
             let within = end_within x item c in
             Contains-permutation (flat_map heard_by lanes) sorted item moved
-            (flat_contains heard_by lanes item.offset one item (omega arith) ((of_windows item.offset one c.offset).whole item c refl (omega arith) (omega arith)));
+            (flat_contains heard_by lanes item.offset one item (omega arith)
+                ((of_windows item.offset one c.offset).whole item c refl (omega arith) (omega arith)));
         order = stands_in_order heard_by lanes sorted eight
             (λ k d l. record {
-              each = λ i e il. let c = (of_windows k d l).each i e il in let is = c.1 in let end = c.0.ends.end_of in (c.1, (c.0.index + 1, omega arith));
+              each = λ i e il. let c = (of_windows k d l).each i e il in let is = c.1 in let end = c.0.ends.end_of in
+                  (c.1, (c.0.index + 1, omega arith));
               rising = (of_windows k d l).order;
             })
             moved rises;
@@ -56,5 +62,8 @@ module _ (lanes : List HeldLane) (eight : length lanes ≡ 8) (heard : (k : ℕ)
       one : HeldLane
       one = some_of lanes (omega arith)
 
-      of_windows : (k : ℕ) (d : HeldLane) → k < 8 → AreOfWindows k (windows_in k position) (windows_in k (length x)) x (heard_by (get_or lanes k d))
-      of_windows k d l = let h = heard k d l in subst (AreOfWindows k (windows_in k position) (windows_in k (length x)) x) (sym (ap items_of h.1)) (keep k d h.0 l h.1)
+      of_windows : (k : ℕ) (d : HeldLane) → k < 8 → AreOfWindows k (windows_in k position) (windows_in k (length x)) x
+          (heard_by (get_or lanes k d))
+      of_windows k d l = let h = heard k d l in
+          subst (AreOfWindows k (windows_in k position) (windows_in k (length x)) x) (sym (ap items_of h.1))
+          (keep k d h.0 l h.1)

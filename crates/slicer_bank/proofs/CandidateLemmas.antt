@@ -1,5 +1,6 @@
 -- The candidates of samples, with one sample more.
-use Rattle.std.proofs.Common.{◌≡◌, ℕ, ◌+◌, ◌-◌, ◌<◌, ◌≤◌, ℤ, List, [], ◌++◌, length, get_or, take, ap, sym, ◌∙◌, arith, subst, length-append, inl, inr}
+use Rattle.std.proofs.Common.{◌≡◌, ℕ, ◌+◌, ◌-◌, ◌<◌, ◌≤◌, ℤ, List, [], ◌++◌, length, get_or, take, ap, sym, ◌∙◌, arith,
+    subst, length-append, inl, inr}
 use Rattle.std.specs.List.{AllPairs}
 use Rattle.std.proofs.lemmas.Bool.{cases_lt}
 use Rattle.std.proofs.lemmas.List.{take-take, take_all, get_or_append_left, get_or-append-add}
@@ -16,10 +17,12 @@ pub end_within : (x : List ℤ) (item : Candidate) → IsCandidate x item → it
 end_within x item h = let n = length-bits item.offset x in let w = h.ends.within in let e = h.ends.end_of in omega arith
 
 -- the bits that the first samples give
-first_bits : (offset : ℕ) (x y : List ℤ) (index : ℕ) → index < length (bits offset x) → take (index + 1) (bits offset (x ++ y)) ≡ take (index + 1) (bits offset x)
+first_bits : (offset : ℕ) (x y : List ℤ) (index : ℕ) → index < length (bits offset x)
+    → take (index + 1) (bits offset (x ++ y)) ≡ take (index + 1) (bits offset x)
 first_bits offset x y index l =
     let n = length-bits offset x in
-    sym (ap (take (index + 1)) (bits-append offset x y) ∙ take-take (index + 1) (windows_in offset (length x)) (bits offset (x ++ y)) (omega arith))
+    sym (ap (take (index + 1)) (bits-append offset x y)
+        ∙ take-take (index + 1) (windows_in offset (length x)) (bits offset (x ++ y)) (omega arith))
 
 -- a candidate of the first samples is one of them all
 pub candidate_more : (x y : List ℤ) (item : Candidate) → IsCandidate x item → IsCandidate (x ++ y) item
@@ -27,14 +30,16 @@ candidate_more x y item h = record {
   offset = h.offset;
   index = h.index;
   ends = record {
-    within = (let n = length-bits item.offset x in let m = length-bits item.offset (x ++ y) in let len = length-append x y in let w = h.ends.within in omega arith);
+    within = (let n = length-bits item.offset x in let m = length-bits item.offset (x ++ y) in let len =
+        length-append x y in let w = h.ends.within in omega arith);
     end_of = h.ends.end_of;
     frame = subst (λ b. EndsFrame b item.octets) (sym (first_bits item.offset x y h.index h.ends.within)) h.ends.frame;
   };
 }
 
 -- a candidate that ends within the first samples is one of them
-pub candidate_less : (x y : List ℤ) (item : Candidate) → IsCandidate (x ++ y) item → item.end ≤ length x → IsCandidate x item
+pub candidate_less : (x y : List ℤ) (item : Candidate) → IsCandidate (x ++ y) item → item.end ≤ length x
+    → IsCandidate x item
 candidate_less x y item h e =
     let n = length-bits item.offset x in
     let end = h.ends.end_of in
@@ -42,30 +47,36 @@ candidate_less x y item h e =
     record {
       offset = h.offset;
       index = h.index;
-      ends = record { within = within; end_of = h.ends.end_of; frame = subst (λ b. EndsFrame b item.octets) (first_bits item.offset x y h.index within) h.ends.frame };
+      ends = record { within = within; end_of = h.ends.end_of; frame =
+          subst (λ b. EndsFrame b item.octets) (first_bits item.offset x y h.index within) h.ends.frame };
     }
 
 -- a candidate that ends with the last of the samples is what its lane hears there
-pub ends_with_last : (x : List ℤ) (item : Candidate) → IsCandidate x item → item.end ≡ length x → EndsWith item.offset x item.octets
+pub ends_with_last : (x : List ℤ) (item : Candidate) → IsCandidate x item → item.end ≡ length x
+    → EndsWith item.offset x item.octets
 ends_with_last x item h e =
     let n = length-bits item.offset x in
     let end = h.ends.end_of in
-    let all : take (h.index + 1) (bits item.offset x) ≡ bits item.offset x = take_all (h.index + 1) (bits item.offset x) (omega arith) in
+    let all : take (h.index + 1) (bits item.offset x) ≡ bits item.offset x =
+        take_all (h.index + 1) (bits item.offset x) (omega arith) in
     record {
       window = (h.index, sym e ∙ end);
       frame = subst (λ b. EndsFrame b item.octets) all h.ends.frame;
     }
 
 -- what a lane hears with the last of the samples is a candidate
-pub candidate_at_last : (x : List ℤ) (item : Candidate) → item.offset < 8 → item.end ≡ length x → EndsWith item.offset x item.octets → IsCandidate x item
+pub candidate_at_last : (x : List ℤ) (item : Candidate) → item.offset < 8 → item.end ≡ length x
+    → EndsWith item.offset x item.octets → IsCandidate x item
 candidate_at_last x item small e h =
     let n = length-bits item.offset x in
     let size = h.window.1 in
-    let all : take (h.window.0 + 1) (bits item.offset x) ≡ bits item.offset x = take_all (h.window.0 + 1) (bits item.offset x) (omega arith) in
+    let all : take (h.window.0 + 1) (bits item.offset x) ≡ bits item.offset x =
+        take_all (h.window.0 + 1) (bits item.offset x) (omega arith) in
     record {
       offset = small;
       index = h.window.0;
-      ends = record { within = omega arith; end_of = e ∙ size; frame = subst (λ b. EndsFrame b item.octets) (sym all) h.frame };
+      ends = record { within = omega arith; end_of = e ∙ size; frame =
+          subst (λ b. EndsFrame b item.octets) (sym all) h.frame };
     }
 
 -- no candidate ends after the samples
@@ -78,19 +89,28 @@ candidates_none x = record {
 
 -- each of one list and each later one, each of the other, and each of the one before each of the other
 pub AllPairs-append : (R : Candidate → Candidate → Type 0) (xs ys : List Candidate) → AllPairs R xs → AllPairs R ys
-    → ((i j : ℕ) (d : Candidate) → i < length xs → j < length ys → R (get_or xs i d) (get_or ys j d)) → AllPairs R (xs ++ ys)
+    → ((i j : ℕ) (d : Candidate) → i < length xs → j < length ys → R (get_or xs i d) (get_or ys j d))
+        → AllPairs R (xs ++ ys)
 AllPairs-append R xs ys a b across i j d ij jl =
     let len = length-append xs ys in
     elim (cases_lt j (length xs)) [
       | inl jx ↦
-          subst (λ t. R t (get_or (xs ++ ys) j d)) (sym (get_or_append_left xs ys d i (omega arith))) (subst (R (get_or xs i d)) (sym (get_or_append_left xs ys d j jx)) (a i j d ij jx))
+          subst (λ t. R t (get_or (xs ++ ys) j d)) (sym (get_or_append_left xs ys d i (omega arith)))
+              (subst (R (get_or xs i d)) (sym (get_or_append_left xs ys d j jx)) (a i j d ij jx))
       | inr jy ↦
-          let at_j : get_or (xs ++ ys) j d ≡ get_or ys (j - length xs) d = ap (λ t. get_or (xs ++ ys) t d) (let e : j ≡ length xs + (j - length xs) = omega arith in e) ∙ get_or-append-add xs ys (j - length xs) d in
+          let at_j : get_or (xs ++ ys) j d ≡ get_or ys (j - length xs) d =
+              ap (λ t. get_or (xs ++ ys) t d) (let e : j ≡ length xs + (j - length xs) = omega arith in e)
+              ∙ get_or-append-add xs ys (j - length xs) d in
           elim (cases_lt i (length xs)) [
-            | inl ix ↦ subst (λ t. R t (get_or (xs ++ ys) j d)) (sym (get_or_append_left xs ys d i ix)) (subst (R (get_or xs i d)) (sym at_j) (across i (j - length xs) d ix (omega arith)))
+            | inl ix ↦ subst (λ t. R t (get_or (xs ++ ys) j d)) (sym (get_or_append_left xs ys d i ix))
+                (subst (R (get_or xs i d)) (sym at_j) (across i (j - length xs) d ix (omega arith)))
             | inr iy ↦
-                let at_i : get_or (xs ++ ys) i d ≡ get_or ys (i - length xs) d = ap (λ t. get_or (xs ++ ys) t d) (let e : i ≡ length xs + (i - length xs) = omega arith in e) ∙ get_or-append-add xs ys (i - length xs) d in
-                subst (λ t. R t (get_or (xs ++ ys) j d)) (sym at_i) (subst (R (get_or ys (i - length xs) d)) (sym at_j) (b (i - length xs) (j - length xs) d (omega arith) (omega arith)))
+                let at_i : get_or (xs ++ ys) i d ≡ get_or ys (i - length xs) d =
+                    ap (λ t. get_or (xs ++ ys) t d) (let e : i ≡ length xs + (i - length xs) = omega arith in e)
+                    ∙ get_or-append-add xs ys (i - length xs) d in
+                subst (λ t. R t (get_or (xs ++ ys) j d)) (sym at_i)
+                    (subst (R (get_or ys (i - length xs) d)) (sym at_j)
+                    (b (i - length xs) (j - length xs) d (omega arith) (omega arith)))
           ]
     ]
 

@@ -1,5 +1,6 @@
 -- Whether a frame ends with the last of some bits can be decided.
-use Rattle.std.proofs.Common.{◌≡◌, ℕ, ◌-◌, ◌<◌, Bool, true, false, Option, Some, None, List, [], ◌∷◌, ◌++◌, length, take, inl, inr, refl, ap, subst, sym, ◌∙◌, arith, length-append, true≢false}
+use Rattle.std.proofs.Common.{◌≡◌, ℕ, ◌-◌, ◌<◌, Bool, true, false, Option, Some, None, List, [], ◌∷◌, ◌++◌, length,
+    take, inl, inr, refl, ap, subst, sym, ◌∙◌, arith, length-append, true≢false}
 use Rattle.std.specs.Prelude.{◌⊎◌}
 use Rattle.std.specs.List.{All}
 use Rattle.std.proofs.lemmas.Bool.{cases_eq, cases_lt}
@@ -58,19 +59,23 @@ is_frame octets = elim (all_fit octets) [
 octets_in : List Bool → List ℕ
 octets_in content = take (length (whole_octets content) - 2) (whole_octets content)
 
-octets_closed : (content : List Bool) (octets : List ℕ) → IsFrame octets → content ≡ sent_bits (with_fcs octets) ++ flag_start → octets_in content ≡ octets
+octets_closed : (content : List Bool) (octets : List ℕ) → IsFrame octets
+    → content ≡ sent_bits (with_fcs octets) ++ flag_start → octets_in content ≡ octets
 unfolding octets_in
 octets_closed content octets frame is =
     let whole : whole_octets content ≡ with_fcs octets =
-    ap whole_octets is ∙ whole_octets-sent_bits (with_fcs octets) flag_start (with_fcs_fits octets frame.octets_fit) (omega arith) in
+    ap whole_octets is ∙ whole_octets-sent_bits (with_fcs octets) flag_start (with_fcs_fits octets frame.octets_fit)
+        (omega arith) in
     ap (λ xs. take (length xs - 2) xs) whole ∙ without_fcs octets
 
-closes : (line : Line) → ((octets : List ℕ) × ClosesFrame line octets) ⊎ ((octets : List ℕ) → ClosesFrame line octets → ⊥)
+closes : (line : Line) → ((octets : List ℕ) × ClosesFrame line octets)
+    ⊎ ((octets : List ℕ) → ClosesFrame line octets → ⊥)
 closes line = go line.content refl
   where
     go : (held : Option (List Bool)) → line.content ≡ held
         → ((octets : List ℕ) × ClosesFrame line octets) ⊎ ((octets : List ℕ) → ClosesFrame line octets → ⊥)
-    go None is = inr (λ octets h. let none : Some (sent_bits (with_fcs octets) ++ flag_start) ≡ None = sym h.content ∙ is in cc none)
+    go None is = inr (λ octets h. let none : Some (sent_bits (with_fcs octets) ++ flag_start) ≡ None = sym h.content
+        ∙ is in cc none)
     go (Some content) is = elim (is_frame (octets_in content)) [
       | inr against ↦ inr (λ octets h.
           let same : Some content ≡ Some (sent_bits (with_fcs octets) ++ flag_start) = sym is ∙ h.content in
@@ -80,7 +85,8 @@ closes line = go line.content refl
         | inr differ ↦ inr (λ octets h.
             let same : Some content ≡ Some (sent_bits (with_fcs octets) ++ flag_start) = sym is ∙ h.content in
             let contents : content ≡ sent_bits (with_fcs octets) ++ flag_start = cc same in
-            differ (contents ∙ ap (λ o. sent_bits (with_fcs o) ++ flag_start) (sym (octets_closed content octets h.frame contents))))
+            differ (contents ∙ ap (λ o. sent_bits (with_fcs o) ++ flag_start)
+                (sym (octets_closed content octets h.frame contents))))
       ]
     ]
 
@@ -96,7 +102,8 @@ ends_on_zero line = elim (cases_eq line.ones 6) [
 
 -- one bit more ends a frame, or none
 frame_at_bit : (bits : List Bool) (bit : Bool)
-    → ((octets : List ℕ) × EndsFrame (bits ++ bit ∷ []) octets) ⊎ ((octets : List ℕ) → EndsFrame (bits ++ bit ∷ []) octets → ⊥)
+    → ((octets : List ℕ) × EndsFrame (bits ++ bit ∷ []) octets)
+        ⊎ ((octets : List ℕ) → EndsFrame (bits ++ bit ∷ []) octets → ⊥)
 frame_at_bit bits true = inr (λ octets ends. true≢false (frame_told bits true octets ends).0)
 frame_at_bit bits false = elim (ends_on_zero (line_after bits)) [
   | inr against ↦ inr (λ octets ends. against (frame_told bits false octets ends).1)
@@ -112,7 +119,8 @@ pushed bit [] = ([], bit, refl)
 pushed bit (next ∷ bits) = let h = pushed next bits in (bit ∷ h.0, h.1, ap (λ t. bit ∷ t) h.2)
 
 -- A frame ends with the last bit, or none does.
-pub frame_or_none : (bits : List Bool) → ((octets : List ℕ) × EndsFrame bits octets) ⊎ ((octets : List ℕ) → EndsFrame bits octets → ⊥)
+pub frame_or_none : (bits : List Bool) → ((octets : List ℕ) × EndsFrame bits octets)
+    ⊎ ((octets : List ℕ) → EndsFrame bits octets → ⊥)
 frame_or_none [] = inr (λ octets ends.
     let none : 0 ≡ length (ends.0 ++ (flag ++ (frame_bits octets ++ flag))) = ap length ends.1 in
     let outer = length-append ends.0 (flag ++ (frame_bits octets ++ flag)) in
@@ -120,4 +128,5 @@ frame_or_none [] = inr (λ octets ends.
     omega arith)
 frame_or_none (bit ∷ bits) =
     let h = pushed bit bits in
-    subst (λ b. ((octets : List ℕ) × EndsFrame b octets) ⊎ ((octets : List ℕ) → EndsFrame b octets → ⊥)) (sym h.2) (frame_at_bit h.0 h.1)
+    subst (λ b. ((octets : List ℕ) × EndsFrame b octets) ⊎ ((octets : List ℕ) → EndsFrame b octets → ⊥)) (sym h.2)
+        (frame_at_bit h.0 h.1)

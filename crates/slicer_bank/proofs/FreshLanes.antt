@@ -1,5 +1,6 @@
 -- Lanes as they are made.
-use Rattle.std.proofs.Common.{◌≡◌, ℕ, ◌+◌, ◌<◌, List, [], ◌∷◌, ◌++◌, length, get_or, ap, sym, ◌∙◌, arith, subst, refl, inl, inr}
+use Rattle.std.proofs.Common.{◌≡◌, ℕ, ◌+◌, ◌<◌, List, [], ◌∷◌, ◌++◌, length, get_or, ap, sym, ◌∙◌, arith, subst, refl,
+    inl, inr}
 use Rattle.std.proofs.lemmas.Bool.{cases_lt}
 use Rattle.std.proofs.lemmas.List.{get_or_push, get_or_append_left, length_push}
 use Rattle.tone_table.specs.declared.tone.Tone.{Tone}
@@ -18,13 +19,17 @@ pub record AreFresh (flags n : ℕ) (lanes : List HeldLane) : Type 0 where
 pub fresh_none : (flags : ℕ) → AreFresh flags 0 []
 fresh_none flags = record { count = omega arith; each = λ k d l. absurd (omega arith); asks = All-nil (AsksFor flags) }
 
-pub fresh_more : (flags n : ℕ) (lanes : List HeldLane) (lane : HeldLane) → AreFresh flags n lanes → LaneStandsFor lane [] → AsksFor flags lane → AreFresh flags (n + 1) (lanes ++ lane ∷ [])
+pub fresh_more : (flags n : ℕ) (lanes : List HeldLane) (lane : HeldLane) → AreFresh flags n lanes
+    → LaneStandsFor lane [] → AsksFor flags lane → AreFresh flags (n + 1) (lanes ++ lane ∷ [])
 fresh_more flags n lanes lane h stands asks = record {
-  asks = All-append (AsksFor flags) lanes (lane ∷ []) h.asks (All-cons (AsksFor flags) lane [] asks (All-nil (AsksFor flags)));
+  asks = All-append (AsksFor flags) lanes (lane ∷ []) h.asks
+      (All-cons (AsksFor flags) lane [] asks (All-nil (AsksFor flags)));
   count = length_push lanes lane ∙ ap (λ t. t + 1) h.count;
   each = λ k d l. elim (cases_lt k n) [
-    | inl lt ↦ subst (λ t. LaneStandsFor t []) (sym (get_or_append_left lanes (lane ∷ []) d k (let e = h.count in omega arith))) (h.each k d lt)
-    | inr ge ↦ (let last : k ≡ n = omega arith in subst (λ t. LaneStandsFor t []) (sym (get_or_push lanes lane d k (h.count ∙ sym last))) stands)
+    | inl lt ↦ subst (λ t. LaneStandsFor t [])
+        (sym (get_or_append_left lanes (lane ∷ []) d k (let e = h.count in omega arith))) (h.each k d lt)
+    | inr ge ↦ (let last : k ≡ n = omega arith in subst (λ t. LaneStandsFor t [])
+        (sym (get_or_push lanes lane d k (h.count ∙ sym last))) stands)
   ];
 }
 
@@ -37,4 +42,5 @@ tones_of_none offset = empty (tones_at offset []) (length-tones_at offset [] ∙
     empty (t ∷ tones) h = absurd (omega arith)
 
 pub stand_fresh : (flags n : ℕ) (lanes : List HeldLane) → n ≡ 8 → AreFresh flags n lanes → LanesStandFor lanes []
-stand_fresh flags n lanes all h k d l = subst (LaneStandsFor (get_or lanes k d)) (sym (tones_of_none k)) (h.each k d (omega arith))
+stand_fresh flags n lanes all h k d l = subst (LaneStandsFor (get_or lanes k d)) (sym (tones_of_none k))
+    (h.each k d (omega arith))

@@ -1,5 +1,6 @@
 -- The marks of lanes set one after another.
-use Rattle.std.proofs.Common.{◌≡◌, ℕ, ◌+◌, ◌<◌, ◌≤◌, List, length, get_or, set, refl, ap, sym, ◌∙◌, arith, inl, inr, get_or-set_same, get_or-set_other}
+use Rattle.std.proofs.Common.{◌≡◌, ℕ, ◌+◌, ◌<◌, ◌≤◌, List, length, get_or, set, refl, ap, sym, ◌∙◌, arith, inl, inr,
+    get_or-set_same, get_or-set_other}
 use Rattle.std.proofs.lemmas.Bool.{cases_eq}
 use Rattle.std.proofs.lemmas.List.{length-set}
 use Rattle.frame_merge.specs.declared.candidate.Candidate.{Candidate}
@@ -13,22 +14,30 @@ pub record HasMarked (initial now : Held) (positions : List ℕ) (n : ℕ) : Typ
   pub rest : (k : ℕ) → n ≤ k → get_or now.marks k 0 ≡ get_or initial.marks k 0
   pub stands_for : (puts given : List Candidate) → StandsFor initial puts given → StandsFor now puts given
 
-pub has_marked_none : (initial : Held) (positions : List ℕ) → length initial.marks ≡ 8 → HasMarked initial initial positions 0
-has_marked_none initial positions eight = record { size = eight; done = λ k l. absurd (omega arith); rest = λ k l. refl; stands_for = λ puts given h. h }
+pub has_marked_none : (initial : Held) (positions : List ℕ) → length initial.marks ≡ 8
+    → HasMarked initial initial positions 0
+has_marked_none initial positions eight = record { size = eight; done = λ k l. absurd (omega arith); rest = λ k l. refl;
+    stands_for = λ puts given h. h }
 
-pub has_marked_more : (initial was now : Held) (positions : List ℕ) (n position : ℕ) → HasMarked initial was positions n → n < 8 → position ≡ get_or positions n 0 → now.marks ≡ set was.marks n position
-    → ((puts given : List Candidate) → StandsFor was puts given → StandsFor now puts given) → HasMarked initial now positions (n + 1)
+pub has_marked_more : (initial was now : Held) (positions : List ℕ) (n position : ℕ) → HasMarked initial was positions n
+    → n < 8 → position ≡ get_or positions n 0 → now.marks ≡ set was.marks n position
+    → ((puts given : List Candidate) → StandsFor was puts given → StandsFor now puts given)
+        → HasMarked initial now positions (n + 1)
 has_marked_more initial was now positions n position h l is marks step =
     let size = h.size in
     record {
       size = ap length marks ∙ length-set was.marks n position ∙ size;
       done = λ k m. ap (λ ms. get_or ms k 0) marks ∙ elim (cases_eq k n) [
-        | inl e ↦ ap (λ i. get_or (set was.marks n position) i 0) e ∙ get_or-set_same was.marks n position 0 (omega arith) ∙ is ∙ ap (λ i. get_or positions i 0) (sym e)
+        | inl e ↦ ap (λ i. get_or (set was.marks n position) i 0) e
+            ∙ get_or-set_same was.marks n position 0 (omega arith) ∙ is ∙ ap (λ i. get_or positions i 0) (sym e)
         | inr ne ↦ get_or-set_other was.marks n k position 0 ne ∙ h.done k (omega arith)
       ];
-      rest = λ k le. ap (λ ms. get_or ms k 0) marks ∙ get_or-set_other was.marks n k position 0 (λ e. omega arith) ∙ h.rest k (omega arith);
+      rest = λ k le. ap (λ ms. get_or ms k 0) marks ∙ get_or-set_other was.marks n k position 0 (λ e. omega arith)
+          ∙ h.rest k (omega arith);
       stands_for = λ puts given s. step puts given (h.stands_for puts given s);
     }
 
-pub all_marked : (initial now : Held) (positions : List ℕ) (n : ℕ) → HasMarked initial now positions n → 8 ≤ n → length positions ≡ 8 → now.marks ≡ positions
-all_marked initial now positions n h full eight = let size = h.size in same_list now.marks positions (omega arith) (λ k l. h.done k (omega arith))
+pub all_marked : (initial now : Held) (positions : List ℕ) (n : ℕ) → HasMarked initial now positions n → 8 ≤ n
+    → length positions ≡ 8 → now.marks ≡ positions
+all_marked initial now positions n h full eight = let size = h.size in
+    same_list now.marks positions (omega arith) (λ k l. h.done k (omega arith))

@@ -1,5 +1,6 @@
 -- Candidates put into a merger, one after another.
-use Rattle.std.proofs.Common.{◌≡◌, ℕ, ◌+◌, ◌<◌, List, [], ◌∷◌, ◌++◌, length, get_or, append_assoc, sym, subst, ◌∙◌, ap, arith, inl, inr, refl, length-append, ℤ}
+use Rattle.std.proofs.Common.{◌≡◌, ℕ, ◌+◌, ◌<◌, List, [], ◌∷◌, ◌++◌, length, get_or, append_assoc, sym, subst, ◌∙◌, ap,
+    arith, inl, inr, refl, length-append, ℤ}
 use Rattle.std.specs.List.{All, AllPairs}
 use Rattle.std.specs.List.Sorted.{IsNonDecreasingBy}
 use Rattle.std.proofs.lemmas.Bool.{cases_eq}
@@ -19,7 +20,8 @@ pub record HasPut (initial now : Held) (all items left : List Candidate) (count 
   pub parts : items ++ left ≡ all
   pub counted : length left ≡ count
 
-pub has_put_none : (initial : Held) (all left : List Candidate) (count : ℕ) → left ≡ all → length left ≡ count → HasPut initial initial all [] left count
+pub has_put_none : (initial : Held) (all left : List Candidate) (count : ℕ) → left ≡ all → length left ≡ count
+    → HasPut initial initial all [] left count
 has_put_none initial all left count is counted = record {
   marks = refl;
   stands_for = λ puts given h. subst (λ t. StandsFor initial t given) (sym (append-nil puts)) h;
@@ -27,37 +29,47 @@ has_put_none initial all left count is counted = record {
   counted = counted;
 }
 
-pub has_put_more : (initial was now : Held) (all items left rest : List Candidate) (count less : ℕ) (item : Candidate) → HasPut initial was all items left count
+pub has_put_more : (initial was now : Held) (all items left rest : List Candidate) (count less : ℕ) (item : Candidate)
+    → HasPut initial was all items left count
     → left ≡ item ∷ rest → less + 1 ≡ count
-    → now.marks ≡ was.marks → ((puts given : List Candidate) → StandsFor was puts given → StandsFor now (puts ++ item ∷ []) given)
+    → now.marks ≡ was.marks → ((puts given : List Candidate) → StandsFor was puts given
+        → StandsFor now (puts ++ item ∷ []) given)
     → HasPut initial now all (items ++ item ∷ []) rest less
 has_put_more initial was now all items left rest count less item h is fewer same step = record {
   marks = same ∙ h.marks;
-  stands_for = λ puts given s. subst (λ t. StandsFor now t given) (append_assoc puts items (item ∷ [])) (step (puts ++ items) given (h.stands_for puts given s));
+  stands_for = λ puts given s. subst (λ t. StandsFor now t given) (append_assoc puts items (item ∷ []))
+      (step (puts ++ items) given (h.stands_for puts given s));
   parts = append_assoc items (item ∷ []) rest ∙ ap (λ t. items ++ t) (sym is) ∙ h.parts;
   counted = (let c = h.counted in let l : length left ≡ length (item ∷ rest) = ap length is in omega arith);
 }
 
-pub has_put_all : (initial now : Held) (all items left : List Candidate) (count : ℕ) → HasPut initial now all items left count → count ≡ 0 → items ≡ all
+pub has_put_all : (initial now : Held) (all items left : List Candidate) (count : ℕ)
+    → HasPut initial now all items left count → count ≡ 0 → items ≡ all
 has_put_all initial now all items left count h none =
     let empty : left ≡ [] = nil_from_length left (h.counted ∙ none) in
     sym (append-nil items) ∙ ap (λ t. items ++ t) (sym empty) ∙ h.parts
 
 -- what may be put into a merger with nothing marked
-pub next_can_be_put : (initial now : Held) (all items left rest : List Candidate) (count : ℕ) (item : Candidate) → HasPut initial now all items left count → left ≡ item ∷ rest → All CanBePut all → CanBePut item
+pub next_can_be_put : (initial now : Held) (all items left rest : List Candidate) (count : ℕ) (item : Candidate)
+    → HasPut initial now all items left count → left ≡ item ∷ rest → All CanBePut all → CanBePut item
 next_can_be_put initial now all items left rest count item h is each =
     let whole : items ++ item ∷ rest ≡ all = ap (λ t. items ++ t) (sym is) ∙ h.parts in
-    let within : length items < length all = (let l : length (items ++ item ∷ rest) ≡ length all = ap length whole in let m = length-append items (item ∷ rest) in omega arith) in
-    subst CanBePut (ap (λ t. get_or t (length items) item) (sym whole) ∙ get_or-append_seam items item rest item) (each (length items) item within)
+    let within : length items < length all = (let l : length (items ++ item ∷ rest) ≡ length all = ap length whole in
+        let m = length-append items (item ∷ rest) in omega arith) in
+    subst CanBePut (ap (λ t. get_or t (length items) item) (sym whole) ∙ get_or-append_seam items item rest item)
+        (each (length items) item within)
 
 -- a list that strictly rises is in order
-pub rising_strictly : (items : List Candidate) → AllPairs (λ item later. standing item < standing later) items → IsNonDecreasingBy standing items
+pub rising_strictly : (items : List Candidate) → AllPairs (λ item later. standing item < standing later) items
+    → IsNonDecreasingBy standing items
 rising_strictly items h i j d ij jl = elim (cases_eq i j) [
-  | inl same ↦ let e : standing (get_or items i d) ≡ standing (get_or items j d) = ap (λ t. standing (get_or items t d)) same in omega arith
+  | inl same ↦ let e : standing (get_or items i d) ≡ standing (get_or items j d) =
+      ap (λ t. standing (get_or items t d)) same in omega arith
   | inr other ↦ let below = h i j d (omega arith) jl in omega arith
 ]
 
-pub in_order-strictly : (items : List Candidate) → AllPairs (λ item later. standing item < standing later) items → in_order items ≡ items
+pub in_order-strictly : (items : List Candidate) → AllPairs (λ item later. standing item < standing later) items
+    → in_order items ≡ items
 in_order-strictly items h = in_order-rising items (rising_strictly items h)
 
 -- and so are the candidates of samples

@@ -1,5 +1,6 @@
 -- Two lists that strictly rise and have the same elements are the same.
-use Rattle.std.proofs.Common.{◌≡◌, ℕ, ◌<◌, ℤ, List, [], ◌∷◌, length, get_or, ap, sym, ◌∙◌, arith, refl, subst, zero, suc}
+use Rattle.std.proofs.Common.{◌≡◌, ℕ, ◌<◌, ℤ, List, [], ◌∷◌, length, get_or, ap, sym, ◌∙◌, arith, refl, subst, zero,
+    suc}
 use Rattle.std.specs.List.{AllPairs, Contains}
 use Rattle.frame_merge.specs.declared.candidate.Candidate.{Candidate}
 use Rattle.frame_merge.specs.Order.{standing}
@@ -12,7 +13,8 @@ abbrev pub HasAll : List Candidate → List Candidate → Type 0
 HasAll xs ys = (k : ℕ) (d : Candidate) → k < length xs → Contains ys (get_or xs k d)
 
 -- the head of one list is the head of the other
-same_head : (x y : Candidate) (xs ys : List Candidate) → Rises (x ∷ xs) → Rises (y ∷ ys) → Contains (y ∷ ys) x → Contains (x ∷ xs) y → x ≡ y
+same_head : (x y : Candidate) (xs ys : List Candidate) → Rises (x ∷ xs) → Rises (y ∷ ys) → Contains (y ∷ ys) x
+    → Contains (x ∷ xs) y → x ≡ y
 same_head x y xs ys rx ry (zero, within, is) there = sym is
 same_head x y xs ys rx ry (suc i, within, is) (zero, there, was) = was
 same_head x y xs ys rx ry (suc i, within, is) (suc j, there, was) =
@@ -46,10 +48,12 @@ same_list (x ∷ xs) (y ∷ ys) rx ry a b =
     let a' : HasAll (x ∷ xs) (x ∷ ys) = subst (λ t. HasAll (x ∷ xs) (t ∷ ys)) (sym head) a in
     let b' : HasAll (x ∷ ys) (x ∷ xs) = subst (λ t. HasAll (t ∷ ys) (x ∷ xs)) (sym head) b in
     let ry' : Rises (x ∷ ys) = subst (λ t. Rises (t ∷ ys)) (sym head) ry in
-    ap (λ t. x ∷ t) (same_list xs ys (tail_rises x xs rx) (tail_rises x ys ry') (tail_has x xs ys rx a') (tail_has x ys xs ry' b'))
+    ap (λ t. x ∷ t) (same_list xs ys (tail_rises x xs rx) (tail_rises x ys ry') (tail_has x xs ys rx a')
+        (tail_has x ys xs ry' b'))
     ∙ ap (λ t. t ∷ ys) head
 
-pub one_list : (x : List ℤ) (items others : List Candidate) → AreCandidates x items → AreCandidates x others → items ≡ others
+pub one_list : (x : List ℤ) (items others : List Candidate) → AreCandidates x items → AreCandidates x others
+    → items ≡ others
 one_list x items others a b =
     same_list items others a.order b.order
     (λ k d l. let e = a.each k d l in b.whole (get_or items k d) e.0 e.1)

@@ -1,11 +1,14 @@
 -- One lane over its own windows: of a piece, and of a block as two pieces.
-use Rattle.std.proofs.Common.{◌≡◌, ℕ, ◌+◌, ◌-◌, ◌*◌, ◌<◌, ◌≤◌, ℤ, pos, List, [], ◌∷◌, ◌++◌, Bool, length, get_or, take, drop, map, ap, sym, ◌∙◌, arith, append_assoc, refl, subst, inl, inr, min, length-append, length-drop}
+use Rattle.std.proofs.Common.{◌≡◌, ℕ, ◌+◌, ◌-◌, ◌*◌, ◌<◌, ◌≤◌, ℤ, pos, List, [], ◌∷◌, ◌++◌, Bool, length, get_or, take,
+    drop, map, ap, sym, ◌∙◌, arith, append_assoc, refl, subst, inl, inr, min, length-append, length-drop}
 use Rattle.std.specs.List.{All}
 use Rattle.std.proofs.lemmas.Bool.{cases_lt}
 use Rattle.std.proofs.Math.Seq.{drop-append-add, drop-append_seam, take-append_seam}
-use Rattle.std.proofs.lemmas.List.{append-nil, drop-append-le, drop-drop, take_more, take_all, length-take-le, length-replicate, take-append-drop, nil_from_length}
+use Rattle.std.proofs.lemmas.List.{append-nil, drop-append-le, drop-drop, take_more, take_all, length-take-le,
+    length-replicate, take-append-drop, nil_from_length}
 use Rattle.std.proofs.lemmas.List.FromFn.{get_or-map-range_with_len}
-use Rattle.std.proofs.lemmas.List.Elements.{All-nil, All-cons, All-head, All-append, Contains-append_left, Contains-append_right}
+use Rattle.std.proofs.lemmas.List.Elements.{All-nil, All-cons, All-head, All-append, Contains-append_left,
+    Contains-append_right}
 use Rattle.tone_table.specs.declared.tone.Tone.{Tone}
 use Rattle.tone_table.specs.declared.tone.Tone.TheVariants.{Mark}
 use Rattle.nrzi_bits.specs.Line.{bits_of}
@@ -26,16 +29,20 @@ use Rattle.slicer_bank.proofs.SevenLemmas.{seven_behind_first}
 -- no windows have no candidates
 pub windows_none : (offset n : ℕ) (z : List ℤ) → AreOfWindows offset n n z []
 windows_none offset n z = record {
-  each = All-nil (λ item. IsCandidate z item × (item.offset ≡ offset) × (offset + 8 * n < item.end) × (item.end ≤ offset + 8 * n));
+  each = All-nil (λ item. IsCandidate z item × (item.offset ≡ offset) × (offset + 8 * n < item.end)
+      × (item.end ≤ offset + 8 * n));
   whole = λ item c o low high. absurd (omega arith);
   order = λ i j d ij jl. absurd (omega arith);
 }
 
 -- some windows and the next
-pub windows_join : (offset first middle last : ℕ) (z : List ℤ) (items more : List Candidate) → first ≤ middle → middle ≤ last
-    → AreOfWindows offset first middle z items → AreOfWindows offset middle last z more → AreOfWindows offset first last z (items ++ more)
+pub windows_join : (offset first middle last : ℕ) (z : List ℤ) (items more : List Candidate) → first ≤ middle
+    → middle ≤ last
+    → AreOfWindows offset first middle z items → AreOfWindows offset middle last z more
+        → AreOfWindows offset first last z (items ++ more)
 windows_join offset first middle last z items more le up h m =
-    let P : Candidate → Type 0 = λ item. IsCandidate z item × (item.offset ≡ offset) × (offset + 8 * first < item.end) × (item.end ≤ offset + 8 * last) in
+    let P : Candidate → Type 0 = λ item. IsCandidate z item × (item.offset ≡ offset) × (offset + 8 * first < item.end)
+        × (item.end ≤ offset + 8 * last) in
     record {
       each = All-append P items more
           (λ k d l. let e = h.each k d l in let high = e.3 in (e.0, e.1, e.2, omega arith))
@@ -49,16 +56,19 @@ windows_join offset first middle last z items more le up h m =
     }
 
 -- the last of some windows
-module _ (offset n end : ℕ) (z : List ℤ) (small : offset < 8) (within : n < windows_in offset (length z)) (at : end ≡ offset + 8 * (n + 1)) where
+module _ (offset n end : ℕ) (z : List ℤ) (small : offset < 8) (within : n < windows_in offset (length z))
+    (at : end ≡ offset + 8 * (n + 1)) where
   abbrev pub last_bits : List Bool
   last_bits = take (n + 1) (bits offset z)
 
-  last_window : (item : Candidate) → IsCandidate z item → item.offset ≡ offset → offset + 8 * n < item.end → item.end ≤ offset + 8 * (n + 1)
+  last_window : (item : Candidate) → IsCandidate z item → item.offset ≡ offset → offset + 8 * n < item.end
+      → item.end ≤ offset + 8 * (n + 1)
       → EndsFrame last_bits item.octets × (item.end ≡ end)
   last_window item c o low high =
       let e = c.ends.end_of in
       let index : c.index ≡ n = omega arith in (
-        subst (λ t. EndsFrame (take (n + 1) (bits t z)) item.octets) o (subst (λ k. EndsFrame (take (k + 1) (bits item.offset z)) item.octets) index c.ends.frame),
+        subst (λ t. EndsFrame (take (n + 1) (bits t z)) item.octets) o
+            (subst (λ k. EndsFrame (take (k + 1) (bits item.offset z)) item.octets) index c.ends.frame),
         omega arith,
       )
 
@@ -67,26 +77,31 @@ module _ (offset n end : ℕ) (z : List ℤ) (small : offset < 8) (within : n < 
   one_window octets ends unique =
       let item : Candidate = candidate_at end offset octets in
       let count = length-bits offset z in
-      let P : Candidate → Type 0 = λ i. IsCandidate z i × (i.offset ≡ offset) × (offset + 8 * n < i.end) × (i.end ≤ offset + 8 * (n + 1)) in
-      let is : IsCandidate z item = record { offset = small; index = n; ends = record { within = omega arith; end_of = at; frame = ends } } in
+      let P : Candidate → Type 0 = λ i. IsCandidate z i × (i.offset ≡ offset) × (offset + 8 * n < i.end)
+          × (i.end ≤ offset + 8 * (n + 1)) in
+      let is : IsCandidate z item = record { offset = small; index = n;
+          ends = record { within = omega arith; end_of = at; frame = ends } } in
       record {
         each = All-cons P item [] (is, refl, omega arith, omega arith) (All-nil P);
         whole = λ other c o low high.
             let last = last_window other c o low high in
             let same : item ≡ other = ap (candidate_at end offset) (unique other.octets last.0)
-            ∙ ap (λ t. candidate_at end t other.octets) (sym o) ∙ ap (λ t. candidate_at t other.offset other.octets) (sym last.1) in
+            ∙ ap (λ t. candidate_at end t other.octets) (sym o)
+                ∙ ap (λ t. candidate_at t other.offset other.octets) (sym last.1) in
             (0, omega arith, same);
         order = λ i j d ij jl. absurd (omega arith);
       }
 
   no_frame : ((o : List ℕ) → EndsFrame last_bits o → ⊥) → AreOfWindows offset n (n + 1) z []
   no_frame never = record {
-    each = All-nil (λ i. IsCandidate z i × (i.offset ≡ offset) × (offset + 8 * n < i.end) × (i.end ≤ offset + 8 * (n + 1)));
+    each = All-nil (λ i. IsCandidate z i × (i.offset ≡ offset) × (offset + 8 * n < i.end)
+        × (i.end ≤ offset + 8 * (n + 1)));
     whole = λ other c o low high. absurd (never other.octets (last_window other c o low high).0);
     order = λ i j d ij jl. absurd (omega arith);
   }
 
-  by_count : (octets : List (List ℕ)) → All (λ o. EndsFrame last_bits o) octets → ((o : List ℕ) → EndsFrame last_bits o → octets ≡ o ∷ [])
+  by_count : (octets : List (List ℕ)) → All (λ o. EndsFrame last_bits o) octets
+      → ((o : List ℕ) → EndsFrame last_bits o → octets ≡ o ∷ [])
       → AreOfWindows offset n (n + 1) z (map (candidate_at end offset) octets)
   by_count [] each whole = no_frame (λ o e. let same : [] ≡ o ∷ [] = whole o e in cc)
   by_count (o ∷ rest) each whole =
@@ -105,12 +120,14 @@ pub windows_more : (offset first next : ℕ) (x y : List ℤ) (items : List Cand
     → AreOfWindows offset first next x items → AreOfWindows offset first next (x ++ y) items
 windows_more offset first next x y items few h = record {
   each = λ k d l. let e = h.each k d l in (candidate_more x y (get_or items k d) e.0, e.1, e.2, e.3);
-  whole = λ item c o low high. let e = c.ends.end_of in h.whole item (candidate_less x y item c (omega arith)) o low high;
+  whole = λ item c o low high. let e = c.ends.end_of in
+      h.whole item (candidate_less x y item c (omega arith)) o low high;
   order = h.order;
 }
 
 -- what is heard in some samples, and then in more
-pub lane_hears_join : (offset : ℕ) (x a b : List ℤ) (before mid after : List Candidate) → LaneHearsMore offset x a before mid → LaneHearsMore offset (x ++ a) b mid after
+pub lane_hears_join : (offset : ℕ) (x a b : List ℤ) (before mid after : List Candidate)
+    → LaneHearsMore offset x a before mid → LaneHearsMore offset (x ++ a) b mid after
     → LaneHearsMore offset x (a ++ b) before after
 lane_hears_join offset x a b before mid after h more =
     let first : ℕ = windows_in offset (length x) in
@@ -121,12 +138,15 @@ lane_hears_join offset x a b before mid after h more =
     record {
       heard = h.heard ++ more.heard;
       found = more.found ∙ ap (λ t. t ++ more.heard) h.found ∙ append_assoc before h.heard more.heard;
-      are = subst (λ t. AreOfWindows offset (windows_in offset (length x)) (windows_in offset (length t)) t (h.heard ++ more.heard)) (append_assoc x a b)
-          (windows_join offset first middle last ((x ++ a) ++ b) h.heard more.heard le up (windows_more offset first middle (x ++ a) b h.heard (omega arith) h.are) more.are);
+      are = subst (λ t. AreOfWindows offset (windows_in offset (length x)) (windows_in offset (length t)) t
+          (h.heard ++ more.heard)) (append_assoc x a b)
+          (windows_join offset first middle last ((x ++ a) ++ b) h.heard more.heard le up
+              (windows_more offset first middle (x ++ a) b h.heard (omega arith) h.are) more.are);
     }
 
 -- the samples from a place on, in a piece that begins with the last seven
-pub stream : (x more piece : List ℤ) (at place : ℕ) → piece ≡ last_seven x ++ more → at + 7 ≡ length x + place → drop place piece ≡ drop at (x ++ more)
+pub stream : (x more piece : List ℤ) (at place : ℕ) → piece ≡ last_seven x ++ more → at + 7 ≡ length x + place
+    → drop place piece ≡ drop at (x ++ more)
 stream x more piece at place is e =
     let inside : length x ≤ length (silence ++ x) = omega (arith, length-append silence x) in
     let sum : length x + place ≡ length silence + at = omega (arith, length-replicate 7 (pos 0)) in
@@ -142,11 +162,14 @@ unfolding window_at
 window_is offset n z = refl
 
 -- the tone of the next window
-tone_next : (offset n : ℕ) (z : List ℤ) → n < windows_in offset (length z) → get_or (tones_at offset z) n Mark ≡ tone_of (window_at offset z n)
+tone_next : (offset n : ℕ) (z : List ℤ) → n < windows_in offset (length z)
+    → get_or (tones_at offset z) n Mark ≡ tone_of (window_at offset z n)
 unfolding tones_at
-tone_next offset n z within = get_or-map-range_with_len (λ k. tone_of (window_at offset z k)) 0 (windows_in offset (length z)) n n Mark within (omega arith)
+tone_next offset n z within = get_or-map-range_with_len (λ k. tone_of (window_at offset z k)) 0
+    (windows_in offset (length z)) n n Mark within (omega arith)
 
-pub next_tone : (offset n : ℕ) (z window : List ℤ) → n < windows_in offset (length z) → window ≡ take 8 (drop (offset + 8 * n) z)
+pub next_tone : (offset n : ℕ) (z window : List ℤ) → n < windows_in offset (length z)
+    → window ≡ take 8 (drop (offset + 8 * n) z)
     → take n (tones_at offset z) ++ tone_of window ∷ [] ≡ take (n + 1) (tones_at offset z)
 next_tone offset n z window within is =
     let tones : List Tone = tones_at offset z in
@@ -159,7 +182,8 @@ unfolding bits
 bits_first offset n z = bits_from-take n Mark (tones_at offset z)
 
 -- of a piece that begins with the last seven, the lane has taken its own windows that end before `end`
-pub record OwnHeard (offset position end : ℕ) (piece rest : List ℤ) (initial lane : HeldLane) (before after : List Candidate) : Type 0 where
+pub record OwnHeard (offset position end : ℕ) (piece rest : List ℤ) (initial lane : HeldLane)
+    (before after : List Candidate) : Type 0 where
   pub taken : ℕ
   pub at : end ≡ offset + 8 * (taken + 1)
   pub few : taken ≤ windows_in offset (position + (length piece - 7))
@@ -167,12 +191,15 @@ pub record OwnHeard (offset position end : ℕ) (piece rest : List ℤ) (initial
   pub rest_is : rest ≡ drop (end - 1 - position) piece
   pub bounds : All CanBePut before → All CanBePut after
   pub asks : flags_asked lane.deframer ≡ flags_asked initial.deframer
-  pub heard : (x : List ℤ) → length x ≡ position → take 7 piece ≡ last_seven x → LaneStandsFor initial (tones_at offset x)
+  pub heard : (x : List ℤ) → length x ≡ position → take 7 piece ≡ last_seven x
+      → LaneStandsFor initial (tones_at offset x)
       → LaneStandsFor lane (take taken (tones_at offset (x ++ drop 7 piece)))
-      × ((new : List Candidate) × (after ≡ before ++ new) × AreOfWindows offset (windows_in offset position) taken (x ++ drop 7 piece) new)
+      × ((new : List Candidate) × (after ≡ before ++ new)
+          × AreOfWindows offset (windows_in offset position) taken (x ++ drop 7 piece) new)
 
 pub own_none : (offset position end : ℕ) (piece rest : List ℤ) (lane : HeldLane) (found : List Candidate)
-    → end ≡ offset + 8 * (windows_in offset position + 1) → rest ≡ drop (end - 1 - position) piece → OwnHeard offset position end piece rest lane lane found found
+    → end ≡ offset + 8 * (windows_in offset position + 1) → rest ≡ drop (end - 1 - position) piece
+        → OwnHeard offset position end piece rest lane lane found found
 own_none offset position end piece rest lane found at is = record {
   taken = windows_in offset position;
   at = at;
@@ -182,20 +209,24 @@ own_none offset position end piece rest lane found at is = record {
   bounds = λ h. h;
   asks = refl;
   heard = λ x size seven s. (
-    subst (LaneStandsFor lane) (tones_at-append offset x (drop 7 piece) ∙ ap (λ m. take (windows_in offset m) (tones_at offset (x ++ drop 7 piece))) size) s,
+    subst (LaneStandsFor lane) (tones_at-append offset x (drop 7 piece)
+        ∙ ap (λ m. take (windows_in offset m) (tones_at offset (x ++ drop 7 piece))) size) s,
     ([], sym (append-nil found), windows_none offset (windows_in offset position) (x ++ drop 7 piece)),
   );
 }
 
-pub own_more : (offset position end next : ℕ) (piece rest window left : List ℤ) (initial old new : HeldLane) (before found after : List Candidate)
+pub own_more : (offset position end next : ℕ) (piece rest window left : List ℤ) (initial old new : HeldLane)
+    (before found after : List Candidate)
     → offset < 8 → 7 ≤ length piece → next ≡ end + 8 → 8 ≤ length rest → window ≡ take 8 rest → left ≡ drop 8 rest
     → OwnHeard offset position end piece rest initial old before found
     → (All CanBePut found → All CanBePut after)
     → flags_asked new.deframer ≡ flags_asked old.deframer
     → ((tones : List Tone) → LaneStandsFor old tones → LaneStandsFor new (tones ++ tone_of window ∷ []))
-    → ((tones : List Tone) → LaneStandsFor old tones → Adds offset end (bits_of (tones ++ tone_of window ∷ [])) found after)
+    → ((tones : List Tone) → LaneStandsFor old tones
+        → Adds offset end (bits_of (tones ++ tone_of window ∷ [])) found after)
     → OwnHeard offset position next piece left initial new before after
-own_more offset position end next piece rest window left initial old new before found after small seven_more up enough is left_is h bounds same takes adds =
+own_more offset position end next piece rest window left initial old new before found after small seven_more up enough
+    is left_is h bounds same takes adds =
     let n : ℕ = h.taken in
     let at = h.at in
     let begun = h.begun in
@@ -207,7 +238,8 @@ own_more offset position end next piece rest window left initial old new before 
       at = omega arith;
       few = omega arith;
       begun = omega arith;
-      rest_is = left_is ∙ ap (drop 8) h.rest_is ∙ drop-drop 8 index piece ∙ ap (λ m. drop m piece) (let e : index + 8 ≡ next - 1 - position = omega arith in e);
+      rest_is = left_is ∙ ap (drop 8) h.rest_is ∙ drop-drop 8 index piece
+          ∙ ap (λ m. drop m piece) (let e : index + 8 ≡ next - 1 - position = omega arith in e);
       bounds = λ each. bounds (h.bounds each);
       asks = same ∙ h.asks;
       heard = λ x size seven s.
@@ -215,27 +247,34 @@ own_more offset position end next piece rest window left initial old new before 
           let z : List ℤ = x ++ more in
           let so_far = h.heard x size seven s in
           let done = so_far.1 in
-          let len : length z ≡ position + (length piece - 7) = omega (arith, length-append x more, length-drop 7 piece) in
+          let len : length z ≡ position + (length piece - 7) =
+              omega (arith, length-append x more, length-drop 7 piece) in
           let within : n < windows_in offset (length z) = omega arith in
           let whole : piece ≡ last_seven x ++ more = sym (take-append-drop 7 piece) ∙ ap (λ t. t ++ more) seven in
-          let there : window ≡ take 8 (drop (offset + 8 * n) z) = is ∙ ap (take 8) (h.rest_is ∙ stream x more piece (offset + 8 * n) index whole (omega arith)) in
-          let tones : take n (tones_at offset z) ++ tone_of window ∷ [] ≡ take (n + 1) (tones_at offset z) = next_tone offset n z window within there in
+          let there : window ≡ take 8 (drop (offset + 8 * n) z) = is
+              ∙ ap (take 8) (h.rest_is ∙ stream x more piece (offset + 8 * n) index whole (omega arith)) in
+          let tones : take n (tones_at offset z) ++ tone_of window ∷ [] ≡ take (n + 1) (tones_at offset z) =
+              next_tone offset n z window within there in
           let added : Adds offset end (take (n + 1) (bits offset z)) found after
-          = subst (λ b. Adds offset end b found after) (ap bits_of tones ∙ bits_first offset (n + 1) z) (adds (take n (tones_at offset z)) so_far.0) in
+          = subst (λ b. Adds offset end b found after) (ap bits_of tones ∙ bits_first offset (n + 1) z)
+              (adds (take n (tones_at offset z)) so_far.0) in
           let heard = window_heard offset n end z small within at found after added in
           let order : windows_in offset position ≤ n = omega arith in (
             subst (LaneStandsFor new) tones (takes (take n (tones_at offset z)) so_far.0),
             (
               done.0 ++ heard.0,
               heard.1 ∙ ap (λ t. t ++ heard.0) done.1 ∙ append_assoc before done.0 heard.0,
-              windows_join offset (windows_in offset position) n (n + 1) z done.0 heard.0 order (omega arith) done.2 heard.2,
+              windows_join offset (windows_in offset position) n (n + 1) z done.0 heard.0 order (omega arith)
+                  done.2 heard.2,
             ),
           );
     }
 
 -- the whole piece
-pub own_all : (offset position end : ℕ) (piece rest : List ℤ) (initial lane : HeldLane) (before after : List Candidate) → 7 ≤ length piece → length rest < 8
-    → OwnHeard offset position end piece rest initial lane before after → LaneHears offset position (take 7 piece) (drop 7 piece) initial lane before after
+pub own_all : (offset position end : ℕ) (piece rest : List ℤ) (initial lane : HeldLane) (before after : List Candidate)
+    → 7 ≤ length piece → length rest < 8
+    → OwnHeard offset position end piece rest initial lane before after
+        → LaneHears offset position (take 7 piece) (drop 7 piece) initial lane before after
 own_all offset position end piece rest initial lane before after seven_more few h x size seven s =
     let n : ℕ = h.taken in
     let at = h.at in
@@ -249,26 +288,34 @@ own_all offset position end piece rest initial lane before after seven_more few 
     let done = so_far.1 in
     let len : length z ≡ position + (length piece - 7) = omega (arith, length-append x more, length-drop 7 piece) in
     let last : n ≡ windows_in offset (length z) = omega arith in
-    let all : take n (tones_at offset z) ≡ tones_at offset z = take_all n (tones_at offset z) (omega (arith, length-tones_at offset z)) in (
+    let all : take n (tones_at offset z) ≡ tones_at offset z =
+        take_all n (tones_at offset z) (omega (arith, length-tones_at offset z)) in (
       subst (LaneStandsFor lane) all so_far.0,
       record {
         heard = done.0;
         found = done.1;
-        are = subst (λ k. AreOfWindows offset (windows_in offset (length x)) k z done.0) last (subst (λ k. AreOfWindows offset (windows_in offset k) n z done.0) (sym size) done.2);
+        are = subst (λ k. AreOfWindows offset (windows_in offset (length x)) k z done.0) last
+            (subst (λ k. AreOfWindows offset (windows_in offset k) n z done.0) (sym size) done.2);
       },
     )
 
 -- the seven before a block and its first samples, as one piece: those first samples are heard
-pub own_first : (offset position : ℕ) (seven first piece : List ℤ) (initial lane : HeldLane) (before after : List Candidate)
+pub own_first : (offset position : ℕ) (seven first piece : List ℤ) (initial lane : HeldLane)
+    (before after : List Candidate)
     → length seven ≡ 7 → piece ≡ seven ++ first
-    → LaneHears offset position (take 7 piece) (drop 7 piece) initial lane before after → LaneHears offset position seven first initial lane before after
+    → LaneHears offset position (take 7 piece) (drop 7 piece) initial lane before after
+        → LaneHears offset position seven first initial lane before after
 own_first offset position seven first piece initial lane before after size is h =
-    let front : take 7 piece ≡ seven = ap (take 7) is ∙ ap (λ n. take n (seven ++ first)) (sym size) ∙ take-append_seam seven first in
-    let back : drop 7 piece ≡ first = ap (drop 7) is ∙ ap (λ n. drop n (seven ++ first)) (sym size) ∙ drop-append_seam seven first in
-    subst (λ t. LaneHears offset position seven t initial lane before after) back (subst (λ t. LaneHears offset position t (drop 7 piece) initial lane before after) front h)
+    let front : take 7 piece ≡ seven = ap (take 7) is ∙ ap (λ n. take n (seven ++ first)) (sym size)
+        ∙ take-append_seam seven first in
+    let back : drop 7 piece ≡ first = ap (drop 7) is ∙ ap (λ n. drop n (seven ++ first)) (sym size)
+        ∙ drop-append_seam seven first in
+    subst (λ t. LaneHears offset position seven t initial lane before after) back
+        (subst (λ t. LaneHears offset position t (drop 7 piece) initial lane before after) front h)
 
 -- and then the block as a piece
-pub own_block : (offset position : ℕ) (seven block : List ℤ) (initial middle lane : HeldLane) (before found after : List Candidate)
+pub own_block : (offset position : ℕ) (seven block : List ℤ) (initial middle lane : HeldLane)
+    (before found after : List Candidate)
     → 7 ≤ length block
     → LaneHears offset position seven (take 7 block) initial middle before found
     → LaneHears offset (position + 7) (take 7 block) (drop 7 block) middle lane found after
@@ -279,17 +326,22 @@ own_block offset position seven block initial middle lane before found after lon
     let whole : take 7 block ++ drop 7 block ≡ block = take-append-drop 7 block in
     let one = h x size is s in
     let two = rest (x ++ take 7 block) len (seven_behind_first x block long) one.0 in (
-      subst (λ t. LaneStandsFor lane (tones_at offset t)) (append_assoc x (take 7 block) (drop 7 block) ∙ ap (λ t. x ++ t) whole) two.0,
-      subst (λ t. LaneHearsMore offset x t before after) whole (lane_hears_join offset x (take 7 block) (drop 7 block) before found after one.1 two.1),
+      subst (λ t. LaneStandsFor lane (tones_at offset t)) (append_assoc x (take 7 block) (drop 7 block)
+          ∙ ap (λ t. x ++ t) whole) two.0,
+      subst (λ t. LaneHearsMore offset x t before after) whole
+          (lane_hears_join offset x (take 7 block) (drop 7 block) before found after one.1 two.1),
     )
 
 -- what is found if nothing was found before
-pub own_found : (offset : ℕ) (x block : List ℤ) (position : ℕ) (before after : List Candidate) → length x ≡ position → before ≡ [] → LaneHearsMore offset x block before after
+pub own_found : (offset : ℕ) (x block : List ℤ) (position : ℕ) (before after : List Candidate) → length x ≡ position
+    → before ≡ [] → LaneHearsMore offset x block before after
     → AreOfWindows offset (windows_in offset position) (windows_in offset (length (x ++ block))) (x ++ block) after
 own_found offset x block position before after size none h =
     let is : h.heard ≡ after = sym (h.found ∙ ap (λ t. t ++ h.heard) none) in
-    subst (λ p. AreOfWindows offset (windows_in offset p) (windows_in offset (length (x ++ block))) (x ++ block) after) size
-    (subst (AreOfWindows offset (windows_in offset (length x)) (windows_in offset (length (x ++ block))) (x ++ block)) is h.are)
+    subst (λ p. AreOfWindows offset (windows_in offset p) (windows_in offset (length (x ++ block))) (x ++ block) after)
+        size
+    (subst (AreOfWindows offset (windows_in offset (length x)) (windows_in offset (length (x ++ block))) (x ++ block))
+        is h.are)
 
 -- nothing is left past the end
 pub drop_most : (n place : ℕ) (xs : List ℤ) → n ≡ min (length xs) place → drop n xs ≡ drop place xs

@@ -1,5 +1,6 @@
 -- What eight lanes that read a ring hear, merged turn by turn.
-use Rattle.std.proofs.Common.{◌≡◌, ℕ, ◌<◌, ◌≤◌, List, [], ◌∷◌, ◌++◌, refl, ap, sym, ◌∙◌, arith, subst, replicate, get_or, zero, suc, ◌-◌, ◌^◌, inl, inr, le_refl}
+use Rattle.std.proofs.Common.{◌≡◌, ℕ, ◌<◌, ◌≤◌, List, [], ◌∷◌, ◌++◌, refl, ap, sym, ◌∙◌, arith, subst, replicate,
+    get_or, zero, suc, ◌-◌, ◌^◌, inl, inr, le_refl}
 use Rattle.std.specs.Prelude.{fold, min}
 use Rattle.std.specs.List.{All, Contains}
 use Rattle.std.specs.List.Sorted.{IsNonDecreasingBy}
@@ -17,10 +18,12 @@ use Rattle.frame_merge.proofs.Forgetting.{below_then_rest}
 use Rattle.frame_merge.proofs.Taking.{least-each, le-least}
 use Rattle.sample_ring.specs.declared.got.Got.{Got}
 use Rattle.slicer_bank.specs.Stretches.{stretches, position_after}
-use Rattle.slicer_bank.specs.HeardOnRing.{IsHeardIn, IsHeardOnRing, AreHeardOnRing, AreMergedOnRing, AreRestOnRing, lane_of, lane_positions, least_position}
+use Rattle.slicer_bank.specs.HeardOnRing.{IsHeardIn, IsHeardOnRing, AreHeardOnRing, AreMergedOnRing, AreRestOnRing,
+    lane_of, lane_positions, least_position}
 use Rattle.slicer_bank.specs.RingTurns.{Leads, BringsOnRing}
 use Rattle.slicer_bank.specs.RingMerging.{HasMerged}
-use Rattle.slicer_bank.proofs.StretchLemmas.{InStretch, none_ends, heard_longer, heard_shorter, heard_within, leads_up, leads_position, leads_split, leads_join}
+use Rattle.slicer_bank.proofs.StretchLemmas.{InStretch, none_ends, heard_longer, heard_shorter, heard_within, leads_up,
+    leads_position, leads_split, leads_join}
 use Rattle.slicer_bank.proofs.MergedLemmas.{next_is}
 use Rattle.slicer_bank.proofs.MergingLemmas.{rising_strictly}
 use Rattle.slicer_bank.proofs.OrderingLemmas.{strictly_more, contains_more, all_more, below_more}
@@ -42,7 +45,8 @@ none_on_ring item h =
     let none : lane_of no_answers item.offset ≡ [] = get_or-replicate 8 item.offset [] [] within in
     none_heard item (subst (λ answers. IsHeardIn answers item) none h.heard)
 
-pub nothing_merged : (merger : HeldMerger) → merger.marks ≡ replicate 8 0 → MergerStandsFor merger [] [] → HasMerged merger no_answers
+pub nothing_merged : (merger : HeldMerger) → merger.marks ≡ replicate 8 0 → MergerStandsFor merger [] []
+    → HasMerged merger no_answers
 nothing_merged merger marks stands = record {
   marks = marks;
   puts = [];
@@ -66,35 +70,44 @@ fold_min_most marks = go (2 ^ 64 - 1) marks
 
 -- ---- one turn more
 
-module _ (before now : List (List Got)) (positions : List ℕ) (items : List Candidate) (b : BringsOnRing before now positions items) where
+module _ (before now : List (List Got)) (positions : List ℕ) (items : List Candidate)
+    (b : BringsOnRing before now positions items) where
   -- each lane's answers led somewhere before, and lead on
-  led : (k : ℕ) → k < 8 → (middle : ℕ) × Leads 0 (lane_of before k) middle × ((to : ℕ) × Leads middle (lane_of b.reads k) to)
+  led : (k : ℕ) → k < 8 → (middle : ℕ) × Leads 0 (lane_of before k) middle
+      × ((to : ℕ) × Leads middle (lane_of b.reads k) to)
   led k l =
       let lead = b.lead k l in
-      let parts = leads_split 0 (lane_of before k) (lane_of b.reads k) lead.0 (subst (λ a. Leads 0 a lead.0) (b.longer.each k l) lead.1) in
+      let parts = leads_split 0 (lane_of before k) (lane_of b.reads k) lead.0
+          (subst (λ a. Leads 0 a lead.0) (b.longer.each k l) lead.1) in
       (parts.0, parts.1, (lead.0, parts.2))
 
   heard_still : (item : Candidate) → IsHeardOnRing before item → IsHeardOnRing now item
   heard_still item h = record {
     offset = h.offset;
-    heard = subst (λ a. IsHeardIn a item) (sym (b.longer.each item.offset h.offset)) (heard_longer (lane_of before item.offset) (lane_of b.reads item.offset) item h.heard);
+    heard = subst (λ a. IsHeardIn a item) (sym (b.longer.each item.offset h.offset))
+        (heard_longer (lane_of before item.offset) (lane_of b.reads item.offset) item h.heard);
   }
 
   -- where an item stands to the position of its lane before
-  was_heard : (item : Candidate) (l : item.offset < 8) → IsHeardOnRing now item → item.end ≤ (led item.offset l).0 → IsHeardOnRing before item
+  was_heard : (item : Candidate) (l : item.offset < 8) → IsHeardOnRing now item → item.end ≤ (led item.offset l).0
+      → IsHeardOnRing before item
   unfolding led
   was_heard item l h le =
       let k = led item.offset l in
       record {
         offset = l;
-        heard = heard_shorter (lane_of before item.offset) (lane_of b.reads item.offset) k.0 k.2.0 item k.1 k.2.1 (subst (λ a. IsHeardIn a item) (b.longer.each item.offset l) h.heard) le;
+        heard = heard_shorter (lane_of before item.offset) (lane_of b.reads item.offset) k.0 k.2.0 item k.1 k.2.1
+            (subst (λ a. IsHeardIn a item) (b.longer.each item.offset l) h.heard) le;
       }
 
   up_to : (item : Candidate) (h : IsHeardOnRing before item) → item.end ≤ (led item.offset h.offset).0
-  up_to item h = heard_within (lane_of before item.offset) (led item.offset h.offset).0 item (led item.offset h.offset).1 h.heard
+  up_to item h = heard_within (lane_of before item.offset) (led item.offset h.offset).0 item
+      (led item.offset h.offset).1 h.heard
 
-  past : (item : Candidate) (l : item.offset < 8) → IsHeardOnRing now item → (¬ IsHeardOnRing before item) → (led item.offset l).0 < item.end
-  past item l h not = elim (cases_lt (led item.offset l).0 item.end) [ inl lt ↦ lt | inr le ↦ absurd (not (was_heard item l h le)) ]
+  past : (item : Candidate) (l : item.offset < 8) → IsHeardOnRing now item → (¬ IsHeardOnRing before item)
+      → (led item.offset l).0 < item.end
+  past item l h not = elim (cases_lt (led item.offset l).0 item.end)
+      [ inl lt ↦ lt | inr le ↦ absurd (not (was_heard item l h le)) ]
 
   abbrev pub fold_items : List Candidate → List Candidate
   fold_items done = fold (λ ordered item. place item ordered) done items
@@ -105,14 +118,19 @@ module _ (before now : List (List Got)) (positions : List ℕ) (items : List Can
       let q = leads_position (lane_of before j) (led j m).0 (led j m).1 in
       sym p ∙ ap (λ i. position_after (lane_of before i)) e ∙ q
 
-  pub heard_by_all : (candidates : List Candidate) → AreHeardOnRing before candidates → AreHeardOnRing now (fold_items candidates)
+  pub heard_by_all : (candidates : List Candidate) → AreHeardOnRing before candidates
+      → AreHeardOnRing now (fold_items candidates)
   heard_by_all candidates are = record {
-    each = all_more (IsHeardOnRing now) candidates items (λ k d l. heard_still (get_or candidates k d) (are.each k d l)) (λ k d l. (b.heard.each k d l).0);
+    each = all_more (IsHeardOnRing now) candidates items (λ k d l. heard_still (get_or candidates k d) (are.each k d l))
+        (λ k d l. (b.heard.each k d l).0);
     whole = λ item h. contains_more candidates items item (elim (cases_lt (led item.offset h.offset).0 item.end) [
-      | inl lt ↦ Contains-append_right candidates items item (b.heard.whole item h (λ was. let le = up_to item was in let e = same_end item.offset item.offset was.offset h.offset refl in absurd (omega arith)))
+      | inl lt ↦ Contains-append_right candidates items item
+          (b.heard.whole item h (λ was. let le = up_to item was in let e =
+          same_end item.offset item.offset was.offset h.offset refl in absurd (omega arith)))
       | inr le ↦ Contains-append_left candidates items item (are.whole item (was_heard item h.offset h le))
     ]);
-    order = strictly_more candidates items are.order (λ i j d ij jl. let lt = b.heard.order i j d ij jl in λ e. omega arith)
+    order = strictly_more candidates items are.order (λ i j d ij jl. let lt = b.heard.order i j d ij jl in
+        λ e. omega arith)
         (λ i d il j c jl.
         let new = b.heard.each i d il in
         let old = are.each j c jl in
@@ -124,7 +142,8 @@ module _ (before now : List (List Got)) (positions : List ℕ) (items : List Can
         let near : y.end ≤ (led y.offset old.offset).0 = up_to y old in
         λ e.
         let same : y.offset ≡ x.offset = omega arith in
-        let here : (led y.offset old.offset).0 ≡ (led x.offset new.0.offset).0 = same_end y.offset x.offset old.offset new.0.offset same in
+        let here : (led y.offset old.offset).0 ≡ (led x.offset new.0.offset).0 =
+            same_end y.offset x.offset old.offset new.0.offset same in
         omega arith);
   }
 
@@ -132,8 +151,10 @@ module _ (before now : List (List Got)) (positions : List ℕ) (items : List Can
   least_below k l =
       let eight = b.longer.eight_before in
       let n = length-map before position_after in
-      let at : get_or (lane_positions before) k 0 ≡ (led k l).0 = get_or-map position_after before k [] 0 (omega arith) ∙ leads_position (lane_of before k) (led k l).0 (led k l).1 in
-      let le : least_position before ≤ get_or (lane_positions before) k 0 = least-each (lane_positions before) k 0 (omega arith) in
+      let at : get_or (lane_positions before) k 0 ≡ (led k l).0 = get_or-map position_after before k [] 0 (omega arith)
+          ∙ leads_position (lane_of before k) (led k l).0 (led k l).1 in
+      let le : least_position before ≤ get_or (lane_positions before) k 0 =
+          least-each (lane_positions before) k 0 (omega arith) in
       omega arith
 
   late : All (λ item. least_position before ≤ item.end) items
@@ -148,7 +169,9 @@ module _ (before now : List (List Got)) (positions : List ℕ) (items : List Can
   small k d l = let h = b.heard.each k d l in let o = h.0.offset in omega arith
 
   -- what is merged below the least position before stays as it is
-  given_stays : (candidates : List Candidate) → IsInOrder candidates → below (least_position before) (merged (fold_items candidates)) ≡ below (least_position before) (merged candidates)
+  given_stays : (candidates : List Candidate) → IsInOrder candidates
+      → below (least_position before) (merged (fold_items candidates))
+      ≡ below (least_position before) (merged candidates)
   given_stays candidates order = below_more (least_position before) candidates items order small late
 
   -- the least position does not fall
@@ -163,20 +186,27 @@ module _ (before now : List (List Got)) (positions : List ℕ) (items : List Can
       let up = leads_up (led k in8).0 (lane_of b.reads k) (led k in8).2.0 (led k in8).2.1 in
       let lead = b.lead k in8 in
       let at : get_or (lane_positions now) k d ≡ (led k in8).2.0
-      = get_or-map position_after now k [] d (omega arith) ∙ leads_position (lane_of now k) (led k in8).2.0 (subst (λ a. Leads 0 a (led k in8).2.0) (sym (b.longer.each k in8)) (leads_join 0 (lane_of before k) (lane_of b.reads k) (led k in8).0 (led k in8).2.0 (led k in8).1 (led k in8).2.1)) in
+      = get_or-map position_after now k [] d (omega arith)
+          ∙ leads_position (lane_of now k) (led k in8).2.0 (subst (λ a. Leads 0 a (led k in8).2.0)
+          (sym (b.longer.each k in8)) (leads_join 0 (lane_of before k) (lane_of b.reads k) (led k in8).0 (led k in8).2.0
+          (led k in8).1 (led k in8).2.1)) in
       omega arith)
 
 -- candidates of lanes are in order
-in_order_heard : (lanes : List (List Got)) (candidates : List Candidate) → AreHeardOnRing lanes candidates → IsInOrder candidates
+in_order_heard : (lanes : List (List Got)) (candidates : List Candidate) → AreHeardOnRing lanes candidates
+    → IsInOrder candidates
 in_order_heard lanes candidates are = record {
   rising = rising_strictly candidates are.order;
   offsets = λ k d l. let h = are.each k d l in let o = h.offset in omega arith;
 }
 
-module _ (before now : List (List Got)) (positions : List ℕ) (items ready : List Candidate) (b : BringsOnRing before now positions items)
+module _ (before now : List (List Got)) (positions : List ℕ) (items ready : List Candidate)
+    (b : BringsOnRing before now positions items)
     (was put marked after : HeldMerger) (h : HasMerged was before)
-    (puts_more : (puts given : List Candidate) → MergerStandsFor was puts given → MergerStandsFor put (puts ++ items) given)
-    (marks_more : (puts given : List Candidate) → MergerStandsFor put puts given → MergerStandsFor marked puts given) where
+    (puts_more : (puts given : List Candidate) → MergerStandsFor was puts given
+        → MergerStandsFor put (puts ++ items) given)
+    (marks_more : (puts given : List Candidate) → MergerStandsFor put puts given
+        → MergerStandsFor marked puts given) where
   candidates : List Candidate
   candidates = fold_items before now positions items b h.candidates
 
@@ -185,7 +215,8 @@ module _ (before now : List (List Got)) (positions : List ℕ) (items ready : Li
 
   all : in_order (h.puts ++ items) ≡ candidates
   unfolding candidates
-  all = fold-append (λ ordered item. place item ordered) [] h.puts items ∙ ap (λ done. fold (λ ordered item. place item ordered) done items) h.order
+  all = fold-append (λ ordered item. place item ordered) [] h.puts items
+      ∙ ap (λ done. fold (λ ordered item. place item ordered) done items) h.order
 
   are : AreHeardOnRing now candidates
   unfolding candidates
@@ -203,12 +234,16 @@ module _ (before now : List (List Got)) (positions : List ℕ) (items ready : Li
   rises = merged-rising (λ y. y.end) [] candidates (rising_ends candidates (in_order_heard now candidates are))
 
   pub merges_turn : marked.marks ≡ positions → after.marks ≡ marked.marks
-      → ((puts given : List Candidate) → MergerStandsFor marked puts given → MergerStandsFor after puts (given ++ ready) × (given ++ ready ≡ below (least marked.marks) (merged (in_order puts))))
+      → ((puts given : List Candidate) → MergerStandsFor marked puts given
+          → MergerStandsFor after puts (given ++ ready)
+          × (given ++ ready ≡ below (least marked.marks) (merged (in_order puts))))
       → HasMerged after now × AreMergedOnRing (least_position before) (least_position now) now ready
   merges_turn marks same takes =
       let step = takes (h.puts ++ items) given stands in
       let at : marked.marks ≡ lane_positions now = marks ∙ b.stand in
-      let total : given ++ ready ≡ below (least_position now) (merged candidates) = step.1 ∙ ap (λ m. below (least m) (merged (in_order (h.puts ++ items)))) at ∙ ap (λ c. below (least_position now) (merged c)) all in (
+      let total : given ++ ready ≡ below (least_position now) (merged candidates) = step.1
+          ∙ ap (λ m. below (least m) (merged (in_order (h.puts ++ items)))) at
+          ∙ ap (λ c. below (least_position now) (merged c)) all in (
         record {
           marks = same ∙ at;
           puts = h.puts ++ items;
@@ -220,11 +255,13 @@ module _ (before now : List (List Got)) (positions : List ℕ) (items ready : Li
         record {
           candidates = candidates;
           are = are;
-          is = next_is (least_position before) (least_position now) given ready (merged candidates) (least_rises before now positions items b) rises given_is total;
+          is = next_is (least_position before) (least_position now) given ready (merged candidates)
+              (least_rises before now positions items b) rises given_is total;
         },
       )
 
-  pub merges_rest : ((puts given : List Candidate) → MergerStandsFor marked puts given → given ++ ready ≡ merged (in_order puts)) → AreRestOnRing (least_position before) now ready
+  pub merges_rest : ((puts given : List Candidate) → MergerStandsFor marked puts given
+      → given ++ ready ≡ merged (in_order puts)) → AreRestOnRing (least_position before) now ready
   merges_rest takes =
       let zs : List Candidate = merged candidates in
       let total : given ++ ready ≡ zs = takes (h.puts ++ items) given stands ∙ ap merged all in

@@ -1,9 +1,11 @@
 -- The last seven of samples, the windows that follow them, and the last seven of more samples.
-use Rattle.std.proofs.Common.{◌≡◌, ℕ, ◌+◌, ◌-◌, ◌*◌, ◌<◌, ◌≤◌, ℤ, pos, List, [], ◌∷◌, ◌++◌, length, get_or, take, drop, ap, sym, ◌∙◌, arith, append_assoc, length-append, length-drop}
+use Rattle.std.proofs.Common.{◌≡◌, ℕ, ◌+◌, ◌-◌, ◌*◌, ◌<◌, ◌≤◌, ℤ, pos, List, [], ◌∷◌, ◌++◌, length, get_or, take, drop,
+    ap, sym, ◌∙◌, arith, append_assoc, length-append, length-drop}
 use borrow.Rule.Slice.PartMut.{put_mid}
 use Rattle.std.proofs.Math.Seq.{drop-append-add, take-add, take-append_seam}
 use Rattle.std.proofs.lemmas.Slice.{take-put_mid}
-use Rattle.std.proofs.lemmas.List.{drop-append-le, drop-drop, drop-take, take_more, take_all, length-take-le, length-replicate, length_push}
+use Rattle.std.proofs.lemmas.List.{drop-append-le, drop-drop, drop-take, take_more, take_all, length-take-le,
+    length-replicate, length_push}
 use Rattle.offset_slicers.specs.Decision.{tone_of}
 use Rattle.offset_slicers.specs.Windows.{window_at, windows_in, tones_at}
 use Rattle.offset_slicers.proofs.SlicerLemmas.{tones_at-push_one}
@@ -19,7 +21,8 @@ last_seven-append x y =
     ∙ ap (drop (length y)) (drop-append-le (length x) (silence ++ x) y inside)
 
 pub length-last_seven : (x : List ℤ) → length (last_seven x) ≡ 7
-length-last_seven x = omega (arith, length-drop (length x) (silence ++ x), length-append silence x, length-replicate 7 (pos 0))
+length-last_seven x = omega (arith, length-drop (length x) (silence ++ x), length-append silence x,
+    length-replicate 7 (pos 0))
 
 -- without silence, if there are seven
 pub last_seven_whole : (x : List ℤ) → 7 ≤ length x → last_seven x ≡ drop (length x - 7) x
@@ -29,7 +32,8 @@ last_seven_whole x enough =
 
 -- the window of an offset that a sample ends
 window_is : (offset : ℕ) (x : List ℤ) (sample : ℤ) (w : ℕ) → offset + 8 * w ≡ length x - 7 → offset + 8 * w ≤ length x
-    → length (drop (length x - 7) x ++ sample ∷ []) ≤ 8 → window_at offset (x ++ sample ∷ []) w ≡ drop (length x - 7) x ++ sample ∷ []
+    → length (drop (length x - 7) x ++ sample ∷ []) ≤ 8 → window_at offset (x ++ sample ∷ []) w
+        ≡ drop (length x - 7) x ++ sample ∷ []
 unfolding window_at
 window_is offset x sample w at inside short =
     ap (take 8) (drop-append-le (offset + 8 * w) x (sample ∷ []) inside)
@@ -42,12 +46,15 @@ pub tones_at-seven : (offset k : ℕ) (x : List ℤ) (sample : ℤ) → length x
 tones_at-seven offset k x sample ends small =
     let at : offset + 8 * windows_in offset (length x) ≡ length x - 7 = omega arith in
     let inside : offset + 8 * windows_in offset (length x) ≤ length x = omega arith in
-    let short : length (drop (length x - 7) x ++ sample ∷ []) ≤ 8 = omega (arith, length_push (drop (length x - 7) x) sample, length-drop (length x - 7) x) in
+    let short : length (drop (length x - 7) x ++ sample ∷ []) ≤ 8 =
+        omega (arith, length_push (drop (length x - 7) x) sample, length-drop (length x - 7) x) in
     let window : window_at offset (x ++ sample ∷ []) (windows_in offset (length x)) ≡ last_seven x ++ sample ∷ []
-    = window_is offset x sample (windows_in offset (length x)) at inside short ∙ ap (λ l. l ++ sample ∷ []) (sym (last_seven_whole x (omega arith))) in
+    = window_is offset x sample (windows_in offset (length x)) at inside short
+        ∙ ap (λ l. l ++ sample ∷ []) (sym (last_seven_whole x (omega arith))) in
     tones_at-push_one offset x sample (omega arith) ∙ ap (λ w. tones_at offset x ++ tone_of w ∷ []) window
 
--- the windows of a piece that begins with the last seven samples: each is the last seven of the samples before it, and one
+-- the windows of a piece that begins with the last seven samples: each is the last seven of the samples before it, and
+-- one
 pub window_of_piece : (x piece : List ℤ) (index : ℕ) (d : ℤ) → take 7 piece ≡ last_seven x → index + 8 ≤ length piece
     → take 8 (drop index piece) ≡ last_seven (x ++ take index (drop 7 piece)) ++ get_or (drop 7 piece) index d ∷ []
 window_of_piece x piece index d first inside =
@@ -76,19 +83,22 @@ seven_behind_short x block bridge is =
     let n : ℕ = length block in
     let seven : n + 7 - n ≡ 7 = omega arith in
     let sum : n + 7 ≡ 7 + n = omega arith in
-    ap (λ m. take m (drop n bridge)) seven ∙ sym (drop-take n 7 bridge) ∙ ap (λ m. drop n (take m bridge)) sum ∙ ap (drop n) is
+    ap (λ m. take m (drop n bridge)) seven ∙ sym (drop-take n 7 bridge) ∙ ap (λ m. drop n (take m bridge)) sum
+        ∙ ap (drop n) is
     ∙ sym (last_seven-append x block)
 
 -- after a longer block: its own last seven
 seven_behind : (x block : List ℤ) → 7 ≤ length block → drop (length block - 7) block ≡ last_seven (x ++ block)
 seven_behind x block long =
     let at : length block ≡ length (last_seven x) + (length block - 7) = omega (arith, length-last_seven x) in
-    sym (last_seven-append x block ∙ ap (λ n. drop n (last_seven x ++ block)) at ∙ drop-append-add (last_seven x) block (length block - 7))
+    sym (last_seven-append x block ∙ ap (λ n. drop n (last_seven x ++ block)) at
+        ∙ drop-append-add (last_seven x) block (length block - 7))
 
 pub seven_behind_long : (x block : List ℤ) → 7 ≤ length block
     → take (length block - (length block - 7)) (drop (length block - 7) block) ≡ last_seven (x ++ block)
 seven_behind_long x block long =
-    take_all (length block - (length block - 7)) (drop (length block - 7) block) (omega (arith, length-drop (length block - 7) block)) ∙ seven_behind x block long
+    take_all (length block - (length block - 7)) (drop (length block - 7) block)
+        (omega (arith, length-drop (length block - 7) block)) ∙ seven_behind x block long
 
 -- after the first seven of a block: those
 pub seven_behind_first : (x block : List ℤ) → 7 ≤ length block → take 7 block ≡ last_seven (x ++ take 7 block)
@@ -103,6 +113,7 @@ pub two_writes : (seven first zeros front back : List ℤ) (k : ℕ) → length 
 two_writes seven first zeros front back k size is more =
     let n : length front ≡ 7 = ap length is ∙ size in
     let all : length (front ++ zeros) ≡ 7 + length zeros = length-append front zeros ∙ ap (λ t. t + length zeros) n in
-    let whole : take 7 (front ++ zeros) ≡ front = ap (λ t. take t (front ++ zeros)) (sym n) ∙ take-append_seam front zeros in
+    let whole : take 7 (front ++ zeros) ≡ front = ap (λ t. take t (front ++ zeros)) (sym n)
+        ∙ take-append_seam front zeros in
     take-put_mid 7 k (front ++ zeros) back (7 + length first) (ap (λ t. 7 + length t) (sym more)) (omega arith)
     ∙ ap (λ t. t ++ back) (whole ∙ is) ∙ ap (λ t. seven ++ t) more

@@ -1,5 +1,6 @@
 -- Samples have a list of candidates: it is found sample by sample.
-use Rattle.std.proofs.Common.{ℕ, ◌+◌, ◌-◌, ◌/◌, ◌%◌, ◌<◌, ◌≤◌, ℤ, List, [], ◌∷◌, ◌++◌, length, inl, inr, refl, subst, sym, arith, append_assoc}
+use Rattle.std.proofs.Common.{ℕ, ◌+◌, ◌-◌, ◌/◌, ◌%◌, ◌<◌, ◌≤◌, ℤ, List, [], ◌∷◌, ◌++◌, length, inl, inr, refl, subst,
+    sym, arith, append_assoc}
 use Rattle.std.proofs.lemmas.Bool.{cases_lt}
 use Rattle.std.proofs.lemmas.List.{append-nil, length_push}
 use Rattle.offset_slicers.specs.Windows.{bits, EndsWindow}
@@ -26,8 +27,10 @@ heard_with x sample = elim (cases_lt (length x + 1) 8) [
       elim (frame_or_none (bits offset (x ++ sample ∷ []))) [
         | inl frame ↦ (
           candidate_at (length x + 1) offset frame.0 ∷ [],
-          lane_hears offset x sample small window (length x + 1) [] (candidate_at (length x + 1) offset frame.0 ∷ []) refl
-              (adds_one offset (length x + 1) (bits offset (x ++ sample ∷ [])) [] (candidate_at (length x + 1) offset frame.0 ∷ []) frame.0 refl frame.1
+          lane_hears offset x sample small window (length x + 1) [] (candidate_at (length x + 1) offset frame.0 ∷ [])
+              refl
+              (adds_one offset (length x + 1) (bits offset (x ++ sample ∷ [])) []
+                  (candidate_at (length x + 1) offset frame.0 ∷ []) frame.0 refl frame.1
               (λ o ends. (one_frame (bits offset (x ++ sample ∷ [])) frame.0 o frame.1 ends).0)),
         )
         | inr none ↦ (
@@ -39,7 +42,8 @@ heard_with x sample = elim (cases_lt (length x + 1) 8) [
 ]
 
 -- with more samples there is a list if there was one
-more_candidates : (x y : List ℤ) (items : List Candidate) → AreCandidates x items → (all : List Candidate) × AreCandidates (x ++ y) all
+more_candidates : (x y : List ℤ) (items : List Candidate) → AreCandidates x items
+    → (all : List Candidate) × AreCandidates (x ++ y) all
 more_candidates x [] items are = (items, subst (λ xs. AreCandidates xs items) (sym (append-nil x)) are)
 more_candidates x (sample ∷ y) items are =
     let heard = heard_with x sample in

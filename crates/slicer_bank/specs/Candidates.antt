@@ -1,4 +1,5 @@
--- The candidates of samples: every frame that the slicer at one of the eight offsets of a bit hears, with the place where it ends.
+-- The candidates of samples: every frame that the slicer at one of the eight offsets of a bit hears, with the place
+-- where it ends.
 use Rattle.std.specs.Prelude.{◌≡◌, ℕ, ◌+◌, ◌*◌, ◌<◌, ℤ, List, length, take}
 use Rattle.std.specs.List.{All, AllPairs, Contains}
 use Rattle.offset_slicers.specs.Windows.{bits, EndsWindow}
@@ -6,7 +7,8 @@ use Rattle.hdlc_framer.specs.Frames.{EndsFrame}
 use Rattle.frame_merge.specs.declared.candidate.Candidate.{Candidate}
 use Rattle.frame_merge.specs.Order.{standing}
 
--- a frame ends at bit `index` of the bits at the item's offset, and the item's end is the first sample after that bit's window
+-- a frame ends at bit `index` of the bits at the item's offset, and the item's end is the first sample after that bit's
+-- window
 pub record EndsAtBit (x : List ℤ) (item : Candidate) (index : ℕ) : Type 0 where
   pub within : index < length (bits item.offset x)
   pub end_of : item.end ≡ item.offset + 8 * (index + 1)

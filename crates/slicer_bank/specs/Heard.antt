@@ -1,5 +1,6 @@
 -- What is heard of one window and of some samples.
-use Rattle.std.specs.Prelude.{◌≡◌, ℕ, ◌+◌, ◌*◌, ◌<◌, ◌≤◌, ℤ, List, [], ◌∷◌, ◌++◌, length, map, Bool, Some, slice_index_or}
+use Rattle.std.specs.Prelude.{◌≡◌, ℕ, ◌+◌, ◌*◌, ◌<◌, ◌≤◌, ℤ, List, [], ◌∷◌, ◌++◌, length, map, Bool, Some,
+    slice_index_or}
 use Rattle.std.specs.List.{All, AllPairs, Contains}
 use Rattle.hdlc_framer.specs.Frames.{EndsFrame}
 use Rattle.frame_merge.specs.declared.candidate.Candidate.{Candidate}
@@ -19,40 +20,50 @@ pub record Adds (offset end : ℕ) (bits : List Bool) (before after : List Candi
   pub each : All (λ o. EndsFrame bits o) octets
   pub whole : (o : List ℕ) → EndsFrame bits o → octets ≡ o ∷ []
 
--- the items are the candidates of one offset that end with one of its windows, from a window's number to below another's,
+-- the items are the candidates of one offset that end with one of its windows, from a window's number to below
+-- another's,
 -- each once and in order
 pub record AreOfWindows (offset first next : ℕ) (x : List ℤ) (items : List Candidate) : Type 0 where
-  pub each : All (λ item. IsCandidate x item × (item.offset ≡ offset) × (offset + 8 * first < item.end) × (item.end ≤ offset + 8 * next)) items
-  pub whole : (item : Candidate) → IsCandidate x item → item.offset ≡ offset → offset + 8 * first < item.end → item.end ≤ offset + 8 * next → Contains items item
+  pub each : All (λ item. IsCandidate x item × (item.offset ≡ offset) × (offset + 8 * first < item.end)
+      × (item.end ≤ offset + 8 * next)) items
+  pub whole : (item : Candidate) → IsCandidate x item → item.offset ≡ offset → offset + 8 * first < item.end
+      → item.end ≤ offset + 8 * next → Contains items item
   pub order : AllPairs (λ item later. item.end < later.end) items
 
 -- what a lane finds in samples is followed by all that it hears in more of them
 pub record LaneHearsMore (offset : ℕ) (x more : List ℤ) (before after : List Candidate) : Type 0 where
   pub heard : List Candidate
   pub found : after ≡ before ++ heard
-  pub are : AreOfWindows offset (windows_in offset (length x)) (windows_in offset (length (x ++ more))) (x ++ more) heard
+  pub are : AreOfWindows offset (windows_in offset (length x)) (windows_in offset (length (x ++ more))) (x ++ more)
+      heard
 
--- the lane of an offset, which had taken `position` samples with `seven` as the last, has taken these, too, and added what
+-- the lane of an offset, which had taken `position` samples with `seven` as the last, has taken these, too, and added
+-- what
 -- it heard in them
 abbrev pub LaneHears : ℕ → ℕ → List ℤ → List ℤ → HeldLane → HeldLane → List Candidate → List Candidate → Type 0
-LaneHears offset position seven more initial lane before after = (x : List ℤ) → length x ≡ position → seven ≡ last_seven x → LaneStandsFor initial (tones_at offset x)
+LaneHears offset position seven more initial lane before after = (x : List ℤ) → length x ≡ position
+    → seven ≡ last_seven x → LaneStandsFor initial (tones_at offset x)
     → LaneStandsFor lane (tones_at offset (x ++ more)) × LaneHearsMore offset x more before after
 
--- the lane of an offset, which had taken `position` samples with `seven` as the last, heard a block by itself and keeps what it heard
+-- the lane of an offset, which had taken `position` samples with `seven` as the last, heard a block by itself and keeps
+-- what it heard
 abbrev pub HearsAlone : ℕ → ℕ → List ℤ → List ℤ → HeldLane → HeldLane → Type 0
-HearsAlone offset position seven block was lane = (x : List ℤ) (items : List Candidate) → lane.heard ≡ Some items → length x ≡ position
+HearsAlone offset position seven block was lane = (x : List ℤ) (items : List Candidate) → lane.heard ≡ Some items
+    → length x ≡ position
     → seven ≡ last_seven x → LaneStandsFor was (tones_at offset x)
     → LaneStandsFor lane (tones_at offset (x ++ block))
     × AreOfWindows offset (windows_in offset position) (windows_in offset (length (x ++ block))) (x ++ block) items
 
 -- each lane keeps what it heard in samples after a position
 abbrev pub LanesKeep : ℕ → List ℤ → List HeldLane → Type 0
-LanesKeep position x lanes = (offset : ℕ) (d : HeldLane) (items : List Candidate) → offset < 8 → (slice_index_or lanes offset d).heard ≡ Some items
+LanesKeep position x lanes = (offset : ℕ) (d : HeldLane) (items : List Candidate) → offset < 8
+    → (slice_index_or lanes offset d).heard ≡ Some items
     → AreOfWindows offset (windows_in offset position) (windows_in offset (length x)) x items
 
 -- what each lane keeps can be put into a merger
 abbrev pub LanesKeepFit : List HeldLane → Type 0
-LanesKeepFit lanes = (offset : ℕ) (d : HeldLane) (items : List Candidate) → offset < 8 → (slice_index_or lanes offset d).heard ≡ Some items → All CanBePut items
+LanesKeepFit lanes = (offset : ℕ) (d : HeldLane) (items : List Candidate) → offset < 8
+    → (slice_index_or lanes offset d).heard ≡ Some items → All CanBePut items
 
 -- two lanes are the same but for what they keep of what they heard
 pub record AreAlike (lane other : HeldLane) : Type 0 where
@@ -61,4 +72,5 @@ pub record AreAlike (lane other : HeldLane) : Type 0 where
 
 -- and so are the lanes of two banks, each for each
 abbrev pub LanesAreAlike : List HeldLane → List HeldLane → Type 0
-LanesAreAlike lanes others = (offset : ℕ) (d : HeldLane) → offset < 8 → AreAlike (slice_index_or lanes offset d) (slice_index_or others offset d)
+LanesAreAlike lanes others = (offset : ℕ) (d : HeldLane) → offset < 8
+    → AreAlike (slice_index_or lanes offset d) (slice_index_or others offset d)

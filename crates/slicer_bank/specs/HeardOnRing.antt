@@ -1,4 +1,5 @@
--- What eight lanes hear that each have a reader of one ring. Lane k takes the windows of offset k. A list of lanes is the
+-- What eight lanes hear that each have a reader of one ring. Lane k takes the windows of offset k. A list of lanes is
+-- the
 -- list of the answers of each; places are those of the whole input.
 use Rattle.std.specs.Prelude.{◌≡◌, ℕ, ◌+◌, ◌*◌, ◌<◌, List, [], length, map, take, slice_index_or}
 use Rattle.std.specs.List.{All, AllPairs, Contains}
@@ -16,7 +17,8 @@ use Rattle.slicer_bank.specs.Stretches.{Stretch, stretches, last_stretch, stretc
 abbrev pub lane_of : List (List Got) → ℕ → List Got
 lane_of lanes lane = slice_index_or lanes lane []
 
--- a frame ends at bit `index` of a stretch's bits at the item's offset, and the item's end is the first place past that bit's window
+-- a frame ends at bit `index` of a stretch's bits at the item's offset, and the item's end is the first place past that
+-- bit's window
 pub record EndsInStretch (stretch : Stretch) (item : Candidate) (index : ℕ) : Type 0 where
   pub within : index < length (stretch_bits item.offset stretch)
   pub end_of : item.end ≡ stretch.begin + offset_from item.offset stretch.begin + 8 * (index + 1)

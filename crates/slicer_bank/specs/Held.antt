@@ -1,5 +1,6 @@
 -- What the bank of eight lanes keeps, and what that stands for.
-use Rattle.std.specs.Prelude.{◌≡◌, ℕ, ◌<◌, ℤ, pos, List, ◌++◌, length, drop, replicate, Bool, false, Option, slice_index_or}
+use Rattle.std.specs.Prelude.{◌≡◌, ℕ, ◌<◌, ℤ, pos, List, ◌++◌, length, drop, replicate, Bool, false, Option,
+    slice_index_or}
 use Rattle.std.specs.List.{All}
 use Rattle.tone_table.specs.declared.tone.Tone.{Tone}
 use Rattle.nrzi_bits.specs.Line.{bits_of, last_tone}
@@ -7,7 +8,8 @@ use Rattle.offset_slicers.specs.Windows.{tones_at}
 use Rattle.hdlc_framer.specs.Held.{Held as HeldDeframer, StandsFor as DeframerStandsFor, flags_asked}
 use Rattle.frame_merge.specs.declared.candidate.Candidate.{Candidate}
 
--- the tone of the last window, the deframer of the bits, and what the lane heard in a job of its own; nothing if the job
+-- the tone of the last window, the deframer of the bits, and what the lane heard in a job of its own; nothing if the
+-- job
 -- wanted memory
 pub record HeldLane : Type 0 where
   pub before : Tone
@@ -43,7 +45,8 @@ pub record HeldBank : Type 0 where
   pub flags : ℕ
   pub spent : Bool
 
--- the bank has taken these samples, its lanes listen for as many flags as it does, and every growth that it wanted was given
+-- the bank has taken these samples, its lanes listen for as many flags as it does, and every growth that it wanted was
+-- given
 pub record StandsFor (held : HeldBank) (x : List ℤ) : Type 0 where
   pub spent : held.spent ≡ false
   pub count : held.position ≡ length x

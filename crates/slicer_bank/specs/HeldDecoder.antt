@@ -13,7 +13,8 @@ pub record HeldDecoder : Type 0 where
   pub finished : Bool
   pub spent : Bool
 
--- the bank has taken these samples, and the merger their candidates, of which it has given those that end below their number
+-- the bank has taken these samples, and the merger their candidates, of which it has given those that end below their
+-- number
 pub record HaveTaken (bank : HeldBank) (merger : HeldMerger) (x : List ℤ) : Type 0 where
   pub samples : BankStandsFor bank x
   pub candidates : List Candidate

@@ -1,5 +1,6 @@
 -- What one read, and one turn of reads, make of a lane.
-use Rattle.std.specs.Prelude.{◌≡◌, ℕ, ◌<◌, ◌≤◌, ◌↔◌, Bool, true, false, List, [], ◌∷◌, ◌++◌, length, map, slice_index_or}
+use Rattle.std.specs.Prelude.{◌≡◌, ℕ, ◌<◌, ◌≤◌, ◌↔◌, Bool, true, false, List, [], ◌∷◌, ◌++◌, length, map,
+    slice_index_or}
 use Rattle.std.specs.List.{All, AllPairs, Contains, flat_map, list_all}
 use Rattle.std.specs.List.Sorted.{IsPermutation, IsNonDecreasingBy}
 use Rattle.atomic_table.specs.Seated.{TableId}
@@ -59,7 +60,8 @@ pub record TookAnswer (len : ℕ) (before after : RingLane) (got : Got) : Type 0
   pub only : is_sample got ≡ false → octets ≡ []
   pub found : after.found.items ≡ before.found.items ++ map (candidate_at (next got) before.lane.offset) octets
   pub each : (s : Stretch) → StretchStandsFor before.lane s → All (EndsWithGot before.lane.offset s got) octets
-  pub whole : (s : Stretch) (o : List ℕ) → StretchStandsFor before.lane s → EndsWithGot before.lane.offset s got o → octets ≡ o ∷ []
+  pub whole : (s : Stretch) (o : List ℕ) → StretchStandsFor before.lane s → EndsWithGot before.lane.offset s got o
+      → octets ≡ o ∷ []
 
 -- what a lane found lies past a position, with rising ends
 pub record ArePlaced (offset from to : ℕ) (items : List Candidate) : Type 0 where
@@ -116,7 +118,8 @@ pub record IsAlike (before after : RingLane) : Type 0 where
   pub spent : after.spent ≡ before.spent
 
 -- what eight lanes found, by the ends, and how far they came
-pub record IsGathered (lanes : List RingLane) (positions : List ℕ) (candidates : List Candidate) (gaps : List LaneGap) (ended : Bool) : Type 0 where
+pub record IsGathered (lanes : List RingLane) (positions : List ℕ) (candidates : List Candidate) (gaps : List LaneGap)
+    (ended : Bool) : Type 0 where
   pub spent : All (λ lane. lane.spent ≡ false) lanes
   pub stand : positions ≡ map (λ lane. position_of lane.reader) lanes
   pub found : IsPermutation (flat_map (λ lane. lane.found.items) lanes) candidates
@@ -126,7 +129,8 @@ pub record IsGathered (lanes : List RingLane) (positions : List ℕ) (candidates
 
 -- eight lanes of a ring, each at its own offset, and ready for a turn
 abbrev pub LanesStay : TableId → List RingLane → Type 0
-LanesStay ring lanes = (k : ℕ) (d : RingLane) → k < 8 → (reader_ring (slice_index_or lanes k d).reader ≡ ring) × ((slice_index_or lanes k d).lane.offset ≡ k)
+LanesStay ring lanes = (k : ℕ) (d : RingLane) → k < 8 → (reader_ring (slice_index_or lanes k d).reader ≡ ring)
+    × ((slice_index_or lanes k d).lane.offset ≡ k)
 
 abbrev pub LanesAreReady : TableId → List RingLane → Type 0
 LanesAreReady ring lanes = (k : ℕ) (d : RingLane) → k < 8 → IsReady ring k (slice_index_or lanes k d)

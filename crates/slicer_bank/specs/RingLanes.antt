@@ -51,7 +51,8 @@ pub record LaneListens (len flags offset : ℕ) (lane : RingLane) : Type 0 where
 
 -- each of eight lanes has heard all that its reader was answered
 abbrev pub LanesListen : ℕ → ℕ → List RingLane → Type 0
-LanesListen len flags lanes = (lane : ℕ) (d : RingLane) → lane < 8 → LaneListens len flags lane (slice_index_or lanes lane d)
+LanesListen len flags lanes = (lane : ℕ) (d : RingLane) → lane < 8
+    → LaneListens len flags lane (slice_index_or lanes lane d)
 
 -- so have the lanes of a bank, and every growth that the bank wanted was given
 pub record Listens (len : ℕ) (bank : HeldRingBank) : Type 0 where

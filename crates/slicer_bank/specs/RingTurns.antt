@@ -1,5 +1,6 @@
 -- One turn of eight lanes that each read a ring: how far each reads, and what it is told of gaps and of the end.
-use Rattle.std.specs.Prelude.{◌≡◌, ◌↔◌, ℕ, ◌+◌, ◌<◌, ◌≤◌, ◌⊎◌, Bool, true, false, List, [], ◌∷◌, ◌++◌, length, slice_index, slice_index_or}
+use Rattle.std.specs.Prelude.{◌≡◌, ◌↔◌, ℕ, ◌+◌, ◌<◌, ◌≤◌, ◌⊎◌, Bool, true, false, List, [], ◌∷◌, ◌++◌, length,
+    slice_index, slice_index_or}
 use Rattle.std.specs.List.{All, Contains}
 use Rattle.sample_ring.specs.declared.got.Got.{Got}
 use Rattle.sample_ring.specs.declared.got.Got.TheVariants.{Item, Gap, Empty, End}
@@ -28,7 +29,8 @@ pub record IsReading (answers : List Got) : Type 0 where
   pub rest : List Got
   pub are : answers ≡ on ++ rest
   pub each : All (λ got. reads_on got ≡ true) on
-  pub over : ((rest ≡ []) × (length on ≡ most_reads)) ⊎ ((last : Got) × (rest ≡ last ∷ []) × (reads_on last ≡ false) × (length on < most_reads))
+  pub over : ((rest ≡ []) × (length on ≡ most_reads))
+      ⊎ ((last : Got) × (rest ≡ last ∷ []) × (reads_on last ≡ false) × (length on < most_reads))
 
 -- one of the answers is that the ring has ended
 abbrev pub MeetsEnd : List Got → Type 0
@@ -68,7 +70,8 @@ pub record IsTurn (before now : List (List Got)) (gaps : List LaneGap) (ended : 
   pub told : gaps ≡ gaps_from 0 reads
   pub over : (ended ≡ true) ↔ All MeetsEnd reads
 
--- answers that follow one another from a position to a position: each sample and each gap begins where the one before it
+-- answers that follow one another from a position to a position: each sample and each gap begins where the one before
+-- it
 -- ended, and a gap goes forward
 abbrev pub Leads : ℕ → List Got → ℕ → Type 0
 Leads from [] to = from ≡ to

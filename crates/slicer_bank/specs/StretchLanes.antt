@@ -24,4 +24,5 @@ pub record HearsSample (lane : StretchLane) (sample : ℤ) (end : ℕ) (before a
   pub one : length octets ≤ 1
   pub found : after ≡ before ++ map (candidate_at end lane.offset) octets
   pub each : (s : Stretch) → StretchStandsFor lane s → All (EndsLast lane.offset (with_sample s sample)) octets
-  pub whole : (s : Stretch) (o : List ℕ) → StretchStandsFor lane s → EndsLast lane.offset (with_sample s sample) o → octets ≡ o ∷ []
+  pub whole : (s : Stretch) (o : List ℕ) → StretchStandsFor lane s → EndsLast lane.offset (with_sample s sample) o
+      → octets ≡ o ∷ []

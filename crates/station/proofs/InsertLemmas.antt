@@ -19,19 +19,25 @@ use Rattle.station.proofs.TableLemmas.{count_set}
 use Rattle.std.proofs.lemmas.List.{length-set}
 
 -- the places then
-pub places-inserted : (old new : Slab OwnedLink) (key : ℕ) (value : OwnedLink) → IsTable old → key < new.capacity → new.capacity ≡ old.capacity → Updates old new key (Some value) → places_of new ≡ set (places_of old) key (Some value)
+pub places-inserted : (old new : Slab OwnedLink) (key : ℕ) (value : OwnedLink) → IsTable old → key < new.capacity
+    → new.capacity ≡ old.capacity → Updates old new key (Some value)
+    → places_of new ≡ set (places_of old) key (Some value)
 places-inserted old new key value h within capacity updates =
     let below : key < 64 = omega (arith, within, capacity, h.capacity) in
     places_of-set old new key (Some value) below updates.changed updates.others
 
-pub IsTable-inserted : (old new : Slab OwnedLink) (key : ℕ) (value : OwnedLink) → IsTable old → get old key ≡ None → key < new.capacity → new.capacity ≡ old.capacity → Updates old new key (Some value) → slab_len new ≡ slab_len old + 1 → IsTable new
+pub IsTable-inserted : (old new : Slab OwnedLink) (key : ℕ) (value : OwnedLink) → IsTable old → get old key ≡ None
+    → key < new.capacity → new.capacity ≡ old.capacity → Updates old new key (Some value)
+    → slab_len new ≡ slab_len old + 1 → IsTable new
 IsTable-inserted old new key value h vacant within capacity updates len =
     let below : key < 64 = omega (arith, within, capacity, h.capacity) in
-    let of_places = count_set (places_of old) key (Some value) None (omega (arith, length-places_of old, below)) (place-places_of old key None below ∙ vacant) in
+    let of_places = count_set (places_of old) key (Some value) None (omega (arith, length-places_of old, below))
+        (place-places_of old key None below ∙ vacant) in
     let of_new = ap (λ xs. count_by is_some xs) (places-inserted old new key value h within capacity updates) in
     record {
       capacity = capacity ∙ h.capacity;
-      beyond = λ other far. let ne : other ≢ key = λ same. omega (arith, below, far, same) in updates.others other ne ∙ h.beyond other far;
+      beyond = λ other far. let ne : other ≢ key = λ same. omega (arith, below, far, same) in updates.others other ne
+          ∙ h.beyond other far;
       count = omega (arith, of_places, of_new, h.count, len);
     }
 
@@ -39,19 +45,26 @@ none_place : (place : Option Link) → StandsForPlace None place → place ≡ N
 none_place None h = λ i. None
 none_place (Some link) h = absurd h
 
-next_freed : (held : HeldLinks) (links : Links) (key : ℕ) (freed : Option ℕ) → key ≡ held.next → IfSome freed (IsFreed held links) → IfSome freed (λ last. key ≡ last)
+next_freed : (held : HeldLinks) (links : Links) (key : ℕ) (freed : Option ℕ) → key ≡ held.next
+    → IfSome freed (IsFreed held links) → IfSome freed (λ last. key ≡ last)
 next_freed held links key None next h = tt
 next_freed held links key (Some last) next h = next ∙ h.next
 
 -- a station with a link that is made
-pub shows_made : (parts : Parts) (out : Out) (turn : Turn) (key id pid : ℕ) (local remote : Callsign) (path : Path) (held : OwnedLink) (links : HeldLinks) → Shows parts out turn → key ≡ parts.links.next → key < 64 → place_at key parts.links ≡ None → links.places ≡ set parts.links.places key (Some held) → StandsForLink held (idle_link id pid local remote path turn.now.parameters)
-    → IsNewKey key turn.now.links × Shows (record parts { links = links }) out (making key id pid local remote path turn)
+pub shows_made : (parts : Parts) (out : Out) (turn : Turn) (key id pid : ℕ) (local remote : Callsign) (path : Path)
+    (held : OwnedLink) (links : HeldLinks) → Shows parts out turn → key ≡ parts.links.next → key < 64
+    → place_at key parts.links ≡ None → links.places ≡ set parts.links.places key (Some held)
+    → StandsForLink held (idle_link id pid local remote path turn.now.parameters)
+    → IsNewKey key turn.now.links × Shows (record parts { links = links }) out
+        (making key id pid local remote path turn)
 shows_made parts out turn key id pid local remote path held links shows next below vacant places stands =
     let h = shows.holds in
     let link : Link = idle_link id pid local remote path turn.now.parameters in (
       record {
         within = below;
-        vacant = none_place (link_at key turn.now.links) (subst (λ (slot : Option OwnedLink). StandsForPlace slot (link_at key turn.now.links)) vacant (places-at parts.links.places turn.now.links.places key h.links.places));
+        vacant = none_place (link_at key turn.now.links)
+            (subst (λ (slot : Option OwnedLink). StandsForPlace slot (link_at key turn.now.links)) vacant
+            (places-at parts.links.places turn.now.links.places key h.links.places));
         freed = next_freed parts.links turn.now.links key turn.now.links.freed next h.links.freed;
       },
       record {
@@ -63,7 +76,8 @@ shows_made parts out turn key id pid local remote path held links shows next bel
           registrations = h.registrations;
           links = record {
             places = subst (λ xs. AllZip StandsForPlace xs (set turn.now.links.places key (Some link))) (sym places)
-                (AllZip-set StandsForPlace parts.links.places turn.now.links.places key (Some held) (Some link) h.links.places stands);
+                (AllZip-set StandsForPlace parts.links.places turn.now.links.places key (Some held) (Some link)
+                    h.links.places stands);
             size = length-set turn.now.links.places key (Some link) ∙ h.links.size;
             freed = tt;
           };

@@ -6,7 +6,8 @@ use Rattle.station.specs.AgwRequests.{packets_held}
 use Rattle.station.specs.Links.{Link}
 use Rattle.station.specs.StandsFor.{StandsForPlace}
 
-pub held_some : (held : OwnedLink) (place : Option Link) → StandsForPlace (Some held) place → length held.machine.outgoing.packets ≡ packets_held place
+pub held_some : (held : OwnedLink) (place : Option Link) → StandsForPlace (Some held) place
+    → length held.machine.outgoing.packets ≡ packets_held place
 held_some held None h = absurd h
 held_some held (Some link) h = ap (λ packets. length packets) h.machine.outgoing.packets
 

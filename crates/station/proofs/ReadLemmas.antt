@@ -4,7 +4,8 @@ use Rattle.std.proofs.Common.{sym, ◌∙◌, ap, subst, inl, inr}
 use Rattle.std.proofs.lemmas.Bool.{false≢true}
 use Rattle.tnc_base.specs.declared.fault.OutOfMemory.{OutOfMemory}
 use Rattle.ax25_frames.specs.declared.fault.FrameFault.{FrameFault}
-use Rattle.ax25_frames.specs.declared.fault.FrameFault.TheVariants.{Address, NoControl, NoPid, UnknownControl, InfoTooLong, StrayInfo, Memory}
+use Rattle.ax25_frames.specs.declared.fault.FrameFault.TheVariants.{Address, NoControl, NoPid, UnknownControl,
+    InfoTooLong, StrayInfo, Memory}
 use Rattle.ax25_frames.specs.declared.frame.Frame.{Frame}
 use Rattle.ax25_frames.specs.declared.frame.Modulus.{Modulus}
 use Rattle.ax25_frames.specs.FrameOctets.{IsFrame}
@@ -25,7 +26,10 @@ is_read : Result Frame FrameFault → Bool
 is_read (Ok frame) = true
 is_read (Err fault) = false
 
-none_by : (modulus : Modulus) (octets : List ℕ) (fault : FrameFault) (read : Result Frame FrameFault) (answer : Result (Option Frame) OutOfMemory) → read ≡ Err fault → ((frame : Frame) → IsFrame frame modulus octets → (read ≡ Ok frame) ⊎ (read ≡ Err Memory)) → is_memory (Err fault) ≡ false → answer ≡ Ok None → IfOk answer (IsReadAs modulus octets)
+none_by : (modulus : Modulus) (octets : List ℕ) (fault : FrameFault) (read : Result Frame FrameFault)
+    (answer : Result (Option Frame) OutOfMemory) → read ≡ Err fault
+    → ((frame : Frame) → IsFrame frame modulus octets → (read ≡ Ok frame) ⊎ (read ≡ Err Memory))
+    → is_memory (Err fault) ≡ false → answer ≡ Ok None → IfOk answer (IsReadAs modulus octets)
 unfolding is_memory is_read
 none_by modulus octets fault read answer is each other e =
     subst (λ (given : Result (Option Frame) OutOfMemory). IfOk given (IsReadAs modulus octets)) (sym e)
@@ -34,13 +38,22 @@ none_by modulus octets fault read answer is each other e =
       | inr memory ↦ false≢true (sym (ap is_memory is ∙ other) ∙ ap is_memory memory)
     ])
 
-pub unread_none : (modulus : Modulus) (octets : List ℕ) (fault : FrameFault) (read : Result Frame FrameFault) (answer : Result (Option Frame) OutOfMemory) → read ≡ Err fault → ((frame : Frame) → IsFrame frame modulus octets → (read ≡ Ok frame) ⊎ (read ≡ Err Memory)) → IsUnread fault answer → IfOk answer (IsReadAs modulus octets)
+pub unread_none : (modulus : Modulus) (octets : List ℕ) (fault : FrameFault) (read : Result Frame FrameFault)
+    (answer : Result (Option Frame) OutOfMemory) → read ≡ Err fault
+    → ((frame : Frame) → IsFrame frame modulus octets → (read ≡ Ok frame) ⊎ (read ≡ Err Memory)) → IsUnread fault answer
+    → IfOk answer (IsReadAs modulus octets)
 unfolding is_memory
-unread_none modulus octets (Address fault) read answer is each h = none_by modulus octets (Address fault) read answer is each refl h
-unread_none modulus octets (NoControl at) read answer is each h = none_by modulus octets (NoControl at) read answer is each refl h
-unread_none modulus octets (NoPid at) read answer is each h = none_by modulus octets (NoPid at) read answer is each refl h
-unread_none modulus octets (UnknownControl octet) read answer is each h = none_by modulus octets (UnknownControl octet) read answer is each refl h
-unread_none modulus octets (InfoTooLong len) read answer is each h = none_by modulus octets (InfoTooLong len) read answer is each refl h
-unread_none modulus octets (StrayInfo at) read answer is each h = none_by modulus octets (StrayInfo at) read answer is each refl h
+unread_none modulus octets (Address fault) read answer is each h =
+    none_by modulus octets (Address fault) read answer is each refl h
+unread_none modulus octets (NoControl at) read answer is each h =
+    none_by modulus octets (NoControl at) read answer is each refl h
+unread_none modulus octets (NoPid at) read answer is each h =
+    none_by modulus octets (NoPid at) read answer is each refl h
+unread_none modulus octets (UnknownControl octet) read answer is each h =
+    none_by modulus octets (UnknownControl octet) read answer is each refl h
+unread_none modulus octets (InfoTooLong len) read answer is each h =
+    none_by modulus octets (InfoTooLong len) read answer is each refl h
+unread_none modulus octets (StrayInfo at) read answer is each h =
+    none_by modulus octets (StrayInfo at) read answer is each refl h
 unread_none modulus octets Memory read (Ok reading) is each h = absurd (false≢true h)
 unread_none modulus octets Memory read (Err fault) is each h = tt

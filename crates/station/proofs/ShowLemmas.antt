@@ -20,19 +20,25 @@ kind_read (KissReader reader) Agw stream h = absurd h
 kind_read (AgwReader reader) Kiss stream h = absurd h
 kind_read (AgwReader reader) Agw stream h = refl
 
-pub shows_shown : (parts : Parts) (old new : Out) (turn : Turn) (held : HeldConnection) (connection : Connection) (from to octets : List ℕ) → Shows parts old turn → StandsForConnection held connection → new ≡ with_shown (kind_of held.reader) held.id held.raw from to octets old → Shows parts new (showing_to from to octets connection turn)
+pub shows_shown : (parts : Parts) (old new : Out) (turn : Turn) (held : HeldConnection) (connection : Connection)
+    (from to octets : List ℕ) → Shows parts old turn → StandsForConnection held connection
+    → new ≡ with_shown (kind_of held.reader) held.id held.raw from to octets old
+    → Shows parts new (showing_to from to octets connection turn)
 shows_shown parts old new turn held connection from to octets shows stands shown = record {
   holds = shows.holds;
   gave = shown
-      ∙ ap (λ kind. with_shown kind held.id held.raw from to octets old) (kind_read held.reader connection.kind connection.stream stands.reader)
+      ∙ ap (λ kind. with_shown kind held.id held.raw from to octets old)
+          (kind_read held.reader connection.kind connection.stream stands.reader)
       ∙ ap (λ id. with_shown connection.kind id held.raw from to octets old) stands.id
       ∙ ap (λ raw. with_shown connection.kind connection.id raw from to octets old) stands.raw
       ∙ ap (λ (out : Out). with_shown connection.kind connection.id connection.raw from to octets out) shows.gave;
 }
 
-shown_to_each : (from to octets : List ℕ) (connections : List Connection) (turn : Turn) → (in_order (map (showing_to from to octets) connections) turn).now ≡ turn.now
+shown_to_each : (from to octets : List ℕ) (connections : List Connection) (turn : Turn)
+    → (in_order (map (showing_to from to octets) connections) turn).now ≡ turn.now
 shown_to_each from to octets [] turn = refl
-shown_to_each from to octets (connection ∷ connections) turn = shown_to_each from to octets connections (showing_to from to octets connection turn)
+shown_to_each from to octets (connection ∷ connections) turn =
+    shown_to_each from to octets connections (showing_to from to octets connection turn)
 
 -- what is shown changes no station
 pub same_station : (from to octets : List ℕ) (turn : Turn) → (showing from to octets turn).now ≡ turn.now

@@ -4,8 +4,10 @@ use Rattle.std.proofs.Common.{sym, ◌∙◌, ap, get_or, append_assoc}
 use Rattle.std.proofs.lemmas.List.{take_more, drop_at}
 
 -- the stream with one octet more
-pub one_more : (stream octets : List ℕ) (i : ℕ) → i < length octets → (stream ++ take i octets) ++ get_or octets i 0 ∷ [] ≡ stream ++ take (i + 1) octets
-one_more stream octets i within = append_assoc stream (take i octets) (get_or octets i 0 ∷ []) ∙ ap (λ xs. stream ++ xs) (sym (take_more octets i 0 within))
+pub one_more : (stream octets : List ℕ) (i : ℕ) → i < length octets
+    → (stream ++ take i octets) ++ get_or octets i 0 ∷ [] ≡ stream ++ take (i + 1) octets
+one_more stream octets i within = append_assoc stream (take i octets) (get_or octets i 0 ∷ [])
+    ∙ ap (λ xs. stream ++ xs) (sym (take_more octets i 0 within))
 
 -- what stands after a list in a longer one
 pub behind : {A : Type 0} (whole before items : List A) → whole ≡ before ++ items → items ≡ drop (length before) whole

@@ -20,7 +20,8 @@ pub there_number : (n : ℕ) (number : Option ℕ) → number ≡ Some n → is_
 there_number n None h = absurd (cc)
 there_number n (Some m) h = let same : m ≡ n = cc in eq-eqb m n same
 
-pub waits_told : (told : Bool) (key : ℕ) (waiting : List WaitingFrame) → (IsTrue told ↔ IsWaiting key waiting) → told ≡ waits key waiting
+pub waits_told : (told : Bool) (key : ℕ) (waiting : List WaitingFrame) → (IsTrue told ↔ IsWaiting key waiting)
+    → told ≡ waits key waiting
 waits_told told key waiting h =
     same_from_decides told (waits key waiting) h (
       λ t. let any = Any-from_list_any (λ (frame : WaitingFrame). is_number key frame.link) waiting t in
@@ -30,6 +31,7 @@ waits_told told key waiting h =
     )
 
 -- the ticks of all links, up to the number of them
-pub all_ticked : (n : ℕ) (turn : Turn) → n ≡ most_links → in_order (map ticking_at (range_with_len 0 n)) turn ≡ ticking_links turn
+pub all_ticked : (n : ℕ) (turn : Turn) → n ≡ most_links → in_order (map ticking_at (range_with_len 0 n)) turn
+    ≡ ticking_links turn
 unfolding ticking_links
 all_ticked n turn all = ap (λ k. in_order (map ticking_at (range_with_len 0 k)) turn) all

@@ -1,5 +1,6 @@
 -- Audio, one octet more at a time.
-use Rattle.std.proofs.Common.{◌≡◌, ℕ, ◌+◌, ◌<◌, ◌≤◌, ℤ, List, [], ◌∷◌, ◌++◌, length, take, drop, get_or, refl, ap, sym, subst, ◌∙◌, arith, append_assoc, inl, inr}
+use Rattle.std.proofs.Common.{◌≡◌, ℕ, ◌+◌, ◌<◌, ◌≤◌, ℤ, List, [], ◌∷◌, ◌++◌, length, take, drop, get_or, refl, ap, sym,
+    subst, ◌∙◌, arith, append_assoc, inl, inr}
 use Rattle.std.proofs.lemmas.List.{append-nil, take_more, take-append-drop}
 use Rattle.std.specs.Prelude.{Option, Some, None, Result, Ok, Err, option_map, ◌⊎◌}
 use Rattle.std.specs.Result.{result_err}
@@ -19,7 +20,8 @@ use Rattle.tnc_words.specs.declared.command.Receiving.{Receiving}
 use Rattle.tnc_words.specs.declared.command.Receiving.TheVariants.{Standard, Sensitive, ShortWave}
 use Rattle.tnc_decode.specs.declared.audio.Audio.{Audio}
 use Rattle.tnc_decode.specs.declared.audio.Audio.TheVariants.{Pcm, File}
-use Rattle.tnc_decode.specs.Audio.{rates_of, samples_at, samples_read, stopping_fault_at, form_fault_at, fault_in_verdict}
+use Rattle.tnc_decode.specs.Audio.{rates_of, samples_at, samples_read, stopping_fault_at, form_fault_at,
+    fault_in_verdict}
 use Rattle.tnc_decode.specs.Modem.{modem_of, modem_for, modem_of_file}
 use Rattle.tnc_decode.specs.Held.{odd_octet, HasTakenAt}
 use Rattle.tnc_decode.proofs.WavFaults.{fault_stays, rate_stays, silent_before, quiet_before}
@@ -28,18 +30,22 @@ use Rattle.tnc_decode.proofs.WavFaults.{fault_stays, rate_stays, silent_before, 
 
 -- octets that begin with a sample
 even_more : (before octets : List ℕ) → None ≡ odd_octet before
-    → (samples (before ++ octets) ≡ samples before ++ samples octets) × (odd_octet octets ≡ odd_octet (before ++ octets))
+    → (samples (before ++ octets) ≡ samples before ++ samples octets)
+        × (odd_octet octets ≡ odd_octet (before ++ octets))
 even_more [] octets e = (refl, refl)
 even_more (low ∷ []) octets e = absurd cc
-even_more (low ∷ high ∷ rest) octets e = let more = even_more rest octets e in (ap (λ t. sample_of low high ∷ t) more.0, more.1)
+even_more (low ∷ high ∷ rest) octets e = let more = even_more rest octets e in
+    (ap (λ t. sample_of low high ∷ t) more.0, more.1)
 
 -- octets whose first ends a sample that has begun
 odd_more : (before octets : List ℕ) (low high : ℕ) → Some low ≡ odd_octet before
     → (samples (before ++ high ∷ octets) ≡ samples before ++ sample_of low high ∷ samples octets)
     × (odd_octet octets ≡ odd_octet (before ++ high ∷ octets))
 odd_more [] octets low high e = absurd cc
-odd_more (first ∷ []) octets low high e = let same : first ≡ low = cc in (ap (λ t. sample_of t high ∷ samples octets) same, refl)
-odd_more (first ∷ second ∷ rest) octets low high e = let more = odd_more rest octets low high e in (ap (λ t. sample_of first second ∷ t) more.0, more.1)
+odd_more (first ∷ []) octets low high e = let same : first ≡ low = cc in
+    (ap (λ t. sample_of t high ∷ samples octets) same, refl)
+odd_more (first ∷ second ∷ rest) octets low high e = let more = odd_more rest octets low high e in
+    (ap (λ t. sample_of first second ∷ t) more.0, more.1)
 
 -- what raw PCM has taken, and what it gave
 abbrev pub TakesPcm : Option ℕ → Option ℕ → List ℕ → List ℤ → Type 0
@@ -47,7 +53,8 @@ TakesPcm low now octets found = (before : List ℕ) → low ≡ odd_octet before
     → (now ≡ odd_octet (before ++ octets)) × (samples (before ++ octets) ≡ samples before ++ found)
 
 pub pcm_none : (low : Option ℕ) → TakesPcm low low [] []
-pcm_none low before e = (e ∙ ap odd_octet (sym (append-nil before)), ap samples (append-nil before) ∙ sym (append-nil (samples before)))
+pcm_none low before e = (e ∙ ap odd_octet (sym (append-nil before)), ap samples (append-nil before)
+    ∙ sym (append-nil (samples before)))
 
 -- as the code has it: with the samples that were found before and those that it appends
 pub even_given : (octets : List ℕ) (low now : Option ℕ) (was found : List ℤ) → low ≡ None → now ≡ odd_octet octets
@@ -58,15 +65,18 @@ even_given octets low now was found none odd is empty before e =
       more.0 ∙ ap (λ t. samples before ++ t) (sym (is ∙ ap (λ t. t ++ samples octets) empty)),
     )
 
-pub odd_given : (octets rest : List ℕ) (low : Option ℕ) (first : ℕ) (now : Option ℕ) (was one found : List ℤ) → 1 ≤ length octets → rest ≡ drop 1 octets
-    → low ≡ Some first → now ≡ odd_octet rest → found ≡ one ++ samples rest → one ≡ was ++ sample_of first (get_or octets 0 0) ∷ [] → was ≡ []
+pub odd_given : (octets rest : List ℕ) (low : Option ℕ) (first : ℕ) (now : Option ℕ) (was one found : List ℤ)
+    → 1 ≤ length octets → rest ≡ drop 1 octets
+    → low ≡ Some first → now ≡ odd_octet rest → found ≡ one ++ samples rest
+        → one ≡ was ++ sample_of first (get_or octets 0 0) ∷ [] → was ≡ []
     → TakesPcm low now octets found
 odd_given [] rest low first now was one found some is waits odd all appended empty before e = absurd (omega arith)
 odd_given (high ∷ octets) rest low first now was one found some is waits odd all appended empty before e =
     let more = odd_more before octets first high (sym waits ∙ e) in
     let begin : one ≡ sample_of first high ∷ [] = appended ∙ ap (λ t. t ++ sample_of first high ∷ []) empty in (
       odd ∙ ap odd_octet is ∙ more.1,
-      more.0 ∙ ap (λ t. samples before ++ t) (sym (all ∙ ap (λ t. one ++ samples t) is ∙ ap (λ t. t ++ samples octets) begin)),
+      more.0 ∙ ap (λ t. samples before ++ t) (sym (all ∙ ap (λ t. one ++ samples t) is
+          ∙ ap (λ t. t ++ samples octets) begin)),
     )
 
 -- octets by twos: the samples so far and those of the rest are all, and the odd octet is that of the rest
@@ -78,40 +88,51 @@ pub record PairsOn (octets rest : List ℕ) (was found : List ℤ) : Type 0 wher
 -- it is audio
 pub pcm_takes : (low now : Option ℕ) (octets : List ℕ) (found : List ℤ) → TakesPcm low now octets found
     → (rates : Rates) (form : AudioForm) (before : List ℕ) → HasTakenAt rates form (Pcm low) before
-    → HasTakenAt rates form (Pcm now) (before ++ octets) × (samples_at rates form (before ++ octets) ≡ samples_at rates form before ++ found)
+    → HasTakenAt rates form (Pcm now) (before ++ octets)
+        × (samples_at rates form (before ++ octets) ≡ samples_at rates form before ++ found)
 pcm_takes low now octets found takes rates Raw before h = takes before h
 pcm_takes low now octets found takes rates Wav before h = absurd h
 
 -- ---- a WAV file
 
-module _ (rates : Rates) (form : AudioForm) (before : List ℕ) (octet : ℕ) (file next : HeldFile) (result : Result (Option ℤ) WavFault)
+module _ (rates : Rates) (form : AudioForm) (before : List ℕ) (octet : ℕ) (file next : HeldFile)
+    (result : Result (Option ℤ) WavFault)
     (stands : (octets : List ℕ) → FileStandsFor rates file octets → FileStandsFor rates next (octets ++ octet ∷ []))
-    (gives : (octets : List ℕ) → FileStandsFor rates file octets → samples_in rates (octets ++ octet ∷ []) ≡ samples_in rates octets ++ given result)
-    (shows : (octets : List ℕ) → FileStandsFor rates file octets → fault_in rates (octets ++ octet ∷ []) ≡ result_err result) where
+    (gives : (octets : List ℕ) → FileStandsFor rates file octets
+        → samples_in rates (octets ++ octet ∷ []) ≡ samples_in rates octets ++ given result)
+    (shows : (octets : List ℕ) → FileStandsFor rates file octets
+        → fault_in rates (octets ++ octet ∷ []) ≡ result_err result) where
   pub file_takes : (sample : Option ℤ) → result ≡ Ok sample → HasTakenAt rates form (File file) before
-      → HasTakenAt rates form (File next) (before ++ octet ∷ []) × (samples_at rates form (before ++ octet ∷ []) ≡ samples_at rates form before ++ given (Ok sample))
+      → HasTakenAt rates form (File next) (before ++ octet ∷ [])
+          × (samples_at rates form (before ++ octet ∷ []) ≡ samples_at rates form before ++ given (Ok sample))
   file_takes sample is h = by_form form h
     where
       by_form : (form : AudioForm) → HasTakenAt rates form (File file) before
-          → HasTakenAt rates form (File next) (before ++ octet ∷ []) × (samples_at rates form (before ++ octet ∷ []) ≡ samples_at rates form before ++ given (Ok sample))
+          → HasTakenAt rates form (File next) (before ++ octet ∷ [])
+              × (samples_at rates form (before ++ octet ∷ []) ≡ samples_at rates form before ++ given (Ok sample))
       by_form Raw h = absurd h
-      by_form Wav h = ((stands before h.0, shows before h.0 ∙ ap result_err is), gives before h.0 ∙ ap (λ r. samples_in rates before ++ given r) is)
+      by_form Wav h = ((stands before h.0, shows before h.0 ∙ ap result_err is), gives before h.0
+          ∙ ap (λ r. samples_in rates before ++ given r) is)
 
   pub file_stops : (fault : WavFault) → result ≡ Err fault → HasTakenAt rates form (File file) before
       → stopping_fault_at rates form (before ++ octet ∷ []) ≡ Some (BadWav fault)
   file_stops fault is h = by_form form h
     where
-      by_form : (form : AudioForm) → HasTakenAt rates form (File file) before → stopping_fault_at rates form (before ++ octet ∷ []) ≡ Some (BadWav fault)
+      by_form : (form : AudioForm) → HasTakenAt rates form (File file) before
+          → stopping_fault_at rates form (before ++ octet ∷ []) ≡ Some (BadWav fault)
       by_form Raw h = absurd h
       by_form Wav h = ap (option_map BadWav) (shows before h.0 ∙ ap result_err is)
 
 -- what ends here
-pub pcm_verdict : (rates : Rates) (form : AudioForm) (octets : List ℕ) (low : Option ℕ) → HasTakenAt rates form (Pcm low) octets → form_fault_at rates form octets ≡ None
+pub pcm_verdict : (rates : Rates) (form : AudioForm) (octets : List ℕ) (low : Option ℕ)
+    → HasTakenAt rates form (Pcm low) octets → form_fault_at rates form octets ≡ None
 pcm_verdict rates Raw octets low h = refl
 pcm_verdict rates Wav octets low h = absurd h
 
-pub file_verdict : (rates : Rates) (form : AudioForm) (octets : List ℕ) (file : HeldFile) (verdict : Result (Unit {0}) WavFault)
-    → ((octets : List ℕ) → FileStandsFor rates file octets → verdict ≡ verdict_of rates octets) → HasTakenAt rates form (File file) octets
+pub file_verdict : (rates : Rates) (form : AudioForm) (octets : List ℕ) (file : HeldFile)
+    (verdict : Result (Unit {0}) WavFault)
+    → ((octets : List ℕ) → FileStandsFor rates file octets → verdict ≡ verdict_of rates octets)
+        → HasTakenAt rates form (File file) octets
     → fault_in_verdict verdict ≡ form_fault_at rates form octets
 file_verdict rates Raw octets file verdict is h = absurd h
 file_verdict rates Wav octets file verdict is h = ap fault_in_verdict (is octets h.0)
@@ -119,35 +140,42 @@ file_verdict rates Wav octets file verdict is h = ap fault_in_verdict (is octets
 -- ---- faults
 
 -- a fault at which reading stops stops it if more follows, too
-pub stops_still : (rates : Rates) (form : AudioForm) (octets more : List ℕ) (fault : InputFault) → stopping_fault_at rates form octets ≡ Some fault → stopping_fault_at rates form (octets ++ more) ≡ Some fault
+pub stops_still : (rates : Rates) (form : AudioForm) (octets more : List ℕ) (fault : InputFault)
+    → stopping_fault_at rates form octets ≡ Some fault → stopping_fault_at rates form (octets ++ more) ≡ Some fault
 stops_still rates Raw octets more fault e = absurd cc
 stops_still rates Wav octets more fault e = by_fault (fault_in rates octets) refl e
   where
-    by_fault : (shown : Option WavFault) → fault_in rates octets ≡ shown → option_map BadWav shown ≡ Some fault → option_map BadWav (fault_in rates (octets ++ more)) ≡ Some fault
+    by_fault : (shown : Option WavFault) → fault_in rates octets ≡ shown → option_map BadWav shown ≡ Some fault
+        → option_map BadWav (fault_in rates (octets ++ more)) ≡ Some fault
     by_fault None is k = absurd cc
     by_fault (Some wav) is k = ap (option_map BadWav) (fault_stays rates octets more wav is) ∙ k
 
 -- if it shows there is no sample
-pub stops_silent : (rates : Rates) (form : AudioForm) (octets : List ℕ) (fault : InputFault) → stopping_fault_at rates form octets ≡ Some fault → samples_at rates form octets ≡ []
+pub stops_silent : (rates : Rates) (form : AudioForm) (octets : List ℕ) (fault : InputFault)
+    → stopping_fault_at rates form octets ≡ Some fault → samples_at rates form octets ≡ []
 stops_silent rates Raw octets fault e = absurd cc
 stops_silent rates Wav octets fault e = by_fault (fault_in rates octets) refl e
   where
-    by_fault : (shown : Option WavFault) → fault_in rates octets ≡ shown → option_map BadWav shown ≡ Some fault → samples_in rates octets ≡ []
+    by_fault : (shown : Option WavFault) → fault_in rates octets ≡ shown → option_map BadWav shown ≡ Some fault
+        → samples_in rates octets ≡ []
     by_fault None is k = absurd cc
     by_fault (Some wav) is k = silent_before rates octets wav is
 
 -- what was taken shows none
-pub none_stops : (rates : Rates) (form : AudioForm) (audio : Audio) (octets : List ℕ) → HasTakenAt rates form audio octets → stopping_fault_at rates form octets ≡ None
+pub none_stops : (rates : Rates) (form : AudioForm) (audio : Audio) (octets : List ℕ)
+    → HasTakenAt rates form audio octets → stopping_fault_at rates form octets ≡ None
 none_stops rates Raw audio octets h = refl
 none_stops rates Wav (Pcm low) octets h = absurd h
 none_stops rates Wav (File file) octets h = ap (option_map BadWav) h.1
 
 -- and it is what is wrong with the form
-pub stops_form : (rates : Rates) (form : AudioForm) (octets : List ℕ) (fault : InputFault) → stopping_fault_at rates form octets ≡ Some fault → form_fault_at rates form octets ≡ Some fault
+pub stops_form : (rates : Rates) (form : AudioForm) (octets : List ℕ) (fault : InputFault)
+    → stopping_fault_at rates form octets ≡ Some fault → form_fault_at rates form octets ≡ Some fault
 stops_form rates Raw octets fault e = absurd cc
 stops_form rates Wav octets fault e = by_fault (fault_in rates octets) refl e
   where
-    by_fault : (shown : Option WavFault) → fault_in rates octets ≡ shown → option_map BadWav shown ≡ Some fault → form_fault_at rates Wav octets ≡ Some fault
+    by_fault : (shown : Option WavFault) → fault_in rates octets ≡ shown → option_map BadWav shown ≡ Some fault
+        → form_fault_at rates Wav octets ≡ Some fault
     by_fault None is k = absurd cc
     by_fault (Some wav) is k = rw is k
 
@@ -157,14 +185,17 @@ samples_begin : (octets more : List ℕ) → (rest : List ℤ) × (samples (octe
 samples_begin [] more = (samples more, refl)
 samples_begin (low ∷ []) [] = ([], refl)
 samples_begin (low ∷ []) (high ∷ more) = (samples (low ∷ high ∷ more), refl)
-samples_begin (low ∷ high ∷ octets) more = let h = samples_begin octets more in (h.0, ap (λ t. sample_of low high ∷ t) h.1)
+samples_begin (low ∷ high ∷ octets) more = let h = samples_begin octets more in
+    (h.0, ap (λ t. sample_of low high ∷ t) h.1)
 
 -- the samples of what was taken are the first of those with more after it
-pub begins_with : (rates : Rates) (form : AudioForm) (audio : Audio) (octets more : List ℕ) → HasTakenAt rates form audio octets
+pub begins_with : (rates : Rates) (form : AudioForm) (audio : Audio) (octets more : List ℕ)
+    → HasTakenAt rates form audio octets
     → (rest : List ℤ) × (samples_at rates form (octets ++ more) ≡ samples_at rates form octets ++ rest)
 begins_with rates Raw audio octets more h = samples_begin octets more
 begins_with rates Wav (Pcm low) octets more h = absurd h
-begins_with rates Wav (File file) octets more h = ((rest_reading rates (length octets) file.part file.unit more).heard, ap (λ (r : Reading). r.heard) (h.0.rest more))
+begins_with rates Wav (File file) octets more h = ((rest_reading rates (length octets) file.part file.unit more).heard,
+    ap (λ (r : Reading). r.heard) (h.0.rest more))
 
 -- of a new file nothing has come
 pub new_file : (rates : Rates) (file : HeldFile) → FileStandsFor rates file [] → HasTakenAt rates Wav (File file) []
@@ -176,14 +207,16 @@ new_file rates file h = (h, refl)
 -- audio has taken so many octets of a block since, and these are the samples that end in them
 pub record TakesOn (initial now : Audio) (octets : List ℕ) (count : ℕ) (found : List ℤ) : Type 0 where
   pub takes : (rates : Rates) (form : AudioForm) (before : List ℕ) → HasTakenAt rates form initial before
-      → HasTakenAt rates form now (before ++ take count octets) × (samples_at rates form (before ++ take count octets) ≡ samples_at rates form before ++ found)
+      → HasTakenAt rates form now (before ++ take count octets)
+          × (samples_at rates form (before ++ take count octets) ≡ samples_at rates form before ++ found)
   pub few : length found ≤ count
 
 pub takes_none : (audio : Audio) (octets : List ℕ) (found : List ℤ) → found ≡ [] → TakesOn audio audio octets 0 found
 takes_none audio octets found none = record {
   takes = λ rates form before h. (
     subst (HasTakenAt rates form audio) (sym (append-nil before)) h,
-    ap (samples_at rates form) (append-nil before) ∙ sym (append-nil (samples_at rates form before)) ∙ ap (λ t. samples_at rates form before ++ t) (sym none),
+    ap (samples_at rates form) (append-nil before) ∙ sym (append-nil (samples_at rates form before))
+        ∙ ap (λ t. samples_at rates form before ++ t) (sym none),
   );
   few = (let l : length found ≡ 0 = ap length none in omega arith);
 }
@@ -192,12 +225,15 @@ takes_none audio octets found none = record {
 pub octet_more : (octets before : List ℕ) (count : ℕ) → count < length octets
     → before ++ take (count + 1) octets ≡ (before ++ take count octets) ++ get_or octets count 0 ∷ []
 octet_more octets before count below =
-    ap (λ t. before ++ t) (take_more octets count 0 below) ∙ sym (append_assoc before (take count octets) (get_or octets count 0 ∷ []))
+    ap (λ t. before ++ t) (take_more octets count 0 below)
+        ∙ sym (append_assoc before (take count octets) (get_or octets count 0 ∷ []))
 
 pub takes_more : (initial was now : Audio) (octets : List ℕ) (count : ℕ) (found more : List ℤ) → count < length octets
     → TakesOn initial was octets count found
-    → ((rates : Rates) (form : AudioForm) (before : List ℕ) → HasTakenAt rates form was before → HasTakenAt rates form now (before ++ get_or octets count 0 ∷ []))
-    → ((rates : Rates) (form : AudioForm) (before : List ℕ) (front : List ℤ) → HasTakenAt rates form was before → samples_at rates form before ≡ front ++ found
+    → ((rates : Rates) (form : AudioForm) (before : List ℕ) → HasTakenAt rates form was before
+        → HasTakenAt rates form now (before ++ get_or octets count 0 ∷ []))
+    → ((rates : Rates) (form : AudioForm) (before : List ℕ) (front : List ℤ) → HasTakenAt rates form was before
+        → samples_at rates form before ≡ front ++ found
     → samples_at rates form (before ++ get_or octets count 0 ∷ []) ≡ front ++ more)
     → length more ≤ length found + 1
     → TakesOn initial now octets (count + 1) more
@@ -206,46 +242,58 @@ takes_more initial was now octets count found more below h takes samples few = r
       let so_far = h.takes rates form before k in
       let longer = octet_more octets before count below in (
         subst (HasTakenAt rates form now) (sym longer) (takes rates form (before ++ take count octets) so_far.0),
-        ap (samples_at rates form) longer ∙ samples rates form (before ++ take count octets) (samples_at rates form before) so_far.0 so_far.1,
+        ap (samples_at rates form) longer ∙ samples rates form (before ++ take count octets)
+            (samples_at rates form before) so_far.0 so_far.1,
       );
   few = (let l = h.few in omega arith);
 }
 
 -- a fault at an octet of the block stops at the block
-pub stops_within : (initial was : Audio) (octets : List ℕ) (count : ℕ) (found : List ℤ) (fault : InputFault) → count < length octets
+pub stops_within : (initial was : Audio) (octets : List ℕ) (count : ℕ) (found : List ℤ) (fault : InputFault)
+    → count < length octets
     → TakesOn initial was octets count found
-    → ((rates : Rates) (form : AudioForm) (before : List ℕ) → HasTakenAt rates form was before → stopping_fault_at rates form (before ++ get_or octets count 0 ∷ []) ≡ Some fault)
-    → (rates : Rates) (form : AudioForm) (before : List ℕ) → HasTakenAt rates form initial before → stopping_fault_at rates form (before ++ octets) ≡ Some fault
+    → ((rates : Rates) (form : AudioForm) (before : List ℕ) → HasTakenAt rates form was before
+        → stopping_fault_at rates form (before ++ get_or octets count 0 ∷ []) ≡ Some fault)
+    → (rates : Rates) (form : AudioForm) (before : List ℕ) → HasTakenAt rates form initial before
+        → stopping_fault_at rates form (before ++ octets) ≡ Some fault
 stops_within initial was octets count found fault below h stops rates form before k =
     let so_far = h.takes rates form before k in
     let here = stops rates form (before ++ take count octets) so_far.0 in
-    let all : before ++ octets ≡ ((before ++ take count octets) ++ get_or octets count 0 ∷ []) ++ drop (count + 1) octets
-    = ap (λ t. before ++ t) (sym (take-append-drop (count + 1) octets)) ∙ sym (append_assoc before (take (count + 1) octets) (drop (count + 1) octets))
+    let all : before ++ octets ≡ ((before ++ take count octets) ++ get_or octets count 0 ∷ [])
+        ++ drop (count + 1) octets
+    = ap (λ t. before ++ t) (sym (take-append-drop (count + 1) octets))
+        ∙ sym (append_assoc before (take (count + 1) octets) (drop (count + 1) octets))
     ∙ ap (λ t. t ++ drop (count + 1) octets) (octet_more octets before count below) in
-    ap (stopping_fault_at rates form) all ∙ stops_still rates form ((before ++ take count octets) ++ get_or octets count 0 ∷ []) (drop (count + 1) octets) fault here
+    ap (stopping_fault_at rates form) all ∙ stops_still rates form
+        ((before ++ take count octets) ++ get_or octets count 0 ∷ []) (drop (count + 1) octets) fault here
 
 -- what is wrong with a form is wrong with a WAV file
-pub form_is_wav : (rates : Rates) (form : AudioForm) (octets : List ℕ) (fault : InputFault) → form_fault_at rates form octets ≡ Some fault → (wav : WavFault) × (fault ≡ BadWav wav)
+pub form_is_wav : (rates : Rates) (form : AudioForm) (octets : List ℕ) (fault : InputFault)
+    → form_fault_at rates form octets ≡ Some fault → (wav : WavFault) × (fault ≡ BadWav wav)
 form_is_wav rates Raw octets fault e = absurd cc
 form_is_wav rates Wav octets fault e = by_verdict (verdict_of rates octets) e
   where
-    by_verdict : (verdict : Result (Unit {0}) WavFault) → fault_in_verdict verdict ≡ Some fault → (wav : WavFault) × (fault ≡ BadWav wav)
+    by_verdict : (verdict : Result (Unit {0}) WavFault) → fault_in_verdict verdict ≡ Some fault
+        → (wav : WavFault) × (fault ≡ BadWav wav)
     by_verdict (Ok x) k = absurd cc
     by_verdict (Err wav) k = let same : BadWav wav ≡ fault = cc k in (wav, sym same)
 
 -- ---- the modem
 
 -- Once a modem is chosen it stays; before that there is no sample.
-pub modem_stays : (words : DecodeWords) (octets more : List ℕ) → (modem_of words (octets ++ more) ≡ modem_of words octets) ⊎ (samples_read words octets ≡ [])
+pub modem_stays : (words : DecodeWords) (octets more : List ℕ)
+    → (modem_of words (octets ++ more) ≡ modem_of words octets) ⊎ (samples_read words octets ≡ [])
 modem_stays words octets more = by_words words.receiving words.audio
   where
     of_file : (rate : Option ℕ) → rate_in NarrowOrWide octets ≡ rate
-        → (modem_of_file (rate_in NarrowOrWide (octets ++ more)) ≡ modem_of_file (rate_in NarrowOrWide octets)) ⊎ (samples_in NarrowOrWide octets ≡ [])
+        → (modem_of_file (rate_in NarrowOrWide (octets ++ more)) ≡ modem_of_file (rate_in NarrowOrWide octets))
+            ⊎ (samples_in NarrowOrWide octets ≡ [])
     of_file None is = inr (quiet_before NarrowOrWide octets is)
     of_file (Some rate) is = inl (ap modem_of_file (rate_stays NarrowOrWide octets more rate is ∙ sym is))
 
     by_words : (receiving : Receiving) (form : AudioForm)
-        → (modem_for receiving form (octets ++ more) ≡ modem_for receiving form octets) ⊎ (samples_at (rates_of receiving) form octets ≡ [])
+        → (modem_for receiving form (octets ++ more) ≡ modem_for receiving form octets)
+            ⊎ (samples_at (rates_of receiving) form octets ≡ [])
     by_words (Standard rate) Raw = inl refl
     by_words (Standard rate) Wav = of_file (rate_in NarrowOrWide octets) refl
     by_words Sensitive form = inl refl

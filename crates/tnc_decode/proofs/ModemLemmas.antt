@@ -1,5 +1,6 @@
 -- What every modem has: samples have one list of candidates, and more samples change nothing of what is settled.
-use Rattle.std.proofs.Common.{◌≡◌, ℕ, ◌+◌, ◌/◌, ◌^◌, ◌<◌, ◌≤◌, ℤ, List, [], ◌++◌, length, refl, ap, sym, ◌∙◌, arith, length-append}
+use Rattle.std.proofs.Common.{◌≡◌, ℕ, ◌+◌, ◌/◌, ◌^◌, ◌<◌, ◌≤◌, ℤ, List, [], ◌++◌, length, refl, ap, sym, ◌∙◌, arith,
+    length-append}
 use Rattle.std.specs.List.Sorted.{IsNonDecreasingBy}
 use Rattle.std.proofs.lemmas.List.{append_cancel_left}
 use Rattle.frame_merge.specs.declared.candidate.Candidate.{Candidate}
@@ -19,7 +20,8 @@ use Rattle.hf_modem.proofs.MergedLemmas.{is_in_order as hf_in_order, given_still
 use Rattle.hf_modem.proofs.OneList.{one_list as one_hf}
 use Rattle.hf_modem.proofs.SomeList.{some_list as some_hf}
 use Rattle.sensitive_receiver.proofs.HeardLemmas.{none_heard as no_sensitive}
-use Rattle.sensitive_receiver.proofs.MergedLemmas.{one_list as one_sensitive, rising_heard as rising_sensitive, below_still as sensitive_still}
+use Rattle.sensitive_receiver.proofs.MergedLemmas.{one_list as one_sensitive, rising_heard as rising_sensitive,
+    below_still as sensitive_still}
 use Rattle.sensitive_receiver.proofs.SomeList.{some_list as some_sensitive}
 use Rattle.wide_input.specs.Streams.{least_count}
 use Rattle.wide_input.specs.MergedItems.{AreWideMergedBetween, AreWideRest}
@@ -29,7 +31,8 @@ use Rattle.wide_input.proofs.WideMerged.{one_wide, some_wide, below_still}
 use Rattle.slicer_bank.specs.HeldDecoder.{HeldDecoder, StandsFor as DecoderStandsFor}
 use Rattle.hf_modem.specs.HeldDecoder.{HeldDecoder as HeldHf, StandsFor as HfStandsFor}
 use Rattle.wide_input.specs.Held.{HeldWide, StandsFor as BankStandsFor}
-use Rattle.tnc_decode.specs.declared.decoders.Decoders.TheVariants.{Plain as PlainDecoder, Wide as WideDecoder, ShortWave as ShortWaveDecoder}
+use Rattle.tnc_decode.specs.declared.decoders.Decoders.TheVariants.{Plain as PlainDecoder, Wide as WideDecoder,
+    ShortWave as ShortWaveDecoder}
 use Rattle.tnc_decode.specs.declared.modem.Modem.{Modem}
 use Rattle.tnc_decode.specs.declared.modem.Modem.TheVariants.{Plain, Wide, Sensitive, ShortWave}
 use Rattle.tnc_decode.specs.Held.{HasDecoded}
@@ -44,7 +47,8 @@ none_heard Wide = no_wide
 none_heard Sensitive = no_sensitive
 none_heard ShortWave = no_hf []
 
-pub one_heard : (modem : Modem) (x : List ℤ) (items others : List Candidate) → AreHeard modem x items → AreHeard modem x others → items ≡ others
+pub one_heard : (modem : Modem) (x : List ℤ) (items others : List Candidate) → AreHeard modem x items
+    → AreHeard modem x others → items ≡ others
 one_heard Plain x items others a b = one_list x items others a b
 one_heard Wide x items others a b = one_wide x items others a b
 one_heard Sensitive x items others a b = one_sensitive x items others a b
@@ -57,7 +61,8 @@ some_heard Sensitive x = some_sensitive x
 some_heard ShortWave x = some_hf x
 
 -- the merged candidates do not fall in their ends
-pub rising_heard : (modem : Modem) (x : List ℤ) (items : List Candidate) → AreHeard modem x items → IsNonDecreasingBy (λ y. y.end) (merged items)
+pub rising_heard : (modem : Modem) (x : List ℤ) (items : List Candidate) → AreHeard modem x items
+    → IsNonDecreasingBy (λ y. y.end) (merged items)
 rising_heard Plain x items are = merged-rising (λ y. y.end) [] items (rising_ends items (is_in_order x items are))
 rising_heard Wide x items are = rising_wide x items are
 rising_heard Sensitive x items are = rising_sensitive x items are
@@ -70,7 +75,8 @@ none_settled Sensitive = refl
 none_settled ShortWave = refl
 
 -- more samples settle no less, and no more than they are
-pub settled_rises : (modem : Modem) (x y : List ℤ) → (settled_count modem x ≤ settled_count modem (x ++ y)) × (settled_count modem (x ++ y) ≤ settled_count modem x + length y)
+pub settled_rises : (modem : Modem) (x y : List ℤ) → (settled_count modem x ≤ settled_count modem (x ++ y))
+    × (settled_count modem (x ++ y) ≤ settled_count modem x + length y)
 settled_rises Plain x y = (omega (arith, length-append x y), omega (arith, length-append x y))
 settled_rises Wide x y =
     let few = least_count-is x in
@@ -84,32 +90,39 @@ settled_rises ShortWave x y = let size = length-append x y in (omega arith, omeg
 pub from_zero : (to : ℕ) (items : List Candidate) → between 0 to items ≡ below to items
 from_zero to items = between_all 0 to items (λ k d l. omega arith)
 
-pub still_heard : (modem : Modem) (to : ℕ) (x y : List ℤ) (items whole : List Candidate) → to ≤ settled_count modem x → AreHeard modem x items → AreHeard modem (x ++ y) whole
+pub still_heard : (modem : Modem) (to : ℕ) (x y : List ℤ) (items whole : List Candidate) → to ≤ settled_count modem x
+    → AreHeard modem x items → AreHeard modem (x ++ y) whole
     → below to (merged items) ≡ below to (merged whole)
 still_heard Plain to x y items whole within are all_are =
     sym (from_zero to (merged items))
-    ∙ given_still 0 to x y (between 0 to (merged items)) whole within (record { candidates = items; are = are; is = refl }) all_are
+    ∙ given_still 0 to x y (between 0 to (merged items)) whole within
+        (record { candidates = items; are = are; is = refl }) all_are
     ∙ from_zero to (merged whole)
 still_heard Wide to x y items whole within are all_are = sym (below_still to x y items whole within are all_are)
 still_heard Sensitive to x y items whole within are all_are = sensitive_still x y items whole are all_are to within
 still_heard ShortWave to x y items whole within are all_are =
     sym (from_zero to (merged items))
-    ∙ hf_still 0 to x y (between 0 to (merged items)) whole within (record { candidates = items; are = are; is = refl }) all_are
+    ∙ hf_still 0 to x y (between 0 to (merged items)) whole within (record { candidates = items; are = are; is = refl })
+        all_are
     ∙ from_zero to (merged whole)
 
 -- what a block gives, and what the end gives, as each decoder tells it
-pub given_plain : (from to : ℕ) (x : List ℤ) (items : List Candidate) → AreMergedBetween from to x items → AreGivenBetween Plain from to x items
+pub given_plain : (from to : ℕ) (x : List ℤ) (items : List Candidate) → AreMergedBetween from to x items
+    → AreGivenBetween Plain from to x items
 given_plain from to x items h = record { candidates = h.candidates; are = h.are; is = h.is }
 
-pub given_wide : (from to : ℕ) (x : List ℤ) (items : List Candidate) → AreWideMergedBetween from to x items → AreGivenBetween Wide from to x items
+pub given_wide : (from to : ℕ) (x : List ℤ) (items : List Candidate) → AreWideMergedBetween from to x items
+    → AreGivenBetween Wide from to x items
 given_wide from to x items h = record { candidates = h.candidates; are = h.are; is = h.is }
 
-pub rest_plain : (x : List ℤ) (items : List Candidate) → AreMergedBetween (length x) (length x + 1) x items → AreGivenRest Plain (length x) x items
+pub rest_plain : (x : List ℤ) (items : List Candidate) → AreMergedBetween (length x) (length x + 1) x items
+    → AreGivenRest Plain (length x) x items
 rest_plain x items h =
     let n : ℕ = length x in
     let zs : List Candidate = merged h.candidates in
     let rises : IsNonDecreasingBy (λ y. y.end) zs = rising_heard Plain x h.candidates h.are in
-    let both : AreMerged x (between 0 (n + 1) zs) = all x (between 0 (n + 1) zs) (record { candidates = h.candidates; are = h.are; is = refl }) in
+    let both : AreMerged x (between 0 (n + 1) zs) = all x (between 0 (n + 1) zs)
+        (record { candidates = h.candidates; are = h.are; is = refl }) in
     let whole : below (n + 1) zs ≡ zs
     = sym (from_zero (n + 1) zs) ∙ both.is ∙ ap merged (one_list x both.candidates h.candidates both.are h.are) in
     record {
@@ -119,31 +132,39 @@ rest_plain x items h =
           (below_between n (n + 1) zs (omega arith) rises ∙ whole ∙ sym (below_then_rest n zs rises));
     }
 
-pub rest_wide : (x : List ℤ) (items : List Candidate) → AreWideRest (least_count x) x items → AreGivenRest Wide (least_count x) x items
+pub rest_wide : (x : List ℤ) (items : List Candidate) → AreWideRest (least_count x) x items
+    → AreGivenRest Wide (least_count x) x items
 rest_wide x items h = record { candidates = h.candidates; are = h.are; is = h.is }
 
 -- so each decoder, by its modem
 pub plain_block : (old new : HeldDecoder) (block : List ℤ) (items : List Candidate)
-    → ((x : List ℤ) → DecoderStandsFor old x → DecoderStandsFor new (x ++ block) × AreMergedBetween (length x) (length (x ++ block)) (x ++ block) items)
+    → ((x : List ℤ) → DecoderStandsFor old x → DecoderStandsFor new (x ++ block)
+        × AreMergedBetween (length x) (length (x ++ block)) (x ++ block) items)
     → (modem : Modem) (x : List ℤ) → HasDecoded modem (PlainDecoder old) x
-    → HasDecoded modem (PlainDecoder new) (x ++ block) × AreGivenBetween modem (settled_count modem x) (settled_count modem (x ++ block)) (x ++ block) items
-plain_block old new block items given Plain x h = let g = given x h in (g.0, given_plain (length x) (length (x ++ block)) (x ++ block) items g.1)
+    → HasDecoded modem (PlainDecoder new) (x ++ block)
+        × AreGivenBetween modem (settled_count modem x) (settled_count modem (x ++ block)) (x ++ block) items
+plain_block old new block items given Plain x h = let g = given x h in
+    (g.0, given_plain (length x) (length (x ++ block)) (x ++ block) items g.1)
 plain_block old new block items given Wide x h = absurd h
 plain_block old new block items given Sensitive x h = absurd h
 plain_block old new block items given ShortWave x h = absurd h
 
 pub wide_block : (old new : HeldWide) (block : List ℤ) (items : List Candidate)
-    → ((x : List ℤ) → BankStandsFor old x → BankStandsFor new (x ++ block) × AreWideMergedBetween (least_count x) (least_count (x ++ block)) (x ++ block) items)
+    → ((x : List ℤ) → BankStandsFor old x → BankStandsFor new (x ++ block)
+        × AreWideMergedBetween (least_count x) (least_count (x ++ block)) (x ++ block) items)
     → (modem : Modem) (x : List ℤ) → HasDecoded modem (WideDecoder old) x
-    → HasDecoded modem (WideDecoder new) (x ++ block) × AreGivenBetween modem (settled_count modem x) (settled_count modem (x ++ block)) (x ++ block) items
+    → HasDecoded modem (WideDecoder new) (x ++ block)
+        × AreGivenBetween modem (settled_count modem x) (settled_count modem (x ++ block)) (x ++ block) items
 wide_block old new block items given Plain x h = absurd h
 wide_block old new block items given Sensitive x h = absurd h
 wide_block old new block items given ShortWave x h = absurd h
-wide_block old new block items given Wide x h = let g = given x h in (g.0, given_wide (least_count x) (least_count (x ++ block)) (x ++ block) items g.1)
+wide_block old new block items given Wide x h = let g = given x h in
+    (g.0, given_wide (least_count x) (least_count (x ++ block)) (x ++ block) items g.1)
 
 pub plain_finish : (old : HeldDecoder) (items : List Candidate) → old.position < 2 ^ 48
     → ((x : List ℤ) → length x < 2 ^ 48 → DecoderStandsFor old x → AreMergedBetween (length x) (length x + 1) x items)
-    → (modem : Modem) (x : List ℤ) → HasDecoded modem (PlainDecoder old) x → AreGivenRest modem (settled_count modem x) x items
+    → (modem : Modem) (x : List ℤ) → HasDecoded modem (PlainDecoder old) x
+        → AreGivenRest modem (settled_count modem x) x items
 plain_finish old items room rest Plain x h = rest_plain x items (rest x (let count = h.count in omega arith) h)
 plain_finish old items room rest Wide x h = absurd h
 plain_finish old items room rest Sensitive x h = absurd h
@@ -151,21 +172,25 @@ plain_finish old items room rest ShortWave x h = absurd h
 
 pub wide_finish : (old : HeldWide) (items : List Candidate)
     → ((x : List ℤ) → BankStandsFor old x → AreWideRest (least_count x) x items)
-    → (modem : Modem) (x : List ℤ) → HasDecoded modem (WideDecoder old) x → AreGivenRest modem (settled_count modem x) x items
+    → (modem : Modem) (x : List ℤ) → HasDecoded modem (WideDecoder old) x
+        → AreGivenRest modem (settled_count modem x) x items
 wide_finish old items rest Plain x h = absurd h
 wide_finish old items rest Sensitive x h = absurd h
 wide_finish old items rest ShortWave x h = absurd h
 wide_finish old items rest Wide x h = rest_wide x items (rest x h)
 
-pub given_short_wave : (from to : ℕ) (x : List ℤ) (items : List Candidate) → AreHfMergedBetween from to x items → AreGivenBetween ShortWave from to x items
+pub given_short_wave : (from to : ℕ) (x : List ℤ) (items : List Candidate) → AreHfMergedBetween from to x items
+    → AreGivenBetween ShortWave from to x items
 given_short_wave from to x items h = record { candidates = h.candidates; are = h.are; is = h.is }
 
-pub rest_short_wave : (x : List ℤ) (items : List Candidate) → AreHfMergedBetween (length x / 4) (length x / 4 + 1) x items → AreGivenRest ShortWave (length x / 4) x items
+pub rest_short_wave : (x : List ℤ) (items : List Candidate)
+    → AreHfMergedBetween (length x / 4) (length x / 4 + 1) x items → AreGivenRest ShortWave (length x / 4) x items
 rest_short_wave x items h =
     let n : ℕ = length x / 4 in
     let zs : List Candidate = merged h.candidates in
     let rises : IsNonDecreasingBy (λ y. y.end) zs = rising_heard ShortWave x h.candidates h.are in
-    let both : AreHfMerged x (between 0 (n + 1) zs) = hf_all x (between 0 (n + 1) zs) (record { candidates = h.candidates; are = h.are; is = refl }) in
+    let both : AreHfMerged x (between 0 (n + 1) zs) = hf_all x (between 0 (n + 1) zs)
+        (record { candidates = h.candidates; are = h.are; is = refl }) in
     let whole : below (n + 1) zs ≡ zs
     = sym (from_zero (n + 1) zs) ∙ both.is ∙ ap merged (one_hf x both.candidates h.candidates both.are h.are) in
     record {
@@ -176,9 +201,11 @@ rest_short_wave x items h =
     }
 
 pub short_wave_block : (old new : HeldHf) (block : List ℤ) (items : List Candidate)
-    → ((x : List ℤ) → HfStandsFor old x → HfStandsFor new (x ++ block) × AreHfMergedBetween (length x / 4) (length (x ++ block) / 4) (x ++ block) items)
+    → ((x : List ℤ) → HfStandsFor old x → HfStandsFor new (x ++ block)
+        × AreHfMergedBetween (length x / 4) (length (x ++ block) / 4) (x ++ block) items)
     → (modem : Modem) (x : List ℤ) → HasDecoded modem (ShortWaveDecoder old) x
-    → HasDecoded modem (ShortWaveDecoder new) (x ++ block) × AreGivenBetween modem (settled_count modem x) (settled_count modem (x ++ block)) (x ++ block) items
+    → HasDecoded modem (ShortWaveDecoder new) (x ++ block)
+        × AreGivenBetween modem (settled_count modem x) (settled_count modem (x ++ block)) (x ++ block) items
 short_wave_block old new block items given Plain x h = absurd h
 short_wave_block old new block items given Wide x h = absurd h
 short_wave_block old new block items given Sensitive x h = absurd h
@@ -186,12 +213,15 @@ short_wave_block old new block items given ShortWave x h =
     let g = given x h in (g.0, given_short_wave (length x / 4) (length (x ++ block) / 4) (x ++ block) items g.1)
 
 pub short_wave_finish : (old : HeldHf) (items : List Candidate) → old.position < 2 ^ 48
-    → ((x : List ℤ) → length x < 2 ^ 48 → HfStandsFor old x → AreHfMergedBetween (length x / 4) (length x / 4 + 1) x items)
-    → (modem : Modem) (x : List ℤ) → HasDecoded modem (ShortWaveDecoder old) x → AreGivenRest modem (settled_count modem x) x items
+    → ((x : List ℤ) → length x < 2 ^ 48 → HfStandsFor old x
+        → AreHfMergedBetween (length x / 4) (length x / 4 + 1) x items)
+    → (modem : Modem) (x : List ℤ) → HasDecoded modem (ShortWaveDecoder old) x
+        → AreGivenRest modem (settled_count modem x) x items
 short_wave_finish old items room rest Plain x h = absurd h
 short_wave_finish old items room rest Wide x h = absurd h
 short_wave_finish old items room rest Sensitive x h = absurd h
-short_wave_finish old items room rest ShortWave x h = rest_short_wave x items (rest x (let count = h.count in omega arith) h)
+short_wave_finish old items room rest ShortWave x h =
+    rest_short_wave x items (rest x (let count = h.count in omega arith) h)
 
 -- ---- of all
 
@@ -213,7 +243,8 @@ given_join modem x y items more h k =
     }
 
 -- with the rest they are all
-pub given_all : (modem : Modem) (n : ℕ) (x : List ℤ) (items rest : List Candidate) → AreGivenBelow modem n x items → (r : AreGivenRest modem n x rest)
+pub given_all : (modem : Modem) (n : ℕ) (x : List ℤ) (items rest : List Candidate) → AreGivenBelow modem n x items
+    → (r : AreGivenRest modem n x rest)
     → items ++ rest ≡ merged r.candidates
 given_all modem n x items rest h r =
     ap (λ t. t ++ rest) (h.is ∙ ap (λ c. below n (merged c)) (one_heard modem x h.candidates r.candidates h.are r.are))
@@ -221,17 +252,21 @@ given_all modem n x items rest h r =
     ∙ below_then_rest n (merged r.candidates) (rising_heard modem x r.candidates r.are)
 
 -- what is given of samples is the first part of what is merged of more
-pub given_first : (modem : Modem) (x y : List ℤ) (items whole : List Candidate) → AreGivenBelow modem (settled_count modem x) x items → AreHeard modem (x ++ y) whole
+pub given_first : (modem : Modem) (x y : List ℤ) (items whole : List Candidate)
+    → AreGivenBelow modem (settled_count modem x) x items → AreHeard modem (x ++ y) whole
     → (rest : List Candidate) × (merged whole ≡ items ++ rest)
 given_first modem x y items whole h all_are =
     let n : ℕ = settled_count modem x in
-    let same : items ≡ below n (merged whole) = h.is ∙ still_heard modem n x y h.candidates whole (omega arith) h.are all_are in (
+    let same : items ≡ below n (merged whole) = h.is ∙ still_heard modem n x y h.candidates whole (omega arith)
+        h.are all_are in (
       not_below n (merged whole),
-      sym (below_then_rest n (merged whole) (rising_heard modem (x ++ y) whole all_are)) ∙ ap (λ t. t ++ not_below n (merged whole)) (sym same),
+      sym (below_then_rest n (merged whole) (rising_heard modem (x ++ y) whole all_are))
+          ∙ ap (λ t. t ++ not_below n (merged whole)) (sym same),
     )
 
 -- and what ends below an earlier position is the first part of it
-pub given_early : (modem : Modem) (early : ℕ) (x y : List ℤ) (items whole : List Candidate) → early ≤ settled_count modem x
+pub given_early : (modem : Modem) (early : ℕ) (x y : List ℤ) (items whole : List Candidate)
+    → early ≤ settled_count modem x
     → AreGivenBelow modem (settled_count modem x) x items → AreHeard modem (x ++ y) whole
     → (more : List Candidate) × (items ≡ below early (merged whole) ++ more)
 given_early modem early x y items whole le h all_are =

@@ -1,5 +1,6 @@
 -- A receiver with octets more, and at the end of the input.
-use Rattle.std.proofs.Common.{◌≡◌, ℕ, ◌+◌, ◌≤◌, ℤ, List, [], ◌++◌, length, ap, sym, subst, ◌∙◌, arith, length-append, inl, inr}
+use Rattle.std.proofs.Common.{◌≡◌, ℕ, ◌+◌, ◌≤◌, ℤ, List, [], ◌++◌, length, ap, sym, subst, ◌∙◌, arith, length-append,
+    inl, inr}
 use Rattle.frame_merge.specs.declared.candidate.Candidate.{Candidate}
 use Rattle.frame_merge.specs.Merged.{candidate_frames}
 use Rattle.tnc_words.specs.declared.command.DecodeWords.{DecodeWords}
@@ -15,44 +16,54 @@ use Rattle.tnc_decode.specs.Settled.{IsSettled, sample_count}
 use Rattle.tnc_decode.proofs.AudioLemmas.{modem_stays}
 use Rattle.tnc_decode.proofs.SettledLemmas.{no_sample, settled_none, settled_more, decoded_at_end}
 
-pub heard_none : (receiver : Receiver) (words : DecodeWords) → receiver.frames ≡ words.frames → receiver.receiving ≡ words.receiving → HasTaken words receiver.audio []
+pub heard_none : (receiver : Receiver) (words : DecodeWords) → receiver.frames ≡ words.frames
+    → receiver.receiving ≡ words.receiving → HasTaken words receiver.audio []
     → HasDecoded (modem_of words []) receiver.decoder [] → HasHeard receiver words [] []
 heard_none receiver words same receiving audio decoder = record {
   frames = same;
   receiving = receiving;
   audio = audio;
-  decoder = subst (HasDecoded (modem_of words []) receiver.decoder) (sym (no_sample (rates_of words.receiving) words.audio)) decoder;
+  decoder = subst (HasDecoded (modem_of words []) receiver.decoder)
+      (sym (no_sample (rates_of words.receiving) words.audio)) decoder;
   settled = settled_none words;
 }
 
 -- the decoder of the modem that hears more octets has taken the samples before them
-pub tuned : (words : DecodeWords) (before octets : List ℕ) (modem : Modem) (old new : Decoders) → modem ≡ modem_of words (before ++ octets)
+pub tuned : (words : DecodeWords) (before octets : List ℕ) (modem : Modem) (old new : Decoders)
+    → modem ≡ modem_of words (before ++ octets)
     → ((x : List ℤ) → HasDecoded modem old x → HasDecoded modem new x)
     → ((other : Modem) → HasDecoded other old [] → HasDecoded modem new [])
     → HasDecoded (modem_of words before) old (samples_read words before)
     → HasDecoded (modem_of words (before ++ octets)) new (samples_read words before)
 tuned words before octets modem old new is still fresh h =
     subst (λ m. HasDecoded m new (samples_read words before)) is (elim (modem_stays words before octets) [
-      | inl same ↦ still (samples_read words before) (subst (λ m. HasDecoded m old (samples_read words before)) (sym same ∙ sym is) h)
+      | inl same ↦ still (samples_read words before) (subst (λ m. HasDecoded m old (samples_read words before))
+          (sym same ∙ sym is) h)
       | inr none ↦ subst (λ (x : List ℤ). HasDecoded modem new x) (sym none)
           (fresh (modem_of words before) (subst (λ (x : List ℤ). HasDecoded (modem_of words before) old x) none h))
     ])
 
-module _ (old new : Receiver) (words : DecodeWords) (before octets text : List ℕ) (found block : List ℤ) (items : List Candidate)
+module _ (old new : Receiver) (words : DecodeWords) (before octets text : List ℕ) (found block : List ℤ)
+    (items : List Candidate)
     (h : HasHeard old words before text)
-    (took : HasTaken words new.audio (before ++ octets) × (samples_read words (before ++ octets) ≡ samples_read words before ++ found))
+    (took : HasTaken words new.audio (before ++ octets)
+        × (samples_read words (before ++ octets) ≡ samples_read words before ++ found))
     (is : block ≡ found)
     (gave : HasDecoded (modem_of words (before ++ octets)) new.decoder (samples_read words before ++ block)
-    × AreGivenBetween (modem_of words (before ++ octets)) (settled_count (modem_of words (before ++ octets)) (samples_read words before))
-    (settled_count (modem_of words (before ++ octets)) (samples_read words before ++ block)) (samples_read words before ++ block) items) where
+    × AreGivenBetween (modem_of words (before ++ octets))
+        (settled_count (modem_of words (before ++ octets)) (samples_read words before))
+    (settled_count (modem_of words (before ++ octets)) (samples_read words before ++ block))
+        (samples_read words before ++ block) items) where
   longer : samples_read words (before ++ octets) ≡ samples_read words before ++ block
   longer = took.1 ∙ ap (λ t. samples_read words before ++ t) (sym is)
 
   -- what is settled now
   pub settles : IsSettled words (before ++ octets) (text ++ print old.frames (candidate_frames items))
-  settles = settled_more words before octets text (print old.frames (candidate_frames items)) block items longer h.settled gave.1 (ap (λ form. print form (candidate_frames items)) h.frames)
+  settles = settled_more words before octets text (print old.frames (candidate_frames items))
+      block items longer h.settled gave.1 (ap (λ form. print form (candidate_frames items)) h.frames)
 
-  pub heard_more : new.frames ≡ old.frames → new.receiving ≡ old.receiving → HasHeard new words (before ++ octets) (text ++ print old.frames (candidate_frames items))
+  pub heard_more : new.frames ≡ old.frames → new.receiving ≡ old.receiving
+      → HasHeard new words (before ++ octets) (text ++ print old.frames (candidate_frames items))
   heard_more same receiving = record {
     frames = same ∙ h.frames;
     receiving = receiving ∙ h.receiving;
@@ -61,11 +72,13 @@ module _ (old new : Receiver) (words : DecodeWords) (before octets text : List �
     settled = settles;
   }
 
-  pub few_more : length found ≤ 2048 → length (samples_read words (before ++ octets)) ≤ length (samples_read words before) + 2048
+  pub few_more : length found ≤ 2048 → length (samples_read words (before ++ octets))
+      ≤ length (samples_read words before) + 2048
   few_more few = (let size = ap length took.1 ∙ length-append (samples_read words before) found in omega arith)
 
 -- the end of the input
-pub heard_all : (receiver : Receiver) (words : DecodeWords) (octets text : List ℕ) (items shown : List Candidate) → HasHeard receiver words octets text
+pub heard_all : (receiver : Receiver) (words : DecodeWords) (octets text : List ℕ) (items shown : List Candidate)
+    → HasHeard receiver words octets text
     → AreGivenRest (modem_of words octets) (sample_count words octets) (samples_read words octets) items
     → shown ≡ items
     → IsDecoded words octets (text ++ print receiver.frames (candidate_frames shown))

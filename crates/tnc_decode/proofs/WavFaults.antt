@@ -1,5 +1,6 @@
 -- A fault or a rate that the octets of a WAV file tell is told as well if more octets follow, and before any sample.
-use Rattle.std.proofs.Common.{◌≡◌, ℕ, zero, suc, ◌+◌, ◌*◌, ◌-◌, ◌<◌, ◌≤◌, Bool, true, false, List, [], ◌∷◌, ◌++◌, length, take, drop, get_or, refl, ap, sym, subst, ◌∙◌, arith, inl, inr, length-append, length-drop}
+use Rattle.std.proofs.Common.{◌≡◌, ℕ, zero, suc, ◌+◌, ◌*◌, ◌-◌, ◌<◌, ◌≤◌, Bool, true, false, List, [], ◌∷◌, ◌++◌,
+    length, take, drop, get_or, refl, ap, sym, subst, ◌∙◌, arith, inl, inr, length-append, length-drop}
 use Rattle.std.specs.Prelude.{Option, Some, None, codes, ◌==◌, nat_lt, if◌then◌else◌}
 use Rattle.std.proofs.lemmas.Bool.{cases_lt, lt-ltb, le-ltb, ltb-false}
 use Rattle.std.proofs.lemmas.List.{take-append-le, drop-append-le, drop_all, get_or_append_left}
@@ -11,7 +12,8 @@ use Rattle.wav_file.specs.declared.rates.Rates.{Rates}
 use Rattle.wav_file.specs.Place.{told_place}
 use Rattle.wav_file.specs.Chunks.{Chunk, chunk_at, chunks, padded}
 use Rattle.wav_file.specs.Format.{fields, field_fault, width_of, number_of, accepts, rate_at_front}
-use Rattle.wav_file.specs.Reading.{Reading, unfinished, failed, unless, difference, is_format, is_data, endless_size, of_data, formatted, of_format, unformatted, reading, fault_in, rate_in, samples_in}
+use Rattle.wav_file.specs.Reading.{Reading, unfinished, failed, unless, difference, is_format, is_data, endless_size,
+    of_data, formatted, of_format, unformatted, reading, fault_in, rate_in, samples_in}
 use Rattle.wav_file.proofs.ChunkLemmas.{chunks_short, chunks_whole}
 
 -- what a reader of these rates reads
@@ -23,50 +25,63 @@ module _ (rates : Rates) where
   difference_whole fault place [] octets more l = refl
   difference_whole fault place (letter ∷ word) [] more l = absurd (omega arith)
   difference_whole fault place (letter ∷ word) (octet ∷ octets) more l =
-      ap (λ t. if letter == octet then t else Some (fault place)) (difference_whole fault (place + 1) word octets more (omega arith))
+      ap (λ t. if letter == octet then t else Some (fault place))
+          (difference_whole fault (place + 1) word octets more (omega arith))
 
-  difference_stays : (fault : ℕ → WavFault) (place : ℕ) (word octets more : List ℕ) (shown : WavFault) → difference fault place word octets ≡ Some shown
+  difference_stays : (fault : ℕ → WavFault) (place : ℕ) (word octets more : List ℕ) (shown : WavFault)
+      → difference fault place word octets ≡ Some shown
       → difference fault place word (octets ++ more) ≡ Some shown
   difference_stays fault place [] octets more shown e = absurd cc
   difference_stays fault place (letter ∷ word) [] more shown e = absurd cc
   difference_stays fault place (letter ∷ word) (octet ∷ octets) more shown e =
       (elim (letter == octet)
-      as (λ t. (if t then difference fault (place + 1) word octets else Some (fault place)) ≡ Some shown → (if t then difference fault (place + 1) word (octets ++ more) else Some (fault place)) ≡ Some shown)
+      as (λ t. (if t then difference fault (place + 1) word octets else Some (fault place)) ≡ Some shown
+          → (if t then difference fault (place + 1) word (octets ++ more) else Some (fault place)) ≡ Some shown)
       [ true ↦ difference_stays fault (place + 1) word octets more shown | false ↦ λ k. k ]) e
 
   -- ---- numbers and fields
 
-  little_longer : (i n : ℕ) (octets more : List ℕ) → i + n ≤ length octets → little_from i n (octets ++ more) ≡ little_from i n octets
+  little_longer : (i n : ℕ) (octets more : List ℕ) → i + n ≤ length octets
+      → little_from i n (octets ++ more) ≡ little_from i n octets
   little_longer i zero octets more l = refl
   little_longer i (suc n) octets more l =
       ap (λ low. low + 256 * little_from (suc i) n (octets ++ more)) (get_or_append_left octets more 0 i (omega arith))
       ∙ ap (λ high. get_or octets i 0 + 256 * high) (little_longer (suc i) n octets more (omega arith))
 
-  fields_stay : (list : List Field) (place : ℕ) (octets more : List ℕ) (shown : WavFault) → field_fault rates list place octets ≡ Some shown
+  fields_stay : (list : List Field) (place : ℕ) (octets more : List ℕ) (shown : WavFault)
+      → field_fault rates list place octets ≡ Some shown
       → field_fault rates list place (octets ++ more) ≡ Some shown
   fields_stay [] place octets more shown e = absurd cc
   fields_stay (field ∷ others) place octets more shown e =
       let width : ℕ = width_of field in
       let judged : ℕ → List ℕ → Option WavFault
-      = λ value rest. if accepts rates field value then field_fault rates others (place + width) rest else Some (BadFormat (told_place (place + width - 1)) (number_of field) value) in
+      = λ value rest. if accepts rates field value then field_fault rates others (place + width) rest
+          else Some (BadFormat (told_place (place + width - 1)) (number_of field) value) in
       elim (cases_lt (length octets) width) [
         | inl short ↦
-            let none : field_fault rates (field ∷ others) place octets ≡ None = ap (λ t. if t then None else judged (little_number width octets) (drop width octets)) (lt-ltb (length octets) width short) in
+            let none : field_fault rates (field ∷ others) place octets ≡ None =
+                ap (λ t. if t then None else judged (little_number width octets) (drop width octets))
+                (lt-ltb (length octets) width short) in
             let both : None ≡ Some shown = sym none ∙ e in
             absurd cc
         | inr whole ↦
             let value : ℕ = little_number width octets in
             let first : field_fault rates (field ∷ others) place octets ≡ judged value (drop width octets)
             = ap (λ t. if t then None else judged value (drop width octets)) (le-ltb (length octets) width whole) in
-            let second : field_fault rates (field ∷ others) place (octets ++ more) ≡ judged value (drop width octets ++ more)
-            = ap (λ t. if t then None else judged (little_number width (octets ++ more)) (drop width (octets ++ more))) (le-ltb (length (octets ++ more)) width (omega (arith, length-append octets more)))
+            let second : field_fault rates (field ∷ others) place (octets ++ more)
+                ≡ judged value (drop width octets ++ more)
+            = ap (λ t. if t then None else judged (little_number width (octets ++ more)) (drop width (octets ++ more)))
+                (le-ltb (length (octets ++ more)) width (omega (arith, length-append octets more)))
             ∙ ap (λ v. judged v (drop width (octets ++ more))) (little_longer 0 width octets more (omega arith))
             ∙ ap (judged value) (drop-append-le width octets more whole) in
             second
             ∙ (elim (accepts rates field value)
-            as (λ t. (if t then field_fault rates others (place + width) (drop width octets) else Some (BadFormat (told_place (place + width - 1)) (number_of field) value)) ≡ Some shown
-            → (if t then field_fault rates others (place + width) (drop width octets ++ more) else Some (BadFormat (told_place (place + width - 1)) (number_of field) value)) ≡ Some shown)
-            [ true ↦ fields_stay others (place + width) (drop width octets) more shown | false ↦ λ k. k ]) (sym first ∙ e)
+            as (λ t. (if t then field_fault rates others (place + width) (drop width octets)
+                else Some (BadFormat (told_place (place + width - 1)) (number_of field) value)) ≡ Some shown
+            → (if t then field_fault rates others (place + width) (drop width octets ++ more)
+                else Some (BadFormat (told_place (place + width - 1)) (number_of field) value)) ≡ Some shown)
+            [ true ↦ fields_stay others (place + width) (drop width octets) more shown | false ↦ λ k. k ]) (sym first
+                ∙ e)
       ]
 
   -- how many octets fields have
@@ -82,19 +97,24 @@ module _ (rates : Rates) where
       let width : ℕ = width_of field in
       let value : ℕ = little_number width octets in
       let judged : ℕ → List ℕ → Option WavFault
-      = λ value rest. if accepts rates field value then field_fault rates others (place + width) rest else Some (BadFormat (told_place (place + width - 1)) (number_of field) value) in
+      = λ value rest. if accepts rates field value then field_fault rates others (place + width) rest
+          else Some (BadFormat (told_place (place + width - 1)) (number_of field) value) in
       let whole : width ≤ length octets = omega arith in
       let first : field_fault rates (field ∷ others) place octets ≡ judged value (drop width octets)
       = ap (λ t. if t then None else judged value (drop width octets)) (le-ltb (length octets) width whole) in
       let second : field_fault rates (field ∷ others) place (octets ++ more) ≡ judged value (drop width octets ++ more)
-      = ap (λ t. if t then None else judged (little_number width (octets ++ more)) (drop width (octets ++ more))) (le-ltb (length (octets ++ more)) width (omega (arith, length-append octets more)))
+      = ap (λ t. if t then None else judged (little_number width (octets ++ more)) (drop width (octets ++ more)))
+          (le-ltb (length (octets ++ more)) width (omega (arith, length-append octets more)))
       ∙ ap (λ v. judged v (drop width (octets ++ more))) (little_longer 0 width octets more (omega arith))
       ∙ ap (judged value) (drop-append-le width octets more whole) in
       second
       ∙ elim (accepts rates field value)
-      as (λ t. (if t then field_fault rates others (place + width) (drop width octets ++ more) else Some (BadFormat (told_place (place + width - 1)) (number_of field) value))
-      ≡ (if t then field_fault rates others (place + width) (drop width octets) else Some (BadFormat (told_place (place + width - 1)) (number_of field) value)))
-      [ true ↦ fields_whole others (place + width) (drop width octets) more (omega (arith, length-drop width octets)) | false ↦ refl ]
+      as (λ t. (if t then field_fault rates others (place + width) (drop width octets ++ more)
+          else Some (BadFormat (told_place (place + width - 1)) (number_of field) value))
+      ≡ (if t then field_fault rates others (place + width) (drop width octets)
+          else Some (BadFormat (told_place (place + width - 1)) (number_of field) value)))
+      [ true ↦ fields_whole others (place + width) (drop width octets) more (omega (arith, length-drop width octets))
+          | false ↦ refl ]
       ∙ sym first
 
   -- ---- chunks
@@ -134,141 +154,199 @@ module _ (rates : Rates) where
   -- ---- what a reading tells: the fault or the rate
 
   module _ {X : Type 0} (tells : Reading → Option X) (nothing : tells unfinished ≡ None)
-      (behind_format : (place : ℕ) (behind more : List ℕ) (others others' : List Chunk) (shown : X) → field_fault rates fields (place + 8) behind ≡ None
+      (behind_format : (place : ℕ) (behind more : List ℕ) (others others' : List Chunk) (shown : X)
+          → field_fault rates fields (place + 8) behind ≡ None
       → tells (formatted (rate_at_front behind) others) ≡ Some shown
-      → tells (unless (field_fault rates fields (place + 8) (behind ++ more)) (formatted (rate_at_front (behind ++ more)) others')) ≡ Some shown) where
+      → tells (unless (field_fault rates fields (place + 8) (behind ++ more))
+          (formatted (rate_at_front (behind ++ more)) others')) ≡ Some shown) where
     format_stays : (place size : ℕ) (name behind more : List ℕ) (others others' : List Chunk) (shown : X)
-        → tells (of_format rates (record { place = place; name = name; size = size; behind = behind }) others) ≡ Some shown
-        → tells (of_format rates (record { place = place; name = name; size = size; behind = behind ++ more }) others') ≡ Some shown
+        → tells (of_format rates (record { place = place; name = name; size = size; behind = behind }) others)
+            ≡ Some shown
+        → tells (of_format rates (record { place = place; name = name; size = size; behind = behind ++ more }) others')
+            ≡ Some shown
     format_stays place size name behind more others others' shown e =
         (elim (nat_lt size 16)
-        as (λ t. tells (if t then failed (NoFormat (told_place (place + 7))) else unless (field_fault rates fields (place + 8) behind) (formatted (rate_at_front behind) others)) ≡ Some shown
-        → tells (if t then failed (NoFormat (told_place (place + 7))) else unless (field_fault rates fields (place + 8) (behind ++ more)) (formatted (rate_at_front (behind ++ more)) others')) ≡ Some shown)
+        as (λ t. tells (if t then failed (NoFormat (told_place (place + 7)))
+            else unless (field_fault rates fields (place + 8) behind) (formatted (rate_at_front behind) others))
+            ≡ Some shown
+        → tells (if t then failed (NoFormat (told_place (place + 7)))
+            else unless (field_fault rates fields (place + 8) (behind ++ more))
+            (formatted (rate_at_front (behind ++ more)) others')) ≡ Some shown)
         [ true ↦ λ k. k | false ↦ by_fields (field_fault rates fields (place + 8) behind) refl ]) e
       where
-        by_fields : (fault : Option WavFault) → field_fault rates fields (place + 8) behind ≡ fault → tells (unless fault (formatted (rate_at_front behind) others)) ≡ Some shown
-            → tells (unless (field_fault rates fields (place + 8) (behind ++ more)) (formatted (rate_at_front (behind ++ more)) others')) ≡ Some shown
-        by_fields (Some fault) is k = ap (λ t. tells (unless t (formatted (rate_at_front (behind ++ more)) others'))) (fields_stay fields (place + 8) behind more fault is) ∙ k
+        by_fields : (fault : Option WavFault) → field_fault rates fields (place + 8) behind ≡ fault
+            → tells (unless fault (formatted (rate_at_front behind) others)) ≡ Some shown
+            → tells (unless (field_fault rates fields (place + 8) (behind ++ more))
+                (formatted (rate_at_front (behind ++ more)) others')) ≡ Some shown
+        by_fields (Some fault) is k = ap (λ t. tells (unless t (formatted (rate_at_front (behind ++ more)) others')))
+            (fields_stay fields (place + 8) behind more fault is) ∙ k
         by_fields None is k = behind_format place behind more others others' shown is k
 
-    no_chunk : (place : ℕ) (octets : List ℕ) (shown : X) → length octets < 8 → tells (unformatted rates (chunks place octets)) ≡ Some shown → ⊥
+    no_chunk : (place : ℕ) (octets : List ℕ) (shown : X) → length octets < 8
+        → tells (unformatted rates (chunks place octets)) ≡ Some shown → ⊥
     no_chunk place octets shown short e =
-        let both : None ≡ Some shown = sym (ap (λ list. tells (unformatted rates list)) (chunks_short place octets short) ∙ nothing) ∙ e in
+        let both : None ≡ Some shown = sym (ap (λ list. tells (unformatted rates list))
+            (chunks_short place octets short) ∙ nothing) ∙ e in
         cc
 
     -- a fault in the first chunk stays, and so does one after it, if each fault of fewer octets does
     chunk_stays : (place : ℕ) (octets more : List ℕ) (shown : X)
-        → ((place : ℕ) (others : List ℕ) → length others < length octets → tells (unformatted rates (chunks place others)) ≡ Some shown → tells (unformatted rates (chunks place (others ++ more))) ≡ Some shown)
-        → (size : ℕ) → little_number 4 (drop 4 octets) ≡ size → 8 ≤ length octets → tells (unformatted rates (chunks place octets)) ≡ Some shown
+        → ((place : ℕ) (others : List ℕ) → length others < length octets
+            → tells (unformatted rates (chunks place others)) ≡ Some shown
+            → tells (unformatted rates (chunks place (others ++ more))) ≡ Some shown)
+        → (size : ℕ) → little_number 4 (drop 4 octets) ≡ size → 8 ≤ length octets
+            → tells (unformatted rates (chunks place octets)) ≡ Some shown
         → tells (unformatted rates (chunks place (octets ++ more))) ≡ Some shown
     chunk_stays place octets more shown again size told whole e =
         let name : List ℕ = take 4 octets in
         let behind : List ℕ = drop 8 octets in
-        let with : List ℕ → ℕ → List ℕ → Chunk = λ name size behind. record { place = place; name = name; size = size; behind = behind } in
-        let next : ℕ → List ℕ → List Chunk = λ size behind. chunks (place + 8 + padded size) (drop (padded size) behind) in
+        let with : List ℕ → ℕ → List ℕ → Chunk = λ name size behind. record { place = place; name = name; size = size;
+            behind = behind } in
+        let next : ℕ → List ℕ → List Chunk = λ size behind. chunks (place + 8 + padded size) (drop (padded size) behind)
+            in
         let first : chunks place octets ≡ with name size behind ∷ next size behind
         = chunks_whole place octets whole ∙ ap (λ s. with name s behind ∷ next s behind) told in
         let size_longer : little_number 4 (drop 4 (octets ++ more)) ≡ size
-        = ap (little_number 4) (drop-append-le 4 octets more (omega arith)) ∙ little_longer 0 4 (drop 4 octets) more (omega (arith, length-drop 4 octets)) ∙ told in
+        = ap (little_number 4) (drop-append-le 4 octets more (omega arith))
+            ∙ little_longer 0 4 (drop 4 octets) more (omega (arith, length-drop 4 octets)) ∙ told in
         let second : chunks place (octets ++ more) ≡ with name size (behind ++ more) ∷ next size (behind ++ more)
         = chunks_whole place (octets ++ more) (omega (arith, length-append octets more))
-        ∙ ap (λ s. with (take 4 (octets ++ more)) s (drop 8 (octets ++ more)) ∷ next s (drop 8 (octets ++ more))) size_longer
-        ∙ ap (λ l. with l size (drop 8 (octets ++ more)) ∷ next size (drop 8 (octets ++ more))) (take-append-le 4 octets more (omega arith))
+        ∙ ap (λ s. with (take 4 (octets ++ more)) s (drop 8 (octets ++ more)) ∷ next s (drop 8 (octets ++ more)))
+            size_longer
+        ∙ ap (λ l. with l size (drop 8 (octets ++ more)) ∷ next size (drop 8 (octets ++ more)))
+            (take-append-le 4 octets more (omega arith))
         ∙ ap (λ l. with name size l ∷ next size l) (drop-append-le 8 octets more whole) in
-        let rest : tells (unformatted rates (next size behind)) ≡ Some shown → tells (unformatted rates (next size (behind ++ more))) ≡ Some shown
+        let rest : tells (unformatted rates (next size behind)) ≡ Some shown
+            → tells (unformatted rates (next size (behind ++ more))) ≡ Some shown
         = λ k. elim (cases_lt (length behind) (padded size)) [
-          | inl short ↦ absurd (no_chunk (place + 8 + padded size) (drop (padded size) behind) shown (omega (arith, length-drop (padded size) behind)) k)
+          | inl short ↦ absurd (no_chunk (place + 8 + padded size) (drop (padded size) behind) shown
+              (omega (arith, length-drop (padded size) behind)) k)
           | inr enough ↦
-              ap (λ l. tells (unformatted rates (chunks (place + 8 + padded size) l))) (drop-append-le (padded size) behind more enough)
-              ∙ again (place + 8 + padded size) (drop (padded size) behind) (omega (arith, length-drop (padded size) behind, length-drop 8 octets)) k
+              ap (λ l. tells (unformatted rates (chunks (place + 8 + padded size) l)))
+                  (drop-append-le (padded size) behind more enough)
+              ∙ again (place + 8 + padded size) (drop (padded size) behind)
+                  (omega (arith, length-drop (padded size) behind, length-drop 8 octets)) k
         ] in
         ap (λ list. tells (unformatted rates list)) second
         ∙ (elim (is_data (with name size behind))
-        as (λ t. tells (if t then failed (NoFormat (told_place (place + 7))) else (if is_format (with name size behind) then of_format rates (with name size behind) (next size behind) else unformatted rates (next size behind))) ≡ Some shown
-        → tells (if t then failed (NoFormat (told_place (place + 7))) else (if is_format (with name size behind) then of_format rates (with name size (behind ++ more)) (next size (behind ++ more)) else unformatted rates (next size (behind ++ more)))) ≡ Some shown) [
+        as (λ t. tells (if t then failed (NoFormat (told_place (place + 7)))
+            else (if is_format (with name size behind) then of_format rates (with name size behind) (next size behind)
+            else unformatted rates (next size behind))) ≡ Some shown
+        → tells (if t then failed (NoFormat (told_place (place + 7)))
+            else (if is_format (with name size behind) then of_format rates (with name size (behind ++ more))
+            (next size (behind ++ more)) else unformatted rates (next size (behind ++ more)))) ≡ Some shown) [
           | true ↦ λ k. k
           | false ↦
               elim (is_format (with name size behind))
-              as (λ t. tells (if t then of_format rates (with name size behind) (next size behind) else unformatted rates (next size behind)) ≡ Some shown
-              → tells (if t then of_format rates (with name size (behind ++ more)) (next size (behind ++ more)) else unformatted rates (next size (behind ++ more))) ≡ Some shown)
-              [ true ↦ format_stays place size name behind more (next size behind) (next size (behind ++ more)) shown | false ↦ rest ]
+              as (λ t. tells (if t then of_format rates (with name size behind) (next size behind)
+                  else unformatted rates (next size behind)) ≡ Some shown
+              → tells (if t then of_format rates (with name size (behind ++ more)) (next size (behind ++ more))
+                  else unformatted rates (next size (behind ++ more))) ≡ Some shown)
+              [ true ↦ format_stays place size name behind more (next size behind) (next size (behind ++ more))
+                  shown | false ↦ rest ]
         ]) (sym (ap (λ list. tells (unformatted rates list)) first) ∙ e)
 
-    chunks_stay : (n place : ℕ) (octets more : List ℕ) (shown : X) → length octets ≤ n → tells (unformatted rates (chunks place octets)) ≡ Some shown
+    chunks_stay : (n place : ℕ) (octets more : List ℕ) (shown : X) → length octets ≤ n
+        → tells (unformatted rates (chunks place octets)) ≡ Some shown
         → tells (unformatted rates (chunks place (octets ++ more))) ≡ Some shown
     chunks_stay zero place octets more shown fits e = absurd (no_chunk place octets shown (omega arith) e)
     chunks_stay (suc n) place octets more shown fits e =
         elim (cases_lt (length octets) 8) [
           | inl short ↦ absurd (no_chunk place octets shown short e)
-          | inr whole ↦ chunk_stays place octets more shown (λ p others l k. chunks_stay n p others more shown (omega arith) k) (little_number 4 (drop 4 octets)) refl whole e
+          | inr whole ↦ chunk_stays place octets more shown (λ p others l k.
+              chunks_stay n p others more shown (omega arith) k) (little_number 4 (drop 4 octets)) refl whole e
         ]
 
     -- ---- the whole file
 
-    pub reading_stays : (octets more : List ℕ) (shown : X) → tells (reading rates octets) ≡ Some shown → tells (reading rates (octets ++ more)) ≡ Some shown
+    pub reading_stays : (octets more : List ℕ) (shown : X) → tells (reading rates octets) ≡ Some shown
+        → tells (reading rates (octets ++ more)) ≡ Some shown
     unfolding reading
     reading_stays octets more shown e = by_riff (difference NotRiff 0 (codes "RIFF") octets) refl e
       where
         none_behind : length octets ≤ 11 → tells (unformatted rates (chunks 12 (drop 12 octets))) ≡ Some shown → ⊥
         none_behind few k = no_chunk 12 (drop 12 octets) shown (omega (arith, length-drop 12 octets)) k
 
-        by_wave : (fault : Option WavFault) → difference NotWave 8 (codes "WAVE") (drop 8 octets) ≡ fault → 8 ≤ length octets
+        by_wave : (fault : Option WavFault) → difference NotWave 8 (codes "WAVE") (drop 8 octets) ≡ fault
+            → 8 ≤ length octets
             → tells (unless fault (unformatted rates (chunks 12 (drop 12 octets)))) ≡ Some shown
-            → tells (unless (difference NotWave 8 (codes "WAVE") (drop 8 (octets ++ more))) (unformatted rates (chunks 12 (drop 12 (octets ++ more))))) ≡ Some shown
+            → tells (unless (difference NotWave 8 (codes "WAVE") (drop 8 (octets ++ more)))
+                (unformatted rates (chunks 12 (drop 12 (octets ++ more))))) ≡ Some shown
         by_wave (Some fault) is enough k =
-            ap (λ l. tells (unless (difference NotWave 8 (codes "WAVE") l) (unformatted rates (chunks 12 (drop 12 (octets ++ more)))))) (drop-append-le 8 octets more enough)
-            ∙ ap (λ t. tells (unless t (unformatted rates (chunks 12 (drop 12 (octets ++ more)))))) (difference_stays NotWave 8 (codes "WAVE") (drop 8 octets) more fault is) ∙ k
+            ap (λ l. tells (unless (difference NotWave 8 (codes "WAVE") l)
+                (unformatted rates (chunks 12 (drop 12 (octets ++ more)))))) (drop-append-le 8 octets more enough)
+            ∙ ap (λ t. tells (unless t (unformatted rates (chunks 12 (drop 12 (octets ++ more))))))
+                (difference_stays NotWave 8 (codes "WAVE") (drop 8 octets) more fault is) ∙ k
         by_wave None is enough k =
             elim (cases_lt (length octets) 12) [
               | inl few ↦ absurd (none_behind (omega arith) k)
               | inr whole ↦
-                  ap (λ l. tells (unless (difference NotWave 8 (codes "WAVE") l) (unformatted rates (chunks 12 (drop 12 (octets ++ more)))))) (drop-append-le 8 octets more enough)
+                  ap (λ l. tells (unless (difference NotWave 8 (codes "WAVE") l)
+                      (unformatted rates (chunks 12 (drop 12 (octets ++ more)))))) (drop-append-le 8 octets more enough)
                   ∙ ap (λ t. tells (unless t (unformatted rates (chunks 12 (drop 12 (octets ++ more))))))
-                  (difference_whole NotWave 8 (codes "WAVE") (drop 8 octets) more (let four : length (codes "WAVE") ≡ 4 = refl in omega (arith, length-drop 8 octets)) ∙ is)
+                  (difference_whole NotWave 8 (codes "WAVE") (drop 8 octets) more
+                      (let four : length (codes "WAVE") ≡ 4 = refl in omega (arith, length-drop 8 octets)) ∙ is)
                   ∙ ap (λ l. tells (unformatted rates (chunks 12 l))) (drop-append-le 12 octets more whole)
                   ∙ chunks_stay (length (drop 12 octets)) 12 (drop 12 octets) more shown (omega arith) k
             ]
 
-        short_wave : length octets < 8 → tells (unless (difference NotWave 8 (codes "WAVE") (drop 8 octets)) (unformatted rates (chunks 12 (drop 12 octets)))) ≡ Some shown → ⊥
+        short_wave : length octets < 8 → tells (unless (difference NotWave 8 (codes "WAVE") (drop 8 octets))
+            (unformatted rates (chunks 12 (drop 12 octets)))) ≡ Some shown → ⊥
         short_wave few k =
-            none_behind (omega arith) (ap (λ l. tells (unless (difference NotWave 8 (codes "WAVE") l) (unformatted rates (chunks 12 (drop 12 octets))))) (sym (drop_all 8 octets (omega arith))) ∙ k)
+            none_behind (omega arith)
+                (ap (λ l. tells (unless (difference NotWave 8 (codes "WAVE") l)
+                (unformatted rates (chunks 12 (drop 12 octets))))) (sym (drop_all 8 octets (omega arith))) ∙ k)
 
         by_riff : (fault : Option WavFault) → difference NotRiff 0 (codes "RIFF") octets ≡ fault
-            → tells (unless fault (unless (difference NotWave 8 (codes "WAVE") (drop 8 octets)) (unformatted rates (chunks 12 (drop 12 octets))))) ≡ Some shown
-            → tells (unless (difference NotRiff 0 (codes "RIFF") (octets ++ more)) (unless (difference NotWave 8 (codes "WAVE") (drop 8 (octets ++ more))) (unformatted rates (chunks 12 (drop 12 (octets ++ more)))))) ≡ Some shown
+            → tells (unless fault (unless (difference NotWave 8 (codes "WAVE") (drop 8 octets))
+                (unformatted rates (chunks 12 (drop 12 octets))))) ≡ Some shown
+            → tells (unless (difference NotRiff 0 (codes "RIFF") (octets ++ more))
+                (unless (difference NotWave 8 (codes "WAVE") (drop 8 (octets ++ more)))
+                (unformatted rates (chunks 12 (drop 12 (octets ++ more)))))) ≡ Some shown
         by_riff (Some fault) is k =
-            ap (λ t. tells (unless t (unless (difference NotWave 8 (codes "WAVE") (drop 8 (octets ++ more))) (unformatted rates (chunks 12 (drop 12 (octets ++ more))))))) (difference_stays NotRiff 0 (codes "RIFF") octets more fault is) ∙ k
+            ap (λ t. tells (unless t (unless (difference NotWave 8 (codes "WAVE") (drop 8 (octets ++ more)))
+                (unformatted rates (chunks 12 (drop 12 (octets ++ more)))))))
+                (difference_stays NotRiff 0 (codes "RIFF") octets more fault is) ∙ k
         by_riff None is k =
             elim (cases_lt (length octets) 8) [
               | inl few ↦ absurd (short_wave few k)
               | inr enough ↦
-                  ap (λ t. tells (unless t (unless (difference NotWave 8 (codes "WAVE") (drop 8 (octets ++ more))) (unformatted rates (chunks 12 (drop 12 (octets ++ more)))))))
-                  (difference_whole NotRiff 0 (codes "RIFF") octets more (let four : length (codes "RIFF") ≡ 4 = refl in omega arith) ∙ is)
+                  ap (λ t. tells (unless t (unless (difference NotWave 8 (codes "WAVE") (drop 8 (octets ++ more)))
+                      (unformatted rates (chunks 12 (drop 12 (octets ++ more)))))))
+                  (difference_whole NotRiff 0 (codes "RIFF") octets more (let four : length (codes "RIFF") ≡ 4 = refl in
+                      omega arith) ∙ is)
                   ∙ by_wave (difference NotWave 8 (codes "WAVE") (drop 8 octets)) refl enough k
             ]
 
   -- a fault stays
-  pub fault_stays : (octets more : List ℕ) (shown : WavFault) → fault_in rates octets ≡ Some shown → fault_in rates (octets ++ more) ≡ Some shown
+  pub fault_stays : (octets more : List ℕ) (shown : WavFault) → fault_in rates octets ≡ Some shown
+      → fault_in rates (octets ++ more) ≡ Some shown
   fault_stays = reading_stays (λ r. r.fault) refl
-      (λ place behind more others others' shown is k. let both : None ≡ Some shown = sym (faultless (rate_at_front behind) others) ∙ k in absurd cc)
+      (λ place behind more others others' shown is k. let both : None ≡ Some shown =
+          sym (faultless (rate_at_front behind) others) ∙ k in absurd cc)
 
   -- so does the rate
-  pub rate_stays : (octets more : List ℕ) (rate : ℕ) → rate_in rates octets ≡ Some rate → rate_in rates (octets ++ more) ≡ Some rate
+  pub rate_stays : (octets more : List ℕ) (rate : ℕ) → rate_in rates octets ≡ Some rate
+      → rate_in rates (octets ++ more) ≡ Some rate
   rate_stays = reading_stays (λ r. r.rate) refl (λ place behind more others others' rate is k.
       let here : rate_at_front behind ≡ Some rate = sym (keeps_rate (rate_at_front behind) others) ∙ k in
       elim (cases_lt (length behind) 16) [
         | inl few ↦
-            let none : rate_at_front behind ≡ None = ap (λ t. if t then None else Some (little_number 4 (drop 4 behind))) (lt-ltb (length behind) 16 few) in
+            let none : rate_at_front behind ≡ None = ap (λ t. if t then None
+                else Some (little_number 4 (drop 4 behind))) (lt-ltb (length behind) 16 few) in
             let both : None ≡ Some rate = sym none ∙ here in
             absurd cc
         | inr enough ↦
             let first : rate_at_front behind ≡ Some (little_number 4 (drop 4 behind))
             = ap (λ t. if t then None else Some (little_number 4 (drop 4 behind))) (le-ltb (length behind) 16 enough) in
             let second : rate_at_front (behind ++ more) ≡ Some (little_number 4 (drop 4 (behind ++ more)))
-            = ap (λ t. if t then None else Some (little_number 4 (drop 4 (behind ++ more)))) (le-ltb (length (behind ++ more)) 16 (omega (arith, length-append behind more))) in
+            = ap (λ t. if t then None else Some (little_number 4 (drop 4 (behind ++ more))))
+                (le-ltb (length (behind ++ more)) 16 (omega (arith, length-append behind more))) in
             let same : little_number 4 (drop 4 (behind ++ more)) ≡ little_number 4 (drop 4 behind)
-            = ap (little_number 4) (drop-append-le 4 behind more (omega arith)) ∙ little_longer 0 4 (drop 4 behind) more (omega (arith, length-drop 4 behind)) in
-            ap (λ t. (unless t (formatted (rate_at_front (behind ++ more)) others')).rate) (fields_whole fields (place + 8) behind more enough ∙ is)
+            = ap (little_number 4) (drop-append-le 4 behind more (omega arith))
+                ∙ little_longer 0 4 (drop 4 behind) more (omega (arith, length-drop 4 behind)) in
+            ap (λ t. (unless t (formatted (rate_at_front (behind ++ more)) others')).rate)
+                (fields_whole fields (place + 8) behind more enough ∙ is)
             ∙ keeps_rate (rate_at_front (behind ++ more)) others' ∙ second ∙ ap Some same ∙ sym first ∙ here
       ])
 
@@ -287,21 +365,31 @@ module _ (rates : Rates) where
   silent_unformatted : (list : List Chunk) → IsSilent (unformatted rates list)
   silent_unformatted [] shown e = refl
   silent_unformatted (chunk ∷ others) shown e =
-      (elim (is_data chunk) as (λ t. IsSilent (if t then failed (NoFormat (told_place (chunk.place + 7))) else (if is_format chunk then of_format rates chunk others else unformatted rates others))) [
+      (elim (is_data chunk) as (λ t. IsSilent (if t then failed (NoFormat (told_place (chunk.place + 7)))
+          else (if is_format chunk then of_format rates chunk others else unformatted rates others))) [
         | true ↦ λ shown e. refl
         | false ↦
-            elim (is_format chunk) as (λ t. IsSilent (if t then of_format rates chunk others else unformatted rates others)) [
+            elim (is_format chunk) as (λ t. IsSilent (if t then of_format rates chunk others
+                else unformatted rates others)) [
               | true ↦
-                  elim (nat_lt chunk.size 16) as (λ t. IsSilent (if t then failed (NoFormat (told_place (chunk.place + 7))) else unless (field_fault rates fields (chunk.place + 8) chunk.behind) (formatted (rate_at_front chunk.behind) others)))
-                  [ true ↦ λ shown e. refl | false ↦ silent_unless (field_fault rates fields (chunk.place + 8) chunk.behind) (formatted (rate_at_front chunk.behind) others) (silent_formatted (rate_at_front chunk.behind) others) ]
+                  elim (nat_lt chunk.size 16) as (λ t. IsSilent (if t then failed
+                      (NoFormat (told_place (chunk.place + 7))) else unless
+                      (field_fault rates fields (chunk.place + 8) chunk.behind)
+                      (formatted (rate_at_front chunk.behind) others)))
+                  [ true ↦ λ shown e. refl | false ↦ silent_unless (field_fault rates fields (chunk.place + 8)
+                      chunk.behind) (formatted (rate_at_front chunk.behind) others)
+                      (silent_formatted (rate_at_front chunk.behind) others) ]
               | false ↦ silent_unformatted others
             ]
       ]) shown e
 
-  pub silent_before : (octets : List ℕ) (shown : WavFault) → fault_in rates octets ≡ Some shown → samples_in rates octets ≡ []
+  pub silent_before : (octets : List ℕ) (shown : WavFault) → fault_in rates octets ≡ Some shown
+      → samples_in rates octets ≡ []
   unfolding reading
-  silent_before octets = silent_unless (difference NotRiff 0 (codes "RIFF") octets) (unless (difference NotWave 8 (codes "WAVE") (drop 8 octets)) (unformatted rates (chunks 12 (drop 12 octets))))
-      (silent_unless (difference NotWave 8 (codes "WAVE") (drop 8 octets)) (unformatted rates (chunks 12 (drop 12 octets))) (silent_unformatted (chunks 12 (drop 12 octets))))
+  silent_before octets = silent_unless (difference NotRiff 0 (codes "RIFF") octets)
+      (unless (difference NotWave 8 (codes "WAVE") (drop 8 octets)) (unformatted rates (chunks 12 (drop 12 octets))))
+      (silent_unless (difference NotWave 8 (codes "WAVE") (drop 8 octets))
+          (unformatted rates (chunks 12 (drop 12 octets))) (silent_unformatted (chunks 12 (drop 12 octets))))
 
   -- ---- and none before the rate
 
@@ -313,27 +401,34 @@ module _ (rates : Rates) where
   quiet_unless None r h e = h e
 
   -- after a format that is not there to its end stands no chunk
-  quiet_formatted : (place size : ℕ) (behind : List ℕ) → 16 ≤ size → IsQuiet (formatted (rate_at_front behind) (chunks place (drop (padded size) behind)))
+  quiet_formatted : (place size : ℕ) (behind : List ℕ) → 16 ≤ size
+      → IsQuiet (formatted (rate_at_front behind) (chunks place (drop (padded size) behind)))
   quiet_formatted place size behind large e =
       elim (cases_lt (length behind) 16) [
         | inl few ↦
-            ap (λ l. (formatted (rate_at_front behind) (chunks place l)).heard) (drop_all (padded size) behind (omega arith))
+            ap (λ l. (formatted (rate_at_front behind) (chunks place l)).heard)
+                (drop_all (padded size) behind (omega arith))
             ∙ ap (λ list. (formatted (rate_at_front behind) list).heard) (chunks_short place [] (omega arith))
         | inr enough ↦
             let value : ℕ = little_number 4 (drop 4 behind) in
-            let some : rate_at_front behind ≡ Some value = ap (λ t. if t then None else Some value) (le-ltb (length behind) 16 enough) in
-            let both : Some value ≡ None = sym some ∙ sym (keeps_rate (rate_at_front behind) (chunks place (drop (padded size) behind))) ∙ e in
+            let some : rate_at_front behind ≡ Some value = ap (λ t. if t then None else Some value)
+                (le-ltb (length behind) 16 enough) in
+            let both : Some value ≡ None = sym some
+                ∙ sym (keeps_rate (rate_at_front behind) (chunks place (drop (padded size) behind))) ∙ e in
             absurd cc
       ]
 
   -- a chunk before those that tell no sample
   quiet_chunk : (place : ℕ) (chunk : Chunk) → chunk.place ≡ place
       → IsQuiet (unformatted rates (chunks (place + 8 + padded chunk.size) (drop (padded chunk.size) chunk.behind)))
-      → IsQuiet (unformatted rates (chunk ∷ chunks (place + 8 + padded chunk.size) (drop (padded chunk.size) chunk.behind)))
+      → IsQuiet (unformatted rates (chunk ∷ chunks (place + 8 + padded chunk.size)
+          (drop (padded chunk.size) chunk.behind)))
   quiet_chunk place chunk at again =
-      elim (is_data chunk) as (λ t. IsQuiet (if t then failed (NoFormat (told_place (chunk.place + 7))) else (if is_format chunk then of_format rates chunk others else unformatted rates others))) [
+      elim (is_data chunk) as (λ t. IsQuiet (if t then failed (NoFormat (told_place (chunk.place + 7)))
+          else (if is_format chunk then of_format rates chunk others else unformatted rates others))) [
         | true ↦ λ e. refl
-        | false ↦ elim (is_format chunk) as (λ t. IsQuiet (if t then of_format rates chunk others else unformatted rates others)) [
+        | false ↦ elim (is_format chunk) as (λ t. IsQuiet (if t then of_format rates chunk others
+            else unformatted rates others)) [
           | true ↦ by_size (nat_lt chunk.size 16) refl
           | false ↦ again
         ]
@@ -343,25 +438,33 @@ module _ (rates : Rates) where
       others = chunks (place + 8 + padded chunk.size) (drop (padded chunk.size) chunk.behind)
 
       by_size : (b : Bool) → nat_lt chunk.size 16 ≡ b
-          → IsQuiet (if b then failed (NoFormat (told_place (chunk.place + 7))) else unless (field_fault rates fields (chunk.place + 8) chunk.behind) (formatted (rate_at_front chunk.behind) others))
+          → IsQuiet (if b then failed (NoFormat (told_place (chunk.place + 7)))
+              else unless (field_fault rates fields (chunk.place + 8) chunk.behind)
+              (formatted (rate_at_front chunk.behind) others))
       by_size true is = λ e. refl
       by_size false is =
-          quiet_unless (field_fault rates fields (chunk.place + 8) chunk.behind) (formatted (rate_at_front chunk.behind) others)
+          quiet_unless (field_fault rates fields (chunk.place + 8) chunk.behind)
+              (formatted (rate_at_front chunk.behind) others)
           (quiet_formatted (place + 8 + padded chunk.size) chunk.size chunk.behind (ltb-false chunk.size 16 is))
 
   quiet_chunks : (n place : ℕ) (octets : List ℕ) → length octets ≤ n → IsQuiet (unformatted rates (chunks place octets))
-  quiet_chunks zero place octets fits = λ e. ap (λ list. (unformatted rates list).heard) (chunks_short place octets (omega arith))
+  quiet_chunks zero place octets fits = λ e. ap (λ list. (unformatted rates list).heard)
+      (chunks_short place octets (omega arith))
   quiet_chunks (suc n) place octets fits =
       elim (cases_lt (length octets) 8) [
         | inl short ↦ λ e. ap (λ list. (unformatted rates list).heard) (chunks_short place octets short)
         | inr whole ↦
             let chunk : Chunk = chunk_at place octets in
             subst (λ list. IsQuiet (unformatted rates list)) (sym (chunks_whole place octets whole))
-            (quiet_chunk place chunk refl (quiet_chunks n (place + 8 + padded chunk.size) (drop (padded chunk.size) chunk.behind)
+            (quiet_chunk place chunk refl (quiet_chunks n (place + 8 + padded chunk.size)
+                (drop (padded chunk.size) chunk.behind)
             (omega (arith, length-drop (padded chunk.size) chunk.behind, length-drop 8 octets))))
       ]
 
   pub quiet_before : (octets : List ℕ) → rate_in rates octets ≡ None → samples_in rates octets ≡ []
   unfolding reading
-  quiet_before octets = quiet_unless (difference NotRiff 0 (codes "RIFF") octets) (unless (difference NotWave 8 (codes "WAVE") (drop 8 octets)) (unformatted rates (chunks 12 (drop 12 octets))))
-      (quiet_unless (difference NotWave 8 (codes "WAVE") (drop 8 octets)) (unformatted rates (chunks 12 (drop 12 octets))) (quiet_chunks (length (drop 12 octets)) 12 (drop 12 octets) (omega arith)))
+  quiet_before octets = quiet_unless (difference NotRiff 0 (codes "RIFF") octets)
+      (unless (difference NotWave 8 (codes "WAVE") (drop 8 octets)) (unformatted rates (chunks 12 (drop 12 octets))))
+      (quiet_unless (difference NotWave 8 (codes "WAVE") (drop 8 octets))
+          (unformatted rates (chunks 12 (drop 12 octets))) (quiet_chunks (length (drop 12 octets)) 12 (drop 12 octets)
+          (omega arith)))

@@ -49,18 +49,23 @@ pub record WroteCut (words : DecodeWords) (octets : List ℕ) (left was now : Op
 
 -- whatever the whole text is, a first part of it was written
 abbrev pub WroteFirst : DecodeWords → List ℕ → Option (List ℕ) → Option (List ℕ) → Type 0
-WroteFirst words octets was now = (before text : List ℕ) → was ≡ Some before → IsDecoded words octets text → WrotePart before text now
+WroteFirst words octets was now = (before text : List ℕ) → was ≡ Some before → IsDecoded words octets text
+    → WrotePart before text now
 
 -- the input is too long, or there is a fault of its form
 abbrev pub IsStopped : DecodeWords → List ℕ → Option (List ℕ) → Option (List ℕ) → Option (List ℕ) → InputFault → Type 0
 IsStopped words octets left was now fault =
-    ((fault ≡ TooLong) × (input_limit < length octets) × (left ≡ Some (drop (input_limit + 1) octets)) × WroteSettled words octets left was now)
+    ((fault ≡ TooLong) × (input_limit < length octets) × (left ≡ Some (drop (input_limit + 1) octets))
+        × WroteSettled words octets left was now)
     ⊎ ((wav : WavFault) × (fault ≡ BadWav wav) × WroteAll words octets was now)
 
-abbrev pub IsEnded : DecodeWords → List ℕ → Option (List ℕ) → Option (List ℕ) → Option (List ℕ) → Result (Unit {0}) Fault → Type 0
-IsEnded words octets left was now (Ok x) = (left ≡ Some []) × (audio_fault words octets ≡ None) × WroteAll words octets was now
+abbrev pub IsEnded : DecodeWords → List ℕ → Option (List ℕ) → Option (List ℕ) → Option (List ℕ)
+    → Result (Unit {0}) Fault → Type 0
+IsEnded words octets left was now (Ok x) = (left ≡ Some []) × (audio_fault words octets ≡ None)
+    × WroteAll words octets was now
 IsEnded words octets left was now (Err (Input fault)) =
-    (audio_fault words octets ≡ Some fault) × IsStopped words octets left was now fault × WroteFirst words octets was now
+    (audio_fault words octets ≡ Some fault) × IsStopped words octets left was now fault
+        × WroteFirst words octets was now
 IsEnded words octets left was now (Err Memory) = WroteFront words octets left was now × WroteFirst words octets was now
 IsEnded words octets left was now (Err Read) = WroteSettled words octets left was now × WroteFirst words octets was now
 IsEnded words octets left was now (Err Write) = WroteCut words octets left was now × WroteFirst words octets was now

@@ -16,7 +16,8 @@ use Rattle.tnc_decode.specs.declared.audio.Audio.TheVariants.{Pcm, File}
 use Rattle.tnc_decode.specs.declared.decoders.Decoders.{Decoders}
 use Rattle.tnc_decode.specs.declared.decoders.Decoders.TheVariants.{Plain, Wide, Sensitive, ShortWave}
 use Rattle.tnc_decode.specs.declared.modem.Modem.{Modem}
-use Rattle.tnc_decode.specs.declared.modem.Modem.TheVariants.{Plain as PlainModem, Wide as WideModem, Sensitive as SensitiveModem}
+use Rattle.tnc_decode.specs.declared.modem.Modem.TheVariants.{Plain as PlainModem, Wide as WideModem,
+    Sensitive as SensitiveModem}
 use Rattle.tnc_decode.specs.declared.modem.Modem.TheVariants.{ShortWave as ShortWaveModem}
 use Rattle.tnc_decode.specs.declared.receiver.Receiver.{Receiver}
 use Rattle.tnc_decode.specs.Audio.{rates_of, samples_read}
@@ -68,7 +69,8 @@ pub record HasHeard (receiver : Receiver) (words : DecodeWords) (octets text : L
   pub settled : IsSettled words octets text
 
 -- the receiver was given octets more, of which not all that they settled was written
-pub record CutShort (receiver : Receiver) (words : DecodeWords) (before octets text : List ℕ) (was now : Option (List ℕ)) : Type 0 where
+pub record CutShort (receiver : Receiver) (words : DecodeWords) (before octets text : List ℕ)
+    (was now : Option (List ℕ)) : Type 0 where
   pub more : List ℕ
   pub audio : HasTaken words receiver.audio (before ++ octets)
   pub few : length (samples_read words (before ++ octets)) ≤ length (samples_read words before) + 2048

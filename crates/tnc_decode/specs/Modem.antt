@@ -1,4 +1,5 @@
--- What hears an input, by cases: each modem has its candidates, and settles those that end below a count of its samples.
+-- What hears an input, by cases: each modem has its candidates, and settles those that end below a count of its
+-- samples.
 use Rattle.std.specs.Prelude.{◌≡◌, ℕ, ◌/◌, ◌==◌, if◌then◌else◌, ℤ, List, length, Option, Some, None}
 use Rattle.frame_merge.specs.declared.candidate.Candidate.{Candidate}
 use Rattle.frame_merge.specs.Merged.{merged, below, between, not_below}

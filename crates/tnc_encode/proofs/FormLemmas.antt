@@ -20,11 +20,13 @@ use Rattle.tnc_encode.specs.Encoded.{samples_at_once}
 use Rattle.tnc_encode.specs.Frames.{frame_of, kiss_frames}
 use Rattle.tnc_encode.specs.HeldFrames.{IsSignal, form_of}
 use Rattle.tnc_encode.proofs.FrameLemmas.{kiss_frames-none}
-use Rattle.tnc_encode.proofs.SendingLemmas.{own_octets, own_octets-all, own_octets-append, own_octets-none, own_octets-one}
+use Rattle.tnc_encode.proofs.SendingLemmas.{own_octets, own_octets-all, own_octets-append, own_octets-none,
+    own_octets-one}
 
 -- ---- KISS
 
-onto_first_of : (octet : ℕ) (cut more : List (List ℕ)) → (next : List (List ℕ)) × (onto_first octet (cut ++ more) ≡ onto_first octet cut ++ next)
+onto_first_of : (octet : ℕ) (cut more : List (List ℕ)) → (next : List (List ℕ))
+    × (onto_first octet (cut ++ more) ≡ onto_first octet cut ++ next)
 onto_first_of octet [] more = (onto_first octet more, refl)
 onto_first_of octet (piece ∷ others) more = (more, refl)
 
@@ -34,7 +36,8 @@ first_pieces [] more = (pieces more, refl)
 first_pieces (octet ∷ octets) more = by_end (octet == fend) (first_pieces octets more)
   where
     by_end : (b : Bool) → (next : List (List ℕ)) × (pieces (octets ++ more) ≡ pieces octets ++ next)
-        → (next : List (List ℕ)) × ((if b then [] ∷ pieces (octets ++ more) else onto_first octet (pieces (octets ++ more)))
+        → (next : List (List ℕ)) × ((if b then [] ∷ pieces (octets ++ more)
+            else onto_first octet (pieces (octets ++ more)))
         ≡ (if b then [] ∷ pieces octets else onto_first octet (pieces octets)) ++ next)
     by_end true (next, is) = (next, ap (λ cut. [] ∷ cut) is)
     by_end false (next, is) =
@@ -45,13 +48,15 @@ abbrev flat_of : List (List ℕ) → List KissItem
 flat_of cut = flat_map (λ piece. option_to_list (item_of (unescaped piece))) cut
 
 -- and so are their frames
-pub first_frames : (octets more : List ℕ) → (frames : List (List ℕ)) × (kiss_frames (octets ++ more) ≡ kiss_frames octets ++ frames)
+pub first_frames : (octets more : List ℕ) → (frames : List (List ℕ))
+    × (kiss_frames (octets ++ more) ≡ kiss_frames octets ++ frames)
 unfolding kiss_frames items_in
 first_frames octets more =
     let next = first_pieces octets more in (
       filter_map frame_of (flat_of next.0),
       ap (λ cut. filter_map frame_of (flat_of cut)) next.1
-          ∙ ap (filter_map frame_of) (flat_map-append (λ piece. option_to_list (item_of (unescaped piece))) (pieces octets) next.0)
+          ∙ ap (filter_map frame_of) (flat_map-append (λ piece. option_to_list (item_of (unescaped piece)))
+              (pieces octets) next.0)
           ∙ filter_map-append frame_of (flat_of (pieces octets)) (flat_of next.0),
     )
 
@@ -87,7 +92,8 @@ module _ (words : EncodeWords) (apart : words.join ≡ false) where
   signals_join = record {
     none = sym own_none ∙ own_octets-all words [] apart;
     more = λ frames others text next h g.
-        ap (λ t. t ++ next) (h ∙ sym (own_octets-all words frames apart)) ∙ ap (λ t. own_octets words frames ++ t) (g ∙ sym (own_octets-all words others apart))
+        ap (λ t. t ++ next) (h ∙ sym (own_octets-all words frames apart))
+            ∙ ap (λ t. own_octets words frames ++ t) (g ∙ sym (own_octets-all words others apart))
         ∙ sym (own_octets-append words frames others) ∙ own_octets-all words (frames ++ others) apart;
   }
     where

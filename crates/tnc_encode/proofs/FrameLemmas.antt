@@ -1,5 +1,6 @@
 -- Frames of an input have the length of a frame.
-use Rattle.std.proofs.Common.{◌≡◌, ℕ, ◌+◌, ◌<◌, ◌≤◌, ◌==◌, nat_le, ◌&&◌, Bool, true, false, List, [], ◌∷◌, ◌++◌, length, take, get_or, ap, ◌∙◌, All, IfSome, Option, Some, None, inl, inr, refl, sym, arith}
+use Rattle.std.proofs.Common.{◌≡◌, ℕ, ◌+◌, ◌<◌, ◌≤◌, ◌==◌, nat_le, ◌&&◌, Bool, true, false, List, [], ◌∷◌, ◌++◌, length,
+    take, get_or, ap, ◌∙◌, All, IfSome, Option, Some, None, inl, inr, refl, sym, arith}
 use Rattle.std.specs.Prelude.{if◌then◌else◌}
 use Rattle.std.specs.List.{cons_option, filter_map}
 use Rattle.std.specs.Option.{option_to_list}
@@ -38,18 +39,21 @@ item_sendable Return = tt
 item_sendable (TooLong port) = tt
 item_sendable (Other port command) = tt
 
-with_option : (frame : Option (List ℕ)) (frames : List (List ℕ)) → IfSome frame IsSendable → All IsSendable frames → All IsSendable (cons_option frame frames)
+with_option : (frame : Option (List ℕ)) (frames : List (List ℕ)) → IfSome frame IsSendable → All IsSendable frames
+    → All IsSendable (cons_option frame frames)
 with_option None frames h each = each
 with_option (Some octets) frames h each = All-cons IsSendable octets frames h each
 
 items_sendable : (items : List KissItem) → All IsSendable (filter_map frame_of items)
 items_sendable [] = All-nil IsSendable
-items_sendable (item ∷ items) = with_option (frame_of item) (filter_map frame_of items) (item_sendable item) (items_sendable items)
+items_sendable (item ∷ items) = with_option (frame_of item) (filter_map frame_of items) (item_sendable item)
+    (items_sendable items)
 
 -- each frame of an input can be sent
 pub frames_of_input-sendable : (form : FrameForm) (octets : List ℕ) → All IsSendable (frames_of_input form octets)
 unfolding kiss_frames
-frames_of_input-sendable Hex octets = λ k d below. let good = frames_of_input-good 15 octets k d below in sendable _ good.0.enough good.0.most
+frames_of_input-sendable Hex octets = λ k d below. let good = frames_of_input-good 15 octets k d below in
+    sendable _ good.0.enough good.0.most
 frames_of_input-sendable Kiss octets = items_sendable (items_in octets)
 
 module _ (octets : List ℕ) (index : ℕ) (below : index < length octets) (frames : List (List ℕ)) where
@@ -76,7 +80,9 @@ frame_of_one item = go (frame_of item)
     go (Some octets) = refl
 
 -- one octet more, which ended these items
-pub kiss_frames-push : (before : List ℕ) (octet : ℕ) (items : List KissItem) → items_in (before ++ octet ∷ []) ≡ items_in before ++ items
+pub kiss_frames-push : (before : List ℕ) (octet : ℕ) (items : List KissItem)
+    → items_in (before ++ octet ∷ []) ≡ items_in before ++ items
     → kiss_frames (before ++ octet ∷ []) ≡ kiss_frames before ++ filter_map frame_of items
 unfolding kiss_frames
-kiss_frames-push before octet items more = ap (filter_map frame_of) more ∙ filter_map-append frame_of (items_in before) items
+kiss_frames-push before octet items more = ap (filter_map frame_of) more
+    ∙ filter_map-append frame_of (items_in before) items

@@ -19,7 +19,8 @@ unfolding signal_by
 signal_by-none Bell202 level = signal_at-none level
 signal_by-none ShortWave level = hf_signal-none level
 
-pub signal_by-one : (modem : Modem) (level : ℕ) (t : Transmission) → signal_by modem level (t ∷ []) ≡ samples_by modem level t
+pub signal_by-one : (modem : Modem) (level : ℕ) (t : Transmission)
+    → signal_by modem level (t ∷ []) ≡ samples_by modem level t
 unfolding signal_by
 signal_by-one Bell202 level t = signal_at-one level t
 signal_by-one ShortWave level t = hf_signal-one level t

@@ -1,5 +1,6 @@
 -- Signals as octets, one piece after another.
-use Rattle.std.proofs.Common.{◌≡◌, ℕ, ◌+◌, ◌<◌, List, [], ◌∷◌, ◌++◌, true, false, cond, length, map, take, drop, get_or, Option, Some, append_assoc, sym, ap, ◌∙◌, arith}
+use Rattle.std.proofs.Common.{◌≡◌, ℕ, ◌+◌, ◌<◌, List, [], ◌∷◌, ◌++◌, true, false, cond, length, map, take, drop, get_or,
+    Option, Some, append_assoc, sym, ap, ◌∙◌, arith}
 use Rattle.std.proofs.lemmas.List.{map-append, take_more, take-append-drop}
 use Rattle.tnc_base.specs.Streams.{WrotePart}
 use Rattle.tnc_forms.proofs.PcmLemmas.{pcm-append}
@@ -18,9 +19,11 @@ module _ (words : EncodeWords) where
   octets_of-append : (ts us : List Transmission) → octets_of (ts ++ us) ≡ octets_of ts ++ octets_of us
   unfolding octets_of
   octets_of-append ts us =
-      ap pcm (signal_by-append words.modem words.level ts us) ∙ pcm-append (signal_by words.modem words.level ts) (signal_by words.modem words.level us)
+      ap pcm (signal_by-append words.modem words.level ts us)
+          ∙ pcm-append (signal_by words.modem words.level ts) (signal_by words.modem words.level us)
 
-  octets_of-one : (frames : List (List ℕ)) → octets_of (sent_at_once words frames ∷ []) ≡ pcm (samples_at_once words frames)
+  octets_of-one : (frames : List (List ℕ)) → octets_of (sent_at_once words frames ∷ [])
+      ≡ pcm (samples_at_once words frames)
   unfolding octets_of
   octets_of-one frames = ap pcm (signal_by-one words.modem words.level (sent_at_once words frames))
 
@@ -36,12 +39,14 @@ module _ (words : EncodeWords) where
   joined_sent [] join some = absurd (omega arith)
   joined_sent (first ∷ frames) join some =
       sym (octets_of-one (first ∷ frames))
-      ∙ ap (λ b. octets_of (cond b (joined words (first ∷ frames)) (map (λ frame. sent_at_once words (frame ∷ [])) (first ∷ frames)))) (sym join)
+      ∙ ap (λ b. octets_of (cond b (joined words (first ∷ frames))
+          (map (λ frame. sent_at_once words (frame ∷ [])) (first ∷ frames)))) (sym join)
 
   pub none_joined : (frames : List (List ℕ)) → words.join ≡ true → length frames ≡ 0 → pcm (signal_of words frames) ≡ []
   unfolding octets_of
   none_joined [] join none =
-      ap (λ b. octets_of (cond b (joined words []) (map (λ frame. sent_at_once words (frame ∷ [])) []))) join ∙ nothing_sent
+      ap (λ b. octets_of (cond b (joined words []) (map (λ frame. sent_at_once words (frame ∷ [])) []))) join
+          ∙ nothing_sent
   none_joined (first ∷ frames) join none = absurd (omega arith)
 
   -- each frame its own transmission
@@ -67,9 +72,11 @@ module _ (words : EncodeWords) where
   unfolding own_octets
   own_octets-one frame = octets_of-one (frame ∷ [])
 
-  module _ (frames : List (List ℕ)) (index : ℕ) (frame : List ℕ) (below : index < length frames) (is : frame ≡ get_or frames index frame) where
+  module _ (frames : List (List ℕ)) (index : ℕ) (frame : List ℕ) (below : index < length frames)
+      (is : frame ≡ get_or frames index frame) where
     -- one frame more
-    pub own_octets-more : own_octets (take (index + 1) frames) ≡ own_octets (take index frames) ++ pcm (samples_at_once words (frame ∷ []))
+    pub own_octets-more : own_octets (take (index + 1) frames)
+        ≡ own_octets (take index frames) ++ pcm (samples_at_once words (frame ∷ []))
     own_octets-more =
         ap own_octets (take_more frames index frame below)
         ∙ own_octets-append (take index frames) (get_or frames index frame ∷ [])
@@ -77,13 +84,15 @@ module _ (words : EncodeWords) where
         ∙ ap (λ xs. own_octets (take index frames) ++ xs) (own_octets-one frame)
 
     -- a first part of that frame's octets after those of the frames before it is a first part of all
-    pub cut_within : (before : List ℕ) (now : Option (List ℕ)) → WrotePart (before ++ own_octets (take index frames)) (pcm (samples_at_once words (frame ∷ []))) now
+    pub cut_within : (before : List ℕ) (now : Option (List ℕ))
+        → WrotePart (before ++ own_octets (take index frames)) (pcm (samples_at_once words (frame ∷ []))) now
         → WrotePart before (own_octets frames) now
     cut_within before now (part, rest, parts, written) =
         let done : List ℕ = own_octets (take index frames) in
         let left : List ℕ = own_octets (drop (index + 1) frames) in
         let whole : own_octets frames ≡ (done ++ pcm (samples_at_once words (frame ∷ []))) ++ left =
-        ap own_octets (sym (take-append-drop (index + 1) frames)) ∙ own_octets-append (take (index + 1) frames) (drop (index + 1) frames)
+        ap own_octets (sym (take-append-drop (index + 1) frames))
+            ∙ own_octets-append (take (index + 1) frames) (drop (index + 1) frames)
         ∙ ap (λ xs. xs ++ left) own_octets-more in (
           done ++ part,
           rest ++ left,

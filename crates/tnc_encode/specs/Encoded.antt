@@ -1,5 +1,6 @@
 -- What encode makes of the octets of its input.
-use Rattle.std.specs.Prelude.{ℕ, ℤ, nat_lt, Bool, true, List, [], ◌∷◌, ◌++◌, map, length, take, Option, Some, None, if◌then◌else◌}
+use Rattle.std.specs.Prelude.{ℕ, ℤ, nat_lt, Bool, true, List, [], ◌∷◌, ◌++◌, map, length, take, Option, Some, None,
+    if◌then◌else◌}
 use Rattle.afsk_modulator.specs.Signal.{Transmission}
 use Rattle.wav_file.specs.Head.{head_of}
 use Rattle.tnc_forms.specs.declared.fault.InputFault.{InputFault}
@@ -29,7 +30,8 @@ abbrev pub transmissions : EncodeWords → List (List ℕ) → List Transmission
 transmissions words frames =
     if words.join then joined words frames else map (λ frame. sent_at_once words (frame ∷ [])) frames
 
--- the samples of frames that are sent at one go, and the signal of all of them, by the modem and at the level of the words
+-- the samples of frames that are sent at one go, and the signal of all of them, by the modem and at the level of the
+-- words
 abbrev pub samples_at_once : EncodeWords → List (List ℕ) → List ℤ
 samples_at_once words frames = samples_by words.modem words.level (sent_at_once words frames)
 
@@ -82,10 +84,12 @@ unfoldable pub encoded_so_far : EncodeWords → List ℕ → List ℕ
 encoded_so_far words octets =
     if keeps_frames words.audio words.join then [] else pcm (signal_of words (frames_so_far words.frames octets))
 
--- why an input is refused that is read whole: it is too long, a line is bad, or what comes of it is too long for a WAV file
+-- why an input is refused that is read whole: it is too long, a line is bad, or what comes of it is too long for a WAV
+-- file
 unfoldable pub fault_of_whole : EncodeWords → List ℕ → Option InputFault
 fault_of_whole words input =
-    fault_within input (first_of (form_fault words.frames input) (length_fault words.audio (length (samples_sent words input))))
+    fault_within input (first_of (form_fault words.frames input)
+        (length_fault words.audio (length (samples_sent words input))))
 
 -- and of which each frame is sent as it comes: a line is bad, or else it is too long
 abbrev pub fault_of_pieces : EncodeWords → List ℕ → Option InputFault

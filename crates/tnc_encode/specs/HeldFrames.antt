@@ -42,7 +42,8 @@ abbrev pub IsSignal : EncodeWords → List (List ℕ) → List ℕ → Type 0
 IsSignal words frames octets = octets ≡ pcm (signal_of words frames)
 
 -- the frames that end in the first octets of a piece were sent
-pub record SentFront (words : EncodeWords) (was now : FrameIn) (octets rest : List ℕ) (out mid : Option (List ℕ)) : Type 0 where
+pub record SentFront (words : EncodeWords) (was now : FrameIn) (octets rest : List ℕ) (out mid : Option (List ℕ))
+    : Type 0 where
   pub front : List ℕ
   pub parts : octets ≡ front ++ rest
   pub each : (form : FrameForm) (before : List ℕ) → HasTaken form was before

@@ -7,7 +7,8 @@ module _ {T E : Type 0} where
   at_ok (Ok x) h ok = h
   at_ok (Err e) h ok = absurd (true≢false (sym ok))
 
-  pub at_err : (r : Result T E) {P Q : E → Type 0} {R : Type 0} → IfErr r P → IsErrAnd r Q → ((e : E) → P e → Q e → R) → R
+  pub at_err : (r : Result T E) {P Q : E → Type 0} {R : Type 0} → IfErr r P → IsErrAnd r Q → ((e : E) → P e → Q e → R)
+      → R
   at_err (Ok x) h k f = absurd k
   at_err (Err e) h k f = f e h k
 
@@ -26,7 +27,8 @@ module _ {T E : Type 0} where
   map_err (Ok x) f h = tt
   map_err (Err e) f h = f h
 
-  pub if_ok : (r : Result T E) {P : Type 0} {Q R : T → Type 0} → OnOk r P → IfOk r Q → ((x : T) → P → Q x → R x) → IfOk r R
+  pub if_ok : (r : Result T E) {P : Type 0} {Q R : T → Type 0} → OnOk r P → IfOk r Q → ((x : T) → P → Q x → R x)
+      → IfOk r R
   if_ok (Ok x) p q f = f x p q
   if_ok (Err e) p q f = tt
 

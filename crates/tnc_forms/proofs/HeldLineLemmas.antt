@@ -1,5 +1,6 @@
 -- A reader of lines takes more octets.
-use Rattle.std.proofs.Common.{◌≡◌, ℕ, ◌+◌, ◌<◌, ◌≤◌, true, List, [], ◌∷◌, ◌++◌, length, length-append, append_assoc, Some, None, refl, sym, ap, ◌∙◌, arith, lt-ltb, le-ltb}
+use Rattle.std.proofs.Common.{◌≡◌, ℕ, ◌+◌, ◌<◌, ◌≤◌, true, List, [], ◌∷◌, ◌++◌, length, length-append, append_assoc,
+    Some, None, refl, sym, ap, ◌∙◌, arith, lt-ltb, le-ltb}
 use Rattle.std.specs.Prelude.{if◌then◌else◌}
 use Rattle.std.specs.Option.{option_to_list}
 use Rattle.std.specs.Str.Lines.{strip_carriage_return}
@@ -12,8 +13,10 @@ use Rattle.tnc_forms.specs.HeldLine.{HeldLine, StandsFor, new_line}
 use Rattle.tnc_forms.specs.HexFrames.{fault_of, fault_of_lines, frame_of, frames_of_lines, frames_of_lines, line_fault}
 use Rattle.tnc_forms.specs.HexLines.{Line, ended_of, is_line_feed, lines_from, lines_of, parts_of}
 use Rattle.tnc_forms.specs.LinesSoFar.{fault_so_far, frames_so_far, known_of}
-use Rattle.tnc_forms.proofs.CutLemmas.{IsInside, ended_now, ended_of_more, first_line, inside_more, inside_none, known_now, known_of_more, lines_ended, lines_now, strip_size}
-use Rattle.tnc_forms.proofs.SoFarLemmas.{fault_join, fault_some, frames_join, line_fault_at, long_fault, one_bad, one_fault, one_frame}
+use Rattle.tnc_forms.proofs.CutLemmas.{IsInside, ended_now, ended_of_more, first_line, inside_more, inside_none,
+    known_now, known_of_more, lines_ended, lines_now, strip_size}
+use Rattle.tnc_forms.proofs.SoFarLemmas.{fault_join, fault_some, frames_join, line_fault_at, long_fault, one_bad,
+    one_fault, one_frame}
 
 pub stands_new : (least : ℕ) → StandsFor (new_line least) []
 stands_new least = record {
@@ -39,11 +42,13 @@ module _ (held : HeldLine) (octets : List ℕ) (h : StandsFor held octets) where
   fault_held =
       let known : known_of (lines_of octets) ≡ h.ended =
       known_now octets h.ended held.place held.part h.inside h.cut
-      ∙ ap (λ b. h.ended ++ (if b then open_line ∷ [] else [])) (le-ltb 2048 (length (strip_carriage_return held.part)) h.short) ∙ append-nil h.ended in
+      ∙ ap (λ b. h.ended ++ (if b then open_line ∷ [] else []))
+          (le-ltb 2048 (length (strip_carriage_return held.part)) h.short) ∙ append-nil h.ended in
       ap (λ lines. fault_in_line (fault_of_lines held.least lines)) known ∙ ap fault_in_line h.good
 
   -- the end of the input: the open line is the last one
-  pub frames_last : fault_of held.least open_line ≡ None → frames_of_lines held.least octets ≡ frames_so_far held.least octets ++ option_to_list (frame_of held.least open_line)
+  pub frames_last : fault_of held.least open_line ≡ None → frames_of_lines held.least octets
+      ≡ frames_so_far held.least octets ++ option_to_list (frame_of held.least open_line)
   unfolding frames_of_lines
   frames_last none =
       ap (frames_of_lines held.least) (lines_now octets h.ended held.place held.part h.inside h.cut)
@@ -54,14 +59,16 @@ module _ (held : HeldLine) (octets : List ℕ) (h : StandsFor held octets) where
   fault_last : hex_fault held.least octets ≡ fault_in_line (fault_of_lines held.least (open_line ∷ []))
   unfolding line_fault
   fault_last =
-      ap (λ lines. fault_in_line (fault_of_lines held.least lines)) (lines_now octets h.ended held.place held.part h.inside h.cut)
+      ap (λ lines. fault_in_line (fault_of_lines held.least lines))
+          (lines_now octets h.ended held.place held.part h.inside h.cut)
       ∙ ap fault_in_line (fault_join held.least h.ended (open_line ∷ []) h.good)
 
   pub good_last : fault_of held.least open_line ≡ None → hex_fault held.least octets ≡ None
   good_last none = fault_last ∙ ap fault_in_line (one_fault held.least open_line [] none)
 
   pub bad_last : (fault : InputFault) → fault_in_line (fault_of held.least open_line) ≡ Some fault
-      → (hex_fault held.least octets ≡ Some fault) × (frames_of_lines held.least octets ≡ frames_so_far held.least octets)
+      → (hex_fault held.least octets ≡ Some fault) × (frames_of_lines held.least octets
+          ≡ frames_so_far held.least octets)
   unfolding frames_of_lines
   bad_last fault is =
       let found = fault_some (fault_of held.least open_line) fault is in
@@ -69,14 +76,16 @@ module _ (held : HeldLine) (octets : List ℕ) (h : StandsFor held octets) where
         fault_last ∙ ap fault_in_line bad.1 ∙ found.2,
         ap (frames_of_lines held.least) (lines_now octets h.ended held.place held.part h.inside h.cut)
             ∙ frames_join held.least h.ended (open_line ∷ []) h.good
-            ∙ ap (λ fs. frames_of_lines held.least h.ended ++ fs) bad.0 ∙ append-nil (frames_of_lines held.least h.ended) ∙ sym frames_held,
+            ∙ ap (λ fs. frames_of_lines held.least h.ended ++ fs) bad.0
+                ∙ append-nil (frames_of_lines held.least h.ended) ∙ sym frames_held,
       )
 
   module _ (more : List ℕ) (inside : IsInside more) where
     longer : IsInside (held.part ++ more)
     longer = inside_more held.part more h.inside inside
 
-    cut_more : (rest : List ℕ) → lines_of ((octets ++ more) ++ rest) ≡ h.ended ++ lines_from held.place (parts_of ((held.part ++ more) ++ rest))
+    cut_more : (rest : List ℕ) → lines_of ((octets ++ more) ++ rest)
+        ≡ h.ended ++ lines_from held.place (parts_of ((held.part ++ more) ++ rest))
     cut_more rest =
         ap (λ o. lines_of o) (append_assoc octets more rest) ∙ h.cut (more ++ rest)
         ∙ ap (λ o. h.ended ++ lines_from held.place (parts_of o)) (sym (append_assoc held.part more rest))
@@ -90,13 +99,15 @@ module _ (held : HeldLine) (octets : List ℕ) (h : StandsFor held octets) where
       inside = longer;
       good = h.good;
       short = short;
-      count = (let a = h.count in let b = length-append octets more in let d = length-append held.part more in omega (arith, a, b, d));
+      count = (let a = h.count in let b = length-append octets more in let d = length-append held.part more in
+          omega (arith, a, b, d));
     }
 
     pub frames_kept : frames_so_far held.least (octets ++ more) ≡ frames_so_far held.least octets
     unfolding frames_so_far
     frames_kept =
-        ap (frames_of_lines held.least) (ended_now (octets ++ more) h.ended held.place (held.part ++ more) longer cut_more) ∙ sym frames_held
+        ap (frames_of_lines held.least) (ended_now (octets ++ more) h.ended held.place (held.part ++ more)
+            longer cut_more) ∙ sym frames_held
 
     -- too many of them
     pub long_more : 2048 < length (strip_carriage_return (held.part ++ more))
@@ -107,9 +118,11 @@ module _ (held : HeldLine) (octets : List ℕ) (h : StandsFor held octets) where
         let size = (strip_size (held.part ++ more)).0 in
         ap (λ lines. fault_in_line (fault_of_lines held.least lines))
         (known_now (octets ++ more) h.ended held.place (held.part ++ more) longer cut_more
-        ∙ ap (λ b. h.ended ++ (if b then now ∷ [] else [])) (lt-ltb 2048 (length (strip_carriage_return (held.part ++ more))) over))
+        ∙ ap (λ b. h.ended ++ (if b then now ∷ [] else []))
+            (lt-ltb 2048 (length (strip_carriage_return (held.part ++ more))) over))
         ∙ ap fault_in_line (fault_join held.least h.ended (now ∷ []) h.good)
-        ∙ ap fault_in_line (one_bad held.least now [] (line_fault_at LongLine held.place) (long_fault held.least now (omega (arith, size, over)))).1
+        ∙ ap fault_in_line (one_bad held.least now [] (line_fault_at LongLine held.place)
+            (long_fault held.least now (omega (arith, size, over)))).1
 
     module _ (feed : ℕ) (is_feed : is_line_feed feed ≡ true) where
       -- the line that ends with the line feed
@@ -119,9 +132,12 @@ module _ (held : HeldLine) (octets : List ℕ) (h : StandsFor held octets) where
       abbrev pub opened : HeldLine
       opened = record { least = held.least; place = held.place + length (held.part ++ more) + 1; part = [] }
 
-      cut_end : (rest : List ℕ) → lines_of ((octets ++ (more ++ feed ∷ [])) ++ rest) ≡ (h.ended ++ closed ∷ []) ++ lines_from opened.place (parts_of ([] ++ rest))
+      cut_end : (rest : List ℕ) → lines_of ((octets ++ (more ++ feed ∷ [])) ++ rest)
+          ≡ (h.ended ++ closed ∷ []) ++ lines_from opened.place (parts_of ([] ++ rest))
       cut_end rest =
-          ap (λ o. lines_of o) (append_assoc octets (more ++ feed ∷ []) rest ∙ ap (λ o. octets ++ o) (append_assoc more (feed ∷ []) rest) ∙ sym (append_assoc octets more (feed ∷ rest)))
+          ap (λ o. lines_of o) (append_assoc octets (more ++ feed ∷ []) rest
+              ∙ ap (λ o. octets ++ o) (append_assoc more (feed ∷ []) rest)
+              ∙ sym (append_assoc octets more (feed ∷ rest)))
           ∙ cut_more (feed ∷ rest)
           ∙ ap (λ lines. h.ended ++ lines) (lines_ended held.place (held.part ++ more) feed rest longer is_feed)
           ∙ sym (append_assoc h.ended (closed ∷ []) (lines_from opened.place (parts_of rest)))
@@ -133,14 +149,17 @@ module _ (held : HeldLine) (octets : List ℕ) (h : StandsFor held octets) where
         inside = inside_none;
         good = fault_join held.least h.ended (closed ∷ []) h.good ∙ one_fault held.least closed [] none;
         short = omega arith;
-        count = (let a = h.count in let b = length-append octets (more ++ feed ∷ []) in let d = length-append held.part more in let e = length-append more (feed ∷ []) in omega (arith, a, b, d, e));
+        count = (let a = h.count in let b = length-append octets (more ++ feed ∷ []) in let d =
+            length-append held.part more in let e = length-append more (feed ∷ []) in omega (arith, a, b, d, e));
       }
 
       pub frames_end : fault_of held.least closed ≡ None
-          → frames_so_far held.least (octets ++ (more ++ feed ∷ [])) ≡ frames_so_far held.least octets ++ option_to_list (frame_of held.least closed)
+          → frames_so_far held.least (octets ++ (more ++ feed ∷ []))
+              ≡ frames_so_far held.least octets ++ option_to_list (frame_of held.least closed)
       unfolding frames_so_far
       frames_end none =
-          ap (frames_of_lines held.least) (ended_now (octets ++ (more ++ feed ∷ [])) (h.ended ++ closed ∷ []) opened.place [] inside_none cut_end)
+          ap (frames_of_lines held.least) (ended_now (octets ++ (more ++ feed ∷ [])) (h.ended ++ closed ∷ [])
+              opened.place [] inside_none cut_end)
           ∙ frames_join held.least h.ended (closed ∷ []) h.good
           ∙ ap (λ fs. frames_of_lines held.least h.ended ++ fs) (one_frame held.least closed none)
           ∙ ap (λ fs. fs ++ option_to_list (frame_of held.least closed)) (sym frames_held)
@@ -148,10 +167,13 @@ module _ (held : HeldLine) (octets : List ℕ) (h : StandsFor held octets) where
       -- a bad line
       module _ (rest : List ℕ) (fault : InputFault) (is : fault_in_line (fault_of held.least closed) ≡ Some fault) where
         all_octets : octets ++ (more ++ feed ∷ rest) ≡ (octets ++ (more ++ feed ∷ [])) ++ rest
-        all_octets = ap (λ o. octets ++ o) (sym (append_assoc more (feed ∷ []) rest)) ∙ sym (append_assoc octets (more ++ feed ∷ []) rest)
+        all_octets = ap (λ o. octets ++ o) (sym (append_assoc more (feed ∷ []) rest))
+            ∙ sym (append_assoc octets (more ++ feed ∷ []) rest)
 
-        lines_there : lines_of (octets ++ (more ++ feed ∷ rest)) ≡ h.ended ++ closed ∷ lines_from opened.place (parts_of rest)
-        lines_there = ap (λ o. lines_of o) all_octets ∙ cut_end rest ∙ append_assoc h.ended (closed ∷ []) (lines_from opened.place (parts_of rest))
+        lines_there : lines_of (octets ++ (more ++ feed ∷ rest))
+            ≡ h.ended ++ closed ∷ lines_from opened.place (parts_of rest)
+        lines_there = ap (λ o. lines_of o) all_octets ∙ cut_end rest
+            ∙ append_assoc h.ended (closed ∷ []) (lines_from opened.place (parts_of rest))
 
         pub bad_end : (fault_so_far held.least (octets ++ (more ++ feed ∷ rest)) ≡ Some fault)
             × (frames_so_far held.least (octets ++ (more ++ feed ∷ rest)) ≡ frames_so_far held.least octets)
@@ -161,9 +183,11 @@ module _ (held : HeldLine) (octets : List ℕ) (h : StandsFor held octets) where
             let found = fault_some (fault_of held.least closed) fault is in
             let lines : lines_of (octets ++ (more ++ feed ∷ rest)) ≡ h.ended ++ closed ∷ next.first ∷ next.rest =
             lines_there ∙ ap (λ ls. h.ended ++ closed ∷ ls) next.cut in
-            let known : known_of (lines_of (octets ++ (more ++ feed ∷ rest))) ≡ h.ended ++ closed ∷ known_of (next.first ∷ next.rest) =
+            let known : known_of (lines_of (octets ++ (more ++ feed ∷ rest)))
+                ≡ h.ended ++ closed ∷ known_of (next.first ∷ next.rest) =
             ap known_of lines ∙ known_of_more h.ended closed (next.first ∷ next.rest) in
-            let ended : ended_of (lines_of (octets ++ (more ++ feed ∷ rest))) ≡ h.ended ++ closed ∷ ended_of (next.first ∷ next.rest) =
+            let ended : ended_of (lines_of (octets ++ (more ++ feed ∷ rest)))
+                ≡ h.ended ++ closed ∷ ended_of (next.first ∷ next.rest) =
             ap ended_of lines ∙ ended_of_more h.ended closed (next.first ∷ next.rest) in
             let bad = one_bad held.least closed (known_of (next.first ∷ next.rest)) found.0 found.1 in
             let none = one_bad held.least closed (ended_of (next.first ∷ next.rest)) found.0 found.1 in (
@@ -172,5 +196,6 @@ module _ (held : HeldLine) (octets : List ℕ) (h : StandsFor held octets) where
                   ∙ ap fault_in_line bad.1 ∙ found.2,
               ap (frames_of_lines held.least) ended
                   ∙ frames_join held.least h.ended (closed ∷ ended_of (next.first ∷ next.rest)) h.good
-                  ∙ ap (λ fs. frames_of_lines held.least h.ended ++ fs) none.0 ∙ append-nil (frames_of_lines held.least h.ended) ∙ sym frames_held,
+                  ∙ ap (λ fs. frames_of_lines held.least h.ended ++ fs) none.0
+                      ∙ append-nil (frames_of_lines held.least h.ended) ∙ sym frames_held,
             )

@@ -1,5 +1,6 @@
 -- The frames of lines, one line more at a time.
-use Rattle.std.proofs.Common.{◌≡◌, ℕ, ◌+◌, ◌<◌, ◌≤◌, cond, Bool, true, false, not, List, [], ◌∷◌, ◌++◌, length, append_assoc, All, IfSome, Option, Some, None, refl, sym, ap, subst, ◌∙◌, arith}
+use Rattle.std.proofs.Common.{◌≡◌, ℕ, ◌+◌, ◌<◌, ◌≤◌, cond, Bool, true, false, not, List, [], ◌∷◌, ◌++◌, length,
+    append_assoc, All, IfSome, Option, Some, None, refl, sym, ap, subst, ◌∙◌, arith}
 use Rattle.std.specs.Prelude.{find, is_some, option_and_then, suc, take, take_while}
 use Rattle.std.specs.List.{cons_option, filter_map, prefix_len}
 use Rattle.std.proofs.lemmas.List.{append-nil}
@@ -9,7 +10,8 @@ use Rattle.tnc_forms.specs.declared.line_fault.LineFlaw.{LineFlaw}
 use Rattle.tnc_forms.specs.declared.hex_line.LineText.{LineText}
 use Rattle.tnc_forms.specs.declared.hex_line.LineText.TheVariants.{Nothing, Frame, Refused}
 use Rattle.tnc_forms.specs.HexLines.{Line, lines_at, lines_behind, lines_of}
-use Rattle.tnc_forms.specs.HexFrames.{HasGoodLength, text_of, fault_in, fault_of, frame_in, frame_of, frames_of_lines, frames_of_lines, line_fault, fault_of_lines, is_bad}
+use Rattle.tnc_forms.specs.HexFrames.{HasGoodLength, text_of, fault_in, fault_of, frame_in, frame_of, frames_of_lines,
+    frames_of_lines, line_fault, fault_of_lines, is_bad}
 use Rattle.tnc_forms.proofs.LineTextLemmas.{IsWithin, text_of-within}
 
 module _ {X : Type 0} (p : X → Bool) (x : X) (xs : List X) where
@@ -24,32 +26,43 @@ module _ {X : Type 0} (p : X → Bool) (x : X) (xs : List X) where
 
 module _ (least : ℕ) (line : Line) (lines : List Line) where
   -- a line that holds nothing
-  pub frames-nothing : text_of least line.text ≡ Nothing → frames_of_lines least (line ∷ lines) ≡ frames_of_lines least lines
+  pub frames-nothing : text_of least line.text ≡ Nothing → frames_of_lines least (line ∷ lines)
+      ≡ frames_of_lines least lines
   frames-nothing is =
-      ap (filter_map (frame_of least)) (take_while-yes (λ l. not (is_bad least l)) line lines (ap (λ t. not (is_some (fault_in line.place t))) is))
+      ap (filter_map (frame_of least)) (take_while-yes (λ l. not (is_bad least l)) line lines
+          (ap (λ t. not (is_some (fault_in line.place t))) is))
       ∙ ap (λ t. cons_option (frame_in t) (frames_of_lines least lines)) is
 
-  pub fault-nothing : text_of least line.text ≡ Nothing → fault_of_lines least (line ∷ lines) ≡ fault_of_lines least lines
-  fault-nothing is = ap (λ t. option_and_then (fault_of least) (cond (is_some (fault_in line.place t)) (Some line) (find (is_bad least) lines))) is
+  pub fault-nothing : text_of least line.text ≡ Nothing → fault_of_lines least (line ∷ lines)
+      ≡ fault_of_lines least lines
+  fault-nothing is = ap (λ t. option_and_then (fault_of least)
+      (cond (is_some (fault_in line.place t)) (Some line) (find (is_bad least) lines))) is
 
   -- a line that holds a frame
-  pub frames-frame : (octets : List ℕ) → text_of least line.text ≡ Frame octets → frames_of_lines least (line ∷ lines) ≡ octets ∷ frames_of_lines least lines
+  pub frames-frame : (octets : List ℕ) → text_of least line.text ≡ Frame octets
+      → frames_of_lines least (line ∷ lines) ≡ octets ∷ frames_of_lines least lines
   frames-frame octets is =
-      ap (filter_map (frame_of least)) (take_while-yes (λ l. not (is_bad least l)) line lines (ap (λ t. not (is_some (fault_in line.place t))) is))
+      ap (filter_map (frame_of least)) (take_while-yes (λ l. not (is_bad least l)) line lines
+          (ap (λ t. not (is_some (fault_in line.place t))) is))
       ∙ ap (λ t. cons_option (frame_in t) (frames_of_lines least lines)) is
 
-  pub fault-frame : (octets : List ℕ) → text_of least line.text ≡ Frame octets → fault_of_lines least (line ∷ lines) ≡ fault_of_lines least lines
-  fault-frame octets is = ap (λ t. option_and_then (fault_of least) (cond (is_some (fault_in line.place t)) (Some line) (find (is_bad least) lines))) is
+  pub fault-frame : (octets : List ℕ) → text_of least line.text ≡ Frame octets
+      → fault_of_lines least (line ∷ lines) ≡ fault_of_lines least lines
+  fault-frame octets is = ap (λ t. option_and_then (fault_of least)
+      (cond (is_some (fault_in line.place t)) (Some line) (find (is_bad least) lines))) is
 
   -- a bad line
-  pub frames-bad : (flaw : LineFlaw) (at : ℕ) → text_of least line.text ≡ Refused flaw at → frames_of_lines least (line ∷ lines) ≡ []
+  pub frames-bad : (flaw : LineFlaw) (at : ℕ) → text_of least line.text ≡ Refused flaw at
+      → frames_of_lines least (line ∷ lines) ≡ []
   frames-bad flaw at is =
-      ap (filter_map (frame_of least)) (take_while-no (λ l. not (is_bad least l)) line lines (ap (λ t. not (is_some (fault_in line.place t))) is))
+      ap (filter_map (frame_of least)) (take_while-no (λ l. not (is_bad least l)) line lines
+          (ap (λ t. not (is_some (fault_in line.place t))) is))
 
   pub fault-bad : (flaw : LineFlaw) (at : ℕ) → text_of least line.text ≡ Refused flaw at
       → fault_of_lines least (line ∷ lines) ≡ Some (record { flaw = flaw; place = line.place + at })
   fault-bad flaw at is =
-      ap (λ t. option_and_then (fault_of least) (cond (is_some (fault_in line.place t)) (Some line) (find (is_bad least) lines))) is
+      ap (λ t. option_and_then (fault_of least) (cond (is_some (fault_in line.place t)) (Some line)
+          (find (is_bad least) lines))) is
       ∙ ap (fault_in line.place) is
 
 -- each frame of an input has a good length, and is octets
@@ -63,12 +76,14 @@ module _ (least : ℕ) (line : Line) (lines : List Line) (rest : All (IsGood lea
   good-cons (Frame octets) is within =
       subst (All (IsGood least)) (sym (frames-frame least line lines octets is))
       (All-cons (IsGood least) octets (frames_of_lines least lines) (subst (IsWithin least line.text) is within) rest)
-  good-cons (Refused flaw at) is within = subst (All (IsGood least)) (sym (frames-bad least line lines flaw at is)) (All-nil (IsGood least))
+  good-cons (Refused flaw at) is within = subst (All (IsGood least)) (sym (frames-bad least line lines flaw at is))
+      (All-nil (IsGood least))
 
 frames_of_lines-good : (least : ℕ) (lines : List Line) → All (IsGood least) (frames_of_lines least lines)
 frames_of_lines-good least [] = All-nil (IsGood least)
 frames_of_lines-good least (line ∷ lines) =
-    good-cons least line lines (frames_of_lines-good least lines) (text_of least line.text) refl (text_of-within least line.text)
+    good-cons least line lines (frames_of_lines-good least lines) (text_of least line.text) refl
+        (text_of-within least line.text)
 
 pub frames_of_lines-good : (least : ℕ) (input : List ℕ) → All (IsGood least) (frames_of_lines least input)
 unfolding frames_of_lines
@@ -80,7 +95,8 @@ pub record HasReadLines (least : ℕ) (input : List ℕ) (frames : List (List �
   pub fault_so_far : fault_of_lines least (lines_behind input place) ≡ line_fault least input
   pub within : IfSome place (λ at. at ≤ length input)
 
-pub has_read_none : (least : ℕ) (input : List ℕ) (frames : List (List ℕ)) → frames ≡ [] → HasReadLines least input frames (Some 0)
+pub has_read_none : (least : ℕ) (input : List ℕ) (frames : List (List ℕ)) → frames ≡ []
+    → HasReadLines least input frames (Some 0)
 unfolding frames_of_lines line_fault
 has_read_none least input frames none = record {
   frames_so_far = ap (λ fs. fs ++ frames_of_lines least (lines_of input)) none;
@@ -99,37 +115,50 @@ module _ (least : ℕ) (input : List ℕ) (frames : List (List ℕ)) (place next
   cut_here = ap (lines_behind input) here ∙ cut
 
   -- one line more that holds nothing
-  pub read_nothing : IfSome next (λ n. (at < n) × (n ≤ length input)) → text_of least text ≡ Nothing → HasReadLines least input frames next
+  pub read_nothing : IfSome next (λ n. (at < n) × (n ≤ length input)) → text_of least text ≡ Nothing
+      → HasReadLines least input frames next
   read_nothing bound is = record {
-    frames_so_far = ap (λ fs. frames ++ fs) (sym (ap (frames_of_lines least) cut_here ∙ frames-nothing least (record { place = at; text = text }) (lines_behind input next) is)) ∙ h.frames_so_far;
-    fault_so_far = sym (ap (fault_of_lines least) cut_here ∙ fault-nothing least (record { place = at; text = text }) (lines_behind input next) is) ∙ h.fault_so_far;
+    frames_so_far = ap (λ fs. frames ++ fs) (sym (ap (frames_of_lines least) cut_here
+        ∙ frames-nothing least (record { place = at; text = text }) (lines_behind input next) is)) ∙ h.frames_so_far;
+    fault_so_far = sym (ap (fault_of_lines least) cut_here
+        ∙ fault-nothing least (record { place = at; text = text }) (lines_behind input next) is) ∙ h.fault_so_far;
     within = if_within next at (length input) bound;
   }
 
   -- one that holds a frame
-  pub read_frame : (octets : List ℕ) → IfSome next (λ n. (at < n) × (n ≤ length input)) → text_of least text ≡ Frame octets → HasReadLines least input (frames ++ octets ∷ []) next
+  pub read_frame : (octets : List ℕ) → IfSome next (λ n. (at < n) × (n ≤ length input))
+      → text_of least text ≡ Frame octets → HasReadLines least input (frames ++ octets ∷ []) next
   read_frame octets bound is = record {
     frames_so_far =
         append_assoc frames (octets ∷ []) (frames_of_lines least (lines_behind input next))
-        ∙ ap (λ fs. frames ++ fs) (sym (ap (frames_of_lines least) cut_here ∙ frames-frame least (record { place = at; text = text }) (lines_behind input next) octets is)) ∙ h.frames_so_far;
-    fault_so_far = sym (ap (fault_of_lines least) cut_here ∙ fault-frame least (record { place = at; text = text }) (lines_behind input next) octets is) ∙ h.fault_so_far;
+        ∙ ap (λ fs. frames ++ fs) (sym (ap (frames_of_lines least) cut_here
+            ∙ frames-frame least (record { place = at; text = text }) (lines_behind input next) octets is))
+            ∙ h.frames_so_far;
+    fault_so_far = sym (ap (fault_of_lines least) cut_here
+        ∙ fault-frame least (record { place = at; text = text }) (lines_behind input next) octets is) ∙ h.fault_so_far;
     within = if_within next at (length input) bound;
   }
 
   -- a bad one
   pub read_bad : (flaw : LineFlaw) (offset : ℕ) → text_of least text ≡ Refused flaw offset
-      → (frames ≡ frames_of_lines least input) × (Some (record { flaw = flaw; place = at + offset }) ≡ line_fault least input) × (offset ≤ length text)
+      → (frames ≡ frames_of_lines least input) × (Some (record { flaw = flaw; place = at + offset })
+          ≡ line_fault least input) × (offset ≤ length text)
   read_bad flaw offset is = (
     sym (append-nil frames)
-        ∙ ap (λ fs. frames ++ fs) (sym (ap (frames_of_lines least) cut_here ∙ frames-bad least (record { place = at; text = text }) (lines_behind input next) flaw offset is)) ∙ h.frames_so_far,
-    sym (ap (fault_of_lines least) cut_here ∙ fault-bad least (record { place = at; text = text }) (lines_behind input next) flaw offset is) ∙ h.fault_so_far,
+        ∙ ap (λ fs. frames ++ fs) (sym (ap (frames_of_lines least) cut_here
+            ∙ frames-bad least (record { place = at; text = text }) (lines_behind input next) flaw offset is))
+            ∙ h.frames_so_far,
+    sym (ap (fault_of_lines least) cut_here ∙ fault-bad least (record { place = at; text = text })
+        (lines_behind input next) flaw offset is) ∙ h.fault_so_far,
     subst (IsWithin least text) is (text_of-within least text),
   )
 
 -- and no line more
-pub read_end : (least : ℕ) (input : List ℕ) (frames : List (List ℕ)) (place : Option ℕ) → HasReadLines least input frames place → place ≡ None
+pub read_end : (least : ℕ) (input : List ℕ) (frames : List (List ℕ)) (place : Option ℕ)
+    → HasReadLines least input frames place → place ≡ None
     → (frames ≡ frames_of_lines least input) × (None ≡ line_fault least input)
 read_end least input frames place h done = (
-  sym (append-nil frames) ∙ ap (λ p. frames ++ frames_of_lines least (lines_behind input p)) (sym done) ∙ h.frames_so_far,
+  sym (append-nil frames) ∙ ap (λ p. frames ++ frames_of_lines least (lines_behind input p)) (sym done)
+      ∙ h.frames_so_far,
   ap (λ p. fault_of_lines least (lines_behind input p)) (sym done) ∙ h.fault_so_far,
 )

@@ -17,7 +17,8 @@ line_not_long found fault is long =
     let both : Some (Line line.0) ≡ Some TooLong = line.2 ∙ ap Some long in
     cc both
 
-so_far_not_long : (least : ℕ) (octets : List ℕ) (fault : InputFault) → fault_so_far least octets ≡ Some fault → fault ≡ TooLong → ⊥
+so_far_not_long : (least : ℕ) (octets : List ℕ) (fault : InputFault) → fault_so_far least octets ≡ Some fault
+    → fault ≡ TooLong → ⊥
 unfolding fault_so_far
 so_far_not_long least octets fault is = line_not_long (fault_of_lines least (known_lines octets)) fault is
 

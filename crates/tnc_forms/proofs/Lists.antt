@@ -9,6 +9,7 @@ one_item (y ∷ []) x none below is = ap (λ z. z ∷ []) (sym is)
 one_item (y ∷ z ∷ rest) x none below is = absurd (omega (arith, below))
 
 -- what is left after the first part
-pub drop-parts : {X : Type 0} (whole part rest : List X) (n : ℕ) → whole ≡ part ++ rest → length part ≡ n → drop n whole ≡ rest
+pub drop-parts : {X : Type 0} (whole part rest : List X) (n : ℕ) → whole ≡ part ++ rest → length part ≡ n
+    → drop n whole ≡ rest
 drop-parts whole part rest n is sized =
     ap (drop n) is ∙ ap (λ k. drop k (part ++ rest)) (sym sized) ∙ drop-append_seam part rest

@@ -13,11 +13,14 @@ pub wrote_all : (before text : List ℕ) (now : Option (List ℕ)) → now ≡ S
 wrote_all before text now is = (text, [], sym (append-nil text), is)
 
 -- so is a first part of its front
-pub wrote_front : (before front text : List ℕ) (now : Option (List ℕ)) → WrotePart before front now → WrotePart before (front ++ text) now
-wrote_front before front text now (part, rest, parts, is) = (part, rest ++ text, ap (λ xs. xs ++ text) parts ∙ append_assoc part rest text, is)
+pub wrote_front : (before front text : List ℕ) (now : Option (List ℕ)) → WrotePart before front now
+    → WrotePart before (front ++ text) now
+wrote_front before front text now (part, rest, parts, is) =
+    (part, rest ++ text, ap (λ xs. xs ++ text) parts ∙ append_assoc part rest text, is)
 
 -- and the front with a first part of what follows
-pub wrote_behind : (before front text : List ℕ) (now : Option (List ℕ)) → WrotePart (before ++ front) text now → WrotePart before (front ++ text) now
+pub wrote_behind : (before front text : List ℕ) (now : Option (List ℕ)) → WrotePart (before ++ front) text now
+    → WrotePart before (front ++ text) now
 wrote_behind before front text now (part, rest, parts, is) = (
   front ++ part,
   rest,
@@ -26,7 +29,8 @@ wrote_behind before front text now (part, rest, parts, is) = (
 )
 
 -- all of a text or a first part of it was written
-pub wrote_part : {T E : Type 0} (r : Result T E) (before text : List ℕ) (now : Option (List ℕ)) → OnOk r (now ≡ Some (before ++ text))
+pub wrote_part : {T E : Type 0} (r : Result T E) (before text : List ℕ) (now : Option (List ℕ))
+    → OnOk r (now ≡ Some (before ++ text))
     → OnErr r (WrotePart before text now) → WrotePart before text now
 wrote_part (Ok x) before text now whole part = wrote_all before text now whole
 wrote_part (Err e) before text now whole part = part

@@ -30,7 +30,8 @@ frames_so_far least octets = frames_of_lines least (ended_lines octets)
 unfoldable pub fault_so_far : ℕ → List ℕ → Option InputFault
 fault_so_far least octets = fault_in_line (fault_of_lines least (known_lines octets))
 
--- Why an input is refused that is read piece by piece: for what is wrong with its form. Of an input with too many octets
+-- Why an input is refused that is read piece by piece: for what is wrong with its form. Of an input with too many
+-- octets
 -- the first 2^40 are taken. What is known to be wrong in these is told, or else that there are too many.
 abbrev pub fault_as_read : Option InputFault → Option InputFault → List ℕ → Option InputFault
 fault_as_read so_far whole octets =

@@ -1,5 +1,6 @@
 -- Octets and transmissions, one draw after another.
-use Rattle.std.proofs.Common.{◌≡◌, Bool, true, false, ℕ, zero, suc, ◌+◌, ◌-◌, ◌%◌, ◌<◌, ◌≤◌, List, [], ◌∷◌, ◌++◌, length, map, refl, ap, sym, ◌∙◌, arith, append_assoc, append-nil, length-append}
+use Rattle.std.proofs.Common.{◌≡◌, Bool, true, false, ℕ, zero, suc, ◌+◌, ◌-◌, ◌%◌, ◌<◌, ◌≤◌, List, [], ◌∷◌, ◌++◌,
+    length, map, refl, ap, sym, ◌∙◌, arith, append_assoc, append-nil, length-append}
 use Rattle.rand_pcg.specs.Lcg.{Lcg}
 use Rattle.rand_pcg.specs.Pcg.{pcg32}
 use Rattle.std.proofs.Math.Nat.{mod-lt}
@@ -13,7 +14,8 @@ use Rattle.clean_signal.proofs.Law.{all_transmissions}
 use Rattle.tnc_words.specs.declared.command.LoopWords.{LoopWords}
 use Rattle.tnc_loop.specs.Words.{loop_generator, behind, word_at}
 use Rattle.channel_access.specs.Words.{words}
-use Rattle.tnc_loop.specs.Drawn.{length_drawn, octets_drawn, transmission_drawn, behind_transmission, heard_of, behind_heard, all_heard, heard_drawn, received_drawn, drawn}
+use Rattle.tnc_loop.specs.Drawn.{length_drawn, octets_drawn, transmission_drawn, behind_transmission, heard_of,
+    behind_heard, all_heard, heard_drawn, received_drawn, drawn}
 
 abbrev pub octet_of : ℕ → ℕ
 octet_of word = word % 256
@@ -26,7 +28,8 @@ module _ {X : Type 0} (f : ℕ → X) where
     pub behind : behind (count - place) now ≡ behind count initial
     pub counted : length items ≡ place
 
-  pub has_drawn_none : (initial : Lcg) (count : ℕ) (items : List X) → items ≡ [] → HasDrawn initial initial count 0 items
+  pub has_drawn_none : (initial : Lcg) (count : ℕ) (items : List X) → items ≡ []
+      → HasDrawn initial initial count 0 items
   has_drawn_none initial count items none =
       let all : count - 0 ≡ count = omega arith in
       record {
@@ -69,9 +72,11 @@ module _ {X : Type 0} (f : ℕ → X) where
 -- ---- a transmission
 
 abbrev made : ℕ → ℕ → ℕ → List ℕ → Transmission
-made silence opening closing octets = record { silence = silence; opening = 2 + opening; closing = 1 + closing; frames = octets ∷ [] }
+made silence opening closing octets = record { silence = silence; opening = 2 + opening; closing = 1 + closing;
+    frames = octets ∷ [] }
 
-module _ (g0 g1 g2 g3 g4 : Lcg) (length : ℕ) (first : g1 ≡ behind 1 g0) (second : g2 ≡ behind 1 g1) (third : g3 ≡ behind 1 g2) (fourth : g4 ≡ behind 1 g3)
+module _ (g0 g1 g2 g3 g4 : Lcg) (length : ℕ) (first : g1 ≡ behind 1 g0) (second : g2 ≡ behind 1 g1)
+    (third : g3 ≡ behind 1 g2) (fourth : g4 ≡ behind 1 g3)
     (count : length ≡ word_at 0 g3 % 986) where
   at2 : g2 ≡ behind 2 g0
   at2 = second ∙ ap (λ g. (pcg32 g).1) first
@@ -86,9 +91,11 @@ module _ (g0 g1 g2 g3 g4 : Lcg) (length : ℕ) (first : g1 ≡ behind 1 g0) (sec
   long = ap (λ n. 15 + n) (count ∙ ap (λ g. (pcg32 g).0 % 986) at3)
 
   -- four numbers and octets are a transmission
-  pub transmission_is : (silence opening closing : ℕ) (octets : List ℕ) → silence ≡ word_at 0 g0 % 64 → opening ≡ word_at 0 g1 % 4 → closing ≡ word_at 0 g2 % 3
+  pub transmission_is : (silence opening closing : ℕ) (octets : List ℕ) → silence ≡ word_at 0 g0 % 64
+      → opening ≡ word_at 0 g1 % 4 → closing ≡ word_at 0 g2 % 3
       → octets ≡ map (λ word. word % 256) (words (15 + length) g4)
-      → record { silence = silence; opening = 2 + opening; closing = 1 + closing; frames = octets ∷ [] } ≡ transmission_drawn g0
+      → record { silence = silence; opening = 2 + opening; closing = 1 + closing; frames = octets ∷ [] }
+          ≡ transmission_drawn g0
   unfolding transmission_drawn
   transmission_is silence opening closing octets s o c os =
       ap (λ n. made n opening closing octets) s
@@ -135,7 +142,8 @@ one_frame octets is (suc k) d l = absurd (omega arith)
 
 is_transmission : (g : Lcg) → IsTransmission (transmission_drawn g)
 unfolding transmission_drawn
-is_transmission g = record { frames = one_frame (octets_drawn g) (frame_drawn g); opening = omega arith; closing = omega arith }
+is_transmission g = record { frames = one_frame (octets_drawn g) (frame_drawn g); opening = omega arith;
+    closing = omega arith }
 
 -- transmissions that are received at phases and levels of the law
 is_received : (rough : Bool) (g h : Lcg) → IsReceived (heard_of rough (transmission_drawn g) h).received

@@ -1,5 +1,6 @@
 -- How long a signal that is drawn can be.
-use Rattle.std.proofs.Common.{◌≡◌, ℕ, zero, suc, ◌+◌, ◌*◌, ◌%◌, ◌^◌, ◌<◌, ◌≤◌, Bool, true, false, List, [], ◌∷◌, ◌++◌, length, ap, ◌∙◌, arith, length-append}
+use Rattle.std.proofs.Common.{◌≡◌, ℕ, zero, suc, ◌+◌, ◌*◌, ◌%◌, ◌^◌, ◌<◌, ◌≤◌, Bool, true, false, List, [], ◌∷◌, ◌++◌,
+    length, ap, ◌∙◌, arith, length-append}
 use Rattle.std.proofs.Math.Nat.{mod-lt}
 use Rattle.std.proofs.lemmas.List.Concat.{flat_map-cons}
 use Rattle.rand_pcg.specs.Lcg.{Lcg}
@@ -17,7 +18,8 @@ use Rattle.clean_signal.proofs.CarriedFrames.{length-flags}
 use Rattle.clean_signal.proofs.WaveLemmas.{length-samples_of}
 use Rattle.tnc_words.specs.declared.command.LoopWords.{LoopWords}
 use Rattle.tnc_loop.specs.Words.{loop_generator, word_at}
-use Rattle.tnc_loop.specs.Drawn.{length_drawn, octets_drawn, transmission_drawn, behind_transmission, heard_of, behind_heard, all_heard, heard_drawn}
+use Rattle.tnc_loop.specs.Drawn.{length_drawn, octets_drawn, transmission_drawn, behind_transmission, heard_of,
+    behind_heard, all_heard, heard_drawn}
 use Rattle.tnc_loop.specs.Held.{sent_of}
 use Rattle.tnc_loop.proofs.HeardLemmas.{transmission-heard}
 use Rattle.tnc_loop.proofs.DrawingLemmas.{length-octets_drawn, length_drawn-most}
@@ -36,10 +38,12 @@ frame_bits-most octets =
     let same : length (stuffed sent) ≡ length (stuffed_from sent 4) = ap length (stuffed_is sent) in
     omega (arith, stuffed_from-most sent 4, length-sent_bits (with_fcs octets), length-with_fcs octets)
 
-length-body_of : (octets : List ℕ) (opening closing : ℕ) → length (body (octets ∷ []) opening closing) ≡ 8 * opening + length (frame_bits octets) + 8 * closing
+length-body_of : (octets : List ℕ) (opening closing : ℕ) → length (body (octets ∷ []) opening closing)
+    ≡ 8 * opening + length (frame_bits octets) + 8 * closing
 unfolding body
 length-body_of octets opening closing =
-    omega (arith, length-append (flags opening) (frame_bits octets ++ flags closing), length-append (frame_bits octets) (flags closing), length-flags opening, length-flags closing)
+    omega (arith, length-append (flags opening) (frame_bits octets ++ flags closing),
+        length-append (frame_bits octets) (flags closing), length-flags opening, length-flags closing)
 
 -- a transmission has fewer than 2^17 samples
 transmission-most : (g : Lcg) → sample_count (transmission_drawn g) ≤ 131072
@@ -54,7 +58,8 @@ transmission-most g =
     let frame = frame_bits-most (octets_drawn g) in
     omega arith
 
-transmissions-most : (rough : Bool) (count : ℕ) (g : Lcg) → length (signal (sent_of (all_heard rough count g))) ≤ 131072 * count
+transmissions-most : (rough : Bool) (count : ℕ) (g : Lcg) → length (signal (sent_of (all_heard rough count g)))
+    ≤ 131072 * count
 unfolding signal
 transmissions-most rough zero g = omega arith
 transmissions-most rough (suc count) g =

@@ -1,5 +1,6 @@
 -- Rough samples: an error more at a time, how many, and how near they are.
-use Rattle.std.proofs.Common.{◌≡◌, ℕ, zero, suc, ◌+◌, ◌-◌, ◌*◌, ◌%◌, ◌<◌, ◌≤◌, ℤ, pos, ◌+ℤ◌, List, [], ◌∷◌, ◌++◌, length, map, get_or, drop, unsigned_abs, refl, ap, sym, ◌∙◌, arith, append_assoc, append-nil}
+use Rattle.std.proofs.Common.{◌≡◌, ℕ, zero, suc, ◌+◌, ◌-◌, ◌*◌, ◌%◌, ◌<◌, ◌≤◌, ℤ, pos, ◌+ℤ◌, List, [], ◌∷◌, ◌++◌,
+    length, map, get_or, drop, unsigned_abs, refl, ap, sym, ◌∙◌, arith, append_assoc, append-nil}
 use Rattle.std.proofs.Math.Nat.{mod-lt}
 use Rattle.std.proofs.lemmas.Int.{ints, unsigned_abs-mul}
 use Rattle.std.proofs.lemmas.List.{drop_more, drop_all}
@@ -13,7 +14,8 @@ use Rattle.afsk_modulator.proofs.LevelLemmas.{sample_at-close}
 use Rattle.clean_signal.proofs.NearLemmas.{length-at_level}
 use Rattle.tnc_loop.specs.Words.{behind, word_at}
 use Rattle.channel_access.specs.Words.{words}
-use Rattle.tnc_loop.specs.Rough.{phase_drawn, level_drawn, noise_of, most_error, error_of, with_errors, rough_received, exact_samples, rough_samples, behind_rough}
+use Rattle.tnc_loop.specs.Rough.{phase_drawn, level_drawn, noise_of, most_error, error_of, with_errors, rough_received,
+    exact_samples, rough_samples, behind_rough}
 
 -- ---- one error more
 
@@ -31,7 +33,8 @@ errors_none level exact initial noisy none =
       behind = ap (λ n. behind n initial) all;
     }
 
-pub errors_more : (level : ℕ) (exact : List ℤ) (initial was now : Lcg) (place : ℕ) (sample error : ℤ) (noisy more : List ℤ)
+pub errors_more : (level : ℕ) (exact : List ℤ) (initial was now : Lcg) (place : ℕ) (sample error : ℤ)
+    (noisy more : List ℤ)
     → HasErrors level exact initial was place noisy → place < length exact → sample ≡ get_or exact place (pos 0)
     → error ≡ error_of level (word_at 0 was) → now ≡ behind 1 was → more ≡ noisy ++ (sample +ℤ error) ∷ []
     → HasErrors level exact initial now (place + 1) more
@@ -59,7 +62,8 @@ errors_all level exact initial now place noisy h past =
 
 -- ---- how many, and how near
 
-pub length-with_errors : (level : ℕ) (samples : List ℤ) (g : Lcg) → length (with_errors level samples g) ≡ length samples
+pub length-with_errors : (level : ℕ) (samples : List ℤ) (g : Lcg)
+    → length (with_errors level samples g) ≡ length samples
 length-with_errors level [] g = refl
 length-with_errors level (sample ∷ samples) g = ap suc (length-with_errors level samples (behind 1 g))
 
@@ -78,7 +82,8 @@ one-near level word sample least =
     omega (arith, ints, parts, size, small_error level word, sample_at-close level sample)
 
 with_errors-close : (level : ℕ) (wave : List ℤ) (g : Lcg) (i : ℕ) → 10 ≤ level → i < length wave
-    → distance level (get_or wave i (pos 0)) (get_or (with_errors level (at_level level wave) g) i (pos 0)) ≤ 1000 * level
+    → distance level (get_or wave i (pos 0)) (get_or (with_errors level (at_level level wave) g) i (pos 0))
+        ≤ 1000 * level
 unfolding at_level
 with_errors-close level [] g i least below = absurd (omega arith)
 with_errors-close level (sample ∷ wave) g zero least below = one-near level (word_at 0 g) sample least
@@ -95,7 +100,8 @@ with_errors-near level wave g least = record {
 -- ---- all of them
 
 -- noise and errors, as they are drawn one after another, are the rough samples
-module _ (t : Transmission) (g g1 g2 g3 : Lcg) (phase level : ℕ) (exact : List ℤ) (first : g1 ≡ behind 1 g) (second : g2 ≡ behind 1 g1)
+module _ (t : Transmission) (g g1 g2 g3 : Lcg) (phase level : ℕ) (exact : List ℤ) (first : g1 ≡ behind 1 g)
+    (second : g2 ≡ behind 1 g1)
     (third : g3 ≡ behind t.silence g2) (is_phase : phase ≡ phase_drawn g) (is_level : level ≡ 10 + word_at 0 g1 % 29000)
     (is_exact : exact ≡ transmission_at phase level t.frames t.opening t.closing) where
   at2 : g2 ≡ behind 2 g

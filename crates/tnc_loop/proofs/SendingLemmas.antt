@@ -1,5 +1,6 @@
 -- Transmissions that are sent, one more at a time.
-use Rattle.std.proofs.Common.{◌≡◌, ℕ, ℤ, suc, ◌+◌, ◌-◌, ◌*◌, ◌<◌, ◌≤◌, ◌^◌, List, [], ◌∷◌, ◌++◌, length, inl, inr, zero, refl, ap, sym, subst, ◌∙◌, arith, append_assoc, append-nil, length-append}
+use Rattle.std.proofs.Common.{◌≡◌, ℕ, ℤ, suc, ◌+◌, ◌-◌, ◌*◌, ◌<◌, ◌≤◌, ◌^◌, List, [], ◌∷◌, ◌++◌, length, inl, inr, zero,
+    refl, ap, sym, subst, ◌∙◌, arith, append_assoc, append-nil, length-append}
 use Rattle.std.specs.List.{flat_map}
 use Rattle.std.proofs.lemmas.List.Concat.{flat_map-append}
 use Rattle.rand_pcg.specs.Lcg.{Lcg}
@@ -15,24 +16,31 @@ use Rattle.tnc_words.specs.declared.command.LoopWords.{LoopWords}
 use Rattle.tnc_loop.specs.declared.drawing.Drawn.{Drawn}
 use Rattle.tnc_loop.specs.declared.sending.Sent.{Sent}
 use Rattle.tnc_loop.specs.Words.{loop_generator}
-use Rattle.tnc_loop.specs.Drawn.{Heard, transmission_drawn, behind_transmission, heard_of, behind_heard, all_heard, heard_drawn}
+use Rattle.tnc_loop.specs.Drawn.{Heard, transmission_drawn, behind_transmission, heard_of, behind_heard, all_heard,
+    heard_drawn}
 use Rattle.tnc_loop.specs.Held.{drawn_as, sent_of, HasSent, IsGood}
 use Rattle.tnc_loop.proofs.HeardLemmas.{transmission-heard}
 use Rattle.tnc_loop.proofs.LengthLemmas.{signal_fits}
 
-samples-push : (heard : List Heard) (one : Heard) → flat_map (λ h. h.samples) (heard ++ one ∷ []) ≡ flat_map (λ h. h.samples) heard ++ one.samples
+samples-push : (heard : List Heard) (one : Heard) → flat_map (λ h. h.samples) (heard ++ one ∷ [])
+    ≡ flat_map (λ h. h.samples) heard ++ one.samples
 samples-push heard one =
-    flat_map-append (λ h. h.samples) heard (one ∷ []) ∙ ap (λ xs. flat_map (λ h. h.samples) heard ++ xs) (append-nil one.samples)
+    flat_map-append (λ h. h.samples) heard (one ∷ [])
+        ∙ ap (λ xs. flat_map (λ h. h.samples) heard ++ xs) (append-nil one.samples)
 
-sent_of-push : (heard : List Heard) (one : Heard) → sent_of (heard ++ one ∷ []) ≡ sent_of heard ++ one.received.transmission ∷ []
+sent_of-push : (heard : List Heard) (one : Heard) → sent_of (heard ++ one ∷ [])
+    ≡ sent_of heard ++ one.received.transmission ∷ []
 sent_of-push [] one = refl
 sent_of-push (h ∷ heard) one = ap (λ ts. h.received.transmission ∷ ts) (sent_of-push heard one)
 
-length-signal-push : (ts : List Transmission) (t : Transmission) → length (signal (ts ++ t ∷ [])) ≡ length (signal ts) + sample_count t
-length-signal-push ts t = ap length (signal-push ts t) ∙ length-append (signal ts) (samples_of t) ∙ ap (λ n. length (signal ts) + n) (length-samples_of t)
+length-signal-push : (ts : List Transmission) (t : Transmission)
+    → length (signal (ts ++ t ∷ [])) ≡ length (signal ts) + sample_count t
+length-signal-push ts t = ap length (signal-push ts t) ∙ length-append (signal ts) (samples_of t)
+    ∙ ap (λ n. length (signal ts) + n) (length-samples_of t)
 
 -- a frame that is drawn has no bad length
-pub no_bad_length : (octets : List ℕ) (frames : List (List ℕ)) (index : ℕ) → frames ≡ octets ∷ [] → 15 ≤ length octets → length octets ≤ 1000
+pub no_bad_length : (octets : List ℕ) (frames : List (List ℕ)) (index : ℕ) → frames ≡ octets ∷ [] → 15 ≤ length octets
+    → length octets ≤ 1000
     → IsFirstBadLength frames index → ⊥
 no_bad_length octets frames index is least most first = go index (subst (λ f. IsFirstBadLength f index) is first)
   where
@@ -42,12 +50,14 @@ no_bad_length octets frames index is least most first = go index (subst (λ f. I
 
 -- ---- one transmission more
 
-module _ (was now : Sent) (d : Drawn) (good : IsGood d) (heard : List ℤ) (size : length heard ≡ sample_count (drawn_as d))
+module _ (was now : Sent) (d : Drawn) (good : IsGood d) (heard : List ℤ)
+    (size : length heard ≡ sample_count (drawn_as d))
     (samples : now.samples.items ≡ was.samples.items ++ heard) where
   count : length now.samples.items ≡ length was.samples.items + sample_count (drawn_as d)
   count = ap length samples ∙ length-append was.samples.items heard ∙ ap (λ n. length was.samples.items + n) size
 
-  whole : end_of (length was.samples.items + d.silence + 64 * d.opening) d.octets + 64 * (d.closing - 1) ≡ length now.samples.items
+  whole : end_of (length was.samples.items + d.silence + 64 * d.opening) d.octets + 64 * (d.closing - 1)
+      ≡ length now.samples.items
   whole = single_end d.silence d.opening d.closing (length was.samples.items) d.octets good.closing ∙ sym count
 
   -- the closing flags are within
@@ -62,10 +72,12 @@ module _ (was now : Sent) (d : Drawn) (good : IsGood d) (heard : List ℤ) (size
       let true_end : ℕ = end_of (length was.samples.items + d.silence + 64 * d.opening) d.octets in
       let same : end ≡ true_end = (let all = whole in omega arith) in
       let one : Heard = record { received = received; samples = heard } in
-      let sent : sent_of (before ++ one ∷ []) ≡ sent_of before ++ drawn_as d ∷ [] = sent_of-push before one ∙ ap (λ t. sent_of before ++ t ∷ []) this in
+      let sent : sent_of (before ++ one ∷ []) ≡ sent_of before ++ drawn_as d ∷ [] = sent_of-push before one
+          ∙ ap (λ t. sent_of before ++ t ∷ []) this in
       record {
         samples = samples ∙ ap (λ x. x ++ heard) h.samples ∙ sym (samples-push before one);
-        count = count ∙ ap (λ n. n + sample_count (drawn_as d)) h.count ∙ sym (length-signal-push (sent_of before) (drawn_as d))
+        count = count ∙ ap (λ n. n + sample_count (drawn_as d)) h.count
+            ∙ sym (length-signal-push (sent_of before) (drawn_as d))
             ∙ ap (λ ts. length (signal ts)) (sym sent);
         ends = ends ∙ ap (λ e. was.ends.items ++ end_at e ∷ []) same
             ∙ ap (λ es. es ++ end_at true_end ∷ []) h.ends
@@ -85,7 +97,8 @@ pub record HasSentSome (words : LoopWords) (place : ℕ) (generator : Lcg) (sent
   pub has : HasSent sent done
   pub parts : done ++ all_heard words.rough (words.frames - place) generator ≡ heard_drawn words
 
-pub sent_none : (words : LoopWords) (generator : Lcg) (sent : Sent) → generator ≡ loop_generator words.seed → sent.samples.items ≡ [] → sent.ends.items ≡ []
+pub sent_none : (words : LoopWords) (generator : Lcg) (sent : Sent) → generator ≡ loop_generator words.seed
+    → sent.samples.items ≡ [] → sent.ends.items ≡ []
     → HasSentSome words 0 generator sent
 unfolding signal heard_drawn
 sent_none words generator sent is samples ends = record {
@@ -96,7 +109,8 @@ sent_none words generator sent is samples ends = record {
       ap (λ n. all_heard words.rough n generator) all ∙ ap (all_heard words.rough words.frames) is);
 }
 
-pub sent_next : (words : LoopWords) (place : ℕ) (was drew now : Lcg) (before after : Sent) (d : Drawn) (samples : List ℤ)
+pub sent_next : (words : LoopWords) (place : ℕ) (was drew now : Lcg) (before after : Sent) (d : Drawn)
+    (samples : List ℤ)
     → HasSentSome words place was before → place < words.frames
     → drawn_as d ≡ transmission_drawn was → drew ≡ behind_transmission was
     → samples ≡ (heard_of words.rough (drawn_as d) drew).samples → now ≡ behind_heard words.rough (drawn_as d) drew
@@ -107,22 +121,28 @@ sent_next words place was drew now before after d samples h below is behind are 
     let left : ℕ = words.frames - (place + 1) in
     let fewer : words.frames - place ≡ suc left = omega arith in
     let one : Heard = heard_of words.rough (drawn_as d) drew in
-    let same : record { received = one.received; samples = samples } ≡ one = ap (λ xs. record { received = one.received; samples = xs }) are in
+    let same : record { received = one.received; samples = samples } ≡ one =
+        ap (λ xs. record { received = one.received; samples = xs }) are in
     record {
       done = h.done ++ one ∷ [];
-      has = subst (λ x. HasSent after (h.done ++ x ∷ [])) same (more h.done one.received (transmission-heard words.rough (drawn_as d) drew) h.has);
+      has = subst (λ x. HasSent after (h.done ++ x ∷ [])) same
+          (more h.done one.received (transmission-heard words.rough (drawn_as d) drew) h.has);
       parts = append_assoc h.done (one ∷ []) (all_heard words.rough left now)
-          ∙ (λ i. h.done ++ (heard_of words.rough (is i) (behind i) ∷ all_heard words.rough left ((next ∙ (λ j. behind_heard words.rough (is j) (behind j))) i)))
+          ∙ (λ i. h.done ++ (heard_of words.rough (is i) (behind i) ∷ all_heard words.rough left
+              ((next ∙ (λ j. behind_heard words.rough (is j) (behind j))) i)))
           ∙ ap (λ n. h.done ++ all_heard words.rough n was) (sym fewer)
           ∙ h.parts;
     }
 
-pub sent_all : (words : LoopWords) (place : ℕ) (generator : Lcg) (sent : Sent) → HasSentSome words place generator sent → words.frames ≤ place
+pub sent_all : (words : LoopWords) (place : ℕ) (generator : Lcg) (sent : Sent) → HasSentSome words place generator sent
+    → words.frames ≤ place
     → HasSent sent (heard_drawn words)
 sent_all words place generator sent h past =
     let none : words.frames - place ≡ 0 = omega arith in
-    let all : h.done ≡ heard_drawn words = sym (append-nil h.done) ∙ ap (λ n. h.done ++ all_heard words.rough n generator) (sym none) ∙ h.parts in
+    let all : h.done ≡ heard_drawn words = sym (append-nil h.done)
+        ∙ ap (λ n. h.done ++ all_heard words.rough n generator) (sym none) ∙ h.parts in
     subst (HasSent sent) all h.has
 
-pub sent_fits : (words : LoopWords) (sent : Sent) → HasSent sent (heard_drawn words) → words.frames ≤ 65535 → length sent.samples.items < 2 ^ 48
+pub sent_fits : (words : LoopWords) (sent : Sent) → HasSent sent (heard_drawn words) → words.frames ≤ 65535
+    → length sent.samples.items < 2 ^ 48
 sent_fits words sent h few = omega (arith, h.count, signal_fits words few)

@@ -14,7 +14,8 @@ pub record IsTextOfMore (modulus : Modulus) (before octets text : List ℕ) : Ty
 
 -- octets more were taken, or stop it
 abbrev pub HasTaken : Modulus → List ℕ → List ℕ → List ℕ → HeldLine → Option InputFault → Type 0
-HasTaken modulus before octets text lines None = StandsFor lines (before ++ octets) × IsTextOfMore modulus before octets text
+HasTaken modulus before octets text lines None = StandsFor lines (before ++ octets)
+    × IsTextOfMore modulus before octets text
 HasTaken modulus before octets text lines (Some fault) =
     (fault_so_far 0 (before ++ octets) ≡ Some fault) × IsTextOfMore modulus before octets text
 
@@ -22,4 +23,5 @@ HasTaken modulus before octets text lines (Some fault) =
 pub record TookFront (modulus : Modulus) (was : HeldLine) (octets rest text : List ℕ) (now : HeldLine) : Type 0 where
   pub front : List ℕ
   pub parts : octets ≡ front ++ rest
-  pub each : (before : List ℕ) → StandsFor was before → StandsFor now (before ++ front) × IsTextOfMore modulus before front text
+  pub each : (before : List ℕ) → StandsFor was before → StandsFor now (before ++ front)
+      × IsTextOfMore modulus before front text

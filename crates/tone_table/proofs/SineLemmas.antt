@@ -12,4 +12,5 @@ cycle = map wave_sample (range_with_len 0 48)
 pub unsigned_abs-wave_sample : (phase : ℕ) → unsigned_abs (wave_sample phase) ≤ 10000
 unfolding wave_sample cycle_sample half_wave quarter
 unsigned_abs-wave_sample phase =
-    leb-true _ _ (agree_below_at (λ k. nat_le (unsigned_abs (cycle_sample k)) 10000) (λ _. true) 48 (phase % 48) refl (omega arith))
+    leb-true _ _ (agree_below_at (λ k. nat_le (unsigned_abs (cycle_sample k)) 10000) (λ _. true) 48 (phase % 48) refl
+        (omega arith))

@@ -1,4 +1,5 @@
--- Bell 202 with a continuous phase: eight samples a bit, and each bit's tone begins at the phase where the one before ended.
+-- Bell 202 with a continuous phase: eight samples a bit, and each bit's tone begins at the phase where the one before
+-- ended.
 use Rattle.std.specs.Prelude.{ℕ, ◌+◌, ◌*◌, ℤ, List, [], ◌∷◌, ◌++◌, map}
 use Rattle.std.specs.List.{range_with_len}
 use Rattle.tone_table.specs.declared.tone.Tone.{Tone}

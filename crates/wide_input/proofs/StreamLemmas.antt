@@ -1,5 +1,6 @@
 -- The streams of samples that come in pieces, and how many samples they have.
-use Rattle.std.proofs.Common.{◌≡◌, ℕ, zero, suc, ◌+◌, ◌-◌, ◌*◌, ◌/◌, ◌<◌, ◌≤◌, ℤ, List, [], ◌∷◌, ◌++◌, length, get_or, take, append-nil, pos, Option, Result, Ok, Err, refl, ap, sym, subst, ◌∙◌, arith}
+use Rattle.std.proofs.Common.{◌≡◌, ℕ, zero, suc, ◌+◌, ◌-◌, ◌*◌, ◌/◌, ◌<◌, ◌≤◌, ℤ, List, [], ◌∷◌, ◌++◌, length, get_or,
+    take, append-nil, pos, Option, Result, Ok, Err, refl, ap, sym, subst, ◌∙◌, arith}
 use Rattle.std.specs.Prelude.{OnOk, OnErr}
 use Rattle.std.proofs.lemmas.List.{take_more}
 use Rattle.frame_merge.specs.declared.candidate.Candidate.{Candidate}
@@ -9,12 +10,14 @@ use Rattle.wide_input.specs.Streams.{stream, least_count}
 use Rattle.wide_input.specs.Held.{HeldStream, StreamStandsFor, next_skipped}
 
 -- the stream of samples and more
-pub stream-append : (skipped : ℕ) (x y : List ℤ) → stream skipped (x ++ y) ≡ stream skipped x ++ stream (next_skipped skipped x) y
+pub stream-append : (skipped : ℕ) (x y : List ℤ) → stream skipped (x ++ y)
+    ≡ stream skipped x ++ stream (next_skipped skipped x) y
 stream-append skipped [] y = refl
 stream-append zero (sample ∷ x) y = ap (λ t. sample ∷ t) (stream-append 4 x y)
 stream-append (suc skipped) (sample ∷ x) y = stream-append skipped x y
 
-pub next_skipped-append : (skipped : ℕ) (x y : List ℤ) → next_skipped skipped (x ++ y) ≡ next_skipped (next_skipped skipped x) y
+pub next_skipped-append : (skipped : ℕ) (x y : List ℤ) → next_skipped skipped (x ++ y)
+    ≡ next_skipped (next_skipped skipped x) y
 next_skipped-append skipped [] y = refl
 next_skipped-append zero (sample ∷ x) y = next_skipped-append 4 x y
 next_skipped-append (suc skipped) (sample ∷ x) y = next_skipped-append skipped x y
@@ -36,7 +39,8 @@ pub least_count-is : (x : List ℤ) → least_count x ≡ length x / 5
 least_count-is x = omega (arith, length-stream 4 x (omega arith))
 
 -- each stream has as many samples as the least one, or one more
-pub stream-least : (number : ℕ) (x : List ℤ) → number < 5 → (least_count x ≤ length (stream number x)) × (length (stream number x) ≤ least_count x + 1)
+pub stream-least : (number : ℕ) (x : List ℤ) → number < 5 → (least_count x ≤ length (stream number x))
+    × (length (stream number x) ≤ least_count x + 1)
 stream-least number x small =
     let here = length-stream number x (omega arith) in
     let least = least_count-is x in
@@ -44,7 +48,8 @@ stream-least number x small =
 
 -- with one sample more
 pub stream-taken : (skipped : ℕ) (x : List ℤ) (sample : ℤ) → next_skipped skipped x ≡ 0
-    → (stream skipped (x ++ sample ∷ []) ≡ stream skipped x ++ sample ∷ []) × (next_skipped skipped (x ++ sample ∷ []) ≡ 4)
+    → (stream skipped (x ++ sample ∷ []) ≡ stream skipped x ++ sample ∷ [])
+        × (next_skipped skipped (x ++ sample ∷ []) ≡ 4)
 stream-taken skipped x sample here = (
   stream-append skipped x (sample ∷ []) ∙ ap (λ n. stream skipped x ++ stream n (sample ∷ [])) here,
   next_skipped-append skipped x (sample ∷ []) ∙ ap (λ n. next_skipped n (sample ∷ [])) here,
@@ -53,35 +58,42 @@ stream-taken skipped x sample here = (
 pub stream-skipped : (skipped left : ℕ) (x : List ℤ) (sample : ℤ) → next_skipped skipped x ≡ suc left
     → (stream skipped (x ++ sample ∷ []) ≡ stream skipped x) × (next_skipped skipped (x ++ sample ∷ []) ≡ left)
 stream-skipped skipped left x sample here = (
-  stream-append skipped x (sample ∷ []) ∙ ap (λ n. stream skipped x ++ stream n (sample ∷ [])) here ∙ append-nil (stream skipped x),
+  stream-append skipped x (sample ∷ []) ∙ ap (λ n. stream skipped x ++ stream n (sample ∷ [])) here
+      ∙ append-nil (stream skipped x),
   next_skipped-append skipped x (sample ∷ []) ∙ ap (λ n. next_skipped n (sample ∷ [])) here,
 )
 
 -- so along a block
 pub step_taken : (skipped i : ℕ) (block : List ℤ) (d : ℤ) → i < length block → next_skipped skipped (take i block) ≡ 0
-    → (stream skipped (take (i + 1) block) ≡ stream skipped (take i block) ++ get_or block i d ∷ []) × (next_skipped skipped (take (i + 1) block) ≡ 4)
+    → (stream skipped (take (i + 1) block) ≡ stream skipped (take i block) ++ get_or block i d ∷ [])
+        × (next_skipped skipped (take (i + 1) block) ≡ 4)
 step_taken skipped i block d l here =
     let more : take (i + 1) block ≡ take i block ++ get_or block i d ∷ [] = take_more block i d l in
     let step = stream-taken skipped (take i block) (get_or block i d) here in
     (ap (stream skipped) more ∙ step.0, ap (next_skipped skipped) more ∙ step.1)
 
-pub step_skipped : (skipped left i : ℕ) (block : List ℤ) → i < length block → next_skipped skipped (take i block) ≡ suc left
-    → (stream skipped (take (i + 1) block) ≡ stream skipped (take i block)) × (next_skipped skipped (take (i + 1) block) ≡ left)
+pub step_skipped : (skipped left i : ℕ) (block : List ℤ) → i < length block
+    → next_skipped skipped (take i block) ≡ suc left
+    → (stream skipped (take (i + 1) block) ≡ stream skipped (take i block))
+        × (next_skipped skipped (take (i + 1) block) ≡ left)
 step_skipped skipped left i block l here =
     let more : take (i + 1) block ≡ take i block ++ get_or block i (pos 0) ∷ [] = take_more block i (pos 0) l in
     let step = stream-skipped skipped left (take i block) (get_or block i (pos 0)) here in
     (ap (stream skipped) more ∙ step.0, ap (next_skipped skipped) more ∙ step.1)
 
 -- a stream that took its part of a block and fed it to its bank
-pub heard_part : (old : HeldStream) (new : HeldBank) (kept : Option (List Candidate)) (left number : ℕ) (x block part : List ℤ) (items : List Candidate)
+pub heard_part : (old : HeldStream) (new : HeldBank) (kept : Option (List Candidate)) (left number : ℕ)
+    (x block part : List ℤ) (items : List Candidate)
     → part ≡ stream old.skipped block → left ≡ next_skipped old.skipped block
-    → ((s : List ℤ) → BankStandsFor old.bank s → BankStandsFor new (s ++ part) × AreCandidatesBehind (length s) (s ++ part) items)
+    → ((s : List ℤ) → BankStandsFor old.bank s → BankStandsFor new (s ++ part)
+        × AreCandidatesBehind (length s) (s ++ part) items)
     → StreamStandsFor number old x
     → StreamStandsFor number (record { bank = new; skipped = left; found = kept }) (x ++ block)
     × AreCandidatesBehind (length (stream number x)) (stream number (x ++ block)) items
 heard_part old new kept left number x block part items is after fed h =
     let s : List ℤ = stream number x in
-    let whole : s ++ part ≡ stream number (x ++ block) = ap (λ t. s ++ t) (is ∙ ap (λ n. stream n block) h.skipped) ∙ sym (stream-append number x block) in
+    let whole : s ++ part ≡ stream number (x ++ block) = ap (λ t. s ++ t) (is ∙ ap (λ n. stream n block) h.skipped)
+        ∙ sym (stream-append number x block) in
     let f = fed s h.bank in (
       record {
         bank = subst (BankStandsFor new) whole f.0;
@@ -91,13 +103,17 @@ heard_part old new kept left number x block part items is after fed h =
     )
 
 -- where a bank stands past a block, whether or not it wanted memory
-pub position_past : {V E : Type 0} (result : Result V E) (old new count : ℕ) → OnOk result (new ≡ old + count) → OnErr result (new ≡ old) → new ≤ old + count
+pub position_past : {V E : Type 0} (result : Result V E) (old new count : ℕ) → OnOk result (new ≡ old + count)
+    → OnErr result (new ≡ old) → new ≤ old + count
 position_past (Ok v) old new count moved stays = omega arith
 position_past (Err e) old new count moved stays = omega arith
 
 -- the samples of a stream by place
-pub stream-place : (skipped : ℕ) (x : List ℤ) (k : ℕ) (d : ℤ) → k < length (stream skipped x) → get_or (stream skipped x) k d ≡ get_or x (5 * k + skipped) d
+pub stream-place : (skipped : ℕ) (x : List ℤ) (k : ℕ) (d : ℤ) → k < length (stream skipped x)
+    → get_or (stream skipped x) k d ≡ get_or x (5 * k + skipped) d
 stream-place skipped [] k d l = absurd (omega arith)
 stream-place zero (sample ∷ x) zero d l = refl
-stream-place zero (sample ∷ x) (suc k) d l = stream-place 4 x k d (omega arith) ∙ ap (λ n. get_or (sample ∷ x) n d) (let e : suc (5 * k + 4) ≡ 5 * suc k + 0 = omega arith in e)
-stream-place (suc skipped) (sample ∷ x) k d l = stream-place skipped x k d l ∙ ap (λ n. get_or (sample ∷ x) n d) (let e : suc (5 * k + skipped) ≡ 5 * k + suc skipped = omega arith in e)
+stream-place zero (sample ∷ x) (suc k) d l = stream-place 4 x k d (omega arith)
+    ∙ ap (λ n. get_or (sample ∷ x) n d) (let e : suc (5 * k + 4) ≡ 5 * suc k + 0 = omega arith in e)
+stream-place (suc skipped) (sample ∷ x) k d l = stream-place skipped x k d l
+    ∙ ap (λ n. get_or (sample ∷ x) n d) (let e : suc (5 * k + skipped) ≡ 5 * k + suc skipped = omega arith in e)

@@ -1,8 +1,10 @@
 -- Streams that are visited one after another.
-use Rattle.std.proofs.Common.{◌≡◌, ℕ, ◌+◌, ◌<◌, ◌≤◌, ℤ, List, [], ◌∷◌, ◌++◌, Some, map, take, drop, replicate, append-nil, length, get_or, set, refl, ap, sym, ◌∙◌, arith, subst, inl, inr, get_or-set_same, get_or-set_other}
+use Rattle.std.proofs.Common.{◌≡◌, ℕ, ◌+◌, ◌<◌, ◌≤◌, ℤ, List, [], ◌∷◌, ◌++◌, Some, map, take, drop, replicate,
+    append-nil, length, get_or, set, refl, ap, sym, ◌∙◌, arith, subst, inl, inr, get_or-set_same, get_or-set_other}
 use Rattle.std.specs.List.{All}
 use Rattle.std.proofs.lemmas.Bool.{cases_eq, cases_lt}
-use Rattle.std.proofs.lemmas.List.{get_or_default, length-set, get_or_append_left, map-append, length-map, take_more, length-take-le, get_or-replicate, length-replicate}
+use Rattle.std.proofs.lemmas.List.{get_or_default, length-set, get_or_append_left, map-append, length-map, take_more,
+    length-take-le, get_or-replicate, length-replicate}
 use Rattle.std.proofs.Math.Seq.{get_or-append_seam, take-append_seam}
 use Rattle.frame_merge.specs.declared.candidate.Candidate.{Candidate}
 use Rattle.wide_input.specs.Candidates.{in_stream}
@@ -29,10 +31,13 @@ pub visited_none : {X : Type 0} (Did : X → X → Type 0) (streams : List X) �
 visited_none Did streams = record { size = refl; done = λ k d l. absurd (omega arith); rest = λ k d le. refl }
 
 -- the next stream is as it was
-pub visited_here : {X : Type 0} (Did : X → X → Type 0) (old now : List X) (n : ℕ) (was d : X) → Visited Did old now n → n < length old → get_or now n was ≡ get_or old n d
-visited_here Did old now n was d h l = let size = h.size in get_or_default now n was d (omega arith) ∙ h.rest n d (omega arith)
+pub visited_here : {X : Type 0} (Did : X → X → Type 0) (old now : List X) (n : ℕ) (was d : X) → Visited Did old now n
+    → n < length old → get_or now n was ≡ get_or old n d
+visited_here Did old now n was d h l = let size = h.size in get_or_default now n was d (omega arith)
+    ∙ h.rest n d (omega arith)
 
-pub visited_more : {X : Type 0} (Did : X → X → Type 0) (old now : List X) (n : ℕ) (was stream : X) → Visited Did old now n → n < length old
+pub visited_more : {X : Type 0} (Did : X → X → Type 0) (old now : List X) (n : ℕ) (was stream : X)
+    → Visited Did old now n → n < length old
     → Did (get_or now n was) stream → Visited Did old (set now n stream) (n + 1)
 visited_more Did old now n was stream h l did =
     let size = h.size in
@@ -41,41 +46,50 @@ visited_more Did old now n was stream h l did =
       done = λ k d m. elim (cases_eq k n) [
         | inl e ↦
             subst (λ i. Did (get_or old i d) (get_or (set now n stream) i d)) (sym e)
-            (subst (Did (get_or old n d)) (sym (get_or-set_same now n stream d (omega arith))) (subst (λ x. Did x stream) (visited_here Did old now n was d h l) did))
+            (subst (Did (get_or old n d)) (sym (get_or-set_same now n stream d (omega arith)))
+                (subst (λ x. Did x stream) (visited_here Did old now n was d h l) did))
         | inr ne ↦ subst (Did (get_or old k d)) (sym (get_or-set_other now n k stream d ne)) (h.done k d (omega arith))
       ];
       rest = λ k d le. get_or-set_other now n k stream d (λ e. omega arith) ∙ h.rest k d (omega arith);
     }
 
 -- what is so of each of a list and of one more is so of each with it
-pub each_push : {X : Type 0} (P : ℕ → X → Type 0) (xs : List X) (n : ℕ) (x : X) → length xs ≡ n → ((k : ℕ) (d : X) → k < n → P k (get_or xs k d)) → P n x
+pub each_push : {X : Type 0} (P : ℕ → X → Type 0) (xs : List X) (n : ℕ) (x : X) → length xs ≡ n
+    → ((k : ℕ) (d : X) → k < n → P k (get_or xs k d)) → P n x
     → (k : ℕ) (d : X) → k < n + 1 → P k (get_or (xs ++ x ∷ []) k d)
 each_push P xs n x size each last k d l = elim (cases_lt k n) [
   | inl before ↦ subst (P k) (sym (get_or_append_left xs (x ∷ []) d k (omega arith))) (each k d before)
   | inr here ↦
       let same : k ≡ length xs = omega arith in
-      let at : get_or (xs ++ x ∷ []) k d ≡ x = ap (λ i. get_or (xs ++ x ∷ []) i d) same ∙ get_or-append_seam xs x [] d in
+      let at : get_or (xs ++ x ∷ []) k d ≡ x = ap (λ i. get_or (xs ++ x ∷ []) i d) same
+          ∙ get_or-append_seam xs x [] d in
       subst (P k) (sym at) (subst (λ i. P i x) (let e : n ≡ k = omega arith in e) last)
 ]
 
 -- what the streams visited have brought, with what the next one found
-pub brought-more : (streams : List HeldStream) (n : ℕ) (d : HeldStream) (found : List Candidate) → n < length streams → (get_or streams n d).found ≡ Some found
-    → brought 0 (map found_by (take n streams)) ++ map (in_stream n) found ≡ brought 0 (map found_by (take (n + 1) streams))
+pub brought-more : (streams : List HeldStream) (n : ℕ) (d : HeldStream) (found : List Candidate) → n < length streams
+    → (get_or streams n d).found ≡ Some found
+    → brought 0 (map found_by (take n streams)) ++ map (in_stream n) found
+        ≡ brought 0 (map found_by (take (n + 1) streams))
 brought-more streams n d found l is =
     let before : List (List Candidate) = map found_by (take n streams) in
     let size : length before ≡ n = length-map (take n streams) found_by ∙ length-take-le n streams (omega arith) in
     let at : 0 + length before ≡ n = omega arith in
     let last : map (in_stream n) found ≡ brought (0 + length before) (found_by (get_or streams n d) ∷ [])
-    = ap (λ i. map (in_stream i) found) (sym at) ∙ ap (λ f. map (in_stream (0 + length before)) f) (sym (ap items_of is)) ∙ sym (append-nil (map (in_stream (0 + length before)) (found_by (get_or streams n d)))) in
+    = ap (λ i. map (in_stream i) found) (sym at) ∙ ap (λ f. map (in_stream (0 + length before)) f)
+        (sym (ap items_of is)) ∙ sym (append-nil (map (in_stream (0 + length before)) (found_by (get_or streams n d))))
+        in
     ap (λ t. brought 0 before ++ t) last
     ∙ sym (ap (λ t. brought 0 (map found_by t)) (take_more streams n d l)
     ∙ ap (brought 0) (map-append found_by (take n streams) (get_or streams n d ∷ []))
     ∙ brought-append 0 before (found_by (get_or streams n d) ∷ []))
 
 -- what was lent comes back as it was left
-pub given_back : {X : Type 0} (n : ℕ) (streams before : List X) → n ≡ length streams → take n (streams ++ drop (length streams) before) ≡ streams
+pub given_back : {X : Type 0} (n : ℕ) (streams before : List X) → n ≡ length streams
+    → take n (streams ++ drop (length streams) before) ≡ streams
 given_back n streams before full =
-    ap (λ m. take m (streams ++ drop (length streams) before)) full ∙ take-append_seam streams (drop (length streams) before)
+    ap (λ m. take m (streams ++ drop (length streams) before)) full
+        ∙ take-append_seam streams (drop (length streams) before)
 
 -- each of equal marks is at most a greater one
 pub all_marks : (n mark most : ℕ) (marks : List ℕ) → mark ≤ most → marks ≡ replicate n mark → All (λ m. m ≤ most) marks

@@ -1,5 +1,6 @@
 -- The law of a signal near in one stream: each candidate of the forty lanes lies near the end of a frame that was sent.
-use Rattle.std.proofs.Common.{◌≡◌, ℕ, ◌+◌, ◌*◌, ◌/◌, ◌<◌, ◌≤◌, ℤ, true, List, [], ◌∷◌, get_or, map, refl, ◌∙◌, arith, inl, inr}
+use Rattle.std.proofs.Common.{◌≡◌, ℕ, ◌+◌, ◌*◌, ◌/◌, ◌<◌, ◌≤◌, ℤ, true, List, [], ◌∷◌, get_or, map, refl, ◌∙◌, arith,
+    inl, inr}
 use Rattle.std.specs.Prelude.{nat_lt, ◌&&◌}
 use Rattle.std.specs.List.{All, AllByRecursion}
 use Rattle.std.specs.Str.{bytes_eq}
@@ -27,17 +28,21 @@ use Rattle.wide_input.proofs.WideLemmas.{lane_small}
 -- ---- each candidate is in a cluster
 
 -- less than 36 samples apart at 48,000 a second are at most seven apart in the samples of the streams
-is_in_wide : (number : ℕ) (item : Candidate) (e : TrueEnd) → number < 5 → item.offset < 40 → is_of_wide number item e ≡ true → IsIn (cluster_of e) item
+is_in_wide : (number : ℕ) (item : Candidate) (e : TrueEnd) → number < 5 → item.offset < 40
+    → is_of_wide number item e ≡ true → IsIn (cluster_of e) item
 is_in_wide number item e small lane is =
     let soon_test = nat_lt (wide_end item) (wide_place number e.end + 36) in
     let late_test = nat_lt (wide_place number e.end) (wide_end item + 36) in
     let parts = and_parts (bytes_eq item.octets e.octets) (soon_test && late_test) is in
     let near = and_parts soon_test late_test parts.1 in
-    let soon : 5 * item.end + item.offset / 8 < 5 * e.end + number + 36 = ltb-true (wide_end item) (wide_place number e.end + 36) near.0 in
-    let late : 5 * e.end + number < 5 * item.end + item.offset / 8 + 36 = ltb-true (wide_place number e.end) (wide_end item + 36) near.1 in
+    let soon : 5 * item.end + item.offset / 8 < 5 * e.end + number + 36 =
+        ltb-true (wide_end item) (wide_place number e.end + 36) near.0 in
+    let late : 5 * e.end + number < 5 * item.end + item.offset / 8 + 36 =
+        ltb-true (wide_place number e.end) (wide_end item + 36) near.1 in
     record { octets = (bytes_eq-Decides item.octets e.octets).0 parts.0; low = omega arith; high = omega arith }
 
-in_one_wide : (number : ℕ) (item : Candidate) (ends : List TrueEnd) → number < 5 → item.offset < 40 → is_sent_wide number ends item ≡ true → IsInOne (map cluster_of ends) item
+in_one_wide : (number : ℕ) (item : Candidate) (ends : List TrueEnd) → number < 5 → item.offset < 40
+    → is_sent_wide number ends item ≡ true → IsInOne (map cluster_of ends) item
 in_one_wide number item [] small lane is = cc
 in_one_wide number item (e ∷ ends) small lane is =
     elim (or_cases (is_of_wide number item e) (is_sent_wide number ends item) is) [
@@ -47,7 +52,8 @@ in_one_wide number item (e ∷ ends) small lane is =
 
 -- ---- each cluster has a candidate
 
-all_have_one_wide : (number : ℕ) (x : List ℤ) (items : List Candidate) (ends : List TrueEnd) → number < 5 → AreWideCandidates x items
+all_have_one_wide : (number : ℕ) (x : List ℤ) (items : List Candidate) (ends : List TrueEnd) → number < 5
+    → AreWideCandidates x items
     → AllByRecursion (IsFound (stream number x)) ends → AllByRecursion (HasOne items) (map cluster_of ends)
 all_have_one_wide number x items [] small are found = tt
 all_have_one_wide number x items (e ∷ ends) small are ((offset, is), others) =
@@ -60,19 +66,23 @@ all_have_one_wide number x items (e ∷ ends) small are ((offset, is), others) =
 
 -- ---- the law
 
-pub near_stream_law : (number : ℕ) (received : List Received) (x : List ℤ) → number < 5 → All IsReceived received → IsNearAll received (stream number x)
+pub near_stream_law : (number : ℕ) (received : List Received) (x : List ℤ) → number < 5 → All IsReceived received
+    → IsNearAll received (stream number x)
     → NoWideStray number (transmissions_of received) x → WideMergesTo (frames_of (transmissions_of received)) x
 near_stream_law number received x small good near no_stray items are =
     let fits : AllByRecursion IsReceived received = recursion_from_All IsReceived received good in
     let sent : List Transmission = transmissions_of received in
-    let whole : AllByRecursion IsTransmission sent = recursion_from_All IsTransmission sent (all_transmissions received fits) in
+    let whole : AllByRecursion IsTransmission sent = recursion_from_All IsTransmission sent
+        (all_transmissions received fits) in
     let carries : CarriesAll sent (stream number x) = near_carries received (stream number x) fits near in
     let ends : List TrueEnd = true_ends sent in
     let cs : List Cluster = map cluster_of ends in
     let forty : All (λ item. item.offset < 40) items = λ k d l. lane_small x (get_or items k d) (are.each k d l) in
     let known : All (λ item. IsInOne cs item) items
-    = λ k d l. in_one_wide number (get_or items k d) ends small (forty k d l) (no_stray (get_or items k d) (are.each k d l)) in
-    merge_keeps items [] 7 0 cs tt (rising items are.order (λ k d l. let lane = forty k d l in omega arith)) (all_known items 7 cs known)
+    = λ k d l. in_one_wide number (get_or items k d) ends small (forty k d l)
+        (no_stray (get_or items k d) (are.each k d l)) in
+    merge_keeps items [] 7 0 cs tt (rising items are.order (λ k d l. let lane = forty k d l in omega arith))
+        (all_known items 7 cs known)
     (apart ends 0 (spaced sent 0 0 (omega arith) whole))
     (all_have_one_wide number x items ends small are (all_found sent [] (stream number x) 0 whole carries refl))
     ∙ octets-clusters ends ∙ octets-true_ends_from sent 0

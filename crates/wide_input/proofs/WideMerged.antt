@@ -1,5 +1,6 @@
 -- The merged candidates of forty lanes, and of these with more samples.
-use Rattle.std.proofs.Common.{◌≡◌, ℕ, zero, suc, ◌+◌, ◌<◌, ◌≤◌, ℤ, List, [], ◌∷◌, ◌++◌, length, get_or, refl, ap, sym, subst, ◌∙◌, arith}
+use Rattle.std.proofs.Common.{◌≡◌, ℕ, zero, suc, ◌+◌, ◌<◌, ◌≤◌, ℤ, List, [], ◌∷◌, ◌++◌, length, get_or, refl, ap, sym,
+    subst, ◌∙◌, arith}
 use Rattle.std.specs.Prelude.{nat_lt}
 use Rattle.std.specs.List.{All, AllPairs, Contains, filter}
 use Rattle.std.proofs.lemmas.Bool.{ltb-true, lt-ltb}
@@ -17,11 +18,13 @@ use Rattle.slicer_bank.proofs.SomeList.{some_list}
 use Rattle.wide_input.specs.Streams.{stream, least_count}
 use Rattle.wide_input.specs.Candidates.{IsWideCandidate, AreWideCandidates}
 use Rattle.wide_input.specs.Held.{brought}
-use Rattle.wide_input.proofs.WideLemmas.{AreBrought, HaveFound, all_brought, placed, candidates_with, lane_small, brought_late, wide_in_order}
+use Rattle.wide_input.proofs.WideLemmas.{AreBrought, HaveFound, all_brought, placed, candidates_with, lane_small,
+    brought_late, wide_in_order}
 use Rattle.wide_input.proofs.WideSteps.{no_wide, rising_wide}
 
 -- samples have one list of wide candidates
-pub one_wide : (x : List ℤ) (items others : List Candidate) → AreWideCandidates x items → AreWideCandidates x others → items ≡ others
+pub one_wide : (x : List ℤ) (items others : List Candidate) → AreWideCandidates x items → AreWideCandidates x others
+    → items ≡ others
 one_wide x items others a b =
     same_list items others a.order b.order
     (λ k d l. b.whole (get_or items k d) (a.each k d l))
@@ -38,11 +41,13 @@ behind_of position x =
       late,
       record {
         each = λ k d l.
-            let e = All-filter (λ item. nat_lt position item.end) (λ item. IsCandidate x item × (0 < item.end)) all whole.each k d l in
+            let e = All-filter (λ item. nat_lt position item.end) (λ item. IsCandidate x item × (0 < item.end))
+                all whole.each k d l in
             (e.0, ltb-true position (get_or late k d).end (passes k d l));
         whole = λ item is l. contains_passing (λ other. nat_lt position other.end) all item
             (whole.whole item is (omega arith)) (lt-ltb position item.end l);
-        order = AllPairs-filter (λ item later. standing item < standing later) (λ item. nat_lt position item.end) all whole.order;
+        order = AllPairs-filter (λ item later. standing item < standing later) (λ item. nat_lt position item.end)
+            all whole.order;
       },
     )
 
@@ -75,18 +80,22 @@ module _ (x y : List ℤ) where
   new_are = all_brought x y founds refl founds_are
 
 -- the candidates of more samples are those of the first, and what the others bring in its places
-pub wide_begins : (x y : List ℤ) (items all : List Candidate) → AreWideCandidates x items → AreWideCandidates (x ++ y) all → all ≡ placed items (new_items x y)
-wide_begins x y items all are whole = one_wide (x ++ y) all (placed items (new_items x y)) whole (candidates_with x y items (new_items x y) are (new_are x y))
+pub wide_begins : (x y : List ℤ) (items all : List Candidate) → AreWideCandidates x items
+    → AreWideCandidates (x ++ y) all → all ≡ placed items (new_items x y)
+wide_begins x y items all are whole = one_wide (x ++ y) all (placed items (new_items x y)) whole
+    (candidates_with x y items (new_items x y) are (new_are x y))
 
 -- all samples have wide candidates
 pub some_wide : (x : List ℤ) → (items : List Candidate) × AreWideCandidates x items
 some_wide x = (placed [] (new_items [] x), candidates_with [] x [] (new_items [] x) no_wide (new_are [] x))
 
 -- more samples change nothing of what is merged below the least count
-pub below_still : (to : ℕ) (x y : List ℤ) (items all : List Candidate) → to ≤ least_count x → AreWideCandidates x items → AreWideCandidates (x ++ y) all
+pub below_still : (to : ℕ) (x y : List ℤ) (items all : List Candidate) → to ≤ least_count x → AreWideCandidates x items
+    → AreWideCandidates (x ++ y) all
     → below to (merged all) ≡ below to (merged items)
 below_still to x y items all within are whole =
     ap (λ t. below to (merged t)) (wide_begins x y items all are whole)
     ∙ below_more to items (new_items x y) (wide_in_order x items are)
-    (λ k d l. let small = lane_small (x ++ y) (get_or (new_items x y) k d) ((new_are x y).each k d l).wide in omega arith)
+    (λ k d l. let small = lane_small (x ++ y) (get_or (new_items x y) k d) ((new_are x y).each k d l).wide in
+        omega arith)
     (λ k d l. let late = brought_late x y (new_items x y) (new_are x y) k d l in omega arith)

@@ -1,5 +1,6 @@
 -- A wide bank with a block more, and at its end.
-use Rattle.std.proofs.Common.{◌≡◌, ℕ, zero, suc, ◌+◌, ◌-◌, ◌/◌, ◌^◌, ◌<◌, ◌≤◌, ℤ, Some, List, [], ◌∷◌, ◌++◌, length, get_or, map, replicate, refl, ap, sym, subst, ◌∙◌, arith, zero-add, length-append}
+use Rattle.std.proofs.Common.{◌≡◌, ℕ, zero, suc, ◌+◌, ◌-◌, ◌/◌, ◌^◌, ◌<◌, ◌≤◌, ℤ, Some, List, [], ◌∷◌, ◌++◌, length,
+    get_or, map, replicate, refl, ap, sym, subst, ◌∙◌, arith, zero-add, length-append}
 use Rattle.std.specs.Prelude.{fold}
 use Rattle.std.specs.List.{All}
 use Rattle.std.specs.List.Sorted.{IsNonDecreasingBy}
@@ -22,9 +23,11 @@ use Rattle.slicer_bank.proofs.MergedLemmas.{next_is}
 use Rattle.wide_input.specs.Streams.{stream, least_count}
 use Rattle.wide_input.specs.Candidates.{IsWideCandidate, AreWideCandidates}
 use Rattle.wide_input.specs.MergedItems.{AreWideMergedBetween, AreWideRest}
-use Rattle.wide_input.specs.Held.{HeldStream, StreamStandsFor, StreamsStandFor, HearsBlock, HasFound, AreAlike, HaveTaken, items_of, found_by, brought}
+use Rattle.wide_input.specs.Held.{HeldStream, StreamStandsFor, StreamsStandFor, HearsBlock, HasFound, AreAlike,
+    HaveTaken, items_of, found_by, brought}
 use Rattle.wide_input.proofs.StreamLemmas.{least_count-is}
-use Rattle.wide_input.proofs.WideLemmas.{AreBrought, HaveFound, all_brought, placed, candidates_with, below_stays, wide_in_order}
+use Rattle.wide_input.proofs.WideLemmas.{AreBrought, HaveFound, all_brought, placed, candidates_with, below_stays,
+    wide_in_order}
 
 -- ---- nothing taken
 
@@ -42,13 +45,17 @@ no_wide = record {
   order = λ i j d ij jl. absurd (omega arith);
 }
 
-pub taken_none : (streams : List HeldStream) (merger : HeldMerger) → StreamsStandFor streams [] → MergerStandsFor merger [] [] → HaveTaken streams merger []
-taken_none streams merger stand m = record { samples = stand; puts = []; candidates = []; are = no_wide; order = refl; so_far = m }
+pub taken_none : (streams : List HeldStream) (merger : HeldMerger) → StreamsStandFor streams []
+    → MergerStandsFor merger [] [] → HaveTaken streams merger []
+taken_none streams merger stand m = record { samples = stand; puts = []; candidates = []; are = no_wide; order = refl;
+    so_far = m }
 
 -- ---- what is merged
 
-pub rising_wide : (x : List ℤ) (candidates : List Candidate) → AreWideCandidates x candidates → IsNonDecreasingBy (λ y. y.end) (merged candidates)
-rising_wide x candidates are = merged-rising (λ y. y.end) [] candidates (rising_ends candidates (wide_in_order x candidates are))
+pub rising_wide : (x : List ℤ) (candidates : List Candidate) → AreWideCandidates x candidates
+    → IsNonDecreasingBy (λ y. y.end) (merged candidates)
+rising_wide x candidates are = merged-rising (λ y. y.end) [] candidates
+    (rising_ends candidates (wide_in_order x candidates are))
 
 least_rises : (x y : List ℤ) → least_count x ≤ least_count (x ++ y)
 least_rises x y = omega (arith, least_count-is x, least_count-is (x ++ y), length-append x y)
@@ -63,7 +70,8 @@ module _ (x y : List ℤ) (before mid : List HeldStream) (was : HeldMerger) (siz
 
   -- each stream has taken its part of the block
   mid_stand : (k : ℕ) (d : HeldStream) → k < 5 → StreamStandsFor k (get_or mid k d) (x ++ y)
-  mid_stand k d small = let found = kept k d (omega arith) in (heard k d small k x found.0 found.1 (h.samples k d small)).0
+  mid_stand k d small = let found = kept k d (omega arith) in
+      (heard k d small k x found.0 found.1 (h.samples k d small)).0
 
   -- and found what it brings
   have_found : HaveFound x y 0 (map found_by mid)
@@ -71,8 +79,10 @@ module _ (x y : List ℤ) (before mid : List HeldStream) (was : HeldMerger) (siz
       let n = length-map mid found_by in
       let small : k < 5 = omega arith in
       let found = kept k one (omega arith) in
-      let there : AreCandidatesBehind (length (stream k x)) (stream k (x ++ y)) found.0 = (heard k one small k x found.0 found.1 (h.samples k one small)).1 in
-      let at : found.0 ≡ get_or (map found_by mid) k d = sym (get_or-map found_by mid k one d (omega arith) ∙ ap items_of found.1) in
+      let there : AreCandidatesBehind (length (stream k x)) (stream k (x ++ y)) found.0 =
+          (heard k one small k x found.0 found.1 (h.samples k one small)).1 in
+      let at : found.0 ≡ get_or (map found_by mid) k d = sym (get_or-map found_by mid k one d (omega arith)
+          ∙ ap items_of found.1) in
       let number : k ≡ 0 + k = sym (zero-add k) in
       subst (λ i. AreCandidatesBehind (length (stream i x)) (stream i (x ++ y)) (get_or (map found_by mid) k d)) number
       (subst (AreCandidatesBehind (length (stream k x)) (stream k (x ++ y))) at there)
@@ -92,7 +102,8 @@ module _ (x y : List ℤ) (before mid : List HeldStream) (was : HeldMerger) (siz
 
   all : in_order (h.puts ++ items) ≡ candidates
   unfolding candidates
-  all = fold-append (λ ordered item. place item ordered) [] h.puts items ∙ ap (λ done. fold (λ ordered item. place item ordered) done items) h.order
+  all = fold-append (λ ordered item. place item ordered) [] h.puts items
+      ∙ ap (λ done. fold (λ ordered item. place item ordered) done items) h.order
 
   given : List Candidate
   given = below (least_count x) (merged h.candidates)
@@ -101,12 +112,15 @@ module _ (x y : List ℤ) (before mid : List HeldStream) (was : HeldMerger) (siz
   unfolding given candidates
   given_is = sym (below_stays x y h.candidates items h.are are_brought)
 
-  module _ (new : List HeldStream) (alike : (k : ℕ) (d : HeldStream) → k < 5 → AreAlike (get_or new k d) (get_or mid k d))
+  module _ (new : List HeldStream) (alike : (k : ℕ) (d : HeldStream) → k < 5
+      → AreAlike (get_or new k d) (get_or mid k d))
       (marked now : HeldMerger) (ready : List Candidate) (room : length (x ++ y) < 2 ^ 48)
-      (puts : (puts given : List Candidate) → MergerStandsFor was puts given → MergerStandsFor marked (puts ++ items) given)
+      (puts : (puts given : List Candidate) → MergerStandsFor was puts given
+          → MergerStandsFor marked (puts ++ items) given)
       (marks : marked.marks ≡ replicate 40 (length (x ++ y) / 5))
       (gives : (puts given : List Candidate) → MergerStandsFor marked puts given
-      → MergerStandsFor now puts (given ++ ready) × (given ++ ready ≡ below (least marked.marks) (merged (in_order puts)))) where
+      → MergerStandsFor now puts (given ++ ready)
+          × (given ++ ready ≡ below (least marked.marks) (merged (in_order puts)))) where
     at : least marked.marks ≡ least_count (x ++ y)
     at = ap least marks ∙ least-one 39 (length (x ++ y) / 5) (omega arith) ∙ sym (least_count-is (x ++ y))
 
@@ -114,11 +128,13 @@ module _ (x y : List ℤ) (before mid : List HeldStream) (was : HeldMerger) (siz
     unfolding given
     stands = puts h.puts (below (least_count x) (merged h.candidates)) h.so_far
 
-    pub taken_more : HaveTaken new now (x ++ y) × AreWideMergedBetween (least_count x) (least_count (x ++ y)) (x ++ y) ready
+    pub taken_more : HaveTaken new now (x ++ y) × AreWideMergedBetween (least_count x) (least_count (x ++ y)) (x ++ y)
+        ready
     taken_more =
         let step = gives (h.puts ++ items) given stands in
         let total : given ++ ready ≡ below (least_count (x ++ y)) (merged candidates)
-        = step.1 ∙ ap (λ t. below t (merged (in_order (h.puts ++ items)))) at ∙ ap (λ t. below (least_count (x ++ y)) (merged t)) all in (
+        = step.1 ∙ ap (λ t. below t (merged (in_order (h.puts ++ items)))) at
+            ∙ ap (λ t. below (least_count (x ++ y)) (merged t)) all in (
           record {
             samples = λ k d small.
                 let same = alike k d small in
@@ -136,19 +152,23 @@ module _ (x y : List ℤ) (before mid : List HeldStream) (was : HeldMerger) (siz
           record {
             candidates = candidates;
             are = are;
-            is = next_is (least_count x) (least_count (x ++ y)) given ready (merged candidates) (least_rises x y) (rising_wide (x ++ y) candidates are) given_is total;
+            is = next_is (least_count x) (least_count (x ++ y)) given ready (merged candidates) (least_rises x y)
+                (rising_wide (x ++ y) candidates are) given_is total;
           },
         )
 
 -- ---- the end
 
-pub gives_rest : (x : List ℤ) (streams : List HeldStream) (was marked : HeldMerger) (ready : List Candidate) → HaveTaken streams was x
+pub gives_rest : (x : List ℤ) (streams : List HeldStream) (was marked : HeldMerger) (ready : List Candidate)
+    → HaveTaken streams was x
     → ((puts given : List Candidate) → MergerStandsFor was puts given → MergerStandsFor marked puts given)
     → ((puts given : List Candidate) → MergerStandsFor marked puts given → given ++ ready ≡ merged (in_order puts))
     → AreWideRest (least_count x) x ready
 gives_rest x streams was marked ready h marks takes =
     let zs : List Candidate = merged h.candidates in
-    let total : below (least_count x) zs ++ ready ≡ zs = takes h.puts (below (least_count x) zs) (marks h.puts (below (least_count x) zs) h.so_far) ∙ ap merged h.order in
+    let total : below (least_count x) zs ++ ready ≡ zs =
+        takes h.puts (below (least_count x) zs) (marks h.puts (below (least_count x) zs) h.so_far)
+        ∙ ap merged h.order in
     record {
       candidates = h.candidates;
       are = h.are;

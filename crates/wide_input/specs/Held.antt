@@ -1,5 +1,6 @@
 -- What a wide bank keeps, and what that stands for.
-use Rattle.std.specs.Prelude.{◌≡◌, ℕ, zero, suc, ◌<◌, ℤ, List, [], ◌∷◌, ◌++◌, length, map, Bool, false, Option, Some, None, slice_index_or}
+use Rattle.std.specs.Prelude.{◌≡◌, ℕ, zero, suc, ◌<◌, ℤ, List, [], ◌∷◌, ◌++◌, length, map, Bool, false, Option, Some,
+    None, slice_index_or}
 use Rattle.std.specs.List.{All}
 use Rattle.frame_merge.specs.declared.candidate.Candidate.{Candidate}
 use Rattle.frame_merge.specs.Held.{Held as HeldMerger, StandsFor as MergerStandsFor}
@@ -31,8 +32,10 @@ pub record StreamStandsFor (number : ℕ) (held : HeldStream) (x : List ℤ) : T
 
 -- a stream heard its part of a block
 abbrev pub HearsBlock : List ℤ → HeldStream → HeldStream → Type 0
-HearsBlock block was now = (number : ℕ) (x : List ℤ) (found : List Candidate) → now.found ≡ Some found → StreamStandsFor number was x
-    → StreamStandsFor number now (x ++ block) × AreCandidatesBehind (length (stream number x)) (stream number (x ++ block)) found
+HearsBlock block was now = (number : ℕ) (x : List ℤ) (found : List Candidate) → now.found ≡ Some found
+    → StreamStandsFor number was x
+    → StreamStandsFor number now (x ++ block) × AreCandidatesBehind (length (stream number x))
+        (stream number (x ++ block)) found
 
 -- what a stream heard can be put into the lanes of its bank
 abbrev pub KeepsFit : HeldStream → Type 0
@@ -61,7 +64,8 @@ pub record AreAlike (held other : HeldStream) : Type 0 where
 
 -- each stream has taken its part of these samples
 abbrev pub StreamsStandFor : List HeldStream → List ℤ → Type 0
-StreamsStandFor streams x = (number : ℕ) (d : HeldStream) → number < 5 → StreamStandsFor number (slice_index_or streams number d) x
+StreamsStandFor streams x = (number : ℕ) (d : HeldStream) → number < 5
+    → StreamStandsFor number (slice_index_or streams number d) x
 
 pub record HeldWide : Type 0 where
   pub streams : List HeldStream

@@ -22,7 +22,8 @@ wide_end item = wide_place (item.offset / 8) item.end
 abbrev pub is_of_wide : ℕ → Candidate → TrueEnd → Bool
 is_of_wide number item sent =
     bytes_eq item.octets sent.octets
-    && (nat_lt (wide_end item) (wide_place number sent.end + 36) && nat_lt (wide_place number sent.end) (wide_end item + 36))
+    && (nat_lt (wide_end item) (wide_place number sent.end + 36) && nat_lt (wide_place number sent.end)
+        (wide_end item + 36))
 
 -- the item is one of the frames that were sent in a stream
 abbrev pub is_sent_wide : ℕ → List TrueEnd → Candidate → Bool
@@ -30,8 +31,10 @@ is_sent_wide number ends item = list_any (is_of_wide number item) ends
 
 -- no candidate of the samples is stray, for transmissions that are near in the stream of a number
 abbrev pub NoWideStray : ℕ → List Transmission → List ℤ → Type 0
-NoWideStray number transmissions x = (item : Candidate) → IsWideCandidate x item → is_sent_wide number (true_ends transmissions) item ≡ true
+NoWideStray number transmissions x = (item : Candidate) → IsWideCandidate x item
+    → is_sent_wide number (true_ends transmissions) item ≡ true
 
 -- the merged candidates of the samples have these octets, in this order
 abbrev pub WideMergesTo : List (List ℕ) → List ℤ → Type 0
-WideMergesTo frames x = (items : List Candidate) → AreWideCandidates x items → map (λ item. item.octets) (merged items) ≡ frames
+WideMergesTo frames x = (items : List Candidate) → AreWideCandidates x items
+    → map (λ item. item.octets) (merged items) ≡ frames

@@ -16,4 +16,5 @@ returns c =
     let whole = c.in_ok-control.ensures.control in
     let len : length c.args.body.now ≡ length (control_octets c.args.modulus control) + length rest =
     ap length whole.1 ∙ length-append (control_octets c.args.modulus control) rest in
-    IsOneKind-verdict c.args.modulus c.args.body.now c.args.start _ control rest c.kind_of.result whole.0 whole.1 (omega arith) c.kind_of.ensures
+    IsOneKind-verdict c.args.modulus c.args.body.now c.args.start _ control rest c.kind_of.result whole.0 whole.1
+        (omega arith) c.kind_of.ensures

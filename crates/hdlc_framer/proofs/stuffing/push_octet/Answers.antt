@@ -14,9 +14,11 @@ loop-place-preserved c =
     let bit = eqb (bit_and (c.args.octet / 2 ^ loop.place) 1) 1 in
     let more = sym (low_bits-more loop.place c.args.octet) in
     record {
-      bits = sent_more bits (bit ∷ []) c.args.left loop.left before loop.bits.items c.push_bit.new.bits.items loop.invariant.bits loop.invariant.left c.in_ok-left.ensures.bits
+      bits = sent_more bits (bit ∷ []) c.args.left loop.left before loop.bits.items c.push_bit.new.bits.items
+          loop.invariant.bits loop.invariant.left c.in_ok-left.ensures.bits
           ∙ ap (λ xs. before ++ stuffed_from xs c.args.left) more;
-      left = left_more bits (bit ∷ []) c.args.left loop.left c.in_ok-left.left loop.invariant.left c.in_ok-left.ensures.left ∙ ap (λ xs. left_after xs c.args.left) more;
+      left = left_more bits (bit ∷ []) c.args.left loop.left c.in_ok-left.left loop.invariant.left
+          c.in_ok-left.ensures.left ∙ ap (λ xs. left_after xs c.args.left) more;
       few = omega (arith, left_after-le (bit ∷ []) loop.left loop.invariant.few, c.in_ok-left.ensures.left);
     }
 
@@ -24,7 +26,8 @@ pub returns-clause-bits : goal.returns-clause-bits
 unfolding octet_bits
 returns-clause-bits c =
     let all : c.loop-place.place ≡ 8 = omega arith in
-    c.loop-place.invariant.bits ∙ ap (λ n. c.args.bits.now.items ++ stuffed_from (low_bits n c.args.octet) c.args.left) all
+    c.loop-place.invariant.bits ∙ ap (λ n. c.args.bits.now.items ++ stuffed_from (low_bits n c.args.octet) c.args.left)
+        all
 
 pub returns-clause-left : goal.returns-clause-left
 unfolding octet_bits

@@ -1,4 +1,5 @@
-use Rattle.std.proofs.Common.{◌+◌, ℤ, pos, List, [], ◌∷◌, ◌++◌, FitsSigned, get_or, length, take, ◌∙◌, arith, subst, refl, rules}
+use Rattle.std.proofs.Common.{◌+◌, ℤ, pos, List, [], ◌∷◌, ◌++◌, FitsSigned, get_or, length, take, ◌∙◌, arith, subst,
+    refl, rules}
 use Rattle.std.specs.Option.{option_to_list}
 use Rattle.std.proofs.lemmas.Int.{to_z-of_z}
 use Rattle.std.proofs.lemmas.List.{take_more, take_all}
@@ -22,8 +23,10 @@ loop-sample-preserved c =
     let i = c.loop-sample.sample-index in
     let sample : ℤ = get_or block i (pos 0) in
     let fits : FitsSigned w16 sample = search rules in
-    let step = subst (λ (z : ℤ). (y : List ℤ) → BankStandsFor c.loop-sample.bank y → BankStandsFor c.push.new.self (y ++ z ∷ [])
-    × AreCandidatesAfter (length y) (y ++ z ∷ []) (option_to_list c.in_ok-heard.heard)) (to_z-of_z w16 sample fits) c.in_ok-heard.ensures.heard in
+    let step = subst (λ (z : ℤ). (y : List ℤ) → BankStandsFor c.loop-sample.bank y
+        → BankStandsFor c.push.new.self (y ++ z ∷ [])
+    × AreCandidatesAfter (length y) (y ++ z ∷ []) (option_to_list c.in_ok-heard.heard)) (to_z-of_z w16 sample fits)
+        c.in_ok-heard.ensures.heard in
     let place = c.loop-sample.invariant.position in
     let inside = c.loop-sample-test.true in
     let further = c.push.ensures.position in
@@ -31,12 +34,15 @@ loop-sample-preserved c =
       position = omega arith;
       marks = c.put.ensures.marks ∙ c.loop-sample.invariant.marks;
       heard = λ x puts given b m.
-          heard_more c.loop-sample.bank c.push.new.self c.loop-sample.merger c.put.new.merger x (take i block) (take (i + 1) block) sample puts given
-          (option_to_list c.in_ok-heard.heard) (c.loop-sample.invariant.heard x puts given b m) (take_more block i (pos 0) (omega arith)) step c.in_ok-put.ensures.stands_for;
+          heard_more c.loop-sample.bank c.push.new.self c.loop-sample.merger c.put.new.merger x (take i block)
+              (take (i + 1) block) sample puts given
+          (option_to_list c.in_ok-heard.heard) (c.loop-sample.invariant.heard x puts given b m)
+              (take_more block i (pos 0) (omega arith)) step c.in_ok-put.ensures.stands_for;
     }
 
 pub returns-clause-heard : goal.returns-clause-heard
 returns-clause-heard c = λ x puts given b m.
     let past = c.loop-sample-test.false in
-    subst (λ (y : List ℤ). HasHeard c.loop-sample.bank c.loop-sample.merger x y puts given) (take_all c.loop-sample.sample-index c.args.block.now (omega arith))
+    subst (λ (y : List ℤ). HasHeard c.loop-sample.bank c.loop-sample.merger x y puts given)
+        (take_all c.loop-sample.sample-index c.args.block.now (omega arith))
     (c.loop-sample.invariant.heard x puts given b m)

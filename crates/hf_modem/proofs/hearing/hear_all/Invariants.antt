@@ -9,6 +9,7 @@ abbrev pub invariant-loop-sample : goal.invariant-loop-sample
 invariant-loop-sample l = record {
   position : l.bank.position ≡ l.initial.bank.position + l.sample-index;
   marks : l.merger.marks ≡ l.initial.merger.marks;
-  heard : (x : List ℤ) (puts given : List Candidate) → BankStandsFor l.initial.bank x → MergerStandsFor l.initial.merger puts given
+  heard : (x : List ℤ) (puts given : List Candidate) → BankStandsFor l.initial.bank x
+      → MergerStandsFor l.initial.merger puts given
       → HasHeard l.bank l.merger x (take l.sample-index l.block) puts given;
 }

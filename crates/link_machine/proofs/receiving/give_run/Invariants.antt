@@ -9,7 +9,8 @@ use Rattle.link_machine.proofs.receiving.give_run.Given as goal
 abbrev pub invariant-loop-packet : goal.invariant-loop-packet
 invariant-loop-packet l = record {
   formed : IsIncoming l.incoming;
-  told : l.room.told.items ++ map Given (run l.incoming.places) ≡ l.fn.room.told.items ++ map Given (run l.fn.incoming.places);
+  told : l.room.told.items ++ map Given (run l.incoming.places)
+      ≡ l.fn.room.told.items ++ map Given (run l.fn.incoming.places);
   frames : l.room.frames ≡ l.fn.room.frames;
   stands : (store : Incoming) → StandsForIncoming l.fn.incoming store → MovedSome l.incoming store;
   room : length (run l.incoming.places) ≤ told_left l.room;

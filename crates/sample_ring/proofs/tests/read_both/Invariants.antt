@@ -3,4 +3,5 @@ use Rattle.sample_ring.specs.Ends.{reader_ring}
 use Rattle.sample_ring.proofs.tests.read_both.Given as goal
 
 abbrev pub invariant-loop : goal.invariant-loop
-invariant-loop l = (reader_ring l.first.reader ≡ reader_ring l.initial.first.reader) × (reader_ring l.second.reader ≡ reader_ring l.initial.second.reader)
+invariant-loop l = (reader_ring l.first.reader ≡ reader_ring l.initial.first.reader)
+    × (reader_ring l.second.reader ≡ reader_ring l.initial.second.reader)

@@ -8,7 +8,8 @@ use Rattle.slicer_bank.proofs.hearing.hear.Goals as goal
 
 pub returns-then-not-push-clause-found : goal.returns-then-not-push-clause-found
 returns-then-not-push-clause-found c = λ tones h.
-    adds_nothing c.args.offset c.args.end _ c.args.found.now.items (λ o ends. true≢false (sym (c.push.ensures.frame tones o h ends).0 ∙ c.if-not-push.true))
+    adds_nothing c.args.offset c.args.end _ c.args.found.now.items
+        (λ o ends. true≢false (sym (c.push.ensures.frame tones o h ends).0 ∙ c.if-not-push.true))
 
 pub returns-clause-found : goal.returns-clause-found
 returns-clause-found c = λ tones h.
@@ -16,5 +17,6 @@ returns-clause-found c = λ tones h.
     let heard = c.push.ensures.heard tones h c.if-not-push.false in
     let unique : (o : List ℕ) → EndsFrame bits o → c.in_ok-octets.octets ≡ o
     = λ o ends. c.in_ok-octets.ensures ∙ c.octets.ensures o ends.2 (c.push.ensures.frame tones o h ends).1 in
-    adds_one c.args.offset c.args.end bits c.args.found.now.items c.push-2.new.self.items c.in_ok-octets.octets c.in_ok-push.ensures.items
+    adds_one c.args.offset c.args.end bits c.args.found.now.items c.push-2.new.self.items c.in_ok-octets.octets
+        c.in_ok-push.ensures.items
     (subst (EndsFrame bits) (sym (unique heard.0 heard.1)) heard.1) unique

@@ -6,4 +6,5 @@ abbrev pub decreases-loop-window : goal.decreases-loop-window
 decreases-loop-window l = length l.rest
 
 abbrev pub invariant-loop-window : goal.invariant-loop-window
-invariant-loop-window l = OwnHeard l.offset l.position l.end l.piece l.rest l.initial.lane l.lane l.initial.found.items l.found.items
+invariant-loop-window l = OwnHeard l.offset l.position l.end l.piece l.rest l.initial.lane l.lane l.initial.found.items
+    l.found.items

@@ -7,9 +7,11 @@ use Rattle.station.specs.FrameSpelling.{frame_octets}
 use Rattle.station.proofs.FrameLemmas.{frame_spelled}
 use Rattle.station.proofs.frames.written.Goals as goal
 
-spelled_result : (modulus : Modulus) (frame : Frame) (result : Result (List ℕ) OutOfMemory) → IfOk result (IsWrittenFrame frame modulus) → IfOk result (λ octets. octets ≡ frame_octets modulus frame)
+spelled_result : (modulus : Modulus) (frame : Frame) (result : Result (List ℕ) OutOfMemory)
+    → IfOk result (IsWrittenFrame frame modulus) → IfOk result (λ octets. octets ≡ frame_octets modulus frame)
 spelled_result modulus frame (Ok octets) h = frame_spelled modulus frame octets h
 spelled_result modulus frame (Err fault) h = tt
 
 pub returns-clause-octets : goal.returns-clause-octets
-returns-clause-octets c = spelled_result c.args.modulus c.args.frame.now c.write_frame.result c.write_frame.ensures.written
+returns-clause-octets c = spelled_result c.args.modulus c.args.frame.now c.write_frame.result
+    c.write_frame.ensures.written

@@ -5,7 +5,8 @@ use Rattle.selective_reject.specs.declared.packet.Packet.{Packet}
 use Rattle.station.proofs.giving.packet_at.Goals as goal
 
 -- the first 256 octets of the rest
-first_of_rest : (octets : List ℕ) (from len : ℕ) → len ≡ min (length octets - from) 256 → take len (take (length octets - from) (drop from octets)) ≡ take 256 (drop from octets)
+first_of_rest : (octets : List ℕ) (from len : ℕ) → len ≡ min (length octets - from) 256
+    → take len (take (length octets - from) (drop from octets)) ≡ take 256 (drop from octets)
 first_of_rest octets from len is =
     let size : length (drop from octets) ≡ length octets - from = length-drop from octets in
     let shorter : len ≡ min 256 (length (drop from octets)) = omega (arith, is, size) in
@@ -19,6 +20,7 @@ returns c =
     let from = c.args.place * 256 in
     let least : c.min-len.result ≡ min (length octets - from) 256 = omega (arith, c.min-len.ensures) in
     let place : from ≡ 256 * c.args.place = omega arith in
-    let given : c.in_ok-from_slice.field-0 ≡ take c.min-len.result (take (length octets - from) (drop from octets)) = c.in_ok-from_slice.ensures in
+    let given : c.in_ok-from_slice.field-0 ≡ take c.min-len.result (take (length octets - from) (drop from octets)) =
+        c.in_ok-from_slice.ensures in
     let made : List ℕ → Packet = λ part. record { pid = c.args.pid; octets = part } in
     ap made (given ∙ first_of_rest octets from c.min-len.result least ∙ ap (λ n. take 256 (drop n octets)) place)

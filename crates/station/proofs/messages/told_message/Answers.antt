@@ -7,5 +7,6 @@ use Rattle.station.proofs.messages.told_message.Goals as goal
 
 pub returns-in-Ended : goal.returns-in-Ended
 returns-in-Ended c =
-    subst (λ (told : Told). IfOk c.call_message-in-Ended.result (λ octets. octets ≡ spelling (message_of_told c.args.local.now c.args.remote.now told)))
+    subst (λ (told : Told). IfOk c.call_message-in-Ended.result (λ octets. octets
+        ≡ spelling (message_of_told c.args.local.now c.args.remote.now told)))
     (sym c.in-Ended.is) c.call_message-in-Ended.ensures

@@ -6,6 +6,8 @@ use Rattle.station.proofs.reading.read_messages.Given as goal
 -- the octets so far are read, and gave these messages
 abbrev pub invariant-loop-octet : goal.invariant-loop-octet
 invariant-loop-octet l = record {
-  stands_for : (stream : List ℕ) → StandsFor l.fn.reader stream → StandsFor l.reader (stream ++ take l.octet-index l.octets);
-  messages : (stream : List ℕ) → StandsFor l.fn.reader stream → messages_in (stream ++ take l.octet-index l.octets) ≡ messages_in stream ++ l.messages.items;
+  stands_for : (stream : List ℕ) → StandsFor l.fn.reader stream
+      → StandsFor l.reader (stream ++ take l.octet-index l.octets);
+  messages : (stream : List ℕ) → StandsFor l.fn.reader stream
+      → messages_in (stream ++ take l.octet-index l.octets) ≡ messages_in stream ++ l.messages.items;
 }

@@ -21,7 +21,8 @@ is_report options words report text asked over order is = record {
 pub returns-in-Ok-clause-done : goal.returns-in-Ok-clause-done
 returns-in-Ok-clause-done g c = λ before was. (
   c.as_bytes.result.now,
-  is_report c.args.options c.bench_words.result _ c.as_bytes.result.now c.bench_words.ensures c.in_ok-report.ensures.over
+  is_report c.args.options c.bench_words.result _ c.as_bytes.result.now c.bench_words.ensures
+      c.in_ok-report.ensures.over
       c.in_ok-report.ensures.order (c.as_bytes.ensures.value ∙ c.in_ok-text.ensures),
   c.in-Ok.ensures.appends before was,
 )
@@ -29,7 +30,8 @@ returns-in-Ok-clause-done g c = λ before was. (
 pub returns-clause-cut : goal.returns-clause-cut
 returns-clause-cut g c = λ before was failed. (
   c.as_bytes.result.now,
-  is_report c.args.options c.bench_words.result _ c.as_bytes.result.now c.bench_words.ensures c.in_ok-report.ensures.over
+  is_report c.args.options c.bench_words.result _ c.as_bytes.result.now c.bench_words.ensures
+      c.in_ok-report.ensures.over
       c.in_ok-report.ensures.order (c.as_bytes.ensures.value ∙ c.in_ok-text.ensures),
   c.in-Err.ensures.partly before was,
 )

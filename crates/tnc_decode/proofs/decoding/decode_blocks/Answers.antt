@@ -10,12 +10,15 @@ use Rattle.tnc_decode.proofs.decoding.decode_blocks.Goals as goal
 pub returns-in_err-receiver-clause-ended : goal.returns-in_err-receiver-clause-ended
 returns-in_err-receiver-clause-ended g c = λ octets left.
     let told = err_from_is_err_and c.from_residual.result c.from_residual.ensures.1 in
-    subst (IsEnded c.args.words octets (g.I.Source.left c.args.input.now) (g.O.Sink.written c.args.output.now) (g.O.Sink.written c.args.output.now))
-    (sym (told.1 ∙ ap Err told.2)) (ended_first c.args.words octets (g.I.Source.left c.args.input.now) (g.O.Sink.written c.args.output.now) left)
+    subst (IsEnded c.args.words octets (g.I.Source.left c.args.input.now) (g.O.Sink.written c.args.output.now)
+        (g.O.Sink.written c.args.output.now))
+    (sym (told.1 ∙ ap Err told.2)) (ended_first c.args.words octets (g.I.Source.left c.args.input.now)
+        (g.O.Sink.written c.args.output.now) left)
 
 pub reading-init : goal.reading-init
 reading-init g c = record {
-  so_far = λ whole left. progress_none c.args.words whole (g.I.Source.left c.args.input.now) c.in_ok-receiver.receiver (g.O.Sink.written c.args.output.now) left (c.in_ok-receiver.ensures.heard);
+  so_far = λ whole left. progress_none c.args.words whole (g.I.Source.left c.args.input.now) c.in_ok-receiver.receiver
+      (g.O.Sink.written c.args.output.now) left (c.in_ok-receiver.ensures.heard);
   bound = omega arith;
   position = (let p = c.in_ok-receiver.ensures.position in omega arith);
   unfinished = c.in_ok-receiver.ensures.unfinished;
@@ -27,7 +30,8 @@ reading-init g c = record {
 
 pub returns-in_default-clause-ended : goal.returns-in_default-clause-ended
 returns-in_default-clause-ended g c = λ octets left.
-    ended_read c.args.words octets (g.I.Source.left c.reading.input) c.reading.receiver (g.O.Sink.written c.args.output.now) (g.O.Sink.written c.reading.output) c.reading.total
+    ended_read c.args.words octets (g.I.Source.left c.reading.input) c.reading.receiver
+        (g.O.Sink.written c.args.output.now) (g.O.Sink.written c.reading.output) c.reading.total
     (c.reading.invariant.so_far octets left) (g.I.Source.left c.read.new.self) c.in_default.ensures.kept
 
 pub returns-in_err-end-clause-ended : goal.returns-in_err-end-clause-ended
@@ -42,10 +46,12 @@ returns-in_err-end-clause-ended g c = λ octets left.
     let e = c.read.auto.buffer in
     let below = c.reading-test.true in
     let room : 0 < length c.read.new.buffer = grind (arith, common_steps) in
-    let ends = nothing_left c.args.words octets (g.I.Source.left c.reading.input) c.reading.receiver was mid c.reading.total p c.read.new.buffer next c.in-Ok.count room c.if-count-eq0.true
+    let ends = nothing_left c.args.words octets (g.I.Source.left c.reading.input)
+        c.reading.receiver was mid c.reading.total p c.read.new.buffer next c.in-Ok.count room c.if-count-eq0.true
     (c.in-Ok.ensures.gives p.taken.rest p.taken.left_over) in
     subst (IsEnded c.args.words octets next was now) (sym (told.1 ∙ ap Err told.2))
-    (ended_end c.args.words octets (g.I.Source.left c.reading.input) c.reading.receiver was mid c.reading.total p next now ends.0 ends.1 ends.2 below
+    (ended_end c.args.words octets (g.I.Source.left c.reading.input)
+        c.reading.receiver was mid c.reading.total p next now ends.0 ends.1 ends.2 below
     c.in_err-end.field-0.0 c.in_err-end.ensures.bad c.in_err-end.ensures.wrote c.in_err-end.ensures.cut
     (λ is. ap g.O.Sink.written (c.in_err-end.ensures.unwritten is)) c.in_err-end.ensures.read)
 
@@ -60,10 +66,13 @@ returns-then-count-eq0-clause-ended g c = λ octets left.
     let e = c.read.auto.buffer in
     let below = c.reading-test.true in
     let room : 0 < length c.read.new.buffer = grind (arith, common_steps) in
-    let ends = nothing_left c.args.words octets (g.I.Source.left c.reading.input) c.reading.receiver was mid c.reading.total p c.read.new.buffer next c.in-Ok.count room c.if-count-eq0.true
+    let ends = nothing_left c.args.words octets (g.I.Source.left c.reading.input)
+        c.reading.receiver was mid c.reading.total p c.read.new.buffer next c.in-Ok.count room c.if-count-eq0.true
     (c.in-Ok.ensures.gives p.taken.rest p.taken.left_over) in
-    ended_ok c.args.words octets (g.I.Source.left c.reading.input) c.reading.receiver was mid c.reading.total p next now ends.0 ends.1 ends.2 below
-    (c.in_ok-end.ensures.heard c.args.words p.read p.text p.heard) (c.in_ok-end.ensures.wrote c.args.words p.read p.text p.heard (inl (refl {a = true})))
+    ended_ok c.args.words octets (g.I.Source.left c.reading.input)
+        c.reading.receiver was mid c.reading.total p next now ends.0 ends.1 ends.2 below
+    (c.in_ok-end.ensures.heard c.args.words p.read p.text p.heard)
+        (c.in_ok-end.ensures.wrote c.args.words p.read p.text p.heard (inl (refl {a = true})))
 
 pub returns-in_err-hear-clause-ended : goal.returns-in_err-hear-clause-ended
 returns-in_err-hear-clause-ended g c = λ octets left.
@@ -79,7 +88,8 @@ returns-in_err-hear-clause-ended g c = λ octets left.
     let below = c.reading-test.true in
     let few : c.reading.total + c.in-Ok.count ≤ input_limit + 1 = grind (arith, common_steps) in
     subst (IsEnded c.args.words octets next was now) (sym (told.1 ∙ ap Err told.2))
-    (ended_piece c.args.words octets (g.I.Source.left c.reading.input) c.reading.receiver was mid c.reading.total p c.read.new.buffer _ _ next now c.in-Ok.count d
+    (ended_piece c.args.words octets (g.I.Source.left c.reading.input)
+        c.reading.receiver was mid c.reading.total p c.read.new.buffer _ _ next now c.in-Ok.count d
     (c.in-Ok.ensures.gives p.taken.rest p.taken.left_over) refl few c.hear.new.self
     c.in_err-hear.field-0.0 c.in_err-hear.ensures.stops c.in_err-hear.ensures.cut
     (λ is. ap g.O.Sink.written (c.in_err-hear.ensures.unwritten is)) c.in_err-hear.ensures.read)
@@ -93,11 +103,14 @@ reading-preserved g c =
     record {
       so_far = λ whole left.
           let p = c.reading.invariant.so_far whole left in
-          progress_more c.args.words whole (g.I.Source.left c.reading.input) c.reading.receiver (g.O.Sink.written c.args.output.now) (g.O.Sink.written c.reading.output) c.reading.total p
-          c.read.new.buffer _ _ (g.I.Source.left c.read.new.self) c.in-Ok.count d (c.in-Ok.ensures.gives p.taken.rest p.taken.left_over) refl
+          progress_more c.args.words whole (g.I.Source.left c.reading.input) c.reading.receiver
+              (g.O.Sink.written c.args.output.now) (g.O.Sink.written c.reading.output) c.reading.total p
+          c.read.new.buffer _ _ (g.I.Source.left c.read.new.self) c.in-Ok.count d
+              (c.in-Ok.ensures.gives p.taken.rest p.taken.left_over) refl
           c.hear.new.self (g.O.Sink.written c.hear.new.output) c.in_ok-hear.ensures.heard;
       bound = grind (arith, common_steps);
-      position = (let was = c.reading.invariant.position in let now = c.in_ok-hear.ensures.position in grind (arith, common_steps));
+      position = (let was = c.reading.invariant.position in let now = c.in_ok-hear.ensures.position in
+          grind (arith, common_steps));
       unfinished = c.in_ok-hear.ensures.unfinished;
       read_later = (let was = c.reading.invariant.read_later in let now = c.in-Ok.ensures.later in omega arith);
       write_later = (let was = c.reading.invariant.write_later in let now = c.in_ok-hear.ensures.later in omega arith);
@@ -110,4 +123,5 @@ returns-clause-ended g c = λ octets left.
     let p = c.reading.invariant.so_far octets left in
     let most = c.reading.invariant.bound in
     let past = c.reading-test.false in
-    ended_long c.args.words octets (g.I.Source.left c.reading.input) c.reading.receiver (g.O.Sink.written c.args.output.now) (g.O.Sink.written c.reading.output) c.reading.total p (omega arith)
+    ended_long c.args.words octets (g.I.Source.left c.reading.input) c.reading.receiver
+        (g.O.Sink.written c.args.output.now) (g.O.Sink.written c.reading.output) c.reading.total p (omega arith)

@@ -8,5 +8,6 @@ pub returns-clause-stands_for : goal.returns-clause-stands_for
 unfolding line_after
 returns-clause-stands_for c = record {
   line = c.new.ensures;
-  carrier = subst (λ carrier. CarrierStandsFor carrier []) (sym c.new-2.ensures) (carrier_new c.args.flags c.requires.0);
+  carrier = subst (λ carrier. CarrierStandsFor carrier []) (sym c.new-2.ensures)
+      (carrier_new c.args.flags c.requires.0);
 }

@@ -7,5 +7,6 @@ returns-clause-stands_for c = record {
   spent = refl;
   finished = refl;
   count = refl;
-  taken = taken_none c.in_ok-new.field-0 c.in_ok-new-2.field-0 c.in_ok-new.ensures.stands_for c.in_ok-new-2.ensures.stands_for;
+  taken = taken_none c.in_ok-new.field-0 c.in_ok-new-2.field-0 c.in_ok-new.ensures.stands_for
+      c.in_ok-new-2.ensures.stands_for;
 }

@@ -5,4 +5,5 @@ use Rattle.link_machine.proofs.machine.Machine.call.Goals as goal
 
 pub returns-clause-shows : goal.returns-clause-shows
 returns-clause-shows c = λ t h.
-    c.send_call.ensures.shows (setting calling t) (shows_control calling c.args.self.now c.call.new.self c.args.room.now t c.call.ensures h)
+    c.send_call.ensures.shows (setting calling t)
+        (shows_control calling c.args.self.now c.call.new.self c.args.room.now t c.call.ensures h)

@@ -1,6 +1,8 @@
 use Rattle.std.proofs.Common.{◌≡◌, ◌+◌, ◌-◌, ◌%◌, sym, ◌∙◌, subst, rules}
-use Rattle.selective_reject.specs.Outgoing.{Outgoing, StandsForOutgoing, reduced_outgoing, acknowledged, acknowledgement, after_acknowledge}
-use Rattle.selective_reject.proofs.OutgoingRounds.{same_acknowledgement, stands_for-after_acknowledge, acknowledge-truly}
+use Rattle.selective_reject.specs.Outgoing.{Outgoing, StandsForOutgoing, reduced_outgoing, acknowledged,
+    acknowledgement, after_acknowledge}
+use Rattle.selective_reject.proofs.OutgoingRounds.{same_acknowledgement, stands_for-after_acknowledge,
+    acknowledge-truly}
 use Rattle.selective_reject.proofs.outgoing.OutStore.acknowledge.Goals as goal
 
 pub returns-in_err-count-clause-stands_for : goal.returns-in_err-count-clause-stands_for
@@ -10,7 +12,8 @@ returns-in_err-count-clause-stands_for c store h =
     let becomes : held ≡ reduced_outgoing (after_acknowledge c.args.modulus c.args.nr held) = search rules in
     let Q : Outgoing → Type 0 = λ t. StandsForOutgoing t (after_acknowledge c.args.modulus c.args.nr store) in (
       is_refused ∙ same_acknowledgement held store c.args.modulus c.args.nr c.requires.modulus h,
-      subst Q (sym becomes) (stands_for-after_acknowledge held store c.args.modulus c.args.nr c.requires.modulus c.acknowledgement.ensures.formed h),
+      subst Q (sym becomes) (stands_for-after_acknowledge held store c.args.modulus c.args.nr c.requires.modulus
+          c.acknowledgement.ensures.formed h),
     )
 
 pub returns-in_err-count-clause-true_number : goal.returns-in_err-count-clause-true_number
@@ -19,7 +22,8 @@ returns-in_err-count-clause-true_number c store number h low sent high is =
     let is_refused : c.from_residual.result ≡ acknowledgement c.args.modulus c.args.nr held = search rules in
     let becomes : held ≡ reduced_outgoing (after_acknowledge c.args.modulus c.args.nr held) = search rules in
     let Q : Outgoing → Type 0 = λ t. StandsForOutgoing t (acknowledged number store) in
-    let truly = acknowledge-truly held store c.args.modulus number c.args.nr c.requires.modulus c.acknowledgement.ensures.formed h low sent high is in
+    let truly = acknowledge-truly held store c.args.modulus number c.args.nr c.requires.modulus
+        c.acknowledgement.ensures.formed h low sent high is in
     (is_refused ∙ truly.0, subst Q (sym becomes) truly.1)
 
 pub returns-clause-stands_for : goal.returns-clause-stands_for
@@ -36,7 +40,8 @@ returns-clause-stands_for c store h =
     let becomes : new ≡ reduced_outgoing (after_acknowledge c.args.modulus c.args.nr held) = search rules in
     let Q : Outgoing → Type 0 = λ t. StandsForOutgoing t (after_acknowledge c.args.modulus c.args.nr store) in (
       c.in_ok-count.ensures.count ∙ same_acknowledgement held store c.args.modulus c.args.nr c.requires.modulus h,
-      subst Q (sym becomes) (stands_for-after_acknowledge held store c.args.modulus c.args.nr c.requires.modulus c.acknowledgement.ensures.formed h),
+      subst Q (sym becomes) (stands_for-after_acknowledge held store c.args.modulus c.args.nr c.requires.modulus
+          c.acknowledgement.ensures.formed h),
     )
 
 pub returns-clause-true_number : goal.returns-clause-true_number
@@ -52,5 +57,6 @@ returns-clause-true_number c store number h low sent high is =
     } in
     let becomes : new ≡ reduced_outgoing (after_acknowledge c.args.modulus c.args.nr held) = search rules in
     let Q : Outgoing → Type 0 = λ t. StandsForOutgoing t (acknowledged number store) in
-    let truly = acknowledge-truly held store c.args.modulus number c.args.nr c.requires.modulus c.acknowledgement.ensures.formed h low sent high is in
+    let truly = acknowledge-truly held store c.args.modulus number c.args.nr c.requires.modulus
+        c.acknowledgement.ensures.formed h low sent high is in
     (c.in_ok-count.ensures.count ∙ truly.0, subst Q (sym becomes) truly.1)

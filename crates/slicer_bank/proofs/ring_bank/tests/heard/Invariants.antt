@@ -5,7 +5,8 @@ use Rattle.slicer_bank.specs.RingLanes.{readers_in}
 use Rattle.slicer_bank.proofs.ring_bank.tests.heard.Given as goal
 
 abbrev pub invariant-loop-rest : goal.invariant-loop-rest
-invariant-loop-rest g l = (writer_ring l.writer ≡ ring_id l.fn.ring) × All (λ reader. reader_ring reader ≡ ring_id l.fn.ring) (readers_in l.bank)
+invariant-loop-rest g l = (writer_ring l.writer ≡ ring_id l.fn.ring)
+    × All (λ reader. reader_ring reader ≡ ring_id l.fn.ring) (readers_in l.bank)
 
 abbrev pub decreases-loop-rest : goal.decreases-loop-rest
 decreases-loop-rest g l = length l.rest

@@ -6,5 +6,6 @@ use Rattle.slicer_bank.proofs.stretch_lane.StretchLane.begin.Goals as goal
 pub returns-clause-stands_for : goal.returns-clause-stands_for
 returns-clause-stands_for c = record {
   slicer = c.skip.ensures.stands_for;
-  deframer = subst (StandsFor c.reset.new.self) (sym (no_bits c.args.self.now.offset c.args.to)) c.reset.ensures.stands_for;
+  deframer = subst (StandsFor c.reset.new.self) (sym (no_bits c.args.self.now.offset c.args.to))
+      c.reset.ensures.stands_for;
 }

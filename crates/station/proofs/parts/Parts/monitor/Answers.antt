@@ -11,7 +11,8 @@ returns-in-Some c = record {
   shows = λ turn shows.
       let frame = c.in-Some.frame in
       let is : IsReadAs c.args.modulus c.args.octets.now (Some frame) =
-      subst (λ (read : Option Frame). IsReadAs c.args.modulus c.args.octets.now read) c.in-Some.is c.in_ok-frame.ensures in
+      subst (λ (read : Option Frame). IsReadAs c.args.modulus c.args.octets.now read)
+          c.in-Some.is c.in_ok-frame.ensures in
       on_ok_weaker c.show_frame.result (λ s. (Some frame, is, s)) (c.show_frame.ensures.shows turn shows);
 }
 
@@ -19,6 +20,7 @@ pub returns-in-None : goal.returns-in-None
 returns-in-None c = record {
   shows = λ turn shows.
       let is : IsReadAs c.args.modulus c.args.octets.now None =
-      subst (λ (read : Option Frame). IsReadAs c.args.modulus c.args.octets.now read) c.in-None.is c.in_ok-frame.ensures in
+      subst (λ (read : Option Frame). IsReadAs c.args.modulus c.args.octets.now read)
+          c.in-None.is c.in_ok-frame.ensures in
       (None, is, shows_nothing c.args.self.now c.args.out.now turn shows);
 }

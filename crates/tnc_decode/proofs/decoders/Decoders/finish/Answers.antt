@@ -19,12 +19,15 @@ use Rattle.tnc_decode.proofs.decoders.Decoders.finish.Goals as goal
 pub returns-in-Plain : goal.returns-in-Plain
 returns-in-Plain c =
     let decoder = c.in-Plain.decoder in
-    let P : Decoders → Type 0 = λ self. position_of self < 2 ^ 48 → IfOk c.finish.result (λ items. (modem : Modem) (x : List ℤ) → HasDecoded modem self x
+    let P : Decoders → Type 0 = λ self. position_of self < 2 ^ 48
+        → IfOk c.finish.result (λ items. (modem : Modem) (x : List ℤ) → HasDecoded modem self x
     → AreGivenRest modem (settled_count modem x) x items.items) in
     record {
       rest = subst P (sym c.in-Plain.is) (λ room. IfOk-weaker c.finish.result
-          (λ items. (x : List ℤ) → length x < 2 ^ 48 → StandsFor decoder x → AreMergedBetween (length x) (length x + 1) x items.items)
-          (λ items. (modem : Modem) (x : List ℤ) → HasDecoded modem (Plain decoder) x → AreGivenRest modem (settled_count modem x) x items.items)
+          (λ items. (x : List ℤ) → length x < 2 ^ 48 → StandsFor decoder x
+              → AreMergedBetween (length x) (length x + 1) x items.items)
+          (λ items. (modem : Modem) (x : List ℤ) → HasDecoded modem (Plain decoder) x
+              → AreGivenRest modem (settled_count modem x) x items.items)
           (λ items rest. plain_finish decoder items.items room rest)
           c.finish.ensures.rest) c.requires.room;
     }
@@ -33,12 +36,15 @@ pub returns-in-ShortWave : goal.returns-in-ShortWave
 returns-in-ShortWave c =
     let decoder = c.in-ShortWave.decoder in
     let result = c.finish-in-ShortWave.result in
-    let P : Decoders → Type 0 = λ self. position_of self < 2 ^ 48 → IfOk result (λ items. (modem : Modem) (x : List ℤ) → HasDecoded modem self x
+    let P : Decoders → Type 0 = λ self. position_of self < 2 ^ 48
+        → IfOk result (λ items. (modem : Modem) (x : List ℤ) → HasDecoded modem self x
     → AreGivenRest modem (settled_count modem x) x items.items) in
     record {
       rest = subst P (sym c.in-ShortWave.is) (λ room. IfOk-weaker result
-          (λ items. (x : List ℤ) → length x < 2 ^ 48 → HfStandsFor decoder x → AreHfMergedBetween (length x / 4) (length x / 4 + 1) x items.items)
-          (λ items. (modem : Modem) (x : List ℤ) → HasDecoded modem (ShortWave decoder) x → AreGivenRest modem (settled_count modem x) x items.items)
+          (λ items. (x : List ℤ) → length x < 2 ^ 48 → HfStandsFor decoder x
+              → AreHfMergedBetween (length x / 4) (length x / 4 + 1) x items.items)
+          (λ items. (modem : Modem) (x : List ℤ) → HasDecoded modem (ShortWave decoder) x
+              → AreGivenRest modem (settled_count modem x) x items.items)
           (λ items rest. short_wave_finish decoder items.items room rest)
           c.finish-in-ShortWave.ensures.rest) c.requires.room;
     }

@@ -18,8 +18,12 @@ returns c =
     let stepped = λ (rates : Rates) (same : held.rates ≡ rates). subst Q same took.step in
     let told : c.answer.result ≡ answer_of (fault_of_part next.part) sample = subst P c.self.view_is c.answer.ensures in
     record {
-      stands_for = λ rates octets stands. stands_next rates held octets octet stands took.fitted next sample (stepped rates stands.takes) took.fits took.rates took.place;
-      sample = λ rates octets stands. given_next rates held octets octet stands took.fitted next sample (stepped rates stands.takes) took.fits ∙ ap (λ answer. samples_in rates octets ++ given answer) (sym told);
-      fault = λ rates octets stands. fault_next rates held octets octet stands took.fitted next sample (stepped rates stands.takes) took.fits ∙ ap result_err (sym told);
-      again = λ rates octets fault stands shown. told ∙ fault_again rates held octets octet fault sample next stands took.fitted (stepped rates stands.takes) shown;
+      stands_for = λ rates octets stands. stands_next rates held octets octet stands took.fitted next sample
+          (stepped rates stands.takes) took.fits took.rates took.place;
+      sample = λ rates octets stands. given_next rates held octets octet stands took.fitted next sample
+          (stepped rates stands.takes) took.fits ∙ ap (λ answer. samples_in rates octets ++ given answer) (sym told);
+      fault = λ rates octets stands. fault_next rates held octets octet stands took.fitted next sample
+          (stepped rates stands.takes) took.fits ∙ ap result_err (sym told);
+      again = λ rates octets fault stands shown. told
+          ∙ fault_again rates held octets octet fault sample next stands took.fitted (stepped rates stands.takes) shown;
     }

@@ -7,5 +7,6 @@ returns-clause-stands_for c = record {
   spent = refl;
   finished = refl;
   count = refl;
-  taken = taken_none c.in_ok-new_streams.field-0.items c.in_ok-new.field-0 c.in_ok-new_streams.ensures.stand_for c.in_ok-new.ensures.stands_for;
+  taken = taken_none c.in_ok-new_streams.field-0.items c.in_ok-new.field-0 c.in_ok-new_streams.ensures.stand_for
+      c.in_ok-new.ensures.stands_for;
 }
