@@ -4,7 +4,9 @@
   scripts/scores.py                 a table with 100 frames a row
   scripts/scores.py --frames 20     with another number
   scripts/scores.py --sensitive     and what `tnc decode --sensitive` hears
-  scripts/scores.py --beside        and what atest and multimon-ng hear of the same sound, if they are installed
+  scripts/scores.py --more          rows of its own: noise by half decibels, clocks that are far off, an FM receiver's sound
+  scripts/scores.py --beside        and what atest (as it is, and as `atest -P E+ -F 1`), soundmodem and multimon-ng hear of
+                                    the same sound, if they are installed
   scripts/scores.py --check         12 frames a row, each count held against its bounds; status 1 outside
   scripts/scores.py --noise 40      how many lines come of 40 hours of white noise, which holds no frame; with --sensitive
                                     too, of that decoder
@@ -19,10 +21,13 @@ import array
 import math
 import os
 import random
+import select
 import shutil
 import subprocess
 import sys
 import tempfile
+import time
+import tty
 from collections import Counter
 
 TOP = os.path.dirname(os.path.dirname(os.path.abspath(__file__)))
@@ -180,6 +185,42 @@ def rows(count):
         yield f"another sender at once, {under} dB weaker", least, most, mixed, added(clean, other), others
 
 
+def filtered(samples, first, before, last):
+    """The filter y[n] = first * x[n] + before * x[n - 1] + last * y[n - 1]."""
+    made, was, now = [], 0.0, 0.0
+    for sample in samples:
+        now = first * sample + before * was + last * now
+        was = sample
+        made.append(now)
+    return made
+
+
+def of_unit_power(samples):
+    power = math.sqrt(sum(sample * sample for sample in samples) / len(samples))
+    return [sample / power for sample in samples]
+
+
+# More rows, without bounds: noise by half decibels, clocks that are far off, and what an FM receiver makes of a signal. The
+# noise of its discriminator rises with the frequency; its de-emphasis takes 6 dB an octave from both (here above 212 Hz).
+def more_rows(count):
+    mixed = frames(count, 1, None)
+    clean = sound(mixed, 11)
+    for half in range(14, -3, -1):
+        yield f"noise, {half / 2:g} dB", 0, count, mixed, noisy(clean, half / 2), []
+    short = frames(count, 2, 20)
+    for clock in (1000, 2000, 3000, 5000, 10000, 20000, 40000):
+        for sign in (-1, 1):
+            made = noisy(sound(short, 13, clock=sign * clock), 10)
+            yield f"clock {sign * clock:+} ppm, noise, 10 dB", 0, count, short, made, []
+    rising = of_unit_power(filtered(NOISE.of(len(clean)), 1, -1, 0))
+    decay = math.exp(-2 * math.pi * 212 / RATE)
+    for ratio in (10, 8, 6, 4, 2, 0):
+        power = LEVEL / math.sqrt(2) / 10 ** (ratio / 20)
+        heard = [sample + power * noise for sample, noise in zip(clean, rising)]
+        yield f"FM noise, {ratio} dB", 0, count, mixed, heard, []
+        yield f"FM noise, {ratio} dB, de-emphasis", 0, count, mixed, filtered(heard, 4 * (1 - decay), 0, decay), []
+
+
 # Bounds of the checked frames: what a correct receiver of this kind hears of the fixed sound, and one or two frames of
 # room where a sample that is rounded otherwise could turn the outcome.
 CLEAN = (12, 12)
@@ -224,10 +265,10 @@ def resampled(samples, rate, kind, to):
     subprocess.run(words, input=octets_of(samples), stderr=subprocess.DEVNULL, check=True)
 
 
-def heard_by_atest(_, samples, room):
+def heard_by_atest(_, samples, room, *options):
     """The frames in the hexadecimal dumps of Dire Wolf's atest."""
     resampled(samples, 48000, "wav", f"{room}/48000.wav")
-    run = subprocess.run(["atest", "-B", "1200", "-h", f"{room}/48000.wav"], capture_output=True)
+    run = subprocess.run(["atest", "-B", "1200", *options, "-h", f"{room}/48000.wav"], capture_output=True)
     made, part = [], ""
     for line in run.stdout.decode(errors="replace").splitlines() + [""]:
         if line.startswith("  ") and line[5:8] == ":  ":
@@ -236,6 +277,54 @@ def heard_by_atest(_, samples, room):
             made.append(part)
             part = ""
     return made
+
+
+def heard_by_atest_repairing(tnc, samples, room):
+    """With two demodulators, and with frames repaired by one bit."""
+    return heard_by_atest(tnc, samples, room, "-P", "E+", "-F", "1")
+
+
+SOUNDMODEM = """<?xml version="1.0"?>
+<modem><configuration name="file">
+<chaccess txdelay="150" slottime="100" ppersist="40" fulldup="0" txtail="10"/>
+<audio type="file" file="{sound}" repeat="0"/><ptt file="none"/>
+<channel name="0">
+<mod mode="afsk" bps="1200" f0="1200" f1="2200" diffenc="1"/>
+<demod mode="afsk" bps="1200" f0="1200" f1="2200" diffdec="1"/>
+<pkt mode="KISS" file="{port}" unlink="1"/>
+</channel></configuration></modem>
+"""
+
+
+def heard_by_soundmodem(_, samples, room):
+    """The data frames that soundmodem gives a KISS host, until it has been silent for two seconds."""
+    resampled(samples, RATE, "wav", f"{room}/9600.wav")
+    port = f"{room}/kiss"
+    with open(f"{room}/soundmodem.conf", "w") as made:
+        made.write(SOUNDMODEM.format(sound=f"{room}/9600.wav", port=port))
+    if os.path.islink(port):
+        os.unlink(port)
+    words = ["soundmodem", f"{room}/soundmodem.conf", "-v", "0"]
+    program = subprocess.Popen(words, stdout=subprocess.DEVNULL, stderr=subprocess.DEVNULL)
+    try:
+        begun = time.monotonic()
+        while not os.path.islink(port):
+            if time.monotonic() > begun + 10:
+                sys.exit("scores.py: soundmodem opened no port")
+            time.sleep(0.01)
+        host = os.open(port, os.O_RDWR | os.O_NOCTTY | os.O_NONBLOCK)
+        tty.setraw(host)
+        stream, quiet = b"", time.monotonic() + 2
+        while time.monotonic() < quiet:
+            piece = os.read(host, 65536) if select.select([host], [], [], 0.1)[0] else b""
+            if piece:
+                stream, quiet = stream + piece, time.monotonic() + 2
+        os.close(host)
+    finally:
+        program.kill()
+        program.wait()
+    pieces = [it.replace(b"\xdb\xdc", b"\xc0").replace(b"\xdb\xdd", b"\xdb") for it in stream.split(b"\xc0")]
+    return [it[1:].hex() for it in pieces if it[:1] == b"\0"]
 
 
 def heard_by_multimon(_, samples, room):
@@ -271,6 +360,7 @@ def main():
     words.add_argument("--frames", type=int, default=100)
     words.add_argument("--check", action="store_true")
     words.add_argument("--sensitive", action="store_true")
+    words.add_argument("--more", action="store_true")
     words.add_argument("--beside", action="store_true")
     words.add_argument("--tnc", default=f"{TOP}/bin/tnc")
     words.add_argument("--noise", type=int, metavar="HOURS")
@@ -284,18 +374,19 @@ def main():
         columns.append(("--sensitive", heard_by_sensitive, bytes.hex))
     if given.beside:
         text_of = lambda frame: frame[16:].decode()
-        peers = [("atest", heard_by_atest, bytes.hex), ("multimon-ng", heard_by_multimon, text_of)]
+        peers = [("atest", heard_by_atest, bytes.hex), ("atest -P E+ -F 1", heard_by_atest_repairing, bytes.hex)]
+        peers += [("soundmodem", heard_by_soundmodem, bytes.hex), ("multimon-ng", heard_by_multimon, text_of)]
         for name, hears, spelled in peers:
-            if shutil.which(name) and shutil.which("sox"):
+            if shutil.which(name.split()[0]) and shutil.which("sox"):
                 columns.append((name, hears, spelled))
             else:
-                print(f"left out: {name} ({name} or sox is not installed)")
+                print(f"left out: {name} (it or sox is not installed)")
     outside = 0
     if not given.check:
         print(f"| {'Of ' + str(count) + ' frames':40} | " + " | ".join(f"{name:>11}" for name, _, _ in columns) + " |")
         print(f"|{'-' * 42}|" + "|".join("-" * 12 + ":" for _ in columns) + "|")
     with tempfile.TemporaryDirectory() as room:
-        for name, least, most, sent, samples, others in rows(count):
+        for name, least, most, sent, samples, others in (more_rows if given.more else rows)(count):
             cells = []
             for column, hears, spelled in columns:
                 heard, strays = count_of(map(spelled, sent), map(spelled, others), hears(given.tnc, samples, room))

@@ -19,7 +19,7 @@ use Rattle.channel_access.specs.OnAir.{followed_by, decided, tick_samples, most_
 use Rattle.channel_access.proofs.BodyLemmas.{body-closing}
 use Rattle.channel_access.proofs.StageLemmas.{by_test}
 use Rattle.channel_access.proofs.SendingLemmas.{length-wave_from}
-use Rattle.channel_access.proofs.AirLemmas.{open_bits, closed_bits, samples_of-is, wave-append}
+use Rattle.channel_access.proofs.AirLemmas.{open_bits, closed_bits, samples_on_air-is, wave-append}
 
 -- the closing flags come after all frames
 closes_adds : (t : OnAir) → t.ends ≡ false

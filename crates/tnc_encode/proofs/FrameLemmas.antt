@@ -11,7 +11,7 @@ use Rattle.kiss_port.specs.declared.item.KissItem.{KissItem}
 use Rattle.kiss_port.specs.declared.item.KissItem.TheVariants.{Frame, Set, Hardware, Return, TooLong, Other}
 use Rattle.kiss_port.specs.Items.{items_in}
 use Rattle.hdlc_framer.specs.FrameLength.{IsBadLength}
-use Rattle.tnc_forms.proofs.HexFrameLemmas.{frames_of-good}
+use Rattle.tnc_forms.proofs.HexFrameLemmas.{frames_in_lines-good}
 use Rattle.tnc_words.specs.declared.command.FrameForm.{FrameForm}
 use Rattle.tnc_words.specs.declared.command.FrameForm.TheVariants.{Hex, Kiss}
 use Rattle.tnc_encode.specs.Frames.{frame_of, frames_of_input, kiss_frames}
@@ -52,7 +52,7 @@ items_sendable (item ∷ items) = with_option (frame_of item) (filter_map frame_
 -- each frame of an input can be sent
 pub frames_of_input-sendable : (form : FrameForm) (octets : List ℕ) → All IsSendable (frames_of_input form octets)
 unfolding kiss_frames
-frames_of_input-sendable Hex octets = λ k d below. let good = frames_of_input-good 15 octets k d below in
+frames_of_input-sendable Hex octets = λ k d below. let good = frames_in_lines-good 15 octets k d below in
     sendable _ good.0.enough good.0.most
 frames_of_input-sendable Kiss octets = items_sendable (items_in octets)
 

@@ -8,7 +8,7 @@ use Rattle.kiss_port.specs.declared.item.KissItem.TheVariants.{Frame}
 use Rattle.kiss_port.specs.Items.{items_in}
 use Rattle.tnc_forms.specs.declared.fault.InputFault.{InputFault}
 use Rattle.tnc_forms.specs.Faults.{hex_fault}
-use Rattle.tnc_forms.specs.HexFrames.{frames_of_lines}
+use Rattle.tnc_forms.specs.HexFrames.{frames_in_lines}
 use Rattle.tnc_forms.specs.LinesSoFar.{fault_so_far as fault_of_lines_so_far, frames_so_far as frames_of_lines_so_far}
 use Rattle.tnc_words.specs.declared.command.FrameForm.{FrameForm}
 use Rattle.tnc_words.specs.declared.command.FrameForm.TheVariants.{Hex, Kiss}
@@ -25,7 +25,7 @@ kiss_frames stream = filter_map frame_of (items_in stream)
 
 -- the frames of an input, those before its first bad line if there is one
 abbrev pub frames_of_input : FrameForm → List ℕ → List (List ℕ)
-frames_of_input Hex octets = frames_of_lines least_frame_length octets
+frames_of_input Hex octets = frames_in_lines least_frame_length octets
 frames_of_input Kiss octets = kiss_frames octets
 
 -- what is wrong with an input's form: any octets are a KISS stream

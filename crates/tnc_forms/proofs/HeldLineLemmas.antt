@@ -10,7 +10,7 @@ use Rattle.tnc_forms.specs.declared.fault.InputFault.TheVariants.{Line as BadLin
 use Rattle.tnc_forms.specs.declared.line_fault.LineFlaw.TheVariants.{LongLine}
 use Rattle.tnc_forms.specs.Faults.{fault_in_line, hex_fault}
 use Rattle.tnc_forms.specs.HeldLine.{HeldLine, StandsFor, new_line}
-use Rattle.tnc_forms.specs.HexFrames.{fault_of, fault_of_lines, frame_of, frames_of_lines, frames_of_lines, line_fault}
+use Rattle.tnc_forms.specs.HexFrames.{fault_of, fault_of_lines, frame_of, frames_in_lines, frames_of_lines, line_fault}
 use Rattle.tnc_forms.specs.HexLines.{Line, ended_of, is_line_feed, lines_from, lines_of, parts_of}
 use Rattle.tnc_forms.specs.LinesSoFar.{fault_so_far, frames_so_far, known_of}
 use Rattle.tnc_forms.proofs.CutLemmas.{IsInside, ended_now, ended_of_more, first_line, inside_more, inside_none}
@@ -47,9 +47,9 @@ module _ (held : HeldLine) (octets : List ℕ) (h : StandsFor held octets) where
       ap (λ lines. fault_in_line (fault_of_lines held.least lines)) known ∙ ap fault_in_line h.good
 
   -- the end of the input: the open line is the last one
-  pub frames_last : fault_of held.least open_line ≡ None → frames_of_lines held.least octets
+  pub frames_last : fault_of held.least open_line ≡ None → frames_in_lines held.least octets
       ≡ frames_so_far held.least octets ++ option_to_list (frame_of held.least open_line)
-  unfolding frames_of_lines
+  unfolding frames_in_lines
   frames_last none =
       ap (frames_of_lines held.least) (lines_now octets h.ended held.place held.part h.inside h.cut)
       ∙ frames_join held.least h.ended (open_line ∷ []) h.good
@@ -67,9 +67,9 @@ module _ (held : HeldLine) (octets : List ℕ) (h : StandsFor held octets) where
   good_last none = fault_last ∙ ap fault_in_line (one_fault held.least open_line [] none)
 
   pub bad_last : (fault : InputFault) → fault_in_line (fault_of held.least open_line) ≡ Some fault
-      → (hex_fault held.least octets ≡ Some fault) × (frames_of_lines held.least octets
+      → (hex_fault held.least octets ≡ Some fault) × (frames_in_lines held.least octets
       ≡ frames_so_far held.least octets)
-  unfolding frames_of_lines
+  unfolding frames_in_lines
   bad_last fault is =
       let found = fault_some (fault_of held.least open_line) fault is in
       let bad = one_bad held.least open_line [] found.0 found.1 in (

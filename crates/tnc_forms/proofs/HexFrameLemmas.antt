@@ -10,7 +10,7 @@ use Rattle.tnc_forms.specs.declared.line_fault.LineFlaw.{LineFlaw}
 use Rattle.tnc_forms.specs.declared.hex_line.LineText.{LineText}
 use Rattle.tnc_forms.specs.declared.hex_line.LineText.TheVariants.{Nothing, Frame, Refused}
 use Rattle.tnc_forms.specs.HexLines.{Line, lines_at, lines_behind, lines_of}
-use Rattle.tnc_forms.specs.HexFrames.{HasGoodLength, text_of, fault_in, fault_of, frame_in, frame_of, frames_of_lines}
+use Rattle.tnc_forms.specs.HexFrames.{HasGoodLength, text_of, fault_in, fault_of, frame_in, frame_of, frames_in_lines}
 use Rattle.tnc_forms.specs.HexFrames.{frames_of_lines, line_fault, fault_of_lines, is_bad}
 use Rattle.tnc_forms.proofs.LineTextLemmas.{IsWithin, text_of-within}
 
@@ -85,19 +85,19 @@ frames_of_lines-good least (line ∷ lines) =
     good-cons least line lines (frames_of_lines-good least lines) (text_of least line.text) refl
     (text_of-within least line.text)
 
-pub frames_of_lines-good : (least : ℕ) (input : List ℕ) → All (IsGood least) (frames_of_lines least input)
-unfolding frames_of_lines
-frames_of_lines-good least input = frames_of_lines-good least (lines_of input)
+pub frames_in_lines-good : (least : ℕ) (input : List ℕ) → All (IsGood least) (frames_in_lines least input)
+unfolding frames_in_lines
+frames_in_lines-good least input = frames_of_lines-good least (lines_of input)
 
 -- the frames so far, the lines that are left, and nothing bad yet
 pub record HasReadLines (least : ℕ) (input : List ℕ) (frames : List (List ℕ)) (place : Option ℕ) : Type 0 where
-  pub frames_so_far : frames ++ frames_of_lines least (lines_behind input place) ≡ frames_of_lines least input
+  pub frames_so_far : frames ++ frames_of_lines least (lines_behind input place) ≡ frames_in_lines least input
   pub fault_so_far : fault_of_lines least (lines_behind input place) ≡ line_fault least input
   pub within : IfSome place (λ at. at ≤ length input)
 
 pub has_read_none : (least : ℕ) (input : List ℕ) (frames : List (List ℕ)) → frames ≡ []
     → HasReadLines least input frames (Some 0)
-unfolding frames_of_lines line_fault
+unfolding frames_in_lines line_fault
 has_read_none least input frames none = record {
   frames_so_far = ap (λ fs. fs ++ frames_of_lines least (lines_of input)) none;
   fault_so_far = refl;
@@ -141,7 +141,7 @@ module _ (least : ℕ) (input : List ℕ) (frames : List (List ℕ)) (place next
 
   -- a bad one
   pub read_bad : (flaw : LineFlaw) (offset : ℕ) → text_of least text ≡ Refused flaw offset
-      → (frames ≡ frames_of_lines least input) × (Some (record { flaw = flaw; place = at + offset })
+      → (frames ≡ frames_in_lines least input) × (Some (record { flaw = flaw; place = at + offset })
       ≡ line_fault least input) × (offset ≤ length text)
   read_bad flaw offset is = (
     sym (append-nil frames)
@@ -156,7 +156,7 @@ module _ (least : ℕ) (input : List ℕ) (frames : List (List ℕ)) (place next
 -- and no line more
 pub read_end : (least : ℕ) (input : List ℕ) (frames : List (List ℕ)) (place : Option ℕ)
     → HasReadLines least input frames place → place ≡ None
-    → (frames ≡ frames_of_lines least input) × (None ≡ line_fault least input)
+    → (frames ≡ frames_in_lines least input) × (None ≡ line_fault least input)
 read_end least input frames place h done = (
   sym (append-nil frames) ∙ ap (λ p. frames ++ frames_of_lines least (lines_behind input p)) (sym done)
       ∙ h.frames_so_far,

@@ -15,7 +15,7 @@ use Rattle.tnc_forms.specs.declared.line_fault.LineFault.{LineFault}
 use Rattle.tnc_forms.specs.declared.line_fault.LineFlaw.{LineFlaw}
 use Rattle.tnc_forms.specs.declared.line_fault.LineFlaw.TheVariants.{LongLine}
 use Rattle.tnc_forms.specs.Faults.{fault_in_line, hex_fault}
-use Rattle.tnc_forms.specs.HexFrames.{fault_in, fault_of, fault_of_lines, frame_in, frame_of, frames_of_lines}
+use Rattle.tnc_forms.specs.HexFrames.{fault_in, fault_of, fault_of_lines, frame_in, frame_of, frames_in_lines}
 use Rattle.tnc_forms.specs.HexFrames.{frames_of_lines, line_fault, text_of, text_of_digits}
 use Rattle.tnc_forms.specs.HexLines.{Line, ended_of, lines_from, lines_of, parts_of}
 use Rattle.tnc_forms.specs.LinesSoFar.{fault_so_far, frames_so_far, is_over, known_of}
@@ -203,8 +203,8 @@ module _ (least : ℕ) (octets : List ℕ) where
   module _ (more : List ℕ) where
     -- no line is bad yet: the frames so far are the first
     pub frames_whole : fault_so_far least octets ≡ None → (frames : List (List ℕ))
-        × (frames_of_lines least (octets ++ more) ≡ frames_so_far least octets ++ frames)
-    unfolding frames_of_lines
+        × (frames_in_lines least (octets ++ more) ≡ frames_so_far least octets ++ frames)
+    unfolding frames_in_lines
     frames_whole none =
         let rest = lines_from the_cut.place (parts_of (the_cut.part ++ more)) in (
           frames_of_lines least rest,
@@ -231,12 +231,12 @@ module _ (least : ℕ) (octets : List ℕ) where
     StaysBad fault =
         (fault_so_far least (octets ++ more) ≡ Some fault) × (hex_fault least (octets ++ more) ≡ Some fault)
         × (frames_so_far least (octets ++ more) ≡ frames_so_far least octets)
-        × (frames_of_lines least (octets ++ more) ≡ frames_so_far least octets)
+        × (frames_in_lines least (octets ++ more) ≡ frames_so_far least octets)
 
     -- among the lines that have ended
     bad_ended : (bad : LineFault) (fault : InputFault) → fault_of_lines least the_cut.ended ≡ Some bad
         → Some (BadLine bad) ≡ Some fault → StaysBad fault
-    unfolding frames_so_far fault_so_far frames_of_lines line_fault
+    unfolding frames_so_far fault_so_far frames_in_lines line_fault
     bad_ended bad fault is same =
         let next = first_line the_cut.place the_cut.part more the_cut.inside in
         let lines : lines_of (octets ++ more) ≡ the_cut.ended ++ next.first ∷ next.rest = lines_more more
@@ -260,7 +260,7 @@ module _ (least : ℕ) (octets : List ℕ) where
     bad_last : (fault : InputFault) → fault_of_lines least the_cut.ended ≡ None
         → 2048 < length (strip_carriage_return the_cut.part)
         → Some (BadLine (line_fault_at LongLine the_cut.place)) ≡ Some fault → StaysBad fault
-    unfolding frames_so_far fault_so_far frames_of_lines line_fault
+    unfolding frames_so_far fault_so_far frames_in_lines line_fault
     bad_last fault none over same =
         let next = first_line the_cut.place the_cut.part more the_cut.inside in
         let others = next.known over in

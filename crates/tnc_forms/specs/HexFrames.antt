@@ -55,8 +55,9 @@ is_bad least line = is_some (fault_of least line)
 abbrev pub frames_of_lines : ℕ → List Line → List (List ℕ)
 frames_of_lines least lines = filter_map (frame_of least) (take_while (λ line. not (is_bad least line)) lines)
 
-unfoldable pub frames_of_lines : ℕ → List ℕ → List (List ℕ)
-frames_of_lines least input = frames_of_lines least (lines_of input)
+-- the frames of octets that are lines
+unfoldable pub frames_in_lines : ℕ → List ℕ → List (List ℕ)
+frames_in_lines least input = frames_of_lines least (lines_of input)
 
 -- the fault of the first bad line
 abbrev pub fault_of_lines : ℕ → List Line → Option LineFault

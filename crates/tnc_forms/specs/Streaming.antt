@@ -9,7 +9,7 @@ use Rattle.tnc_forms.specs.declared.fault.Fault.TheVariants.{Input, Memory, Read
 use Rattle.tnc_forms.specs.declared.fault.InputFault.{InputFault}
 use Rattle.tnc_forms.specs.declared.fault.InputFault.TheVariants.{TooLong}
 use Rattle.tnc_forms.specs.Faults.{hex_fault}
-use Rattle.tnc_forms.specs.HexFrames.{frames_of_lines}
+use Rattle.tnc_forms.specs.HexFrames.{frames_in_lines}
 use Rattle.tnc_forms.specs.LinesSoFar.{fault_as_read, fault_so_far, frames_so_far}
 use Rattle.tnc_forms.specs.Reading.{input_limit, piece_limit}
 use Rattle.tnc_forms.specs.Taken.{WereRead}
@@ -17,7 +17,7 @@ use Rattle.tnc_forms.specs.Taken.{WereRead}
 -- a form of frames: those that are known of octets, and those of a whole input; and what is wrong with either
 pub record Form : Type 0 where
   pub frames_so_far : List ℕ → List (List ℕ)
-  pub frames_of_lines : List ℕ → List (List ℕ)
+  pub frames_of : List ℕ → List (List ℕ)
   pub fault_so_far : List ℕ → Option InputFault
   pub fault_of : List ℕ → Option InputFault
 
@@ -25,7 +25,7 @@ pub record Form : Type 0 where
 abbrev pub lines_form : ℕ → Form
 lines_form least = record {
   frames_so_far = frames_so_far least;
-  frames_of = frames_of_lines least;
+  frames_of = frames_in_lines least;
   fault_so_far = fault_so_far least;
   fault_of = hex_fault least;
 }

@@ -3,7 +3,7 @@ ghost use Rattle.std.specs.Prelude.{◌≡◌, ◌≤◌, ◌<◌, ◌+◌, ◌�
 ghost use Rattle.std.specs.Str.Lines.{strip_carriage_return};
 ghost use Rattle.tnc_forms.specs.HexLines.{is_line_feed, lines_at, lines_behind};
 ghost use Rattle.tnc_forms.specs.Faults.{hex_fault};
-ghost use Rattle.tnc_forms.specs.HexFrames.{frames_of_lines};
+ghost use Rattle.tnc_forms.specs.HexFrames.{frames_in_lines};
 
 use crate::fault::InputFault;
 use crate::hex_line::{LineText, read_line};
@@ -22,7 +22,7 @@ pub struct HexFrames {
 /// carriage return right before the line feed is none of it; an empty line is passed over. `least` is the fewest octets
 /// of a frame.
 pub fn read_hex_frames(alloc: Global, least: usize, input: &[u8]) -> Result<HexFrames, OutOfMemory>
-    ensures frames { IfOk result (λ read. read.frames.items ≡ frames_of_lines least input.now) }
+    ensures frames { IfOk result (λ read. read.frames.items ≡ frames_in_lines least input.now) }
     ensures fault { IfOk result (λ read. read.fault ≡ hex_fault least input.now) }
 {
     let mut frames = Vec::new(alloc);

@@ -5,7 +5,7 @@ ghost use Rattle.std.specs.Str.Lines.{strip_carriage_return};
 ghost use Rattle.tnc_forms.specs.declared.fault.InputFault.{InputFault};
 ghost use Rattle.tnc_forms.specs.declared.line_fault.LineFlaw.TheVariants.{LongLine};
 ghost use Rattle.tnc_forms.specs.Faults.{fault_in_line, hex_fault};
-ghost use Rattle.tnc_forms.specs.HexFrames.{HasGoodLength, fault_of, frame_of, frames_of_lines};
+ghost use Rattle.tnc_forms.specs.HexFrames.{HasGoodLength, fault_of, frame_of, frames_in_lines};
 
 use crate::fault::{Fault, InputFault};
 use crate::hex_frames::{line_feed, without_carriage_return};
@@ -93,11 +93,11 @@ impl HexIn {
         requires room { position_of self.now < 2 ^ 64 }
         ensures size { IfOk result (λ frame. IfSome frame (HasGoodLength self.now.least)) }
         ensures frame { (octets : List ℕ) → StandsFor self.now octets
-            → IfOk result (λ frame. frames_of_lines self.now.least octets ≡ frames_so_far self.now.least octets ++ option_to_list frame) }
+            → IfOk result (λ frame. frames_in_lines self.now.least octets ≡ frames_so_far self.now.least octets ++ option_to_list frame) }
         ensures good { (octets : List ℕ) → StandsFor self.now octets → OnOk result (hex_fault self.now.least octets ≡ None) }
         ensures bad { (octets : List ℕ) → (fault : InputFault) → StandsFor self.now octets → IsErrOf result (Fault.Input fault)
             → (hex_fault self.now.least octets ≡ Some fault)
-            × (frames_of_lines self.now.least octets ≡ frames_so_far self.now.least octets) }
+            × (frames_in_lines self.now.least octets ≡ frames_so_far self.now.least octets) }
         ensures read { ¬ IsErrOf result Fault.Read }
         ensures write { ¬ IsErrOf result Fault.Write }
     {

@@ -15,7 +15,7 @@ use Rattle.kiss_port.specs.Pieces.{onto_first, pieces}
 use Rattle.kiss_port.specs.Items.{by_command, item_by_type, item_of, items_in, setting}
 use Rattle.afsk_modulator.specs.Signal.{Transmission}
 use Rattle.clean_signal.specs.GoodTransmission.{IsTransmission, frames_of as all_frames}
-use Rattle.tnc_forms.proofs.HexFrameLemmas.{frames_of-good}
+use Rattle.tnc_forms.proofs.HexFrameLemmas.{frames_in_lines-good}
 use Rattle.tnc_words.specs.declared.command.FrameForm.{FrameForm}
 use Rattle.tnc_words.specs.declared.command.FrameForm.TheVariants.{Hex, Kiss}
 use Rattle.tnc_words.specs.declared.command.EncodeWords.{EncodeWords}
@@ -144,7 +144,7 @@ frames_fit (item ∷ items) each =
 pub frames_of_input-fit : (form : FrameForm) (octets : List ℕ) → AreOctets octets → All IsFrame (frames_of_input form octets)
 unfolding kiss_frames items_in
 frames_of_input-fit Hex octets each = λ k d below.
-    let good = frames_of_input-good 15 octets k d below in
+    let good = frames_in_lines-good 15 octets k d below in
     let frame : List ℕ = get_or (frames_of_input Hex octets) k d in
     record {
       octets_fit = λ i e small. subst (λ o. o < 256) (get_or_default frame i 0 e small) (good.1 i);

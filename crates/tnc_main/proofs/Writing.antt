@@ -13,7 +13,7 @@ use Rattle.tnc_words.specs.declared.command.BenchOptions.{BenchOptions}
 use Rattle.tnc_forms.specs.declared.fault.Fault.{Fault}
 use Rattle.tnc_forms.specs.declared.fault.Fault.TheVariants.{Input as OfInput, Memory as OfMemory, Read as OfRead, Write as OfWrite}
 use Rattle.tnc_forms.specs.declared.fault.InputFault.{InputFault}
-use Rattle.tnc_forms.specs.HexFrames.{frames_of_lines}
+use Rattle.tnc_forms.specs.HexFrames.{frames_in_lines}
 use Rattle.tnc_forms.specs.Reading.{input_limit}
 use Rattle.tnc_forms.proofs.WrittenParts.{wrote_all}
 use Rattle.tnc_encode.specs.Encoded.{encoded, encoded_before}
@@ -50,7 +50,7 @@ begins_all text = ([], sym (append-nil text))
 pub makes_first : (command : Command) (octets text : List ℕ) → Makes command octets text → MakesFirst command octets text
 makes_first (Decode words) octets text h = h
 makes_first (Encode words) octets text h = h
-makes_first (Show words) octets text h = (frames_of_lines 0 octets, [], sym (append-nil (frames_of_lines 0 octets)), h)
+makes_first (Show words) octets text h = (frames_in_lines 0 octets, [], sym (append-nil (frames_in_lines 0 octets)), h)
 makes_first (Loop words) octets text h = h
 makes_first (Bench options) octets text h = h
 makes_first (Serve options) octets text h = absurd h

@@ -3,7 +3,7 @@
 use Rattle.std.specs.Prelude.{◌≡◌, ℕ, ⊤, ◌≤◌, ◌<◌, ◌-◌, ◌⊎◌, true, false, List, [], ◌++◌, length, take, Option, Some, None}
 use Rattle.tnc_forms.specs.declared.fault.InputFault.{InputFault}
 use Rattle.tnc_forms.specs.declared.fault.InputFault.TheVariants.{TooLong}
-use Rattle.tnc_forms.specs.HexFrames.{frames_of_lines}
+use Rattle.tnc_forms.specs.HexFrames.{frames_in_lines}
 use Rattle.tnc_forms.specs.Reading.{input_limit, piece_limit}
 use Rattle.tnc_forms.specs.Taken.{WereRead}
 use Rattle.tnc_words.specs.declared.command.Command.{Command}
@@ -39,7 +39,7 @@ Begins part text = (rest : List ℕ) × (text ≡ part ++ rest)
 abbrev pub MakesFirst : Command → List ℕ → List ℕ → Type 0
 MakesFirst (Decode words) octets text = IsDecoded words octets text
 MakesFirst (Encode words) octets text = text ≡ encoded words octets
-MakesFirst (Show words) octets text = (frames others : List (List ℕ)) × (frames_of_lines 0 octets ≡ frames ++ others) × IsTextOf words.modulus frames text
+MakesFirst (Show words) octets text = (frames others : List (List ℕ)) × (frames_in_lines 0 octets ≡ frames ++ others) × IsTextOf words.modulus frames text
 MakesFirst (Loop words) octets text = IsSummary words text
 MakesFirst (Bench options) octets text = IsReportOf options text
 MakesFirst (Serve options) octets text = ⊥

@@ -8,7 +8,7 @@ use Rattle.tnc_forms.specs.declared.fault.Fault.{Fault}
 use Rattle.tnc_forms.specs.declared.fault.Fault.TheVariants.{Input, Memory, Read, Write}
 use Rattle.tnc_forms.specs.declared.fault.InputFault.{InputFault}
 use Rattle.tnc_forms.specs.declared.fault.InputFault.TheVariants.{TooLong}
-use Rattle.tnc_forms.specs.HexFrames.{frames_of_lines}
+use Rattle.tnc_forms.specs.HexFrames.{frames_in_lines}
 use Rattle.tnc_forms.specs.LinesSoFar.{frames_so_far}
 use Rattle.tnc_forms.specs.Reading.{input_limit, piece_limit}
 use Rattle.tnc_forms.specs.Streaming.{IsEnded, WroteFrames, lines_form}
@@ -125,7 +125,7 @@ module _ (words : ShowWords) (octets : List ℕ) (left was now : Option (List �
       )
 
   -- a text of the first frames
-  part_of : (frames others : List (List ℕ)) (before : List ℕ) → frames_of_lines 0 octets ≡ frames ++ others
+  part_of : (frames others : List (List ℕ)) (before : List ℕ) → frames_in_lines 0 octets ≡ frames ++ others
       → was ≡ Some before → WroteFrames (IsTextOf words.modulus) frames was now
       → (part : List ℕ) × IsShownPart words octets part × (now ≡ Some (before ++ part))
   part_of frames others before known w h = (
@@ -150,20 +150,20 @@ module _ (words : ShowWords) (octets : List ℕ) (left was now : Option (List �
         let first = first_frames (IsTextOf words.modulus) (texts_join words.modulus) (lines_form 0) (lines_are_form 0)
         (take input_limit octets) (drop input_limit octets) in
         part_of (frames_so_far 0 (take input_limit octets)) first.0 before
-        (ap (frames_of_lines 0) (sym (take-append-drop input_limit octets)) ∙ first.1) w (h.wrote_of_many over)
-    | inr short ↦ part_of (frames_of_lines 0 octets) [] before (sym (append-nil (frames_of_lines 0 octets))) w
+        (ap (frames_in_lines 0) (sym (take-append-drop input_limit octets)) ∙ first.1) w (h.wrote_of_many over)
+    | inr short ↦ part_of (frames_in_lines 0 octets) [] before (sym (append-nil (frames_in_lines 0 octets))) w
         (h.wrote short)
   ]
   to_cut (Err Memory) h before w =
       let first = first_frames (IsTextOf words.modulus) (texts_join words.modulus) (lines_form 0) (lines_are_form 0)
       h.front (h.rest ++ h.taken.rest) in
       part_of (frames_so_far 0 h.front) first.0 before
-      (ap (frames_of_lines 0) (h.taken.parts ∙ ap (λ o. o ++ h.taken.rest) h.parts
+      (ap (frames_in_lines 0) (h.taken.parts ∙ ap (λ o. o ++ h.taken.rest) h.parts
       ∙ append_assoc h.front h.rest h.taken.rest) ∙ first.1) w h.wrote
   to_cut (Err Read) h before w =
       let first = first_frames (IsTextOf words.modulus) (texts_join words.modulus) (lines_form 0) (lines_are_form 0)
       h.read h.taken.rest in
-      part_of (frames_so_far 0 h.read) first.0 before (ap (frames_of_lines 0) h.taken.parts ∙ first.1) w h.wrote
+      part_of (frames_so_far 0 h.read) first.0 before (ap (frames_in_lines 0) h.taken.parts ∙ first.1) w h.wrote
   to_cut (Err Write) h before w =
       let b = h.before in
       let first : List ℕ = b.wrote.text in

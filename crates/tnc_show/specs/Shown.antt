@@ -9,7 +9,7 @@ use Rattle.ax25_frames.specs.FrameFault.{ShowsFrameFault}
 use Rattle.ax25_frames.specs.FrameText.{text_of_frame, text_of_frame_fault}
 use Rattle.tnc_forms.specs.declared.fault.InputFault.{InputFault}
 use Rattle.tnc_forms.specs.Faults.{hex_fault}
-use Rattle.tnc_forms.specs.HexFrames.{frames_of_lines}
+use Rattle.tnc_forms.specs.HexFrames.{frames_in_lines}
 use Rattle.tnc_forms.specs.LinesSoFar.{fault_as_read, fault_so_far, frames_so_far}
 use Rattle.tnc_forms.specs.Reading.{input_limit}
 use Rattle.tnc_words.specs.declared.command.ShowWords.{ShowWords}
@@ -40,7 +40,7 @@ pub record IsTextOf (modulus : Modulus) (frames : List (List ℕ)) (text : List 
 -- The text is the lines of the frames of an input, which may have any number of octets each. If a line of the input
 -- is bad, the frames are those before it.
 abbrev pub IsShown : ShowWords → List ℕ → List ℕ → Type 0
-IsShown words octets text = IsTextOf words.modulus (frames_of_lines 0 octets) text
+IsShown words octets text = IsTextOf words.modulus (frames_in_lines 0 octets) text
 
 -- The text is what octets show before it is known whether more follow: the lines of the frames whose lines have ended.
 -- None
@@ -57,7 +57,7 @@ IsShownOfMany words octets text = IsTextOf words.modulus (frames_so_far 0 (take 
 pub record IsShownPart (words : ShowWords) (octets part : List ℕ) : Type 0 where
   pub frames : List (List ℕ)
   pub others : List (List ℕ)
-  pub parts : frames_of_lines 0 octets ≡ frames ++ others
+  pub parts : frames_in_lines 0 octets ≡ frames ++ others
   pub text : List ℕ
   pub is : IsTextOf words.modulus frames text
   pub rest : List ℕ

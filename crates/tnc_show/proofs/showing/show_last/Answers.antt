@@ -2,7 +2,7 @@ use Rattle.std.proofs.Common.{◌≡◌, Err, sym, subst, ap, ◌∙◌, ◌++�
 use Rattle.std.proofs.lemmas.Result.{err_from_is_err_and}
 use Rattle.std.specs.Option.{option_to_list}
 use Rattle.tnc_base.specs.Streams.{WrotePart}
-use Rattle.tnc_forms.specs.HexFrames.{frames_of_lines}
+use Rattle.tnc_forms.specs.HexFrames.{frames_in_lines}
 use Rattle.tnc_forms.specs.LinesSoFar.{frames_so_far}
 use Rattle.tnc_forms.specs.Streaming.{IsFinished, lines_form}
 use Rattle.tnc_show.specs.Shown.{IsTextOf}
@@ -20,7 +20,7 @@ returns-in_err-write_text-clause-finished g c = λ octets h.
     (g.O.Sink.written c.write_text.new.output))
     (sym (told.1 ∙ ap Err (told.2 ∙ c.in_err-write_text.ensures.only))) (
       option_to_list frame,
-      subst (λ n. frames_of_lines n octets ≡ frames_so_far n octets ++ option_to_list frame) c.requires.least
+      subst (λ n. frames_in_lines n octets ≡ frames_so_far n octets ++ option_to_list frame) c.requires.least
           (c.in_ok-frame.ensures.frame octets h),
       record {
         text = pushed.0;

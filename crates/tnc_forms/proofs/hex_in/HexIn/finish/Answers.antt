@@ -5,7 +5,7 @@ use Rattle.tnc_forms.specs.declared.fault.Fault.TheVariants.{Input}
 use Rattle.tnc_forms.specs.declared.fault.InputFault.{InputFault}
 use Rattle.tnc_forms.specs.Faults.{fault_in_line, hex_fault}
 use Rattle.tnc_forms.specs.HeldLine.{HeldLine, StandsFor}
-use Rattle.tnc_forms.specs.HexFrames.{fault_of, frame_of, frames_of_lines}
+use Rattle.tnc_forms.specs.HexFrames.{fault_of, frame_of, frames_in_lines}
 use Rattle.tnc_forms.specs.HexLines.{Line}
 use Rattle.tnc_forms.specs.LinesSoFar.{frames_so_far}
 use Rattle.tnc_forms.proofs.Ends.{if_ok, map_ok}
@@ -18,7 +18,7 @@ returns-clause-frame c =
     let view : HeldLine = record { least = inside.least; place = inside.place; part = inside.part.items } in
     let line : List ℕ → Line = λ text. record { place = inside.place; text = text } in
     let P : HeldLine → Type 0 = λ held. (octets : List ℕ) → StandsFor held octets
-    → IfOk c.frame_of_line.result (λ frame. frames_of_lines held.least octets
+    → IfOk c.frame_of_line.result (λ frame. frames_in_lines held.least octets
     ≡ frames_so_far held.least octets ++ option_to_list frame) in
     subst P c.self.view_is (λ octets h.
     if_ok c.frame_of_line.result c.frame_of_line.ensures.good c.frame_of_line.ensures.frame
@@ -45,7 +45,7 @@ returns-clause-bad c =
     let line : List ℕ → Line = λ text. record { place = inside.place; text = text } in
     let P : HeldLine → Type 0 = λ held. (octets : List ℕ) → (fault : InputFault) → StandsFor held octets
     → IsErrOf c.frame_of_line.result (Input fault)
-    → (hex_fault held.least octets ≡ Some fault) × (frames_of_lines held.least octets ≡ frames_so_far held.least octets)
+    → (hex_fault held.least octets ≡ Some fault) × (frames_in_lines held.least octets ≡ frames_so_far held.least octets)
     in
     subst P c.self.view_is (λ octets fault h is.
     bad_last view octets h fault (ap (λ t. fault_in_line (fault_of inside.least (line t))) (sym c.deref.ensures.value)
