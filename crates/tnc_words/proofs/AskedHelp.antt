@@ -1,5 +1,5 @@
 -- Words that ask for help or for the version ask for no other command, and for one text.
-use Rattle.std.proofs.Common.{◌≡◌, ◌⊎◌, ℕ, ◌∷◌, [], ◌&&◌, ◌||◌, Bool, true, false, if◌then◌else◌, Option, Some, None, List, codes, slice_get, refl, sym, ap, ◌∙◌, inl, inr}
+use Rattle.std.proofs.Common.{◌≡◌, ◌∷◌, [], ◌&&◌, ◌||◌, Bool, true, false, if◌then◌else◌, Option, Some, None, List, codes, slice_get, refl, sym, ap, ◌∙◌, inl, inr}
 use Rattle.std.proofs.lemmas.Slice.Eq.{bytes_eq-Decides}
 use Rattle.std.specs.Str.{bytes_eq}
 use Rattle.clap.specs.Faults.{walk_fault}

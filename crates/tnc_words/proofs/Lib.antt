@@ -5,3 +5,4 @@ pub mod OneLink
 pub mod AskedHelp
 pub mod OneCommand
 pub mod NoRate
+pub mod WithRule

@@ -1,5 +1,5 @@
 -- Words ask for one command.
-use Rattle.std.proofs.Common.{◌≡◌, ℕ, ◌+◌, ◌*◌, false, Option, Some, None, List, ◌∷◌, codes, refl, sym, ap, ◌∙◌, arith}
+use Rattle.std.proofs.Common.{◌≡◌, ℕ, ◌+◌, ◌*◌, false, Option, Some, List, ◌∷◌, codes, refl, sym, ap, ◌∙◌, arith}
 use Rattle.std.proofs.lemmas.Bool.{eqb-false, true≢false}
 use Rattle.std.proofs.Math.Dec.{eqb}
 use Rattle.clap.specs.Words.{Row, Text}
@@ -23,7 +23,6 @@ use Rattle.tnc_words.specs.Commands.{Asks, IsDecode, IsEncode, IsShow, IsLoop, I
 use Rattle.tnc_words.specs.Commands.{HasDecodeOptions, HasEncodeOptions, HasShowOptions, HasLoopOptions, HasBenchOptions, HasServeOptions}
 use Rattle.tnc_words.specs.Help.{IsHelp, IsVersion}
 use Rattle.tnc_words.specs.Rates.{HasReceiving, samples_a_second}
-use Rattle.tnc_words.specs.Numbers.{GivesNumber, HasNumber}
 use Rattle.tnc_words.proofs.AskedHelp.{help_alone, help_is_no_version, one_topic, version_alone}
 use Rattle.tnc_words.proofs.OneLink.{one_call, one_params}
 use Rattle.tnc_words.proofs.OneNumber.{given_number, one_number}
@@ -126,6 +125,7 @@ one_serve_options found serve other h k =
     let seed = other.seed in
     let params = other.params in
     let digi = other.digi in
+    let dcd = other.dcd in
     ap (λ v. record serve { kiss = v }) (given_number _ _ _ _ _ h.kiss k.kiss)
     ∙ ap (λ v. record serve { kiss = kiss; agw = v }) (given_number _ _ _ _ _ h.agw k.agw)
     ∙ ap (λ v. record serve { kiss = kiss; agw = agw; seed = v }) (one_number _ _ _ _ _ _ h.seed k.seed)
@@ -135,6 +135,8 @@ one_serve_options found serve other h k =
     (one_call _ serve.digi other.digi h.digi k.digi)
     ∙ ap (λ v. record serve { kiss = kiss; agw = agw; seed = seed; params = params; digi = digi; dcd = v })
     (one_number _ _ _ _ _ _ h.dcd k.dcd)
+    ∙ ap (λ v. record serve { kiss = kiss; agw = agw; seed = seed; params = params; digi = digi; dcd = dcd; sensitive = v })
+    (h.sensitive ∙ sym k.sensitive)
     ∙ ap (λ v. record other { monitor = v }) (h.monitor ∙ sym k.monitor)
 
 -- ---- words give one set of options

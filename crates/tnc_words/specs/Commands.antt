@@ -100,6 +100,7 @@ pub record HasServeOptions (found : List Row) (serve : ServeOptions) : Type 0 wh
   pub params : HasParams found serve.params
   pub digi : HasCall (first_of (codes "digi") found) serve.digi
   pub dcd : HasNumber (first_of (codes "dcd") found) 3 1 8 serve.dcd
+  pub sensitive : serve.sensitive ≡ is_used (codes "sensitive") found
   pub monitor : serve.monitor ≡ is_used (codes "monitor") found
 
 -- serve with these options

@@ -158,6 +158,8 @@ pub struct ServeOptions {
     pub digi: Option<Call>,
     /// From how many flags in a row on the channel is busy, 1 to 8.
     pub dcd: u8,
+    /// More lanes hear, which take weaker and less exact signals.
+    pub sensitive: bool,
     /// Each frame that is heard or sent is reported in a line.
     pub monitor: bool,
 }

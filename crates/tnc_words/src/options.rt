@@ -110,12 +110,13 @@ fn wide_window<'a>(alloc: Global, command: Command<'a>) -> Result<Command<'a>, A
     with(command, option(alloc, "wide-window"))
 }
 
-/// A command with a repeater's call, a number of flags and the monitor.
+/// A command with a repeater's call, a number of flags, the flag for more lanes and the monitor.
 fn station<'a>(alloc: Global, command: Command<'a>) -> Result<Command<'a>, AllocError>
     ensures { IfOk result (λ longer. app_of longer ≡ with_station (app_of command.entry)) }
 {
     let command = with(command, option(alloc, "digi"))?;
     let command = with(command, option(alloc, "dcd"))?;
+    let command = with(command, flag(alloc, "sensitive"))?;
     with(command, flag(alloc, "monitor"))
 }
 

@@ -57,6 +57,7 @@ fn serve_options(found: &ArgMatches) -> Option<ServeOptions>
         params: link_params(found)?,
         digi: call_said(text_of(found, "digi"))?,
         dcd: number_or_default(text_of(found, "dcd"), 3, FLAGS)? as u8,
+        sensitive: has_flag(found, "sensitive"),
         monitor: has_flag(found, "monitor"),
     })
 }

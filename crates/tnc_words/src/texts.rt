@@ -19,7 +19,7 @@ A software terminal node controller for packet radio: AX.25 over the tones of Be
   tnc loop --seed n --frames n [--rough] [--threads]
   tnc bench --seed n [--octets n] [--loss n] [--noise n] [--full] [--wide]
   tnc serve --kiss n --agw n [--seed n] [--mode name] [--window n] [--wide]
-            [--wide-window n] [--digi call] [--dcd n] [--monitor]
+            [--wide-window n] [--digi call] [--dcd n] [--sensitive] [--monitor]
   tnc help [COMMAND]
   tnc version
 
@@ -96,7 +96,7 @@ Runs two stations that are joined by sound, whose hosts give each other a text, 
 
 const SERVE: &str = "\
 Usage: tnc serve --kiss n --agw n [--seed n] [--mode name] [--window n] [--wide]
-                 [--wide-window n] [--digi call] [--dcd n] [--monitor]
+                 [--wide-window n] [--digi call] [--dcd n] [--sensitive] [--monitor]
 
 Runs a station until its sound ends: it hears standard input, sends standard output, and serves host programs
 on 127.0.0.1.
@@ -110,6 +110,7 @@ on 127.0.0.1.
   --wide-window n  frames that a link sends ahead, modulo 128, 1 to 127 (32)
   --digi call      repeats frames for this call
   --dcd n          flags in a row from which on the channel is busy, 1 to 8 (3)
+  --sensitive      hears in more noise and where the sender's clock is off, and takes longer
   --monitor        tells each frame that is heard or sent on standard error
 ";
 

@@ -142,7 +142,8 @@ x
 --dcd x
 --monitor=1
 --threads
---sensitive
+--sensitive=true
+--sensitive --sensitive
 ";
 
 /// Whole lines.

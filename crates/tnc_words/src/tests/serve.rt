@@ -24,6 +24,7 @@ const SERVE: ServeOptions = ServeOptions {
     params: PARAMS,
     digi: None,
     dcd: 3,
+    sensitive: false,
     monitor: false,
 };
 
@@ -96,6 +97,10 @@ fn serve_takes_what_its_station_does(rt: HostRuntime) -> Result<(), Fail> {
         monitor: true,
         ..SERVE
     };
+    let sensitive = ServeOptions {
+        sensitive: true,
+        ..SERVE
+    };
     let table = [
         ("--seed 0", ServeOptions { seed: 0, ..SERVE }),
         (
@@ -110,13 +115,15 @@ fn serve_takes_what_its_station_does(rt: HostRuntime) -> Result<(), Fail> {
         ("--dcd 1", ServeOptions { dcd: 1, ..SERVE }),
         ("--dcd=8", ServeOptions { dcd: 8, ..SERVE }),
         ("--dcd 003", SERVE),
+        ("--sensitive", sensitive),
         ("--monitor", monitor),
         (
-            "--monitor --seed 7 --dcd 2",
+            "--monitor --seed 7 --sensitive --dcd 2",
             ServeOptions {
                 seed: 7,
                 dcd: 2,
-                ..monitor
+                monitor: true,
+                ..sensitive
             },
         ),
     ];
