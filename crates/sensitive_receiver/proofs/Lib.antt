@@ -1,5 +1,6 @@
 pub mod LaneLemmas
 pub mod FoundLemmas
+pub mod PlaceLanes
 pub mod VisitedLanes
 pub mod BankLemmas
 pub mod PrefixLemmas

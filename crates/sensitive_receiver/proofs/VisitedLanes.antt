@@ -1,15 +1,15 @@
 -- The added lanes as they are made, and visited one after another.
-use Rattle.std.proofs.Common.{◌≡◌, ℕ, ◌+◌, ◌<◌, ◌≤◌, ℤ, List, [], ◌∷◌, ◌++◌, length, get_or, set, refl, ap, sym, subst, ◌∙◌, arith, inl, inr, get_or-set_same, get_or-set_other}
+use Rattle.std.proofs.Common.{◌≡◌, ℕ, ◌+◌, ◌<◌, ◌≤◌, ℤ, List, [], ◌∷◌, ◌++◌, length, get_or, set, refl, ap, sym, subst, ◌∙◌, arith, inl, inr}
 use Rattle.std.specs.List.{All}
-use Rattle.std.proofs.lemmas.Bool.{cases_lt, cases_eq}
+use Rattle.std.proofs.lemmas.Bool.{cases_lt}
 use Rattle.std.proofs.lemmas.List.{get_or_push, get_or_append_left, length_push, length-set}
 use Rattle.frame_merge.specs.declared.candidate.Candidate.{Candidate}
 use Rattle.tone_tracking.specs.HeldLists.{HeldLists}
 use Rattle.sensitive_receiver.specs.declared.readings.Readings.{Readings}
-use Rattle.sensitive_receiver.specs.Found.{AddsAt, AddsBelow, CanBePut}
-use Rattle.sensitive_receiver.specs.HeldLanes.{HeldLane, LaneStandsFor, LanesHaveRead, IsLastPlace}
+use Rattle.sensitive_receiver.specs.Found.{AddsAmong, AddsAt, CanBePut}
+use Rattle.sensitive_receiver.specs.HeldLanes.{HeldLane, LaneStandsFor, LanesAreAt, LanesHaveRead, IsLastPlace}
 use Rattle.sensitive_receiver.specs.Lanes.{lane_tones}
-use Rattle.sensitive_receiver.proofs.FoundLemmas.{adds_none, adds_next_lane}
+use Rattle.sensitive_receiver.proofs.PlaceLanes.{adds_next_among, adds_nobody, lane_before, lane_read}
 
 -- so many lanes that have read nothing
 pub record AreFresh (n : ℕ) (lanes : List HeldLane) : Type 0 where
@@ -42,35 +42,31 @@ read_none n lanes x all h k d l = subst (LaneStandsFor (get_or lanes k d)) (sym 
 
 -- ---- one lane after another
 
--- so many of the lanes were visited at the last place, and the others are as they were
+-- the lanes from one on to below another were visited at the last place
 pub record Visited (lists : HeldLists) (readings : Readings) (old now : List HeldLane) (before after : List Candidate)
-    (n : ℕ) : Type 0 where
-  pub old_size : length old ≡ 15
+    (first n : ℕ) : Type 0 where
+  pub least : first ≤ n
   pub size : length now ≡ 15
-  pub rest : (k : ℕ) (d : HeldLane) → n ≤ k → k < 15 → get_or now k d ≡ get_or old k d
-  pub read : (x : List ℤ) (k : ℕ) (d : HeldLane) → IsLastPlace lists readings x → LanesHaveRead old readings.place x
-      → k < n → k < 15
-      → LaneStandsFor (get_or now k d) (lane_tones x (8 + k) (readings.place + 1))
-  pub found : (x : List ℤ) → IsLastPlace lists readings x → LanesHaveRead old readings.place x
-      → AddsBelow readings.place (8 + n) x before after
+  pub read : (x : List ℤ) → IsLastPlace lists readings x → LanesAreAt first old readings.place x
+      → LanesAreAt n now readings.place x
+  pub found : (x : List ℤ) → IsLastPlace lists readings x → LanesAreAt first old readings.place x
+      → AddsAmong readings.place first n x before after
   pub bounds : All CanBePut before → All CanBePut after
 
-pub visited_none : (lists : HeldLists) (readings : Readings) (lanes : List HeldLane) (found : List Candidate)
+pub visited_none : (lists : HeldLists) (readings : Readings) (lanes : List HeldLane) (found : List Candidate) (first : ℕ)
     → length lanes ≡ 15
-    → Visited lists readings lanes lanes found found 0
-visited_none lists readings lanes found size = record {
-  old_size = size;
+    → Visited lists readings lanes lanes found found first first
+visited_none lists readings lanes found first size = record {
+  least = omega arith;
   size = size;
-  rest = λ k d le l. refl;
-  read = λ x k d last read l m. absurd (omega arith);
-  found = λ x last read. adds_none (λ p l. (p ≡ readings.place) × (l < 8 + 0)) x found
-      (λ item place of ends. let least = ends.least in let small = of.1 in absurd (omega arith));
+  read = λ x last h. h;
+  found = λ x last h. adds_nobody readings.place first x found;
   bounds = λ h. h;
 }
 
 module _ (lists : HeldLists) (readings : Readings) (old now : List HeldLane) (before found after : List Candidate)
-    (n : ℕ) (was lane : HeldLane)
-    (h : Visited lists readings old now before found n) (l : n < 15)
+    (first n : ℕ) (was lane : HeldLane)
+    (h : Visited lists readings old now before found first n) (l : n < 15)
     (reads : (x : List ℤ) → IsLastPlace lists readings x
     → LaneStandsFor (get_or now n was) (lane_tones x (8 + n) readings.place)
     → LaneStandsFor lane (lane_tones x (8 + n) (readings.place + 1)))
@@ -78,31 +74,14 @@ module _ (lists : HeldLists) (readings : Readings) (old now : List HeldLane) (be
     → LaneStandsFor (get_or now n was) (lane_tones x (8 + n) readings.place)
     → AddsAt readings.place (8 + n) x found after)
     (bound : All CanBePut found → All CanBePut after) where
-  -- the next lane is as it was
-  here : (x : List ℤ) → LanesHaveRead old readings.place x
-      → LaneStandsFor (get_or now n was) (lane_tones x (8 + n) readings.place)
-  here x read = subst (λ t. LaneStandsFor t (lane_tones x (8 + n) readings.place)) (sym (h.rest n was (omega arith) l))
-      (read n was l)
-
-  pub visited_more : Visited lists readings old (set now n lane) before after (n + 1)
+  pub visited_more : Visited lists readings old (set now n lane) before after first (n + 1)
   visited_more =
-      let size = h.size in
+      let least = h.least in
       record {
-        old_size = h.old_size;
-        size = length-set now n lane ∙ size;
-        rest = λ k d le m. get_or-set_other now n k lane d (λ e. omega arith) ∙ h.rest k d (omega arith) m;
-        read = λ x k d last read m small. elim (cases_eq k n) [
-          | inl e ↦ subst (λ i. LaneStandsFor (get_or (set now n lane) i d) (lane_tones x (8 + i) (readings.place + 1)))
-              (sym e)
-              (subst (λ t. LaneStandsFor t (lane_tones x (8 + n) (readings.place + 1)))
-              (sym (get_or-set_same now n lane d (omega arith))) (reads x last (here x read)))
-          | inr ne ↦ subst (λ t. LaneStandsFor t (lane_tones x (8 + k) (readings.place + 1)))
-              (sym (get_or-set_other now n k lane d ne)) (h.read x k d last read (omega arith) small)
-        ];
-        found = λ x last read.
-            subst (λ l. AddsBelow readings.place l x before after) (let next : 8 + n + 1 ≡ 8 + (n + 1) = omega arith in
-            next)
-            (adds_next_lane readings.place (8 + n) x before found after (h.found x last read)
-            (adds x last (here x read)));
+        least = omega arith;
+        size = length-set now n lane ∙ h.size;
+        read = λ x last start. lane_read readings.place n now was lane x h.size l (reads x last) (h.read x last start);
+        found = λ x last start. adds_next_among readings.place first n x before found after h.least (h.found x last start)
+            (adds x last (lane_before readings.place n now was x l (h.read x last start)));
         bounds = λ all. bound (h.bounds all);
       }

@@ -1,5 +1,5 @@
 -- What the added lanes find at some places.
-use Rattle.std.specs.Prelude.{◌≡◌, ◌≢◌, ℕ, ◌-◌, ◌^◌, ◌<◌, ◌≤◌, ℤ, List, ◌++◌}
+use Rattle.std.specs.Prelude.{◌≡◌, ◌≢◌, ℕ, ◌+◌, ◌-◌, ◌^◌, ◌<◌, ◌≤◌, ℤ, List, ◌++◌}
 use Rattle.std.specs.List.{All, AllPairs, Contains}
 use Rattle.frame_merge.specs.declared.candidate.Candidate.{Candidate}
 use Rattle.frame_merge.specs.Order.{standing}
@@ -29,6 +29,10 @@ AddsAt place lane x before after = AddsWhere (λ p l. (p ≡ place) × (l ≡ la
 -- at one place by the lanes below one
 abbrev pub AddsBelow : ℕ → ℕ → List ℤ → List Candidate → List Candidate → Type 0
 AddsBelow place lane x before after = AddsWhere (λ p l. (p ≡ place) × (l < lane)) x before after
+
+-- at one place by the lanes from one to below another, counted from lane 8 on
+abbrev pub AddsAmong : ℕ → ℕ → ℕ → List ℤ → List Candidate → List Candidate → Type 0
+AddsAmong place from to x before after = AddsWhere (λ p l. (p ≡ place) × (8 + from ≤ l) × (l < 8 + to)) x before after
 
 -- at the places from one to below another
 abbrev pub AddsBetween : ℕ → ℕ → List ℤ → List Candidate → List Candidate → Type 0

@@ -1,5 +1,5 @@
 -- What the added lanes keep of samples, and what that stands for.
-use Rattle.std.specs.Prelude.{◌≡◌, ℕ, ◌+◌, ◌<◌, ℤ, List, length, slice_index_or}
+use Rattle.std.specs.Prelude.{◌≡◌, ℕ, ◌+◌, ◌<◌, nat_lt, if◌then◌else◌, ℤ, List, length, slice_index_or}
 use Rattle.tone_table.specs.declared.tone.Tone.{Tone}
 use Rattle.nrzi_bits.specs.Line.{bits_of, last_tone}
 use Rattle.hdlc_framer.specs.Held.{Held as HeldDeframer, StandsFor as DeframerStandsFor}
@@ -41,6 +41,16 @@ pub record ClocksHaveTaken (first second third : Clock) (count : ℕ) (x : List 
 abbrev pub LanesHaveRead : List HeldLane → ℕ → List ℤ → Type 0
 LanesHaveRead lanes count x =
     (k : ℕ) (d : HeldLane) → k < 15 → LaneStandsFor (slice_index_or lanes k d) (lane_tones x (8 + k) count)
+
+-- how many places a lane has read if the first lanes have read one place more than the others
+abbrev pub places_read : ℕ → ℕ → ℕ → ℕ
+places_read first place k = if nat_lt k first then place + 1 else place
+
+-- the first lanes have read what they read at a place, and the others only what they read before it
+abbrev pub LanesAreAt : ℕ → List HeldLane → ℕ → List ℤ → Type 0
+LanesAreAt first lanes place x =
+    (k : ℕ) (d : HeldLane) → k < 15
+    → LaneStandsFor (slice_index_or lanes k d) (lane_tones x (8 + k) (places_read first place k))
 
 -- the place of the readings is the last one that is decided of the samples that the lists have taken
 pub record IsLastPlace (lists : HeldLists) (told : Readings) (x : List ℤ) : Type 0 where

@@ -1,14 +1,14 @@
 //! What the added lanes hear when a place is decided.
 
-ghost use Rattle.std.specs.Prelude.{◌≡◌, ◌+◌, ◌<◌, ◌≤◌, ◌^◌, ℕ, ℤ, List, length, OnOk};
+ghost use Rattle.std.specs.Prelude.{◌≡◌, true, ◌+◌, ◌<◌, ◌≤◌, ◌^◌, ℕ, ℤ, List, length, OnOk};
 ghost use Rattle.std.specs.List.{All};
 ghost use Rattle.tone_tracking.specs.Clock.{changes};
 ghost use Rattle.tone_tracking.specs.Heard.{places_in};
 ghost use Rattle.tone_tracking.specs.HeldLists.{HasTaken as ListsHaveTaken};
 ghost use Rattle.sensitive_receiver.specs.AddedCandidates.{is_in_time};
-ghost use Rattle.sensitive_receiver.specs.Found.{AddsAt, AddsBelow, CanBePut};
-ghost use Rattle.sensitive_receiver.specs.HeldLanes.{IsLastPlace, LaneStandsFor, LanesHaveRead};
-ghost use Rattle.sensitive_receiver.specs.Lanes.{lane_tones};
+ghost use Rattle.sensitive_receiver.specs.Found.{AddsAmong, AddsAt, AddsBelow, CanBePut};
+ghost use Rattle.sensitive_receiver.specs.HeldLanes.{IsLastPlace, LaneStandsFor, LanesAreAt, LanesHaveRead};
+ghost use Rattle.sensitive_receiver.specs.Lanes.{is_read_by, lane_tones};
 
 use crate::added_lane::{AddedLane, has_path};
 use crate::readings::{FIRST, Readings, delay_of, list_of};
@@ -37,14 +37,97 @@ pub(crate) fn hear_place(
         → AddsBelow readings.now.place 23 x found.old.items found.new.items) }
     ensures bounds { OnOk result (All CanBePut found.old.items → All CanBePut found.new.items) }
 {
-    for index in 0..15u8 {
+    hear_fixed(alloc, lists, lanes, readings, found)?;
+    hear_clocked(alloc, lists, lanes, 8, 11, readings, found)?;
+    hear_clocked(alloc, lists, lanes, 11, 14, readings, found)?;
+    hear_clocked(alloc, lists, lanes, 14, 15, readings, found)
+}
+
+/// Has the one of the first eight lanes whose turn it is read its bit.
+fn hear_fixed(
+    alloc: Global,
+    lists: &ToneLists,
+    lanes: &mut [AddedLane],
+    readings: &Readings,
+    found: &mut Vec<Candidate>,
+) -> Result<(), OutOfMemory>
+    requires lanes { length lanes.old ≡ 15 }
+    requires room { lists.now.count < 2 ^ 49 }
+    requires place { readings.now.place < 2 ^ 48 }
+    ensures lanes { length lanes.new ≡ 15 }
+    ensures read { OnOk result ((x : List ℤ) → IsLastPlace lists.now readings.now x
+        → LanesAreAt 0 lanes.old readings.now.place x → LanesAreAt 8 lanes.new readings.now.place x) }
+    ensures found { OnOk result ((x : List ℤ) → IsLastPlace lists.now readings.now x
+        → LanesAreAt 0 lanes.old readings.now.place x
+        → AddsAmong readings.now.place 0 8 x found.old.items found.new.items) }
+    ensures bounds { OnOk result (All CanBePut found.old.items → All CanBePut found.new.items) }
+{
+    let index = (readings.place % 8) as u8;
+    let lane = &mut lanes[usize::from(index)];
+    hear(alloc, lists, lane, FIRST + index, readings, found)
+}
+
+/// Has the lanes from one to below another, which follow one clock, read their bits if it says so.
+fn hear_clocked(
+    alloc: Global,
+    lists: &ToneLists,
+    lanes: &mut [AddedLane],
+    first: u8,
+    end: u8,
+    readings: &Readings,
+    found: &mut Vec<Candidate>,
+) -> Result<(), OutOfMemory>
+    requires lanes { length lanes.old ≡ 15 }
+    requires range { (first < end) × (end ≤ 15) }
+    requires clock { (k : ℕ) → first ≤ k → k < end
+        → is_read_by (8 + k) readings.now ≡ is_read_by (8 + first) readings.now }
+    requires room { lists.now.count < 2 ^ 49 }
+    requires place { readings.now.place < 2 ^ 48 }
+    ensures lanes { length lanes.new ≡ 15 }
+    ensures read { OnOk result ((x : List ℤ) → IsLastPlace lists.now readings.now x
+        → LanesAreAt first lanes.old readings.now.place x → LanesAreAt end lanes.new readings.now.place x) }
+    ensures found { OnOk result ((x : List ℤ) → IsLastPlace lists.now readings.now x
+        → LanesAreAt first lanes.old readings.now.place x
+        → AddsAmong readings.now.place first end x found.old.items found.new.items) }
+    ensures bounds { OnOk result (All CanBePut found.old.items → All CanBePut found.new.items) }
+{
+    if !readings.are_for(FIRST + first) {
+        return Ok(());
+    }
+    hear_each(alloc, lists, lanes, first, end, readings, found)
+}
+
+/// Has the lanes from one to below another read their bits.
+fn hear_each(
+    alloc: Global,
+    lists: &ToneLists,
+    lanes: &mut [AddedLane],
+    first: u8,
+    end: u8,
+    readings: &Readings,
+    found: &mut Vec<Candidate>,
+) -> Result<(), OutOfMemory>
+    requires lanes { length lanes.old ≡ 15 }
+    requires range { (first < end) × (end ≤ 15) }
+    requires reads { (k : ℕ) → first ≤ k → k < end → is_read_by (8 + k) readings.now ≡ true }
+    requires room { lists.now.count < 2 ^ 49 }
+    requires place { readings.now.place < 2 ^ 48 }
+    ensures lanes { length lanes.new ≡ 15 }
+    ensures read { OnOk result ((x : List ℤ) → IsLastPlace lists.now readings.now x
+        → LanesAreAt first lanes.old readings.now.place x → LanesAreAt end lanes.new readings.now.place x) }
+    ensures found { OnOk result ((x : List ℤ) → IsLastPlace lists.now readings.now x
+        → LanesAreAt first lanes.old readings.now.place x
+        → AddsAmong readings.now.place first end x found.old.items found.new.items) }
+    ensures bounds { OnOk result (All CanBePut found.old.items → All CanBePut found.new.items) }
+{
+    for index in first..end {
         let lane = &mut lanes[usize::from(index)];
         hear(alloc, lists, lane, FIRST + index, readings, found)?;
     }
     Ok(())
 }
 
-/// Has a lane read its bit, if it reads one at the place that was decided last, and adds the frame that ends with it.
+/// Has a lane read its bit at the place that was decided last, and adds the frame that ends with it.
 fn hear(
     alloc: Global,
     lists: &ToneLists,
@@ -54,6 +137,7 @@ fn hear(
     found: &mut Vec<Candidate>,
 ) -> Result<(), OutOfMemory>
     requires number { (8 ≤ number) × (number < 23) }
+    requires reads { is_read_by number readings.now ≡ true }
     requires room { lists.now.count < 2 ^ 49 }
     requires place { readings.now.place < 2 ^ 48 }
     ensures read { (x : List ℤ) → IsLastPlace lists.now readings.now x
@@ -64,9 +148,6 @@ fn hear(
         → AddsAt readings.now.place number x found.old.items found.new.items) }
     ensures bounds { OnOk result (All CanBePut found.old.items → All CanBePut found.new.items) }
 {
-    if !readings.are_for(number) {
-        return Ok(());
-    }
     let tone = lists.tone_before(list_of(number), delay_of(number));
     if !lane.push(tone) {
         return Ok(());

@@ -6,8 +6,6 @@ use Rattle.std.specs.Int.{int_div_euclid}
 use Rattle.tone_table.specs.declared.tone.Tone.{Tone}
 use Rattle.tone_table.specs.declared.tone.Tone.TheVariants.{Mark, Space}
 use Rattle.tone_tracking.specs.declared.phasor.Phasor.{Phasor}
-use Rattle.tone_tracking.specs.declared.correlation.Correlations.{Correlations}
-use Rattle.tone_tracking.specs.Correlation.{AreWithin, of_tone}
 use Rattle.tone_tracking.specs.Phasors.{IsWithin, none, plus, turn, turn_back, three_quarters}
 
 -- phasors with the same parts are the same
@@ -79,8 +77,3 @@ turned_back_within m tone p r is h = subst (IsWithin m) (sym is) (within_turn_ba
 
 pub plus-none : (p : Phasor) → plus p none ≡ p
 plus-none p = phasor_is (plus p none) p (omega (arith, ints)) (omega (arith, ints))
-
--- the correlation with a tone is one of two
-pub of_tone_within : (tone : Tone) (c : Correlations) → AreWithin c → IsWithin 40000000 (of_tone tone c)
-of_tone_within Mark c h = h.mark
-of_tone_within Space c h = h.space

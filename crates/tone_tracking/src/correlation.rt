@@ -3,10 +3,9 @@
 ghost use Rattle.std.specs.Prelude.{◌≡◌, ◌<◌, ◌≤◌, ◌*◌, ◌*ℤ◌, sum_by, unsigned_abs};
 ghost use Rattle.offset_slicers.specs.Decision.{sum_below, product_of};
 ghost use Rattle.tone_table.specs.declared.tone.Tone.TheVariants.{Mark, Space};
-ghost use Rattle.tone_tracking.specs.Correlation.{AreWithin, correlations, of_tone};
+ghost use Rattle.tone_tracking.specs.Correlation.{AreWithin, correlations};
 
 use crate::phasor::Phasor;
-use tone_table::Tone;
 
 /// The weights of mark a sixth of a turn on.
 static MARK_ON: [i16; 8] = [87, 97, 50, -26, -87, -97, -50, 26];
@@ -35,16 +34,6 @@ impl Correlations {
         mark: Phasor::NONE,
         space: Phasor::NONE,
     };
-
-    /// The correlation with a tone.
-    pub(crate) fn of(&self, tone: Tone) -> Phasor
-        ensures { result ≡ of_tone tone self.now }
-    {
-        match tone {
-            Tone::Mark => self.mark,
-            Tone::Space => self.space,
-        }
-    }
 }
 
 /// The correlations of a window of eight samples.

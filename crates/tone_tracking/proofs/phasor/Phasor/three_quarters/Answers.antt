@@ -1,17 +1,24 @@
-use Rattle.std.proofs.Common.{◌≡◌, ℤ, pos, ◌*ℤ◌, FitsSigned, to_z, of_z, w32, ap, ◌∙◌, arith, rules}
+use Rattle.std.proofs.Common.{◌≡◌, ◌≤◌, ◌/◌, ℤ, pos, negsuc, ◌*ℤ◌, FitsSigned, to_z, of_z, w32, unsigned_abs, ap, ◌∙◌, arith}
 use Rattle.std.proofs.lemmas.Int.{ints, to_z-of_z}
 use Rattle.std.specs.Int.{int_div_euclid}
+use Rattle.std.specs.Int.Signed.{shr_z}
 use Rattle.tone_tracking.proofs.PhasorLemmas.{phasor_is}
 use Rattle.tone_tracking.proofs.phasor.Phasor.three_quarters.Goals as goal
 
--- a quotient as it is passed and given back
-quotient_is : (z bits result : ℤ) → FitsSigned w32 result → bits ≡ z → result ≡ int_div_euclid bits (pos 4)
-    → to_z w32 (of_z w32 result) ≡ int_div_euclid z (pos 4)
-quotient_is z bits result fits same is = to_z-of_z w32 result fits ∙ is ∙ ap (λ t. int_div_euclid t (pos 4)) same
+-- a shift by two bits as it is given back
+shifted : (z : ℤ) → unsigned_abs z ≤ 1500000000 → to_z w32 (of_z w32 (shr_z z 4)) ≡ int_div_euclid z (pos 4)
+shifted (pos n) small = let fits : FitsSigned w32 (pos (n / 4)) = omega (arith, ints) in to_z-of_z w32 (pos (n / 4)) fits
+shifted (negsuc n) small = let fits : FitsSigned w32 (negsuc (n / 4)) = omega (arith, ints) in to_z-of_z w32 (negsuc (n / 4)) fits
+
+-- three times a part as it is passed
+tripled : (z : ℤ) → unsigned_abs z ≤ 500000000 → to_z w32 (of_z w32 (pos 3 *ℤ to_z w32 (of_z w32 z))) ≡ pos 3 *ℤ z
+tripled z small = omega (arith, ints)
+
+part_is : (z : ℤ) → unsigned_abs z ≤ 500000000
+    → to_z w32 (of_z w32 (shr_z (to_z w32 (of_z w32 (pos 3 *ℤ to_z w32 (of_z w32 z)))) 4)) ≡ int_div_euclid (pos 3 *ℤ z) (pos 4)
+part_is z small =
+    let tripled_small : unsigned_abs (pos 3 *ℤ z) ≤ 1500000000 = omega (arith, ints) in
+    ap (λ t. to_z w32 (of_z w32 (shr_z t 4))) (tripled z small) ∙ shifted (pos 3 *ℤ z) tripled_small
 
 pub returns : goal.returns
-returns c =
-    let a : FitsSigned w32 c.div_euclid.result = search rules in
-    let b : FitsSigned w32 c.div_euclid-2.result = search rules in
-    phasor_is _ _ (quotient_is (pos 3 *ℤ c.args.self.a) _ c.div_euclid.result a (omega (arith, ints)) c.div_euclid.ensures)
-    (quotient_is (pos 3 *ℤ c.args.self.b) _ c.div_euclid-2.result b (omega (arith, ints)) c.div_euclid-2.ensures)
+returns c = phasor_is _ _ (part_is c.args.self.a c.requires.first) (part_is c.args.self.b c.requires.second)
