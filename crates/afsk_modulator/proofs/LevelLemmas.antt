@@ -1,6 +1,6 @@
 -- Samples at a level.
-use Rattle.std.proofs.Common.{◌≡◌, ℕ, zero, suc, ◌*◌, ◌<◌, ◌≤◌, ℤ, pos, ◌*ℤ◌, ◌+ℤ◌, ◌-ℤ◌, List, [], ◌∷◌, ◌++◌, map,
-    replicate, unsigned_abs, refl, ap, ◌∙◌, arith}
+use Rattle.std.proofs.Common.{◌≡◌, ℕ, zero, suc, ◌*◌, ◌<◌, ◌≤◌, ℤ, pos, ◌*ℤ◌, ◌+ℤ◌, ◌-ℤ◌, List, [], ◌∷◌, ◌++◌, map}
+use Rattle.std.proofs.Common.{replicate, unsigned_abs, refl, ap, ◌∙◌, arith}
 use Rattle.std.specs.Prelude.{int_rem}
 use Rattle.std.proofs.lemmas.Int.{ints, quot-rem, rem_below, unsigned_abs-mul}
 use Rattle.std.proofs.lemmas.List.{map-append}
@@ -15,9 +15,11 @@ use Rattle.afsk_modulator.specs.Transmission.{transmission, transmission_at}
 parts : (level : ℕ) (sample : ℤ)
     → (rest : ℤ) × (sample_at level sample *ℤ pos 10000 +ℤ rest ≡ pos level *ℤ sample) × (unsigned_abs rest < 10000)
 unfolding sample_at
-parts level sample =
-    (int_rem (pos level *ℤ sample) (pos 10000), quot-rem (pos level *ℤ sample) (pos 10000),
-        rem_below (pos level *ℤ sample) (pos 10000) (omega arith))
+parts level sample = (
+  int_rem (pos level *ℤ sample) (pos 10000),
+  quot-rem (pos level *ℤ sample) (pos 10000),
+  rem_below (pos level *ℤ sample) (pos 10000) (omega arith),
+)
 
 -- a sample at the full level is the sample
 sample_at-full : (sample : ℤ) → sample_at 10000 sample ≡ sample

@@ -10,7 +10,7 @@ use Rattle.afsk_modulator.proofs.LevelLemmas.{at_level-append, at_level-silence}
 -- one transmission at a level: its silence, and the rest from phase 0 on
 pub at_level-samples_of : (level : ℕ) (t : Transmission)
     → at_level level (samples_of t) ≡ replicate t.silence (pos 0)
-        ++ transmission_at 0 level t.frames t.opening t.closing
+    ++ transmission_at 0 level t.frames t.opening t.closing
 unfolding transmission transmission_at
 at_level-samples_of level t =
     at_level-append level (replicate t.silence (pos 0)) (transmission t.frames t.opening t.closing)

@@ -22,7 +22,7 @@ wave_from-append phase [] us = refl
 wave_from-append phase (t ∷ ts) us =
     ap (λ samples. pure_window phase t ++ samples) (wave_from-append (next_phase phase t) ts us)
     ∙ sym (append_assoc (pure_window phase t) (wave_from (next_phase phase t) ts)
-        (wave_from (phase_from (next_phase phase t) ts) us))
+    (wave_from (phase_from (next_phase phase t) ts) us))
 
 -- where a wave goes on after one tone more
 pub behind-push : (start : Modulation) (tones : List Tone) (tone : Tone) (now : Modulation) → now ≡ behind start tones
@@ -37,7 +37,7 @@ pub wave_of-push : (start : Modulation) (tones : List Tone) (tone : Tone) (now :
 wave_of-push start tones tone now at =
     let there : Modulation = behind start tones in
     ap (at_level start.level) (wave_from-append start.phase tones (tone ∷ [])
-        ∙ ap (λ w. wave_from start.phase tones ++ w) (append-nil (pure_window there.phase tone)))
+    ∙ ap (λ w. wave_from start.phase tones ++ w) (append-nil (pure_window there.phase tone)))
     ∙ at_level-append start.level (wave_from start.phase tones) (pure_window there.phase tone)
     ∙ ap (λ m. wave_of start tones ++ tone_window m tone) (sym at)
 

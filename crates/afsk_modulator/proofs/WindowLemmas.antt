@@ -1,6 +1,6 @@
 -- The samples of one tone, one more at a time.
-use Rattle.std.proofs.Common.{◌≡◌, ℕ, ◌+◌, ◌*◌, ◌%◌, ◌<◌, ◌≤◌, ℤ, List, [], ◌∷◌, ◌++◌, length, map, take, set,
-    unsigned_abs, FitsSigned, to_z, of_z, sym, ap, ◌∙◌, zero-add, arith}
+use Rattle.std.proofs.Common.{◌≡◌, ℕ, ◌+◌, ◌*◌, ◌%◌, ◌<◌, ◌≤◌, ℤ, List, [], ◌∷◌, ◌++◌, length, map, take, set}
+use Rattle.std.proofs.Common.{unsigned_abs, FitsSigned, to_z, of_z, sym, ap, ◌∙◌, zero-add, arith}
 use Rattle.std.specs.List.{range_with_len}
 use Rattle.std.proofs.lemmas.Int.{ints, to_z-of_z}
 use Rattle.std.proofs.lemmas.List.{take_more_set, take_all}
@@ -40,7 +40,7 @@ samples_more m place step at tone window pure sample below so_far is_step is_at 
     let now : to_z w16 (of_z w16 sample) ≡ tone_sample m tone place =
     to_z-of_z w16 sample fits ∙ is ∙ ap (sample_at m.level)
     (to_z-of_z w16 pure pure_fits ∙ is_pure ∙ ap wave_sample is_at ∙ wave_sample-mod (m.phase + place * step)
-        ∙ ap (λ s. wave_sample (m.phase + place * s)) is_step) in
+    ∙ ap (λ s. wave_sample (m.phase + place * s)) is_step) in
     take_more_set window place (to_z w16 (of_z w16 sample)) below
     ∙ ap (λ xs. xs ++ to_z w16 (of_z w16 sample) ∷ []) so_far
     ∙ ap (λ z. samples_below place m tone ++ z ∷ []) now

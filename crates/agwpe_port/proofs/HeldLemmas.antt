@@ -1,6 +1,7 @@
 -- What is kept stands for all octets so far.
-use Rattle.std.proofs.Common.{◌≡◌, ℕ, ◌+◌, ◌<◌, ◌≤◌, ltb, eqb, cond, Bool, true, false, List, [], ◌∷◌, ◌++◌, length,
-    refl, ap, subst, ◌∙◌, sym, inl, inr, arith, append_assoc, append-nil, length-append, Option, Some, None}
+use Rattle.std.proofs.Common.{◌≡◌, ℕ, ◌+◌, ◌<◌, ◌≤◌, ltb, eqb, cond, Bool, true, false, List, [], ◌∷◌, ◌++◌, length}
+use Rattle.std.proofs.Common.{refl, ap, subst, ◌∙◌, sym, inl, inr, arith, append_assoc, append-nil, length-append}
+use Rattle.std.proofs.Common.{Option, Some, None}
 use Rattle.std.specs.Option.{option_to_list}
 use Rattle.std.specs.Result.{MatchResult}
 use Rattle.std.proofs.lemmas.Bool.{ltb-true, ltb-false, eqb-true, eqb-false}
@@ -8,8 +9,8 @@ use Rattle.std.proofs.lemmas.List.{length_push, nil_from_length}
 use Rattle.agwpe_port.specs.declared.message.AgwMessage.{AgwMessage}
 use Rattle.agwpe_port.specs.Messages.{Reading, told_length, message_of, reading, given, IsFault}
 use Rattle.agwpe_port.specs.Answer.{answer_of}
-use Rattle.agwpe_port.specs.Held.{Held, StandsFor, IsOpen, new_held, taken, told, taken_of_body, told_by_body,
-    header_ended, told_by_header, with_body, rest_reading, behind}
+use Rattle.agwpe_port.specs.Held.{Held, StandsFor, IsOpen, new_held, taken, told, taken_of_body, told_by_body}
+use Rattle.agwpe_port.specs.Held.{header_ended, told_by_header, with_body, rest_reading, behind}
 use Rattle.agwpe_port.proofs.ReadingLemmas.{nothing, reading_short, reading_bad, reading_open, reading_whole}
 
 -- the message under way, and nothing else
@@ -60,7 +61,7 @@ header_whole header size =
     let octets : List ℕ = header ++ [] in
     let bad : Held = record { header = header; body = []; bad = Some len } in
     by_test octets (ltb 4096 len) bad (cond (eqb len 0) new_held (under header [])) None
-        (cond (eqb len 0) (Some (message_of header [])) None)
+    (cond (eqb len 0) (Some (message_of header [])) None)
     (λ long. goes_bad header [] size (ltb-true 4096 len long))
     (λ fits. by_test octets (eqb len 0) new_held (under header []) (Some (message_of header [])) None
     (λ none. ends header [] size (ltb-false 4096 len fits) (sym (eqb-true len 0 none)))
@@ -84,7 +85,7 @@ octet_goes : (header body : List ℕ) (octet : ℕ) → IsOpen header body
 octet_goes header body octet (inl short) =
     let none : [] ≡ body = sym (nil_from_length body (omega (arith, short.1))) in
     let P : List ℕ → Type 0 = λ b. Goes ((header ++ b) ++ octet ∷ []) (taken (under header b) octet)
-        (told (under header b) octet) in
+    (told (under header b) octet) in
     subst P none (of_header (omega (arith, short.0)))
   where
     u : List ℕ
@@ -102,12 +103,12 @@ octet_goes header body octet (inl short) =
         let longer : length u ≡ length header + 1 = length_push header octet in
         subst (λ xs. Goes xs (taken (under header []) octet) (told (under header []) octet)) regroup
         (by_test (u ++ []) (eqb (length header) 36) (taken_of_body (with_body (under header []) octet))
-            (cond (eqb (length header + 1) 36) (header_ended (under u [])) (under u []))
+        (cond (eqb (length header + 1) 36) (header_ended (under u [])) (under u []))
         (told_by_body (with_body (under header []) octet))
-            (cond (eqb (length header + 1) 36) (told_by_header (under u [])) None)
+        (cond (eqb (length header + 1) 36) (told_by_header (under u [])) None)
         (λ full. absurd (omega (arith, eqb-true (length header) 36 full)))
         (λ room. by_test (u ++ []) (eqb (length header + 1) 36) (header_ended (under u [])) (under u [])
-            (told_by_header (under u [])) None
+        (told_by_header (under u [])) None
         (λ last. header_whole u (longer ∙ eqb-true (length header + 1) 36 last))
         (λ other. goes_on u [] (inl (omega (arith, eqb-false (length header + 1) 36 other), refl)))))
 octet_goes header body octet (inr whole) =
@@ -115,9 +116,9 @@ octet_goes header body octet (inr whole) =
     let longer : length v ≡ length body + 1 = length_push body octet in
     let u : List ℕ = header ++ octet ∷ [] in
     subst (λ xs. Goes xs (taken (under header body) octet) (told (under header body) octet))
-        (sym (append_assoc header body (octet ∷ [])))
+    (sym (append_assoc header body (octet ∷ [])))
     (by_test (header ++ v) (eqb (length header) 36) (taken_of_body (under header v))
-        (cond (eqb (length header + 1) 36) (header_ended (under u body)) (under u body))
+    (cond (eqb (length header + 1) 36) (header_ended (under u body)) (under u body))
     (told_by_body (under header v)) (cond (eqb (length header + 1) 36) (told_by_header (under u body)) None)
     (λ full. body_more header v whole.0 whole.1 (omega (arith, whole.2)))
     (λ other. absurd (eqb-false (length header) 36 other whole.0)))
@@ -166,14 +167,14 @@ bad_tells_none held octet len good is_bad =
         let v : List ℕ = body ++ octet ∷ [] in
         let L : ℕ = told_length u in
         either (eqb (length header) 36) (taken_of_body (under header v))
-            (cond (eqb (length header + 1) 36) (header_ended (under u body)) (under u body))
+        (cond (eqb (length header + 1) 36) (header_ended (under u body)) (under u body))
         (told_by_body (under header v)) (cond (eqb (length header + 1) 36) (told_by_header (under u body)) None)
         (either (ltb (length v) (told_length header)) (under header v) new_held None (Some (message_of header v))
-            (λ e. refl) (λ e. none_is_some e))
+        (λ e. refl) (λ e. none_is_some e))
         (either (eqb (length header + 1) 36) (header_ended (under u body)) (under u body)
-            (told_by_header (under u body)) None
+        (told_by_header (under u body)) None
         (either (ltb 4096 L) (record { header = u; body = body; bad = Some L }) (cond (eqb L 0) new_held (under u body))
-            None (cond (eqb L 0) (Some (message_of u body)) None)
+        None (cond (eqb L 0) (Some (message_of u body)) None)
         (λ e. refl)
         (either (eqb L 0) new_held (under u body) (Some (message_of u body)) None (λ e. none_is_some e) (λ e. refl)))
         (λ e. refl))
@@ -207,11 +208,11 @@ module _ (held : Held) (stream : List ℕ) (stands : StandsFor held stream) wher
           ap reading (append_assoc stream (octet ∷ []) more)
           ∙ stands.rest (octet ∷ more)
           ∙ ap (λ bad. behind (reading stream).messages (rest_reading bad (held.header ++ held.body) (octet ∷ more)))
-              is_bad
+          is_bad
           ∙ ap (λ ms. behind ms (rest_reading (Some len) (held.header ++ held.body) more))
-              (sym (messages_failed ∙ append-nil (reading stream).messages))
+          (sym (messages_failed ∙ append-nil (reading stream).messages))
           ∙ ap (λ bad. behind (reading (stream ++ octet ∷ [])).messages
-              (rest_reading bad (held.header ++ held.body) more)) (sym is_bad);
+          (rest_reading bad (held.header ++ held.body) more)) (sym is_bad);
     }
 
   -- an octet of a message
@@ -224,7 +225,7 @@ module _ (held : Held) (stream : List ℕ) (stands : StandsFor held stream) wher
     goes =
         let with_bad : Option ℕ → Held = λ b. record { header = held.header; body = held.body; bad = b } in
         let P : Option ℕ → Type 0 = λ b. Goes ((held.header ++ held.body) ++ octet ∷ []) (taken (with_bad b) octet)
-            (told (with_bad b) octet) in
+        (told (with_bad b) octet) in
         subst P (sym good) (octet_goes held.header held.body octet (stands.under_way good))
 
     stream_more : (more : List ℕ) → reading (stream ++ octet ∷ more)
@@ -234,20 +235,23 @@ module _ (held : Held) (stream : List ℕ) (stands : StandsFor held stream) wher
         stands.rest (octet ∷ more)
         ∙ ap (λ bad. behind (reading stream).messages (rest_reading bad (held.header ++ held.body) (octet ∷ more))) good
         ∙ ap (λ xs. behind (reading stream).messages (reading xs))
-            (sym (append_assoc (held.header ++ held.body) (octet ∷ []) more))
+        (sym (append_assoc (held.header ++ held.body) (octet ∷ []) more))
         ∙ ap (behind (reading stream).messages) (goes.rest more)
         ∙ ap (λ ms. record { messages = ms; bad = (rest_of (taken held octet) more).bad })
         (sym (append_assoc (reading stream).messages (option_to_list (told held octet))
-            (rest_of (taken held octet) more).messages))
+        (rest_of (taken held octet) more).messages))
 
-    now : reading (stream ++ octet ∷ []) ≡ record { messages =
-        (reading stream).messages ++ option_to_list (told held octet); bad = (taken held octet).bad }
+    now : reading (stream ++ octet ∷ []) ≡ record {
+      messages =
+          (reading stream).messages ++ option_to_list (told held octet);
+      bad = (taken held octet).bad;
+    }
     now =
         stream_more []
         ∙ ap (behind ((reading stream).messages ++ option_to_list (told held octet)))
-            (at_end (taken held octet) goes.under_way)
+        (at_end (taken held octet) goes.under_way)
         ∙ ap (λ ms. record { messages = ms; bad = (taken held octet).bad })
-            (append-nil ((reading stream).messages ++ option_to_list (told held octet)))
+        (append-nil ((reading stream).messages ++ option_to_list (told held octet)))
 
     messages_next : (reading (stream ++ octet ∷ [])).messages
         ≡ (reading stream).messages ++ option_to_list (told held octet)

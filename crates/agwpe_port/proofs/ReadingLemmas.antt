@@ -1,6 +1,6 @@
 -- Messages one by one.
-use Rattle.std.proofs.Common.{◌≡◌, ℕ, zero, suc, ◌+◌, ◌<◌, ◌≤◌, ltb, cond, List, [], ◌++◌, length, take, drop, refl, ap,
-    ◌∙◌, sym, inl, inr, arith, length-drop, length-append, Some, None}
+use Rattle.std.proofs.Common.{◌≡◌, ℕ, zero, suc, ◌+◌, ◌<◌, ◌≤◌, ltb, cond, List, [], ◌++◌, length, take, drop, refl, ap}
+use Rattle.std.proofs.Common.{◌∙◌, sym, inl, inr, arith, length-drop, length-append, Some, None}
 use Rattle.std.proofs.lemmas.Bool.{cond-true, cond-false, lt-ltb, le-ltb, cases_lt}
 use Rattle.std.proofs.lemmas.List.{take_at, drop_at}
 use Rattle.agwpe_port.specs.Messages.{Reading, and_then, told_length, message_of, reading, reading_upto}
@@ -14,7 +14,7 @@ abbrev pub behind_header : (List ℕ → Reading) → List ℕ → List ℕ → 
 behind_header next header behind =
     cond (ltb 4096 (told_length header)) (record { messages = []; bad = Some (told_length header) })
     (cond (ltb (length behind) (told_length header)) nothing
-        (and_then (message_of header (take (told_length header) behind)) (next (drop (told_length header) behind))))
+    (and_then (message_of header (take (told_length header) behind)) (next (drop (told_length header) behind))))
 
 -- with one message more
 abbrev one_more : ℕ → List ℕ → Reading
@@ -35,7 +35,7 @@ same_next : (first second : List ℕ → Reading) (header behind : List ℕ)
 same_next first second header behind same =
     ap (λ r. cond (ltb 4096 (told_length header)) (record { messages = []; bad = Some (told_length header) })
     (cond (ltb (length behind) (told_length header)) nothing
-        (and_then (message_of header (take (told_length header) behind)) r))) same
+    (and_then (message_of header (take (told_length header) behind)) r))) same
 
 rest_le : (count most : ℕ) (stream : List ℕ) → 36 ≤ length stream → length stream ≤ suc most
     → length (drop count (drop 36 stream)) ≤ most
@@ -55,7 +55,7 @@ enough (suc m) (suc n) stream first second =
           header_more m stream whole
           ∙ same_next (reading_upto m) (reading_upto n) header (drop 36 stream)
           (enough m n (drop (told_length header) (drop 36 stream)) (rest_le (told_length header) m stream whole first)
-              (rest_le (told_length header) n stream whole second))
+          (rest_le (told_length header) n stream whole second))
           ∙ sym (header_more n stream whole)
     ]
 

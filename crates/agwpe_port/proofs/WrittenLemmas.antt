@@ -1,6 +1,6 @@
 -- What is written is read as the message that it was.
-use Rattle.std.proofs.Common.{◌≡◌, ℕ, ◌+◌, ◌≤◌, List, [], ◌∷◌, ◌++◌, length, take, drop, ap, ◌∙◌, sym, arith,
-    append_assoc, length-append}
+use Rattle.std.proofs.Common.{◌≡◌, ℕ, ◌+◌, ◌≤◌, List, [], ◌∷◌, ◌++◌, length, take, drop, ap, ◌∙◌, sym, arith}
+use Rattle.std.proofs.Common.{append_assoc, length-append}
 use Rattle.std.proofs.lemmas.List.{take_at, drop_at, drop-drop}
 use Rattle.byteorder.specs.Endian.{little_bytes, little_number}
 use Rattle.byteorder.specs.Numbers.{little_number-reads_back}
@@ -26,9 +26,9 @@ module _ (message : AgwMessage) (written : IsWritten message) where
   header_length : length (header_of message) ≡ 36
   header_length =
       let calls : length (calls_of message) ≡ length message.from + length (message.to ++ tail_of message) =
-          length-append message.from (message.to ++ tail_of message) in
+      length-append message.from (message.to ++ tail_of message) in
       let later : length (message.to ++ tail_of message) ≡ length message.to + 8 =
-          length-append message.to (tail_of message) in
+      length-append message.to (tail_of message) in
       omega (arith, calls, later, written.from, written.to)
 
   behind_from : drop 10 (calls_of message) ≡ message.to ++ tail_of message
@@ -44,11 +44,23 @@ module _ (message : AgwMessage) (written : IsWritten message) where
 
   message_back : message_of (header_of message) message.body ≡ message
   message_back =
-      ap (λ from. record { port = message.port; kind = message.kind; pid = message.pid; from = from;
-          to = take 10 (drop 10 (calls_of message)); body = message.body })
+      ap (λ from. record {
+        port = message.port;
+        kind = message.kind;
+        pid = message.pid;
+        from = from;
+        to = take 10 (drop 10 (calls_of message));
+        body = message.body;
+      })
       (take_at message.from (message.to ++ tail_of message) 10 written.from)
-      ∙ ap (λ to. record { port = message.port; kind = message.kind; pid = message.pid; from = message.from; to = to;
-          body = message.body })
+      ∙ ap (λ to. record {
+        port = message.port;
+        kind = message.kind;
+        pid = message.pid;
+        from = message.from;
+        to = to;
+        body = message.body;
+      })
       (ap (take 10) behind_from ∙ take_at message.to (tail_of message) 10 written.to)
 
   -- The octets of a message are that message, whatever follows.
@@ -57,18 +69,18 @@ module _ (message : AgwMessage) (written : IsWritten message) where
   written_reads more =
       ap reading (append_assoc (header_of message) message.body more)
       ∙ reading_whole (header_of message) message.body more header_length (omega (arith, length_back, written.body))
-          (sym length_back)
+      (sym length_back)
       ∙ ap (λ m. and_then m (reading more)) message_back
 
 -- the parts of a message, one after the other
 pub in_parts : (message : AgwMessage)
     → (((((message.port ∷ 0 ∷ 0 ∷ 0 ∷ message.kind ∷ 0 ∷ message.pid ∷ 0 ∷ []) ++ message.from) ++ message.to)
-        ++ little_bytes 4 (length message.body)) ++ 0 ∷ 0 ∷ 0 ∷ 0 ∷ []) ++ message.body
+    ++ little_bytes 4 (length message.body)) ++ 0 ∷ 0 ∷ 0 ∷ 0 ∷ []) ++ message.body
     ≡ spelling message
 unfolding spelling
 in_parts message =
     let parts : ((message.from ++ message.to) ++ little_bytes 4 (length message.body)) ++ 0 ∷ 0 ∷ 0 ∷ 0 ∷ []
-        ≡ calls_of message =
+    ≡ calls_of message =
     append_assoc (message.from ++ message.to) (little_bytes 4 (length message.body)) (0 ∷ 0 ∷ 0 ∷ 0 ∷ [])
-        ∙ append_assoc message.from message.to (tail_of message) in
+    ∙ append_assoc message.from message.to (tail_of message) in
     ap (λ xs. (message.port ∷ 0 ∷ 0 ∷ 0 ∷ message.kind ∷ 0 ∷ message.pid ∷ 0 ∷ xs) ++ message.body) parts

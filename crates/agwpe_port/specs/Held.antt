@@ -1,7 +1,7 @@
 -- What is kept of a stream of messages: the message under way. No public clause looks inside: they cite `StandsFor`
 -- alone.
-use Rattle.std.specs.Prelude.{◌≡◌, ℕ, ◌+◌, ◌<◌, ◌≤◌, ◌⊎◌, ◌==◌, nat_lt, if◌then◌else◌, List, [], ◌∷◌, ◌++◌, length,
-    Option, Some, None}
+use Rattle.std.specs.Prelude.{◌≡◌, ℕ, ◌+◌, ◌<◌, ◌≤◌, ◌⊎◌, ◌==◌, nat_lt, if◌then◌else◌, List, [], ◌∷◌, ◌++◌, length}
+use Rattle.std.specs.Prelude.{Option, Some, None}
 use Rattle.agwpe_port.specs.declared.message.AgwMessage.{AgwMessage}
 use Rattle.agwpe_port.specs.Messages.{Reading, reading, header_size, most_body, told_length, message_of}
 
@@ -19,8 +19,11 @@ new_held = record { header = []; body = []; bad = None }
 -- after the last octet of a header
 abbrev pub header_ended : Held → Held
 header_ended held =
-    if nat_lt most_body (told_length held.header) then record { header = held.header; body = held.body;
-        bad = Some (told_length held.header) } else
+    if nat_lt most_body (told_length held.header) then record {
+      header = held.header;
+      body = held.body;
+      bad = Some (told_length held.header);
+    } else
     if told_length held.header == 0 then record { header = []; body = []; bad = held.bad } else held
 
 abbrev pub told_by_header : Held → Option AgwMessage

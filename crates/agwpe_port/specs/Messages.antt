@@ -1,7 +1,7 @@
 -- The messages of a stream (AGWPE TCP/IP socket interface): a header of 36 octets, and as many octets of body as its
 -- octets 28 to 31 tell, the lowest first.
-use Rattle.std.specs.Prelude.{◌≡◌, ℕ, zero, suc, nat_lt, if◌then◌else◌, List, [], ◌∷◌, ◌++◌, length, take, drop,
-    slice_index, Option, Some, None, Result, Ok, Err}
+use Rattle.std.specs.Prelude.{◌≡◌, ℕ, zero, suc, nat_lt, if◌then◌else◌, List, [], ◌∷◌, ◌++◌, length, take, drop}
+use Rattle.std.specs.Prelude.{slice_index, Option, Some, None, Result, Ok, Err}
 use Rattle.std.specs.Option.{option_to_list}
 use Rattle.byteorder.specs.Endian.{little_number, little_bytes}
 use Rattle.agwpe_port.specs.declared.fault.AgwFault.{AgwFault}
@@ -50,7 +50,7 @@ reading_upto (suc most) stream =
     if nat_lt most_body (told_length header) then record { messages = []; bad = Some (told_length header) } else
     if nat_lt (length behind) (told_length header) then record { messages = []; bad = None } else
     and_then (message_of header (take (told_length header) behind))
-        (reading_upto most (drop (told_length header) behind))
+    (reading_upto most (drop (told_length header) behind))
 
 -- The stream is cut into headers, each followed by its body; a header or a body that is cut short is no message yet. A
 -- message has 36 octets at least, so there are no more than octets.

@@ -1,8 +1,9 @@
 -- Facts on names and on their faults.
-use Rattle.std.proofs.Common.{◌≡◌, ℕ, suc, ◌+◌, ◌-◌, ◌<◌, ◌≤◌, ◌++◌, List, [], ◌∷◌, length, get_or, set, take,
-    replicate, refl, sym, ap, subst, ◌∙◌, arith, None, Some, inl, inr, append_assoc, length-append}
-use Rattle.std.proofs.lemmas.List.{set_at, take_at, take_all, take_more, length-take-le, length-replicate,
-    get_or_default}
+use Rattle.std.proofs.Common.{◌≡◌, ℕ, suc, ◌+◌, ◌-◌, ◌<◌, ◌≤◌, ◌++◌, List, [], ◌∷◌, length, get_or, set, take}
+use Rattle.std.proofs.Common.{replicate, refl, sym, ap, subst, ◌∙◌, arith, None, Some, inl, inr, append_assoc}
+use Rattle.std.proofs.Common.{length-append}
+use Rattle.std.proofs.lemmas.List.{set_at, take_at, take_all, take_more, length-take-le, length-replicate}
+use Rattle.std.proofs.lemmas.List.{get_or_default}
 use Rattle.std.proofs.lemmas.Bool.{cases_lt}
 use Rattle.ax25_address.specs.Callsign.{IsName, IsCallCharacter, padded}
 use Rattle.ax25_address.specs.Held.{IsHeld}
@@ -73,7 +74,7 @@ IsFilling-more name characters n inside six letter h =
     let x : ℕ = get_or name n 0 in
     let rest : List ℕ = replicate (6 - (n + 1)) 32 in
     let spaces : replicate (6 - n) 32 ≡ 32 ∷ rest = let e : 6 - n ≡ suc (6 - (n + 1)) = omega arith in
-        ap (λ m. replicate m 32) e in
+    ap (λ m. replicate m 32) e in
     record {
       good = λ k below. elim (cases_lt k n) [
         | inl earlier ↦ h.good k earlier
@@ -90,16 +91,20 @@ pub IsHeld-filling : (name characters : List ℕ) (n : ℕ) → 0 < length name 
     → IsFilling name characters n → IsHeld characters (length name) 0
 IsHeld-filling name characters n some six all h =
     let whole : characters ≡ padded name = h.filled ∙ ap (λ k. take k name ++ replicate (6 - k) 32) all
-        ∙ ap (λ t. t ++ replicate (6 - length name) 32) (take_all (length name) name (omega arith)) in
+    ∙ ap (λ t. t ++ replicate (6 - length name) 32) (take_all (length name) name (omega arith)) in
     let front : take (length name) characters ≡ name = ap (λ xs. take (length name) xs) whole
-        ∙ take_at name (replicate (6 - length name) 32) (length name) refl in
+    ∙ take_at name (replicate (6 - length name) 32) (length name) refl in
     record {
       size = ap length whole ∙ length-append name (replicate (6 - length name) 32)
           ∙ ap (λ k. length name + k) (length-replicate (6 - length name) 32) ∙ omega arith;
       fits = six;
       name = subst (λ (xs : List ℕ). IsName xs) (sym front)
-          (record { shortest = some; longest = six; characters = λ k d below.
-          subst (λ (c : ℕ). IsCallCharacter c) (get_or_default name k 0 d below) (h.good k (omega arith)) });
+          (record {
+            shortest = some;
+            longest = six;
+            characters = λ k d below.
+                subst (λ (c : ℕ). IsCallCharacter c) (get_or_default name k 0 d below) (h.good k (omega arith));
+          });
       filled = whole ∙ ap (λ xs. padded xs) (sym front);
       ssid = omega arith;
     }

@@ -1,9 +1,10 @@
 -- Address fields octet by octet.
-use Rattle.std.proofs.Common.{◌≡◌, ℕ, ◌+◌, ◌-◌, ◌*◌, ◌/◌, ◌%◌, ◌<◌, ◌≤◌, ◌++◌, List, [], ◌∷◌, length, get_or, take,
-    drop, map, replicate, refl, sym, ap, subst, arith, inl, inr, ◌∙◌, Bool, true, false, leb, eqb}
-use Rattle.std.proofs.lemmas.List.{length-append, length-map, length-replicate, get_or-replicate, get_or_append_left,
-    get_or-append_right, get_or-map, get_or-take, get_or-drop, length-take, length-drop, length-take-le, ext_get_or,
-    get_or_default, take_more, take-take, take_at, get_or_at}
+use Rattle.std.proofs.Common.{◌≡◌, ℕ, ◌+◌, ◌-◌, ◌*◌, ◌/◌, ◌%◌, ◌<◌, ◌≤◌, ◌++◌, List, [], ◌∷◌, length, get_or, take}
+use Rattle.std.proofs.Common.{drop, map, replicate, refl, sym, ap, subst, arith, inl, inr, ◌∙◌, Bool, true, false, leb}
+use Rattle.std.proofs.Common.{eqb}
+use Rattle.std.proofs.lemmas.List.{length-append, length-map, length-replicate, get_or-replicate, get_or_append_left}
+use Rattle.std.proofs.lemmas.List.{get_or-append_right, get_or-map, get_or-take, get_or-drop, length-take, length-drop}
+use Rattle.std.proofs.lemmas.List.{length-take-le, ext_get_or, get_or_default, take_more, take-take, take_at, get_or_at}
 use Rattle.std.proofs.lemmas.Bool.{cases_lt}
 use Rattle.std.proofs.lemmas.Bool.Decides.{nat_tests}
 use Rattle.ax25_address.specs.AddressField.{bit, ssid_octet, IsField}
@@ -34,7 +35,7 @@ HasNameUpTo-so_far octets start characters len i aligned h at from below six =
     let k : ℕ = at - start in
     let there : start + k ≡ at = omega arith in
     let twice : get_or octets at 0 ≡ 2 * get_or characters k 0 = ap (λ n. get_or octets n 0) (sym there)
-        ∙ h.same k (omega arith) in
+    ∙ h.same k (omega arith) in
     elim (cases_lt k len) [
       | inl letter ↦ inl (record {
         character = get_or characters k 0;
@@ -42,7 +43,7 @@ HasNameUpTo-so_far octets start characters len i aligned h at from below six =
         shifted = twice;
         unspaced = λ later e.
             let before : get_or octets (at - 1) 0 ≡ 2 * get_or characters (k - 1) 0 =
-                ap (λ n. get_or octets n 0) (omega arith) ∙ h.same (k - 1) (omega arith) in
+            ap (λ n. get_or octets n 0) (omega arith) ∙ h.same (k - 1) (omega arith) in
             elim (h.letters (k - 1) (omega arith)) [ inl capital ↦ omega arith | inr digit ↦ omega arith ];
       })
       | inr space ↦ inr (record {
@@ -61,7 +62,7 @@ bad_place octets start characters len i aligned six h no_space no_letter place =
         | inl spaced ↦ ch.unspaced (omega arith)
             (let blank : get_or characters (i - 1) 0 ≡ 32 = h.spaces (i - 1) (omega arith) (omega arith) in
             let before : get_or octets (start + i - 1) 0 ≡ 2 * get_or characters (i - 1) 0 =
-                ap (λ n. get_or octets n 0) (omega arith) ∙ h.same (i - 1) (omega arith) in
+            ap (λ n. get_or octets n 0) (omega arith) ∙ h.same (i - 1) (omega arith) in
             omega arith)
         | inr fits ↦ no_letter (ch.character, ch.allowed, ch.shifted) fits
       ]
@@ -81,16 +82,16 @@ padded-name name k h = get_or_append_left name (replicate (6 - length name) 32) 
 pub padded-space : (name : List ℕ) (k : ℕ) → length name ≤ k → k < 6 → get_or (padded name) k 0 ≡ 32
 padded-space name k from below =
     get_or-append_right name (replicate (6 - length name) 32) (length name) k 0 refl from
-        ∙ get_or-replicate (6 - length name) (k - length name) 32 0 (omega arith)
+    ∙ get_or-replicate (6 - length name) (k - length name) 32 0 (omega arith)
 
 -- six characters that have been read are a name with its padding
 so_far-padded : (octets : List ℕ) (start : ℕ) (characters : List ℕ) (len i : ℕ) → 6 ≤ i
     → IsNameSoFar octets start characters len i → characters ≡ padded (take len characters)
 so_far-padded octets start characters len i all h =
     let size : length (take len characters) ≡ len = length-take-le len characters
-        (omega (arith, h.size, h.below, h.within)) in
+    (omega (arith, h.size, h.below, h.within)) in
     ext_get_or 0 characters (padded (take len characters)) (h.size
-        ∙ sym (length-padded (take len characters) (omega (arith, size, h.below, h.within))))
+    ∙ sym (length-padded (take len characters) (omega (arith, size, h.below, h.within))))
     (λ k below. elim (cases_lt k len) [
       | inl letter ↦ sym (padded-name (take len characters) k (omega (arith, size))
           ∙ get_or-take len characters k 0 letter)
@@ -103,7 +104,7 @@ pub IsHeld-so_far : (octets : List ℕ) (start : ℕ) (characters : List ℕ) (l
     → IsNameSoFar octets start characters len i → IsHeld characters len 0
 IsHeld-so_far octets start characters len i all h =
     let size : length (take len characters) ≡ len = length-take-le len characters
-        (omega (arith, h.size, h.below, h.within)) in
+    (omega (arith, h.size, h.below, h.within)) in
     record {
       size = h.size;
       fits = omega (arith, h.below, h.within);
@@ -126,10 +127,10 @@ so_far-octets octets start characters len i all h =
     let there : 6 ≤ length (drop start octets) = omega (arith, length-drop start octets, h.there) in
     let size : length (take 6 (drop start octets)) ≡ 6 = length-take-le 6 (drop start octets) there in
     ext_get_or 0 (take 6 (drop start octets)) (map (λ c. 2 * c) characters) (size
-        ∙ sym (length-map characters (λ c. 2 * c) ∙ h.size))
+    ∙ sym (length-map characters (λ c. 2 * c) ∙ h.size))
     (λ k below.
     get_or-take 6 (drop start octets) k 0 (omega arith) ∙ get_or-drop start octets k 0 ∙ h.same k (omega arith)
-        ∙ sym (get_or-map (λ c. 2 * c) characters k 0 0 (omega (arith, h.size))))
+    ∙ sym (get_or-map (λ c. 2 * c) characters k 0 0 (omega (arith, h.size))))
     ∙ ap (λ xs. map (λ c. 2 * c) xs) (so_far-padded octets start characters len i all h)
 
 pub bit_small : (b : Bool) → bit b ≤ 1
@@ -176,7 +177,7 @@ IsField-read octets k call valid name whole small =
       spelling =
           take_more (drop (7 * k) octets) 6 0 there ∙ ap (λ xs. xs ++ get_or (drop (7 * k) octets) 6 0 ∷ []) name
           ∙ ap (λ x. map (λ c. 2 * c) (padded call.name) ++ x ∷ []) (get_or-drop (7 * k) octets 6 0
-              ∙ ssid_octet-parts o small);
+          ∙ ssid_octet-parts o small);
     }
 
 -- the characters of a field, octet by octet
@@ -204,7 +205,7 @@ HasNameUpTo-name octets start name aligned h e at from below six =
             let earlier : k - 1 < length name = omega arith in
             let before : get_or octets (at - 1) 0 ≡ 2 * get_or name (k - 1) 0 =
             ap (λ n. get_or octets n 0) (omega arith) ∙ named_octet octets start name h.longest e (k - 1) (omega arith)
-                ∙ ap (λ c. 2 * c) (padded-name name (k - 1) earlier) in
+            ∙ ap (λ c. 2 * c) (padded-name name (k - 1) earlier) in
             elim (h.characters (k - 1) 0 earlier) [ inl capital ↦ omega arith | inr digit ↦ omega arith ];
       })
       | inr space ↦ inr (record {
@@ -218,7 +219,7 @@ pub length-field : (call : Callsign) (top last : Bool) (octets : List ℕ) → I
     → length octets ≡ 7
 length-field call top last octets h =
     ap length h.spelling ∙ length-append (map (λ c. 2 * c) (padded call.name))
-        (ssid_octet top h.reserved call.ssid last ∷ [])
+    (ssid_octet top h.reserved call.ssid last ∷ [])
     ∙ ap (λ n. n + 1) (length-map (padded call.name) (λ c. 2 * c) ∙ length-padded call.name h.valid.name.longest)
 
 -- six characters
@@ -228,7 +229,7 @@ field_octet call top last octets h k below =
     let six : length (padded call.name) ≡ 6 = length-padded call.name h.valid.name.longest in
     ap (λ xs. get_or xs k 0) h.spelling
     ∙ get_or_append_left (map (λ c. 2 * c) (padded call.name)) (ssid_octet top h.reserved call.ssid last ∷ []) 0 k
-        (omega (arith, length-map (padded call.name) (λ c. 2 * c)))
+    (omega (arith, length-map (padded call.name) (λ c. 2 * c)))
     ∙ get_or-map (λ c. 2 * c) (padded call.name) k 0 0 (omega arith)
 
 -- and an SSID octet
@@ -237,14 +238,18 @@ pub last_octet : (call : Callsign) (top last : Bool) (octets : List ℕ) (h : Is
 last_octet call top last octets h =
     ap (λ xs. get_or xs 6 0) h.spelling
     ∙ get_or_at (map (λ c. 2 * c) (padded call.name)) (ssid_octet top h.reserved call.ssid last) [] 0 6
-        (length-map (padded call.name) (λ c. 2 * c) ∙ length-padded call.name h.valid.name.longest)
+    (length-map (padded call.name) (λ c. 2 * c) ∙ length-padded call.name h.valid.name.longest)
 
 -- so its octets are there
 pub whole_field : (call : Callsign) (top last : Bool) (octets : List ℕ) (k : ℕ)
     → IsField call top last (field_at octets k) → 7 * k + 7 ≤ length octets
 whole_field call top last octets k h =
-    omega (arith, length-field call top last (field_at octets k) h, length-take 7 (drop (7 * k) octets),
-        length-drop (7 * k) octets)
+    omega (
+      arith,
+      length-field call top last (field_at octets k) h,
+      length-take 7 (drop (7 * k) octets),
+      length-drop (7 * k) octets,
+    )
 
 -- the six characters of a field
 field_name : (call : Callsign) (top last : Bool) (octets : List ℕ) (k : ℕ) → IsField call top last (field_at octets k)
@@ -252,7 +257,7 @@ field_name : (call : Callsign) (top last : Bool) (octets : List ℕ) (k : ℕ) �
 field_name call top last octets k h =
     sym (take-take 6 7 (drop (7 * k) octets) (omega arith)) ∙ ap (λ xs. take 6 xs) h.spelling
     ∙ take_at (map (λ c. 2 * c) (padded call.name)) (ssid_octet top h.reserved call.ssid last ∷ []) 6
-        (length-map (padded call.name) (λ c. 2 * c) ∙ length-padded call.name h.valid.name.longest)
+    (length-map (padded call.name) (λ c. 2 * c) ∙ length-padded call.name h.valid.name.longest)
 
 -- its SSID octet
 pub field_ssid : (call : Callsign) (top last : Bool) (octets : List ℕ) (k : ℕ)
@@ -260,7 +265,7 @@ pub field_ssid : (call : Callsign) (top last : Bool) (octets : List ℕ) (k : �
     ≡ ssid_octet top h.reserved call.ssid last
 field_ssid call top last octets k h =
     sym (get_or-take 7 (drop (7 * k) octets) 6 0 (omega arith) ∙ get_or-drop (7 * k) octets 6 0)
-        ∙ last_octet call top last (field_at octets k) h
+    ∙ last_octet call top last (field_at octets k) h
 
 -- its end bit
 pub field_end : (call : Callsign) (top last : Bool) (octets : List ℕ) (k : ℕ)

@@ -1,6 +1,7 @@
 -- Octets spell at most one path, or show one fault, but not both.
-use Rattle.std.proofs.Common.{◌≡◌, ℕ, zero, suc, ◌+◌, ◌-◌, ◌*◌, ◌/◌, ◌%◌, ◌<◌, ◌≤◌, ◌⊎◌, List, length, get_or, take,
-    refl, sym, ap, subst, arith, inl, inr, ◌∙◌, Bool, true, false, eqb, Result, Ok, Err, IfOk, IfErr}
+use Rattle.std.proofs.Common.{◌≡◌, ℕ, zero, suc, ◌+◌, ◌-◌, ◌*◌, ◌/◌, ◌%◌, ◌<◌, ◌≤◌, ◌⊎◌, List, length, get_or, take}
+use Rattle.std.proofs.Common.{refl, sym, ap, subst, arith, inl, inr, ◌∙◌, Bool, true, false, eqb, Result, Ok, Err, IfOk}
+use Rattle.std.proofs.Common.{IfErr}
 use Rattle.std.proofs.lemmas.List.{ext_get_or, same_lists, length-take-le}
 use Rattle.std.proofs.lemmas.Bool.{cases_lt}
 use Rattle.std.proofs.lemmas.Bool.Decides.{nat_tests}
@@ -15,8 +16,8 @@ use Rattle.ax25_address.specs.declared.path.Role.{Role}
 use Rattle.ax25_address.specs.declared.path.Role.TheVariants.{Command, Response, Old}
 use Rattle.ax25_address.specs.declared.fault.AddrFault.{AddrFault}
 use Rattle.ax25_address.specs.declared.fault.AddrFault.TheVariants.{Short, BadChar, OneAddress, NoEnd}
-use Rattle.ax25_address.proofs.FieldLemmas.{bit_small, bit_same, field_octet, last_octet, padded-name, padded-space,
-    HasNameUpTo-field, field_end}
+use Rattle.ax25_address.proofs.FieldLemmas.{bit_small, bit_same, field_octet, last_octet, padded-name, padded-space}
+use Rattle.ax25_address.proofs.FieldLemmas.{HasNameUpTo-field, field_end}
 use Rattle.ax25_address.proofs.PathLemmas.{field_at-take}
 
 -- a name that ends earlier has a space where the other has a character
@@ -26,9 +27,9 @@ not_shorter a b ta la tb lb octets h g short =
     let k : ℕ = length a.name in
     let below : k < 6 = omega (arith, g.valid.name.longest) in
     let blank : get_or octets k 0 ≡ 64 = field_octet a ta la octets h k below
-        ∙ ap (λ c. 2 * c) (padded-space a.name k (omega arith) below) in
+    ∙ ap (λ c. 2 * c) (padded-space a.name k (omega arith) below) in
     let letter : get_or octets k 0 ≡ 2 * get_or b.name k 0 = field_octet b tb lb octets g k below
-        ∙ ap (λ c. 2 * c) (padded-name b.name k short) in
+    ∙ ap (λ c. 2 * c) (padded-name b.name k short) in
     elim (g.valid.name.characters k 0 short) [ inl capital ↦ omega arith | inr digit ↦ omega arith ]
 
 -- octets are the field of one call with one bit 7 and one end bit
@@ -41,7 +42,7 @@ pub field_same : (a : Callsign) (ta la : Bool) (b : Callsign) (tb lb : Bool) (oc
     → IsField b tb lb octets → IsSameField a ta la b tb lb
 field_same a ta la b tb lb octets h g =
     let octet : ssid_octet ta h.reserved a.ssid la ≡ ssid_octet tb g.reserved b.ssid lb =
-        sym (last_octet a ta la octets h) ∙ last_octet b tb lb octets g in
+    sym (last_octet a ta la octets h) ∙ last_octet b tb lb octets g in
     let p = bit_small ta in
     let q = bit_small la in
     let r = bit_small tb in
@@ -58,9 +59,9 @@ field_same a ta la b tb lb octets h g =
           (ext_get_or 0 a.name b.name n (λ k below.
           let six : k < 6 = omega (arith, h.valid.name.longest) in
           let x : get_or octets k 0 ≡ 2 * get_or a.name k 0 = field_octet a ta la octets h k six
-              ∙ ap (λ c. 2 * c) (padded-name a.name k below) in
+          ∙ ap (λ c. 2 * c) (padded-name a.name k below) in
           let y : get_or octets k 0 ≡ 2 * get_or b.name k 0 = field_octet b tb lb octets g k six
-              ∙ ap (λ c. 2 * c) (padded-name b.name k (omega arith)) in
+          ∙ ap (λ c. 2 * c) (padded-name b.name k (omega arith)) in
           omega arith))
           (omega (arith, octet, h.valid.ssid, g.valid.ssid, h.two_bits, g.two_bits));
       top = bit_same ta tb (omega (arith, octet, h.valid.ssid, g.valid.ssid, h.two_bits, g.two_bits));
@@ -87,7 +88,7 @@ path_same : (p q : Path) → p.dest ≡ q.dest → p.source ≡ q.source → p.r
     → p.role ≡ q.role → p ≡ q
 path_same p q dest source hops role =
     let path : Callsign → Callsign → List Hop → Role → Path =
-        λ d s h r. record { dest = d; source = s; repeaters = record { items = h }; role = r } in
+    λ d s h r. record { dest = d; source = s; repeaters = record { items = h }; role = r } in
     ap (λ d. path d p.source p.repeaters.items p.role) dest ∙ ap (λ s. path q.dest s p.repeaters.items p.role) source
     ∙ ap (λ h. path q.dest q.source h p.role) hops ∙ ap (λ r. path q.dest q.source q.repeaters.items r) role
 
@@ -100,7 +101,7 @@ IsPath-same p q octets h g =
     path_same p q dest.call source.call
     (same_lists p.repeaters.items q.repeaters.items n (λ k d below.
     let hop = field_same _ _ _ _ _ _ (field_at octets (k + 2)) (h.repeaters k d below) (g.repeaters k d (omega arith))
-        in
+    in
     hop_same (get_or p.repeaters.items k d) (get_or q.repeaters.items k d) hop.call hop.top))
     (role_same p.role q.role dest.top source.top)
 
@@ -149,10 +150,13 @@ any_field octets path len (suc (suc k)) h below =
     let size : len ≡ 14 + 7 * repeater_count path = omega (arith, h.1.size, length-take-le len octets h.0) in
     let hop : Hop = get_or path.repeaters.items k (record { call = path.dest; done = false }) in
     let flag : eqb (suc (suc k) + 1) (2 + repeater_count path) ≡ eqb (k + 1) (repeater_count path) =
-        grind (arith, nat_tests) in
-    let place : suc (suc k) ≡ k + 2 = omega arith in
-    (hop.call, hop.done, rw (flag, place, ← field_at-take octets len (k + 2) (omega arith))
-        (h.1.repeaters k (record { call = path.dest; done = false }) (omega arith)))
+    grind (arith, nat_tests) in
+    let place : suc (suc k) ≡ k + 2 = omega arith in (
+      hop.call,
+      hop.done,
+      rw (flag, place, ← field_at-take octets len (k + 2) (omega arith))
+          (h.1.repeaters k (record { call = path.dest; done = false }) (omega arith)),
+    )
 
 EndsAt-path : (octets : List ℕ) (path : Path) (len : ℕ) → BeginsWithPath octets path len → EndsAt octets len
 EndsAt-path octets path len h =
@@ -171,7 +175,7 @@ EndsAt-path octets path len h =
             end_bit = λ six.
                 let here : at ≡ 7 * k + 6 = omega arith in
                 let open_field : eqb (k + 1) (2 + count) ≡ false = let inside : k + 1 < 2 + count = omega arith in
-                    grind (arith, nat_tests) in
+                grind (arith, nat_tests) in
                 ap (λ n. get_or octets n 0 % 2) here ∙ field_end f.0 f.1 _ octets k f.2 ∙ ap bit open_field;
           };
       end_bit =
@@ -200,8 +204,12 @@ fault_place NoEnd = 70
 StopsAt-fault : (octets : List ℕ) (fault : AddrFault) → ShowsFault octets fault → StopsAt octets (fault_place fault)
 unfolding fault_place
 StopsAt-fault octets (Short at) h = record { within = omega arith; few = omega arith; before = h.2; stops = inl h.0 }
-StopsAt-fault octets (BadChar at) h = record { within = omega arith; few = omega arith; before = h.3;
-    stops = inr (inr (λ on. h.4 (on.character h.2))) }
+StopsAt-fault octets (BadChar at) h = record {
+  within = omega arith;
+  few = omega arith;
+  before = h.3;
+  stops = inr (inr (λ on. h.4 (on.character h.2)));
+}
 StopsAt-fault octets OneAddress h = record {
   within = omega arith;
   few = omega arith;
@@ -249,7 +257,7 @@ pub no_fault : (octets : List ℕ) (path : Path) (len : ℕ) (fault : AddrFault)
 no_fault octets path len fault h g =
     let end : EndsAt octets len = EndsAt-path octets path len h in
     end_is_no_fault octets len fault end g (same_place octets _ _ (StopsAt-path octets len end)
-        (StopsAt-fault octets fault g))
+    (StopsAt-fault octets fault g))
 
 -- octets begin with at most one path
 pub BeginsWithPath-same : (octets : List ℕ) (p q : Path) (m n : ℕ) → BeginsWithPath octets p m

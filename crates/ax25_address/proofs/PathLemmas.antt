@@ -1,6 +1,6 @@
 -- Paths field by field.
-use Rattle.std.proofs.Common.{◌≡◌, ℕ, ◌+◌, ◌-◌, ◌*◌, ◌<◌, ◌≤◌, ◌++◌, List, [], ◌∷◌, length, get_or, take, drop, sym, ap,
-    arith, inl, inr, ◌∙◌, Bool, true, false, eqb}
+use Rattle.std.proofs.Common.{◌≡◌, ℕ, ◌+◌, ◌-◌, ◌*◌, ◌<◌, ◌≤◌, ◌++◌, List, [], ◌∷◌, length, get_or, take, drop, sym, ap}
+use Rattle.std.proofs.Common.{arith, inl, inr, ◌∙◌, Bool, true, false, eqb}
 use Rattle.std.proofs.lemmas.List.{length_push, get_or_append_left, get_or_push, drop-take, take-take, length-take-le}
 use Rattle.std.proofs.lemmas.Bool.{cases_lt}
 use Rattle.std.proofs.lemmas.Bool.Decides.{nat_tests}
@@ -77,8 +77,8 @@ pub field_at-take : (octets : List ℕ) (len k : ℕ) → 7 * k + 7 ≤ len → 
 field_at-take octets len k h =
     let parts : 7 * k + (len - 7 * k) ≡ len = omega arith in
     ap (λ n. take 7 (drop (7 * k) (take n octets))) (sym parts)
-        ∙ ap (λ xs. take 7 xs) (drop-take (7 * k) (len - 7 * k) octets)
-        ∙ take-take 7 (len - 7 * k) (drop (7 * k) octets) (omega arith)
+    ∙ ap (λ xs. take 7 xs) (drop-take (7 * k) (len - 7 * k) octets)
+    ∙ take-take 7 (len - 7 * k) (drop (7 * k) octets) (omega arith)
 
 -- the fields at the front of the octets are a path that they begin with
 pub BeginsWithPath-fields : (octets : List ℕ) (path : Path) (len : ℕ) → repeater_count path ≤ 8

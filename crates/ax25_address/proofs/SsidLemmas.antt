@@ -1,6 +1,6 @@
 -- What tells an SSID, octet by octet.
-use Rattle.std.proofs.Common.{◌≡◌, ℕ, ◌+◌, ◌-◌, ◌/◌, ◌%◌, ◌++◌, ◌<◌, ◌≤◌, ◌⊎◌, List, [], ◌∷◌, length, get_or, sym, ap,
-    arith, inl, inr, ◌∙◌}
+use Rattle.std.proofs.Common.{◌≡◌, ℕ, ◌+◌, ◌-◌, ◌/◌, ◌%◌, ◌++◌, ◌<◌, ◌≤◌, ◌⊎◌, List, [], ◌∷◌, length, get_or, sym, ap}
+use Rattle.std.proofs.Common.{arith, inl, inr, ◌∙◌}
 use Rattle.std.specs.Fmt.{decimal}
 use Rattle.std.proofs.lemmas.Fmt.{decimal_digit, decimal_step}
 use Rattle.std.proofs.lemmas.Bool.{cases_lt}
@@ -12,7 +12,7 @@ decimal_two_digits n large small =
     let tens : n / 10 ≡ 1 = omega arith in
     let ones : n % 10 ≡ n - 10 = omega arith in
     decimal_step n large (omega arith) ∙ ap (λ t. decimal t ++ (48 + n % 10) ∷ []) tens
-        ∙ ap (λ x. x ++ (48 + n % 10) ∷ []) (decimal_digit 1 (omega arith)) ∙ ap (λ o. 49 ∷ (48 + o) ∷ []) ones
+    ∙ ap (λ x. x ++ (48 + n % 10) ∷ []) (decimal_digit 1 (omega arith)) ∙ ap (λ o. 49 ∷ (48 + o) ∷ []) ones
 
 -- a dash and one digit
 pub record IsOneDigit (tail : List ℕ) (n : ℕ) : Type 0 where
@@ -33,14 +33,23 @@ abbrev pub SsidOctets : List ℕ → ℕ → Type 0
 SsidOctets tail n = ((length tail ≡ 0) × (n ≡ 0)) ⊎ (IsOneDigit tail n ⊎ IsTwoDigits tail n)
 
 one_digit : (n : ℕ) → n < 10 → (tail : List ℕ) → tail ≡ 45 ∷ (48 + n) ∷ [] → IsOneDigit tail n
-one_digit n h tail e = record { len = ap length e; small = h; dash = ap (λ xs. get_or xs 0 0) e;
-    digit = ap (λ xs. get_or xs 1 0) e }
+one_digit n h tail e = record {
+  len = ap length e;
+  small = h;
+  dash = ap (λ xs. get_or xs 0 0) e;
+  digit = ap (λ xs. get_or xs 1 0) e;
+}
 
 two_digits : (k : ℕ) (n : ℕ) → n ≡ 10 + k → (tail : List ℕ) → tail ≡ 45 ∷ 49 ∷ (48 + k) ∷ [] → IsTwoDigits tail n
 two_digits k n same tail e =
     let d : get_or tail 2 0 ≡ 48 + k = ap (λ xs. get_or xs 2 0) e in
-    record { len = ap length e; large = omega arith; dash = ap (λ xs. get_or xs 0 0) e;
-        ten = ap (λ xs. get_or xs 1 0) e; digit = omega arith }
+    record {
+      len = ap length e;
+      large = omega arith;
+      dash = ap (λ xs. get_or xs 0 0) e;
+      ten = ap (λ xs. get_or xs 1 0) e;
+      digit = omega arith;
+    }
 
 suffix_octets : (tail : List ℕ) (n : ℕ) → n < 16 → tail ≡ ssid_suffix n → IsOneDigit tail n ⊎ IsTwoDigits tail n
 suffix_octets tail n h e =
@@ -52,8 +61,11 @@ suffix_octets tail n h e =
 
 -- what tells an SSID, read octet by octet
 pub octets_from_tells : (tail : List ℕ) (n : ℕ) → n < 16 → TellsSsid tail n → SsidOctets tail n
-octets_from_tells tail n h t = elim t [ inl none ↦ inl (ap length none.0, none.1) | inr e ↦ inr
-    (suffix_octets tail n h e) ]
+octets_from_tells tail n h t = elim t [
+  | inl none ↦ inl (ap length none.0, none.1)
+  | inr e ↦ inr
+      (suffix_octets tail n h e)
+]
 
 same_pair : (tail : List ℕ) (a b : ℕ) → length tail ≡ 2 → get_or tail 0 0 ≡ a → get_or tail 1 0 ≡ b → tail ≡ a ∷ b ∷ []
 same_pair (x ∷ y ∷ []) a b l p q = cc
@@ -77,4 +89,4 @@ tells_one_digit tail n h = inr (same_pair tail 45 (48 + n) h.len h.dash h.digit
 pub tells_two_digits : (tail : List ℕ) (n : ℕ) → n < 16 → IsTwoDigits tail n → TellsSsid tail n
 tells_two_digits tail n lt h =
     inr (same_triple tail 45 49 (48 + (n - 10)) h.len h.dash h.ten (omega (arith, h.digit, h.large))
-        ∙ ap (λ xs. 45 ∷ xs) (sym (decimal_two_digits n h.large lt)))
+    ∙ ap (λ xs. 45 ∷ xs) (sym (decimal_two_digits n h.large lt)))

@@ -1,10 +1,10 @@
 -- The text of a call is read as that call.
-use Rattle.std.proofs.Common.{◌≡◌, ℕ, ◌+◌, ◌<◌, ◌++◌, List, [], length, get_or, take, drop, map, refl, sym, ap, subst,
-    arith, inl, inr, ◌∙◌, eqb, false, append-nil, cond, Bool}
+use Rattle.std.proofs.Common.{◌≡◌, ℕ, ◌+◌, ◌<◌, ◌++◌, List, [], length, get_or, take, drop, map, refl, sym, ap, subst}
+use Rattle.std.proofs.Common.{arith, inl, inr, ◌∙◌, eqb, false, append-nil, cond, Bool}
 use Rattle.std.specs.List.{All}
 use Rattle.std.specs.Char.{to_ascii_uppercase}
-use Rattle.std.proofs.lemmas.List.{ext_get_or, length-map, length-append, get_or-map, get_or_append_left,
-    get_or-append_right, take_at, drop_at}
+use Rattle.std.proofs.lemmas.List.{ext_get_or, length-map, length-append, get_or-map, get_or_append_left}
+use Rattle.std.proofs.lemmas.List.{get_or-append_right, take_at, drop_at}
 use Rattle.std.proofs.lemmas.List.Sums.{position_or_len_is}
 use Rattle.std.proofs.lemmas.Bool.Decides.{nat_tests, eqb_tells}
 use Rattle.ax25_address.specs.Callsign.{Callsign, IsCall, IsCallCharacter}
@@ -32,7 +32,7 @@ dash_place-name name tail h dash =
     (λ k below. ap (λ x. eqb x 45) (get_or_append_left name tail 0 k below) ∙ no_dash (get_or name k 0) (h k 0 below))
     (λ inside. let here : get_or (name ++ tail) (length name) 0 ≡ 45 =
     get_or-append_right name tail (length name) (length name) 0 refl (omega arith)
-        ∙ ap (λ n. get_or tail n 0) (omega arith) ∙ dash (omega arith) in
+    ∙ ap (λ n. get_or tail n 0) (omega arith) ∙ dash (omega arith) in
     ap (λ x. eqb x 45) here)
 
 -- a name and what tells its SSID are a call's text
@@ -40,7 +40,7 @@ IsCallText-parts : (call : Callsign) (tail : List ℕ) → IsCall call → (0 < 
     → TellsSsid tail call.ssid → IsCallText (call.name ++ tail) call
 IsCallText-parts call tail valid dash tells =
     let place : dash_place (call.name ++ tail) ≡ length call.name =
-        dash_place-name call.name tail valid.name.characters dash in
+    dash_place-name call.name tail valid.name.characters dash in
     record {
       valid = valid;
       name = ap (λ n. map to_ascii_uppercase (take n (call.name ++ tail))) place

@@ -1,12 +1,12 @@
 -- Paths as they are written.
-use Rattle.std.proofs.Common.{◌≡◌, ℕ, ◌+◌, ◌*◌, ◌<◌, ◌≤◌, ◌++◌, List, [], length, get_or, take, refl, sym, ap, subst,
-    arith, inl, inr, ◌∙◌, Bool, false, eqb}
+use Rattle.std.proofs.Common.{◌≡◌, ℕ, ◌+◌, ◌*◌, ◌<◌, ◌≤◌, ◌++◌, List, [], length, get_or, take, refl, sym, ap, subst}
+use Rattle.std.proofs.Common.{arith, inl, inr, ◌∙◌, Bool, false, eqb}
 use Rattle.std.proofs.lemmas.List.{length-append, take_at, take_all, drop_at}
 use Rattle.std.proofs.lemmas.Bool.{cases_lt}
 use Rattle.ax25_address.specs.Callsign.{Callsign, IsCall}
 use Rattle.ax25_address.specs.AddressField.{field_octets, IsField, IsWrittenField}
-use Rattle.ax25_address.specs.FramePath.{field_at, IsPath, IsWrittenPath, BeginsWithPath, repeater_count,
-    destination_bit, source_bit}
+use Rattle.ax25_address.specs.FramePath.{field_at, IsPath, IsWrittenPath, BeginsWithPath, repeater_count}
+use Rattle.ax25_address.specs.FramePath.{destination_bit, source_bit}
 use Rattle.ax25_address.specs.declared.path.Hop.{Hop}
 use Rattle.ax25_address.specs.declared.path.Path.{Path}
 use Rattle.ax25_address.proofs.FieldLemmas.{length-field}
@@ -15,8 +15,12 @@ use Rattle.ax25_address.proofs.PathLemmas.{field_at-take}
 -- what is written can be read
 pub IsField-written : (call : Callsign) (top last : Bool) (octets : List ℕ) → IsWrittenField call top last octets
     → IsField call top last octets
-IsField-written call top last octets h = record { valid = h.valid; reserved = 3; two_bits = omega arith;
-    spelling = h.spelling }
+IsField-written call top last octets h = record {
+  valid = h.valid;
+  reserved = 3;
+  two_bits = omega arith;
+  spelling = h.spelling;
+}
 
 written_field : (call : Callsign) (top last : Bool) → IsCall call
     → IsWrittenField call top last (field_octets call top 3 last)
@@ -31,7 +35,7 @@ field_at-kept : (octets more : List ℕ) (k : ℕ) → 7 * k + 7 ≤ length octe
     → field_at (octets ++ more) k ≡ field_at octets k
 field_at-kept octets more k h =
     sym (field_at-take (octets ++ more) (length octets) k h)
-        ∙ ap (λ xs. field_at xs k) (take_at octets more (length octets) refl)
+    ∙ ap (λ xs. field_at xs k) (take_at octets more (length octets) refl)
 
 -- and one more stands after it
 field_at-new : (octets new : List ℕ) (k : ℕ) → length octets ≡ 7 * k → length new ≡ 7 → field_at (octets ++ new) k ≡ new
@@ -73,14 +77,14 @@ pub AreWrittenSoFar-two : (path : Path) (none first second : List ℕ) (db sb en
     → second ≡ first ++ field_octets path.source sb 3 end → AreWrittenSoFar path second 0
 AreWrittenSoFar-two path none first second db sb end d s empty dest source last one two =
     let front : first ≡ field_octets path.dest (destination_bit path.role) 3 false = one
-        ∙ ap (λ xs. xs ++ field_octets path.dest db 3 false) empty ∙ ap (λ b. field_octets path.dest b 3 false) dest in
+    ∙ ap (λ xs. xs ++ field_octets path.dest db 3 false) empty ∙ ap (λ b. field_octets path.dest b 3 false) dest in
     let all : second ≡ field_octets path.dest (destination_bit path.role) 3 false
-        ++ field_octets path.source (source_bit path.role) 3 (eqb (repeater_count path) 0) =
+    ++ field_octets path.source (source_bit path.role) 3 (eqb (repeater_count path) 0) =
     two ∙ ap (λ xs. xs ++ field_octets path.source sb 3 end) front
-        ∙ ap (λ b. field_octets path.dest (destination_bit path.role) 3 false ++ field_octets path.source b 3 end)
-        source
+    ∙ ap (λ b. field_octets path.dest (destination_bit path.role) 3 false ++ field_octets path.source b 3 end)
+    source
     ∙ ap (λ b. field_octets path.dest (destination_bit path.role) 3 false
-        ++ field_octets path.source (source_bit path.role) 3 b) last in
+    ++ field_octets path.source (source_bit path.role) 3 b) last in
     subst (λ (xs : List ℕ). AreWrittenSoFar path xs 0) (sym all) (AreWrittenSoFar-ends path d s)
 
 pub AreWrittenSoFar-push : (path : Path) (octets : List ℕ) (k : ℕ) (call : Callsign) (top : Bool) → IsCall call
@@ -99,7 +103,7 @@ AreWrittenSoFar-push path octets k call top valid is_call is_done h =
         | inl earlier ↦ rw (field_at-kept octets new (j + 2) (omega (arith, h.size))) (h.repeaters j d earlier)
         | inr from ↦ (let here : j ≡ k = omega arith in
             rw (here, is_call d, is_done d, field_at-new octets new (k + 2) (omega (arith, h.size)) seven)
-                (written_field call top last valid))
+            (written_field call top last valid))
       ];
     }
 
@@ -126,6 +130,8 @@ IsPath-written path octets h = record {
 -- whatever stands after it
 pub BeginsWithPath-written : (path : Path) (octets rest : List ℕ) → IsWrittenPath path octets
     → BeginsWithPath (octets ++ rest) path (length octets)
-BeginsWithPath-written path octets rest h =
-    (omega (arith, length-append octets rest), subst (λ (xs : List ℕ). IsPath path xs)
-        (sym (take_at octets rest (length octets) refl)) (IsPath-written path octets h))
+BeginsWithPath-written path octets rest h = (
+  omega (arith, length-append octets rest),
+  subst (λ (xs : List ℕ). IsPath path xs)
+      (sym (take_at octets rest (length octets) refl)) (IsPath-written path octets h),
+)

@@ -2,8 +2,8 @@
 -- repeaters.
 -- The end bit stands on the last field alone, the C bits of the first two tell the role, and each H bit whether that
 -- repeater has repeated the frame.
-use Rattle.std.specs.Prelude.{◌≡◌, ℕ, ◌+◌, ◌*◌, ◌<◌, ◌≤◌, ◌==◌, Bool, true, false, List, length, map, reverse, take,
-    drop, slice_index_or}
+use Rattle.std.specs.Prelude.{◌≡◌, ℕ, ◌+◌, ◌*◌, ◌<◌, ◌≤◌, ◌==◌, Bool, true, false, List, length, map, reverse, take}
+use Rattle.std.specs.Prelude.{drop, slice_index_or}
 use Rattle.ax25_address.specs.Callsign.{Callsign}
 use Rattle.ax25_address.specs.AddressField.{IsField, IsWrittenField}
 use Rattle.ax25_address.specs.declared.path.Path.{Path}

@@ -13,4 +13,4 @@ pub fields_back : (c : Inside) → IsHeld c.characters c.len c.ssid
     → kept (padded (take c.len c.characters)) (length (take c.len c.characters)) c.ssid ≡ c
 fields_back c h =
     ap (λ xs. kept xs (length (take c.len c.characters)) c.ssid) (sym h.filled)
-        ∙ ap (λ n. kept c.characters n c.ssid) (length-take-le c.len c.characters (omega (arith, h.fits, h.size)))
+    ∙ ap (λ n. kept c.characters n c.ssid) (length-take-le c.len c.characters (omega (arith, h.fits, h.size)))

@@ -1,6 +1,6 @@
 -- Control fields octet by octet.
-use Rattle.std.proofs.Common.{◌≡◌, ◌≢◌, ℕ, zero, suc, ◌+◌, ◌*◌, ◌/◌, ◌%◌, ◌<◌, ◌≤◌, ◌⊎◌, ◌++◌, ◌==◌, if◌then◌else◌,
-    List, [], ◌∷◌, refl, sym, ap, arith, inl, inr, ◌∙◌, Bool, false}
+use Rattle.std.proofs.Common.{◌≡◌, ◌≢◌, ℕ, zero, suc, ◌+◌, ◌*◌, ◌/◌, ◌%◌, ◌<◌, ◌≤◌, ◌⊎◌, ◌++◌, ◌==◌, if◌then◌else◌}
+use Rattle.std.proofs.Common.{List, [], ◌∷◌, refl, sym, ap, arith, inl, inr, ◌∙◌, Bool, false}
 use Rattle.ax25_address.specs.AddressField.{bit}
 use Rattle.ax25_address.proofs.FieldLemmas.{bit_small, bit_same}
 use Rattle.ax25_frames.specs.FrameFault.{LacksControl}
@@ -101,16 +101,17 @@ u_octets v w p q e =
     let a = IsUnnumberedCode-of v in
     let b = IsUnnumberedCode-of w in
     u_same v w p q (unnumbered_same v w (omega (arith, a.clear, b.clear, bit_small p, bit_small q)))
-        (bit_same p q (omega (arith, a.clear, b.clear, bit_small p, bit_small q)))
+    (bit_same p q (omega (arith, a.clear, b.clear, bit_small p, bit_small q)))
 
 -- octets begin with at most one control field
 pub control_same : (modulus : Modulus) (a b : Control) (x y : List ℕ) → IsNumbered modulus a → IsNumbered modulus b
     → control_octets modulus a ++ x ≡ control_octets modulus b ++ y → (a ≡ b) × (x ≡ y)
 control_same Eight (Info ns nr p) (Info ms mr q) x y h g e =
-    let o = one_octet _ _ x y e in
-    (info_same ns nr ms mr p q (omega (arith, o.0, bit_small p, bit_small q))
-        (omega (arith, o.0, bit_small p, bit_small q)) (bit_same p q (omega (arith, o.0, bit_small p, bit_small q))),
-        o.1)
+    let o = one_octet _ _ x y e in (
+      info_same ns nr ms mr p q (omega (arith, o.0, bit_small p, bit_small q))
+          (omega (arith, o.0, bit_small p, bit_small q)) (bit_same p q (omega (arith, o.0, bit_small p, bit_small q))),
+      o.1,
+    )
 control_same Eight (Info ns nr p) (Super w mr q) x y h g e = let o = one_octet _ _ x y e in absurd (omega (arith, o.0))
 control_same Eight (Info ns nr p) (Unnumbered w q) x y h g e = let o = one_octet _ _ x y e in
     absurd (omega (arith, o.0, (IsUnnumberedCode-of w).low))
@@ -118,10 +119,11 @@ control_same Eight (Super v nr p) (Info ms mr q) x y h g e = let o = one_octet _
 control_same Eight (Super v nr p) (Super w mr q) x y h g e =
     let o = one_octet _ _ x y e in
     let s = supervisory_small v in
-    let t = supervisory_small w in
-    (super_same v w nr mr p q (supervisory_same v w (omega (arith, o.0, bit_small p, bit_small q)))
-        (omega (arith, o.0, bit_small p, bit_small q)) (bit_same p q (omega (arith, o.0, bit_small p, bit_small q))),
-        o.1)
+    let t = supervisory_small w in (
+      super_same v w nr mr p q (supervisory_same v w (omega (arith, o.0, bit_small p, bit_small q)))
+          (omega (arith, o.0, bit_small p, bit_small q)) (bit_same p q (omega (arith, o.0, bit_small p, bit_small q))),
+      o.1,
+    )
 control_same Eight (Super v nr p) (Unnumbered w q) x y h g e = let o = one_octet _ _ x y e in
     absurd (omega (arith, o.0, (IsUnnumberedCode-of w).low))
 control_same Eight (Unnumbered v p) (Info ms mr q) x y h g e = let o = one_octet _ _ x y e in
@@ -131,9 +133,11 @@ control_same Eight (Unnumbered v p) (Super w mr q) x y h g e = let o = one_octet
 control_same Eight (Unnumbered v p) (Unnumbered w q) x y h g e = let o = one_octet _ _ x y e in
     (u_octets v w p q o.0, o.1)
 control_same OneTwentyEight (Info ns nr p) (Info ms mr q) x y h g e =
-    let o = two_octets _ _ _ _ x y e in
-    (info_same ns nr ms mr p q (omega (arith, o.0)) (omega (arith, o.1, bit_small p, bit_small q))
-        (bit_same p q (omega (arith, o.1, bit_small p, bit_small q))), o.2)
+    let o = two_octets _ _ _ _ x y e in (
+      info_same ns nr ms mr p q (omega (arith, o.0)) (omega (arith, o.1, bit_small p, bit_small q))
+          (bit_same p q (omega (arith, o.1, bit_small p, bit_small q))),
+      o.2,
+    )
 control_same OneTwentyEight (Info ns nr p) (Super w mr q) x y h g e = let o = two_octets _ _ _ _ x y e in
     absurd (omega (arith, o.0))
 control_same OneTwentyEight (Info ns nr p) (Unnumbered w q) x y h g e = let o = one_octet _ _ _ y e in
@@ -141,9 +145,11 @@ control_same OneTwentyEight (Info ns nr p) (Unnumbered w q) x y h g e = let o = 
 control_same OneTwentyEight (Super v nr p) (Info ms mr q) x y h g e = let o = two_octets _ _ _ _ x y e in
     absurd (omega (arith, o.0))
 control_same OneTwentyEight (Super v nr p) (Super w mr q) x y h g e =
-    let o = two_octets _ _ _ _ x y e in
-    (super_same v w nr mr p q (supervisory_same v w (omega (arith, o.0))) (omega (arith, o.1, bit_small p, bit_small q))
-        (bit_same p q (omega (arith, o.1, bit_small p, bit_small q))), o.2)
+    let o = two_octets _ _ _ _ x y e in (
+      super_same v w nr mr p q (supervisory_same v w (omega (arith, o.0))) (omega (arith, o.1, bit_small p, bit_small q))
+          (bit_same p q (omega (arith, o.1, bit_small p, bit_small q))),
+      o.2,
+    )
 control_same OneTwentyEight (Super v nr p) (Unnumbered w q) x y h g e = let o = one_octet _ _ _ y e in
     absurd (omega (arith, o.0, (IsUnnumberedCode-of w).low))
 control_same OneTwentyEight (Unnumbered v p) (Info ms mr q) x y h g e = let o = one_octet _ _ x _ e in
@@ -169,10 +175,20 @@ HasFirst-control OneTwentyEight (Unnumbered w p) = record { octet = _; more = []
 
 -- if no octet is there, a control field is missing
 pub LacksControl-none : (modulus : Modulus) (body : List ℕ) → body ≡ [] → LacksControl modulus body
-LacksControl-none Eight body e = record { control = Unnumbered Ui false; numbered = tt; missing = 3 ∷ [];
-    some = omega arith; spelling = ap (λ xs. xs ++ 3 ∷ []) (sym e) }
-LacksControl-none OneTwentyEight body e = record { control = Unnumbered Ui false; numbered = tt; missing = 3 ∷ [];
-    some = omega arith; spelling = ap (λ xs. xs ++ 3 ∷ []) (sym e) }
+LacksControl-none Eight body e = record {
+  control = Unnumbered Ui false;
+  numbered = tt;
+  missing = 3 ∷ [];
+  some = omega arith;
+  spelling = ap (λ xs. xs ++ 3 ∷ []) (sym e);
+}
+LacksControl-none OneTwentyEight body e = record {
+  control = Unnumbered Ui false;
+  numbered = tt;
+  missing = 3 ∷ [];
+  some = omega arith;
+  spelling = ap (λ xs. xs ++ 3 ∷ []) (sym e);
+}
 
 bits_there : (n : ℕ) → n < 4 → supervisory_code (frame_of_bits n) ≡ n
 bits_there zero h = refl
@@ -187,9 +203,19 @@ pub LacksControl-one : (o : ℕ) (body : List ℕ) → o < 256 → (o % 4 ≡ 3 
 LacksControl-one o body small other way e = elim way [
   | inl s ↦ (let code : supervisory_code (frame_of_bits (o / 4)) ≡ o / 4 = bits_there (o / 4) (omega arith) in
       let same : 4 * supervisory_code (frame_of_bits (o / 4)) + 1 ≡ o = omega (arith, code) in
-      record { control = Super (frame_of_bits (o / 4)) 0 false; numbered = omega arith; missing = 0 ∷ [];
-          some = omega arith; spelling = ap (λ x. x ∷ 0 ∷ []) same ∙ ap (λ xs. xs ++ 0 ∷ []) (sym e) })
+      record {
+        control = Super (frame_of_bits (o / 4)) 0 false;
+        numbered = omega arith;
+        missing = 0 ∷ [];
+        some = omega arith;
+        spelling = ap (λ x. x ∷ 0 ∷ []) same ∙ ap (λ xs. xs ++ 0 ∷ []) (sym e);
+      })
   | inr i ↦ (let same : 2 * (o / 2) ≡ o = omega arith in
-      record { control = Info (o / 2) 0 false; numbered = (omega arith, omega arith); missing = 0 ∷ [];
-          some = omega arith; spelling = ap (λ x. x ∷ 0 ∷ []) same ∙ ap (λ xs. xs ++ 0 ∷ []) (sym e) })
+      record {
+        control = Info (o / 2) 0 false;
+        numbered = (omega arith, omega arith);
+        missing = 0 ∷ [];
+        some = omega arith;
+        spelling = ap (λ x. x ∷ 0 ∷ []) same ∙ ap (λ xs. xs ++ 0 ∷ []) (sym e);
+      })
 ]

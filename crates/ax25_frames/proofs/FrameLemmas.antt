@@ -1,6 +1,6 @@
 -- Frames and their faults as wholes.
-use Rattle.std.proofs.Common.{◌≡◌, ℕ, ◌+◌, ◌≤◌, ◌⊎◌, List, length, drop, refl, sym, ap, subst, inl, inr, ◌∙◌, Result,
-    Ok, Err, IfOk, IfErr, length-append, append_assoc, arith, [], ◌++◌}
+use Rattle.std.proofs.Common.{◌≡◌, ℕ, ◌+◌, ◌≤◌, ◌⊎◌, List, length, drop, refl, sym, ap, subst, inl, inr, ◌∙◌, Result}
+use Rattle.std.proofs.Common.{Ok, Err, IfOk, IfErr, length-append, append_assoc, arith, [], ◌++◌}
 use Rattle.std.proofs.lemmas.List.{drop_at}
 use Rattle.ax25_address.specs.FramePath.{BeginsWithPath}
 use Rattle.ax25_address.specs.PathFault.{ShowsFault}
@@ -8,22 +8,22 @@ use Rattle.ax25_address.specs.declared.path.Path.{Path}
 use Rattle.ax25_address.specs.declared.fault.AddrFault.{AddrFault}
 use Rattle.ax25_address.proofs.OneReading.{no_fault, ShowsFault-same, BeginsWithPath-same}
 use Rattle.ax25_address.proofs.Written.{BeginsWithPath-written}
-use Rattle.ax25_frames.specs.FrameOctets.{IsFrame, IsWrittenFrame, IsKind, CanWrite, body_octets, control_of,
-    contents_of, information_of}
+use Rattle.ax25_frames.specs.FrameOctets.{IsFrame, IsWrittenFrame, IsKind, CanWrite, body_octets, control_of}
+use Rattle.ax25_frames.specs.FrameOctets.{contents_of, information_of}
 use Rattle.ax25_frames.specs.ControlField.{control_octets}
 use Rattle.ax25_frames.specs.declared.frame.Modulus.TheVariants.{Eight, OneTwentyEight}
 use Rattle.ax25_frames.specs.declared.frame.Kind.TheVariants.{Info, Super, Setup, Ui, Other}
 use Rattle.ax25_frames.specs.declared.control.Control.{Control}
-use Rattle.ax25_frames.specs.declared.control.Control.TheVariants.{Info as InfoControl, Super as SuperControl,
-    Unnumbered}
+use Rattle.ax25_frames.specs.declared.control.Control.TheVariants.{Info as InfoControl, Super as SuperControl}
+use Rattle.ax25_frames.specs.declared.control.Control.TheVariants.{Unnumbered}
 use Rattle.ax25_frames.specs.FrameFault.{BodyFault, FollowsPath, ShowsFrameFault}
 use Rattle.ax25_frames.specs.Verdict.{Outcome, IsOneKind}
 use Rattle.ax25_frames.specs.declared.frame.Modulus.{Modulus}
 use Rattle.ax25_frames.specs.declared.frame.Frame.{Frame}
 use Rattle.ax25_frames.specs.declared.frame.Kind.{Kind}
 use Rattle.ax25_frames.specs.declared.fault.FrameFault.{FrameFault}
-use Rattle.ax25_frames.specs.declared.fault.FrameFault.TheVariants.{Address, NoControl, NoPid, UnknownControl,
-    InfoTooLong, StrayInfo, Memory}
+use Rattle.ax25_frames.specs.declared.fault.FrameFault.TheVariants.{Address, NoControl, NoPid, UnknownControl}
+use Rattle.ax25_frames.specs.declared.fault.FrameFault.TheVariants.{InfoTooLong, StrayInfo, Memory}
 
 abbrev pub Reading : Type 0
 Reading = Result Frame FrameFault
@@ -75,7 +75,7 @@ behind : (modulus : Modulus) (octets : List ℕ) (path : Path) (len : ℕ) (faul
     → BeginsWithPath octets path len → FollowsPath modulus octets fault → BodyFault modulus (drop len octets) len fault
 behind modulus octets path len fault b g =
     subst (λ (n : ℕ). BodyFault modulus (drop n octets) n fault)
-        (BeginsWithPath-same octets g.path path g.len len g.begins b).1 g.shows
+    (BeginsWithPath-same octets g.path path g.len len g.begins b).1 g.shows
 
 body_fault : (modulus : Modulus) (octets : List ℕ) (path : Path) (len : ℕ) (fault : FrameFault)
     → BeginsWithPath octets path len → ShowsFrameFault modulus octets fault
@@ -103,7 +103,7 @@ IsOneFrame-kind modulus octets path len kind b h = record {
       let same = BeginsWithPath-same octets path frame.path len g.len b g.path in
       let ok : Path → Kind → Reading = λ p k. Ok (frame_of p k) in
       elim (h.each_kind frame.kind g.kind (subst (λ (n : ℕ). drop n octets ≡ body_octets modulus frame.kind)
-          (sym same.1) g.body)) [
+      (sym same.1) g.body)) [
         | inl e ↦ inl (ap (λ p. ok p kind) same.0 ∙ ap (λ k. ok frame.path k) (same_kind kind frame.kind e))
         | inr e ↦ absurd (ok_is_no_err kind Memory e)
       ];
@@ -123,12 +123,14 @@ pub IsOneFrame-fault : (modulus : Modulus) (octets : List ℕ) (path : Path) (le
     → IsOneFrame modulus octets (Err fault)
 IsOneFrame-fault modulus octets path len fault b h = record {
   frame = tt;
-  fault = elim h.fault [ inl memory ↦ inl memory | inr shows ↦ inr (shows_behind modulus octets path len fault b shows)
-      ];
+  fault = elim h.fault [
+    | inl memory ↦ inl memory
+    | inr shows ↦ inr (shows_behind modulus octets path len fault b shows)
+  ];
   each_frame = λ frame g.
       let same = BeginsWithPath-same octets path frame.path len g.len b g.path in
       elim (h.each_kind frame.kind g.kind (subst (λ (n : ℕ). drop n octets ≡ body_octets modulus frame.kind)
-          (sym same.1) g.body)) [
+      (sym same.1) g.body)) [
         | inl e ↦ absurd (err_is_no_ok fault frame.kind e)
         | inr e ↦ inr (ap err (same_fault fault Memory e))
       ];
@@ -177,12 +179,13 @@ length-written frame modulus octets can h =
     let control = length-control modulus (control_of frame.kind) in
     let contents = length-contents frame.kind in
     let body : length (body_octets modulus frame.kind)
-        ≡ length (control_octets modulus (control_of frame.kind)) + length (contents_of frame.kind) =
+    ≡ length (control_octets modulus (control_of frame.kind)) + length (contents_of frame.kind) =
     length-append (control_octets modulus (control_of frame.kind)) (contents_of frame.kind) in
     let whole : length octets ≡ length h.address + length (body_octets modulus frame.kind) = ap length h.spelling
-        ∙ length-append h.address (body_octets modulus frame.kind) in
-    (omega (arith, h.path.size, body, whole, control.0),
-        omega (arith, h.path.size, h.path.count, body, whole, control.1, contents, can.room))
+    ∙ length-append h.address (body_octets modulus frame.kind) in (
+      omega (arith, h.path.size, body, whole, control.0),
+      omega (arith, h.path.size, h.path.count, body, whole, control.1, contents, can.room),
+    )
 
 -- three parts, one appended after the other
 pub three_parts : (empty first second whole a b d : List ℕ) → empty ≡ [] → first ≡ empty ++ a → second ≡ first ++ b

@@ -1,6 +1,7 @@
 -- What stands after an address is one kind of frame or shows one fault.
-use Rattle.std.proofs.Common.{◌≡◌, ℕ, ◌+◌, ◌<◌, ◌⊎◌, ◌++◌, if◌then◌else◌, List, [], ◌∷◌, length, refl, sym, ap, subst,
-    arith, inl, inr, ◌∙◌, Bool, true, false, leb, Ok, Err, append_assoc, append-nil, length-append, IsOk}
+use Rattle.std.proofs.Common.{◌≡◌, ℕ, ◌+◌, ◌<◌, ◌⊎◌, ◌++◌, if◌then◌else◌, List, [], ◌∷◌, length, refl, sym, ap, subst}
+use Rattle.std.proofs.Common.{arith, inl, inr, ◌∙◌, Bool, true, false, leb, Ok, Err, append_assoc, append-nil}
+use Rattle.std.proofs.Common.{length-append, IsOk}
 use Rattle.std.proofs.lemmas.Bool.{cases_lt, false≢true}
 use Rattle.std.proofs.lemmas.Bool.Decides.{nat_tests}
 use Rattle.ax25_frames.specs.ControlField.{control_octets, IsNumbered}
@@ -10,13 +11,13 @@ use Rattle.ax25_frames.specs.declared.frame.Modulus.{Modulus}
 use Rattle.ax25_frames.specs.declared.frame.Kind.{Kind}
 use Rattle.ax25_frames.specs.declared.frame.Kind.TheVariants.{Info, Super, Setup, Ui, Other}
 use Rattle.ax25_frames.specs.declared.fault.FrameFault.{FrameFault}
-use Rattle.ax25_frames.specs.declared.fault.FrameFault.TheVariants.{Address, NoControl, NoPid, UnknownControl,
-    InfoTooLong, StrayInfo, Memory}
+use Rattle.ax25_frames.specs.declared.fault.FrameFault.TheVariants.{Address, NoControl, NoPid, UnknownControl}
+use Rattle.ax25_frames.specs.declared.fault.FrameFault.TheVariants.{InfoTooLong, StrayInfo, Memory}
 use Rattle.ax25_frames.specs.declared.control.Control.{Control}
-use Rattle.ax25_frames.specs.declared.control.Control.TheVariants.{Info as InfoControl, Super as SuperControl,
-    Unnumbered}
-use Rattle.ax25_frames.specs.declared.control.Unnumbered.TheVariants.{Setup as SetupFrame, Ui as UiFrame,
-    Other as OtherFrame}
+use Rattle.ax25_frames.specs.declared.control.Control.TheVariants.{Info as InfoControl, Super as SuperControl}
+use Rattle.ax25_frames.specs.declared.control.Control.TheVariants.{Unnumbered}
+use Rattle.ax25_frames.specs.declared.control.Unnumbered.TheVariants.{Setup as SetupFrame, Ui as UiFrame}
+use Rattle.ax25_frames.specs.declared.control.Unnumbered.TheVariants.{Other as OtherFrame}
 use Rattle.ax25_frames.specs.Verdict.{Outcome, IsVerdict, verdict, IsOneKind}
 use Rattle.ax25_frames.proofs.ControlLemmas.{control_same, HasFirst-control}
 
@@ -43,7 +44,7 @@ record IsUnknown (modulus : Modulus) (body : List ℕ) (outcome : Outcome) : Typ
 abbrev Way : Modulus → List ℕ → ℕ → Outcome → Type 0
 Way modulus body start outcome =
     (LacksControl modulus body × (outcome ≡ Err (NoControl (start + length body))))
-        ⊎ (IsUnknown modulus body outcome ⊎ HasControl modulus body start outcome)
+    ⊎ (IsUnknown modulus body outcome ⊎ HasControl modulus body start outcome)
 
 abbrev err : FrameFault → Outcome
 err fault = Err fault
@@ -56,8 +57,13 @@ way_of_pid modulus body start (InfoControl ns nr poll) n h e =
 way_of_pid modulus body start (SuperControl which nr flag) n h e = absurd h
 way_of_pid modulus body start (Unnumbered (SetupFrame which) flag) n h e = absurd h
 way_of_pid modulus body start (Unnumbered UiFrame flag) n h e =
-    record { control = Unnumbered UiFrame flag; rest = []; numbered = n; spelling = e ∙ sym (append-nil _);
-    says = refl }
+    record {
+      control = Unnumbered UiFrame flag;
+      rest = [];
+      numbered = n;
+      spelling = e ∙ sym (append-nil _);
+      says = refl;
+    }
 way_of_pid modulus body start (Unnumbered (OtherFrame which) flag) n h e = absurd h
 
 way_of_stray : (modulus : Modulus) (body : List ℕ) (start : ℕ) (control : Control) (stray : List ℕ)
@@ -90,14 +96,19 @@ way_of_kind modulus body start (Setup which flag) h e =
 way_of_kind modulus body start (Ui flag pid octets) h e =
     record { control = Unnumbered UiFrame flag; rest = pid ∷ octets; numbered = h.numbered; spelling = e; says = refl }
 way_of_kind modulus body start (Other which flag octets) h e =
-    record { control = Unnumbered (OtherFrame which) flag; rest = octets; numbered = h.numbered; spelling = e;
-    says = refl }
+    record {
+      control = Unnumbered (OtherFrame which) flag;
+      rest = octets;
+      numbered = h.numbered;
+      spelling = e;
+      says = refl;
+    }
 
 way_of_long : (modulus : Modulus) (body : List ℕ) (start len : ℕ) → IsTooLong modulus body len
     → HasControl modulus body start (Err (InfoTooLong len))
 way_of_long modulus body start len h =
     let long : leb (length h.information) 256 ≡ false = let more = h.long in let same = h.count in
-        grind (arith, nat_tests) in
+    grind (arith, nat_tests) in
     record {
       control = InfoControl h.ns h.nr h.poll;
       rest = h.pid ∷ h.information;
@@ -114,13 +125,13 @@ way_of modulus body start (Err (Address fault)) h = absurd h
 way_of modulus body start (Err (NoControl at)) h = inl (h.1, ap (λ n. err (NoControl n)) h.0)
 way_of modulus body start (Err (NoPid at)) h =
     inr (inr (subst (λ (n : ℕ). HasControl modulus body start (Err (NoPid n))) (sym h.0)
-        (way_of_pid modulus body start h.1.control h.1.numbered h.1.wanted h.1.spelling)))
+    (way_of_pid modulus body start h.1.control h.1.numbered h.1.wanted h.1.spelling)))
 way_of modulus body start (Err (UnknownControl octet)) h = inr (inl (record { octet = octet; begins = h; says = refl }))
 way_of modulus body start (Err (InfoTooLong len)) h = inr (inr (way_of_long modulus body start len h))
 way_of modulus body start (Err (StrayInfo at)) h =
     inr (inr (subst (λ (n : ℕ). HasControl modulus body start (Err (StrayInfo n)))
-        (sym (h.1 ∙ ap (λ n. start + n) h.2.here))
-        (way_of_stray modulus body start h.2.control h.2.stray h.2.numbered h.2.ends h.2.some h.2.spelling)))
+    (sym (h.1 ∙ ap (λ n. start + n) h.2.here))
+    (way_of_stray modulus body start h.2.control h.2.stray h.2.numbered h.2.ends h.2.some h.2.spelling)))
 way_of modulus body start (Err Memory) h = absurd h
 
 lacks_not_has : (modulus : Modulus) (body : List ℕ) (start : ℕ) (outcome : Outcome) → LacksControl modulus body
@@ -128,9 +139,9 @@ lacks_not_has : (modulus : Modulus) (body : List ℕ) (start : ℕ) (outcome : O
 lacks_not_has modulus body start outcome l h =
     let e : control_octets modulus l.control ++ [] ≡ control_octets modulus h.control ++ (h.rest ++ l.missing) =
     append-nil _ ∙ l.spelling ∙ ap (λ xs. xs ++ l.missing) h.spelling
-        ∙ append_assoc (control_octets modulus h.control) h.rest l.missing in
+    ∙ append_assoc (control_octets modulus h.control) h.rest l.missing in
     let none : [] ≡ h.rest ++ l.missing =
-        (control_same modulus l.control h.control [] (h.rest ++ l.missing) l.numbered h.numbered e).1 in
+    (control_same modulus l.control h.control [] (h.rest ++ l.missing) l.numbered h.numbered e).1 in
     omega (arith, l.some, length-append h.rest l.missing, ap length none)
 
 unknown_not_has : (modulus : Modulus) (body : List ℕ) (start : ℕ) (a b : Outcome) → IsUnknown modulus body a
@@ -138,7 +149,7 @@ unknown_not_has : (modulus : Modulus) (body : List ℕ) (start : ℕ) (a b : Out
 unknown_not_has modulus body start a b u h =
     let first = HasFirst-control modulus h.control in
     let e : u.octet ∷ u.begins.rest ≡ first.octet ∷ (first.more ++ h.rest) = sym u.begins.first ∙ h.spelling
-        ∙ ap (λ xs. xs ++ h.rest) first.spelling in
+    ∙ ap (λ xs. xs ++ h.rest) first.spelling in
     let same : first.octet ≡ u.octet = cc in
     u.begins.unknown h.control first.more h.numbered (first.spelling ∙ ap (λ o. o ∷ first.more) same)
 
@@ -158,10 +169,10 @@ same_has : (modulus : Modulus) (body : List ℕ) (start : ℕ) (a b : Outcome) �
     → HasControl modulus body start b → a ≡ b
 same_has modulus body start a b h g =
     let same = control_same modulus h.control g.control h.rest g.rest h.numbered g.numbered (sym h.spelling
-        ∙ g.spelling) in
+    ∙ g.spelling) in
     h.says ∙ ap (λ c. verdict (start + length body) (start + length (control_octets modulus c)) c h.rest) same.0
     ∙ ap (λ r. verdict (start + length body) (start + length (control_octets modulus g.control)) g.control r) same.1
-        ∙ sym g.says
+    ∙ sym g.says
 
 -- there is one outcome
 pub IsOutcome-same : (modulus : Modulus) (body : List ℕ) (start : ℕ) (a b : Outcome) → IsOutcome modulus body start a
@@ -195,23 +206,52 @@ IsOutcome-verdict modulus body start (InfoControl ns nr poll) [] n e =
 IsOutcome-verdict modulus body start (InfoControl ns nr poll) (pid ∷ octets) n e = elim (cases_lt 256 (length octets)) [
   | inl long ↦ (let t : leb (length octets) 256 ≡ false = grind (arith, nat_tests) in
       subst (λ (b : Bool). IsOutcome modulus body start (if b then Ok (Info ns nr poll pid octets)
-          else Err (InfoTooLong (length octets)))) (sym t)
-      (record { ns = ns; nr = nr; poll = poll; pid = pid; information = octets; numbered = n; spelling = e;
-          count = refl; long = long }))
+      else Err (InfoTooLong (length octets)))) (sym t)
+      (record {
+        ns = ns;
+        nr = nr;
+        poll = poll;
+        pid = pid;
+        information = octets;
+        numbered = n;
+        spelling = e;
+        count = refl;
+        long = long;
+      }))
   | inr fits ↦ (let t : leb (length octets) 256 ≡ true = grind (arith, nat_tests) in
       subst (λ (b : Bool). IsOutcome modulus body start (if b then Ok (Info ns nr poll pid octets)
-          else Err (InfoTooLong (length octets)))) (sym t)
+      else Err (InfoTooLong (length octets)))) (sym t)
       (record { numbered = n; fits = fits }, e))
 ]
 IsOutcome-verdict modulus body start (SuperControl which nr flag) [] n e = (record { numbered = n; fits = tt }, e)
-IsOutcome-verdict modulus body start (SuperControl which nr flag) (x ∷ rest) n e =
-    (_, refl, record { control = SuperControl which nr flag; numbered = n; ends = tt; stray = x ∷ rest;
-        some = omega arith; spelling = e; here = refl })
+IsOutcome-verdict modulus body start (SuperControl which nr flag) (x ∷ rest) n e = (
+  _,
+  refl,
+  record {
+    control = SuperControl which nr flag;
+    numbered = n;
+    ends = tt;
+    stray = x ∷ rest;
+    some = omega arith;
+    spelling = e;
+    here = refl;
+  },
+)
 IsOutcome-verdict modulus body start (Unnumbered (SetupFrame which) flag) [] n e =
     (record { numbered = n; fits = tt }, e)
-IsOutcome-verdict modulus body start (Unnumbered (SetupFrame which) flag) (x ∷ rest) n e =
-    (_, refl, record { control = Unnumbered (SetupFrame which) flag; numbered = n; ends = tt; stray = x ∷ rest;
-        some = omega arith; spelling = e; here = refl })
+IsOutcome-verdict modulus body start (Unnumbered (SetupFrame which) flag) (x ∷ rest) n e = (
+  _,
+  refl,
+  record {
+    control = Unnumbered (SetupFrame which) flag;
+    numbered = n;
+    ends = tt;
+    stray = x ∷ rest;
+    some = omega arith;
+    spelling = e;
+    here = refl;
+  },
+)
 IsOutcome-verdict modulus body start (Unnumbered UiFrame flag) [] n e =
     (refl, record { control = Unnumbered UiFrame flag; numbered = n; wanted = tt; spelling = e ∙ append-nil _ })
 IsOutcome-verdict modulus body start (Unnumbered UiFrame flag) (pid ∷ octets) n e =
@@ -256,7 +296,7 @@ pub IsOneKind-verdict : (modulus : Modulus) (body : List ℕ) (start place : ℕ
 IsOneKind-verdict modulus body start place control rest answer n e here h =
     let right : IsOutcome modulus body start (verdict (start + length body) place control rest) =
     subst (λ (p : ℕ). IsOutcome modulus body start (verdict (start + length body) p control rest)) (sym here)
-        (IsOutcome-verdict modulus body start control rest n e) in
+    (IsOutcome-verdict modulus body start control rest n e) in
     elim h [
       | inl same ↦ subst (λ (r : Outcome). IsOneKind modulus body start r) (sym same)
           (IsOneKind-outcome modulus body start _ right)

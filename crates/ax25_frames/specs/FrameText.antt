@@ -1,8 +1,8 @@
 -- A frame as one line of text: `SOURCE>DEST,REPEATER*` and what the frame says. An asterisk stands after a repeater
 -- that
 -- has repeated the frame, and information is in hexadecimal.
-use Rattle.std.specs.Prelude.{ℕ, ◌==◌, Bool, true, false, if◌then◌else◌, List, [], ◌∷◌, ◌++◌, length, flat_map, codes,
-    decimal}
+use Rattle.std.specs.Prelude.{ℕ, ◌==◌, Bool, true, false, if◌then◌else◌, List, [], ◌∷◌, ◌++◌, length, flat_map, codes}
+use Rattle.std.specs.Prelude.{decimal}
 use Rattle.hex.specs.Hex.{encode_lower}
 use Rattle.ax25_address.specs.CallText.{text_of_call}
 use Rattle.ax25_address.specs.AddressField.{bit}
@@ -22,8 +22,8 @@ use Rattle.ax25_frames.specs.declared.frame.U.TheVariants.{Sabm, Sabme, Disc, Dm
 use Rattle.ax25_frames.specs.declared.frame.W.{W}
 use Rattle.ax25_frames.specs.declared.frame.W.TheVariants.{Frmr, Xid, Test}
 use Rattle.ax25_frames.specs.declared.fault.FrameFault.{FrameFault}
-use Rattle.ax25_frames.specs.declared.fault.FrameFault.TheVariants.{Address, NoControl, NoPid, UnknownControl,
-    InfoTooLong, StrayInfo, Memory}
+use Rattle.ax25_frames.specs.declared.fault.FrameFault.TheVariants.{Address, NoControl, NoPid, UnknownControl}
+use Rattle.ax25_frames.specs.declared.fault.FrameFault.TheVariants.{InfoTooLong, StrayInfo, Memory}
 
 -- a frame is a command by its C bits
 abbrev pub has_command_bits : Role → Bool
@@ -95,10 +95,10 @@ pid_text pid = codes " pid=" ++ encode_lower (pid ∷ [])
 abbrev pub kind_text : Bool → Kind → List ℕ
 kind_text command (Info ns nr poll pid octets) =
     codes "I " ++ role_word command ++ codes " ns=" ++ decimal ns ++ codes " nr=" ++ decimal nr ++ codes " p="
-        ++ decimal (bit poll) ++ pid_text pid ++ information_text octets
+    ++ decimal (bit poll) ++ pid_text pid ++ information_text octets
 kind_text command (Super which nr flag) =
     supervisory_name which ++ codes " " ++ role_word command ++ codes " nr=" ++ decimal nr ++ codes " f="
-        ++ decimal (bit flag)
+    ++ decimal (bit flag)
 kind_text command (Setup which flag) = setup_name which ++ codes " " ++ role_word command ++ codes " f="
     ++ decimal (bit flag)
 kind_text command (Ui flag pid octets) = codes "UI " ++ role_word command ++ codes " f=" ++ decimal (bit flag)

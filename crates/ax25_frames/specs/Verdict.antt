@@ -1,6 +1,6 @@
 -- What comes of a control field and the octets after it: a kind of frame, or a fault.
-use Rattle.std.specs.Prelude.{◌≡◌, ℕ, ◌⊎◌, if◌then◌else◌, nat_le, List, [], ◌∷◌, length, Result, Ok, Err, IsOk, IfOk,
-    IfErr}
+use Rattle.std.specs.Prelude.{◌≡◌, ℕ, ◌⊎◌, if◌then◌else◌, nat_le, List, [], ◌∷◌, length, Result, Ok, Err, IsOk, IfOk}
+use Rattle.std.specs.Prelude.{IfErr}
 use Rattle.ax25_frames.specs.FrameOctets.{IsKind, body_octets}
 use Rattle.ax25_frames.specs.FrameFault.{BodyFault}
 use Rattle.ax25_frames.specs.declared.frame.Modulus.{Modulus}
@@ -9,10 +9,10 @@ use Rattle.ax25_frames.specs.declared.frame.Kind.TheVariants.{Info, Super, Setup
 use Rattle.ax25_frames.specs.declared.fault.FrameFault.{FrameFault}
 use Rattle.ax25_frames.specs.declared.fault.FrameFault.TheVariants.{NoPid, InfoTooLong, StrayInfo, Memory}
 use Rattle.ax25_frames.specs.declared.control.Control.{Control}
-use Rattle.ax25_frames.specs.declared.control.Control.TheVariants.{Info as InfoControl, Super as SuperControl,
-    Unnumbered}
-use Rattle.ax25_frames.specs.declared.control.Unnumbered.TheVariants.{Setup as SetupFrame, Ui as UiFrame,
-    Other as OtherFrame}
+use Rattle.ax25_frames.specs.declared.control.Control.TheVariants.{Info as InfoControl, Super as SuperControl}
+use Rattle.ax25_frames.specs.declared.control.Control.TheVariants.{Unnumbered}
+use Rattle.ax25_frames.specs.declared.control.Unnumbered.TheVariants.{Setup as SetupFrame, Ui as UiFrame}
+use Rattle.ax25_frames.specs.declared.control.Unnumbered.TheVariants.{Other as OtherFrame}
 
 abbrev pub Outcome : Type 0
 Outcome = Result Kind FrameFault

@@ -1,6 +1,6 @@
 -- A tick of the whole channel.
-use Rattle.std.proofs.Common.{◌≡◌, ℕ, ◌≤◌, Bool, true, false, cond, eqb, Option, Some, None, is_some, List, [], ◌∷◌,
-    length, refl, ap, ◌∙◌, sym, subst, inl, inr, arith}
+use Rattle.std.proofs.Common.{◌≡◌, ℕ, ◌≤◌, Bool, true, false, cond, eqb, Option, Some, None, is_some, List, [], ◌∷◌}
+use Rattle.std.proofs.Common.{length, refl, ap, ◌∙◌, sym, subst, inl, inr, arith}
 use Rattle.std.specs.List.{All}
 use Rattle.std.proofs.Math.Nat.{le-max_left}
 use Rattle.std.proofs.lemmas.Bool.{cases_Bool, cond-true, eqb-false}
@@ -11,11 +11,11 @@ use Rattle.channel_access.specs.Parameters.{opening_flags}
 use Rattle.channel_access.specs.Waiting.{WaitingFrame}
 use Rattle.hdlc_framer.specs.FrameLength.{HasFrameLength}
 use Rattle.channel_access.specs.OnAir.{OnAir, bits_then, decided, with_tick}
-use Rattle.channel_access.specs.Channel.{Channel, Decision, decision, begun, air_samples, air_sent, air_waiting,
-    air_after, air_tick, after_tick, Takes}
+use Rattle.channel_access.specs.Channel.{Channel, Decision, decision, begun, air_samples, air_sent, air_waiting}
+use Rattle.channel_access.specs.Channel.{air_after, air_tick, after_tick, Takes}
 use Rattle.channel_access.specs.Held.{Held, new_sending}
-use Rattle.channel_access.specs.HeldTick.{run_of, going_on, held_samples, held_sent, after_held_send, held_tick,
-    after_held_tick}
+use Rattle.channel_access.specs.HeldTick.{run_of, going_on, held_samples, held_sent, after_held_send, held_tick}
+use Rattle.channel_access.specs.HeldTick.{after_held_tick}
 use Rattle.channel_access.specs.StandsFor.{StandsFor, StandsForAir, Goes}
 use Rattle.channel_access.proofs.BodyLemmas.{flags-is}
 use Rattle.channel_access.proofs.OrderLemmas.{air_takes}

@@ -1,7 +1,7 @@
 -- A tick of a transmission: its samples, and what is left of it.
-use Rattle.std.proofs.Common.{◌≡◌, ℕ, ◌+◌, ◌-◌, ◌*◌, ◌/◌, ◌≤◌, ◌⊎◌, Bool, true, false, cond, leb, ltb, Option, Some,
-    None, ℤ, pos, List, [], ◌∷◌, ◌++◌, length, take, drop, replicate, refl, ap, ◌∙◌, sym, subst, inl, inr, arith,
-    length-append, append_assoc, append-nil}
+use Rattle.std.proofs.Common.{◌≡◌, ℕ, ◌+◌, ◌-◌, ◌*◌, ◌/◌, ◌≤◌, ◌⊎◌, Bool, true, false, cond, leb, ltb, Option, Some}
+use Rattle.std.proofs.Common.{None, ℤ, pos, List, [], ◌∷◌, ◌++◌, length, take, drop, replicate, refl, ap, ◌∙◌, sym}
+use Rattle.std.proofs.Common.{subst, inl, inr, arith, length-append, append_assoc, append-nil}
 use Rattle.std.specs.List.{All}
 use Rattle.std.proofs.Math.Nat.{le-max_left}
 use Rattle.std.proofs.Math.Seq.{take-append_seam, drop-append_seam}
@@ -22,15 +22,16 @@ use Rattle.channel_access.specs.declared.stage.Stage.{Stage}
 use Rattle.channel_access.specs.declared.stage.Stage.TheVariants.{Opening, Frame, Following, Closing, Over}
 use Rattle.channel_access.specs.Waiting.{WaitingFrame}
 use Rattle.hdlc_framer.specs.FrameLength.{HasFrameLength}
-use Rattle.channel_access.specs.OnAir.{OnAir, bits_then, bits_of, samples_on_air, decided, followed_by, has_sent_frames,
-    names_next, with_named, frame_named, tick_samples, with_tick, most_frames}
+use Rattle.channel_access.specs.OnAir.{OnAir, bits_then, bits_of, samples_on_air, decided, followed_by, has_sent_frames}
+use Rattle.channel_access.specs.OnAir.{names_next, with_named, frame_named, tick_samples, with_tick, most_frames}
 use Rattle.channel_access.specs.Held.{Run, tick_start, stage_over}
 use Rattle.channel_access.specs.HeldTick.{run_of, going_on}
 use Rattle.channel_access.specs.StandsFor.{Stands, Counts, Sends, Goes, StandsForAir, flag_rest, frame_rest}
 use Rattle.channel_access.proofs.BodyLemmas.{length-flag_rest, body-more_closing, body-single, body-push}
 use Rattle.channel_access.proofs.FrameLemmas.{next_given}
-use Rattle.channel_access.proofs.StageLemmas.{now_at, by_test, same_now, same_waiting, frames_go_on, frames_ended,
-    flag_goes_on, all_named, flag_end-last, frames_end-next, flag_there_at, opening_end}
+use Rattle.channel_access.proofs.StageLemmas.{now_at, by_test, same_now, same_waiting, frames_go_on, frames_ended}
+use Rattle.channel_access.proofs.StageLemmas.{flag_goes_on, all_named, flag_end-last, frames_end-next, flag_there_at}
+use Rattle.channel_access.proofs.StageLemmas.{opening_end}
 use Rattle.channel_access.proofs.SendingLemmas.{padded, padded-full, length-padded}
 use Rattle.channel_access.proofs.JoinLemmas.{may_come, end_later, flag_not_yet}
 use Rattle.channel_access.proofs.TickLemmas.{AtBit, sent_at, bits_more, all_waiting}

@@ -1,6 +1,6 @@
 -- The bits of a transmission, cut where a frame or a flag ends.
-use Rattle.std.proofs.Common.{◌≡◌, ℕ, zero, suc, ◌+◌, ◌*◌, ◌/◌, ◌%◌, ◌≤◌, Bool, true, false, cond, ltb, List, [], ◌∷◌,
-    ◌++◌, length, refl, ap, ◌∙◌, sym, arith, length-append, append_assoc, append-nil}
+use Rattle.std.proofs.Common.{◌≡◌, ℕ, zero, suc, ◌+◌, ◌*◌, ◌/◌, ◌%◌, ◌≤◌, Bool, true, false, cond, ltb, List, [], ◌∷◌}
+use Rattle.std.proofs.Common.{◌++◌, length, refl, ap, ◌∙◌, sym, arith, length-append, append_assoc, append-nil}
 use Rattle.std.proofs.lemmas.Bool.{ne_eqb}
 use Rattle.hdlc_framer.specs.BitOrder.{sent_bits}
 use Rattle.hdlc_framer.specs.Body.{flags, joined, body}

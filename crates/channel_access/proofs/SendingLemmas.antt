@@ -1,6 +1,7 @@
 -- One bit of a sender, with its samples.
-use Rattle.std.proofs.Common.{◌≡◌, ℕ, ◌+◌, ◌-◌, ◌*◌, ◌≤◌, Bool, true, Option, ℤ, pos, List, [], ◌∷◌, ◌++◌, length,
-    replicate, refl, ap, ◌∙◌, sym, subst, inl, inr, arith, length-append, append_assoc, append-nil}
+use Rattle.std.proofs.Common.{◌≡◌, ℕ, ◌+◌, ◌-◌, ◌*◌, ◌≤◌, Bool, true, Option, ℤ, pos, List, [], ◌∷◌, ◌++◌, length}
+use Rattle.std.proofs.Common.{replicate, refl, ap, ◌∙◌, sym, subst, inl, inr, arith, length-append, append_assoc}
+use Rattle.std.proofs.Common.{append-nil}
 use Rattle.std.specs.List.{All}
 use Rattle.std.proofs.lemmas.List.{replicate-append-replicate, length-replicate}
 use Rattle.tone_table.specs.declared.tone.Tone.{Tone}

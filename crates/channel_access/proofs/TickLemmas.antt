@@ -1,6 +1,6 @@
 -- The bits of a tick, from its first one on.
-use Rattle.std.proofs.Common.{◌≡◌, ℕ, zero, suc, ◌+◌, ◌-◌, ◌*◌, ◌≤◌, Bool, true, cond, Option, Some, None, ℤ, List, [],
-    ◌∷◌, ◌++◌, length, get_or, drop, refl, ap, ◌∙◌, sym, subst, inl, inr, arith, append_assoc}
+use Rattle.std.proofs.Common.{◌≡◌, ℕ, zero, suc, ◌+◌, ◌-◌, ◌*◌, ◌≤◌, Bool, true, cond, Option, Some, None, ℤ, List, []}
+use Rattle.std.proofs.Common.{◌∷◌, ◌++◌, length, get_or, drop, refl, ap, ◌∙◌, sym, subst, inl, inr, arith, append_assoc}
 use Rattle.std.specs.List.{All}
 use Rattle.std.proofs.lemmas.Bool.{cases_Bool, cond-true, cond-false}
 use Rattle.std.proofs.lemmas.Bool.Decides.{nat_tests}
@@ -10,11 +10,11 @@ use Rattle.channel_access.specs.declared.sending.Sending.{Sending}
 use Rattle.channel_access.specs.Waiting.{WaitingFrame}
 use Rattle.hdlc_framer.specs.FrameLength.{HasFrameLength}
 use Rattle.channel_access.specs.OnAir.{OnAir, decided, names_next, with_named, waiting_with_named, flag_end}
-use Rattle.channel_access.specs.Held.{Run, step_of, with_step, behind_bit, window_of, sent_with, with_bit, with_bits,
-    tick_start}
+use Rattle.channel_access.specs.Held.{Run, step_of, with_step, behind_bit, window_of, sent_with, with_bit, with_bits}
+use Rattle.channel_access.specs.Held.{tick_start}
 use Rattle.channel_access.specs.StandsFor.{Sends}
-use Rattle.channel_access.proofs.StageLemmas.{now_at, waiting_at, named_at, named_of, same_now, same_waiting,
-    none_named, by_test}
+use Rattle.channel_access.proofs.StageLemmas.{now_at, waiting_at, named_at, named_of, same_now, same_waiting}
+use Rattle.channel_access.proofs.StageLemmas.{none_named, by_test}
 use Rattle.channel_access.proofs.SendingLemmas.{SendsMore, sends_more, padded}
 use Rattle.channel_access.proofs.JoinLemmas.{MayCome, IsBefore, IsAfter, at_next, next_named}
 

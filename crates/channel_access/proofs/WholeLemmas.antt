@@ -1,6 +1,7 @@
 -- What a transmission is as a whole, over all its ticks.
-use Rattle.std.proofs.Common.{◌≡◌, ℕ, ◌+◌, ◌*◌, ◌≤◌, Bool, true, false, not, ◌&&◌, cond, eqb, leb, ltb, ℤ, pos, List,
-    [], ◌∷◌, ◌++◌, length, take, drop, replicate, refl, ap, ◌∙◌, sym, inl, inr, arith, append_assoc, append-nil}
+use Rattle.std.proofs.Common.{◌≡◌, ℕ, ◌+◌, ◌*◌, ◌≤◌, Bool, true, false, not, ◌&&◌, cond, eqb, leb, ltb, ℤ, pos, List}
+use Rattle.std.proofs.Common.{[], ◌∷◌, ◌++◌, length, take, drop, replicate, refl, ap, ◌∙◌, sym, inl, inr, arith}
+use Rattle.std.proofs.Common.{append_assoc, append-nil}
 use Rattle.std.proofs.lemmas.Bool.{cases_Bool}
 use Rattle.std.proofs.lemmas.List.{take-append-le, drop-append-le, length-drop}
 use Rattle.afsk_modulator.specs.Transmission.{transmission}
@@ -13,12 +14,12 @@ use Rattle.nrzi_bits.proofs.LineLemmas.{length-line_from}
 use Rattle.tone_table.specs.declared.tone.Tone.TheVariants.{Mark}
 use Rattle.tone_table.specs.Wave.{wave}
 use Rattle.channel_access.specs.Waiting.{WaitingFrame}
-use Rattle.channel_access.specs.OnAir.{OnAir, bits_then, bits_of, samples_on_air, frames_end, has_sent_frames,
-    followed_by, decided, tick_samples, most_frames}
+use Rattle.channel_access.specs.OnAir.{OnAir, bits_then, bits_of, samples_on_air, frames_end, has_sent_frames}
+use Rattle.channel_access.specs.OnAir.{followed_by, decided, tick_samples, most_frames}
 use Rattle.channel_access.proofs.BodyLemmas.{body-closing}
 use Rattle.channel_access.proofs.StageLemmas.{by_test}
 use Rattle.channel_access.proofs.SendingLemmas.{length-wave_from}
-use Rattle.channel_access.proofs.AirLemmas.{open_bits, closed_bits, samples_of-is, wave-append}
+use Rattle.channel_access.proofs.AirLemmas.{open_bits, closed_bits, samples_on_air-is, wave-append}
 
 -- the closing flags come after all frames
 closes_adds : (t : OnAir) → t.ends ≡ false
@@ -95,7 +96,7 @@ tick_in_whole t whole rest adds within =
     let later = wave-append (bits_of t) rest in
     let all : samples_on_air whole ≡ samples_on_air t ++ later.0 =
     samples_on_air-is whole ∙ ap (λ xs. wave (line xs)) adds ∙ later.1
-        ∙ ap (λ xs. xs ++ later.0) (sym (samples_on_air-is t)) in
+    ∙ ap (λ xs. xs ++ later.0) (sym (samples_on_air-is t)) in
     let long : 96 * t.ticks + 96 ≤ length (samples_on_air t) = omega (arith, length-samples_on_air t) in
     piece (samples_on_air t) (replicate 96 (pos 0)) (96 * t.ticks) 96 long
     ∙ sym (ap (λ xs. take 96 (drop (96 * t.ticks) xs)) all ∙ piece (samples_on_air t) later.0 (96 * t.ticks) 96 long)

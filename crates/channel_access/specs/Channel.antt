@@ -1,7 +1,7 @@
 -- The access to the channel, tick by tick: p-persistence in half duplex, and at once in full duplex (the KISS TNC
 -- protocol, Chepponis and Karn).
-use Rattle.std.specs.Prelude.{◌≡◌, ℕ, ◌-◌, ◌==◌, nat_lt, nat_le, Bool, true, false, ◌&&◌, if◌then◌else◌, ℤ, pos, List,
-    [], ◌∷◌, ◌++◌, length, take, map, replicate, Option, Some, None, is_some, is_none}
+use Rattle.std.specs.Prelude.{◌≡◌, ℕ, ◌-◌, ◌==◌, nat_lt, nat_le, Bool, true, false, ◌&&◌, if◌then◌else◌, ℤ, pos, List}
+use Rattle.std.specs.Prelude.{[], ◌∷◌, ◌++◌, length, take, map, replicate, Option, Some, None, is_some, is_none}
 use Rattle.rand_pcg.specs.Lcg.{Lcg}
 use Rattle.channel_access.specs.declared.air_tick.AirTick.{AirTick}
 use Rattle.channel_access.specs.declared.air_tick.Sent.{Sent}
@@ -10,8 +10,8 @@ use Rattle.channel_access.specs.declared.parameters.Parameters.{Parameters}
 use Rattle.channel_access.specs.Parameters.{default_parameters, with_param, opening_flags, closing_flags}
 use Rattle.channel_access.specs.Waiting.{WaitingFrame}
 use Rattle.channel_access.specs.Words.{generator_of, draw_stream, draw, after_word}
-use Rattle.channel_access.specs.OnAir.{OnAir, bits_then, decided, with_named, waiting_with_named, frame_named,
-    tick_samples, with_tick}
+use Rattle.channel_access.specs.OnAir.{OnAir, bits_then, decided, with_named, waiting_with_named, frame_named}
+use Rattle.channel_access.specs.OnAir.{tick_samples, with_tick}
 
 -- The frames that wait, in order, with those of the transmission under way that are not named as sent yet; the ticks
 -- that are left of a slot; and the transmission under way.
@@ -24,8 +24,13 @@ pub record Channel : Type 0 where
 
 abbrev pub new_channel : ℕ → Channel
 new_channel seed =
-    record { waiting = []; parameters = default_parameters; generator = generator_of seed draw_stream; slot = 0;
-        air = None }
+    record {
+      waiting = [];
+      parameters = default_parameters;
+      generator = generator_of seed draw_stream;
+      slot = 0;
+      air = None;
+    }
 
 -- with one frame more
 abbrev pub with_frame : Option ℕ → List ℕ → Channel → Channel

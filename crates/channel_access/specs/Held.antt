@@ -1,6 +1,7 @@
 -- What the code keeps of a transmission under way, bit by bit. No public clause cites it.
-use Rattle.std.specs.Prelude.{ℕ, zero, suc, ◌+◌, ◌-◌, ◌*◌, ◌/◌, ◌%◌, nat_lt, nat_le, Bool, true, false, ◌&&◌,
-    if◌then◌else◌, ℤ, pos, List, [], ◌∷◌, ◌++◌, length, drop, replicate, slice_index_or, Option, Some, None}
+use Rattle.std.specs.Prelude.{ℕ, zero, suc, ◌+◌, ◌-◌, ◌*◌, ◌/◌, ◌%◌, nat_lt, nat_le, Bool, true, false, ◌&&◌}
+use Rattle.std.specs.Prelude.{if◌then◌else◌, ℤ, pos, List, [], ◌∷◌, ◌++◌, length, drop, replicate, slice_index_or}
+use Rattle.std.specs.Prelude.{Option, Some, None}
 use Rattle.rand_pcg.specs.Lcg.{Lcg}
 use Rattle.tone_table.specs.declared.tone.Tone.TheVariants.{Mark}
 use Rattle.nrzi_bits.specs.Line.{sent_tone}

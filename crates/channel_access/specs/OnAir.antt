@@ -1,7 +1,7 @@
 -- A transmission under way (AX.25 2.2 section 3, ISO/IEC 3309): flags, frames with one flag between neighbours, and
 -- flags. It is sent tick by tick, 12 bits each, and frames may join it while it runs.
-use Rattle.std.specs.Prelude.{ℕ, ◌+◌, ◌-◌, ◌*◌, nat_lt, nat_le, Bool, true, not, ◌&&◌, if◌then◌else◌, ℤ, pos, List, [],
-    ◌∷◌, ◌++◌, length, take, drop, replicate, slice_index_or, Option, Some, None}
+use Rattle.std.specs.Prelude.{ℕ, ◌+◌, ◌-◌, ◌*◌, nat_lt, nat_le, Bool, true, not, ◌&&◌, if◌then◌else◌, ℤ, pos, List, []}
+use Rattle.std.specs.Prelude.{◌∷◌, ◌++◌, length, take, drop, replicate, slice_index_or, Option, Some, None}
 use Rattle.hdlc_framer.specs.Body.{body}
 use Rattle.afsk_modulator.specs.Transmission.{transmission}
 use Rattle.channel_access.specs.declared.air_tick.Sent.{Sent}

@@ -1,8 +1,8 @@
 -- What an access stands for: the channel of the definitions, if the transmission under way is known from its first
 -- bit.
 -- Public clauses cite `StandsFor` and its field `waiting` alone.
-use Rattle.std.specs.Prelude.{◌≡◌, ℕ, zero, suc, ◌-◌, ◌*◌, ◌≤◌, Bool, true, false, List, [], ◌∷◌, ◌++◌, length, drop,
-    nat_le, Option, Some, None, if◌then◌else◌}
+use Rattle.std.specs.Prelude.{◌≡◌, ℕ, zero, suc, ◌-◌, ◌*◌, ◌≤◌, Bool, true, false, List, [], ◌∷◌, ◌++◌, length, drop}
+use Rattle.std.specs.Prelude.{nat_le, Option, Some, None, if◌then◌else◌}
 use Rattle.std.specs.List.{All}
 use Rattle.nrzi_bits.specs.Line.{line, last_tone}
 use Rattle.afsk_modulator.specs.Modulation.{full, behind}

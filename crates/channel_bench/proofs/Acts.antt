@@ -1,8 +1,8 @@
 -- What holds of a station and of the end of its link between two calls, act by act: the end's machine is the link's,
 -- and
 -- what is in flight from it is what was queued, as the pairs that are still to be heard name it.
-use Rattle.std.proofs.Common.{◌≡◌, ℕ, ◌+◌, ◌-◌, ◌<◌, ◌≤◌, Bool, true, false, List, [], ◌∷◌, ◌++◌, length, map, drop,
-    Option, Some, refl, sym, ap, ◌∙◌, subst, arith}
+use Rattle.std.proofs.Common.{◌≡◌, ℕ, ◌+◌, ◌-◌, ◌<◌, ◌≤◌, Bool, true, false, List, [], ◌∷◌, ◌++◌, length, map, drop}
+use Rattle.std.proofs.Common.{Option, Some, refl, sym, ap, ◌∙◌, subst, arith}
 use Rattle.std.specs.Bool.{⊤}
 use Rattle.std.specs.List.{AllByRecursion as Each}
 use Rattle.std.proofs.lemmas.List.{append_assoc, length-append, length-map}
@@ -10,8 +10,8 @@ use Rattle.ax25_address.specs.Callsign.{Callsign}
 use Rattle.ax25_frames.specs.declared.frame.Frame.{Frame}
 use Rattle.link_machine.specs.declared.params.Params.{Params}
 use Rattle.link_machine.specs.Event.{Event as LinkEvent}
-use Rattle.link_machine.specs.Event.Event.{Connect as LinkConnect, Send as LinkSend, Disconnect as LinkDisconnect,
-    Hear as LinkHear, Tick as LinkTick}
+use Rattle.link_machine.specs.Event.Event.{Connect as LinkConnect, Send as LinkSend, Disconnect as LinkDisconnect}
+use Rattle.link_machine.specs.Event.Event.{Hear as LinkHear, Tick as LinkTick}
 use Rattle.link_machine.specs.Machine.{Machine}
 use Rattle.link_machine.specs.Sent.{SentIn, sent_kind}
 use Rattle.link_machine.specs.Step.{step}
@@ -31,15 +31,15 @@ use Rattle.channel_bench.specs.LinkOfCalls.{marks_from, event_at_end}
 use Rattle.channel_bench.specs.StationsLaw.{IsMachineOf}
 use Rattle.channel_bench.specs.InFlight.{LinkFrame}
 use Rattle.channel_bench.proofs.Framed.{framed, framed-append, length-framed}
-use Rattle.channel_bench.proofs.Flights.{RiseFrom, flight, flight_own, flight_others, kept_first, marks,
-    marks_from_rest}
+use Rattle.channel_bench.proofs.Flights.{RiseFrom, flight, flight_own, flight_others, kept_first, marks}
+use Rattle.channel_bench.proofs.Flights.{marks_from_rest}
 use Rattle.channel_bench.proofs.LinkKinds.{IsLinkKind}
 use Rattle.channel_bench.proofs.Queues.{HasStepped, link_stepped, octets_of}
-use Rattle.channel_bench.proofs.Standing.{IsGoodLink, IsTable, between_calls, chosen_calls, calls_chosen, good_stepped,
-    good_at, own_table, other_table}
+use Rattle.channel_bench.proofs.Standing.{IsGoodLink, IsTable, between_calls, chosen_calls, calls_chosen, good_stepped}
+use Rattle.channel_bench.proofs.Standing.{good_at, own_table, other_table}
 use Rattle.channel_bench.proofs.Tables.{chosen_at, not_both}
-use Rattle.channel_bench.proofs.Tags.{AreTags, tags_length, tags_append, OwnTags, own_tags, other_tags, no_tags,
-    no_tags_none}
+use Rattle.channel_bench.proofs.Tags.{AreTags, tags_length, tags_append, OwnTags, own_tags, other_tags, no_tags}
+use Rattle.channel_bench.proofs.Tags.{no_tags_none}
 
 -- what stays as it is while a station makes a step
 pub record Setting : Type 0 where
@@ -92,7 +92,7 @@ own_flight :
     (s : Setting) (tags : List (Option Tagged)) (joined lost towards : List Tagged) (first count : ℕ)
     → towards ≡ flight tags s.rest → length s.earlier ≤ first → first ≡ length tags → count ≡ length joined
     → towards ++ kept (marks_from (s.done ++ s.rest) first count) (joined ++ lost)
-        ≡ flight (tags ++ map Some joined) s.rest
+    ≡ flight (tags ++ map Some joined) s.rest
 own_flight s tags joined lost towards first count is low at size =
     let same : marks_from (s.done ++ s.rest) first count ≡ marks s.rest (length tags) (length joined) =
     marks_from_rest s.done s.rest (length s.earlier) first count s.below low
@@ -131,7 +131,7 @@ own_by s back stays turn w key link event h caused H at is =
     let now : RecordedEnd = behind h w.a.end m in
     let own : OwnTags s.local s.remote s.on_ask (map (tagged (hears_ask h) now) m.sent) stepped.first =
     own_tags s.local s.remote s.on_ask (hears_ask h) now m.sent stepped.first stepped.rest caused next.path (next.source
-        ∙ calls.local_is)
+    ∙ calls.local_is)
     (next.dest ∙ calls.remote_is) ((step_keeps link.machine event good.counts).good tt) stepped.split in
     let count : length after.out.queued - length turn.out.queued ≡ length own.joined =
     ap (λ (q : List (List ℕ)). length q - length turn.out.queued) stepped.queued
@@ -145,7 +145,7 @@ own_by s back stays turn w key link event h caused H at is =
       parameters = stepped.parameters ∙ H.parameters;
       table = subst (λ (links : Links). IsTable s.params chosen links m.now) (sym stepped.links)
           (own_table s.params chosen turn.now.links w.a.end.machine key link m.now (between_calls s.local s.remote)
-              H.table
+          H.table
           at is next);
       end_params = next.params_are;
       tags = H.tags ++ map Some own.joined;
@@ -182,10 +182,10 @@ own_turned s back stays turn w key link event h caused H at is same =
     let chosen : link_event key event link turn ≡ event_at key event turn =
     sym (ap (λ place. event_of key event place turn) at) in
     subst (λ (after : Turn). Holds s stays after (turned h (step w.a.end.machine (seen h)) stays (marks_of s turn after)
-        w))
+    w))
     chosen
     (subst (λ t. Holds s stays (link_event key event link turn)
-        (turned h t stays (marks_of s turn (link_event key event link turn)) w))
+    (turned h t stays (marks_of s turn (link_event key event link turn)) w))
     (sym same) (own_by s back stays turn w key link event h caused H at is))
 
 -- what is not heard
@@ -227,10 +227,10 @@ own_asked s e back turn w key link (LinkTick waiting) asked H at is =
 -- the frame in front is heard, as it is read
 pub own_heard :
     (s : Setting) (e : End) (f : Tagged) (g : Frame) (rest : List Tagged) (turn : Turn) (w : World) (key : ℕ)
-        (link : Link)
+    (link : Link)
     (frame : Frame) → (asks g.kind ≡ true → s.on_ask ≡ true) → Holds s (f ∷ rest) turn w
     → link_at key turn.now.links ≡ Some link → is_between s.local s.remote (Some link) ≡ true
-        → read_in w.a.end.machine.incoming.modulus f ≡ Some g
+    → read_in w.a.end.machine.incoming.modulus f ≡ Some g
     → step w.a.end.machine (LinkHear g) ≡ step link.machine (LinkHear frame)
     → Holds s rest (event_at key (LinkHear frame) turn)
     (near_kept (event_at_end e (LinkHear frame)) (marks_of s turn (event_at key (LinkHear frame) turn)) w)
@@ -238,7 +238,7 @@ own_heard s e f g rest turn w key link frame caused H at is read same =
     let after = event_at key (LinkHear frame) turn in
     let ms = marks_of s turn after in
     subst (λ ts. Holds s rest after (let t = turn_of (hearing_first w.a.end.machine.incoming.modulus ts) w.a.end in
-        record {
+    record {
       a = record { end = t.now; towards = drop 1 ts };
       b = record w.b { towards = w.b.towards ++ kept ms t.sent };
     })) (sym H.back_is)
@@ -247,7 +247,7 @@ own_heard s e f g rest turn w key link frame caused H at is read same =
       b = record w.b { towards = w.b.towards ++ kept ms t.sent };
     })) (sym read)
     (own_turned s (f ∷ rest) rest turn w key link (LinkHear frame) (Hears (record f { frame = g }))
-        caused H at is same))
+    caused H at is same))
 
 -- what it is told then
 pub heard_told :
@@ -300,7 +300,7 @@ pub asked_asking :
     → map is_asking (near_turn (event_at_end e event) w).sent ≡ map asks_when_sent (step machine event).sent
 asked_asking e w machine LinkConnect asked is =
     turn_asking Connects w.a.end (step w.a.end.machine LinkConnect)
-        ∙ ap (λ m. map asks_when_sent (step m LinkConnect).sent) is
+    ∙ ap (λ m. map asks_when_sent (step m LinkConnect).sent) is
 asked_asking e w machine (LinkSend packet) asked is =
     turn_asking (Sends packet) w.a.end (step w.a.end.machine (LinkSend packet))
     ∙ ap (λ m. map asks_when_sent (step m (LinkSend packet)).sent) is
@@ -389,7 +389,7 @@ other_by s back turn w key link event H at is =
       parameters = stepped.parameters ∙ H.parameters;
       table = subst (λ (links : Links). IsTable s.params chosen links w.a.end.machine) (sym stepped.links)
           (other_table s.params chosen turn.now.links w.a.end.machine key link m.now (between_calls s.local s.remote)
-              H.table
+          H.table
           at is next);
       end_params = H.end_params;
       tags = H.tags ++ no_tags stepped.first;

@@ -12,8 +12,8 @@ use Rattle.ax25_address.specs.FramePath.{destination_bit, source_bit, repeater_c
 use Rattle.ax25_address.specs.declared.path.Path.{Path}
 use Rattle.ax25_address.specs.declared.path.Hop.{Hop}
 use Rattle.ax25_address.proofs.OneReading.{BeginsWithPath-same}
-use Rattle.ax25_address.proofs.Written.{AreWrittenSoFar, AreWrittenSoFar-ends, AreWrittenSoFar-push,
-    IsWrittenPath-so_far, BeginsWithPath-written}
+use Rattle.ax25_address.proofs.Written.{AreWrittenSoFar, AreWrittenSoFar-ends, AreWrittenSoFar-push}
+use Rattle.ax25_address.proofs.Written.{IsWrittenPath-so_far, BeginsWithPath-written}
 use Rattle.ax25_frames.specs.declared.frame.Frame.{Frame}
 use Rattle.ax25_frames.specs.declared.frame.Modulus.{Modulus}
 use Rattle.ax25_frames.specs.FrameOctets.{body_octets}
@@ -42,7 +42,7 @@ fields_from path front (hop ∷ []) octets is few valid h =
     λ d. ap (λ xs. get_or xs (length front) d) is ∙ ap (λ n. get_or (front ++ hop ∷ []) n d) (sym none)
     ∙ get_or-append-add front (hop ∷ []) 0 d in
     let pushed : AreWrittenSoFar path (octets ++ field_octets hop.call hop.done 3
-        (eqb (length front + 1) (repeater_count path))) (length front + 1) =
+    (eqb (length front + 1) (repeater_count path))) (length front + 1) =
     AreWrittenSoFar-push path octets (length front) hop.call hop.done valid.0 (λ d. ap (λ (x : Hop). x.call) (at d))
     (λ d. ap (λ (x : Hop). x.done) (at d)) h in
     subst (λ b. IsWrittenPath path (octets ++ field_octets hop.call hop.done 3 b))
@@ -58,7 +58,7 @@ fields_from path front (hop ∷ next ∷ hops) octets is few valid h =
     λ d. ap (λ xs. get_or xs (length front) d) is ∙ ap (λ n. get_or (front ++ hop ∷ next ∷ hops) n d) (sym none)
     ∙ get_or-append-add front (hop ∷ next ∷ hops) 0 d in
     let pushed : AreWrittenSoFar path (octets ++ field_octets hop.call hop.done 3
-        (eqb (length front + 1) (repeater_count path))) (length front + 1) =
+    (eqb (length front + 1) (repeater_count path))) (length front + 1) =
     AreWrittenSoFar-push path octets (length front) hop.call hop.done valid.0 (λ d. ap (λ (x : Hop). x.call) (at d))
     (λ d. ap (λ (x : Hop). x.done) (at d)) h in
     let one : AreWrittenSoFar path (octets ++ field_octets hop.call hop.done 3 false) (length front + 1) =
@@ -68,7 +68,7 @@ fields_from path front (hop ∷ next ∷ hops) octets is few valid h =
     subst (AreWrittenSoFar path (octets ++ field_octets hop.call hop.done 3 false))
     (sym (length-append front (hop ∷ []))) one in
     subst (IsWrittenPath path) (append_assoc octets (field_octets hop.call hop.done 3 false)
-        (repeater_fields (next ∷ hops)))
+    (repeater_fields (next ∷ hops)))
     (fields_from path (front ++ hop ∷ []) (next ∷ hops) (octets ++ field_octets hop.call hop.done 3 false)
     (is ∙ sym (append_assoc front (hop ∷ []) (next ∷ hops))) few valid.1 more)
 
@@ -77,10 +77,10 @@ path_written path good =
     subst (IsWrittenPath path)
     (append_assoc (field_octets path.dest (destination_bit path.role) 3 false)
     (field_octets path.source (source_bit path.role) 3 (eqb (repeater_count path) 0))
-        (repeater_fields path.repeaters.items))
+    (repeater_fields path.repeaters.items))
     (fields_from path [] path.repeaters.items
     (field_octets path.dest (destination_bit path.role) 3 false ++ field_octets path.source (source_bit path.role) 3
-        (eqb (repeater_count path) 0))
+    (eqb (repeater_count path) 0))
     refl good.few good.hops (AreWrittenSoFar-ends path good.dest good.source))
 
 -- a frame that is written begins with its path, and its body follows

@@ -1,12 +1,12 @@
 -- The changes of a world as the end sees them to which they happen, and acts of a station one after another.
-use Rattle.std.proofs.Common.{◌≡◌, ℕ, ◌+◌, Bool, List, [], ◌∷◌, ◌++◌, length, map, Option, Some, None, refl, sym, ap,
-    ◌∙◌, subst}
+use Rattle.std.proofs.Common.{◌≡◌, ℕ, ◌+◌, Bool, List, [], ◌∷◌, ◌++◌, length, map, Option, Some, None, refl, sym, ap}
+use Rattle.std.proofs.Common.{◌∙◌, subst}
 use Rattle.ax25_address.specs.declared.path.Path.{Path}
 use Rattle.std.specs.Bool.{⊤}
 use Rattle.link_machine.specs.Step.{step as link_turn}
 use Rattle.link_machine.specs.Event.{Event as LinkEvent}
-use Rattle.link_machine.specs.Event.Event.{Connect as LinkConnect, Send as LinkSend, Disconnect as LinkDisconnect,
-    Hear as LinkHear, Tick as LinkTick}
+use Rattle.link_machine.specs.Event.Event.{Connect as LinkConnect, Send as LinkSend, Disconnect as LinkDisconnect}
+use Rattle.link_machine.specs.Event.Event.{Hear as LinkHear, Tick as LinkTick}
 use Rattle.link_world.specs.declared.end.End.{End}
 use Rattle.link_world.specs.declared.end.End.TheVariants.{A, B}
 use Rattle.link_world.specs.Changes.{Change, changed, run_changes, near_made, near_kept}
@@ -15,8 +15,8 @@ use Rattle.link_world.specs.Flight.{Tagged}
 use Rattle.link_world.specs.World.{World, near_turn, seen_from, other, staying}
 use Rattle.station.specs.Turn.{Turn, Act, in_order}
 use Rattle.channel_bench.specs.HeardInOrder.{Pair}
-use Rattle.channel_bench.specs.LinkOfCalls.{Pairs, heard_at, marks_from, event_at_end, makes, changes_by,
-    all_changes_by, FollowsAll}
+use Rattle.channel_bench.specs.LinkOfCalls.{Pairs, heard_at, marks_from, event_at_end, makes, changes_by}
+use Rattle.channel_bench.specs.LinkOfCalls.{all_changes_by, FollowsAll}
 use Rattle.channel_bench.specs.LinkSteps.{LinkStep, steps_along}
 use Rattle.channel_bench.proofs.Acts.{Setting, Holds, ReadsFront, is_asking, asks_when_sent}
 
@@ -42,7 +42,7 @@ near_all-append e pairs n (step ∷ first) second w = near_all-append e pairs n 
 
 pub run_changes-append :
     (first second : List Change) (w : World) → run_changes w (first ++ second)
-        ≡ run_changes (run_changes w first) second
+    ≡ run_changes (run_changes w first) second
 run_changes-append [] second w = refl
 run_changes-append (change ∷ first) second w = run_changes-append first second (changed w change)
 
@@ -87,7 +87,7 @@ by_seen e pairs n step (Some path) w =
 pub changes_seen :
     (e : End) (pairs : Pairs) (n : ℕ) (steps : List LinkStep) (w : World)
     → seen_from e (run_changes w (all_changes_by e pairs n steps))
-        ≡ near_all e (heard_at (other e) pairs) n steps (seen_from e w)
+    ≡ near_all e (heard_at (other e) pairs) n steps (seen_from e w)
 changes_seen e pairs n [] w = refl
 changes_seen e pairs n (step ∷ steps) w =
     ap (seen_from e) (run_changes-append (changes_by e pairs n step) (all_changes_by e pairs n steps) w)
@@ -137,7 +137,7 @@ follow_seen e back pairs n (step ∷ steps) w h =
       record { machine = here.machine; told = here.told },
       follow_seen e back pairs n steps (run_changes w (changes_by e pairs n step))
           (subst (AllFollowNear e back (heard_at (other e) pairs) n steps) (sym (by_seen e pairs n step step.anew w))
-              h.1),
+          h.1),
     )
 
 -- ---- acts one after another
@@ -169,7 +169,7 @@ pub goes_along :
     {A : Type 0} (s : Setting) (e : End) (back : List Tagged) (act : A → Act) (found : A → Turn → List LinkStep)
     → ((item : A) (turn : Turn) → Goes s e back turn (found item turn) (act item turn))
     → (items : List A) (turn : Turn) → Goes s e back turn (steps_along act found items turn)
-        (in_order (map act items) turn)
+    (in_order (map act items) turn)
 goes_along s e back act found each [] turn w h = (h, tt)
 goes_along s e back act found each (item ∷ items) turn w h =
     goes_on s e back turn (act item turn) (in_order (map act items) (act item turn)) (found item turn)

@@ -1,6 +1,6 @@
 -- The events of a step in which no host program connects or disconnects.
-use Rattle.std.proofs.Common.{◌≡◌, ℕ, Bool, true, false, ◌==◌, List, [], ◌∷◌, ◌++◌, cond, Option, Some, None, sym,
-    subst}
+use Rattle.std.proofs.Common.{◌≡◌, ℕ, Bool, true, false, ◌==◌, List, [], ◌∷◌, ◌++◌, cond, Option, Some, None, sym}
+use Rattle.std.proofs.Common.{subst}
 use Rattle.std.specs.Prelude.{MatchBool}
 use Rattle.std.specs.List.{range_with_len, AllByRecursion as Each}
 use Rattle.std.proofs.lemmas.List.Elements.{recursion_from_All, All-from_recursion}
@@ -18,11 +18,11 @@ use Rattle.station.specs.declared.host_event.HostEvent.TheVariants.{Joined, Byte
 use Rattle.station.specs.declared.host_event.PortKind.{PortKind}
 use Rattle.station.specs.declared.host_event.PortKind.TheVariants.{Kiss, Agw}
 use Rattle.station.specs.AgwKinds.{data_kind, disconnect_kind}
-use Rattle.station.specs.AgwRequests.{IsCall, calls, called_route, own_key, giving_packet, packets_of, data_pid,
-    answering_else, AreAnswered}
+use Rattle.station.specs.AgwRequests.{IsCall, calls, called_route, own_key, giving_packet, packets_of, data_pid}
+use Rattle.station.specs.AgwRequests.{answering_else, AreAnswered}
 use Rattle.station.specs.Connections.{Connection, connection_of}
-use Rattle.station.specs.Heard.{IsHeardBy, IsHeardAnew, IsHeardMaking, IsReadingHeardAnew, IsRepeatedFor, AreHeardAt,
-    AreOctetsHeard, may_make, shown_to_hosts, waits_for_repeater}
+use Rattle.station.specs.Heard.{IsHeardBy, IsHeardAnew, IsHeardMaking, IsReadingHeardAnew, IsRepeatedFor, AreHeardAt}
+use Rattle.station.specs.Heard.{AreOctetsHeard, may_make, shown_to_hosts, waits_for_repeater}
 use Rattle.station.specs.Host.{new_messages, taking, AreTaken, AreTakenBy, IsHostTurn}
 use Rattle.station.specs.Links.{Link, link_at, key_between, most_links}
 use Rattle.station.specs.NewLinks.{making, no_layer_3}
@@ -32,10 +32,11 @@ use Rattle.station.specs.Turn.{Turn, Act, begin}
 use Rattle.channel_bench.specs.HostsAsk.{AsksNothing, OctetsAskBy, OctetsAskNothing, InputAsksNothing, HostsAskNothing}
 use Rattle.channel_bench.specs.JointRun.{Input, IsTurn}
 use Rattle.channel_bench.specs.JointRun.Input.{FromHost, OffAir, OfClock}
-use Rattle.channel_bench.specs.LinkSteps.{LinkStep, Choice, link_step, steps_for, steps_at, steps_along, ticks_at,
-    sends_at, data_steps, disconnect_steps, else_steps, answer_steps, message_steps, ending_steps, octet_steps_by,
-    octet_steps, host_steps, hears_at, new_steps, anew_steps, reading_steps, key_steps, path_steps, by_path_steps,
-    turn_steps, steps_of}
+use Rattle.channel_bench.specs.LinkSteps.{LinkStep, Choice, link_step, steps_for, steps_at, steps_along, ticks_at}
+use Rattle.channel_bench.specs.LinkSteps.{sends_at, data_steps, disconnect_steps, else_steps, answer_steps}
+use Rattle.channel_bench.specs.LinkSteps.{message_steps, ending_steps, octet_steps_by, octet_steps, host_steps}
+use Rattle.channel_bench.specs.LinkSteps.{hears_at, new_steps, anew_steps, reading_steps, key_steps, path_steps}
+use Rattle.channel_bench.specs.LinkSteps.{by_path_steps, turn_steps, steps_of}
 use Rattle.channel_bench.specs.MatchedLaw.{IsOfNoHost}
 
 abbrev OfNoHost : LinkStep → Type 0
@@ -58,7 +59,7 @@ event_asks chosen anew key event turn none = by_place (link_at key turn.now.link
 
 along_asks :
     {A : Type 0} (act : A → Act) (found : A → Turn → List LinkStep)
-        → ((item : A) (turn : Turn) → AllOfNone (found item turn))
+    → ((item : A) (turn : Turn) → AllOfNone (found item turn))
     → (items : List A) (turn : Turn) → AllOfNone (steps_along act found items turn)
 along_asks act found each [] turn = tt
 along_asks act found each (item ∷ items) turn =
@@ -83,13 +84,13 @@ else_asks chosen id message turn none = go (message.kind == data_kind)
     go true = data_asks chosen message (own_key id message turn.now.links) turn
     go false =
         subst (λ d. AllOfNone (cond d (disconnect_steps chosen (own_key id message turn.now.links) turn) [])) (sym none)
-            tt
+        tt
 
 answer_asks :
     (chosen : Choice) (id : ℕ) (message : AgwMessage) (calling : Bool) (before after : Turn) → calling ≡ false
     → (message.kind == disconnect_kind) ≡ false
     → (h : MatchBool calling (IsCall id message (called_route message) before after)
-        (after ≡ answering_else id message before))
+    (after ≡ answering_else id message before))
     → AllOfNone (answer_steps chosen id message calling before after h)
 answer_asks chosen id message true before after no_call none h = absurd (cc)
 answer_asks chosen id message false before after no_call none h = else_asks chosen id message before none
@@ -135,7 +136,7 @@ key_asks chosen key (Some frame) turn = event_asks chosen None key (LinkHear fra
 new_asks :
     (chosen : Choice) (id : ℕ) (frame : Frame) (may : Bool) (before after : Turn)
     → (h : MatchBool may (IsHeardMaking id frame before after) (after ≡ before))
-        → AllOfNone (new_steps chosen id frame may before after h)
+    → AllOfNone (new_steps chosen id frame may before after h)
 new_asks chosen id frame true before after h =
     event_asks chosen (Some (way_back frame.path Command)) h.0 (LinkHear frame)
     (making h.0 id no_layer_3 frame.path.dest frame.path.source (way_back frame.path Command) before) tt
@@ -143,7 +144,7 @@ new_asks chosen id frame false before after h = tt
 
 anew_asks :
     (chosen : Choice) (registered : Option ℕ) (frame : Frame) (before after : Turn)
-        → (h : IsHeardAnew registered frame before after)
+    → (h : IsHeardAnew registered frame before after)
     → AllOfNone (anew_steps chosen registered frame before after h)
 anew_asks chosen None frame before after h = tt
 anew_asks chosen (Some id) frame before after h = new_asks chosen id frame (may_make frame.kind before.now.links)
@@ -158,7 +159,7 @@ reading_asks chosen (Some frame) before after h =
 
 at_asks :
     (chosen : Choice) (key : Option ℕ) (octets : List ℕ) (before after : Turn)
-        → (h : AreHeardAt key octets before after)
+    → (h : AreHeardAt key octets before after)
     → AllOfNone (key_steps chosen key octets before after h)
 at_asks chosen (Some key) octets before after h = key_asks chosen key h.0 before
 at_asks chosen None octets before after h = reading_asks chosen h.0 before after h.2
@@ -166,7 +167,7 @@ at_asks chosen None octets before after h = reading_asks chosen h.0 before after
 path_asks :
     (chosen : Choice) (path : Path) (waiting : Bool) (octets : List ℕ) (before after : Turn)
     → (h : MatchBool waiting (IsRepeatedFor before.now.digi octets before after)
-        (AreOctetsHeard path octets before after))
+    (AreOctetsHeard path octets before after))
     → AllOfNone (path_steps chosen path waiting octets before after h)
 path_asks chosen path true octets before after h = tt
 path_asks chosen path false octets before after h =
@@ -174,7 +175,7 @@ path_asks chosen path false octets before after h =
 
 by_path_asks :
     (chosen : Choice) (path : Option Path) (octets : List ℕ) (before after : Turn)
-        → (h : IsHeardBy path octets before after)
+    → (h : IsHeardBy path octets before after)
     → AllOfNone (by_path_steps chosen path octets before after h)
 by_path_asks chosen None octets before after h = tt
 by_path_asks chosen (Some path) octets before after h =
@@ -192,7 +193,7 @@ host_asks chosen (Left id) before after none h = absurd none
 
 turn_asks :
     (chosen : Choice) (input : Input) (before after : Turn) (turn : IsTurn input before after)
-        → InputAsksNothing input before.now
+    → InputAsksNothing input before.now
     → AllOfNone (turn_steps chosen input before after turn)
 turn_asks chosen (FromHost event) before after turn none = host_asks chosen event before after none turn
 turn_asks chosen (OffAir octets) before after turn none =
@@ -200,7 +201,7 @@ turn_asks chosen (OffAir octets) before after turn none =
 turn_asks chosen (OfClock busy) before after turn none =
     along_asks ticking_at (ticks_at chosen)
     (λ key t. event_asks chosen None key (LinkTick (waits key t.now.channel.waiting)) t tt)
-        (range_with_len 0 most_links) before
+    (range_with_len 0 most_links) before
 
 pub hosts_ask_nothing_holds : HostsAskNothing
 hosts_ask_nothing_holds chosen step none =

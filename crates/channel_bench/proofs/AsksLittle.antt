@@ -1,6 +1,6 @@
 -- A link that is not up sends at most one frame by a connect or a tick, and none by a packet or a disconnect.
-use Rattle.std.proofs.Common.{◌≡◌, ℕ, zero, suc, ◌≤◌, Bool, true, false, List, [], ◌∷◌, ◌++◌, length, drop, cond,
-    Option, Some, None, is_some, refl, sym, ap, ◌∙◌, subst, arith}
+use Rattle.std.proofs.Common.{◌≡◌, ℕ, zero, suc, ◌≤◌, Bool, true, false, List, [], ◌∷◌, ◌++◌, length, drop, cond}
+use Rattle.std.proofs.Common.{Option, Some, None, is_some, refl, sym, ap, ◌∙◌, subst, arith}
 use Rattle.std.specs.Bool.{⊤}
 use Rattle.std.specs.List.{list_any}
 use Rattle.std.proofs.lemmas.Bool.{or_parts}
@@ -17,8 +17,8 @@ use Rattle.link_machine.specs.Machine.{Machine}
 use Rattle.link_machine.specs.Sent.{SentIn}
 use Rattle.link_machine.specs.Sent.Sent.{SetupSent}
 use Rattle.link_machine.specs.Step.{refusal_of, row, settle_in, settled, step}
-use Rattle.link_machine.specs.Ticks.{is_spent, lowered, retried, runs_out, t1_out, t2_out, t3_out, tick_in, tick_t1,
-    tick_t1_of, tick_t2, tick_t2_of, tick_t3_of, with_t1, with_t2, with_t3}
+use Rattle.link_machine.specs.Ticks.{is_spent, lowered, retried, runs_out, t1_out, t2_out, t3_out, tick_in, tick_t1}
+use Rattle.link_machine.specs.Ticks.{tick_t1_of, tick_t2, tick_t2_of, tick_t3_of, with_t1, with_t2, with_t3}
 use Rattle.link_machine.specs.Turn.{Turn, begin, in_order, sending, setting}
 use Rattle.channel_bench.specs.LinkSteps.{LinkStep}
 use Rattle.channel_bench.specs.MatchedLaw.{AsksInRoom, DropsNoAsk, FindsRoom}

@@ -1,8 +1,8 @@
 -- The frames of a step, if each SABM, SABME and DISC of them finds a quiet channel: at most one is such a frame, and
 -- then
 -- nothing of the kind is in flight.
-use Rattle.std.proofs.Common.{◌≡◌, ℕ, ◌+◌, ◌≤◌, Bool, true, false, not, ◌||◌, List, [], ◌∷◌, length, ◌⊎◌, refl, ap, ◌∙◌,
-    arith, inl, inr}
+use Rattle.std.proofs.Common.{◌≡◌, ℕ, ◌+◌, ◌≤◌, Bool, true, false, not, ◌||◌, List, [], ◌∷◌, length, ◌⊎◌, refl, ap, ◌∙◌}
+use Rattle.std.proofs.Common.{arith, inl, inr}
 use Rattle.std.specs.Bool.{⊤}
 use Rattle.std.specs.List.{count_by, list_any}
 use Rattle.std.proofs.lemmas.Bool.{or_cases, or_parts, not-true, both_ways}
@@ -10,8 +10,8 @@ use Rattle.std.proofs.lemmas.List.{drop-append-le, length-append}
 use Rattle.link_world.specs.declared.end.End.{End}
 use Rattle.link_world.specs.declared.end.End.TheVariants.{A, B}
 use Rattle.link_world.specs.World.{other}
-use Rattle.channel_bench.specs.InFlight.{LinkFrame, OneWay, BothWays, sent_by, with_queued, in_flight, asks, answers,
-    is_ask, is_quiet_for, queueing_at, AreQuietAt}
+use Rattle.channel_bench.specs.InFlight.{LinkFrame, OneWay, BothWays, sent_by, with_queued, in_flight, asks, answers}
+use Rattle.channel_bench.specs.InFlight.{is_ask, is_quiet_for, queueing_at, AreQuietAt}
 use Rattle.channel_bench.proofs.Counts.{one, count_cons, count_append, count_none}
 use Rattle.channel_bench.proofs.Framed.{one_framed, framed}
 
@@ -76,6 +76,6 @@ bench_quiet on (octets ∷ queue) own back low quiet =
     let next = with_queued f own in
     let size = length-append own.queued (f ∷ []) in
     by_test (is_ask octets) octets (count_by asks (framed on queue)) (count_by asks (framed on (octets ∷ queue)))
-        own next back refl
+    own next back refl
     quiet.0 (count_cons asks f (framed on queue)) (more_flying f own low)
     (bench_quiet on queue next back (omega arith) quiet.1)

@@ -1,7 +1,7 @@
 -- In a run of the bench each host program sees the set-ups of its link, and gives only while the link is up: part by
 -- part.
-use Rattle.std.proofs.Common.{◌≡◌, ℕ, zero, suc, ◌==◌, ◌&&◌, not, Bool, true, false, List, [], ◌∷◌, ◌++◌, length,
-    replicate, Option, Some, None, is_some, refl, sym, ap, ◌∙◌, subst}
+use Rattle.std.proofs.Common.{◌≡◌, ℕ, zero, suc, ◌==◌, ◌&&◌, not, Bool, true, false, List, [], ◌∷◌, ◌++◌, length}
+use Rattle.std.proofs.Common.{replicate, Option, Some, None, is_some, refl, sym, ap, ◌∙◌, subst}
 use Rattle.std.specs.Prelude.{MatchBool}
 use Rattle.std.specs.List.{AllByRecursion as Each}
 use Rattle.std.specs.Option.{option_to_list}
@@ -16,15 +16,15 @@ use Rattle.station.specs.State.{StationState}
 use Rattle.channel_bench.specs.declared.report.SetUp.{SetUp}
 use Rattle.channel_bench.specs.declared.words.BenchWords.{BenchWords}
 use Rattle.channel_bench.specs.BenchOrder.{IsNoted, stations_of, the_calls}
-use Rattle.channel_bench.specs.BenchState.{AtEnd, BenchState, Near, SideState, near, new_bench, new_side, side_at,
-    with_near}
-use Rattle.channel_bench.specs.BenchSteps.{AreHeardAt, GoesOn, IsHeardAs, IsHeardAt, IsStep, IsTicking, match_of,
-    with_matched, with_stray}
-use Rattle.channel_bench.specs.BenchTick.{AcceptsProgram, IsAsked, IsAskedOrCalled, IsCalled, IsGiven, IsGivenPiece,
-    IsListening, is_complete, with_asking, with_calling, with_giving}
+use Rattle.channel_bench.specs.BenchState.{AtEnd, BenchState, Near, SideState, near, new_bench, new_side, side_at}
+use Rattle.channel_bench.specs.BenchState.{with_near}
+use Rattle.channel_bench.specs.BenchSteps.{AreHeardAt, GoesOn, IsHeardAs, IsHeardAt, IsStep, IsTicking, match_of}
+use Rattle.channel_bench.specs.BenchSteps.{with_matched, with_stray}
+use Rattle.channel_bench.specs.BenchTick.{AcceptsProgram, IsAsked, IsAskedOrCalled, IsCalled, IsGiven, IsGivenPiece}
+use Rattle.channel_bench.specs.BenchTick.{IsListening, is_complete, with_asking, with_calling, with_giving}
 use Rattle.channel_bench.specs.HostProgram.{ProgramState, has_all, has_all_in, next_piece}
-use Rattle.channel_bench.specs.InFlight.{AreMatched, BothWays, LinkFrame, Moment, after_moment, after_moments,
-    nothing_sent, sent_by, steps_in}
+use Rattle.channel_bench.specs.InFlight.{AreMatched, BothWays, LinkFrame, Moment, after_moment, after_moments}
+use Rattle.channel_bench.specs.InFlight.{nothing_sent, sent_by, steps_in}
 use Rattle.channel_bench.specs.InFlight.Moment.{Passes, Steps}
 use Rattle.channel_bench.specs.JointRun.{Step, Stations, state_of, with_state}
 use Rattle.channel_bench.specs.LinkSteps.{LinkStep}
@@ -151,7 +151,7 @@ holds_of :
     → IsNoted w n.common.moments (with_state e n.side.station (stations_of bench))
     → AskLittle n.common.moments (with_state e n.side.station (stations_of bench))
     → (Premises n.common.moments → BothSee w e n.side (side_at (other e) bench) n.common.moments)
-        → HoldsNear w bench e n
+    → HoldsNear w bench e n
 holds_of w bench A n noted little both = record {
   noted = noted;
   little = little;
@@ -214,7 +214,7 @@ near_holds w bench e usual matched before after occurs h calm holds ready =
     stepped_holds w bench e usual matched before after occurs h calm holds
     (λ known later old.
     step_sees w e usual matched before after (side_at (other e) bench)
-        (with_state e before.side.station (stations_of bench))
+    (with_state e before.side.station (stations_of bench))
     occurs h (state_now e before.side.station (stations_of bench)) known later (both_of w bench e before holds old)
     (ready old))
 
@@ -367,11 +367,11 @@ reprogrammed w bench next moments a b there_a there_b stream_a stream_b ended_a 
           (subst (AskLittle bench.common.moments) (sym stations) h.little);
       sees_a = λ p. subst (SeesAt w A next.a) (sym moments)
           (resees w A bench.a next.a (links_of A bench.common.moments) (queue_of A bench.common.moments)
-              a there_a stream_a
+          a there_a stream_a
           ended_a running_a calls_a (h.sees_a (subst Premises moments p)));
       sees_b = λ p. subst (SeesAt w B next.b) (sym moments)
           (resees w B bench.b next.b (links_of B bench.common.moments) (queue_of B bench.common.moments)
-              b there_b stream_b
+          b there_b stream_b
           ended_b running_b calls_b (h.sees_b (subst Premises moments p)));
     }
 
@@ -380,21 +380,22 @@ complete_ready : (w : BenchWords) (bench : BenchState) → is_complete w bench �
     → GaveAll w.octets bench.a.program × (is_some bench.a.program.running ≡ true)
 complete_ready w bench is =
     let both = and_parts (not bench.a.program.asked) (has_all w.octets bench.a.program
-        && has_all w.octets bench.b.program) is in
+    && has_all w.octets bench.b.program) is in
     go bench.a.program.running (and_parts (has_all w.octets bench.a.program) (has_all w.octets bench.b.program)
-        both.1).0
+    both.1).0
   where
     go : (o : Option SetUp) → has_all_in w.octets o ≡ true → GaveAllIn w.octets o × (is_some o ≡ true)
     go None h = absurd (cc)
-    go (Some q) h =
-        (eqb-true (length q.given) w.octets (and_parts (length q.given == w.octets) (length q.got == w.octets) h).0,
-            refl)
+    go (Some q) h = (
+      eqb-true (length q.given) w.octets (and_parts (length q.given == w.octets) (length q.got == w.octets) h).0,
+      refl,
+    )
 
 asked_holds :
     (w : BenchWords) (complete calls : Bool) (before after : BenchState) → is_complete w before ≡ complete
     → before.a.program.calls ≡ calls
     → MatchBool complete (IsAsked before after) (MatchBool calls (IsCalled before after) (after ≡ before))
-        → IsCalm after
+    → IsCalm after
     → Holds w before → Holds w after
 asked_holds w true calls before after is calls_is h calm holds =
     let bench = with_asking before in
@@ -408,7 +409,7 @@ asked_holds w false true before after is calls_is h calm holds =
     (λ next step c kept. near_holds w bench A connects None (near A bench) next tt step c kept
     (λ p. (refl, (holds.sees_a p).calls calls_is))) h calm
     (reprogrammed w before bench refl refl refl refl refl refl refl refl refl (λ x. absurd (cc)) refl refl (λ x. x)
-        holds)
+    holds)
 asked_holds w false false before after is calls_is h calm holds = subst (Holds w) (sym h) holds
 
 pub asks_or_calls_holds : (w : BenchWords) (before after : BenchState) → IsAskedOrCalled w before after → IsCalm after

@@ -14,8 +14,8 @@ use Rattle.station.specs.State.{StationState}
 use Rattle.channel_bench.specs.CallerLaw.{BAsksNothing, DroppedNothing, CallerLaw}
 use Rattle.channel_bench.specs.HostsAsk.{InputAsksNothing}
 use Rattle.channel_bench.specs.InFlight.{steps_in}
-use Rattle.channel_bench.specs.JointRun.{Step, Stations, new_stations, state_of, with_state, stepped, IsJointRun,
-    all_stepped}
+use Rattle.channel_bench.specs.JointRun.{Step, Stations, new_stations, state_of, with_state, stepped, IsJointRun}
+use Rattle.channel_bench.specs.JointRun.{all_stepped}
 use Rattle.channel_bench.specs.LinkOfCalls.{Calls, link_at_end}
 use Rattle.channel_bench.specs.LinkSteps.{LinkStep, steps_of}
 use Rattle.channel_bench.specs.MatchedLaw.{DropsNoAsk, FindsRoom, IsOfNoHost, IsEventOfCaller, OnlyACalls}
@@ -36,7 +36,7 @@ before_zero B state s h none_lost = record { a = h.a; b = none_lost }
 
 pub events_by :
     (e : End) (calls : Calls) (step : Step) → step.station ≡ e
-        → (step.station ≡ B → InputAsksNothing step.input step.before)
+    → (step.station ≡ B → InputAsksNothing step.input step.before)
     → Each (AsksFindRoomAt e) (steps_of (link_at_end calls e) step)
     → Each (IsEventOfCaller e) (steps_of (link_at_end calls e) step)
 events_by A calls step station asks room = room
@@ -66,7 +66,7 @@ caller_holds calls [] st run none_lost asks = record { only = tt; before = none_
 caller_holds calls (step ∷ steps) st run none_lost asks =
     let e = step.station in
     let rest : CallerHolds calls steps (stepped step st) =
-        caller_holds calls steps (stepped step st) run.1 none_lost asks.1 in
+    caller_holds calls steps (stepped step st) run.1 none_lost asks.1 in
     let done : DropsNothing (link_at_end calls e) step =
     drops_nothing (link_at_end calls e) step (after_zero e step.after.now st rest.before) in
     record {

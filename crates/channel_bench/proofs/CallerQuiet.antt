@@ -19,8 +19,8 @@ use Rattle.channel_bench.proofs.Along.{AllFollowNear, FollowsNear, makes_near, n
 use Rattle.channel_bench.proofs.Counts.{count_append}
 use Rattle.channel_bench.proofs.EndSends.{Makes, Takes, end_makes, takes}
 use Rattle.channel_bench.proofs.Exchanges.{AsksIn, AsksOut, out_made, out_moves}
-use Rattle.channel_bench.proofs.NearQuiet.{AllQuietNear, QuietNear, SendsAlone, alone, joined_near, one_quiet,
-    sent_near, towards_by}
+use Rattle.channel_bench.proofs.NearQuiet.{AllQuietNear, QuietNear, SendsAlone, alone, joined_near, one_quiet}
+use Rattle.channel_bench.proofs.NearQuiet.{sent_near, towards_by}
 
 -- ---- one event
 

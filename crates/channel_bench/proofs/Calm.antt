@@ -1,8 +1,8 @@
 -- A link that no host of its own connects or disconnects sends no SABM, SABME or DISC, if it hears no invalid N(R) and
 -- no
 -- FRMR: it is idle or up, and stays so.
-use Rattle.std.proofs.Common.{◌≡◌, ℕ, ◌==◌, Bool, true, false, ◌&&◌, [], ◌∷◌, length, cond, Option, Some, None, is_some,
-    refl, sym, ap, ◌∙◌, subst}
+use Rattle.std.proofs.Common.{◌≡◌, ℕ, ◌==◌, Bool, true, false, ◌&&◌, [], ◌∷◌, length, cond, Option, Some, None, is_some}
+use Rattle.std.proofs.Common.{refl, sym, ap, ◌∙◌, subst}
 use Rattle.std.specs.Bool.{⊤}
 use Rattle.std.specs.List.{list_any}
 use Rattle.std.proofs.lemmas.Bool.{or_from, cond-true}
@@ -18,24 +18,24 @@ use Rattle.link_machine.specs.declared.acts.Told.TheVariants.{Ended}
 use Rattle.link_machine.specs.declared.acts.Why.TheVariants.{Failed}
 use Rattle.link_machine.specs.Acts.{poll, flush, close, release, settle}
 use Rattle.link_machine.specs.Event.{Event as LinkEvent}
-use Rattle.link_machine.specs.Event.Event.{Connect as LinkConnect, Send as LinkSend, Disconnect as LinkDisconnect,
-    Hear as LinkHear, Tick as LinkTick}
+use Rattle.link_machine.specs.Event.Event.{Connect as LinkConnect, Send as LinkSend, Disconnect as LinkDisconnect}
+use Rattle.link_machine.specs.Event.Event.{Hear as LinkHear, Tick as LinkTick}
 use Rattle.link_machine.specs.Frames.{answer_ua, answer_dm, leave, open_called, hear_idle, hear_up, hear_in}
 use Rattle.link_machine.specs.declared.control.Control.{Control}
 use Rattle.link_machine.specs.Machine.{Machine, named, is_valid}
 use Rattle.link_machine.specs.Sent.{Sent, sent_in}
 use Rattle.link_machine.specs.Sent.Sent.{SetupSent}
 use Rattle.link_machine.specs.Step.{refusal_of, row, settle_in, settled, step}
-use Rattle.link_machine.specs.Ticks.{runs_out, lowered, with_t1, retried, is_spent, poll_again, t1_out, tick_t1_of,
-    tick_t1, tick_in}
+use Rattle.link_machine.specs.Ticks.{runs_out, lowered, with_t1, retried, is_spent, poll_again, t1_out, tick_t1_of}
+use Rattle.link_machine.specs.Ticks.{tick_t1, tick_in}
 use Rattle.link_machine.specs.Turn.{Turn, Act, begin, setting, sending, telling, nothing, in_order}
 use Rattle.link_world.specs.Law.{names_valid}
 use Rattle.channel_bench.specs.MatchedLaw.{IsOfNoHost}
 use Rattle.channel_bench.proofs.Acts.{asks_when_sent}
 use Rattle.channel_bench.proofs.LinkKinds.{IsLinkKind}
 use Rattle.channel_bench.proofs.Sends.{none_ask}
-use Rattle.channel_bench.proofs.StillActs.{Still, any_append, flush_still, info_still, poll_more_still, still_none,
-    supervisory_still, tick_t2_still, tick_t3_still}
+use Rattle.channel_bench.proofs.StillActs.{Still, any_append, flush_still, info_still, poll_more_still, still_none}
+use Rattle.channel_bench.proofs.StillActs.{supervisory_still, tick_t2_still, tick_t3_still}
 
 -- ---- what stays
 
@@ -165,7 +165,7 @@ tick_t1_keeps waiting turn h = go turn.now.control.t1 waiting
     go (Some left) true = h
     go (Some left) false =
         either_keeps (runs_out left) (λ t. t1_out turn.now.control.state (setting (with_t1 None) t))
-            (setting (with_t1 (lowered left)))
+        (setting (with_t1 (lowered left)))
         (λ t k. t1_keeps turn.now.control.state h.control.state (setting (with_t1 None) t) (timed_calm None t k))
         (timed_calm (lowered left)) turn h
 
@@ -201,7 +201,7 @@ settled_keeps turn h = go turn.now.control.state
 heard_keeps :
     (command : Bool) (kind : Kind) (turn : Turn) (state : LinkState) → turn.now.control.state ≡ state → IsLinkKind kind
     → (turn.now.control.state ≡ Up → names_valid turn.now kind ≡ true) → CalmTurn turn
-        → CalmTurn (hear_in state command kind turn)
+    → CalmTurn (hear_in state command kind turn)
 heard_keeps command kind turn Idle is link valid h = idle_keeps command kind turn h
 heard_keeps command kind turn Calling is link valid h = absurd (subst IsCalmState is h.control.state)
 heard_keeps command kind turn Up is link valid h = up_keeps command kind turn link (valid is) h
@@ -214,7 +214,7 @@ row_keeps m (LinkSend packet) host valid calm = record { control = calm; asked =
 row_keeps m LinkDisconnect host valid calm = absurd host
 row_keeps m (LinkHear frame) host valid calm =
     heard_keeps (is_command_of frame.path.role frame.kind) frame.kind (begin m) m.control.state refl valid.0 valid.1
-        (begins_calm m calm)
+    (begins_calm m calm)
 row_keeps m (LinkTick waiting) host valid calm =
     tick_keeps m.control.state waiting calm.state (begin m) (begins_calm m calm)
 

@@ -1,16 +1,16 @@
 -- A step of the station whose hosts never connect nor disconnect: its end stays idle or up, and sends nothing that
 -- asks. None of its own asks is in flight and no answer to one, so each event finds a quiet channel, and by the law no
 -- N(R) is invalid, for which it would call.
-use Rattle.std.proofs.Common.{◌≡◌, ℕ, ◌+◌, Bool, true, List, [], ◌∷◌, ◌++◌, Option, Some, None, refl, sym, ap, ◌∙◌,
-    subst}
+use Rattle.std.proofs.Common.{◌≡◌, ℕ, ◌+◌, Bool, true, List, [], ◌∷◌, ◌++◌, Option, Some, None, refl, sym, ap, ◌∙◌}
+use Rattle.std.proofs.Common.{subst}
 use Rattle.std.specs.List.{AllByRecursion as Each}
 use Rattle.std.proofs.lemmas.List.{append_assoc}
 use Rattle.ax25_address.specs.declared.path.Path.{Path}
 use Rattle.link_machine.specs.declared.state.LinkState.{LinkState}
 use Rattle.link_machine.specs.declared.state.LinkState.TheVariants.{Idle, Calling, Up, Releasing}
 use Rattle.link_machine.specs.Event.{Event as LinkEvent}
-use Rattle.link_machine.specs.Event.Event.{Connect as LinkConnect, Send as LinkSend, Disconnect as LinkDisconnect,
-    Hear as LinkHear, Tick as LinkTick}
+use Rattle.link_machine.specs.Event.Event.{Connect as LinkConnect, Send as LinkSend, Disconnect as LinkDisconnect}
+use Rattle.link_machine.specs.Event.Event.{Hear as LinkHear, Tick as LinkTick}
 use Rattle.link_machine.specs.Machine.{Machine}
 use Rattle.link_world.specs.declared.end.End.TheVariants.{B}
 use Rattle.link_world.specs.Changes.{Change, changed, run_changes, made_in, AreQuiet, hears_valid_in, ChangesAreValid}
@@ -23,8 +23,8 @@ use Rattle.channel_bench.specs.LinkOfCalls.{Pairs, makes, marks_from, event_at_e
 use Rattle.channel_bench.specs.LinkSteps.{LinkStep}
 use Rattle.channel_bench.specs.MatchedLaw.{IsOfNoHost}
 use Rattle.channel_bench.proofs.Acts.{ReadsFront}
-use Rattle.channel_bench.proofs.Along.{makes_near, near_by, AllFollowNear, FollowsNear, by_seen, makes_seen,
-    run_changes-append}
+use Rattle.channel_bench.proofs.Along.{makes_near, near_by, AllFollowNear, FollowsNear, by_seen, makes_seen}
+use Rattle.channel_bench.proofs.Along.{run_changes-append}
 use Rattle.channel_bench.proofs.Calm.{IsCalmState, IsCalm, HearsValid, StaysCalm, calm_step}
 use Rattle.channel_bench.proofs.CallerQuiet.{quiet_in}
 use Rattle.channel_bench.proofs.Exchanges.{AsksIn, AsksOut, in_made, in_moves}

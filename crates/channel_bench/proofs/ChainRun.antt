@@ -2,8 +2,8 @@
 -- one
 -- before it left. If only A calls and no N(R) is invalid, A hears no SABM, SABME or DISC, and no frame that resets its
 -- link.
-use Rattle.std.proofs.Common.{◌≡◌, ℕ, ◌+◌, Bool, true, false, List, [], ◌∷◌, ◌++◌, length, take, Option, Some, None,
-    refl, sym, ap, ◌∙◌, subst, arith}
+use Rattle.std.proofs.Common.{◌≡◌, ℕ, ◌+◌, Bool, true, false, List, [], ◌∷◌, ◌++◌, length, take, Option, Some, None}
+use Rattle.std.proofs.Common.{refl, sym, ap, ◌∙◌, subst, arith}
 use Rattle.std.specs.Bool.{⊤}
 use Rattle.std.specs.Prelude.{slice_get}
 use Rattle.std.specs.List.{AllByRecursion as Each}
@@ -14,8 +14,8 @@ use Rattle.link_machine.specs.declared.params.Params.{Params}
 use Rattle.link_machine.specs.declared.state.LinkState.{LinkState}
 use Rattle.link_machine.specs.declared.state.LinkState.TheVariants.{Idle, Calling, Up, Releasing}
 use Rattle.link_machine.specs.Event.{Event as LinkEvent}
-use Rattle.link_machine.specs.Event.Event.{Connect as LinkConnect, Send as LinkSend, Disconnect as LinkDisconnect,
-    Hear as LinkHear, Tick as LinkTick}
+use Rattle.link_machine.specs.Event.Event.{Connect as LinkConnect, Send as LinkSend, Disconnect as LinkDisconnect}
+use Rattle.link_machine.specs.Event.Event.{Hear as LinkHear, Tick as LinkTick}
 use Rattle.link_machine.specs.Machine.{Machine, modulus_named}
 use Rattle.link_machine.specs.Step.{step as link_turn}
 use Rattle.link_world.specs.declared.end.End.{End}
@@ -31,17 +31,18 @@ use Rattle.station.specs.declared.config.Config.{Config}
 use Rattle.channel_bench.specs.HeardInOrder.{AreHeardInOrder, Pair}
 use Rattle.channel_bench.specs.InFlight.{hears_ask}
 use Rattle.channel_bench.specs.JointRun.{Step, Stations, IsJointRun, at_end, new_stations, stepped}
-use Rattle.channel_bench.specs.LinkOfCalls.{Calls, Counts, Pairs, all_changes_by, changes_by, changes_from, count_at,
-    event_at_end, first_world, heard_at, link_at_end, makes, marks_from, with_more}
+use Rattle.channel_bench.specs.LinkOfCalls.{Calls, Counts, Pairs, all_changes_by, changes_by, changes_from, count_at}
+use Rattle.channel_bench.specs.LinkOfCalls.{event_at_end, first_world, heard_at, link_at_end, makes, marks_from}
+use Rattle.channel_bench.specs.LinkOfCalls.{with_more}
 use Rattle.channel_bench.specs.LinkSteps.{LinkStep, steps_of}
 use Rattle.channel_bench.specs.MatchedLaw.{IsOfNoHost}
 use Rattle.channel_bench.specs.SetUpsSeen.{link_steps_at}
 use Rattle.channel_bench.proofs.Acts.{ReadsFront, is_asking}
-use Rattle.channel_bench.proofs.Along.{AllFollowNear, FollowsNear, by_seen, changes_seen, makes_near, makes_seen,
-    near_all, near_by, run_changes-append}
+use Rattle.channel_bench.proofs.Along.{AllFollowNear, FollowsNear, by_seen, changes_seen, makes_near, makes_seen}
+use Rattle.channel_bench.proofs.Along.{near_all, near_by, run_changes-append}
 use Rattle.channel_bench.proofs.Calm.{HearsValid, IsCalm, StaysCalm, calm_step}
-use Rattle.channel_bench.proofs.Chains.{HearsWell, IsChain, OfLink, chain_append, last_append, last_machine, made_by,
-    made_of}
+use Rattle.channel_bench.proofs.Chains.{HearsWell, IsChain, OfLink, chain_append, last_append, last_machine, made_by}
+use Rattle.channel_bench.proofs.Chains.{made_of}
 use Rattle.channel_bench.proofs.Counts.{count_cons, count_take, one}
 use Rattle.channel_bench.proofs.Framed.{framed, frames_at, frames_more}
 use Rattle.channel_bench.proofs.JointLaw.{StepDone, count_a, count_b, get_seam, new_sent, new_side, step_done}
@@ -176,7 +177,7 @@ valid_last w (next ∷ first) change valid = valid_last (changed w next) first c
 
 valid_seen :
     (e : End) (event : LinkEvent) (ms : List Bool) (w : World)
-        → hears_valid_in (Keeps (event_at_end e event) ms) w ≡ true
+    → hears_valid_in (Keeps (event_at_end e event) ms) w ≡ true
     → hears_valid (event_at_end e event) (seen_from e w) ≡ true
 valid_seen e LinkConnect ms w valid = valid
 valid_seen e (LinkSend packet) ms w valid = valid
@@ -186,7 +187,7 @@ valid_seen e (LinkTick waiting) ms w valid = valid
 
 valid_near :
     (e : End) (pairs : Pairs) (n : ℕ) (steps : List LinkStep) (w : World)
-        → ChangesAreValid w (all_changes_by e pairs n steps)
+    → ChangesAreValid w (all_changes_by e pairs n steps)
     → AllValidNear e (heard_at (other e) pairs) n steps (seen_from e w)
 valid_near e pairs n [] w h = tt
 valid_near e pairs n (step ∷ steps) w h =
@@ -230,10 +231,10 @@ no_ask (LinkSend packet) x reads none ask = ask
 no_ask LinkDisconnect x reads none ask = ask
 no_ask (LinkHear frame) x reads none ask =
     let front : asks reads.front.frame.kind ≡ false = first_asks reads.front reads.rest (ap asks_in (sym reads.towards)
-        ∙ none) in
+    ∙ none) in
     let read : asks reads.as_read.kind ≡ false =
     frame_test asks (λ ns nr poll pid octets. refl) (modulus_named reads.front.modulus)
-        (modulus_named x.a.end.machine.incoming.modulus) reads.front.frame
+    (modulus_named x.a.end.machine.incoming.modulus) reads.front.frame
     reads.as_read reads.reading front in
     not_both (asks frame.kind) ask (ap asks (sym reads.kind) ∙ read)
 no_ask (LinkTick waiting) x reads none ask = ask
@@ -318,10 +319,10 @@ record StepWell (calls : Calls) (pairs : Pairs) (counts : Counts) (w : World) (s
   well : Each HearsWell (at_end A e (steps_of (link_at_end calls e) step))
   calm :
       IsCalm (run_changes w (all_changes_by e pairs (count_at e counts)
-          (steps_of (link_at_end calls e) step))).b.end.machine.control
+      (steps_of (link_at_end calls e) step))).b.end.machine.control
   none :
       asks_in (run_changes w (all_changes_by e pairs (count_at e counts)
-          (steps_of (link_at_end calls e) step))).a.towards ≡ 0
+      (steps_of (link_at_end calls e) step))).a.towards ≡ 0
 
 step_well :
     (calls : Calls) (pairs : Pairs) (counts : Counts) (w : World) (step : Step) (e : End) (back : List Tagged)
@@ -377,12 +378,12 @@ pub record RunChain (calls : Calls) (pairs : Pairs) (counts : Counts) (w : World
   -- and if nothing asks
   pub well :
       ChangesAreValid w (changes_from calls pairs counts steps) → BIsPassive calls steps
-          → IsCalm w.b.end.machine.control
+      → IsCalm w.b.end.machine.control
       → asks_in w.a.towards ≡ 0 → Each HearsWell (link_steps_at calls A steps)
 
 run_chain :
     (calls : Calls) (pairs : Pairs) (a b : Params) (full past rest : List Step) (st : Stations) (counts : Counts)
-        (w : World)
+    (w : World)
     → full ≡ past ++ rest → IsJointRun st rest
     → counts.a ≡ length (frames_at A past) → counts.b ≡ length (frames_at B past)
     → AreHeardInOrder A full pairs.at_a → AreHeardInOrder B full pairs.at_b
@@ -412,12 +413,12 @@ run_chain calls pairs a b full past (step ∷ rest) st counts w is run ca cb hea
     let others_a = link_steps_at calls A rest in
     let others_b = link_steps_at calls B rest in
     let at : slice_get full (length past) ≡ Some step = ap (λ xs. slice_get xs (length past)) is
-        ∙ get_seam past step rest in
+    ∙ get_seam past step rest in
     let taken : take (length past) full ≡ past = ap (take (length past)) is ∙ take-append_seam past (step ∷ rest) in
     let one : StepDone calls pairs a b (length past) st past counts w step e =
     step_done calls pairs a b (length past) st past full counts w step e h refl run.0 at taken ca cb heard_a heard_b in
     let between : Between calls.a calls.b a b (length longer) (stepped step st).a (stepped step st).b
-        (frames_at A longer)
+    (frames_at A longer)
     (frames_at B longer) pairs.at_b pairs.at_a next =
     subst (λ n. Between calls.a calls.b a b n (stepped step st).a (stepped step st).b (frames_at A longer)
     (frames_at B longer) pairs.at_b pairs.at_a next) (sym (length-append past (step ∷ [])))
@@ -425,7 +426,7 @@ run_chain calls pairs a b full past (step ∷ rest) st counts w is run ca cb hea
     (frames_at B longer) pairs.at_b pairs.at_a next) (sym (frames_more A past step))
     (subst (λ q. Between calls.a calls.b a b (length past + 1) (stepped step st).a (stepped step st).b
     (frames_at A past ++ at_end A e (framed on queued)) q pairs.at_b pairs.at_a next) (sym (frames_more B past step))
-        one.between)) in
+    one.between)) in
     let others : RunChain calls pairs more next rest =
     run_chain calls pairs a b full longer rest (stepped step st) more next
     (is ∙ sym (append_assoc past (step ∷ []) rest)) run.1

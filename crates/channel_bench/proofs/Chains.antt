@@ -1,8 +1,8 @@
 -- The events of a link at a station, each with the machine that the event before it left: what they tell, and how the
 -- link
 -- stands then.
-use Rattle.std.proofs.Common.{◌≡◌, ◌||◌, Bool, true, false, List, [], ◌∷◌, ◌++◌, map, if◌then◌else◌, cond, Option, Some,
-    None, refl, sym, ap, ◌∙◌, subst}
+use Rattle.std.proofs.Common.{◌≡◌, ◌||◌, Bool, true, false, List, [], ◌∷◌, ◌++◌, map, if◌then◌else◌, cond, Option, Some}
+use Rattle.std.proofs.Common.{None, refl, sym, ap, ◌∙◌, subst}
 use Rattle.std.specs.Bool.{⊤}
 use Rattle.std.specs.List.{AllByRecursion as Each}
 use Rattle.std.proofs.lemmas.Bool.{or_left, or_right}
@@ -20,8 +20,8 @@ use Rattle.link_machine.specs.Turn.{Turn, begin}
 use Rattle.channel_bench.specs.LinkSteps.{LinkStep}
 use Rattle.channel_bench.specs.LinksTell.{RunsIn, runs_after}
 use Rattle.channel_bench.specs.RunsTell.{AllToldInOne, runs_behind, told_in}
-use Rattle.channel_bench.proofs.LinkDid.{Closes, DidIn, HearsAsk, HearsWrong, IsOfLink, Steps, is_connect,
-    is_disconnect, step_steps}
+use Rattle.channel_bench.proofs.LinkDid.{Closes, DidIn, HearsAsk, HearsWrong, IsOfLink, Steps, is_connect}
+use Rattle.channel_bench.proofs.LinkDid.{is_disconnect, step_steps}
 use Rattle.channel_bench.proofs.LinkDid.Closes.{releases, stays}
 use Rattle.channel_bench.proofs.LinkDid.Did.{calls, ends, gives, is_called, opens, resets, wishes}
 use Rattle.channel_bench.proofs.LinkDid.Steps.{made, refused}
@@ -267,13 +267,13 @@ asked_step m event asked up h = go (link_turn m event) (step_steps m event)
         → StandsAsked (asked_after asked (is_disconnect event) u.told) u.now.control.state u.now.control.quit
     go u (refused is) =
         subst (λ (x : Turn). StandsAsked (asked_after asked (is_disconnect event) x.told)
-            x.now.control.state x.now.control.quit)
+        x.now.control.state x.now.control.quit)
         (sym is)
         (stands_more asked (asked || is_disconnect event) m.control.state m.control.quit
         (or_left asked (is_disconnect event)) h)
     go u (made t did closes) =
         subst (λ told. StandsAsked (asked_after asked (is_disconnect event) told)
-            u.now.control.state u.now.control.quit)
+        u.now.control.state u.now.control.quit)
         (sym (closes_told t u closes))
         (asked_closes (asked_after asked (is_disconnect event) t.told) t u (asked_did m event t asked up h did) closes)
 
@@ -302,7 +302,7 @@ chain_asked asked m (step ∷ steps) chain up h =
     subst (λ (x : Machine). StandsAsked asked x.control.state x.control.quit) chain.0
     (made_like (StandsAsked asked) refl step.anew m h) in
     chain_asked (asked_after asked (is_disconnect step.event) (told_in step))
-        (link_turn step.link.machine step.event).now
+    (link_turn step.link.machine step.event).now
     steps chain.1 up.1 (asked_step step.link.machine step.event asked up.0 there)
 
 -- ---- a link that its own host called

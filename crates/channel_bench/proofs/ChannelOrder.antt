@@ -1,8 +1,9 @@
 -- A channel sends the frames that wait in their order: a tick that names a frame as sent takes the front one. This
 -- holds of frames of any length, since the check sequence of a frame alone is longer than a tick.
-use Rattle.std.proofs.Common.{◌≡◌, ℕ, zero, suc, ◌+◌, ◌-◌, ◌*◌, ◌/◌, ◌%◌, ◌<◌, ◌≤◌, ◌&&◌, nat_lt, nat_le, not,
-    slice_index_or, Bool, true, false, ℤ, pos, List, [], ◌∷◌, ◌++◌, length, map, replicate, take, drop, cond, Option,
-    Some, None, is_none, refl, sym, ap, ◌∙◌, subst, arith, length-append, append_assoc, append-nil}
+use Rattle.std.proofs.Common.{◌≡◌, ℕ, zero, suc, ◌+◌, ◌-◌, ◌*◌, ◌/◌, ◌%◌, ◌<◌, ◌≤◌, ◌&&◌, nat_lt, nat_le, not}
+use Rattle.std.proofs.Common.{slice_index_or, Bool, true, false, ℤ, pos, List, [], ◌∷◌, ◌++◌, length, map, replicate}
+use Rattle.std.proofs.Common.{take, drop, cond, Option, Some, None, is_none, refl, sym, ap, ◌∙◌, subst, arith}
+use Rattle.std.proofs.Common.{length-append, append_assoc, append-nil}
 use Rattle.std.proofs.Math.Seq.{get_or-append_seam}
 use Rattle.std.proofs.lemmas.List.{length-drop, length-replicate, length-take}
 use Rattle.std.proofs.lemmas.Bool.{and_right, leb-true, leb-false, le-leb, lt-leb, le-ltb, lt-ltb}
@@ -13,11 +14,11 @@ use Rattle.hdlc_framer.specs.Frames.{frame_bits, with_fcs}
 use Rattle.hdlc_framer.proofs.BitLemmas.{length-sent_bits}
 use Rattle.hdlc_framer.proofs.StuffingLemmas.{stuffed_is}
 use Rattle.channel_access.specs.declared.air_tick.Sent.{Sent}
-use Rattle.channel_access.specs.Channel.{Channel, air_after, air_samples, air_sent, air_waiting, after_rules,
-    after_tick, air_tick, begun, decision, with_decision}
-use Rattle.channel_access.specs.OnAir.{OnAir, bits_of, bits_then, decided, flag_end, followed_by, frame_named,
-    frames_end, has_sent_frames, most_frames, names_next, samples_on_air, tick_samples, waiting_with_named, with_named,
-    with_tick}
+use Rattle.channel_access.specs.Channel.{Channel, air_after, air_samples, air_sent, air_waiting, after_rules}
+use Rattle.channel_access.specs.Channel.{after_tick, air_tick, begun, decision, with_decision}
+use Rattle.channel_access.specs.OnAir.{OnAir, bits_of, bits_then, decided, flag_end, followed_by, frame_named}
+use Rattle.channel_access.specs.OnAir.{frames_end, has_sent_frames, most_frames, names_next, samples_on_air}
+use Rattle.channel_access.specs.OnAir.{tick_samples, waiting_with_named, with_named, with_tick}
 use Rattle.channel_access.specs.Waiting.{WaitingFrame}
 use Rattle.tone_table.specs.declared.tone.Tone.TheVariants.{Mark}
 use Rattle.nrzi_bits.specs.Line.{line}

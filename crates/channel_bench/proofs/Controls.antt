@@ -1,7 +1,8 @@
 -- SABM, SABME, DISC, UA and DM told by their control octet: the one after the address is that of the frame as it is
 -- read.
-use Rattle.std.proofs.Common.{◌≡◌, ◌≢◌, ℕ, zero, suc, ◌+◌, ◌-◌, ◌*◌, ◌<◌, ◌==◌, ◌%◌, Bool, true, false, ◌||◌, List, [],
-    ◌∷◌, ◌++◌, length, map, take, drop, cond, get_or, Option, Some, refl, sym, ap, ◌∙◌, subst, arith, inl, inr}
+use Rattle.std.proofs.Common.{◌≡◌, ◌≢◌, ℕ, zero, suc, ◌+◌, ◌-◌, ◌*◌, ◌<◌, ◌==◌, ◌%◌, Bool, true, false, ◌||◌, List, []}
+use Rattle.std.proofs.Common.{◌∷◌, ◌++◌, length, map, take, drop, cond, get_or, Option, Some, refl, sym, ap, ◌∙◌, subst}
+use Rattle.std.proofs.Common.{arith, inl, inr}
 use Rattle.std.proofs.lemmas.Bool.{cases_eq, eq-eqb, ne_eqb, or_from}
 use Rattle.std.proofs.lemmas.List.{append_assoc, take-append-drop, length-drop, drop-drop}
 use Rattle.ax25_address.specs.AddressField.{bit, ssid_octet, IsField}
@@ -19,8 +20,8 @@ use Rattle.ax25_frames.specs.declared.frame.W.TheVariants.{Frmr, Xid, Test}
 use Rattle.ax25_frames.specs.ControlField.{supervisory_code}
 use Rattle.ax25_frames.specs.FrameOctets.{body_octets, IsFrame}
 use Rattle.link_world.specs.Flight.{asks, is_answer}
-use Rattle.channel_bench.specs.InFlight.{sabm, sabme, disc, ua, dm, is_control_of, first_of, control_octet,
-    is_ask_control, is_answer_control, is_ask, is_ua_or_dm}
+use Rattle.channel_bench.specs.InFlight.{sabm, sabme, disc, ua, dm, is_control_of, first_of, control_octet}
+use Rattle.channel_bench.specs.InFlight.{is_ask_control, is_answer_control, is_ask, is_ua_or_dm}
 
 -- ---- the octet after the address
 
@@ -110,7 +111,7 @@ pub past_path :
 past_path octets path len h =
     ap control_octet (sym (take-append-drop len octets))
     ∙ past_fields (repeater_count path + 1) (take len octets) (drop len octets) (h.1.size ∙ count (repeater_count path))
-        each
+    each
   where
     count : (n : ℕ) → 14 + 7 * n ≡ 7 * (n + 1 + 1)
     count n = omega arith
@@ -122,7 +123,7 @@ past_path octets path len h =
         → EndsBy (k == repeater_count path + 1) (field_at (take len octets) k)
     each zero less =
         subst (λ b. EndsBy b (field_at (take len octets) 0))
-            (sym (ne_eqb 0 (repeater_count path + 1) (λ e. absurd (omega arith))))
+        (sym (ne_eqb 0 (repeater_count path + 1) (λ e. absurd (omega arith))))
         (field_ends path.dest _ false (field_at (take len octets) 0) fields.destination)
     each (suc zero) less =
         subst (λ b. EndsBy b (field_at (take len octets) 1)) (same (repeater_count path))

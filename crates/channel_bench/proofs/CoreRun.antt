@@ -1,7 +1,7 @@
 -- What is kept by each step of a station that occurs in a bench, and when frames have passed, holds of the moments and
 -- the stations of each run that nothing has ended.
-use Rattle.std.proofs.Common.{◌≡◌, ℕ, ◌≤◌, ◌==◌, Bool, true, false, List, [], ◌∷◌, ◌++◌, length, take, drop, cond,
-    nat_lt, Option, Some, None, refl, sym, ap, ◌∙◌, subst, arith}
+use Rattle.std.proofs.Common.{◌≡◌, ℕ, ◌≤◌, ◌==◌, Bool, true, false, List, [], ◌∷◌, ◌++◌, length, take, drop, cond}
+use Rattle.std.proofs.Common.{nat_lt, Option, Some, None, refl, sym, ap, ◌∙◌, subst, arith}
 use Rattle.std.specs.Prelude.{MatchBool}
 use Rattle.std.specs.List.{AllByRecursion as Each}
 use Rattle.std.proofs.lemmas.List.{append_assoc, length-take}
@@ -18,13 +18,15 @@ use Rattle.channel_bench.specs.declared.trouble.Trouble.{Trouble}
 use Rattle.channel_bench.specs.declared.words.BenchWords.{BenchWords}
 use Rattle.channel_bench.specs.BenchOrder.{first_stations, stations_of}
 use Rattle.channel_bench.specs.BenchState.{BenchState, SideState, Near, AtEnd, near}
-use Rattle.channel_bench.specs.BenchSteps.{IsStep, IsTold, IsTicking, IsHeardAs, IsHeardAt, AreHeardAt, GoesOn,
-    match_of, program_id, told_piece, told_pieces, told_octets, with_matched, with_stray}
-use Rattle.channel_bench.specs.BenchTick.{Part, IsGiven, IsGivenPiece, IsAsked, IsCalled, IsListening, beginning,
-    each_tick, is_complete, joins, kiss_id, sets_duplex, sets_full_duplex, with_asking, with_calling, with_giving}
+use Rattle.channel_bench.specs.BenchSteps.{IsStep, IsTold, IsTicking, IsHeardAs, IsHeardAt, AreHeardAt, GoesOn}
+use Rattle.channel_bench.specs.BenchSteps.{match_of, program_id, told_piece, told_pieces, told_octets, with_matched}
+use Rattle.channel_bench.specs.BenchSteps.{with_stray}
+use Rattle.channel_bench.specs.BenchTick.{Part, IsGiven, IsGivenPiece, IsAsked, IsCalled, IsListening, beginning}
+use Rattle.channel_bench.specs.BenchTick.{each_tick, is_complete, joins, kiss_id, sets_duplex, sets_full_duplex}
+use Rattle.channel_bench.specs.BenchTick.{with_asking, with_calling, with_giving}
 use Rattle.channel_bench.specs.BenchTick.Part.{Tells, Gives, AsksOrCalls, Ticks, Sounds, Listens, Closes}
-use Rattle.channel_bench.specs.HostProgram.{connect_octets, data_octets, disconnect_octets, full_duplex_octets,
-    most_octets, next_piece, register_octets}
+use Rattle.channel_bench.specs.HostProgram.{connect_octets, data_octets, disconnect_octets, full_duplex_octets}
+use Rattle.channel_bench.specs.HostProgram.{most_octets, next_piece, register_octets}
 use Rattle.channel_bench.specs.declared.report.SetUp.{SetUp}
 use Rattle.channel_bench.specs.InFlight.{Moment}
 use Rattle.channel_bench.specs.InFlight.Moment.{Passes}

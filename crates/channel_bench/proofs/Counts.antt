@@ -1,6 +1,6 @@
 -- How many frames of a kind are in flight: as many at most as are among those that were queued from a number on.
-use Rattle.std.proofs.Common.{◌≡◌, ℕ, ◌+◌, ◌-◌, ◌≤◌, Bool, true, false, List, [], ◌∷◌, ◌++◌, length, map, take, drop,
-    cond, get_or, Option, Some, None, refl, sym, ap, ◌∙◌, subst, arith, inl, inr}
+use Rattle.std.proofs.Common.{◌≡◌, ℕ, ◌+◌, ◌-◌, ◌≤◌, Bool, true, false, List, [], ◌∷◌, ◌++◌, length, map, take, drop}
+use Rattle.std.proofs.Common.{cond, get_or, Option, Some, None, refl, sym, ap, ◌∙◌, subst, arith, inl, inr}
 use Rattle.std.specs.List.{count_by, list_any}
 use Rattle.std.proofs.lemmas.Bool.{cases_lt, or_parts}
 use Rattle.std.proofs.lemmas.List.{drop-drop, get_or_past}
@@ -100,7 +100,7 @@ flight_count l r t u tells tags queue tagged h s (p ∷ ps) rises =
       | inl within ↦
           let tag = tag_of l r tags queue p.sent tagged within in
           let cell : count_by u (drop p.sent queue) ≡ one (u (get_or queue p.sent nothing)) + count_by u
-              (drop (p.sent + 1) queue) =
+          (drop (p.sent + 1) queue) =
           sum_by-drop_more (λ y. cond (u y) 1 0) queue p.sent nothing within in
           let later = count_later u s p.sent queue low in
           let here = one_tag l r t u tells (tag_at tags p.sent) (get_or queue p.sent nothing) (flight tags ps) tag in

@@ -1,6 +1,7 @@
 -- A step after which a station has dropped no frame: each frame that its links sent joined the queue.
-use Rattle.std.proofs.Common.{◌≡◌, ℕ, ◌+◌, ◌-◌, Bool, true, false, ◌==◌, nat_lt, nat_le, List, [], ◌∷◌, ◌++◌, length,
-    map, drop, cond, if◌then◌else◌, Option, Some, None, refl, sym, ap, ◌∙◌, subst, arith, inl, inr}
+use Rattle.std.proofs.Common.{◌≡◌, ℕ, ◌+◌, ◌-◌, Bool, true, false, ◌==◌, nat_lt, nat_le, List, [], ◌∷◌, ◌++◌, length}
+use Rattle.std.proofs.Common.{map, drop, cond, if◌then◌else◌, Option, Some, None, refl, sym, ap, ◌∙◌, subst, arith, inl}
+use Rattle.std.proofs.Common.{inr}
 use Rattle.std.specs.Prelude.{MatchBool}
 use Rattle.std.specs.List.{range_with_len, list_any, AllByRecursion as Each}
 use Rattle.std.proofs.lemmas.Bool.{ltb-false, eqb-true}
@@ -15,13 +16,13 @@ use Rattle.agwpe_port.specs.Messages.{bad_length_in}
 use Rattle.agwpe_port.specs.declared.message.AgwMessage.{AgwMessage}
 use Rattle.digipeater.specs.Repeated.{repeated}
 use Rattle.kiss_port.specs.declared.item.KissItem.{KissItem}
-use Rattle.kiss_port.specs.declared.item.KissItem.TheVariants.{Frame as KissFrame, Set, Hardware, Return, TooLong,
-    Other}
+use Rattle.kiss_port.specs.declared.item.KissItem.TheVariants.{Frame as KissFrame, Set, Hardware, Return, TooLong}
+use Rattle.kiss_port.specs.declared.item.KissItem.TheVariants.{Other}
 use Rattle.link_machine.specs.declared.acts.SentFrame.{SentFrame}
 use Rattle.link_machine.specs.declared.acts.Told.{Told}
 use Rattle.link_machine.specs.Event.{Event as LinkEvent}
-use Rattle.link_machine.specs.Event.Event.{Connect as LinkConnect, Send as LinkSend, Disconnect as LinkDisconnect,
-    Hear as LinkHear, Tick as LinkTick}
+use Rattle.link_machine.specs.Event.Event.{Connect as LinkConnect, Send as LinkSend, Disconnect as LinkDisconnect}
+use Rattle.link_machine.specs.Event.Event.{Hear as LinkHear, Tick as LinkTick}
 use Rattle.link_machine.specs.Sent.{sent_frame}
 use Rattle.link_machine.specs.Step.{step as link_turn, done_of}
 use Rattle.link_world.proofs.law.Each.{each_append}
@@ -29,27 +30,28 @@ use Rattle.station.specs.declared.host_event.HostEvent.{HostEvent}
 use Rattle.station.specs.declared.host_event.HostEvent.TheVariants.{Joined, Bytes, Left}
 use Rattle.station.specs.declared.host_event.PortKind.{PortKind}
 use Rattle.station.specs.declared.host_event.PortKind.TheVariants.{Kiss, Agw}
-use Rattle.station.specs.AgwKinds.{version_kind, ports_kind, capabilities_kind, register_kind, unregister_kind,
-    toggle_kind, monitor_kind, raw_kind, unproto_kind, unproto_via_kind, data_kind, disconnect_kind, pending_kind,
-    waiting_kind}
-use Rattle.station.specs.AgwRequests.{replying, version_reply, ports_reply, capabilities_reply, toggled,
-    monitor_toggled, register_reply, with_registration, registering, unregistering, queueing_raw, most_information,
-    unnumbered_frame, sending_unnumbered, refused_reply, may_call, calls, called_route, called_pid, IsCall, IsCallMade,
-    own_key, giving, giving_packet, packets_of, data_pid, disconnecting, pending_in, pending_reply, waiting_reply,
-    answering_else, AreAnswered}
+use Rattle.station.specs.AgwKinds.{version_kind, ports_kind, capabilities_kind, register_kind, unregister_kind}
+use Rattle.station.specs.AgwKinds.{toggle_kind, monitor_kind, raw_kind, unproto_kind, unproto_via_kind, data_kind}
+use Rattle.station.specs.AgwKinds.{disconnect_kind, pending_kind, waiting_kind}
+use Rattle.station.specs.AgwRequests.{replying, version_reply, ports_reply, capabilities_reply, toggled}
+use Rattle.station.specs.AgwRequests.{monitor_toggled, register_reply, with_registration, registering, unregistering}
+use Rattle.station.specs.AgwRequests.{queueing_raw, most_information, unnumbered_frame, sending_unnumbered}
+use Rattle.station.specs.AgwRequests.{refused_reply, may_call, calls, called_route, called_pid, IsCall, IsCallMade}
+use Rattle.station.specs.AgwRequests.{own_key, giving, giving_packet, packets_of, data_pid, disconnecting, pending_in}
+use Rattle.station.specs.AgwRequests.{pending_reply, waiting_reply, answering_else, AreAnswered}
 use Rattle.hdlc_framer.specs.FrameLength.{has_frame_length}
 use Rattle.station.specs.CallFields.{call_in}
 use Rattle.station.specs.Connections.{Connection, connection_of, most_connections}
 use Rattle.station.specs.FrameSpelling.{frame_octets}
-use Rattle.station.specs.Heard.{IsHeardBy, IsHeardAnew, IsHeardMaking, IsReadingHeardAnew, IsRepeatedFor, AreHeardAt,
-    AreOctetsHeard, may_make, hearing_at, showing_to, shown_to_hosts, source_field, destination_field,
-    waits_for_repeater}
-use Rattle.station.specs.Host.{joining, with_host, new_messages, new_items, taking, ending, AreTaken, AreTakenBy,
-    IsHostTurn}
+use Rattle.station.specs.Heard.{IsHeardBy, IsHeardAnew, IsHeardMaking, IsReadingHeardAnew, IsRepeatedFor, AreHeardAt}
+use Rattle.station.specs.Heard.{AreOctetsHeard, may_make, hearing_at, showing_to, shown_to_hosts, source_field}
+use Rattle.station.specs.Heard.{destination_field, waits_for_repeater}
+use Rattle.station.specs.Host.{joining, with_host, new_messages, new_items, taking, ending, AreTaken, AreTakenBy}
+use Rattle.station.specs.Host.{IsHostTurn}
 use Rattle.station.specs.Kiss.{param_of, with_param, heeding, heeding_all}
 use Rattle.station.specs.Leaving.{giving_up, giving_up_all, giving_up_link, leaving, without_host, without_owner}
-use Rattle.station.specs.LinkEvents.{settled_link, telling_one, telling_to, queueing_frame, queueing_frames, link_event,
-    event_of, event_at, with_links}
+use Rattle.station.specs.LinkEvents.{settled_link, telling_one, telling_to, queueing_frame, queueing_frames, link_event}
+use Rattle.station.specs.LinkEvents.{event_of, event_at, with_links}
 use Rattle.station.specs.Links.{Link, key_between, link_at, most_links, with_link}
 use Rattle.station.specs.NewLinks.{making, no_layer_3}
 use Rattle.station.specs.Registrations.{registrar, may_register, is_number}
@@ -59,10 +61,12 @@ use Rattle.station.specs.Ticks.{ticking, ticking_at, ticking_links, waits}
 use Rattle.station.specs.Turn.{Turn, Act, begin, in_order, changing, closing, queueing, entering, dropping, capacity}
 use Rattle.channel_bench.specs.JointRun.{Input, IsTurn, Step}
 use Rattle.channel_bench.specs.JointRun.Input.{FromHost, OffAir, OfClock}
-use Rattle.channel_bench.specs.LinkSteps.{LinkStep, Choice, link_step, steps_for, steps_at, steps_along, ticks_at,
-    tick_steps, given_up, gives_up_at, leaving_steps, made_steps, call_steps, sends_at, data_steps, disconnect_steps,
-    else_steps, answer_steps, message_steps, ending_steps, octet_steps_by, octet_steps, host_steps, hears_at, new_steps,
-    anew_steps, reading_steps, key_steps, path_steps, by_path_steps, turn_steps, steps_of}
+use Rattle.channel_bench.specs.LinkSteps.{LinkStep, Choice, link_step, steps_for, steps_at, steps_along, ticks_at}
+use Rattle.channel_bench.specs.LinkSteps.{tick_steps, given_up, gives_up_at, leaving_steps, made_steps, call_steps}
+use Rattle.channel_bench.specs.LinkSteps.{sends_at, data_steps, disconnect_steps, else_steps, answer_steps}
+use Rattle.channel_bench.specs.LinkSteps.{message_steps, ending_steps, octet_steps_by, octet_steps, host_steps}
+use Rattle.channel_bench.specs.LinkSteps.{hears_at, new_steps, anew_steps, reading_steps, key_steps, path_steps}
+use Rattle.channel_bench.specs.LinkSteps.{by_path_steps, turn_steps, steps_of}
 use Rattle.channel_bench.specs.MatchedLaw.{DropsNoAsk, asks_when_sent}
 use Rattle.channel_bench.proofs.Queues.{octets_of}
 
@@ -191,7 +195,7 @@ unfolding ticking_links
 ticks_join chosen turn =
     joins_along ticking_at (ticks_at chosen)
     (λ key t. event_joins chosen None key (LinkTick (waits key t.now.channel.waiting)) t) (range_with_len 0 most_links)
-        turn
+    turn
 
 -- ---- a host program leaves
 
@@ -202,10 +206,10 @@ gives_up_joins chosen host key turn = by_place (link_at key turn.now.links)
     by_owner : (link : Link) (b : Bool)
         → let given = changing (with_links (with_link key (without_owner link))) turn in
         Joins turn (cond b (steps_at chosen None key LinkDisconnect given) [])
-            (cond b (event_at key LinkDisconnect given) turn)
+        (cond b (event_at key LinkDisconnect given) turn)
     by_owner link true = λ nothing_lost.
         let done = event_joins chosen None key LinkDisconnect
-            (changing (with_links (with_link key (without_owner link))) turn) nothing_lost in
+        (changing (with_links (with_link key (without_owner link))) turn) nothing_lost in
         record { before = done.before; joined = done.joined }
     by_owner link false = same_joins turn turn refl
 
@@ -219,7 +223,7 @@ leaving_joins : (chosen : Choice) (host : ℕ) (turn : Turn)
 unfolding giving_up_all
 leaving_joins chosen host turn nothing_lost =
     let done = joins_along (giving_up host) (gives_up_at chosen host) (gives_up_joins chosen host)
-        (range_with_len 0 most_links)
+    (range_with_len 0 most_links)
     (changing (without_host host) turn) nothing_lost in
     record { before = done.before; joined = done.joined }
 
@@ -235,7 +239,7 @@ data_joins chosen message (Some key) turn =
 
 disconnect_joins :
     (chosen : Choice) (key : Option ℕ) (turn : Turn)
-        → Joins turn (disconnect_steps chosen key turn) (disconnecting key turn)
+    → Joins turn (disconnect_steps chosen key turn) (disconnecting key turn)
 disconnect_joins chosen None turn = same_joins turn turn refl
 disconnect_joins chosen (Some key) turn = event_joins chosen None key LinkDisconnect turn
 
@@ -276,7 +280,7 @@ unnumbered_joins pid information (Some route) turn = go (nat_le (length informat
   where
     go : (b : Bool)
         → Joins turn [] ((if b then queueing None (frame_octets Eight (unnumbered_frame route pid information))
-            else (λ t. t)) turn)
+        else (λ t. t)) turn)
     go true = queueing_joins None (frame_octets Eight (unnumbered_frame route pid information)) turn
     go false = same_joins turn turn refl
 
@@ -306,42 +310,42 @@ else_joins chosen host message turn =
     λ c after none h is. subst (λ steps. Joins turn steps after) (sym (ap (λ n. choice n xs ys) is ∙ none)) h in
     by_kind P k version_kind (replying host version_reply turn) _ _
     (calm version_kind (replying host version_reply turn) refl
-        (same_joins turn (replying host version_reply turn) refl))
+    (same_joins turn (replying host version_reply turn) refl))
     (by_kind P k ports_kind (replying host ports_reply turn) _ _
     (calm ports_kind (replying host ports_reply turn) refl (same_joins turn (replying host ports_reply turn) refl))
     (by_kind P k capabilities_kind (replying host (capabilities_reply turn.now) turn) _ _
     (calm capabilities_kind (replying host (capabilities_reply turn.now) turn) refl
-        (same_joins turn (replying host (capabilities_reply turn.now) turn) refl))
+    (same_joins turn (replying host (capabilities_reply turn.now) turn) refl))
     (by_kind P k register_kind (registering host message.from (call_in message.from) turn) _ _
-        (calm register_kind (registering host message.from (call_in message.from) turn) refl
-        (registering_joins host message.from (call_in message.from) turn))
+    (calm register_kind (registering host message.from (call_in message.from) turn) refl
+    (registering_joins host message.from (call_in message.from) turn))
     (by_kind P k unregister_kind (unregistering host (call_in message.from) turn) _ _
-        (calm unregister_kind (unregistering host (call_in message.from) turn) refl
-        (unregistering_joins host (call_in message.from) turn))
+    (calm unregister_kind (unregistering host (call_in message.from) turn) refl
+    (unregistering_joins host (call_in message.from) turn))
     (by_kind P k toggle_kind (changing (toggled host) turn) _ _
     (calm toggle_kind (changing (toggled host) turn) refl (same_joins turn (changing (toggled host) turn) refl))
     (by_kind P k monitor_kind (changing (monitor_toggled host) turn) _ _
     (calm monitor_kind (changing (monitor_toggled host) turn) refl
-        (same_joins turn (changing (monitor_toggled host) turn) refl))
+    (same_joins turn (changing (monitor_toggled host) turn) refl))
     (by_kind P k raw_kind (queueing_raw (drop 1 message.body) turn) _ _
-        (calm raw_kind (queueing_raw (drop 1 message.body) turn) refl (raw_joins (drop 1 message.body) turn))
+    (calm raw_kind (queueing_raw (drop 1 message.body) turn) refl (raw_joins (drop 1 message.body) turn))
     (by_kind P k unproto_kind (sending_unnumbered message.pid message.body (route_in message.from message.to (Some []))
-        turn) _ _
+    turn) _ _
     (calm unproto_kind (sending_unnumbered message.pid message.body (route_in message.from message.to (Some [])) turn)
-        refl (unnumbered_joins message.pid message.body (route_in message.from message.to (Some [])) turn))
+    refl (unnumbered_joins message.pid message.body (route_in message.from message.to (Some [])) turn))
     (by_kind P k unproto_via_kind (sending_unnumbered message.pid (behind_repeaters message.body)
-        (route_in message.from message.to (repeaters_in message.body)) turn) _ _
+    (route_in message.from message.to (repeaters_in message.body)) turn) _ _
     (calm unproto_via_kind (sending_unnumbered message.pid (behind_repeaters message.body)
-        (route_in message.from message.to (repeaters_in message.body)) turn) refl
-        (unnumbered_joins message.pid (behind_repeaters message.body)
+    (route_in message.from message.to (repeaters_in message.body)) turn) refl
+    (unnumbered_joins message.pid (behind_repeaters message.body)
     (route_in message.from message.to (repeaters_in message.body)) turn))
     (rest (k == data_kind) (k == disconnect_kind) xs ys (data_joins chosen message key turn)
-        (disconnect_joins chosen key turn)))))))))))
+    (disconnect_joins chosen key turn)))))))))))
   where
     last : Joins turn [] (cond (message.kind == pending_kind)
         (replying host (pending_reply message (pending_in message turn.now.links)) turn)
         (cond (message.kind == waiting_kind) (replying host (waiting_reply (length turn.now.channel.waiting)) turn)
-            turn))
+        turn))
     last = go (message.kind == pending_kind) (message.kind == waiting_kind)
       where
         go : (b d : Bool)
@@ -360,9 +364,9 @@ else_joins chosen host message turn =
         (cond b (giving message (own_key host message turn.now.links) turn)
         (cond d (disconnecting (own_key host message turn.now.links) turn)
         (cond (message.kind == pending_kind) (replying host (pending_reply message (pending_in message turn.now.links))
-            turn)
+        turn)
         (cond (message.kind == waiting_kind) (replying host (waiting_reply (length turn.now.channel.waiting)) turn)
-            turn))))
+        turn))))
     rest true d xs ys one two = one
     rest false true xs ys one two = two
     rest false false xs ys one two = last
@@ -370,13 +374,13 @@ else_joins chosen host message turn =
 made_joins :
     (chosen : Choice) (host pid : ℕ) (message : AgwMessage) (route : Route) (may : Bool) (before after : Turn)
     → (h : MatchBool may (IsCallMade host pid route before after)
-        (after ≡ replying host (refused_reply message) before))
+    (after ≡ replying host (refused_reply message) before))
     → Joins before (made_steps chosen host pid message route may before after h) after
 made_joins chosen host pid message route true before after h =
     let path = path_along route in
     subst (Joins before (made_steps chosen host pid message route true before after h)) (sym h.2)
     (λ nothing_lost. let done = event_joins chosen (Some path) h.0 LinkConnect
-        (making h.0 host pid route.local route.remote path before) nothing_lost in
+    (making h.0 host pid route.local route.remote path before) nothing_lost in
     record { before = done.before; joined = done.joined })
 made_joins chosen host pid message route false before after h =
     subst (Joins before []) (sym h) (same_joins before (replying host (refused_reply message) before) refl)
@@ -384,7 +388,7 @@ made_joins chosen host pid message route false before after h =
 call_joins :
     (chosen : Choice) (host : ℕ) (message : AgwMessage) (route : Option Route) (before after : Turn)
     → (h : IsCall host message route before after) → Joins before (call_steps chosen host message route before after h)
-        after
+    after
 call_joins chosen host message None before after h =
     subst (Joins before []) (sym h) (same_joins before (replying host (refused_reply message) before) refl)
 call_joins chosen host message (Some route) before after h =
@@ -393,7 +397,7 @@ call_joins chosen host message (Some route) before after h =
 answer_joins :
     (chosen : Choice) (host : ℕ) (message : AgwMessage) (calling : Bool) (before after : Turn)
     → (h : MatchBool calling (IsCall host message (called_route message) before after)
-        (after ≡ answering_else host message before))
+    (after ≡ answering_else host message before))
     → Joins before (answer_steps chosen host message calling before after h) after
 answer_joins chosen host message true before after h =
     call_joins chosen host message (called_route message) before after h
@@ -402,7 +406,7 @@ answer_joins chosen host message false before after h =
 
 messages_join :
     (chosen : Choice) (host : ℕ) (messages : List AgwMessage) (before after : Turn)
-        → (h : AreAnswered host messages before after)
+    → (h : AreAnswered host messages before after)
     → Joins before (message_steps chosen host messages before after h) after
 messages_join chosen host [] before after h = subst (Joins before []) (sym h) (same_joins before before refl)
 messages_join chosen host (message ∷ messages) before after h =
@@ -415,7 +419,7 @@ ending_joins : (chosen : Choice) (host : ℕ) (len : Option ℕ) (turn : Turn)
 ending_joins chosen host None turn = same_joins turn turn refl
 ending_joins chosen host (Some len) turn = λ nothing_lost.
     let done = leaving_joins chosen host (closing host turn) nothing_lost in
-        record { before = done.before; joined = done.joined }
+    record { before = done.before; joined = done.joined }
 
 -- ---- KISS
 
@@ -452,7 +456,7 @@ octets_join_by :
 octets_join_by chosen Kiss connection octets before after h =
     subst (Joins before []) (sym h)
     (λ nothing_lost. let done = heeding_all_joins (new_items connection.stream octets)
-        (taking connection.id octets before) nothing_lost in
+    (taking connection.id octets before) nothing_lost in
     record { before = done.before; joined = tt })
 octets_join_by chosen Agw connection octets before after h =
     let taken = taking connection.id octets before in
@@ -460,7 +464,7 @@ octets_join_by chosen Agw connection octets before after h =
     let messages = new_messages connection.stream octets in
     subst (Joins before (octet_steps_by chosen Agw connection octets before after h)) (sym h.2)
     (λ nothing_lost. let done = joins_on taken h.0 (ending connection.id len h.0)
-        (message_steps chosen connection.id messages taken h.0 h.1)
+    (message_steps chosen connection.id messages taken h.0 h.1)
     (ending_steps chosen connection.id len h.0) (messages_join chosen connection.id messages taken h.0 h.1)
     (ending_joins chosen connection.id len h.0) nothing_lost in
     record { before = done.before; joined = done.joined })
@@ -527,7 +531,7 @@ new_joins chosen host frame false before after h = subst (Joins before []) (sym 
 
 anew_joins :
     (chosen : Choice) (registered : Option ℕ) (frame : Frame) (before after : Turn)
-        → (h : IsHeardAnew registered frame before after)
+    → (h : IsHeardAnew registered frame before after)
     → Joins before (anew_steps chosen registered frame before after h) after
 anew_joins chosen None frame before after h = subst (Joins before []) (sym h) (same_joins before before refl)
 anew_joins chosen (Some host) frame before after h =
@@ -542,17 +546,17 @@ reading_joins chosen (Some frame) before after h =
 
 key_joins :
     (chosen : Choice) (key : Option ℕ) (octets : List ℕ) (before after : Turn)
-        → (h : AreHeardAt key octets before after)
+    → (h : AreHeardAt key octets before after)
     → Joins before (key_steps chosen key octets before after h) after
 key_joins chosen (Some key) octets before after h =
     subst (Joins before (key_steps chosen (Some key) octets before after h)) (sym h.2)
-        (at_key_joins chosen key h.0 before)
+    (at_key_joins chosen key h.0 before)
 key_joins chosen None octets before after h = reading_joins chosen h.0 before after h.2
 
 path_joins :
     (chosen : Choice) (path : Path) (waiting : Bool) (octets : List ℕ) (before after : Turn)
     → (h : MatchBool waiting (IsRepeatedFor before.now.digi octets before after)
-        (AreOctetsHeard path octets before after))
+    (AreOctetsHeard path octets before after))
     → Joins before (path_steps chosen path waiting octets before after h) after
 path_joins chosen path true octets before after h = repeated_joins before.now.digi octets before after h
 path_joins chosen path false octets before after h =
@@ -560,7 +564,7 @@ path_joins chosen path false octets before after h =
 
 by_path_joins :
     (chosen : Choice) (path : Option Path) (octets : List ℕ) (before after : Turn)
-        → (h : IsHeardBy path octets before after)
+    → (h : IsHeardBy path octets before after)
     → Joins before (by_path_steps chosen path octets before after h) after
 by_path_joins chosen None octets before after h = subst (Joins before []) (sym h) (same_joins before before refl)
 by_path_joins chosen (Some path) octets before after h =
@@ -576,12 +580,14 @@ turn_joins chosen (OffAir octets) before after turn = λ nothing_lost.
     let from = source_field turn.path in
     let to = destination_field turn.path in
     let done = by_path_joins chosen turn.path octets (shown_to_hosts turn.path octets turn.monitored before)
-        after turn.effect nothing_lost in
-    record { before = sym (shown_same from to octets before.now.connections before) ∙ done.before;
-        joined = done.joined }
+    after turn.effect nothing_lost in
+    record {
+      before = sym (shown_same from to octets before.now.connections before) ∙ done.before;
+      joined = done.joined;
+    }
 turn_joins chosen (OfClock busy) before after turn = λ nothing_lost.
     let ticked : (ticking busy turn.monitored before).now.dropped ≡ 0 =
-        ap (λ (t : Turn). t.now.dropped) (sym turn.effect) ∙ nothing_lost in
+    ap (λ (t : Turn). t.now.dropped) (sym turn.effect) ∙ nothing_lost in
     ticks_join chosen before ticked
 
 pub record DropsNothing (chosen : Choice) (step : Step) : Type 0 where

@@ -1,7 +1,7 @@
 -- What an end takes from what is in flight to it, and what it sends: at most one frame that asks, and an answer only to
 -- one.
-use Rattle.std.proofs.Common.{◌≡◌, ℕ, ◌+◌, ◌≤◌, Bool, true, false, ◌&&◌, List, [], ◌∷◌, map, Option, Some, None, refl,
-    sym, ap, ◌∙◌, subst, arith}
+use Rattle.std.proofs.Common.{◌≡◌, ℕ, ◌+◌, ◌≤◌, Bool, true, false, ◌&&◌, List, [], ◌∷◌, map, Option, Some, None, refl}
+use Rattle.std.proofs.Common.{sym, ap, ◌∙◌, subst, arith}
 use Rattle.std.specs.List.{count_by, list_any, AllByRecursion as Each}
 use Rattle.std.proofs.lemmas.Bool.{or_parts}
 use Rattle.ax25_frames.specs.declared.frame.Frame.{Frame}
@@ -10,8 +10,8 @@ use Rattle.ax25_frames.specs.declared.frame.Kind.TheVariants.{Info, Super, Setup
 use Rattle.ax25_frames.specs.declared.frame.U.TheVariants.{Sabm, Sabme, Disc, Dm, Ua}
 use Rattle.link_machine.specs.declared.state.LinkState.TheVariants.{Up}
 use Rattle.link_machine.specs.Event.{Event as LinkEvent}
-use Rattle.link_machine.specs.Event.Event.{Connect as LinkConnect, Send as LinkSend, Disconnect as LinkDisconnect,
-    Hear as LinkHear, Tick as LinkTick}
+use Rattle.link_machine.specs.Event.Event.{Connect as LinkConnect, Send as LinkSend, Disconnect as LinkDisconnect}
+use Rattle.link_machine.specs.Event.Event.{Hear as LinkHear, Tick as LinkTick}
 use Rattle.link_machine.specs.Machine.{modulus_named}
 use Rattle.link_machine.specs.Sent.{Sent, SentIn, sent_kind}
 use Rattle.link_machine.specs.Sent.Sent.{InfoSent, SetupSent, SuperSent}

@@ -1,6 +1,6 @@
 -- Each act of a station keeps what holds of its link between two calls.
-use Rattle.std.proofs.Common.{◌≡◌, ℕ, Bool, true, false, List, [], ◌∷◌, cond, Option, Some, None, refl, sym, ap, ◌∙◌,
-    subst}
+use Rattle.std.proofs.Common.{◌≡◌, ℕ, Bool, true, false, List, [], ◌∷◌, cond, Option, Some, None, refl, sym, ap, ◌∙◌}
+use Rattle.std.proofs.Common.{subst}
 use Rattle.std.specs.List.{range_with_len}
 use Rattle.ax25_address.specs.declared.path.Path.{Path}
 use Rattle.agwpe_port.specs.declared.message.AgwMessage.{AgwMessage}
@@ -21,14 +21,14 @@ use Rattle.station.specs.Links.{Link, IsNewKey, is_between, link_at, most_links,
 use Rattle.station.specs.Registrations.{is_number}
 use Rattle.station.specs.Ticks.{ticking_at, ticking_links, waits}
 use Rattle.station.specs.Turn.{Turn, changing}
-use Rattle.channel_bench.specs.LinkSteps.{LinkStep, link_step, steps_for, steps_at, ticks_at, tick_steps, given_up,
-    gives_up_at, leaving_steps, sends_at, data_steps, disconnect_steps}
+use Rattle.channel_bench.specs.LinkSteps.{LinkStep, link_step, steps_for, steps_at, ticks_at, tick_steps, given_up}
+use Rattle.channel_bench.specs.LinkSteps.{gives_up_at, leaving_steps, sends_at, data_steps, disconnect_steps}
 use Rattle.channel_bench.specs.StationsLaw.{first_chosen, IsMachineOf}
-use Rattle.channel_bench.proofs.Acts.{Setting, Holds, IsAsked, own_asked, own_machine, asked_told, asked_stays,
-    asked_asking, asked_next, asked_reads, other_event, still_holds}
+use Rattle.channel_bench.proofs.Acts.{Setting, Holds, IsAsked, own_asked, own_machine, asked_told, asked_stays}
+use Rattle.channel_bench.proofs.Acts.{asked_asking, asked_next, asked_reads, other_event, still_holds}
 use Rattle.channel_bench.proofs.Along.{FollowsNear, Kept, Goes, goes_along}
-use Rattle.channel_bench.proofs.Standing.{IsGoodLink, IsTable, between_calls, owner_table, made_table, made_other,
-    made_at}
+use Rattle.channel_bench.proofs.Standing.{IsGoodLink, IsTable, between_calls, owner_table, made_table, made_other}
+use Rattle.channel_bench.proofs.Standing.{made_at}
 
 -- the links that are meant
 abbrev pub meant : Setting → Option Link → Bool
@@ -37,7 +37,7 @@ meant s = is_between s.local s.remote
 -- its end follows, if nothing is heard
 follows_asked :
     (e : End) (back : List Tagged) (step : LinkStep) (w : World) → w.a.end.machine ≡ step.link.machine
-        → IsAsked step.event
+    → IsAsked step.event
     → w.a.towards ≡ back → FollowsNear e back step w
 follows_asked e back step w machine asked back_is = record {
   machine = machine;
@@ -80,7 +80,7 @@ unfolding ticking_links
 ticks_go s e back turn =
     goes_along s e back ticking_at (ticks_at (meant s))
     (λ key t. act_goes s e back key (LinkTick (waits key t.now.channel.waiting)) t tt) (range_with_len 0 most_links)
-        turn
+    turn
 
 -- ---- a host program leaves
 
@@ -120,7 +120,7 @@ pub leaving_goes :
 unfolding giving_up_all
 leaving_goes s e back id turn w H =
     goes_along s e back (giving_up id) (gives_up_at (meant s) id) (gives_up_goes s e back id)
-        (range_with_len 0 most_links)
+    (range_with_len 0 most_links)
     (changing (without_host id) turn) w (still_holds s back turn (changing (without_host id) turn) w H refl refl refl)
 
 -- ---- data and disconnects
@@ -166,14 +166,14 @@ made_own s back turn w key link path after H may is new after_is =
     ap (new_machine path) H.end_params ∙ sym new in
     subst (λ t. Holds s back t (near_made path w)) (sym after_is)
     (subst (λ r. Holds s back (changing (with_links (with_new_link key link)) turn)
-        (record w { a = record w.a { end = r } }))
+    (record w { a = record w.a { end = r } }))
     (sym (made_idle w.a.end.machine.control.state path w.a.end idle))
     (record {
       parameters = H.parameters;
       table = subst (λ (m : Machine). IsTable s.params (meant s) (with_new_link key link turn.now.links) m)
           (sym machine)
           (made_table s.params (meant s) turn.now.links w.a.end.machine key link (between_calls s.local s.remote)
-              H.table
+          H.table
           may.new (may.none is) is may.good);
       end_params = H.end_params;
       tags = H.tags;
@@ -222,9 +222,13 @@ made_asked s e back turn key link path after event asked may new after_is w H =
         let made = made_own s back turn w key link path after H may is new after_is in
         let machine = own_machine s back after (near_made path w) key link made at is in (
           own_asked s e back after (near_made path w) key link event asked made at is,
-          (follows_asked e back (link_step (Some path) key event after link) (near_made path w)
-              machine asked made.back_is, tt),
+          (
+            follows_asked e back (link_step (Some path) key event after link) (near_made path w)
+                machine asked made.back_is,
+            tt,
+          ),
         )
-    go false is =
-        (other_event s back after w key link event (made_another s back turn w key link after H may is after_is) at is,
-            tt)
+    go false is = (
+      other_event s back after w key link event (made_another s back turn w key link after H may is after_is) at is,
+      tt,
+    )

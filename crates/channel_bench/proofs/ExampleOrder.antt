@@ -1,6 +1,6 @@
 -- The worked joint run is heard in order, so that the law on any two stations speaks of it.
-use Rattle.std.specs.Prelude.{◌≡◌, ◌≢◌, ℕ, zero, suc, ◌<◌, All, AllPairs, Contains, List, [], ◌∷◌, length, Some, None,
-    slice_get, refl}
+use Rattle.std.specs.Prelude.{◌≡◌, ◌≢◌, ℕ, zero, suc, ◌<◌, All, AllPairs, Contains, List, [], ◌∷◌, length, Some, None}
+use Rattle.std.specs.Prelude.{slice_get, refl}
 use Rattle.std.proofs.Common.{arith, get_or, inl, inr, sym, ◌∙◌, subst}
 use Rattle.std.proofs.lemmas.List.Elements.{All-from_recursion, All-contains_itself}
 use Rattle.std.proofs.lemmas.List.Kept.{AllPairs-cons}
@@ -17,11 +17,12 @@ use Rattle.link_world.proofs.law.ChangesLaw.{changes_law_holds}
 use Rattle.channel_bench.specs.JointRun.{Step, new_stations, all_stepped}
 use Rattle.channel_bench.specs.StationsLaw.{LinkKeepsOrder}
 use Rattle.channel_bench.proofs.JointLaw.{stations_law_holds}
-use Rattle.channel_bench.specs.HeardInOrder.{Pair, RiseBoth, AreAlikeButForH, HearsLinkFrame, IsHeardPair, HasPair,
-    AreHeardInOrder}
-use Rattle.channel_bench.proofs.Examples.{sabm, disc, ua, command_path, response_path, command_begins, response_begins,
-    a_joins, b_joins, a_registers, b_registers, a_calls, b_hears_sabm, a_hears_ua, a_disconnects, b_hears_disc,
-    a_hears_ua_again, config, steps, calls, pairs, is_run, is_quiet_run}
+use Rattle.channel_bench.specs.HeardInOrder.{Pair, RiseBoth, AreAlikeButForH, HearsLinkFrame, IsHeardPair, HasPair}
+use Rattle.channel_bench.specs.HeardInOrder.{AreHeardInOrder}
+use Rattle.channel_bench.proofs.Examples.{sabm, disc, ua, command_path, response_path, command_begins, response_begins}
+use Rattle.channel_bench.proofs.Examples.{a_joins, b_joins, a_registers, b_registers, a_calls, b_hears_sabm, a_hears_ua}
+use Rattle.channel_bench.proofs.Examples.{a_disconnects, b_hears_disc, a_hears_ua_again, config, steps, calls, pairs}
+use Rattle.channel_bench.proofs.Examples.{is_run, is_quiet_run}
 
 no_pairs_rise : AllPairs RiseBoth []
 no_pairs_rise = λ i j d less within. absurd (omega (arith, less, within))
@@ -131,19 +132,19 @@ all_b (suc (suc (suc zero))) step octets is hears =
 all_b (suc (suc (suc (suc zero)))) step octets is hears = absurd (of_other B a_calls step octets a_is_not_b is hears)
 all_b (suc (suc (suc (suc (suc zero))))) step octets is hears =
     has_itself pairs.at_b 0 (record { heard = 5; sent = 0 }) (record { heard = 0; sent = 0 })
-        (All-contains_itself pairs.at_b) (omega arith) refl
+    (All-contains_itself pairs.at_b) (omega arith) refl
 all_b (suc (suc (suc (suc (suc (suc zero)))))) step octets is hears =
     absurd (of_other B a_hears_ua step octets a_is_not_b is hears)
 all_b (suc (suc (suc (suc (suc (suc (suc zero))))))) step octets is hears =
     absurd (of_other B a_disconnects step octets a_is_not_b is hears)
 all_b (suc (suc (suc (suc (suc (suc (suc (suc zero)))))))) step octets is hears =
     has_itself pairs.at_b 1 (record { heard = 8; sent = 1 }) (record { heard = 0; sent = 0 })
-        (All-contains_itself pairs.at_b) (omega arith) refl
+    (All-contains_itself pairs.at_b) (omega arith) refl
 all_b (suc (suc (suc (suc (suc (suc (suc (suc (suc zero))))))))) step octets is hears =
     absurd (of_other B a_hears_ua_again step octets a_is_not_b is hears)
 all_b (suc (suc (suc (suc (suc (suc (suc (suc (suc (suc n)))))))))) step octets is hears =
     absurd (let none : slice_get steps (suc (suc (suc (suc (suc (suc (suc (suc (suc (suc n)))))))))) ≡ None =
-        slice_get_past steps (suc (suc (suc (suc (suc (suc (suc (suc (suc (suc n)))))))))) (omega arith) in
+    slice_get_past steps (suc (suc (suc (suc (suc (suc (suc (suc (suc (suc n)))))))))) (omega arith) in
     let clash : None ≡ Some step = sym none ∙ is in cc)
 
 heard_at_b : AreHeardInOrder B steps pairs.at_b
@@ -203,17 +204,17 @@ all_a (suc (suc (suc (suc (suc zero))))) step octets is hears =
     absurd (of_other A b_hears_sabm step octets b_is_not_a is hears)
 all_a (suc (suc (suc (suc (suc (suc zero)))))) step octets is hears =
     has_itself pairs.at_a 0 (record { heard = 6; sent = 0 }) (record { heard = 0; sent = 0 })
-        (All-contains_itself pairs.at_a) (omega arith) refl
+    (All-contains_itself pairs.at_a) (omega arith) refl
 all_a (suc (suc (suc (suc (suc (suc (suc zero))))))) step octets is hears =
     absurd (subst (λ (s : Step). HearsLinkFrame A s octets) (sym (same_some a_disconnects step is)) hears).input
 all_a (suc (suc (suc (suc (suc (suc (suc (suc zero)))))))) step octets is hears =
     absurd (of_other A b_hears_disc step octets b_is_not_a is hears)
 all_a (suc (suc (suc (suc (suc (suc (suc (suc (suc zero))))))))) step octets is hears =
     has_itself pairs.at_a 1 (record { heard = 9; sent = 1 }) (record { heard = 0; sent = 0 })
-        (All-contains_itself pairs.at_a) (omega arith) refl
+    (All-contains_itself pairs.at_a) (omega arith) refl
 all_a (suc (suc (suc (suc (suc (suc (suc (suc (suc (suc n)))))))))) step octets is hears =
     absurd (let none : slice_get steps (suc (suc (suc (suc (suc (suc (suc (suc (suc (suc n)))))))))) ≡ None =
-        slice_get_past steps (suc (suc (suc (suc (suc (suc (suc (suc (suc (suc n)))))))))) (omega arith) in
+    slice_get_past steps (suc (suc (suc (suc (suc (suc (suc (suc (suc (suc n)))))))))) (omega arith) in
     let clash : None ≡ Some step = sym none ∙ is in cc)
 
 heard_at_a : AreHeardInOrder A steps pairs.at_a

@@ -54,9 +54,13 @@ aaaa_valid = record {
   name = record {
     shortest = omega arith;
     longest = omega arith;
-    characters = All-from_recursion IsCallCharacter (65 ∷ 65 ∷ 65 ∷ 65 ∷ [])
-        (inl (omega arith, omega arith), (inl (omega arith, omega arith),
-            (inl (omega arith, omega arith), (inl (omega arith, omega arith), tt))));
+    characters = All-from_recursion IsCallCharacter (65 ∷ 65 ∷ 65 ∷ 65 ∷ []) (
+      inl (omega arith, omega arith),
+      (
+        inl (omega arith, omega arith),
+        (inl (omega arith, omega arith), (inl (omega arith, omega arith), tt)),
+      ),
+    );
   };
   ssid = omega arith;
 }
@@ -66,9 +70,13 @@ bbbb_valid = record {
   name = record {
     shortest = omega arith;
     longest = omega arith;
-    characters = All-from_recursion IsCallCharacter (66 ∷ 66 ∷ 66 ∷ 66 ∷ [])
-        (inl (omega arith, omega arith), (inl (omega arith, omega arith),
-            (inl (omega arith, omega arith), (inl (omega arith, omega arith), tt))));
+    characters = All-from_recursion IsCallCharacter (66 ∷ 66 ∷ 66 ∷ 66 ∷ []) (
+      inl (omega arith, omega arith),
+      (
+        inl (omega arith, omega arith),
+        (inl (omega arith, omega arith), (inl (omega arith, omega arith), tt)),
+      ),
+    );
   };
   ssid = omega arith;
 }
@@ -221,7 +229,7 @@ a_calls =
     let octets = header 67 (field 65) (field 66) in
     let before = a_registers.after.now in
     let after = event_at 0 LinkConnect (making 0 1 no_layer_3 aaaa bbbb (path_along route) (takes before octets)) in
-        record {
+    record {
       station = A;
       input = FromHost (Bytes 1 octets);
       before = before;
@@ -238,7 +246,7 @@ unfolding reading call_of_text
 b_hears_sabm =
     let before = b_registers.after.now in
     let made = making 0 1 no_layer_3 bbbb aaaa (way_back command_path Command)
-        (shown command_path sabm sabm_frame before) in
+    (shown command_path sabm sabm_frame before) in
     let after = event_at 0 (LinkHear sabm_frame) made in record {
       station = B;
       input = OffAir sabm;

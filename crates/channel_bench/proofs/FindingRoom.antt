@@ -1,7 +1,7 @@
 -- Each step of A's station in a bench keeps one key for all frames that wait there. Each SABM, SABME and DISC of its
 -- link that is not up finds room, if the link does not wish to disconnect while it is idle or calls.
-use Rattle.std.proofs.Common.{◌≡◌, ℕ, ◌<◌, Bool, true, false, nat_lt, List, [], ◌∷◌, length, drop, cond, Option, Some,
-    None, is_none, refl, sym, ap, ◌∙◌, subst, arith, inl, inr}
+use Rattle.std.proofs.Common.{◌≡◌, ℕ, ◌<◌, Bool, true, false, nat_lt, List, [], ◌∷◌, length, drop, cond, Option, Some}
+use Rattle.std.proofs.Common.{None, is_none, refl, sym, ap, ◌∙◌, subst, arith, inl, inr}
 use Rattle.std.specs.Bool.{⊤}
 use Rattle.std.specs.List.{range_with_len, list_any, AllByRecursion as Each}
 use Rattle.agwpe_port.specs.CallField.{call_field}
@@ -11,8 +11,8 @@ use Rattle.channel_access.specs.Channel.{Channel, after_rules, air_waiting, deci
 use Rattle.channel_access.specs.OnAir.{OnAir, bits_then, decided, names_next}
 use Rattle.channel_access.specs.Waiting.{WaitingFrame}
 use Rattle.link_machine.specs.Event.{Event as LinkEvent}
-use Rattle.link_machine.specs.Event.Event.{Connect as LinkConnect, Send as LinkSend, Disconnect as LinkDisconnect,
-    Hear as LinkHear, Tick as LinkTick}
+use Rattle.link_machine.specs.Event.Event.{Connect as LinkConnect, Send as LinkSend, Disconnect as LinkDisconnect}
+use Rattle.link_machine.specs.Event.Event.{Hear as LinkHear, Tick as LinkTick}
 use Rattle.link_machine.specs.Step.{step as link_turn}
 use Rattle.link_world.specs.declared.end.End.TheVariants.{A}
 use Rattle.link_world.proofs.law.Each.{each_weaker}
@@ -37,15 +37,15 @@ use Rattle.channel_bench.specs.MatchedLaw.{AsksInRoom}
 use Rattle.channel_bench.proofs.Acts.{asks_when_sent}
 use Rattle.channel_bench.proofs.AsksLittle.{disconnect_silent, drops_none, if_down, send_silent, sends_none}
 use Rattle.channel_bench.proofs.CoreRun.{Occurs, Usual, input_of}
-use Rattle.channel_bench.proofs.CoreRun.Usual.{connects, disconnects, gives, hears, joins_kiss, joins_program,
-    registers, sets_full, ticks}
+use Rattle.channel_bench.proofs.CoreRun.Usual.{connects, disconnects, gives, hears, joins_kiss, joins_program}
+use Rattle.channel_bench.proofs.CoreRun.Usual.{registers, sets_full, ticks}
 use Rattle.channel_bench.proofs.HearsLittle.{WishesNothing, hear_asks}
 use Rattle.channel_bench.proofs.HostsStay.{HasHosts, IsSaid, IsSet, said_by, set_by}
 use Rattle.channel_bench.proofs.HostsStay.IsSaid.{said, unheard}
 use Rattle.channel_bench.proofs.HostsStay.IsSet.{full, unheard as alone}
 use Rattle.channel_bench.proofs.KeyedHearing.{Hearing, IsHearing, heard_hears}
-use Rattle.channel_bench.proofs.KeyedSteps.{Finds, call_finds, data_keyed, disconnect_keyed, registering_keyed,
-    ticks_find}
+use Rattle.channel_bench.proofs.KeyedSteps.{Finds, call_finds, data_keyed, disconnect_keyed, registering_keyed}
+use Rattle.channel_bench.proofs.KeyedSteps.{ticks_find}
 use Rattle.channel_bench.proofs.LinkDid.{IsOfLink}
 use Rattle.channel_bench.proofs.OneKey.{HasKey, IsKeyed, Keyed}
 use Rattle.channel_bench.proofs.OwnLinks.{Cause, IsBy, IsUnshown, OwnsAll, cause_of, chosen}

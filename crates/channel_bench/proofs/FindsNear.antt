@@ -1,7 +1,7 @@
 -- What connections tell, what host programs give, a tick, and what is heard in the bench keep one key for all frames
 -- that wait at A. Each SABM, SABME and DISC of A's link that is not up finds room.
-use Rattle.std.proofs.Common.{◌≡◌, ℕ, zero, suc, Bool, true, false, List, [], ◌∷◌, ◌++◌, replicate, Option, Some, None,
-    get_or, refl, sym, ap, ◌∙◌, subst, inr}
+use Rattle.std.proofs.Common.{◌≡◌, ℕ, zero, suc, Bool, true, false, List, [], ◌∷◌, ◌++◌, replicate, Option, Some, None}
+use Rattle.std.proofs.Common.{get_or, refl, sym, ap, ◌∙◌, subst, inr}
 use Rattle.std.specs.Prelude.{MatchBool}
 use Rattle.std.proofs.lemmas.List.{length-replicate}
 use Rattle.frame_merge.specs.declared.candidate.Candidate.{Candidate}
@@ -13,8 +13,8 @@ use Rattle.station.specs.Links.{Link, most_links, no_links}
 use Rattle.channel_bench.specs.declared.words.BenchWords.{BenchWords}
 use Rattle.channel_bench.specs.BenchOrder.{stations_of, the_calls}
 use Rattle.channel_bench.specs.BenchState.{AtEnd, BenchState, Near, SideState, near}
-use Rattle.channel_bench.specs.BenchSteps.{AreHeardAt, GoesOn, IsHeardAs, IsHeardAt, IsStep, IsTicking, IsTold, MayCome,
-    match_of, program_id, with_matched, with_stray}
+use Rattle.channel_bench.specs.BenchSteps.{AreHeardAt, GoesOn, IsHeardAs, IsHeardAt, IsStep, IsTicking, IsTold, MayCome}
+use Rattle.channel_bench.specs.BenchSteps.{match_of, program_id, with_matched, with_stray}
 use Rattle.channel_bench.specs.BenchTick.{IsGiven, IsGivenPiece, with_giving}
 use Rattle.channel_bench.specs.HostProgram.{connect_octets, next_piece}
 use Rattle.channel_bench.specs.InFlight.{Moment, nothing_sent}
@@ -23,10 +23,10 @@ use Rattle.channel_bench.specs.JointRun.{Stations, with_state}
 use Rattle.channel_bench.specs.JointRun.Input.{FromHost}
 use Rattle.channel_bench.specs.Words.{text_at}
 use Rattle.channel_bench.proofs.BenchSees.{Holds, HoldsNear, Premises, item_holds, matched_front, near_there}
-use Rattle.channel_bench.proofs.CoreRun.{IsToldUsual, Occurs, Usual, heard_calm, input_of, piece_short, state_there,
-    state_twice}
-use Rattle.channel_bench.proofs.CoreRun.Usual.{connects, disconnects, gives, hears, joins_kiss, joins_program,
-    registers, sets_full, ticks}
+use Rattle.channel_bench.proofs.CoreRun.{IsToldUsual, Occurs, Usual, heard_calm, input_of, piece_short, state_there}
+use Rattle.channel_bench.proofs.CoreRun.{state_twice}
+use Rattle.channel_bench.proofs.CoreRun.Usual.{connects, disconnects, gives, hears, joins_kiss, joins_program}
+use Rattle.channel_bench.proofs.CoreRun.Usual.{registers, sets_full, ticks}
 use Rattle.channel_bench.proofs.FindingRoom.{TakesCall}
 use Rattle.channel_bench.proofs.NotedRun.{steps_passed}
 use Rattle.channel_bench.proofs.OneKey.{IsKeyed}

@@ -1,6 +1,6 @@
 -- What is kept of the frames in flight, and moments one after another.
-use Rattle.std.proofs.Common.{◌≡◌, ℕ, ◌+◌, Bool, true, false, ◌||◌, List, [], ◌∷◌, ◌++◌, map, drop, cond, Option, Some,
-    None, refl, sym, ap, ◌∙◌}
+use Rattle.std.proofs.Common.{◌≡◌, ℕ, ◌+◌, Bool, true, false, ◌||◌, List, [], ◌∷◌, ◌++◌, map, drop, cond, Option, Some}
+use Rattle.std.proofs.Common.{None, refl, sym, ap, ◌∙◌}
 use Rattle.std.specs.Prelude.{is_some}
 use Rattle.std.specs.List.{list_any}
 use Rattle.std.proofs.lemmas.List.{drop-map, map-append}
@@ -9,8 +9,8 @@ use Rattle.channel_bench.specs.declared.flight.Flags.{Flags}
 use Rattle.channel_bench.specs.declared.flight.OneWay.{OneWay as HeldOneWay}
 use Rattle.channel_bench.specs.BenchSteps.{count_of, first_unquiet}
 use Rattle.channel_bench.specs.HeldBench.{flags_of, StandsForWay}
-use Rattle.channel_bench.specs.InFlight.{LinkFrame, OneWay, BothWays, Moment, in_flight, is_quiet_at, queueing_at,
-    queueing_all, after_moment, after_moments}
+use Rattle.channel_bench.specs.InFlight.{LinkFrame, OneWay, BothWays, Moment, in_flight, is_quiet_at, queueing_at}
+use Rattle.channel_bench.specs.InFlight.{queueing_all, after_moment, after_moments}
 
 list_any-map : {X Y : Type 0} (p : Y → Bool) (f : X → Y) (xs : List X)
     → list_any p (map f xs) ≡ list_any (λ x. p (f x)) xs

@@ -1,13 +1,13 @@
 -- What is in flight from the links of a station: the frames that were queued, each with its tags if it is a frame of
 -- the
 -- link that is meant, read along the pairs that are still to be heard.
-use Rattle.std.proofs.Common.{◌≡◌, ℕ, zero, suc, ◌+◌, ◌<◌, ◌≤◌, Bool, true, false, ◌||◌, List, [], ◌∷◌, ◌++◌, length,
-    map, Option, Some, None, get_or, refl, sym, ap, ◌∙◌, arith, inl, inr}
+use Rattle.std.proofs.Common.{◌≡◌, ℕ, zero, suc, ◌+◌, ◌<◌, ◌≤◌, Bool, true, false, ◌||◌, List, [], ◌∷◌, ◌++◌, length}
+use Rattle.std.proofs.Common.{map, Option, Some, None, get_or, refl, sym, ap, ◌∙◌, arith, inl, inr}
 use Rattle.std.specs.Bool.{⊤}
 use Rattle.std.specs.List.{range_with_len, AllByRecursion as Each}
 use Rattle.std.proofs.lemmas.Bool.{cases_lt, cases_eq, eq-eqb, ne_eqb}
-use Rattle.std.proofs.lemmas.List.{append-nil, append_assoc, get_or_append_left, get_or-append-add, get_or_past,
-    length-append}
+use Rattle.std.proofs.lemmas.List.{append-nil, append_assoc, get_or_append_left, get_or-append-add, get_or_past}
+use Rattle.std.proofs.lemmas.List.{length-append}
 use Rattle.link_world.specs.Flight.{Tagged}
 use Rattle.link_world.specs.Changes.{kept, kept_by}
 use Rattle.channel_bench.specs.HeardInOrder.{Pair}
@@ -91,7 +91,7 @@ flight_more tags f h s (p ∷ ps) r = elim (cases_lt p.sent (length tags)) [
       let same : is_named (p ∷ ps) (length tags) ≡ is_named ps (length tags) =
       ap (λ b. b || is_named ps (length tags)) (ne_eqb p.sent (length tags) other) in
       ap (λ o. before_flight o (flight (tags ++ Some f ∷ []) ps))
-          (get_or_append_left tags (Some f ∷ []) None p.sent before)
+      (get_or_append_left tags (Some f ∷ []) None p.sent before)
       ∙ ap (before_flight (tag_at tags p.sent)) rest
       ∙ before_append (tag_at tags p.sent) (flight tags ps) (kept_by (is_named ps (length tags)) f [])
       ∙ ap (λ b. flight tags (p ∷ ps) ++ kept_by b f []) (sym same)
@@ -100,7 +100,7 @@ flight_more tags f h s (p ∷ ps) r = elim (cases_lt p.sent (length tags)) [
         let past : length (tags ++ Some f ∷ []) ≤ p.sent + 1 = let n = one_past tags (Some f) in omega arith in
         let there : tag_at (tags ++ Some f ∷ []) p.sent ≡ Some f =
         ap (tag_at (tags ++ Some f ∷ [])) (here ∙ sym (plus_zero (length tags)))
-            ∙ get_or-append-add tags (Some f ∷ []) 0 None in
+        ∙ get_or-append-add tags (Some f ∷ []) 0 None in
         let named : is_named (p ∷ ps) (length tags) ≡ true =
         ap (λ b. b || is_named ps (length tags)) (eq-eqb p.sent (length tags) here) in
         let none : tag_at tags p.sent ≡ None = get_or_past tags p.sent None (omega arith) in
@@ -163,7 +163,7 @@ named_rest (p ∷ done) rest bound number h low =
     let less : p.sent < bound = h.0 in
     let other : p.sent ≡ number → ⊥ = λ e. absurd (omega arith) in
     ap (λ b. b || is_named (done ++ rest) number) (ne_eqb p.sent number other)
-        ∙ named_rest done rest bound number h.1 low
+    ∙ named_rest done rest bound number h.1 low
 
 marks_rest :
     (done rest : List Pair) (bound first count : ℕ) → Each (λ (p : Pair). p.sent < bound) done → bound ≤ first

@@ -20,7 +20,7 @@ frames_at end (step ∷ steps) =
 
 pub framed-append :
     (on_ask : Bool) (first second : List (List ℕ)) → framed on_ask (first ++ second)
-        ≡ framed on_ask first ++ framed on_ask second
+    ≡ framed on_ask first ++ framed on_ask second
 framed-append on_ask first second = map-append (one_framed on_ask) first second
 
 pub length-framed : (on_ask : Bool) (queue : List (List ℕ)) → length (framed on_ask queue) ≡ length queue
@@ -47,7 +47,7 @@ octets_at end (step ∷ steps) =
     let here = at_end end step.station (framed (hears_ask step.input) step.after.out.queued) in
     map-append (λ (f : LinkFrame). f.octets) here (frames_at end steps)
     ∙ ap (λ q. q ++ octets_in (frames_at end steps)) (at_end_octets end step.station (hears_ask step.input)
-        step.after.out.queued)
+    step.after.out.queued)
     ∙ ap (λ q. at_end end step.station step.after.out.queued ++ q) (octets_at end steps)
 
 pub frames_more :
@@ -59,4 +59,4 @@ frames_more e (first ∷ past) step =
     let here = at_end e first.station (framed (hears_ask first.input) first.after.out.queued) in
     ap (λ q. here ++ q) (frames_more e past step)
     ∙ sym (append_assoc here (frames_at e past) (at_end e step.station
-        (framed (hears_ask step.input) step.after.out.queued)))
+    (framed (hears_ask step.input) step.after.out.queued)))

@@ -1,6 +1,6 @@
 -- A piece that a host program gives while its link is up is one packet, and the link takes it.
-use Rattle.std.proofs.Common.{◌≡◌, ℕ, ◌+◌, ◌/◌, ◌<◌, ◌≤◌, ◌||◌, nat_le, nat_lt, true, false, List, [], ◌∷◌, length, map,
-    cond, get_or, Option, Some, None, is_some, is_none, refl, sym, ap, ◌∙◌, subst, arith}
+use Rattle.std.proofs.Common.{◌≡◌, ℕ, ◌+◌, ◌/◌, ◌<◌, ◌≤◌, ◌||◌, nat_le, nat_lt, true, false, List, [], ◌∷◌, length, map}
+use Rattle.std.proofs.Common.{cond, get_or, Option, Some, None, is_some, is_none, refl, sym, ap, ◌∙◌, subst, arith}
 use Rattle.std.specs.Prelude.{IfSome, position}
 use Rattle.std.specs.List.{range_with_len}
 use Rattle.std.proofs.lemmas.Bool.Decides.{nat_tests}
@@ -20,8 +20,8 @@ use Rattle.link_world.specs.declared.end.End.TheVariants.{A, B}
 use Rattle.link_world.specs.World.{other}
 use Rattle.agwpe_port.specs.Messages.{spelling}
 use Rattle.station.specs.AgwKinds.{data_kind}
-use Rattle.station.specs.AgwRequests.{data_pid, giving_packet, if_own, is_owner, key_of_route, own_key, packet_at,
-    packets_of}
+use Rattle.station.specs.AgwRequests.{data_pid, giving_packet, if_own, is_owner, key_of_route, own_key, packet_at}
+use Rattle.station.specs.AgwRequests.{packets_of}
 use Rattle.station.specs.Connections.{connection_of}
 use Rattle.station.specs.Host.{taking}
 use Rattle.station.specs.Links.{Link, Links, key_between, link_at}
@@ -32,8 +32,8 @@ use Rattle.station.specs.Turn.{Turn, begin}
 use Rattle.channel_bench.specs.BenchSteps.{program_id}
 use Rattle.channel_bench.specs.HostProgram.{call_at, most_octets, request_between}
 use Rattle.channel_bench.specs.JointRun.{IsTurn}
-use Rattle.channel_bench.specs.LinkSteps.{Choice, LinkStep, data_steps, link_step, sends_at, steps_along, steps_for,
-    turn_steps}
+use Rattle.channel_bench.specs.LinkSteps.{Choice, LinkStep, data_steps, link_step, sends_at, steps_along, steps_for}
+use Rattle.channel_bench.specs.LinkSteps.{turn_steps}
 use Rattle.channel_bench.specs.StationsLaw.{first_chosen}
 use Rattle.channel_bench.proofs.CoreRun.{input_of}
 use Rattle.channel_bench.proofs.CoreRun.Usual.{gives}
@@ -141,13 +141,13 @@ data_gives e piece s took same owns accepts there some few =
     let holds : HoldsFew program_id h.link =
     subst (Place program_id) h.at
     (each_get (Place program_id) s.links.places h.key tt
-        (recursion_from_All (Place program_id) s.links.places accepts.links)) in
+    (recursion_from_All (Place program_id) s.links.places accepts.links)) in
     record {
       step = step;
       packet = packet;
       is = ap (λ k. data_steps (chosen e) m k took) key
           ∙ ap (λ ps. steps_along (giving_packet h.key) (sends_at (chosen e) h.key) ps took)
-              (one_packet pid piece some few)
+          (one_packet pid piece some few)
           ∙ append-nil (sends_at (chosen e) h.key packet took)
           ∙ ap (steps_for (chosen e) None h.key (LinkSend packet) took) at
           ∙ ap (λ b. cond b (step ∷ []) []) h.is_chosen;
@@ -180,7 +180,7 @@ taken m packet up quit few short =
     let fits : nat_lt 256 (length packet.octets) ≡ false = go_lt (length packet.octets) short in
     ap (λ b. cond b (Some (wrong m.control)) (rest m packet)) open_link
     ∙ ap (λ b. cond b (Some Full) (cond (nat_lt 256 (length packet.octets)) (Some (TooLong (length packet.octets)))
-        None)) room
+    None)) room
     ∙ ap (λ b. cond b (Some (TooLong (length packet.octets))) None) fits
   where
     wrong : Control → LinkFault

@@ -1,6 +1,7 @@
 -- A host program of the bench gives a piece: its link takes it as a packet of the set-up that runs.
-use Rattle.std.proofs.Common.{◌≡◌, ℕ, zero, suc, ◌<◌, ◌≤◌, ◌==◌, ◌%◌, nat_lt, Bool, true, false, List, [], ◌∷◌, ◌++◌,
-    length, take, drop, cond, Option, Some, None, is_some, refl, sym, ap, ◌∙◌, subst, arith, inl, inr}
+use Rattle.std.proofs.Common.{◌≡◌, ℕ, zero, suc, ◌<◌, ◌≤◌, ◌==◌, ◌%◌, nat_lt, Bool, true, false, List, [], ◌∷◌, ◌++◌}
+use Rattle.std.proofs.Common.{length, take, drop, cond, Option, Some, None, is_some, refl, sym, ap, ◌∙◌, subst, arith}
+use Rattle.std.proofs.Common.{inl, inr}
 use Rattle.std.specs.Prelude.{Any}
 use Rattle.std.proofs.lemmas.Bool.{eq-eqb, ltb-true}
 use Rattle.std.proofs.lemmas.List.{length-drop, length-map, length-take}
@@ -32,8 +33,8 @@ use Rattle.channel_bench.specs.SetUpsSeen.{IsGivenWhileUp, seen_by_all}
 use Rattle.channel_bench.specs.StationsLaw.{IsMachineOf, first_chosen}
 use Rattle.channel_bench.specs.Words.{text_at, text_of}
 use Rattle.channel_access.specs.Words.{words, after_word, generator_of}
-use Rattle.channel_bench.proofs.Chains.{IsChain, StandsAsked, asked_append, asked_behind, behind_append, called_append,
-    called_behind, chain_parts, last_machine, made_by}
+use Rattle.channel_bench.proofs.Chains.{IsChain, StandsAsked, asked_append, asked_behind, behind_append, called_append}
+use Rattle.channel_bench.proofs.Chains.{called_behind, chain_parts, last_machine, made_by}
 use Rattle.channel_bench.proofs.CoreRun.{input_of}
 use Rattle.channel_bench.proofs.CoreRun.Usual.{gives}
 use Rattle.channel_bench.proofs.Framed.{framed}
@@ -49,8 +50,8 @@ use Rattle.channel_bench.proofs.OwnMessages.Comes.{by_link, joined, refused, rep
 use Rattle.channel_bench.proofs.ProgramSees.{GaveAllIn, Sees, send_sees}
 use Rattle.channel_bench.proofs.ProgramsAsk.{hosts_at}
 use Rattle.channel_bench.proofs.Shorts.{GivesShort, ShortStep, steps_written}
-use Rattle.channel_bench.proofs.SideSees.{SideSees, asked_kept, called_kept, linked, never_asks, seen_append,
-    side_after}
+use Rattle.channel_bench.proofs.SideSees.{SideSees, asked_kept, called_kept, linked, never_asks, seen_append}
+use Rattle.channel_bench.proofs.SideSees.{side_after}
 use Rattle.channel_bench.proofs.StepSees.{SeesAt, far_sees, queue_of, step_laws, unshown_of}
 use Rattle.channel_bench.proofs.ThereStays.{HasProgram, is_there, there_grows}
 
@@ -94,7 +95,7 @@ piece_is text (Some q) piece is = go (nat_lt (length q.given) (length text)) ref
 
 up_of :
     (runs asked : Bool) (state : LinkState) (quit : Bool) → RunsIn runs state → runs ≡ true
-        → StandsAsked asked state quit
+    → StandsAsked asked state quit
     → (asked ≡ true → ⊥) → (state ≡ Up) × (quit ≡ false)
 up_of runs asked Idle quit in_state run stands never =
     elim (in_state.only run) [ inl same ↦ absurd (cc) | inr same ↦ absurd (cc) ]
@@ -139,7 +140,7 @@ gave w e piece moments next t side far there turn on step g same own later links
     let machine : last ≡ step.link.machine = ap (λ a. made_by a last) (sym anew) ∙ chain.0 in
     let few_held = subst (λ (x : LinkStep). length x.link.machine.outgoing.packets ≤ most_held) same g.few in
     let short_packet : length g.packet.octets ≤ most_octets =
-        subst (λ xs. length xs ≤ most_octets) (sym g.octets) few in
+    subst (λ xs. length xs ≤ most_octets) (sym g.octets) few in
     let up_here = ap (λ (m : Machine). m.control.state) (sym machine) ∙ up in
     let quit_here = ap (λ (m : Machine). m.control.quit) (sym machine) ∙ quit in
     let given_one : GivenUp step =
@@ -157,13 +158,13 @@ gave w e piece moments next t side far there turn on step g same own later links
     let one = send_sees e step g.packet piece p seen event g.octets in_one (subst (Sees p seen) run own.sees) in
     let sees : Sees (told_all made q) (seen_by_all (events ++ step ∷ []) []) (runs_behind false (events ++ step ∷ [])) =
     subst (λ xs. Sees (told_all made q) xs (runs_behind false (events ++ step ∷ [])))
-        (sym (seen_append events (step ∷ []) []))
+    (sym (seen_append events (step ∷ []) []))
     (subst (Sees (told_all made q) (seen_by_all (step ∷ []) seen))
     (sym (behind_append false events (step ∷ []) ∙ ap (λ r. runs_behind r (step ∷ [])) run)) one) in
     linked w e sending side q events (step ∷ []) (queue_of e moments) there turn on own says
     (steps_written e (step ∷ []) laws.short) sees
     (λ is. asked_kept w.octets e (step ∷ []) (asked_behind false events) q (no_disconnect, tt)
-        (λ was. absurd (unasked was))
+    (λ was. absurd (unasked was))
     (sym (asked_append false events (step ∷ [])) ∙ is))
     (λ is. called_append false events (step ∷ [])
     ∙ called_kept e (step ∷ []) (called_behind false events) q (no_connect, tt) own.calls is)
@@ -200,13 +201,13 @@ gives_sees w e piece n next far s is accepts h at known later both =
     let there = there_after (input_of e (gives piece)) h.turn.out.closed side.there in
     let hosts : HasHosts side.station = subst HasHosts (sym at) (hosts_at e s known.little.a known.little.b) in
     let one = subst (λ count. IsPiece count p.running piece) (text_long w e) (piece_is (text_at w e) p.running piece is)
-        in
+    in
     let now : LinkNow w moments s e = link_now w moments s known e own.asks in
     let run : runs_behind false events ≡ true = sym own.sees.runs_is ∙ one.runs in
     let unasked : asked_behind false events ≡ true → ⊥ = λ was. one.left (own.asked was) in
     let last = last_machine (first_machine w e) events in
     let up = up_of (runs_behind false events) (asked_behind false events)
-        last.control.state last.control.quit now.runs run
+    last.control.state last.control.quit now.runs run
     now.stands unasked in
     let found : is_some (first_chosen (chosen e) side.station.links.places) ≡ true =
     subst (λ (x : StationState). is_some (first_chosen (chosen e) x.links.places) ≡ true) (sym at)
@@ -230,7 +231,7 @@ gives_sees w e piece n next far s is accepts h at known later both =
     let done : SideSees w e (side_after side (giving piece p) there h.turn) (events ++ g.step ∷ [])
     (queue_of e moments ++ framed (hears_ask step.input) h.turn.out.queued) =
     gave w e piece moments more (with_state e next.side.station s) side far there h.turn (hears_ask step.input)
-        g.step exact
+    g.step exact
     refl own later (links ∙ ap (λ xs. events ++ xs) g.is) far_next has run unasked one.few up.0 up.1
     (subst (λ xs. Comes sending ⊥ e (begin side.station) xs h.turn) g.is comes) in
     record {

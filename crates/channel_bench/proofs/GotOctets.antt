@@ -8,8 +8,8 @@ use Rattle.std.proofs.lemmas.List.Elements.{All-from_recursion, recursion_from_A
 use Rattle.std.proofs.lemmas.List.Kept.{AllPairs-cons}
 use Rattle.std.proofs.lemmas.Option.{slice_get-map}
 use Rattle.selective_reject.specs.declared.packet.Packet.{Packet}
-use Rattle.link_world.specs.Origin.{GotPrefix, GotNothingElse, GotInOrder as PacketsInOrder, RiseStrictly, origin_of,
-    origins}
+use Rattle.link_world.specs.Origin.{GotPrefix, GotNothingElse, GotInOrder as PacketsInOrder, RiseStrictly, origin_of}
+use Rattle.link_world.specs.Origin.{origins}
 use Rattle.link_world.specs.Recorded.{RecordedEnd}
 use Rattle.link_world.specs.SetUps.{SetUp as LinkSetUp}
 use Rattle.channel_bench.specs.declared.report.SetUp.{SetUp}

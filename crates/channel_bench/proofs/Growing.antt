@@ -1,21 +1,21 @@
 -- A joint run with one step more: it is a run, and it is heard in order, if the step adds the next pair or none.
 -- Whoever
 -- makes a run step by step keeps these.
-use Rattle.std.proofs.Common.{◌≡◌, ℕ, ◌+◌, ◌<◌, ◌≤◌, List, [], ◌∷◌, ◌++◌, length, take, Some, get_or, refl, sym, ap,
-    ◌∙◌, subst, arith, inl, inr}
+use Rattle.std.proofs.Common.{◌≡◌, ℕ, ◌+◌, ◌<◌, ◌≤◌, List, [], ◌∷◌, ◌++◌, length, take, Some, get_or, refl, sym, ap}
+use Rattle.std.proofs.Common.{◌∙◌, subst, arith, inl, inr}
 use Rattle.std.specs.Prelude.{All, slice_get}
 use Rattle.std.proofs.lemmas.Bool.{cases_lt}
 use Rattle.std.proofs.lemmas.List.{length-append, get_or_append_left, take-append-le}
-use Rattle.std.proofs.lemmas.List.Elements.{All-append, All-contains_itself, All-from_recursion, Contains-append_left,
-    Contains-append_right}
+use Rattle.std.proofs.lemmas.List.Elements.{All-append, All-contains_itself, All-from_recursion, Contains-append_left}
+use Rattle.std.proofs.lemmas.List.Elements.{Contains-append_right}
 use Rattle.std.proofs.lemmas.List.Quantifiers.{all_pairs_push}
 use Rattle.std.proofs.lemmas.Option.{slice_get-get_or, slice_get_within}
 use Rattle.std.proofs.Math.Seq.{get_or-append_seam, take-append_seam}
 use Rattle.link_world.specs.declared.end.End.{End}
 use Rattle.link_world.specs.World.{other}
 use Rattle.channel_bench.specs.JointRun.{Step, Stations, state_of, stepped, IsJointRun, all_stepped, queued_at}
-use Rattle.channel_bench.specs.HeardInOrder.{AreAlikeButForH, Pair, RiseBoth, HearsLinkFrame, IsHeardPair,
-    AreHeardInOrder}
+use Rattle.channel_bench.specs.HeardInOrder.{AreAlikeButForH, Pair, RiseBoth, HearsLinkFrame, IsHeardPair}
+use Rattle.channel_bench.specs.HeardInOrder.{AreHeardInOrder}
 
 -- ---- a run
 
@@ -124,8 +124,11 @@ heard_one_more hearer steps step pairs octets queued sent order hears there alik
       all = λ number found other_octets is heard. elim (cases_lt number (length steps)) [
         | inl before ↦
             let old = order.all number found other_octets (sym (get_left steps step number before) ∙ is) heard in
-            record { pair = old.pair; contains = Contains-append_left pairs (p ∷ []) old.pair old.contains;
-                is = old.is }
+            record {
+              pair = old.pair;
+              contains = Contains-append_left pairs (p ∷ []) old.pair old.contains;
+              is = old.is;
+            }
         | inr not_before ↦
             let within = slice_get_within (steps ++ step ∷ []) number found is in
             let size = length-append steps (step ∷ []) in

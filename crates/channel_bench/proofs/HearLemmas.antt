@@ -1,6 +1,6 @@
 -- Frames, messages and pieces one after another.
-use Rattle.std.proofs.Common.{◌≡◌, ℕ, ◌+◌, ◌<◌, List, [], ◌∷◌, ◌++◌, length, take, drop, get_or, Option, Some, None,
-    refl, sym, ap, ◌∙◌, subst}
+use Rattle.std.proofs.Common.{◌≡◌, ℕ, ◌+◌, ◌<◌, List, [], ◌∷◌, ◌++◌, length, take, drop, get_or, Option, Some, None}
+use Rattle.std.proofs.Common.{refl, sym, ap, ◌∙◌, subst}
 use Rattle.std.proofs.Common.{true}
 use Rattle.std.specs.Prelude.{is_some, position, option_map}
 use Rattle.std.proofs.lemmas.Bool.{false≢true}
@@ -15,8 +15,8 @@ use Rattle.channel_bench.specs.declared.side.Side.{Side}
 use Rattle.channel_bench.specs.declared.trouble.Trouble.{Trouble}
 use Rattle.channel_bench.specs.declared.trouble.Trouble.TheVariants.{Stray}
 use Rattle.channel_bench.specs.BenchState.{SideState, Near}
-use Rattle.channel_bench.specs.BenchSteps.{GoesOn, IsStep, IsHeardAs, IsHeardAt, AreHeardAt, is_match, match_of,
-    told_piece, told_pieces, with_matched, with_stray}
+use Rattle.channel_bench.specs.BenchSteps.{GoesOn, IsStep, IsHeardAs, IsHeardAt, AreHeardAt, is_match, match_of}
+use Rattle.channel_bench.specs.BenchSteps.{told_piece, told_pieces, with_matched, with_stray}
 use Rattle.channel_bench.specs.HeldBench.{StandsForCommon, StandsForNear}
 use Rattle.channel_bench.specs.JointRun.Input.{OffAir}
 use Rattle.channel_bench.specs.HostProgram.{ProgramState, told, told_all}

@@ -1,8 +1,8 @@
 -- A frame that is heard keeps what holds of a link between two calls: as an event of that link it is the frame in front
 -- of
 -- those in flight, and as an event of another it is not among them.
-use Rattle.std.proofs.Common.{◌≡◌, ℕ, ◌<◌, Bool, true, false, List, [], ◌∷◌, length, drop, arith, cond, Option, Some,
-    None, is_some, refl, sym, ap, ◌∙◌, subst, inl, inr}
+use Rattle.std.proofs.Common.{◌≡◌, ℕ, ◌<◌, Bool, true, false, List, [], ◌∷◌, length, drop, arith, cond, Option, Some}
+use Rattle.std.proofs.Common.{None, is_some, refl, sym, ap, ◌∙◌, subst, inl, inr}
 use Rattle.std.specs.Prelude.{All, MatchBool, map, is_none}
 use Rattle.std.proofs.lemmas.List.{get_or-set_same}
 use Rattle.ax25_address.specs.Callsign.{Callsign}
@@ -25,9 +25,9 @@ use Rattle.digipeater.specs.Repeated.{repeated}
 use Rattle.station.specs.declared.host_event.PortKind.{PortKind}
 use Rattle.station.specs.declared.host_event.PortKind.TheVariants.{Kiss, Agw}
 use Rattle.station.specs.Connections.{Connection}
-use Rattle.station.specs.Heard.{IsPathOf, hearing_at, with_shown, IsHeard, IsHeardBy, IsHeardAnew, IsHeardMaking,
-    IsReadingHeardAnew, IsRepeatedFor, IsReadAs, AreHeardAt, AreOctetsHeard, may_make, showing_to, shown_to_hosts,
-    source_field, destination_field, waits_for_repeater}
+use Rattle.station.specs.Heard.{IsPathOf, hearing_at, with_shown, IsHeard, IsHeardBy, IsHeardAnew, IsHeardMaking}
+use Rattle.station.specs.Heard.{IsReadingHeardAnew, IsRepeatedFor, IsReadAs, AreHeardAt, AreOctetsHeard, may_make}
+use Rattle.station.specs.Heard.{showing_to, shown_to_hosts, source_field, destination_field, waits_for_repeater}
 use Rattle.station.specs.LinkEvents.{event_at, with_links}
 use Rattle.station.specs.Links.{Link, Links, most_links, is_between, key_between, link_at, with_new_link, link_modulus}
 use Rattle.station.specs.NewLinks.{making, idle_link, no_layer_3}
@@ -36,11 +36,11 @@ use Rattle.station.specs.Turn.{Out, Turn, in_order, changing}
 use Rattle.channel_bench.specs.HeardInOrder.{AreAlikeButForH, with_none_done}
 use Rattle.channel_bench.specs.InFlight.{LinkFrame, is_ask}
 use Rattle.channel_bench.specs.LinkOfCalls.{event_at_end}
-use Rattle.channel_bench.specs.LinkSteps.{LinkStep, link_step, steps_for, steps_at, hears_at, new_steps, anew_steps,
-    reading_steps, key_steps, path_steps, by_path_steps, heard_steps}
+use Rattle.channel_bench.specs.LinkSteps.{LinkStep, link_step, steps_for, steps_at, hears_at, new_steps, anew_steps}
+use Rattle.channel_bench.specs.LinkSteps.{reading_steps, key_steps, path_steps, by_path_steps, heard_steps}
 use Rattle.channel_bench.specs.StationsLaw.{first_chosen}
-use Rattle.channel_bench.proofs.Acts.{Setting, Holds, marks_of, still_holds, own_machine, own_heard, heard_told,
-    heard_asking, heard_next, FrontRead, is_asking, asks_when_sent, other_event}
+use Rattle.channel_bench.proofs.Acts.{Setting, Holds, marks_of, still_holds, own_machine, own_heard, heard_told}
+use Rattle.channel_bench.proofs.Acts.{heard_asking, heard_next, FrontRead, is_asking, asks_when_sent, other_event}
 use Rattle.channel_bench.proofs.Addresses.{heard_again}
 use Rattle.channel_bench.proofs.Along.{Kept, makes_near}
 use Rattle.channel_bench.proofs.Events.{meant, MayMake, made_own, made_another}
@@ -93,16 +93,16 @@ heard_at_link s e octets back stays turn key link path len frame made w low (Own
     begins local remote is at own another true chosen =
     let H = own chosen in
     let again = reread s.remote s.local f octets queued (modulus_named link.machine.incoming.modulus)
-        frame tag alike low is in
+    frame tag alike low is in
     let machine : made.a.end.machine ≡ link.machine = own_machine s (f ∷ later) turn made key link H at chosen in
     let read : read_in made.a.end.machine.incoming.modulus f ≡ Some again.as_read =
     ap (λ (m : Machine). read_in m.incoming.modulus f) machine ∙ again.reading in
     let same : step made.a.end.machine (LinkHear again.as_read) ≡ step link.machine (LinkHear frame) =
     ap (λ m. step m (LinkHear again.as_read)) machine
-        ∙ hears_same link.machine again.as_read frame again.kind again.role in (
+    ∙ hears_same link.machine again.as_read frame again.kind again.role in (
       own_heard s e f again.as_read later turn made key link frame
           (λ asking. caused (ask_heard (modulus_named link.machine.incoming.modulus) octets frame is
-              (ap asks (sym again.kind) ∙ asking)))
+          (ap asks (sym again.kind) ∙ asking)))
           H at chosen read same,
       machine,
       heard_told e f again.as_read later made link.machine frame H.back_is read same,
@@ -123,21 +123,21 @@ heard_at_link s e octets back stays turn key link path len frame made w low (Own
     begins local remote is at own another false chosen =
     let again = heard_again (modulus_named f.modulus) f.frame octets queued.octets tag.path tag.spelled alike in
     let same : path ≡ alike.path_heard =
-        (BeginsWithPath-same octets path alike.path_heard len alike.len begins alike.heard_begins).0 in
+    (BeginsWithPath-same octets path alike.path_heard len alike.len begins alike.heard_begins).0 in
     absurd (not_both (meant s (Some link)) (calls_chosen s.local s.remote link
     (local ∙ ap (λ (p : Path). p.dest) same ∙ same_dest alike.path_heard f.frame.path again.paths ∙ tag.dest)
     (remote ∙ ap (λ (p : Path). p.source) same ∙ same_source alike.path_heard f.frame.path again.paths ∙ tag.source))
-        chosen)
+    chosen)
 heard_at_link s e octets back stays turn key link path len frame made w low (Another later queued alike other)
     begins local remote is at own another true chosen =
     let calls = chosen_calls s.local s.remote link chosen in
     let same : path ≡ alike.path_heard =
-        (BeginsWithPath-same octets path alike.path_heard len alike.len begins alike.heard_begins).0 in
+    (BeginsWithPath-same octets path alike.path_heard len alike.len begins alike.heard_begins).0 in
     absurd (other alike.path_sent alike.len alike.sent_begins
     (sym (same_source alike.path_heard alike.path_sent alike.paths) ∙ sym (ap (λ (p : Path). p.source) same)
-        ∙ sym remote ∙ calls.remote_is)
+    ∙ sym remote ∙ calls.remote_is)
     (sym (same_dest alike.path_heard alike.path_sent alike.paths) ∙ sym (ap (λ (p : Path). p.dest) same) ∙ sym local
-        ∙ calls.local_is))
+    ∙ calls.local_is))
 heard_at_link s e octets back stays turn key link path len frame made w low (Another later queued alike other)
     begins local remote is at own another false chosen =
     other_event s later turn w key link (LinkHear frame) (another chosen) at chosen
@@ -147,7 +147,7 @@ by_choice :
     (s : Setting) (e : End) (stays : List Tagged) (turn : Turn) (key : ℕ) (link : Link) (frame : Frame)
     (anew : Option Path) (w : World) (b : Bool) → HeardBy b s e stays turn key link frame (makes_near anew w) w
     → Kept s e stays (event_at key (LinkHear frame) turn)
-        (cond b (link_step anew key (LinkHear frame) turn link ∷ []) []) w
+    (cond b (link_step anew key (LinkHear frame) turn link ∷ []) []) w
 by_choice s e stays turn key link frame anew w true h =
     (h.0, (record { machine = h.1; told = h.2; stays = h.3; asking = h.4; next = h.5; reads = h.6 }, tt))
 by_choice s e stays turn key link frame anew w false h = (h, tt)
@@ -161,11 +161,11 @@ pub there_goes :
     → Kept s e stays (event_at key (LinkHear frame) turn) (steps_at (meant s) None key (LinkHear frame) turn) w
 there_goes s e octets back stays turn key link path len frame w low pop begins local remote is at H =
     subst (λ place. Kept s e stays (event_at key (LinkHear frame) turn)
-        (steps_for (meant s) None key (LinkHear frame) turn place) w)
+    (steps_for (meant s) None key (LinkHear frame) turn place) w)
     (sym at)
     (by_choice s e stays turn key link frame None w (meant s (Some link))
     (heard_at_link s e octets back stays turn key link path len frame w w low pop begins local remote is at (λ c. H)
-        (λ c. H)
+    (λ c. H)
     (meant s (Some link)) refl))
 
 -- ---- an event of a link that is made for it
@@ -184,7 +184,7 @@ new_goes s e octets back stays before turn key link way path len frame w low pop
     ap (λ (t : Turn). link_at key t.now.links) turn_is
     ∙ made_at s.params (meant s) before.now.links w.a.end.machine key link H.table may.new in
     subst (λ place. Kept s e stays (event_at key (LinkHear frame) turn)
-        (steps_for (meant s) (Some way) key (LinkHear frame) turn place) w)
+    (steps_for (meant s) (Some way) key (LinkHear frame) turn place) w)
     (sym at)
     (by_choice s e stays turn key link frame (Some way) w (meant s (Some link))
     (heard_at_link s e octets back stays turn key link path len frame (near_made way w) w low pop begins local remote
@@ -233,7 +233,7 @@ pub data Outcome (s : Setting) (e : End) (octets : List ℕ) (before after : Tur
 
 not_empty :
     (anew : Option Path) (key : ℕ) (event : LinkEvent) (turn : Turn) (link : Link) (place : Option Link)
-        → place ≡ Some link
+    → place ≡ Some link
     → steps_for is_some anew key event turn place ≡ [] → ⊥
 not_empty anew key event turn link None is empty = cc
 not_empty anew key event turn link (Some other) is empty = cc
@@ -245,7 +245,7 @@ anew_outcome :
     → before.now.parameters ≡ s.params → length before.now.links.places ≡ most_links
     → (h : IsHeardAnew registered frame before after)
     → Outcome s e octets before after (anew_steps (meant s) registered frame before after h)
-        (anew_steps is_some registered frame before after h)
+    (anew_steps is_some registered frame before after h)
 anew_outcome s e octets path len None frame before after low begins is vacant params size h =
     Passed (subst (IsStill before) (sym h) (still before)) refl refl
 anew_outcome s e octets path len (Some id) frame before after low begins is vacant params size h =
@@ -262,7 +262,7 @@ anew_outcome s e octets path len (Some id) frame before after low begins is vaca
 
     go : (may : Bool) → (k : MatchBool may (IsHeardMaking id frame before after) (after ≡ before))
         → Outcome s e octets before after (new_steps (meant s) id frame may before after k)
-            (new_steps is_some id frame may before after k)
+        (new_steps is_some id frame may before after k)
     go false k = Passed (subst (IsStill before) (sym k) (still before)) refl refl
     go true k =
         let made = making k.0 id no_layer_3 frame.path.dest frame.path.source way before in
@@ -297,14 +297,14 @@ reading_outcome :
     (before after : Turn) → All (λ octet. octet < 256) octets → BeginsWithPath octets path len
     → IsReadAs Eight octets reading → key_between path.dest path.source before.now.links ≡ None
     → before.now.parameters ≡ s.params → length before.now.links.places ≡ most_links
-        → (h : IsReadingHeardAnew reading before after)
+    → (h : IsReadingHeardAnew reading before after)
     → Outcome s e octets before after (reading_steps (meant s) reading before after h)
-        (reading_steps is_some reading before after h)
+    (reading_steps is_some reading before after h)
 reading_outcome s e octets path len None before after low begins is vacant params size h =
     Passed (subst (IsStill before) (sym h) (still before)) refl refl
 reading_outcome s e octets path len (Some frame) before after low begins is vacant params size h =
     anew_outcome s e octets path len (registrar frame.path.dest before.now.registrations)
-        frame before after low begins is vacant
+    frame before after low begins is vacant
     params size h
 
 -- for the link of a key
@@ -324,7 +324,7 @@ there_outcome s e octets path len key (Some frame) before after low begins found
 
     by_place : (place : Option Link) → link_at key before.now.links ≡ place
         → Outcome s e octets before after (hears_at (meant s) key (Some frame) before)
-            (hears_at is_some key (Some frame) before)
+        (hears_at is_some key (Some frame) before)
     by_place None at = absurd (not_both false (sym (ap (is_between path.dest path.source) at) ∙ chosen) refl)
     by_place (Some link) at =
         let calls = chosen_calls path.dest path.source link (sym (ap (is_between path.dest path.source) at) ∙ chosen) in
@@ -340,7 +340,7 @@ key_outcome :
     → key_between path.dest path.source before.now.links ≡ key → before.now.parameters ≡ s.params
     → length before.now.links.places ≡ most_links → (h : AreHeardAt key octets before after)
     → Outcome s e octets before after (key_steps (meant s) key octets before after h)
-        (key_steps is_some key octets before after h)
+    (key_steps is_some key octets before after h)
 key_outcome s e octets path len (Some key) before after low begins found params size h =
     there_outcome s e octets path len key h.0 before after low begins found h.1 h.2
 key_outcome s e octets path len None before after low begins found params size h =
@@ -351,21 +351,21 @@ path_outcome :
     → All (λ octet. octet < 256) octets → BeginsWithPath octets path len → before.now.parameters ≡ s.params
     → length before.now.links.places ≡ most_links
     → (h : MatchBool waits (IsRepeatedFor before.now.digi octets before after)
-        (AreOctetsHeard path octets before after))
+    (AreOctetsHeard path octets before after))
     → Outcome s e octets before after (path_steps (meant s) path waits octets before after h)
-        (path_steps is_some path waits octets before after h)
+    (path_steps is_some path waits octets before after h)
 path_outcome s e octets path len true before after low begins params size h =
     Passed (repeated_still before.now.digi octets before after h) refl refl
 path_outcome s e octets path len false before after low begins params size h =
     key_outcome s e octets path len (key_between path.dest path.source before.now.links)
-        before after low begins refl params size h
+    before after low begins refl params size h
 
 by_path_outcome :
     (s : Setting) (e : End) (octets : List ℕ) (path : Option Path) (before after : Turn)
     → All (λ octet. octet < 256) octets → IsPathOf octets path → before.now.parameters ≡ s.params
     → length before.now.links.places ≡ most_links → (h : IsHeardBy path octets before after)
     → Outcome s e octets before after (by_path_steps (meant s) path octets before after h)
-        (by_path_steps is_some path octets before after h)
+    (by_path_steps is_some path octets before after h)
 by_path_outcome s e octets None before after low is params size h =
     Passed (subst (IsStill before) (sym h) (still before)) refl refl
 by_path_outcome s e octets (Some path) before after low is params size h =
@@ -374,19 +374,19 @@ by_path_outcome s e octets (Some path) before after low is params size h =
 -- what is shown before is nothing to a link
 after_showing :
     (s : Setting) (e : End) (octets : List ℕ) (before shown after : Turn) (own any : List LinkStep)
-        → IsStill before shown
+    → IsStill before shown
     → Outcome s e octets shown after own any → Outcome s e octets before after own any
 after_showing s e octets before shown after own any h (Passed calm none none_any) =
     Passed (still_both before shown after h calm) none none_any
 after_showing s e octets before shown after own any h (Event goes some) =
     Event (λ w back stays pop H. goes w back stays pop
-        (still_holds s back before shown w H h.links h.parameters h.queued)) some
+    (still_holds s back before shown w H h.links h.parameters h.queued)) some
 
 pub heard_outcome :
     (s : Setting) (e : End) (octets : List ℕ) (before after : Turn) → All (λ octet. octet < 256) octets
     → before.now.parameters ≡ s.params → length before.now.links.places ≡ most_links → (h : IsHeard octets before after)
     → Outcome s e octets before after (heard_steps (meant s) octets before after h)
-        (heard_steps is_some octets before after h)
+    (heard_steps is_some octets before after h)
 heard_outcome s e octets before after low params size h =
     let shown = shown_to_hosts h.path octets h.monitored before in
     let calm : IsStill before shown = shown_still h.path octets h.monitored before in

@@ -1,7 +1,7 @@
 -- The host programs of a bench: which connections they have, what has come from each, and that a step of a station
 -- changes no more of that than what comes in it.
-use Rattle.std.proofs.Common.{◌≡◌, ℕ, ◌==◌, Bool, true, false, List, [], ◌∷◌, length, cond, nat_lt, Option, Some, None,
-    refl, sym, ap, ◌∙◌, subst}
+use Rattle.std.proofs.Common.{◌≡◌, ℕ, ◌==◌, Bool, true, false, List, [], ◌∷◌, length, cond, nat_lt, Option, Some, None}
+use Rattle.std.proofs.Common.{refl, sym, ap, ◌∙◌, subst}
 use Rattle.std.specs.List.{AllByRecursion as Each}
 use Rattle.std.proofs.lemmas.Bool.{eqb-true}
 use Rattle.agwpe_port.specs.Messages.{spelling}
@@ -19,8 +19,8 @@ use Rattle.station.specs.Turn.{Turn, begin, changing, closing}
 use Rattle.channel_bench.specs.BenchSteps.{program_id}
 use Rattle.channel_bench.specs.BenchTick.{kiss_id}
 use Rattle.channel_bench.specs.HostProgram.{full_duplex_octets}
-use Rattle.channel_bench.proofs.HostStreams.{IsSetting, IsWhole, none_bad, one_new, one_setting, setting_more,
-    whole_more}
+use Rattle.channel_bench.proofs.HostStreams.{IsSetting, IsWhole, none_bad, one_new, one_setting, setting_more}
+use Rattle.channel_bench.proofs.HostStreams.{whole_more}
 use Rattle.channel_bench.proofs.TurnWalks.{Kept, kept_by_acts}
 
 -- ---- the connections

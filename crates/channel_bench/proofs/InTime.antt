@@ -1,7 +1,8 @@
 -- A heard frame is matched with one in flight: what a station sends comes to the other one in order, and a frame that
 -- a mark has passed is not heard later.
-use Rattle.std.proofs.Common.{◌≡◌, ℕ, cond, ◌+◌, ◌-◌, ◌*◌, ◌<◌, ◌≤◌, ◌==◌, ◌⊎◌, max, Bool, true, false, List, [], ◌∷◌,
-    ◌++◌, length, map, drop, get_or, Option, Some, None, refl, sym, ap, ◌∙◌, subst, inl, inr, arith, length-append}
+use Rattle.std.proofs.Common.{◌≡◌, ℕ, cond, ◌+◌, ◌-◌, ◌*◌, ◌<◌, ◌≤◌, ◌==◌, ◌⊎◌, max, Bool, true, false, List, [], ◌∷◌}
+use Rattle.std.proofs.Common.{◌++◌, length, map, drop, get_or, Option, Some, None, refl, sym, ap, ◌∙◌, subst, inl, inr}
+use Rattle.std.proofs.Common.{arith, length-append}
 use Rattle.std.specs.Prelude.{count_by, option_map, slice_get}
 use Rattle.std.proofs.Math.Nat.{max-le}
 use Rattle.std.proofs.lemmas.Bool.{cases_lt}
@@ -18,8 +19,9 @@ use Rattle.station.specs.Ticks.{air_of}
 use Rattle.channel_bench.specs.declared.matching.SentAt.{SentAt}
 use Rattle.channel_bench.specs.BenchState.{Near, SideState}
 use Rattle.channel_bench.specs.BenchSteps.{IsStep, distance, program_id, told_octets, told_piece, told_pieces}
-use Rattle.channel_bench.specs.InFlight.{Moment, AreMatched, BothWays, IsInFlight, IsMatched, IsMatchedIn, LinkFrame,
-    OneWay, after_moment, after_moments, hears_ask, hearing_at, nothing_sent, sent_by, steps_in}
+use Rattle.channel_bench.specs.InFlight.{Moment, AreMatched, BothWays, IsInFlight, IsMatched, IsMatchedIn, LinkFrame}
+use Rattle.channel_bench.specs.InFlight.{OneWay, after_moment, after_moments, hears_ask, hearing_at, nothing_sent}
+use Rattle.channel_bench.specs.InFlight.{sent_by, steps_in}
 use Rattle.channel_bench.specs.InFlight.Moment.{Steps, Passes}
 use Rattle.channel_bench.specs.JointRun.{Input, Step, at_end, queued_at}
 use Rattle.channel_bench.specs.JointRun.Input.{OffAir, OfClock}
@@ -28,8 +30,8 @@ use Rattle.channel_bench.proofs.ChannelOrder.{octets_of, sent_octets}
 use Rattle.channel_bench.proofs.Framed.{framed, octets_framed, octets_in}
 use Rattle.channel_bench.proofs.NotedRun.{moments_more, steps_more}
 use Rattle.channel_bench.proofs.SentInOrder.{InOrder, sent_at, sent_in_step, sent_more}
-use Rattle.channel_bench.proofs.TowardsLemmas.{IsMatchAt, Rising, counted_within, has_passed, octets_at, passed_counted,
-    rising_later, rising_more, still_there}
+use Rattle.channel_bench.proofs.TowardsLemmas.{IsMatchAt, Rising, counted_within, has_passed, octets_at, passed_counted}
+use Rattle.channel_bench.proofs.TowardsLemmas.{rising_later, rising_more, still_there}
 use Rattle.channel_bench.proofs.Ways.{hearing_one, hearing_none, queued_by, queued_passed, stepped_other, stepped_own}
 
 -- ---- the frames that links have queued, in a run with its matches

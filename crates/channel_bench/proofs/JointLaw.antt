@@ -1,8 +1,8 @@
 -- The law on any two stations: over a joint run that is heard in order, the two ends of a link follow it, so that the
 -- law of
 -- two links is the law of what the stations did.
-use Rattle.std.proofs.Common.{◌≡◌, ℕ, zero, suc, ◌+◌, ◌<◌, ◌≤◌, Bool, List, [], ◌∷◌, ◌++◌, length, take, replicate,
-    Option, Some, None, refl, sym, ap, ◌∙◌, subst, arith}
+use Rattle.std.proofs.Common.{◌≡◌, ℕ, zero, suc, ◌+◌, ◌<◌, ◌≤◌, Bool, List, [], ◌∷◌, ◌++◌, length, take, replicate}
+use Rattle.std.proofs.Common.{Option, Some, None, refl, sym, ap, ◌∙◌, subst, arith}
 use Rattle.std.specs.Prelude.{AllPairs, slice_get}
 use Rattle.std.specs.Bool.{⊤}
 use Rattle.std.specs.List.{AllByRecursion as Each}
@@ -20,20 +20,21 @@ use Rattle.link_world.specs.World.{World, seen_from, other}
 use Rattle.station.specs.declared.config.Config.{Config}
 use Rattle.station.specs.Links.{Link, is_between, most_links}
 use Rattle.station.specs.State.{StationState, new_station}
-use Rattle.channel_bench.specs.JointRun.{Input, Step, Stations, new_stations, state_of, with_state, stepped, IsJointRun,
-    all_stepped, at_end}
+use Rattle.channel_bench.specs.JointRun.{Input, Step, Stations, new_stations, state_of, with_state, stepped, IsJointRun}
+use Rattle.channel_bench.specs.JointRun.{all_stepped, at_end}
 use Rattle.channel_bench.specs.HeardInOrder.{Pair, RiseBoth, IsOffAir, HearsLinkFrame, AreHeardInOrder}
 use Rattle.channel_bench.specs.InFlight.{LinkFrame, hears_ask, is_ask}
 use Rattle.channel_bench.specs.JointRun.Input.{FromHost, OffAir, OfClock}
-use Rattle.channel_bench.specs.LinkOfCalls.{Calls, Pairs, Counts, link_at_end, count_at, heard_at, with_more,
-    all_changes_by, changes_from, changes_of, FollowsAll, FollowsThrough, path_between, first_world}
+use Rattle.channel_bench.specs.LinkOfCalls.{Calls, Pairs, Counts, link_at_end, count_at, heard_at, with_more}
+use Rattle.channel_bench.specs.LinkOfCalls.{all_changes_by, changes_from, changes_of, FollowsAll, FollowsThrough}
+use Rattle.channel_bench.specs.LinkOfCalls.{path_between, first_world}
 use Rattle.channel_bench.specs.LinkSteps.{steps_of}
 use Rattle.channel_bench.specs.StationsLaw.{IsMachineOf, AreEndsOf, FollowingLaw, StationsLaw}
 use Rattle.channel_bench.proofs.Along.{AllFollowNear, near_all, changes_seen, follow_seen, run_changes-append}
 use Rattle.channel_bench.proofs.Flights.{RiseFrom, flight_past}
 use Rattle.channel_bench.proofs.Framed.{framed, length-framed, frames_at, frames_more}
-use Rattle.channel_bench.proofs.Runs.{SideHolds, Sent, Between, Stepped, none_rises, none_heard, popped_by, setting_of,
-    takes}
+use Rattle.channel_bench.proofs.Runs.{SideHolds, Sent, Between, Stepped, none_rises, none_heard, popped_by, setting_of}
+use Rattle.channel_bench.proofs.Runs.{takes}
 use Rattle.channel_bench.proofs.Standing.{IsGoodPlace}
 use Rattle.channel_bench.proofs.Tables.{NotChosen, none_chosen, one_of_none}
 
@@ -56,7 +57,7 @@ pub step_rising :
     → step.station ≡ e → slice_get full n ≡ Some step → frames_at (other e) (take n full) ≡ qb
     → AreHeardInOrder e full back_pairs
     → Stepped e (hears_ask step.input) l r pa pb n sb qa qb out_pairs back_pairs w step.after
-        (steps_of (is_between l r) step)
+    (steps_of (is_between l r) step)
 step_rising e l r pa pb n sb qa qb out_pairs back_pairs w full step h rises station is queue back_order =
     takes e (hears_ask step.input) l r pa pb n step.before sb qa qb out_pairs back_pairs w h rises
     step.input step.after step.turn step.octets
@@ -65,7 +66,7 @@ step_rising e l r pa pb n sb qa qb out_pairs back_pairs w full step h rises stat
     (λ octets off some.
     let hears : HearsLinkFrame e step octets = record { station = station; input = off; event = some } in
     popped_by (setting_of (hears_ask step.input) l r pa pb n step.before sb qa qb out_pairs back_pairs w h)
-        e full back_pairs qb n
+    e full back_pairs qb n
     w.a.towards step octets h.back.done h.back.rest h.back.tags back_order is hears
     (λ asking. off_air_asks step.input octets off ∙ asking) queue h.back.split h.back.rises h.back.below h.back.before
     h.back.tagged h.back.ahead (back_order.all n step octets is hears))
@@ -77,7 +78,7 @@ pub step_near :
     → slice_get full n ≡ Some step → frames_at (other e) (take n full) ≡ qb → AreHeardInOrder (other e) full out_pairs
     → AreHeardInOrder e full back_pairs
     → Stepped e (hears_ask step.input) l r pa pb n sb qa qb out_pairs back_pairs w step.after
-        (steps_of (is_between l r) step)
+    (steps_of (is_between l r) step)
 step_near e l r pa pb n sb qa qb out_pairs back_pairs w full step h station is queue out_order back_order =
     step_rising e l r pa pb n sb qa qb out_pairs back_pairs w full step h
     (none_rises (other e) full out_pairs l r qa n w.b.towards step out_order is
@@ -98,7 +99,7 @@ pub record StepDone (calls : Calls) (pairs : Pairs) (a b : Params) (n : ℕ) (st
     (w : World) (step : Step) (e : End) : Type 0 where
   pub between : let next = with_state e step.after.now st in
       Between calls.a calls.b a b (n + 1) next.a next.b (frames_at A past
-          ++ at_end A e (framed (hears_ask step.input) step.after.out.queued))
+      ++ at_end A e (framed (hears_ask step.input) step.after.out.queued))
       (frames_at B past ++ at_end B e (framed (hears_ask step.input) step.after.out.queued)) pairs.at_b pairs.at_a
       (run_changes w (all_changes_by e pairs (count_at e counts) (steps_of (link_at_end calls e) step)))
   pub follows : FollowsAll e pairs (count_at e counts) (steps_of (link_at_end calls e) step) w
@@ -123,7 +124,7 @@ step_done calls pairs a b n st past full counts w step A h station before is tak
     let now : Between calls.a calls.b a b n step.before st.b qa qb pairs.at_b pairs.at_a w =
     subst (λ s. Between calls.a calls.b a b n s st.b qa qb pairs.at_b pairs.at_a w) (sym before) h in
     let done : Stepped A (hears_ask step.input) calls.a calls.b a b n st.b qa qb pairs.at_b pairs.at_a w step.after
-        steps =
+    steps =
     step_near A calls.a calls.b a b n st.b qa qb pairs.at_b pairs.at_a w full step now station is
     (ap (frames_at B) taken) heard_b heard_a in
     let world : near_all A pairs.at_b (length qa) steps w ≡ run_changes w (all_changes_by A pairs (length qa) steps) =
@@ -133,10 +134,10 @@ step_done calls pairs a b n st past full counts w step A h station before is tak
           (qa ++ framed (hears_ask step.input) step.after.out.queued) (qb ++ [])
           pairs.at_b pairs.at_a (run_changes w (all_changes_by A pairs k steps))) (sym ca)
           (subst (λ q. Between calls.a calls.b a b (n + 1) step.after.now st.b
-              (qa ++ framed (hears_ask step.input) step.after.out.queued) q
+          (qa ++ framed (hears_ask step.input) step.after.out.queued) q
           pairs.at_b pairs.at_a (run_changes w (all_changes_by A pairs (length qa) steps))) (sym (append-nil qb))
           (subst (Between calls.a calls.b a b (n + 1) step.after.now st.b
-              (qa ++ framed (hears_ask step.input) step.after.out.queued) qb pairs.at_b pairs.at_a)
+          (qa ++ framed (hears_ask step.input) step.after.out.queued) qb pairs.at_b pairs.at_a)
           world done.between));
       follows = subst (λ k. FollowsAll A pairs k steps w) (sym ca)
           (follow_seen A done.stays pairs (length qa) steps w done.follows);
@@ -151,7 +152,7 @@ step_done calls pairs a b n st past full counts w step B h station before is tak
     subst (λ s. Between calls.b calls.a b a n s st.a qb qa pairs.at_a pairs.at_b (seen_from B w)) (sym before)
     (mirror calls.a calls.b a b n st.a st.b qa qb pairs.at_b pairs.at_a w h) in
     let done : Stepped B (hears_ask step.input) calls.b calls.a b a n st.a qb qa pairs.at_a pairs.at_b (seen_from B w)
-        step.after steps =
+    step.after steps =
     step_near B calls.b calls.a b a n st.a qb qa pairs.at_a pairs.at_b (seen_from B w) full step now station is
     (ap (frames_at A) taken) heard_a heard_b in
     let world : near_all B pairs.at_a (length qb) steps (seen_from B w)
@@ -159,20 +160,20 @@ step_done calls pairs a b n st past full counts w step B h station before is tak
     sym (changes_seen B pairs (length qb) steps w) in
     let next : World = run_changes w (all_changes_by B pairs (length qb) steps) in
     let there : Between calls.b calls.a b a (n + 1) step.after.now st.a
-        (qb ++ framed (hears_ask step.input) step.after.out.queued) qa pairs.at_a pairs.at_b
+    (qb ++ framed (hears_ask step.input) step.after.out.queued) qa pairs.at_a pairs.at_b
     (seen_from B next) =
     subst (Between calls.b calls.a b a (n + 1) step.after.now st.a
-        (qb ++ framed (hears_ask step.input) step.after.out.queued) qa pairs.at_a pairs.at_b)
+    (qb ++ framed (hears_ask step.input) step.after.out.queued) qa pairs.at_a pairs.at_b)
     world done.between in
     let back : Between calls.a calls.b a b (n + 1) st.a step.after.now qa
-        (qb ++ framed (hears_ask step.input) step.after.out.queued) pairs.at_b pairs.at_a next =
+    (qb ++ framed (hears_ask step.input) step.after.out.queued) pairs.at_b pairs.at_a next =
     record { near = there.far; far = there.near; out = there.back; back = there.out } in
     record {
       between = subst (λ k. Between calls.a calls.b a b (n + 1) st.a step.after.now (qa ++ [])
           (qb ++ framed (hears_ask step.input) step.after.out.queued)
           pairs.at_b pairs.at_a (run_changes w (all_changes_by B pairs k steps))) (sym cb)
           (subst (λ q. Between calls.a calls.b a b (n + 1) st.a step.after.now q
-              (qb ++ framed (hears_ask step.input) step.after.out.queued)
+          (qb ++ framed (hears_ask step.input) step.after.out.queued)
           pairs.at_b pairs.at_a next) (sym (append-nil qa)) back);
       follows = subst (λ k. FollowsAll B pairs k steps w) (sym cb)
           (follow_seen B done.stays pairs (length qb) steps w done.follows);
@@ -184,7 +185,7 @@ step_done calls pairs a b n st past full counts w step B h station before is tak
 
 pub count_a :
     (e : End) (on : Bool) (queued : List (List ℕ)) (before : List LinkFrame) (counts : Counts)
-        → counts.a ≡ length before
+    → counts.a ≡ length before
     → (with_more e (length queued) counts).a ≡ length (before ++ at_end A e (framed on queued))
 count_a A on queued before counts is =
     let size = length-append before (framed on queued) in
@@ -194,7 +195,7 @@ count_a B on queued before counts is = is ∙ sym (ap length (append-nil before)
 
 pub count_b :
     (e : End) (on : Bool) (queued : List (List ℕ)) (before : List LinkFrame) (counts : Counts)
-        → counts.b ≡ length before
+    → counts.b ≡ length before
     → (with_more e (length queued) counts).b ≡ length (before ++ at_end B e (framed on queued))
 count_b A on queued before counts is = is ∙ sym (ap length (append-nil before))
 count_b B on queued before counts is =
@@ -218,7 +219,7 @@ record RunDone (calls : Calls) (pairs : Pairs) (st : Stations) (counts : Counts)
 
 run_done :
     (calls : Calls) (pairs : Pairs) (a b : Params) (full past rest : List Step) (st : Stations) (counts : Counts)
-        (w : World)
+    (w : World)
     → full ≡ past ++ rest → IsJointRun st rest
     → counts.a ≡ length (frames_at A past) → counts.b ≡ length (frames_at B past)
     → AreHeardInOrder A full pairs.at_a → AreHeardInOrder B full pairs.at_b
@@ -238,12 +239,12 @@ run_done calls pairs a b full past (step ∷ rest) st counts w is run ca cb hear
     let more = with_more e (length queued) counts in
     let longer = past ++ step ∷ [] in
     let at : slice_get full (length past) ≡ Some step = ap (λ xs. slice_get xs (length past)) is
-        ∙ get_seam past step rest in
+    ∙ get_seam past step rest in
     let taken : take (length past) full ≡ past = ap (take (length past)) is ∙ take-append_seam past (step ∷ rest) in
     let one : StepDone calls pairs a b (length past) st past counts w step e =
     step_done calls pairs a b (length past) st past full counts w step e h refl run.0 at taken ca cb heard_a heard_b in
     let between : Between calls.a calls.b a b (length longer) (stepped step st).a (stepped step st).b
-        (frames_at A longer)
+    (frames_at A longer)
     (frames_at B longer) pairs.at_b pairs.at_a next =
     subst (λ n. Between calls.a calls.b a b n (stepped step st).a (stepped step st).b (frames_at A longer)
     (frames_at B longer) pairs.at_b pairs.at_a next) (sym (length-append past (step ∷ [])))
@@ -251,7 +252,7 @@ run_done calls pairs a b full past (step ∷ rest) st counts w is run ca cb hear
     (frames_at B longer) pairs.at_b pairs.at_a next) (sym (frames_more A past step))
     (subst (λ q. Between calls.a calls.b a b (length past + 1) (stepped step st).a (stepped step st).b
     (frames_at A past ++ at_end A e (framed on queued)) q pairs.at_b pairs.at_a next) (sym (frames_more B past step))
-        one.between)) in
+    one.between)) in
     let others : RunDone calls pairs (stepped step st) more next rest =
     run_done calls pairs a b full longer rest (stepped step st) more next
     (is ∙ sym (append_assoc past (step ∷ []) rest)) run.1
@@ -281,7 +282,7 @@ pub new_side :
 new_side l r config seed local remote =
     let chosen = is_between l r in
     let none : Each (NotChosen chosen) (replicate most_links None) =
-        each_replicate (NotChosen chosen) most_links refl in
+    each_replicate (NotChosen chosen) most_links refl in
     record {
       parameters = refl;
       table = record {

@@ -1,7 +1,7 @@
 -- The acts of A's station in a bench keep one key for all frames that wait. So a SABM, SABME or DISC that its link
 -- sends by a connect or a tick finds room in the transmit queue.
-use Rattle.std.proofs.Common.{◌≡◌, ℕ, ◌+◌, ◌<◌, ◌≤◌, ◌-◌, ◌&&◌, Bool, true, false, nat_lt, List, [], ◌∷◌, length, map,
-    cond, Option, Some, None, is_none, refl, sym, ap, ◌∙◌, subst, arith}
+use Rattle.std.proofs.Common.{◌≡◌, ℕ, ◌+◌, ◌<◌, ◌≤◌, ◌-◌, ◌&&◌, Bool, true, false, nat_lt, List, [], ◌∷◌, length, map}
+use Rattle.std.proofs.Common.{cond, Option, Some, None, is_none, refl, sym, ap, ◌∙◌, subst, arith}
 use Rattle.std.specs.Prelude.{MatchBool}
 use Rattle.std.specs.List.{list_any, AllByRecursion as Each}
 use Rattle.std.proofs.lemmas.Bool.{and_parts}
@@ -10,14 +10,15 @@ use Rattle.ax25_address.specs.Callsign.{Callsign}
 use Rattle.ax25_address.specs.declared.path.Path.{Path}
 use Rattle.agwpe_port.specs.declared.message.AgwMessage.{AgwMessage}
 use Rattle.link_machine.specs.Event.{Event as LinkEvent}
-use Rattle.link_machine.specs.Event.Event.{Connect as LinkConnect, Send as LinkSend, Disconnect as LinkDisconnect,
-    Tick as LinkTick}
+use Rattle.link_machine.specs.Event.Event.{Connect as LinkConnect, Send as LinkSend, Disconnect as LinkDisconnect}
+use Rattle.link_machine.specs.Event.Event.{Tick as LinkTick}
 use Rattle.link_machine.specs.Sent.{sent_frame}
 use Rattle.link_machine.specs.Step.{done_of, step as link_turn}
 use Rattle.link_world.specs.declared.end.End.TheVariants.{A, B}
 use Rattle.link_world.proofs.law.Each.{each_append}
-use Rattle.station.specs.AgwRequests.{IsCall, IsCallMade, called_pid, data_pid, disconnecting, giving, giving_packet,
-    may_call, packets_of, refused_reply, register_reply, registering, replying, with_registration}
+use Rattle.station.specs.AgwRequests.{IsCall, IsCallMade, called_pid, data_pid, disconnecting, giving, giving_packet}
+use Rattle.station.specs.AgwRequests.{may_call, packets_of, refused_reply, register_reply, registering, replying}
+use Rattle.station.specs.AgwRequests.{with_registration}
 use Rattle.station.specs.LinkEvents.{event_at, event_of, queueing_frames, settled_link, with_links}
 use Rattle.station.specs.Links.{Link, count_of_links, key_between, link_at, most_links}
 use Rattle.station.specs.NewLinks.{making}
@@ -28,8 +29,8 @@ use Rattle.station.specs.Ticks.{ticking_at, waits}
 use Rattle.station.specs.Turn.{Act, Turn, capacity, changing, in_order}
 use Rattle.channel_bench.specs.BenchSteps.{program_id}
 use Rattle.channel_bench.specs.HostProgram.{call_at}
-use Rattle.channel_bench.specs.LinkSteps.{LinkStep, call_steps, link_step, made_steps, steps_along, steps_at, steps_for,
-    ticks_at}
+use Rattle.channel_bench.specs.LinkSteps.{LinkStep, call_steps, link_step, made_steps, steps_along, steps_at, steps_for}
+use Rattle.channel_bench.specs.LinkSteps.{ticks_at}
 use Rattle.channel_bench.specs.MatchedLaw.{AsksInRoom, DropsNoAsk}
 use Rattle.channel_bench.proofs.Acts.{asks_when_sent}
 use Rattle.channel_bench.proofs.AsksLittle.{connect_few, if_down, sends_none, tick_sends}

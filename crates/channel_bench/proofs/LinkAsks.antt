@@ -1,6 +1,6 @@
 -- What a link sends in an event, by its state.
-use Rattle.std.proofs.Common.{◌≡◌, ℕ, ◌==◌, ◌&&◌, Bool, true, false, [], ◌∷◌, cond, Option, Some, None, is_some, refl,
-    sym, ◌∙◌, if◌then◌else◌}
+use Rattle.std.proofs.Common.{◌≡◌, ℕ, ◌==◌, ◌&&◌, Bool, true, false, [], ◌∷◌, cond, Option, Some, None, is_some, refl}
+use Rattle.std.proofs.Common.{sym, ◌∙◌, if◌then◌else◌}
 use Rattle.ax25_frames.specs.FrameText.{is_command_of}
 use Rattle.ax25_frames.specs.declared.frame.Kind.{Kind}
 use Rattle.ax25_frames.specs.declared.frame.Kind.TheVariants.{Info, Super, Setup, Ui, Other}
@@ -10,23 +10,23 @@ use Rattle.selective_reject.specs.declared.packet.Packet.{Packet}
 use Rattle.link_machine.specs.Acts.{calling_frame, flush, reset}
 use Rattle.link_machine.specs.Event.{Event}
 use Rattle.link_machine.specs.Event.Event.{Connect, Send, Disconnect, Hear, Tick}
-use Rattle.link_machine.specs.Frames.{answer_dm, hear_calling_in, hear_idle, hear_in, hear_info, hear_releasing,
-    hear_supervisory, hear_up}
+use Rattle.link_machine.specs.Frames.{answer_dm, hear_calling_in, hear_idle, hear_in, hear_info, hear_releasing}
+use Rattle.link_machine.specs.Frames.{hear_supervisory, hear_up}
 use Rattle.link_machine.specs.Machine.{Machine, is_valid, is_wide, named}
 use Rattle.link_machine.specs.Params.{called_modulus}
 use Rattle.link_machine.specs.Sent.{sent_in}
 use Rattle.link_machine.specs.Sent.Sent.{SetupSent}
 use Rattle.link_machine.specs.Step.{refusal_of, row, settle_in, settled, step}
-use Rattle.link_machine.specs.Ticks.{is_spent, lowered, runs_out, t1_out, tick_in, tick_t1, tick_t1_of, tick_t2,
-    with_t1}
+use Rattle.link_machine.specs.Ticks.{is_spent, lowered, runs_out, t1_out, tick_in, tick_t1, tick_t1_of, tick_t2}
+use Rattle.link_machine.specs.Ticks.{with_t1}
 use Rattle.link_machine.specs.Turn.{Turn, begin, setting}
 use Rattle.link_machine.specs.declared.state.LinkState.{LinkState}
 use Rattle.link_machine.specs.declared.state.LinkState.TheVariants.{Idle, Calling, Up, Releasing}
 use Rattle.link_world.specs.Flight.{asks}
-use Rattle.channel_bench.proofs.Sends.{Sends, closes, ends, flushed, hears_asking, hears_ua, is_ua, is_ua_frame,
-    numbers, one_of, opened, sends_one, stands}
-use Rattle.channel_bench.proofs.StillActs.{Still, flush_still, info_still, poll_more_still, still_none, still_on,
-    still_same, supervisory_still, tick_t2_still, tick_t3_still}
+use Rattle.channel_bench.proofs.Sends.{Sends, closes, ends, flushed, hears_asking, hears_ua, is_ua, is_ua_frame}
+use Rattle.channel_bench.proofs.Sends.{numbers, one_of, opened, sends_one, stands}
+use Rattle.channel_bench.proofs.StillActs.{Still, flush_still, info_still, poll_more_still, still_none, still_on}
+use Rattle.channel_bench.proofs.StillActs.{still_same, supervisory_still, tick_t2_still, tick_t3_still}
 
 -- a state that is not up
 abbrev IsDown : LinkState → Type 0

@@ -1,6 +1,6 @@
 -- What an event of a link does to its set-up and to a wish to disconnect, act by act.
-use Rattle.std.proofs.Common.{◌≡◌, ℕ, ◌==◌, ◌&&◌, Bool, true, false, List, [], ◌∷◌, ◌++◌, length, cond, if◌then◌else◌,
-    Option, Some, None, is_some, refl, sym, ap, ◌∙◌, subst}
+use Rattle.std.proofs.Common.{◌≡◌, ℕ, ◌==◌, ◌&&◌, Bool, true, false, List, [], ◌∷◌, ◌++◌, length, cond, if◌then◌else◌}
+use Rattle.std.proofs.Common.{Option, Some, None, is_some, refl, sym, ap, ◌∙◌, subst}
 use Rattle.std.specs.Bool.{⊤}
 use Rattle.std.proofs.lemmas.Bool.{and_parts}
 use Rattle.std.proofs.lemmas.List.{append_assoc}
@@ -20,18 +20,18 @@ use Rattle.link_machine.specs.declared.state.LinkState.TheVariants.{Idle, Callin
 use Rattle.link_machine.specs.Acts.{close, flush, release, reset, send_packets, to_send, nothing_due}
 use Rattle.link_machine.specs.Event.{Event}
 use Rattle.link_machine.specs.Event.Event.{Connect, Send, Disconnect, Hear, Tick}
-use Rattle.link_machine.specs.Frames.{answer_dm, hear_calling_in, hear_idle, hear_in, hear_info, hear_releasing,
-    hear_supervisory, hear_up, open_again}
+use Rattle.link_machine.specs.Frames.{answer_dm, hear_calling_in, hear_idle, hear_in, hear_info, hear_releasing}
+use Rattle.link_machine.specs.Frames.{hear_supervisory, hear_up, open_again}
 use Rattle.link_machine.specs.Machine.{Machine, is_valid, is_wide, named}
 use Rattle.link_machine.specs.Step.{refusal_of, row, settle_in, settled, step}
-use Rattle.link_machine.specs.Ticks.{is_spent, runs_out, t1_out, t2_out, t3_out, tick_in, tick_t1, tick_t1_of, tick_t2,
-    tick_t2_of, tick_t3_of, with_t1, with_t2, with_t3}
+use Rattle.link_machine.specs.Ticks.{is_spent, runs_out, t1_out, t2_out, t3_out, tick_in, tick_t1, tick_t1_of, tick_t2}
+use Rattle.link_machine.specs.Ticks.{tick_t2_of, tick_t3_of, with_t1, with_t2, with_t3}
 use Rattle.link_machine.specs.Turn.{Turn, begin, setting}
 use Rattle.link_world.specs.Flight.{asks}
 use Rattle.link_world.specs.Law.{names_valid}
 use Rattle.channel_bench.proofs.LinkKinds.{IsLinkKind}
-use Rattle.channel_bench.proofs.LinkTells.{Gives, awaiting_mode, gives_none, gives_on, idle_is, info_gives,
-    supervisory_gives}
+use Rattle.channel_bench.proofs.LinkTells.{Gives, awaiting_mode, gives_none, gives_on, idle_is, info_gives}
+use Rattle.channel_bench.proofs.LinkTells.{supervisory_gives}
 use Rattle.channel_bench.proofs.Tables.{not_both}
 
 -- What acts do, by what they were: a connect, a disconnect, a frame that asks, or one that makes the link call anew.
@@ -129,7 +129,7 @@ reset_did t wrong = resets wrong (Ended Reset ∷ []) refl refl refl
 again_did : {k c d w : Type 0} (modulus : ℕ) (flag : Bool) (t : Turn) → d → Did k c d w t (open_again modulus flag t)
 again_did modulus flag t called =
     is_called called (Ended Reset ∷ Opened false ∷ []) (append_assoc t.told (Ended Reset ∷ []) (Opened false ∷ []))
-        refl refl
+    refl refl
 
 -- one of two acts, by whether a number is valid
 by_valid :
@@ -150,7 +150,7 @@ up_did command (Info ns nr flag pid octets) t up =
     (info_gives (named nr t.now) ns flag packet t)
 up_did command (Super which nr flag) t up =
     by_valid (Super which nr flag) (is_valid nr t.now) t (hear_supervisory which (named nr t.now) command flag t)
-        refl up
+    refl up
     (supervisory_gives which (named nr t.now) command flag t)
 up_did command (Ui flag pid octets) t up = none t _ refl refl refl
 up_did command (Other Frmr flag octets) t up = reset_did t (λ right. right.0)

@@ -23,8 +23,8 @@ use Rattle.channel_bench.specs.StationsLaw.{IsMachineOf, LinkKeepsOrder, first_c
 use Rattle.channel_bench.specs.Words.{seed_at}
 use Rattle.channel_bench.proofs.CallerLaws.{events_by}
 use Rattle.channel_bench.proofs.ChainRun.{BIsPassive, EndAsks, RunChain, run_chained}
-use Rattle.channel_bench.proofs.Chains.{AsksInSetUp, HearsWell, IsChain, StandsAsked, StandsCalled, asked_behind,
-    called_behind, chain_asked, chain_called, chain_tells, last_machine}
+use Rattle.channel_bench.proofs.Chains.{AsksInSetUp, HearsWell, IsChain, StandsAsked, StandsCalled, asked_behind}
+use Rattle.channel_bench.proofs.Chains.{called_behind, chain_asked, chain_called, chain_tells, last_machine}
 use Rattle.channel_bench.proofs.LinkTells.{none_idle}
 use Rattle.channel_bench.proofs.MatchedLaws.{matched_law_holds}
 use Rattle.channel_bench.proofs.MatchedOrder.{matched_in_order_holds}
@@ -98,13 +98,13 @@ first_machine w B = (first_world the_calls (params_of w) (params_of w)).b.end.ma
 
 chained : (w : BenchWords) (moments : List Moment) (s : Stations) → Known w moments s
     → RunChain the_calls (pairs_in moments) (record { a = 0; b = 0 })
-        (first_world the_calls (params_of w) (params_of w))
+    (first_world the_calls (params_of w) (params_of w))
     (steps_in moments)
 chained w moments s known =
     let config = config_of w in
     let order = matched_in_order_holds moments known.matched in
     run_chained config config (seed_at w A) (seed_at w B) (steps_in moments) (pairs_in moments)
-        the_calls known.noted.run
+    the_calls known.noted.run
     order.0 order.1
 
 pub link_chain : (w : BenchWords) (moments : List Moment) (s : Stations) → Known w moments s → (e : End)
@@ -135,7 +135,7 @@ pub record LinkNow (w : BenchWords) (moments : List Moment) (s : Stations) (e : 
       (last_machine (first_machine w e) (links_of e moments)).control.state
   pub machine :
       IsMachineOf (first_chosen (chosen e) (state_of e s).links.places)
-          (last_machine (first_machine w e) (links_of e moments))
+      (last_machine (first_machine w e) (links_of e moments))
 
 machine_at :
     (w : BenchWords) (moments : List Moment) (s : Stations) (known : Known w moments s) (e : End)

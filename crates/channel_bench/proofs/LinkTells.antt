@@ -1,6 +1,7 @@
 -- A link tells of data only while a set-up runs: act by act.
-use Rattle.std.proofs.Common.{◌≡◌, ℕ, ◌==◌, ◌&&◌, nat_lt, not, Bool, true, false, List, [], ◌∷◌, ◌++◌, length, map,
-    cond, if◌then◌else◌, Option, Some, None, is_some, is_none, refl, sym, ap, ◌∙◌, subst, inl, inr}
+use Rattle.std.proofs.Common.{◌≡◌, ℕ, ◌==◌, ◌&&◌, nat_lt, not, Bool, true, false, List, [], ◌∷◌, ◌++◌, length, map}
+use Rattle.std.proofs.Common.{cond, if◌then◌else◌, Option, Some, None, is_some, is_none, refl, sym, ap, ◌∙◌, subst, inl}
+use Rattle.std.proofs.Common.{inr}
 use Rattle.std.proofs.lemmas.List.{append-nil, append_assoc, map-append}
 use Rattle.ax25_frames.specs.FrameText.{is_command_of}
 use Rattle.ax25_frames.specs.declared.frame.Kind.{Kind}
@@ -21,19 +22,20 @@ use Rattle.link_machine.specs.declared.control.Control.{Control}
 use Rattle.link_machine.specs.declared.fault.LinkFault.{LinkFault}
 use Rattle.link_machine.specs.declared.state.LinkState.{LinkState}
 use Rattle.link_machine.specs.declared.state.LinkState.TheVariants.{Idle, Calling, Up, Releasing}
-use Rattle.link_machine.specs.Acts.{acknowledged, answer_poll, awaiting, behind_poll, close, flush, give, gone_back,
-    nothing_due, owing, recover, reject, release, reset, respond_ready, run_with, send_again, send_packets, timed_anew,
-    timed_by, to_send, with_rej}
-use Rattle.link_machine.specs.Frames.{acknowledged_by_srej, answer_dm, hear_calling_in, hear_idle, hear_in, hear_info,
-    hear_info_by, hear_info_by_rej, hear_info_by_srej, hear_rej, hear_releasing, hear_rnr, hear_rr, hear_srej,
-    hear_supervisory, hear_up, open_again, refuse_out_of_sequence, take_in_sequence, take_selected, with_busy}
+use Rattle.link_machine.specs.Acts.{acknowledged, answer_poll, awaiting, behind_poll, close, flush, give, gone_back}
+use Rattle.link_machine.specs.Acts.{nothing_due, owing, recover, reject, release, reset, respond_ready, run_with}
+use Rattle.link_machine.specs.Acts.{send_again, send_packets, timed_anew, timed_by, to_send, with_rej}
+use Rattle.link_machine.specs.Frames.{acknowledged_by_srej, answer_dm, hear_calling_in, hear_idle, hear_in, hear_info}
+use Rattle.link_machine.specs.Frames.{hear_info_by, hear_info_by_rej, hear_info_by_srej, hear_rej, hear_releasing}
+use Rattle.link_machine.specs.Frames.{hear_rnr, hear_rr, hear_srej, hear_supervisory, hear_up, open_again}
+use Rattle.link_machine.specs.Frames.{refuse_out_of_sequence, take_in_sequence, take_selected, with_busy}
 use Rattle.link_machine.specs.Event.{Event}
 use Rattle.link_machine.specs.Event.Event.{Connect, Send, Disconnect, Hear, Tick}
 use Rattle.link_machine.specs.Machine.{Machine, ahead_of_vr, is_valid, is_wide, named, t1_ticks, t3_ticks}
 use Rattle.link_machine.specs.Requests.{connect, has_link}
 use Rattle.link_machine.specs.Step.{refusal_of, row, settle_in, settled, step}
-use Rattle.link_machine.specs.Ticks.{is_spent, runs_out, t1_out, t2_out, t3_out, tick_in, tick_t1, tick_t1_of, tick_t2,
-    tick_t2_of, tick_t3_of, with_t1, with_t2, with_t3}
+use Rattle.link_machine.specs.Ticks.{is_spent, runs_out, t1_out, t2_out, t3_out, tick_in, tick_t1, tick_t1_of, tick_t2}
+use Rattle.link_machine.specs.Ticks.{tick_t2_of, tick_t3_of, with_t1, with_t2, with_t3}
 use Rattle.link_machine.specs.Turn.{Turn, begin, changing, setting}
 use Rattle.channel_bench.specs.LinksTell.{AreToldInOne, LinksTellInOne, RunsIn, runs_after}
 
@@ -223,14 +225,14 @@ rnr_gives n asks answers t =
     let u = changing (acknowledged n) (setting (with_busy true) t) in
     let v = recover answers (answer_poll asks u) in
     gives_on t v _ (gives_on t u v (busy_gives true n t) (answered_gives asks answers u))
-        (gives_none v _ refl refl refl)
+    (gives_none v _ refl refl refl)
 
 rej_gives : (n : ℕ) (asks answers : Bool) (t : Turn) → Gives t (hear_rej n asks answers t)
 rej_gives n asks answers t =
     let u = changing (acknowledged n) (setting (with_busy false) t) in
     let v = changing gone_back u in
     gives_on t v _ (gives_on t u v (busy_gives false n t) (gives_none u v refl refl refl))
-        (answered_gives asks answers v)
+    (answered_gives asks answers v)
 
 pub awaiting_mode : (c : Control) → KeepsMode c (awaiting c)
 awaiting_mode c = go (is_none c.t1)

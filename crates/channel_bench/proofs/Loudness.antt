@@ -1,6 +1,6 @@
 -- No sample of a tick is louder than 10000.
-use Rattle.std.proofs.Common.{ℕ, ◌+◌, ◌*◌, ◌≤◌, Bool, ℤ, pos, List, [], ◌∷◌, ◌++◌, unsigned_abs, get_or, drop,
-    replicate, Option, Some, None, arith}
+use Rattle.std.proofs.Common.{ℕ, ◌+◌, ◌*◌, ◌≤◌, Bool, ℤ, pos, List, [], ◌∷◌, ◌++◌, unsigned_abs, get_or, drop}
+use Rattle.std.proofs.Common.{replicate, Option, Some, None, arith}
 use Rattle.std.specs.List.{All, range_with_len}
 use Rattle.std.proofs.lemmas.List.Elements.{All-nil, All-map, All-append, All-replicate, All-take, All-drop}
 use Rattle.tone_table.specs.declared.tone.Tone.{Tone}

@@ -10,8 +10,8 @@ use Rattle.link_world.specs.declared.end.End.TheVariants.{A, B}
 use Rattle.link_world.proofs.law.ChangesLaw.{changes_law_holds}
 use Rattle.station.specs.CallFields.{call_of_text}
 use Rattle.station.specs.FrameSpelling.{frame_octets}
-use Rattle.channel_bench.specs.InFlight.{Moment, AreMatched, AreQuietThrough, nothing_sent, steps_in, is_quiet_at,
-    after_moments}
+use Rattle.channel_bench.specs.InFlight.{Moment, AreMatched, AreQuietThrough, nothing_sent, steps_in, is_quiet_at}
+use Rattle.channel_bench.specs.InFlight.{after_moments}
 use Rattle.channel_bench.specs.InFlight.Moment.{Steps, Passes}
 use Rattle.channel_bench.specs.JointRun.{new_stations, all_stepped}
 use Rattle.channel_bench.specs.LinkOfCalls.{link_at_end}
@@ -19,8 +19,9 @@ use Rattle.channel_bench.specs.LinkSteps.{steps_of}
 use Rattle.channel_bench.specs.MatchedLaw.{IsEventOfCaller, OnlyACalls, pairs_in}
 use Rattle.channel_bench.specs.StationsLaw.{LinkKeepsOrder}
 use Rattle.channel_bench.proofs.ExampleOrder.{fits}
-use Rattle.channel_bench.proofs.Examples.{sabm, disc, ua, a_joins, b_joins, a_registers, b_registers, a_calls,
-    b_hears_sabm, a_hears_ua, a_disconnects, b_hears_disc, a_hears_ua_again, config, steps, calls, pairs, is_run}
+use Rattle.channel_bench.proofs.Examples.{sabm, disc, ua, a_joins, b_joins, a_registers, b_registers, a_calls}
+use Rattle.channel_bench.proofs.Examples.{b_hears_sabm, a_hears_ua, a_disconnects, b_hears_disc, a_hears_ua_again}
+use Rattle.channel_bench.proofs.Examples.{config, steps, calls, pairs, is_run}
 use Rattle.channel_bench.proofs.Framed.{one_framed}
 use Rattle.channel_bench.proofs.MatchedLaws.{matched_law_holds}
 
@@ -94,7 +95,7 @@ answer_under_way = refl
 
 answer_passed :
     is_quiet_at A disc (after_moments (Steps a_calls None ∷ Steps b_hears_sabm (Some 0) ∷ Passes B 1 ∷ []) nothing_sent)
-        ≡ true
+    ≡ true
 unfolding reading call_of_text link_turn frame_octets
 answer_passed = refl
 
@@ -118,8 +119,10 @@ only_a = (
                 All-from_recursion (IsEventOfCaller A) (steps_of (link_at_end calls A) a_disconnects) (tt, tt),
                 (
                   All-from_recursion (IsEventOfCaller B) (steps_of (link_at_end calls B) b_hears_disc) (tt, tt),
-                  (All-from_recursion (IsEventOfCaller A) (steps_of (link_at_end calls A) a_hears_ua_again) (refl, tt),
-                      tt),
+                  (
+                    All-from_recursion (IsEventOfCaller A) (steps_of (link_at_end calls A) a_hears_ua_again) (refl, tt),
+                    tt,
+                  ),
                 ),
               ),
             ),

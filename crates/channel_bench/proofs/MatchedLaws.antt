@@ -15,14 +15,15 @@ use Rattle.channel_bench.proofs.QuietJoint.{EventsHold, quiet_run}
 
 events_hold : (calls : Calls) (steps : List Step) → OnlyACalls calls steps → EventsHold calls steps
 events_hold calls [] h = tt
-events_hold calls (step ∷ steps) h =
-    (recursion_from_All (IsEventOfCaller step.station) (steps_of (link_at_end calls step.station) step) h.0,
-        events_hold calls steps h.1)
+events_hold calls (step ∷ steps) h = (
+  recursion_from_All (IsEventOfCaller step.station) (steps_of (link_at_end calls step.station) step) h.0,
+  events_hold calls steps h.1,
+)
 
 -- the link of two calls is quiet
 quiet_link :
     (a b : Config) (seed_a seed_b : ℕ) (moments : List Moment) (calls : Calls) → ChangesLaw
-        → WindowsFit a.params b.params
+    → WindowsFit a.params b.params
     → IsJointRun (new_stations a seed_a b seed_b) (steps_in moments) → AreMatched moments nothing_sent
     → AreQuietThrough moments nothing_sent → OnlyACalls calls (steps_in moments)
     → IsQuietLink calls (pairs_in moments) a.params b.params (steps_in moments)

@@ -1,6 +1,6 @@
 -- The pairs that the matches of a run make: what is heard is heard in order and once, and was sent before.
-use Rattle.std.proofs.Common.{◌≡◌, ◌≢◌, ℕ, ◌<◌, ◌≤◌, Bool, true, false, List, [], ◌∷◌, ◌++◌, length, Option, Some, None,
-    is_some, refl, sym, ap, ◌∙◌, subst, arith}
+use Rattle.std.proofs.Common.{◌≡◌, ◌≢◌, ℕ, ◌<◌, ◌≤◌, Bool, true, false, List, [], ◌∷◌, ◌++◌, length, Option, Some, None}
+use Rattle.std.proofs.Common.{is_some, refl, sym, ap, ◌∙◌, subst, arith}
 use Rattle.std.specs.Prelude.{slice_get, option_map}
 use Rattle.std.specs.List.{AllByRecursion as Each}
 use Rattle.std.proofs.lemmas.List.{append-nil, append_assoc, length-append}
@@ -15,8 +15,8 @@ use Rattle.link_world.proofs.law.Each.{each_weaker, each_append}
 use Rattle.station.specs.Heard.{IsHeardBy, IsPathOf, shown_to_hosts}
 use Rattle.station.specs.Turn.{Turn, begin}
 use Rattle.channel_bench.specs.HeardInOrder.{AreAlikeButForH, Pair, IsOffAir, AreHeardInOrder}
-use Rattle.channel_bench.specs.InFlight.{Moment, LinkFrame, OneWay, BothWays, IsMatched, AreMatched, hears_ask,
-    nothing_sent, sent_by, steps_in, queueing_all, hearing_at, after_moment}
+use Rattle.channel_bench.specs.InFlight.{Moment, LinkFrame, OneWay, BothWays, IsMatched, AreMatched, hears_ask}
+use Rattle.channel_bench.specs.InFlight.{nothing_sent, sent_by, steps_in, queueing_all, hearing_at, after_moment}
 use Rattle.channel_bench.specs.InFlight.Moment.{Steps, Passes}
 use Rattle.channel_bench.specs.JointRun.{Input, IsTurn, Step, at_end, queued_at}
 use Rattle.channel_bench.specs.JointRun.Input.{FromHost, OffAir, OfClock}
@@ -43,7 +43,7 @@ is_alike octets path len begins = record {
 -- what is an event of a link has a path
 alike_by :
     (o : Option Path) (octets : List ℕ) (before after : Turn) → IsPathOf octets o
-        → (h : IsHeardBy o octets before after)
+    → (h : IsHeardBy o octets before after)
     → by_path_steps is_some o octets before after h ≢ [] → AreAlikeButForH octets octets
 alike_by None octets before after reading h some = absurd (some refl)
 alike_by (Some path) octets before after reading h some = is_alike octets path reading.0 reading.1
@@ -106,14 +106,14 @@ own_more e past pairs way step (Some sent) (OffAir octets) true station input_is
     ∙ get_octets way.queued sent is.frame is.is_there ∙ ap Some is.same in
     let ahead : way.front ≤ sent = is.ahead in
     heard_one_more e past step pairs octets octets sent order (record { station = station; input = off; event = some })
-        there
+    there
     (alike_turn step.input (begin step.before) step.after step.turn octets off some)
     (All-from_recursion (λ (p : Pair). p.sent < sent) pairs
     (each_weaker (λ (p : Pair). p.sent < way.front) (λ (p : Pair). p.sent < sent) (λ p less. omega arith) pairs below))
 
 other_more :
     (e : End) (past : List Step) (pairs : List Pair) (step : Step) → step.station ≡ other e
-        → AreHeardInOrder e past pairs
+    → AreHeardInOrder e past pairs
     → AreHeardInOrder e (past ++ step ∷ []) (pairs ++ [])
 other_more e past pairs step station order =
     subst (AreHeardInOrder e (past ++ step ∷ [])) (sym (append-nil pairs))
@@ -122,16 +122,16 @@ other_more e past pairs step station order =
 any_more :
     (e s : End) (past : List Step) (pairs : List Pair) (ways : BothWays) (step : Step) (matched : Option ℕ)
     → step.station ≡ s → AreHeardInOrder e past pairs
-        → Each (λ (p : Pair). p.sent < (sent_by (other e) ways).front) pairs
+    → Each (λ (p : Pair). p.sent < (sent_by (other e) ways).front) pairs
     → (sent_by (other e) ways).queued ≡ frames_at (other e) past → IsMatched step.input matched (sent_by (other s) ways)
     → AreHeardInOrder e (past ++ step ∷ [])
     (pairs ++ at_end e s (pair_of (is_event (steps_of is_some step)) (length past) matched))
 any_more A A past pairs ways step matched station order below queued is =
     own_more A past pairs ways.from_b step matched step.input (is_event (steps_of is_some step))
-        station refl refl order below queued is
+    station refl refl order below queued is
 any_more B B past pairs ways step matched station order below queued is =
     own_more B past pairs ways.from_a step matched step.input (is_event (steps_of is_some step))
-        station refl refl order below queued is
+    station refl refl order below queued is
 any_more A B past pairs ways step matched station order below queued is = other_more A past pairs step station order
 any_more B A past pairs ways step matched station order below queued is = other_more B past pairs step station order
 
@@ -152,10 +152,10 @@ fronts_more e s pairs b n matched on queue ways below =
     let next = queueing_all s on queue (hearing_at s matched ways) in
     let old : Each (λ (p : Pair). p.sent < (sent_by (other e) next).front) pairs =
     each_weaker (λ (p : Pair). p.sent < (sent_by (other e) ways).front)
-        (λ (p : Pair). p.sent < (sent_by (other e) next).front)
+    (λ (p : Pair). p.sent < (sent_by (other e) next).front)
     (λ p less. let more = front_by (other e) s on queue matched ways in omega arith) pairs below in
     each_append (λ (p : Pair). p.sent < (sent_by (other e) next).front) pairs (at_end e s (pair_of b n matched)) old
-        (here e s)
+    (here e s)
   where
     here : (x y : End)
         → Each (λ (p : Pair). p.sent < (sent_by (other x) (queueing_all y on queue (hearing_at y matched ways))).front)
@@ -192,7 +192,7 @@ order_from e past pairs ways (Passes sender under ∷ moments) order below queue
     let next = after_moment (Passes sender under) ways in
     order_from e past pairs next moments order
     (each_weaker (λ (p : Pair). p.sent < (sent_by (other e) ways).front)
-        (λ (p : Pair). p.sent < (sent_by (other e) next).front)
+    (λ (p : Pair). p.sent < (sent_by (other e) next).front)
     (λ p less. let more = front_passed (other e) sender under ways in omega arith) pairs below)
     (queued_passed (other e) sender under ways ∙ queued) matched.1
 order_from e past pairs ways (Steps step found ∷ moments) order below queued matched =
@@ -202,11 +202,11 @@ order_from e past pairs ways (Steps step found ∷ moments) order below queued m
     let more : AreHeardInOrder e longer (pairs ++ pair) =
     any_more e step.station past pairs ways step found refl order below queued matched.0 in
     let lower = fronts_more e step.station pairs (is_event (steps_of is_some step)) (length past) found
-        (hears_ask step.input)
+    (hears_ask step.input)
     step.after.out.queued ways below in
     let all : AreHeardInOrder e (longer ++ steps_in moments) ((pairs ++ pair) ++ pairs_from e (length longer) moments) =
     order_from e longer (pairs ++ pair) next moments more lower (queued_step (other e) past ways step found queued)
-        matched.1 in
+    matched.1 in
     subst (λ xs. AreHeardInOrder e xs (pairs ++ pairs_from e (length past) (Steps step found ∷ moments)))
     (append_assoc past (step ∷ []) (steps_in moments))
     (subst (AreHeardInOrder e (longer ++ steps_in moments))
@@ -221,6 +221,7 @@ no_order e = record {
 }
 
 pub matched_in_order_holds : MatchedInOrder
-matched_in_order_holds moments matched =
-    (order_from A [] [] nothing_sent moments (no_order A) tt refl matched,
-        order_from B [] [] nothing_sent moments (no_order B) tt refl matched)
+matched_in_order_holds moments matched = (
+  order_from A [] [] nothing_sent moments (no_order A) tt refl matched,
+  order_from B [] [] nothing_sent moments (no_order B) tt refl matched,
+)

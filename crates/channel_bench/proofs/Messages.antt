@@ -1,6 +1,6 @@
 -- What comes from a host program keeps what holds of a link between two calls.
-use Rattle.std.proofs.Common.{◌≡◌, ℕ, Bool, true, false, ◌==◌, ◌&&◌, nat_lt, nat_le, List, [], ◌∷◌, ◌++◌, length, drop,
-    cond, if◌then◌else◌, Option, Some, None, refl, sym, ap, ◌∙◌, subst, inl}
+use Rattle.std.proofs.Common.{◌≡◌, ℕ, Bool, true, false, ◌==◌, ◌&&◌, nat_lt, nat_le, List, [], ◌∷◌, ◌++◌, length, drop}
+use Rattle.std.proofs.Common.{cond, if◌then◌else◌, Option, Some, None, refl, sym, ap, ◌∙◌, subst, inl}
 use Rattle.std.specs.Prelude.{MatchBool, is_none}
 use Rattle.std.proofs.lemmas.Bool.{and_parts, cond-true, cond-false, eqb-true}
 use Rattle.std.proofs.lemmas.List.{append-nil}
@@ -9,8 +9,8 @@ use Rattle.ax25_frames.specs.declared.frame.Modulus.TheVariants.{Eight}
 use Rattle.agwpe_port.specs.Messages.{bad_length_in}
 use Rattle.agwpe_port.specs.declared.message.AgwMessage.{AgwMessage}
 use Rattle.kiss_port.specs.declared.item.KissItem.{KissItem}
-use Rattle.kiss_port.specs.declared.item.KissItem.TheVariants.{Frame as KissFrame, Set, Hardware, Return, TooLong,
-    Other}
+use Rattle.kiss_port.specs.declared.item.KissItem.TheVariants.{Frame as KissFrame, Set, Hardware, Return, TooLong}
+use Rattle.kiss_port.specs.declared.item.KissItem.TheVariants.{Other}
 use Rattle.link_machine.specs.Event.Event.{Connect as LinkConnect}
 use Rattle.link_machine.specs.Machine.{new_machine}
 use Rattle.link_world.specs.declared.end.End.{End}
@@ -19,27 +19,29 @@ use Rattle.station.specs.declared.host_event.HostEvent.{HostEvent}
 use Rattle.station.specs.declared.host_event.HostEvent.TheVariants.{Joined, Bytes, Left}
 use Rattle.station.specs.declared.host_event.PortKind.{PortKind}
 use Rattle.station.specs.declared.host_event.PortKind.TheVariants.{Kiss, Agw}
-use Rattle.station.specs.AgwKinds.{version_kind, ports_kind, capabilities_kind, register_kind, unregister_kind,
-    toggle_kind, monitor_kind, raw_kind, unproto_kind, unproto_via_kind, connect_via_kind, data_kind, disconnect_kind,
-    pending_kind, waiting_kind}
-use Rattle.station.specs.AgwRequests.{replying, register_reply, with_registration, registering, unregistering,
-    queueing_raw, most_information, unnumbered_frame, sending_unnumbered, refused_reply, may_call, calls, called_route,
-    called_pid, IsCall, IsCallMade, own_key, giving, disconnecting, pending_in, pending_reply, waiting_reply,
-    answering_else, AreAnswered}
+use Rattle.station.specs.AgwKinds.{version_kind, ports_kind, capabilities_kind, register_kind, unregister_kind}
+use Rattle.station.specs.AgwKinds.{toggle_kind, monitor_kind, raw_kind, unproto_kind, unproto_via_kind}
+use Rattle.station.specs.AgwKinds.{connect_via_kind, data_kind, disconnect_kind, pending_kind, waiting_kind}
+use Rattle.station.specs.AgwRequests.{replying, register_reply, with_registration, registering, unregistering}
+use Rattle.station.specs.AgwRequests.{queueing_raw, most_information, unnumbered_frame, sending_unnumbered}
+use Rattle.station.specs.AgwRequests.{refused_reply, may_call, calls, called_route, called_pid, IsCall, IsCallMade}
+use Rattle.station.specs.AgwRequests.{own_key, giving, disconnecting, pending_in, pending_reply, waiting_reply}
+use Rattle.station.specs.AgwRequests.{answering_else, AreAnswered}
 use Rattle.hdlc_framer.specs.FrameLength.{has_frame_length}
 use Rattle.station.specs.CallFields.{call_in}
 use Rattle.station.specs.Connections.{Connection, connection_of, most_connections}
 use Rattle.station.specs.FrameSpelling.{frame_octets}
-use Rattle.station.specs.Host.{joining, with_host, new_messages, new_items, taking, ending, AreTaken, AreTakenBy,
-    IsHostTurn}
+use Rattle.station.specs.Host.{joining, with_host, new_messages, new_items, taking, ending, AreTaken, AreTakenBy}
+use Rattle.station.specs.Host.{IsHostTurn}
 use Rattle.station.specs.Kiss.{param_of, with_param, heeding, heeding_all}
 use Rattle.station.specs.Links.{IsNewKey, is_between, key_between, count_of_links, most_links}
 use Rattle.station.specs.NewLinks.{making, idle_link}
 use Rattle.station.specs.Registrations.{registrar, may_register, is_number}
 use Rattle.station.specs.Routes.{Route, route_in, repeaters_in, behind_repeaters, path_along}
 use Rattle.station.specs.Turn.{Turn, Act, changing, closing, queueing, entering, dropping, capacity}
-use Rattle.channel_bench.specs.LinkSteps.{LinkStep, data_steps, disconnect_steps, else_steps, made_steps, call_steps,
-    answer_steps, message_steps, ending_steps, octet_steps_by, octet_steps, host_steps}
+use Rattle.channel_bench.specs.LinkSteps.{LinkStep, data_steps, disconnect_steps, else_steps, made_steps, call_steps}
+use Rattle.channel_bench.specs.LinkSteps.{answer_steps, message_steps, ending_steps, octet_steps_by, octet_steps}
+use Rattle.channel_bench.specs.LinkSteps.{host_steps}
 use Rattle.channel_bench.specs.StationsLaw.{first_chosen}
 use Rattle.channel_bench.proofs.Acts.{Setting, still_holds}
 use Rattle.channel_bench.proofs.Along.{Kept, Goes, goes_on}
@@ -85,7 +87,7 @@ unnumbered_still pid information (Some route) turn = go (nat_le (length informat
   where
     go : (b : Bool)
         → IsStill turn ((if b then queueing None (frame_octets Eight (unnumbered_frame route pid information))
-            else (λ t. t)) turn)
+        else (λ t. t)) turn)
     go true = raw_still (frame_octets Eight (unnumbered_frame route pid information)) turn
     go false = still turn
 
@@ -121,7 +123,7 @@ choice k data_list disconnect_list = cond (k == data_kind) data_list (cond (k ==
 
 nothing_chosen :
     (k c : ℕ) (xs ys : List LinkStep) → k ≡ c → (c == data_kind) ≡ false → (c == disconnect_kind) ≡ false
-        → choice k xs ys ≡ []
+    → choice k xs ys ≡ []
 nothing_chosen k c xs ys is first second =
     cond-false (k == data_kind) xs (cond (k == disconnect_kind) ys []) (ap (λ n. n == data_kind) is ∙ first)
     ∙ cond-false (k == disconnect_kind) ys [] (ap (λ n. n == disconnect_kind) is ∙ second)
@@ -136,40 +138,40 @@ else_goes s e back id message turn w H =
     let ys = disconnect_steps (meant s) key turn in
     let P : Turn → Type 0 = λ after. Kept s e back after (choice k xs ys) w in
     let calm : (c : ℕ) (after : Turn) → (c == data_kind) ≡ false → (c == disconnect_kind) ≡ false → IsStill turn after
-        → k ≡ c → P after =
+    → k ≡ c → P after =
     λ c after first second h is.
     subst (λ steps. Kept s e back after steps w)
     (sym (nothing_chosen k c xs ys is first second)) (still_goes s e back turn after h w H) in
     by_kind P k version_kind _ _ (calm version_kind _ refl refl
-        (record { links = refl; parameters = refl; queued = refl }))
+    (record { links = refl; parameters = refl; queued = refl }))
     (by_kind P k ports_kind _ _ (calm ports_kind _ refl refl
-        (record { links = refl; parameters = refl; queued = refl }))
+    (record { links = refl; parameters = refl; queued = refl }))
     (by_kind P k capabilities_kind _ _ (calm capabilities_kind _ refl refl
-        (record { links = refl; parameters = refl; queued = refl }))
+    (record { links = refl; parameters = refl; queued = refl }))
     (by_kind P k register_kind _ _ (calm register_kind _ refl refl
-        (registering_still id message.from (call_in message.from) turn))
+    (registering_still id message.from (call_in message.from) turn))
     (by_kind P k unregister_kind _ _ (calm unregister_kind _ refl refl
-        (unregistering_still id (call_in message.from) turn))
+    (unregistering_still id (call_in message.from) turn))
     (by_kind P k toggle_kind _ _ (calm toggle_kind _ refl refl
-        (record { links = refl; parameters = refl; queued = refl }))
+    (record { links = refl; parameters = refl; queued = refl }))
     (by_kind P k monitor_kind _ _ (calm monitor_kind _ refl refl
-        (record { links = refl; parameters = refl; queued = refl }))
+    (record { links = refl; parameters = refl; queued = refl }))
     (by_kind P k raw_kind _ _ (calm raw_kind _ refl refl (kiss_raw_still (drop 1 message.body) turn))
     (by_kind P k unproto_kind _ _
     (calm unproto_kind _ refl refl (unnumbered_still message.pid message.body
-        (route_in message.from message.to (Some [])) turn))
+    (route_in message.from message.to (Some [])) turn))
     (by_kind P k unproto_via_kind _ _
     (calm unproto_via_kind _ refl refl (unnumbered_still message.pid (behind_repeaters message.body)
     (route_in message.from message.to (repeaters_in message.body)) turn))
     (by_data key xs ys P (λ is. subst (λ steps. Kept s e back (giving message key turn) steps w)
-        (sym (data_chosen xs ys is)) (data_goes s e back message key turn w H))
+    (sym (data_chosen xs ys is)) (data_goes s e back message key turn w H))
     (λ is. subst (λ steps. Kept s e back (disconnecting key turn) steps w) (sym (disconnect_chosen xs ys is))
     (disconnect_goes s e back key turn w H))
     (calm pending_kind _ refl refl (record { links = refl; parameters = refl; queued = refl }))
     (calm waiting_kind _ refl refl (record { links = refl; parameters = refl; queued = refl }))
     (λ first second. subst (λ steps. Kept s e back turn steps w)
     (sym (cond-false (k == data_kind) xs (cond (k == disconnect_kind) ys []) first
-        ∙ cond-false (k == disconnect_kind) ys [] second)) (H, tt))))))))))))
+    ∙ cond-false (k == disconnect_kind) ys [] second)) (H, tt))))))))))))
   where
     data_chosen : (xs ys : List LinkStep) → message.kind ≡ data_kind → choice message.kind xs ys ≡ xs
     data_chosen xs ys is = cond-true (message.kind == data_kind) xs _ (ap (λ n. n == data_kind) is)
@@ -181,27 +183,27 @@ else_goes s e back id message turn w H =
 
     by_data :
         (key : Option ℕ) (xs ys : List LinkStep) (P : Turn → Type 0)
-            → (message.kind ≡ data_kind → P (giving message key turn))
+        → (message.kind ≡ data_kind → P (giving message key turn))
         → (message.kind ≡ disconnect_kind → P (disconnecting key turn))
         → (message.kind ≡ pending_kind → P (replying id (pending_reply message (pending_in message turn.now.links))
-            turn))
+        turn))
         → (message.kind ≡ waiting_kind → P (replying id (waiting_reply (length turn.now.channel.waiting)) turn))
         → ((message.kind == data_kind) ≡ false → (message.kind == disconnect_kind) ≡ false → P turn)
         → P (cond (message.kind == data_kind) (giving message key turn)
         (cond (message.kind == disconnect_kind) (disconnecting key turn)
         (cond (message.kind == pending_kind) (replying id (pending_reply message (pending_in message turn.now.links))
-            turn)
+        turn)
         (cond (message.kind == waiting_kind) (replying id (waiting_reply (length turn.now.channel.waiting)) turn)
-            turn))))
+        turn))))
     by_data key xs ys P one two three four five = go (message.kind == data_kind) refl (message.kind == disconnect_kind)
         refl
       where
         go : (b : Bool) → (message.kind == data_kind) ≡ b → (d : Bool) → (message.kind == disconnect_kind) ≡ d
             → P (cond b (giving message key turn) (cond d (disconnecting key turn)
             (cond (message.kind == pending_kind)
-                (replying id (pending_reply message (pending_in message turn.now.links)) turn)
+            (replying id (pending_reply message (pending_in message turn.now.links)) turn)
             (cond (message.kind == waiting_kind) (replying id (waiting_reply (length turn.now.channel.waiting)) turn)
-                turn))))
+            turn))))
         go true is d other = one (eqb-true message.kind data_kind is)
         go false is true other = two (eqb-true message.kind disconnect_kind other)
         go false is false other =
@@ -218,11 +220,11 @@ call_made :
 call_made s id pid message route turn key is parameters may new =
     let link = idle_link id pid route.local route.remote (path_along route) turn.now.parameters in
     let valid = route_valid message.from message.to (if message.kind == connect_via_kind then repeaters_in message.body
-        else Some [])
+    else Some [])
     route (no_or_few (message.kind == connect_via_kind) message.body) is in
     let tests = and_parts (is_number id (registrar route.local turn.now.registrations))
     (is_none (key_between route.local route.remote turn.now.links) && nat_lt (count_of_links turn.now.links) most_links)
-        may in
+    may in
     let vacant = and_parts (is_none (key_between route.local route.remote turn.now.links))
     (nat_lt (count_of_links turn.now.links) most_links) tests.1 in
     record {
@@ -237,7 +239,7 @@ call_made s id pid message route turn key is parameters may new =
       none = λ chosen. let calls = chosen_calls s.local s.remote link chosen in
           subst (λ (l : Callsign). first_chosen (is_between l s.remote) turn.now.links.places ≡ None) calls.local_is
           (subst (λ (r : Callsign). first_chosen (is_between route.local r) turn.now.links.places ≡ None)
-              calls.remote_is
+          calls.remote_is
           (none_chosen (is_between route.local route.remote) turn.now.links.places
           (none_by_position (is_between route.local route.remote) turn.now.links.places vacant.0)));
     }
@@ -275,7 +277,7 @@ call_goes s e back id message (Some route) before after is h w H =
 answer_goes :
     (s : Setting) (e : End) (back : List Tagged) (id : ℕ) (message : AgwMessage) (calling : Bool) (before after : Turn)
     → (h : MatchBool calling (IsCall id message (called_route message) before after)
-        (after ≡ answering_else id message before))
+    (after ≡ answering_else id message before))
     → Goes s e back before (answer_steps (meant s) id message calling before after h) after
 answer_goes s e back id message true before after h w H =
     call_goes s e back id message (called_route message) before after refl h w H
@@ -286,13 +288,13 @@ answer_goes s e back id message false before after h w H =
 pub messages_go :
     (s : Setting) (e : End) (back : List Tagged) (id : ℕ) (messages : List AgwMessage) (before after : Turn)
     → (h : AreAnswered id messages before after) → Goes s e back before
-        (message_steps (meant s) id messages before after h) after
+    (message_steps (meant s) id messages before after h) after
 messages_go s e back id [] before after h w H = subst (λ t. Kept s e back t [] w) (sym h) (H, tt)
 messages_go s e back id (message ∷ messages) before after h w H =
     goes_on s e back before h.0 after (answer_steps (meant s) id message (calls message) before h.0 h.1)
     (message_steps (meant s) id messages h.0 after h.2)
     (answer_goes s e back id message (calls message) before h.0 h.1) (messages_go s e back id messages h.0 after h.2)
-        w H
+    w H
 
 ending_goes :
     (s : Setting) (e : End) (back : List Tagged) (id : ℕ) (len : Option ℕ) (turn : Turn)
@@ -349,13 +351,13 @@ octets_go_by s e back Agw connection octets before after h w H =
     let messages = new_messages connection.stream octets in
     subst (λ t. Kept s e back t (octet_steps_by (meant s) Agw connection octets before after h) w) (sym h.2)
     (goes_on s e back taken h.0 (ending connection.id len h.0)
-        (message_steps (meant s) connection.id messages taken h.0 h.1)
+    (message_steps (meant s) connection.id messages taken h.0 h.1)
     (ending_steps (meant s) connection.id len h.0) (messages_go s e back connection.id messages taken h.0 h.1)
     (ending_goes s e back connection.id len h.0) w (still_holds s back before taken w H refl refl refl))
 
 octets_go :
     (s : Setting) (e : End) (back : List Tagged) (connection : Option Connection) (octets : List ℕ)
-        (before after : Turn)
+    (before after : Turn)
     → (h : AreTaken connection octets before after)
     → Goes s e back before (octet_steps (meant s) connection octets before after h) after
 octets_go s e back None octets before after h w H = subst (λ t. Kept s e back t [] w) (sym h) (H, tt)

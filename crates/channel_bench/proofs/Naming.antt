@@ -1,8 +1,8 @@
 -- Of the frames that a step queues as many ask for an answer as its events sent that joined the queue, at least. This
 -- is seen
 -- by pairs that name all of them: then all are in flight.
-use Rattle.std.proofs.Common.{◌≡◌, ℕ, zero, suc, ◌+◌, ◌<◌, ◌≤◌, ◌==◌, Bool, true, List, [], ◌∷◌, ◌++◌, length, take,
-    drop, Option, Some, None, refl, sym, ap, ◌∙◌, subst, arith}
+use Rattle.std.proofs.Common.{◌≡◌, ℕ, zero, suc, ◌+◌, ◌<◌, ◌≤◌, ◌==◌, Bool, true, List, [], ◌∷◌, ◌++◌, length, take}
+use Rattle.std.proofs.Common.{drop, Option, Some, None, refl, sym, ap, ◌∙◌, subst, arith}
 use Rattle.std.specs.Prelude.{max, slice_get}
 use Rattle.std.specs.List.{count_by, AllByRecursion as Each}
 use Rattle.std.proofs.Math.Nat.{le-max_left, le-max_right}
@@ -47,7 +47,7 @@ same_sent e step w v is = go step.anew
   where
     go : (anew : Option Path)
         → (near_turn (event_at_end e step.event) (makes_near anew w)).sent
-            ≡ (near_turn (event_at_end e step.event) (makes_near anew v)).sent
+        ≡ (near_turn (event_at_end e step.event) (makes_near anew v)).sent
     go None = ap (λ (side : Side). (near_turn (event_at_end e step.event) (world_of_sides side w.b)).sent) is
     go (Some path) =
         ap (λ (side : Side). (near_turn (event_at_end e step.event) (near_made path (world_of_sides side w.b))).sent) is
@@ -78,7 +78,7 @@ joined_same e pairs others n (step ∷ steps) w v is =
     ap (λ xs. take step.joined xs ++ joined_near e pairs n steps (near_by e pairs n step w)) (same_sent e step w v is)
     ∙ ap (λ ys. take step.joined (sent_near e step v) ++ ys)
     (joined_same e pairs others n steps (near_by e pairs n step w) (near_by e others n step v)
-        (same_by e pairs others n step w v is))
+    (same_by e pairs others n step w v is))
 
 -- ---- pairs that name all
 
@@ -152,7 +152,7 @@ towards_named e ps n (step ∷ steps) w keeps =
     ap (λ (x : Side). x.towards ++ kept (marks_from ps (n + step.first) step.joined) sent) (made_far step.anew w)
     ∙ ap (λ fs. w.b.towards ++ fs) (keeps.0 sent) in
     towards_named e ps n steps next keeps.1 ∙ ap (λ fs. fs ++ rest) here
-        ∙ append_assoc w.b.towards (take step.joined sent) rest
+    ∙ append_assoc w.b.towards (take step.joined sent) rest
 
 -- ---- frames in flight tell what was queued
 
@@ -162,7 +162,7 @@ told_tagged l r f q tag =
     let spelled = frame_spelled (modulus_named f.modulus) f.frame tag.path in
     subst (λ o. ToldByOctets o f.frame.kind) (sym tag.spelled)
     (told_by_octets (modulus_named f.modulus) f.frame.kind (frame_octets (modulus_named f.modulus) f.frame)
-        f.frame.path _
+    f.frame.path _
     spelled.begins spelled.body)
 
 pub asks_told : (l r : Callsign) → Tells l r is_asking asks
@@ -216,7 +216,7 @@ asks_joined e l r pa pb n sb qa qb out_pairs back_pairs w full step h station is
     (subst (λ xs. Each (λ (p : Pair). length qa ≤ p.sent) xs) out.split
     (named_from (length qa) (n + 1) (length qa) count (omega arith))) in
     let fits = flight_count l r is_asking asks (asks_told l r) out.tags (qa ++ joined) out.tagged (n + 1) (length qa)
-        out.rest
+    out.rest
     (rise_higher (n + 1) 0 (length qa) out.rest out.rises low) in
     let towards : joined_near e out_pairs (length qa) steps w ≡ (near_all e ps (length qa) steps v).b.towards =
     joined_same e out_pairs ps (length qa) steps w v refl

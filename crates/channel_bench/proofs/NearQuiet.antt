@@ -1,6 +1,6 @@
 -- When an event finds a quiet channel, as its end sees it, and how much the events of a step leave in flight that asks.
-use Rattle.std.proofs.Common.{◌≡◌, ℕ, ◌+◌, ◌≤◌, Bool, true, false, not, ◌==◌, List, [], ◌∷◌, ◌++◌, length, map, take,
-    drop, Option, Some, None, ◌⊎◌, refl, sym, ap, ◌∙◌, arith, inl, inr}
+use Rattle.std.proofs.Common.{◌≡◌, ℕ, ◌+◌, ◌≤◌, Bool, true, false, not, ◌==◌, List, [], ◌∷◌, ◌++◌, length, map, take}
+use Rattle.std.proofs.Common.{drop, Option, Some, None, ◌⊎◌, refl, sym, ap, ◌∙◌, arith, inl, inr}
 use Rattle.std.specs.Bool.{⊤}
 use Rattle.std.specs.List.{count_by, list_any}
 use Rattle.std.proofs.lemmas.Bool.{cases_eq, eq-eqb, or_left, or_right, not_from_false, and_right}
@@ -11,8 +11,8 @@ use Rattle.ax25_frames.specs.declared.frame.Kind.{Kind}
 use Rattle.ax25_frames.specs.declared.frame.Kind.TheVariants.{Info, Super, Setup, Ui, Other}
 use Rattle.ax25_frames.specs.declared.frame.U.TheVariants.{Sabm, Sabme, Disc, Dm, Ua}
 use Rattle.link_machine.specs.Event.{Event as LinkEvent}
-use Rattle.link_machine.specs.Event.Event.{Connect as LinkConnect, Send as LinkSend, Disconnect as LinkDisconnect,
-    Hear as LinkHear, Tick as LinkTick}
+use Rattle.link_machine.specs.Event.Event.{Connect as LinkConnect, Send as LinkSend, Disconnect as LinkDisconnect}
+use Rattle.link_machine.specs.Event.Event.{Hear as LinkHear, Tick as LinkTick}
 use Rattle.link_machine.specs.Step.{step as link_turn}
 use Rattle.link_world.specs.declared.end.End.{End}
 use Rattle.link_world.specs.Changes.{kept}
@@ -25,8 +25,8 @@ use Rattle.channel_bench.specs.LinkSteps.{LinkStep}
 use Rattle.channel_bench.specs.MatchedLaw.{DropsNoAsk}
 use Rattle.channel_bench.proofs.Acts.{is_asking, asks_when_sent}
 use Rattle.channel_bench.proofs.Along.{makes_near, near_by, near_all, FollowsNear}
-use Rattle.channel_bench.proofs.Counts.{one, count_cons, count_append, count_drop, count_take, count_none, count_map,
-    count_kept}
+use Rattle.channel_bench.proofs.Counts.{one, count_cons, count_append, count_drop, count_take, count_none, count_map}
+use Rattle.channel_bench.proofs.Counts.{count_kept}
 
 -- ---- the events of a step
 
@@ -111,7 +111,7 @@ lost_none :
 lost_none e back step w follows drops =
     let sent = sent_near e step w in
     let same : map is_asking (drop step.joined sent) ≡ map asks_when_sent
-        (drop step.joined (link_turn step.link.machine step.event).sent) =
+    (drop step.joined (link_turn step.link.machine step.event).sent) =
     sym (drop-map is_asking step.joined sent) ∙ ap (drop step.joined) follows.asking
     ∙ drop-map asks_when_sent step.joined (link_turn step.link.machine step.event).sent in
     let none : asks_in (drop step.joined sent) ≡ 0 =
@@ -128,7 +128,7 @@ marks_size pairs first count = length-map-range_with_len (λ k. is_named pairs (
 pub towards_by :
     (e : End) (pairs : List Pair) (n : ℕ) (step : LinkStep) (w : World)
     → asks_in (near_by e pairs n step w).b.towards ≤ asks_in w.b.towards + asks_in
-        (take step.joined (sent_near e step w))
+    (take step.joined (sent_near e step w))
 towards_by e pairs n step w =
     let sent = sent_near e step w in
     let ms = marks_from pairs (n + step.first) step.joined in
@@ -147,7 +147,7 @@ pub back_by :
 back_by e pairs n step w =
     let less = stays_less e step.event (makes_near step.anew w).a.towards in
     let same : asks_in (makes_near step.anew w).a.towards ≡ asks_in w.a.towards =
-        ap asks_in (made_towards step.anew w) in
+    ap asks_in (made_towards step.anew w) in
     omega arith
 
 -- ---- of all

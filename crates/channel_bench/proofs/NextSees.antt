@@ -1,6 +1,6 @@
 -- A step of a station of the bench keeps what its host program has seen of its link.
-use Rattle.std.proofs.Common.{◌≡◌, ℕ, Bool, true, false, List, [], ◌∷◌, ◌++◌, Option, is_some, refl, sym, ap, ◌∙◌,
-    subst}
+use Rattle.std.proofs.Common.{◌≡◌, ℕ, Bool, true, false, List, [], ◌∷◌, ◌++◌, Option, is_some, refl, sym, ap, ◌∙◌}
+use Rattle.std.proofs.Common.{subst}
 use Rattle.std.specs.List.{AllByRecursion as Each}
 use Rattle.link_machine.specs.Machine.{Machine}
 use Rattle.link_world.specs.declared.end.End.{End}
@@ -22,8 +22,8 @@ use Rattle.channel_bench.specs.RunsTell.{runs_behind}
 use Rattle.channel_bench.specs.SetUpsSeen.{seen_by_all}
 use Rattle.channel_bench.proofs.Chains.{IsChain, asked_behind, behind_append, called_behind, chain_parts, last_machine}
 use Rattle.channel_bench.proofs.CoreRun.{Occurs, Usual, input_of}
-use Rattle.channel_bench.proofs.CoreRun.Usual.{connects, disconnects, gives, hears, joins_kiss, joins_program,
-    registers, sets_full, ticks}
+use Rattle.channel_bench.proofs.CoreRun.Usual.{connects, disconnects, gives, hears, joins_kiss, joins_program}
+use Rattle.channel_bench.proofs.CoreRun.Usual.{registers, sets_full, ticks}
 use Rattle.channel_bench.proofs.Framed.{framed}
 use Rattle.channel_bench.proofs.HostsStay.{HasHosts}
 use Rattle.channel_bench.proofs.LinkDid.{is_connect, is_disconnect}
@@ -35,11 +35,13 @@ use Rattle.channel_bench.proofs.OwnMessages.Comes.{by_link, joined, refused, rep
 use Rattle.channel_bench.proofs.ProgramSees.{GaveAll, GivesNothing, Sees, steps_see}
 use Rattle.channel_bench.proofs.ProgramsAsk.{hosts_at}
 use Rattle.channel_bench.proofs.Shorts.{ShortStep, steps_written}
-use Rattle.channel_bench.proofs.SideSees.{SideSees, by_connect, by_disconnect, by_gives, each_map, joined_sees, linked,
-    none_given_up, none_short, refused_sees, replied_sees, seen_append, side_after}
-use Rattle.channel_bench.proofs.StepSees.{IsReady, SeesAt, Wishes, connect_wishes, connects_one, disconnect_wishes,
-    disconnects_one, far_sees, heard_from, links_more, matched_last, not_sending, plain_wishes, queue_more, queue_of,
-    runs_set_up, step_laws, uncalled_rests, unshown_of}
+use Rattle.channel_bench.proofs.SideSees.{SideSees, by_connect, by_disconnect, by_gives, each_map, joined_sees, linked}
+use Rattle.channel_bench.proofs.SideSees.{none_given_up, none_short, refused_sees, replied_sees, seen_append}
+use Rattle.channel_bench.proofs.SideSees.{side_after}
+use Rattle.channel_bench.proofs.StepSees.{IsReady, SeesAt, Wishes, connect_wishes, connects_one, disconnect_wishes}
+use Rattle.channel_bench.proofs.StepSees.{disconnects_one, far_sees, heard_from, links_more, matched_last, not_sending}
+use Rattle.channel_bench.proofs.StepSees.{plain_wishes, queue_more, queue_of, runs_set_up, step_laws, uncalled_rests}
+use Rattle.channel_bench.proofs.StepSees.{unshown_of}
 use Rattle.channel_bench.proofs.ThereStays.{HasProgram, is_there, there_grows}
 
 -- the step as it is noted
@@ -88,7 +90,7 @@ no_disconnects : (c : Cause) → (c ≡ disconnecting → ⊥) → (made : List 
     → Each (λ (x : LinkStep). is_disconnect x.event ≡ false) made
 no_disconnects c other made by =
     each_map (IsBy c) (λ (x : LinkStep). is_disconnect x.event ≡ false) (λ x is. by_disconnect c other x.event is)
-        made by
+    made by
 
 no_connects : (c : Cause) → (c ≡ connecting → ⊥) → (made : List LinkStep) → Each (IsBy c) made
     → Each (λ (x : LinkStep). is_connect x.event ≡ false) made
@@ -107,23 +109,23 @@ wishes_of :
 wishes_of w e joins_kiss s after p events last hosts turn ready by asked calls runs is chain =
     let made = turn_steps (chosen e) (input_of e joins_kiss) (begin s) after turn in
     plain_wishes w e p events made (no_disconnects nothing (λ x. cc) made by) (no_connects nothing (λ x. cc) made by)
-        asked calls
+    asked calls
 wishes_of w e sets_full s after p events last hosts turn ready by asked calls runs is chain =
     let made = turn_steps (chosen e) (input_of e sets_full) (begin s) after turn in
     plain_wishes w e p events made (no_disconnects nothing (λ x. cc) made by) (no_connects nothing (λ x. cc) made by)
-        asked calls
+    asked calls
 wishes_of w e joins_program s after p events last hosts turn ready by asked calls runs is chain =
     let made = turn_steps (chosen e) (input_of e joins_program) (begin s) after turn in
     plain_wishes w e p events made (no_disconnects nothing (λ x. cc) made by) (no_connects nothing (λ x. cc) made by)
-        asked calls
+    asked calls
 wishes_of w e registers s after p events last hosts turn ready by asked calls runs is chain =
     let made = turn_steps (chosen e) (input_of e registers) (begin s) after turn in
     plain_wishes w e p events made (no_disconnects nothing (λ x. cc) made by) (no_connects nothing (λ x. cc) made by)
-        asked calls
+    asked calls
 wishes_of w e connects s after p events last hosts turn ready by asked calls runs is chain =
     let made = turn_steps (chosen e) (input_of e connects) (begin s) after turn in
     connect_wishes w e p events made (no_disconnects connecting (λ x. cc) made by) (connects_one e s after hosts turn)
-        asked
+    asked
     ready.0
 wishes_of w e (gives piece) s after p events last hosts turn ready by asked calls runs is chain = absurd ready
 wishes_of w e disconnects s after p events last hosts turn ready by asked calls runs is chain =
@@ -134,16 +136,16 @@ wishes_of w e disconnects s after p events last hosts turn ready by asked calls 
 wishes_of w e (hears octets) s after p events last hosts turn ready by asked calls runs is chain =
     let made = turn_steps (chosen e) (input_of e (hears octets)) (begin s) after turn in
     plain_wishes w e p events made (no_disconnects others (λ x. cc) made by) (no_connects others (λ x. cc) made by)
-        asked calls
+    asked calls
 wishes_of w e (ticks busy) s after p events last hosts turn ready by asked calls runs is chain =
     let made = turn_steps (chosen e) (input_of e (ticks busy)) (begin s) after turn in
     plain_wishes w e p events made (no_disconnects others (λ x. cc) made by) (no_connects others (λ x. cc) made by)
-        asked calls
+    asked calls
 
 -- C is refused while no set-up runs, and the link was not called
 refusal_rests :
     (w : BenchWords) (e : End) (usual : Usual) (moments : List Moment) (s : Stations) (p : ProgramState)
-        → Occurs e usual
+    → Occurs e usual
     → IsRefusable usual → IsReady w usual p (links_of e moments) → LinkNow w moments s e
     → (runs_behind false (links_of e moments) ≡ false) × (called_behind false (links_of e moments) ≡ false)
 refusal_rests w e joins_kiss moments s p occurs may ready now = absurd may
@@ -187,7 +189,7 @@ came w e usual moments next s t side far there turn on made own later links far_
     let c = cause_in usual in
     let none : Each (λ (x : LinkStep). GivesNothing x.event) made =
     each_map (IsBy c) (λ (x : LinkStep). GivesNothing x.event) (λ x is. by_gives c not_gives x.event is)
-        made says.causes in
+    made says.causes in
     let given = each_map (λ (x : LinkStep). GivesNothing x.event) GivenUp none_given_up made none in
     let short = each_map (λ (x : LinkStep). GivesNothing x.event) ShortStep none_short made none in
     let laws = step_laws w e moments next t side far p made later links far_next
@@ -197,9 +199,9 @@ came w e usual moments next s t side far there turn on made own later links far_
     let wish = wishes says.causes chain in
     let seen = seen_by_all events [] in
     let sees : Sees (told_all (messages_of e made) p) (seen_by_all (events ++ made) [])
-        (runs_behind false (events ++ made)) =
+    (runs_behind false (events ++ made)) =
     subst (λ xs. Sees (told_all (messages_of e made) p) xs (runs_behind false (events ++ made)))
-        (sym (seen_append events made []))
+    (sym (seen_append events made []))
     (subst (Sees (told_all (messages_of e made) p) (seen_by_all made seen)) (sym (behind_append false events made))
     (steps_see e made p seen (runs_behind false events) none laws.told own.sees)) in
     linked w e c side p events made (queue_of e moments) there turn on own says (steps_written e made laws.short) sees
@@ -223,7 +225,7 @@ came w e usual moments next s t side far there turn on made own later links far_
 
 pub step_sees :
     (w : BenchWords) (e : End) (usual : Usual) (matched : Option ℕ) (before after : Near) (far : SideState)
-        (s : Stations)
+    (s : Stations)
     → Occurs e usual → (h : IsStep e (input_of e usual) matched before after) → before.side.station ≡ state_of e s
     → Known w before.common.moments s
     → Known w (before.common.moments ++ Steps (noted_step e usual matched before after h) matched ∷ [])
@@ -231,7 +233,7 @@ pub step_sees :
     → BothSee w e before.side far before.common.moments
     → IsReady w usual before.side.program (links_of e before.common.moments)
     → BothSee w e after.side far (before.common.moments ++ Steps (noted_step e usual matched before after h) matched
-        ∷ [])
+    ∷ [])
 step_sees w e usual matched before after far s occurs h at known later both ready =
     let side = before.side in
     let p = side.program in
@@ -246,7 +248,7 @@ step_sees w e usual matched before after far s occurs h at known later both read
     let from = heard_from e usual matched (sent_by (other e) (after_moments moments nothing_sent))
     (matched_last moments (Steps step matched) nothing_sent later.matched) both.far_sees.queued in
     let comes = usual_comes e usual side.station h.turn occurs hosts own.owns
-        (unshown_of side.station.connections hosts.connections)
+    (unshown_of side.station.connections hosts.connections)
     from h.makes in
     let far_next = far_sees w e far moments step matched refl both.far_sees in
     let links : links_of e next ≡ events ++ made = own_events e moments step matched refl in
@@ -255,10 +257,10 @@ step_sees w e usual matched before after far s occurs h at known later both read
     let done : SideSees w e (side_after side p there h.turn) (events ++ made)
     (queue_of e moments ++ framed (hears_ask step.input) h.turn.out.queued) =
     came w e usual moments next s (with_state e after.side.station s) side far there h.turn (hears_ask step.input)
-        made own
+    made own
     later links far_next now has (refusal_rests w e usual moments s p occurs)
     (λ by chain. wishes_of w e usual side.station h.turn p events (last_machine (first_machine w e) events)
-        hosts h.makes
+    hosts h.makes
     ready by own.asked own.calls now.runs own.sees.runs_is chain)
     (not_sending w usual p events ready) ready comes in
     record {

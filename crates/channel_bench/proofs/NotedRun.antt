@@ -1,14 +1,15 @@
 -- The moments that a bench notes are a joint run of its stations, in which each SABM, SABME and DISC found a quiet
 -- channel.
-use Rattle.std.proofs.Common.{◌≡◌, ℕ, ◌+◌, Bool, true, false, List, [], ◌∷◌, ◌++◌, cond, Option, Some, None, refl, sym,
-    ap, ◌∙◌, subst}
+use Rattle.std.proofs.Common.{◌≡◌, ℕ, ◌+◌, Bool, true, false, List, [], ◌∷◌, ◌++◌, cond, Option, Some, None, refl, sym}
+use Rattle.std.proofs.Common.{ap, ◌∙◌, subst}
 use Rattle.link_world.specs.declared.end.End.{End}
 use Rattle.channel_bench.specs.declared.words.BenchWords.{BenchWords}
 use Rattle.channel_bench.specs.BenchOrder.{IsNoted, first_stations}
 use Rattle.channel_bench.specs.BenchState.{Near}
 use Rattle.channel_bench.specs.BenchSteps.{IsStep, first_unquiet, trouble_of, count_of}
-use Rattle.channel_bench.specs.InFlight.{Moment, BothWays, AreQuietAt, AreQuietThrough, IsQuietIn, after_moment,
-    after_moments, hears_ask, hearing_at, is_quiet_at, nothing_sent, queueing_at, steps_in}
+use Rattle.channel_bench.specs.InFlight.{Moment, BothWays, AreQuietAt, AreQuietThrough, IsQuietIn, after_moment}
+use Rattle.channel_bench.specs.InFlight.{after_moments, hears_ask, hearing_at, is_quiet_at, nothing_sent, queueing_at}
+use Rattle.channel_bench.specs.InFlight.{steps_in}
 use Rattle.channel_bench.specs.InFlight.Moment.{Steps, Passes}
 use Rattle.channel_bench.specs.JointRun.{Input, Step, Stations, IsJointRun, all_stepped, state_of, stepped, with_state}
 use Rattle.channel_bench.proofs.CoreRun.{KeptByCore, input_of, told_station}

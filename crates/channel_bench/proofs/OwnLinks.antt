@@ -1,8 +1,8 @@
 -- At a station of a bench each link is between the two calls, and the host program owns it: what the acts of a step
 -- make of
 -- that, what the program is sent, and which frames join the queue.
-use Rattle.std.proofs.Common.{◌≡◌, ℕ, ◌==◌, nat_lt, Bool, true, false, List, [], ◌∷◌, ◌++◌, length, map, cond, Option,
-    Some, None, refl, sym, ap, ◌∙◌, subst}
+use Rattle.std.proofs.Common.{◌≡◌, ℕ, ◌==◌, nat_lt, Bool, true, false, List, [], ◌∷◌, ◌++◌, length, map, cond, Option}
+use Rattle.std.proofs.Common.{Some, None, refl, sym, ap, ◌∙◌, subst}
 use Rattle.std.specs.Bool.{⊤}
 use Rattle.std.specs.Prelude.{MatchBool, filter, find, flat_map, option_map}
 use Rattle.std.specs.List.{range_with_len, AllByRecursion as Each}
@@ -24,8 +24,8 @@ use Rattle.agwpe_port.specs.declared.message.AgwMessage.{AgwMessage}
 use Rattle.link_machine.specs.declared.acts.SentFrame.{SentFrame}
 use Rattle.link_machine.specs.declared.acts.Told.{Told}
 use Rattle.link_machine.specs.Event.{Event as LinkEvent}
-use Rattle.link_machine.specs.Event.Event.{Connect as LinkConnect, Send as LinkSend, Disconnect as LinkDisconnect,
-    Hear as LinkHear, Tick as LinkTick}
+use Rattle.link_machine.specs.Event.Event.{Connect as LinkConnect, Send as LinkSend, Disconnect as LinkDisconnect}
+use Rattle.link_machine.specs.Event.Event.{Hear as LinkHear, Tick as LinkTick}
 use Rattle.link_machine.specs.Machine.{Machine, modulus_named}
 use Rattle.link_machine.specs.Sent.{SentIn, frame_of, sent_frame}
 use Rattle.link_machine.specs.Step.{done_of, step as link_turn}
@@ -38,12 +38,12 @@ use Rattle.station.specs.declared.host_out.Piece.{Piece}
 use Rattle.station.specs.declared.registration.Registration.{Registration}
 use Rattle.station.specs.Connections.{Connection}
 use Rattle.station.specs.FrameSpelling.{path_octets}
-use Rattle.station.specs.Heard.{AreHeardAt, AreOctetsHeard, IsHeard, IsHeardAnew, IsHeardBy, IsHeardMaking, IsReadAs,
-    IsReadingHeardAnew, IsRepeatedFor, destination_field, hearing_at, kiss_data, may_make, showing, showing_to,
-    shown_to_hosts, source_field, waits_for_repeater, with_shown}
+use Rattle.station.specs.Heard.{AreHeardAt, AreOctetsHeard, IsHeard, IsHeardAnew, IsHeardBy, IsHeardMaking, IsReadAs}
+use Rattle.station.specs.Heard.{IsReadingHeardAnew, IsRepeatedFor, destination_field, hearing_at, kiss_data, may_make}
+use Rattle.station.specs.Heard.{showing, showing_to, shown_to_hosts, source_field, waits_for_repeater, with_shown}
 use Rattle.station.specs.HostMessages.{message_of_told}
-use Rattle.station.specs.LinkEvents.{event_at, event_of, is_idle, link_event, queueing_frame, queueing_frames,
-    settled_link, telling_one, telling_to, with_links}
+use Rattle.station.specs.LinkEvents.{event_at, event_of, is_idle, link_event, queueing_frame, queueing_frames}
+use Rattle.station.specs.LinkEvents.{settled_link, telling_one, telling_to, with_links}
 use Rattle.station.specs.Links.{Link, Links, key_between, link_at, most_links, with_link, without_link}
 use Rattle.station.specs.Monitoring.{monitor_pieces, piece_for, to_monitors}
 use Rattle.station.specs.NewLinks.{idle_link, making, no_layer_3}
@@ -55,8 +55,9 @@ use Rattle.channel_bench.specs.BenchOrder.{the_calls}
 use Rattle.channel_bench.specs.BenchSteps.{program_id}
 use Rattle.channel_bench.specs.HostProgram.{call_at}
 use Rattle.channel_bench.specs.LinkOfCalls.{link_at_end}
-use Rattle.channel_bench.specs.LinkSteps.{Choice, LinkStep, anew_steps, by_path_steps, heard_steps, hears_at, key_steps,
-    link_step, new_steps, path_steps, reading_steps, steps_along, steps_at, steps_for, tick_steps, ticks_at}
+use Rattle.channel_bench.specs.LinkSteps.{Choice, LinkStep, anew_steps, by_path_steps, heard_steps, hears_at, key_steps}
+use Rattle.channel_bench.specs.LinkSteps.{link_step, new_steps, path_steps, reading_steps, steps_along, steps_at}
+use Rattle.channel_bench.specs.LinkSteps.{steps_for, tick_steps, ticks_at}
 use Rattle.channel_bench.specs.Owners.{pieces_to}
 use Rattle.channel_bench.specs.RunsTell.{told_in}
 use Rattle.channel_bench.proofs.Addresses.{IsGoodPath, frame_spelled}
@@ -395,7 +396,7 @@ module _ (c : Cause) where
   ticks_say e t by owns =
       says_along e ticking_at (ticks_at (chosen e))
       (λ key u h. event_says e None key (LinkTick (waits key u.now.channel.waiting)) u by h)
-          (range_with_len 0 most_links) t owns
+      (range_with_len 0 most_links) t owns
 
   -- ---- a link that is made
 
@@ -583,4 +584,4 @@ module _ (c : Cause) where
       let first = shown_says e h.path octets h.monitored t owns unshown in
       says_on e t shown u [] (by_path_steps (chosen e) h.path octets shown u h.effect) first
       (by_path_says e h.path octets shown u by (ap (λ (s : StationState). s.digi) calm.now ∙ none)
-          first.owns from h.effect)
+      first.owns from h.effect)

@@ -1,6 +1,6 @@
 -- The messages of a host program of the bench, each as what it makes of its station and of what the program is sent.
-use Rattle.std.proofs.Common.{◌≡◌, ℕ, ◌==◌, nat_lt, Bool, true, false, List, [], ◌∷◌, ◌++◌, length, map, cond,
-    if◌then◌else◌, Option, Some, None, refl, sym, ap, ◌∙◌, subst, arith}
+use Rattle.std.proofs.Common.{◌≡◌, ℕ, ◌==◌, nat_lt, Bool, true, false, List, [], ◌∷◌, ◌++◌, length, map, cond}
+use Rattle.std.proofs.Common.{if◌then◌else◌, Option, Some, None, refl, sym, ap, ◌∙◌, subst, arith}
 use Rattle.std.specs.Bool.{⊤}
 use Rattle.std.specs.Prelude.{MatchBool}
 use Rattle.std.specs.List.{AllByRecursion as Each}
@@ -20,9 +20,10 @@ use Rattle.station.specs.declared.host_event.PortKind.{PortKind}
 use Rattle.station.specs.declared.host_event.PortKind.TheVariants.{Kiss, Agw}
 use Rattle.station.specs.declared.host_out.Piece.{Piece}
 use Rattle.station.specs.AgwKinds.{connect_kind, connect_via_kind, data_kind, disconnect_kind, register_kind}
-use Rattle.station.specs.AgwRequests.{AreAnswered, IsAnswered, IsCall, IsCallMade, called_pid, called_route, calls,
-    data_pid, disconnecting as disconnecting_act, giving, giving_packet, may_call, own_key, packets_of, refused_reply,
-    register_reply, registering, replying, with_registration}
+use Rattle.station.specs.AgwRequests.{AreAnswered, IsAnswered, IsCall, IsCallMade, called_pid, called_route, calls}
+use Rattle.station.specs.AgwRequests.{data_pid, disconnecting as disconnecting_act, giving, giving_packet, may_call}
+use Rattle.station.specs.AgwRequests.{own_key, packets_of, refused_reply, register_reply, registering, replying}
+use Rattle.station.specs.AgwRequests.{with_registration}
 use Rattle.station.specs.CallFields.{call_in, call_of_text}
 use Rattle.station.specs.Connections.{Connection, connection_of, most_connections}
 use Rattle.station.specs.Host.{AreTaken, AreTakenBy, ending, joining, new_messages, taking, with_host}
@@ -38,17 +39,18 @@ use Rattle.channel_bench.specs.BenchSteps.{program_id}
 use Rattle.channel_bench.specs.BenchTick.{kiss_id}
 use Rattle.channel_bench.specs.HostProgram.{call_at, full_duplex_octets, request, request_between}
 use Rattle.channel_bench.specs.JointRun.{IsTurn}
-use Rattle.channel_bench.specs.LinkSteps.{LinkStep, answer_steps, call_steps, data_steps, disconnect_steps,
-    ending_steps, made_steps, message_steps, octet_steps, octet_steps_by, sends_at, turn_steps}
+use Rattle.channel_bench.specs.LinkSteps.{LinkStep, answer_steps, call_steps, data_steps, disconnect_steps}
+use Rattle.channel_bench.specs.LinkSteps.{ending_steps, made_steps, message_steps, octet_steps, octet_steps_by}
+use Rattle.channel_bench.specs.LinkSteps.{sends_at, turn_steps}
 use Rattle.channel_bench.proofs.CoreRun.{Occurs, Usual, input_of}
-use Rattle.channel_bench.proofs.CoreRun.Usual.{connects, disconnects, gives, hears, joins_kiss, joins_program,
-    registers, sets_full, ticks}
+use Rattle.channel_bench.proofs.CoreRun.Usual.{connects, disconnects, gives, hears, joins_kiss, joins_program}
+use Rattle.channel_bench.proofs.CoreRun.Usual.{registers, sets_full, ticks}
 use Rattle.channel_bench.proofs.HostStreams.{none_bad, one_new}
 use Rattle.channel_bench.proofs.HostsStay.{HasHosts, IsHosts, IsSet, SameHosts, found, same_hosts, set_by}
 use Rattle.channel_bench.proofs.HostsStay.IsSet.{full, unheard}
-use Rattle.channel_bench.proofs.OwnLinks.{Cause, IsFromPartner, IsOwnRegistration, IsUnshown, OwnsAll, Says, calm_says,
-    chosen, event_says, heard_says, made_says, messages_of, none_monitored, own_pieces, piece_to, same_says, says_along,
-    ticks_say}
+use Rattle.channel_bench.proofs.OwnLinks.{Cause, IsFromPartner, IsOwnRegistration, IsUnshown, OwnsAll, Says, calm_says}
+use Rattle.channel_bench.proofs.OwnLinks.{chosen, event_says, heard_says, made_says, messages_of, none_monitored}
+use Rattle.channel_bench.proofs.OwnLinks.{own_pieces, piece_to, same_says, says_along, ticks_say}
 use Rattle.channel_bench.proofs.OwnLinks.Cause.{connecting, disconnecting, nothing, others, sending}
 use Rattle.channel_bench.proofs.ProgramsAsk.{between_written, registers_written}
 use Rattle.channel_bench.proofs.TurnWalks.{ticks_kept}
@@ -108,7 +110,7 @@ said_go e m t R written hosts none answered u h = go (connection_of program_id t
         let len = bad_length_in (c.stream ++ spelling m) in
         let same : len ≡ None = none_bad c.stream m written whole in
         let steps = message_steps (chosen e) c.id (new_messages c.stream (spelling m)) (taking c.id (spelling m) t)
-            k.0 k.1 in
+        k.0 k.1 in
         let ends : u ≡ k.0 = k.2 ∙ ap (λ o. ending c.id o k.0) same in
         let none_more : ending_steps (chosen e) c.id len k.0 ≡ [] = ap (λ o. ending_steps (chosen e) c.id o k.0) same in
         subst (R (steps ++ ending_steps (chosen e) c.id len k.0)) (sym ends)
@@ -182,7 +184,7 @@ registered_owns e s owns = record {
 
 registering_comes :
     (c : Cause) (e : End) (t u : Turn) (call : Option Callsign) → call ≡ Some (call_at e) → OwnsAll e t.now
-        → u.out ≡ t.out
+    → u.out ≡ t.out
     → OwnsAll e u.now → Replied register_kind e t (registering program_id (call_field (call_at e)) call u)
 registering_comes c e t u None is owns same own = absurd (cc)
 registering_comes c e t u (Some call) is owns same own =
@@ -224,7 +226,7 @@ made_comes e pid m route true t took u is local remote owns same written h =
     let valid = route_valid m.from m.to (if m.kind == connect_via_kind then repeaters_in m.body else Some [])
     route (no_or_few (m.kind == connect_via_kind) m.body) is in
     let made = made_says connecting e h.0 program_id pid route.local route.remote path LinkConnect took refl owns
-        (record {
+    (record {
       local = local;
       remote = remote;
       owner = refl;
@@ -255,7 +257,7 @@ call_comes :
 call_comes e m None t took u is known owns same written h = absurd (cc)
 call_comes e m (Some route) t took u is known owns same written h =
     let here : route ≡ (let r : Route = record { local = call_at e; remote = call_at (other e); repeaters = [] } in r) =
-        cc in
+    cc in
     made_comes e (called_pid m) m route (may_call program_id route took.now) t took u is
     (ap (λ (r : Route). r.local) here) (ap (λ (r : Route). r.remote) here) owns same written h
 
@@ -355,7 +357,7 @@ pub usual_comes :
     (e : End) (usual : Usual) (s : StationState) (after : Turn) → Occurs e usual → HasHosts s → OwnsAll e s
     → Each IsUnshown s.connections → IsHeardFrom e usual → (turn : IsTurn (input_of e usual) (begin s) after)
     → Comes (cause_in usual) (IsRefusable usual) e (begin s)
-        (turn_steps (chosen e) (input_of e usual) (begin s) after turn)
+    (turn_steps (chosen e) (input_of e usual) (begin s) after turn)
     after
 usual_comes e joins_kiss s after occurs hosts owns unshown from turn = joins_come kiss_id Kiss e s after owns turn
 usual_comes e sets_full s after occurs hosts owns unshown from turn =
@@ -369,7 +371,7 @@ usual_comes e registers s after occurs hosts owns unshown from turn =
     (λ missing. by_link (same_says nothing e (begin s) owns))
     (λ u h. replied (subst (Replied register_kind e (begin s)) (sym h)
     (registering_comes nothing e (begin s) (taking program_id (spelling m) (begin s)) (call_in field) (call_known e)
-        owns refl
+    owns refl
     (took_owns e m (begin s) owns))) refl) after turn
 usual_comes e connects s after occurs hosts owns unshown from turn =
     let m = request_between connect_kind e [] in
@@ -383,7 +385,7 @@ usual_comes e (gives piece) s after occurs hosts owns unshown from turn =
     said_go e m (begin s) (λ steps u. Comes sending ⊥ e (begin s) steps u)
     (between_written data_kind e piece occurs) hosts (λ missing. by_link (same_says sending e (begin s) owns))
     (λ u h. by_link (subst (Says sending e (begin s) (data_steps (chosen e) m (own_key program_id m took.now.links)
-        took))
+    took))
     (sym h) (took_says sending e m (begin s) (data_steps (chosen e) m (own_key program_id m took.now.links) took)
     (giving m (own_key program_id m took.now.links) took)
     (data_says e m (own_key program_id m took.now.links) took (took_owns e m (begin s) owns))))) after turn
@@ -393,7 +395,7 @@ usual_comes e disconnects s after occurs hosts owns unshown from turn =
     let key = own_key program_id m took.now.links in
     said_go e m (begin s) (λ steps u. Comes disconnecting ⊥ e (begin s) steps u)
     (between_written disconnect_kind e [] (omega arith)) hosts
-        (λ missing. by_link (same_says disconnecting e (begin s) owns))
+    (λ missing. by_link (same_says disconnecting e (begin s) owns))
     (λ u h. by_link (subst (Says disconnecting e (begin s) (disconnect_steps (chosen e) key took)) (sym h)
     (took_says disconnecting e m (begin s) (disconnect_steps (chosen e) key took) (disconnecting_act key took)
     (disconnect_says e key took (took_owns e m (begin s) owns))))) after turn

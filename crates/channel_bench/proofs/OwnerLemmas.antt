@@ -1,13 +1,13 @@
 -- What an event of a link sends to hosts.
-use Rattle.std.proofs.Common.{◌≡◌, ℕ, Bool, true, false, nat_lt, List, [], ◌∷◌, ◌++◌, length, cond, Option, Some, None,
-    refl, sym, ap, ◌∙◌}
+use Rattle.std.proofs.Common.{◌≡◌, ℕ, Bool, true, false, nat_lt, List, [], ◌∷◌, ◌++◌, length, cond, Option, Some, None}
+use Rattle.std.proofs.Common.{refl, sym, ap, ◌∙◌}
 use Rattle.std.proofs.lemmas.List.{append-nil, append_assoc}
 use Rattle.ax25_address.specs.Callsign.{Callsign}
 use Rattle.link_machine.specs.declared.acts.SentFrame.{SentFrame}
 use Rattle.link_machine.specs.declared.acts.Told.{Told}
 use Rattle.link_machine.specs.Step.{step, done_of}
-use Rattle.station.specs.LinkEvents.{settled_link, with_links, telling_one, telling_to, queueing_frame, queueing_frames,
-    event_of}
+use Rattle.station.specs.LinkEvents.{settled_link, with_links, telling_one, telling_to, queueing_frame, queueing_frames}
+use Rattle.station.specs.LinkEvents.{event_of}
 use Rattle.station.specs.Turn.{Turn, changing, queueing, entering, dropping, capacity}
 use Rattle.channel_bench.specs.Owners.{piece_of, pieces_to, OwnersAreTold}
 

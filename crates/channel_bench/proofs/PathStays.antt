@@ -1,6 +1,6 @@
 -- Whatever happens to a link, it stays on its path, and keeps what it was made with.
-use Rattle.std.proofs.Common.{◌≡◌, ℕ, Bool, true, false, if◌then◌else◌, ◌&&◌, not, nat_lt, ◌==◌, [], ◌∷◌, length, refl,
-    ◌∙◌, Option, Some, None, is_some}
+use Rattle.std.proofs.Common.{◌≡◌, ℕ, Bool, true, false, if◌then◌else◌, ◌&&◌, not, nat_lt, ◌==◌, [], ◌∷◌, length, refl}
+use Rattle.std.proofs.Common.{◌∙◌, Option, Some, None, is_some}
 use Rattle.ax25_frames.specs.FrameText.{is_command_of}
 use Rattle.ax25_frames.specs.declared.frame.Kind.{Kind}
 use Rattle.ax25_frames.specs.declared.frame.Kind.TheVariants.{Info, Super, Setup, Ui, Other}
@@ -18,15 +18,16 @@ use Rattle.link_machine.specs.declared.state.LinkState.TheVariants.{Idle, Callin
 use Rattle.link_machine.specs.declared.acts.Why.TheVariants.{Failed}
 use Rattle.link_machine.specs.Machine.{Machine, is_wide, is_valid, named, ahead_of_vr}
 use Rattle.link_machine.specs.Turn.{Turn, Act, begin, changing, setting, in_order}
-use Rattle.link_machine.specs.Acts.{acknowledged, answer_poll, respond_ready, recover, gone_back, reset, owing,
-    watching, with_rej, reject, run_with, give, stored, ask, send_again, to_send, send_packets, flush, release, close,
-    settle}
-use Rattle.link_machine.specs.Frames.{answer_dm, end_call, hear_idle, hear_calling_in, hear_releasing, with_busy,
-    hear_rr, hear_rnr, hear_rej, acknowledged_by_srej, hear_srej, hear_supervisory, take_in_sequence,
-    refuse_out_of_sequence, hear_info_by_rej, take_selected, hear_info_by_srej, hear_info_by, hear_info, hear_up,
-    hear_in}
-use Rattle.link_machine.specs.Ticks.{runs_out, with_t1, with_t2, with_t3, t2_out, is_spent, call_again, poll_again,
-    release_again, t1_out, t3_out, tick_t2_of, tick_t2, tick_t3_of, tick_t1_of, tick_t1, tick_in}
+use Rattle.link_machine.specs.Acts.{acknowledged, answer_poll, respond_ready, recover, gone_back, reset, owing}
+use Rattle.link_machine.specs.Acts.{watching, with_rej, reject, run_with, give, stored, ask, send_again, to_send}
+use Rattle.link_machine.specs.Acts.{send_packets, flush, release, close, settle}
+use Rattle.link_machine.specs.Frames.{answer_dm, end_call, hear_idle, hear_calling_in, hear_releasing, with_busy}
+use Rattle.link_machine.specs.Frames.{hear_rr, hear_rnr, hear_rej, acknowledged_by_srej, hear_srej, hear_supervisory}
+use Rattle.link_machine.specs.Frames.{take_in_sequence, refuse_out_of_sequence, hear_info_by_rej, take_selected}
+use Rattle.link_machine.specs.Frames.{hear_info_by_srej, hear_info_by, hear_info, hear_up, hear_in}
+use Rattle.link_machine.specs.Ticks.{runs_out, with_t1, with_t2, with_t3, t2_out, is_spent, call_again, poll_again}
+use Rattle.link_machine.specs.Ticks.{release_again, t1_out, t3_out, tick_t2_of, tick_t2, tick_t3_of, tick_t1_of}
+use Rattle.link_machine.specs.Ticks.{tick_t1, tick_in}
 use Rattle.link_machine.specs.Event.{Event}
 use Rattle.link_machine.specs.Event.Event.{Connect, Send, Disconnect, Hear, Tick}
 use Rattle.link_machine.specs.Step.{refusal_of, row, settle_in, settled, step}
@@ -166,7 +167,7 @@ take_in_sequence_stays flag packet =
 refuse_stays : (flag : Bool) → Keeps (refuse_out_of_sequence flag)
 refuse_stays flag = λ t.
     either t.now.control.rej t (answer_poll flag t) (reject flag t) (answer_poll_stays flag t)
-        (record { path = refl; params = refl })
+    (record { path = refl; params = refl })
 
 hear_info_by_rej_stays : (ns : ℕ) (flag : Bool) (packet : Packet) → Keeps (hear_info_by_rej ns flag packet)
 hear_info_by_rej_stays ns flag packet = λ t.
@@ -209,10 +210,10 @@ hear_up_stays command (Setup Ua flag) = λ t. (record { path = refl; params = re
 hear_up_stays command (Info ns nr flag pid octets) = λ t.
     either (is_valid nr t.now) t _ (reset t)
     (hear_info_stays (named nr t.now) ns flag (record { pid = pid; octets = octets }) t)
-        (record { path = refl; params = refl })
+    (record { path = refl; params = refl })
 hear_up_stays command (Super which nr flag) = λ t.
     either (is_valid nr t.now) t _ (reset t) (hear_supervisory_stays which (named nr t.now) command flag t)
-        (record { path = refl; params = refl })
+    (record { path = refl; params = refl })
 hear_up_stays command (Ui flag pid octets) = λ t. (record { path = refl; params = refl })
 hear_up_stays command (Other Frmr flag octets) = λ t. (record { path = refl; params = refl })
 hear_up_stays command (Other Xid flag octets) = λ t. (record { path = refl; params = refl })
@@ -304,5 +305,5 @@ pub step_stays : (m : Machine) (event : Event) → Stays (begin m) (step m event
 unfolding step
 step_stays m event =
     either (is_some (refusal_of m event)) (begin m) (begin m) (settled (row event (begin m)))
-        (record { path = refl; params = refl })
+    (record { path = refl; params = refl })
     (both (row event) settled (row_stays event) (λ t. settle_in_stays t.now.control.state t) (begin m))

@@ -1,6 +1,7 @@
 -- What a step sends to host programs, act by act: C and D are told by events of links alone.
-use Rattle.std.proofs.Common.{◌≡◌, ℕ, Bool, true, false, ◌==◌, ◌||◌, nat_lt, nat_le, List, [], ◌∷◌, ◌++◌, length, map,
-    drop, cond, if◌then◌else◌, Option, Some, None, is_some, refl, sym, ap, ◌∙◌, subst, inl, inr}
+use Rattle.std.proofs.Common.{◌≡◌, ℕ, Bool, true, false, ◌==◌, ◌||◌, nat_lt, nat_le, List, [], ◌∷◌, ◌++◌, length, map}
+use Rattle.std.proofs.Common.{drop, cond, if◌then◌else◌, Option, Some, None, is_some, refl, sym, ap, ◌∙◌, subst, inl}
+use Rattle.std.proofs.Common.{inr}
 use Rattle.std.specs.Prelude.{MatchBool, filter, flat_map}
 use Rattle.std.specs.List.{range_with_len, AllByRecursion as Each}
 use Rattle.std.proofs.lemmas.Bool.{and_left, and_right, eqb-true, false_from_ne_true}
@@ -19,34 +20,35 @@ use Rattle.agwpe_port.specs.Messages.{bad_length_in, spelling}
 use Rattle.agwpe_port.specs.declared.message.AgwMessage.{AgwMessage}
 use Rattle.digipeater.specs.Repeated.{repeated}
 use Rattle.kiss_port.specs.declared.item.KissItem.{KissItem}
-use Rattle.kiss_port.specs.declared.item.KissItem.TheVariants.{Frame as KissFrame, Set, Hardware, Return, TooLong,
-    Other}
+use Rattle.kiss_port.specs.declared.item.KissItem.TheVariants.{Frame as KissFrame, Set, Hardware, Return, TooLong}
+use Rattle.kiss_port.specs.declared.item.KissItem.TheVariants.{Other}
 use Rattle.link_machine.specs.Event.{Event as LinkEvent}
-use Rattle.link_machine.specs.Event.Event.{Connect as LinkConnect, Send as LinkSend, Disconnect as LinkDisconnect,
-    Hear as LinkHear, Tick as LinkTick}
+use Rattle.link_machine.specs.Event.Event.{Connect as LinkConnect, Send as LinkSend, Disconnect as LinkDisconnect}
+use Rattle.link_machine.specs.Event.Event.{Hear as LinkHear, Tick as LinkTick}
 use Rattle.link_machine.specs.Step.{step as link_turn}
 use Rattle.station.specs.declared.host_event.HostEvent.{HostEvent}
 use Rattle.station.specs.declared.host_event.HostEvent.TheVariants.{Joined, Bytes, Left}
 use Rattle.station.specs.declared.host_event.PortKind.{PortKind}
 use Rattle.station.specs.declared.host_event.PortKind.TheVariants.{Kiss, Agw}
 use Rattle.station.specs.declared.host_out.Piece.{Piece}
-use Rattle.station.specs.AgwKinds.{version_kind, ports_kind, capabilities_kind, register_kind, unregister_kind,
-    toggle_kind, monitor_kind, raw_kind, unproto_kind, unproto_via_kind, connect_kind, data_kind, disconnect_kind,
-    pending_kind, waiting_kind}
-use Rattle.station.specs.AgwRequests.{replying, version_reply, ports_reply, capabilities_reply, toggled,
-    monitor_toggled, register_reply, with_registration, registering, unregistering, queueing_raw, most_information,
-    unnumbered_frame, sending_unnumbered, refused_reply, may_call, calls, called_route, called_pid, IsCall, IsCallMade,
-    own_key, giving, giving_packet, packets_of, data_pid, disconnecting, pending_in, pending_reply, waiting_reply,
-    answering_else, AreAnswered}
+use Rattle.station.specs.AgwKinds.{version_kind, ports_kind, capabilities_kind, register_kind, unregister_kind}
+use Rattle.station.specs.AgwKinds.{toggle_kind, monitor_kind, raw_kind, unproto_kind, unproto_via_kind, connect_kind}
+use Rattle.station.specs.AgwKinds.{data_kind, disconnect_kind, pending_kind, waiting_kind}
+use Rattle.station.specs.AgwRequests.{replying, version_reply, ports_reply, capabilities_reply, toggled}
+use Rattle.station.specs.AgwRequests.{monitor_toggled, register_reply, with_registration, registering, unregistering}
+use Rattle.station.specs.AgwRequests.{queueing_raw, most_information, unnumbered_frame, sending_unnumbered}
+use Rattle.station.specs.AgwRequests.{refused_reply, may_call, calls, called_route, called_pid, IsCall, IsCallMade}
+use Rattle.station.specs.AgwRequests.{own_key, giving, giving_packet, packets_of, data_pid, disconnecting, pending_in}
+use Rattle.station.specs.AgwRequests.{pending_reply, waiting_reply, answering_else, AreAnswered}
 use Rattle.hdlc_framer.specs.FrameLength.{has_frame_length}
 use Rattle.station.specs.CallFields.{call_in}
 use Rattle.station.specs.Connections.{Connection, connection_of, most_connections}
 use Rattle.station.specs.FrameSpelling.{frame_octets}
-use Rattle.station.specs.Heard.{IsHeard, IsHeardBy, IsHeardAnew, IsHeardMaking, IsReadingHeardAnew, IsRepeatedFor,
-    AreHeardAt, AreOctetsHeard, may_make, hearing_at, kiss_data, with_shown, showing, shown_to_hosts, showing_to,
-    source_field, destination_field, waits_for_repeater}
-use Rattle.station.specs.Host.{joining, with_host, new_messages, new_items, taking, ending, AreTaken, AreTakenBy,
-    IsHostTurn}
+use Rattle.station.specs.Heard.{IsHeard, IsHeardBy, IsHeardAnew, IsHeardMaking, IsReadingHeardAnew, IsRepeatedFor}
+use Rattle.station.specs.Heard.{AreHeardAt, AreOctetsHeard, may_make, hearing_at, kiss_data, with_shown, showing}
+use Rattle.station.specs.Heard.{shown_to_hosts, showing_to, source_field, destination_field, waits_for_repeater}
+use Rattle.station.specs.Host.{joining, with_host, new_messages, new_items, taking, ending, AreTaken, AreTakenBy}
+use Rattle.station.specs.Host.{IsHostTurn}
 use Rattle.station.specs.HostMessages.{raw_message}
 use Rattle.station.specs.Kiss.{param_of, with_param, heeding, heeding_all}
 use Rattle.station.specs.Leaving.{giving_up, giving_up_all, giving_up_link, leaving, without_host, without_owner}
@@ -60,10 +62,11 @@ use Rattle.station.specs.Ticks.{ticking_at, ticking_links, waits}
 use Rattle.station.specs.Turn.{Out, Turn, Act, begin, in_order, changing, closing, queueing}
 use Rattle.channel_bench.specs.JointRun.{Input, IsTurn}
 use Rattle.channel_bench.specs.JointRun.Input.{FromHost, OffAir, OfClock}
-use Rattle.channel_bench.specs.LinkSteps.{LinkStep, steps_for, steps_at, steps_along, ticks_at, tick_steps, given_up,
-    gives_up_at, leaving_steps, made_steps, call_steps, sends_at, data_steps, disconnect_steps, else_steps,
-    answer_steps, message_steps, ending_steps, octet_steps_by, octet_steps, host_steps, hears_at, new_steps, anew_steps,
-    reading_steps, key_steps, path_steps, by_path_steps, heard_steps, turn_steps}
+use Rattle.channel_bench.specs.LinkSteps.{LinkStep, steps_for, steps_at, steps_along, ticks_at, tick_steps, given_up}
+use Rattle.channel_bench.specs.LinkSteps.{gives_up_at, leaving_steps, made_steps, call_steps, sends_at, data_steps}
+use Rattle.channel_bench.specs.LinkSteps.{disconnect_steps, else_steps, answer_steps, message_steps, ending_steps}
+use Rattle.channel_bench.specs.LinkSteps.{octet_steps_by, octet_steps, host_steps, hears_at, new_steps, anew_steps}
+use Rattle.channel_bench.specs.LinkSteps.{reading_steps, key_steps, path_steps, by_path_steps, heard_steps, turn_steps}
 use Rattle.channel_bench.specs.Owners.{pieces_to}
 use Rattle.channel_bench.specs.ProgramsTold.{kind_of, is_of_link, of_links, told_by, ProgramsAreTold}
 use Rattle.channel_bench.proofs.OwnerLemmas.{owners_are_told, queued_pieces}
@@ -147,7 +150,7 @@ gives_up_tells id host key turn = by_place (link_at key turn.now.links)
     by_owner : (link : Link) (b : Bool)
         → let given = changing (with_links (with_link key (without_owner link))) turn in
         Tells id turn (cond b (steps_at is_some None key LinkDisconnect given) [])
-            (cond b (event_at key LinkDisconnect given) turn)
+        (cond b (event_at key LinkDisconnect given) turn)
     by_owner link true = event_tells id None key LinkDisconnect
         (changing (with_links (with_link key (without_owner link))) turn)
     by_owner link false = same_told id turn
@@ -198,7 +201,7 @@ reply_told id host message turn other =
 reply_tells :
     (id host : ℕ) (message : AgwMessage) (turn : Turn)
     → ((message.kind == connect_kind) || (message.kind == data_kind)) ≡ false
-        → Tells id turn [] (replying host message turn)
+    → Tells id turn [] (replying host message turn)
 reply_tells id host message turn other = nothing_told id turn (replying host message turn)
     (reply_told id host message turn other)
 
@@ -237,7 +240,7 @@ unnumbered_tells id pid information (Some route) turn = go (nat_le (length infor
   where
     go : (b : Bool)
         → Tells id turn [] ((if b then queueing None (frame_octets Eight (unnumbered_frame route pid information))
-            else (λ t. t)) turn)
+        else (λ t. t)) turn)
     go true = queueing_tells id None (frame_octets Eight (unnumbered_frame route pid information)) turn
     go false = same_told id turn
 
@@ -264,46 +267,46 @@ else_tells id host message turn =
     let ys = disconnect_steps is_some key turn in
     let P : Turn → List LinkStep → Type 0 = λ after steps. Tells id turn steps after in
     let calm : (c : ℕ) (after : Turn) → choice c xs ys ≡ [] → Tells id turn [] after → k ≡ c
-        → P after (choice k xs ys) =
+    → P after (choice k xs ys) =
     λ c after none h is. subst (λ steps. Tells id turn steps after) (sym (ap (λ n. choice n xs ys) is ∙ none)) h in
     by_kind P k version_kind (replying host version_reply turn) _ (else_steps is_some host message turn)
-        (calm version_kind (replying host version_reply turn) refl (reply_tells id host version_reply turn refl))
+    (calm version_kind (replying host version_reply turn) refl (reply_tells id host version_reply turn refl))
     (by_kind P k ports_kind (replying host ports_reply turn) _ (else_steps is_some host message turn)
-        (calm ports_kind (replying host ports_reply turn) refl (reply_tells id host ports_reply turn refl))
+    (calm ports_kind (replying host ports_reply turn) refl (reply_tells id host ports_reply turn refl))
     (by_kind P k capabilities_kind (replying host (capabilities_reply turn.now) turn) _
-        (else_steps is_some host message turn) (calm capabilities_kind
-        (replying host (capabilities_reply turn.now) turn) refl
-        (reply_tells id host (capabilities_reply turn.now) turn refl))
+    (else_steps is_some host message turn) (calm capabilities_kind
+    (replying host (capabilities_reply turn.now) turn) refl
+    (reply_tells id host (capabilities_reply turn.now) turn refl))
     (by_kind P k register_kind (registering host message.from (call_in message.from) turn) _
-        (else_steps is_some host message turn) (calm register_kind
-        (registering host message.from (call_in message.from) turn) refl
-        (registering_tells id host message.from (call_in message.from) turn))
+    (else_steps is_some host message turn) (calm register_kind
+    (registering host message.from (call_in message.from) turn) refl
+    (registering_tells id host message.from (call_in message.from) turn))
     (by_kind P k unregister_kind (unregistering host (call_in message.from) turn) _
-        (else_steps is_some host message turn) (calm unregister_kind (unregistering host (call_in message.from) turn)
-        refl (unregistering_tells id host (call_in message.from) turn))
+    (else_steps is_some host message turn) (calm unregister_kind (unregistering host (call_in message.from) turn)
+    refl (unregistering_tells id host (call_in message.from) turn))
     (by_kind P k toggle_kind (changing (toggled host) turn) _ (else_steps is_some host message turn)
-        (calm toggle_kind (changing (toggled host) turn) refl (same_told id turn))
+    (calm toggle_kind (changing (toggled host) turn) refl (same_told id turn))
     (by_kind P k monitor_kind (changing (monitor_toggled host) turn) _ (else_steps is_some host message turn)
     (calm monitor_kind (changing (monitor_toggled host) turn) refl (same_told id turn))
     (by_kind P k raw_kind (queueing_raw (drop 1 message.body) turn) _ (else_steps is_some host message turn)
-        (calm raw_kind (queueing_raw (drop 1 message.body) turn) refl (raw_tells id (drop 1 message.body) turn))
+    (calm raw_kind (queueing_raw (drop 1 message.body) turn) refl (raw_tells id (drop 1 message.body) turn))
     (by_kind P k unproto_kind (sending_unnumbered message.pid message.body (route_in message.from message.to (Some []))
-        turn) _ (else_steps is_some host message turn)
+    turn) _ (else_steps is_some host message turn)
     (calm unproto_kind (sending_unnumbered message.pid message.body (route_in message.from message.to (Some [])) turn)
-        refl (unnumbered_tells id message.pid message.body (route_in message.from message.to (Some [])) turn))
+    refl (unnumbered_tells id message.pid message.body (route_in message.from message.to (Some [])) turn))
     (by_kind P k unproto_via_kind (sending_unnumbered message.pid (behind_repeaters message.body)
-        (route_in message.from message.to (repeaters_in message.body)) turn) _ (else_steps is_some host message turn)
+    (route_in message.from message.to (repeaters_in message.body)) turn) _ (else_steps is_some host message turn)
     (calm unproto_via_kind (sending_unnumbered message.pid (behind_repeaters message.body)
-        (route_in message.from message.to (repeaters_in message.body)) turn) refl
-        (unnumbered_tells id message.pid (behind_repeaters message.body)
+    (route_in message.from message.to (repeaters_in message.body)) turn) refl
+    (unnumbered_tells id message.pid (behind_repeaters message.body)
     (route_in message.from message.to (repeaters_in message.body)) turn))
     (rest (k == data_kind) (k == disconnect_kind) xs ys (data_tells id message key turn)
-        (disconnect_tells id key turn)))))))))))
+    (disconnect_tells id key turn)))))))))))
   where
     last : Tells id turn [] (cond (message.kind == pending_kind)
         (replying host (pending_reply message (pending_in message turn.now.links)) turn)
         (cond (message.kind == waiting_kind) (replying host (waiting_reply (length turn.now.channel.waiting)) turn)
-            turn))
+        turn))
     last = go (message.kind == pending_kind) (message.kind == waiting_kind)
       where
         go : (b d : Bool) → Tells id turn []
@@ -321,9 +324,9 @@ else_tells id host message turn =
         (cond b (giving message (own_key host message turn.now.links) turn)
         (cond d (disconnecting (own_key host message turn.now.links) turn)
         (cond (message.kind == pending_kind) (replying host (pending_reply message (pending_in message turn.now.links))
-            turn)
+        turn)
         (cond (message.kind == waiting_kind) (replying host (waiting_reply (length turn.now.channel.waiting)) turn)
-            turn))))
+        turn))))
     rest true d xs ys one two = one
     rest false true xs ys one two = two
     rest false false xs ys one two = last
@@ -331,7 +334,7 @@ else_tells id host message turn =
 made_tells :
     (id host pid : ℕ) (message : AgwMessage) (route : Route) (may : Bool) (before after : Turn)
     → (h : MatchBool may (IsCallMade host pid route before after)
-        (after ≡ replying host (refused_reply message) before))
+    (after ≡ replying host (refused_reply message) before))
     → Tells id before (made_steps is_some host pid message route may before after h) after
 made_tells id host pid message route true before after h =
     let path = path_along route in
@@ -343,7 +346,7 @@ made_tells id host pid message route false before after h =
 call_tells :
     (id host : ℕ) (message : AgwMessage) (route : Option Route) (before after : Turn)
     → (h : IsCall host message route before after) → Tells id before
-        (call_steps is_some host message route before after h) after
+    (call_steps is_some host message route before after h) after
 call_tells id host message None before after h =
     subst (Tells id before []) (sym h) (reply_tells id host (refused_reply message) before refl)
 call_tells id host message (Some route) before after h =
@@ -352,7 +355,7 @@ call_tells id host message (Some route) before after h =
 answer_tells :
     (id host : ℕ) (message : AgwMessage) (calling : Bool) (before after : Turn)
     → (h : MatchBool calling (IsCall host message (called_route message) before after)
-        (after ≡ answering_else host message before))
+    (after ≡ answering_else host message before))
     → Tells id before (answer_steps is_some host message calling before after h) after
 answer_tells id host message true before after h = call_tells id host message (called_route message) before after h
 answer_tells id host message false before after h =
@@ -445,10 +448,10 @@ host_tells id (Left host) before after h =
 -- a piece that is no C or D
 piece_told :
     (id : ℕ) (p : Piece) (pieces : List Piece) → is_of_link id p ≡ false
-        → of_links id (pieces ++ p ∷ []) ≡ of_links id pieces
+    → of_links id (pieces ++ p ∷ []) ≡ of_links id pieces
 piece_told id p pieces none =
     links_append id pieces (p ∷ []) ∙ ap (λ b. of_links id pieces ++ cond b (p ∷ []) []) none
-        ∙ append-nil (of_links id pieces)
+    ∙ append-nil (of_links id pieces)
 
 abbrev is_data : List ℕ → Bool
 is_data octets = (kind_of octets == connect_kind) || (kind_of octets == data_kind)
@@ -534,7 +537,7 @@ repeated_tells id (Some call) octets before after (inr is) = subst (Tells id bef
 
 at_key_tells :
     (id key : ℕ) (reading : Option Frame) (turn : Turn)
-        → Tells id turn (hears_at is_some key reading turn) (hearing_at key reading turn)
+    → Tells id turn (hears_at is_some key reading turn) (hearing_at key reading turn)
 at_key_tells id key None turn = same_told id turn
 at_key_tells id key (Some frame) turn = event_tells id None key (LinkHear frame) turn
 
@@ -551,7 +554,7 @@ new_tells id host frame false before after h = subst (Tells id before []) (sym h
 
 anew_tells :
     (id : ℕ) (registered : Option ℕ) (frame : Frame) (before after : Turn)
-        → (h : IsHeardAnew registered frame before after)
+    → (h : IsHeardAnew registered frame before after)
     → Tells id before (anew_steps is_some registered frame before after h) after
 anew_tells id None frame before after h = subst (Tells id before []) (sym h) (same_told id before)
 anew_tells id (Some host) frame before after h = new_tells id host frame (may_make frame.kind before.now.links)
@@ -569,13 +572,13 @@ key_tells :
     → Tells id before (key_steps is_some key octets before after h) after
 key_tells id (Some key) octets before after h =
     subst (Tells id before (key_steps is_some (Some key) octets before after h)) (sym h.2)
-        (at_key_tells id key h.0 before)
+    (at_key_tells id key h.0 before)
 key_tells id None octets before after h = reading_tells id h.0 before after h.2
 
 path_tells :
     (id : ℕ) (path : Path) (waiting : Bool) (octets : List ℕ) (before after : Turn)
     → (h : MatchBool waiting (IsRepeatedFor before.now.digi octets before after)
-        (AreOctetsHeard path octets before after))
+    (AreOctetsHeard path octets before after))
     → Tells id before (path_steps is_some path waiting octets before after h) after
 path_tells id path true octets before after h = repeated_tells id before.now.digi octets before after h
 path_tells id path false octets before after h =

@@ -1,6 +1,6 @@
 -- A host program of the bench sees the set-ups of its link: it is told what the link tells, message by message.
-use Rattle.std.proofs.Common.{◌≡◌, ℕ, ◌==◌, ◌||◌, Bool, true, false, List, [], ◌∷◌, ◌++◌, length, map, fold, cond,
-    Option, Some, None, is_some, refl, sym, ap, ◌∙◌, subst}
+use Rattle.std.proofs.Common.{◌≡◌, ℕ, ◌==◌, ◌||◌, Bool, true, false, List, [], ◌∷◌, ◌++◌, length, map, fold, cond}
+use Rattle.std.proofs.Common.{Option, Some, None, is_some, refl, sym, ap, ◌∙◌, subst}
 use Rattle.std.specs.Bool.{⊤}
 use Rattle.std.specs.Prelude.{option_map}
 use Rattle.std.specs.Option.{option_to_list}
@@ -14,21 +14,22 @@ use Rattle.selective_reject.specs.declared.packet.Packet.{Packet}
 use Rattle.link_machine.specs.declared.acts.Told.{Told}
 use Rattle.link_machine.specs.declared.acts.Told.TheVariants.{Opened, Given, Ended}
 use Rattle.link_machine.specs.Event.{Event as LinkEvent}
-use Rattle.link_machine.specs.Event.Event.{Connect as LinkConnect, Send as LinkSend, Disconnect as LinkDisconnect,
-    Hear as LinkHear, Tick as LinkTick}
+use Rattle.link_machine.specs.Event.Event.{Connect as LinkConnect, Send as LinkSend, Disconnect as LinkDisconnect}
+use Rattle.link_machine.specs.Event.Event.{Hear as LinkHear, Tick as LinkTick}
 use Rattle.link_world.specs.declared.end.End.{End}
 use Rattle.station.specs.declared.host_out.Piece.{Piece}
 use Rattle.channel_bench.specs.declared.report.SetUp.{SetUp}
 use Rattle.channel_bench.specs.BenchOrder.{octets_in, set_up_of}
 use Rattle.channel_bench.specs.BenchState.{SideState}
 use Rattle.channel_bench.specs.BenchSteps.{program_id, told_octets, told_piece, told_pieces}
-use Rattle.channel_bench.specs.HostProgram.{ProgramState, closing, getting, giving, opening, set_ups_of,
-    told as told_message, told_all, with_got as with_got_octets, with_given as with_given_octets}
+use Rattle.channel_bench.specs.HostProgram.{ProgramState, closing, getting, giving, opening, set_ups_of}
+use Rattle.channel_bench.specs.HostProgram.{told as told_message, told_all, with_got as with_got_octets}
+use Rattle.channel_bench.specs.HostProgram.{with_given as with_given_octets}
 use Rattle.channel_bench.specs.LinkSteps.{LinkStep}
 use Rattle.channel_bench.specs.LinksTell.{AreToldInOne, runs_after}
 use Rattle.channel_bench.specs.RunsTell.{AllToldInOne, runs_behind, told_in}
-use Rattle.channel_bench.specs.SetUpsSeen.{Seen, change_last_seen, seen_by, seen_by_all, seen_giving, seen_told,
-    with_given, with_got}
+use Rattle.channel_bench.specs.SetUpsSeen.{Seen, change_last_seen, seen_by, seen_by_all, seen_giving, seen_told}
+use Rattle.channel_bench.specs.SetUpsSeen.{with_given, with_got}
 use Rattle.channel_bench.proofs.Chains.{asked_after, called_after, ended_in, opened_in}
 use Rattle.channel_bench.proofs.HostStreams.{IsWhole, one_new, whole_more}
 use Rattle.channel_bench.proofs.OwnLinks.{message_at, messages_by, messages_of, own_pieces, piece_to}
@@ -79,7 +80,7 @@ pieces_told pieces messages side is written whole =
 
 pub told_all_append :
     (first second : List AgwMessage) (p : ProgramState) → told_all (first ++ second) p
-        ≡ told_all second (told_all first p)
+    ≡ told_all second (told_all first p)
 told_all_append [] second p = refl
 told_all_append (message ∷ first) second p = told_all_append first second (told_message message p)
 
@@ -194,7 +195,7 @@ told_sees [] p seen runs in_one h = h
 told_sees (item ∷ told) p seen runs in_one h =
     let parts = one_in runs item told in_one in
     subst (Sees (told_items (told_item p item) told) (fold seen_told (seen_told seen item) told))
-        (sym (runs_on runs item told))
+    (sym (runs_on runs item told))
     (told_sees told (told_item p item) (seen_told seen item) (runs_after runs (item ∷ [])) parts.1
     (item_sees p seen runs item parts.0 h))
 
@@ -229,7 +230,7 @@ steps_see e (step ∷ steps) p seen runs none in_one h =
     subst (λ xs. Sees next xs (runs_after runs told)) (sym same) (told_sees told p seen runs in_one.0 h) in
     let program : told_all (messages_of e (step ∷ steps)) p ≡ told_all (messages_of e steps) next =
     told_all_append (messages_by e step) (messages_of e steps) p
-        ∙ ap (told_all (messages_of e steps)) (items_are e told p) in
+    ∙ ap (told_all (messages_of e steps)) (items_are e told p) in
     subst (λ x. Sees x (seen_by_all steps (seen_by step seen)) (runs_behind (runs_after runs told) steps)) (sym program)
     (steps_see e steps next (seen_by step seen) (runs_after runs told) none.1 in_one.1 one)
 

@@ -1,7 +1,7 @@
 -- In a run of the bench the host program of B neither connects nor disconnects, and each station has the connections
 -- of the bench.
-use Rattle.std.proofs.Common.{◌≡◌, ℕ, ◌≤◌, List, [], ◌∷◌, ◌++◌, length, Option, Some, None, refl, sym, ap, ◌∙◌, subst,
-    arith}
+use Rattle.std.proofs.Common.{◌≡◌, ℕ, ◌≤◌, List, [], ◌∷◌, ◌++◌, length, Option, Some, None, refl, sym, ap, ◌∙◌, subst}
+use Rattle.std.proofs.Common.{arith}
 use Rattle.std.specs.Prelude.{All}
 use Rattle.std.proofs.lemmas.List.Elements.{All-from_recursion}
 use Rattle.agwpe_port.specs.CallField.{call_field}
@@ -32,16 +32,16 @@ use Rattle.channel_bench.specs.InFlight.{Moment, steps_in}
 use Rattle.channel_bench.specs.InFlight.Moment.{Steps}
 use Rattle.channel_bench.specs.JointRun.{IsTurn, Step, Stations, state_of, with_state}
 use Rattle.channel_bench.proofs.CoreRun.{KeptByCore, Occurs, Usual, input_of, told_station}
-use Rattle.channel_bench.proofs.CoreRun.Usual.{joins_kiss, sets_full, joins_program, registers, connects, gives,
-    disconnects, hears, ticks}
+use Rattle.channel_bench.proofs.CoreRun.Usual.{joins_kiss, sets_full, joins_program, registers, connects, gives}
+use Rattle.channel_bench.proofs.CoreRun.Usual.{disconnects, hears, ticks}
 use Rattle.channel_bench.proofs.HostStreams.{IsWhole, new_setting, new_stream, none_bad, one_new}
-use Rattle.channel_bench.proofs.HostsStay.{HasHosts, IsHosts, IsSaid, IsSet, SameHosts, found, joins_hosts, kiss_taken,
-    said_by, set_by, same_hosts, still_has, taken_hosts}
+use Rattle.channel_bench.proofs.HostsStay.{HasHosts, IsHosts, IsSaid, IsSet, SameHosts, found, joins_hosts, kiss_taken}
+use Rattle.channel_bench.proofs.HostsStay.{said_by, set_by, same_hosts, still_has, taken_hosts}
 use Rattle.channel_bench.proofs.HostsStay.IsSaid.{unheard, said}
 use Rattle.channel_bench.proofs.HostsStay.IsSet.{unheard as alone, full}
 use Rattle.channel_bench.proofs.NotedRun.{steps_more, steps_passed}
-use Rattle.channel_bench.proofs.TurnWalks.{connect_kept, data_kept, disconnect_kept, heard_kept, register_kept,
-    ticks_kept}
+use Rattle.channel_bench.proofs.TurnWalks.{connect_kept, data_kept, disconnect_kept, heard_kept, register_kept}
+use Rattle.channel_bench.proofs.TurnWalks.{ticks_kept}
 
 -- ---- the messages of the host programs
 

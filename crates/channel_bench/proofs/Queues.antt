@@ -1,6 +1,6 @@
 -- What an event of a link makes of the transmit queue and of a station's table.
-use Rattle.std.proofs.Common.{◌≡◌, ℕ, Bool, true, false, nat_lt, List, [], ◌∷◌, ◌++◌, length, map, cond, Option, Some,
-    None, refl, sym, ap, ◌∙◌, subst}
+use Rattle.std.proofs.Common.{◌≡◌, ℕ, Bool, true, false, nat_lt, List, [], ◌∷◌, ◌++◌, length, map, cond, Option, Some}
+use Rattle.std.proofs.Common.{None, refl, sym, ap, ◌∙◌, subst}
 use Rattle.std.proofs.lemmas.Bool.{cond-false}
 use Rattle.std.proofs.lemmas.List.{append-nil, append_assoc}
 use Rattle.ax25_address.specs.Callsign.{Callsign}
@@ -10,8 +10,8 @@ use Rattle.link_machine.specs.Event.{Event}
 use Rattle.link_machine.specs.Sent.{sent_frames}
 use Rattle.link_machine.specs.Step.{step, done_of}
 use Rattle.station.specs.FrameSpelling.{frame_octets}
-use Rattle.station.specs.LinkEvents.{settled_link, with_links, telling_one, telling_to, queueing_frame, queueing_frames,
-    link_event}
+use Rattle.station.specs.LinkEvents.{settled_link, with_links, telling_one, telling_to, queueing_frame, queueing_frames}
+use Rattle.station.specs.LinkEvents.{link_event}
 use Rattle.station.specs.Links.{Link}
 use Rattle.station.specs.Turn.{Turn, changing, entering, dropping, capacity}
 
@@ -55,11 +55,11 @@ full_drops key [] turn full = no_more [] turn turn refl refl refl
 full_drops key (f ∷ frames) turn full =
     let dropped : queueing_frame key f turn ≡ dropping turn =
     cond-false (nat_lt (length turn.now.channel.waiting) capacity) (entering (Some key) (octets_of f) turn)
-        (dropping turn) full in
+    (dropping turn) full in
     let rest = full_drops key frames (dropping turn) full in
     subst (λ t. HasQueued [] turn (queueing_frames key frames t)) (sym dropped)
     (no_more [] turn (queueing_frames key frames (dropping turn))
-        (nothing_of (dropping turn) (queueing_frames key frames (dropping turn)) rest) rest.links rest.parameters)
+    (nothing_of (dropping turn) (queueing_frames key frames (dropping turn)) rest) rest.links rest.parameters)
 
 pub frames_queued :
     (key : ℕ) (frames : List SentFrame) (turn : Turn) → HasQueued frames turn (queueing_frames key frames turn)
@@ -72,7 +72,7 @@ frames_queued key (f ∷ frames) turn =
         → HasQueued frames (entering (Some key) (octets_of f) turn)
         (queueing_frames key frames (entering (Some key) (octets_of f) turn))
         → HasQueued (f ∷ frames) turn (queueing_frames key frames
-            (cond b (entering (Some key) (octets_of f) turn) (dropping turn)))
+        (cond b (entering (Some key) (octets_of f) turn) (dropping turn)))
     go true room rest =
         record {
           first = f ∷ rest.first;
@@ -85,7 +85,7 @@ frames_queued key (f ∷ frames) turn =
     go false full rest =
         let none = full_drops key frames (dropping turn) full in
         no_more (f ∷ frames) turn (queueing_frames key frames (dropping turn))
-            (nothing_of (dropping turn) (queueing_frames key frames (dropping turn)) none) none.links none.parameters
+        (nothing_of (dropping turn) (queueing_frames key frames (dropping turn)) none) none.links none.parameters
 
 -- what is told joins no queue
 pub record IsSilent (before after : Turn) : Type 0 where
@@ -113,7 +113,7 @@ pub record HasStepped (key : ℕ) (event : Event) (link : Link) (before after : 
 
 pub link_stepped :
     (key : ℕ) (event : Event) (link : Link) (turn : Turn)
-        → HasStepped key event link turn (link_event key event link turn)
+    → HasStepped key event link turn (link_event key event link turn)
 link_stepped key event link turn =
     let stepped = step link.machine event in
     let placed = changing (with_links (settled_link key link stepped.now)) turn in

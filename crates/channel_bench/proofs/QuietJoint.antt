@@ -1,6 +1,6 @@
 -- A run whose frames find a quiet channel as far as one can know, moment by moment: the link of two calls is quiet.
-use Rattle.std.proofs.Common.{◌≡◌, ℕ, ◌+◌, ◌<◌, ◌≤◌, Bool, List, [], ◌∷◌, ◌++◌, length, take, Option, Some, None,
-    is_some, refl, sym, ap, ◌∙◌, subst, arith}
+use Rattle.std.proofs.Common.{◌≡◌, ℕ, ◌+◌, ◌<◌, ◌≤◌, Bool, List, [], ◌∷◌, ◌++◌, length, take, Option, Some, None}
+use Rattle.std.proofs.Common.{is_some, refl, sym, ap, ◌∙◌, subst, arith}
 use Rattle.std.specs.Prelude.{slice_get}
 use Rattle.std.specs.Bool.{⊤}
 use Rattle.std.specs.List.{AllByRecursion as Each}
@@ -16,13 +16,14 @@ use Rattle.link_world.specs.Recorded.{RecordedEnd}
 use Rattle.link_world.specs.World.{World, Side, seen_from, other}
 use Rattle.link_world.proofs.law.Each.{each_weaker, each_append}
 use Rattle.channel_bench.specs.HeardInOrder.{Pair, AreHeardInOrder}
-use Rattle.channel_bench.specs.InFlight.{Moment, LinkFrame, OneWay, BothWays, IsMatched, AreMatched, AreQuietThrough,
-    AreQuietAt, hears_ask, steps_in, sent_by, past_heard, queueing_all, hearing_at, after_moment}
+use Rattle.channel_bench.specs.InFlight.{Moment, LinkFrame, OneWay, BothWays, IsMatched, AreMatched, AreQuietThrough}
+use Rattle.channel_bench.specs.InFlight.{AreQuietAt, hears_ask, steps_in, sent_by, past_heard, queueing_all, hearing_at}
+use Rattle.channel_bench.specs.InFlight.{after_moment}
 use Rattle.channel_bench.specs.InFlight.Moment.{Steps, Passes}
 use Rattle.channel_bench.specs.JointRun.{Input, Step, Stations, state_of, stepped, IsJointRun, at_end}
 use Rattle.channel_bench.specs.JointRun.Input.{FromHost, OffAir, OfClock}
-use Rattle.channel_bench.specs.LinkOfCalls.{Calls, Pairs, Counts, link_at_end, count_at, with_more, all_changes_by,
-    changes_from}
+use Rattle.channel_bench.specs.LinkOfCalls.{Calls, Pairs, Counts, link_at_end, count_at, with_more, all_changes_by}
+use Rattle.channel_bench.specs.LinkOfCalls.{changes_from}
 use Rattle.channel_bench.specs.LinkSteps.{LinkStep, steps_of}
 use Rattle.channel_bench.specs.MatchedLaw.{IsEventOfCaller, is_event, pair_of, pairs_from}
 use Rattle.channel_bench.proofs.Along.{near_by, near_all, changes_seen, run_changes-append}
@@ -34,8 +35,8 @@ use Rattle.channel_bench.proofs.Exchanges.{AsksOut}
 use Rattle.channel_bench.proofs.Framed.{framed, frames_at, frames_more}
 use Rattle.channel_bench.proofs.JointLaw.{mirror, StepDone, step_done, step_near, count_a, count_b, get_seam}
 use Rattle.channel_bench.proofs.NearQuiet.{made_far}
-use Rattle.channel_bench.proofs.QuietRuns.{AheadFrom, SendStep, send_step, quiet-append, quiet_all, ahead_from,
-    all_ahead, end_now}
+use Rattle.channel_bench.proofs.QuietRuns.{AheadFrom, SendStep, send_step, quiet-append, quiet_all, ahead_from}
+use Rattle.channel_bench.proofs.QuietRuns.{all_ahead, end_now}
 use Rattle.channel_bench.proofs.Runs.{Between, Stepped}
 use Rattle.channel_bench.proofs.Ways.{joined, queued_by, queued_passed, stepped_own, stepped_other}
 
@@ -49,7 +50,7 @@ EventsHold calls (step ∷ steps) =
 -- what an end's events leave of the other
 far_same :
     (e : End) (pairs : List Pair) (n : ℕ) (steps : List LinkStep) (w : World)
-        → (near_all e pairs n steps w).b.end ≡ w.b.end
+    → (near_all e pairs n steps w).b.end ≡ w.b.end
 far_same e pairs n [] w = refl
 far_same e pairs n (step ∷ steps) w =
     far_same e pairs n steps (near_by e pairs n step w) ∙ ap (λ (x : Side). x.end) (made_far step.anew w)
@@ -158,10 +159,10 @@ step_quiet :
     (calls : Calls) (pairs : Pairs) (a b : Params) (st : Stations) (past full : List Step) (counts : Counts) (w : World)
     (ways : BothWays) (step : Step) (found : Option ℕ) (moments : List Moment) (e : End)
     → Ready calls pairs a b st past full counts w ways step found moments → step.station ≡ e
-        → step.before ≡ state_of e st
+    → step.before ≡ state_of e st
     → AreQuietAt e (hears_ask step.input) step.after.out.queued (hearing_at e found ways)
     → Each (λ (p : Pair). (sent_by (other e) (queueing_all e (hears_ask step.input) step.after.out.queued
-        (hearing_at e found ways))).front ≤ p.sent)
+    (hearing_at e found ways))).front ≤ p.sent)
     (pairs_from e (length past + 1) moments)
     → Each (IsEventOfCaller e) (steps_of (link_at_end calls e) step)
     → StepQuiet calls pairs counts w step e
@@ -181,12 +182,12 @@ step_quiet calls pairs a b st past full counts w ways step found moments A r sta
     stepped_other A on step.after.out.queued found ways in
     let back_ahead : Each (AheadFrom (n + 1) back.front) pairs.at_a =
     later_ahead A step.station pairs.at_a r.before_a (is_event (steps_of is_some step))
-        n back.front found moments r.split_a r.past_a
+    n back.front found moments r.split_a r.past_a
     (subst (λ (way : OneWay). Each (λ (p : Pair). way.front ≤ p.sent) (pairs_from A (n + 1) moments)) front later) in
     let q : SendStep A pairs.at_b (length qa) steps w =
     send_step A calls.a calls.b a b n st.b qa qb pairs.at_b pairs.at_a w full step ways.from_a back now station r.there
     (ap (frames_at B) r.taken) r.heard_b r.heard_a r.queued_a (past_queued found ways.from_b ∙ r.queued_b)
-        r.fits.of_a out_ahead back_ahead
+    r.fits.of_a out_ahead back_ahead
     (quiet_one A on step.after.out.queued (hearing_at A found ways) quiet) in
     let near : CallerQuiet A pairs.at_b (length qa) steps w =
     caller_quiet A q.stays pairs.at_b (length qa) steps w q.follows holds q.sends r.asks in
@@ -258,10 +259,10 @@ pub record Now (calls : Calls) (pairs : Pairs) (a b : Params) (st : Stations) (p
 
 split_more :
     (x s : End) (pairs before : List Pair) (b : Bool) (past : List Step) (step : Step) (found : Option ℕ)
-        (moments : List Moment)
+    (moments : List Moment)
     → pairs ≡ before ++ (at_end x s (pair_of b (length past) found) ++ pairs_from x (length past + 1) moments)
     → pairs ≡ (before ++ at_end x s (pair_of b (length past) found))
-        ++ pairs_from x (length (past ++ step ∷ [])) moments
+    ++ pairs_from x (length (past ++ step ∷ [])) moments
 split_more x s pairs before b past step found moments split =
     let now = at_end x s (pair_of b (length past) found) in
     split ∙ sym (append_assoc before now (pairs_from x (length past + 1) moments))
@@ -276,12 +277,12 @@ past_more x s before b past step found all =
     (sym (length-append past (step ∷ [])))
     (each_append (λ (p : Pair). p.heard < length past + 1) before (at_end x s (pair_of b (length past) found))
     (each_weaker (λ (p : Pair). p.heard < length past) (λ (p : Pair). p.heard < length past + 1) (λ p less. omega arith)
-        before all)
+    before all)
     (end_now x s b (length past) found))
 
 queued_more :
     (x : End) (past : List Step) (ways : BothWays) (step : Step) (found : Option ℕ)
-        → (sent_by x ways).queued ≡ frames_at x past
+    → (sent_by x ways).queued ≡ frames_at x past
     → (sent_by x (after_moment (Steps step found) ways)).queued ≡ frames_at x (past ++ step ∷ [])
 queued_more x past ways step found is =
     queued_by x step.station (hears_ask step.input) step.after.out.queued found ways
@@ -296,7 +297,7 @@ pub quiet_run :
 quiet_run calls pairs a b st past full counts w ways [] heard_a heard_b h = tt
 quiet_run calls pairs a b st past full counts w ways (Passes sender below ∷ moments) heard_a heard_b h =
     quiet_run calls pairs a b st past full counts w (after_moment (Passes sender below) ways) moments heard_a heard_b
-        (record {
+    (record {
       full_is = h.full_is;
       run = h.run;
       count_at_a = h.count_at_a;
@@ -334,9 +335,9 @@ quiet_run calls pairs a b st past full counts w ways (Steps step found ∷ momen
     let event = is_event (steps_of is_some step) in
     let ways_next = after_moment (Steps step found) ways in
     let at : slice_get full (length past) ≡ Some step = ap (λ xs. slice_get xs (length past)) h.full_is
-        ∙ get_seam past step rest in
+    ∙ get_seam past step rest in
     let taken : take (length past) full ≡ past = ap (take (length past)) h.full_is
-        ∙ take-append_seam past (step ∷ rest) in
+    ∙ take-append_seam past (step ∷ rest) in
     let one : StepQuiet calls pairs counts w step e =
     step_quiet calls pairs a b st past full counts w ways step found moments e (record {
       heard_a = heard_a;
@@ -366,10 +367,10 @@ quiet_run calls pairs a b st past full counts w ways (Steps step found ∷ momen
     }) refl h.run.0 h.quiet.0 (ahead_from e (length past + 1) moments ways_next h.matched.1) h.holds.0 in
     let done : StepDone calls pairs a b (length past) st past counts w step e =
     step_done calls pairs a b (length past) st past full counts w step e h.between refl h.run.0 at taken h.count_at_a
-        h.count_at_b
+    h.count_at_b
     heard_a heard_b in
     let between : Between calls.a calls.b a b (length longer) (stepped step st).a (stepped step st).b
-        (frames_at A longer)
+    (frames_at A longer)
     (frames_at B longer) pairs.at_b pairs.at_a next =
     subst (λ n. Between calls.a calls.b a b n (stepped step st).a (stepped step st).b (frames_at A longer)
     (frames_at B longer) pairs.at_b pairs.at_a next) (sym (length-append past (step ∷ [])))
@@ -377,7 +378,7 @@ quiet_run calls pairs a b st past full counts w ways (Steps step found ∷ momen
     (frames_at B longer) pairs.at_b pairs.at_a next) (sym (frames_more A past step))
     (subst (λ q. Between calls.a calls.b a b (length past + 1) (stepped step st).a (stepped step st).b
     (frames_at A past ++ at_end A e (framed on queued)) q pairs.at_b pairs.at_a next) (sym (frames_more B past step))
-        done.between)) in
+    done.between)) in
     quiet-append w changes (changes_from calls pairs more rest) one.quiet
     (quiet_run calls pairs a b (stepped step st) longer full more next ways_next moments heard_a heard_b (record {
       full_is = h.full_is ∙ sym (append_assoc past (step ∷ []) rest);

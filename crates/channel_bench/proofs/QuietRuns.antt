@@ -1,8 +1,8 @@
 -- A run whose frames find a quiet channel by what is in flight as far as one can know: each event of a link finds a
 -- quiet
 -- channel.
-use Rattle.std.proofs.Common.{◌≡◌, ℕ, ◌+◌, ◌<◌, ◌≤◌, Bool, true, false, List, [], ◌∷◌, ◌++◌, length, take, drop, Option,
-    Some, None, is_some, refl, sym, ap, ◌∙◌, subst, arith, inl, inr}
+use Rattle.std.proofs.Common.{◌≡◌, ℕ, ◌+◌, ◌<◌, ◌≤◌, Bool, true, false, List, [], ◌∷◌, ◌++◌, length, take, drop, Option}
+use Rattle.std.proofs.Common.{Some, None, is_some, refl, sym, ap, ◌∙◌, subst, arith, inl, inr}
 use Rattle.std.specs.Prelude.{slice_get}
 use Rattle.std.specs.List.{count_by, AllByRecursion as Each}
 use Rattle.std.proofs.lemmas.Bool.{and_from}
@@ -10,8 +10,8 @@ use Rattle.ax25_address.specs.Callsign.{Callsign}
 use Rattle.ax25_address.specs.declared.path.Path.{Path}
 use Rattle.link_machine.specs.declared.params.Params.{Params}
 use Rattle.link_machine.specs.Event.{Event as LinkEvent}
-use Rattle.link_machine.specs.Event.Event.{Connect as LinkConnect, Send as LinkSend, Disconnect as LinkDisconnect,
-    Hear as LinkHear, Tick as LinkTick}
+use Rattle.link_machine.specs.Event.Event.{Connect as LinkConnect, Send as LinkSend, Disconnect as LinkDisconnect}
+use Rattle.link_machine.specs.Event.Event.{Hear as LinkHear, Tick as LinkTick}
 use Rattle.link_world.specs.declared.end.End.{End}
 use Rattle.link_world.specs.declared.end.End.TheVariants.{A, B}
 use Rattle.link_world.specs.Changes.{Change, changed, run_changes, AreQuiet}
@@ -23,13 +23,13 @@ use Rattle.link_world.proofs.law.Each.{each_weaker, each_both, each_append}
 use Rattle.station.specs.Links.{is_between}
 use Rattle.station.specs.State.{StationState}
 use Rattle.channel_bench.specs.HeardInOrder.{Pair, AreHeardInOrder}
-use Rattle.channel_bench.specs.InFlight.{Moment, LinkFrame, OneWay, BothWays, IsMatched, AreMatched, hears_ask, sent_by,
-    in_flight, asks, answers, is_ua_or_dm, after_moment}
+use Rattle.channel_bench.specs.InFlight.{Moment, LinkFrame, OneWay, BothWays, IsMatched, AreMatched, hears_ask, sent_by}
+use Rattle.channel_bench.specs.InFlight.{in_flight, asks, answers, is_ua_or_dm, after_moment}
 use Rattle.channel_bench.specs.InFlight.Moment.{Steps, Passes}
 use Rattle.channel_bench.specs.JointRun.{Input, Step, at_end}
 use Rattle.channel_bench.specs.JointRun.Input.{FromHost, OffAir, OfClock}
-use Rattle.channel_bench.specs.LinkOfCalls.{Pairs, heard_at, makes, marks_from, event_at_end, changes_by,
-    all_changes_by}
+use Rattle.channel_bench.specs.LinkOfCalls.{Pairs, heard_at, makes, marks_from, event_at_end, changes_by}
+use Rattle.channel_bench.specs.LinkOfCalls.{all_changes_by}
 use Rattle.channel_bench.specs.LinkSteps.{LinkStep, steps_of}
 use Rattle.channel_bench.specs.MatchedLaw.{is_event, pair_of, pairs_from}
 use Rattle.channel_bench.proofs.Acts.{is_asking}
@@ -67,13 +67,13 @@ rise_ahead n front pairs done rest split ahead rises =
     each_right (AheadFrom n front) done rest (subst (λ xs. Each (AheadFrom n front) xs) split ahead) in
     rise_higher n 0 front rest rises
     (each_both (AheadFrom n front) (λ (p : Pair). n ≤ p.heard) (λ (p : Pair). front ≤ p.sent) (λ p f low. f low)
-        rest here
+    rest here
     (rise_heard n 0 rest rises))
 
 answers_told : (l r : Callsign) → Tells l r (λ (f : Tagged). f.answers) answers
 answers_told l r f q tag answering =
     and_from q.on_ask (is_ua_or_dm q.octets) (tag.cause answering) ((told_tagged l r f q tag).answer
-        ∙ tag.answer answering)
+    ∙ tag.answer answering)
 
 -- ---- one step
 
@@ -110,12 +110,12 @@ send_step e l r pa pb n sb qa qb out_pairs back_pairs w full step own back h sta
     let own_flight : count_by asks (in_flight own) ≡ count_by asks (drop own.front qa) =
     ap (λ q. count_by asks (drop own.front q)) own_is in
     let later : Sent r l qb back_pairs (n + 1) (near_all e out_pairs (length qa) steps w).a.towards =
-        done.between.back in
+    done.between.back in
     let back_rises : RiseFrom (n + 1) back.front later.rest =
     rise_ahead (n + 1) back.front back_pairs later.done later.rest later.split back_ahead later.rises in
     let behind : answers_in (flight later.tags later.rest) ≤ count_by answers (drop back.front qb) =
     flight_count r l (λ (f : Tagged). f.answers) answers (answers_told r l) later.tags qb later.tagged (n + 1)
-        back.front later.rest
+    back.front later.rest
     back_rises in
     let behind_is : answers_in done.stays ≡ answers_in (flight later.tags later.rest) =
     ap answers_in (sym done.left ∙ later.ahead) in
@@ -138,7 +138,7 @@ quiet-append w (change ∷ first) second h k = (h.0, quiet-append (changed w cha
 
 quiet_event :
     (e : End) (event : LinkEvent) (w : World) → QuietNear event e (seen_from e w)
-        → is_quiet w (event_at_end e event) ≡ true
+    → is_quiet w (event_at_end e event) ≡ true
 quiet_event e LinkConnect w h = and_from _ _ h.0 h.1
 quiet_event e (LinkSend packet) w h = and_from _ _ h.0 h.1
 quiet_event e LinkDisconnect w h = and_from _ _ h.0 h.1
@@ -148,11 +148,16 @@ quiet_event e (LinkTick waiting) w h = and_from _ _ h.0 h.1
 pub quiet_by :
     (e : End) (event : LinkEvent) (ms : List Bool) (anew : Option Path) (w : World)
     → QuietNear event e (makes_near anew (seen_from e w))
-        → AreQuiet w (makes e anew ++ Keeps (event_at_end e event) ms ∷ [])
+    → AreQuiet w (makes e anew ++ Keeps (event_at_end e event) ms ∷ [])
 quiet_by e event ms None w h = (quiet_event e event w h, tt)
-quiet_by e event ms (Some path) w h =
-    (refl, (quiet_event e event (changed w (Makes e path))
-        (subst (QuietNear event e) (sym (makes_seen e (Some path) w)) h), tt))
+quiet_by e event ms (Some path) w h = (
+  refl,
+  (
+    quiet_event e event (changed w (Makes e path))
+        (subst (QuietNear event e) (sym (makes_seen e (Some path) w)) h),
+    tt,
+  ),
+)
 
 pub quiet_all :
     (e : End) (pairs : Pairs) (n : ℕ) (steps : List LinkStep) (w : World)
@@ -161,7 +166,7 @@ quiet_all e pairs n [] w h = tt
 quiet_all e pairs n (step ∷ steps) w h =
     let ms = marks_from (heard_at (other e) pairs) (n + step.first) step.joined in
     quiet-append w (changes_by e pairs n step) (all_changes_by e pairs n steps)
-        (quiet_by e step.event ms step.anew w h.0)
+    (quiet_by e step.event ms step.anew w h.0)
     (quiet_all e pairs n steps (run_changes w (changes_by e pairs n step))
     (subst (AllQuietNear e (heard_at (other e) pairs) n steps) (sym (by_seen e pairs n step step.anew w)) h.1))
 
@@ -192,7 +197,7 @@ ahead_from e n [] ways matched = tt
 ahead_from e n (Passes sender below ∷ moments) ways matched =
     let next = after_moment (Passes sender below) ways in
     each_weaker (λ (p : Pair). (sent_by (other e) next).front ≤ p.sent)
-        (λ (p : Pair). (sent_by (other e) ways).front ≤ p.sent)
+    (λ (p : Pair). (sent_by (other e) ways).front ≤ p.sent)
     (λ p ahead. let more = front_passed (other e) sender below ways in omega arith) (pairs_from e n moments)
     (ahead_from e n moments next matched.1)
 ahead_from e n (Steps step found ∷ moments) ways matched =
@@ -201,7 +206,7 @@ ahead_from e n (Steps step found ∷ moments) ways matched =
     (at_end e step.station (pair_of (is_event (steps_of is_some step)) n found)) (pairs_from e (n + 1) moments)
     (here_ahead e step.station (is_event (steps_of is_some step)) n found step.input ways matched.0)
     (each_weaker (λ (p : Pair). (sent_by (other e) next).front ≤ p.sent)
-        (λ (p : Pair). (sent_by (other e) ways).front ≤ p.sent)
+    (λ (p : Pair). (sent_by (other e) ways).front ≤ p.sent)
     (λ p ahead.
     let more = front_by (other e) step.station (hears_ask step.input) step.after.out.queued found ways in
     omega arith)

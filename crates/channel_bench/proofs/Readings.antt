@@ -68,8 +68,11 @@ reread local remote f heard queued read frame tag alike low is =
     reads : Some frame ≡ frame_read written read sent
     reads = reads_frame written read sent frame heard (Ok frame)
         (record { len = again.len; path = again.begins; kind = tag.kind; body = again.body }) low
-        (record { frame = is; each_frame = λ g h. inl (let ok : Frame
-            → Result Frame FrameFault = λ x. Ok x in ap ok (one_frame read heard frame g is h)) }) refl
+        (record {
+          frame = is;
+          each_frame = λ g h. inl (let ok : Frame
+              → Result Frame FrameFault = λ x. Ok x in ap ok (one_frame read heard frame g is h));
+        }) refl
 
     go : (o : Option Kind) → kind_read written read f.frame.kind ≡ o → IsReread f read frame
     go None e = absurd (let clash : Some frame ≡ None = reads ∙ ap (with_kind sent) e in cc)

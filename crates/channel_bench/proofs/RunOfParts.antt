@@ -1,6 +1,6 @@
 -- What holds of a bench at first, and is kept by each part of a tick, holds of each run that nothing has ended.
-use Rattle.std.proofs.Common.{◌≡◌, ℕ, zero, suc, ◌==◌, Bool, true, false, List, [], ◌∷◌, ◌++◌, cond, Option, Some, None,
-    refl, sym, ap, ◌∙◌, subst}
+use Rattle.std.proofs.Common.{◌≡◌, ℕ, zero, suc, ◌==◌, Bool, true, false, List, [], ◌∷◌, ◌++◌, cond, Option, Some, None}
+use Rattle.std.proofs.Common.{refl, sym, ap, ◌∙◌, subst}
 use Rattle.std.specs.List.{AllByRecursion as Each}
 use Rattle.link_world.proofs.law.Each.{each_append}
 use Rattle.channel_bench.specs.declared.trouble.Trouble.{Trouble}

@@ -1,14 +1,14 @@
 -- In a run of the bench each host program sees the set-ups of its link: the first call, and then tick by tick.
-use Rattle.std.proofs.Common.{◌≡◌, ℕ, zero, suc, ◌+◌, ◌≤◌, Bool, true, false, List, [], ◌∷◌, ◌++◌, map, cond, None,
-    refl, sym, ap, ◌∙◌, subst, arith}
+use Rattle.std.proofs.Common.{◌≡◌, ℕ, zero, suc, ◌+◌, ◌≤◌, Bool, true, false, List, [], ◌∷◌, ◌++◌, map, cond, None}
+use Rattle.std.proofs.Common.{refl, sym, ap, ◌∙◌, subst, arith}
 use Rattle.std.specs.Bool.{⊤}
 use Rattle.std.specs.Prelude.{MatchBool}
 use Rattle.std.specs.List.{AllByRecursion as Each}
 use Rattle.std.proofs.lemmas.Bool.{ne_eqb}
 use Rattle.std.proofs.lemmas.List.{append-nil}
 use Rattle.link_machine.specs.Event.{Event as LinkEvent}
-use Rattle.link_machine.specs.Event.Event.{Connect as LinkConnect, Send as LinkSend, Disconnect as LinkDisconnect,
-    Hear as LinkHear, Tick as LinkTick}
+use Rattle.link_machine.specs.Event.Event.{Connect as LinkConnect, Send as LinkSend, Disconnect as LinkDisconnect}
+use Rattle.link_machine.specs.Event.Event.{Hear as LinkHear, Tick as LinkTick}
 use Rattle.link_world.specs.declared.end.End.{End}
 use Rattle.link_world.specs.declared.end.End.TheVariants.{A, B}
 use Rattle.station.specs.declared.host_event.HostEvent.{HostEvent}
@@ -18,8 +18,8 @@ use Rattle.channel_bench.specs.declared.words.BenchWords.{BenchWords}
 use Rattle.channel_bench.specs.BenchRun.{AreTicks}
 use Rattle.channel_bench.specs.BenchState.{BenchState, Near, SideState, near, new_bench, with_near}
 use Rattle.channel_bench.specs.BenchSteps.{IsStep, IsTold, program_id, there_after}
-use Rattle.channel_bench.specs.BenchTick.{ArePartsMade, IsPart, IsTick, Part, beginning, each_tick, joins, parts_of,
-    sets_duplex, sets_full_duplex}
+use Rattle.channel_bench.specs.BenchTick.{ArePartsMade, IsPart, IsTick, Part, beginning, each_tick, joins, parts_of}
+use Rattle.channel_bench.specs.BenchTick.{sets_duplex, sets_full_duplex}
 use Rattle.channel_bench.specs.BenchTick.Part.{Closes, Tells}
 use Rattle.channel_bench.specs.HostProgram.{ProgramState, connect_octets}
 use Rattle.channel_bench.specs.InFlight.Moment.{Steps}
@@ -27,12 +27,13 @@ use Rattle.channel_bench.specs.JointRun.{IsTurn}
 use Rattle.channel_bench.specs.JointRun.Input.{FromHost}
 use Rattle.channel_bench.specs.LinkSteps.{LinkStep, steps_of, turn_steps}
 use Rattle.channel_bench.specs.Sounding.{ticked}
-use Rattle.channel_bench.proofs.BenchSees.{Holds, HoldsNear, Premises, asks_or_calls_holds, at_end_holds, both_of,
-    closes_hold, front, gives_hold, listens_hold, near_holds, near_there, new_holds, sounds_hold, ticks_hold}
+use Rattle.channel_bench.proofs.BenchSees.{Holds, HoldsNear, Premises, asks_or_calls_holds, at_end_holds, both_of}
+use Rattle.channel_bench.proofs.BenchSees.{closes_hold, front, gives_hold, listens_hold, near_holds, near_there}
+use Rattle.channel_bench.proofs.BenchSees.{new_holds, sounds_hold, ticks_hold}
 use Rattle.channel_bench.proofs.Chains.{called_behind}
 use Rattle.channel_bench.proofs.CoreRun.{Occurs, Usual, input_of}
-use Rattle.channel_bench.proofs.CoreRun.Usual.{connects, disconnects, gives, hears, joins_kiss, joins_program,
-    registers, sets_full, ticks}
+use Rattle.channel_bench.proofs.CoreRun.Usual.{connects, disconnects, gives, hears, joins_kiss, joins_program}
+use Rattle.channel_bench.proofs.CoreRun.Usual.{registers, sets_full, ticks}
 use Rattle.channel_bench.proofs.HostStreams.{IsWhole}
 use Rattle.channel_bench.proofs.HostsStay.{HasHosts}
 use Rattle.channel_bench.proofs.LinkNow.{links_of}
@@ -113,19 +114,19 @@ front_comes :
     (e : End) (usual : Usual) (side : SideState) (after : Turn) → IsFront usual → Occurs e usual → HasHosts side.station
     → OwnsAll e side.station → (turn : IsTurn (input_of e usual) (begin side.station) after)
     → Comes nothing ⊥ e (begin side.station) (turn_steps (chosen e) (input_of e usual) (begin side.station) after turn)
-        after
+    after
 front_comes e joins_kiss side after f occurs hosts owns turn =
     usual_comes e joins_kiss side.station after occurs hosts owns
-        (unshown_of side.station.connections hosts.connections) tt turn
+    (unshown_of side.station.connections hosts.connections) tt turn
 front_comes e sets_full side after f occurs hosts owns turn =
     usual_comes e sets_full side.station after occurs hosts owns (unshown_of side.station.connections hosts.connections)
-        tt turn
+    tt turn
 front_comes e joins_program side after f occurs hosts owns turn =
     usual_comes e joins_program side.station after occurs hosts owns
-        (unshown_of side.station.connections hosts.connections) tt turn
+    (unshown_of side.station.connections hosts.connections) tt turn
 front_comes e registers side after f occurs hosts owns turn =
     usual_comes e registers side.station after occurs hosts owns (unshown_of side.station.connections hosts.connections)
-        tt turn
+    tt turn
 front_comes e connects side after f occurs hosts owns turn = absurd f
 front_comes e (gives piece) side after f occurs hosts owns turn = absurd f
 front_comes e disconnects side after f occurs hosts owns turn = absurd f
@@ -146,20 +147,20 @@ front_ready w (ticks busy) p events f = absurd f
 
 quiet_step :
     (w : BenchWords) (bench : BenchState) (e : End) (usual : Usual) (before after : Near) → IsFront usual
-        → Occurs e usual
+    → Occurs e usual
     → (h : IsStep e (input_of e usual) None before after) → HoldsNear w bench e before → Premises before.common.moments
     → (steps_of (chosen e) (noted_step e usual None before after h) ≡ []) × (after.side.program ≡ before.side.program)
 quiet_step w bench e usual before after f occurs h holds p =
     let own = (both_of w bench e before holds p).own in
     let there = there_after (input_of e usual) h.turn.out.closed before.side.there in
     let q = quiet_comes e before.side there (steps_of (chosen e) (noted_step e usual None before after h))
-        h.turn own.whole
+    h.turn own.whole
     (front_comes e usual before.side h.turn f occurs (hosts_near w bench e before holds) own.owns h.makes) in
     (q.0, ap (λ (n : Near). n.side.program) h.is ∙ q.1)
 
 early_step :
     (w : BenchWords) (bench : BenchState) (e : End) (usual : Usual) (before after : Near) → IsFront usual
-        → Occurs e usual
+    → Occurs e usual
     → IsStep e (input_of e usual) None before after → HoldsNear w bench e before → EarlyNear w bench e before
     → EarlyNear w bench e after
 early_step w bench A usual before after f occurs h holds early = λ p.
@@ -378,7 +379,7 @@ tick_stands :
     → IsCalm bench → Behind w count before → Stands w made bench
 tick_stands w zero before bench made_parts calm is =
     parts_lead w begins made (parts_of w before.ticks)
-        (first_parts w before.ticks (ap (λ (b : BenchState). b.ticks) is))
+    (first_parts w before.ticks (ap (λ (b : BenchState). b.ticks) is))
     before bench made_parts calm (subst (Stands w begins) (sym is) (new_stands w))
 tick_stands w (suc count) before bench made_parts calm stands =
     parts_lead w goes made (parts_of w before.ticks) (later_parts w before.ticks stands.1) before bench made_parts calm

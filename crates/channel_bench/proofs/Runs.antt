@@ -1,6 +1,6 @@
 -- A joint run, step by step: the two ends of the link between two calls follow it.
-use Rattle.std.proofs.Common.{◌≡◌, ◌≢◌, ℕ, zero, suc, ◌+◌, ◌<◌, ◌≤◌, Bool, true, false, List, [], ◌∷◌, ◌++◌, length,
-    take, Option, Some, None, get_or, refl, sym, ap, ◌∙◌, subst, arith, inl, inr}
+use Rattle.std.proofs.Common.{◌≡◌, ◌≢◌, ℕ, zero, suc, ◌+◌, ◌<◌, ◌≤◌, Bool, true, false, List, [], ◌∷◌, ◌++◌, length}
+use Rattle.std.proofs.Common.{take, Option, Some, None, get_or, refl, sym, ap, ◌∙◌, subst, arith, inl, inr}
 use Rattle.std.specs.Prelude.{slice_get, is_some}
 use Rattle.std.specs.List.{AllByRecursion as Each}
 use Rattle.std.proofs.lemmas.Bool.{cases_eq}
@@ -21,8 +21,8 @@ use Rattle.station.specs.Links.{is_between}
 use Rattle.station.specs.Turn.{Turn, begin}
 use Rattle.channel_bench.specs.JointRun.{Input, IsTurn, HasOctets, Step, queued_at}
 use Rattle.channel_bench.specs.JointRun.Input.{FromHost, OffAir, OfClock}
-use Rattle.channel_bench.specs.HeardInOrder.{AreAlikeButForH, Pair, IsOffAir, HearsLinkFrame, IsHeardPair, HasPair,
-    AreHeardInOrder}
+use Rattle.channel_bench.specs.HeardInOrder.{AreAlikeButForH, Pair, IsOffAir, HearsLinkFrame, IsHeardPair, HasPair}
+use Rattle.channel_bench.specs.HeardInOrder.{AreHeardInOrder}
 use Rattle.channel_bench.specs.InFlight.{LinkFrame, is_ask}
 use Rattle.channel_bench.specs.LinkSteps.{LinkStep, turn_steps}
 use Rattle.channel_bench.proofs.Acts.{Setting, Holds, still_holds}
@@ -148,7 +148,7 @@ nothing = one_framed false []
 
 pub tag_of :
     (l r : Callsign) (tags : List (Option Tagged)) (queue : List LinkFrame) (k : ℕ) → AreTags l r tags queue
-        → k < length queue
+    → k < length queue
     → IsTag l r (tag_at tags k) (get_or queue k nothing)
 tag_of l r [] [] k h within = absurd (omega arith)
 tag_of l r [] (queued ∷ rest) k h within = absurd h
@@ -193,7 +193,7 @@ popped_by s hearer full pairs queue n towards step octets done []
     ahead found =
     let others : Each (λ (p : Pair). p.heard ≢ n) done =
     each_weaker (λ (p : Pair). p.heard < n) (λ (p : Pair). p.heard ≢ n) (λ p less e. absurd (omega arith))
-        done before in
+    done before in
     absurd (All-contains (λ (p : Pair). p.heard ≢ n) pairs found.pair
     (All-from_recursion (λ (p : Pair). p.heard ≢ n) pairs
     (subst (λ ps. Each (λ (p : Pair). p.heard ≢ n) ps) (sym (split ∙ append-nil done)) others)) found.contains found.is)
@@ -204,7 +204,7 @@ popped_by s hearer full pairs queue n towards step octets done (p ∷ ps)
           let low = rises.0 in
           let others : Each (λ (q : Pair). q.heard ≢ n) done =
           each_weaker (λ (q : Pair). q.heard < n) (λ (q : Pair). q.heard ≢ n) (λ q less e. absurd (omega arith))
-              done before in
+          done before in
           let more : n < p.heard = omega arith in
           let later : Each (λ (q : Pair). q.heard ≢ n) (p ∷ ps) =
           (ne, all_rise n (p.heard + 1) ps (p.sent + 1) (omega arith) rises.2) in
@@ -214,18 +214,18 @@ popped_by s hearer full pairs queue n towards step octets done (p ∷ ps)
           (each_append (λ (q : Pair). q.heard ≢ n) done (p ∷ ps) others later))) found.contains found.is)
       | inl at ↦
           let all : Each (IsHeardPair hearer full) pairs = recursion_from_All (IsHeardPair hearer full)
-              pairs order.each in
+          pairs order.each in
           let here : IsHeardPair hearer full p =
           (each_right (IsHeardPair hearer full) done (p ∷ ps)
-              (subst (λ qs. Each (IsHeardPair hearer full) qs) split all)).0 in
+          (subst (λ qs. Each (IsHeardPair hearer full) qs) split all)).0 in
           let same : here.octets ≡ octets =
           same_octets step.input here.octets octets (hears_at_number hearer full n step p is here at).input hears.input
-              in
+          in
           let octets_are : octets_in queue ≡ queued_at (other hearer) (take n full) =
           ap octets_in (sym queue_is) ∙ octets_at (other hearer) (take n full) in
           let queued : slice_get (octets_in queue) p.sent ≡ Some here.queued =
           ap (λ q. slice_get q p.sent) (octets_are ∙ ap (λ k. queued_at (other hearer) (take k full)) (sym at))
-              ∙ here.before in
+          ∙ here.before in
           let within : p.sent < length queue =
           let less = slice_get_within (octets_in queue) p.sent here.queued queued in
           let size : length (octets_in queue) ≡ length queue = length-map queue (λ (f : LinkFrame). f.octets) in
@@ -234,13 +234,13 @@ popped_by s hearer full pairs queue n towards step octets done (p ∷ ps)
           let same_queued : here.queued ≡ frame.octets =
           sym (get_or_from_slice_get (octets_in queue) p.sent here.queued [] queued) ∙ sym (octets_get queue p.sent) in
           let tag : IsTag s.remote s.local (tag_at tags p.sent) frame =
-              tag_of s.remote s.local tags queue p.sent tagged within in
+          tag_of s.remote s.local tags queue p.sent tagged within in
           record {
             stays = flight tags ps;
             pop = subst (λ ts. Pop s octets ts (flight tags ps)) (sym ahead)
                 (by_tag s octets frame (tag_at tags p.sent) (flight tags ps)
                 (subst (λ o. AreAlikeButForH octets o) same_queued
-                    (subst (λ o. AreAlikeButForH o here.queued) same here.alike))
+                (subst (λ o. AreAlikeButForH o here.queued) same here.alike))
                 tag caused);
             sent = record {
               done = done ++ p ∷ [];
@@ -250,7 +250,7 @@ popped_by s hearer full pairs queue n towards step octets done (p ∷ ps)
               below = each_pushed (λ (q : Pair). q.sent < length queue) done p below within;
               before = each_pushed (λ (q : Pair). q.heard < n + 1) done p
                   (each_weaker (λ (q : Pair). q.heard < n) (λ (q : Pair). q.heard < n + 1) (λ q less. omega arith)
-                      done before)
+                  done before)
                   (omega arith);
               tags = tags;
               tagged = tagged;
@@ -364,19 +364,19 @@ pub takes :
     → ((octets : List ℕ) → IsOffAir input octets → turn_steps is_some input (begin sa) after turn ≢ []
     → Popped (setting_of on l r pa pb n sa sb qa qb out_pairs back_pairs w h) octets qb back_pairs n w.a.towards)
     → Stepped e on l r pa pb n sb qa qb out_pairs back_pairs w after
-        (turn_steps (is_between l r) input (begin sa) after turn)
+    (turn_steps (is_between l r) input (begin sa) after turn)
 takes e on l r pa pb n sa sb qa qb out_pairs back_pairs w h rises (FromHost event) after turn octets calm popped =
     finishes e on l r pa pb n sa sb qa qb out_pairs back_pairs w h rises w.a.towards (calm (λ o off some. off)) after
     (turn_steps (is_between l r) (FromHost event) (begin sa) after turn)
     (host_goes (setting_of on l r pa pb n sa sb qa qb out_pairs back_pairs w h) e w.a.towards event (begin sa)
-        after turn w
+    after turn w
     (begins on l r pa pb n sa sb qa qb out_pairs back_pairs w h))
 takes e on l r pa pb n sa sb qa qb out_pairs back_pairs w h rises (OfClock busy) after turn octets calm popped =
     let s = setting_of on l r pa pb n sa sb qa qb out_pairs back_pairs w h in
     let ticked = ticks_go s e w.a.towards (begin sa) w (begins on l r pa pb n sa sb qa qb out_pairs back_pairs w h) in
     let steps = turn_steps (is_between l r) (OfClock busy) (begin sa) after turn in
     finishes e on l r pa pb n sa sb qa qb out_pairs back_pairs w h rises w.a.towards (calm (λ o off some. off))
-        after steps
+    after steps
     (subst (λ t. Kept s e w.a.towards t steps w) (sym turn.effect) (
       still_holds s w.a.towards (ticking_links (begin sa)) (ticking busy turn.monitored (begin sa))
           (near_all e (s.done ++ s.rest) (length s.earlier) steps w)

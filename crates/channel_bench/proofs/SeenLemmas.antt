@@ -1,6 +1,6 @@
 -- The set-ups of a link's ends are those that are seen at its stations.
-use Rattle.std.proofs.Common.{◌≡◌, ℕ, Bool, true, false, List, [], ◌∷◌, ◌++◌, length, map, fold, cond, Option, Some,
-    None, is_some, refl, sym, ap, ◌∙◌, subst}
+use Rattle.std.proofs.Common.{◌≡◌, ℕ, Bool, true, false, List, [], ◌∷◌, ◌++◌, length, map, fold, cond, Option, Some}
+use Rattle.std.proofs.Common.{None, is_some, refl, sym, ap, ◌∙◌, subst}
 use Rattle.std.specs.List.{AllByRecursion as Each}
 use Rattle.std.proofs.lemmas.List.{map-append}
 use Rattle.std.proofs.lemmas.List.Elements.{recursion_from_All}
@@ -12,8 +12,8 @@ use Rattle.link_machine.specs.declared.acts.Told.TheVariants.{Opened, Given, End
 use Rattle.link_machine.specs.declared.state.LinkState.{LinkState}
 use Rattle.link_machine.specs.declared.state.LinkState.TheVariants.{Idle, Calling, Up, Releasing}
 use Rattle.link_machine.specs.Event.{Event as LinkEvent}
-use Rattle.link_machine.specs.Event.Event.{Connect as LinkConnect, Send as LinkSend, Disconnect as LinkDisconnect,
-    Hear as LinkHear, Tick as LinkTick}
+use Rattle.link_machine.specs.Event.Event.{Connect as LinkConnect, Send as LinkSend, Disconnect as LinkDisconnect}
+use Rattle.link_machine.specs.Event.Event.{Hear as LinkHear, Tick as LinkTick}
 use Rattle.link_machine.specs.Machine.{Machine}
 use Rattle.link_machine.specs.Step.{refusal_of, step as link_turn}
 use Rattle.link_machine.specs.Turn.{Turn as LinkTurn}
@@ -21,17 +21,19 @@ use Rattle.link_world.specs.declared.end.End.{End}
 use Rattle.link_world.specs.declared.end.End.TheVariants.{A, B}
 use Rattle.link_world.specs.Changes.{made_in, run_changes}
 use Rattle.link_world.specs.Flight.{Tagged, is_numbered}
-use Rattle.link_world.specs.Recorded.{RecordedEnd, Happening, accepts, taking, hearing, noting, opening, told_of,
-    waiting_in, behind, end_turn}
+use Rattle.link_world.specs.Recorded.{RecordedEnd, Happening, accepts, taking, hearing, noting, opening, told_of}
+use Rattle.link_world.specs.Recorded.{waiting_in, behind, end_turn}
 use Rattle.link_world.specs.Recorded.Happening.{Connects, Sends, Disconnects, Ticks, Hears}
 use Rattle.link_world.specs.SetUps.{SetUp, giving, getting, acting, change_last, last_changed}
 use Rattle.link_world.specs.World.{World, seen_from, other, near_turn, turn_of, hearing_as, hearing_first, read_in}
 use Rattle.channel_bench.specs.JointRun.{Step, at_end}
-use Rattle.channel_bench.specs.LinkOfCalls.{Calls, Pairs, Counts, link_at_end, count_at, with_more, event_at_end, makes,
-    heard_at, changes_by, all_changes_by, changes_from, FollowsAll, FollowsThrough, first_world}
+use Rattle.channel_bench.specs.LinkOfCalls.{Calls, Pairs, Counts, link_at_end, count_at, with_more, event_at_end, makes}
+use Rattle.channel_bench.specs.LinkOfCalls.{heard_at, changes_by, all_changes_by, changes_from, FollowsAll}
+use Rattle.channel_bench.specs.LinkOfCalls.{FollowsThrough, first_world}
 use Rattle.channel_bench.specs.LinkSteps.{LinkStep, steps_of}
-use Rattle.channel_bench.specs.SetUpsSeen.{Seen, last_seen_changed, change_last_seen, with_given, with_got, seen_giving,
-    seen_told, seen_by, seen_by_all, link_steps_at, IsGivenWhileUp, as_seen, SetUpsLaw}
+use Rattle.channel_bench.specs.SetUpsSeen.{Seen, last_seen_changed, change_last_seen, with_given, with_got, seen_giving}
+use Rattle.channel_bench.specs.SetUpsSeen.{seen_told, seen_by, seen_by_all, link_steps_at, IsGivenWhileUp, as_seen}
+use Rattle.channel_bench.specs.SetUpsSeen.{SetUpsLaw}
 use Rattle.channel_bench.proofs.Along.{makes_near, near_by, by_seen, makes_seen, run_changes-append}
 use Rattle.channel_bench.proofs.JointLaw.{following_law_holds}
 
@@ -42,7 +44,7 @@ all_seen set_ups = map as_seen set_ups
 
 last_seen :
     (f : SetUp → SetUp) (g : Seen → Seen) → ((q : SetUp) → as_seen (f q) ≡ g (as_seen q))
-        → (q : SetUp) (rest : List SetUp)
+    → (q : SetUp) (rest : List SetUp)
     → all_seen (last_changed f q rest) ≡ last_seen_changed g (as_seen q) (all_seen rest)
 last_seen f g same q [] = ap (λ s. s ∷ []) (same q)
 last_seen f g same q (next ∷ rest) = ap (λ xs. as_seen q ∷ xs) (last_seen f g same next rest)
@@ -100,7 +102,7 @@ none_waits Releasing waiting is = refl
 
 behind_seen :
     (h : Happening) (r noted : RecordedEnd) (turn : LinkTurn) (seen : List Seen) → noting h r ≡ noted
-        → SeenEnd noted seen
+    → SeenEnd noted seen
     → SeenEnd (behind h r turn) (fold seen_told seen turn.told)
 behind_seen h r noted turn seen is s =
     subst (λ (n : RecordedEnd). SeenEnd (record {
@@ -165,17 +167,17 @@ heard_seen (f ∷ rest) r seen told s is = go (read_in r.machine.incoming.modulu
         let h : Happening = Hears (record f { frame = g }) in
         by_told (end_turn h r).now seen (end_turn h r).told told e
         (behind_seen h r (noting h r) (link_turn r.machine (LinkHear g)) seen refl
-            (heard_noted (record f { frame = g }) r seen s))
+        (heard_noted (record f { frame = g }) r seen s))
 
 event_seen :
     (e : End) (event : LinkEvent) (v : World) (machine : Machine) (seen : List Seen) → v.a.end.machine ≡ machine
     → (near_turn (event_at_end e event) v).told ≡ (link_turn machine event).told → IsGivenWhileUp event machine
     → SeenEnd v.a.end seen
     → SeenEnd (near_turn (event_at_end e event) v).now
-        (fold seen_told (seen_giving event seen) (link_turn machine event).told)
+    (fold seen_told (seen_giving event seen) (link_turn machine event).told)
 event_seen e LinkConnect v machine seen is told given s =
     by_told (near_turn (event_at_end e LinkConnect) v).now seen (link_turn v.a.end.machine LinkConnect).told
-        (link_turn machine LinkConnect).told told
+    (link_turn machine LinkConnect).told told
     (behind_seen Connects v.a.end v.a.end (link_turn v.a.end.machine LinkConnect) seen refl s)
 event_seen e (LinkSend packet) v machine seen is told given s =
     let up = ap (λ (m : Machine). m.control.state) is ∙ given.0 in
@@ -186,13 +188,13 @@ event_seen e (LinkSend packet) v machine seen is told given s =
     (change_last_seen (with_given packet) seen) refl (send_noted packet v.a.end seen up taken s))
 event_seen e LinkDisconnect v machine seen is told given s =
     by_told (near_turn (event_at_end e LinkDisconnect) v).now seen (link_turn v.a.end.machine LinkDisconnect).told
-        (link_turn machine LinkDisconnect).told told
+    (link_turn machine LinkDisconnect).told told
     (behind_seen Disconnects v.a.end v.a.end (link_turn v.a.end.machine LinkDisconnect) seen refl s)
 event_seen e (LinkHear frame) v machine seen is told given s =
     heard_seen v.a.towards v.a.end seen (link_turn machine (LinkHear frame)).told s told
 event_seen e (LinkTick waiting) v machine seen is told given s =
     by_told (near_turn (event_at_end e (LinkTick waiting)) v).now seen
-        (link_turn v.a.end.machine (LinkTick waiting)).told
+    (link_turn v.a.end.machine (LinkTick waiting)).told
     (link_turn machine (LinkTick waiting)).told told
     (behind_seen (Ticks waiting) v.a.end v.a.end (link_turn v.a.end.machine (LinkTick waiting)) seen refl s)
 
@@ -229,7 +231,7 @@ record SeenNear (v : World) (own far : List Seen) : Type 0 where
 
 steps_seen :
     (e : End) (pairs : Pairs) (n : ℕ) (steps : List LinkStep) (w : World) (own far : List Seen)
-        → FollowsAll e pairs n steps w
+    → FollowsAll e pairs n steps w
     → Each (λ (step : LinkStep). IsGivenWhileUp step.event step.link.machine) steps → SeenNear (seen_from e w) own far
     → SeenNear (seen_from e (run_changes w (all_changes_by e pairs n steps))) (seen_by_all steps own) far
 steps_seen e pairs n [] w own far follows given s = s
@@ -281,16 +283,16 @@ one_seen :
     (a b : List Seen) → FollowsAll e pairs n made w → Each GivenUp (at_end A e made ++ rest_a)
     → Each GivenUp (at_end B e made ++ rest_b) → SeenBoth w a b
     → SeenBoth (run_changes w (all_changes_by e pairs n made)) (seen_by_all (at_end A e made) a)
-        (seen_by_all (at_end B e made) b)
+    (seen_by_all (at_end B e made) b)
 one_seen calls pairs n A made rest_a rest_b w a b follows given_a given_b s =
     let done : SeenNear (run_changes w (all_changes_by A pairs n made)) (seen_by_all made a) b =
     steps_seen A pairs n made w a b follows (each_left GivenUp made rest_a given_a)
-        (record { at_own = s.at_a; at_far = s.at_b }) in
+    (record { at_own = s.at_a; at_far = s.at_b }) in
     record { at_a = done.at_own; at_b = done.at_far }
 one_seen calls pairs n B made rest_a rest_b w a b follows given_a given_b s =
     let done : SeenNear (seen_from B (run_changes w (all_changes_by B pairs n made))) (seen_by_all made b) a =
     steps_seen B pairs n made w b a follows (each_left GivenUp made rest_b given_b)
-        (record { at_own = s.at_b; at_far = s.at_a }) in
+    (record { at_own = s.at_b; at_far = s.at_a }) in
     record { at_a = done.at_far; at_b = done.at_own }
 
 run_seen :
@@ -311,15 +313,17 @@ run_seen calls pairs counts (step ∷ steps) w a b follows given s =
     let now_b = seen_by_all (at_end B e made) b in
     let one = one_seen calls pairs n e made rest_a rest_b w a b follows.0 given.at_a given.at_b s in
     let all : SeenBoth (run_changes (run_changes w changes) (changes_from calls pairs more steps))
-        (seen_by_all rest_a now_a)
+    (seen_by_all rest_a now_a)
     (seen_by_all rest_b now_b) =
     run_seen calls pairs more steps (run_changes w changes) now_a now_b follows.1
-    (record { at_a = each_rest GivenUp (at_end A e made) rest_a given.at_a;
-        at_b = each_rest GivenUp (at_end B e made) rest_b given.at_b }) one in
+    (record {
+      at_a = each_rest GivenUp (at_end A e made) rest_a given.at_a;
+      at_b = each_rest GivenUp (at_end B e made) rest_b given.at_b;
+    }) one in
     subst (λ xs. SeenBoth (run_changes w (changes_from calls pairs counts (step ∷ steps))) xs
     (seen_by_all (link_steps_at calls B (step ∷ steps)) b)) (sym (seen_append (at_end A e made) rest_a a))
     (subst (λ xs. SeenBoth (run_changes w (changes_from calls pairs counts (step ∷ steps))) (seen_by_all rest_a now_a)
-        xs)
+    xs)
     (sym (seen_append (at_end B e made) rest_b b))
     (subst (λ z. SeenBoth z (seen_by_all rest_a now_a) (seen_by_all rest_b now_b))
     (sym (run_changes-append changes (changes_from calls pairs more steps) w)) all))
@@ -328,7 +332,7 @@ pub set_ups_law_holds : SetUpsLaw
 set_ups_law_holds a b seed_a seed_b steps pairs run heard_a heard_b calls given =
     let follows = following_law_holds a b seed_a seed_b steps pairs run heard_a heard_b calls in
     let done = run_seen calls pairs (record { a = 0; b = 0 }) steps (first_world calls a.params b.params) [] []
-        follows.through
+    follows.through
     (record {
       at_a = recursion_from_All GivenUp (link_steps_at calls A steps) (given A);
       at_b = recursion_from_All GivenUp (link_steps_at calls B steps) (given B);

@@ -1,7 +1,7 @@
 -- The frames that acts of a link send: at most one SABM, SABME, DISC, UA or DM, none that asks if the link is up then,
 -- and UA only in answer to one that asks. The link comes up only as it hears UA or one that asks.
-use Rattle.std.proofs.Common.{◌≡◌, ◌+◌, ◌≤◌, ◌==◌, ◌&&◌, ◌||◌, Bool, true, false, List, [], ◌∷◌, ◌++◌, length, cond,
-    refl, sym, ap, ◌∙◌, subst, arith, ℕ}
+use Rattle.std.proofs.Common.{◌≡◌, ◌+◌, ◌≤◌, ◌==◌, ◌&&◌, ◌||◌, Bool, true, false, List, [], ◌∷◌, ◌++◌, length, cond}
+use Rattle.std.proofs.Common.{refl, sym, ap, ◌∙◌, subst, arith, ℕ}
 use Rattle.std.specs.List.{count_by, list_any}
 use Rattle.std.proofs.lemmas.Bool.{and_parts}
 use Rattle.ax25_frames.specs.declared.frame.Kind.{Kind}

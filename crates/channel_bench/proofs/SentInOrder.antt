@@ -1,7 +1,7 @@
 -- In a run of the bench nothing but the frames of links joins a transmit queue, and a station sends them in the order
 -- in which they joined it.
-use Rattle.std.proofs.Common.{◌≡◌, ℕ, ◌≤◌, Bool, true, false, List, [], ◌∷◌, ◌++◌, length, map, cond, nat_lt, Option,
-    Some, None, refl, sym, ap, ◌∙◌, subst, arith}
+use Rattle.std.proofs.Common.{◌≡◌, ℕ, ◌≤◌, Bool, true, false, List, [], ◌∷◌, ◌++◌, length, map, cond, nat_lt, Option}
+use Rattle.std.proofs.Common.{Some, None, refl, sym, ap, ◌∙◌, subst, arith}
 use Rattle.std.proofs.lemmas.List.{append-nil, append_assoc, map-append}
 use Rattle.agwpe_port.specs.CallField.{call_field}
 use Rattle.agwpe_port.specs.Messages.{spelling}
@@ -29,15 +29,15 @@ use Rattle.channel_bench.specs.JointRun.{Input, IsTurn, Step, Stations, at_end, 
 use Rattle.channel_bench.specs.JointRun.Input.{FromHost, OffAir, OfClock}
 use Rattle.channel_bench.proofs.ChannelOrder.{Fits, fits_more, octets_of, sent_octets, tick_long, tick_sends}
 use Rattle.channel_bench.proofs.CoreRun.{KeptByCore, Occurs, Usual, input_of, told_station}
-use Rattle.channel_bench.proofs.CoreRun.Usual.{joins_kiss, sets_full, joins_program, registers, connects, gives,
-    disconnects, hears, ticks}
+use Rattle.channel_bench.proofs.CoreRun.Usual.{joins_kiss, sets_full, joins_program, registers, connects, gives}
+use Rattle.channel_bench.proofs.CoreRun.Usual.{disconnects, hears, ticks}
 use Rattle.channel_bench.proofs.HostsStay.{HasHosts, IsSaid, IsSet, said_by, set_by}
 use Rattle.channel_bench.proofs.HostsStay.IsSaid.{unheard, said}
 use Rattle.channel_bench.proofs.HostsStay.IsSet.{unheard as alone, full}
 use Rattle.channel_bench.proofs.NotedRun.{steps_more, steps_passed}
 use Rattle.channel_bench.proofs.ProgramsAsk.{AskLittle, asks_kept, between_written, hosts_at, registers_written}
-use Rattle.channel_bench.proofs.TurnWalks.{Kept, connect_kept, data_kept, disconnect_kept, heard_kept, kept_by_acts,
-    register_kept, ticks_kept}
+use Rattle.channel_bench.proofs.TurnWalks.{Kept, connect_kept, data_kept, disconnect_kept, heard_kept, kept_by_acts}
+use Rattle.channel_bench.proofs.TurnWalks.{register_kept, ticks_kept}
 
 -- ---- what joins the queue
 

@@ -1,7 +1,7 @@
 -- No packet that a link tells of is longer than those that host programs give: by the law, what an end got it was
 -- given.
-use Rattle.std.proofs.Common.{◌≡◌, ◌≢◌, ℕ, zero, suc, ◌≤◌, Bool, true, false, List, [], ◌∷◌, ◌++◌, length, map, fold,
-    Some, None, refl, subst, arith}
+use Rattle.std.proofs.Common.{◌≡◌, ◌≢◌, ℕ, zero, suc, ◌≤◌, Bool, true, false, List, [], ◌∷◌, ◌++◌, length, map, fold}
+use Rattle.std.proofs.Common.{Some, None, refl, subst, arith}
 use Rattle.std.specs.Bool.{⊤}
 use Rattle.std.specs.Prelude.{slice_get}
 use Rattle.std.specs.List.{AllByRecursion as Each}
@@ -11,8 +11,8 @@ use Rattle.selective_reject.specs.declared.packet.Packet.{Packet}
 use Rattle.link_machine.specs.declared.acts.Told.{Told}
 use Rattle.link_machine.specs.declared.acts.Told.TheVariants.{Opened, Given, Ended}
 use Rattle.link_machine.specs.Event.{Event as LinkEvent}
-use Rattle.link_machine.specs.Event.Event.{Connect as LinkConnect, Send as LinkSend, Disconnect as LinkDisconnect,
-    Hear as LinkHear, Tick as LinkTick}
+use Rattle.link_machine.specs.Event.Event.{Connect as LinkConnect, Send as LinkSend, Disconnect as LinkDisconnect}
+use Rattle.link_machine.specs.Event.Event.{Hear as LinkHear, Tick as LinkTick}
 use Rattle.link_world.specs.declared.end.End.{End}
 use Rattle.link_world.specs.declared.end.End.TheVariants.{A, B}
 use Rattle.link_world.specs.Origin.{GotInOrder as PacketsInOrder, GotNothingElse}
@@ -23,8 +23,8 @@ use Rattle.channel_bench.specs.HostProgram.{most_octets}
 use Rattle.channel_bench.specs.LinkSteps.{LinkStep}
 use Rattle.channel_bench.specs.LinksTell.{AreToldInOne, runs_after}
 use Rattle.channel_bench.specs.RunsTell.{AllToldInOne, told_in}
-use Rattle.channel_bench.specs.SetUpsSeen.{Seen, as_seen, change_last_seen, last_seen_changed, seen_by, seen_by_all,
-    seen_giving, seen_told, with_given, with_got}
+use Rattle.channel_bench.specs.SetUpsSeen.{Seen, as_seen, change_last_seen, last_seen_changed, seen_by, seen_by_all}
+use Rattle.channel_bench.specs.SetUpsSeen.{seen_giving, seen_told, with_given, with_got}
 use Rattle.channel_bench.proofs.OwnLinks.{message_at, messages_by, messages_of}
 
 abbrev pub IsShort : Packet → Type 0

@@ -1,7 +1,7 @@
 -- At each side of a bench the host program has seen the set-ups of its link: what holds of a side, and how a step keeps
 -- it.
-use Rattle.std.proofs.Common.{◌≡◌, ℕ, ◌==◌, ◌||◌, Bool, true, false, List, [], ◌∷◌, ◌++◌, map, cond, Option, Some, None,
-    is_some, refl, sym, ap, ◌∙◌, subst, inl, inr}
+use Rattle.std.proofs.Common.{◌≡◌, ℕ, ◌==◌, ◌||◌, Bool, true, false, List, [], ◌∷◌, ◌++◌, map, cond, Option, Some, None}
+use Rattle.std.proofs.Common.{is_some, refl, sym, ap, ◌∙◌, subst, inl, inr}
 use Rattle.std.specs.List.{AllByRecursion as Each}
 use Rattle.std.specs.Option.{option_to_list}
 use Rattle.std.proofs.lemmas.Bool.{or_cases}
@@ -9,8 +9,8 @@ use Rattle.std.proofs.lemmas.List.{append-nil}
 use Rattle.agwpe_port.specs.declared.message.AgwMessage.{AgwMessage}
 use Rattle.agwpe_port.proofs.WrittenLemmas.{IsWritten}
 use Rattle.link_machine.specs.Event.{Event as LinkEvent}
-use Rattle.link_machine.specs.Event.Event.{Connect as LinkConnect, Send as LinkSend, Disconnect as LinkDisconnect,
-    Hear as LinkHear, Tick as LinkTick}
+use Rattle.link_machine.specs.Event.Event.{Connect as LinkConnect, Send as LinkSend, Disconnect as LinkDisconnect}
+use Rattle.link_machine.specs.Event.Event.{Hear as LinkHear, Tick as LinkTick}
 use Rattle.link_world.specs.declared.end.End.{End}
 use Rattle.link_world.proofs.law.Each.{each_append}
 use Rattle.station.specs.AgwKinds.{connect_kind, data_kind, disconnect_kind, register_kind}
@@ -20,8 +20,8 @@ use Rattle.channel_bench.specs.declared.words.BenchWords.{BenchWords}
 use Rattle.channel_bench.specs.BenchOrder.{set_up_of}
 use Rattle.channel_bench.specs.BenchState.{SideState}
 use Rattle.channel_bench.specs.BenchSteps.{told_pieces}
-use Rattle.channel_bench.specs.HostProgram.{ProgramState, closing, getting, opening, set_ups_of, told as told_message,
-    told_all}
+use Rattle.channel_bench.specs.HostProgram.{ProgramState, closing, getting, opening, set_ups_of, told as told_message}
+use Rattle.channel_bench.specs.HostProgram.{told_all}
 use Rattle.channel_bench.specs.InFlight.{LinkFrame}
 use Rattle.channel_bench.specs.LinkSteps.{LinkStep}
 use Rattle.channel_bench.specs.RunsTell.{runs_behind, told_in}
@@ -34,8 +34,8 @@ use Rattle.channel_bench.proofs.LinkNow.{GivenUp}
 use Rattle.channel_bench.proofs.OwnLinks.{Cause, IsOwnFrame, OwnsAll, Says, cause_of, messages_of, own_pieces}
 use Rattle.channel_bench.proofs.OwnLinks.Cause.{connecting, disconnecting, sending}
 use Rattle.channel_bench.proofs.OwnMessages.{Replied}
-use Rattle.channel_bench.proofs.ProgramSees.{GaveAll, GivesNothing, Sees, items_asked, items_called, items_of,
-    pieces_told, told_items}
+use Rattle.channel_bench.proofs.ProgramSees.{GaveAll, GivesNothing, Sees, items_asked, items_called, items_of}
+use Rattle.channel_bench.proofs.ProgramSees.{pieces_told, told_items}
 use Rattle.channel_bench.proofs.Shorts.{GivesShort, IsSome, ShortStep}
 use Rattle.channel_bench.proofs.Tables.{not_both}
 use Rattle.channel_bench.proofs.ThereStays.{HasProgram, is_there}

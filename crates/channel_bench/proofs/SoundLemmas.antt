@@ -1,6 +1,6 @@
 -- What reaches the stations in a tick.
-use Rattle.std.proofs.Common.{◌≡◌, ◌-◌, Bool, true, false, ◌||◌, ◌&&◌, ℤ, pos, List, ◌++◌, length, replicate, not, cond,
-    sym, ap, ◌∙◌, subst, arith, length-append}
+use Rattle.std.proofs.Common.{◌≡◌, ◌-◌, Bool, true, false, ◌||◌, ◌&&◌, ℤ, pos, List, ◌++◌, length, replicate, not, cond}
+use Rattle.std.proofs.Common.{sym, ap, ◌∙◌, subst, arith, length-append}
 use Rattle.std.specs.Prelude.{All}
 use Rattle.frame_merge.specs.declared.candidate.Candidate.{Candidate}
 use Rattle.slicer_bank.specs.MergedItems.{AreMergedBetween}

@@ -1,6 +1,6 @@
 -- The table of links of a station, and the machine of the end that stands for its link between two calls.
-use Rattle.std.proofs.Common.{◌≡◌, ℕ, ◌<◌, Bool, true, false, ◌&&◌, length, cond, Option, Some, None, get_or, set, refl,
-    sym, ap, ◌∙◌, subst, arith}
+use Rattle.std.proofs.Common.{◌≡◌, ℕ, ◌<◌, Bool, true, false, ◌&&◌, length, cond, Option, Some, None, get_or, set, refl}
+use Rattle.std.proofs.Common.{sym, ap, ◌∙◌, subst, arith}
 use Rattle.std.specs.Bool.{⊤}
 use Rattle.std.specs.List.{AllByRecursion as Each}
 use Rattle.std.proofs.lemmas.Bool.{and_parts}
@@ -18,14 +18,14 @@ use Rattle.link_world.specs.Held.{IsCounting}
 use Rattle.link_world.proofs.StepGrowth.{step_keeps}
 use Rattle.station.specs.LinkEvents.{is_idle, settled_link}
 use Rattle.station.specs.Leaving.{without_owner}
-use Rattle.station.specs.Links.{Link, Links, IsNewKey, is_between, link_at, most_links, with_link, with_new_link,
-    without_link}
+use Rattle.station.specs.Links.{Link, Links, IsNewKey, is_between, link_at, most_links, with_link, with_new_link}
+use Rattle.station.specs.Links.{without_link}
 use Rattle.channel_bench.specs.LinkSteps.{Choice}
 use Rattle.channel_bench.specs.StationsLaw.{first_chosen, IsMachineOf}
 use Rattle.channel_bench.proofs.Addresses.{IsGoodPath}
 use Rattle.channel_bench.proofs.PathStays.{step_stays}
-use Rattle.channel_bench.proofs.Tables.{ChoosesOne, not_both, none_chosen, one_of_none, chosen_at, each_set, each_get,
-    other_first, other_one, chosen_set, chosen_goes, chosen_comes, none_of_first}
+use Rattle.channel_bench.proofs.Tables.{ChoosesOne, not_both, none_chosen, one_of_none, chosen_at, each_set, each_get}
+use Rattle.channel_bench.proofs.Tables.{other_first, other_one, chosen_set, chosen_goes, chosen_comes, none_of_first}
 
 -- a link whose path can be written, between its calls
 pub record IsGoodLink (params : Params) (link : Link) : Type 0 where
@@ -147,7 +147,7 @@ own_table params chosen links before key link now looks table at is good = go (i
 -- a place that is not chosen changes
 other_place :
     (params : Params) (chosen : Choice) (links : Links) (machine : Machine) (key : ℕ) (place : Option Link)
-        (freed : Option ℕ)
+    (freed : Option ℕ)
     → IsTable params chosen links machine → chosen (get_or links.places key None) ≡ false → chosen place ≡ false
     → IsGoodPlace params place
     → IsTable params chosen (record { places = set links.places key place; freed = freed }) machine
@@ -177,7 +177,7 @@ other_table params chosen links machine key link now looks table at is good = go
     go true = other_place params chosen links machine key None (Some key) table was looks.empty tt
     go false =
         other_place params chosen links machine key (Some next) links.freed table was (looks.calls link next refl refl
-            ∙ is) good
+        ∙ is) good
 
 -- a link that nobody owns any more
 pub owner_table :
@@ -222,7 +222,7 @@ pub made_table :
 made_table params chosen links before key link looks table new none is good =
     let within : key < length links.places = let low = new.within in let size = table.size in omega arith in
     let there = chosen_comes chosen links.places key (Some link) (none_of_first chosen links.places looks.empty none)
-        within is in
+    within is in
     record {
       size = length-set links.places key (Some link) ∙ table.size;
       good = each_set (IsGoodPlace params) links.places key (Some link) table.good good;

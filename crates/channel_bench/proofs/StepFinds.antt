@@ -5,8 +5,8 @@ use Rattle.std.specs.Prelude.{All}
 use Rattle.std.specs.List.{AllByRecursion as Each}
 use Rattle.std.proofs.lemmas.List.Elements.{All-from_recursion}
 use Rattle.link_machine.specs.Event.{Event as LinkEvent}
-use Rattle.link_machine.specs.Event.Event.{Connect as LinkConnect, Send as LinkSend, Disconnect as LinkDisconnect,
-    Hear as LinkHear, Tick as LinkTick}
+use Rattle.link_machine.specs.Event.Event.{Connect as LinkConnect, Send as LinkSend, Disconnect as LinkDisconnect}
+use Rattle.link_machine.specs.Event.Event.{Hear as LinkHear, Tick as LinkTick}
 use Rattle.link_machine.specs.Machine.{Machine}
 use Rattle.link_machine.specs.Step.{step as link_turn}
 use Rattle.link_world.specs.declared.end.End.{End}
@@ -26,11 +26,11 @@ use Rattle.channel_bench.specs.MatchedLaw.{pairs_in}
 use Rattle.channel_bench.specs.Words.{seed_at}
 use Rattle.channel_bench.proofs.BenchSees.{matched_front}
 use Rattle.channel_bench.proofs.ChainRun.{RunChain, run_chained}
-use Rattle.channel_bench.proofs.Chains.{AsksInSetUp, IsChain, OfLink, StandsAsked, asked_after, asked_behind,
-    asked_step, chain_asked, chain_parts, last_machine, made_like}
+use Rattle.channel_bench.proofs.Chains.{AsksInSetUp, IsChain, OfLink, StandsAsked, asked_after, asked_behind}
+use Rattle.channel_bench.proofs.Chains.{asked_step, chain_asked, chain_parts, last_machine, made_like}
 use Rattle.channel_bench.proofs.CoreRun.{Occurs, Usual, input_of, told_station}
-use Rattle.channel_bench.proofs.CoreRun.Usual.{connects, disconnects, gives, hears, joins_kiss, joins_program,
-    registers, sets_full, ticks}
+use Rattle.channel_bench.proofs.CoreRun.Usual.{connects, disconnects, gives, hears, joins_kiss, joins_program}
+use Rattle.channel_bench.proofs.CoreRun.Usual.{registers, sets_full, ticks}
 use Rattle.channel_bench.proofs.FindingRoom.{CalmIn, HearsCalm, TakesCall, usual_finds}
 use Rattle.channel_bench.proofs.HearsLittle.{asked_wishes}
 use Rattle.channel_bench.proofs.HostsStay.{HasHosts}

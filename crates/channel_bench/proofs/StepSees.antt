@@ -1,6 +1,6 @@
 -- A step of a bench keeps what its host programs have seen, by the laws of the link.
-use Rattle.std.proofs.Common.{◌≡◌, ℕ, Bool, true, false, List, [], ◌∷◌, ◌++◌, cond, Option, Some, None, is_some, refl,
-    sym, ap, ◌∙◌, subst, arith, inl, inr}
+use Rattle.std.proofs.Common.{◌≡◌, ℕ, Bool, true, false, List, [], ◌∷◌, ◌++◌, cond, Option, Some, None, is_some, refl}
+use Rattle.std.proofs.Common.{sym, ap, ◌∙◌, subst, arith, inl, inr}
 use Rattle.std.specs.Bool.{⊤}
 use Rattle.std.specs.Prelude.{MatchBool}
 use Rattle.std.specs.List.{AllByRecursion as Each}
@@ -19,8 +19,8 @@ use Rattle.link_world.specs.declared.end.End.TheVariants.{A, B}
 use Rattle.link_world.specs.World.{other}
 use Rattle.station.specs.declared.host_event.PortKind.TheVariants.{Kiss, Agw}
 use Rattle.station.specs.AgwKinds.{connect_kind, disconnect_kind}
-use Rattle.station.specs.AgwRequests.{IsCall, called_pid, called_route, may_call, own_key, refused_reply, replying,
-    IsCallMade}
+use Rattle.station.specs.AgwRequests.{IsCall, called_pid, called_route, may_call, own_key, refused_reply, replying}
+use Rattle.station.specs.AgwRequests.{IsCallMade}
 use Rattle.station.specs.Connections.{Connection}
 use Rattle.station.specs.Host.{taking}
 use Rattle.station.specs.Links.{Link}
@@ -32,22 +32,22 @@ use Rattle.channel_bench.specs.BenchOrder.{the_calls}
 use Rattle.channel_bench.specs.BenchState.{SideState}
 use Rattle.channel_bench.specs.BenchSteps.{program_id}
 use Rattle.channel_bench.specs.HostProgram.{ProgramState, request_between, told_all}
-use Rattle.channel_bench.specs.InFlight.{AreMatched, BothWays, IsMatched, IsMatchedIn, LinkFrame, Moment, OneWay,
-    after_moment, after_moments, hears_ask, nothing_sent, sent_by, steps_in}
+use Rattle.channel_bench.specs.InFlight.{AreMatched, BothWays, IsMatched, IsMatchedIn, LinkFrame, Moment, OneWay}
+use Rattle.channel_bench.specs.InFlight.{after_moment, after_moments, hears_ask, nothing_sent, sent_by, steps_in}
 use Rattle.channel_bench.specs.InFlight.Moment.{Steps}
 use Rattle.channel_bench.specs.JointRun.{IsTurn, Step, Stations, at_end}
 use Rattle.channel_bench.specs.JointRun.Input.{OffAir}
 use Rattle.channel_bench.specs.LinkOfCalls.{Calls, link_at_end}
-use Rattle.channel_bench.specs.LinkSteps.{Choice, LinkStep, call_steps, disconnect_steps, link_step, made_steps,
-    steps_for, steps_of, turn_steps}
+use Rattle.channel_bench.specs.LinkSteps.{Choice, LinkStep, call_steps, disconnect_steps, link_step, made_steps}
+use Rattle.channel_bench.specs.LinkSteps.{steps_for, steps_of, turn_steps}
 use Rattle.channel_bench.specs.LinksTell.{RunsIn}
 use Rattle.channel_bench.specs.RunsTell.{AllToldInOne, runs_behind, told_in}
 use Rattle.channel_bench.specs.SetUpsSeen.{link_steps_at, seen_by_all}
-use Rattle.channel_bench.proofs.Chains.{AsksInSetUp, HasSetUp, IsChain, StandsCalled, asked_append, asked_behind,
-    called_append, called_behind, made_by, made_of, told_append}
+use Rattle.channel_bench.proofs.Chains.{AsksInSetUp, HasSetUp, IsChain, StandsCalled, asked_append, asked_behind}
+use Rattle.channel_bench.proofs.Chains.{called_append, called_behind, made_by, made_of, told_append}
 use Rattle.channel_bench.proofs.CoreRun.{Usual, input_of}
-use Rattle.channel_bench.proofs.CoreRun.Usual.{connects, disconnects, gives, hears, joins_kiss, joins_program,
-    registers, sets_full, ticks}
+use Rattle.channel_bench.proofs.CoreRun.Usual.{connects, disconnects, gives, hears, joins_kiss, joins_program}
+use Rattle.channel_bench.proofs.CoreRun.Usual.{registers, sets_full, ticks}
 use Rattle.channel_bench.proofs.Framed.{framed}
 use Rattle.channel_bench.proofs.HostsStay.{HasHosts, IsHosts}
 use Rattle.channel_bench.proofs.LinkDid.{is_connect, is_disconnect}
@@ -59,8 +59,8 @@ use Rattle.channel_bench.proofs.OwnMessages.{IsHeardFrom, cause_in, said_go}
 use Rattle.channel_bench.proofs.ProgramSees.{GaveAll, Sees}
 use Rattle.channel_bench.proofs.ProgramsAsk.{between_written}
 use Rattle.channel_bench.proofs.Shorts.{GotShort, ShortStep, TellsShort, each_slice, steps_short}
-use Rattle.channel_bench.proofs.SideSees.{SideSees, asked_kept, asked_one, called_kept, called_one, each_map,
-    never_asks, seen_append, some_seen}
+use Rattle.channel_bench.proofs.SideSees.{SideSees, asked_kept, asked_one, called_kept, called_one, each_map}
+use Rattle.channel_bench.proofs.SideSees.{never_asks, seen_append, some_seen}
 use Rattle.channel_bench.proofs.Tables.{not_both}
 use Rattle.channel_bench.proofs.Ways.{queued_by}
 
@@ -217,7 +217,7 @@ disconnects_one e s after hosts turn =
     let m = request_between disconnect_kind e [] in
     said_go e m (begin s) (λ steps u. AtMostOne steps) (between_written disconnect_kind e [] (omega arith)) hosts
     (λ missing. tt) (λ u h. disconnect_one (chosen e)
-        (own_key program_id m (taking program_id (spelling m) (begin s)).now.links) _)
+    (own_key program_id m (taking program_id (spelling m) (begin s)).now.links) _)
     after turn
 
 -- ---- wishes and calls in a step
@@ -360,7 +360,7 @@ pub step_laws :
     (w : BenchWords) (e : End) (moments later : List Moment) (s : Stations) (side far : SideState) (p : ProgramState)
     (made : List LinkStep) → Known w later s → links_of e later ≡ links_of e moments ++ made
     → SeesAt w (other e) far later → Each GivenUp (links_of e moments ++ made)
-        → Each ShortStep (links_of e moments ++ made)
+    → Each ShortStep (links_of e moments ++ made)
     → Sees p (seen_by_all (links_of e moments) []) (runs_behind false (links_of e moments))
     → StepLaws e (links_of e moments) made
 step_laws w e moments later s side far p made known is far_sees given short sees =

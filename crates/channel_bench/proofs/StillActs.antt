@@ -1,6 +1,6 @@
 -- Acts that leave the state of a link and a wish to disconnect as they are, and that send I and S frames alone.
-use Rattle.std.proofs.Common.{◌≡◌, ℕ, ◌+◌, ◌==◌, ◌&&◌, nat_lt, not, Bool, true, false, List, [], ◌∷◌, ◌++◌, length, map,
-    cond, Option, Some, None, refl, sym, ap, ◌∙◌}
+use Rattle.std.proofs.Common.{◌≡◌, ℕ, ◌+◌, ◌==◌, ◌&&◌, nat_lt, not, Bool, true, false, List, [], ◌∷◌, ◌++◌, length, map}
+use Rattle.std.proofs.Common.{cond, Option, Some, None, refl, sym, ap, ◌∙◌}
 use Rattle.std.specs.List.{list_any}
 use Rattle.std.proofs.lemmas.Bool.{or_from, or_parts}
 use Rattle.std.proofs.lemmas.List.{append-nil, append_assoc}
@@ -10,17 +10,17 @@ use Rattle.selective_reject.specs.Places.{is_full, missing}
 use Rattle.selective_reject.specs.declared.packet.Packet.{Packet}
 use Rattle.selective_reject.specs.declared.window.Mode.{Mode}
 use Rattle.selective_reject.specs.declared.window.Mode.TheVariants.{Rej as RejMode, Srej as SrejMode}
-use Rattle.link_machine.specs.Acts.{acknowledged, answer_poll, ask, flush, give, gone_back, nothing_due, owing, poll,
-    recover, reject, respond_ready, run_with, send_again, send_packets, sent_packet, srej_for, stored, to_send,
-    with_rej}
-use Rattle.link_machine.specs.Frames.{acknowledged_by_srej, hear_info, hear_info_by, hear_info_by_rej,
-    hear_info_by_srej, hear_rej, hear_rnr, hear_rr, hear_srej, hear_supervisory, refuse_out_of_sequence,
-    take_in_sequence, take_selected, with_busy}
+use Rattle.link_machine.specs.Acts.{acknowledged, answer_poll, ask, flush, give, gone_back, nothing_due, owing, poll}
+use Rattle.link_machine.specs.Acts.{recover, reject, respond_ready, run_with, send_again, send_packets, sent_packet}
+use Rattle.link_machine.specs.Acts.{srej_for, stored, to_send, with_rej}
+use Rattle.link_machine.specs.Frames.{acknowledged_by_srej, hear_info, hear_info_by, hear_info_by_rej}
+use Rattle.link_machine.specs.Frames.{hear_info_by_srej, hear_rej, hear_rnr, hear_rr, hear_srej, hear_supervisory}
+use Rattle.link_machine.specs.Frames.{refuse_out_of_sequence, take_in_sequence, take_selected, with_busy}
 use Rattle.link_machine.specs.Machine.{Machine, ahead_of_vr}
 use Rattle.link_machine.specs.Sent.{Sent, SentIn, all_sent_in, infos_from, sent_in}
 use Rattle.link_machine.specs.Sent.Sent.{InfoSent, SetupSent, SuperSent}
-use Rattle.link_machine.specs.Ticks.{lowered, retried, runs_out, t2_out, t3_out, tick_t2_of, tick_t3_of, unretried,
-    with_t2, with_t3}
+use Rattle.link_machine.specs.Ticks.{lowered, retried, runs_out, t2_out, t3_out, tick_t2_of, tick_t3_of, unretried}
+use Rattle.link_machine.specs.Ticks.{with_t2, with_t3}
 use Rattle.link_machine.specs.Turn.{Turn, changing, setting}
 use Rattle.link_machine.specs.declared.state.LinkState.{LinkState}
 use Rattle.link_machine.specs.declared.state.LinkState.TheVariants.{Idle, Calling, Up, Releasing}

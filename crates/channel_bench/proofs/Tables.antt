@@ -1,6 +1,6 @@
 -- The one link of a table that is chosen, when a place of the table changes.
-use Rattle.std.proofs.Common.{◌≡◌, ℕ, zero, suc, ◌<◌, Bool, true, false, List, [], ◌∷◌, length, Option, None, get_or,
-    set, refl, sym, ap, ◌∙◌, arith}
+use Rattle.std.proofs.Common.{◌≡◌, ℕ, zero, suc, ◌<◌, Bool, true, false, List, [], ◌∷◌, length, Option, None, get_or}
+use Rattle.std.proofs.Common.{set, refl, sym, ap, ◌∙◌, arith}
 use Rattle.std.specs.Bool.{⊤}
 use Rattle.std.specs.List.{AllByRecursion as Each}
 use Rattle.std.proofs.lemmas.Bool.{cond-true, cond-false, false≢true}
@@ -67,12 +67,12 @@ each_get P (place ∷ places) (suc key) none h = each_get P places key none h.1
 -- a place of a link that is not chosen changes, and has none then
 pub other_first :
     (chosen : Choice) (places : List (Option Link)) (key : ℕ) (x : Option Link)
-        → chosen (get_or places key None) ≡ false
+    → chosen (get_or places key None) ≡ false
     → chosen x ≡ false → first_chosen chosen (set places key x) ≡ first_chosen chosen places
 other_first chosen [] key x was is = refl
 other_first chosen (place ∷ places) zero x was is =
     cond-false (chosen x) x (first_chosen chosen places) is
-        ∙ sym (cond-false (chosen place) place (first_chosen chosen places) was)
+    ∙ sym (cond-false (chosen place) place (first_chosen chosen places) was)
 other_first chosen (place ∷ places) (suc key) x was is = go (chosen place) refl (other_first chosen places key x was is)
   where
     go : (b : Bool) → chosen place ≡ b → first_chosen chosen (set places key x) ≡ first_chosen chosen places

@@ -1,8 +1,8 @@
 -- The frames that the links of a station have queued: each is a frame of the link between two calls, with its tags, or
 -- of
 -- another.
-use Rattle.std.proofs.Common.{◌≡◌, ℕ, suc, Bool, true, List, [], ◌∷◌, ◌++◌, length, map, Option, Some, None, refl, sym,
-    ap, ◌∙◌, subst, arith, inl, inr}
+use Rattle.std.proofs.Common.{◌≡◌, ℕ, suc, Bool, true, List, [], ◌∷◌, ◌++◌, length, map, Option, Some, None, refl, sym}
+use Rattle.std.proofs.Common.{ap, ◌∙◌, subst, arith, inl, inr}
 use Rattle.std.specs.Bool.{⊤}
 use Rattle.std.specs.List.{AllByRecursion as Each}
 use Rattle.std.proofs.lemmas.Bool.{and_parts}
@@ -113,7 +113,7 @@ own_more l r on f sent x first tag more = record {
 pub own_tags :
     (l r : Callsign) (on on_ask : Bool) (now : RecordedEnd) (sent : List SentIn) (first rest : List SentFrame)
     → (on_ask ≡ true → on ≡ true) → IsGoodPath now.machine.path → now.machine.path.source ≡ l
-        → now.machine.path.dest ≡ r → Each IsGood sent
+    → now.machine.path.dest ≡ r → Each IsGood sent
     → map (sent_frame now.machine.path) sent ≡ first ++ rest → OwnTags l r on (map (tagged on_ask now) sent) first
 own_tags l r on on_ask now sent [] rest caused good source dest all is =
     record { joined = []; lost = map (tagged on_ask now) sent; split = refl; count = refl; tags = tt }
@@ -148,7 +148,7 @@ other_frame l r path s good other = λ found len begins source dest.
     let frame = frame_of s.modulus path s.frame in
     let spelled = frame_spelled (modulus_named s.modulus) frame (good_in_role path s.frame good) in
     let same : found ≡ frame.path = (BeginsWithPath-same (frame_octets (modulus_named s.modulus) frame)
-        found frame.path len
+    found frame.path len
     (length (path_octets frame.path)) begins spelled.begins).0 in
     other (ap (λ (p : Path). p.source) (sym same) ∙ source) (ap (λ (p : Path). p.dest) (sym same) ∙ dest)
 

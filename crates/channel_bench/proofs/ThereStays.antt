@@ -1,7 +1,7 @@
 -- The connection of a host program of the bench: if the program is there, its station has the connection, which speaks
 -- for it.
-use Rattle.std.proofs.Common.{◌≡◌, ℕ, ◌==◌, ◌||◌, not, nat_lt, Bool, true, false, List, [], ◌∷◌, ◌++◌, length, cond,
-    Option, Some, is_some, refl, sym, ap, ◌∙◌, subst, arith, inl, inr}
+use Rattle.std.proofs.Common.{◌≡◌, ℕ, ◌==◌, ◌||◌, not, nat_lt, Bool, true, false, List, [], ◌∷◌, ◌++◌, length, cond}
+use Rattle.std.proofs.Common.{Option, Some, is_some, refl, sym, ap, ◌∙◌, subst, arith, inl, inr}
 use Rattle.std.specs.Prelude.{filter}
 use Rattle.std.specs.List.{list_any}
 use Rattle.std.proofs.lemmas.Bool.{or_cases}
@@ -27,15 +27,15 @@ use Rattle.channel_bench.specs.HostProgram.{call_at, full_duplex_octets, request
 use Rattle.channel_bench.specs.JointRun.{Input, IsTurn}
 use Rattle.channel_bench.specs.JointRun.Input.{FromHost}
 use Rattle.channel_bench.proofs.CoreRun.{Occurs, Usual, input_of}
-use Rattle.channel_bench.proofs.CoreRun.Usual.{connects, disconnects, gives, hears, joins_kiss, joins_program,
-    registers, sets_full, ticks}
+use Rattle.channel_bench.proofs.CoreRun.Usual.{connects, disconnects, gives, hears, joins_kiss, joins_program}
+use Rattle.channel_bench.proofs.CoreRun.Usual.{registers, sets_full, ticks}
 use Rattle.channel_bench.proofs.HostsStay.{HasHosts, IsSaid, IsSet, said_by, set_by}
 use Rattle.channel_bench.proofs.HostsStay.IsSaid.{said, unheard}
 use Rattle.channel_bench.proofs.HostsStay.IsSet.{full, unheard as alone}
 use Rattle.channel_bench.proofs.ProgramsAsk.{between_written, registers_written}
 use Rattle.channel_bench.proofs.Tables.{not_both}
-use Rattle.channel_bench.proofs.TurnWalks.{Kept, connect_kept, data_kept, disconnect_kept, heard_kept, kept_by_acts,
-    register_kept, ticks_kept}
+use Rattle.channel_bench.proofs.TurnWalks.{Kept, connect_kept, data_kept, disconnect_kept, heard_kept, kept_by_acts}
+use Rattle.channel_bench.proofs.TurnWalks.{register_kept, ticks_kept}
 
 -- the station has the connection
 abbrev pub HasProgram : StationState → Type 0
@@ -91,7 +91,7 @@ has_with id octets (c ∷ connections) = go (c.id == id) (has_with id octets con
 
     go : (b : Bool) → is_some rest ≡ is_some (connection_of program_id connections)
         → is_some (cond ((cond b (with_octets octets c) c).id == program_id) (Some (cond b (with_octets octets c) c))
-            rest)
+        rest)
         ≡ is_some (cond (c.id == program_id) (Some c) (connection_of program_id connections))
     go true same = inner (c.id == program_id) (with_octets octets c) same
     go false same = inner (c.id == program_id) c same
@@ -152,7 +152,7 @@ has_last (first ∷ connections) kind = go (first.id == program_id) (has_last co
   where
     go : (b : Bool) → is_some (connection_of program_id (connections ++ new_connection program_id kind ∷ [])) ≡ true
         → is_some (cond b (Some first) (connection_of program_id (connections ++ new_connection program_id kind ∷ [])))
-            ≡ true
+        ≡ true
     go true h = refl
     go false h = h
 
@@ -184,7 +184,7 @@ none_left (x ∷ there) = go (x == program_id) refl (none_left there)
   where
     go : (b : Bool) → (x == program_id) ≡ b → is_there (filter (λ y. not (y == program_id)) there) ≡ false
         → is_there (cond (not b) (x ∷ filter (λ y. not (y == program_id)) there)
-            (filter (λ y. not (y == program_id)) there))
+        (filter (λ y. not (y == program_id)) there))
         ≡ false
     go true is rest = rest
     go false is rest = ap (λ b. b || is_there (filter (λ y. not (y == program_id)) there)) is ∙ rest
@@ -193,7 +193,7 @@ none_left (x ∷ there) = go (x == program_id) refl (none_left there)
 kiss_there : (there : List ℕ) → is_there (there ++ kiss_id ∷ []) ≡ true → is_there there ≡ true
 kiss_there there is =
     elim (or_cases (is_there there) false (sym (list_any-append (λ other. other == program_id) there (kiss_id ∷ []))
-        ∙ is)) [
+    ∙ is)) [
       | inl here ↦ here
       | inr never ↦ absurd (cc)
     ]
@@ -240,7 +240,7 @@ pub there_grows :
 there_grows e joins_kiss s after there occurs h turn = joined_kiss s after there turn
 there_grows e sets_full s after there occurs h turn =
     stays_there s after there _ (stays_set s after (set_by (begin s) after h turn))
-        (λ none. ap (λ c. without_ids c there) none)
+    (λ none. ap (λ c. without_ids c there) none)
 there_grows e joins_program s after there occurs h turn = joined_program s after there turn
 there_grows e registers s after there occurs h turn =
     let from = call_field (call_at e) in

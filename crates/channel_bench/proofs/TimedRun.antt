@@ -1,6 +1,7 @@
 -- In a run of the bench each heard frame was in flight: part by part, tick by tick.
-use Rattle.std.proofs.Common.{◌≡◌, ℕ, zero, suc, ◌+◌, ◌-◌, ◌*◌, ◌≤◌, max, ◌==◌, ◌&&◌, nat_lt, nat_le, Bool, true, false,
-    ℤ, List, [], ◌∷◌, ◌++◌, length, map, cond, Option, None, refl, sym, ap, ◌∙◌, subst, arith, length-append}
+use Rattle.std.proofs.Common.{◌≡◌, ℕ, zero, suc, ◌+◌, ◌-◌, ◌*◌, ◌≤◌, max, ◌==◌, ◌&&◌, nat_lt, nat_le, Bool, true, false}
+use Rattle.std.proofs.Common.{ℤ, List, [], ◌∷◌, ◌++◌, length, map, cond, Option, None, refl, sym, ap, ◌∙◌, subst, arith}
+use Rattle.std.proofs.Common.{length-append}
 use Rattle.std.specs.Prelude.{MatchBool}
 use Rattle.std.specs.List.{AllByRecursion as Each, filter}
 use Rattle.std.proofs.lemmas.Bool.{leb-true}
@@ -20,27 +21,27 @@ use Rattle.channel_bench.specs.BenchOrder.{stations_of}
 use Rattle.channel_bench.specs.BenchRun.{AreTicks}
 use Rattle.channel_bench.specs.BenchState.{AtEnd, BenchState, Near, SideState, near, new_bench, with_near}
 use Rattle.channel_bench.specs.BenchSteps.{IsTicking, IsTold}
-use Rattle.channel_bench.specs.BenchTick.{ArePartsMade, AreReady, IsAsked, IsAskedOrCalled, IsCalled, IsGiven,
-    IsListening, IsPart, IsTick, Part, beginning, each_tick, is_complete, joins, sets_duplex, sets_full_duplex,
-    with_asking, with_calling}
+use Rattle.channel_bench.specs.BenchTick.{ArePartsMade, AreReady, IsAsked, IsAskedOrCalled, IsCalled, IsGiven}
+use Rattle.channel_bench.specs.BenchTick.{IsListening, IsPart, IsTick, Part, beginning, each_tick, is_complete, joins}
+use Rattle.channel_bench.specs.BenchTick.{sets_duplex, sets_full_duplex, with_asking, with_calling}
 use Rattle.channel_bench.specs.BenchTick.Part.{Tells, Gives, AsksOrCalls, Ticks, Sounds, Listens, Closes}
 use Rattle.channel_bench.specs.HostProgram.{next_piece}
-use Rattle.channel_bench.specs.InFlight.{AreMatched, BothWays, IsMatchedIn, LinkFrame, Moment, after_moment,
-    nothing_sent, sent_by, steps_in}
+use Rattle.channel_bench.specs.InFlight.{AreMatched, BothWays, IsMatchedIn, LinkFrame, Moment, after_moment}
+use Rattle.channel_bench.specs.InFlight.{nothing_sent, sent_by, steps_in}
 use Rattle.channel_bench.specs.InFlight.Moment.{Passes}
 use Rattle.channel_bench.specs.Sounding.{passed_below, sent_in, sounding, ticked}
 use Rattle.channel_bench.specs.Words.{text_at}
 use Rattle.channel_bench.proofs.ChannelOrder.{octets_of}
 use Rattle.channel_bench.proofs.CoreRun.{IsToldUsual, piece_short, told_as}
 use Rattle.channel_bench.proofs.CoreRun.Usual.{joins_kiss, sets_full, joins_program, registers, connects, disconnects}
-use Rattle.channel_bench.proofs.InTime.{WayHolds, matched_more, queued_is, way_closed, way_same, way_sounded,
-    ways_after}
+use Rattle.channel_bench.proofs.InTime.{WayHolds, matched_more, queued_is, way_closed, way_same, way_sounded}
+use Rattle.channel_bench.proofs.InTime.{ways_after}
 use Rattle.channel_bench.proofs.NotedRun.{moments_more, steps_passed}
 use Rattle.channel_bench.proofs.RunOfParts.{IsCalm, parted}
 use Rattle.channel_bench.proofs.SentInOrder.{InOrder, SentInTurn, order_kept, sent_at}
 use Rattle.channel_bench.proofs.Sounded.{sounded}
-use Rattle.channel_bench.proofs.TimedSteps.{AtBench, from_a, from_b, near_a, near_b, near_clock, near_given, near_heard,
-    near_host, near_told, part_at, HoldsThen}
+use Rattle.channel_bench.proofs.TimedSteps.{AtBench, from_a, from_b, near_a, near_b, near_clock, near_given, near_heard}
+use Rattle.channel_bench.proofs.TimedSteps.{near_host, near_told, part_at, HoldsThen}
 use Rattle.channel_bench.proofs.TowardsLemmas.{counted_within, each_passes, octets_at}
 
 -- nothing is pending, and the samples of this tick are not there yet

@@ -1,6 +1,6 @@
 -- What comes to pass at a station of a bench keeps both directions in order and in time.
-use Rattle.std.proofs.Common.{◌≡◌, ℕ, ◌+◌, ◌*◌, ◌≤◌, Bool, true, false, List, [], ◌∷◌, length, Option, Some, None, refl,
-    sym, ap, ◌∙◌, subst}
+use Rattle.std.proofs.Common.{◌≡◌, ℕ, ◌+◌, ◌*◌, ◌≤◌, Bool, true, false, List, [], ◌∷◌, length, Option, Some, None, refl}
+use Rattle.std.proofs.Common.{sym, ap, ◌∙◌, subst}
 use Rattle.std.specs.Prelude.{MatchBool}
 use Rattle.std.specs.List.{AllByRecursion as Each}
 use Rattle.channel_access.specs.declared.air_tick.Sent.{Sent}
@@ -14,8 +14,8 @@ use Rattle.station.specs.Ticks.{air_of}
 use Rattle.channel_bench.specs.declared.words.BenchWords.{BenchWords}
 use Rattle.channel_bench.specs.BenchOrder.{stations_of}
 use Rattle.channel_bench.specs.BenchState.{AtEnd, BenchState, Near, SideState, near, with_near}
-use Rattle.channel_bench.specs.BenchSteps.{AreHeardAt, GoesOn, IsHeardAs, IsHeardAt, IsStep, match_of, with_matched,
-    with_stray}
+use Rattle.channel_bench.specs.BenchSteps.{AreHeardAt, GoesOn, IsHeardAs, IsHeardAt, IsStep, match_of, with_matched}
+use Rattle.channel_bench.specs.BenchSteps.{with_stray}
 use Rattle.channel_bench.specs.BenchTick.{IsGivenPiece, with_giving}
 use Rattle.channel_bench.specs.HostProgram.{most_octets}
 use Rattle.channel_bench.specs.InFlight.{IsMatched, sent_by, steps_in}

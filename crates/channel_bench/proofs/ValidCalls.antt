@@ -1,12 +1,12 @@
 -- Calls that a host program names or a frame carries are calls, and their paths can be written.
-use Rattle.std.proofs.Common.{◌≡◌, ℕ, zero, suc, ◌+◌, ◌-◌, ◌==◌, take, drop, ◌*◌, ◌<◌, ◌≤◌, Bool, true, false, ◌&&◌,
-    nat_lt, nat_le, List, [], ◌∷◌, length, map, reverse, cond, if◌then◌else◌, Option, Some, None, get_or, refl, sym, ap,
-    ◌∙◌, subst, arith, inl, inr}
+use Rattle.std.proofs.Common.{◌≡◌, ℕ, zero, suc, ◌+◌, ◌-◌, ◌==◌, take, drop, ◌*◌, ◌<◌, ◌≤◌, Bool, true, false, ◌&&◌}
+use Rattle.std.proofs.Common.{nat_lt, nat_le, List, [], ◌∷◌, length, map, reverse, cond, if◌then◌else◌, Option, Some}
+use Rattle.std.proofs.Common.{None, get_or, refl, sym, ap, ◌∙◌, subst, arith, inl, inr}
 use Rattle.std.specs.Prelude.{find, position, is_none, option_map}
 use Rattle.std.specs.Bool.{⊤}
 use Rattle.std.specs.List.{range_with_len, list_all, position_or_len, AllByRecursion as Each}
-use Rattle.std.proofs.lemmas.Bool.{and_parts, cond-true, cond-false, false≢true, ltb-true, ltb-false, leb-true,
-    or_cases}
+use Rattle.std.proofs.lemmas.Bool.{and_parts, cond-true, cond-false, false≢true, ltb-true, ltb-false, leb-true}
+use Rattle.std.proofs.lemmas.Bool.{or_cases}
 use Rattle.std.proofs.lemmas.List.{length-map, length-reverse, get_or-reverse}
 use Rattle.std.proofs.lemmas.List.Sums.{fails_before_first, passes_at_first}
 use Rattle.std.proofs.lemmas.List.Elements.{All-from_recursion}
@@ -19,8 +19,8 @@ use Rattle.ax25_address.specs.declared.path.Path.{Path}
 use Rattle.ax25_address.specs.declared.path.Role.{Role}
 use Rattle.station.specs.CallFields.{is_call_character, is_name, told_ssid, named, call_of_text, call_in, field_text}
 use Rattle.station.specs.Links.{Link}
-use Rattle.station.specs.Routes.{Route, before_calls, calls_in, repeaters_in, route_of, route_in, waiting_hop,
-    path_along}
+use Rattle.station.specs.Routes.{Route, before_calls, calls_in, repeaters_in, route_of, route_in, waiting_hop}
+use Rattle.station.specs.Routes.{path_along}
 use Rattle.channel_bench.specs.LinkSteps.{Choice}
 use Rattle.channel_bench.proofs.Addresses.{IsGoodPath}
 use Rattle.channel_bench.proofs.Tables.{NotChosen}
@@ -231,7 +231,7 @@ none_by_position chosen places is =
   where
     past : (b : Bool) → nat_lt (position_or_len chosen places) (length places) ≡ b
         → is_none (cond b (Some (position_or_len chosen places)) None) ≡ true
-            → length places ≤ position_or_len chosen places
+        → length places ≤ position_or_len chosen places
     past true here e = absurd (false≢true e)
     past false here e = let high = ltb-false (position_or_len chosen places) (length places) here in omega arith
 

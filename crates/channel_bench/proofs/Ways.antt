@@ -1,13 +1,13 @@
 -- What a moment makes of the two directions: which frames are queued, and from which number on they are in flight.
-use Rattle.std.proofs.Common.{◌≡◌, ℕ, ◌+◌, ◌≤◌, Bool, List, [], ◌∷◌, ◌++◌, Option, Some, None, refl, sym, ap, ◌∙◌,
-    arith}
+use Rattle.std.proofs.Common.{◌≡◌, ℕ, ◌+◌, ◌≤◌, Bool, List, [], ◌∷◌, ◌++◌, Option, Some, None, refl, sym, ap, ◌∙◌}
+use Rattle.std.proofs.Common.{arith}
 use Rattle.std.proofs.Math.Nat.{le-max_left, le-max_right}
 use Rattle.std.proofs.lemmas.List.{append-nil, append_assoc}
 use Rattle.link_world.specs.declared.end.End.{End}
 use Rattle.link_world.specs.declared.end.End.TheVariants.{A, B}
 use Rattle.link_world.specs.World.{other}
-use Rattle.channel_bench.specs.InFlight.{LinkFrame, OneWay, BothWays, sent_by, with_front, with_queued, queueing_at,
-    queueing_all, hearing_at, after_moment}
+use Rattle.channel_bench.specs.InFlight.{LinkFrame, OneWay, BothWays, sent_by, with_front, with_queued, queueing_at}
+use Rattle.channel_bench.specs.InFlight.{queueing_all, hearing_at, after_moment}
 use Rattle.channel_bench.specs.InFlight.Moment.{Passes}
 use Rattle.channel_bench.specs.JointRun.{at_end}
 use Rattle.channel_bench.proofs.Framed.{one_framed, framed}
@@ -33,10 +33,10 @@ queueing_own A on [] ways = sym (joined_none ways.from_a)
 queueing_own B on [] ways = sym (joined_none ways.from_b)
 queueing_own A on (octets ∷ queue) ways =
     queueing_own A on queue (queueing_at A on octets ways)
-        ∙ joined_more (one_framed on octets) (framed on queue) ways.from_a
+    ∙ joined_more (one_framed on octets) (framed on queue) ways.from_a
 queueing_own B on (octets ∷ queue) ways =
     queueing_own B on queue (queueing_at B on octets ways)
-        ∙ joined_more (one_framed on octets) (framed on queue) ways.from_b
+    ∙ joined_more (one_framed on octets) (framed on queue) ways.from_b
 
 pub queueing_other :
     (e : End) (on : Bool) (queue : List (List ℕ)) (ways : BothWays)
@@ -74,7 +74,7 @@ stepped_own e on queue matched ways =
 pub stepped_other :
     (e : End) (on : Bool) (queue : List (List ℕ)) (matched : Option ℕ) (ways : BothWays)
     → sent_by (other e) (queueing_all e on queue (hearing_at e matched ways))
-        ≡ sent_by (other e) (hearing_at e matched ways)
+    ≡ sent_by (other e) (hearing_at e matched ways)
 stepped_other e on queue matched ways = queueing_other e on queue (hearing_at e matched ways)
 
 -- ---- queued
@@ -88,14 +88,14 @@ queued_by A A on queue matched ways = ap (λ (w : OneWay). w.queued) (stepped_ow
 queued_by B B on queue matched ways = ap (λ (w : OneWay). w.queued) (stepped_own B on queue matched ways)
 queued_by A B on queue matched ways =
     ap (λ (w : OneWay). w.queued) (stepped_other B on queue matched ways) ∙ heard_queued matched
-        ∙ sym (append-nil ways.from_a.queued)
+    ∙ sym (append-nil ways.from_a.queued)
   where
     heard_queued : (m : Option ℕ) → (sent_by A (hearing_at B m ways)).queued ≡ ways.from_a.queued
     heard_queued None = refl
     heard_queued (Some number) = refl
 queued_by B A on queue matched ways =
     ap (λ (w : OneWay). w.queued) (stepped_other A on queue matched ways) ∙ heard_queued matched
-        ∙ sym (append-nil ways.from_b.queued)
+    ∙ sym (append-nil ways.from_b.queued)
   where
     heard_queued : (m : Option ℕ) → (sent_by B (hearing_at A m ways)).queued ≡ ways.from_b.queued
     heard_queued None = refl

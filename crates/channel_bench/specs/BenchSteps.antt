@@ -2,8 +2,8 @@
 -- it is sent, and each frame that a link queues is in flight. A SABM, SABME or DISC that finds no quiet channel ends
 -- the
 -- run.
-use Rattle.std.specs.Prelude.{◌≡◌, ◌≢◌, ℕ, ◌+◌, ◌-◌, ◌==◌, nat_lt, ◌&&◌, Bool, IsTrue, ◌↔◌, MatchBool, if◌then◌else◌,
-    List, [], ◌∷◌, ◌++◌, length, All, Any, drop, position, Option, Some, None, option_map}
+use Rattle.std.specs.Prelude.{◌≡◌, ◌≢◌, ℕ, ◌+◌, ◌-◌, ◌==◌, nat_lt, ◌&&◌, Bool, IsTrue, ◌↔◌, MatchBool, if◌then◌else◌}
+use Rattle.std.specs.Prelude.{List, [], ◌∷◌, ◌++◌, length, All, Any, drop, position, Option, Some, None, option_map}
 use Rattle.std.specs.Str.{bytes_eq}
 use Rattle.frame_merge.specs.declared.candidate.Candidate.{Candidate}
 use Rattle.link_world.specs.declared.end.End.{End}
@@ -92,8 +92,14 @@ pub record IsStep (end : End) (input : Input) (matched : Option ℕ) (before aft
   pub makes : IsTurn input (begin before.side.station) turn
   pub octets : HasOctets input
   pub is : after ≡ stepped_near
-      (record { station = end; input = input; before = before.side.station; after = turn; turn = makes;
-          octets = octets })
+      (record {
+        station = end;
+        input = input;
+        before = before.side.station;
+        after = turn;
+        turn = makes;
+        octets = octets;
+      })
       matched before
 
 -- ---- what comes from hosts

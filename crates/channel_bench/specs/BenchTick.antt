@@ -1,6 +1,6 @@
 -- One tick of the bench, part by part: the hosts, the two stations, the channel, and what is heard.
-use Rattle.std.specs.Prelude.{◌≡◌, ℕ, ◌+◌, ◌==◌, ◌&&◌, not, Bool, true, IsTrue, ◌↔◌, MatchBool, if◌then◌else◌, List, [],
-    ◌∷◌, ◌++◌, length, ℤ, ◌-◌, Option, Some, None}
+use Rattle.std.specs.Prelude.{◌≡◌, ℕ, ◌+◌, ◌==◌, ◌&&◌, not, Bool, true, IsTrue, ◌↔◌, MatchBool, if◌then◌else◌, List, []}
+use Rattle.std.specs.Prelude.{◌∷◌, ◌++◌, length, ℤ, ◌-◌, Option, Some, None}
 use Rattle.frame_merge.specs.declared.candidate.Candidate.{Candidate}
 use Rattle.link_world.specs.declared.end.End.{End}
 use Rattle.link_world.specs.declared.end.End.TheVariants.{A, B}
@@ -11,8 +11,8 @@ use Rattle.station.specs.declared.host_event.PortKind.TheVariants.{Kiss, Agw}
 use Rattle.channel_bench.specs.declared.words.BenchWords.{BenchWords}
 use Rattle.channel_bench.specs.BenchState.{SideState, BenchState, Near, AtEnd}
 use Rattle.channel_bench.specs.BenchSteps.{program_id, MayCome, IsStep, IsTold, IsTicking, AreHeardAt, GoesOn}
-use Rattle.channel_bench.specs.HostProgram.{next_piece, giving, has_all, asking, waiting, calling, register_octets,
-    connect_octets, data_octets, disconnect_octets, full_duplex_octets}
+use Rattle.channel_bench.specs.HostProgram.{next_piece, giving, has_all, asking, waiting, calling, register_octets}
+use Rattle.channel_bench.specs.HostProgram.{connect_octets, data_octets, disconnect_octets, full_duplex_octets}
 use Rattle.channel_bench.specs.JointRun.Input.{FromHost}
 use Rattle.channel_bench.specs.Sounding.{mark_of, tick_samples, sounding, ticked}
 use Rattle.channel_bench.specs.Words.{text_at}

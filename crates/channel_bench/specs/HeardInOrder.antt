@@ -1,8 +1,8 @@
 -- Frames that are heard in the order in which they were sent, each once, and none that was not sent: one list of pairs
 -- for
 -- each direction, over all links.
-use Rattle.std.specs.Prelude.{◌≡◌, ◌≢◌, ℕ, ◌<◌, List, [], map, take, drop, All, AllPairs, Contains, slice_get, Some,
-    is_some}
+use Rattle.std.specs.Prelude.{◌≡◌, ◌≢◌, ℕ, ◌<◌, List, [], map, take, drop, All, AllPairs, Contains, slice_get, Some}
+use Rattle.std.specs.Prelude.{is_some}
 use Rattle.ax25_address.specs.FramePath.{BeginsWithPath, undone}
 use Rattle.ax25_address.specs.declared.path.Path.{Path}
 use Rattle.link_world.specs.declared.end.End.{End}

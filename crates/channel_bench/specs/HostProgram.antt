@@ -1,7 +1,7 @@
 -- A host program of the bench: what it knows of its set-ups, by what it does and is told. A set-up runs from the moment
 -- at which it is told C until it is told d (AGWPE).
-use Rattle.std.specs.Prelude.{ℕ, ◌==◌, nat_lt, ◌&&◌, Bool, true, false, if◌then◌else◌, List, [], ◌∷◌, ◌++◌, length,
-    take, drop, codes, Option, Some, None, option_map}
+use Rattle.std.specs.Prelude.{ℕ, ◌==◌, nat_lt, ◌&&◌, Bool, true, false, if◌then◌else◌, List, [], ◌∷◌, ◌++◌, length}
+use Rattle.std.specs.Prelude.{take, drop, codes, Option, Some, None, option_map}
 use Rattle.std.specs.Option.{option_to_list}
 use Rattle.ax25_address.specs.Callsign.{Callsign}
 use Rattle.agwpe_port.specs.CallField.{call_field}

@@ -4,8 +4,8 @@
 -- it is heard, a later one of its direction is heard, or it has passed the other station. So of each direction the
 -- frames
 -- from a number on are in flight.
-use Rattle.std.specs.Prelude.{◌≡◌, ℕ, ◌+◌, ◌≤◌, ◌%◌, ◌==◌, ◌||◌, ◌&&◌, max, not, Bool, false, if◌then◌else◌, List, [],
-    ◌∷◌, ◌++◌, length, drop, slice_get, Option, Some, None, IsTrue}
+use Rattle.std.specs.Prelude.{◌≡◌, ℕ, ◌+◌, ◌≤◌, ◌%◌, ◌==◌, ◌||◌, ◌&&◌, max, not, Bool, false, if◌then◌else◌, List, []}
+use Rattle.std.specs.Prelude.{◌∷◌, ◌++◌, length, drop, slice_get, Option, Some, None, IsTrue}
 use Rattle.std.specs.List.{list_any}
 use Rattle.link_world.specs.declared.end.End.{End}
 use Rattle.link_world.specs.declared.end.End.TheVariants.{A, B}

@@ -2,8 +2,8 @@
 -- program connects (AGWPE, C, v and c), sends (each packet of D), and disconnects (d, and when it leaves). A frame that
 -- is
 -- heard, and that passes every test on the way to a link, is an event of that link. A tick is one of each link.
-use Rattle.std.specs.Prelude.{◌≡◌, ℕ, ◌-◌, ◌==◌, Bool, true, false, if◌then◌else◌, List, [], ◌∷◌, ◌++◌, length, Option,
-    Some, None, MatchBool}
+use Rattle.std.specs.Prelude.{◌≡◌, ℕ, ◌-◌, ◌==◌, Bool, true, false, if◌then◌else◌, List, [], ◌∷◌, ◌++◌, length, Option}
+use Rattle.std.specs.Prelude.{Some, None, MatchBool}
 use Rattle.std.specs.List.{range_with_len}
 use Rattle.ax25_address.specs.FramePath.{way_back}
 use Rattle.ax25_address.specs.declared.path.Path.{Path}
@@ -19,11 +19,11 @@ use Rattle.station.specs.declared.host_event.HostEvent.TheVariants.{Joined, Byte
 use Rattle.station.specs.declared.host_event.PortKind.{PortKind}
 use Rattle.station.specs.declared.host_event.PortKind.TheVariants.{Kiss, Agw}
 use Rattle.station.specs.AgwKinds.{data_kind, disconnect_kind}
-use Rattle.station.specs.AgwRequests.{AreAnswered, IsCall, IsCallMade, replying, refused_reply, answering_else, calls,
-    called_route, called_pid, may_call, own_key, data_pid, packets_of, giving_packet}
+use Rattle.station.specs.AgwRequests.{AreAnswered, IsCall, IsCallMade, replying, refused_reply, answering_else, calls}
+use Rattle.station.specs.AgwRequests.{called_route, called_pid, may_call, own_key, data_pid, packets_of, giving_packet}
 use Rattle.station.specs.Connections.{Connection, connection_of}
-use Rattle.station.specs.Heard.{IsHeard, IsHeardBy, IsHeardAnew, IsHeardMaking, IsReadingHeardAnew, IsRepeatedFor,
-    AreHeardAt, AreOctetsHeard, may_make, shown_to_hosts, waits_for_repeater}
+use Rattle.station.specs.Heard.{IsHeard, IsHeardBy, IsHeardAnew, IsHeardMaking, IsReadingHeardAnew, IsRepeatedFor}
+use Rattle.station.specs.Heard.{AreHeardAt, AreOctetsHeard, may_make, shown_to_hosts, waits_for_repeater}
 use Rattle.station.specs.Host.{AreTaken, AreTakenBy, IsHostTurn, new_messages, taking}
 use Rattle.station.specs.Leaving.{giving_up, without_host, without_owner}
 use Rattle.station.specs.LinkEvents.{event_at, with_links}
@@ -143,7 +143,7 @@ else_steps chosen id message turn =
 abbrev pub answer_steps :
     Choice → (id : ℕ) → (message : AgwMessage) → (calling : Bool) → (before after : Turn)
     → MatchBool calling (IsCall id message (called_route message) before after)
-        (after ≡ answering_else id message before)
+    (after ≡ answering_else id message before)
     → List LinkStep
 answer_steps chosen id message true before after h = call_steps chosen id message (called_route message) before after h
 answer_steps chosen id message false before after h = else_steps chosen id message before
@@ -169,7 +169,7 @@ abbrev pub octet_steps_by :
 octet_steps_by chosen Kiss connection octets before after h = []
 octet_steps_by chosen Agw connection octets before after h =
     message_steps chosen connection.id (new_messages connection.stream octets) (taking connection.id octets before)
-        h.0 h.1
+    h.0 h.1
     ++ ending_steps chosen connection.id (bad_length_in (connection.stream ++ octets)) h.0
 
 abbrev pub octet_steps :

@@ -28,7 +28,7 @@ of_links id pieces = filter (is_of_link id) pieces
 abbrev pub told_by : ℕ → LinkStep → List Piece
 told_by id step =
     of_links id (pieces_to step.link.owner step.link.local step.link.remote
-        (link_turn step.link.machine step.event).told)
+    (link_turn step.link.machine step.event).told)
 
 -- a connection of that id speaks AGWPE
 abbrev pub SpeaksAgwpe : ℕ → StationState → Type 0

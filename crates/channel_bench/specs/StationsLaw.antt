@@ -11,8 +11,8 @@ use Rattle.station.specs.Links.{Link}
 use Rattle.channel_bench.specs.JointRun.{Step, Stations, new_stations, IsJointRun, all_stepped}
 use Rattle.channel_bench.specs.LinkSteps.{Choice}
 use Rattle.channel_bench.specs.HeardInOrder.{AreHeardInOrder}
-use Rattle.channel_bench.specs.LinkOfCalls.{Calls, Pairs, link_at_end, changes_of, first_world, world_of,
-    FollowsThrough, IsQuietLink}
+use Rattle.channel_bench.specs.LinkOfCalls.{Calls, Pairs, link_at_end, changes_of, first_world, world_of}
+use Rattle.channel_bench.specs.LinkOfCalls.{FollowsThrough, IsQuietLink}
 
 -- the link that is meant, if the station has it: the first one that is chosen
 abbrev pub first_chosen : Choice → List (Option Link) → Option Link

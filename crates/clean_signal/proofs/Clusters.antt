@@ -1,7 +1,7 @@
 -- Merging when candidates lie in clusters: equal octets and ends at most 15 apart, each cluster more than 15 after the
 -- one before. One candidate of each cluster remains.
-use Rattle.std.proofs.Common.{◌≡◌, ℕ, ◌+◌, ◌<◌, ◌≤◌, Bool, true, false, List, [], ◌∷◌, ◌++◌, map, refl, ap, sym, ◌∙◌,
-    arith, inl, inr}
+use Rattle.std.proofs.Common.{◌≡◌, ℕ, ◌+◌, ◌<◌, ◌≤◌, Bool, true, false, List, [], ◌∷◌, ◌++◌, map, refl, ap, sym, ◌∙◌}
+use Rattle.std.proofs.Common.{arith, inl, inr}
 use Rattle.std.specs.Prelude.{◌⊎◌, nat_le, ◌||◌, ◌&&◌}
 use Rattle.std.specs.List.{AllByRecursion, list_any}
 use Rattle.std.specs.Str.{bytes_eq}
@@ -76,7 +76,7 @@ repeats_last c item earlier before narrow first second =
     let low = first.low in
     let high = second.high in
     let octets : bytes_eq earlier.octets item.octets ≡ true =
-        (bytes_eq-Decides earlier.octets item.octets).1 (first.octets ∙ sym second.octets) in
+    (bytes_eq-Decides earlier.octets item.octets).1 (first.octets ∙ sym second.octets) in
     let near : nat_le item.end (earlier.end + 15) ≡ true = le-leb item.end (earlier.end + 15) (omega arith) in
     let one : list_any (repeats item) (earlier ∷ []) ≡ true = rw (octets, near) refl in
     list_any-append (repeats item) before (earlier ∷ [])
@@ -94,7 +94,7 @@ repeats_none item place (earlier ∷ before) below far =
     let end : earlier.end ≤ place = below.0 in
     let late : nat_le item.end (earlier.end + 15) ≡ false = lt-leb item.end (earlier.end + 15) (omega arith) in
     let not : repeats item earlier ≡ false = ap (λ b. bytes_eq earlier.octets item.octets && b) late
-        ∙ and_false (bytes_eq earlier.octets item.octets) in
+    ∙ and_false (bytes_eq earlier.octets item.octets) in
     ap (λ b. b || list_any (repeats item) before) not ∙ repeats_none item place before below.1 far
 
 -- ---- places
@@ -111,8 +111,12 @@ later_end : (place : ℕ) (cs : List Cluster) (item : Candidate) → AreApart pl
     → place + 15 < item.end
 later_end place [] item apart is = absurd is
 later_end place (c ∷ cs) item apart (inl is) = omega (arith, apart.0.far, is.low)
-later_end place (c ∷ cs) item apart (inr is) = omega (arith, apart.0.far, apart.0.rising,
-    later_end c.high cs item apart.1 is)
+later_end place (c ∷ cs) item apart (inr is) = omega (
+  arith,
+  apart.0.far,
+  apart.0.rising,
+  later_end c.high cs item apart.1 is,
+)
 
 -- an item that ends early is in no cluster to come
 has_one_later : (item : Candidate) (items : List Candidate) (c : Cluster) → item.end < c.low → HasOne (item ∷ items) c
@@ -187,7 +191,7 @@ abbrev pub Keeps : List Candidate → Type 0
 Keeps items =
     (before : List Candidate) (place from : ℕ) (cs : List Cluster)
     → Below place before → Rising from items → Known before place cs items → AreApart place cs
-        → AllByRecursion (HasOne items) cs
+    → AllByRecursion (HasOne items) cs
     → map (λ item. item.octets) (merged_after before items) ≡ map (λ c. c.octets) cs
 
 keeps_nil : Keeps []
@@ -210,9 +214,9 @@ keeps_cons item items rest before place from (c ∷ cs) below rising known apart
     by_first (inl old) =
         left_out item items before (c.octets ∷ map (λ c. c.octets) cs) old.1
         (rest (before ++ item ∷ []) place item.end (c ∷ cs)
-            (below_more place place before item (omega arith) below old.0)
+        (below_more place place before item (omega arith) below old.0)
         rising.1 (known_kept before place (c ∷ cs) item items known.1) apart
-            (have_one_later item items place (c ∷ cs) old.0 apart has))
+        (have_one_later item items place (c ∷ cs) old.0 apart has))
     by_first (inr (inl is)) =
         kept item items before c.octets (map (λ c. c.octets) cs)
         (repeats_none item place before below (omega (arith, apart.0.far, is.low))) is.octets
@@ -222,7 +226,7 @@ keeps_cons item items rest before place from (c ∷ cs) below rising known apart
         (have_one_later item items c.high cs is.high apart.1 has.1))
     by_first (inr (inr later)) =
         absurd (none_behind (item ∷ items) item.end c (omega (arith, later_end c.high cs item apart.1 later))
-            (omega arith, rising.1) has.0)
+        (omega arith, rising.1) has.0)
 
 pub merge_keeps : (items : List Candidate) → Keeps items
 merge_keeps [] = keeps_nil

@@ -1,6 +1,6 @@
 -- The true ends of transmissions: how far apart, with which frames, and those of one transmission more.
-use Rattle.std.proofs.Common.{◌≡◌, ℕ, zero, suc, ◌+◌, ◌-◌, ◌*◌, ◌≤◌, Bool, true, false, List, [], ◌∷◌, ◌++◌, length,
-    map, refl, ap, sym, ◌∙◌, arith, length-append, append_assoc, append-nil}
+use Rattle.std.proofs.Common.{◌≡◌, ℕ, zero, suc, ◌+◌, ◌-◌, ◌*◌, ◌≤◌, Bool, true, false, List, [], ◌∷◌, ◌++◌, length}
+use Rattle.std.proofs.Common.{map, refl, ap, sym, ◌∙◌, arith, length-append, append_assoc, append-nil}
 use Rattle.std.specs.List.{AllByRecursion}
 use Rattle.std.proofs.lemmas.List.{map-append}
 use Rattle.std.proofs.lemmas.List.Concat.{flat_map-cons, flat_map-append}
@@ -63,9 +63,9 @@ spaced (t ∷ transmissions) begin place le fits =
     let good : IsTransmission t = fits.0 in
     let body = length-body t.frames t.opening t.closing good.closing in
     spaced_frames t.frames (begin + t.silence + 64 * t.opening) place
-        (true_ends_from (begin + sample_count t) transmissions) (omega arith)
+    (true_ends_from (begin + sample_count t) transmissions) (omega arith)
     (recursion_from_All IsFrame t.frames good.frames)
-        (λ n l. spaced transmissions (begin + sample_count t) n (omega arith) fits.1)
+    (λ n l. spaced transmissions (begin + sample_count t) n (omega arith) fits.1)
 
 -- ---- with which frames
 
@@ -79,7 +79,7 @@ octets-true_ends_from [] begin = refl
 octets-true_ends_from (t ∷ transmissions) begin =
     map-append (λ e. e.octets) (ends_of begin t) (true_ends_from (begin + sample_count t) transmissions)
     ∙ ap (λ os. os ++ map (λ e. e.octets) (true_ends_from (begin + sample_count t) transmissions))
-        (octets-ends_from t.frames (begin + t.silence + 64 * t.opening))
+    (octets-ends_from t.frames (begin + t.silence + 64 * t.opening))
     ∙ ap (λ os. t.frames ++ os) (octets-true_ends_from transmissions (begin + sample_count t))
     ∙ sym (flat_map-cons (λ t. t.frames) t transmissions)
 
@@ -87,19 +87,19 @@ octets-true_ends_from (t ∷ transmissions) begin =
 
 true_ends_from-push : (transmissions : List Transmission) (t : Transmission) (begin : ℕ)
     → true_ends_from begin (transmissions ++ t ∷ []) ≡ true_ends_from begin transmissions
-        ++ ends_of (begin + length (signal transmissions)) t
+    ++ ends_of (begin + length (signal transmissions)) t
 unfolding signal
 true_ends_from-push [] t begin = append-nil (ends_of begin t) ∙ ap (λ n. ends_of n t) (omega arith)
 true_ends_from-push (first ∷ transmissions) t begin =
     let size : length (signal (first ∷ transmissions)) ≡ sample_count first + length (signal transmissions)
     = ap length (flat_map-cons samples_of first transmissions) ∙ length-append (samples_of first) (signal transmissions)
-        ∙ ap (λ n. n + length (signal transmissions)) (length-samples_of first) in
+    ∙ ap (λ n. n + length (signal transmissions)) (length-samples_of first) in
     let at : (begin + sample_count first) + length (signal transmissions)
-        ≡ begin + length (signal (first ∷ transmissions)) = omega arith in
+    ≡ begin + length (signal (first ∷ transmissions)) = omega arith in
     ap (λ ends. ends_of begin first ++ ends) (true_ends_from-push transmissions t (begin + sample_count first))
     ∙ ap (λ n. ends_of begin first ++ (true_ends_from (begin + sample_count first) transmissions ++ ends_of n t)) at
     ∙ sym (append_assoc (ends_of begin first) (true_ends_from (begin + sample_count first) transmissions)
-        (ends_of (begin + length (signal (first ∷ transmissions))) t))
+    (ends_of (begin + length (signal (first ∷ transmissions))) t))
 
 -- the true ends of one transmission more: those before, and its own from where the signal ended
 pub true_ends-push : (transmissions : List Transmission) (t : Transmission)
@@ -119,6 +119,11 @@ pub single_end : (silence opening closing begin : ℕ) (octets : List ℕ) → 1
     ≡ begin + sample_count (record { silence = silence; frames = octets ∷ []; opening = opening; closing = closing })
 unfolding body
 single_end silence opening closing begin octets some =
-    omega (arith, length-append (flags opening) (frame_bits octets ++ flags closing),
-        length-append (frame_bits octets) (flags closing), length-append (frame_bits octets) flag, length-flags opening,
-        length-flags closing)
+    omega (
+      arith,
+      length-append (flags opening) (frame_bits octets ++ flags closing),
+      length-append (frame_bits octets) (flags closing),
+      length-append (frame_bits octets) flag,
+      length-flags opening,
+      length-flags closing,
+    )

@@ -19,8 +19,12 @@ abbrev shortest : List ℕ
 shortest = 0x9C ∷ 0x94 ∷ 0x6E ∷ 0xA0 ∷ 0x40 ∷ 0x40 ∷ 0xE0 ∷ 0x9C ∷ 0x6E ∷ 0x98 ∷ 0x8A ∷ 0x9A ∷ 0x40 ∷ 0x61 ∷ 0x3F ∷ []
 
 abbrev sent : ℕ → List (List ℕ) → ℕ → ℕ → Transmission
-sent silence frames opening closing = record { silence = silence; frames = frames; opening = opening;
-    closing = closing }
+sent silence frames opening closing = record {
+  silence = silence;
+  frames = frames;
+  opening = opening;
+  closing = closing;
+}
 
 abbrev ends_at : ℕ → TrueEnd
 ends_at end = record { end = end; octets = shortest }

@@ -1,7 +1,7 @@
 -- The law of signals near a clean one: from the candidates of the samples to clusters of them, and from there to the
 -- frames.
-use Rattle.std.proofs.Common.{◌≡◌, ℕ, zero, suc, ◌+◌, ◌-◌, ◌<◌, ℤ, true, List, [], ◌∷◌, get_or, map, refl, ap, sym,
-    subst, ◌∙◌, arith, inl, inr}
+use Rattle.std.proofs.Common.{◌≡◌, ℕ, zero, suc, ◌+◌, ◌-◌, ◌<◌, ℤ, true, List, [], ◌∷◌, get_or, map, refl, ap, sym}
+use Rattle.std.proofs.Common.{subst, ◌∙◌, arith, inl, inr}
 use Rattle.std.specs.Prelude.{nat_lt, ◌&&◌}
 use Rattle.std.specs.List.{All, AllPairs, AllByRecursion, Contains}
 use Rattle.std.specs.Str.{bytes_eq}
@@ -42,7 +42,7 @@ apart (e ∷ ends) place spaces =
 is_in : (item : Candidate) (e : TrueEnd) → is_of item e ≡ true → IsIn (cluster_of e) item
 is_in item e is =
     let parts = and_parts (bytes_eq item.octets e.octets) (nat_lt item.end (e.end + 8) && nat_lt e.end (item.end + 8))
-        is in
+    is in
     let near = and_parts (nat_lt item.end (e.end + 8)) (nat_lt e.end (item.end + 8)) parts.1 in
     let soon : item.end < e.end + 8 = ltb-true item.end (e.end + 8) near.0 in
     let late : e.end < item.end + 8 = ltb-true e.end (item.end + 8) near.1 in
@@ -52,14 +52,16 @@ in_one : (item : Candidate) (ends : List TrueEnd) → is_sent ends item ≡ true
 in_one item [] is = cc
 in_one item (e ∷ ends) is =
     elim (or_cases (is_of item e) (is_sent ends item) is)
-        [ inl here ↦ inl (is_in item e here) | inr later ↦ inr (in_one item ends later) ]
+    [ inl here ↦ inl (is_in item e here) | inr later ↦ inr (in_one item ends later) ]
 
 -- if each item is in a cluster, all are known
 pub all_known : (items : List Candidate) (place : ℕ) (cs : List Cluster) → All (λ item. IsInOne cs item) items
     → Known [] place cs items
 all_known [] place cs all = tt
-all_known (item ∷ items) place cs all = (inr (All-head (λ i. IsInOne cs i) item items all),
-    all_known items place cs (All-tail (λ i. IsInOne cs i) item items all))
+all_known (item ∷ items) place cs all = (
+  inr (All-head (λ i. IsInOne cs i) item items all),
+  all_known items place cs (All-tail (λ i. IsInOne cs i) item items all),
+)
 
 -- ---- each cluster has a candidate
 
@@ -120,7 +122,7 @@ carried_law sent x good carries no_stray items are =
     let fits : AllByRecursion IsTransmission sent = recursion_from_All IsTransmission sent good in
     let cs : List Cluster = map cluster_of (true_ends sent) in
     let known : All (λ item. IsInOne cs item) items = λ k d l. in_one (get_or items k d) (true_ends sent)
-        (no_stray (get_or items k d) (are.each k d l).0) in
+    (no_stray (get_or items k d) (are.each k d l).0) in
     let small : All (λ item. item.offset < 256) items = λ k d l. let eight = (are.each k d l).0.offset in omega arith in
     merge_keeps items [] 7 0 cs tt (rising items are.order small) (all_known items 7 cs known)
     (apart (true_ends sent) 0 (spaced sent 0 0 (omega arith) fits))
@@ -134,7 +136,7 @@ pub near_law : (received : List Received) (x : List ℤ) → All IsReceived rece
 near_law received x good near no_stray =
     let fits : AllByRecursion IsReceived received = recursion_from_All IsReceived received good in
     carried_law (transmissions_of received) x (all_transmissions received fits) (near_carries received x fits near)
-        no_stray
+    no_stray
 
 -- so does the signal at a level
 pub level_law : (level : ℕ) (sent : List Transmission) → IsLevel level → All IsTransmission sent

@@ -1,6 +1,6 @@
 -- Samples near a signal carry its transmissions, and a signal at a level is near its own.
-use Rattle.std.proofs.Common.{◌≡◌, ℕ, ◌*◌, ◌/◌, ◌<◌, ◌≤◌, ℤ, pos, List, [], ◌∷◌, ◌++◌, length, map, get_or, replicate,
-    refl, ap, sym, subst, ◌∙◌, arith, append_assoc}
+use Rattle.std.proofs.Common.{◌≡◌, ℕ, ◌*◌, ◌/◌, ◌<◌, ◌≤◌, ℤ, pos, List, [], ◌∷◌, ◌++◌, length, map, get_or, replicate}
+use Rattle.std.proofs.Common.{refl, ap, sym, subst, ◌∙◌, arith, append_assoc}
 use Rattle.std.specs.List.{All, AllByRecursion}
 use Rattle.std.proofs.lemmas.List.Elements.{recursion_from_All}
 use Rattle.std.proofs.lemmas.List.{length-map, length-replicate, get_or-map}
@@ -58,7 +58,7 @@ at_level-near level w least = record {
   size = length-at_level level w;
   close = λ i below.
       let same : distance level (get_or w i (pos 0)) (sample_at level (get_or w i (pos 0)))
-          ≡ distance level (get_or w i (pos 0)) (get_or (map (sample_at level) w) i (pos 0))
+      ≡ distance level (get_or w i (pos 0)) (get_or (map (sample_at level) w) i (pos 0))
       = ap (distance level (get_or w i (pos 0))) (sym (get_or-map (sample_at level) w i (pos 0) (pos 0) below)) in
       omega (arith, same, sample_at-close level (get_or w i (pos 0)));
 }
@@ -126,4 +126,4 @@ signal_at-carries level transmissions fits good =
     subst (λ ts. CarriesAll ts (signal_at level transmissions)) (transmissions_of-sent_at level transmissions)
     (near_carries (sent_at level transmissions) (signal_at level transmissions)
     (sent_at-good level transmissions fits (recursion_from_All IsTransmission transmissions good))
-        (signal_at-near level transmissions fits.least))
+    (signal_at-near level transmissions fits.least))

@@ -1,6 +1,6 @@
 -- The samples of a wave and of a signal: how many, and each by its place.
-use Rattle.std.proofs.Common.{◌≡◌, ℕ, zero, suc, ◌+◌, ◌-◌, ◌*◌, ◌%◌, ◌<◌, ℤ, pos, List, [], ◌∷◌, ◌++◌, length, get_or,
-    take, replicate, refl, ap, ◌∙◌, arith, length-append, append-nil}
+use Rattle.std.proofs.Common.{◌≡◌, ℕ, zero, suc, ◌+◌, ◌-◌, ◌*◌, ◌%◌, ◌<◌, ℤ, pos, List, [], ◌∷◌, ◌++◌, length, get_or}
+use Rattle.std.proofs.Common.{take, replicate, refl, ap, ◌∙◌, arith, length-append, append-nil}
 use Rattle.std.proofs.lemmas.List.{get_or_append_left, get_or-append_right, length-replicate}
 use Rattle.std.proofs.lemmas.List.Concat.{flat_map-append}
 use Rattle.std.proofs.lemmas.List.FromFn.{get_or-map-range_with_len}
@@ -21,8 +21,12 @@ use Rattle.clean_signal.specs.WavePlace.{phase_at}
 pub length-wave_from : (phase : ℕ) (tones : List Tone) → length (wave_from phase tones) ≡ 8 * length tones
 length-wave_from phase [] = refl
 length-wave_from phase (tone ∷ tones) =
-    omega (arith, length-append (pure_window phase tone) (wave_from (next_phase phase tone) tones),
-        length-pure_window phase tone, length-wave_from (next_phase phase tone) tones)
+    omega (
+      arith,
+      length-append (pure_window phase tone) (wave_from (next_phase phase tone) tones),
+      length-pure_window phase tone,
+      length-wave_from (next_phase phase tone) tones,
+    )
 
 -- ---- by place
 
@@ -51,11 +55,11 @@ wave_from-place (tone ∷ tones) phase (suc j) i within below =
     let at : (8 * suc j + i) - 8 ≡ 8 * j + i = omega arith in
     let sum = sum_by-cons phase_step tone (take j tones) in
     get_or-append_right (pure_window phase tone) (wave_from (next_phase phase tone) tones) 8 (8 * suc j + i) (pos 0)
-        (length-pure_window phase tone) (omega arith)
+    (length-pure_window phase tone) (omega arith)
     ∙ ap (λ n. get_or (wave_from (next_phase phase tone) tones) n (pos 0)) at
     ∙ wave_from-place tones (next_phase phase tone) j i (omega arith) below
     ∙ wave_sample-mod (next_phase phase tone + phase_at tones j i) (phase + phase_at (tone ∷ tones) (suc j) i)
-        (omega arith)
+    (omega arith)
 
 pub wave_place : (tones : List Tone) (j i : ℕ) → j < length tones → i < 8
     → get_or (wave tones) (8 * j + i) (pos 0) ≡ wave_sample (phase_at tones j i)
@@ -66,8 +70,13 @@ wave_place tones j i within below = wave_from-place tones 0 j i within below ∙
 pub length-samples_of : (t : Transmission) → length (samples_of t) ≡ sample_count t
 unfolding transmission
 length-samples_of t =
-    omega (arith, length-append (replicate t.silence (pos 0)) (wave (line (body_of t))),
-        length-replicate t.silence (pos 0), length-wave_from 0 (line (body_of t)), length-line_from Mark (body_of t))
+    omega (
+      arith,
+      length-append (replicate t.silence (pos 0)) (wave (line (body_of t))),
+      length-replicate t.silence (pos 0),
+      length-wave_from 0 (line (body_of t)),
+      length-line_from Mark (body_of t),
+    )
 
 -- one transmission more
 pub signal-push : (transmissions : List Transmission) (t : Transmission)
@@ -75,4 +84,4 @@ pub signal-push : (transmissions : List Transmission) (t : Transmission)
 unfolding signal
 signal-push transmissions t =
     flat_map-append samples_of transmissions (t ∷ [])
-        ∙ ap (λ xs. signal transmissions ++ xs) (append-nil (samples_of t))
+    ∙ ap (λ xs. signal transmissions ++ xs) (append-nil (samples_of t))

@@ -1,6 +1,6 @@
 -- Whose turn it is.
-use Rattle.std.proofs.Common.{◌≡◌, ℕ, ◌<◌, true, false, not, List, length, get_or, sym, refl, ap, ◌∙◌, arith, inl, inr,
-    subst, [], Bool, Result, Ok}
+use Rattle.std.proofs.Common.{◌≡◌, ℕ, ◌<◌, true, false, not, List, length, get_or, sym, refl, ap, ◌∙◌, arith, inl, inr}
+use Rattle.std.proofs.Common.{subst, [], Bool, Result, Ok}
 use Rattle.std.proofs.lemmas.Bool.{cases_lt, false≢true}
 use Rattle.ax25_address.specs.Callsign.{Callsign}
 use Rattle.ax25_address.specs.SameCall.{is_same_call, is_same_call-Decides}
@@ -39,9 +39,10 @@ pub turn_of_read : (call : Callsign) (octets : List ℕ) (path : Path) (len k : 
     → IsNextRepeater hops k × ((d : Hop) → (get_or hops k d).call ≡ call)
 turn_of_read call octets path len k hops items each turn =
     let e : turn.path.repeaters.items ≡ hops = ap (λ (p : Path). p.repeaters.items)
-        (sym (same_read path turn.path len turn.len (each turn.path turn.len turn.begins))) ∙ sym items in
-    (subst (λ (xs : List Hop). IsNextRepeater xs k) e turn.next,
-        λ d. ap (λ (xs : List Hop). (get_or xs k d).call) (sym e) ∙ turn.called d)
+    (sym (same_read path turn.path len turn.len (each turn.path turn.len turn.begins))) ∙ sym items in (
+      subst (λ (xs : List Hop). IsNextRepeater xs k) e turn.next,
+      λ d. ap (λ (xs : List Hop). (get_or xs k d).call) (sym e) ∙ turn.called d,
+    )
 
 -- a call that `!=` tells apart is another
 pub other_call : (a b : Callsign) → not (is_same_call a b) ≡ true → a ≡ b → ⊥

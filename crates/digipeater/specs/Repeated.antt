@@ -1,7 +1,7 @@
 -- A repeated frame, after AX.25 2.2 section 3.12: each repeater of the path, in its turn, sets the H bit of its own
 -- field.
-use Rattle.std.specs.Prelude.{◌≡◌, ℕ, ◌+◌, ◌*◌, ◌<◌, true, false, List, length, slice_index, slice_index_or, slice_set,
-    bit_or}
+use Rattle.std.specs.Prelude.{◌≡◌, ℕ, ◌+◌, ◌*◌, ◌<◌, true, false, List, length, slice_index, slice_index_or, slice_set}
+use Rattle.std.specs.Prelude.{bit_or}
 use Rattle.ax25_address.specs.Callsign.{Callsign}
 use Rattle.ax25_address.specs.FramePath.{BeginsWithPath}
 use Rattle.ax25_address.specs.declared.path.Hop.{Hop}

@@ -1,6 +1,6 @@
 -- What a merger may forget: candidates that end more than 15 samples before the position below which all was given.
-use Rattle.std.proofs.Common.{◌≡◌, ℕ, ◌+◌, ◌-◌, ◌<◌, ◌≤◌, List, [], ◌∷◌, ◌++◌, true, false, ◌||◌, ◌&&◌, cond, refl, ap,
-    sym, ◌∙◌, arith, inl, inr, get_or, append_assoc}
+use Rattle.std.proofs.Common.{◌≡◌, ℕ, ◌+◌, ◌-◌, ◌<◌, ◌≤◌, List, [], ◌∷◌, ◌++◌, true, false, ◌||◌, ◌&&◌, cond, refl, ap}
+use Rattle.std.proofs.Common.{sym, ◌∙◌, arith, inl, inr, get_or, append_assoc}
 use Rattle.std.specs.Prelude.{nat_lt, nat_le, if◌then◌else◌}
 use Rattle.std.specs.List.{All, list_any}
 use Rattle.std.specs.List.Sorted.{IsNonDecreasingBy}
@@ -8,8 +8,8 @@ use Rattle.std.specs.Str.{bytes_eq}
 use Rattle.std.proofs.Math.Bool.{and-false}
 use Rattle.std.proofs.lemmas.Bool.{cases_lt, lt-ltb, le-leb, lt-leb, ltb-true}
 use Rattle.std.proofs.lemmas.List.{append-nil}
-use Rattle.std.proofs.lemmas.List.Elements.{All-cons, All-head, All-tail, All-weaker, All-filter, filter-append,
-    filter_passes}
+use Rattle.std.proofs.lemmas.List.Elements.{All-cons, All-head, All-tail, All-weaker, All-filter, filter-append}
+use Rattle.std.proofs.lemmas.List.Elements.{filter_passes}
 use Rattle.std.proofs.lemmas.List.Kept.{IsNonDecreasingBy-filter}
 use Rattle.std.proofs.lemmas.List.Folds.{list_any-append, list_any_none}
 use Rattle.frame_merge.specs.declared.candidate.Candidate.{Candidate}
@@ -46,7 +46,7 @@ not_below-place position item (x ∷ xs) le small offsets =
           ap (not_below position) (place_behind item x xs ge)
           ∙ elim (nat_le position x.end)
           as (λ t. cond t (x ∷ not_below position (place item xs)) (not_below position (place item xs))
-              ≡ place item (cond t (x ∷ not_below position xs) (not_below position xs)))
+          ≡ place item (cond t (x ∷ not_below position xs) (not_below position xs)))
           [ true ↦ ap (λ t. x ∷ t) step ∙ sym (place_behind item x (not_below position xs) ge) | false ↦ step ]
     ]
 
@@ -73,7 +73,7 @@ not_below_all : (position : ℕ) (xs : List Candidate) → All (λ y. position �
 not_below_all position [] h = refl
 not_below_all position (x ∷ xs) h =
     ap (λ t. cond t (x ∷ not_below position xs) (not_below position xs))
-        (le-leb position x.end (All-head (λ y. position ≤ y.end) x xs h))
+    (le-leb position x.end (All-head (λ y. position ≤ y.end) x xs h))
     ∙ ap (λ t. x ∷ t) (not_below_all position xs (All-tail (λ y. position ≤ y.end) x xs h))
 
 -- a list in order is what ends below a position, and then the rest
@@ -88,10 +88,10 @@ below_then_rest position (x ∷ xs) h =
           rw (early, out) (ap (λ t. x ∷ t) (below_then_rest position xs (rising_tail (λ y. y.end) x xs h)))
       | inr ge ↦
           let late : All (λ y. position ≤ y.end) (x ∷ xs) = All-cons (λ y. position ≤ y.end) x xs ge
-              (All-weaker (λ y. x.end ≤ y.end) (λ y. position ≤ y.end) (λ y k. omega arith) xs
-              (rising_head (λ y. y.end) x xs h)) in
+          (All-weaker (λ y. x.end ≤ y.end) (λ y. position ≤ y.end) (λ y k. omega arith) xs
+          (rising_head (λ y. y.end) x xs h)) in
           ap (λ t. t ++ not_below position (x ∷ xs)) (below_none position (x ∷ xs) late)
-              ∙ not_below_all position (x ∷ xs) late
+          ∙ not_below_all position (x ∷ xs) late
     ]
 
 -- nothing ends from a position on, if all end below it
@@ -99,7 +99,7 @@ between_none : (from to : ℕ) (xs : List Candidate) → All (λ y. y.end < from
 between_none from to [] h = refl
 between_none from to (x ∷ xs) h =
     ap (λ t. cond (t && nat_lt x.end to) (x ∷ between from to xs) (between from to xs))
-        (lt-leb from x.end (All-head (λ y. y.end < from) x xs h))
+    (lt-leb from x.end (All-head (λ y. y.end < from) x xs h))
     ∙ between_none from to xs (All-tail (λ y. y.end < from) x xs h)
 
 -- a candidate from a position on repeats none that ends more than 15 samples before it
@@ -108,7 +108,7 @@ repeats_none_early : (from : ℕ) (item : Candidate) (early : List Candidate) �
 repeats_none_early from item early le h = list_any_none (repeats item) early (λ k d l.
     let before = h k d l in
     ap (λ t. bytes_eq (get_or early k d).octets item.octets && t)
-        (lt-leb item.end ((get_or early k d).end + 15) (omega arith))
+    (lt-leb item.end ((get_or early k d).end + 15) (omega arith))
     ∙ and-false (bytes_eq (get_or early k d).octets item.octets))
 
 -- so those that end so early change nothing of the part from that position on
@@ -117,22 +117,22 @@ between_without_early : (from to : ℕ) (early earlier xs : List Candidate) → 
 between_without_early from to early earlier [] h = refl
 between_without_early from to early earlier (x ∷ xs) h =
     let step : between from to (merged_after ((early ++ earlier) ++ x ∷ []) xs)
-        ≡ between from to (merged_after (earlier ++ x ∷ []) xs)
+    ≡ between from to (merged_after (earlier ++ x ∷ []) xs)
     = ap (λ t. between from to (merged_after t xs)) (append_assoc early earlier (x ∷ []))
-        ∙ between_without_early from to early (earlier ++ x ∷ []) xs h in
+    ∙ between_without_early from to early (earlier ++ x ∷ []) xs h in
     elim (cases_lt x.end from) [
       | inl lt ↦ left_out x xs (early ++ earlier) lt ∙ step ∙ sym (left_out x xs earlier lt)
       | inr ge ↦
           let same : list_any (repeats x) (early ++ earlier) ≡ list_any (repeats x) earlier
           = list_any-append (repeats x) early earlier ∙ ap (λ t. t || list_any (repeats x) earlier)
-              (repeats_none_early from x early ge h) in
+          (repeats_none_early from x early ge h) in
           ap (λ t. between from to (if t then merged_after ((early ++ earlier) ++ x ∷ []) xs
-              else x ∷ merged_after ((early ++ earlier) ++ x ∷ []) xs)) same
+          else x ∷ merged_after ((early ++ earlier) ++ x ∷ []) xs)) same
           ∙ elim (list_any (repeats x) earlier)
           as (λ t. between from to (if t then merged_after ((early ++ earlier) ++ x ∷ []) xs
-              else x ∷ merged_after ((early ++ earlier) ++ x ∷ []) xs)
-              ≡ between from to (if t then merged_after (earlier ++ x ∷ []) xs
-              else x ∷ merged_after (earlier ++ x ∷ []) xs))
+          else x ∷ merged_after ((early ++ earlier) ++ x ∷ []) xs)
+          ≡ between from to (if t then merged_after (earlier ++ x ∷ []) xs
+          else x ∷ merged_after (earlier ++ x ∷ []) xs))
           [ true ↦ step | false ↦ ap (λ t. cond (nat_le from x.end && nat_lt x.end to) (x ∷ t) t) step ]
     ]
   where
@@ -141,10 +141,12 @@ between_without_early from to early earlier (x ∷ xs) h =
     left_out x xs before lt =
         elim (list_any (repeats x) before)
         as (λ t. between from to (if t then merged_after (before ++ x ∷ []) xs
-            else x ∷ merged_after (before ++ x ∷ []) xs) ≡ between from to (merged_after (before ++ x ∷ []) xs))
-        [ true ↦ refl | false ↦ ap (λ t. cond (t && nat_lt x.end to)
-            (x ∷ between from to (merged_after (before ++ x ∷ []) xs))
-            (between from to (merged_after (before ++ x ∷ []) xs))) (lt-leb from x.end lt) ]
+        else x ∷ merged_after (before ++ x ∷ []) xs) ≡ between from to (merged_after (before ++ x ∷ []) xs)) [
+          | true ↦ refl
+          | false ↦ ap (λ t. cond (t && nat_lt x.end to)
+              (x ∷ between from to (merged_after (before ++ x ∷ []) xs))
+              (between from to (merged_after (before ++ x ∷ []) xs))) (lt-leb from x.end lt)
+        ]
 
 -- what is kept is enough to tell which candidates from a position on are given
 pub between-kept : (from to : ℕ) (xs : List Candidate) → IsInOrder xs
@@ -155,14 +157,14 @@ between-kept from to xs order =
     let kept : List Candidate = not_below position xs in
     let passes : All (λ y. nat_lt y.end position ≡ true) early = filter_passes (λ y. nat_lt y.end position) xs in
     let far : All (λ y. y.end + 15 < from) early = All-weaker (λ y. nat_lt y.end position ≡ true)
-        (λ y. y.end + 15 < from) (λ y lt. far_off y.end from lt) early passes in
+    (λ y. y.end + 15 < from) (λ y lt. far_off y.end from lt) early passes in
     let before : All (λ y. y.end < from) early = All-weaker (λ y. y.end + 15 < from) (λ y. y.end < from)
-        (λ y k. omega arith) early far in
+    (λ y k. omega arith) early far in
     sym (ap (λ t. between from to (merged t)) (sym (below_then_rest position xs (rising_ends xs order)))
     ∙ ap (between from to) (merged_after-append [] early kept)
     ∙ filter-append _ (merged_after [] early) (merged_after early kept)
     ∙ ap (λ t. t ++ between from to (merged_after early kept))
-        (between_none from to (merged_after [] early) (All-merged (λ y. y.end < from) [] early before))
+    (between_none from to (merged_after [] early) (All-merged (λ y. y.end < from) [] early before))
     ∙ ap (λ t. between from to (merged_after t kept)) (sym (append-nil early))
     ∙ between_without_early from to early [] kept far)
   where

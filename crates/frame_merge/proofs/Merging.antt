@@ -1,6 +1,6 @@
 -- What merging leaves out, along a list in order, and which part of it ends below a position.
-use Rattle.std.proofs.Common.{◌≡◌, ℕ, ◌*◌, ◌<◌, ◌≤◌, List, [], ◌∷◌, ◌++◌, true, false, cond, refl, ap, sym, ◌∙◌, arith,
-    inl, inr, ◌&&◌}
+use Rattle.std.proofs.Common.{◌≡◌, ℕ, ◌*◌, ◌<◌, ◌≤◌, List, [], ◌∷◌, ◌++◌, true, false, cond, refl, ap, sym, ◌∙◌, arith}
+use Rattle.std.proofs.Common.{inl, inr, ◌&&◌}
 use Rattle.std.specs.Prelude.{nat_lt, nat_le, if◌then◌else◌}
 use Rattle.std.specs.List.{All, list_any}
 use Rattle.std.specs.List.Sorted.{IsNonDecreasingBy}
@@ -19,14 +19,14 @@ pub merged_after-append : (earlier xs ys : List Candidate)
 merged_after-append earlier [] ys = ap (λ e. merged_after e ys) (sym (append-nil earlier))
 merged_after-append earlier (x ∷ xs) ys =
     let step : merged_after (earlier ++ x ∷ []) (xs ++ ys) ≡ merged_after (earlier ++ x ∷ []) xs
-        ++ merged_after (earlier ++ x ∷ xs) ys
+    ++ merged_after (earlier ++ x ∷ xs) ys
     = merged_after-append (earlier ++ x ∷ []) xs ys ∙ ap (λ e. merged_after (earlier ++ x ∷ []) xs ++ merged_after e ys)
-        (append_snoc earlier x xs) in
+    (append_snoc earlier x xs) in
     elim (list_any (repeats x) earlier)
     as (λ t. (if t then merged_after (earlier ++ x ∷ []) (xs ++ ys)
-        else x ∷ merged_after (earlier ++ x ∷ []) (xs ++ ys))
-        ≡ (if t then merged_after (earlier ++ x ∷ []) xs else x ∷ merged_after (earlier ++ x ∷ []) xs)
-        ++ merged_after (earlier ++ x ∷ xs) ys)
+    else x ∷ merged_after (earlier ++ x ∷ []) (xs ++ ys))
+    ≡ (if t then merged_after (earlier ++ x ∷ []) xs else x ∷ merged_after (earlier ++ x ∷ []) xs)
+    ++ merged_after (earlier ++ x ∷ xs) ys)
     [ true ↦ step | false ↦ ap (λ t. x ∷ t) step ]
 
 -- what is true of each candidate is true of each that remains
@@ -46,16 +46,18 @@ merged-rising n earlier (x ∷ xs) h =
     let rest = merged-rising n (earlier ++ x ∷ []) xs (rising_tail n x xs h) in
     elim (list_any (repeats x) earlier)
     as (λ t. IsNonDecreasingBy n (if t then merged_after (earlier ++ x ∷ []) xs
-        else x ∷ merged_after (earlier ++ x ∷ []) xs))
-    [ true ↦ rest | false ↦ rising_cons n x _ (All-merged (λ y. n x ≤ n y) (earlier ++ x ∷ []) xs
-        (rising_head n x xs h)) rest ]
+    else x ∷ merged_after (earlier ++ x ∷ []) xs)) [
+      | true ↦ rest
+      | false ↦ rising_cons n x _ (All-merged (λ y. n x ≤ n y) (earlier ++ x ∷ []) xs
+          (rising_head n x xs h)) rest
+    ]
 
 -- nothing ends below a position that no candidate ends below
 pub below_none : (position : ℕ) (xs : List Candidate) → All (λ y. position ≤ y.end) xs → below position xs ≡ []
 below_none position [] h = refl
 below_none position (x ∷ xs) h =
     ap (λ t. cond t (x ∷ below position xs) (below position xs))
-        (le-ltb x.end position (All-head (λ y. position ≤ y.end) x xs h))
+    (le-ltb x.end position (All-head (λ y. position ≤ y.end) x xs h))
     ∙ below_none position xs (All-tail (λ y. position ≤ y.end) x xs h)
 
 -- if all end at or after `from`, the part up to `to` is the part below `to`
@@ -63,7 +65,7 @@ pub between_all : (from to : ℕ) (xs : List Candidate) → All (λ y. from ≤ 
 between_all from to [] h = refl
 between_all from to (x ∷ xs) h =
     ap (λ t. cond (t && nat_lt x.end to) (x ∷ between from to xs) (between from to xs))
-        (le-leb from x.end (All-head (λ y. from ≤ y.end) x xs h))
+    (le-leb from x.end (All-head (λ y. from ≤ y.end) x xs h))
     ∙ ap (λ t. cond (nat_lt x.end to) (x ∷ t) t) (between_all from to xs (All-tail (λ y. from ≤ y.end) x xs h))
 
 -- the part below `from` and then the part from there to `to` are the part below `to`
@@ -79,8 +81,8 @@ below_between from to (x ∷ xs) le h =
           rw (early, not_yet, soon) (ap (λ t. x ∷ t) (below_between from to xs le (rising_tail (λ y. y.end) x xs h)))
       | inr ge ↦
           let late : All (λ y. from ≤ y.end) (x ∷ xs) = All-cons (λ y. from ≤ y.end) x xs ge
-              (All-weaker (λ y. x.end ≤ y.end) (λ y. from ≤ y.end) (λ y k. omega arith) xs
-              (rising_head (λ y. y.end) x xs h)) in
+          (All-weaker (λ y. x.end ≤ y.end) (λ y. from ≤ y.end) (λ y k. omega arith) xs
+          (rising_head (λ y. y.end) x xs h)) in
           ap (λ t. t ++ between from to (x ∷ xs)) (below_none from (x ∷ xs) late) ∙ between_all from to (x ∷ xs) late
     ]
 
@@ -92,30 +94,30 @@ pub below_place : (position : ℕ) (item : Candidate) (earlier xs : List Candida
     → below position (merged_after earlier (place item xs)) ≡ below position (merged_after earlier xs)
 below_place position item earlier [] le h small =
     below_none position (merged_after earlier (item ∷ []))
-        (All-merged (λ y. position ≤ y.end) earlier (item ∷ [])
-        (All-cons (λ y. position ≤ y.end) item [] le (All-nil (λ y. position ≤ y.end))))
+    (All-merged (λ y. position ≤ y.end) earlier (item ∷ [])
+    (All-cons (λ y. position ≤ y.end) item [] le (All-nil (λ y. position ≤ y.end))))
 below_place position item earlier (x ∷ xs) le h small =
     let P : Candidate → Type 0 = λ y. position ≤ y.end in
     elim (cases_lt (standing item) (standing x)) [
       | inl lt ↦
           let x_small : x.offset < 256 = All-head (λ y. y.offset < 256) x xs small in
           let later : All P xs = late_behind position x xs (omega arith) (rising_head standing x xs h)
-              (All-tail (λ y. y.offset < 256) x xs small) in
+          (All-tail (λ y. y.offset < 256) x xs small) in
           let all : All P (x ∷ xs) = All-cons P x xs (omega arith) later in
           ap (λ t. below position (merged_after earlier t)) (place_here item x xs lt)
           ∙ below_none position _ (All-merged P earlier (item ∷ x ∷ xs) (All-cons P item (x ∷ xs) le all))
           ∙ sym (below_none position _ (All-merged P earlier (x ∷ xs) all))
       | inr ge ↦
           let step : below position (merged_after (earlier ++ x ∷ []) (place item xs))
-              ≡ below position (merged_after (earlier ++ x ∷ []) xs)
+          ≡ below position (merged_after (earlier ++ x ∷ []) xs)
           = below_place position item (earlier ++ x ∷ []) xs le (rising_tail standing x xs h)
-              (All-tail (λ y. y.offset < 256) x xs small) in
+          (All-tail (λ y. y.offset < 256) x xs small) in
           ap (λ t. below position (merged_after earlier t)) (place_behind item x xs ge)
           ∙ elim (list_any (repeats x) earlier)
           as (λ t. below position (if t then merged_after (earlier ++ x ∷ []) (place item xs)
-              else x ∷ merged_after (earlier ++ x ∷ []) (place item xs))
-              ≡ below position (if t then merged_after (earlier ++ x ∷ []) xs
-              else x ∷ merged_after (earlier ++ x ∷ []) xs))
+          else x ∷ merged_after (earlier ++ x ∷ []) (place item xs))
+          ≡ below position (if t then merged_after (earlier ++ x ∷ []) xs
+          else x ∷ merged_after (earlier ++ x ∷ []) xs))
           [ true ↦ step | false ↦ ap (λ t. cond (nat_lt x.end position) (x ∷ t) t) step ]
     ]
   where

@@ -1,6 +1,6 @@
 -- A search from the back of a list in order for an item that is repeated.
-use Rattle.std.proofs.Common.{◌≡◌, ◌+◌, ◌-◌, ◌<◌, List, [], ◌∷◌, ◌++◌, false, ◌||◌, ◌&&◌, length, get_or, ap, ◌∙◌,
-    arith, refl}
+use Rattle.std.proofs.Common.{◌≡◌, ◌+◌, ◌-◌, ◌<◌, List, [], ◌∷◌, ◌++◌, false, ◌||◌, ◌&&◌, length, get_or, ap, ◌∙◌}
+use Rattle.std.proofs.Common.{arith, refl}
 use Rattle.std.specs.List.{list_any}
 use Rattle.std.specs.List.Sorted.{IsNonDecreasingBy}
 use Rattle.std.specs.Str.{bytes_eq}
@@ -19,22 +19,22 @@ pub record Searched (item : Candidate) (earlier rest : List Candidate) : Type 0 
 -- if the last that is left ends too early, none that is left is repeated
 pub too_early : (item : Candidate) (earlier rest before : List Candidate) (last : Candidate)
     → Searched item earlier rest → rest ≡ before ++ last ∷ [] → length before + 1 ≡ length rest
-        → last.end < item.end - 15
+    → last.end < item.end - 15
     → list_any (repeats item) earlier ≡ false
 too_early item earlier rest before last h is count early =
     h.same ∙ list_any_none (repeats item) rest (λ k d kl.
     let order = h.rising k (length before) d (omega arith) (omega arith) in
     let at_last : get_or rest (length before) d ≡ last = ap (λ t. get_or t (length before) d) is
-        ∙ get_or_push before last d (length before) refl in
+    ∙ get_or_push before last d (length before) refl in
     let ends : (get_or rest (length before) d).end ≡ last.end = ap (λ t. t.end) at_last in
     ap (λ t. bytes_eq (get_or rest k d).octets item.octets && t)
-        (lt-leb item.end ((get_or rest k d).end + 15) (omega arith))
+    (lt-leb item.end ((get_or rest k d).end + 15) (omega arith))
     ∙ and-false (bytes_eq (get_or rest k d).octets item.octets))
 
 -- if the last that is left is not repeated, the search goes on before it
 pub search_on : (item : Candidate) (earlier rest before : List Candidate) (last : Candidate)
     → Searched item earlier rest → rest ≡ before ++ last ∷ [] → length before + 1 ≡ length rest
-        → repeats item last ≡ false
+    → repeats item last ≡ false
     → Searched item earlier before
 search_on item earlier rest before last h is count other = record {
   same = h.same ∙ ap (list_any (repeats item)) is ∙ list_any-append (repeats item) before (last ∷ [])
@@ -42,8 +42,8 @@ search_on item earlier rest before last h is count other = record {
   rising = λ i j d ij jl.
       let order = h.rising i j d ij (omega arith) in
       let at_i : (get_or rest i d).end ≡ (get_or before i d).end = ap (λ t. (get_or t i d).end) is
-          ∙ ap (λ t. t.end) (get_or_append_left before (last ∷ []) d i (omega arith)) in
+      ∙ ap (λ t. t.end) (get_or_append_left before (last ∷ []) d i (omega arith)) in
       let at_j : (get_or rest j d).end ≡ (get_or before j d).end = ap (λ t. (get_or t j d).end) is
-          ∙ ap (λ t. t.end) (get_or_append_left before (last ∷ []) d j jl) in
+      ∙ ap (λ t. t.end) (get_or_append_left before (last ∷ []) d j jl) in
       omega arith;
 }

@@ -1,6 +1,6 @@
 -- What is taken from a merger: the merged candidates up to the least mark.
-use Rattle.std.proofs.Common.{◌≡◌, ℕ, ◌+◌, ◌-◌, ◌^◌, ◌<◌, ◌≤◌, List, [], ◌∷◌, ◌++◌, true, false, ◌&&◌, not, cond, ap,
-    sym, ◌∙◌, arith, length, get_or, take, min, refl, zero, suc, replicate}
+use Rattle.std.proofs.Common.{◌≡◌, ℕ, ◌+◌, ◌-◌, ◌^◌, ◌<◌, ◌≤◌, List, [], ◌∷◌, ◌++◌, true, false, ◌&&◌, not, cond, ap}
+use Rattle.std.proofs.Common.{sym, ◌∙◌, arith, length, get_or, take, min, refl, zero, suc, replicate}
 use Rattle.std.specs.Prelude.{fold, nat_lt, nat_le, if◌then◌else◌}
 use Rattle.std.specs.List.{All, list_any}
 use Rattle.std.proofs.lemmas.Bool.{lt-ltb, leb-true}
@@ -17,11 +17,11 @@ use Rattle.frame_merge.proofs.Forgetting.{between-kept, not_below-not_below}
 -- the part of one candidate after `earlier`
 between_one : (from to : ℕ) (earlier : List Candidate) (item : Candidate)
     → between from to (merged_after earlier (item ∷ []))
-        ≡ (if is_ready_after from to earlier item then item ∷ [] else [])
+    ≡ (if is_ready_after from to earlier item then item ∷ [] else [])
 between_one from to earlier item =
     elim (list_any (repeats item) earlier)
     as (λ t. between from to (if t then [] else item ∷ [])
-        ≡ (if (nat_le from item.end && nat_lt item.end to) && not t then item ∷ [] else [])) [
+    ≡ (if (nat_le from item.end && nat_lt item.end to) && not t then item ∷ [] else [])) [
       | true ↦ elim (nat_le from item.end && nat_lt item.end to) as (λ u. [] ≡ (if u && false then item ∷ [] else []))
           [ true ↦ refl | false ↦ refl ]
       | false ↦ elim (nat_le from item.end && nat_lt item.end to) as
@@ -32,7 +32,7 @@ between_one from to earlier item =
 pub between_more : (from to : ℕ) (items : List Candidate) (i : ℕ) (d : Candidate) → i < length items
     → between from to (merged (take (i + 1) items))
     ≡ between from to (merged (take i items)) ++ (if is_ready_after from to (take i items) (get_or items i d)
-        then get_or items i d ∷ [] else [])
+    then get_or items i d ∷ [] else [])
 between_more from to items i d l =
     ap (λ t. between from to (merged t)) (take_more items i d l)
     ∙ ap (between from to) (merged_after-append [] (take i items) (get_or items i d ∷ []))
@@ -57,7 +57,7 @@ ready_same from to items i item l is ready = between_more from to items i item l
     ∙ ap (λ x. between from to (merged (take i items)) ++ (if is_ready_after from to (take i items) x then x ∷ []
     else [])) (sym is)
     ∙ ap (λ t. between from to (merged (take i items)) ++ (if t then item ∷ [] else [])) ready
-        ∙ append-nil (between from to (merged (take i items)))
+    ∙ append-nil (between from to (merged (take i items)))
 
 -- the least of the marks is at most each mark, and at least what none is below
 fold_min-le : (a : ℕ) (xs : List ℕ) → fold min a xs ≤ a
@@ -131,7 +131,7 @@ pub below_all : (position : ℕ) (xs : List Candidate) → All (λ x. x.end < po
 below_all position [] h = refl
 below_all position (x ∷ xs) h =
     ap (λ t. cond t (x ∷ below position xs) (below position xs))
-        (lt-ltb x.end position (All-head (λ y. y.end < position) x xs h))
+    (lt-ltb x.end position (All-head (λ y. y.end < position) x xs h))
     ∙ ap (λ t. x ∷ t) (below_all position xs (All-tail (λ y. y.end < position) x xs h))
 
 pub below_end : (puts : List Candidate) → All (λ x. x.end < 2 ^ 64 - 1) puts

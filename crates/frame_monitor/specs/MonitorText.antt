@@ -1,8 +1,8 @@
 -- A frame as AGWPE shows it to a host that monitors the channel (the AGWPE TCP/IP API tutorial, SV2AGW; in the letter
 -- as Dire Wolf writes it): from whom to whom, by way of which repeaters, what it is, when it was heard or sent, and its
 -- information.
-use Rattle.std.specs.Prelude.{ℕ, ◌==◌, Bool, true, false, not, ◌&&◌, if◌then◌else◌, List, [], ◌∷◌, ◌++◌, length, codes,
-    decimal}
+use Rattle.std.specs.Prelude.{ℕ, ◌==◌, Bool, true, false, not, ◌&&◌, if◌then◌else◌, List, [], ◌∷◌, ◌++◌, length, codes}
+use Rattle.std.specs.Prelude.{decimal}
 use Rattle.std.specs.List.{list_any}
 use Rattle.hex.specs.Hex.{encode_upper}
 use Rattle.ax25_address.specs.AddressField.{bit}

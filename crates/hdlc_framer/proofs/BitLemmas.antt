@@ -1,6 +1,7 @@
 -- Octets and numbers read back from their bits.
-use Rattle.std.proofs.Common.{◌≡◌, ℕ, zero, suc, ◌+◌, ◌*◌, ◌/◌, ◌%◌, ◌^◌, ◌<◌, Bool, true, false, eqb, bit_and, bit_or,
-    List, [], ◌∷◌, ◌++◌, length, refl, ap, ◌∙◌, sym, inl, inr, arith, length-append, append_assoc, append-nil, add-one}
+use Rattle.std.proofs.Common.{◌≡◌, ℕ, zero, suc, ◌+◌, ◌*◌, ◌/◌, ◌%◌, ◌^◌, ◌<◌, Bool, true, false, eqb, bit_and, bit_or}
+use Rattle.std.proofs.Common.{List, [], ◌∷◌, ◌++◌, length, refl, ap, ◌∙◌, sym, inl, inr, arith, length-append}
+use Rattle.std.proofs.Common.{append_assoc, append-nil, add-one}
 use Rattle.std.proofs.Math.Nat.{pow-suc}
 use Rattle.std.specs.List.{All}
 use Rattle.std.proofs.lemmas.Bool.{cases_Bool, eq-eqb, ne_eqb, eqb-true, eqb-false}
@@ -84,7 +85,7 @@ pub same_octets : (octets others : List ℕ) (rest more : List Bool) → All (λ
     → sent_bits octets ++ rest ≡ sent_bits others ++ more → octets ≡ others
 same_octets octets others rest more fit others_fit short more_short e =
     sym (whole_octets-sent_bits octets rest fit short) ∙ ap whole_octets e
-        ∙ whole_octets-sent_bits others more others_fit more_short
+    ∙ whole_octets-sent_bits others more others_fit more_short
 
 -- ---- a part of an octet with one bit more
 
@@ -100,14 +101,14 @@ low_bits-push_one (suc count) n below =
     let odd : (n + 2 ^ suc count) % 2 ≡ n % 2 = omega arith in
     let half : (n + 2 ^ suc count) / 2 ≡ n / 2 + 2 ^ count = omega arith in
     ap (λ m. eqb m 1 ∷ low_bits (suc count) ((n + 2 ^ suc count) / 2)) odd
-        ∙ ap (λ m. eqb (n % 2) 1 ∷ low_bits (suc count) m) half
+    ∙ ap (λ m. eqb (n % 2) 1 ∷ low_bits (suc count) m) half
     ∙ ap (λ xs. eqb (n % 2) 1 ∷ xs) (low_bits-push_one count (n / 2) (omega arith))
 
 -- a 1 set above the lowest bits
 or_above : (count n : ℕ) → count < 8 → n < 2 ^ count → bit_or n (1 * 2 ^ count % 256) ≡ n + 2 ^ count
 or_above count n low below =
     ap (bit_or n) (one_shl count 8 low) ∙ or_comm n (2 ^ count) ∙ ap (λ m. bit_or m n) (omega arith)
-        ∙ or_shifted 1 count n below ∙ omega arith
+    ∙ or_shifted 1 count n below ∙ omega arith
 
 pub low_bits-with_zero : (count n : ℕ) → n < 2 ^ count → low_bits (count + 1) n ≡ low_bits count n ++ false ∷ []
 low_bits-with_zero count n below = ap (λ m. low_bits m n) (add-one count) ∙ low_bits-push_zero count n below
@@ -118,14 +119,22 @@ low_bits-with_one count n low below = ap (λ m. low_bits m (bit_or n (1 * 2 ^ co
     ∙ ap (low_bits (suc count)) (or_above count n low below) ∙ low_bits-push_one count n below
 
 pub with_one-lt : (count n : ℕ) → count < 8 → n < 2 ^ count → bit_or n (1 * 2 ^ count % 256) < 2 ^ (count + 1)
-with_one-lt count n low below = omega (arith, or_above count n low below, pow-suc 2 count,
-    ap (λ m. 2 ^ m) (add-one count))
+with_one-lt count n low below = omega (
+  arith,
+  or_above count n low below,
+  pow-suc 2 count,
+  ap (λ m. 2 ^ m) (add-one count),
+)
 
 -- how many bits octets and a part of an octet are
 pub length-packed : (octets : List ℕ) (filled part : ℕ) → length (sent_bits octets ++ low_bits filled part)
     ≡ 8 * length octets + filled
-length-packed octets filled part = omega (arith, length-append (sent_bits octets) (low_bits filled part),
-    length-sent_bits octets, length-low_bits filled part)
+length-packed octets filled part = omega (
+  arith,
+  length-append (sent_bits octets) (low_bits filled part),
+  length-sent_bits octets,
+  length-low_bits filled part,
+)
 
 -- the eighth bit makes an octet
 pub packed_octet : (octets : List ℕ) (part octet : ℕ) (bit : Bool) → low_bits 8 octet ≡ low_bits 7 part ++ bit ∷ []
@@ -133,7 +142,7 @@ pub packed_octet : (octets : List ℕ) (part octet : ℕ) (bit : Bool) → low_b
 unfolding octet_bits
 packed_octet octets part octet bit whole =
     append-nil (sent_bits (octets ++ octet ∷ [])) ∙ flat_map-append octet_bits octets (octet ∷ [])
-        ∙ ap (λ xs. sent_bits octets ++ xs) (append-nil (low_bits 8 octet) ∙ whole)
+    ∙ ap (λ xs. sent_bits octets ++ xs) (append-nil (low_bits 8 octet) ∙ whole)
     ∙ sym (append_assoc (sent_bits octets) (low_bits 7 part) (bit ∷ []))
 
 -- one bit more of a number
@@ -145,7 +154,7 @@ low_bits-more count n = ap (λ m. low_bits m n) (add-one count) ∙ more count n
     more (suc count) n =
         let same : n / 2 / 2 ^ count ≡ n / 2 ^ suc count = shr-shr n 1 count ∙ ap (λ m. n / 2 ^ m) (omega arith) in
         ap (λ xs. eqb (n % 2) 1 ∷ xs) (more count (n / 2))
-            ∙ ap (λ m. eqb (n % 2) 1 ∷ (low_bits count (n / 2) ++ eqb (bit_and m 1) 1 ∷ [])) same
+        ∙ ap (λ m. eqb (n % 2) 1 ∷ (low_bits count (n / 2) ++ eqb (bit_and m 1) 1 ∷ [])) same
 
 -- one octet more
 pub sent_bits-push : (octets : List ℕ) (octet : ℕ) → sent_bits (octets ++ octet ∷ [])

@@ -1,6 +1,6 @@
 -- A carrier of one flag, told from the last flag.
-use Rattle.std.proofs.Common.{◌≡◌, ℕ, zero, suc, ◌+◌, ◌-◌, ◌<◌, ◌≤◌, ◌⊎◌, Bool, true, false, List, [], ◌∷◌, ◌++◌,
-    length, get_or, take, ap, subst, ◌∙◌, sym, inl, inr, arith, length-append}
+use Rattle.std.proofs.Common.{◌≡◌, ℕ, zero, suc, ◌+◌, ◌-◌, ◌<◌, ◌≤◌, ◌⊎◌, Bool, true, false, List, [], ◌∷◌, ◌++◌}
+use Rattle.std.proofs.Common.{length, get_or, take, ap, subst, ◌∙◌, sym, inl, inr, arith, length-append}
 use Rattle.std.proofs.Math.Seq.{take-suc}
 use Rattle.std.proofs.lemmas.Bool.{cases_lt, cases_eq, cases_Bool, true≢false}
 use Rattle.std.proofs.lemmas.List.{take_all, take-take, length-take-le}
@@ -37,13 +37,17 @@ last_flag : (bits : List Bool) (place : ℕ) → place ≤ length bits
     → ((end : ℕ) → end ≤ place → ¬ EndsFlag (take end bits)) ⊎ LastFlag bits place
 last_flag bits zero within =
     inl (λ end early ends. let first : end ≡ 0 = omega arith in
-        no_flag_before bits (subst (λ n. EndsFlag (take n bits)) first ends))
+    no_flag_before bits (subst (λ n. EndsFlag (take n bits)) first ends))
 last_flag bits (suc place) within =
     let bit : Bool = get_or bits place false in
     let more : take (suc place) bits ≡ take place bits ++ bit ∷ [] = take-suc bits place false (omega arith) in
     elim (flag_or_none (take place bits) bit) [
-      | inl here ↦ inr (record { end = suc place; within = omega arith; flag = subst EndsFlag (sym more) here;
-          last = λ later behind early. absurd (omega arith) })
+      | inl here ↦ inr (record {
+        end = suc place;
+        within = omega arith;
+        flag = subst EndsFlag (sym more) here;
+        last = λ later behind early. absurd (omega arith);
+      })
       | inr none ↦
           let not_here : (end : ℕ) → end ≡ suc place → ¬ EndsFlag (take end bits)
           = λ end same ends. none (subst EndsFlag more (subst (λ n. EndsFlag (take n bits)) same ends)) in

@@ -1,7 +1,7 @@
 -- One bit more of a carrier: which flags are in a row, and whether it is held.
-use Rattle.std.proofs.Common.{◌≡◌, ◌↔◌, ℕ, zero, suc, ◌+◌, ◌-◌, ◌<◌, ◌≤◌, min, Bool, true, false, ◌||◌, cond, eqb, List,
-    [], ◌∷◌, ◌++◌, length, take, ap, subst, ◌∙◌, sym, inl, inr, arith, append_assoc, length-append, length-take-le,
-    take_all, take-take}
+use Rattle.std.proofs.Common.{◌≡◌, ◌↔◌, ℕ, zero, suc, ◌+◌, ◌-◌, ◌<◌, ◌≤◌, min, Bool, true, false, ◌||◌, cond, eqb, List}
+use Rattle.std.proofs.Common.{[], ◌∷◌, ◌++◌, length, take, ap, subst, ◌∙◌, sym, inl, inr, arith, append_assoc}
+use Rattle.std.proofs.Common.{length-append, length-take-le, take_all, take-take}
 use Rattle.std.specs.Prelude.{◌⊎◌}
 use Rattle.std.proofs.Math.Seq.{take-length, take-append-add}
 use Rattle.std.proofs.lemmas.Bool.{cases_lt, cases_eq, eq-eqb, ne_eqb, false≢true}
@@ -12,8 +12,8 @@ use Rattle.hdlc_framer.specs.Stuffing.{flag}
 use Rattle.hdlc_framer.specs.Frames.{EndsFlag, EndsAbort}
 use Rattle.hdlc_framer.specs.Events.{EventAt}
 use Rattle.hdlc_framer.specs.Carrier.{EndsFlags, IsQuiet, IsLost, HoldsCarrier}
-use Rattle.hdlc_framer.specs.HeldCarrier.{HeldCarrier, IsRow, CarrierStandsFor, new_carrier, bit_later, row_with,
-    flag_later, next_carrier}
+use Rattle.hdlc_framer.specs.HeldCarrier.{HeldCarrier, IsRow, CarrierStandsFor, new_carrier, bit_later, row_with}
+use Rattle.hdlc_framer.specs.HeldCarrier.{flag_later, next_carrier}
 use Rattle.hdlc_framer.proofs.FrameEnds.{no_flag_on_one, flag_no_abort, frame_flag}
 
 -- ---- flags lie 7 bits apart or more
@@ -51,7 +51,7 @@ further : (bits : List Bool) (i j : ℕ) → i ≤ j
     → take (length (take (length bits - i) bits) - (j - i)) (take (length bits - i) bits) ≡ take (length bits - j) bits
 further bits i j le =
     let size : length (take (length bits - i) bits) ≡ length bits - i =
-        length-take-le (length bits - i) bits (omega arith) in
+    length-take-le (length bits - i) bits (omega arith) in
     let at : length (take (length bits - i) bits) - (j - i) ≡ length bits - j = omega arith in
     ap (λ n. take n (take (length bits - i) bits)) at ∙ take-take (length bits - j) (length bits - i) bits (omega arith)
 
@@ -59,7 +59,7 @@ apart : (bits : List Bool) (i j : ℕ) → i < j → j ≤ i + 6 → EndsFlag (t
     → ¬ EndsFlag (take (length bits - j) bits)
 apart bits i j lt near ends other =
     no_flag_near (take (length bits - i) bits) (j - i) ends (omega arith) (omega arith)
-        (subst EndsFlag (sym (further bits i j (omega arith))) other)
+    (subst EndsFlag (sym (further bits i j (omega arith))) other)
 
 -- ---- flags in a row
 
@@ -135,7 +135,7 @@ module _ (bits : List Bool) (bit : Bool) where
       λ lost.
           let size = length_push bits bit in
           h.kept (length (bits ++ bit ∷ [])) (omega arith) (omega arith)
-              (subst IsLost (sym (take-length (bits ++ bit ∷ []))) lost),
+          (subst IsLost (sym (take-length (bits ++ bit ∷ []))) lost),
     )
   ]
 
@@ -165,12 +165,16 @@ module _ (bits : List Bool) (bit : Bool) (ends : EndsFlag (bits ++ bit ∷ [])) 
     (quiet : (k : ℕ) → k < since → ¬ EndsFlag (take (length bits - k) bits)) where
   longer_row : (m : ℕ) → Follows since → EndsFlags (suc m) (take (length bits - since) bits)
       → EndsFlags (suc (suc m)) (bits ++ bit ∷ [])
-  longer_row m (inl six) row =
-      (ends, inl (subst (EndsFlags (suc m)) (sym (back bits bit 6))
-          (subst (λ n. EndsFlags (suc m) (take (length bits - n) bits)) six row)))
-  longer_row m (inr seven) row =
-      (ends, inr (subst (EndsFlags (suc m)) (sym (back bits bit 7))
-          (subst (λ n. EndsFlags (suc m) (take (length bits - n) bits)) seven row)))
+  longer_row m (inl six) row = (
+    ends,
+    inl (subst (EndsFlags (suc m)) (sym (back bits bit 6))
+        (subst (λ n. EndsFlags (suc m) (take (length bits - n) bits)) six row)),
+  )
+  longer_row m (inr seven) row = (
+    ends,
+    inr (subst (EndsFlags (suc m)) (sym (back bits bit 7))
+        (subst (λ n. EndsFlags (suc m) (take (length bits - n) bits)) seven row)),
+  )
 
   shorter_row : (m : ℕ) → Follows since → EndsFlag (take (length bits - since) bits)
       → EndsFlags (suc (suc m)) (bits ++ bit ∷ [])
@@ -180,15 +184,15 @@ module _ (bits : List Bool) (bit : Bool) (ends : EndsFlag (bits ++ bit ∷ [])) 
         (subst (EndsFlags (suc m)) (back bits bit 6) at)
     | inr at ↦
         let seventh : EndsFlag (take (length bits - 7) bits) =
-            last_of_row m _ (subst (EndsFlags (suc m)) (back bits bit 7) at) in
+        last_of_row m _ (subst (EndsFlags (suc m)) (back bits bit 7) at) in
         let sixth : EndsFlag (take (length bits - 6) bits) =
-            subst (λ n. EndsFlag (take (length bits - n) bits)) six last in
+        subst (λ n. EndsFlag (take (length bits - n) bits)) six last in
         absurd (apart bits 6 7 (omega arith) (omega arith) sixth seventh)
   ]
   shorter_row m (inr seven) last row = elim row.1 [
     | inl at ↦
         let sixth : EndsFlag (take (length bits - 6) bits) =
-            last_of_row m _ (subst (EndsFlags (suc m)) (back bits bit 6) at) in
+        last_of_row m _ (subst (EndsFlags (suc m)) (back bits bit 6) at) in
         absurd (quiet 6 (omega arith) sixth)
     | inr at ↦ subst (λ n. EndsFlags (suc m) (take (length bits - n) bits)) (sym seven)
         (subst (EndsFlags (suc m)) (back bits bit 7) at)
@@ -240,19 +244,19 @@ row_more c bits bit h ends = elim (cases_eq c.since_flag 6) [
     | inl seven ↦ following (inr seven) (omega arith)
     | inr not_seven ↦ subst (λ row. IsRow c.flags row (bits ++ bit ∷ [])) (sym (row_alone c not_six not_seven))
         (record {
-      some_flag = omega arith;
-      most = h.asked;
-      ends = ends;
-      no_more = λ less two. no_two bits bit ends c.since_flag h.quiet
-          (λ lt. let row = h.last lt in last_of_any c.in_a_row row.some_flag row.ends) not_six not_seven two;
-    })
+          some_flag = omega arith;
+          most = h.asked;
+          ends = ends;
+          no_more = λ less two. no_two bits bit ends c.since_flag h.quiet
+              (λ lt. let row = h.last lt in last_of_any c.in_a_row row.some_flag row.ends) not_six not_seven two;
+        })
   ]
 ]
   where
     following : Follows c.since_flag → c.since_flag < 10000 → IsRow c.flags (row_with c) (bits ++ bit ∷ [])
     following follows lt =
         subst (λ row. IsRow c.flags row (bits ++ bit ∷ [])) (sym (row_following c follows))
-            (row_grows bits bit ends c.since_flag h.quiet c.flags c.in_a_row follows (h.last lt))
+        (row_grows bits bit ends c.since_flag h.quiet c.flags c.in_a_row follows (h.last lt))
 
     last_of_any : (row : ℕ) → 1 ≤ row → EndsFlags row (take (length bits - c.since_flag) bits)
         → EndsFlag (take (length bits - c.since_flag) bits)
@@ -280,7 +284,7 @@ not_quiet : (c : HeldCarrier) (bits : List Bool) (bit : Bool) → CarrierStandsF
 not_quiet c bits bit h lt quiet =
     let row = h.last (omega arith) in
     quiet (suc c.since_flag) (omega arith) (subst EndsFlag (sym (back bits bit c.since_flag))
-        (by_row c.in_a_row row.some_flag row.ends))
+    (by_row c.in_a_row row.some_flag row.ends))
   where
     by_row : (row : ℕ) → 1 ≤ row → EndsFlags row (take (length bits - c.since_flag) bits)
         → EndsFlag (take (length bits - c.since_flag) bits)
@@ -293,14 +297,14 @@ held_at_none : (c : HeldCarrier) (bits : List Bool) (bit : Bool) → CarrierStan
 held_at_none c bits bit h none no_abort = elim (cases_eq (min (c.since_flag + 1) 10000) 10000) [
   | inl far ↦
       let off : (bit_later c).held ≡ false = ap (λ t. cond t false c.held)
-          (eq-eqb (min (c.since_flag + 1) 10000) 10000 far) in
+      (eq-eqb (min (c.since_flag + 1) 10000) 10000 far) in
       let lost : IsLost (bits ++ bit ∷ []) = inr (λ k lt. quiet_now c bits bit h none k (omega arith)) in (
         (λ on. absurd (false≢true (sym off ∙ on))),
         (λ held. absurd ((held_before bits bit c.flags held (no_row bits bit c.flags h.asked none)).1 lost)),
       )
   | inr near ↦
       let same : (bit_later c).held ≡ c.held = ap (λ t. cond t false c.held)
-          (ne_eqb (min (c.since_flag + 1) 10000) 10000 near) in
+      (ne_eqb (min (c.since_flag + 1) 10000) 10000 near) in
       let not_lost : IsLost (bits ++ bit ∷ []) → ⊥ = λ lost. elim lost [
         | inl abort ↦ no_abort abort
         | inr quiet ↦ not_quiet c bits bit h (omega arith) quiet

@@ -1,7 +1,7 @@
 -- The frame check sequence as a register of 16 bits that takes one bit, or one octet, at a time.
-use Rattle.std.proofs.Common.{◌≡◌, ◌↔◌, ℕ, zero, suc, ◌+◌, ◌-◌, ◌*◌, ◌/◌, ◌%◌, ◌^◌, ◌<◌, ◌≤◌, Bool, true, false, not,
-    cond, eqb, bit_xor, List, [], ◌∷◌, ◌++◌, map, length, take, drop, replicate, refl, ap, subst, ◌∙◌, sym, inl, inr,
-    arith, length-append}
+use Rattle.std.proofs.Common.{◌≡◌, ◌↔◌, ℕ, zero, suc, ◌+◌, ◌-◌, ◌*◌, ◌/◌, ◌%◌, ◌^◌, ◌<◌, ◌≤◌, Bool, true, false, not}
+use Rattle.std.proofs.Common.{cond, eqb, bit_xor, List, [], ◌∷◌, ◌++◌, map, length, take, drop, replicate, refl, ap}
+use Rattle.std.proofs.Common.{subst, ◌∙◌, sym, inl, inr, arith, length-append}
 use Rattle.std.specs.List.{fold}
 use Rattle.std.specs.Int.Bits.{xor_zero_l, xor_zero_r}
 use Rattle.std.proofs.Math.Nat.{pow-suc}
@@ -25,13 +25,21 @@ length-divide : (steps : ℕ) (p : List Bool) → length (divide steps p) ≡ le
 length-divide zero p = omega arith
 length-divide (suc steps) [] = omega arith
 length-divide (suc steps) (false ∷ p) = omega (arith, length-divide steps p)
-length-divide (suc steps) (true ∷ p) = omega (arith, length-divide steps (add_front generator_rest p),
-    length-add_front generator_rest p)
+length-divide (suc steps) (true ∷ p) = omega (
+  arith,
+  length-divide steps (add_front generator_rest p),
+  length-add_front generator_rest p,
+)
 
 length-invert_front : (p : List Bool) → length (invert_front p) ≡ length p
 length-invert_front p =
-    omega (arith, length-append (map not (take 16 p)) (drop 16 p), length-map (take 16 p) not, length-take 16 p,
-        length-drop 16 p)
+    omega (
+      arith,
+      length-append (map not (take 16 p)) (drop 16 p),
+      length-map (take 16 p) not,
+      length-take 16 p,
+      length-drop 16 p,
+    )
 
 -- what is divided
 abbrev dividend : List ℕ → List Bool
@@ -41,12 +49,18 @@ pub fcs_of-lt : (octets : List ℕ) → fcs_of octets < 65536
 unfolding fcs_of
 fcs_of-lt octets =
     let p = invert_front (dividend octets) in
-    let least : 16 ≤ length p = omega (arith, length-invert_front (dividend octets),
-        length-append (sent_bits octets) (replicate 16 false)) in
-    let size : length (map not (remainder p)) ≡ 16 = omega (arith, length-map (remainder p) not,
-        length-divide (length p - 16) p) in
+    let least : 16 ≤ length p = omega (
+      arith,
+      length-invert_front (dividend octets),
+      length-append (sent_bits octets) (replicate 16 false),
+    ) in
+    let size : length (map not (remainder p)) ≡ 16 = omega (
+      arith,
+      length-map (remainder p) not,
+      length-divide (length p - 16) p,
+    ) in
     let below : number_of (map not (remainder p)) < 2 ^ 16 =
-        subst (λ n. number_of (map not (remainder p)) < 2 ^ n) size (number_of-lt (map not (remainder p))) in
+    subst (λ n. number_of (map not (remainder p)) < 2 ^ n) size (number_of-lt (map not (remainder p))) in
     below
 
 -- ---- on lists: the division takes the bits one at a time
@@ -99,7 +113,7 @@ add_front-add_front (a ∷ q) [] p size = absurd (omega arith)
 add_front-add_front (a ∷ q) (b ∷ r) [] size = refl
 add_front-add_front (a ∷ q) (b ∷ r) (c ∷ p) size =
     ap (λ x. x ∷ add_front q (add_front r p)) (plus_assoc a b c)
-        ∙ ap (λ xs. plus (plus a b) c ∷ xs) (add_front-add_front q r p (omega arith))
+    ∙ ap (λ xs. plus (plus a b) c ∷ xs) (add_front-add_front q r p (omega arith))
 
 reduced-add_front : (a : Bool) (rest p : List Bool) → length rest ≡ 15 → 16 ≤ length p
     → reduced a (add_front rest p) ≡ add_front (shift_by a rest) p
@@ -137,7 +151,7 @@ remainder-register bits =
     let size : length p ≡ length bits + 16 = length-append bits (replicate 16 false) in
     let steps : length (invert_front p) - 16 ≡ length bits = omega (arith, length-invert_front p) in
     ap (λ n. divide n (invert_front p)) steps ∙ ap (divide (length bits)) (invert_front-is 16 p (omega arith))
-        ∙ divide-register bits (replicate 16 true) refl
+    ∙ divide-register bits (replicate 16 true) refl
 
 -- ---- the remainder is that of a division
 
@@ -160,8 +174,11 @@ zeros-add_front (suc n) (b ∷ p) = ap (λ xs. b ∷ xs) (zeros-add_front n p)
 length-times_generator : (q : List Bool) → length (times_generator q) ≡ length q + 16
 length-times_generator [] = refl
 length-times_generator (false ∷ q) = omega (arith, length-times_generator q)
-length-times_generator (true ∷ q) = omega (arith, length-times_generator q,
-    length-add_front generator_rest (times_generator q))
+length-times_generator (true ∷ q) = omega (
+  arith,
+  length-times_generator q,
+  length-add_front generator_rest (times_generator q),
+)
 
 -- a quotient times the generator, and a remainder
 abbrev with_remainder : List Bool → List Bool → List Bool
@@ -181,8 +198,7 @@ divide-quotient (suc steps) (false ∷ p) size =
     let rest = divide-quotient steps p (omega arith) in
     (false ∷ rest.0, ap suc rest.1, ap (λ xs. false ∷ xs) rest.2)
 divide-quotient (suc steps) (true ∷ p) size =
-    let rest = divide-quotient steps (add_front generator_rest p) (omega (arith, length-add_front generator_rest p)) in
-        (
+    let rest = divide-quotient steps (add_front generator_rest p) (omega (arith, length-add_front generator_rest p)) in (
       true ∷ rest.0,
       ap suc rest.1,
       ap (λ xs. true ∷ xs) (sym (add_front-twice generator_rest p) ∙ ap (add_front generator_rest) rest.2
@@ -194,7 +210,7 @@ divide-with_remainder [] r size = zeros-add_front 16 r
 divide-with_remainder (false ∷ q) r size = divide-with_remainder q r size
 divide-with_remainder (true ∷ q) r size =
     ap (divide (length q)) (ap (add_front generator_rest) (sym (with_generator q r))
-        ∙ add_front-twice generator_rest (with_remainder q r)) ∙ divide-with_remainder q r size
+    ∙ add_front-twice generator_rest (with_remainder q r)) ∙ divide-with_remainder q r size
 
 -- There is one remainder, and the definition computes it.
 pub remainder-is : (p r : List Bool) → 16 ≤ length p → IsRemainder p r ↔ (r ≡ remainder p)
@@ -205,7 +221,7 @@ remainder-is p r least = (one, found)
         let q = is.quotient.0 in
         let steps : length q ≡ length p - 16 = omega (arith, is.quotient.1) in
         sym (divide-with_remainder q r is.size) ∙ ap (divide (length q)) (sym is.quotient.2)
-            ∙ ap (λ n. divide n p) steps
+        ∙ ap (λ n. divide n p) steps
 
     found : r ≡ remainder p → IsRemainder p r
     found same =
@@ -261,12 +277,12 @@ shifted-bit false n =
     let half : (n * 2 + 0) / 2 ≡ n = omega arith in
     let even : eqb ((n * 2 + 0) % 2) 1 ≡ false = ne_eqb ((n * 2 + 0) % 2) 1 (omega arith) in
     ap (λ m. bit_xor m (cond (eqb ((n * 2 + 0) % 2) 1) generator_number 0)) half
-        ∙ ap (λ t. bit_xor n (cond t generator_number 0)) even
+    ∙ ap (λ t. bit_xor n (cond t generator_number 0)) even
 shifted-bit true n =
     let half : (n * 2 + 1) / 2 ≡ n = omega arith in
     let odd : eqb ((n * 2 + 1) % 2) 1 ≡ true = eq-eqb ((n * 2 + 1) % 2) 1 (omega arith) in
     ap (λ m. bit_xor m (cond (eqb ((n * 2 + 1) % 2) 1) generator_number 0)) half
-        ∙ ap (λ t. bit_xor n (cond t generator_number 0)) odd
+    ∙ ap (λ t. bit_xor n (cond t generator_number 0)) odd
 
 number_of-shift_by : (a : Bool) (rest : List Bool) → length rest ≡ 15
     → number_of (shift_by a rest) ≡ bit_xor (number_of rest) (cond a generator_number 0)
@@ -283,12 +299,12 @@ number_of-shift_in (a ∷ rest) bit size =
     let alone : bit_number bit ≡ 0 * 2 ^ 1 + bit_number bit = omega arith in
     let taken : bit_xor (number_of (a ∷ rest)) (bit_number bit) ≡ number_of rest * 2 + bit_number (plus a bit) =
     ap (λ n. bit_xor n (bit_number bit)) (number_of-cons a rest)
-        ∙ ap (bit_xor (number_of rest * 2 ^ 1 + bit_number a)) alone
+    ∙ ap (bit_xor (number_of rest * 2 ^ 1 + bit_number a)) alone
     ∙ xor_block 1 (number_of rest) 0 (bit_number a) (bit_number bit) (bit_number-lt a) (bit_number-lt bit)
     ∙ ap (λ n. n * 2 + bit_xor (bit_number a) (bit_number bit)) (xor_zero_r (number_of rest))
     ∙ ap (λ n. number_of rest * 2 + n) (sym (bit_number-plus a bit)) in
     number_of-shift_by (plus a bit) rest (omega arith) ∙ sym (shifted-bit (plus a bit) (number_of rest))
-        ∙ ap shifted (sym taken)
+    ∙ ap shifted (sym taken)
 
 length-shift_in : (r : List Bool) (bit : Bool) → length r ≡ 16 → length (shift_in r bit) ≡ 16
 length-shift_in [] bit size = absurd (omega arith)
@@ -299,7 +315,7 @@ number_of-register : (bits r : List Bool) → length r ≡ 16 → number_of (fol
 number_of-register [] r size = refl
 number_of-register (bit ∷ bits) r size =
     number_of-register bits (shift_in r bit) (length-shift_in r bit size)
-        ∙ ap (λ n. fold after_bit n bits) (number_of-shift_in r bit size)
+    ∙ ap (λ n. fold after_bit n bits) (number_of-shift_in r bit size)
 
 length-register : (bits r : List Bool) → length r ≡ 16 → length (fold shift_in r bits) ≡ 16
 length-register [] r size = size
@@ -311,7 +327,7 @@ unfolding after_octet
 after_octets [] check = refl
 after_octets (octet ∷ octets) check =
     fold-append after_bit check (octet_bits octet) (sent_bits octets)
-        ∙ after_octets octets (fold after_bit check (octet_bits octet))
+    ∙ after_octets octets (fold after_bit check (octet_bits octet))
 
 -- The check sequence is the inverted register.
 pub fcs_of-register : (octets : List ℕ) → fcs_of octets ≡ 65535 - fold after_octet 65535 octets
@@ -337,15 +353,15 @@ shifted-xor c o =
     let half : bit_xor c o / 2 ≡ bit_xor (c / 2) (o / 2) = xor_shr c o 1 in
     let low : o % 2 / 2 ≡ 0 = omega arith in
     let low_half : bit_xor c (o % 2) / 2 ≡ c / 2 = xor_shr c (o % 2) 1 ∙ ap (bit_xor (c / 2)) low
-        ∙ xor_zero_r (c / 2) in
+    ∙ xor_zero_r (c / 2) in
     let twice : o % 2 % 2 ≡ o % 2 = omega arith in
     let odd : bit_xor c o % 2 ≡ bit_xor c (o % 2) % 2 = xor_mod c o 1 ∙ ap (bit_xor (c % 2)) (sym twice)
-        ∙ sym (xor_mod c (o % 2) 1) in
+    ∙ sym (xor_mod c (o % 2) 1) in
     ap (λ n. bit_xor n (g (bit_xor c o % 2))) half ∙ ap (λ n. bit_xor (bit_xor (c / 2) (o / 2)) (g n)) odd
     ∙ xor_assoc (c / 2) (o / 2) (g (bit_xor c (o % 2) % 2))
-        ∙ ap (bit_xor (c / 2)) (xor_comm (o / 2) (g (bit_xor c (o % 2) % 2)))
+    ∙ ap (bit_xor (c / 2)) (xor_comm (o / 2) (g (bit_xor c (o % 2) % 2)))
     ∙ sym (xor_assoc (c / 2) (g (bit_xor c (o % 2) % 2)) (o / 2))
-        ∙ ap (λ n. bit_xor (bit_xor n (g (bit_xor c (o % 2) % 2))) (o / 2)) (sym low_half)
+    ∙ ap (λ n. bit_xor (bit_xor n (g (bit_xor c (o % 2) % 2))) (o / 2)) (sym low_half)
 
 odd_number : (n : ℕ) → bit_number (eqb (n % 2) 1) ≡ n % 2
 odd_number n =
@@ -375,7 +391,7 @@ shifts-high (suc k) x y =
     let even : o % 2 ≡ 0 = omega arith in
     let half : o / 2 ≡ y * 2 ^ k = omega arith in
     ap (shifts k) (shifted-xor x o ∙ ap (λ n. bit_xor (shifted (bit_xor x n)) (o / 2)) even
-        ∙ ap (λ n. bit_xor (shifted n) (o / 2)) (xor_zero_r x) ∙ ap (bit_xor (shifted x)) half)
+    ∙ ap (λ n. bit_xor (shifted n) (o / 2)) (xor_zero_r x) ∙ ap (bit_xor (shifted x)) half)
     ∙ shifts-high k (shifted x) y
 
 -- One octet: the high octet of the register, and eight steps of the low one with the octet added.
@@ -387,12 +403,12 @@ after_octet-is check octet below =
     let none : octet / 256 ≡ 0 = omega arith in
     let all : octet % 256 ≡ octet = omega arith in
     let high : d / 256 ≡ check / 256 = xor_shr check octet 8 ∙ ap (bit_xor (check / 256)) none
-        ∙ xor_zero_r (check / 256) in
+    ∙ xor_zero_r (check / 256) in
     let low : d % 256 ≡ bit_xor (check % 256) octet = xor_mod check octet 8 ∙ ap (bit_xor (check % 256)) all in
     let parts : bit_xor (d % 256) (d / 256 * 2 ^ 8) ≡ d =
     ap (λ n. bit_xor n (d / 256 * 2 ^ 8)) (omega arith) ∙ ap (bit_xor (0 * 2 ^ 8 + d % 256)) (omega arith)
     ∙ xor_block 8 0 (d / 256) (d % 256) 0 (omega arith) (omega arith)
-        ∙ ap (λ n. n * 2 ^ 8 + bit_xor (d % 256) 0) (xor_zero_l (d / 256))
+    ∙ ap (λ n. n * 2 ^ 8 + bit_xor (d % 256) 0) (xor_zero_l (d / 256))
     ∙ ap (λ n. d / 256 * 2 ^ 8 + n) (xor_zero_r (d % 256)) ∙ omega arith in
     taken_at_once 8 check octet below ∙ ap (shifts 8) (sym parts) ∙ shifts-high 8 (d % 256) (d / 256)
     ∙ ap (λ n. bit_xor (shifts 8 n) (d / 256)) low ∙ ap (bit_xor (shifts 8 (bit_xor (check % 256) octet))) high

@@ -7,8 +7,8 @@ use Rattle.hdlc_framer.specs.declared.event.Event.{Event}
 use Rattle.hdlc_framer.specs.declared.event.Event.TheVariants.{None as NoEvent, Flag, Abort, Frame}
 use Rattle.hdlc_framer.specs.Frames.{EndsFrame}
 use Rattle.hdlc_framer.specs.Events.{EventAt}
-use Rattle.hdlc_framer.specs.Held.{Line, Held, StandsFor, HoldsFrame, next_line, open_line, line_after, line_of,
-    content_after_zero}
+use Rattle.hdlc_framer.specs.Held.{Line, Held, StandsFor, HoldsFrame, next_line, open_line, line_after, line_of}
+use Rattle.hdlc_framer.specs.Held.{content_after_zero}
 use Rattle.hdlc_framer.specs.LineEvents.{ClosesFrame, EndsOnZero, LineEvent}
 use Rattle.hdlc_framer.specs.HeldCarrier.{HeldCarrier, next_carrier}
 use Rattle.hdlc_framer.proofs.CarrierLemmas.{carrier_next}
@@ -19,7 +19,7 @@ use Rattle.hdlc_framer.proofs.FrameEnds.{event_told, frame_told}
 opened : (line : Line) → EndsOnZero line → open_line ≡ next_line line false
 opened line ends =
     sym (ap (λ n. at 0 (content_after_zero n line.after_zero line.content)) ends.six
-        ∙ ap (λ z. at 0 (content_after_zero 6 z line.content)) ends.after_zero)
+    ∙ ap (λ z. at 0 (content_after_zero 6 z line.content)) ends.after_zero)
 
 module _ (held : Held) (b : List Bool) (bit : Bool) where
   pub event_is : (event : Event) → StandsFor held b → LineEvent (line_of held) bit event → EventAt (b ++ bit ∷ []) event
@@ -27,8 +27,11 @@ module _ (held : Held) (b : List Bool) (bit : Bool) where
 
   -- a bit that ends no frame
   pub stands_next : (event : Event) → StandsFor held b → LineEvent (line_of held) bit event
-      → StandsFor (record { line = next_line (line_of held) bit; framed = false;
-          carrier = next_carrier held.carrier event }) (b ++ bit ∷ [])
+      → StandsFor (record {
+        line = next_line (line_of held) bit;
+        framed = false;
+        carrier = next_carrier held.carrier event;
+      }) (b ++ bit ∷ [])
   stands_next event stands told = record {
     line = ap (λ line. next_line line bit) stands.line ∙ sym (line_after-push b bit);
     carrier = carrier_next held.carrier b bit event stands.carrier (event_is event stands told);
@@ -46,12 +49,14 @@ frame_event line bit event is told = by_bit bit (subst (LineEvent line bit) (sym
 pub stands_framed : (held : Held) (b : List Bool) (bit : Bool) (event : Event) → Frame ≡ event → StandsFor held b
     → LineEvent (line_of held) bit event
     → StandsFor (record { line = line_of held; framed = true; carrier = next_carrier held.carrier event })
-        (b ++ bit ∷ [])
+    (b ++ bit ∷ [])
 stands_framed held b bit event is stands told =
     let ends = frame_event (line_of held) bit event is told in
-    record { carrier = carrier_next held.carrier b bit event stands.carrier (event_is held b bit event stands told);
-        line = opened (line_of held) ends.1 ∙ ap (next_line (line_of held)) (sym ends.0)
-        ∙ ap (λ line. next_line line bit) stands.line ∙ sym (line_after-push b bit) }
+    record {
+      carrier = carrier_next held.carrier b bit event stands.carrier (event_is held b bit event stands told);
+      line = opened (line_of held) ends.1 ∙ ap (next_line (line_of held)) (sym ends.0)
+          ∙ ap (λ line. next_line line bit) stands.line ∙ sym (line_after-push b bit);
+    }
 
 -- if a frame ends, the line before the bit has it
 pub frame_held : (held : Held) (b : List Bool) (bit : Bool) (octets : List ℕ) → StandsFor held b
@@ -66,8 +71,8 @@ pub frame_comes : (held : Held) (b : List Bool) (bit : Bool) (octets : List ℕ)
 frame_comes held b bit octets event stands ends told =
     let known = frame_told b bit octets ends in
     let at_zero : LineEvent (line_after b) false event =
-        subst (λ t. LineEvent (line_after b) t event) known.0
-        (subst (λ line. LineEvent line bit event) stands.line told) in
+    subst (λ t. LineEvent (line_after b) t event) known.0
+    (subst (λ line. LineEvent line bit event) stands.line told) in
     by_event (line_after b) event known.1 known.2 at_zero
   where
     by_event : (line : Line) (event : Event) → EndsOnZero line → ClosesFrame line octets → LineEvent line false event

@@ -35,7 +35,7 @@ two_frames = refl
 -- two octets FF FF after a 0: a 0 after the 5th, the 10th and the 15th 1
 ones_stuffed : stuffed (sent_bits (0xFF ∷ 0xFF ∷ []))
     ≡ true ∷ true ∷ true ∷ true ∷ true ∷ false ∷ true ∷ true ∷ true ∷ true ∷ true ∷ false ∷ true ∷ true ∷ true ∷ true
-        ∷ true ∷ false ∷ true ∷ []
+    ∷ true ∷ false ∷ true ∷ []
 unfolding octet_bits
 ones_stuffed = refl
 

@@ -1,6 +1,6 @@
 -- The kept line tells exactly what a bit ends, and at most one frame ends with a bit.
-use Rattle.std.proofs.Common.{◌≡◌, ℕ, ◌+◌, ◌-◌, ◌/◌, ◌%◌, ◌<◌, ◌≤◌, Bool, true, false, Some, List, [], ◌∷◌, ◌++◌,
-    length, take, replicate, refl, ap, subst, ◌∙◌, sym, arith, length-append, append_assoc}
+use Rattle.std.proofs.Common.{◌≡◌, ℕ, ◌+◌, ◌-◌, ◌/◌, ◌%◌, ◌<◌, ◌≤◌, Bool, true, false, Some, List, [], ◌∷◌, ◌++◌}
+use Rattle.std.proofs.Common.{length, take, replicate, refl, ap, subst, ◌∙◌, sym, arith, length-append, append_assoc}
 use Rattle.std.specs.List.{All, fold}
 use Rattle.std.proofs.lemmas.Bool.{true≢false}
 use Rattle.std.proofs.lemmas.List.{append_cancel_right, same_from_push, take_at}
@@ -18,8 +18,8 @@ use Rattle.hdlc_framer.specs.Held.{next_line, new_line, line_after, flag_start}
 use Rattle.hdlc_framer.specs.LineEvents.{ClosesFrame, EndsOnZero, LineEvent}
 use Rattle.hdlc_framer.proofs.BitLemmas.{length-sent_bits, same_octets}
 use Rattle.hdlc_framer.proofs.CheckSequenceLemmas.{fcs_of-lt}
-use Rattle.hdlc_framer.proofs.Lines.{flag_front, five_bits, stuffed_five, over_frame, Raw, few, five, six, told_after,
-    run-push_one, run-push_zero}
+use Rattle.hdlc_framer.proofs.Lines.{flag_front, five_bits, stuffed_five, over_frame, Raw, few, five, six, told_after}
+use Rattle.hdlc_framer.proofs.Lines.{run-push_one, run-push_zero}
 
 pub line_after-append : (bits more : List Bool) → line_after (bits ++ more) ≡ fold next_line (line_after bits) more
 unfolding line_after
@@ -31,9 +31,11 @@ pub ends_flag : (bits : List Bool) → EndsOnZero (line_after bits) → EndsFlag
 ends_flag bits ends =
     let told = told_after bits in
     let was = told.zero_before ends.after_zero in
-    let six : run_of_ones bits ≡ 6 = omega (arith, told.ones, ends.six) in
-    (was.0, ap (λ xs. xs ++ false ∷ []) (was.1 ∙ ap (λ n. was.0 ++ false ∷ replicate n true) six)
-        ∙ append_assoc was.0 flag_front (false ∷ []))
+    let six : run_of_ones bits ≡ 6 = omega (arith, told.ones, ends.six) in (
+      was.0,
+      ap (λ xs. xs ++ false ∷ []) (was.1 ∙ ap (λ n. was.0 ++ false ∷ replicate n true) six)
+          ∙ append_assoc was.0 flag_front (false ∷ []),
+    )
 
 -- the bits before the last one of a flag
 flag_without_last : (bits before : List Bool) → bits ++ false ∷ [] ≡ before ++ flag → bits ≡ before ++ flag_front
@@ -49,7 +51,7 @@ ends_on_zero bits ends =
 pub no_flag_on_one : (bits : List Bool) → ¬ EndsFlag (bits ++ true ∷ [])
 no_flag_on_one bits ends =
     true≢false (same_from_push bits (ends.0 ++ flag_front) true false (ends.1
-        ∙ sym (append_assoc ends.0 flag_front (false ∷ [])))).1
+    ∙ sym (append_assoc ends.0 flag_front (false ∷ [])))).1
 
 no_abort_on_zero : (bits : List Bool) → ¬ EndsAbort (bits ++ false ∷ [])
 no_abort_on_zero bits ends = omega (arith, run-push_zero bits, ends)
@@ -63,7 +65,7 @@ with_fcs_fits octets fit =
     let high : fcs_of octets / 256 < 256 = omega (arith, fcs_of-lt octets) in
     All-append (λ x. x < 256) octets (fcs_of octets % 256 ∷ fcs_of octets / 256 ∷ []) fit
     (All-cons (λ x. x < 256) (fcs_of octets % 256) (fcs_of octets / 256 ∷ []) low
-        (All-cons (λ x. x < 256) (fcs_of octets / 256) [] high (All-nil (λ x. x < 256))))
+    (All-cons (λ x. x < 256) (fcs_of octets / 256) [] high (All-nil (λ x. x < 256))))
 
 pub length-with_fcs : (octets : List ℕ) → length (with_fcs octets) ≡ length octets + 2
 unfolding with_fcs
@@ -74,15 +76,15 @@ pub without_fcs : (octets : List ℕ) → take (length (with_fcs octets) - 2) (w
 unfolding with_fcs
 without_fcs octets =
     take_at octets (fcs_of octets % 256 ∷ fcs_of octets / 256 ∷ []) _
-        (omega (arith, length-append octets (fcs_of octets % 256 ∷ fcs_of octets / 256 ∷ [])))
+    (omega (arith, length-append octets (fcs_of octets % 256 ∷ fcs_of octets / 256 ∷ [])))
 
 -- octets come back from their bits with a check sequence and a part of an octet
 pub same_frame : (octets others : List ℕ) → IsFrame octets → IsFrame others
     → sent_bits (with_fcs octets) ++ flag_start ≡ sent_bits (with_fcs others) ++ flag_start → octets ≡ others
 same_frame octets others is_frame others_frame e =
     let both = same_octets (with_fcs octets) (with_fcs others) flag_start flag_start
-        (with_fcs_fits octets is_frame.octets_fit) (with_fcs_fits others others_frame.octets_fit) (omega arith)
-        (omega arith) e in
+    (with_fcs_fits octets is_frame.octets_fit) (with_fcs_fits others others_frame.octets_fit) (omega arith)
+    (omega arith) e in
     sym (without_fcs octets) ∙ ap (λ xs. take (length xs - 2) xs) both ∙ without_fcs others
 
 -- a content that ends as a flag begins came from stuffed bits and the front of a flag
@@ -91,9 +93,9 @@ raw_closed n raw bits at_six (few count same) = absurd (omega arith)
 raw_closed n raw bits at_six (five front is e l same) = absurd (omega arith)
 raw_closed n raw bits at_six (six front is e l same) =
     let fronts : bits ++ five_bits ≡ front =
-        (same_from_push (bits ++ five_bits) front true true (append_assoc bits five_bits (true ∷ []) ∙ e)).0 in
+    (same_from_push (bits ++ five_bits) front true true (append_assoc bits five_bits (true ∷ []) ∙ e)).0 in
     same ∙ ap (λ xs. stuffed_from xs 4 ++ true ∷ true ∷ []) (sym fronts)
-        ∙ ap (λ xs. xs ++ true ∷ true ∷ []) (stuffed_five bits)
+    ∙ ap (λ xs. xs ++ true ∷ true ∷ []) (stuffed_five bits)
     ∙ append_assoc (stuffed bits) five_bits (true ∷ true ∷ [])
 
 ends_frame : (bits : List Bool) (octets : List ℕ) → EndsOnZero (line_after bits) → ClosesFrame (line_after bits) octets
@@ -107,7 +109,7 @@ ends_frame bits octets ends closes =
       since.0,
       ap (λ xs. xs ++ false ∷ []) (since.2 ∙ ap (λ xs. (since.0 ++ flag) ++ xs) came)
           ∙ append_assoc (since.0 ++ flag) (body ++ flag_front) (false ∷ [])
-              ∙ append_assoc since.0 flag ((body ++ flag_front) ++ false ∷ [])
+          ∙ append_assoc since.0 flag ((body ++ flag_front) ++ false ∷ [])
           ∙ ap (λ xs. since.0 ++ (flag ++ xs)) (append_assoc body flag_front (false ∷ [])),
       closes.frame,
     )
@@ -122,7 +124,7 @@ unfolding frame_front frame_bits
 frame_front-push before octets =
     let body = stuffed (sent_bits (with_fcs octets)) in
     append_assoc before (flag ++ (body ++ flag_front)) (false ∷ [])
-        ∙ ap (λ xs. before ++ xs) (append_assoc flag (body ++ flag_front) (false ∷ []))
+    ∙ ap (λ xs. before ++ xs) (append_assoc flag (body ++ flag_front) (false ∷ []))
     ∙ ap (λ xs. before ++ (flag ++ xs)) (append_assoc body flag_front (false ∷ []))
 
 line_of_frame : (before : List Bool) (octets : List ℕ) → IsFrame octets
@@ -130,9 +132,9 @@ line_of_frame : (before : List Bool) (octets : List ℕ) → IsFrame octets
 unfolding frame_front
 line_of_frame before octets is_frame =
     let few : length (sent_bits (with_fcs octets)) ≤ 8208 =
-        omega (arith, length-sent_bits (with_fcs octets), length-with_fcs octets, is_frame.most) in
+    omega (arith, length-sent_bits (with_fcs octets), length-with_fcs octets, is_frame.most) in
     let known = line_after-append before (flag ++ (stuffed (sent_bits (with_fcs octets)) ++ flag_front))
-        ∙ over_frame (line_after before) (sent_bits (with_fcs octets)) few in
+    ∙ over_frame (line_after before) (sent_bits (with_fcs octets)) few in
     record { content = ap (λ line. line.content) known; frame = is_frame }
 
 closes_frame : (bits : List Bool) (octets : List ℕ) → EndsFrame (bits ++ false ∷ []) octets
@@ -140,13 +142,13 @@ closes_frame : (bits : List Bool) (octets : List ℕ) → EndsFrame (bits ++ fal
 closes_frame bits octets ends =
     let front = frame_front ends.0 octets in
     let same : bits ≡ front = (same_from_push bits front false false (ends.1 ∙ sym (frame_front-push ends.0 octets))).0
-        in
+    in
     subst (λ xs. ClosesFrame (line_after xs) octets) (sym same) (line_of_frame ends.0 octets ends.2)
 
 no_frame_on_one : (bits : List Bool) (octets : List ℕ) → ¬ EndsFrame (bits ++ true ∷ []) octets
 no_frame_on_one bits octets ends =
     true≢false (same_from_push bits (frame_front ends.0 octets) true false (ends.1
-        ∙ sym (frame_front-push ends.0 octets))).1
+    ∙ sym (frame_front-push ends.0 octets))).1
 
 -- ---- the event of a bit
 
@@ -175,14 +177,17 @@ frame_flag bits octets ends = (
 pub frame_told : (bits : List Bool) (bit : Bool) (octets : List ℕ) → EndsFrame (bits ++ bit ∷ []) octets
     → (bit ≡ false) × EndsOnZero (line_after bits) × ClosesFrame (line_after bits) octets
 frame_told bits true octets ends = absurd (no_frame_on_one bits octets ends)
-frame_told bits false octets ends = (refl, ends_on_zero bits (frame_flag (bits ++ false ∷ []) octets ends),
-    closes_frame bits octets ends)
+frame_told bits false octets ends = (
+  refl,
+  ends_on_zero bits (frame_flag (bits ++ false ∷ []) octets ends),
+  closes_frame bits octets ends,
+)
 
 -- a flag ends with a 0, and an abort with a 1
 pub flag_no_abort : (bits : List Bool) → EndsFlag bits → ¬ EndsAbort bits
 flag_no_abort bits ends abort =
     let here : bits ≡ (ends.0 ++ flag_front) ++ false ∷ [] = ends.1
-        ∙ sym (append_assoc ends.0 flag_front (false ∷ [])) in
+    ∙ sym (append_assoc ends.0 flag_front (false ∷ [])) in
     omega (arith, run-push_zero (ends.0 ++ flag_front), ap run_of_ones here, abort)
 
 -- One event comes with a bit.
@@ -213,7 +218,7 @@ one_frame bits octets others ends others_end =
     let first = closes_frame front octets (subst (λ xs. EndsFrame xs octets) here ends) in
     let second = closes_frame front others (subst (λ xs. EndsFrame xs others) here others_end) in
     let both : Some (sent_bits (with_fcs octets) ++ flag_start) ≡ Some (sent_bits (with_fcs others) ++ flag_start) =
-        sym first.content ∙ second.content in
+    sym first.content ∙ second.content in
     let same : octets ≡ others = same_frame octets others ends.2 others_end.2 cc in (
       same,
       append_cancel_right ends.0 others_end.0 (flag ++ (frame_bits octets ++ flag))

@@ -1,17 +1,17 @@
 -- The line that a deframer keeps tells exactly where flags, aborts and frames end.
-use Rattle.std.proofs.Common.{◌≡◌, ℕ, zero, suc, ◌+◌, ◌-◌, ◌<◌, ◌≤◌, min, Bool, true, false, ◌&&◌, ltb, eqb, Option,
-    Some, None, List, [], ◌∷◌, ◌++◌, length, replicate, refl, ap, subst, ◌∙◌, sym, inl, inr, arith, length-append,
-    append_assoc, append-nil, fold}
+use Rattle.std.proofs.Common.{◌≡◌, ℕ, zero, suc, ◌+◌, ◌-◌, ◌<◌, ◌≤◌, min, Bool, true, false, ◌&&◌, ltb, eqb, Option}
+use Rattle.std.proofs.Common.{Some, None, List, [], ◌∷◌, ◌++◌, length, replicate, refl, ap, subst, ◌∙◌, sym, inl, inr}
+use Rattle.std.proofs.Common.{arith, length-append, append_assoc, append-nil, fold}
 use Rattle.std.specs.List.{prefix_len}
-use Rattle.std.proofs.lemmas.Bool.{cond-true, cond-false, lt-ltb, le-ltb, eq-eqb, ne_eqb, cases_lt, cases_eq,
-    cases_Bool, and_parts, eqb-true, false≢true}
+use Rattle.std.proofs.lemmas.Bool.{cond-true, cond-false, lt-ltb, le-ltb, eq-eqb, ne_eqb, cases_lt, cases_eq}
+use Rattle.std.proofs.lemmas.Bool.{cases_Bool, and_parts, eqb-true, false≢true}
 use Rattle.std.proofs.lemmas.List.Sums.{fold-append}
 use Rattle.std.proofs.lemmas.List.{length_push, reverse-append, replicate_more}
 use Rattle.hdlc_framer.specs.Counted.{stuffed_from, left_after}
 use Rattle.hdlc_framer.specs.Stuffing.{flag, stuffed}
 use Rattle.hdlc_framer.specs.Frames.{run_of_ones}
-use Rattle.hdlc_framer.specs.Held.{Line, longer, next_line, new_line, open_line, line_after, flag_start,
-    content_after_one, content_after_zero}
+use Rattle.hdlc_framer.specs.Held.{Line, longer, next_line, new_line, open_line, line_after, flag_start}
+use Rattle.hdlc_framer.specs.Held.{content_after_one, content_after_zero}
 use Rattle.hdlc_framer.proofs.StuffingLemmas.{stuffed_is, stuffed_from-append, left_after-append}
 
 -- ---- one bit more
@@ -51,14 +51,14 @@ next_fifth : (n : ℕ) (content : List Bool) → 4 ≡ n → length content < 82
     → next_line (next_line (at n (Some content)) true) false ≡ at 0 (Some (content ++ true ∷ []))
 next_fifth n content four fits =
     let P : ℕ → Type 0 = λ m. next_line (next_line (at m (Some content)) true) false
-        ≡ at 0 (Some (content ++ true ∷ [])) in
+    ≡ at 0 (Some (content ++ true ∷ [])) in
     subst P four (ap (at 0) (longer_fits content true fits))
 
 -- bits with their inserted zeros join the content without them
 over_stuffed : (bits : List Bool) (n left : ℕ) (content : List Bool) → n + left ≡ 4
     → length content + length bits ≤ 8215
     → fold next_line (at n (Some content)) (stuffed_from bits left)
-        ≡ at (4 - left_after bits left) (Some (content ++ bits))
+    ≡ at (4 - left_after bits left) (Some (content ++ bits))
 over_stuffed [] n left content four fits =
     let count : n ≡ 4 - left = omega arith in
     ap (λ m. at m (Some content)) count ∙ ap (λ xs. at (4 - left) (Some xs)) (sym (append-nil content))
@@ -99,11 +99,11 @@ pub over_frame : (line : Line) (bits : List Bool) → length bits ≤ 8208
 over_frame line bits few =
     let regroup : stuffed bits ++ flag_front ≡ stuffed_from (bits ++ five_bits) 4 ++ true ∷ true ∷ [] =
     sym (append_assoc (stuffed bits) five_bits (true ∷ true ∷ []))
-        ∙ ap (λ xs. xs ++ true ∷ true ∷ []) (sym (stuffed_five bits)) in
+    ∙ ap (λ xs. xs ++ true ∷ true ∷ []) (sym (stuffed_five bits)) in
     let fits : length (bits ++ five_bits) ≤ 8213 = omega (arith, length-append bits five_bits) in
     let inside : fold next_line open_line (stuffed_from (bits ++ five_bits) 4) ≡ at 4 (Some (bits ++ five_bits)) =
     over_stuffed (bits ++ five_bits) 0 4 [] refl (omega arith)
-        ∙ ap (λ n. at (4 - n) (Some (bits ++ five_bits))) (left_after_five bits) in
+    ∙ ap (λ n. at (4 - n) (Some (bits ++ five_bits))) (left_after_five bits) in
     ap (fold next_line open_line) regroup
     ∙ fold-append next_line open_line (stuffed_from (bits ++ five_bits) 4) (true ∷ true ∷ [])
     ∙ ap (λ l. fold next_line l (true ∷ true ∷ [])) inside
@@ -161,7 +161,7 @@ raw_one n raw content below (few count same) =
           let one = one_left (left_after content 4) (omega arith) in
           few (omega (arith, left_after-append content (true ∷ []) 4, one.0))
           (ap (λ xs. xs ++ true ∷ []) same ∙ ap (λ xs. stuffed_from content 4 ++ xs) (sym one.1)
-              ∙ sym (stuffed_from-append content (true ∷ []) 4))
+          ∙ sym (stuffed_from-append content (true ∷ []) 4))
     ]
 raw_one n raw content below (five front is e l same) = absurd (omega arith)
 raw_one n raw content below (six front is e l same) = absurd (omega arith)
@@ -171,7 +171,7 @@ raw_sixth : (n : ℕ) (raw content : List Bool) → n ≡ 5 → Raw n raw conten
 raw_sixth n raw content at_five (few count same) = absurd (omega arith)
 raw_sixth n raw content at_five (five front is e l same) =
     six front (omega arith) e l (ap (λ xs. xs ++ true ∷ []) same
-        ∙ append_assoc (stuffed_from front 4) (true ∷ []) (true ∷ []))
+    ∙ append_assoc (stuffed_from front 4) (true ∷ []) (true ∷ []))
 raw_sixth n raw content at_five (six front is e l same) = absurd (omega arith)
 
 raw_zero : (n : ℕ) (raw content : List Bool) → n < 5 → Raw n raw content
@@ -190,7 +190,7 @@ raw_inserted n raw content at_five (five front is e l same) =
     few (ap (λ xs. 0 + left_after xs 4) e ∙ omega (arith, left_after-append front (true ∷ []) 4))
     (ap (λ xs. xs ++ false ∷ []) same ∙ append_assoc (stuffed_from front 4) (true ∷ []) (false ∷ [])
     ∙ ap (λ xs. stuffed_from front 4 ++ xs) (sym at_last) ∙ sym (stuffed_from-append front (true ∷ []) 4)
-        ∙ ap (λ xs. stuffed_from xs 4) (sym e))
+    ∙ ap (λ xs. stuffed_from xs 4) (sym e))
 raw_inserted n raw content at_five (six front is e l same) = absurd (omega arith)
 
 -- the content of a new flag is empty
@@ -209,7 +209,7 @@ told_one line bits told = record {
     was.0,
     ap (λ xs. xs ++ true ∷ []) was.1 ∙ append_assoc was.0 (false ∷ replicate (run_of_ones bits) true) (true ∷ [])
         ∙ ap (λ xs. was.0 ++ false ∷ xs) (replicate_more (run_of_ones bits) true
-            ∙ ap (λ n. replicate n true) (omega (arith, run-push_one bits))),
+        ∙ ap (λ n. replicate n true) (omega (arith, run-push_one bits))),
   );
   since_flag = λ content e. since content e;
 }
@@ -234,16 +234,19 @@ told_one line bits told = record {
         → Since content
     sixth at_five content e =
         let kept = sym (cond-false _ _ _ (le-ltb line.ones 5 (omega arith))
-            ∙ cond-true _ _ _ (eq-eqb line.ones 5 at_five)) ∙ e in
-        let was = told.since_flag content kept in
-        (was.0, was.1 ++ true ∷ [], further bits was.0 was.1 true was.2,
-            raw_sixth line.ones was.1 content at_five was.3)
+        ∙ cond-true _ _ _ (eq-eqb line.ones 5 at_five)) ∙ e in
+        let was = told.since_flag content kept in (
+          was.0,
+          was.1 ++ true ∷ [],
+          further bits was.0 was.1 true was.2,
+          raw_sixth line.ones was.1 content at_five was.3,
+        )
 
     more : 5 ≤ line.ones → (line.ones ≡ 5 → ⊥) → (content : List Bool)
         → content_after_one line.ones line.content ≡ Some content → Since content
     more least other content e =
         none_is_some content (sym (cond-false _ _ _ (le-ltb line.ones 5 least)
-            ∙ cond-false _ _ _ (ne_eqb line.ones 5 other)) ∙ e)
+        ∙ cond-false _ _ _ (ne_eqb line.ones 5 other)) ∙ e)
 
     since : (content : List Bool) → content_after_one line.ones line.content ≡ Some content → Since content
     since content e =
@@ -280,10 +283,13 @@ told_zero line bits told = record {
     inserted : line.ones ≡ 5 → (content : List Bool) → After content → Since content
     inserted at_five content e =
         let kept = sym (cond-false _ _ _ (le-ltb line.ones 5 (omega arith))
-            ∙ cond-true _ _ _ (eq-eqb line.ones 5 at_five)) ∙ e in
-        let was = told.since_flag content kept in
-        (was.0, was.1 ++ false ∷ [], further bits was.0 was.1 false was.2,
-            raw_inserted line.ones was.1 content at_five was.3)
+        ∙ cond-true _ _ _ (eq-eqb line.ones 5 at_five)) ∙ e in
+        let was = told.since_flag content kept in (
+          was.0,
+          was.1 ++ false ∷ [],
+          further bits was.0 was.1 false was.2,
+          raw_inserted line.ones was.1 content at_five was.3,
+        )
 
     opened : (content : List Bool) → line.ones ≡ 6 → line.after_zero ≡ true → Some [] ≡ Some content → Since content
     opened content at_six seen e =
@@ -301,7 +307,7 @@ told_zero line bits told = record {
     more : 5 ≤ line.ones → (line.ones ≡ 5 → ⊥) → (content : List Bool) → After content → Since content
     more least other content e =
         let rest = sym (cond-false _ _ _ (le-ltb line.ones 5 least) ∙ cond-false _ _ _ (ne_eqb line.ones 5 other))
-            ∙ e in
+        ∙ e in
         elim (cases_Bool (eqb line.ones 6 && line.after_zero)) [
           | inl both ↦
               let parts = and_parts (eqb line.ones 6) line.after_zero both in

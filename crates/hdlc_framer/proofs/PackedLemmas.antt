@@ -1,7 +1,7 @@
 -- Octets and a part of an octet, as bits and as a frame.
-use Rattle.std.proofs.Common.{◌≡◌, ℕ, ◌+◌, ◌-◌, ◌*◌, ◌/◌, ◌%◌, ◌<◌, ◌≤◌, Bool, not, eqb, ltb, List, [], ◌∷◌, ◌++◌,
-    length, get_or, take, drop, refl, ap, subst, ◌∙◌, sym, inl, inr, arith, length-append, length-take, length-drop,
-    take-append-drop}
+use Rattle.std.proofs.Common.{◌≡◌, ℕ, ◌+◌, ◌-◌, ◌*◌, ◌/◌, ◌%◌, ◌<◌, ◌≤◌, Bool, not, eqb, ltb, List, [], ◌∷◌, ◌++◌}
+use Rattle.std.proofs.Common.{length, get_or, take, drop, refl, ap, subst, ◌∙◌, sym, inl, inr, arith, length-append}
+use Rattle.std.proofs.Common.{length-take, length-drop, take-append-drop}
 use Rattle.std.specs.List.{All}
 use Rattle.std.proofs.lemmas.Bool.{lt-ltb, le-ltb, eq-eqb, ne_eqb, cases_eq}
 use Rattle.std.proofs.lemmas.List.{append_cancel_left, drop_at}
@@ -19,7 +19,7 @@ pub packed_push : (octets : List ℕ) (filled part octet : ℕ) (bit : Bool) (bi
     → sent_bits octets ++ low_bits filled part ≡ bits → sent_bits (octets ++ octet ∷ []) ++ [] ≡ bits ++ bit ∷ []
 packed_push octets filled part octet bit bits seven whole same =
     let P : ℕ → Type 0 = λ n. low_bits (n + 1) octet ≡ low_bits n part ++ bit ∷ []
-        → sent_bits octets ++ low_bits n part ≡ bits → sent_bits (octets ++ octet ∷ []) ++ [] ≡ bits ++ bit ∷ [] in
+    → sent_bits octets ++ low_bits n part ≡ bits → sent_bits (octets ++ octet ∷ []) ++ [] ≡ bits ++ bit ∷ [] in
     let at_seven : P 7 = λ e f. packed_octet octets part octet bit e ∙ ap (λ xs. xs ++ bit ∷ []) f in
     subst P seven at_seven whole same
 
@@ -44,7 +44,7 @@ module _ (items : List ℕ) (filled part : ℕ) (bits : List Bool) (octets : Lis
   frame_items packed same closes is_frame =
       let short : length (low_bits filled part) < 8 = omega (arith, length-low_bits filled part, packed.below_octet) in
       same_octets items (with_fcs octets) (low_bits filled part) flag_start packed.octets_fit
-          (with_fcs_fits octets is_frame.octets_fit) short (omega arith) (same ∙ closes)
+      (with_fcs_fits octets is_frame.octets_fit) short (omega arith) (same ∙ closes)
 
   pub frame_part : IsPacked items filled part → sent_bits items ++ low_bits filled part ≡ bits
       → bits ≡ sent_bits (with_fcs octets) ++ flag_start → IsFrame octets → (filled ≡ 6) × (part ≡ 62)
@@ -52,15 +52,17 @@ module _ (items : List ℕ) (filled part : ℕ) (bits : List Bool) (octets : Lis
       let whole = frame_items packed same closes is_frame in
       let rest : low_bits filled part ≡ flag_start =
       append_cancel_left (sent_bits (with_fcs octets)) (low_bits filled part) flag_start
-          (ap (λ xs. sent_bits xs ++ low_bits filled part) (sym whole) ∙ same ∙ closes) in
-      (sym (length-low_bits filled part) ∙ ap length rest, sym (number_of-low_bits filled part packed.part_fits)
-          ∙ ap number_of rest)
+      (ap (λ xs. sent_bits xs ++ low_bits filled part) (sym whole) ∙ same ∙ closes) in (
+        sym (length-low_bits filled part) ∙ ap length rest,
+        sym (number_of-low_bits filled part packed.part_fits)
+            ∙ ap number_of rest,
+      )
 
   pub frame_bits_from : sent_bits items ++ low_bits filled part ≡ bits → items ≡ with_fcs octets → filled ≡ 6
       → part ≡ 62 → bits ≡ sent_bits (with_fcs octets) ++ flag_start
   frame_bits_from same whole six sixty_two =
       sym same ∙ ap (λ xs. sent_bits xs ++ low_bits filled part) whole
-          ∙ ap (λ n. sent_bits (with_fcs octets) ++ low_bits n part) six
+      ∙ ap (λ n. sent_bits (with_fcs octets) ++ low_bits n part) six
       ∙ ap (λ n. sent_bits (with_fcs octets) ++ low_bits 6 n) sixty_two
 
   pub frame_length : IsPacked items filled part → sent_bits items ++ low_bits filled part ≡ bits
@@ -89,10 +91,10 @@ module _ (octets frame sent : List ℕ) where
   unfolding with_fcs
   fcs_ends front back least most fit is_fcs =
       let size : length frame ≡ length octets - 2 = ap length front ∙ length-take (length octets - 2) octets
-          ∙ omega arith in
+      ∙ omega arith in
       let two : length sent ≡ 2 = ap length back ∙ length-drop (length octets - 2) octets ∙ omega arith in
       let sent_fit : All (λ octet. octet < 256) sent = subst (All (λ octet. octet < 256)) (sym back)
-          (All-drop (λ octet. octet < 256) (length octets - 2) octets fit) in
+      (All-drop (λ octet. octet < 256) (length octets - 2) octets fit) in
       let low_fits : get_or sent 0 0 < 256 = All-get_or (λ octet. octet < 256) sent 0 0 (omega arith) sent_fit in
       let high_fits : get_or sent 1 0 < 256 = All-get_or (λ octet. octet < 256) sent 1 0 (omega arith) sent_fit in
       let low : get_or sent 0 0 ≡ fcs_of frame % 256 = omega arith in
@@ -116,5 +118,5 @@ module _ (octets frame sent : List ℕ) where
       let last : sent ≡ (fcs_of others % 256) ∷ (fcs_of others / 256) ∷ [] =
       back ∙ ap (λ xs. drop (length xs - 2) xs) whole
       ∙ drop_at others ((fcs_of others % 256) ∷ (fcs_of others / 256) ∷ []) _
-          (omega (arith, length-append others ((fcs_of others % 256) ∷ (fcs_of others / 256) ∷ []))) in
+      (omega (arith, length-append others ((fcs_of others % 256) ∷ (fcs_of others / 256) ∷ []))) in
       ap (λ xs. get_or xs 0 0 + get_or xs 1 0 * 256) last ∙ omega arith ∙ ap fcs_of (sym same)

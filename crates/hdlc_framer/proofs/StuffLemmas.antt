@@ -1,6 +1,6 @@
 -- The bits of a transmission, one piece after another.
-use Rattle.std.proofs.Common.{◌≡◌, ℕ, zero, suc, ◌+◌, ◌/◌, ◌%◌, ◌<◌, ◌≤◌, Bool, cond, eqb, List, [], ◌∷◌, ◌++◌, length,
-    get_or, take, refl, ap, ◌∙◌, sym, arith, append_assoc, add-one}
+use Rattle.std.proofs.Common.{◌≡◌, ℕ, zero, suc, ◌+◌, ◌/◌, ◌%◌, ◌<◌, ◌≤◌, Bool, cond, eqb, List, [], ◌∷◌, ◌++◌, length}
+use Rattle.std.proofs.Common.{get_or, take, refl, ap, ◌∙◌, sym, arith, append_assoc, add-one}
 use Rattle.std.proofs.lemmas.Bool.{ne_eqb}
 use Rattle.std.proofs.lemmas.List.{take_all, take_more, length-take-le}
 use Rattle.std.proofs.lemmas.List.Concat.{flat_map-append}
@@ -18,7 +18,7 @@ stuffed_more : (before bits more : List Bool) (left : ℕ)
     ≡ before ++ stuffed_from (bits ++ more) left
 stuffed_more before bits more left =
     append_assoc before (stuffed_from bits left) (stuffed_from more (left_after bits left))
-        ∙ ap (λ xs. before ++ xs) (sym (stuffed_from-append bits more left))
+    ∙ ap (λ xs. before ++ xs) (sym (stuffed_from-append bits more left))
 
 module _ (bits more : List Bool) (left here : ℕ) where
   -- what has been sent, if so many 1s may come here
@@ -26,8 +26,8 @@ module _ (bits more : List Bool) (left here : ℕ) where
       → next ≡ now ++ stuffed_from more here → next ≡ before ++ stuffed_from (bits ++ more) left
   sent_more before now next is_now is_here is_next =
       is_next ∙ ap (λ xs. xs ++ stuffed_from more here) is_now
-          ∙ ap (λ n. (before ++ stuffed_from bits left) ++ stuffed_from more n) is_here
-          ∙ stuffed_more before bits more left
+      ∙ ap (λ n. (before ++ stuffed_from bits left) ++ stuffed_from more n) is_here
+      ∙ stuffed_more before bits more left
 
   -- and how many may come then
   pub left_more : (after : ℕ) → here ≡ left_after bits left → after ≡ left_after more here
@@ -44,12 +44,12 @@ flags-more count = ap flags (add-one count) ∙ more count
 -- a frame is its octets and then its check sequence
 pub frame_bits-is : (octets : List ℕ) → frame_bits octets
     ≡ stuffed_from (sent_bits octets) 4 ++ stuffed_from (sent_bits ((fcs_of octets % 256) ∷ (fcs_of octets / 256) ∷ []))
-        (left_after (sent_bits octets) 4)
+    (left_after (sent_bits octets) 4)
 unfolding frame_bits with_fcs
 frame_bits-is octets =
     let check = (fcs_of octets % 256) ∷ (fcs_of octets / 256) ∷ [] in
     stuffed_is (sent_bits (octets ++ check)) ∙ ap (λ xs. stuffed_from xs 4) (flat_map-append octet_bits octets check)
-        ∙ stuffed_from-append (sent_bits octets) (sent_bits check) 4
+    ∙ stuffed_from-append (sent_bits octets) (sent_bits check) 4
 
 -- one frame more
 pub joined-push : (frames : List (List ℕ)) (octets : List ℕ)
@@ -66,38 +66,38 @@ joined-push (first ∷ frames) octets = behind first frames octets
     behind first (next ∷ frames) octets =
         ap (λ xs. frame_bits first ++ (flag ++ xs)) (behind next frames octets)
         ∙ ap (λ xs. frame_bits first ++ xs)
-            (sym (append_assoc flag (joined (next ∷ frames)) (flag ++ frame_bits octets)))
+        (sym (append_assoc flag (joined (next ∷ frames)) (flag ++ frame_bits octets)))
         ∙ sym (append_assoc (frame_bits first) (flag ++ joined (next ∷ frames)) (flag ++ frame_bits octets))
 
 -- a frame sent after other bits
 pub frame_sent : (before : List Bool) (octets check : List ℕ) (now next : List Bool) (left : ℕ)
     → check ≡ (fcs_of octets % 256) ∷ (fcs_of octets / 256) ∷ []
     → now ≡ before ++ stuffed_from (sent_bits octets) 4 → left ≡ left_after (sent_bits octets) 4
-        → next ≡ now ++ stuffed_from (sent_bits check) left → next ≡ before ++ frame_bits octets
+    → next ≡ now ++ stuffed_from (sent_bits check) left → next ≡ before ++ frame_bits octets
 frame_sent before octets check now next left is_check is_now is_left is_next =
     is_next ∙ ap (λ xs. now ++ stuffed_from (sent_bits xs) left) is_check
     ∙ ap (λ xs. xs ++ stuffed_from (sent_bits ((fcs_of octets % 256) ∷ (fcs_of octets / 256) ∷ [])) left) is_now
     ∙ ap (λ n. (before ++ stuffed_from (sent_bits octets) 4) ++ stuffed_from
-        (sent_bits ((fcs_of octets % 256) ∷ (fcs_of octets / 256) ∷ [])) n) is_left
+    (sent_bits ((fcs_of octets % 256) ∷ (fcs_of octets / 256) ∷ [])) n) is_left
     ∙ append_assoc before (stuffed_from (sent_bits octets) 4)
-        (stuffed_from (sent_bits ((fcs_of octets % 256) ∷ (fcs_of octets / 256) ∷ []))
-        (left_after (sent_bits octets) 4))
+    (stuffed_from (sent_bits ((fcs_of octets % 256) ∷ (fcs_of octets / 256) ∷ []))
+    (left_after (sent_bits octets) 4))
     ∙ ap (λ xs. before ++ xs) (sym (frame_bits-is octets))
 
 -- one frame more after the opening flags
 pub joined_more : (before now next : List Bool) (frames : List (List ℕ)) (place : ℕ) (octets : List ℕ)
     → place < length frames → octets ≡ get_or frames place octets → now ≡ before ++ joined (take place frames)
     → next ≡ now ++ cond (eqb place 0) (frame_bits octets) (flag ++ frame_bits octets)
-        → next ≡ before ++ joined (take (place + 1) frames)
+    → next ≡ before ++ joined (take (place + 1) frames)
 joined_more before now next frames place octets below is_octets is_now is_next =
     let size : length (take place frames) ≡ place = length-take-le place frames (omega arith) in
     let last : List Bool = cond (eqb place 0) (frame_bits octets) (flag ++ frame_bits octets) in
     is_next ∙ ap (λ xs. xs ++ last) is_now ∙ append_assoc before (joined (take place frames)) last
     ∙ ap (λ n. before ++ (joined (take place frames) ++ cond (eqb n 0) (frame_bits octets) (flag ++ frame_bits octets)))
-        (sym size)
+    (sym size)
     ∙ ap (λ xs. before ++ xs) (sym (joined-push (take place frames) octets))
     ∙ ap (λ x. before ++ joined (take place frames ++ x ∷ [])) is_octets
-        ∙ ap (λ xs. before ++ joined xs) (sym (take_more frames place octets below))
+    ∙ ap (λ xs. before ++ joined xs) (sym (take_more frames place octets below))
 
 -- and the closing flags
 pub body_sent : (frames : List (List ℕ)) (opening closing place : ℕ) (now next : List Bool) → length frames ≤ place
@@ -106,5 +106,5 @@ pub body_sent : (frames : List (List ℕ)) (opening closing place : ℕ) (now ne
 unfolding body
 body_sent frames opening closing place now next all is_now is_next =
     is_next ∙ ap (λ xs. xs ++ flags closing) (is_now ∙ ap (λ xs. flags opening ++ joined xs)
-        (take_all place frames all))
+    (take_all place frames all))
     ∙ append_assoc (flags opening) (joined frames) (flags closing)

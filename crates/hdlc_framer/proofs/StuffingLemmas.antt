@@ -1,6 +1,6 @@
 -- Inserted zeros, counted, are those of the definition.
-use Rattle.std.proofs.Common.{◌≡◌, ℕ, zero, suc, ◌+◌, ◌≤◌, Bool, true, false, List, [], ◌∷◌, ◌++◌, refl, ap, subst, ◌∙◌,
-    sym, arith}
+use Rattle.std.proofs.Common.{◌≡◌, ℕ, zero, suc, ◌+◌, ◌≤◌, Bool, true, false, List, [], ◌∷◌, ◌++◌, refl, ap, subst, ◌∙◌}
+use Rattle.std.proofs.Common.{sym, arith}
 use Rattle.hdlc_framer.specs.Counted.{stuffed_from, left_after}
 use Rattle.hdlc_framer.specs.Stuffing.{stuffed}
 
@@ -36,11 +36,11 @@ stuffed-ones_before : (bits : List Bool) (k left : ℕ) → k + left ≡ 4
 stuffed-ones_before [] k left h = stuffed-ones_before-nil k (omega arith)
 stuffed-ones_before (false ∷ bits) k left h =
     stuffed-ones_before-false k bits (omega arith) ∙ ap (λ xs. ones_before k (false ∷ xs))
-        (stuffed-ones_before bits 0 4 refl)
+    (stuffed-ones_before bits 0 4 refl)
 stuffed-ones_before (true ∷ bits) k zero h =
     let four : 4 ≡ k = omega arith in
     let P : ℕ → Type 0 = λ n. stuffed (ones_before n (true ∷ bits))
-        ≡ ones_before n (true ∷ false ∷ stuffed_from bits 4) in
+    ≡ ones_before n (true ∷ false ∷ stuffed_from bits 4) in
     subst P four (ap (λ xs. true ∷ true ∷ true ∷ true ∷ true ∷ false ∷ xs) (stuffed-ones_before bits 0 4 refl))
 stuffed-ones_before (true ∷ bits) k (suc left) h =
     ap stuffed (ones_before-cons k bits) ∙ stuffed-ones_before bits (suc k) left (omega arith)

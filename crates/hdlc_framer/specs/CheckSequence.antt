@@ -1,7 +1,7 @@
 -- The 16-bit frame check sequence (ISO/IEC 3309, AX.25 2.2 section 3.7): a division of polynomials
 -- over two elements. A list of bits is a polynomial by its coefficients, that of the highest power first.
-use Rattle.std.specs.Prelude.{ℕ, zero, suc, ◌-◌, Bool, true, false, not, List, [], ◌∷◌, ◌++◌, map, length, take, drop,
-    replicate}
+use Rattle.std.specs.Prelude.{ℕ, zero, suc, ◌-◌, Bool, true, false, not, List, [], ◌∷◌, ◌++◌, map, length, take, drop}
+use Rattle.std.specs.Prelude.{replicate}
 use Rattle.hdlc_framer.specs.BitOrder.{sent_bits, number_of}
 
 -- the sum of two coefficients
@@ -19,7 +19,7 @@ add_front (a ∷ q) (b ∷ p) = plus a b ∷ add_front q p
 abbrev pub generator_rest : List Bool
 generator_rest =
     false ∷ false ∷ false ∷ true ∷ false ∷ false ∷ false ∷ false ∷ false ∷ false ∷ true ∷ false ∷ false ∷ false ∷ false
-        ∷ true ∷ []
+    ∷ true ∷ []
 
 -- Long division: each step takes the highest power away, and where its coefficient is 1 the generator is added.
 abbrev pub divide : ℕ → List Bool → List Bool

@@ -1,7 +1,7 @@
 -- What a deframer keeps of the bits since its opening state. No public clause looks inside: they cite `StandsFor` and
 -- `HoldsFrame` alone.
-use Rattle.std.specs.Prelude.{◌≡◌, ℕ, ◌+◌, ◌==◌, ◌&&◌, min, nat_lt, if◌then◌else◌, Bool, true, false, List, [], ◌∷◌,
-    ◌++◌, length, Option, Some, None}
+use Rattle.std.specs.Prelude.{◌≡◌, ℕ, ◌+◌, ◌==◌, ◌&&◌, min, nat_lt, if◌then◌else◌, Bool, true, false, List, [], ◌∷◌}
+use Rattle.std.specs.Prelude.{◌++◌, length, Option, Some, None}
 use Rattle.std.specs.List.{fold}
 use Rattle.hdlc_framer.specs.BitOrder.{sent_bits}
 use Rattle.hdlc_framer.specs.Frames.{with_fcs}
@@ -27,13 +27,19 @@ content_after_one ones content = if nat_lt ones 5 then longer content true else 
 abbrev pub content_after_zero : ℕ → Bool → Option (List Bool) → Option (List Bool)
 content_after_zero ones after_zero content =
     if nat_lt ones 5 then longer content false else if ones == 5 then content else if (ones == 6) && after_zero
-        then Some [] else None
+    then Some [] else None
 
 abbrev pub next_line : Line → Bool → Line
-next_line line true = record { ones = min 7 (line.ones + 1); after_zero = line.after_zero;
-    content = content_after_one line.ones line.content }
-next_line line false = record { ones = 0; after_zero = true;
-    content = content_after_zero line.ones line.after_zero line.content }
+next_line line true = record {
+  ones = min 7 (line.ones + 1);
+  after_zero = line.after_zero;
+  content = content_after_one line.ones line.content;
+}
+next_line line false = record {
+  ones = 0;
+  after_zero = true;
+  content = content_after_zero line.ones line.after_zero line.content;
+}
 
 -- before any bit
 abbrev pub new_line : Line

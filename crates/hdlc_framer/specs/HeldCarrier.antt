@@ -1,6 +1,6 @@
 -- What a carrier detector keeps of the bits. No public clause looks inside: they cite `CarrierStandsFor` alone.
-use Rattle.std.specs.Prelude.{◌≡◌, ◌↔◌, ℕ, suc, ◌+◌, ◌-◌, ◌==◌, ◌||◌, ◌<◌, ◌≤◌, min, if◌then◌else◌, Bool, true, false,
-    List, length, take}
+use Rattle.std.specs.Prelude.{◌≡◌, ◌↔◌, ℕ, suc, ◌+◌, ◌-◌, ◌==◌, ◌||◌, ◌<◌, ◌≤◌, min, if◌then◌else◌, Bool, true, false}
+use Rattle.std.specs.Prelude.{List, length, take}
 use Rattle.hdlc_framer.specs.declared.event.Event.{Event}
 use Rattle.hdlc_framer.specs.declared.event.Event.TheVariants.{None as NoEvent, Flag, Abort, Frame}
 use Rattle.hdlc_framer.specs.Frames.{EndsFlag}

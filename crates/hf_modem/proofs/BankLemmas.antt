@@ -1,6 +1,6 @@
 -- A bank with one sample more, and what is heard with it.
-use Rattle.std.proofs.Common.{◌≡◌, ℕ, ◌+◌, ◌-◌, ◌*◌, ◌/◌, ◌%◌, ◌<◌, ◌≤◌, ℤ, List, [], ◌∷◌, ◌++◌, Option, length, get_or,
-    set, ap, sym, ◌∙◌, arith, subst}
+use Rattle.std.proofs.Common.{◌≡◌, ℕ, ◌+◌, ◌-◌, ◌*◌, ◌/◌, ◌%◌, ◌<◌, ◌≤◌, ℤ, List, [], ◌∷◌, ◌++◌, Option, length, get_or}
+use Rattle.std.proofs.Common.{set, ap, sym, ◌∙◌, arith, subst}
 use Rattle.std.specs.Option.{option_to_list}
 use Rattle.std.proofs.lemmas.List.{length_push}
 use Rattle.tone_table.specs.declared.tone.Tone.{Tone}
@@ -39,9 +39,9 @@ module _ (lanes : List HeldLane) (recent now : List ℤ) (position : ℕ) (x : L
       → tone ≡ tone_of now
       → ((tones : List Tone) → LaneStandsFor (get_or lanes offset was) tones → LaneStandsFor lane (tones ++ tone ∷ []))
       → ((tones : List Tone) → LaneStandsFor (get_or lanes offset was) tones
-          → IsHeard offset (position + 1) (bits_of (tones ++ tone ∷ [])) heard)
+      → IsHeard offset (position + 1) (bits_of (tones ++ tone ∷ [])) heard)
       → BankStandsFor (record { lanes = set lanes offset lane; recent = now; position = position + 1 }) all
-          × AreCandidatesAfter (length x) all (option_to_list heard)
+      × AreCandidatesAfter (length x) all (option_to_list heard)
   unfolding bits
   bank_more offset was lane tone heard whole enough is decided step hears =
       let count = h.count in
@@ -55,7 +55,7 @@ module _ (lanes : List HeldLane) (recent now : List ℤ) (position : ℕ) (x : L
       = ap (λ t. tones_at offset x ++ t ∷ []) last ∙ sym (tones_at-last offset w x sample ends) in
       let here : IsHeard offset (position + 1) (bits offset all) heard
       = subst (λ ts. IsHeard offset (position + 1) (bits_of ts) heard) more
-          (hears (tones_at offset x) (h.lanes offset was small)) in (
+      (hears (tones_at offset x) (h.lanes offset was small)) in (
         record {
           count = further;
           recent = push x h.recent;

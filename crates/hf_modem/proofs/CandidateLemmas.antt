@@ -1,6 +1,6 @@
 -- The candidates of samples, with one sample more.
-use Rattle.std.proofs.Common.{◌≡◌, ℕ, ◌+◌, ◌*◌, ◌/◌, ◌%◌, ◌<◌, ◌≤◌, ℤ, List, [], ◌++◌, length, get_or, take, ap, sym,
-    ◌∙◌, arith, subst, length-append, inl, inr}
+use Rattle.std.proofs.Common.{◌≡◌, ℕ, ◌+◌, ◌*◌, ◌/◌, ◌%◌, ◌<◌, ◌≤◌, ℤ, List, [], ◌++◌, length, get_or, take, ap, sym}
+use Rattle.std.proofs.Common.{◌∙◌, arith, subst, length-append, inl, inr}
 use Rattle.std.proofs.lemmas.Bool.{cases_lt}
 use Rattle.std.proofs.lemmas.List.{take-take, take_all}
 use Rattle.std.proofs.lemmas.List.Elements.{All-append, All-nil, Contains-append_left, Contains-append_right}
@@ -56,7 +56,7 @@ first_bits : (offset : ℕ) (x y : List ℤ) (index : ℕ) → index < length (b
 first_bits offset x y index l =
     let n = length-bits offset x in
     sym (ap (take (index + 1)) (bits-append offset x y)
-        ∙ take-take (index + 1) (windows_in offset (length x)) (bits offset (x ++ y)) (omega arith))
+    ∙ take-take (index + 1) (windows_in offset (length x)) (bits offset (x ++ y)) (omega arith))
 
 -- a candidate of the first samples is one of them all
 pub candidate_more : (x y : List ℤ) (item : Candidate) → IsCandidate x item → IsCandidate (x ++ y) item
@@ -81,8 +81,12 @@ candidate_less x y item h e =
     record {
       offset = h.offset;
       index = h.index;
-      ends = record { within = within; end_of = h.ends.end_of; frame =
-          subst (λ b. EndsFrame b item.octets) (first_bits item.offset x y h.index within) h.ends.frame };
+      ends = record {
+        within = within;
+        end_of = h.ends.end_of;
+        frame =
+            subst (λ b. EndsFrame b item.octets) (first_bits item.offset x y h.index within) h.ends.frame;
+      };
     }
 
 -- a candidate that ends with the last of the samples is what its lane hears there
@@ -92,7 +96,7 @@ ends_with_last x item h e =
     let n = length-bits item.offset x in
     let end = end_sample-is x item h.index h.ends in
     let all : take (h.index + 1) (bits item.offset x) ≡ bits item.offset x =
-        take_all (h.index + 1) (bits item.offset x) (omega arith) in
+    take_all (h.index + 1) (bits item.offset x) (omega arith) in
     record {
       window = (h.index, sym e ∙ end);
       frame = subst (λ b. EndsFrame b item.octets) all h.ends.frame;
@@ -105,12 +109,15 @@ candidate_at_last x item small e h =
     let n = length-bits item.offset x in
     let size = h.window.1 in
     let all : take (h.window.0 + 1) (bits item.offset x) ≡ bits item.offset x =
-        take_all (h.window.0 + 1) (bits item.offset x) (omega arith) in
+    take_all (h.window.0 + 1) (bits item.offset x) (omega arith) in
     record {
       offset = small;
       index = h.window.0;
-      ends = record { within = omega arith; end_of = end_is item h.window.0 (e ∙ size);
-          frame = subst (λ b. EndsFrame b item.octets) (sym all) h.frame };
+      ends = record {
+        within = omega arith;
+        end_of = end_is item h.window.0 (e ∙ size);
+        frame = subst (λ b. EndsFrame b item.octets) (sym all) h.frame;
+      };
     }
 
 -- no candidate ends after the samples
@@ -144,5 +151,5 @@ candidates_join position x y found more le h new =
           let within = end_within x (get_or found i d) a.0 in
           let later = b.1 in
           standing-rises (x ++ y) (get_or found i d) (get_or more j d) (candidate_more x y (get_or found i d) a.0) b.0
-              (omega arith));
+          (omega arith));
     }

@@ -1,6 +1,6 @@
 -- A block, sample by sample, and what a decoder has taken with it and at the end.
-use Rattle.std.proofs.Common.{◌≡◌, ℕ, ◌+◌, ◌/◌, ◌^◌, ◌<◌, ◌≤◌, ℤ, get_or, List, [], ◌∷◌, ◌++◌, length, replicate, ap,
-    sym, ◌∙◌, arith, subst, append_assoc, length-append}
+use Rattle.std.proofs.Common.{◌≡◌, ℕ, ◌+◌, ◌/◌, ◌^◌, ◌<◌, ◌≤◌, ℤ, get_or, List, [], ◌∷◌, ◌++◌, length, replicate, ap}
+use Rattle.std.proofs.Common.{sym, ◌∙◌, arith, subst, append_assoc, length-append}
 use Rattle.std.specs.List.{All}
 use Rattle.std.proofs.lemmas.List.{append-nil, length-replicate, get_or-replicate}
 use Rattle.frame_merge.specs.declared.candidate.Candidate.{Candidate}
@@ -33,7 +33,7 @@ pub heard_more : (bank next : HeldBank) (merger then : HeldMerger) (x block long
     (puts given more : List Candidate)
     → HasHeard bank merger x block puts given → longer ≡ block ++ sample ∷ []
     → ((y : List ℤ) → BankStandsFor bank y → BankStandsFor next (y ++ sample ∷ [])
-        × AreCandidatesAfter (length y) (y ++ sample ∷ []) more)
+    × AreCandidatesAfter (length y) (y ++ sample ∷ []) more)
     → ((ps gs : List Candidate) → MergerStandsFor merger ps gs → MergerStandsFor then (ps ++ more) gs)
     → HasHeard next then x longer puts given
 heard_more bank next merger then x block longer sample puts given more h is step put =
@@ -69,12 +69,12 @@ taken_none bank merger b m = record { samples = b; candidates = []; are = candid
 module _ (x y : List ℤ) (old new : HeldBank) (was heard marked now : HeldMerger) (ready : List Candidate)
     (room : length (x ++ y) < 2 ^ 48)
     (hears : (puts given : List Candidate) → BankStandsFor old x → MergerStandsFor was puts given
-        → HasHeard new heard x y puts given)
+    → HasHeard new heard x y puts given)
     (marking : (puts given : List Candidate) → MergerStandsFor heard puts given → MergerStandsFor marked puts given)
     (marks : marked.marks ≡ replicate 32 (length (x ++ y) / 4))
     (gives : (puts given : List Candidate) → MergerStandsFor marked puts given
     → MergerStandsFor now puts (given ++ ready)
-        × (given ++ ready ≡ below (least marked.marks) (merged (in_order puts)))) where
+    × (given ++ ready ≡ below (least marked.marks) (merged (in_order puts)))) where
   at : least marked.marks ≡ length (x ++ y) / 4
   at = ap least marks ∙ least-one 31 (length (x ++ y) / 4) (omega arith)
 
@@ -89,7 +89,7 @@ module _ (x y : List ℤ) (old new : HeldBank) (was heard marked now : HeldMerge
       let step = gives all given (marking all given has.put) in
       let total : given ++ ready ≡ below (length (x ++ y) / 4) (merged all)
       = step.1 ∙ ap (λ t. below t (merged (in_order all))) at
-          ∙ ap (λ t. below (length (x ++ y) / 4) (merged t)) ordered in (
+      ∙ ap (λ t. below (length (x ++ y) / 4) (merged t)) ordered in (
         record {
           samples = has.samples;
           candidates = all;
@@ -107,4 +107,4 @@ pub gives_rest : (x : List ℤ) (bank : HeldBank) (was marked : HeldMerger) (res
 gives_rest x bank was marked rest h puts last =
     let given : List Candidate = below (length x / 4) (merged h.candidates) in
     end_gives x h.candidates rest h.are (last h.candidates given (puts h.candidates given h.so_far)
-        ∙ ap merged (in_order-strictly h.candidates h.are.order))
+    ∙ ap merged (in_order-strictly h.candidates h.are.order))

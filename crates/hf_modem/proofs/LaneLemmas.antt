@@ -1,6 +1,6 @@
 -- Lanes as they are made, and all of them with one sample more.
-use Rattle.std.proofs.Common.{◌≡◌, ℕ, ◌+◌, ◌*◌, ◌<◌, ℤ, List, [], ◌∷◌, ◌++◌, length, get_or, set, ap, sym, ◌∙◌, arith,
-    subst, inl, inr}
+use Rattle.std.proofs.Common.{◌≡◌, ℕ, ◌+◌, ◌*◌, ◌<◌, ℤ, List, [], ◌∷◌, ◌++◌, length, get_or, set, ap, sym, ◌∙◌, arith}
+use Rattle.std.proofs.Common.{subst, inl, inr}
 use Rattle.std.proofs.lemmas.Bool.{cases_lt, cases_eq}
 use Rattle.std.proofs.lemmas.List.{get_or_push, get_or_append_left, length_push, get_or-set_same, get_or-set_other}
 use Rattle.tone_table.specs.declared.tone.Tone.{Tone}
@@ -54,9 +54,9 @@ lanes_more lanes offset w was lane x sample tone all small ends is step h k d be
       let now : LaneStandsFor lane (tones_at offset (x ++ sample ∷ []))
       = subst (LaneStandsFor lane) (sym more) (step (tones_at offset x) (h offset was small)) in
       let there : get_or (set lanes offset lane) k d ≡ lane = ap (λ n. get_or (set lanes offset lane) n d) same
-          ∙ get_or-set_same lanes offset lane d (omega arith) in
+      ∙ get_or-set_same lanes offset lane d (omega arith) in
       subst (λ t. LaneStandsFor t (tones_at k (x ++ sample ∷ []))) (sym there)
-          (subst (λ n. LaneStandsFor lane (tones_at n (x ++ sample ∷ []))) (sym same) now)
+      (subst (λ n. LaneStandsFor lane (tones_at n (x ++ sample ∷ []))) (sym same) now)
   | inr other ↦
       let none : ((j : ℕ) × (length x + 1 ≡ k + 32 * (j + 1))) → ⊥ = λ there. let at = there.1 in other (omega arith) in
       subst (λ t. LaneStandsFor t (tones_at k (x ++ sample ∷ []))) (sym (get_or-set_other lanes offset k lane d other))

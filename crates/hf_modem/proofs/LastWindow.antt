@@ -1,12 +1,12 @@
 -- What one sample more changes: the window that ends with it, and the tones and bits of an offset.
-use Rattle.std.proofs.Common.{◌≡◌, ◌↔◌, ◌⊎◌, inl, inr, ℕ, ◌+◌, ◌-◌, ◌*◌, ◌/◌, ◌%◌, ◌<◌, ◌≤◌, ℤ, pos, List, [], ◌∷◌,
-    ◌++◌, Bool, true, length, map, take, drop, set, nat_eq, ap, sym, ◌∙◌, arith, length-append, length-drop,
-    append_assoc}
+use Rattle.std.proofs.Common.{◌≡◌, ◌↔◌, ◌⊎◌, inl, inr, ℕ, ◌+◌, ◌-◌, ◌*◌, ◌/◌, ◌%◌, ◌<◌, ◌≤◌, ℤ, pos, List, [], ◌∷◌}
+use Rattle.std.proofs.Common.{◌++◌, Bool, true, length, map, take, drop, set, nat_eq, ap, sym, ◌∙◌, arith}
+use Rattle.std.proofs.Common.{length-append, length-drop, append_assoc}
 use Rattle.std.specs.List.{copy_within}
 use Rattle.std.proofs.Math.Seq.{drop-append-add}
 use Rattle.std.proofs.lemmas.Bool.{cases_eq, eq-eqb, eqb-true}
-use Rattle.std.proofs.lemmas.List.{drop-append-le, drop-drop, take_all, take_more_set, length-set, length_push,
-    length-replicate, append-nil}
+use Rattle.std.proofs.lemmas.List.{drop-append-le, drop-drop, take_all, take_more_set, length-set, length_push}
+use Rattle.std.proofs.lemmas.List.{length-replicate, append-nil}
 use Rattle.std.proofs.lemmas.List.Edits.{take-paste}
 use Rattle.std.proofs.lemmas.List.FromFn.{take-map-range_with_len, map-range_with_len_more}
 use Rattle.std.specs.List.{range_with_len}
@@ -20,8 +20,12 @@ use Rattle.hf_modem.proofs.WindowLemmas.{length-tones_at, tones_at-append}
 -- ---- the last 32 samples
 
 pub length-last_window : (x : List ℤ) → length (last_window x) ≡ 32
-length-last_window x = omega (arith, length-drop (length x) (silence ++ x), length-append silence x,
-    length-replicate 32 (pos 0))
+length-last_window x = omega (
+  arith,
+  length-drop (length x) (silence ++ x),
+  length-append silence x,
+  length-replicate 32 (pos 0),
+)
 
 -- with one sample more
 pub last_window-push : (x : List ℤ) (sample : ℤ) → last_window (x ++ sample ∷ [])
@@ -64,7 +68,7 @@ tones_at-push_none offset x sample none =
     let count : length (tones_at offset (x ++ sample ∷ [])) ≡ windows_in offset (length x)
     = length-tones_at offset (x ++ sample ∷ []) ∙ ap (windows_in offset) (length_push x sample) ∙ none in
     sym (tones_at-append offset x (sample ∷ []) ∙ take_all (windows_in offset (length x))
-        (tones_at offset (x ++ sample ∷ [])) (omega arith))
+    (tones_at offset (x ++ sample ∷ [])) (omega arith))
 
 -- a sample that ends a window adds the tone of that window
 pub tones_at-push_one : (offset : ℕ) (x : List ℤ) (sample : ℤ)
@@ -82,7 +86,7 @@ tones_at-push_one offset x sample one =
     ∙ map-range_with_len_more tone 0 n n (omega arith)
     ∙ ap (λ tones. tones ++ tone n ∷ [])
     (sym (take-map-range_with_len tone 0 (windows_in offset (length all)) n fits)
-        ∙ sym (tones_at-append offset x (sample ∷ [])))
+    ∙ sym (tones_at-append offset x (sample ∷ [])))
 
 -- ---- where a window of an offset ends
 

@@ -1,6 +1,6 @@
 -- No sample that is sent is louder than its level.
-use Rattle.std.proofs.Common.{ℕ, ◌+◌, ◌*◌, ◌≤◌, ℤ, pos, List, [], ◌∷◌, replicate, unsigned_abs, get_or, sym, subst,
-    arith}
+use Rattle.std.proofs.Common.{ℕ, ◌+◌, ◌*◌, ◌≤◌, ℤ, pos, List, [], ◌∷◌, replicate, unsigned_abs, get_or, sym, subst}
+use Rattle.std.proofs.Common.{arith}
 use Rattle.std.specs.List.{All, range_with_len}
 use Rattle.std.proofs.lemmas.List.Elements.{All-nil, All-map, All-append, All-replicate}
 use Rattle.std.proofs.lemmas.List.Concat.{flat_map-cons}
@@ -45,7 +45,7 @@ within-hf_samples_of : (level : ℕ) (t : Transmission) → All (IsWithin level)
 within-hf_samples_of level t =
     All-append (IsWithin level) (replicate t.silence (pos 0)) (hf_transmission level t.frames t.opening t.closing)
     (All-replicate (IsWithin level) t.silence (pos 0) (omega arith))
-        (within-hf_transmission level t.frames t.opening t.closing)
+    (within-hf_transmission level t.frames t.opening t.closing)
 
 pub within-hf_signal : (level : ℕ) (sent : List Transmission)
     → All (λ sample. unsigned_abs sample ≤ level) (hf_signal level sent)
@@ -54,4 +54,4 @@ within-hf_signal level [] = All-nil (IsWithin level)
 within-hf_signal level (t ∷ sent) =
     subst (All (IsWithin level)) (sym (flat_map-cons (hf_samples_of level) t sent))
     (All-append (IsWithin level) (hf_samples_of level t) (hf_signal level sent) (within-hf_samples_of level t)
-        (within-hf_signal level sent))
+    (within-hf_signal level sent))

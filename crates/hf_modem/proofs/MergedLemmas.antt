@@ -1,14 +1,14 @@
 -- The merged candidates of samples, and of these with more samples.
-use Rattle.std.proofs.Common.{◌≡◌, ℕ, ◌+◌, ◌/◌, ◌<◌, ◌≤◌, ℤ, List, [], ◌∷◌, ◌++◌, true, false, length, ap, sym, ◌∙◌,
-    arith, subst, cond, refl, length-append, get_or, zero, suc, ◌&&◌, append_assoc, Bool}
+use Rattle.std.proofs.Common.{◌≡◌, ℕ, ◌+◌, ◌/◌, ◌<◌, ◌≤◌, ℤ, List, [], ◌∷◌, ◌++◌, true, false, length, ap, sym, ◌∙◌}
+use Rattle.std.proofs.Common.{arith, subst, cond, refl, length-append, get_or, zero, suc, ◌&&◌, append_assoc, Bool}
 use Rattle.std.specs.Prelude.{nat_lt, nat_le}
 use Rattle.std.specs.List.{All, Contains, filter}
 use Rattle.std.specs.List.Sorted.{IsNonDecreasingBy}
 use Rattle.std.proofs.Math.Bool.{and-false}
 use Rattle.std.proofs.lemmas.Bool.{ltb-true, lt-ltb, le-ltb}
 use Rattle.std.proofs.lemmas.List.{append-nil, append_cancel_left}
-use Rattle.std.proofs.lemmas.List.Elements.{All-weaker, All-head, All-tail, All-filter, filter-append, filter_passes,
-    Contains-append_right}
+use Rattle.std.proofs.lemmas.List.Elements.{All-weaker, All-head, All-tail, All-filter, filter-append, filter_passes}
+use Rattle.std.proofs.lemmas.List.Elements.{Contains-append_right}
 use Rattle.std.proofs.lemmas.List.Kept.{AllPairs-filter}
 use Rattle.frame_merge.specs.declared.candidate.Candidate.{Candidate}
 use Rattle.frame_merge.specs.Order.{standing, IsInOrder}
@@ -58,7 +58,7 @@ block_gives x y items found ready are new all total =
       is = next_is (length x / 4) (length (x ++ y) / 4) (below (length x / 4) (merged items)) ready
           (merged (items ++ found)) (omega arith)
           (rising_merged (x ++ y) (items ++ found) all)
-              (sym (below_more (length x / 4) items found (ends_after x y found new))) total;
+          (sym (below_more (length x / 4) items found (ends_after x y found new))) total;
     }
 
 -- all end below one past a quarter of the number of samples
@@ -94,14 +94,14 @@ begins x y items all are whole =
       order = AllPairs-filter (λ item later. standing item < standing later) p all whole.order;
     } in
     let same : all ≡ items ++ late = one_list (x ++ y) all (items ++ late) whole
-        (candidates_join 0 x y items late (omega arith) are after) in
+    (candidates_join 0 x y items late (omega arith) are after) in
     (late, same, ends_after x y late after)
 
 between_late : (from to : ℕ) (zs : List Candidate) → All (λ y. to ≤ y.end) zs → between from to zs ≡ []
 between_late from to [] h = refl
 between_late from to (x ∷ xs) h =
     ap (λ t. cond (nat_le from x.end && t) (x ∷ between from to xs) (between from to xs))
-        (le-ltb x.end to (All-head (λ y. to ≤ y.end) x xs h))
+    (le-ltb x.end to (All-head (λ y. to ≤ y.end) x xs h))
     ∙ ap (λ t. cond t (x ∷ between from to xs) (between from to xs)) (and-false (nat_le from x.end))
     ∙ between_late from to xs (All-tail (λ y. to ≤ y.end) x xs h)
 
@@ -113,20 +113,20 @@ given_still from to x y items all within h whole =
     let parts = begins x y h.candidates all h.are whole in
     let found : List Candidate = parts.0 in
     let late : All (λ item. to ≤ item.end) found = All-weaker (λ item. length x / 4 ≤ item.end) (λ item. to ≤ item.end)
-        (λ item l. omega arith) found parts.2 in
+    (λ item l. omega arith) found parts.2 in
     h.is
     ∙ sym (ap (λ t. between from to (merged t)) parts.1
     ∙ ap (between from to) (merged_after-append [] h.candidates found)
     ∙ filter-append _ (merged h.candidates) (merged_after h.candidates found)
     ∙ ap (λ t. between from to (merged h.candidates) ++ t)
-        (between_late from to (merged_after h.candidates found)
-        (All-merged (λ item. to ≤ item.end) h.candidates found late))
+    (between_late from to (merged_after h.candidates found)
+    (All-merged (λ item. to ≤ item.end) h.candidates found late))
     ∙ append-nil (between from to (merged h.candidates)))
 
 pub join : (from middle to : ℕ) (x y : List ℤ) (items more : List Candidate) → from ≤ middle → middle ≤ to
     → middle ≤ length x / 4
     → AreMergedBetween from middle x items → AreMergedBetween middle to (x ++ y) more
-        → AreMergedBetween from to (x ++ y) (items ++ more)
+    → AreMergedBetween from to (x ++ y) (items ++ more)
 join from middle to x y items more le le' within h k = record {
   candidates = k.candidates;
   are = k.are;
@@ -136,6 +136,9 @@ join from middle to x y items more le le' within h k = record {
 }
 
 pub all : (x : List ℤ) (items : List Candidate) → AreMergedBetween 0 (length x / 4 + 1) x items → AreMerged x items
-all x items h = record { candidates = h.candidates; are = h.are;
-    is = h.is ∙ between_all 0 (length x / 4 + 1) (merged h.candidates) (λ k d l. omega arith)
-    ∙ below_all_of x h.candidates h.are }
+all x items h = record {
+  candidates = h.candidates;
+  are = h.are;
+  is = h.is ∙ between_all 0 (length x / 4 + 1) (merged h.candidates) (λ k d l. omega arith)
+      ∙ below_all_of x h.candidates h.are;
+}

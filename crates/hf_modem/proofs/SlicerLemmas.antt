@@ -45,10 +45,17 @@ module _ (offset position : ℕ) (recent now : List ℤ) (before : Tone) (x : Li
     same_tones : tones_at offset (x ++ sample ∷ []) ≡ tones_at offset x
     same_tones = tones_at-none offset x sample (λ ends. none (counted_back ends))
 
-    pub stands_within : SlicerStandsFor (record { offset = offset; position = position + 1; recent = now;
-        before = before }) (x ++ sample ∷ [])
-    stands_within = record { count = further; recent = push x h.recent;
-        before = h.before ∙ ap last_tone (sym same_tones) }
+    pub stands_within : SlicerStandsFor (record {
+      offset = offset;
+      position = position + 1;
+      recent = now;
+      before = before;
+    }) (x ++ sample ∷ [])
+    stands_within = record {
+      count = further;
+      recent = push x h.recent;
+      before = h.before ∙ ap last_tone (sym same_tones);
+    }
 
     pub no_bit : bits offset (x ++ sample ∷ []) ≡ bits offset x ++ []
     no_bit = bits-push_none offset x sample same_tones

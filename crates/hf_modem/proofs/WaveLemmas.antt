@@ -1,6 +1,6 @@
 -- The wave of short-wave packet, one tone and one sample more at a time.
-use Rattle.std.proofs.Common.{◌≡◌, ℕ, ◌+◌, ◌*◌, ◌%◌, ◌<◌, ◌≤◌, ℤ, List, [], ◌∷◌, ◌++◌, length, map, take, set,
-    unsigned_abs, FitsSigned, to_z, of_z, append_assoc, refl, sym, ap, ◌∙◌, zero-add, arith}
+use Rattle.std.proofs.Common.{◌≡◌, ℕ, ◌+◌, ◌*◌, ◌%◌, ◌<◌, ◌≤◌, ℤ, List, [], ◌∷◌, ◌++◌, length, map, take, set}
+use Rattle.std.proofs.Common.{unsigned_abs, FitsSigned, to_z, of_z, append_assoc, refl, sym, ap, ◌∙◌, zero-add, arith}
 use Rattle.std.specs.List.{range_with_len}
 use Rattle.std.proofs.lemmas.Int.{ints, to_z-of_z}
 use Rattle.std.proofs.lemmas.List.{append-nil, take_more_set, take_all}
@@ -28,15 +28,15 @@ wave_from-append phase [] us = refl
 wave_from-append phase (t ∷ ts) us =
     ap (λ samples. pure_window phase t ++ samples) (wave_from-append (next_phase phase t) ts us)
     ∙ sym (append_assoc (pure_window phase t) (wave_from (next_phase phase t) ts)
-        (wave_from (phase_from (next_phase phase t) ts) us))
+    (wave_from (phase_from (next_phase phase t) ts) us))
 
 -- the wave of one tone more, at a level
 pub wave-push : (level start phase : ℕ) (tones : List Tone) (tone : Tone) → phase ≡ phase_from start tones
     → at_level level (wave_from start (tones ++ tone ∷ [])) ≡ at_level level (wave_from start tones)
-        ++ at_level level (pure_window phase tone)
+    ++ at_level level (pure_window phase tone)
 wave-push level start phase tones tone at =
     ap (at_level level) (wave_from-append start tones (tone ∷ [])
-        ∙ ap (λ w. wave_from start tones ++ w) (append-nil (pure_window (phase_from start tones) tone)))
+    ∙ ap (λ w. wave_from start tones ++ w) (append-nil (pure_window (phase_from start tones) tone)))
     ∙ at_level-append level (wave_from start tones) (pure_window (phase_from start tones) tone)
     ∙ ap (λ p. at_level level (wave_from start tones) ++ at_level level (pure_window p tone)) (sym at)
 
@@ -59,7 +59,7 @@ wave_sample-mod phase = ap cycle_sample (mod-mod phase 48)
 pub samples_more : (level phase place step at : ℕ) (tone : Tone) (window : List ℤ) (pure sample : ℤ)
     → place < length window
     → take place window ≡ samples_below place level phase tone → step ≡ phase_step tone
-        → at ≡ (phase + place * step) % 48
+    → at ≡ (phase + place * step) % 48
     → pure ≡ wave_sample at → unsigned_abs pure ≤ 10000 → sample ≡ sample_at level (to_z w16 (of_z w16 pure))
     → unsigned_abs sample ≤ level → level ≤ 32767
     → take (place + 1) (set window place (to_z w16 (of_z w16 sample))) ≡ samples_below (place + 1) level phase tone
@@ -69,7 +69,7 @@ samples_more level phase place step at tone window pure sample below so_far is_s
     let now : to_z w16 (of_z w16 sample) ≡ tone_sample level phase tone place =
     to_z-of_z w16 sample fits ∙ is ∙ ap (sample_at level)
     (to_z-of_z w16 pure pure_fits ∙ is_pure ∙ ap wave_sample is_at ∙ wave_sample-mod (phase + place * step)
-        ∙ ap (λ s. wave_sample (phase + place * s)) is_step) in
+    ∙ ap (λ s. wave_sample (phase + place * s)) is_step) in
     take_more_set window place (to_z w16 (of_z w16 sample)) below
     ∙ ap (λ xs. xs ++ to_z w16 (of_z w16 sample) ∷ []) so_far
     ∙ ap (λ z. samples_below place level phase tone ++ z ∷ []) now

@@ -1,11 +1,11 @@
 -- The windows, tones and bits of samples that are put together and cut.
-use Rattle.std.proofs.Common.{◌≡◌, ℕ, zero, suc, ◌+◌, ◌*◌, ◌≤◌, ℤ, List, [], ◌∷◌, ◌++◌, length, map, take, drop, refl,
-    ap, sym, ◌∙◌, arith, length-append, length-drop}
+use Rattle.std.proofs.Common.{◌≡◌, ℕ, zero, suc, ◌+◌, ◌*◌, ◌≤◌, ℤ, List, [], ◌∷◌, ◌++◌, length, map, take, drop, refl}
+use Rattle.std.proofs.Common.{ap, sym, ◌∙◌, arith, length-append, length-drop}
 use Rattle.std.proofs.Math.Seq.{drop-append-add}
-use Rattle.std.proofs.lemmas.List.{take-append-le, drop-append-le, take-append-drop, length-take-le, append-nil,
-    append_assoc}
-use Rattle.std.proofs.lemmas.List.FromFn.{length-map-range_with_len, get_or-map-range_with_len, take-map-range_with_len,
-    map-range_with_len_more, fill_by_all}
+use Rattle.std.proofs.lemmas.List.{take-append-le, drop-append-le, take-append-drop, length-take-le, append-nil}
+use Rattle.std.proofs.lemmas.List.{append_assoc}
+use Rattle.std.proofs.lemmas.List.FromFn.{length-map-range_with_len, get_or-map-range_with_len, take-map-range_with_len}
+use Rattle.std.proofs.lemmas.List.FromFn.{map-range_with_len_more, fill_by_all}
 use Rattle.std.specs.List.{range_with_len}
 use Rattle.tone_table.specs.declared.tone.Tone.{Tone}
 use Rattle.tone_table.specs.declared.tone.Tone.TheVariants.{Mark}
@@ -52,7 +52,7 @@ pub bits-append : (offset : ℕ) (x y : List ℤ) → bits offset x
 unfolding bits
 bits-append offset x y =
     ap bits_of (tones_at-append offset x y) ∙ bits_from-take (windows_in offset (length x)) Mark
-        (tones_at offset (x ++ y))
+    (tones_at offset (x ++ y))
 
 pub bits-take : (offset : ℕ) (x : List ℤ) (n : ℕ) → n ≤ length x
     → bits offset (take n x) ≡ take (windows_in offset n) (bits offset x)

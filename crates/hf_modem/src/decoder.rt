@@ -5,7 +5,7 @@ ghost use Rattle.hf_modem.specs.HeldDecoder.{StandsFor};
 ghost use Rattle.hf_modem.specs.MergedItems.{AreMergedBetween};
 
 use crate::bank::Bank;
-use crate::hearing::{OFFSETS, hear_block};
+use crate::block_hearing::{OFFSETS, hear_block};
 use frame_merge::{Candidate, Merger};
 use std::alloc::Global;
 use std::marker::Model;

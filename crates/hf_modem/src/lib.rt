@@ -8,10 +8,10 @@
 #![tactic(auto)]
 
 mod bank;
+mod block_hearing;
 mod correlators;
 mod decision;
 mod decoder;
-mod hearing;
 mod lane;
 mod laws;
 mod recent;

@@ -1,8 +1,8 @@
 -- Each frame of carried transmissions is a candidate, exactly at its true end: the slicer whose windows are those of
 -- the
 -- transmission hears it.
-use Rattle.std.proofs.Common.{◌≡◌, ℕ, zero, suc, ◌+◌, ◌*◌, ◌/◌, ◌%◌, ◌≤◌, ℤ, Bool, true, false, List, [], ◌∷◌, ◌++◌,
-    length, take, refl, ap, sym, subst, ◌∙◌, arith, length-append, append_assoc, add-one}
+use Rattle.std.proofs.Common.{◌≡◌, ℕ, zero, suc, ◌+◌, ◌*◌, ◌/◌, ◌%◌, ◌≤◌, ℤ, Bool, true, false, List, [], ◌∷◌, ◌++◌}
+use Rattle.std.proofs.Common.{length, take, refl, ap, sym, subst, ◌∙◌, arith, length-append, append_assoc, add-one}
 use Rattle.std.specs.List.{AllByRecursion}
 use Rattle.std.proofs.lemmas.List.{take_at}
 use Rattle.std.proofs.lemmas.List.Elements.{recursion_from_All}
@@ -37,7 +37,7 @@ bits_carried offset q p part bit sent whole carries =
     bits-aligned offset q p part whole
     ∙ ap (λ tones. bits offset p ++ bits_from before tones) carries.decided
     ∙ ap (λ bs. bits offset p ++ same_tone before (sent_tone Mark bit) ∷ bs)
-        (bits_from-line_from (sent_tone Mark bit) sent)
+    (bits_from-line_from (sent_tone Mark bit) sent)
 
 -- ---- one frame
 
@@ -70,7 +70,7 @@ heard_there p y q c mid post octets e fits whole heard at =
     let size : length front ≡ (q + length tail) + 1 = omega (arith, length-append (bits offset p) (c ∷ tail)) in
     let all : length (bits offset y) ≡ length front + length post = ap length parts ∙ length-append front post in
     let cut : take ((q + length tail) + 1) (bits offset y) ≡ front = ap (take ((q + length tail) + 1)) parts
-        ∙ take_at front post ((q + length tail) + 1) size in
+    ∙ take_at front post ((q + length tail) + 1) size in
     record {
       offset = omega arith;
       index = q + length tail;
@@ -92,12 +92,12 @@ frame_found p part rest octets mid post all e fits carries is at =
     let tail : List Bool = flag_tail ++ upto mid octets in
     let begins : flag ++ (upto mid octets ++ post) ≡ false ∷ (tail ++ post) = refl in
     let there : Carries (line (false ∷ (tail ++ post))) part =
-        subst (λ bs. Carries (line bs) part) (is ∙ begins) carries in
+    subst (λ bs. Carries (line bs) part) (is ∙ begins) carries in
     let c : Bool = same_tone (last_tone (tones_at (length p % 32) p)) (sent_tone Mark false) in
     subst (λ x. IsCandidate x (candidate_at e (length p % 32) octets)) (append_assoc p part rest)
     (candidate_more (p ++ part) rest (candidate_at e (length p % 32) octets)
     (heard_there p (p ++ part) q c mid post octets e fits whole
-        (bits_carried (length p % 32) q p part false (tail ++ post) whole there) at))
+    (bits_carried (length p % 32) q p part false (tail ++ post) whole there) at))
 
 -- ---- the frames of a transmission
 
@@ -114,16 +114,19 @@ frames_found [] p part rest mid post all at fits carries is begins = tt
 frames_found (octets ∷ frames) p part rest mid post all at fits carries is begins =
     let next : List Bool = mid ++ (flag ++ frame_bits octets) in
     let here : flag ++ (mid ++ (flag ++ (closed (octets ∷ frames) ++ post)))
-        ≡ flag ++ (upto mid octets ++ (closed frames ++ post)) = simp append_assoc in
+    ≡ flag ++ (upto mid octets ++ (closed frames ++ post)) = simp append_assoc in
     let later : flag ++ (mid ++ (flag ++ (closed (octets ∷ frames) ++ post)))
-        ≡ flag ++ (next ++ (flag ++ (closed frames ++ post))) = simp append_assoc in
+    ≡ flag ++ (next ++ (flag ++ (closed frames ++ post))) = simp append_assoc in
     let same : (flag ++ (mid ++ flag)) ++ (frame_bits octets ++ flag) ≡ flag ++ upto mid octets = simp append_assoc in
     let again : flag ++ upto mid octets ≡ flag ++ (next ++ flag) = simp append_assoc in
     let size : length (flag ++ (mid ++ flag)) + length (frame_bits octets ++ flag) ≡ length (flag ++ upto mid octets)
     = sym (length-append (flag ++ (mid ++ flag)) (frame_bits octets ++ flag)) ∙ ap length same in
     let end : end_of at octets ≡ length p + 32 * length (flag ++ upto mid octets) = omega arith in (
-      (length p % 32, frame_found p part rest octets mid (closed frames ++ post) all (end_of at octets) fits.0 carries
-          (is ∙ here) end),
+      (
+        length p % 32,
+        frame_found p part rest octets mid (closed frames ++ post) all (end_of at octets) fits.0 carries
+            (is ∙ here) end,
+      ),
       frames_found frames p part rest next post all (end_of at octets) fits.1 carries (is ∙ later) (end
           ∙ ap (λ b. length p + 32 * length b) again),
     )
@@ -168,9 +171,9 @@ transmission_found (octets ∷ frames) (suc (suc opening)) zero p part rest at f
     absurd (omega arith)
 transmission_found (octets ∷ frames) (suc (suc opening)) (suc closing) p part rest at fits two one carries begins =
     let mid : length (flag ++ (flags opening ++ flag)) ≡ 8 * suc (suc opening) =
-        omega (arith, length-append (flags opening) flag, length-flags opening) in
+    omega (arith, length-append (flags opening) flag, length-flags opening) in
     frames_found (octets ∷ frames) p part rest (flags opening) (flags closing)
-        (body (octets ∷ frames) (suc (suc opening)) (suc closing)) at fits carries
+    (body (octets ∷ frames) (suc (suc opening)) (suc closing)) at fits carries
     (body_shape octets frames opening closing) (begins ∙ omega arith)
 
 -- ---- all transmissions
@@ -190,13 +193,13 @@ all_found (t ∷ transmissions) p x begin fits (gap, part, rest, parts, silence,
     let before : List ℤ = p ++ gap in
     let size : length before ≡ length p + length gap = length-append p gap in
     let bits : length part ≡ 32 * length (body_of t) = carries.size
-        ∙ ap (λ n. 32 * n) (length-line_from Mark (body_of t)) in
+    ∙ ap (λ n. 32 * n) (length-line_from Mark (body_of t)) in
     let after : begin + sample_count t ≡ length (before ++ part) = omega (arith, length-append before part) in
     let first : before ++ (part ++ rest) ≡ p ++ x = append_assoc p gap (part ++ rest) ∙ ap (λ y. p ++ y) (sym parts) in
     let second : (before ++ part) ++ rest ≡ p ++ x = append_assoc before part rest ∙ first in
     all_append (IsFound (p ++ x)) (ends_of begin t) (true_ends_from (begin + sample_count t) transmissions)
     (subst (λ y. AllByRecursion (IsFound y) (ends_of begin t)) first
     (transmission_found t.frames t.opening t.closing before part rest (begin + t.silence + 256 * t.opening)
-        (recursion_from_All IsFrame t.frames good.frames) good.opening good.closing carries (omega arith)))
+    (recursion_from_All IsFrame t.frames good.frames) good.opening good.closing carries (omega arith)))
     (subst (λ y. AllByRecursion (IsFound y) (true_ends_from (begin + sample_count t) transmissions)) second
     (all_found transmissions (before ++ part) rest (begin + sample_count t) fits.1 others after))

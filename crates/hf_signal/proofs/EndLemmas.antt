@@ -1,6 +1,6 @@
 -- How far apart true ends are, and with which frames they are.
-use Rattle.std.proofs.Common.{◌≡◌, ℕ, zero, suc, ◌+◌, ◌*◌, ◌≤◌, Bool, true, false, List, [], ◌∷◌, ◌++◌, length, map,
-    refl, ap, sym, ◌∙◌, arith, length-append}
+use Rattle.std.proofs.Common.{◌≡◌, ℕ, zero, suc, ◌+◌, ◌*◌, ◌≤◌, Bool, true, false, List, [], ◌∷◌, ◌++◌, length, map}
+use Rattle.std.proofs.Common.{refl, ap, sym, ◌∙◌, arith, length-append}
 use Rattle.std.specs.List.{AllByRecursion}
 use Rattle.std.proofs.lemmas.List.{map-append}
 use Rattle.std.proofs.lemmas.List.Concat.{flat_map-cons}
@@ -43,7 +43,7 @@ Spaced place (e ∷ ends) = (place + 4608 ≤ e.end) × Spaced e.end ends
 spaced_frames : (frames : List (List ℕ)) (begin place : ℕ) (rest : List TrueEnd) → place ≤ begin
     → AllByRecursion IsFrame frames
     → ((n : ℕ) → n ≤ begin + 32 * length (closed frames) → Spaced n rest)
-        → Spaced place (ends_from begin frames ++ rest)
+    → Spaced place (ends_from begin frames ++ rest)
 spaced_frames [] begin place rest le fits follow = follow place (omega arith)
 spaced_frames (octets ∷ frames) begin place rest le fits follow =
     let size = length-append (frame_bits octets) flag in
@@ -62,9 +62,9 @@ spaced (t ∷ transmissions) begin place le fits =
     let good : IsTransmission t = fits.0 in
     let body = length-body t.frames t.opening t.closing good.closing in
     spaced_frames t.frames (begin + t.silence + 256 * t.opening) place
-        (true_ends_from (begin + sample_count t) transmissions) (omega arith)
+    (true_ends_from (begin + sample_count t) transmissions) (omega arith)
     (recursion_from_All IsFrame t.frames good.frames)
-        (λ n l. spaced transmissions (begin + sample_count t) n (omega arith) fits.1)
+    (λ n l. spaced transmissions (begin + sample_count t) n (omega arith) fits.1)
 
 -- ---- with which frames
 
@@ -78,6 +78,6 @@ octets-true_ends_from [] begin = refl
 octets-true_ends_from (t ∷ transmissions) begin =
     map-append (λ e. e.octets) (ends_of begin t) (true_ends_from (begin + sample_count t) transmissions)
     ∙ ap (λ os. os ++ map (λ e. e.octets) (true_ends_from (begin + sample_count t) transmissions))
-        (octets-ends_from t.frames (begin + t.silence + 256 * t.opening))
+    (octets-ends_from t.frames (begin + t.silence + 256 * t.opening))
     ∙ ap (λ os. t.frames ++ os) (octets-true_ends_from transmissions (begin + sample_count t))
     ∙ sym (flat_map-cons (λ t. t.frames) t transmissions)

@@ -1,7 +1,7 @@
 -- The law of signals near a clean one: from the candidates of the samples to clusters of them, and from there to the
 -- frames.
-use Rattle.std.proofs.Common.{◌≡◌, ℕ, zero, suc, ◌+◌, ◌-◌, ◌/◌, ◌<◌, ℤ, true, List, [], ◌∷◌, get_or, map, refl, ap, sym,
-    subst, ◌∙◌, arith, inl, inr}
+use Rattle.std.proofs.Common.{◌≡◌, ℕ, zero, suc, ◌+◌, ◌-◌, ◌/◌, ◌<◌, ℤ, true, List, [], ◌∷◌, get_or, map, refl, ap, sym}
+use Rattle.std.proofs.Common.{subst, ◌∙◌, arith, inl, inr}
 use Rattle.std.specs.Prelude.{nat_lt, ◌&&◌}
 use Rattle.std.specs.List.{All, AllPairs, AllByRecursion, Contains}
 use Rattle.std.specs.Str.{bytes_eq}
@@ -44,7 +44,7 @@ apart (e ∷ ends) place spaces =
 is_in : (item : Candidate) (e : TrueEnd) → is_of item e ≡ true → IsIn (cluster_of e) item
 is_in item e is =
     let parts = and_parts (bytes_eq item.octets e.octets)
-        (nat_lt (end_sample item) (e.end + 30) && nat_lt e.end (end_sample item + 30)) is in
+    (nat_lt (end_sample item) (e.end + 30) && nat_lt e.end (end_sample item + 30)) is in
     let near = and_parts (nat_lt (end_sample item) (e.end + 30)) (nat_lt e.end (end_sample item + 30)) parts.1 in
     let soon : end_sample item < e.end + 30 = ltb-true (end_sample item) (e.end + 30) near.0 in
     let late : e.end < end_sample item + 30 = ltb-true e.end (end_sample item + 30) near.1 in
@@ -54,13 +54,15 @@ in_one : (item : Candidate) (ends : List TrueEnd) → is_sent ends item ≡ true
 in_one item [] is = cc
 in_one item (e ∷ ends) is =
     elim (or_cases (is_of item e) (is_sent ends item) is)
-        [ inl here ↦ inl (is_in item e here) | inr later ↦ inr (in_one item ends later) ]
+    [ inl here ↦ inl (is_in item e here) | inr later ↦ inr (in_one item ends later) ]
 
 all_known : (items : List Candidate) (place : ℕ) (cs : List Cluster) → All (λ item. IsInOne cs item) items
     → Known [] place cs items
 all_known [] place cs all = tt
-all_known (item ∷ items) place cs all = (inr (All-head (λ i. IsInOne cs i) item items all),
-    all_known items place cs (All-tail (λ i. IsInOne cs i) item items all))
+all_known (item ∷ items) place cs all = (
+  inr (All-head (λ i. IsInOne cs i) item items all),
+  all_known items place cs (All-tail (λ i. IsInOne cs i) item items all),
+)
 
 -- ---- each cluster has a candidate
 
@@ -118,7 +120,7 @@ carried_law sent x good carries no_stray items are =
     let fits : AllByRecursion IsTransmission sent = recursion_from_All IsTransmission sent good in
     let cs : List Cluster = map cluster_of (true_ends sent) in
     let known : All (λ item. IsInOne cs item) items = λ k d l. in_one (get_or items k d) (true_ends sent)
-        (no_stray (get_or items k d) (are.each k d l).0) in
+    (no_stray (get_or items k d) (are.each k d l).0) in
     let small : All (λ item. item.offset < 32) items = λ k d l. (are.each k d l).0.offset in
     merge_keeps items [] 7 0 cs tt (rising items are.order small) (all_known items 7 cs known)
     (apart (true_ends sent) 0 (spaced sent 0 0 (omega arith) fits))
@@ -132,7 +134,7 @@ pub near_law : (received : List Received) (x : List ℤ) → All IsReceived rece
 near_law received x good near no_stray =
     let fits : AllByRecursion IsReceived received = recursion_from_All IsReceived received good in
     carried_law (transmissions_of received) x (all_transmissions received fits) (near_carries received x fits near)
-        no_stray
+    no_stray
 
 -- so does what is sent at a level
 pub level_law : (level : ℕ) (sent : List Transmission) → IsLevel level → All IsTransmission sent
@@ -141,11 +143,11 @@ pub level_law : (level : ℕ) (sent : List Transmission) → IsLevel level → A
 level_law level sent fits good no_stray =
     let received : List Received = sent_at level sent in
     let each : AllByRecursion IsReceived received = sent_at-good level sent fits
-        (recursion_from_All IsTransmission sent good) in
+    (recursion_from_All IsTransmission sent good) in
     let carries : CarriesAll (transmissions_of received) (hf_signal level sent) =
-        near_carries received (hf_signal level sent) each (signal_near level sent fits.least) in
+    near_carries received (hf_signal level sent) each (signal_near level sent fits.least) in
     carried_law sent (hf_signal level sent) good (subst (λ ts. CarriesAll ts (hf_signal level sent))
-        (transmissions_of-sent_at level sent) carries) no_stray
+    (transmissions_of-sent_at level sent) carries) no_stray
 
 -- what holds of each of all candidates holds of every candidate
 pub no_stray_of : (sent : List Transmission) (x : List ℤ) (items : List Candidate) → AreCandidates x items

@@ -1,6 +1,6 @@
 -- Samples near a signal carry its transmissions, and what is sent at a level is near its wave.
-use Rattle.std.proofs.Common.{◌≡◌, ℕ, ◌*◌, ◌/◌, ◌<◌, ◌≤◌, ℤ, pos, List, [], ◌∷◌, length, replicate, refl, subst, ◌∙◌,
-    arith, append_assoc, length-append}
+use Rattle.std.proofs.Common.{◌≡◌, ℕ, ◌*◌, ◌/◌, ◌<◌, ◌≤◌, ℤ, pos, List, [], ◌∷◌, length, replicate, refl, subst, ◌∙◌}
+use Rattle.std.proofs.Common.{arith, append_assoc, length-append}
 use Rattle.std.specs.List.{AllByRecursion}
 use Rattle.std.proofs.lemmas.List.{length-replicate}
 use Rattle.std.proofs.lemmas.List.Concat.{flat_map-cons}
@@ -25,8 +25,12 @@ use Rattle.hf_signal.proofs.NearWaves.{tones_at-near}
 length-wave_from : (phase : ℕ) (tones : List Tone) → length (wave_from phase tones) ≡ 32 * length tones
 length-wave_from phase [] = refl
 length-wave_from phase (tone ∷ tones) =
-    omega (arith, length-append (pure_window phase tone) (wave_from (next_phase phase tone) tones),
-        length-pure_window phase tone, length-wave_from (next_phase phase tone) tones)
+    omega (
+      arith,
+      length-append (pure_window phase tone) (wave_from (next_phase phase tone) tones),
+      length-pure_window phase tone,
+      length-wave_from (next_phase phase tone) tones,
+    )
 
 wave_carries : (level phase : ℕ) (tones : List Tone) (x : List ℤ) → 1 ≤ level → IsBitPhase phase
     → IsNear level (wave_from phase tones) x → Carries tones x

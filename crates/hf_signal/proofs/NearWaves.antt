@@ -1,6 +1,6 @@
 -- Samples near a wave are heard as the wave is: window by window they are near pure ones.
-use Rattle.std.proofs.Common.{◌≡◌, ℕ, ◌+◌, ◌-◌, ◌*◌, ◌/◌, ◌%◌, ◌<◌, ◌≤◌, ℤ, List, [], ◌∷◌, ◌++◌, length, map, take,
-    drop, subst, refl, ap, sym, ◌∙◌, arith}
+use Rattle.std.proofs.Common.{◌≡◌, ℕ, ◌+◌, ◌-◌, ◌*◌, ◌/◌, ◌%◌, ◌<◌, ◌≤◌, ℤ, List, [], ◌∷◌, ◌++◌, length, map, take}
+use Rattle.std.proofs.Common.{drop, subst, refl, ap, sym, ◌∙◌, arith}
 use Rattle.std.specs.List.{range_with_len}
 use Rattle.std.proofs.lemmas.List.{take_all, take-append-drop}
 use Rattle.tone_table.specs.declared.tone.Tone.{Tone}
@@ -42,12 +42,12 @@ tones_at-near level [] k x some below near = no_tones x near.size
 tones_at-near level (tone ∷ tones) k x some below near =
     let next = next_phase-third k tone below in
     let front = near-front level (pure_window (16 * k) tone) (wave_from (next_phase (16 * k) tone) tones) x 32
-        (length-pure_window (16 * k) tone) near in
+    (length-pure_window (16 * k) tone) near in
     let back = near-back level (pure_window (16 * k) tone) (wave_from (next_phase (16 * k) tone) tones) x 32
-        (length-pure_window (16 * k) tone) near in
+    (length-pure_window (16 * k) tone) near in
     let rest : tones_at 0 (drop 32 x) ≡ tones
     = tones_at-near level tones next.0 (drop 32 x) some next.1
-        (subst (λ phase. IsNear level (wave_from phase tones) (drop 32 x)) next.2 back) in
+    (subst (λ phase. IsNear level (wave_from phase tones) (drop 32 x)) next.2 back) in
     ap (tones_at 0) (sym (take-append-drop 32 x))
     ∙ tones_at-aligned 0 1 (take 32 x) (drop 32 x) (front.size ∙ length-pure_window (16 * k) tone)
     ∙ (λ i. tones_at-window level k tone (take 32 x) some below front i ++ rest i)

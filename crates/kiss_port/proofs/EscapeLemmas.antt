@@ -21,19 +21,19 @@ by_octet P octet at_fend at_fesc plain =
             | inl is ↦ let Q : ℕ → Type 0 = λ n. P n (escape_of n) in subst Q (sym is) at_fesc
             | inr no_fesc ↦
                 subst (P octet) (sym (cond-false _ _ _ (ne_eqb octet fend no_fend)
-                    ∙ cond-false _ _ _ (ne_eqb octet fesc no_fesc))) (plain no_fend no_fesc)
+                ∙ cond-false _ _ _ (ne_eqb octet fesc no_fesc))) (plain no_fend no_fesc)
           ]
     ]
 
 escape_back : (octet : ℕ) (more : List ℕ) → unescaped (escape_of octet ++ more) ≡ octet ∷ unescaped more
 escape_back octet more =
     by_octet (λ n written. unescaped (written ++ more) ≡ n ∷ unescaped more) octet refl refl
-        (λ no_fend no_fesc. unescaped_plain octet more no_fesc)
+    (λ no_fend no_fesc. unescaped_plain octet more no_fesc)
 
 escape_inside : (octet : ℕ) → IsInside (escape_of octet)
 escape_inside octet =
     by_octet (λ n written. IsInside written) octet (omega arith, (omega arith, tt)) (omega arith, (omega arith, tt))
-        (λ no_fend no_fesc. (no_fend, tt))
+    (λ no_fend no_fesc. (no_fend, tt))
 
 -- What is written stands for the octets.
 pub spelled_back : (octets : List ℕ) → unescaped (spelled octets) ≡ octets

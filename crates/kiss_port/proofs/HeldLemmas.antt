@@ -1,6 +1,7 @@
 -- What is kept stands for all octets so far.
-use Rattle.std.proofs.Common.{◌≡◌, ◌≢◌, ℕ, suc, ◌+◌, eqb, ltb, cond, Bool, true, false, List, [], ◌∷◌, ◌++◌, length,
-    take, min, refl, ap, subst, ◌∙◌, sym, inl, inr, arith, append_assoc, append-nil, length-take, Some}
+use Rattle.std.proofs.Common.{◌≡◌, ◌≢◌, ℕ, suc, ◌+◌, eqb, ltb, cond, Bool, true, false, List, [], ◌∷◌, ◌++◌, length}
+use Rattle.std.proofs.Common.{take, min, refl, ap, subst, ◌∙◌, sym, inl, inr, arith, append_assoc, append-nil}
+use Rattle.std.proofs.Common.{length-take, Some}
 use Rattle.std.specs.Option.{option_to_list}
 use Rattle.std.specs.List.{flat_map}
 use Rattle.std.proofs.lemmas.Bool.{cond-true, cond-false, eq-eqb, ne_eqb, lt-ltb, le-ltb, cases_eq, cases_lt}
@@ -9,8 +10,8 @@ use Rattle.std.proofs.lemmas.List.Concat.{flat_map-append}
 use Rattle.kiss_port.specs.Escapes.{fend, fesc, tfend, tfesc, meant, unescaped, spelled}
 use Rattle.kiss_port.specs.Pieces.{pieces}
 use Rattle.kiss_port.specs.Items.{item_of, items_in}
-use Rattle.kiss_port.specs.Held.{Held, StandsForPiece, StandsFor, rest_of_piece, new_held, kept_item, held_item,
-    keeping, unmarked, behind_escape, with_octet}
+use Rattle.kiss_port.specs.Held.{Held, StandsForPiece, StandsFor, rest_of_piece, new_held, kept_item, held_item}
+use Rattle.kiss_port.specs.Held.{keeping, unmarked, behind_escape, with_octet}
 use Rattle.kiss_port.proofs.PieceLemmas.{inside-append, pieces_inside, pieces_end}
 use Rattle.kiss_port.proofs.EscapeLemmas.{unescaped_plain, spelled_back, spelled_piece}
 
@@ -64,7 +65,7 @@ piece_new = record { inside = tt; meaning = []; rest = λ more. refl; kept = ref
 longer : (held next : Held) (piece : List ℕ) (octet : ℕ) (meaning : List ℕ) (escaped : Bool) → octet ≢ fend
     → (stands : StandsForPiece held piece) → Keeps next meaning
     → next.escaped ≡ escaped → ((more : List ℕ) → stands.meaning ++ rest_of_piece held.escaped (octet ∷ more)
-        ≡ meaning ++ rest_of_piece escaped more)
+    ≡ meaning ++ rest_of_piece escaped more)
     → StandsForPiece next (piece ++ octet ∷ [])
 longer held next piece octet meaning escaped other stands keeps mark further = record {
   inside = inside-append piece (octet ∷ []) stands.inside (other, tt);
@@ -114,16 +115,16 @@ piece_octet held piece octet other = by_escape held.kept held.long held.escaped
         as_other mark meaning is means =
             longer h (unmarked (keeping h meaning)) piece octet (stands.meaning ++ meaning ∷ []) false other stands
             (unmarked_keeps (keeping h meaning) (stands.meaning ++ meaning ∷ [])
-                (keeps_more h stands.meaning meaning keeps)) refl
+            (keeps_more h stands.meaning meaning keeps)) refl
             (λ more. ap (λ ms. stands.meaning ++ (ms ++ unescaped more)) (ap meant is ∙ means)
-                ∙ sym (append_assoc stands.meaning (meaning ∷ []) (unescaped more)))
+            ∙ sym (append_assoc stands.meaning (meaning ∷ []) (unescaped more)))
 
         as_none : octet ≢ tfend → octet ≢ tfesc → S (unmarked h)
         as_none no_tfend no_tfesc =
             longer h (unmarked h) piece octet stands.meaning false other stands (unmarked_keeps h stands.meaning keeps)
-                refl
+            refl
             (λ more. ap (λ ms. stands.meaning ++ (ms ++ unescaped more)) (cond-false _ _ _ (ne_eqb octet tfend no_tfend)
-                ∙ cond-false _ _ _ (ne_eqb octet tfesc no_tfesc)))
+            ∙ cond-false _ _ _ (ne_eqb octet tfesc no_tfesc)))
 
         behind : S (behind_escape h octet)
         behind =
@@ -151,15 +152,15 @@ piece_octet held piece octet other = by_escape held.kept held.long held.escaped
               | inl is ↦
                   subst S (sym (cond-true _ _ _ (eq-eqb octet fesc is)))
                   (longer h (record { kept = kept; long = long; escaped = true })
-                      piece octet stands.meaning true other stands (record { kept = stands.kept; long = stands.long })
-                      refl
+                  piece octet stands.meaning true other stands (record { kept = stands.kept; long = stands.long })
+                  refl
                   (λ more. ap (λ n. stands.meaning ++ unescaped (n ∷ more)) is))
               | inr no_fesc ↦
                   subst S (sym (cond-false _ _ _ (ne_eqb octet fesc no_fesc)))
                   (longer h (keeping h octet) piece octet (stands.meaning ++ octet ∷ []) false other stands
-                      (keeps_more h stands.meaning octet keeps) (keeping_mark h octet)
+                  (keeps_more h stands.meaning octet keeps) (keeping_mark h octet)
                   (λ more. ap (λ xs. stands.meaning ++ xs) (unescaped_plain octet more no_fesc)
-                      ∙ sym (append_assoc stands.meaning (octet ∷ []) (unescaped more))))
+                  ∙ sym (append_assoc stands.meaning (octet ∷ []) (unescaped more))))
             ]
 
 -- what is kept of a piece tells its item
@@ -167,9 +168,9 @@ pub piece_says : (held : Held) (piece : List ℕ) → StandsForPiece held piece 
 piece_says held piece stands =
     let all : unescaped piece ≡ stands.meaning =
     ap unescaped (sym (append-nil piece)) ∙ stands.rest [] ∙ ap (λ xs. stands.meaning ++ xs) (nothing held.escaped)
-        ∙ append-nil stands.meaning in
+    ∙ append-nil stands.meaning in
     ap (λ b. kept_item b held.kept) stands.long ∙ ap (kept_item (ltb 1025 (length stands.meaning))) stands.kept
-        ∙ kept_says stands.meaning ∙ ap item_of (sym all)
+    ∙ kept_says stands.meaning ∙ ap item_of (sym all)
   where
     nothing : (escaped : Bool) → rest_of_piece escaped [] ≡ []
     nothing true = refl
@@ -207,7 +208,7 @@ module _ (held : Held) (stream : List ℕ) (stands : StandsFor held stream) wher
     pieces_same =
         stands.cut (octet ∷ [])
         ∙ ap (λ xs. pieces stream ++ xs) (pieces_inside (stands.piece ++ octet ∷ [])
-            (inside-append stands.piece (octet ∷ []) stands.piece_held.inside (other, tt)))
+        (inside-append stands.piece (octet ∷ []) stands.piece_held.inside (other, tt)))
         ∙ append-nil (pieces stream)
 
     pub items_same : items_in (stream ++ octet ∷ []) ≡ items_in stream ++ []

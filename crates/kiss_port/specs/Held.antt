@@ -1,6 +1,6 @@
 -- What is kept of the piece under way. No public clause looks inside: they cite `StandsFor` alone.
-use Rattle.std.specs.Prelude.{◌≡◌, ◌≢◌, ℕ, ◌/◌, ◌%◌, ◌==◌, nat_lt, if◌then◌else◌, Bool, true, false, List, [], ◌∷◌,
-    ◌++◌, length, take, Option, Some, None}
+use Rattle.std.specs.Prelude.{◌≡◌, ◌≢◌, ℕ, ◌/◌, ◌%◌, ◌==◌, nat_lt, if◌then◌else◌, Bool, true, false, List, [], ◌∷◌}
+use Rattle.std.specs.Prelude.{◌++◌, length, take, Option, Some, None}
 use Rattle.std.specs.List.{AllByRecursion}
 use Rattle.kiss_port.specs.declared.item.KissItem.{KissItem}
 use Rattle.kiss_port.specs.declared.item.KissItem.TheVariants.{TooLong, Return}
@@ -40,7 +40,7 @@ unmarked held = record { kept = held.kept; long = held.long; escaped = false }
 abbrev pub behind_escape : Held → ℕ → Held
 behind_escape held octet =
     if octet == tfend then unmarked (keeping held fend) else if octet == tfesc then unmarked (keeping held fesc)
-        else unmarked held
+    else unmarked held
 
 -- one octet more of the piece
 abbrev pub with_octet : Held → ℕ → Held

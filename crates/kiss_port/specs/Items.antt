@@ -1,6 +1,6 @@
 -- What the pieces of a stream say (Chepponis and Karn, "The KISS TNC", 1987).
-use Rattle.std.specs.Prelude.{ℕ, ◌+◌, ◌*◌, ◌/◌, ◌%◌, ◌==◌, ◌&&◌, nat_lt, nat_le, if◌then◌else◌, List, [], ◌∷◌, length,
-    Option, Some, None}
+use Rattle.std.specs.Prelude.{ℕ, ◌+◌, ◌*◌, ◌/◌, ◌%◌, ◌==◌, ◌&&◌, nat_lt, nat_le, if◌then◌else◌, List, [], ◌∷◌, length}
+use Rattle.std.specs.Prelude.{Option, Some, None}
 use Rattle.std.specs.Option.{option_to_list}
 use Rattle.std.specs.List.{flat_map}
 use Rattle.kiss_port.specs.declared.item.KissItem.{KissItem}
@@ -21,7 +21,7 @@ setting port command (value ∷ octets) = if nat_le 1 command && nat_le command 
 abbrev pub by_command : ℕ → ℕ → List ℕ → KissItem
 by_command port command octets =
     if command == 0 then Frame port octets else if command == 6 then Hardware port octets
-        else setting port command octets
+    else setting port command octets
 
 -- the item of a type and the octets after it
 abbrev pub item_by_type : ℕ → List ℕ → KissItem

@@ -1,13 +1,15 @@
 -- An event from its first act to its last.
-use Rattle.std.proofs.Common.{◌≡◌, ℕ, ◌+◌, ◌-◌, ◌%◌, ◌<◌, ◌≤◌, ◌&&◌, Bool, true, false, if◌then◌else◌, List, [], ◌∷◌,
-    ◌++◌, length, take, drop, min, max, Ok, Err, Result, refl, sym, ◌∙◌, ap, subst, arith, inl}
+use Rattle.std.proofs.Common.{◌≡◌, ℕ, ◌+◌, ◌-◌, ◌%◌, ◌<◌, ◌≤◌, ◌&&◌, Bool, true, false, if◌then◌else◌, List, [], ◌∷◌}
+use Rattle.std.proofs.Common.{◌++◌, length, take, drop, min, max, Ok, Err, Result, refl, sym, ◌∙◌, ap, subst, arith}
+use Rattle.std.proofs.Common.{inl}
 use Rattle.std.proofs.lemmas.Bool.{false≢true}
 use Rattle.std.proofs.Math.Nat.{mod-eq_of_lt}
 use Rattle.selective_reject.specs.declared.packet.Packet.{Packet}
 use Rattle.selective_reject.specs.declared.outgoing.BadNr.{BadNr}
 use Rattle.selective_reject.specs.Numbers.{IsModulus, ahead}
-use Rattle.selective_reject.specs.Outgoing.{Outgoing, StandsForOutgoing, IsOutgoing,
-    acknowledged as without_acknowledged, back, restarted, is_named, acknowledgement}
+use Rattle.selective_reject.specs.Outgoing.{Outgoing, StandsForOutgoing, IsOutgoing}
+use Rattle.selective_reject.specs.Outgoing.{acknowledged as without_acknowledged, back, restarted, is_named}
+use Rattle.selective_reject.specs.Outgoing.{acknowledgement}
 use Rattle.selective_reject.proofs.OutgoingRounds.{same_acknowledgement}
 use Rattle.link_machine.specs.declared.control.Control.{Control}
 use Rattle.link_machine.specs.declared.machine.Machine.{Machine as Held}
@@ -19,11 +21,12 @@ use Rattle.link_machine.specs.Machine.{Machine, is_wide, is_valid, named, ahead_
 use Rattle.link_machine.specs.Sent.{SentIn, sent_in, sent_frames, all_sent_in, infos_from}
 use Rattle.link_machine.specs.Sent.Sent.{InfoSent}
 use Rattle.link_machine.specs.Turn.{Turn, Act, begin, setting, sending, in_order}
-use Rattle.link_machine.specs.Acts.{acknowledged, timed_anew, answer_poll, recover, in_window, settle, reset, close,
-    send_packets, send_again, sent_packet, give, with_rej, owing, watching, nothing_due}
+use Rattle.link_machine.specs.Acts.{acknowledged, timed_anew, answer_poll, recover, in_window, settle, reset, close}
+use Rattle.link_machine.specs.Acts.{send_packets, send_again, sent_packet, give, with_rej, owing, watching, nothing_due}
 use Rattle.link_machine.specs.declared.acts.Why.TheVariants.{Asked}
-use Rattle.link_machine.specs.Frames.{hear_in, hear, hear_idle, hear_calling_in, hear_calling, hear_releasing,
-    open_called, end_call, acknowledged_by_srej, hear_info_by_rej, take_selected, hear_info_by_srej, hear_info_by}
+use Rattle.link_machine.specs.Frames.{hear_in, hear, hear_idle, hear_calling_in, hear_calling, hear_releasing}
+use Rattle.link_machine.specs.Frames.{open_called, end_call, acknowledged_by_srej, hear_info_by_rej, take_selected}
+use Rattle.link_machine.specs.Frames.{hear_info_by_srej, hear_info_by}
 use Rattle.ax25_frames.specs.declared.frame.Kind.{Kind}
 use Rattle.ax25_frames.specs.declared.frame.Kind.TheVariants.{Info, Super, Setup, Ui, Other}
 use Rattle.ax25_frames.specs.declared.frame.U.TheVariants.{Sabm, Sabme, Disc, Dm, Ua}
@@ -54,8 +57,8 @@ use Rattle.link_machine.specs.StandsFor.{StandsFor}
 use Rattle.link_machine.specs.declared.acts.Told.{Told}
 use Rattle.link_machine.specs.declared.acts.SentFrame.{SentFrame}
 use Rattle.std.specs.Prelude.{is_some}
-use Rattle.link_machine.specs.Ticks.{runs_out, with_t1, with_t2, with_t3, is_spent, t2_out, t3_out, t1_out, tick_t2_of,
-    tick_t2, tick_t3_of, tick_t1_of, tick_t1, tick_in}
+use Rattle.link_machine.specs.Ticks.{runs_out, with_t1, with_t2, with_t3, is_spent, t2_out, t3_out, t1_out, tick_t2_of}
+use Rattle.link_machine.specs.Ticks.{tick_t2, tick_t3_of, tick_t1_of, tick_t1, tick_in}
 use Rattle.std.proofs.Common.{Some, length-append, length-drop}
 use Rattle.std.proofs.lemmas.List.{take_all, drop-append-le, take-append-le}
 use Rattle.selective_reject.specs.Outgoing.{after_push}
@@ -91,8 +94,13 @@ not_up Releasing h = refl
 
 -- a link stands for itself
 abbrev pub itself : Held → Machine
-itself held = record { path = held.path; params = held.params; control = held.control; outgoing = held.outgoing;
-    incoming = held.incoming }
+itself held = record {
+  path = held.path;
+  params = held.params;
+  control = held.control;
+  outgoing = held.outgoing;
+  incoming = held.incoming;
+}
 
 pub holds_itself : (held : Held) → IsWhole held → Holds held (itself held)
 holds_itself held h = record {
@@ -147,7 +155,7 @@ window_eq :
     → take (min k l - a) (drop b packets) ≡ take (min k l' - a') (drop b' packets)
 window_eq k l l' a a' b b' packets e f g =
     ap (λ x. take (min k x - a) (drop b packets)) e ∙ ap (λ x. take (min k l' - x) (drop b packets)) f
-        ∙ ap (λ x. take (min k l' - a') (drop x packets)) g
+    ∙ ap (λ x. take (min k l' - a') (drop x packets)) g
 
 -- the packets in the window are those of the machine
 same_distance :
@@ -197,7 +205,7 @@ copies_right held m count goes_back packets h e =
 pub copies_right_now :
     (held : Held) (m : Machine) (packets : List Packet) → Holds held m
     → packets ≡ in_window held.incoming.window (outgoing_behind 0 false held.outgoing)
-        → packets ≡ in_window m.incoming.window m.outgoing
+    → packets ≡ in_window m.incoming.window m.outgoing
 copies_right_now held m packets h e = copies_right held m 0 false packets h e
     ∙ in_window_now m.incoming.window m.outgoing
 
@@ -225,12 +233,12 @@ as_machine held m nr h =
 
 pub valid_number :
     (held : Held) (m : Machine) (nr count : ℕ) → Holds held m → acknowledgement held.incoming.modulus nr held.outgoing
-        ≡ Ok count
+    ≡ Ok count
     → (is_valid nr m ≡ true) × (named nr m ≡ m.outgoing.va + count)
 valid_number held m nr count h e =
     let same = as_machine held m nr h in
     both (is_named_if_counted (is_named m.incoming.modulus nr m.outgoing) (ahead m.incoming.modulus m.outgoing.va nr)
-        count _ (sym same ∙ e))
+    count _ (sym same ∙ e))
   where
     both :
         (is_valid nr m ≡ true) × (ahead m.incoming.modulus m.outgoing.va nr ≡ count)
@@ -248,8 +256,11 @@ below_top held m nr h valid =
     omega arith
 
 same_less : (a b c d : ℕ) → (a < b → c < d) → (b ≤ a → d ≤ c) → nat_lt a b ≡ nat_lt c d
-same_less a b c d f g = elim (cases_lt a b) [ inl h ↦ lt-ltb a b h ∙ sym (lt-ltb c d (f h)) | inr h ↦ le-ltb a b h
-    ∙ sym (le-ltb c d (g h)) ]
+same_less a b c d f g = elim (cases_lt a b) [
+  | inl h ↦ lt-ltb a b h ∙ sym (lt-ltb c d (f h))
+  | inr h ↦ le-ltb a b h
+      ∙ sym (le-ltb c d (g h))
+]
 
 -- some packets are acknowledged, and perhaps all that were sent
 pub some_acknowledged : (va n count : ℕ) → n ≡ va + count → nat_lt 0 count ≡ nat_lt va n
@@ -276,11 +287,11 @@ not_named_if_bad false d bad bad' h = refl
 
 pub invalid_number :
     (held : Held) (m : Machine) (nr : ℕ) (bad : BadNr) → Holds held m
-        → acknowledgement held.incoming.modulus nr held.outgoing ≡ Err bad → is_valid nr m ≡ false
+    → acknowledgement held.incoming.modulus nr held.outgoing ≡ Err bad → is_valid nr m ≡ false
 invalid_number held m nr bad h e =
     not_named_if_bad
     (is_named m.incoming.modulus nr m.outgoing) (ahead m.incoming.modulus m.outgoing.va nr) _ bad
-        (sym (as_machine held m nr h) ∙ e)
+    (sym (as_machine held m nr h) ∙ e)
 
 -- what the answer to a poll and recovery leave
 answer_poll_machine : (asks : Bool) (t : Turn) → ((answer_poll asks t).now.outgoing ≡ t.now.outgoing)
@@ -299,13 +310,13 @@ pub behind_answers :
     (asks answers : Bool) (t : Turn) →
     let behind = recover answers (answer_poll asks t) in
     (behind.now.outgoing ≡ (if t.now.control.poll && answers then back t.now.outgoing else t.now.outgoing))
-        × (behind.now.incoming ≡ t.now.incoming)
+    × (behind.now.incoming ≡ t.now.incoming)
 behind_answers asks answers t =
     let polled = answer_poll_machine asks t in
     let recovered = recover_by ((answer_poll asks t).now.control.poll && answers) _ (answer_poll asks t) refl in (
       recovered.0
           ∙ ap (λ b. if b && answers then back (answer_poll asks t).now.outgoing else (answer_poll asks t).now.outgoing)
-              polled.2
+          polled.2
           ∙ ap (λ o. if t.now.control.poll && answers then back o else o) polled.0,
       recovered.1 ∙ polled.1,
     )
@@ -322,11 +333,11 @@ acknowledged_poll n m = timed_poll _ _ m.control
 -- an S frame leaves what an acknowledgement, the answer to it and recovery leave
 pub supervised :
     (t : Turn) (m : Machine) (n count : ℕ) (asks answers goes_back : Bool)
-        → t.now.outgoing ≡ without_acknowledged n m.outgoing
+    → t.now.outgoing ≡ without_acknowledged n m.outgoing
     → t.now.incoming ≡ m.incoming → (t.now.control.poll && answers) ≡ goes_back → n ≡ m.outgoing.va + count →
     let behind = recover answers (answer_poll asks t) in
     in_window m.incoming.window (outgoing_behind count goes_back m.outgoing)
-        ≡ in_window behind.now.incoming.window behind.now.outgoing
+    ≡ in_window behind.now.incoming.window behind.now.outgoing
 supervised t m n count asks answers goes_back out inc back_or_not number =
     let left = behind_answers asks answers t in
     let whole : (recover answers (answer_poll asks t)).now.outgoing ≡ outgoing_behind count goes_back m.outgoing =
@@ -334,9 +345,9 @@ supervised t m n count asks answers goes_back out inc back_or_not number =
     ∙ ap (λ o. if t.now.control.poll && answers then back o else o) out
     ∙ ap (λ b. if b then back (without_acknowledged n m.outgoing) else without_acknowledged n m.outgoing) back_or_not
     ∙ ap (λ k. if goes_back then back (without_acknowledged k m.outgoing) else without_acknowledged k m.outgoing)
-        number in
+    number in
     sym (ap (λ (i : Incoming). in_window i.window (recover answers (answer_poll asks t)).now.outgoing) (left.1 ∙ inc)
-        ∙ ap (λ o. in_window m.incoming.window o) whole)
+    ∙ ap (λ o. in_window m.incoming.window o) whole)
 
 back_again : (b : Bool) (o : Outgoing) → (if b then back (back o) else back o) ≡ back o
 back_again true o = refl
@@ -345,11 +356,11 @@ back_again false o = refl
 -- the same if V(S) went back before
 pub supervised_back :
     (t : Turn) (m : Machine) (n count : ℕ) (asks answers : Bool)
-        → t.now.outgoing ≡ back (without_acknowledged n m.outgoing)
+    → t.now.outgoing ≡ back (without_acknowledged n m.outgoing)
     → t.now.incoming ≡ m.incoming → n ≡ m.outgoing.va + count →
     let behind = recover answers (answer_poll asks t) in
     in_window m.incoming.window (outgoing_behind count true m.outgoing)
-        ≡ in_window behind.now.incoming.window behind.now.outgoing
+    ≡ in_window behind.now.incoming.window behind.now.outgoing
 supervised_back t m n count asks answers out inc number =
     let left = behind_answers asks answers t in
     let whole : (recover answers (answer_poll asks t)).now.outgoing ≡ outgoing_behind count true m.outgoing =
@@ -358,12 +369,12 @@ supervised_back t m n count asks answers out inc number =
     ∙ back_again (t.now.control.poll && answers) (without_acknowledged n m.outgoing)
     ∙ ap (λ k. back (without_acknowledged k m.outgoing)) number in
     sym (ap (λ (i : Incoming). in_window i.window (recover answers (answer_poll asks t)).now.outgoing) (left.1 ∙ inc)
-        ∙ ap (λ o. in_window m.incoming.window o) whole)
+    ∙ ap (λ o. in_window m.incoming.window o) whole)
 
 -- a frame with a valid N(R)
 pub makes_numbered :
     (act : ℕ → Act) (nr count : ℕ) (before behind : Held) (result : Result Done OutOfMemory)
-        → acknowledgement before.incoming.modulus nr before.outgoing ≡ Ok count
+    → acknowledgement before.incoming.modulus nr before.outgoing ≡ Ok count
     → Makes (λ t. act (named nr t.now) t) before behind result → Makes (hear_numbered nr act) before behind result
 makes_numbered act nr count before behind (Ok done) valid makes = λ m h.
     let P : Turn → Type 0 = λ x. Made (settled x) behind done in
@@ -373,18 +384,18 @@ makes_numbered act nr count before behind (Err fault) valid makes = makes
 -- a frame with another
 pub makes_reset :
     (act : ℕ → Act) (nr : ℕ) (bad : BadNr) (before behind : Held) (result : Result Done OutOfMemory)
-        → acknowledgement before.incoming.modulus nr before.outgoing ≡ Err bad
+    → acknowledgement before.incoming.modulus nr before.outgoing ≡ Err bad
     → Makes reset before behind result → Makes (hear_numbered nr act) before behind result
 makes_reset act nr bad before behind (Ok done) valid makes = λ m h.
     let P : Turn → Type 0 = λ x. Made (settled x) behind done in
     subst P (sym (cond-false (is_valid nr m) (act (named nr m) (begin m)) _ (invalid_number before m nr bad h valid)))
-        (makes m h)
+    (makes m h)
 makes_reset act nr bad before behind (Err fault) valid makes = makes
 
 -- what a frame does by the state
 pub makes_hear :
     (s : LinkState) (command : Bool) (kind : Kind) (before behind : Held) (result : Result Done OutOfMemory)
-        → before.control.state ≡ s
+    → before.control.state ≡ s
     → Makes (hear_in s command kind) before behind result → Makes (hear command kind) before behind result
 makes_hear s command kind before behind (Ok done) is makes = λ m h.
     let state : s ≡ m.control.state = sym is ∙ ap (λ (c : Control). c.state) h.stands.control in
@@ -453,7 +464,7 @@ not_idle f = false≢true (ap is_up f)
 
 opened_by :
     (wide : Bool) (kind : Kind) (t : Turn) → t.now.control.state ≡ Calling
-        → (hear_calling_in wide kind t).now.control.state ≡ Up →
+    → (hear_calling_in wide kind t).now.control.state ≡ Up →
     let behind = hear_calling_in wide kind t in
     (behind.now.outgoing ≡ restarted t.now.outgoing) × (behind.now.incoming.window ≡ t.now.incoming.window)
 opened_by true (Setup Sabm flag) t e up = absurd (not_calling t e up)
@@ -496,19 +507,19 @@ pub supervised_srej :
     → t.now.incoming ≡ m.incoming → (t.now.control.poll && answers) ≡ goes_back → n ≡ m.outgoing.va + count →
     let behind = recover answers (answer_poll asks t) in
     in_window m.incoming.window (outgoing_behind (if flag then count else 0) goes_back m.outgoing)
-        ≡ in_window behind.now.incoming.window behind.now.outgoing
+    ≡ in_window behind.now.incoming.window behind.now.outgoing
 supervised_srej t m c n count true asks answers goes_back out inc back_or_not number =
     supervised t m n count asks answers goes_back out inc back_or_not number
 supervised_srej t m c n count false asks answers goes_back out inc back_or_not number =
     let left = behind_answers asks answers t in
     let whole : (recover answers (answer_poll asks t)).now.outgoing
-        ≡ (if goes_back then back m.outgoing else m.outgoing) =
+    ≡ (if goes_back then back m.outgoing else m.outgoing) =
     left.0
     ∙ ap (λ o. if t.now.control.poll && answers then back o else o) out
     ∙ ap (λ b. if b then back m.outgoing else m.outgoing) back_or_not in
     in_window_none m.incoming.window goes_back m.outgoing
     ∙ sym (ap (λ (i : Incoming). in_window i.window (recover answers (answer_poll asks t)).now.outgoing) (left.1 ∙ inc)
-        ∙ ap (λ o. in_window m.incoming.window o) whole)
+    ∙ ap (λ o. in_window m.incoming.window o) whole)
 
 -- what a turn leaves of the packets and the window
 abbrev pub Keeps : Turn → Turn → Type 0
@@ -549,12 +560,12 @@ asked_at false b' x x' e f = ap (λ b. if b then option_to_list x' else []) e
 pub asked_right :
     (o : Outgoing) (c : Control) (m : Machine) (n count : ℕ) (flag : Bool) → m.outgoing ≡ o → n ≡ o.va + count
     → option_to_list (if nat_lt count (o.top - o.va) then slice_get o.packets count else None)
-        ≡ sent_packet n (acknowledged_by_srej n flag m).outgoing
+    ≡ sent_packet n (acknowledged_by_srej n flag m).outgoing
 asked_right o c m n count true e number =
     let d : n - o.va ≡ count = omega arith in
     let z : n - n ≡ 0 = omega arith in
     asked_at (nat_lt count (o.top - o.va)) (nat_lt n o.top) (slice_get o.packets count)
-        (slice_get (drop (n - o.va) o.packets) (n - n))
+    (slice_get (drop (n - o.va) o.packets) (n - n))
     (same_less count (o.top - o.va) n o.top (λ h. omega arith) (λ h. omega arith))
     (sym (slice_get-drop (n - o.va) (n - n) o.packets ∙ ap (λ k. slice_get o.packets k) (omega arith)))
     ∙ ap (λ (x : Outgoing). sent_packet n (without_acknowledged n x)) (sym e)
@@ -659,11 +670,11 @@ in_window_push k o p within room =
     let n : length (o.packets ++ p ∷ []) ≡ length o.packets + 1 = length-append o.packets (p ∷ []) in
     let d = o.vs - o.va in
     let now : in_window k o ≡ drop d o.packets = take_all (min k (length o.packets) - d) (drop d o.packets)
-        (rw length-drop (omega arith)) in
+    (rw length-drop (omega arith)) in
     let cut : drop d (o.packets ++ p ∷ []) ≡ drop d o.packets ++ p ∷ [] =
-        drop-append-le d o.packets (p ∷ []) (omega arith) in
+    drop-append-le d o.packets (p ∷ []) (omega arith) in
     let more : take (min k (length (o.packets ++ p ∷ [])) - d) (drop d (o.packets ++ p ∷ []))
-        ≡ drop d (o.packets ++ p ∷ []) =
+    ≡ drop d (o.packets ++ p ∷ []) =
     take_all _ (drop d (o.packets ++ p ∷ [])) (rw length-drop (omega (arith, n))) in
     more ∙ cut ∙ ap (λ xs. xs ++ p ∷ []) (sym (in_window_now k o ∙ now))
 
@@ -675,7 +686,7 @@ in_window_full k o p within full =
     let d = o.vs - o.va in
     let same : min k (length (o.packets ++ p ∷ [])) - d ≡ min k (length o.packets) - d = omega (arith, n) in
     let cut : drop d (o.packets ++ p ∷ []) ≡ drop d o.packets ++ p ∷ [] =
-        drop-append-le d o.packets (p ∷ []) (omega arith) in
+    drop-append-le d o.packets (p ∷ []) (omega arith) in
     let short : min k (length o.packets) - d ≤ length (drop d o.packets) = rw length-drop (omega arith) in
     ap (λ c. take c (drop d (o.packets ++ p ∷ []))) same
     ∙ ap (λ xs. take (min k (length o.packets) - d) xs) cut
@@ -685,11 +696,11 @@ in_window_full k o p within full =
 -- the packets in the window are those of the machine, with one more that waits
 pub same_pushed :
     (k : ℕ) (p : Packet) (held o : Outgoing) → StandsForOutgoing held o
-        → in_window k (after_push p held) ≡ in_window k (after_push p o)
+    → in_window k (after_push p held) ≡ in_window k (after_push p o)
 same_pushed k p held o h =
     let d : held.vs - held.va ≡ o.vs - o.va = let e : held.vs + o.va ≡ o.vs + held.va = h.vs in omega arith in
     ap (λ xs. take (min k (length (xs ++ p ∷ [])) - (held.vs - held.va)) (drop (held.vs - held.va) (xs ++ p ∷ [])))
-        h.packets
+    h.packets
     ∙ ap (λ x. take (min k (length (o.packets ++ p ∷ [])) - x) (drop x (o.packets ++ p ∷ []))) d
 
 pub srej_va : (n : ℕ) (flag : Bool) (m : Machine) → m.outgoing.va ≤ n → (acknowledged_by_srej n flag m).outgoing.va ≤ n
@@ -723,13 +734,13 @@ no_packet false ps h e = refl
 
 pub not_sent :
     (held o : Outgoing) (n : ℕ) → IsOutgoing held → StandsForOutgoing held o → o.va ≤ n → [] ≡ sent_packet n o
-        → nat_lt n o.top ≡ false
+    → nat_lt n o.top ≡ false
 not_sent held o n formed h above none =
     no_packet (nat_lt n o.top) _ (λ e f. in_vain (ltb-true n o.top e) (slice_get_cases o.packets (n - o.va)).1 f) none
   where
     in_vain :
         n < o.top → ((x : Packet) × (n - o.va < length o.packets) × (slice_get o.packets (n - o.va) ≡ Some x)
-            × (get_or o.packets (n - o.va) x ≡ x))
+        × (get_or o.packets (n - o.va) x ≡ x))
         ⊎ ((length o.packets ≤ n - o.va) × (slice_get o.packets (n - o.va) ≡ None))
         → option_to_list (slice_get o.packets (n - o.va)) ≡ [] → ⊥
     in_vain below (inl there) f = false≢true (sym (ap has_one (sym (ap option_to_list there.2) ∙ f)))
@@ -758,7 +769,7 @@ done_as held t done h =
 
 pub answers_right :
     (behind : Held) (m : Machine) (event : Event) (done : Done) → is_some (refusal_of m event) ≡ false
-        → Made (settled (row event (begin m))) behind done
+    → Made (settled (row event (begin m))) behind done
     → (done ≡ done_of (step m event)) × StandsFor behind (step m event).now
 answers_right behind m event done free h =
     let e = sym (stepped m event free) in
@@ -778,7 +789,7 @@ whole_behind act before behind (Err fault) makes whole = let P : Held
 -- what a call answers, if its event is never refused
 pub answers_all :
     (before behind : Held) (event : Event) (result : Result Done OutOfMemory)
-        → ((m : Machine) → is_some (refusal_of m event) ≡ false) → IsWhole before
+    → ((m : Machine) → is_some (refusal_of m event) ≡ false) → IsWhole before
     → Makes (row event) before behind result → (m : Machine) → StandsFor before m
     → IfOk result (λ acts. acts ≡ done_of (step m event)) × OnOk result (StandsFor behind (step m event).now)
 answers_all before behind event (Ok done) free whole makes m h =
@@ -794,13 +805,13 @@ free_disconnect m e = ap (λ b. is_some (if b then Some (WrongState m.control.st
 
 pub free_send :
     (m : Machine) (packet : Packet) → is_closed m.control ≡ false → length m.outgoing.packets < 1024
-        → length packet.octets ≤ 256
+    → length packet.octets ≤ 256
     → is_some (refusal_of m (Send packet)) ≡ false
 free_send m packet e room short =
     let wrong : Option LinkFault = Some (WrongState m.control.state m.control.quit) in
     let long : Option LinkFault = Some (TooLong (length packet.octets)) in
     ap (λ b. is_some (if b then wrong else if nat_le 1024 (length m.outgoing.packets) then Some Full
-        else if nat_lt 256 (length packet.octets) then long else None)) e
+    else if nat_lt 256 (length packet.octets) then long else None)) e
     ∙ ap (λ b. is_some (if b then Some Full else if nat_lt 256 (length packet.octets) then long else None))
-        (lt-leb 1024 (length m.outgoing.packets) room)
+    (lt-leb 1024 (length m.outgoing.packets) room)
     ∙ ap (λ b. is_some (if b then long else None)) (le-ltb 256 (length packet.octets) short)

@@ -81,7 +81,7 @@ window_is_full p = refl
 pub window_opens :
     (p : Path) →
     (from_new p RejMode (four_sent p ++ Send (packet 4) ∷ hears p Response (Super Rr 2 false) ∷ [])).sent
-        ≡ eight (InfoSent 4 0 (packet 4) ∷ [])
+    ≡ eight (InfoSent 4 0 (packet 4) ∷ [])
 unfolding step ahead
 window_opens p = refl
 
@@ -97,7 +97,7 @@ rejected p = refl
 pub selectively_rejected :
     (p : Path) →
     (from_new p SrejMode (four_sent p ++ hears p Response (Super Srej 1 false) ∷ [])).sent
-        ≡ eight (InfoSent 1 0 (packet 1) ∷ [])
+    ≡ eight (InfoSent 1 0 (packet 1) ∷ [])
 unfolding step ahead
 selectively_rejected p = refl
 
@@ -128,7 +128,7 @@ gives_all p = refl
 pub responds_late :
     (p : Path) →
     (from_new p SrejMode (three_came p ++ info p 0 0 ∷ [] ++ replicate 30 (Tick false))).sent
-        ≡ eight (SuperSent Rr false 4 false ∷ [])
+    ≡ eight (SuperSent Rr false 4 false ∷ [])
 unfolding step ahead missing asked
 responds_late p = refl
 
@@ -146,13 +146,13 @@ rejects_no_more p = refl
 pub releases :
     (p : Path) →
     (from_new p RejMode (opened p ++ Send (packet 0) ∷ Disconnect ∷ hears p Response (Super Rr 1 false) ∷ [])).sent
-        ≡ eight (SetupSent Disc true ∷ [])
+    ≡ eight (SetupSent Disc true ∷ [])
 unfolding step ahead
 releases p = refl
 
 pub is_released :
     (p : Path) → (from_new p RejMode (opened p ++ Disconnect ∷ hears p Response (Setup Ua true) ∷ [])).told
-        ≡ Ended Asked ∷ []
+    ≡ Ended Asked ∷ []
 unfolding step
 is_released p = refl
 
@@ -181,7 +181,7 @@ opens_narrow p = refl
 
 pub counts_narrow :
     (p : Path) → (from_wide p RejMode (refused_wide p ++ hears p Response (Setup Ua true) ∷ [])).now.incoming.modulus
-        ≡ 8
+    ≡ 8
 unfolding step
 counts_narrow p = refl
 

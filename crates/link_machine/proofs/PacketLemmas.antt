@@ -1,6 +1,7 @@
 -- Packets that go out one by one.
-use Rattle.std.proofs.Common.{◌≡◌, ℕ, ◌+◌, ◌-◌, ◌%◌, ◌≤◌, Bool, true, false, List, [], ◌∷◌, ◌++◌, length, take, drop,
-    min, max, Some, refl, sym, ◌∙◌, ap, subst, arith, append_assoc, length-append, length-take, length-drop}
+use Rattle.std.proofs.Common.{◌≡◌, ℕ, ◌+◌, ◌-◌, ◌%◌, ◌≤◌, Bool, true, false, List, [], ◌∷◌, ◌++◌, length, take, drop}
+use Rattle.std.proofs.Common.{min, max, Some, refl, sym, ◌∙◌, ap, subst, arith, append_assoc, length-append}
+use Rattle.std.proofs.Common.{length-take, length-drop}
 use Rattle.std.proofs.Common.{suc, zero}
 use Rattle.std.proofs.lemmas.Bool.{lt-ltb, cond-true}
 use Rattle.std.proofs.lemmas.Grind.{common_steps}
@@ -26,7 +27,7 @@ use Rattle.link_machine.specs.Held.{Holds, Shows, sending_packets, send_next}
 -- one packet more
 pub infos_from_more :
     (n nr : ℕ) (xs : List Packet) (p : Packet) → infos_from n nr (xs ++ p ∷ [])
-        ≡ infos_from n nr xs ++ InfoSent (n + length xs) nr p ∷ []
+    ≡ infos_from n nr xs ++ InfoSent (n + length xs) nr p ∷ []
 infos_from_more n nr [] p = ap (λ k. InfoSent k nr p ∷ []) (omega arith)
 infos_from_more n nr (x ∷ xs) p =
     let e : n + 1 + length xs ≡ n + length (x ∷ xs) = omega arith in
@@ -66,7 +67,7 @@ may_send_more k o gone left p order all =
 same_outgoing :
     (va vs vs' top top' : ℕ) (packets : List Packet) → vs ≡ vs' → top ≡ top'
     → ◌≡◌ {A = Outgoing} (record { va = va; vs = vs; top = top; packets = packets })
-        (record { va = va; vs = vs'; top = top'; packets = packets })
+    (record { va = va; vs = vs'; top = top'; packets = packets })
 same_outgoing va vs vs' top top' packets e f =
     let store : ℕ → ℕ → Outgoing = λ s t. record { va = va; vs = s; top = t; packets = packets } in
     ap (λ s. store s top) e ∙ ap (λ t. store vs' t) f
@@ -74,7 +75,7 @@ same_outgoing va vs vs' top top' packets e f =
 same_turn :
     (t : Turn) (o o' : Outgoing) (s s' : List SentIn) → o ≡ o' → s ≡ s'
     → ◌≡◌ {A = Turn} (record t { now = record t.now { outgoing = o }; sent = s })
-        (record t { now = record t.now { outgoing = o' }; sent = s' })
+    (record t { now = record t.now { outgoing = o' }; sent = s' })
 same_turn t o o' s s' e f =
     let turn : Outgoing → List SentIn → Turn = λ x y. record t { now = record t.now { outgoing = x }; sent = y } in
     ap (λ x. turn x s) e ∙ ap (λ y. turn o' y) f
@@ -88,7 +89,7 @@ sending_one_more gone p t may =
     let o = t.now.outgoing in
     let e : length (gone ++ p ∷ []) ≡ length gone + 1 = length-append gone (p ∷ []) in
     let next : after_next t.now.incoming.window (sent_to (o.vs + length gone) o)
-        ≡ sent_to (o.vs + length (gone ++ p ∷ [])) o =
+    ≡ sent_to (o.vs + length (gone ++ p ∷ [])) o =
     cond-true _ _ _ may
     ∙ same_outgoing o.va _ _ _ _ o.packets (omega arith) (omega arith) in
     let modulus = t.now.incoming.modulus in
@@ -115,9 +116,9 @@ sending_none t order =
 pub shows_next :
     (held : Held) (behind : Outgoing) (room : Room) (t : Turn) → Shows held room t → IsOutgoing behind
     → ((store : Outgoing) → StandsForOutgoing held.outgoing store
-        → StandsForOutgoing behind (after_next held.incoming.window store))
+    → StandsForOutgoing behind (after_next held.incoming.window store))
     → Shows (record held { outgoing = behind }) room
-        (record t { now = record t.now { outgoing = after_next t.now.incoming.window t.now.outgoing } })
+    (record t { now = record t.now { outgoing = after_next t.now.incoming.window t.now.outgoing } })
 shows_next held behind room t h formed stands =
     let m = t.now in
     let o : StandsForOutgoing behind (after_next m.incoming.window m.outgoing) =
@@ -125,15 +126,15 @@ shows_next held behind room t h formed stands =
     subst P h.holds.stands.incoming.window (stands m.outgoing h.holds.stands.outgoing) in
     let f : Machine → Machine = λ x. record x { outgoing = after_next x.incoming.window x.outgoing } in
     shows_changing f held (record held { outgoing = behind }) room t refl h
-        (holds_outgoing held m behind _ h.holds formed o)
+    (holds_outgoing held m behind _ h.holds formed o)
 
 pub number_of_next :
     (held : Held) (m : Machine) (answer : Option ℕ) (ns : ℕ) → Holds held m
-        → answer ≡ number_to_send held.incoming.modulus held.incoming.window m.outgoing
+    → answer ≡ number_to_send held.incoming.modulus held.incoming.window m.outgoing
     → answer ≡ Some ns → may_send m.incoming.window m.outgoing ≡ true → ns ≡ m.outgoing.vs % held.incoming.modulus
 number_of_next held m answer ns h said is may =
     let e : number_to_send held.incoming.modulus held.incoming.window m.outgoing
-        ≡ Some (m.outgoing.vs % held.incoming.modulus) =
+    ≡ Some (m.outgoing.vs % held.incoming.modulus) =
     ap (λ w. number_to_send held.incoming.modulus w m.outgoing) h.stands.incoming.window ∙ cond-true _ _ _ may in
     ap (λ x. unwrap_or x ns) (sym is ∙ said ∙ e)
 
@@ -162,7 +163,7 @@ copied_more packets first sent place h =
     ap (λ k. take k (drop (first + sent) packets)) e
     ∙ take_next (drop (first + sent) packets) (place - sent)
     ∙ ap (λ x. take (place - sent) (drop (first + sent) packets) ++ option_to_list x)
-        (slice_get-drop (first + sent) (place - sent) packets ∙ ap (λ k. slice_get packets k) f)
+    (slice_get-drop (first + sent) (place - sent) packets ∙ ap (λ k. slice_get packets k) f)
 
 dropped :
     (k count va vs : ℕ) (o : Outgoing) → va ≡ o.va + count
@@ -179,6 +180,6 @@ pub in_window_behind :
     (k count : ℕ) (goes_back : Bool) (o : Outgoing) →
     let behind = outgoing_behind count goes_back o in
     in_window k behind ≡ take (min k (length o.packets - count) - (behind.vs - behind.va))
-        (drop (count + (behind.vs - behind.va)) o.packets)
+    (drop (count + (behind.vs - behind.va)) o.packets)
 in_window_behind k count true o = dropped k count (o.va + count) (o.va + count) o refl
 in_window_behind k count false o = dropped k count (o.va + count) (max o.vs (o.va + count)) o refl

@@ -1,6 +1,7 @@
 -- What becomes of the packet of an I frame.
-use Rattle.std.proofs.Common.{◌≡◌, ℕ, zero, suc, ◌+◌, ◌%◌, ◌<◌, ◌≤◌, ◌==◌, ◌&&◌, not, Bool, true, false, if◌then◌else◌,
-    List, [], ◌∷◌, ◌++◌, length, drop, map, replicate, Some, refl, sym, ◌∙◌, ap, arith, nat_lt, eqb-true}
+use Rattle.std.proofs.Common.{◌≡◌, ℕ, zero, suc, ◌+◌, ◌%◌, ◌<◌, ◌≤◌, ◌==◌, ◌&&◌, not, Bool, true, false, if◌then◌else◌}
+use Rattle.std.proofs.Common.{List, [], ◌∷◌, ◌++◌, length, drop, map, replicate, Some, refl, sym, ◌∙◌, ap, arith}
+use Rattle.std.proofs.Common.{nat_lt, eqb-true}
 use Rattle.std.proofs.lemmas.List.{length-map}
 use Rattle.std.specs.Prelude.{filter}
 use Rattle.std.specs.List.{range_with_len}
@@ -13,8 +14,8 @@ use Rattle.selective_reject.specs.declared.window.Mode.{Mode}
 use Rattle.selective_reject.specs.declared.window.Mode.TheVariants.{Rej, Srej}
 use Rattle.selective_reject.specs.Numbers.{ahead}
 use Rattle.selective_reject.specs.Places.{empty_place, packet_at, is_full, with_packet, missing, asked, is_missing}
-use Rattle.selective_reject.specs.Incoming.{Incoming, taking_by, took, keeps, after_accept, empty_incoming,
-    before_number, numbers_to_ask}
+use Rattle.selective_reject.specs.Incoming.{Incoming, taking_by, took, keeps, after_accept, empty_incoming}
+use Rattle.selective_reject.specs.Incoming.{before_number, numbers_to_ask}
 use Rattle.link_machine.specs.Acts.{moved_on, srej_for}
 use Rattle.link_machine.specs.Machine.{Machine}
 use Rattle.link_machine.specs.declared.machine.Machine.{Machine as Held}
@@ -80,7 +81,7 @@ took_by_rej i ns mode next =
 by_srej : (within full b : Bool) → (b ≡ true → full ≡ false) → (b ≡ true → within ≡ true)
     → (is_next (if within then (if full then Again else (if b then Next else Stored)) else Outside) ≡ b)
     × (is_stored (if within then (if full then Again else (if b then Next else Stored)) else Outside)
-        ≡ (if b then false else (within && not full)))
+    ≡ (if b then false else (within && not full)))
 by_srej true true true h k = absurd (false≢true (sym (h refl)))
 by_srej true true false h k = (refl, refl)
 by_srej true false true h k = (refl, refl)
@@ -92,11 +93,11 @@ pub took_by_srej :
     (i : Incoming) (ns : ℕ) → i.mode ≡ Srej → is_full i.places 0 ≡ false → 1 ≤ i.window →
     let d = ahead i.modulus i.vr ns in
     (is_next (took i ns) ≡ (d == 0)) × (is_stored (took i ns)
-        ≡ (if d == 0 then false else (nat_lt d i.window && not (is_full i.places d))))
+    ≡ (if d == 0 then false else (nat_lt d i.window && not (is_full i.places d))))
 took_by_srej i ns mode next some =
     let d = ahead i.modulus i.vr ns in
     let both = by_srej (nat_lt d i.window) (is_full i.places d) (d == 0) (full_at i.places d next)
-        (λ e. let z : d ≡ 0 = eqb-true d 0 e in lt-ltb d i.window (omega arith)) in (
+    (λ e. let z : d ≡ 0 = eqb-true d 0 e in lt-ltb d i.window (omega arith)) in (
       ap (λ m. is_next (taking_by m i.window d (is_full i.places d))) mode ∙ both.0,
       ap (λ m. is_stored (taking_by m i.window d (is_full i.places d))) mode ∙ both.1,
     )
@@ -104,7 +105,7 @@ took_by_srej i ns mode next some =
 -- what an accepted packet leaves
 keeping : (i : Incoming) (d : ℕ) (packet : Packet) (b : Bool) → b ≡ true
     → (if b then record i { places = with_packet i.places d packet } else i)
-        ≡ record i { places = with_packet i.places d packet }
+    ≡ record i { places = with_packet i.places d packet }
 keeping i d packet true e = refl
 keeping i d packet false e = absurd (false≢true e)
 
@@ -201,7 +202,7 @@ unfolding missing
 length-missing ps n =
     let e : length (range_with_len 0 n) ≡ n = length-range 0 n in
     let h : length (filter (is_missing ps) (range_with_len 0 n)) ≤ length (range_with_len 0 n) =
-        length-filter_le (is_missing ps) (range_with_len 0 n) in
+    length-filter_le (is_missing ps) (range_with_len 0 n) in
     omega arith
 
 count_in_window : (d w : ℕ) (b : Bool) → b ≡ nat_lt d w → (if b then d else 0) ≤ w
@@ -212,10 +213,10 @@ pub asks_at_most : (i : Incoming) (ns : ℕ) → length (numbers_to_ask i ns) �
 asks_at_most i ns =
     let n = before_number i ns in
     let e : length (numbers_to_ask i ns) ≡ length (missing i.places n) =
-        length-map (missing i.places n) (λ k. (i.vr + k) % i.modulus) in
+    length-map (missing i.places n) (λ k. (i.vr + k) % i.modulus) in
     let h : length (missing i.places n) ≤ n = length-missing i.places n in
     let w : n ≤ i.window = count_in_window (ahead i.modulus i.vr ns) i.window
-        (nat_lt (ahead i.modulus i.vr ns) i.window) refl in
+    (nat_lt (ahead i.modulus i.vr ns) i.window) refl in
     omega arith
 
 pub before_in_window : (i : Incoming) (ns : ℕ) → ahead i.modulus i.vr ns < i.window

@@ -1,6 +1,7 @@
 -- Packets that are given in sequence, and those that are asked for.
-use Rattle.std.proofs.Common.{◌≡◌, ℕ, zero, suc, ◌+◌, ◌%◌, ◌<◌, ◌≤◌, Bool, true, false, if◌then◌else◌, List, [], ◌∷◌,
-    ◌++◌, length, take, drop, replicate, Some, None, refl, sym, ◌∙◌, ap, subst, arith, append_assoc}
+use Rattle.std.proofs.Common.{◌≡◌, ℕ, zero, suc, ◌+◌, ◌%◌, ◌<◌, ◌≤◌, Bool, true, false, if◌then◌else◌, List, [], ◌∷◌}
+use Rattle.std.proofs.Common.{◌++◌, length, take, drop, replicate, Some, None, refl, sym, ◌∙◌, ap, subst, arith}
+use Rattle.std.proofs.Common.{append_assoc}
 use Rattle.std.specs.Prelude.{Option, is_some}
 use Rattle.std.proofs.lemmas.Bool.{false≢true}
 use Rattle.std.proofs.lemmas.List.{drop-drop, drop-append-le}
@@ -49,7 +50,7 @@ replicate-push (suc n) = ap (λ xs. empty_place ∷ xs) (replicate-push n)
 -- one number further
 pub places_further : (j : ℕ) (ps : List Place) → j < length ps
     → drop 1 (drop j ps ++ replicate j empty_place) ++ empty_place ∷ []
-        ≡ drop (j + 1) ps ++ replicate (j + 1) empty_place
+    ≡ drop (j + 1) ps ++ replicate (j + 1) empty_place
 places_further j ps h =
     let some : 1 ≤ length (drop j ps) = rw length-drop (omega arith) in
     let e : suc j ≡ j + 1 = omega arith in
@@ -78,20 +79,22 @@ moved_none held store h = record {
 }
 
 further_by : (i : Incoming) (j : ℕ) (b : Bool) → b ≡ true → j < length i.places
-    → (if b then record (moved_on j i) { vr = (moved_on j i).vr + 1;
-        places = drop 1 (moved_on j i).places ++ empty_place ∷ [] } else moved_on j i) ≡ moved_on (j + 1) i
+    → (if b then record (moved_on j i) {
+      vr = (moved_on j i).vr + 1;
+      places = drop 1 (moved_on j i).places ++ empty_place ∷ [];
+    } else moved_on j i) ≡ moved_on (j + 1) i
 further_by i j true e h =
     let store : ℕ → List Place → Incoming = λ n ps. record i { vr = n; places = ps } in
     let v : i.vr + j + 1 ≡ i.vr + (j + 1) = omega arith in
     ap (λ n. store n (drop 1 (drop j i.places ++ replicate j empty_place) ++ empty_place ∷ [])) v
-        ∙ ap (λ ps. store (i.vr + (j + 1)) ps) (places_further j i.places h)
+    ∙ ap (λ ps. store (i.vr + (j + 1)) ps) (places_further j i.places h)
 further_by i j false e h = absurd (false≢true e)
 
 -- one packet more is taken
 pub moved_one_more :
     (before behind store : Incoming) (packet : Packet) → MovedSome before store
     → ((s : Incoming) → StandsForIncoming before s → StandsForIncoming behind (after_take s))
-        → behind.places ≡ drop 1 before.places ++ empty_place ∷ []
+    → behind.places ≡ drop 1 before.places ++ empty_place ∷ []
     → packet_at before.places 0 ≡ Some packet → MovedSome behind store
 moved_one_more before behind store packet so take places there =
     let one : run before.places ≡ packet ∷ run (drop 1 before.places) = run_of_full before.places packet there in
@@ -101,7 +104,7 @@ moved_one_more before behind store packet so take places there =
     let short : length (run store.places) ≤ length store.places = length-run store.places in
     let within : so.count < length store.places = omega arith in
     let full : is_full (moved_on so.count store).places 0 ≡ true = ap (λ ps. is_full ps 0) (sym so.stands.places)
-        ∙ ap is_some there in
+    ∙ ap is_some there in
     let P : Incoming → Type 0 = λ s. StandsForIncoming behind s in
     record {
       count = so.count + 1;
@@ -118,22 +121,22 @@ empty_by i false e = refl
 -- no packet is there: the run has ended
 pub moved_all :
     (before behind store : Incoming) → MovedSome before store
-        → ((s : Incoming) → StandsForIncoming before s → StandsForIncoming behind (after_take s))
+    → ((s : Incoming) → StandsForIncoming before s → StandsForIncoming behind (after_take s))
     → packet_at before.places 0 ≡ None → StandsForIncoming behind (moved_on (length (run store.places)) store)
 moved_all before behind store so take none =
     let ended : length (run before.places) ≡ 0 = ap length (run_of_empty before.places none) in
     let left = so.left in
     let count : so.count ≡ length (run store.places) = omega arith in
     let empty : is_full (moved_on so.count store).places 0 ≡ false = ap (λ ps. is_full ps 0) (sym so.stands.places)
-        ∙ ap is_some none in
+    ∙ ap is_some none in
     let P : Incoming → Type 0 = λ s. StandsForIncoming behind s in
     let Q : ℕ → Type 0 = λ n. StandsForIncoming behind (moved_on n store) in
     subst Q count (subst P (empty_by (moved_on so.count store) (is_full (moved_on so.count store).places 0) empty)
-        (take (moved_on so.count store) so.stands))
+    (take (moved_on so.count store) so.stands))
 
 places_by : (i : Incoming) (b : Bool) → b ≡ true
     → (if b then record i { vr = i.vr + 1; places = drop 1 i.places ++ empty_place ∷ [] } else i).places
-        ≡ drop 1 i.places ++ empty_place ∷ []
+    ≡ drop 1 i.places ++ empty_place ∷ []
 places_by i true e = refl
 places_by i false e = absurd (false≢true e)
 

@@ -54,7 +54,7 @@ shows_setting f held room t h = record {
 -- the machine changes and stays on its path
 pub shows_changing :
     (f : Machine → Machine) (held behind : Held) (room : Room) (t : Turn) → (f t.now).path ≡ t.now.path
-        → Shows held room t
+    → Shows held room t
     → Holds behind (f t.now) → Shows behind room (changing f t)
 shows_changing f held behind room t path h new = record {
   holds = new;
@@ -66,7 +66,7 @@ shows_changing f held behind room t path h new = record {
 pub shows_sending :
     (x : Sent) (held : Held) (room behind : Room) (t : Turn) → Shows held room t
     → behind.frames.items ≡ room.frames.items ++ sent_frame held.path (sent_in held.incoming.modulus x) ∷ []
-        → behind.told ≡ room.told
+    → behind.told ≡ room.told
     → Shows held behind (sending x t)
 shows_sending x held room behind t h frames told = record {
   holds = h.holds;
@@ -74,9 +74,9 @@ shows_sending x held room behind t h frames told = record {
       frames
       ∙ ap (λ fs. fs ++ sent_frame held.path (sent_in held.incoming.modulus x) ∷ []) h.frames
       ∙ ap (λ p. sent_frames t.now.path t.sent ++ sent_frame p (sent_in held.incoming.modulus x) ∷ [])
-          h.holds.stands.path
+      h.holds.stands.path
       ∙ ap (λ k. sent_frames t.now.path t.sent ++ sent_frame t.now.path (sent_in k x) ∷ [])
-          h.holds.stands.incoming.modulus
+      h.holds.stands.incoming.modulus
       ∙ sym (map-append (sent_frame t.now.path) t.sent (sent_in t.now.incoming.modulus x ∷ []));
   told = ap (λ v. v.items) told ∙ h.told;
 }
@@ -95,7 +95,7 @@ shows_telling x held room behind t h told frames = record {
 -- the same of a turn
 pub shows_control :
     (f : Control → Control) (held : Held) (c : Control) (room : Room) (t : Turn) → c ≡ f held.control
-        → Shows held room t
+    → Shows held room t
     → Shows (record held { control = c }) room (setting f t)
 shows_control f held c room t e h =
     let P : Control → Type 0 = λ x. Shows (record held { control = x }) room (setting f t) in
@@ -147,7 +147,7 @@ holds_outgoing held m behind o h formed stands = record {
 -- packets are given, and V(R) has moved on
 pub holds_incoming :
     (held : Held) (m : Machine) (behind i : Incoming) → Holds held m → StandsForIncoming behind i → IsIncoming behind
-        → IsReady behind
+    → IsReady behind
     → Holds (record held { incoming = behind }) (record m { incoming = i })
 holds_incoming held m behind i h stands formed ready = record {
   stands = record {
@@ -166,7 +166,7 @@ holds_incoming held m behind i h stands formed ready = record {
 
 pub shows_incoming :
     (held : Held) (behind : Incoming) (room after : Room) (t : Turn) (i : Incoming) (packets : List Packet)
-        → Shows held room t
+    → Shows held room t
     → StandsForIncoming behind (moved_on (length packets) t.now.incoming) → IsIncoming behind → IsReady behind
     → after.told.items ≡ room.told.items ++ map Given packets → after.frames ≡ room.frames
     → Shows (record held { incoming = behind }) after (give packets t)
@@ -178,7 +178,7 @@ shows_incoming held behind room after t i packets h stands formed ready told fra
 
 pub same_incoming :
     (held : Held) (behind : Incoming) (room : Room) (t : Turn) → Shows held room t
-        → StandsForIncoming behind t.now.incoming → IsIncoming behind
+    → StandsForIncoming behind t.now.incoming → IsIncoming behind
     → IsReady behind → Shows (record held { incoming = behind }) room t
 same_incoming held behind room t h stands formed ready = record {
   holds = holds_incoming held t.now behind t.now.incoming h.holds stands formed ready;
@@ -188,7 +188,7 @@ same_incoming held behind room t h stands formed ready = record {
 
 pub shows_as :
     (held : Held) (behind : Incoming) (room : Room) (t u : Turn) → t ≡ u
-        → Shows (record held { incoming = behind }) room t
+    → Shows (record held { incoming = behind }) room t
     → Shows (record held { incoming = behind }) room u
 shows_as held behind room t u e h = let P : Turn → Type 0 = λ x. Shows (record held { incoming = behind }) room x in
     subst P e h

@@ -1,13 +1,13 @@
 -- Every frame that a link sends can be written in its modulus: its numbers are below it, and its packet is short.
-use Rattle.std.proofs.Common.{◌≡◌, ℕ, ◌+◌, ◌-◌, ◌%◌, ◌<◌, ◌≤◌, ◌==◌, ◌&&◌, ◌||◌, not, Bool, true, false, if◌then◌else◌,
-    List, [], ◌∷◌, ◌++◌, length, take, drop, map, min, None, Some, refl, sym, ◌∙◌, ap, subst, arith, nat_lt, nat_le,
-    inl, inr}
+use Rattle.std.proofs.Common.{◌≡◌, ℕ, ◌+◌, ◌-◌, ◌%◌, ◌<◌, ◌≤◌, ◌==◌, ◌&&◌, ◌||◌, not, Bool, true, false, if◌then◌else◌}
+use Rattle.std.proofs.Common.{List, [], ◌∷◌, ◌++◌, length, take, drop, map, min, None, Some, refl, sym, ◌∙◌, ap, subst}
+use Rattle.std.proofs.Common.{arith, nat_lt, nat_le, inl, inr}
 use Rattle.std.specs.Prelude.{All, Option, is_some, get_or, ◌⊎◌, ⊤}
 use Rattle.std.specs.List.{slice_get}
 use Rattle.std.specs.Option.{option_to_list}
 use Rattle.std.proofs.lemmas.Option.{slice_get_cases}
-use Rattle.std.proofs.lemmas.List.Elements.{All-nil, All-cons, All-head, All-tail, All-same, All-append, All-push,
-    All-take, All-drop, All-map, All-get_or, All-weaker}
+use Rattle.std.proofs.lemmas.List.Elements.{All-nil, All-cons, All-head, All-tail, All-same, All-append, All-push}
+use Rattle.std.proofs.lemmas.List.Elements.{All-take, All-drop, All-map, All-get_or, All-weaker}
 use Rattle.std.proofs.lemmas.Bool.{ltb-false, false≢true}
 use Rattle.ax25_address.specs.declared.path.Path.{Path}
 use Rattle.ax25_frames.specs.declared.frame.Kind.{Kind}
@@ -33,25 +33,28 @@ use Rattle.link_machine.specs.declared.fault.LinkFault.{LinkFault}
 use Rattle.link_machine.specs.declared.fault.LinkFault.TheVariants.{WrongState, Full, TooLong}
 use Rattle.link_machine.specs.declared.state.LinkState.{LinkState}
 use Rattle.link_machine.specs.declared.state.LinkState.TheVariants.{Idle, Calling, Up, Releasing}
-use Rattle.link_machine.specs.Machine.{Machine, fresh, emptied, in_modulus, narrowed, in_own_modulus, modulus_named,
-    in_state, is_wide, is_valid, named, ahead_of_vr}
-use Rattle.link_machine.specs.Sent.{Sent, SentIn, sent_in, all_sent_in, infos_from, frame_of, sent_frame, sent_frames,
-    IsWritable}
+use Rattle.link_machine.specs.Machine.{Machine, fresh, emptied, in_modulus, narrowed, in_own_modulus, modulus_named}
+use Rattle.link_machine.specs.Machine.{in_state, is_wide, is_valid, named, ahead_of_vr}
+use Rattle.link_machine.specs.Sent.{Sent, SentIn, sent_in, all_sent_in, infos_from, frame_of, sent_frame, sent_frames}
+use Rattle.link_machine.specs.Sent.{IsWritable}
 use Rattle.link_machine.specs.Sent.Sent.{InfoSent, SuperSent, SetupSent}
 use Rattle.link_machine.specs.Turn.{Turn, Act, begin, changing, setting, sending, telling, nothing, in_order}
-use Rattle.link_machine.specs.Acts.{acknowledged, nothing_due, report, respond_ready, answer_poll, gone_back,
-    behind_poll, recover, polling, poll, in_window, to_send, awaiting, send_packets, flush, releasing, release, close,
-    settle, calling_frame, send_call, calling, call, reset, owing, with_rej, reject, run_with, give, stored, srej_for,
-    ask, watching, sent_packet, send_again}
+use Rattle.link_machine.specs.Acts.{acknowledged, nothing_due, report, respond_ready, answer_poll, gone_back}
+use Rattle.link_machine.specs.Acts.{behind_poll, recover, polling, poll, in_window, to_send, awaiting, send_packets}
+use Rattle.link_machine.specs.Acts.{flush, releasing, release, close, settle, calling_frame, send_call, calling, call}
+use Rattle.link_machine.specs.Acts.{reset, owing, with_rej, reject, run_with, give, stored, srej_for, ask, watching}
+use Rattle.link_machine.specs.Acts.{sent_packet, send_again}
 use Rattle.link_machine.specs.Requests.{connect, joined, quitting, is_closed}
-use Rattle.link_machine.specs.Frames.{answer_ua, answer_dm, stopped_t1, end_call, stopped, leave, open_called,
-    open_answered, unretried_call, call_narrow, hear_idle, hear_calling_in, hear_calling, hear_releasing, with_busy,
-    hear_rr, hear_rnr, hear_rej, acknowledged_by_srej, hear_srej, hear_supervisory, take_in_sequence,
-    refuse_out_of_sequence, hear_info_by_rej, take_selected, hear_info_by_srej, hear_info_by, hear_info, open_again,
-    end_by_disc, end_by_dm, hear_up, hear_in, hear}
-use Rattle.link_machine.specs.Ticks.{runs_out, lowered, with_t1, with_t2, with_t3, t2_out, retried, is_spent,
-    call_again, poll_again, release_again, t1_out, unretried, t3_out, tick_t2_of, tick_t2, tick_t3_of, tick_t3,
-    tick_t1_of, tick_t1, tick_in, tick}
+use Rattle.link_machine.specs.Frames.{answer_ua, answer_dm, stopped_t1, end_call, stopped, leave, open_called}
+use Rattle.link_machine.specs.Frames.{open_answered, unretried_call, call_narrow, hear_idle, hear_calling_in}
+use Rattle.link_machine.specs.Frames.{hear_calling, hear_releasing, with_busy, hear_rr, hear_rnr, hear_rej}
+use Rattle.link_machine.specs.Frames.{acknowledged_by_srej, hear_srej, hear_supervisory, take_in_sequence}
+use Rattle.link_machine.specs.Frames.{refuse_out_of_sequence, hear_info_by_rej, take_selected, hear_info_by_srej}
+use Rattle.link_machine.specs.Frames.{hear_info_by, hear_info, open_again, end_by_disc, end_by_dm, hear_up, hear_in}
+use Rattle.link_machine.specs.Frames.{hear}
+use Rattle.link_machine.specs.Ticks.{runs_out, lowered, with_t1, with_t2, with_t3, t2_out, retried, is_spent}
+use Rattle.link_machine.specs.Ticks.{call_again, poll_again, release_again, t1_out, unretried, t3_out, tick_t2_of}
+use Rattle.link_machine.specs.Ticks.{tick_t2, tick_t3_of, tick_t3, tick_t1_of, tick_t1, tick_in, tick}
 use Rattle.link_machine.specs.Event.{Event}
 use Rattle.link_machine.specs.Event.Event.{Connect, Send, Disconnect, Hear, Tick}
 use Rattle.link_machine.specs.Step.{refusal_of, row, settle_in, settled, step, done_of}
@@ -127,8 +130,11 @@ sound_own : (m : Machine) → IsSound m → IsSound (in_own_modulus m)
 sound_own m h = sound_in_modulus (if m.params.wide then 128 else 8) (called_is_known m.params.wide) m h
 
 sound_acknowledged : (n : ℕ) (m : Machine) → IsSound m → IsSound (acknowledged n m)
-sound_acknowledged n m h = record { modulus = h.modulus; short =
-    All-drop IsShort (n - m.outgoing.va) m.outgoing.packets h.short }
+sound_acknowledged n m h = record {
+  modulus = h.modulus;
+  short =
+      All-drop IsShort (n - m.outgoing.va) m.outgoing.packets h.short;
+}
 
 sound_back : (m : Machine) → IsSound m → IsSound (gone_back m)
 sound_back m h = record { modulus = h.modulus; short = h.short }
@@ -146,7 +152,7 @@ infos_can_send : (modulus n nr : ℕ) (packets : List Packet) → IsModulus modu
 infos_can_send modulus n nr [] known short = All-nil CanSend
 infos_can_send modulus n nr (p ∷ ps) known short =
     All-cons CanSend _ _ (known, All-head IsShort p ps short)
-        (infos_can_send modulus (n + 1) nr ps known (All-tail IsShort p ps short))
+    (infos_can_send modulus (n + 1) nr ps known (All-tail IsShort p ps short))
 
 srejs_can_send : (modulus : ℕ) (m : Machine) (ns : List ℕ) → IsModulus modulus
     → All CanSend (all_sent_in modulus (map (srej_for m) ns))
@@ -165,7 +171,7 @@ short_if false ps qs h k = k
 short_to_send : (m : Machine) → IsSound m → All IsShort (to_send m)
 short_to_send m h =
     short_if (m.control.busy || m.control.poll) [] _ (All-nil IsShort)
-        (short_in_window m.incoming.window m.outgoing h.short)
+    (short_in_window m.incoming.window m.outgoing h.short)
 
 short_at : (ps : List Packet) (i : ℕ) → All IsShort ps → All IsShort (option_to_list (slice_get ps i))
 short_at ps i h = go (slice_get_cases ps i).1
@@ -176,7 +182,7 @@ short_at ps i h = go (slice_get_cases ps i).1
     go (inl there) =
         let short : IsShort there.0 = subst IsShort there.3 (All-get_or IsShort ps i there.0 there.1 h) in
         All-same IsShort _ (there.0 ∷ []) (ap option_to_list there.2)
-            (All-cons IsShort there.0 [] short (All-nil IsShort))
+        (All-cons IsShort there.0 [] short (All-nil IsShort))
     go (inr past) = All-same IsShort _ [] (ap option_to_list past.1) (All-nil IsShort)
 
 -- the acts of a link that is up
@@ -192,7 +198,7 @@ keeps_answer asks t h = sound_if asks _ t (keeps_respond true t h) h
 keeps_recover : (answers : Bool) → Keeps (recover answers)
 keeps_recover answers t h =
     sound_if (t.now.control.poll && answers) _ t (keeps_changing gone_back sound_back _ (keeps_setting behind_poll t h))
-        h
+    h
 
 keeps_poll : Keeps poll
 keeps_poll t h = keeps_setting polling _ (keeps_report (SuperSent Rr true t.now.incoming.vr true) tt t h)
@@ -227,7 +233,7 @@ keeps_call t h = keeps_send_call _ (keeps_setting calling t h)
 keeps_reset : Keeps reset
 keeps_reset t h =
     keeps_call _ (keeps_changing emptied sound_emptied _
-        (keeps_changing fresh sound_fresh _ (keeps_telling (Ended Reset) t h)))
+    (keeps_changing fresh sound_fresh _ (keeps_telling (Ended Reset) t h)))
 
 keeps_reject : (flag : Bool) → Keeps (reject flag)
 keeps_reject flag t h = keeps_setting (with_rej true) _
@@ -250,7 +256,7 @@ keeps_again n t h = sound_if (nat_lt n t.now.outgoing.top) _ t again h
     short : All IsShort (sent_packet n t.now.outgoing)
     short =
         short_if (nat_lt n t.now.outgoing.top) _ [] (short_at t.now.outgoing.packets (n - t.now.outgoing.va)
-            h.now.short) (All-nil IsShort)
+        h.now.short) (All-nil IsShort)
 
     again : Sound (record t {
       now = record t.now { control = watching (nothing_due t.now.control) };
@@ -294,7 +300,7 @@ keeps_open_answered t h = keeps_telling (Opened true) _
 keeps_call_narrow : Keeps call_narrow
 keeps_call_narrow t h =
     keeps_sending (SetupSent Sabm true) tt _ (keeps_setting unretried_call _
-        (keeps_changing narrowed sound_narrowed t h))
+    (keeps_changing narrowed sound_narrowed t h))
 
 keeps_open_again : (modulus : ℕ) → IsModulus modulus → (flag : Bool) → Keeps (open_again modulus flag)
 keeps_open_again modulus known flag t h = keeps_open_called modulus known flag _ (keeps_telling (Ended Reset) t h)
@@ -371,7 +377,7 @@ keeps_rej n asks answers t h =
 keeps_srej : (n : ℕ) (flag asks answers : Bool) → Keeps (hear_srej n flag asks answers)
 keeps_srej n flag asks answers t h =
     let acked = keeps_changing (acknowledged_by_srej n flag) (sound_by_srej n flag) _
-        (keeps_setting (with_busy false) t h) in
+    (keeps_setting (with_busy false) t h) in
     keeps_recover answers _ (keeps_answer asks _ (keeps_again n _ acked))
 
 keeps_supervisory : (which : S) (n : ℕ) (command flag : Bool) → Keeps (hear_supervisory which n command flag)
@@ -415,7 +421,7 @@ keeps_up command (Setup Dm flag) t h = keeps_end_by_dm t h
 keeps_up command (Setup Ua flag) t h = h
 keeps_up command (Info ns nr flag pid octets) t h =
     sound_if (is_valid nr t.now) _ _ (keeps_info (named nr t.now) ns flag (record { pid = pid; octets = octets }) t h)
-        (keeps_reset t h)
+    (keeps_reset t h)
 keeps_up command (Super which nr flag) t h =
     sound_if (is_valid nr t.now) _ _ (keeps_supervisory which (named nr t.now) command flag t h) (keeps_reset t h)
 keeps_up command (Ui flag pid octets) t h = h
@@ -496,8 +502,8 @@ keeps_settle_in Releasing t h = h
 -- a packet that is taken is short
 taken_is_short :
     (closed full : Bool) (fault : LinkFault) (n : ℕ)
-        → is_some (if closed then Some fault else if full then Some Full else if nat_lt 256 n then Some (TooLong n)
-        else None) ≡ false
+    → is_some (if closed then Some fault else if full then Some Full else if nat_lt 256 n then Some (TooLong n)
+    else None) ≡ false
     → n ≤ 256
 taken_is_short true full fault n e = absurd (false≢true (sym e))
 taken_is_short false true fault n e = absurd (false≢true (sym e))
@@ -514,10 +520,10 @@ keeps_row : (event : Event) (m : Machine) → is_some (refusal_of m event) ≡ f
     → Sound (row event (begin m))
 keeps_row Connect m free h =
     keeps_call _ (keeps_changing in_own_modulus sound_own _
-        (keeps_changing fresh sound_fresh (begin m) (sound_begin m h)))
+    (keeps_changing fresh sound_fresh (begin m) (sound_begin m h)))
 keeps_row (Send packet) m free h =
     let short = taken_is_short (is_closed m.control) (nat_le 1024 (length m.outgoing.packets)) _ (length packet.octets)
-        free in
+    free in
     record {
       now = record { modulus = h.modulus; short = All-push IsShort m.outgoing.packets packet h.short short };
       sent = All-nil CanSend;
@@ -545,8 +551,10 @@ written_narrow path (SuperSent which command nr flag) short = record {
   kind = record { numbered = omega arith; fits = tt };
   room = omega arith;
 }
-written_narrow path (SetupSent which flag) short = record { kind = record { numbered = tt; fits = tt };
-    room = omega arith }
+written_narrow path (SetupSent which flag) short = record {
+  kind = record { numbered = tt; fits = tt };
+  room = omega arith;
+}
 
 written_wide : (path : Path) (x : Sent) → HasShort x → CanWrite OneTwentyEight (frame_of 128 path x)
 written_wide path (InfoSent number nr packet) short = record {
@@ -557,17 +565,19 @@ written_wide path (SuperSent which command nr flag) short = record {
   kind = record { numbered = omega arith; fits = tt };
   room = omega arith;
 }
-written_wide path (SetupSent which flag) short = record { kind = record { numbered = tt; fits = tt };
-    room = omega arith }
+written_wide path (SetupSent which flag) short = record {
+  kind = record { numbered = tt; fits = tt };
+  room = omega arith;
+}
 
 written_in : (modulus : ℕ) (path : Path) (x : Sent) → IsModulus modulus → HasShort x
     → CanWrite (modulus_named modulus) (frame_of modulus path x)
 written_in modulus path x (inl e) short =
     let P : ℕ → Type 0 = λ k. CanWrite (modulus_named k) (frame_of k path x) in
-        subst P (sym e) (written_narrow path x short)
+    subst P (sym e) (written_narrow path x short)
 written_in modulus path x (inr e) short =
     let P : ℕ → Type 0 = λ k. CanWrite (modulus_named k) (frame_of k path x) in
-        subst P (sym e) (written_wide path x short)
+    subst P (sym e) (written_wide path x short)
 
 -- every frame of a step can be written
 pub writable_step : (m : Machine) (event : Event) → IsSound m → All IsWritable (done_of (step m event)).frames
@@ -575,7 +585,7 @@ writable_step m event h =
     let turn = step m event in
     All-map IsWritable (sent_frame turn.now.path) turn.sent (
     All-weaker CanSend (λ s. IsWritable (sent_frame turn.now.path s))
-        (λ s can. written_in s.modulus turn.now.path s.frame can.0 can.1)
+    (λ s can. written_in s.modulus turn.now.path s.frame can.0 can.1)
     turn.sent (sound_step m event h).sent
     )
 
@@ -585,7 +595,7 @@ sound_itself held h = record { modulus = h.whole.link.incoming.modulus; short = 
 
 pub kept_behind :
     (before behind : Held) (event : Event) (done : Done) → IsKept before
-        → is_some (refusal_of (itself before) event) ≡ false
+    → is_some (refusal_of (itself before) event) ≡ false
     → Made (settled (row event (begin (itself before)))) behind done → IsKept behind × All IsWritable done.frames
 kept_behind before behind event done h free makes =
     let m = itself before in
@@ -602,7 +612,7 @@ IsKeptBy before behind result = IsKept behind × IfOk result (λ done. All IsWri
 
 pub kept_by :
     (before behind : Held) (event : Event) (result : Result Done OutOfMemory) → IsKept before
-        → is_some (refusal_of (itself before) event) ≡ false
+    → is_some (refusal_of (itself before) event) ≡ false
     → Makes (row event) before behind result → IsKeptBy before behind result
 kept_by before behind event (Ok done) h free makes =
     kept_behind before behind event done h free (makes (itself before) (holds_itself before h.whole))

@@ -1,6 +1,7 @@
 -- The acts of a link that is up (AX.25 2.2 section 6.4), each by itself.
-use Rattle.std.specs.Prelude.{ℕ, ◌+◌, ◌-◌, Bool, true, false, nat_lt, ◌==◌, not, ◌&&◌, ◌||◌, if◌then◌else◌, List, [],
-    ◌∷◌, ◌++◌, length, take, drop, map, min, max, replicate, slice_get, Option, Some, None, is_none}
+use Rattle.std.specs.Prelude.{ℕ, ◌+◌, ◌-◌, Bool, true, false, nat_lt, ◌==◌, not, ◌&&◌, ◌||◌, if◌then◌else◌, List, []}
+use Rattle.std.specs.Prelude.{◌∷◌, ◌++◌, length, take, drop, map, min, max, replicate, slice_get, Option, Some, None}
+use Rattle.std.specs.Prelude.{is_none}
 use Rattle.std.specs.Option.{option_to_list}
 use Rattle.ax25_frames.specs.declared.frame.S.TheVariants.{Rr, Rej, Srej}
 use Rattle.ax25_frames.specs.declared.frame.U.{U}
@@ -105,8 +106,15 @@ flush turn = if length (to_send turn.now) == 0 then turn else send_packets (to_s
 
 -- if a disconnect was asked for and no packet waits, the link is released
 abbrev pub releasing : Control → Control
-releasing c = record c { state = Releasing; poll = false; due = false; rc = 0; t1 = Some t1_ticks; t2 = None;
-    t3 = None }
+releasing c = record c {
+  state = Releasing;
+  poll = false;
+  due = false;
+  rc = 0;
+  t1 = Some t1_ticks;
+  t2 = None;
+  t3 = None;
+}
 
 abbrev pub release : Act
 release = in_order (setting releasing ∷ sending (SetupSent Disc true) ∷ [])
@@ -172,8 +180,12 @@ give packets turn = record turn {
 
 -- a packet ahead of V(R) is stored
 abbrev pub stored : ℕ → Packet → Machine → Machine
-stored ahead packet m = record m { incoming = record m.incoming { places =
-    with_packet m.incoming.places ahead packet } }
+stored ahead packet m = record m {
+  incoming = record m.incoming {
+    places =
+        with_packet m.incoming.places ahead packet;
+  };
+}
 
 -- SREJ for each number that is neither stored nor asked for, from V(R) up to one ahead of it; they are then asked for
 abbrev pub srej_for : Machine → ℕ → Sent

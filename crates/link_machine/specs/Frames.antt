@@ -16,12 +16,12 @@ use Rattle.link_machine.specs.declared.acts.Told.TheVariants.{Opened, Ended}
 use Rattle.link_machine.specs.declared.acts.Why.{Why}
 use Rattle.link_machine.specs.declared.acts.Why.TheVariants.{Asked, Peer, Reset, Refused}
 use Rattle.link_machine.specs.declared.control.Control.{Control}
-use Rattle.link_machine.specs.Machine.{Machine, fresh, emptied, in_modulus, narrowed, is_wide, t1_ticks, in_state,
-    is_valid, named, ahead_of_vr}
+use Rattle.link_machine.specs.Machine.{Machine, fresh, emptied, in_modulus, narrowed, is_wide, t1_ticks, in_state}
+use Rattle.link_machine.specs.Machine.{is_valid, named, ahead_of_vr}
 use Rattle.link_machine.specs.Sent.Sent.{SetupSent}
 use Rattle.link_machine.specs.Turn.{Act, changing, setting, sending, telling, nothing, in_order}
-use Rattle.link_machine.specs.Acts.{acknowledged, answer_poll, recover, gone_back, reset, owing, with_rej, reject,
-    run_with, give, stored, ask, send_again, watching}
+use Rattle.link_machine.specs.Acts.{acknowledged, answer_poll, recover, gone_back, reset, owing, with_rej, reject}
+use Rattle.link_machine.specs.Acts.{run_with, give, stored, ask, send_again, watching}
 
 abbrev pub answer_ua : Bool → Act
 answer_ua flag = sending (SetupSent Ua flag)
@@ -118,7 +118,7 @@ hear_rnr n asks answers = in_order (
 abbrev pub hear_rej : ℕ → Bool → Bool → Act
 hear_rej n asks answers = in_order (
     setting (with_busy false) ∷ changing (acknowledged n) ∷ changing gone_back ∷ answer_poll asks ∷ recover answers
-        ∷ [])
+    ∷ [])
 
 -- SREJ acknowledges with P/F = 1 alone
 abbrev pub acknowledged_by_srej : ℕ → Bool → Machine → Machine
@@ -127,7 +127,7 @@ acknowledged_by_srej n flag m = if flag then acknowledged n m else m
 abbrev pub hear_srej : ℕ → Bool → Bool → Bool → Act
 hear_srej n flag asks answers = in_order (
     setting (with_busy false) ∷ changing (acknowledged_by_srej n flag) ∷ send_again n ∷ answer_poll asks
-        ∷ recover answers ∷ [])
+    ∷ recover answers ∷ [])
 
 abbrev pub hear_supervisory : S → ℕ → Bool → Bool → Act
 hear_supervisory Rr n command flag = hear_rr n (command && flag) (not command && flag)
@@ -189,7 +189,7 @@ hear_up command (Setup Dm flag) turn = end_by_dm turn
 hear_up command (Setup Ua flag) turn = turn
 hear_up command (Info ns nr flag pid octets) turn =
     if is_valid nr turn.now then hear_info (named nr turn.now) ns flag (record { pid = pid; octets = octets }) turn
-        else reset turn
+    else reset turn
 hear_up command (Super which nr flag) turn =
     if is_valid nr turn.now then hear_supervisory which (named nr turn.now) command flag turn else reset turn
 hear_up command (Ui flag pid octets) turn = turn

@@ -53,8 +53,16 @@ with_control control m = record m { control = control }
 
 -- The conditions and the timers of a set-up that begins. A wish to disconnect stays.
 abbrev pub fresh_control : Control → Control
-fresh_control c = record c { rej = false; poll = false; busy = false; due = false; rc = 0; t1 = None; t2 = None;
-    t3 = Some t3_ticks }
+fresh_control c = record c {
+  rej = false;
+  poll = false;
+  busy = false;
+  due = false;
+  rc = 0;
+  t1 = None;
+  t2 = None;
+  t3 = Some t3_ticks;
+}
 
 -- nothing is stored or asked for, and V(R) is 0
 abbrev pub cleared : Incoming → Incoming

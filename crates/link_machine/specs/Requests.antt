@@ -1,6 +1,6 @@
 -- What the layer above asks for, by state, and what is refused.
-use Rattle.std.specs.Prelude.{ℕ, Bool, true, false, nat_lt, nat_le, ◌||◌, if◌then◌else◌, [], ◌∷◌, length, Option, Some,
-    None}
+use Rattle.std.specs.Prelude.{ℕ, Bool, true, false, nat_lt, nat_le, ◌||◌, if◌then◌else◌, [], ◌∷◌, length, Option, Some}
+use Rattle.std.specs.Prelude.{None}
 use Rattle.selective_reject.specs.declared.packet.Packet.{Packet}
 use Rattle.selective_reject.specs.Outgoing.{after_push}
 use Rattle.link_machine.specs.declared.state.LinkState.{LinkState}

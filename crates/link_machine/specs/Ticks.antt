@@ -56,7 +56,7 @@ poll_again turn =
 abbrev pub release_again : Act
 release_again turn =
     if is_spent turn.now.control then end_call Failed turn
-        else in_order (setting retried ∷ sending (SetupSent Disc true) ∷ []) turn
+    else in_order (setting retried ∷ sending (SetupSent Disc true) ∷ []) turn
 
 -- T1 runs out: what awaits an answer is sent once more
 abbrev pub t1_out : LinkState → Act
@@ -80,7 +80,7 @@ abbrev pub tick_t2_of : Option ℕ → Act
 tick_t2_of None turn = turn
 tick_t2_of (Some left) turn =
     if runs_out left then in_order (setting (with_t2 None) ∷ t2_out turn.now.control.state ∷ []) turn
-        else setting (with_t2 (lowered left)) turn
+    else setting (with_t2 (lowered left)) turn
 
 abbrev pub tick_t2 : Act
 tick_t2 turn = tick_t2_of turn.now.control.t2 turn
@@ -90,7 +90,7 @@ abbrev pub tick_t3_of : Option ℕ → Act
 tick_t3_of None turn = turn
 tick_t3_of (Some left) turn =
     if runs_out left then in_order (setting (with_t3 None) ∷ t3_out turn.now.control.state ∷ []) turn
-        else setting (with_t3 (lowered left)) turn
+    else setting (with_t3 (lowered left)) turn
 
 abbrev pub tick_t3 : Act
 tick_t3 turn = tick_t3_of turn.now.control.t3 turn
@@ -101,7 +101,7 @@ tick_t1_of None waiting turn = tick_t3 turn
 tick_t1_of (Some left) true turn = turn
 tick_t1_of (Some left) false turn =
     if runs_out left then in_order (setting (with_t1 None) ∷ t1_out turn.now.control.state ∷ []) turn
-        else setting (with_t1 (lowered left)) turn
+    else setting (with_t1 (lowered left)) turn
 
 abbrev pub tick_t1 : Bool → Act
 tick_t1 waiting turn = tick_t1_of turn.now.control.t1 waiting turn

@@ -1,6 +1,6 @@
 -- Lists of bits and tones that are put together, cut and turned back.
-use Rattle.std.proofs.Common.{◌≡◌, ℕ, zero, suc, List, [], ◌∷◌, ◌++◌, Bool, true, false, length, take, refl, sym, ap,
-    ◌∙◌}
+use Rattle.std.proofs.Common.{◌≡◌, ℕ, zero, suc, List, [], ◌∷◌, ◌++◌, Bool, true, false, length, take, refl, sym, ap}
+use Rattle.std.proofs.Common.{◌∙◌}
 use Rattle.tone_table.specs.declared.tone.Tone.{Tone}
 use Rattle.tone_table.specs.declared.tone.Tone.TheVariants.{Mark, Space}
 use Rattle.nrzi_bits.specs.Line.{sent_tone, line_from, line, same_tone, bits_from, bits_of, last_from, last_tone}

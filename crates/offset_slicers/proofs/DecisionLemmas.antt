@@ -1,6 +1,6 @@
 -- Sums of products, and how large a correlation can be.
-use Rattle.std.proofs.Common.{◌≡◌, ℕ, zero, suc, ◌+◌, ◌*◌, ◌<◌, ◌≤◌, ℤ, pos, ◌+ℤ◌, ◌*ℤ◌, List, map, get_or,
-    unsigned_abs, refl, ap, ◌∙◌, add-one, arith}
+use Rattle.std.proofs.Common.{◌≡◌, ℕ, zero, suc, ◌+◌, ◌*◌, ◌<◌, ◌≤◌, ℤ, pos, ◌+ℤ◌, ◌*ℤ◌, List, map, get_or}
+use Rattle.std.proofs.Common.{unsigned_abs, refl, ap, ◌∙◌, add-one, arith}
 use Rattle.std.proofs.lemmas.Int.{unsigned_abs-mul}
 use Rattle.std.proofs.Math.Nat.{mul-le-mul_right}
 use Rattle.std.proofs.lemmas.List.FromFn.{get_or-map-range_with_len}
@@ -28,7 +28,7 @@ pub unsigned_abs-product : (sample weight : ℤ) → unsigned_abs sample ≤ 327
     → unsigned_abs (sample *ℤ weight) ≤ 32768 * unsigned_abs weight
 unsigned_abs-product sample weight fits =
     let both : unsigned_abs sample * unsigned_abs weight ≤ 32768 * unsigned_abs weight =
-        mul-le-mul_right (unsigned_abs weight) fits in
+    mul-le-mul_right (unsigned_abs weight) fits in
     omega (arith, unsigned_abs-mul sample weight)
 
 -- a table that holds a tone's wave, some steps on

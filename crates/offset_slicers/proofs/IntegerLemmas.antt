@@ -6,14 +6,24 @@ use Rattle.std.proofs.Math.IntN.{pred_ℤ, suc_ℤ-*ℤ, pred_ℤ-*ℤ, suc_ℤ-
 pub mul-add_left : (a b c : ℤ) → (a +ℤ b) *ℤ c ≡ a *ℤ c +ℤ b *ℤ c
 mul-add_left (pos zero) b c = ap (λ z. z *ℤ c) (+ℤ_idl b) ∙ omega (arith, ints, zero-*ℤ c)
 mul-add_left (pos (suc n)) b c =
-    ap (λ z. z *ℤ c) (suc_ℤ-+ℤ (pos n) b) ∙ omega (arith, ints, suc_ℤ-*ℤ (pos n +ℤ b) c, mul-add_left (pos n) b c,
-        suc_ℤ-*ℤ (pos n) c)
+    ap (λ z. z *ℤ c) (suc_ℤ-+ℤ (pos n) b) ∙ omega (
+      arith,
+      ints,
+      suc_ℤ-*ℤ (pos n +ℤ b) c,
+      mul-add_left (pos n) b c,
+      suc_ℤ-*ℤ (pos n) c,
+    )
 mul-add_left (negsuc zero) b c =
     ap (λ z. z *ℤ c) (pred_ℤ-+ℤ (pos 0) b ∙ ap pred_ℤ (+ℤ_idl b))
-        ∙ omega (arith, ints, pred_ℤ-*ℤ b c, pred_ℤ-*ℤ (pos 0) c, zero-*ℤ c)
+    ∙ omega (arith, ints, pred_ℤ-*ℤ b c, pred_ℤ-*ℤ (pos 0) c, zero-*ℤ c)
 mul-add_left (negsuc (suc n)) b c =
-    ap (λ z. z *ℤ c) (pred_ℤ-+ℤ (negsuc n) b) ∙ omega (arith, ints, pred_ℤ-*ℤ (negsuc n +ℤ b) c,
-        mul-add_left (negsuc n) b c, pred_ℤ-*ℤ (negsuc n) c)
+    ap (λ z. z *ℤ c) (pred_ℤ-+ℤ (negsuc n) b) ∙ omega (
+      arith,
+      ints,
+      pred_ℤ-*ℤ (negsuc n +ℤ b) c,
+      mul-add_left (negsuc n) b c,
+      pred_ℤ-*ℤ (negsuc n) c,
+    )
 
 pub mul-add_right : (a b c : ℤ) → a *ℤ (b +ℤ c) ≡ a *ℤ b +ℤ a *ℤ c
 mul-add_right a b c = *ℤ_comm a (b +ℤ c) ∙ mul-add_left b c a ∙ (λ i. *ℤ_comm b a i +ℤ *ℤ_comm c a i)
@@ -27,11 +37,29 @@ mul-sub_left a b c = mul-add_left a (neg_ℤ b) c ∙ ap (λ z. a *ℤ c +ℤ z)
 pub mul-assoc : (a b c : ℤ) → (a *ℤ b) *ℤ c ≡ a *ℤ (b *ℤ c)
 mul-assoc (pos zero) b c = ap (λ z. z *ℤ c) (zero-*ℤ b) ∙ omega (arith, ints, zero-*ℤ c, zero-*ℤ (b *ℤ c))
 mul-assoc (pos (suc n)) b c =
-    ap (λ z. z *ℤ c) (suc_ℤ-*ℤ (pos n) b) ∙ omega (arith, ints, mul-add_left (pos n *ℤ b) b c, mul-assoc (pos n) b c,
-        suc_ℤ-*ℤ (pos n) (b *ℤ c))
+    ap (λ z. z *ℤ c) (suc_ℤ-*ℤ (pos n) b) ∙ omega (
+      arith,
+      ints,
+      mul-add_left (pos n *ℤ b) b c,
+      mul-assoc (pos n) b c,
+      suc_ℤ-*ℤ (pos n) (b *ℤ c),
+    )
 mul-assoc (negsuc zero) b c =
-    ap (λ z. z *ℤ c) (pred_ℤ-*ℤ (pos 0) b) ∙ omega (arith, ints, zero-*ℤ b, mul-sub_left (pos 0 *ℤ b) b c,
-        ap (λ z. z *ℤ c) (zero-*ℤ b), zero-*ℤ c, pred_ℤ-*ℤ (pos 0) (b *ℤ c), zero-*ℤ (b *ℤ c))
+    ap (λ z. z *ℤ c) (pred_ℤ-*ℤ (pos 0) b) ∙ omega (
+      arith,
+      ints,
+      zero-*ℤ b,
+      mul-sub_left (pos 0 *ℤ b) b c,
+      ap (λ z. z *ℤ c) (zero-*ℤ b),
+      zero-*ℤ c,
+      pred_ℤ-*ℤ (pos 0) (b *ℤ c),
+      zero-*ℤ (b *ℤ c),
+    )
 mul-assoc (negsuc (suc n)) b c =
-    ap (λ z. z *ℤ c) (pred_ℤ-*ℤ (negsuc n) b) ∙ omega (arith, ints, mul-sub_left (negsuc n *ℤ b) b c,
-        mul-assoc (negsuc n) b c, pred_ℤ-*ℤ (negsuc n) (b *ℤ c))
+    ap (λ z. z *ℤ c) (pred_ℤ-*ℤ (negsuc n) b) ∙ omega (
+      arith,
+      ints,
+      mul-sub_left (negsuc n *ℤ b) b c,
+      mul-assoc (negsuc n) b c,
+      pred_ℤ-*ℤ (negsuc n) (b *ℤ c),
+    )

@@ -1,9 +1,9 @@
 -- Samples near a wave are heard as the wave is: window by window they are near pure ones.
-use Rattle.std.proofs.Common.{◌≡◌, ℕ, ◌+◌, ◌-◌, ◌*◌, ◌/◌, ◌<◌, ◌≤◌, ℤ, pos, List, [], ◌∷◌, ◌++◌, length, map, take,
-    drop, get_or, subst, refl, ap, sym, ◌∙◌, arith, length-append, length-drop}
+use Rattle.std.proofs.Common.{◌≡◌, ℕ, ◌+◌, ◌-◌, ◌*◌, ◌/◌, ◌<◌, ◌≤◌, ℤ, pos, List, [], ◌∷◌, ◌++◌, length, map, take}
+use Rattle.std.proofs.Common.{drop, get_or, subst, refl, ap, sym, ◌∙◌, arith, length-append, length-drop}
 use Rattle.std.specs.List.{range_with_len}
-use Rattle.std.proofs.lemmas.List.{take_all, get_or_append_left, get_or-append_right, get_or-take, get_or-drop,
-    length-take-le, take-append-drop}
+use Rattle.std.proofs.lemmas.List.{take_all, get_or_append_left, get_or-append_right, get_or-take, get_or-drop}
+use Rattle.std.proofs.lemmas.List.{length-take-le, take-append-drop}
 use Rattle.tone_table.specs.declared.tone.Tone.{Tone}
 use Rattle.tone_table.specs.Tones.{next_phase}
 use Rattle.tone_table.specs.Wave.{pure_window, wave_from}
@@ -27,7 +27,7 @@ module _ (level : ℕ) (v w x : List ℤ) (n : ℕ) (first : length v ≡ n) (ne
         let there : get_or (take n x) i (pos 0) ≡ get_or x i (pos 0) = get_or-take n x i (pos 0) (omega arith) in
         let close = near.close i (omega (arith, length-append v w)) in
         let same : distance level (get_or (v ++ w) i (pos 0)) (get_or x i (pos 0))
-            ≡ distance level (get_or v i (pos 0)) (get_or (take n x) i (pos 0))
+        ≡ distance level (get_or v i (pos 0)) (get_or (take n x) i (pos 0))
         = (λ j. distance level (at j) (sym there j)) in
         omega arith;
   }
@@ -43,7 +43,7 @@ module _ (level : ℕ) (v w x : List ℤ) (n : ℕ) (first : length v ≡ n) (ne
         let there : get_or (drop n x) i (pos 0) ≡ get_or x (n + i) (pos 0) = get_or-drop n x i (pos 0) in
         let close = near.close (n + i) (omega (arith, length-append v w)) in
         let same : distance level (get_or (v ++ w) (n + i) (pos 0)) (get_or x (n + i) (pos 0))
-            ≡ distance level (get_or w i (pos 0)) (get_or (drop n x) i (pos 0))
+        ≡ distance level (get_or w i (pos 0)) (get_or (drop n x) i (pos 0))
         = (λ j. distance level (at j) (sym there j)) in
         omega arith;
   }
@@ -71,12 +71,12 @@ tones_at-near level [] k x some below near = no_tones x near.size
 tones_at-near level (tone ∷ tones) k x some below near =
     let next = next_phase-sixth k tone below in
     let front = near-front level (pure_window (8 * k) tone) (wave_from (next_phase (8 * k) tone) tones) x 8
-        (length-pure_window (8 * k) tone) near in
+    (length-pure_window (8 * k) tone) near in
     let back = near-back level (pure_window (8 * k) tone) (wave_from (next_phase (8 * k) tone) tones) x 8
-        (length-pure_window (8 * k) tone) near in
+    (length-pure_window (8 * k) tone) near in
     let rest : tones_at 0 (drop 8 x) ≡ tones
     = tones_at-near level tones next.0 (drop 8 x) some next.1
-        (subst (λ phase. IsNear level (wave_from phase tones) (drop 8 x)) next.2 back) in
+    (subst (λ phase. IsNear level (wave_from phase tones) (drop 8 x)) next.2 back) in
     ap (tones_at 0) (sym (take-append-drop 8 x))
     ∙ tones_at-aligned 0 1 (take 8 x) (drop 8 x) (front.size ∙ length-pure_window (8 * k) tone)
     ∙ (λ i. tones_at-window level k tone (take 8 x) some below front i ++ rest i)

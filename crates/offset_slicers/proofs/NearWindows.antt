@@ -1,7 +1,7 @@
 -- Windows near a pure one are decided as it is. An error of a tenth of the level can change a correlation by a tenth of
 -- the sum of the weights' sizes at most; that is too little to make the other tone the louder one.
-use Rattle.std.proofs.Common.{◌≡◌, ◌⊎◌, inl, inr, ℕ, zero, suc, ◌+◌, ◌-◌, ◌*◌, ◌<◌, ◌≤◌, ℤ, pos, ◌+ℤ◌, ◌-ℤ◌, ◌*ℤ◌, true,
-    List, length, get_or, unsigned_abs, nat_lt, nat_le, refl, ap, sym, subst, ◌∙◌, arith}
+use Rattle.std.proofs.Common.{◌≡◌, ◌⊎◌, inl, inr, ℕ, zero, suc, ◌+◌, ◌-◌, ◌*◌, ◌<◌, ◌≤◌, ℤ, pos, ◌+ℤ◌, ◌-ℤ◌, ◌*ℤ◌, true}
+use Rattle.std.proofs.Common.{List, length, get_or, unsigned_abs, nat_lt, nat_le, refl, ap, sym, subst, ◌∙◌, arith}
 use Rattle.std.proofs.lemmas.Bool.{agree_below_at, leb-true, ltb-true, le-leb, lt-leb, cond-true, cond-false}
 use Rattle.std.proofs.lemmas.Int.{ints, unsigned_abs-mul}
 use Rattle.std.proofs.Math.Nat.{mul-le-mul, mul-le-mul_left, mul-le-mul_right, mul-lt-mul_of_pos_left, mul-sub, mul-add}
@@ -42,7 +42,7 @@ weighted xs weight i = get_or xs i (pos 0) *ℤ weight i
 sums-distance : (level : ℕ) (ws xs : List ℤ) (weight : ℕ → ℤ) (n : ℕ)
     → ((i : ℕ) → i < n → distance level (get_or ws i (pos 0)) (get_or xs i (pos 0)) ≤ 1000 * level)
     → distance level (sum_below (weighted ws weight) n) (sum_below (weighted xs weight) n)
-        ≤ 1000 * level * sizes_below weight n
+    ≤ 1000 * level * sizes_below weight n
 unfolding sum_below
 sums-distance level ws xs weight zero close = omega (arith, ints)
 sums-distance level ws xs weight (suc n) close =
@@ -50,15 +50,15 @@ sums-distance level ws xs weight (suc n) close =
     let x : ℤ = get_or xs n (pos 0) in
     let both : distance level (sum_below (weighted ws weight) (suc n)) (sum_below (weighted xs weight) (suc n))
     ≤ distance level (sum_below (weighted ws weight) n) (sum_below (weighted xs weight) n) + distance level
-        (w *ℤ weight n) (x *ℤ weight n)
+    (w *ℤ weight n) (x *ℤ weight n)
     = distance-add level (sum_below (weighted ws weight) n) (sum_below (weighted xs weight) n) (w *ℤ weight n)
-        (x *ℤ weight n) in
+    (x *ℤ weight n) in
     let last = distance-mul level w x (weight n) in
     let most : distance level w x * unsigned_abs (weight n) ≤ 1000 * level * unsigned_abs (weight n)
     = mul-le-mul_right (unsigned_abs (weight n)) (close n (omega arith)) in
     let before = sums-distance level ws xs weight n (λ i below. close i (omega arith)) in
     let more : 1000 * level * sizes_below weight (suc n)
-        ≡ 1000 * level * sizes_below weight n + 1000 * level * unsigned_abs (weight n)
+    ≡ 1000 * level * sizes_below weight n + 1000 * level * unsigned_abs (weight n)
     = mul-add (1000 * level) (sizes_below weight n) (unsigned_abs (weight n)) in
     omega arith
 
@@ -89,7 +89,7 @@ correlation-distance level ws xs tone shift whole near is =
 -- what the distance of two numbers says of their sizes
 sizes_near : (level : ℕ) (u v : ℤ) → distance level u v ≤ slack * level
     → (10000 * unsigned_abs v ≤ level * (unsigned_abs u + slack))
-        × (level * (unsigned_abs u - slack) ≤ 10000 * unsigned_abs v)
+    × (level * (unsigned_abs u - slack) ≤ 10000 * unsigned_abs v)
 sizes_near level u v near =
     let size_v = unsigned_abs-mul (pos 10000) v in
     let size_u = unsigned_abs-mul (pos level) u in
@@ -141,11 +141,11 @@ module _ (level : ℕ) (ws xs : List ℤ) (whole : length ws ≡ 8) (near : IsNe
   unfolding energy
   energy_most =
       let sine = square_most level (unsigned_abs (sine_sum tone ws) + slack) (unsigned_abs (sine_sum tone xs))
-          sine_near.0 in
+      sine_near.0 in
       let cosine = square_most level (unsigned_abs (cosine_sum tone ws) + slack) (unsigned_abs (cosine_sum tone xs))
-          cosine_near.0 in
+      cosine_near.0 in
       let parts = mul-add (level * level) ((unsigned_abs (sine_sum tone ws) + slack)
-          * (unsigned_abs (sine_sum tone ws) + slack))
+      * (unsigned_abs (sine_sum tone ws) + slack))
       ((unsigned_abs (cosine_sum tone ws) + slack) * (unsigned_abs (cosine_sum tone ws) + slack)) in
       omega (arith, sine, cosine, parts)
 
@@ -153,11 +153,11 @@ module _ (level : ℕ) (ws xs : List ℤ) (whole : length ws ≡ 8) (near : IsNe
   unfolding energy
   energy_least =
       let sine = square_least level (unsigned_abs (sine_sum tone ws) - slack) (unsigned_abs (sine_sum tone xs))
-          sine_near.1 in
+      sine_near.1 in
       let cosine = square_least level (unsigned_abs (cosine_sum tone ws) - slack) (unsigned_abs (cosine_sum tone xs))
-          cosine_near.1 in
+      cosine_near.1 in
       let parts = mul-add (level * level) ((unsigned_abs (sine_sum tone ws) - slack)
-          * (unsigned_abs (sine_sum tone ws) - slack))
+      * (unsigned_abs (sine_sum tone ws) - slack))
       ((unsigned_abs (cosine_sum tone ws) - slack) * (unsigned_abs (cosine_sum tone ws) - slack)) in
       omega (arith, sine, cosine, parts)
 
@@ -168,13 +168,13 @@ mark_separated : (k : ℕ) → k < 6 → most Space (pure_window (8 * k) Mark) <
 unfolding pure_window wave_sample cycle_sample half_wave quarter sum_below sine_sum cosine_sum
 mark_separated k below =
     ltb-true _ _ (agree_below_at (λ j. nat_lt (most Space (pure_window (8 * j) Mark))
-        (least Mark (pure_window (8 * j) Mark))) (λ _. true) 6 k refl below)
+    (least Mark (pure_window (8 * j) Mark))) (λ _. true) 6 k refl below)
 
 space_separated : (k : ℕ) → k < 6 → most Mark (pure_window (8 * k) Space) < least Space (pure_window (8 * k) Space)
 unfolding pure_window wave_sample cycle_sample half_wave quarter sum_below sine_sum cosine_sum
 space_separated k below =
     ltb-true _ _ (agree_below_at (λ j. nat_lt (most Mark (pure_window (8 * j) Space))
-        (least Space (pure_window (8 * j) Space))) (λ _. true) 6 k refl below)
+    (least Space (pure_window (8 * j) Space))) (λ _. true) 6 k refl below)
 
 -- the energies of two tones, if one's most is less than the other's least
 louder : (level quiet loud upper lower : ℕ) → 1 ≤ level → upper < lower → 100000000 * quiet ≤ (level * level) * upper
@@ -192,14 +192,14 @@ tone_of-near level k Mark x some below near =
     let w : List ℤ = pure_window (8 * k) Mark in
     let eight = length-pure_window (8 * k) Mark in
     let less : energy Space x < energy Mark x = louder level (energy Space x) (energy Mark x) (most Space w)
-        (least Mark w) some (mark_separated k below)
+    (least Mark w) some (mark_separated k below)
     (energy_most level w x eight near Space) (energy_least level w x eight near Mark) in
     cond-true (nat_le (energy Space x) (energy Mark x)) Mark Space
-        (le-leb (energy Space x) (energy Mark x) (omega arith))
+    (le-leb (energy Space x) (energy Mark x) (omega arith))
 tone_of-near level k Space x some below near =
     let w : List ℤ = pure_window (8 * k) Space in
     let eight = length-pure_window (8 * k) Space in
     let less : energy Mark x < energy Space x = louder level (energy Mark x) (energy Space x) (most Mark w)
-        (least Space w) some (space_separated k below)
+    (least Space w) some (space_separated k below)
     (energy_most level w x eight near Mark) (energy_least level w x eight near Space) in
     cond-false (nat_le (energy Space x) (energy Mark x)) Mark Space (lt-leb (energy Space x) (energy Mark x) less)

@@ -1,8 +1,8 @@
 -- What one sample more changes of the tones, and of what a slicer keeps.
-use Rattle.std.proofs.Common.{◌≡◌, ℕ, ◌+◌, ◌-◌, ◌*◌, ◌/◌, ◌%◌, ◌<◌, ◌≤◌, ℤ, List, [], ◌∷◌, ◌++◌, Bool, length, map,
-    take, drop, set, refl, ap, subst, sym, ◌∙◌, arith, length-drop}
-use Rattle.std.proofs.lemmas.List.{drop-append-le, take_all, drop_all, take_more_set, length-set, length_push,
-    append-nil}
+use Rattle.std.proofs.Common.{◌≡◌, ℕ, ◌+◌, ◌-◌, ◌*◌, ◌/◌, ◌%◌, ◌<◌, ◌≤◌, ℤ, List, [], ◌∷◌, ◌++◌, Bool, length, map}
+use Rattle.std.proofs.Common.{take, drop, set, refl, ap, subst, sym, ◌∙◌, arith, length-drop}
+use Rattle.std.proofs.lemmas.List.{drop-append-le, take_all, drop_all, take_more_set, length-set, length_push}
+use Rattle.std.proofs.lemmas.List.{append-nil}
 use Rattle.std.proofs.lemmas.List.FromFn.{take-map-range_with_len, map-range_with_len_more}
 use Rattle.std.specs.List.{range_with_len}
 use Rattle.tone_table.specs.declared.tone.Tone.{Tone}
@@ -22,7 +22,7 @@ tones_at-push_none offset x sample none =
     let count : length (tones_at offset (x ++ sample ∷ [])) ≡ windows_in offset (length x)
     = length-tones_at offset (x ++ sample ∷ []) ∙ ap (windows_in offset) (length_push x sample) ∙ none in
     sym (tones_at-append offset x (sample ∷ []) ∙ take_all (windows_in offset (length x))
-        (tones_at offset (x ++ sample ∷ [])) (omega arith))
+    (tones_at offset (x ++ sample ∷ [])) (omega arith))
 
 -- a sample that ends a window adds the tone of that window
 pub tones_at-push_one : (offset : ℕ) (x : List ℤ) (sample : ℤ)
@@ -40,7 +40,7 @@ tones_at-push_one offset x sample one =
     ∙ map-range_with_len_more tone 0 n n (omega arith)
     ∙ ap (λ tones. tones ++ tone n ∷ [])
     (sym (take-map-range_with_len tone 0 (windows_in offset (length all)) n fits)
-        ∙ sym (tones_at-append offset x (sample ∷ [])))
+    ∙ sym (tones_at-append offset x (sample ∷ [])))
 
 -- the window that a sample ends
 pub window_at-push : (offset : ℕ) (x : List ℤ) (sample : ℤ) (window : List ℤ) → offset ≤ length x
@@ -52,7 +52,7 @@ window_at-push offset x sample window begun last size part =
     let at : ℕ = offset + 8 * windows_in offset (length x) in
     let inside : at ≤ length x = omega arith in
     let short : length (drop at x ++ sample ∷ []) ≤ 8 = omega (arith, length_push (drop at x) sample, length-drop at x)
-        in
+    in
     let whole : length (set window 7 sample) ≤ 8 = omega (arith, length-set window 7 sample) in
     ap (take 8) (drop-append-le at x (sample ∷ []) inside)
     ∙ take_all 8 (drop at x ++ sample ∷ []) short
@@ -112,7 +112,7 @@ tones_at-last offset position window before x sample h begun last whole =
     let part : take 7 window ≡ part_behind offset x = ap (λ n. take n window) (sym last) ∙ h.part in
     tones_at-push_one offset x sample (omega arith)
     ∙ ap (λ w. tones_at offset x ++ tone_of w ∷ []) (window_at-push offset x sample window (omega arith) (omega arith)
-        whole part)
+    whole part)
 
 -- the last sample of a window
 keeps_last : (offset position : ℕ) (window : List ℤ) (before : Tone) (x : List ℤ) (sample : ℤ)
@@ -192,14 +192,14 @@ module _ (offset first position begin : ℕ) (window : List ℤ) (before : Tone)
   -- a sample within a window
   pub stands_within : first ≤ position → (position - first) % 8 < 7 → length window ≡ 8
       → StandsFor (held_of offset first (position + 1) (set window ((position - first) % 8) sample) before) begin
-          (x ++ sample ∷ [])
+      (x ++ sample ∷ [])
   stands_within late within whole =
       let count = h.count in
       let first_at = begins in
       let place : (length x - r) % 8 < 7 = subst (λ m. m % 8 < 7) behind within in
       let P : ℕ → Type 0 = λ m. Keeps r (length x + 1) (set window (m % 8) sample) before (x ++ sample ∷ []) in
       stands_of offset first (position + 1) begin r (length x + 1) (set window ((position - first) % 8) sample) before
-          (x ++ sample ∷ []) is further begins
+      (x ++ sample ∷ []) is further begins
       (subst P (sym behind) (keeps_within r (length x) window before x sample keeps (omega arith) place whole))
 
   module _ (late : first ≤ position) (last : 7 ≤ (position - first) % 8) (whole : length window ≡ 8) (stored : ℤ)
@@ -227,9 +227,9 @@ module _ (offset first position begin : ℕ) (window : List ℤ) (before : Tone)
         let P : List ℤ → Type 0 = λ w. Keeps r (length x + 1) w after (x ++ sample ∷ []) in
         let Q : Tone → Type 0 = λ t. Keeps r (length x + 1) (set window 7 sample) t (x ++ sample ∷ []) in
         stands_of offset first (position + 1) begin r (length x + 1) (set window ((position - first) % 8) stored) after
-            (x ++ sample ∷ []) is further begins
+        (x ++ sample ∷ []) is further begins
         (subst P window_last (subst Q tone_last (keeps_last r (length x) window before x sample keeps (omega arith)
-            place_last whole)))
+        place_last whole)))
 
     -- and its tone
     pub tones_last : tones_at r (x ++ sample ∷ []) ≡ tones_at r x ++ after ∷ []
@@ -237,7 +237,7 @@ module _ (offset first position begin : ℕ) (window : List ℤ) (before : Tone)
         let count = h.count in
         let first_at = begins in
         tones_at-last r (length x) window before x sample keeps (omega arith) place_last whole
-            ∙ ap (λ t. tones_at r x ++ t ∷ []) tone_last
+        ∙ ap (λ t. tones_at r x ++ t ∷ []) tone_last
 
   -- no window ends before the first one begins, and none within a window
   pub early_windows : position < first → windows_in r (length x + 1) ≡ windows_in r (length x)

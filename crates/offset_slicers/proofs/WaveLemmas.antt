@@ -33,7 +33,7 @@ tones_at-wave_from (tone ∷ tones) k below =
     let rest : tones_at 0 (wave_from (next_phase (8 * k) tone) tones) ≡ tones
     = ap (λ phase. tones_at 0 (wave_from phase tones)) next.2 ∙ tones_at-wave_from tones next.0 next.1 in
     tones_at-aligned 0 1 (pure_window (8 * k) tone) (wave_from (next_phase (8 * k) tone) tones)
-        (length-pure_window (8 * k) tone)
+    (length-pure_window (8 * k) tone)
     ∙ ap (λ first. first ++ tones_at 0 (wave_from (next_phase (8 * k) tone) tones)) (tones_at-pure_window k tone below)
     ∙ ap (λ ts. tone ∷ ts) rest
 
@@ -46,4 +46,4 @@ bits-wave offset q x bit sent whole =
     bits-aligned offset q x (wave (line (bit ∷ sent))) whole
     ∙ ap (λ tones. bits offset x ++ bits_from before tones) (tones_at-wave_from (line (bit ∷ sent)) 0 (omega arith))
     ∙ ap (λ bs. bits offset x ++ same_tone before (sent_tone Mark bit) ∷ bs)
-        (bits_from-line_from (sent_tone Mark bit) sent)
+    (bits_from-line_from (sent_tone Mark bit) sent)

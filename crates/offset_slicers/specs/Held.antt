@@ -16,8 +16,13 @@ pub record Held : Type 0 where
 -- of the window's eight places those below the count of samples in it are kept, and the others hold older samples
 abbrev pub held_of : ℕ → ℕ → ℕ → List ℤ → Tone → Held
 held_of offset first position window before =
-    record { offset = offset; first = first; position = position; part = take ((position - first) % 8) window;
-        before = before }
+    record {
+      offset = offset;
+      first = first;
+      position = position;
+      part = take ((position - first) % 8) window;
+      before = before;
+    }
 
 -- How many samples of a stretch come before its first window of an offset: the windows of an offset begin at all places
 -- that are the offset modulo 8.

@@ -1,6 +1,6 @@
 -- Closing a ring: one reader after another is handed in.
-use Rattle.std.proofs.Common.{◌≡◌, ℕ, suc, ◌+◌, List, [], ◌∷◌, ◌++◌, length, map, true, ap, ◌∙◌, sym, subst,
-    append_assoc, arith}
+use Rattle.std.proofs.Common.{◌≡◌, ℕ, suc, ◌+◌, List, [], ◌∷◌, ◌++◌, length, map, true, ap, ◌∙◌, sym, subst}
+use Rattle.std.proofs.Common.{append_assoc, arith}
 use Rattle.std.specs.Prelude.{ℤ}
 use Rattle.std.specs.List.{All}
 use Rattle.atomic_table.specs.Seated.{TableId}
@@ -22,7 +22,7 @@ pub record HasKept (ring : TableId) (len : ℕ) (list : List ℤ) (all : List Re
 pub has_kept_more : (ring : TableId) (len : ℕ) (list : List ℤ) (all : List Reader) (before after : History)
     (left rest : List Reader) (fewer less : ℕ) (reader : Reader) → HasKept ring len list all before left fewer
     → left ≡ reader ∷ rest → less + 1 ≡ fewer → history_ring after ≡ history_ring before → listed after ≡ listed before
-        → records_of after ≡ records_of before ++ record_of reader ∷ []
+    → records_of after ≡ records_of before ++ record_of reader ∷ []
     → All (StandsIn len (listed after) true) (records_of after) → HasKept ring len list all after rest less
 has_kept_more ring len list all before after left rest fewer less reader h is count same_ring same_list kept stand =
     let many = h.many in

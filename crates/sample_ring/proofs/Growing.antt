@@ -1,6 +1,6 @@
 -- A record stands in the published list: after one more read, and after more is published.
-use Rattle.std.proofs.Common.{◌≡◌, ℕ, ◌+◌, ◌<◌, ◌≤◌, List, [], ◌∷◌, ◌++◌, length, Some, Bool, false, true≢false, refl,
-    sym, ◌∙◌, zero, suc, get_or, arith}
+use Rattle.std.proofs.Common.{◌≡◌, ℕ, ◌+◌, ◌<◌, ◌≤◌, List, [], ◌∷◌, ◌++◌, length, Some, Bool, false, true≢false, refl}
+use Rattle.std.proofs.Common.{sym, ◌∙◌, zero, suc, get_or, arith}
 use Rattle.std.specs.Prelude.{ℤ, slice_get}
 use Rattle.std.specs.List.{All}
 use Rattle.std.proofs.lemmas.List.Elements.{All-push, All-nil}
@@ -48,8 +48,11 @@ stands_with_read len published ended track e so same stands = record {
 -- a reader that has read nothing
 pub stands_new : (len : ℕ) (published : List ℤ) (ended : Bool)
     → StandsIn len published ended record { at = 0; reads = [] }
-stands_new len published ended = record { within = omega arith; stands = All-nil (Stands len published ended);
-    tiles = refl }
+stands_new len published ended = record {
+  within = omega arith;
+  stands = All-nil (Stands len published ended);
+  tiles = refl;
+}
 
 -- One list goes on as another, if the ring had not ended: what was published stays.
 pub record GoesOn (before after : List ℤ) : Type 0 where

@@ -1,6 +1,6 @@
 -- What a reader finds in the cell of its position, and what `answer` then computes to.
-use Rattle.std.proofs.Common.{◌≡◌, ◌≢◌, ℕ, ◌+◌, ◌-◌, ◌%◌, ◌<◌, ◌≤◌, List, length, Some, Bool, false, sym, ap, ◌∙◌,
-    subst, inl, inr, arith, lt_of_not-le, eq-eqb, ne_eqb, if◌then◌else◌}
+use Rattle.std.proofs.Common.{◌≡◌, ◌≢◌, ℕ, ◌+◌, ◌-◌, ◌%◌, ◌<◌, ◌≤◌, List, length, Some, Bool, false, sym, ap, ◌∙◌}
+use Rattle.std.proofs.Common.{subst, inl, inr, arith, lt_of_not-le, eq-eqb, ne_eqb, if◌then◌else◌}
 use Rattle.std.specs.Prelude.{ℤ, slice_get, nat_lt, ◌==◌}
 use Rattle.std.proofs.Math.Nat.{mod-le, add-mod, add-mod_right}
 use Rattle.std.proofs.lemmas.Bool.{lt-ltb, le-ltb}
@@ -27,7 +27,7 @@ oldest n at p le same =
     let r : ℕ = p + 1 - n in
     let back : r + n ≡ p + 1 = omega arith in
     sym (add-mod_right r n) ∙ ap (λ k. k % n) back ∙ add-mod p 1 n ∙ ap (λ k. (k + 1 % n) % n) same
-        ∙ sym (add-mod at 1 n)
+    ∙ sym (add-mod at 1 n)
 
 pub finds : (n : ℕ) (published : List ℤ) (at word : ℕ) → 0 < n → at ≤ length published
     → TellsCell n published (at % n) word → Finds n published at word
@@ -43,12 +43,12 @@ finds n published at word some within (inl (is_zero, none_yet)) =
     }
 finds n published at word some within (inr (p, same, inside, newest, lap, sample)) =
     let far_of : at < p → at + n ≤ p = λ lt. dite (dec_le (at + n) p) (λ le. le)
-        (λ gt. let near : p < at + n = lt_of_not-le gt in let one : at ≡ p =
-        one_turn at p n (omega arith) near (sym same) in absurd (omega arith)) in
+    (λ gt. let near : p < at + n = lt_of_not-le gt in let one : at ≡ p =
+    one_turn at p n (omega arith) near (sym same) in absurd (omega arith)) in
     record {
       empty = λ le. dite (dec_le (p + n) at) (λ past. omega arith)
           (λ gt. let near : at < p + n = lt_of_not-le gt in let one : p ≡ at =
-              one_turn p at n (omega arith) near same in absurd (omega arith));
+          one_turn p at n (omega arith) near same in absurd (omega arith));
       own = λ e. let one : p ≡ at = omega arith in subst (λ (k : ℕ). slice_get published k ≡ Some (sample_of word))
           one sample;
       far = λ lt. let wide : at + n ≤ p = far_of (omega arith) in omega arith;
@@ -69,13 +69,13 @@ answer_item n e h = ap (λ own. tested own (nat_lt (e.at + 1) (lap_of e.cell)) (
 pub answer_gap : (n : ℕ) (e : Entry) → e.at + 1 < lap_of e.cell → answer n e ≡ Gap e.at (lap_of e.cell - n)
 answer_gap n e h =
     ap (λ own. tested own (nat_lt (e.at + 1) (lap_of e.cell)) (e.last == e.at + 1) n e)
-        (ne_eqb (lap_of e.cell) (e.at + 1) (λ same. omega arith))
+    (ne_eqb (lap_of e.cell) (e.at + 1) (λ same. omega arith))
     ∙ ap (λ later. tested false later (e.last == e.at + 1) n e) (lt-ltb (e.at + 1) (lap_of e.cell) h)
 
 nothing_there : (n : ℕ) (e : Entry) → lap_of e.cell ≤ e.at → answer n e ≡ tested false false (e.last == e.at + 1) n e
 nothing_there n e h =
     ap (λ own. tested own (nat_lt (e.at + 1) (lap_of e.cell)) (e.last == e.at + 1) n e)
-        (ne_eqb (lap_of e.cell) (e.at + 1) (λ same. omega arith))
+    (ne_eqb (lap_of e.cell) (e.at + 1) (λ same. omega arith))
     ∙ ap (λ later. tested false later (e.last == e.at + 1) n e) (le-ltb (e.at + 1) (lap_of e.cell) (omega arith))
 
 pub answer_end : (n : ℕ) (e : Entry) → lap_of e.cell ≤ e.at → e.last ≡ e.at + 1 → answer n e ≡ End e.at

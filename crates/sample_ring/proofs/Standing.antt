@@ -1,6 +1,6 @@
 -- What each seat knows stays so: of the seat that steps, and of the others.
-use Rattle.std.proofs.Common.{◌≡◌, ◌≢◌, ℕ, ◌+◌, ◌<◌, ◌≤◌, List, length, set, Bool, true, false, true≢false, refl, sym,
-    ap, ◌∙◌, subst, ⊎_elim, zero-le, arith, if◌then◌else◌}
+use Rattle.std.proofs.Common.{◌≡◌, ◌≢◌, ℕ, ◌+◌, ◌<◌, ◌≤◌, List, length, set, Bool, true, false, true≢false, refl, sym}
+use Rattle.std.proofs.Common.{ap, ◌∙◌, subst, ⊎_elim, zero-le, arith, if◌then◌else◌}
 use Rattle.std.specs.Prelude.{ℤ}
 use Rattle.std.proofs.lemmas.List.Elements.{All-push, All-nil}
 use Rattle.std.proofs.lemmas.Bool.{le-leb, lt-leb}
@@ -87,16 +87,27 @@ pub so_noted : (len : ℕ) (published : List ℤ) (ended : Bool) (writer id othe
 so_noted len published ended writer id other v note calm so theirs =
     let mine = so.known in
     let their = theirs.known in
-    record { same_len = so.same_len; known = omega arith; track = so.track; kept = so.kept;
-        waits = λ w. absurd (off (sym calm ∙ w)); writes = so.writes }
+    record {
+      same_len = so.same_len;
+      known = omega arith;
+      track = so.track;
+      kept = so.kept;
+      waits = λ w. absurd (off (sym calm ∙ w));
+      writes = so.writes;
+    }
 
 pub so_keeping : (len : ℕ) (published : List ℤ) (ended : Bool) (writer id other : ℕ) (v reader : View)
     → IsSo len published ended writer id v → IsSo len published ended writer other reader
     → IsSo len published ended writer id (keeping v reader)
 so_keeping len published ended writer id other v reader so theirs =
-    record { same_len = so.same_len; known = so.known; track = so.track;
-        kept = All-push (StandsIn len published ended) v.kept reader.track so.kept theirs.track; waits = so.waits;
-        writes = so.writes }
+    record {
+      same_len = so.same_len;
+      known = so.known;
+      track = so.track;
+      kept = All-push (StandsIn len published ended) v.kept reader.track so.kept theirs.track;
+      waits = so.waits;
+      writes = so.writes;
+    }
 
 -- a view with one more read
 so_read : (len : ℕ) (published : List ℤ) (ended : Bool) (writer id : ℕ) (v : View) (e : Entry) (b : Bool) → v.len ≡ len
@@ -121,7 +132,7 @@ found_stands len published ended e found lt = dite (ℕ_discrete (lap_of e.cell)
     let far : e.at + len < lap_of e.cell = found.far later in
     let within : lap_of e.cell ≤ length published = found.within later in
     subst (StandsAs len published ended e.known) (sym (answer_gap len e later))
-        (omega arith, found.turn later, omega arith))
+    (omega arith, found.turn later, omega arith))
 
 pub so_looked : (len : ℕ) (published : List ℤ) (ended : Bool) (writer id : ℕ) (v : View) (cell : ℕ) → v.len ≡ len
     → v.waits ≡ false → Finds len published v.track.at cell → IsSo len published ended writer id v
@@ -134,20 +145,26 @@ so_looked len published ended writer id v cell size calm found so =
     (λ le. subst P (sym (le-leb (lap_of cell) v.track.at le)) (
     let known = so.known in
     let empty : length published ≤ v.track.at = found.empty le in
-    record { same_len = so.same_len; known = so.known; track = so.track; kept = so.kept; waits = λ _. (le, omega arith);
-        writes = so.writes }))
+    record {
+      same_len = so.same_len;
+      known = so.known;
+      track = so.track;
+      kept = so.kept;
+      waits = λ _. (le, omega arith);
+      writes = so.writes;
+    }))
     (λ gt. let lt : v.track.at < lap_of cell = lt_of_not-le gt in
     subst P (sym (lt-leb (lap_of cell) v.track.at lt)) (
     let e : Entry = entry_of v cell 0 in
     so_read len published ended writer id v e v.waits size (λ w. off (sym calm ∙ w)) refl
-        (found_stands len published ended e found lt) so))
+    (found_stands len published ended e found lt) so))
 
 -- a load of the end word after an empty cell
 last_stands : (len : ℕ) (published : List ℤ) (ended : Bool) (e : Entry) → lap_of e.cell ≤ e.at → e.known ≤ e.at
     → e.at ≤ length published → TellsEnd published ended e.last → Stands len published ended e
 last_stands len published ended e none_there known within tells = dite (ℕ_discrete e.last (e.at + 1))
     (λ all. subst (StandsAs len published ended e.known) (sym (answer_end len e none_there all))
-        (⊎_elim (λ (t : (e.last ≡ 0) × (ended ≡ false)). let nothing = t.0 in absurd (omega arith))
+    (⊎_elim (λ (t : (e.last ≡ 0) × (ended ≡ false)). let nothing = t.0 in absurd (omega arith))
     (λ (t : (e.last ≡ length published + 1) × (ended ≡ true)). let total = t.0 in (t.1, omega arith)) tells))
     (λ other. subst (StandsAs len published ended e.known) (sym (answer_empty len e none_there other)) (within, known))
 
@@ -158,4 +175,4 @@ so_looked_last len published ended writer id v last size waits tells so =
     let e : Entry = entry_of v v.cell last in
     let between = so.waits waits in
     so_read len published ended writer id v e false size off refl
-        (last_stands len published ended e between.0 between.1 so.track.within tells) so
+    (last_stands len published ended e between.0 between.1 so.track.within tells) so

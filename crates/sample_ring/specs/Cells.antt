@@ -1,6 +1,6 @@
 -- What the words of a ring tell of the published list: one word a cell, and the end word after them.
-use Rattle.std.specs.Prelude.{◌≡◌, ℕ, ◌+◌, ◌*◌, ◌/◌, ◌%◌, ◌<◌, ◌≤◌, ◌⊎◌, Bool, true, false, List, length, ℤ, Some,
-    slice_get}
+use Rattle.std.specs.Prelude.{◌≡◌, ℕ, ◌+◌, ◌*◌, ◌/◌, ◌%◌, ◌<◌, ◌≤◌, ◌⊎◌, Bool, true, false, List, length, ℤ, Some}
+use Rattle.std.specs.Prelude.{slice_get}
 use Rattle.std.specs.Int.{w16, cast_signed, cast_unsigned}
 
 -- the lap of a word: 1 more than the position whose sample it tells, and 0 if it tells none
@@ -20,7 +20,7 @@ word_of position sample = (position + 1) * 65536 + cast_unsigned w16 sample
 abbrev pub TellsCell : ℕ → List ℤ → ℕ → ℕ → Type 0
 TellsCell n published j word = ((word ≡ 0) × (length published ≤ j))
     ⊎ ((p : ℕ) × (p % n ≡ j) × (p < length published) × (length published ≤ p + n) × (lap_of word ≡ p + 1)
-        × (slice_get published p ≡ Some (sample_of word)))
+    × (slice_get published p ≡ Some (sample_of word)))
 
 -- The end word is 0, and after the end 1 more than the count of all samples.
 abbrev pub TellsEnd : List ℤ → Bool → ℕ → Type 0

@@ -1,7 +1,7 @@
 -- A reader's record against the published list. A read's answer follows from the reader's position and the words
 -- that it loaded; what the answer then says of the published list is stated answer by answer.
-use Rattle.std.specs.Prelude.{◌≡◌, ℕ, ◌+◌, ◌-◌, ◌%◌, ◌<◌, ◌≤◌, Bool, true, List, [], ◌∷◌, ◌++◌, length, ℤ, Some,
-    slice_get, ◌==◌, nat_lt, if◌then◌else◌}
+use Rattle.std.specs.Prelude.{◌≡◌, ℕ, ◌+◌, ◌-◌, ◌%◌, ◌<◌, ◌≤◌, Bool, true, List, [], ◌∷◌, ◌++◌, length, ℤ, Some}
+use Rattle.std.specs.Prelude.{slice_get, ◌==◌, nat_lt, if◌then◌else◌}
 use Rattle.std.specs.List.{All}
 use Rattle.sample_ring.specs.declared.got.Got.{Got}
 use Rattle.sample_ring.specs.declared.got.Got.TheVariants.{Item, Gap, Empty, End}
@@ -17,7 +17,7 @@ answer len e =
     if lap_of e.cell == e.at + 1
     then Item e.at (sample_of e.cell)
     else if nat_lt (e.at + 1) (lap_of e.cell) then Gap e.at (lap_of e.cell - len) else if e.last == e.at + 1
-        then End e.at else Empty e.at
+    then End e.at else Empty e.at
 
 -- the position after an answer
 abbrev pub next : Got → ℕ

@@ -7,8 +7,18 @@ use Rattle.sample_ring.specs.Record.{with_read}
 
 -- a seat that was joined into another knows nothing more
 abbrev pub spent_view : View
-spent_view = record { len = 0; lives = false; writes = false; ended = false; published = []; known = 0;
-    track = record { at = 0; reads = [] }; waits = false; cell = 0; kept = [] }
+spent_view = record {
+  len = 0;
+  lives = false;
+  writes = false;
+  ended = false;
+  published = [];
+  known = 0;
+  track = record { at = 0; reads = [] };
+  waits = false;
+  cell = 0;
+  kept = [];
+}
 
 -- the writer of a new ring
 abbrev pub first_view : ℕ → View

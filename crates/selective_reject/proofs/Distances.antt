@@ -16,14 +16,14 @@ ahead-rounds m q r d rm dm =
           let here : (q * m + r + d) % m ≡ r + d = ap (λ t. t % m) sum ∙ mod-mul-add q m (r + d) same in
           let rest : r + d + m - r ≡ d + m = omega arith in
           ap (λ t. (t + m - (q * m + r) % m) % m) here ∙ ap (λ t. (r + d + m - t) % m) start ∙ ap (λ t. t % m) rest
-              ∙ add-mod_right d m ∙ mod-eq_of_lt dm
+          ∙ add-mod_right d m ∙ mod-eq_of_lt dm
       | inr next ↦
           let sum : q * m + r + d ≡ (q + 1) * m + (r + d - m) = omega arith in
           let small : r + d - m < m = omega arith in
           let here : (q * m + r + d) % m ≡ r + d - m = ap (λ t. t % m) sum ∙ mod-mul-add (q + 1) m (r + d - m) small in
           let rest : r + d - m + m - r ≡ d = omega arith in
           ap (λ t. (t + m - (q * m + r) % m) % m) here ∙ ap (λ t. (r + d - m + m - t) % m) start ∙ ap (λ t. t % m) rest
-              ∙ mod-eq_of_lt dm
+          ∙ mod-eq_of_lt dm
     ]
 
 -- less than once round ahead

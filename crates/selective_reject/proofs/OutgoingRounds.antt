@@ -1,12 +1,13 @@
 -- What is decided by numbers on the air is decided by whole numbers, and by true numbers.
-use Rattle.std.proofs.Common.{◌≡◌, ℕ, ◌+◌, ◌-◌, ◌*◌, ◌/◌, ◌%◌, ◌<◌, ◌≤◌, Bool, true, false, max, nat_lt, nat_le, List,
-    drop, slice_get, Option, None, Result, Ok, Err, if◌then◌else◌, ap, sym, ◌∙◌, refl, subst, inl, inr, arith}
+use Rattle.std.proofs.Common.{◌≡◌, ℕ, ◌+◌, ◌-◌, ◌*◌, ◌/◌, ◌%◌, ◌<◌, ◌≤◌, Bool, true, false, max, nat_lt, nat_le, List}
+use Rattle.std.proofs.Common.{drop, slice_get, Option, None, Result, Ok, Err, if◌then◌else◌, ap, sym, ◌∙◌, refl, subst}
+use Rattle.std.proofs.Common.{inl, inr, arith}
 use Rattle.std.proofs.lemmas.Bool.{lt-ltb, le-leb, leb-true}
 use Rattle.selective_reject.specs.declared.packet.Packet.{Packet}
 use Rattle.selective_reject.specs.declared.outgoing.BadNr.{BadNr}
 use Rattle.selective_reject.specs.Numbers.{IsModulus, ahead}
-use Rattle.selective_reject.specs.Outgoing.{Outgoing, IsOutgoing, StandsForOutgoing, acknowledged, is_named,
-    acknowledgement, after_acknowledge, reduced_outgoing, sent_packet}
+use Rattle.selective_reject.specs.Outgoing.{Outgoing, IsOutgoing, StandsForOutgoing, acknowledged, is_named}
+use Rattle.selective_reject.specs.Outgoing.{acknowledgement, after_acknowledge, reduced_outgoing, sent_packet}
 use Rattle.selective_reject.proofs.Distances.{ahead-mod_128, ahead-at_or_ahead, mod-mod_128}
 
 same_ahead : (held store : Outgoing) (m nr : ℕ) → IsModulus m → StandsForOutgoing held store
@@ -41,14 +42,14 @@ unfolding sent_at
 sent_packet-at store m n low sent high =
     ap (λ t. sent_at t (store.top - store.va) store.packets) (ahead-at_or_ahead m store.va n low high)
     ∙ ap (λ t. if t then slice_get store.packets (n - store.va) else None)
-        (lt-ltb (n - store.va) (store.top - store.va) (omega arith))
+    (lt-ltb (n - store.va) (store.top - store.va) (omega arith))
 
 pub sent_packet-truly : (held store : Outgoing) (m n nr : ℕ) → IsModulus m → StandsForOutgoing held store
     → store.va ≤ n → n < store.top → store.top < store.va + m → nr ≡ n % m
-        → sent_packet m nr held ≡ slice_get store.packets (n - store.va)
+    → sent_packet m nr held ≡ slice_get store.packets (n - store.va)
 sent_packet-truly held store m n nr is h low sent high number =
     same_sent_packet held store m nr is h ∙ ap (λ t. sent_packet m t store) number
-        ∙ sent_packet-at store m n low sent (omega arith)
+    ∙ sent_packet-at store m n low sent (omega arith)
 
 answer_at : ℕ → ℕ → ℕ → ℕ → Result ℕ BadNr
 answer_at d reach va top = if nat_le d reach then Ok d else Err (record { va = va; top = top })
@@ -71,7 +72,7 @@ same_named held store m nr is h =
 cut : (held store : Outgoing) (d : ℕ) (b : Bool) → IsOutgoing held → StandsForOutgoing held store
     → (b ≡ true → held.va + d ≤ held.top)
     → StandsForOutgoing (reduced_outgoing (if b then acknowledged (held.va + d) held else held))
-        (if b then acknowledged (store.va + d) store else store)
+    (if b then acknowledged (store.va + d) store else store)
 cut held store d true formed h within =
     let reach : held.va + d ≤ held.top = within refl in
     let below : held.va + d - held.va ≡ d = omega arith in
@@ -79,7 +80,7 @@ cut held store d true formed h within =
     let rounds = 128 * ((held.va + d) / 128) in
     let same : (held.va + d) % 128 ≡ (store.va + d) % 128 = omega (arith, h.va) in
     let next : max held.vs (held.va + d) - rounds + (store.va + d) ≡ max store.vs (store.va + d) + (held.va + d) % 128 =
-        omega (arith, h.vs) in
+    omega (arith, h.vs) in
     let highest : held.top - rounds + (store.va + d) ≡ store.top + (held.va + d) % 128 = omega (arith, h.top) in
     record {
       va = same;
@@ -100,26 +101,26 @@ pub stands_for-after_acknowledge : (held store : Outgoing) (m nr : ℕ) → IsMo
     → StandsForOutgoing (reduced_outgoing (after_acknowledge m nr held)) (after_acknowledge m nr store)
 stands_for-after_acknowledge held store m nr is formed h =
     let P : ℕ → Type 0 = λ t. StandsForOutgoing (reduced_outgoing (after_acknowledge m nr held))
-        (if is_named m nr held then acknowledged (store.va + t) store else store) in
+    (if is_named m nr held then acknowledged (store.va + t) store else store) in
     let Q : Bool → Type 0 = λ b. StandsForOutgoing (reduced_outgoing (after_acknowledge m nr held))
-        (if b then acknowledged (store.va + ahead m store.va nr) store else store) in
+    (if b then acknowledged (store.va + ahead m store.va nr) store else store) in
     let within : is_named m nr held ≡ true → held.va + ahead m held.va nr ≤ held.top =
     λ e. omega (arith, formed.vs, formed.top, leb-true (ahead m held.va nr) (held.top - held.va) e) in
     subst Q (same_named held store m nr is h) (subst P (same_ahead held store m nr is h)
-        (cut held store (ahead m held.va nr) (is_named m nr held) formed h within))
+    (cut held store (ahead m held.va nr) (is_named m nr held) formed h within))
 
 -- a number from va to top is the one that is named
 named : (store : Outgoing) (m n : ℕ) → store.va ≤ n → n ≤ store.top → n < store.va + m → is_named m (n % m) store ≡ true
 named store m n low sent high =
     ap (λ t. nat_le t (store.top - store.va)) (ahead-at_or_ahead m store.va n low high)
-        ∙ le-leb (n - store.va) (store.top - store.va) (omega arith)
+    ∙ le-leb (n - store.va) (store.top - store.va) (omega arith)
 
 pub acknowledgement-at : (store : Outgoing) (m n : ℕ) → store.va ≤ n → n ≤ store.top → n < store.va + m
     → acknowledgement m (n % m) store ≡ Ok (n - store.va)
 unfolding answer_at
 acknowledgement-at store m n low sent high =
     ap (λ t. if t then Ok (ahead m store.va (n % m)) else Err (record { va = store.va % m; top = store.top % m }))
-        (named store m n low sent high)
+    (named store m n low sent high)
     ∙ ap Ok (ahead-at_or_ahead m store.va n low high)
 
 pub after_acknowledge-at : (store : Outgoing) (m n : ℕ) → store.va ≤ n → n ≤ store.top → n < store.va + m
@@ -127,7 +128,7 @@ pub after_acknowledge-at : (store : Outgoing) (m n : ℕ) → store.va ≤ n →
 after_acknowledge-at store m n low sent high =
     let sum : store.va + (n - store.va) ≡ n = omega arith in
     ap (λ t. if t then acknowledged (store.va + ahead m store.va (n % m)) store else store)
-        (named store m n low sent high)
+    (named store m n low sent high)
     ∙ ap (λ t. acknowledged (store.va + t) store) (ahead-at_or_ahead m store.va n low high)
     ∙ ap (λ t. acknowledged t store) sum
 
@@ -135,7 +136,7 @@ pub acknowledge-truly : (held store : Outgoing) (m n nr : ℕ) → IsModulus m �
     → StandsForOutgoing held store
     → store.va ≤ n → n ≤ store.top → store.top < store.va + m → nr ≡ n % m
     → (acknowledgement m nr held ≡ Ok (n - store.va))
-        × StandsForOutgoing (reduced_outgoing (after_acknowledge m nr held)) (acknowledged n store)
+    × StandsForOutgoing (reduced_outgoing (after_acknowledge m nr held)) (acknowledged n store)
 acknowledge-truly held store m n nr is formed h low sent high number =
     let P : Outgoing → Type 0 = λ t. StandsForOutgoing (reduced_outgoing (after_acknowledge m nr held)) t in
     let below : n < store.va + m = omega arith in (

@@ -1,6 +1,7 @@
 -- Places that are asked for one after another.
-use Rattle.std.proofs.Common.{◌≡◌, ℕ, ◌+◌, ◌<◌, zero, suc, Bool, true, false, List, [], ◌∷◌, ◌++◌, length, map, filter,
-    get_or, set, None, is_some, unwrap_or, slice_get, if◌then◌else◌, ap, sym, ◌∙◌, refl, arith, add-one}
+use Rattle.std.proofs.Common.{◌≡◌, ℕ, ◌+◌, ◌<◌, zero, suc, Bool, true, false, List, [], ◌∷◌, ◌++◌, length, map, filter}
+use Rattle.std.proofs.Common.{get_or, set, None, is_some, unwrap_or, slice_get, if◌then◌else◌, ap, sym, ◌∙◌, refl}
+use Rattle.std.proofs.Common.{arith, add-one}
 use Rattle.std.specs.List.{range_with_len}
 use Rattle.std.proofs.lemmas.Option.{unwrap_or-slice_get}
 use Rattle.std.proofs.lemmas.List.{map-append, append-nil}
@@ -12,7 +13,7 @@ use Rattle.selective_reject.specs.Places.{empty_place, is_full, is_missing, aske
 pub is_full-none : (places : List Place) (k : ℕ) → slice_get places k ≡ None → is_full places k ≡ false
 is_full-none places k none =
     ap (λ place. is_some place.packet) (sym (unwrap_or-slice_get places k empty_place)
-        ∙ ap (λ o. unwrap_or o empty_place) none)
+    ∙ ap (λ o. unwrap_or o empty_place) none)
 
 range-more : (a n : ℕ) → range_with_len a (suc n) ≡ range_with_len a n ++ (a + n) ∷ []
 range-more a zero = let same : a ≡ a + 0 = omega arith in ap (λ t. t ∷ []) same

@@ -1,6 +1,6 @@
 -- The places of the numbers that a receiver waits for.
-use Rattle.std.specs.Prelude.{ℕ, Bool, false, ◌||◌, not, List, ◌++◌, filter, map, take, drop, slice_index_or, slice_set,
-    Option, Some, None, is_some}
+use Rattle.std.specs.Prelude.{ℕ, Bool, false, ◌||◌, not, List, ◌++◌, filter, map, take, drop, slice_index_or, slice_set}
+use Rattle.std.specs.Prelude.{Option, Some, None, is_some}
 use Rattle.std.specs.List.{range_with_len}
 use Rattle.selective_reject.specs.declared.packet.Packet.{Packet}
 use Rattle.selective_reject.specs.declared.place.Place.{Place}

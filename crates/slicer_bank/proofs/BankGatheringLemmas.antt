@@ -1,6 +1,6 @@
 -- What the eight lanes of a bank heard, each in a job of its own, as one list.
-use Rattle.std.proofs.Common.{◌≡◌, ℕ, ◌+◌, ◌<◌, ℤ, List, [], length, get_or, Option, Some, None, refl, ap, sym, arith,
-    subst}
+use Rattle.std.proofs.Common.{◌≡◌, ℕ, ◌+◌, ◌<◌, ℤ, List, [], length, get_or, Option, Some, None, refl, ap, sym, arith}
+use Rattle.std.proofs.Common.{subst}
 use Rattle.std.specs.List.{All, flat_map}
 use Rattle.std.specs.List.Sorted.{IsPermutation, IsNonDecreasingBy}
 use Rattle.std.proofs.lemmas.List.Sorted.{Contains-permutation, All-permutation}
@@ -30,7 +30,7 @@ module _ (lanes : List HeldLane) (eight : length lanes ≡ 8) (heard : (k : ℕ)
   pub fit_there : LanesKeepFit lanes → All CanBePut sorted
   fit_there keep = All-permutation CanBePut (flat_map heard_by lanes) sorted moved
       (flat_all CanBePut heard_by lanes (λ k d l. let h = heard k d (omega arith) in
-          subst (All CanBePut) (sym (ap items_of h.1)) (keep k d h.0 (omega arith) h.1)))
+      subst (All CanBePut) (sym (ap items_of h.1)) (keep k d h.0 (omega arith) h.1)))
 
   pub lanes_in_order : (position : ℕ) (x : List ℤ) → IsNonDecreasingBy (λ item. item.end) sorted
       → LanesKeep position x lanes → AreCandidatesBehind position x sorted
@@ -49,7 +49,7 @@ module _ (lanes : List HeldLane) (eight : length lanes ≡ 8) (heard : (k : ℕ)
             let within = end_within x item c in
             Contains-permutation (flat_map heard_by lanes) sorted item moved
             (flat_contains heard_by lanes item.offset one item (omega arith)
-                ((of_windows item.offset one c.offset).whole item c refl (omega arith) (omega arith)));
+            ((of_windows item.offset one c.offset).whole item c refl (omega arith) (omega arith)));
         order = stands_in_order heard_by lanes sorted eight
             (λ k d l. record {
               each = λ i e il. let c = (of_windows k d l).each i e il in let is = c.1 in let end = c.0.ends.end_of in

@@ -1,6 +1,6 @@
 -- When some lane holds a carrier.
-use Rattle.std.proofs.Common.{◌≡◌, ℕ, ◌+◌, ◌<◌, ℤ, List, Bool, true, false, length, get_or, sym, ◌∙◌, arith, subst, inl,
-    inr, refl}
+use Rattle.std.proofs.Common.{◌≡◌, ℕ, ◌+◌, ◌<◌, ℤ, List, Bool, true, false, length, get_or, sym, ◌∙◌, arith, subst, inl}
+use Rattle.std.proofs.Common.{inr, refl}
 use Rattle.std.specs.Prelude.{◌↔◌, IsTrue}
 use Rattle.std.specs.List.{All}
 use Rattle.std.proofs.lemmas.Bool.{cases_lt, true≢false}
@@ -20,13 +20,13 @@ NoneHolds index lanes = (flags : ℕ) (x : List ℤ) → LanesStandFor lanes x �
 module _ (lanes : List HeldLane) (index : ℕ) (lane : HeldLane) (busy : Bool) (count : length lanes ≡ 8)
     (within : index < 8) (is : lane ≡ get_or lanes index lane)
     (tells : (tones : List Tone) → LaneStandsFor lane tones → IsTrue busy
-        ↔ HoldsCarrier (flags_asked lane.deframer) (bits_of tones))
+    ↔ HoldsCarrier (flags_asked lane.deframer) (bits_of tones))
     (flags : ℕ) (x : List ℤ) (stand : LanesStandFor lanes x) (ask : All (AsksFor flags) lanes) where
   lane_tells : IsTrue busy ↔ HoldsCarrier flags (bits index x)
   unfolding bits
   lane_tells =
       let stands : LaneStandsFor lane (tones_at index x) =
-          subst (λ t. LaneStandsFor t (tones_at index x)) (sym is) (stand index lane within) in
+      subst (λ t. LaneStandsFor t (tones_at index x)) (sym is) (stand index lane within) in
       let asked : flags_asked lane.deframer ≡ flags = subst (AsksFor flags) (sym is) (ask index lane (omega arith)) in
       subst (λ n. IsTrue busy ↔ HoldsCarrier n (bits_of (tones_at index x))) asked (tells (tones_at index x) stands)
 
@@ -46,6 +46,8 @@ module _ (lanes : List HeldLane) (index : ℕ) (lane : HeldLane) (busy : Bool) (
 pub none_busy : (lanes : List HeldLane) (index : ℕ) → 8 ≡ index → NoneHolds index lanes → (flags : ℕ) (x : List ℤ)
     → LanesStandFor lanes x → All (AsksFor flags) lanes
     → IsTrue false ↔ HearsCarrier flags x
-none_busy lanes index all none flags x stand ask =
-    (λ e. absurd (true≢false (sym e)), λ h. absurd (none flags x stand ask h.offset (let small = h.small in omega arith)
-        h.carrier))
+none_busy lanes index all none flags x stand ask = (
+  λ e. absurd (true≢false (sym e)),
+  λ h. absurd (none flags x stand ask h.offset (let small = h.small in omega arith)
+      h.carrier),
+)

@@ -1,6 +1,6 @@
 -- The candidates of samples, with one sample more.
-use Rattle.std.proofs.Common.{◌≡◌, ℕ, ◌+◌, ◌-◌, ◌<◌, ◌≤◌, ℤ, List, [], ◌++◌, length, get_or, take, ap, sym, ◌∙◌, arith,
-    subst, length-append, inl, inr}
+use Rattle.std.proofs.Common.{◌≡◌, ℕ, ◌+◌, ◌-◌, ◌<◌, ◌≤◌, ℤ, List, [], ◌++◌, length, get_or, take, ap, sym, ◌∙◌, arith}
+use Rattle.std.proofs.Common.{subst, length-append, inl, inr}
 use Rattle.std.specs.List.{AllPairs}
 use Rattle.std.proofs.lemmas.Bool.{cases_lt}
 use Rattle.std.proofs.lemmas.List.{take-take, take_all, get_or_append_left, get_or-append-add}
@@ -22,7 +22,7 @@ first_bits : (offset : ℕ) (x y : List ℤ) (index : ℕ) → index < length (b
 first_bits offset x y index l =
     let n = length-bits offset x in
     sym (ap (take (index + 1)) (bits-append offset x y)
-        ∙ take-take (index + 1) (windows_in offset (length x)) (bits offset (x ++ y)) (omega arith))
+    ∙ take-take (index + 1) (windows_in offset (length x)) (bits offset (x ++ y)) (omega arith))
 
 -- a candidate of the first samples is one of them all
 pub candidate_more : (x y : List ℤ) (item : Candidate) → IsCandidate x item → IsCandidate (x ++ y) item
@@ -47,8 +47,12 @@ candidate_less x y item h e =
     record {
       offset = h.offset;
       index = h.index;
-      ends = record { within = within; end_of = h.ends.end_of; frame =
-          subst (λ b. EndsFrame b item.octets) (first_bits item.offset x y h.index within) h.ends.frame };
+      ends = record {
+        within = within;
+        end_of = h.ends.end_of;
+        frame =
+            subst (λ b. EndsFrame b item.octets) (first_bits item.offset x y h.index within) h.ends.frame;
+      };
     }
 
 -- a candidate that ends with the last of the samples is what its lane hears there
@@ -58,7 +62,7 @@ ends_with_last x item h e =
     let n = length-bits item.offset x in
     let end = h.ends.end_of in
     let all : take (h.index + 1) (bits item.offset x) ≡ bits item.offset x =
-        take_all (h.index + 1) (bits item.offset x) (omega arith) in
+    take_all (h.index + 1) (bits item.offset x) (omega arith) in
     record {
       window = (h.index, sym e ∙ end);
       frame = subst (λ b. EndsFrame b item.octets) all h.ends.frame;
@@ -71,12 +75,16 @@ candidate_at_last x item small e h =
     let n = length-bits item.offset x in
     let size = h.window.1 in
     let all : take (h.window.0 + 1) (bits item.offset x) ≡ bits item.offset x =
-        take_all (h.window.0 + 1) (bits item.offset x) (omega arith) in
+    take_all (h.window.0 + 1) (bits item.offset x) (omega arith) in
     record {
       offset = small;
       index = h.window.0;
-      ends = record { within = omega arith; end_of = e ∙ size; frame =
-          subst (λ b. EndsFrame b item.octets) (sym all) h.frame };
+      ends = record {
+        within = omega arith;
+        end_of = e ∙ size;
+        frame =
+            subst (λ b. EndsFrame b item.octets) (sym all) h.frame;
+      };
     }
 
 -- no candidate ends after the samples
@@ -90,27 +98,27 @@ candidates_none x = record {
 -- each of one list and each later one, each of the other, and each of the one before each of the other
 pub AllPairs-append : (R : Candidate → Candidate → Type 0) (xs ys : List Candidate) → AllPairs R xs → AllPairs R ys
     → ((i j : ℕ) (d : Candidate) → i < length xs → j < length ys → R (get_or xs i d) (get_or ys j d))
-        → AllPairs R (xs ++ ys)
+    → AllPairs R (xs ++ ys)
 AllPairs-append R xs ys a b across i j d ij jl =
     let len = length-append xs ys in
     elim (cases_lt j (length xs)) [
       | inl jx ↦
           subst (λ t. R t (get_or (xs ++ ys) j d)) (sym (get_or_append_left xs ys d i (omega arith)))
-              (subst (R (get_or xs i d)) (sym (get_or_append_left xs ys d j jx)) (a i j d ij jx))
+          (subst (R (get_or xs i d)) (sym (get_or_append_left xs ys d j jx)) (a i j d ij jx))
       | inr jy ↦
           let at_j : get_or (xs ++ ys) j d ≡ get_or ys (j - length xs) d =
-              ap (λ t. get_or (xs ++ ys) t d) (let e : j ≡ length xs + (j - length xs) = omega arith in e)
-              ∙ get_or-append-add xs ys (j - length xs) d in
+          ap (λ t. get_or (xs ++ ys) t d) (let e : j ≡ length xs + (j - length xs) = omega arith in e)
+          ∙ get_or-append-add xs ys (j - length xs) d in
           elim (cases_lt i (length xs)) [
             | inl ix ↦ subst (λ t. R t (get_or (xs ++ ys) j d)) (sym (get_or_append_left xs ys d i ix))
                 (subst (R (get_or xs i d)) (sym at_j) (across i (j - length xs) d ix (omega arith)))
             | inr iy ↦
                 let at_i : get_or (xs ++ ys) i d ≡ get_or ys (i - length xs) d =
-                    ap (λ t. get_or (xs ++ ys) t d) (let e : i ≡ length xs + (i - length xs) = omega arith in e)
-                    ∙ get_or-append-add xs ys (i - length xs) d in
+                ap (λ t. get_or (xs ++ ys) t d) (let e : i ≡ length xs + (i - length xs) = omega arith in e)
+                ∙ get_or-append-add xs ys (i - length xs) d in
                 subst (λ t. R t (get_or (xs ++ ys) j d)) (sym at_i)
-                    (subst (R (get_or ys (i - length xs) d)) (sym at_j)
-                    (b (i - length xs) (j - length xs) d (omega arith) (omega arith)))
+                (subst (R (get_or ys (i - length xs) d)) (sym at_j)
+                (b (i - length xs) (j - length xs) d (omega arith) (omega arith)))
           ]
     ]
 

@@ -16,21 +16,26 @@ use Rattle.slicer_bank.proofs.MergedLemmas.{block_gives, end_gives, nothing_kept
 -- nothing is taken
 pub taken_none : (bank : HeldBank) (merger : HeldMerger) → BankStandsFor bank [] → MergerStandsFor merger [] []
     → HaveTaken bank merger []
-taken_none bank merger b m = record { samples = b; candidates = []; are = candidates_none []; so_far = m;
-    kept = m.items }
+taken_none bank merger b m = record {
+  samples = b;
+  candidates = [];
+  are = candidates_none [];
+  so_far = m;
+  kept = m.items;
+}
 
 -- a merger that gives what is ready, with all lanes marked at one position
 module _ (x y : List ℤ) (old new : HeldBank) (was marked now : HeldMerger) (found ready : List Candidate)
     (room : length (x ++ y) < 2 ^ 48)
     (heard : BankStandsFor old x → BankStandsFor new (x ++ y) × AreCandidatesBehind (length x) (x ++ y) found)
     (puts : (puts given : List Candidate) → MergerStandsFor was puts given
-        → MergerStandsFor marked (puts ++ found) given)
+    → MergerStandsFor marked (puts ++ found) given)
     (marks : marked.marks ≡ replicate 8 (length (x ++ y)))
     (gives : (puts given : List Candidate) → MergerStandsFor marked puts given
     → MergerStandsFor now puts (given ++ ready)
-        × (given ++ ready ≡ below (least marked.marks) (merged (in_order puts))))
+    × (given ++ ready ≡ below (least marked.marks) (merged (in_order puts))))
     (keeps : (puts given : List Candidate) → MergerStandsFor marked puts given
-        → now.items ≡ not_below (least marked.marks - 15) (in_order puts)) where
+    → now.items ≡ not_below (least marked.marks - 15) (in_order puts)) where
   at : least marked.marks ≡ length (x ++ y)
   at = ap least marks ∙ least-one 7 (length (x ++ y)) (omega arith)
 
@@ -45,7 +50,7 @@ module _ (x y : List ℤ) (old new : HeldBank) (was marked now : HeldMerger) (fo
       let put : MergerStandsFor marked all given = puts h.candidates given h.so_far in
       let step = gives all given put in
       let total : given ++ ready ≡ below (length (x ++ y)) (merged all) = step.1
-          ∙ ap (λ t. below t (merged (in_order all))) at ∙ ap (λ t. below (length (x ++ y)) (merged t)) ordered in (
+      ∙ ap (λ t. below t (merged (in_order all))) at ∙ ap (λ t. below (length (x ++ y)) (merged t)) ordered in (
         record {
           samples = both.0;
           candidates = all;
@@ -68,11 +73,11 @@ module _ (x : List ℤ) (bank : HeldBank) (was marked now : HeldMerger) (rest : 
   gives_rest last =
       let given : List Candidate = below (length x) (merged h.candidates) in
       end_gives x h.candidates rest h.are (last h.candidates given (puts h.candidates given h.so_far)
-          ∙ ap merged (in_order-strictly h.candidates h.are.order))
+      ∙ ap merged (in_order-strictly h.candidates h.are.order))
 
   pub keeps_nothing : least marked.marks ≡ 2 ^ 64 - 1
       → ((puts given : List Candidate) → MergerStandsFor marked puts given
-          → now.items ≡ not_below (least marked.marks - 15) (in_order puts))
+      → now.items ≡ not_below (least marked.marks - 15) (in_order puts))
       → now.items ≡ []
   keeps_nothing far keeps =
       let given : List Candidate = below (length x) (merged h.candidates) in

@@ -22,8 +22,13 @@ given_back n lanes before full =
 
 -- the bank once the block is counted
 abbrev pub counted : HeldBank → List HeldLane → List ℤ → ℕ → HeldBank
-counted was lanes recent count = record { lanes = lanes; recent = recent; position = was.position + count;
-    flags = was.flags; spent = was.spent }
+counted was lanes recent count = record {
+  lanes = lanes;
+  recent = recent;
+  position = was.position + count;
+  flags = was.flags;
+  spent = was.spent;
+}
 
 module _ {V : Type 0} (items_of : V → List Candidate) (was new : HeldBank) (lent back taken : List HeldLane)
     (recent block : List ℤ)
@@ -31,7 +36,7 @@ module _ {V : Type 0} (items_of : V → List Candidate) (was new : HeldBank) (le
   abbrev pub Hears : V → Type 0
   Hears found = (x : List ℤ) → length x ≡ was.position → was.recent ≡ last_seven x → LanesStandFor lent x
       → LanesStandFor back (x ++ block) × (recent ≡ last_seven (x ++ block))
-          × AreCandidatesBehind was.position (x ++ block) (items_of found)
+      × AreCandidatesBehind was.position (x ++ block) (items_of found)
 
   abbrev pub Feeds : V → Type 0
   Feeds found = (x : List ℤ) → StandsFor was x → StandsFor new (x ++ block)
@@ -50,16 +55,17 @@ module _ {V : Type 0} (items_of : V → List Candidate) (was new : HeldBank) (le
         lanes = subst (λ lanes. LanesStandFor lanes (x ++ block)) (sym taken_is) heard.0;
         asks = subst (All (AsksFor was.flags)) (sym taken_is)
             (asks was.flags (subst (All (AsksFor was.flags)) (sym lent_is) h.asks));
-      } in
-      (subst (λ bank. StandsFor bank (x ++ block)) (sym counts) stands,
-          subst (λ t. AreCandidatesBehind t (x ++ block) (items_of found)) h.count heard.2)
+      } in (
+        subst (λ bank. StandsFor bank (x ++ block)) (sym counts) stands,
+        subst (λ t. AreCandidatesBehind t (x ++ block) (items_of found)) h.count heard.2,
+      )
 
   pub fed : {E : Type 0} (result heard : Result V E) → result ≡ heard
       → OnOk result (new ≡ counted was taken recent (length block)) → IfOk heard Hears
       → OnOk heard ((flags : ℕ) → All (AsksFor flags) lent → All (AsksFor flags) back) → IfOk result Feeds
   fed result heard same counts hears asks =
       by_result result counts (subst (λ r. IfOk r Hears) (sym same) hears)
-          (subst (λ r. OnOk r ((flags : ℕ) → All (AsksFor flags) lent → All (AsksFor flags) back)) (sym same) asks)
+      (subst (λ r. OnOk r ((flags : ℕ) → All (AsksFor flags) lent → All (AsksFor flags) back)) (sym same) asks)
 
 -- what a lane does in its job: it hears a block by itself
 pub record DidJob (position : ℕ) (seven block : List ℤ) (offset : ℕ) (was lane : HeldLane) : Type 0 where
@@ -78,8 +84,11 @@ module _ (position : ℕ) (old mid new : List HeldLane) (recent block : List ℤ
       let keeps = kept k d small in
       let there = (each k d small x keeps.0 keeps.1 size is (stand k d small)).0 in
       let same = alike k d small in
-      record { before = same.before ∙ there.before; deframer =
-          subst (λ t. DeframerStandsFor t (bits_of (tones_at k (x ++ block)))) (sym same.deframer) there.deframer }
+      record {
+        before = same.before ∙ there.before;
+        deframer =
+            subst (λ t. DeframerStandsFor t (bits_of (tones_at k (x ++ block)))) (sym same.deframer) there.deframer;
+      }
 
   pub each_keeps : LanesKeep position (x ++ block) mid
   each_keeps k d items small h = (each k d small x items h size is (stand k d small)).1
@@ -95,7 +104,7 @@ pub gathered : {V E : Type 0} (items_of : V → List Candidate) (position : ℕ)
     → IfOk result (λ found. (at : ℕ) (x : List ℤ) → LanesKeep at x mid → AreCandidatesBehind at x (items_of found))
     → IfOk result (λ found. (x : List ℤ) → length x ≡ position → recent ≡ last_seven x → LanesStandFor old x
     → LanesStandFor new (x ++ block) × (after ≡ last_seven (x ++ block))
-        × AreCandidatesBehind position (x ++ block) (items_of found))
+    × AreCandidatesBehind position (x ++ block) (items_of found))
 gathered items_of position old mid new recent after block each last (Err e) kept alike are = tt
 gathered items_of position old mid new recent after block each last (Ok found) kept alike are = λ x size is stand. (
   each_stands position old mid new recent block each kept alike x size is stand,

@@ -1,6 +1,6 @@
 -- Whether a frame ends with the last of some bits can be decided.
-use Rattle.std.proofs.Common.{◌≡◌, ℕ, ◌-◌, ◌<◌, Bool, true, false, Option, Some, None, List, [], ◌∷◌, ◌++◌, length,
-    take, inl, inr, refl, ap, subst, sym, ◌∙◌, arith, length-append, true≢false}
+use Rattle.std.proofs.Common.{◌≡◌, ℕ, ◌-◌, ◌<◌, Bool, true, false, Option, Some, None, List, [], ◌∷◌, ◌++◌, length}
+use Rattle.std.proofs.Common.{take, inl, inr, refl, ap, subst, sym, ◌∙◌, arith, length-append, true≢false}
 use Rattle.std.specs.Prelude.{◌⊎◌}
 use Rattle.std.specs.List.{All}
 use Rattle.std.proofs.lemmas.Bool.{cases_eq, cases_lt}
@@ -65,7 +65,7 @@ unfolding octets_in
 octets_closed content octets frame is =
     let whole : whole_octets content ≡ with_fcs octets =
     ap whole_octets is ∙ whole_octets-sent_bits (with_fcs octets) flag_start (with_fcs_fits octets frame.octets_fit)
-        (omega arith) in
+    (omega arith) in
     ap (λ xs. take (length xs - 2) xs) whole ∙ without_fcs octets
 
 closes : (line : Line) → ((octets : List ℕ) × ClosesFrame line octets)
@@ -86,7 +86,7 @@ closes line = go line.content refl
             let same : Some content ≡ Some (sent_bits (with_fcs octets) ++ flag_start) = sym is ∙ h.content in
             let contents : content ≡ sent_bits (with_fcs octets) ++ flag_start = cc same in
             differ (contents ∙ ap (λ o. sent_bits (with_fcs o) ++ flag_start)
-                (sym (octets_closed content octets h.frame contents))))
+            (sym (octets_closed content octets h.frame contents))))
       ]
     ]
 
@@ -103,7 +103,7 @@ ends_on_zero line = elim (cases_eq line.ones 6) [
 -- one bit more ends a frame, or none
 frame_at_bit : (bits : List Bool) (bit : Bool)
     → ((octets : List ℕ) × EndsFrame (bits ++ bit ∷ []) octets)
-        ⊎ ((octets : List ℕ) → EndsFrame (bits ++ bit ∷ []) octets → ⊥)
+    ⊎ ((octets : List ℕ) → EndsFrame (bits ++ bit ∷ []) octets → ⊥)
 frame_at_bit bits true = inr (λ octets ends. true≢false (frame_told bits true octets ends).0)
 frame_at_bit bits false = elim (ends_on_zero (line_after bits)) [
   | inr against ↦ inr (λ octets ends. against (frame_told bits false octets ends).1)
@@ -129,4 +129,4 @@ frame_or_none [] = inr (λ octets ends.
 frame_or_none (bit ∷ bits) =
     let h = pushed bit bits in
     subst (λ b. ((octets : List ℕ) × EndsFrame b octets) ⊎ ((octets : List ℕ) → EndsFrame b octets → ⊥)) (sym h.2)
-        (frame_at_bit h.0 h.1)
+    (frame_at_bit h.0 h.1)

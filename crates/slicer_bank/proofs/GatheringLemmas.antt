@@ -1,13 +1,13 @@
 -- Eight lanes that are visited one after another; and what they found, put into the order of its ends.
-use Rattle.std.proofs.Common.{◌≡◌, ◌≢◌, ℕ, zero, suc, ◌+◌, ◌*◌, ◌<◌, ◌≤◌, List, [], ◌∷◌, ◌++◌, length, get_or, set,
-    take, map, refl, ap, sym, ◌∙◌, arith, subst, inl, inr, get_or-set_same, get_or-set_other}
+use Rattle.std.proofs.Common.{◌≡◌, ◌≢◌, ℕ, zero, suc, ◌+◌, ◌*◌, ◌<◌, ◌≤◌, List, [], ◌∷◌, ◌++◌, length, get_or, set}
+use Rattle.std.proofs.Common.{take, map, refl, ap, sym, ◌∙◌, arith, subst, inl, inr, get_or-set_same, get_or-set_other}
 use Rattle.std.specs.Prelude.{◌==◌}
 use Rattle.std.specs.List.{All, AllPairs, Contains, IsDistinct, flat_map}
 use Rattle.std.specs.List.Sorted.{IsPermutation, IsNonDecreasingBy}
 use Rattle.std.proofs.lemmas.Bool.{cases_lt, cases_eq}
 use Rattle.std.proofs.lemmas.Bool.Decides.{Decides-eqb}
-use Rattle.std.proofs.lemmas.List.{get_or-map, get_or_default, length-map, length-set, take_all, take_more,
-    flat_map_more}
+use Rattle.std.proofs.lemmas.List.{get_or-map, get_or_default, length-map, length-set, take_all, take_more}
+use Rattle.std.proofs.lemmas.List.{flat_map_more}
 use Rattle.std.proofs.lemmas.List.Elements.{All-nil, All-append, Contains-append_left, Contains-append_right}
 use Rattle.std.proofs.lemmas.List.Sorted.{IsPermutation-map, All-permutation}
 use Rattle.std.proofs.lemmas.Map.Keys.{IsDistinct-IsPermutation}
@@ -61,8 +61,12 @@ pub record Visited {X : Type 0} (Did : ℕ → X → X → Type 0) (old now : Li
 
 pub visited_none : {X : Type 0} (Did : ℕ → X → X → Type 0) (lanes : List X) → length lanes ≡ 8
     → Visited Did lanes lanes 0
-visited_none Did lanes eight = record { eight = eight; size = eight; done = λ k d l. absurd (omega arith);
-    rest = λ k d le l. refl }
+visited_none Did lanes eight = record {
+  eight = eight;
+  size = eight;
+  done = λ k d l. absurd (omega arith);
+  rest = λ k d le l. refl;
+}
 
 -- the next lane is as it was
 pub visited_here : {X : Type 0} (Did : ℕ → X → X → Type 0) (old now : List X) (n : ℕ) (was d : X)
@@ -83,11 +87,11 @@ changed R old now n k lane d l here other = elim (cases_eq k n) [
 pub alike_more : {X : Type 0} (Alike : X → X → Type 0) (Did : ℕ → X → X
     → Type 0) (old now : List X) (n : ℕ) (was lane : X) → Visited Did old now n → n < 8 → Alike (get_or now n was) lane
     → ((k : ℕ) (d : X) → k < 8 → Alike (get_or old k d) (get_or now k d)) → (k : ℕ) (d : X) → k < 8
-        → Alike (get_or old k d) (get_or (set now n lane) k d)
+    → Alike (get_or old k d) (get_or (set now n lane) k d)
 alike_more Alike Did old now n was lane h l alike each k d m =
     let size = h.size in
     changed Alike old now n k lane d (omega arith) (subst (λ x. Alike x lane) (visited_here Did old now n was d h l)
-        alike) (λ ne. each k d m)
+    alike) (λ ne. each k d m)
 
 pub visited_more : {X : Type 0} (Did : ℕ → X → X → Type 0) (old now : List X) (n : ℕ) (was lane : X)
     → Visited Did old now n → n < 8 → Did n (get_or now n was) lane → Visited Did old (set now n lane) (n + 1)
@@ -100,7 +104,7 @@ visited_more Did old now n was lane h l did =
         | inl e ↦
             subst (λ i. Did i (get_or old i d) (get_or (set now n lane) i d)) (sym e)
             (subst (Did n (get_or old n d)) (sym (get_or-set_same now n lane d (omega arith)))
-                (subst (λ x. Did n x lane) (visited_here Did old now n was d h l) did))
+            (subst (λ x. Did n x lane) (visited_here Did old now n was d h l) did))
         | inr ne ↦ subst (Did k (get_or old k d)) (sym (get_or-set_other now n k lane d ne)) (h.done k d (omega arith))
       ];
       rest = λ k d le m. get_or-set_other now n k lane d (λ e. omega arith) ∙ h.rest k d (omega arith) m;
@@ -110,12 +114,12 @@ visited_more Did old now n was lane h l did =
 pub found_more : {X Y : Type 0} (Did : ℕ → X → X → Type 0) (found_by : X
     → List Y) (old now : List X) (n : ℕ) (was : X) (found after : List Y) → Visited Did old now n → n < 8
     → found ≡ flat_map found_by (take n old) → after ≡ found ++ found_by (get_or now n was)
-        → after ≡ flat_map found_by (take (n + 1) old)
+    → after ≡ flat_map found_by (take (n + 1) old)
 found_more Did found_by old now n was found after h l gathered more =
     let eight = h.eight in
     more ∙ ap (λ c. c ++ found_by (get_or now n was)) gathered
-        ∙ ap (λ x. flat_map found_by (take n old) ++ found_by x) (visited_here Did old now n was was h l)
-        ∙ flat_more found_by old n was (omega arith)
+    ∙ ap (λ x. flat_map found_by (take n old) ++ found_by x) (visited_here Did old now n was was h l)
+    ∙ flat_more found_by old n was (omega arith)
 
 -- all eight were visited
 pub all_visited : {X : Type 0} (Did : ℕ → X → X → Type 0) (old now : List X) (n : ℕ) → Visited Did old now n → n ≡ 8
@@ -138,17 +142,17 @@ apart_from found_by first [] of_lane le = λ i j d ij jl. absurd (omega arith)
 apart_from found_by first (x ∷ lanes) of_lane le =
     let mine = of_lane 0 x (omega arith) in
     let later : All (λ item. (first < item.offset) × (item.offset < 8)
-        × ((windows : ℕ) × (item.end ≡ item.offset + 8 * windows))) (flat_map found_by lanes)
+    × ((windows : ℕ) × (item.end ≡ item.offset + 8 * windows))) (flat_map found_by lanes)
     = flat_all (λ item. (first < item.offset) × (item.offset < 8)
-        × ((windows : ℕ) × (item.end ≡ item.offset + 8 * windows))) found_by lanes
+    × ((windows : ℕ) × (item.end ≡ item.offset + 8 * windows))) found_by lanes
     (λ k d l i e il. let p = (of_lane (suc k) d (omega arith)).each i e il in let o = p.0 in let ends = p.1.1 in
-        (omega arith, omega arith, (p.1.0, omega arith))) in
+    (omega arith, omega arith, (p.1.0, omega arith))) in
     AllPairs-append (λ item later. item.end ≢ later.end) (found_by x) (flat_map found_by lanes)
-        (λ i j d ij jl e. let lt = mine.rising i j d ij jl in omega arith)
+    (λ i j d ij jl e. let lt = mine.rising i j d ij jl in omega arith)
     (apart_from found_by (first + 1) lanes (λ k d l. subst (λ n. IsOfLane n (found_by (get_or lanes k d)))
-        (let z : first + suc k ≡ first + 1 + k = omega arith in z) (of_lane (suc k) d (omega arith))) (omega arith))
+    (let z : first + suc k ≡ first + 1 + k = omega arith in z) (of_lane (suc k) d (omega arith))) (omega arith))
     (λ i j d il jl e. let a = (mine.each i d il).1.1 in let b = later j d jl in let above = b.0 in let below = b.1 in
-        let ends = b.2.1 in omega arith)
+    let ends = b.2.1 in omega arith)
 
 -- the ends of candidates that end apart are apart, and the other way round
 ends_apart : (xs : List Candidate) → AllPairs (λ x y. x.end ≢ y.end) xs → AllPairs (λ m n. m ≢ n) (map (λ y. y.end) xs)
@@ -157,7 +161,7 @@ ends_apart (x ∷ rest) h i j d ij jl e =
     let len = length-map (x ∷ rest) (λ y. y.end) in
     h i j x ij (omega arith)
     (sym (get_or-map (λ y. y.end) (x ∷ rest) i x d (omega arith)) ∙ e
-        ∙ get_or-map (λ y. y.end) (x ∷ rest) j x d (omega arith))
+    ∙ get_or-map (λ y. y.end) (x ∷ rest) j x d (omega arith))
 
 apart_ends : (xs : List Candidate) → AllPairs (λ m n. m ≢ n) (map (λ y. y.end) xs) → AllPairs (λ x y. x.end ≢ y.end) xs
 apart_ends xs h i j d ij jl e =
@@ -171,9 +175,9 @@ apart_moved : (xs ys : List Candidate) → IsPermutation xs ys → AllPairs (λ 
 apart_moved xs ys moved h =
     let ends : List Candidate → List ℕ = map (λ y. y.end) in
     let before : IsDistinct (λ m n. m == n) (ends xs) = IsDistinct-from_AllPairs Decides-eqb (ends xs) (ends_apart xs h)
-        in
+    in
     let after : IsDistinct (λ m n. m == n) (ends ys) = IsDistinct-IsPermutation (λ m n. m == n) equal_flips (ends xs)
-        (ends ys) (IsPermutation-map (λ y. y.end) xs ys moved) before in
+    (ends ys) (IsPermutation-map (λ y. y.end) xs ys moved) before in
     apart_ends ys (AllPairs-from_IsDistinct Decides-eqb (ends ys) after)
   where
     equal_flips : (m n : ℕ) → (m == n) ≡ (n == m)
@@ -186,16 +190,16 @@ apart_moved xs ys moved h =
 pub stands_in_order : {X : Type 0} (found_by : X → List Candidate) (lanes : List X) (sorted : List Candidate)
     → length lanes ≡ 8 → ((k : ℕ) (d : X) → k < 8 → IsOfLane k (found_by (get_or lanes k d)))
     → IsPermutation (flat_map found_by lanes) sorted → IsNonDecreasingBy (λ y. y.end) sorted
-        → AllPairs (λ item later. standing item < standing later) sorted
+    → AllPairs (λ item later. standing item < standing later) sorted
 stands_in_order found_by lanes sorted eight of_lane moved rises i j d ij jl =
     let apart : (get_or sorted i d).end ≢ (get_or sorted j d).end
     = apart_moved (flat_map found_by lanes) sorted moved
     (apart_from found_by 0 lanes (λ k e l. subst (λ n. IsOfLane n (found_by (get_or lanes k e)))
-        (let z : k ≡ 0 + k = omega arith in z) (of_lane k e (omega arith))) (omega arith)) i j d ij jl in
+    (let z : k ≡ 0 + k = omega arith in z) (of_lane k e (omega arith))) (omega arith)) i j d ij jl in
     let small : All (λ item. item.offset < 8) sorted
     = All-permutation (λ item. item.offset < 8) (flat_map found_by lanes) sorted moved
     (flat_all (λ item. item.offset < 8) found_by lanes (λ k e l m f ml. let o =
-        ((of_lane k e (omega arith)).each m f ml).0 in omega arith)) in
+    ((of_lane k e (omega arith)).each m f ml).0 in omega arith)) in
     let a = small i d (omega arith) in
     let le = rises i j d (omega arith) jl in
     elim (cases_lt (get_or sorted i d).end (get_or sorted j d).end) [

@@ -19,12 +19,15 @@ frame_is_told bits bit Flag octets h e = absurd (h.1 octets e)
 frame_is_told bits bit Abort octets h e =
     let zero_bit : bit ≡ false = (frame_told bits bit octets e).0 in
     let none : run_of_ones (bits ++ bit ∷ []) ≡ 0 = ap (λ b. run_of_ones (bits ++ b ∷ [])) zero_bit
-        ∙ run-push_zero bits in
+    ∙ run-push_zero bits in
     absurd (omega arith)
 frame_is_told bits bit NoEvent octets h e =
-    absurd (h.0 (e.0 ++ (flag ++ frame_bits octets), e.1
-        ∙ ap (λ t. e.0 ++ t) (sym (append_assoc flag (frame_bits octets) flag))
-        ∙ sym (append_assoc e.0 (flag ++ frame_bits octets) flag)))
+    absurd (h.0 (
+      e.0 ++ (flag ++ frame_bits octets),
+      e.1
+          ∙ ap (λ t. e.0 ++ t) (sym (append_assoc flag (frame_bits octets) flag))
+          ∙ sym (append_assoc e.0 (flag ++ frame_bits octets) flag),
+    ))
 
 -- and so does the test of that event
 pub test_of_frame : (bits : List Bool) (bit : Bool) (event : Event) (octets : List ℕ)

@@ -1,6 +1,6 @@
 -- The marks of lanes set one after another.
-use Rattle.std.proofs.Common.{◌≡◌, ℕ, ◌+◌, ◌<◌, ◌≤◌, List, length, get_or, set, refl, ap, sym, ◌∙◌, arith, inl, inr,
-    get_or-set_same, get_or-set_other}
+use Rattle.std.proofs.Common.{◌≡◌, ℕ, ◌+◌, ◌<◌, ◌≤◌, List, length, get_or, set, refl, ap, sym, ◌∙◌, arith, inl, inr}
+use Rattle.std.proofs.Common.{get_or-set_same, get_or-set_other}
 use Rattle.std.proofs.lemmas.Bool.{cases_eq}
 use Rattle.std.proofs.lemmas.List.{length-set}
 use Rattle.frame_merge.specs.declared.candidate.Candidate.{Candidate}
@@ -16,13 +16,17 @@ pub record HasMarked (initial now : Held) (positions : List ℕ) (n : ℕ) : Typ
 
 pub has_marked_none : (initial : Held) (positions : List ℕ) → length initial.marks ≡ 8
     → HasMarked initial initial positions 0
-has_marked_none initial positions eight = record { size = eight; done = λ k l. absurd (omega arith); rest = λ k l. refl;
-    stands_for = λ puts given h. h }
+has_marked_none initial positions eight = record {
+  size = eight;
+  done = λ k l. absurd (omega arith);
+  rest = λ k l. refl;
+  stands_for = λ puts given h. h;
+}
 
 pub has_marked_more : (initial was now : Held) (positions : List ℕ) (n position : ℕ) → HasMarked initial was positions n
     → n < 8 → position ≡ get_or positions n 0 → now.marks ≡ set was.marks n position
     → ((puts given : List Candidate) → StandsFor was puts given → StandsFor now puts given)
-        → HasMarked initial now positions (n + 1)
+    → HasMarked initial now positions (n + 1)
 has_marked_more initial was now positions n position h l is marks step =
     let size = h.size in
     record {

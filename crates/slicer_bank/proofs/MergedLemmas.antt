@@ -1,21 +1,21 @@
 -- The merged candidates of samples, and of these with more samples.
-use Rattle.std.proofs.Common.{◌≡◌, ℕ, ◌+◌, ◌<◌, ◌≤◌, ℤ, List, [], ◌∷◌, ◌++◌, true, false, length, ap, sym, ◌∙◌, arith,
-    subst, cond, refl, length-append, get_or, zero, suc, ◌&&◌, append_assoc, Bool}
+use Rattle.std.proofs.Common.{◌≡◌, ℕ, ◌+◌, ◌<◌, ◌≤◌, ℤ, List, [], ◌∷◌, ◌++◌, true, false, length, ap, sym, ◌∙◌, arith}
+use Rattle.std.proofs.Common.{subst, cond, refl, length-append, get_or, zero, suc, ◌&&◌, append_assoc, Bool}
 use Rattle.std.specs.Prelude.{nat_lt, nat_le}
 use Rattle.std.specs.List.{All, Contains, filter}
 use Rattle.std.specs.List.Sorted.{IsNonDecreasingBy}
 use Rattle.std.proofs.Math.Bool.{and-false}
 use Rattle.std.proofs.lemmas.Bool.{ltb-true, lt-leb, lt-ltb, le-ltb}
 use Rattle.std.proofs.lemmas.List.{append-nil, append_cancel_left}
-use Rattle.std.proofs.lemmas.List.Elements.{All-weaker, All-head, All-tail, All-filter, filter-append, filter_passes,
-    Contains-append_right}
+use Rattle.std.proofs.lemmas.List.Elements.{All-weaker, All-head, All-tail, All-filter, filter-append, filter_passes}
+use Rattle.std.proofs.lemmas.List.Elements.{Contains-append_right}
 use Rattle.std.proofs.lemmas.List.Kept.{AllPairs-filter}
 use Rattle.frame_merge.specs.declared.candidate.Candidate.{Candidate}
 use Rattle.frame_merge.specs.Order.{standing}
 use Rattle.frame_merge.specs.Merged.{merged, merged_after, below, not_below, between}
 use Rattle.frame_merge.proofs.Ordering.{rising_ends}
-use Rattle.frame_merge.proofs.Merging.{merged_after-append, merged-rising, below_none, below_between, between_all,
-    All-merged}
+use Rattle.frame_merge.proofs.Merging.{merged_after-append, merged-rising, below_none, below_between, between_all}
+use Rattle.frame_merge.proofs.Merging.{All-merged}
 use Rattle.frame_merge.proofs.Taking.{below_all}
 use Rattle.frame_merge.proofs.Forgetting.{below_then_rest}
 use Rattle.slicer_bank.specs.Candidates.{IsCandidate, AreCandidates, AreCandidatesBehind}
@@ -45,7 +45,7 @@ below_more position items found late =
     ap (below position) (merged_after-append [] items found)
     ∙ filter-append _ (merged items) (merged_after items found)
     ∙ ap (λ t. below position (merged items) ++ t) (below_none position (merged_after items found)
-        (All-merged (λ y. position ≤ y.end) items found late))
+    (All-merged (λ y. position ≤ y.end) items found late))
     ∙ append-nil (below position (merged items))
 
 -- what is given next, if so much was given before
@@ -53,7 +53,7 @@ pub next_is : (from to : ℕ) (given ready zs : List Candidate) → from ≤ to 
     → given ≡ below from zs → given ++ ready ≡ below to zs → ready ≡ between from to zs
 next_is from to given ready zs le rises before total =
     append_cancel_left (below from zs) ready (between from to zs) (ap (λ t. t ++ ready) (sym before) ∙ total
-        ∙ sym (below_between from to zs le rises))
+    ∙ sym (below_between from to zs le rises))
 
 -- what a block settles
 pub block_gives : (x y : List ℤ) (items found ready : List Candidate) → AreCandidates x items
@@ -67,7 +67,7 @@ block_gives x y items found ready are new all total = record {
   is = next_is (length x) (length (x ++ y)) (below (length x) (merged items)) ready (merged (items ++ found))
       (omega (arith, length-append x y))
       (rising_merged (x ++ y) (items ++ found) all)
-          (sym (below_more (length x) items found (ends_behind x y found new))) total;
+      (sym (below_more (length x) items found (ends_behind x y found new))) total;
 }
 
 -- all end below one past the number of samples
@@ -92,25 +92,25 @@ not_below_none : (position : ℕ) (xs : List Candidate) → All (λ y. y.end < p
 not_below_none position [] h = refl
 not_below_none position (x ∷ xs) h =
     ap (λ t. cond t (x ∷ not_below position xs) (not_below position xs))
-        (lt-leb position x.end (All-head (λ y. y.end < position) x xs h))
+    (lt-leb position x.end (All-head (λ y. y.end < position) x xs h))
     ∙ not_below_none position xs (All-tail (λ y. y.end < position) x xs h)
 
 pub nothing_kept : (position : ℕ) (x : List ℤ) (items : List Candidate) → length x < position → AreCandidates x items
     → not_below position items ≡ []
 nothing_kept position x items far are =
     not_below_none position items (All-weaker (λ y. y.end < length x + 1) (λ y. y.end < position) (λ y l. omega arith)
-        items (ends_within x items are))
+    items (ends_within x items are))
 
 pub contains_passing : (p : Candidate → Bool) (xs : List Candidate) (item : Candidate) → Contains xs item
     → p item ≡ true → Contains (filter p xs) item
 contains_passing p [] item (k, l, e) passes = absurd (omega arith)
 contains_passing p (x ∷ xs) item (zero, l, e) passes =
     subst (λ t. Contains (cond t (x ∷ filter p xs) (filter p xs)) item) (sym (ap p e ∙ passes))
-        (0, (let l : 0 < length (x ∷ filter p xs) = omega arith in l), e)
+    (0, (let l : 0 < length (x ∷ filter p xs) = omega arith in l), e)
 contains_passing p (x ∷ xs) item (suc k, l, e) passes =
     let rest = contains_passing p xs item (k, (let l' : k < length xs = omega arith in l'), e) passes in
     elim (p x) as (λ t. Contains (cond t (x ∷ filter p xs) (filter p xs)) item)
-        [ true ↦ Contains-append_right (x ∷ []) (filter p xs) item rest | false ↦ rest ]
+    [ true ↦ Contains-append_right (x ∷ []) (filter p xs) item rest | false ↦ rest ]
 
 -- the candidates of more samples begin with those of the first
 begins : (x y : List ℤ) (items all : List Candidate) → AreCandidates x items → AreCandidates (x ++ y) all
@@ -121,7 +121,7 @@ begins x y items all are whole =
     let behind : AreCandidatesBehind (length x) (x ++ y) late = record {
       each = λ k d l.
           let e = All-filter (λ item. nat_lt (length x) item.end) (λ item. IsCandidate (x ++ y) item × (0 < item.end))
-              all whole.each k d l in
+          all whole.each k d l in
           (e.0, ltb-true (length x) (get_or late k d).end (passes k d l));
       whole = λ item is l. contains_passing (λ other. nat_lt (length x) other.end) all item
           (whole.whole item is (omega arith)) (lt-ltb (length x) item.end l);
@@ -129,7 +129,7 @@ begins x y items all are whole =
           all whole.order;
     } in
     let same : all ≡ items ++ late = one_list (x ++ y) all (items ++ late) whole
-        (candidates_join 0 x y items late (omega arith) are behind) in
+    (candidates_join 0 x y items late (omega arith) are behind) in
     (late, same, ends_behind x y late behind)
 
 -- one stretch and the next are one stretch
@@ -147,7 +147,7 @@ between_late : (from to : ℕ) (zs : List Candidate) → All (λ y. to ≤ y.end
 between_late from to [] h = refl
 between_late from to (x ∷ xs) h =
     ap (λ t. cond (nat_le from x.end && t) (x ∷ between from to xs) (between from to xs))
-        (le-ltb x.end to (All-head (λ y. to ≤ y.end) x xs h))
+    (le-ltb x.end to (All-head (λ y. to ≤ y.end) x xs h))
     ∙ ap (λ t. cond t (x ∷ between from to xs) (between from to xs)) (and-false (nat_le from x.end))
     ∙ between_late from to xs (All-tail (λ y. to ≤ y.end) x xs h)
 
@@ -159,14 +159,14 @@ given_still from to x y items all within h whole =
     let parts = begins x y h.candidates all h.are whole in
     let found : List Candidate = parts.0 in
     let late : All (λ item. to ≤ item.end) found = All-weaker (λ item. length x ≤ item.end) (λ item. to ≤ item.end)
-        (λ item l. omega arith) found parts.2 in
+    (λ item l. omega arith) found parts.2 in
     h.is
     ∙ sym (ap (λ t. between from to (merged t)) parts.1
     ∙ ap (between from to) (merged_after-append [] h.candidates found)
     ∙ filter-append _ (merged h.candidates) (merged_after h.candidates found)
     ∙ ap (λ t. between from to (merged h.candidates) ++ t)
-        (between_late from to (merged_after h.candidates found)
-        (All-merged (λ item. to ≤ item.end) h.candidates found late))
+    (between_late from to (merged_after h.candidates found)
+    (All-merged (λ item. to ≤ item.end) h.candidates found late))
     ∙ append-nil (between from to (merged h.candidates)))
 
 -- what is given of samples is the first part of what is merged of more
@@ -175,9 +175,11 @@ pub given_first : (to : ℕ) (x y : List ℤ) (items all : List Candidate) → t
     → (rest : List Candidate) × (merged all ≡ items ++ rest)
 given_first to x y items all within h whole =
     let same : items ≡ below to (merged all) = given_still 0 to x y items all within h whole
-        ∙ between_all 0 to (merged all) (λ k d l. omega arith) in
-    (not_below to (merged all), sym (below_then_rest to (merged all) (rising_merged (x ++ y) all whole))
-        ∙ ap (λ t. t ++ not_below to (merged all)) (sym same))
+    ∙ between_all 0 to (merged all) (λ k d l. omega arith) in (
+      not_below to (merged all),
+      sym (below_then_rest to (merged all) (rising_merged (x ++ y) all whole))
+          ∙ ap (λ t. t ++ not_below to (merged all)) (sym same),
+    )
 
 -- and what ends below an earlier position is the first part of it
 pub given_early : (early to : ℕ) (x : List ℤ) (items all : List Candidate) → early ≤ to
@@ -189,7 +191,7 @@ given_early early to x items all le is are = is
 pub join : (from middle to : ℕ) (x y : List ℤ) (items more : List Candidate) → from ≤ middle → middle ≤ to
     → middle ≤ length x
     → AreMergedBetween from middle x items → AreMergedBetween middle to (x ++ y) more
-        → AreMergedBetween from to (x ++ y) (items ++ more)
+    → AreMergedBetween from to (x ++ y) (items ++ more)
 join from middle to x y items more le le' within h k = record {
   candidates = k.candidates;
   are = k.are;
@@ -199,6 +201,9 @@ join from middle to x y items more le le' within h k = record {
 }
 
 pub all : (x : List ℤ) (items : List Candidate) → AreMergedBetween 0 (length x + 1) x items → AreMerged x items
-all x items h = record { candidates = h.candidates; are = h.are;
-    is = h.is ∙ between_all 0 (length x + 1) (merged h.candidates) (λ k d l. omega arith)
-    ∙ below_all_of x h.candidates h.are }
+all x items h = record {
+  candidates = h.candidates;
+  are = h.are;
+  is = h.is ∙ between_all 0 (length x + 1) (merged h.candidates) (λ k d l. omega arith)
+      ∙ below_all_of x h.candidates h.are;
+}

@@ -1,6 +1,6 @@
 -- Candidates put into a merger, one after another.
-use Rattle.std.proofs.Common.{◌≡◌, ℕ, ◌+◌, ◌<◌, List, [], ◌∷◌, ◌++◌, length, get_or, append_assoc, sym, subst, ◌∙◌, ap,
-    arith, inl, inr, refl, length-append, ℤ}
+use Rattle.std.proofs.Common.{◌≡◌, ℕ, ◌+◌, ◌<◌, List, [], ◌∷◌, ◌++◌, length, get_or, append_assoc, sym, subst, ◌∙◌, ap}
+use Rattle.std.proofs.Common.{arith, inl, inr, refl, length-append, ℤ}
 use Rattle.std.specs.List.{All, AllPairs}
 use Rattle.std.specs.List.Sorted.{IsNonDecreasingBy}
 use Rattle.std.proofs.lemmas.Bool.{cases_eq}
@@ -33,7 +33,7 @@ pub has_put_more : (initial was now : Held) (all items left rest : List Candidat
     → HasPut initial was all items left count
     → left ≡ item ∷ rest → less + 1 ≡ count
     → now.marks ≡ was.marks → ((puts given : List Candidate) → StandsFor was puts given
-        → StandsFor now (puts ++ item ∷ []) given)
+    → StandsFor now (puts ++ item ∷ []) given)
     → HasPut initial now all (items ++ item ∷ []) rest less
 has_put_more initial was now all items left rest count less item h is fewer same step = record {
   marks = same ∙ h.marks;
@@ -55,9 +55,9 @@ pub next_can_be_put : (initial now : Held) (all items left rest : List Candidate
 next_can_be_put initial now all items left rest count item h is each =
     let whole : items ++ item ∷ rest ≡ all = ap (λ t. items ++ t) (sym is) ∙ h.parts in
     let within : length items < length all = (let l : length (items ++ item ∷ rest) ≡ length all = ap length whole in
-        let m = length-append items (item ∷ rest) in omega arith) in
+    let m = length-append items (item ∷ rest) in omega arith) in
     subst CanBePut (ap (λ t. get_or t (length items) item) (sym whole) ∙ get_or-append_seam items item rest item)
-        (each (length items) item within)
+    (each (length items) item within)
 
 -- a list that strictly rises is in order
 pub rising_strictly : (items : List Candidate) → AllPairs (λ item later. standing item < standing later) items

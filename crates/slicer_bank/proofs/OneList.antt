@@ -1,6 +1,6 @@
 -- Two lists that strictly rise and have the same elements are the same.
-use Rattle.std.proofs.Common.{◌≡◌, ℕ, ◌<◌, ℤ, List, [], ◌∷◌, length, get_or, ap, sym, ◌∙◌, arith, refl, subst, zero,
-    suc}
+use Rattle.std.proofs.Common.{◌≡◌, ℕ, ◌<◌, ℤ, List, [], ◌∷◌, length, get_or, ap, sym, ◌∙◌, arith, refl, subst, zero}
+use Rattle.std.proofs.Common.{suc}
 use Rattle.std.specs.List.{AllPairs, Contains}
 use Rattle.frame_merge.specs.declared.candidate.Candidate.{Candidate}
 use Rattle.frame_merge.specs.Order.{standing}
@@ -49,7 +49,7 @@ same_list (x ∷ xs) (y ∷ ys) rx ry a b =
     let b' : HasAll (x ∷ ys) (x ∷ xs) = subst (λ t. HasAll (t ∷ ys) (x ∷ xs)) (sym head) b in
     let ry' : Rises (x ∷ ys) = subst (λ t. Rises (t ∷ ys)) (sym head) ry in
     ap (λ t. x ∷ t) (same_list xs ys (tail_rises x xs rx) (tail_rises x ys ry') (tail_has x xs ys rx a')
-        (tail_has x ys xs ry' b'))
+    (tail_has x ys xs ry' b'))
     ∙ ap (λ t. t ∷ ys) head
 
 pub one_list : (x : List ℤ) (items others : List Candidate) → AreCandidates x items → AreCandidates x others

@@ -1,14 +1,15 @@
 -- One lane over its own windows: of a piece, and of a block as two pieces.
-use Rattle.std.proofs.Common.{◌≡◌, ℕ, ◌+◌, ◌-◌, ◌*◌, ◌<◌, ◌≤◌, ℤ, pos, List, [], ◌∷◌, ◌++◌, Bool, length, get_or, take,
-    drop, map, ap, sym, ◌∙◌, arith, append_assoc, refl, subst, inl, inr, min, length-append, length-drop}
+use Rattle.std.proofs.Common.{◌≡◌, ℕ, ◌+◌, ◌-◌, ◌*◌, ◌<◌, ◌≤◌, ℤ, pos, List, [], ◌∷◌, ◌++◌, Bool, length, get_or, take}
+use Rattle.std.proofs.Common.{drop, map, ap, sym, ◌∙◌, arith, append_assoc, refl, subst, inl, inr, min, length-append}
+use Rattle.std.proofs.Common.{length-drop}
 use Rattle.std.specs.List.{All}
 use Rattle.std.proofs.lemmas.Bool.{cases_lt}
 use Rattle.std.proofs.Math.Seq.{drop-append-add, drop-append_seam, take-append_seam}
-use Rattle.std.proofs.lemmas.List.{append-nil, drop-append-le, drop-drop, take_more, take_all, length-take-le,
-    length-replicate, take-append-drop, nil_from_length}
+use Rattle.std.proofs.lemmas.List.{append-nil, drop-append-le, drop-drop, take_more, take_all, length-take-le}
+use Rattle.std.proofs.lemmas.List.{length-replicate, take-append-drop, nil_from_length}
 use Rattle.std.proofs.lemmas.List.FromFn.{get_or-map-range_with_len}
-use Rattle.std.proofs.lemmas.List.Elements.{All-nil, All-cons, All-head, All-append, Contains-append_left,
-    Contains-append_right}
+use Rattle.std.proofs.lemmas.List.Elements.{All-nil, All-cons, All-head, All-append, Contains-append_left}
+use Rattle.std.proofs.lemmas.List.Elements.{Contains-append_right}
 use Rattle.tone_table.specs.declared.tone.Tone.{Tone}
 use Rattle.tone_table.specs.declared.tone.Tone.TheVariants.{Mark}
 use Rattle.nrzi_bits.specs.Line.{bits_of}
@@ -39,10 +40,10 @@ windows_none offset n z = record {
 pub windows_join : (offset first middle last : ℕ) (z : List ℤ) (items more : List Candidate) → first ≤ middle
     → middle ≤ last
     → AreOfWindows offset first middle z items → AreOfWindows offset middle last z more
-        → AreOfWindows offset first last z (items ++ more)
+    → AreOfWindows offset first last z (items ++ more)
 windows_join offset first middle last z items more le up h m =
     let P : Candidate → Type 0 = λ item. IsCandidate z item × (item.offset ≡ offset) × (offset + 8 * first < item.end)
-        × (item.end ≤ offset + 8 * last) in
+    × (item.end ≤ offset + 8 * last) in
     record {
       each = All-append P items more
           (λ k d l. let e = h.each k d l in let high = e.3 in (e.0, e.1, e.2, omega arith))
@@ -78,16 +79,19 @@ module _ (offset n end : ℕ) (z : List ℤ) (small : offset < 8) (within : n < 
       let item : Candidate = candidate_at end offset octets in
       let count = length-bits offset z in
       let P : Candidate → Type 0 = λ i. IsCandidate z i × (i.offset ≡ offset) × (offset + 8 * n < i.end)
-          × (i.end ≤ offset + 8 * (n + 1)) in
-      let is : IsCandidate z item = record { offset = small; index = n;
-          ends = record { within = omega arith; end_of = at; frame = ends } } in
+      × (i.end ≤ offset + 8 * (n + 1)) in
+      let is : IsCandidate z item = record {
+        offset = small;
+        index = n;
+        ends = record { within = omega arith; end_of = at; frame = ends };
+      } in
       record {
         each = All-cons P item [] (is, refl, omega arith, omega arith) (All-nil P);
         whole = λ other c o low high.
             let last = last_window other c o low high in
             let same : item ≡ other = ap (candidate_at end offset) (unique other.octets last.0)
             ∙ ap (λ t. candidate_at end t other.octets) (sym o)
-                ∙ ap (λ t. candidate_at t other.offset other.octets) (sym last.1) in
+            ∙ ap (λ t. candidate_at t other.offset other.octets) (sym last.1) in
             (0, omega arith, same);
         order = λ i j d ij jl. absurd (omega arith);
       }
@@ -141,7 +145,7 @@ lane_hears_join offset x a b before mid after h more =
       are = subst (λ t. AreOfWindows offset (windows_in offset (length x)) (windows_in offset (length t)) t
           (h.heard ++ more.heard)) (append_assoc x a b)
           (windows_join offset first middle last ((x ++ a) ++ b) h.heard more.heard le up
-              (windows_more offset first middle (x ++ a) b h.heard (omega arith) h.are) more.are);
+          (windows_more offset first middle (x ++ a) b h.heard (omega arith) h.are) more.are);
     }
 
 -- the samples from a place on, in a piece that begins with the last seven
@@ -195,11 +199,11 @@ pub record OwnHeard (offset position end : ℕ) (piece rest : List ℤ) (initial
       → LaneStandsFor initial (tones_at offset x)
       → LaneStandsFor lane (take taken (tones_at offset (x ++ drop 7 piece)))
       × ((new : List Candidate) × (after ≡ before ++ new)
-          × AreOfWindows offset (windows_in offset position) taken (x ++ drop 7 piece) new)
+      × AreOfWindows offset (windows_in offset position) taken (x ++ drop 7 piece) new)
 
 pub own_none : (offset position end : ℕ) (piece rest : List ℤ) (lane : HeldLane) (found : List Candidate)
     → end ≡ offset + 8 * (windows_in offset position + 1) → rest ≡ drop (end - 1 - position) piece
-        → OwnHeard offset position end piece rest lane lane found found
+    → OwnHeard offset position end piece rest lane lane found found
 own_none offset position end piece rest lane found at is = record {
   taken = windows_in offset position;
   at = at;
@@ -223,7 +227,7 @@ pub own_more : (offset position end next : ℕ) (piece rest window left : List �
     → flags_asked new.deframer ≡ flags_asked old.deframer
     → ((tones : List Tone) → LaneStandsFor old tones → LaneStandsFor new (tones ++ tone_of window ∷ []))
     → ((tones : List Tone) → LaneStandsFor old tones
-        → Adds offset end (bits_of (tones ++ tone_of window ∷ [])) found after)
+    → Adds offset end (bits_of (tones ++ tone_of window ∷ [])) found after)
     → OwnHeard offset position next piece left initial new before after
 own_more offset position end next piece rest window left initial old new before found after small seven_more up enough
     is left_is h bounds same takes adds =
@@ -248,16 +252,16 @@ own_more offset position end next piece rest window left initial old new before 
           let so_far = h.heard x size seven s in
           let done = so_far.1 in
           let len : length z ≡ position + (length piece - 7) =
-              omega (arith, length-append x more, length-drop 7 piece) in
+          omega (arith, length-append x more, length-drop 7 piece) in
           let within : n < windows_in offset (length z) = omega arith in
           let whole : piece ≡ last_seven x ++ more = sym (take-append-drop 7 piece) ∙ ap (λ t. t ++ more) seven in
           let there : window ≡ take 8 (drop (offset + 8 * n) z) = is
-              ∙ ap (take 8) (h.rest_is ∙ stream x more piece (offset + 8 * n) index whole (omega arith)) in
+          ∙ ap (take 8) (h.rest_is ∙ stream x more piece (offset + 8 * n) index whole (omega arith)) in
           let tones : take n (tones_at offset z) ++ tone_of window ∷ [] ≡ take (n + 1) (tones_at offset z) =
-              next_tone offset n z window within there in
+          next_tone offset n z window within there in
           let added : Adds offset end (take (n + 1) (bits offset z)) found after
           = subst (λ b. Adds offset end b found after) (ap bits_of tones ∙ bits_first offset (n + 1) z)
-              (adds (take n (tones_at offset z)) so_far.0) in
+          (adds (take n (tones_at offset z)) so_far.0) in
           let heard = window_heard offset n end z small within at found after added in
           let order : windows_in offset position ≤ n = omega arith in (
             subst (LaneStandsFor new) tones (takes (take n (tones_at offset z)) so_far.0),
@@ -274,7 +278,7 @@ own_more offset position end next piece rest window left initial old new before 
 pub own_all : (offset position end : ℕ) (piece rest : List ℤ) (initial lane : HeldLane) (before after : List Candidate)
     → 7 ≤ length piece → length rest < 8
     → OwnHeard offset position end piece rest initial lane before after
-        → LaneHears offset position (take 7 piece) (drop 7 piece) initial lane before after
+    → LaneHears offset position (take 7 piece) (drop 7 piece) initial lane before after
 own_all offset position end piece rest initial lane before after seven_more few h x size seven s =
     let n : ℕ = h.taken in
     let at = h.at in
@@ -289,7 +293,7 @@ own_all offset position end piece rest initial lane before after seven_more few 
     let len : length z ≡ position + (length piece - 7) = omega (arith, length-append x more, length-drop 7 piece) in
     let last : n ≡ windows_in offset (length z) = omega arith in
     let all : take n (tones_at offset z) ≡ tones_at offset z =
-        take_all n (tones_at offset z) (omega (arith, length-tones_at offset z)) in (
+    take_all n (tones_at offset z) (omega (arith, length-tones_at offset z)) in (
       subst (LaneStandsFor lane) all so_far.0,
       record {
         heard = done.0;
@@ -304,14 +308,14 @@ pub own_first : (offset position : ℕ) (seven first piece : List ℤ) (initial 
     (before after : List Candidate)
     → length seven ≡ 7 → piece ≡ seven ++ first
     → LaneHears offset position (take 7 piece) (drop 7 piece) initial lane before after
-        → LaneHears offset position seven first initial lane before after
+    → LaneHears offset position seven first initial lane before after
 own_first offset position seven first piece initial lane before after size is h =
     let front : take 7 piece ≡ seven = ap (take 7) is ∙ ap (λ n. take n (seven ++ first)) (sym size)
-        ∙ take-append_seam seven first in
+    ∙ take-append_seam seven first in
     let back : drop 7 piece ≡ first = ap (drop 7) is ∙ ap (λ n. drop n (seven ++ first)) (sym size)
-        ∙ drop-append_seam seven first in
+    ∙ drop-append_seam seven first in
     subst (λ t. LaneHears offset position seven t initial lane before after) back
-        (subst (λ t. LaneHears offset position t (drop 7 piece) initial lane before after) front h)
+    (subst (λ t. LaneHears offset position t (drop 7 piece) initial lane before after) front h)
 
 -- and then the block as a piece
 pub own_block : (offset position : ℕ) (seven block : List ℤ) (initial middle lane : HeldLane)
@@ -339,9 +343,9 @@ pub own_found : (offset : ℕ) (x block : List ℤ) (position : ℕ) (before aft
 own_found offset x block position before after size none h =
     let is : h.heard ≡ after = sym (h.found ∙ ap (λ t. t ++ h.heard) none) in
     subst (λ p. AreOfWindows offset (windows_in offset p) (windows_in offset (length (x ++ block))) (x ++ block) after)
-        size
+    size
     (subst (AreOfWindows offset (windows_in offset (length x)) (windows_in offset (length (x ++ block))) (x ++ block))
-        is h.are)
+    is h.are)
 
 -- nothing is left past the end
 pub drop_most : (n place : ℕ) (xs : List ℤ) → n ≡ min (length xs) place → drop n xs ≡ drop place xs

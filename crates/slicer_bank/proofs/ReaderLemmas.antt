@@ -1,6 +1,6 @@
 -- Eight lanes made of eight readers, one after another.
-use Rattle.std.proofs.Common.{◌≡◌, ℕ, ◌+◌, ◌<◌, List, [], ◌∷◌, ◌++◌, refl, ap, sym, ◌∙◌, arith, subst, length, get_or,
-    map, take, drop, replicate, inl, inr}
+use Rattle.std.proofs.Common.{◌≡◌, ℕ, ◌+◌, ◌<◌, List, [], ◌∷◌, ◌++◌, refl, ap, sym, ◌∙◌, arith, subst, length, get_or}
+use Rattle.std.proofs.Common.{map, take, drop, replicate, inl, inr}
 use Rattle.std.specs.List.{All}
 use Rattle.std.proofs.lemmas.Bool.{cases_lt}
 use Rattle.std.proofs.lemmas.List.{take_more, drop-drop, get_or-drop, length_push, map-append, get_or_append_left}
@@ -33,12 +33,12 @@ have_none all flags = record {
 pub have_more : (all left left' : List Reader) (lanes lanes' : List RingLane) (flags n : ℕ) (reader : Reader)
     (lane : RingLane) → HaveLanes all left lanes flags n → n < length all
     → reader ≡ get_or left 0 reader → left' ≡ drop 1 left → lane.reader ≡ reader
-        → ((len : ℕ) → LaneListens len flags n lane) → IsTaken lane → lanes' ≡ lanes ++ lane ∷ []
+    → ((len : ℕ) → LaneListens len flags n lane) → IsTaken lane → lanes' ≡ lanes ++ lane ∷ []
     → HaveLanes all left' lanes' flags (n + 1)
 have_more all left left' lanes lanes' flags n reader lane h l is rest same listens taken pushed =
     let count = h.count in
     let first : reader ≡ get_or all n reader = is ∙ ap (λ r. get_or r 0 reader) h.rest ∙ get_or-drop n all 0 reader
-        ∙ ap (λ i. get_or all i reader) (let e : n + 0 ≡ n = omega arith in e) in
+    ∙ ap (λ i. get_or all i reader) (let e : n + 0 ≡ n = omega arith in e) in
     record {
       rest = rest ∙ ap (drop 1) h.rest ∙ drop-drop 1 n all;
       readers = ap readers_of pushed ∙ map-append (λ x. x.reader) lanes (lane ∷ [])
@@ -51,7 +51,7 @@ have_more all left left' lanes lanes' flags n reader lane h l is rest same liste
         | inr ge ↦
             let e : k ≡ n = omega arith in
             let at : get_or (lanes ++ lane ∷ []) k d ≡ lane = ap (λ i. get_or (lanes ++ lane ∷ []) i d) (e ∙ sym count)
-                ∙ get_or-append_seam lanes lane [] d in
+            ∙ get_or-append_seam lanes lane [] d in
             subst (LaneListens len flags k) (sym at) (subst (λ i. LaneListens len flags i lane) (sym e) (listens len))
       ]);
       taken = subst (All IsTaken) (sym pushed) (All-push IsTaken lanes lane h.taken taken);
@@ -63,10 +63,10 @@ pub nothing_answered : (len : ℕ) (readers : List Reader) → All IsNew readers
 nothing_answered len [] h = refl
 nothing_answered len (r ∷ readers) h =
     ap (λ a. a ∷ map (answers_of len) readers) (ap (map (answer len)) (All-head IsNew r readers h).nothing_read)
-        ∙ ap (λ l. [] ∷ l) (nothing_answered len readers (All-tail IsNew r readers h))
+    ∙ ap (λ l. [] ∷ l) (nothing_answered len readers (All-tail IsNew r readers h))
 
 pub at_the_start : (readers : List Reader) → All IsNew readers → map position_of readers ≡ replicate (length readers) 0
 at_the_start [] h = refl
 at_the_start (r ∷ readers) h =
     ap (λ p. p ∷ map position_of readers) (All-head IsNew r readers h).at_start
-        ∙ ap (λ l. 0 ∷ l) (at_the_start readers (All-tail IsNew r readers h))
+    ∙ ap (λ l. 0 ∷ l) (at_the_start readers (All-tail IsNew r readers h))

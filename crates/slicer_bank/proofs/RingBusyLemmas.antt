@@ -1,6 +1,6 @@
 -- Which of eight lanes that read a ring hold a carrier.
-use Rattle.std.proofs.Common.{◌≡◌, ℕ, ◌+◌, ◌<◌, List, [], ◌∷◌, zero, suc, refl, ap, sym, ◌∙◌, arith, subst, length, inl,
-    inr}
+use Rattle.std.proofs.Common.{◌≡◌, ℕ, ◌+◌, ◌<◌, List, [], ◌∷◌, zero, suc, refl, ap, sym, ◌∙◌, arith, subst, length, inl}
+use Rattle.std.proofs.Common.{inr}
 use Rattle.std.specs.Prelude.{slice_index_or}
 use Rattle.std.proofs.lemmas.Bool.{cases_lt}
 use Rattle.std.proofs.lemmas.List.{get_or-map, length-map}
@@ -29,24 +29,24 @@ answers_at : (len : ℕ) (lanes : List RingLane) (k : ℕ) (d : RingLane) → k 
     → lane_of (answers_by len lanes) k ≡ answers_of len (slice_index_or lanes k d).reader
 answers_at len lanes k d l =
     get_or-map (answers_of len) (readers_of lanes) k d.reader [] (let n = length-map lanes (λ lane. lane.reader) in
-        omega arith)
+    omega arith)
     ∙ ap (answers_of len) (get_or-map (λ lane. lane.reader) lanes k d d.reader l)
 
 carrier_of : (len flags k : ℕ) (lane : RingLane) → LaneListens len flags k lane
     → HoldsCarrier (flags_asked lane.lane.deframer) (stretch_bits lane.lane.offset
-        (last_stretch (answers_of len lane.reader))) → HoldsCarrier flags
-        (stretch_bits k (last_stretch (answers_of len lane.reader)))
+    (last_stretch (answers_of len lane.reader))) → HoldsCarrier flags
+    (stretch_bits k (last_stretch (answers_of len lane.reader)))
 carrier_of len flags k lane h c =
     subst (λ o. HoldsCarrier flags (stretch_bits o (last_stretch (answers_of len lane.reader)))) h.place
     (subst (λ f. HoldsCarrier f (stretch_bits lane.lane.offset (last_stretch (answers_of len lane.reader)))) h.asked c)
 
 carrier_in : (len flags k : ℕ) (lane : RingLane) → LaneListens len flags k lane
     → HoldsCarrier flags (stretch_bits k (last_stretch (answers_of len lane.reader)))
-        → HoldsCarrier (flags_asked lane.lane.deframer) (stretch_bits lane.lane.offset
-        (last_stretch (answers_of len lane.reader)))
+    → HoldsCarrier (flags_asked lane.lane.deframer) (stretch_bits lane.lane.offset
+    (last_stretch (answers_of len lane.reader)))
 carrier_in len flags k lane h c =
     subst (λ f. HoldsCarrier f (stretch_bits lane.lane.offset (last_stretch (answers_of len lane.reader))))
-        (sym h.asked)
+    (sym h.asked)
     (subst (λ o. HoldsCarrier flags (stretch_bits o (last_stretch (answers_of len lane.reader)))) (sym h.place) c)
 
 pub some_busy : (lanes : List RingLane) (k : ℕ) (d : RingLane) → length lanes ≡ 8 → k < length lanes
@@ -76,7 +76,7 @@ busy_not_none lanes d eight none len flags h busy =
     let mine : LaneListens len flags busy.lane lane = h busy.lane d within in
     none busy.lane d l (last_stretch (answers_of len lane.reader)) mine.stands
     (carrier_in len flags busy.lane lane mine (subst (λ a. HoldsCarrier flags (stretch_bits busy.lane (last_stretch a)))
-        (answers_at len lanes busy.lane d l) busy.holds))
+    (answers_at len lanes busy.lane d l) busy.holds))
 
 pub none_busy : (lanes : List RingLane) → length lanes ≡ 8 → NoneBusy lanes (length lanes) → (len flags : ℕ)
     → LanesListen len flags lanes → IsBusyOnRing flags (answers_by len lanes) → ⊥

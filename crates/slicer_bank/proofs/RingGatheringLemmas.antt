@@ -1,6 +1,6 @@
 -- What the eight lanes of a ring found in a turn, and how far they came.
-use Rattle.std.proofs.Common.{◌≡◌, ℕ, ◌+◌, ◌<◌, List, [], ◌∷◌, ◌++◌, Bool, true, false, ◌&&◌, refl, ap, sym, ◌∙◌, arith,
-    subst, length, get_or, map, set, take, inl, inr, get_or-set_same, get_or-set_other}
+use Rattle.std.proofs.Common.{◌≡◌, ℕ, ◌+◌, ◌<◌, List, [], ◌∷◌, ◌++◌, Bool, true, false, ◌&&◌, refl, ap, sym, ◌∙◌, arith}
+use Rattle.std.proofs.Common.{subst, length, get_or, map, set, take, inl, inr, get_or-set_same, get_or-set_other}
 use Rattle.std.specs.List.{flat_map, list_all}
 use Rattle.std.specs.List.Sorted.{IsPermutation, IsNonDecreasingBy}
 use Rattle.std.proofs.lemmas.Bool.{cases_eq}
@@ -11,8 +11,8 @@ use Rattle.frame_merge.specs.declared.candidate.Candidate.{Candidate}
 use Rattle.slicer_bank.specs.declared.advance.LaneGap.{LaneGap}
 use Rattle.slicer_bank.specs.declared.ring_lane.RingLane.{RingLane}
 use Rattle.slicer_bank.specs.RingJobs.{IsTaken, IsAlike, IsGathered}
-use Rattle.slicer_bank.proofs.GatheringLemmas.{Visited, visited_none, visited_here, visited_more, alike_more,
-    found_more, all_visited, same_list, some_of}
+use Rattle.slicer_bank.proofs.GatheringLemmas.{Visited, visited_none, visited_here, visited_more, alike_more}
+use Rattle.slicer_bank.proofs.GatheringLemmas.{found_more, all_visited, same_list, some_of}
 
 abbrev pub found_by : RingLane → List Candidate
 found_by lane = lane.found.items
@@ -53,9 +53,9 @@ given_none lanes positions eight room = record {
 pub given_more : (old now : List RingLane) (n : ℕ) (positions : List ℕ) (candidates candidates' : List Candidate)
     (gaps gaps' : List LaneGap) (ended ended' : Bool) (was lane : RingLane) (position : ℕ)
     → HaveGiven old now n positions candidates gaps ended → n < 8 → IsAlike (get_or now n was) lane → IsTaken lane
-        → (get_or now n was).spent ≡ false
+    → (get_or now n was).spent ≡ false
     → candidates' ≡ candidates ++ found_by (get_or now n was) → gaps' ≡ gaps ++ gaps_by (get_or now n was)
-        → position ≡ position_of lane.reader → ended' ≡ (ended && lane.ended)
+    → position ≡ position_of lane.reader → ended' ≡ (ended && lane.ended)
     → HaveGiven old (set now n lane) (n + 1) (set positions n position) candidates' gaps' ended'
 given_more old now n positions candidates candidates' gaps gaps' ended ended' was lane position h l alike taken spent
     more_found more_gaps stands over =
@@ -71,12 +71,12 @@ given_more old now n positions candidates candidates' gaps gaps' ended ended' wa
       over = over ∙ ap (λ b. b && lane.ended) h.over ∙ ap (λ b. list_all ended_by (take n old) && b) (alike.ended
           ∙ ap ended_by (here was) ∙ sym (and_true (ended_by (get_or old n was))))
           ∙ sym (list_all-append ended_by (take n old) (get_or old n was ∷ []))
-              ∙ ap (list_all ended_by) (sym (take_more old n was (omega arith)));
+          ∙ ap (list_all ended_by) (sym (take_more old n was (omega arith)));
       room = length-set positions n position ∙ room;
       stand = λ k d m. elim (cases_eq k n) [
         | inl e ↦
             ap (λ i. get_or (set positions n position) i 0) e ∙ get_or-set_same positions n position 0 (omega arith)
-                ∙ stands ∙ ap position_of alike.reader ∙ ap (λ x. position_of x.reader) (here d)
+            ∙ stands ∙ ap position_of alike.reader ∙ ap (λ x. position_of x.reader) (here d)
             ∙ ap (λ i. position_of (get_or old i d).reader) (sym e)
         | inr ne ↦ get_or-set_other positions n k position 0 ne ∙ h.stand k d (omega arith)
       ];
@@ -90,7 +90,7 @@ given_more old now n positions candidates candidates' gaps gaps' ended ended' wa
 pub turn_gathered : (old now : List RingLane) (n : ℕ) (positions : List ℕ) (candidates sorted : List Candidate)
     (gaps : List LaneGap) (ended : Bool)
     → HaveGiven old now n positions candidates gaps ended → n ≡ 8 → IsPermutation candidates sorted
-        → IsNonDecreasingBy (λ item. item.end) sorted → IsGathered old positions sorted gaps ended
+    → IsNonDecreasingBy (λ item. item.end) sorted → IsGathered old positions sorted gaps ended
 turn_gathered old now n positions candidates sorted gaps ended h full moved rises =
     let eight = h.visited.eight in
     let room = h.room in
@@ -101,7 +101,7 @@ turn_gathered old now n positions candidates sorted gaps ended h full moved rise
       spent = λ k d l. (h.visited.done k d (omega arith)).1;
       stand = same_list positions (map (λ lane. position_of lane.reader) old) (omega arith)
           (λ k l. h.stand k one (omega arith)
-              ∙ sym (get_or-map (λ lane. position_of lane.reader) old k one 0 (omega arith)));
+          ∙ sym (get_or-map (λ lane. position_of lane.reader) old k one 0 (omega arith)));
       found = subst (λ items. IsPermutation items sorted) (h.found ∙ ap (flat_map found_by) all) moved;
       rising = rises;
       told = h.told ∙ ap (flat_map gaps_by) all;

@@ -1,11 +1,11 @@
 -- A lane with one answer more, and after a turn of answers.
-use Rattle.std.proofs.Common.{◌≡◌, ℕ, ◌+◌, ◌<◌, ◌≤◌, List, [], ◌∷◌, ◌++◌, ⊎_elim, inl, inr, true, false, refl, ap, sym,
-    ◌∙◌, arith, subst, length, get_or, map, append_assoc, zero, suc}
+use Rattle.std.proofs.Common.{◌≡◌, ℕ, ◌+◌, ◌<◌, ◌≤◌, List, [], ◌∷◌, ◌++◌, ⊎_elim, inl, inr, true, false, refl, ap, sym}
+use Rattle.std.proofs.Common.{◌∙◌, arith, subst, length, get_or, map, append_assoc, zero, suc}
 use Rattle.std.specs.List.{All, Contains}
 use Rattle.std.proofs.lemmas.Bool.{true≢false}
 use Rattle.std.proofs.lemmas.List.{append-nil, length_push, map-append, length-map}
-use Rattle.std.proofs.lemmas.List.Elements.{All-nil, All-map, All-append, All-push, Contains-append_left,
-    Contains-append_right, Contains-append_cases}
+use Rattle.std.proofs.lemmas.List.Elements.{All-nil, All-map, All-append, All-push, Contains-append_left}
+use Rattle.std.proofs.lemmas.List.Elements.{Contains-append_right, Contains-append_cases}
 use Rattle.sample_ring.specs.declared.got.Got.{Got}
 use Rattle.sample_ring.specs.declared.got.Got.TheVariants.{Item, Gap, Empty, End}
 use Rattle.sample_ring.specs.declared.view.Entry.{Entry}
@@ -15,15 +15,15 @@ use Rattle.frame_merge.specs.declared.candidate.Candidate.{Candidate}
 use Rattle.slicer_bank.specs.declared.ring_lane.RingLane.{RingLane}
 use Rattle.slicer_bank.specs.Heard.{candidate_at}
 use Rattle.slicer_bank.specs.HeardOnRing.{IsHeardIn}
-use Rattle.slicer_bank.specs.RingJobs.{EndsWithGot, is_end, is_sample, StaysLane, TookAnswer, ArePlaced, AreHeardPast,
-    WentOn, MadeTurn}
+use Rattle.slicer_bank.specs.RingJobs.{EndsWithGot, is_end, is_sample, StaysLane, TookAnswer, ArePlaced, AreHeardPast}
+use Rattle.slicer_bank.specs.RingJobs.{WentOn, MadeTurn}
 use Rattle.slicer_bank.specs.RingLanes.{answers_of, LaneListens}
 use Rattle.slicer_bank.specs.RingTurns.{MeetsEnd, gaps_of, reads_on, most_reads, Leads}
 use Rattle.slicer_bank.specs.Stretches.{stretch_after, last_stretch, end_of, position_after}
 use Rattle.slicer_bank.specs.StretchLanes.{StretchStandsFor}
 use Rattle.slicer_bank.proofs.CandidateLemmas.{AllPairs-append}
-use Rattle.slicer_bank.proofs.StretchLemmas.{last-more, EndsNow, heard_more, heard_less, heard_new, heard_within,
-    leads_up, leads_more, leads_position, next_is}
+use Rattle.slicer_bank.proofs.StretchLemmas.{last-more, EndsNow, heard_more, heard_less, heard_new, heard_within}
+use Rattle.slicer_bank.proofs.StretchLemmas.{leads_up, leads_more, leads_position, next_is}
 
 pub stays_more : (a b c : RingLane) → StaysLane a b → StaysLane b c → StaysLane a c
 stays_more a b c h k = record { ring = k.ring ∙ h.ring; offset = k.offset ∙ h.offset; flags = k.flags ∙ h.flags }
@@ -47,8 +47,10 @@ went_on_none len lane none no_gaps =
       read = sym (append-nil (reads_of lane.reader));
       forward = refl;
       gaps = no_gaps;
-      places = subst (ArePlaced lane.lane.offset from from) (sym none) record { each = All-nil P;
-          rising = λ i j d ij jl. absurd (omega arith) };
+      places = subst (ArePlaced lane.lane.offset from from) (sym none) record {
+        each = All-nil P;
+        rising = λ i j d ij jl. absurd (omega arith);
+      };
       heard = λ flags h. (
         h,
         subst (AreHeardPast lane.lane.offset from (answers_of len lane.reader)) (sym none)
@@ -81,7 +83,7 @@ module _ (len : ℕ) (before now after : RingLane) (answers : List Got) (got : G
   unfolding new
   new_placed (Item at x) e =
       let f : GoesForward (position_of now.reader) (Item at x) =
-          subst (GoesForward (position_of now.reader)) (sym e) t.forward in
+      subst (GoesForward (position_of now.reader)) (sym e) t.forward in
       let here = f.0 in
       let n : at + 1 ≡ next got = ap next e in
       let p = t.position in
@@ -99,11 +101,11 @@ module _ (len : ℕ) (before now after : RingLane) (answers : List Got) (got : G
       let from : ℕ = position_of before.reader in
       let up : from ≤ position_of now.reader = leads_up from answers (position_of now.reader) on.forward in
       let up' : position_of now.reader ≤ next got = leads_up (position_of now.reader) (got ∷ []) (next got)
-          (t.forward, refl) in
+      (t.forward, refl) in
       let p = t.position in
       let fresh : All IsNext new = new_placed got refl in
       let P : Candidate → Type 0 = λ item. (item.offset ≡ before.lane.offset) × (from < item.end)
-          × (item.end ≤ position_of after.reader) in
+      × (item.end ≤ position_of after.reader) in
       let R : Candidate → Candidate → Type 0 = λ item later. item.end < later.end in
       let few : length new ≡ length t.octets = length-map t.octets (candidate_at (next got) now.lane.offset) in
       let one = t.one in
@@ -114,7 +116,7 @@ module _ (len : ℕ) (before now after : RingLane) (answers : List Got) (got : G
             (λ k d l. let e = fresh k d l in let past = e.1 in (e.0, omega arith, e.2));
         rising = AllPairs-append R now.found.items new on.places.rising (λ i j d ij jl. absurd (omega arith))
             (λ i j d il jl. let e = on.places.each i d il in let up_to = e.2 in let f = fresh j d jl in let past =
-                f.1 in omega arith);
+            f.1 in omega arith);
       }
 
   -- what the lane stands for, and what it heard
@@ -153,18 +155,18 @@ module _ (len : ℕ) (before now after : RingLane) (answers : List Got) (got : G
               (λ k d l. heard_more a got (get_or now.found.items k d) (old.each k d l))
               (All-map (IsHeardIn all) (candidate_at (next got) now.lane.offset) t.octets
               (λ k d l. heard_new a got (candidate_at (next got) now.lane.offset (get_or t.octets k d))
-                  (t.each (last_stretch a) was.stands k d l, ends)));
+              (t.each (last_stretch a) was.stands k d l, ends)));
           whole = λ item o is lt. ⊎_elim (λ (i : IsHeardIn a item). Contains-append_left now.found.items new item
               (old.whole item o i lt))
               (λ (e : EndsNow (last_stretch a) got item).
               let w : t.octets ≡ item.octets ∷ [] = t.whole (last_stretch a) item.octets was.stands
-                  (subst (λ k. EndsWithGot k (last_stretch a) got item.octets) (o ∙ sym so.offset) e.0) in
+              (subst (λ k. EndsWithGot k (last_stretch a) got item.octets) (o ∙ sym so.offset) e.0) in
               let same : candidate_at (next got) now.lane.offset item.octets ≡ item
               = ap (λ k. candidate_at k now.lane.offset item.octets) (ends ∙ sym e.1)
-                  ∙ ap (λ k. candidate_at item.end k item.octets) (so.offset ∙ sym o) in
+              ∙ ap (λ k. candidate_at item.end k item.octets) (so.offset ∙ sym o) in
               let f : List ℕ → Candidate = candidate_at (next got) now.lane.offset in
               Contains-append_right now.found.items new item (subst (λ os. Contains (map f os) item) (sym w)
-                  (0, (let l : 0 < length (f item.octets ∷ []) = omega arith in l), same)))
+              (0, (let l : 0 < length (f item.octets ∷ []) = omega arith in l), same)))
               (heard_less a got item is);
         })
 
@@ -233,7 +235,7 @@ meets_last : (answers : List Got) (got : Got) → All (λ g. reads_on g ≡ true
     → is_end got ≡ true
 meets_last answers got each (total, c) =
     ⊎_elim (λ (b : Contains answers (End total)). absurd (meets_none answers each (total, b)))
-        (λ (b : Contains (got ∷ []) (End total)). here b) (Contains-append_cases answers (got ∷ []) (End total) c)
+    (λ (b : Contains (got ∷ []) (End total)). here b) (Contains-append_cases answers (got ∷ []) (End total) c)
   where
     here : Contains (got ∷ []) (End total) → is_end got ≡ true
     here (zero, l, e) = ap is_end e
@@ -243,8 +245,11 @@ last_meets : (answers : List Got) (got : Got) → is_end got ≡ true → MeetsE
 last_meets answers (Item at x) e = absurd (true≢false (sym e))
 last_meets answers (Gap from to) e = absurd (true≢false (sym e))
 last_meets answers (Empty at) e = absurd (true≢false (sym e))
-last_meets answers (End total) e = (total, Contains-append_right answers (End total ∷ []) (End total)
-    (0, (let l : 0 < length (End total ∷ []) = omega arith in l), refl))
+last_meets answers (End total) e = (
+  total,
+  Contains-append_right answers (End total ∷ []) (End total)
+      (0, (let l : 0 < length (End total ∷ []) = omega arith in l), refl),
+)
 
 -- the lane has met an answer after which it does not read on
 pub turn_over : (len : ℕ) (before now after : RingLane) (count : ℕ) (got : Got) → ReadsOn len before now count
@@ -253,8 +258,13 @@ pub turn_over : (len : ℕ) (before now after : RingLane) (count : ℕ) (got : G
 turn_over len before now after count got r few stays stop t = record {
   answers = r.answers ++ got ∷ [];
   on = went_on_more len before now after r.answers got r.on r.stays stays t;
-  reading = record { on = r.answers; rest = got ∷ []; are = refl; each = r.each;
-      over = inr (got, refl, sym stop, (let c = r.counted in omega arith)) };
+  reading = record {
+    on = r.answers;
+    rest = got ∷ [];
+    are = refl;
+    each = r.each;
+    over = inr (got, refl, sym stop, (let c = r.counted in omega arith));
+  };
   met = (λ e. last_meets r.answers got (sym t.ended ∙ e), λ m. t.ended ∙ meets_last r.answers got r.each m);
 }
 
@@ -264,14 +274,21 @@ pub turn_full : (len : ℕ) (before now : RingLane) (count : ℕ) → ReadsOn le
 turn_full len before now count r full = record {
   answers = r.answers;
   on = r.on;
-  reading = record { on = r.answers; rest = []; are = sym (append-nil r.answers); each = r.each;
-      over = inl (refl, r.counted ∙ full) };
+  reading = record {
+    on = r.answers;
+    rest = [];
+    are = sym (append-nil r.answers);
+    each = r.each;
+    over = inl (refl, r.counted ∙ full);
+  };
   met = (λ e. absurd (true≢false (sym e ∙ r.quiet (omega arith))), λ m. absurd (meets_none r.answers r.each m));
 }
 
 pub grown_more : (len : ℕ) (before now after : RingLane) (count : ℕ) (entry : Entry) → ReadsOn len before now count
     → reads_of after.reader ≡ reads_of now.reader ++ entry ∷ []
     → (entries : List Entry) × (reads_of after.reader ≡ reads_of before.reader ++ entries)
-grown_more len before now after count entry r more =
-    (r.on.entries ++ entry ∷ [], more ∙ ap (λ l. l ++ entry ∷ []) r.on.read
-    ∙ append_assoc (reads_of before.reader) r.on.entries (entry ∷ []))
+grown_more len before now after count entry r more = (
+  r.on.entries ++ entry ∷ [],
+  more ∙ ap (λ l. l ++ entry ∷ []) r.on.read
+      ∙ append_assoc (reads_of before.reader) r.on.entries (entry ∷ []),
+)

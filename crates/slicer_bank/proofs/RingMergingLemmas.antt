@@ -1,6 +1,6 @@
 -- What eight lanes that read a ring hear, merged turn by turn.
-use Rattle.std.proofs.Common.{◌≡◌, ℕ, ◌<◌, ◌≤◌, List, [], ◌∷◌, ◌++◌, refl, ap, sym, ◌∙◌, arith, subst, replicate,
-    get_or, zero, suc, ◌-◌, ◌^◌, inl, inr, le_refl}
+use Rattle.std.proofs.Common.{◌≡◌, ℕ, ◌<◌, ◌≤◌, List, [], ◌∷◌, ◌++◌, refl, ap, sym, ◌∙◌, arith, subst, replicate}
+use Rattle.std.proofs.Common.{get_or, zero, suc, ◌-◌, ◌^◌, inl, inr, le_refl}
 use Rattle.std.specs.Prelude.{fold, min}
 use Rattle.std.specs.List.{All, Contains}
 use Rattle.std.specs.List.Sorted.{IsNonDecreasingBy}
@@ -18,12 +18,12 @@ use Rattle.frame_merge.proofs.Forgetting.{below_then_rest}
 use Rattle.frame_merge.proofs.Taking.{least-each, le-least}
 use Rattle.sample_ring.specs.declared.got.Got.{Got}
 use Rattle.slicer_bank.specs.Stretches.{stretches, position_after}
-use Rattle.slicer_bank.specs.HeardOnRing.{IsHeardIn, IsHeardOnRing, AreHeardOnRing, AreMergedOnRing, AreRestOnRing,
-    lane_of, lane_positions, least_position}
+use Rattle.slicer_bank.specs.HeardOnRing.{IsHeardIn, IsHeardOnRing, AreHeardOnRing, AreMergedOnRing, AreRestOnRing}
+use Rattle.slicer_bank.specs.HeardOnRing.{lane_of, lane_positions, least_position}
 use Rattle.slicer_bank.specs.RingTurns.{Leads, BringsOnRing}
 use Rattle.slicer_bank.specs.RingMerging.{HasMerged}
-use Rattle.slicer_bank.proofs.StretchLemmas.{InStretch, none_ends, heard_longer, heard_shorter, heard_within, leads_up,
-    leads_position, leads_split, leads_join}
+use Rattle.slicer_bank.proofs.StretchLemmas.{InStretch, none_ends, heard_longer, heard_shorter, heard_within, leads_up}
+use Rattle.slicer_bank.proofs.StretchLemmas.{leads_position, leads_split, leads_join}
 use Rattle.slicer_bank.proofs.MergedLemmas.{next_is}
 use Rattle.slicer_bank.proofs.MergingLemmas.{rising_strictly}
 use Rattle.slicer_bank.proofs.OrderingLemmas.{strictly_more, contains_more, all_more, below_more}
@@ -78,7 +78,7 @@ module _ (before now : List (List Got)) (positions : List ℕ) (items : List Can
   led k l =
       let lead = b.lead k l in
       let parts = leads_split 0 (lane_of before k) (lane_of b.reads k) lead.0
-          (subst (λ a. Leads 0 a lead.0) (b.longer.each k l) lead.1) in
+      (subst (λ a. Leads 0 a lead.0) (b.longer.each k l) lead.1) in
       (parts.0, parts.1, (lead.0, parts.2))
 
   heard_still : (item : Candidate) → IsHeardOnRing before item → IsHeardOnRing now item
@@ -143,7 +143,7 @@ module _ (before now : List (List Got)) (positions : List ℕ) (items : List Can
         λ e.
         let same : y.offset ≡ x.offset = omega arith in
         let here : (led y.offset old.offset).0 ≡ (led x.offset new.0.offset).0 =
-            same_end y.offset x.offset old.offset new.0.offset same in
+        same_end y.offset x.offset old.offset new.0.offset same in
         omega arith);
   }
 
@@ -152,9 +152,9 @@ module _ (before now : List (List Got)) (positions : List ℕ) (items : List Can
       let eight = b.longer.eight_before in
       let n = length-map before position_after in
       let at : get_or (lane_positions before) k 0 ≡ (led k l).0 = get_or-map position_after before k [] 0 (omega arith)
-          ∙ leads_position (lane_of before k) (led k l).0 (led k l).1 in
+      ∙ leads_position (lane_of before k) (led k l).0 (led k l).1 in
       let le : least_position before ≤ get_or (lane_positions before) k 0 =
-          least-each (lane_positions before) k 0 (omega arith) in
+      least-each (lane_positions before) k 0 (omega arith) in
       omega arith
 
   late : All (λ item. least_position before ≤ item.end) items
@@ -187,9 +187,9 @@ module _ (before now : List (List Got)) (positions : List ℕ) (items : List Can
       let lead = b.lead k in8 in
       let at : get_or (lane_positions now) k d ≡ (led k in8).2.0
       = get_or-map position_after now k [] d (omega arith)
-          ∙ leads_position (lane_of now k) (led k in8).2.0 (subst (λ a. Leads 0 a (led k in8).2.0)
-          (sym (b.longer.each k in8)) (leads_join 0 (lane_of before k) (lane_of b.reads k) (led k in8).0 (led k in8).2.0
-          (led k in8).1 (led k in8).2.1)) in
+      ∙ leads_position (lane_of now k) (led k in8).2.0 (subst (λ a. Leads 0 a (led k in8).2.0)
+      (sym (b.longer.each k in8)) (leads_join 0 (lane_of before k) (lane_of b.reads k) (led k in8).0 (led k in8).2.0
+      (led k in8).1 (led k in8).2.1)) in
       omega arith)
 
 -- candidates of lanes are in order
@@ -204,9 +204,9 @@ module _ (before now : List (List Got)) (positions : List ℕ) (items ready : Li
     (b : BringsOnRing before now positions items)
     (was put marked after : HeldMerger) (h : HasMerged was before)
     (puts_more : (puts given : List Candidate) → MergerStandsFor was puts given
-        → MergerStandsFor put (puts ++ items) given)
+    → MergerStandsFor put (puts ++ items) given)
     (marks_more : (puts given : List Candidate) → MergerStandsFor put puts given
-        → MergerStandsFor marked puts given) where
+    → MergerStandsFor marked puts given) where
   candidates : List Candidate
   candidates = fold_items before now positions items b h.candidates
 
@@ -235,15 +235,15 @@ module _ (before now : List (List Got)) (positions : List ℕ) (items ready : Li
 
   pub merges_turn : marked.marks ≡ positions → after.marks ≡ marked.marks
       → ((puts given : List Candidate) → MergerStandsFor marked puts given
-          → MergerStandsFor after puts (given ++ ready)
-          × (given ++ ready ≡ below (least marked.marks) (merged (in_order puts))))
+      → MergerStandsFor after puts (given ++ ready)
+      × (given ++ ready ≡ below (least marked.marks) (merged (in_order puts))))
       → HasMerged after now × AreMergedOnRing (least_position before) (least_position now) now ready
   merges_turn marks same takes =
       let step = takes (h.puts ++ items) given stands in
       let at : marked.marks ≡ lane_positions now = marks ∙ b.stand in
       let total : given ++ ready ≡ below (least_position now) (merged candidates) = step.1
-          ∙ ap (λ m. below (least m) (merged (in_order (h.puts ++ items)))) at
-          ∙ ap (λ c. below (least_position now) (merged c)) all in (
+      ∙ ap (λ m. below (least m) (merged (in_order (h.puts ++ items)))) at
+      ∙ ap (λ c. below (least_position now) (merged c)) all in (
         record {
           marks = same ∙ at;
           puts = h.puts ++ items;

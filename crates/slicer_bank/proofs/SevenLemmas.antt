@@ -1,11 +1,11 @@
 -- The last seven of samples, the windows that follow them, and the last seven of more samples.
-use Rattle.std.proofs.Common.{◌≡◌, ℕ, ◌+◌, ◌-◌, ◌*◌, ◌<◌, ◌≤◌, ℤ, pos, List, [], ◌∷◌, ◌++◌, length, get_or, take, drop,
-    ap, sym, ◌∙◌, arith, append_assoc, length-append, length-drop}
+use Rattle.std.proofs.Common.{◌≡◌, ℕ, ◌+◌, ◌-◌, ◌*◌, ◌<◌, ◌≤◌, ℤ, pos, List, [], ◌∷◌, ◌++◌, length, get_or, take, drop}
+use Rattle.std.proofs.Common.{ap, sym, ◌∙◌, arith, append_assoc, length-append, length-drop}
 use borrow.Rule.Slice.PartMut.{put_mid}
 use Rattle.std.proofs.Math.Seq.{drop-append-add, take-add, take-append_seam}
 use Rattle.std.proofs.lemmas.Slice.{take-put_mid}
-use Rattle.std.proofs.lemmas.List.{drop-append-le, drop-drop, drop-take, take_more, take_all, length-take-le,
-    length-replicate, length_push}
+use Rattle.std.proofs.lemmas.List.{drop-append-le, drop-drop, drop-take, take_more, take_all, length-take-le}
+use Rattle.std.proofs.lemmas.List.{length-replicate, length_push}
 use Rattle.offset_slicers.specs.Decision.{tone_of}
 use Rattle.offset_slicers.specs.Windows.{window_at, windows_in, tones_at}
 use Rattle.offset_slicers.proofs.SlicerLemmas.{tones_at-push_one}
@@ -21,8 +21,12 @@ last_seven-append x y =
     ∙ ap (drop (length y)) (drop-append-le (length x) (silence ++ x) y inside)
 
 pub length-last_seven : (x : List ℤ) → length (last_seven x) ≡ 7
-length-last_seven x = omega (arith, length-drop (length x) (silence ++ x), length-append silence x,
-    length-replicate 7 (pos 0))
+length-last_seven x = omega (
+  arith,
+  length-drop (length x) (silence ++ x),
+  length-append silence x,
+  length-replicate 7 (pos 0),
+)
 
 -- without silence, if there are seven
 pub last_seven_whole : (x : List ℤ) → 7 ≤ length x → last_seven x ≡ drop (length x - 7) x
@@ -33,7 +37,7 @@ last_seven_whole x enough =
 -- the window of an offset that a sample ends
 window_is : (offset : ℕ) (x : List ℤ) (sample : ℤ) (w : ℕ) → offset + 8 * w ≡ length x - 7 → offset + 8 * w ≤ length x
     → length (drop (length x - 7) x ++ sample ∷ []) ≤ 8 → window_at offset (x ++ sample ∷ []) w
-        ≡ drop (length x - 7) x ++ sample ∷ []
+    ≡ drop (length x - 7) x ++ sample ∷ []
 unfolding window_at
 window_is offset x sample w at inside short =
     ap (take 8) (drop-append-le (offset + 8 * w) x (sample ∷ []) inside)
@@ -47,10 +51,10 @@ tones_at-seven offset k x sample ends small =
     let at : offset + 8 * windows_in offset (length x) ≡ length x - 7 = omega arith in
     let inside : offset + 8 * windows_in offset (length x) ≤ length x = omega arith in
     let short : length (drop (length x - 7) x ++ sample ∷ []) ≤ 8 =
-        omega (arith, length_push (drop (length x - 7) x) sample, length-drop (length x - 7) x) in
+    omega (arith, length_push (drop (length x - 7) x) sample, length-drop (length x - 7) x) in
     let window : window_at offset (x ++ sample ∷ []) (windows_in offset (length x)) ≡ last_seven x ++ sample ∷ []
     = window_is offset x sample (windows_in offset (length x)) at inside short
-        ∙ ap (λ l. l ++ sample ∷ []) (sym (last_seven_whole x (omega arith))) in
+    ∙ ap (λ l. l ++ sample ∷ []) (sym (last_seven_whole x (omega arith))) in
     tones_at-push_one offset x sample (omega arith) ∙ ap (λ w. tones_at offset x ++ tone_of w ∷ []) window
 
 -- the windows of a piece that begins with the last seven samples: each is the last seven of the samples before it, and
@@ -84,7 +88,7 @@ seven_behind_short x block bridge is =
     let seven : n + 7 - n ≡ 7 = omega arith in
     let sum : n + 7 ≡ 7 + n = omega arith in
     ap (λ m. take m (drop n bridge)) seven ∙ sym (drop-take n 7 bridge) ∙ ap (λ m. drop n (take m bridge)) sum
-        ∙ ap (drop n) is
+    ∙ ap (drop n) is
     ∙ sym (last_seven-append x block)
 
 -- after a longer block: its own last seven
@@ -92,13 +96,13 @@ seven_behind : (x block : List ℤ) → 7 ≤ length block → drop (length bloc
 seven_behind x block long =
     let at : length block ≡ length (last_seven x) + (length block - 7) = omega (arith, length-last_seven x) in
     sym (last_seven-append x block ∙ ap (λ n. drop n (last_seven x ++ block)) at
-        ∙ drop-append-add (last_seven x) block (length block - 7))
+    ∙ drop-append-add (last_seven x) block (length block - 7))
 
 pub seven_behind_long : (x block : List ℤ) → 7 ≤ length block
     → take (length block - (length block - 7)) (drop (length block - 7) block) ≡ last_seven (x ++ block)
 seven_behind_long x block long =
     take_all (length block - (length block - 7)) (drop (length block - 7) block)
-        (omega (arith, length-drop (length block - 7) block)) ∙ seven_behind x block long
+    (omega (arith, length-drop (length block - 7) block)) ∙ seven_behind x block long
 
 -- after the first seven of a block: those
 pub seven_behind_first : (x block : List ℤ) → 7 ≤ length block → take 7 block ≡ last_seven (x ++ take 7 block)
@@ -114,6 +118,6 @@ two_writes seven first zeros front back k size is more =
     let n : length front ≡ 7 = ap length is ∙ size in
     let all : length (front ++ zeros) ≡ 7 + length zeros = length-append front zeros ∙ ap (λ t. t + length zeros) n in
     let whole : take 7 (front ++ zeros) ≡ front = ap (λ t. take t (front ++ zeros)) (sym n)
-        ∙ take-append_seam front zeros in
+    ∙ take-append_seam front zeros in
     take-put_mid 7 k (front ++ zeros) back (7 + length first) (ap (λ t. 7 + length t) (sym more)) (omega arith)
     ∙ ap (λ t. t ++ back) (whole ∙ is) ∙ ap (λ t. seven ++ t) more

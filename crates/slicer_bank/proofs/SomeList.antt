@@ -1,6 +1,6 @@
 -- Samples have a list of candidates: it is found sample by sample.
-use Rattle.std.proofs.Common.{ℕ, ◌+◌, ◌-◌, ◌/◌, ◌%◌, ◌<◌, ◌≤◌, ℤ, List, [], ◌∷◌, ◌++◌, length, inl, inr, refl, subst,
-    sym, arith, append_assoc}
+use Rattle.std.proofs.Common.{ℕ, ◌+◌, ◌-◌, ◌/◌, ◌%◌, ◌<◌, ◌≤◌, ℤ, List, [], ◌∷◌, ◌++◌, length, inl, inr, refl, subst}
+use Rattle.std.proofs.Common.{sym, arith, append_assoc}
 use Rattle.std.proofs.lemmas.Bool.{cases_lt}
 use Rattle.std.proofs.lemmas.List.{append-nil, length_push}
 use Rattle.offset_slicers.specs.Windows.{bits, EndsWindow}
@@ -30,7 +30,7 @@ heard_with x sample = elim (cases_lt (length x + 1) 8) [
           lane_hears offset x sample small window (length x + 1) [] (candidate_at (length x + 1) offset frame.0 ∷ [])
               refl
               (adds_one offset (length x + 1) (bits offset (x ++ sample ∷ [])) []
-                  (candidate_at (length x + 1) offset frame.0 ∷ []) frame.0 refl frame.1
+              (candidate_at (length x + 1) offset frame.0 ∷ []) frame.0 refl frame.1
               (λ o ends. (one_frame (bits offset (x ++ sample ∷ [])) frame.0 o frame.1 ends).0)),
         )
         | inr none ↦ (

@@ -1,6 +1,6 @@
 -- Stretches of answers, and what is heard in them: with one answer more, with many, and up to where.
-use Rattle.std.proofs.Common.{◌≡◌, ℕ, ◌+◌, ◌-◌, ◌^◌, ◌<◌, ◌≤◌, ℤ, List, [], ◌∷◌, ◌++◌, ◌⊎◌, ⊎_elim, inl, inr, refl, ap,
-    sym, ◌∙◌, arith, subst, length, zero, suc, append_assoc}
+use Rattle.std.proofs.Common.{◌≡◌, ℕ, ◌+◌, ◌-◌, ◌^◌, ◌<◌, ◌≤◌, ℤ, List, [], ◌∷◌, ◌++◌, ◌⊎◌, ⊎_elim, inl, inr, refl, ap}
+use Rattle.std.proofs.Common.{sym, ◌∙◌, arith, subst, length, zero, suc, append_assoc}
 use Rattle.std.specs.Prelude.{fold}
 use Rattle.std.specs.List.{Contains}
 use Rattle.std.proofs.lemmas.Bool.{cases_lt}
@@ -19,11 +19,11 @@ use Rattle.slicer_bank.specs.Candidates.{IsCandidate}
 use Rattle.slicer_bank.specs.HeardOnRing.{EndsInStretch, IsHeardIn}
 use Rattle.slicer_bank.specs.RingJobs.{EndsWithGot}
 use Rattle.slicer_bank.specs.RingTurns.{Leads}
-use Rattle.slicer_bank.specs.Stretches.{Stretch, stretch_at, with_sample, stretches_from, stretch_after, last_stretch,
-    end_of, position_after, stretch_bits}
+use Rattle.slicer_bank.specs.Stretches.{Stretch, stretch_at, with_sample, stretches_from, stretch_after, last_stretch}
+use Rattle.slicer_bank.specs.Stretches.{end_of, position_after, stretch_bits}
 use Rattle.slicer_bank.specs.StretchLanes.{EndsLast}
-use Rattle.slicer_bank.proofs.CandidateLemmas.{end_within, candidate_more, candidate_less, ends_with_last,
-    candidate_at_last}
+use Rattle.slicer_bank.proofs.CandidateLemmas.{end_within, candidate_more, candidate_less, ends_with_last}
+use Rattle.slicer_bank.proofs.CandidateLemmas.{candidate_at_last}
 
 -- a stretch with no sample has no bit
 pub no_bits : (offset begin : ℕ) → stretch_bits offset (stretch_at begin) ≡ []
@@ -53,8 +53,14 @@ is_candidate s item h = record {
 in_stretch : (s : Stretch) (item : Candidate) → s.begin ≤ item.end → IsCandidate s.samples (moved s item)
     → InStretch s item
 unfolding moved
-in_stretch s item le c = (c.index, record { within = c.ends.within; end_of = (let e = c.ends.end_of in omega arith);
-    frame = c.ends.frame })
+in_stretch s item le c = (
+  c.index,
+  record {
+    within = c.ends.within;
+    end_of = (let e = c.ends.end_of in omega arith);
+    frame = c.ends.frame;
+  },
+)
 
 -- it ends within the stretch
 pub ends_in : (s : Stretch) (item : Candidate) → InStretch s item → item.end ≤ end_of s
@@ -94,7 +100,7 @@ last_in : (s : Stretch) (item : Candidate) → EndsLast item.offset s item.octet
 unfolding moved
 last_in s item ends e =
     in_stretch s item (omega arith) (candidate_at_last s.samples (moved s item) (omega arith)
-        (let k : item.end - s.begin ≡ length s.samples = omega arith in k) ends)
+    (let k : item.end - s.begin ≡ length s.samples = omega arith in k) ends)
 
 -- ---- the stretches of answers: those that a gap has ended, and the last
 
@@ -149,9 +155,9 @@ unfolding closed
 heard_cases a item h =
     ⊎_elim (λ (c : Contains (closed a) h.stretch). inl (h.stretch, c, (h.index, h.ends)))
     (λ (c : Contains (last_stretch a ∷ []) h.stretch). inr
-        (subst (λ s. InStretch s item) (sym (contains_one (last_stretch a) h.stretch c)) (h.index, h.ends)))
+    (subst (λ s. InStretch s item) (sym (contains_one (last_stretch a) h.stretch c)) (h.index, h.ends)))
     (Contains-append_cases (closed a) (last_stretch a ∷ []) h.stretch
-        (subst (λ l. Contains l h.stretch) (parts (stretch_at 0) a) h.is))
+    (subst (λ l. Contains l h.stretch) (parts (stretch_at 0) a) h.is))
 
 closed_heard : (a : List Got) (item : Candidate) (s : Stretch) → Contains (closed a) s → InStretch s item
     → IsHeardIn a item
@@ -170,7 +176,7 @@ last_heard a item i = record {
   stretch = last_stretch a;
   is = subst (λ l. Contains l (last_stretch a)) (sym (parts (stretch_at 0) a))
       (Contains-append_right (closed a) (last_stretch a ∷ []) (last_stretch a)
-          (0, (let l : 0 < length (last_stretch a ∷ []) = omega arith in l), refl));
+      (0, (let l : 0 < length (last_stretch a ∷ []) = omega arith in l), refl));
   index = i.0;
   ends = i.1;
 }
@@ -195,12 +201,12 @@ heard_more a got item h =
     let all : List Got = a ++ got ∷ [] in
     let ended : List Stretch = ended_by (last_stretch a) got in
     ⊎_elim (λ (c : (s : Stretch) × Contains (closed a) s × InStretch s item). closed_heard all item c.0
-        (closed_more a got c.0 (Contains-append_left (closed a) ended c.0 c.1)) c.2)
+    (closed_more a got c.0 (Contains-append_left (closed a) ended c.0 c.1)) c.2)
     (λ (i : InStretch (last_stretch a) item). ⊎_elim
     (λ (c : Contains ended (last_stretch a)). closed_heard all item (last_stretch a)
-        (closed_more a got (last_stretch a) (Contains-append_right (closed a) ended (last_stretch a) c)) i)
+    (closed_more a got (last_stretch a) (Contains-append_right (closed a) ended (last_stretch a) c)) i)
     (λ (j : InStretch (stretch_after (last_stretch a) got) item). last_heard all item
-        (subst (λ s. InStretch s item) (sym (last-more a got)) j))
+    (subst (λ s. InStretch s item) (sym (last-more a got)) j))
     (grow (last_stretch a) got item i))
     (heard_cases a item h)
 
@@ -226,21 +232,21 @@ closed_less : (a : List Got) (got : Got) (s : Stretch) → Contains (closed (a +
 unfolding closed
 closed_less a got s c =
     ⊎_elim (λ (b : Contains (closed a) s). inl b) (λ (e : Contains (ended_by (last_stretch a) got) s). inr
-        (ended_is (last_stretch a) got s e))
+    (ended_is (last_stretch a) got s e))
     (Contains-append_cases (closed a) (ended_by (last_stretch a) got) s
-        (subst (λ l. Contains l s) (closed-more (stretch_at 0) a got) c))
+    (subst (λ l. Contains l s) (closed-more (stretch_at 0) a got) c))
 
 pub heard_less : (a : List Got) (got : Got) (item : Candidate) → IsHeardIn (a ++ got ∷ []) item
     → IsHeardIn a item ⊎ EndsNow (last_stretch a) got item
 heard_less a got item h =
     ⊎_elim
     (λ (c : (s : Stretch) × Contains (closed (a ++ got ∷ [])) s × InStretch s item). inl
-        (⊎_elim (λ (b : Contains (closed a) c.0). closed_heard a item c.0 b c.2)
+    (⊎_elim (λ (b : Contains (closed a) c.0). closed_heard a item c.0 b c.2)
     (λ (e : last_stretch a ≡ c.0). last_heard a item (subst (λ s. InStretch s item) (sym e) c.2))
-        (closed_less a got c.0 c.1)))
+    (closed_less a got c.0 c.1)))
     (λ (i : InStretch (last_stretch (a ++ got ∷ [])) item). ⊎_elim
-        (λ (j : InStretch (last_stretch a) item). inl (last_heard a item j))
-        (λ (e : EndsNow (last_stretch a) got item). inr e)
+    (λ (j : InStretch (last_stretch a) item). inl (last_heard a item j))
+    (λ (e : EndsNow (last_stretch a) got item). inr e)
     (shrink (last_stretch a) got item (subst (λ s. InStretch s item) (last-more a got) i)))
     (heard_cases (a ++ got ∷ []) item h)
 
@@ -306,7 +312,7 @@ ends_up s (Gap from f ∷ a) to (g, l) t c =
     let lt = g.1 in
     ⊎_elim (λ (h : Contains (s ∷ []) t). let k : end_of s ≡ end_of t = ap end_of (contains_one s t h) in omega arith)
     (λ (h : Contains (stretches_from (stretch_at f) a) t). ends_up (stretch_at f) a to
-        (subst (λ p. Leads p a to) (next_is s (Gap from f) g) l) t h)
+    (subst (λ p. Leads p a to) (next_is s (Gap from f) g) l) t h)
     (Contains-append_cases (s ∷ []) (stretches_from (stretch_at f) a) t c)
 ends_up s (Empty at ∷ a) to (g, l) t c = ends_up s a to (subst (λ p. Leads p a to) g.0 l) t c
 ends_up s (End total ∷ a) to (g, l) t c = ends_up s a to (subst (λ p. Leads p a to) g.0 l) t c
@@ -335,9 +341,9 @@ heard_shorter a (got ∷ more) from to item l (g, m) h le =
     let up : from ≤ next got = leads_up from (got ∷ []) (next got) (g, refl) in
     let rest : IsHeardIn (a ++ got ∷ []) item
     = heard_shorter (a ++ got ∷ []) more (next got) to item l' m
-        (subst (λ k. IsHeardIn k item) (sym (append_assoc a (got ∷ []) more)) h) (omega arith) in
+    (subst (λ k. IsHeardIn k item) (sym (append_assoc a (got ∷ []) more)) h) (omega arith) in
     ⊎_elim (λ (i : IsHeardIn a item). i) (λ (e : EndsNow (last_stretch a) got item). absurd
-        (too_late a got from item p g le e)) (heard_less a got item rest)
+    (too_late a got from item p g le e)) (heard_less a got item rest)
   where
     too_late : (a : List Got) (got : Got) (from : ℕ) (item : Candidate) → position_after a ≡ from → GoesForward from got
         → item.end ≤ from → EndsNow (last_stretch a) got item → ⊥

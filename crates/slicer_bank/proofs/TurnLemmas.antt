@@ -1,6 +1,7 @@
 -- A turn of eight lanes: what each of them made of it is what all of them made.
-use Rattle.std.proofs.Common.{◌≡◌, ℕ, zero, suc, ◌+◌, ◌-◌, ◌*◌, ◌/◌, ◌%◌, ◌^◌, ◌<◌, ◌≤◌, ◌↔◌, List, [], ◌∷◌, ◌++◌,
-    ⊎_elim, inl, inr, Bool, true, false, ◌&&◌, refl, ap, sym, ◌∙◌, arith, subst, length, get_or, map, take, drop}
+use Rattle.std.proofs.Common.{◌≡◌, ℕ, zero, suc, ◌+◌, ◌-◌, ◌*◌, ◌/◌, ◌%◌, ◌^◌, ◌<◌, ◌≤◌, ◌↔◌, List, [], ◌∷◌, ◌++◌}
+use Rattle.std.proofs.Common.{⊎_elim, inl, inr, Bool, true, false, ◌&&◌, refl, ap, sym, ◌∙◌, arith, subst, length}
+use Rattle.std.proofs.Common.{get_or, map, take, drop}
 use Rattle.std.specs.List.{All, flat_map, list_all}
 use Rattle.std.specs.List.Sorted.{IsPermutation, IsNonDecreasingBy}
 use Rattle.std.proofs.lemmas.Bool.{cases_lt, false≢true}
@@ -20,11 +21,11 @@ use Rattle.slicer_bank.specs.declared.advance.LaneGap.{LaneGap}
 use Rattle.slicer_bank.specs.declared.ring_lane.RingLane.{RingLane}
 use Rattle.slicer_bank.specs.HeardOnRing.{IsHeardIn, IsHeardOnRing, AreHeardSince, lane_of, lane_positions}
 use Rattle.slicer_bank.specs.Merging.{CanBePut}
-use Rattle.slicer_bank.specs.RingJobs.{MadeTurn, Advanced, IsAlike, AreHeardPast, IsTaken, AreInPlace, LanesStay,
-    LanesAreReady}
+use Rattle.slicer_bank.specs.RingJobs.{MadeTurn, Advanced, IsAlike, AreHeardPast, IsTaken, AreInPlace, LanesStay}
+use Rattle.slicer_bank.specs.RingJobs.{LanesAreReady}
 use Rattle.slicer_bank.specs.RingLanes.{answers_of, answers_by, readers_of, LaneListens, LanesListen}
-use Rattle.slicer_bank.specs.RingTurns.{IsReading, MeetsEnd, gaps_of, gaps_from, AreGrown, AreLonger, IsTurn, Leads,
-    BringsOnRing, AreForward}
+use Rattle.slicer_bank.specs.RingTurns.{IsReading, MeetsEnd, gaps_of, gaps_from, AreGrown, AreLonger, IsTurn, Leads}
+use Rattle.slicer_bank.specs.RingTurns.{BringsOnRing, AreForward}
 use Rattle.slicer_bank.specs.StretchLanes.{StretchStandsFor}
 use Rattle.slicer_bank.specs.Stretches.{position_after, last_stretch}
 use Rattle.slicer_bank.proofs.GatheringLemmas.{IsOfLane, flat_all, flat_contains, same_list, some_of, stands_in_order}
@@ -48,8 +49,8 @@ choose P d (suc n) f =
         | inr ge ↦
             let e : k ≡ n = omega arith in
             let at : get_or (before.0 ++ last.0 ∷ []) k d ≡ last.0 =
-                ap (λ i. get_or (before.0 ++ last.0 ∷ []) i d) (e ∙ sym count)
-                ∙ get_or-append_seam before.0 last.0 [] d in
+            ap (λ i. get_or (before.0 ++ last.0 ∷ []) i d) (e ∙ sym count)
+            ∙ get_or-append_seam before.0 last.0 [] d in
             subst (P k) (sym at) (subst (λ i. P i last.0) (sym e) last.1)
       ],
     )
@@ -57,22 +58,22 @@ choose P d (suc n) f =
 -- the gaps of lanes, told lane by lane
 flat_gaps : (first : ℕ) (lanes : List RingLane) (reads : List (List Got)) → length reads ≡ length lanes
     → ((k : ℕ) (d : RingLane) → k < length lanes → gaps_by (get_or lanes k d) ≡ gaps_of (first + k) (get_or reads k []))
-        → flat_map gaps_by lanes ≡ gaps_from first reads
+    → flat_map gaps_by lanes ≡ gaps_from first reads
 flat_gaps first [] [] e h = refl
 flat_gaps first [] (r ∷ reads) e h = absurd (omega arith)
 flat_gaps first (x ∷ lanes) [] e h = absurd (omega arith)
 flat_gaps first (x ∷ lanes) (r ∷ reads) e h =
     ap (λ g. g ++ flat_map gaps_by lanes) (h 0 x (omega arith)
-        ∙ ap (λ i. gaps_of i r) (let z : first + 0 ≡ first = omega arith in z))
+    ∙ ap (λ i. gaps_of i r) (let z : first + 0 ≡ first = omega arith in z))
     ∙ ap (λ g. gaps_of first r ++ g)
     (flat_gaps (first + 1) lanes reads (omega arith)
     (λ k d l. h (suc k) d (omega arith) ∙ ap (λ i. gaps_of i (get_or reads k []))
-        (let z : first + suc k ≡ first + 1 + k = omega arith in z)))
+    (let z : first + suc k ≡ first + 1 + k = omega arith in z)))
 
 -- all have ended exactly if each has met the end
 all_ended : (lanes : List RingLane) (reads : List (List Got)) → length reads ≡ length lanes
     → ((k : ℕ) (d : RingLane) → k < length lanes → (ended_by (get_or lanes k d) ≡ true) ↔ MeetsEnd (get_or reads k []))
-        → (list_all ended_by lanes ≡ true) ↔ All MeetsEnd reads
+    → (list_all ended_by lanes ≡ true) ↔ All MeetsEnd reads
 all_ended [] [] e h = (λ t. All-nil MeetsEnd, λ a. refl)
 all_ended [] (r ∷ reads) e h = absurd (omega arith)
 all_ended (x ∷ lanes) [] e h = absurd (omega arith)
@@ -116,19 +117,19 @@ pub position_at : (lanes : List RingLane) (k : ℕ) (d : RingLane) → k < lengt
     → get_or (map position_of (readers_of lanes)) k 0 ≡ position_of (get_or lanes k d).reader
 position_at lanes k d l =
     get_or-map position_of (readers_of lanes) k d.reader 0 (let n = length-map lanes (λ lane. lane.reader) in
-        omega arith) ∙ ap position_of (reader_at lanes k d d.reader l)
+    omega arith) ∙ ap position_of (reader_at lanes k d d.reader l)
 
 pub answers_at : (len : ℕ) (lanes : List RingLane) (k : ℕ) (d : RingLane) → k < length lanes
     → lane_of (answers_by len lanes) k ≡ answers_of len (get_or lanes k d).reader
 answers_at len lanes k d l =
     get_or-map (answers_of len) (readers_of lanes) k d.reader [] (let n = length-map lanes (λ lane. lane.reader) in
-        omega arith) ∙ ap (answers_of len) (reader_at lanes k d d.reader l)
+    omega arith) ∙ ap (answers_of len) (reader_at lanes k d d.reader l)
 
 record_at : (lanes : List RingLane) (k : ℕ) (d : RingLane) (t : Track) → k < length lanes
     → get_or (map record_of (readers_of lanes)) k t ≡ record_of (get_or lanes k d).reader
 record_at lanes k d t l =
     get_or-map record_of (readers_of lanes) k d.reader t (let n = length-map lanes (λ lane. lane.reader) in omega arith)
-        ∙ ap record_of (reader_at lanes k d d.reader l)
+    ∙ ap record_of (reader_at lanes k d d.reader l)
 
 count_answers : (len : ℕ) (lanes : List RingLane) → length (answers_by len lanes) ≡ length lanes
 count_answers len lanes = length-map (readers_of lanes) (answers_of len) ∙ length-map lanes (λ lane. lane.reader)
@@ -175,24 +176,31 @@ module _ (ring : TableId) (len : ℕ) (old mid new : List RingLane) (eight_old :
   lanes_stay k d l =
       let a = advanced k d l in
       let b = alike k d l in
-      let r = ready k d l in
-      (ap (λ (x : Reader). reader_ring x) b.reader ∙ a.stays.ring ∙ r.same_ring, ap (λ x. x.offset) b.lane
-          ∙ a.stays.offset ∙ r.place)
+      let r = ready k d l in (
+        ap (λ (x : Reader). reader_ring x) b.reader ∙ a.stays.ring ∙ r.same_ring,
+        ap (λ x. x.offset) b.lane
+            ∙ a.stays.offset ∙ r.place,
+      )
 
   pub lanes_ready : All IsTaken new → LanesAreReady ring new
-  lanes_ready taken k d l = record { same_ring = (lanes_stay k d l).0; place = (lanes_stay k d l).1;
-      taken = taken k d (omega arith) }
+  lanes_ready taken k d l = record {
+    same_ring = (lanes_stay k d l).0;
+    place = (lanes_stay k d l).1;
+    taken = taken k d (omega arith);
+  }
 
   pub are_grown : AreGrown (map record_of (readers_of old)) (map record_of (readers_of new))
   are_grown k t l =
       let a = advanced k d0 l in
       let b = alike k d0 l in
       let at_old : get_or (map record_of (readers_of old)) k t ≡ record_of (get_or old k d0).reader =
-          record_at old k d0 t (omega arith) in
+      record_at old k d0 t (omega arith) in
       let at_new : get_or (map record_of (readers_of new)) k t ≡ record_of (get_or new k d0).reader =
-          record_at new k d0 t (omega arith) in
-      (a.entries, ap (λ (x : Track). x.reads) at_new ∙ ap (λ (x : Reader). reads_of x) b.reader ∙ a.grown
-          ∙ ap (λ (x : Track). x.reads ++ a.entries) (sym at_old))
+      record_at new k d0 t (omega arith) in (
+        a.entries,
+        ap (λ (x : Track). x.reads) at_new ∙ ap (λ (x : Reader). reads_of x) b.reader ∙ a.grown
+            ∙ ap (λ (x : Track). x.reads ++ a.entries) (sym at_old),
+      )
 
   module _ (spent : All (λ lane. lane.spent ≡ false) mid) where
     made : (k : ℕ) (d : RingLane) → k < 8 → MadeTurn len (get_or old k d) (get_or mid k d)
@@ -203,7 +211,7 @@ module _ (ring : TableId) (len : ℕ) (old mid new : List RingLane) (eight_old :
     answers_now k l =
         let on = (made k d0 l).on in
         ap (answers_of len) (alike k d0 l).reader ∙ ap (map (answer len)) on.read
-            ∙ map-append (answer len) (reads_of (get_or old k d0).reader) on.entries
+        ∙ map-append (answer len) (reads_of (get_or old k d0).reader) on.entries
         ∙ ap (λ a. answers_of len (get_or old k d0).reader ++ a) (sym on.are)
 
     -- what is so of the reads of a lane
@@ -265,10 +273,10 @@ module _ (ring : TableId) (len : ℕ) (old mid new : List RingLane) (eight_old :
         let before = h k d l in
         let m = made k d l in
         let now = (m.on.heard flags (subst (λ o. LaneListens len flags o (get_or old k d)) (sym before.place) before)).0
-            in
+        in
         let b = alike k d l in
         listens_alike flags k (get_or mid k d) (get_or new k d) b
-            (subst (λ o. LaneListens len flags o (get_or mid k d)) before.place now)
+        (subst (λ o. LaneListens len flags o (get_or mid k d)) before.place now)
       where
         listens_alike : (flags k : ℕ) (x y : RingLane) → IsAlike x y → LaneListens len flags k x
             → LaneListens len flags k y
@@ -290,17 +298,17 @@ module _ (ring : TableId) (len : ℕ) (old mid new : List RingLane) (eight_old :
         let n = length-map mid (λ lane. position_of lane.reader) in
         let in8 : k < 8 = omega arith in
         get_or-map (λ lane. position_of lane.reader) mid k d0 0 (omega arith)
-            ∙ ap (λ (r : Reader). position_of r) (sym (alike k d0 in8).reader)
-            ∙ sym (position_at new k d0 (omega arith)))
+        ∙ ap (λ (r : Reader). position_of r) (sym (alike k d0 in8).reader)
+        ∙ sym (position_at new k d0 (omega arith)))
 
     pub are_forward : AreForward (map position_of (readers_of old)) (map position_of (readers_of new))
     are_forward k l =
         let m = made k d0 l in
         let up = leads_up (position_of (get_or old k d0).reader) m.answers (position_of (get_or mid k d0).reader)
-            m.on.forward in
+        m.on.forward in
         let at_old = position_at old k d0 (omega arith) in
         let at_new : get_or (map position_of (readers_of new)) k 0 ≡ position_of (get_or mid k d0).reader =
-            position_at new k d0 (omega arith) ∙ ap (λ (r : Reader). position_of r) (alike k d0 l).reader in
+        position_at new k d0 (omega arith) ∙ ap (λ (r : Reader). position_of r) (alike k d0 l).reader in
         omega arith
 
     -- ---- what they heard
@@ -312,7 +320,7 @@ module _ (ring : TableId) (len : ℕ) (old mid new : List RingLane) (eight_old :
         let in8 : k < 8 = omega arith in
         let m = made k d0 in8 in
         subst (λ (x : RingLane). All (λ item. (item.offset ≡ k) × (position_of (get_or old k d0).reader < item.end)
-            × (item.end ≤ position_of (get_or mid k d0).reader)) (found_by x)) (get_or_default mid k d0 d l)
+        × (item.end ≤ position_of (get_or mid k d0).reader)) (found_by x)) (get_or_default mid k d0 d l)
         (λ i e il. let p = m.on.places.each i e il in (p.0 ∙ (ready k d0 in8).place, p.1, p.2))
 
     pub are_past : All (λ item. get_or (map position_of (readers_of old)) item.offset 0 < item.end)
@@ -322,7 +330,7 @@ module _ (ring : TableId) (len : ℕ) (old mid new : List RingLane) (eight_old :
         flat_all P found_by mid (λ k d l i e il.
         let p = of_place k d l i e il in
         let at : get_or (map position_of (readers_of old)) (get_or (found_by (get_or mid k d)) i e).offset 0
-            ≡ position_of (get_or old k d0).reader
+        ≡ position_of (get_or old k d0).reader
         = ap (λ o. get_or (map position_of (readers_of old)) o 0) p.0 ∙ position_at old k d0 (omega arith) in
         let past = p.1 in
         omega arith)
@@ -340,7 +348,7 @@ module _ (ring : TableId) (len : ℕ) (old mid new : List RingLane) (eight_old :
           end = ⊎_elim (λ (same : position_of (get_or old k d0).reader ≡ position_of (get_or mid k d0).reader). absurd
               (omega arith)) (λ (below : position_of (get_or mid k d0).reader < 2 ^ 48). omega arith)
               (leads_below (position_of (get_or old k d0).reader) m.answers (position_of (get_or mid k d0).reader)
-                  m.on.forward);
+              m.on.forward);
         })
 
     module _ (flags : ℕ) (h : LanesListen len flags old) where
@@ -354,10 +362,10 @@ module _ (ring : TableId) (len : ℕ) (old mid new : List RingLane) (eight_old :
           let b = before k l in
           let now = (m.on.heard flags (subst (λ o. LaneListens len flags o (get_or old k d0)) (sym b.place) b)).1 in
           let at : answers_of len (get_or mid k d0).reader ≡ lane_of (answers_by len new) k =
-              ap (answers_of len) (sym (alike k d0 l).reader) ∙ sym (answers_at len new k d0 (omega arith)) in
+          ap (answers_of len) (sym (alike k d0 l).reader) ∙ sym (answers_at len new k d0 (omega arith)) in
           subst (λ a. AreHeardPast k (position_of (get_or old k d0).reader) a (found_by (get_or mid k d0))) at
           (subst (λ o. AreHeardPast o (position_of (get_or old k d0).reader) (answers_of len (get_or mid k d0).reader)
-              (found_by (get_or mid k d0))) b.place now)
+          (found_by (get_or mid k d0))) b.place now)
 
       old_lead : (k : ℕ) (l : k < 8) → Leads 0 (lane_of (answers_by len old) k) (position_of (get_or old k d0).reader)
       old_lead k l = subst (λ a. Leads 0 a (position_of (get_or old k d0).reader))
@@ -372,7 +380,7 @@ module _ (ring : TableId) (len : ℕ) (old mid new : List RingLane) (eight_old :
           → position_of (get_or old k d0).reader < item.end → IsHeardOnRing (answers_by len old) item → ⊥
       not_before item k l o past was =
           let le = heard_within (lane_of (answers_by len old) k) (position_of (get_or old k d0).reader) item
-              (old_lead k l) (subst (λ i. IsHeardIn (lane_of (answers_by len old) i) item) o was.heard) in
+          (old_lead k l) (subst (λ i. IsHeardIn (lane_of (answers_by len old) i) item) o was.heard) in
           omega arith
 
       -- and one that was not heard before ends past it
@@ -387,7 +395,7 @@ module _ (ring : TableId) (len : ℕ) (old mid new : List RingLane) (eight_old :
                 let m = made k d0 l in
                 let longer : lane_of (answers_by len new) k ≡ lane_of (answers_by len old) k ++ m.answers
                 = answers_at len new k d0 (omega arith) ∙ answers_now k l
-                    ∙ ap (λ a. a ++ m.answers) (sym (answers_at len old k d0 (omega arith))) in
+                ∙ ap (λ a. a ++ m.answers) (sym (answers_at len old k d0 (omega arith))) in
                 absurd (not record {
                   offset = l;
                   heard = heard_shorter (lane_of (answers_by len old) k) m.answers
@@ -405,7 +413,7 @@ module _ (ring : TableId) (len : ℕ) (old mid new : List RingLane) (eight_old :
             each = λ i e il.
                 let place = (of_place k d0 (omega arith) i e il).0 in
                 let ends = at_window (lane_of (answers_by len new) k) (get_or (found_by (get_or mid k d0)) i e)
-                    (omega arith) ((heard_at k l).each i e il) in (
+                (omega arith) ((heard_at k l).each i e il) in (
                   place,
                   (ends.0, ends.1 ∙ ap (λ o. o + 8 * ends.0) place),
                 );
@@ -416,43 +424,45 @@ module _ (ring : TableId) (len : ℕ) (old mid new : List RingLane) (eight_old :
           → IsNonDecreasingBy (λ item. item.end) items → AreHeardSince (answers_by len old) (answers_by len new) items
       heard_since items moved rises =
           let P : Candidate → Type 0 = λ item. IsHeardOnRing (answers_by len new) item
-              × (¬ IsHeardOnRing (answers_by len old) item) in
+          × (¬ IsHeardOnRing (answers_by len old) item) in
           record {
             each = All-permutation P (flat_map found_by mid) items moved (flat_all P found_by mid (λ k d l.
                 let in8 : k < 8 = omega arith in
                 subst (λ (x : RingLane). All P (found_by x)) (get_or_default mid k d0 d l) (λ i e il.
                 let p = of_place k d0 l i e il in
                 let item : Candidate = get_or (found_by (get_or mid k d0)) i e in (
-                  record { offset = (let o = p.0 in let z : item.offset < 8 = omega arith in z);
-                      heard = subst (λ o. IsHeardIn (lane_of (answers_by len new) o) item) (sym p.0)
-                      ((heard_at k in8).each i e il) },
+                  record {
+                    offset = (let o = p.0 in let z : item.offset < 8 = omega arith in z);
+                    heard = subst (λ o. IsHeardIn (lane_of (answers_by len new) o) item) (sym p.0)
+                        ((heard_at k in8).each i e il);
+                  },
                   not_before item k in8 p.0 p.1,
                 ))));
             whole = λ item now not.
                 let l = now.offset in
                 Contains-permutation (flat_map found_by mid) items item moved
                 (flat_contains found_by mid item.offset d0 item (omega arith)
-                    ((heard_at item.offset l).whole item refl now.heard (is_past item now not l)));
+                ((heard_at item.offset l).whole item refl now.heard (is_past item now not l)));
             order = stands_in_order found_by mid items eight_mid of_windows moved rises;
           }
 
       positions_lead : map position_of (readers_of new) ≡ lane_positions (answers_by len new)
       positions_lead =
           same_list (map position_of (readers_of new)) (lane_positions (answers_by len new)) (count_positions new
-              ∙ sym (length-map (answers_by len new) position_after ∙ count_answers len new))
+          ∙ sym (length-map (answers_by len new) position_after ∙ count_answers len new))
           (λ k l.
           let n = count_positions new in
           let m = count_answers len new in
           let in8 : k < 8 = omega arith in
           position_at new k d0 (omega arith)
-              ∙ sym (leads_position (lane_of (answers_by len new) k) (position_of (get_or new k d0).reader)
-              (new_lead k in8))
+          ∙ sym (leads_position (lane_of (answers_by len new) k) (position_of (get_or new k d0).reader)
+          (new_lead k in8))
           ∙ sym (get_or-map position_after (answers_by len new) k [] 0 (omega arith)))
 
       pub brings : (positions : List ℕ) (items : List Candidate) → positions ≡ map (λ lane. position_of lane.reader) mid
           → IsPermutation (flat_map found_by mid) items
           → IsNonDecreasingBy (λ item. item.end) items → BringsOnRing (answers_by len old) (answers_by len new)
-              positions items
+          positions items
       brings positions items stand moved rises = record {
         reads = chosen.0;
         longer = longer;

@@ -1,6 +1,6 @@
 -- What is heard of one window and of some samples.
-use Rattle.std.specs.Prelude.{◌≡◌, ℕ, ◌+◌, ◌*◌, ◌<◌, ◌≤◌, ℤ, List, [], ◌∷◌, ◌++◌, length, map, Bool, Some,
-    slice_index_or}
+use Rattle.std.specs.Prelude.{◌≡◌, ℕ, ◌+◌, ◌*◌, ◌<◌, ◌≤◌, ℤ, List, [], ◌∷◌, ◌++◌, length, map, Bool, Some}
+use Rattle.std.specs.Prelude.{slice_index_or}
 use Rattle.std.specs.List.{All, AllPairs, Contains}
 use Rattle.hdlc_framer.specs.Frames.{EndsFrame}
 use Rattle.frame_merge.specs.declared.candidate.Candidate.{Candidate}

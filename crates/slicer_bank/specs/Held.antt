@@ -1,6 +1,6 @@
 -- What the bank of eight lanes keeps, and what that stands for.
-use Rattle.std.specs.Prelude.{◌≡◌, ℕ, ◌<◌, ℤ, pos, List, ◌++◌, length, drop, replicate, Bool, false, Option,
-    slice_index_or}
+use Rattle.std.specs.Prelude.{◌≡◌, ℕ, ◌<◌, ℤ, pos, List, ◌++◌, length, drop, replicate, Bool, false, Option}
+use Rattle.std.specs.Prelude.{slice_index_or}
 use Rattle.std.specs.List.{All}
 use Rattle.tone_table.specs.declared.tone.Tone.{Tone}
 use Rattle.nrzi_bits.specs.Line.{bits_of, last_tone}

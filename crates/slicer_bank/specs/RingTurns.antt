@@ -1,6 +1,6 @@
 -- One turn of eight lanes that each read a ring: how far each reads, and what it is told of gaps and of the end.
-use Rattle.std.specs.Prelude.{◌≡◌, ◌↔◌, ℕ, ◌+◌, ◌<◌, ◌≤◌, ◌⊎◌, Bool, true, false, List, [], ◌∷◌, ◌++◌, length,
-    slice_index, slice_index_or}
+use Rattle.std.specs.Prelude.{◌≡◌, ◌↔◌, ℕ, ◌+◌, ◌<◌, ◌≤◌, ◌⊎◌, Bool, true, false, List, [], ◌∷◌, ◌++◌, length}
+use Rattle.std.specs.Prelude.{slice_index, slice_index_or}
 use Rattle.std.specs.List.{All, Contains}
 use Rattle.sample_ring.specs.declared.got.Got.{Got}
 use Rattle.sample_ring.specs.declared.got.Got.TheVariants.{Item, Gap, Empty, End}

@@ -11,9 +11,9 @@ ghost use Rattle.slicer_bank.specs.Heard.{HearsAlone, LanesAreAlike, LanesKeep, 
 ghost use Rattle.slicer_bank.specs.Merging.{CanBePut};
 
 use crate::gate::Gate;
-use crate::hearing::keep_last;
 use crate::job::hear_alone;
 use crate::lane::Lane;
+use crate::window_hearing::keep_last;
 use frame_merge::Candidate;
 use std::alloc::Global;
 use std::thread;

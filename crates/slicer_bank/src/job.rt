@@ -9,8 +9,8 @@ ghost use Rattle.slicer_bank.specs.Held.{LaneStandsFor, last_seven};
 ghost use Rattle.slicer_bank.specs.Heard.{AreOfWindows, HearsAlone, LaneHears};
 ghost use Rattle.slicer_bank.specs.Merging.{CanBePut};
 
-use crate::hearing::{bridge, hear};
 use crate::lane::{LANES, Lane};
+use crate::window_hearing::{bridge, hear};
 use frame_merge::Candidate;
 use std::alloc::Global;
 use tnc_base::OutOfMemory;

@@ -12,7 +12,6 @@ mod decoder;
 mod existence;
 mod gate;
 mod gathering;
-mod hearing;
 mod job;
 mod lane;
 mod laws;
@@ -24,6 +23,7 @@ mod ring_merging;
 mod ring_turn;
 mod stretch_hearing;
 mod stretch_lane;
+mod window_hearing;
 
 pub use advance::{Advance, LaneGap};
 pub use bank::Bank;

@@ -1,6 +1,6 @@
 -- The call of a text, as it is defined and as it is parsed.
-use Rattle.std.specs.Prelude.{◌≡◌, ℕ, zero, suc, ◌+◌, ◌<◌, ◌≤◌, ◌==◌, nat_lt, nat_le, Bool, true, false, ◌&&◌, cond,
-    List, [], ◌∷◌, length, map, take, drop, find, option_map, Option, Some, None, All, refl}
+use Rattle.std.specs.Prelude.{◌≡◌, ℕ, zero, suc, ◌+◌, ◌<◌, ◌≤◌, ◌==◌, nat_lt, nat_le, Bool, true, false, ◌&&◌, cond}
+use Rattle.std.specs.Prelude.{List, [], ◌∷◌, length, map, take, drop, find, option_map, Option, Some, None, All, refl}
 use Rattle.std.specs.Char.{to_ascii_uppercase}
 use Rattle.std.specs.List.{list_all, range_with_len}
 use Rattle.std.specs.Str.{bytes_eq, IsAscii, IsUtf8}
@@ -52,11 +52,11 @@ is_character c h = elim (cases_lt c 91) [
 is_name-true : (name : List ℕ) → IsName name → is_name name ≡ true
 is_name-true name h =
     and_from (nat_lt 0 (length name)) (nat_le (length name) 6 && list_all is_call_character name)
-        (let some = h.shortest in grind (arith, nat_tests))
+    (let some = h.shortest in grind (arith, nat_tests))
     (and_from (nat_le (length name) 6) (list_all is_call_character name)
-        (let few = h.longest in grind (arith, nat_tests))
+    (let few = h.longest in grind (arith, nat_tests))
     (list_all-from_AllPass is_call_character name (λ k d within.
-        character_from (get_or name k d) (h.characters k d within))))
+    character_from (get_or name k d) (h.characters k d within))))
 
 IsName-true : (name : List ℕ) → is_name name ≡ true → IsName name
 IsName-true name e =
@@ -96,9 +96,9 @@ found : (ssid : ℕ) → ssid < 16 → told_ssid (ssid_suffix ssid) ≡ Some ssi
 found ssid small =
     let p : ℕ → Bool = λ n. bytes_eq (ssid_suffix ssid) (ssid_suffix n) in
     let place : (j : ℕ) → j < 16 → get_or (range_with_len 0 16) j 0 ≡ j = λ j less. get_or-range_with_len 0 16 j 0 less
-        ∙ from_zero j in
+    ∙ from_zero j in
     cond-false (length (ssid_suffix ssid) == 0) (Some 0) (find p (range_with_len 0 16))
-        (no_zero (length (decimal ssid)))
+    (no_zero (length (decimal ssid)))
     ∙ find_at p (range_with_len 0 16) ssid 0 (omega (arith, length-range_with_len 0 16))
     (λ j less. ap p (place j (omega arith)) ∙ other_suffix j ssid less small)
     (ap p (place ssid small) ∙ (bytes_eq-Decides (ssid_suffix ssid) (ssid_suffix ssid)).1 refl)
@@ -117,7 +117,7 @@ find_from p from (suc count) n e = by_test (p from) refl e (find_from p (from + 
     by_test : (passes : Bool) → p from ≡ passes → cond passes (Some from) (find p (range_with_len (from + 1) count))
         ≡ Some n
         → (find p (range_with_len (from + 1) count) ≡ Some n → (n < from + 1 + count) × (p n ≡ true))
-            → (n < from + suc count) × (p n ≡ true)
+        → (n < from + suc count) × (p n ≡ true)
     by_test true is e rest = let same : from ≡ n = cc in (omega arith, ap p (sym same) ∙ is)
     by_test false is e rest = let h = rest e in (let less = h.0 in omega arith, h.1)
 
@@ -126,7 +126,7 @@ tells_from [] ssid e = (let none : 0 ≡ ssid = cc in omega arith, inl (refl, le
 tells_from (x ∷ xs) ssid e =
     let p : ℕ → Bool = λ n. bytes_eq (x ∷ xs) (ssid_suffix n) in
     let h = find_from p 0 16 ssid (sym (cond-false (length (x ∷ xs) == 0) (Some 0) (find p (range_with_len 0 16))
-        (no_zero (length xs))) ∙ e) in
+    (no_zero (length xs))) ∙ e) in
     (h.0, inr ((bytes_eq-Decides (x ∷ xs) (ssid_suffix ssid)).0 h.1))
 
 -- ---- the call
@@ -137,9 +137,9 @@ unfolding call_of_text
 call_of_text-is text call h =
     let name = name_part text in
     cond-true (is_name name) (option_map (named name) (told_ssid (ssid_part text))) None (ap is_name h.name
-        ∙ is_name-true call.name h.valid.name)
+    ∙ is_name-true call.name h.valid.name)
     ∙ ap (λ (ssid : Option ℕ). option_map (named name) ssid)
-        (told_ssid-from (ssid_part text) call.ssid h.valid.ssid h.ssid)
+    (told_ssid-from (ssid_part text) call.ssid h.valid.ssid h.ssid)
     ∙ ap (λ (n : List ℕ). Some (named n call.ssid)) h.name
 
 -- and no other text has one
@@ -153,8 +153,11 @@ IsCallText-from text call e = by_name (is_name (name_part text)) refl e
     by_ssid (Some ssid) is good e =
         let same : named (name_part text) ssid ≡ call = cc in
         let tells = tells_from (ssid_part text) ssid is in
-        subst (λ (c : Callsign). IsCallText text c) same (record { valid = record { name = good; ssid = tells.0 };
-            name = refl; ssid = tells.1 })
+        subst (λ (c : Callsign). IsCallText text c) same (record {
+          valid = record { name = good; ssid = tells.0 };
+          name = refl;
+          ssid = tells.1;
+        })
 
     by_name : (good : Bool) → is_name (name_part text) ≡ good
         → cond good (option_map (named (name_part text)) (told_ssid (ssid_part text))) None ≡ Some call
@@ -201,7 +204,7 @@ IsAscii-call text call h =
     subst (λ (xs : List ℕ). IsAscii xs) (take-append-drop (dash_place text) text)
     (IsAscii-append (take (dash_place text) text) (drop (dash_place text) text)
     (ascii_capitals (take (dash_place text) text) (subst (λ (xs : List ℕ). All IsCallCharacter xs) (sym h.name)
-        h.valid.name.characters))
+    h.valid.name.characters))
     (ascii_ssid (drop (dash_place text) text) call.ssid h.valid.ssid h.ssid))
 
 -- octets that are no text have no call

@@ -1,6 +1,6 @@
 -- A call that is made, or refused.
-use Rattle.std.specs.Prelude.{◌≡◌, ℕ, ◌&&◌, Bool, true, false, nat_lt, is_some, is_none, Option, Some, None, MatchBool,
-    refl}
+use Rattle.std.specs.Prelude.{◌≡◌, ℕ, ◌&&◌, Bool, true, false, nat_lt, is_some, is_none, Option, Some, None, MatchBool}
+use Rattle.std.specs.Prelude.{refl}
 use Rattle.std.proofs.Common.{sym, ◌∙◌, ap, subst}
 use Rattle.std.proofs.lemmas.Bool.{false≢true}
 use Rattle.agwpe_port.specs.declared.message.AgwMessage.{AgwMessage}
@@ -27,7 +27,7 @@ pub call-unregistered : (id : ℕ) (route : Route) (s : StationState)
     → is_number id (registrar route.local s.registrations) ≡ false → false ≡ may_call id route s
 call-unregistered id route s other =
     ap (λ registered. registered && (is_none (key_between route.local route.remote s.links)
-        && nat_lt (count_of_links s.links) most_links)) (sym other)
+    && nat_lt (count_of_links s.links) most_links)) (sym other)
 
 -- that link exists
 pub call-linked : (id : ℕ) (route : Route) (s : StationState)
@@ -35,9 +35,9 @@ pub call-linked : (id : ℕ) (route : Route) (s : StationState)
     → is_some (key_between route.local route.remote s.links) ≡ true → false ≡ may_call id route s
 call-linked id route s own linked =
     ap (λ vacant. vacant && nat_lt (count_of_links s.links) most_links)
-        (sym (none_there (key_between route.local route.remote s.links) linked))
+    (sym (none_there (key_between route.local route.remote s.links) linked))
     ∙ ap (λ registered. registered && (is_none (key_between route.local route.remote s.links)
-        && nat_lt (count_of_links s.links) most_links)) (sym own)
+    && nat_lt (count_of_links s.links) most_links)) (sym own)
 
 -- else what counts is whether there is room
 pub call-free : (id : ℕ) (route : Route) (s : StationState)
@@ -46,9 +46,9 @@ pub call-free : (id : ℕ) (route : Route) (s : StationState)
     → nat_lt (count_of_links s.links) most_links ≡ may_call id route s
 call-free id route s own free =
     ap (λ vacant. vacant && nat_lt (count_of_links s.links) most_links)
-        (sym (some_there (key_between route.local route.remote s.links) free))
+    (sym (some_there (key_between route.local route.remote s.links) free))
     ∙ ap (λ registered. registered && (is_none (key_between route.local route.remote s.links)
-        && nat_lt (count_of_links s.links) most_links)) (sym own)
+    && nat_lt (count_of_links s.links) most_links)) (sym own)
 
 -- a message that tells no route is refused
 pub call-astray : (id : ℕ) (message : AgwMessage) (called : Option Route) (turn : Turn) → None ≡ called
@@ -64,7 +64,7 @@ call-refused id message route called turn told may =
     let after : Turn = replying id (refused_reply message) turn in
     subst (λ (route : Option Route). IsCall id message route turn after) told
     (subst (λ (may : Bool). MatchBool may (IsCallMade id (called_pid message) route turn after) (after ≡ after))
-        (sym may) refl)
+    (sym may) refl)
 
 -- one that may is made
 pub call-made : (id : ℕ) (message : AgwMessage) (route : Route) (called : Option Route) (turn after : Turn)
@@ -73,7 +73,7 @@ pub call-made : (id : ℕ) (message : AgwMessage) (route : Route) (called : Opti
 call-made id message route called turn after told may made =
     subst (λ (route : Option Route). IsCall id message route turn after) told
     (subst (λ (may : Bool). MatchBool may (IsCallMade id (called_pid message) route turn after)
-        (after ≡ replying id (refused_reply message) turn)) (sym may) made)
+    (after ≡ replying id (refused_reply message) turn)) (sym may) made)
 
 -- what the connection is told then
 pub shows-refused : (parts : Parts) (old new : Out) (turn : Turn) (id : ℕ) (message : AgwMessage) → Shows parts old turn

@@ -1,6 +1,6 @@
 -- A station after an event of one of its links.
-use Rattle.std.specs.Prelude.{◌≡◌, ◌≢◌, ℕ, zero, suc, ◌<◌, Bool, true, false, List, [], ◌∷◌, length, cond, Option, Some,
-    None, IfSome, refl}
+use Rattle.std.specs.Prelude.{◌≡◌, ◌≢◌, ℕ, zero, suc, ◌<◌, Bool, true, false, List, [], ◌∷◌, length, cond, Option, Some}
+use Rattle.std.specs.Prelude.{None, IfSome, refl}
 use Rattle.std.specs.List.{AllZip}
 use Rattle.std.proofs.Common.{sym, ◌∙◌, ap, subst, arith, get_or, set}
 use Rattle.std.proofs.lemmas.List.{get_or-set_same, get_or-set_other, length-set}
@@ -60,7 +60,7 @@ freed-kept old new links key link next (Some k) at same h = record {
 settled_links : (old new : HeldLinks) (links : Links) (key : ℕ) (link : Link) (machine : Machine) (idle : Bool)
     → StandsForLinks old links → link_at key links ≡ Some link → IsSetAt key old new (record link { machine = machine })
     → StandsForLinks (cond idle (record { places = set new.places key None; next = key }) new)
-        (cond idle (without_link key links) (with_link key (record link { machine = machine }) links))
+    (cond idle (without_link key links) (with_link key (record link { machine = machine }) links))
 settled_links old new links key link machine true h at is =
     let within : key < length links.places = within_slots links.places key link at in
     record {
@@ -87,11 +87,14 @@ pub HasAt-set : (old new : HeldLinks) (links : Links) (key : ℕ) (link next : L
     → link_at key links ≡ Some link → IsSetAt key old new next → HasAt key new next
 HasAt-set old new links key link next h at is =
     let within : key < length links.places = within_slots links.places key link at in
-    let inside : key < length old.places = omega (arith, within,
-        AllZip-length StandsForPlace old.places links.places h.places) in
+    let inside : key < length old.places = omega (
+      arith,
+      within,
+      AllZip-length StandsForPlace old.places links.places h.places,
+    ) in
     subst (λ (place : Option OwnedLink). StandsForPlace place (Some next))
-        (sym (ap (λ xs. get_or xs key None) is.places ∙ get_or-set_same old.places key (Some is.held) None inside))
-        is.stands
+    (sym (ap (λ xs. get_or xs key None) is.places ∙ get_or-set_same old.places key (Some is.held) None inside))
+    is.stands
 
 -- the station with the link after its event
 pub shows-settled : (parts : Parts) (out : Out) (turn : Turn) (set_links settled : HeldLinks) (key : ℕ) (link : Link)
@@ -111,7 +114,7 @@ shows-settled parts out turn set_links settled key link machine shows at is same
         links = subst (λ (held : HeldLinks). StandsForLinks held (settled_link key link machine turn.now.links))
             (sym same)
             (settled_links parts.links set_links turn.now.links key link machine (is_idle machine.control.state)
-                h.links at is);
+            h.links at is);
         channel = h.channel;
         dropped = h.dropped;
         ticks = h.ticks;

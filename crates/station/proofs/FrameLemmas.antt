@@ -1,6 +1,6 @@
 -- The octets that are written for a frame are its spelling.
-use Rattle.std.specs.Prelude.{◌≡◌, ℕ, suc, ◌+◌, ◌*◌, ◌<◌, ◌-◌, ◌==◌, false, List, [], ◌∷◌, ◌++◌, length, take, drop,
-    refl}
+use Rattle.std.specs.Prelude.{◌≡◌, ℕ, suc, ◌+◌, ◌*◌, ◌<◌, ◌-◌, ◌==◌, false, List, [], ◌∷◌, ◌++◌, length, take, drop}
+use Rattle.std.specs.Prelude.{refl}
 use Rattle.std.proofs.Common.{sym, ◌∙◌, ap, arith, get_or, eqb}
 use Rattle.std.proofs.Math.Dec.{eqb-suc-suc, eqb-zero-suc}
 use Rattle.std.proofs.lemmas.List.{take-append-drop, take_all, drop-drop, length-drop}
@@ -28,7 +28,7 @@ hop_field-next hop hops k =
     let next = get_or hops k (record { call = record { name = []; ssid = 0 }; done = false }) in
     let place : suc k + 1 ≡ suc (k + 1) = omega arith in
     ap (λ last. field_octets next.call next.done 3 last) (ap (λ n. eqb n (suc (length hops))) place
-        ∙ eqb-suc-suc (k + 1) (length hops))
+    ∙ eqb-suc-suc (k + 1) (length hops))
 
 -- octets whose fields are those of repeaters are these fields one after another
 fields_of : (hops : List Hop) (octets : List ℕ) → length octets ≡ 7 * length hops
@@ -39,8 +39,8 @@ fields_of (hop ∷ []) octets size each = sym (take_all 7 octets (omega arith)) 
 fields_of (hop ∷ next ∷ hops) octets size each =
     sym (take-append-drop 7 octets)
     ∙ ap (λ xs. xs ++ drop 7 octets) (each 0 (omega arith)
-        ∙ ap (λ last. field_octets hop.call hop.done 3 last) (eqb-suc-suc 0 (suc (length hops))
-        ∙ eqb-zero-suc (length hops)))
+    ∙ ap (λ last. field_octets hop.call hop.done 3 last) (eqb-suc-suc 0 (suc (length hops))
+    ∙ eqb-zero-suc (length hops)))
     ∙ ap (λ xs. field_octets hop.call hop.done 3 false ++ xs)
     (fields_of (next ∷ hops) (drop 7 octets) (length-drop 7 octets ∙ omega arith)
     (λ k below.
@@ -55,14 +55,14 @@ path_spelled path address h =
     let hops = path.repeaters.items in
     let first : take 7 address ≡ field_octets path.dest (destination_bit path.role) 3 false = h.destination.spelling in
     let second : take 7 (drop 7 address) ≡ field_octets path.source (source_bit path.role) 3 (repeater_count path == 0)
-        = h.source.spelling in
+    = h.source.spelling in
     let place : (k : ℕ) → 14 + 7 * k ≡ 7 * (k + 2) = λ k. omega arith in
     let none : Hop = record { call = record { name = []; ssid = 0 }; done = false } in
     let others : drop 7 (drop 7 address) ≡ repeater_fields hops =
     fields_of hops (drop 7 (drop 7 address)) (length-drop 7 (drop 7 address) ∙ ap (λ n. n - 7) (length-drop 7 address)
-        ∙ omega (arith, h.size))
+    ∙ omega (arith, h.size))
     (λ k below. ap (λ xs. take 7 (drop (7 * k) xs)) (drop-drop 7 7 address)
-        ∙ ap (λ xs. take 7 xs) (drop-drop (7 * k) 14 address)
+    ∙ ap (λ xs. take 7 xs) (drop-drop (7 * k) 14 address)
     ∙ ap (λ n. take 7 (drop n address)) (place k) ∙ (h.repeaters k none below).spelling) in
     sym (take-append-drop 7 address) ∙ ap (λ xs. xs ++ drop 7 address) first
     ∙ ap (λ xs. field_octets path.dest (destination_bit path.role) 3 false ++ xs)

@@ -20,6 +20,6 @@ pub packets-more : (key pid : ℕ) (octets : List ℕ) (k : ℕ) (turn : Turn)
 packets-more key pid octets k turn =
     ap (λ packets. giving_packets key packets turn) (map-range_with_len_more (packet_at pid octets) 0 k k (omega arith))
     ∙ ap (λ acts. in_order acts turn) (map-append (giving_packet key) (first_packets pid octets k)
-        (packet_at pid octets k ∷ []))
+    (packet_at pid octets k ∷ []))
     ∙ in_order-append (map (giving_packet key) (first_packets pid octets k))
-        (giving_packet key (packet_at pid octets k) ∷ []) turn
+    (giving_packet key (packet_at pid octets k) ∷ []) turn

@@ -1,6 +1,6 @@
 -- A frame that is heard by a link, or by none.
-use Rattle.std.specs.Prelude.{◌≡◌, ℕ, ◌+◌, true, false, ◌&&◌, List, [], ◌∷◌, count_by, is_some, cond, position, Option,
-    Some, None, MatchBool, refl}
+use Rattle.std.specs.Prelude.{◌≡◌, ℕ, ◌+◌, true, false, ◌&&◌, List, [], ◌∷◌, count_by, is_some, cond, position, Option}
+use Rattle.std.specs.Prelude.{Some, None, MatchBool, refl}
 use Rattle.std.specs.List.{AllZip}
 use Rattle.std.proofs.Common.{sym, ◌∙◌, ap, subst}
 use Rattle.std.proofs.lemmas.List.Sums.{sum_by-cons}
@@ -45,7 +45,7 @@ pub key_found : (held : HeldLinks) (links : Links) (local remote : Callsign) →
     → position (is_held_between local remote) held.places ≡ key_between local remote links
 key_found held links local remote h =
     position-AllZip StandsForPlace (is_held_between local remote) (is_between local remote) (same_ends local remote)
-        held.places links.places h.places
+    held.places links.places h.places
     (AllZip-length StandsForPlace held.places links.places h.places)
 
 one_each : (held : Option OwnedLink) (place : Option Link) → StandsForPlace held place → is_some held ≡ is_some place
@@ -62,7 +62,7 @@ same_count (x ∷ xs) [] h = absurd h
 same_count (x ∷ xs) (y ∷ ys) h =
     sum_by-cons (λ (slot : Option OwnedLink). cond (is_some slot) 1 0) x xs
     ∙ ap (λ there. cond there 1 0 + count_by is_some xs) (one_each x y h.0)
-        ∙ ap (λ n. cond (is_some y) 1 0 + n) (same_count xs ys h.1)
+    ∙ ap (λ n. cond (is_some y) 1 0 + n) (same_count xs ys h.1)
     ∙ sym (sum_by-cons (λ (place : Option Link). cond (is_some place) 1 0) y ys)
 
 -- as many links as there are
@@ -76,8 +76,8 @@ pub heard_passed : (id : ℕ) (frame : Frame) (turn : Turn) (registered : Option
 heard_passed id frame turn registered e may =
     subst (λ (owner : Option ℕ). IsHeardAnew owner frame turn turn) e
     (subst (λ may. MatchBool may ((key : ℕ) × IsNewKey key turn.now.links
-        × (turn ≡ event_at key (Hear frame) (making key id no_layer_3 frame.path.dest frame.path.source
-        (way_back frame.path Command) turn))) (turn ≡ turn)) (sym may) refl)
+    × (turn ≡ event_at key (Hear frame) (making key id no_layer_3 frame.path.dest frame.path.source
+    (way_back frame.path Command) turn))) (turn ≡ turn)) (sym may) refl)
 
 -- one is made
 pub heard_made : (id key : ℕ) (frame : Frame) (turn after : Turn) (registered : Option ℕ) → Some id ≡ registered
@@ -87,5 +87,5 @@ pub heard_made : (id key : ℕ) (frame : Frame) (turn after : Turn) (registered 
 heard_made id key frame turn after registered e may new is =
     subst (λ (owner : Option ℕ). IsHeardAnew owner frame turn after) e
     (subst (λ may. MatchBool may ((key : ℕ) × IsNewKey key turn.now.links
-        × (after ≡ event_at key (Hear frame) (making key id no_layer_3 frame.path.dest frame.path.source
-        (way_back frame.path Command) turn))) (after ≡ turn)) (sym may) (key, new, is))
+    × (after ≡ event_at key (Hear frame) (making key id no_layer_3 frame.path.dest frame.path.source
+    (way_back frame.path Command) turn))) (after ≡ turn)) (sym may) (key, new, is))

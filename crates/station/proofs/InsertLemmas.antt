@@ -32,7 +32,7 @@ pub IsTable-inserted : (old new : Slab OwnedLink) (key : ℕ) (value : OwnedLink
 IsTable-inserted old new key value h vacant within capacity updates len =
     let below : key < 64 = omega (arith, within, capacity, h.capacity) in
     let of_places = count_set (places_of old) key (Some value) None (omega (arith, length-places_of old, below))
-        (place-places_of old key None below ∙ vacant) in
+    (place-places_of old key None below ∙ vacant) in
     let of_new = ap (λ xs. count_by is_some xs) (places-inserted old new key value h within capacity updates) in
     record {
       capacity = capacity ∙ h.capacity;
@@ -56,7 +56,7 @@ pub shows_made : (parts : Parts) (out : Out) (turn : Turn) (key id pid : ℕ) (l
     → place_at key parts.links ≡ None → links.places ≡ set parts.links.places key (Some held)
     → StandsForLink held (idle_link id pid local remote path turn.now.parameters)
     → IsNewKey key turn.now.links × Shows (record parts { links = links }) out
-        (making key id pid local remote path turn)
+    (making key id pid local remote path turn)
 shows_made parts out turn key id pid local remote path held links shows next below vacant places stands =
     let h = shows.holds in
     let link : Link = idle_link id pid local remote path turn.now.parameters in (
@@ -77,7 +77,7 @@ shows_made parts out turn key id pid local remote path held links shows next bel
           links = record {
             places = subst (λ xs. AllZip StandsForPlace xs (set turn.now.links.places key (Some link))) (sym places)
                 (AllZip-set StandsForPlace parts.links.places turn.now.links.places key (Some held) (Some link)
-                    h.links.places stands);
+                h.links.places stands);
             size = length-set turn.now.links.places key (Some link) ∙ h.links.size;
             freed = tt;
           };

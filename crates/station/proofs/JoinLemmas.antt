@@ -1,6 +1,6 @@
 -- Connections that join, and their ids.
-use Rattle.std.specs.Prelude.{◌≡◌, ◌≢◌, ℕ, zero, suc, ◌<◌, ◌==◌, not, false, List, [], ◌∷◌, ◌++◌, length, map, filter,
-    All, AllPairs, refl}
+use Rattle.std.specs.Prelude.{◌≡◌, ◌≢◌, ℕ, zero, suc, ◌<◌, ◌==◌, not, false, List, [], ◌∷◌, ◌++◌, length, map, filter}
+use Rattle.std.specs.Prelude.{All, AllPairs, refl}
 use Rattle.std.specs.List.{AllZip}
 use Rattle.std.proofs.Common.{sym, ◌∙◌, ap, subst, arith, get_or, append-nil}
 use Rattle.std.proofs.lemmas.Bool.{cond-true, cond-false}
@@ -42,14 +42,14 @@ pub shows_joined : (parts : Parts) (out : Out) (turn : Turn) (held : List HeldCo
     → connection.raw ≡ false → connection.monitors ≡ false → Reads connection.reader kind []
     → held ≡ parts.connections.items ++ connection ∷ []
     → AllZip StandsForConnection held (with_host connection.id kind turn.now).connections
-        × AllPairs HasOtherId (with_host connection.id kind turn.now).connections
+    × AllPairs HasOtherId (with_host connection.id kind turn.now).connections
 shows_joined parts out turn held connection kind shows others raw monitors reads is =
     let h = shows.holds in
     let items = parts.connections.items in
     let new : Connection = new_connection connection.id kind in (
       subst (λ xs. AllZip StandsForConnection xs (turn.now.connections ++ new ∷ [])) (sym is)
           (AllZip-more StandsForConnection items turn.now.connections connection new h.connections
-              (record { id = refl; raw = raw; monitors = monitors; reader = reads })),
+          (record { id = refl; raw = raw; monitors = monitors; reader = reads })),
       all_pairs_push HasOtherId turn.now.connections new h.ids
           (λ k d within. new_id items turn.now.connections connection.id h.connections others k d within),
     )
@@ -60,7 +60,7 @@ filter_others id [] others = refl
 filter_others id (x ∷ xs) others =
     let differs : x ≢ id = others 0 0 (omega arith) in
     cond-true (not (x == id)) (x ∷ filter (λ other. not (other == id)) xs) (filter (λ other. not (other == id)) xs)
-        (grind (arith, nat_tests))
+    (grind (arith, nat_tests))
     ∙ ap (λ rest. x ∷ rest) (filter_others id xs (λ j e less. others (suc j) e (omega (arith, less))))
 
 filter_itself : (id : ℕ) → filter (λ other. not (other == id)) (id ∷ []) ≡ []

@@ -1,6 +1,6 @@
 -- A connection that leaves.
-use Rattle.std.specs.Prelude.{◌≡◌, ℕ, ◌==◌, not, Bool, true, false, List, [], ◌∷◌, map, filter, cond, Option, Some,
-    None, refl}
+use Rattle.std.specs.Prelude.{◌≡◌, ℕ, ◌==◌, not, Bool, true, false, List, [], ◌∷◌, map, filter, cond, Option, Some}
+use Rattle.std.specs.Prelude.{None, refl}
 use Rattle.std.specs.List.{AllZip, range_with_len}
 use Rattle.std.proofs.Common.{sym, ◌∙◌, ap, subst, set}
 use Rattle.std.proofs.lemmas.Bool.{cond-true, cond-false, false≢true}
@@ -17,8 +17,8 @@ use Rattle.station.specs.Leaving.{without_host, giving_up, giving_up_all, giving
 use Rattle.station.specs.LinkEvents.{event_at, with_links}
 use Rattle.station.specs.Links.{Link, link_at, most_links, with_link}
 use Rattle.station.specs.Registrations.{is_number, without_registrations}
-use Rattle.station.specs.StandsFor.{StandsForConnection, HasOtherId, StandsForPlace, StandsForLink, StandsForLinks,
-    Shows}
+use Rattle.station.specs.StandsFor.{StandsForConnection, HasOtherId, StandsForPlace, StandsForLink, StandsForLinks}
+use Rattle.station.specs.StandsFor.{Shows}
 use Rattle.station.specs.TableSteps.{IsSetAt}
 use Rattle.station.specs.Turn.{Out, Turn, in_order, changing}
 use Rattle.station.proofs.EventLemmas.{AllZip-set, freed-kept}
@@ -45,7 +45,7 @@ shows_set parts out turn links key link next shows at is =
         links = record {
           places = subst (λ xs. AllZip StandsForPlace xs (set turn.now.links.places key (Some next))) (sym is.places)
               (AllZip-set StandsForPlace parts.links.places turn.now.links.places key (Some is.held) (Some next)
-                  h.links.places is.stands);
+              h.links.places is.stands);
           size = length-set turn.now.links.places key (Some next) ∙ h.links.size;
           freed = freed-kept parts.links links turn.now.links key link next turn.now.links.freed at is.next
               h.links.freed;
@@ -70,8 +70,8 @@ other_kept parts out turn id key held None h other shows = absurd h
 other_kept parts out turn id key held (Some link) h other shows =
     subst (λ (behind : Turn). Shows parts out behind)
     (sym (cond-false (is_number id link.owner) (event_at key Disconnect
-        (changing (with_links (with_link key (without_owner link))) turn)) turn (ap (is_number id) (sym h.owner)
-        ∙ other))) shows
+    (changing (with_links (with_link key (without_owner link))) turn)) turn (ap (is_number id) (sym h.owner)
+    ∙ other))) shows
 
 -- the connection's own is
 pub own_given_up : (P : Turn → Type 0) (turn : Turn) (id key : ℕ) (held : OwnedLink) (place : Option Link)
@@ -82,8 +82,8 @@ pub own_given_up : (P : Turn → Type 0) (turn : Turn) (id key : ℕ) (held : Ow
 own_given_up P turn id key held None h own then = absurd h
 own_given_up P turn id key held (Some link) h own then =
     subst P (sym (cond-true (is_number id link.owner)
-        (event_at key Disconnect (changing (with_links (with_link key (without_owner link))) turn)) turn
-        (ap (is_number id) (sym h.owner) ∙ own))) (then link h refl)
+    (event_at key Disconnect (changing (with_links (with_link key (without_owner link))) turn)) turn
+    (ap (is_number id) (sym h.owner) ∙ own))) (then link h refl)
 
 -- lists whose items pass alike still stand for each other if they are filtered
 AllZip-filter : {A B : Type 0} (R : A → B → Type 0) (p : A → Bool) (q : B → Bool) (alike : (a : A) (b : B) → R a b
@@ -122,7 +122,7 @@ pub shows_forgotten : (parts new : Parts) (out : Out) (turn : Turn) (id : ℕ) �
     → new.connections.items ≡ filter (λ connection. not (connection.id == id)) parts.connections.items
     → new.registrations.items ≡ without_registrations id parts.registrations.items
     → new.parameters ≡ parts.parameters → new.digi ≡ parts.digi → new.links ≡ parts.links → new.channel ≡ parts.channel
-        → new.dropped ≡ parts.dropped
+    → new.dropped ≡ parts.dropped
     → new.ticks ≡ parts.ticks → Shows new out (changing (without_host id) turn)
 shows_forgotten parts new out turn id shows kept left parameters digi links channel dropped ticks =
     let h = shows.holds in
@@ -133,8 +133,8 @@ shows_forgotten parts new out turn id shows kept left parameters digi links chan
         connections = subst (λ xs. AllZip StandsForConnection xs (without_connection id turn.now.connections))
             (sym kept)
             (AllZip-filter StandsForConnection (λ connection. not (connection.id == id))
-                (λ connection. not (connection.id == id)) (λ a b stands. ap (λ n. not (n == id)) stands.id)
-                parts.connections.items turn.now.connections h.connections);
+            (λ connection. not (connection.id == id)) (λ a b stands. ap (λ n. not (n == id)) stands.id)
+            parts.connections.items turn.now.connections h.connections);
         ids = AllPairs-filter HasOtherId (λ connection. not (connection.id == id)) turn.now.connections h.ids;
         registrations = left ∙ ap (without_registrations id) h.registrations;
         links = subst (λ (held : HeldLinks). StandsForLinks held turn.now.links) (sym links) h.links;

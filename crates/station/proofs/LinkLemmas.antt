@@ -1,6 +1,6 @@
 -- What a link makes of a refusal.
-use Rattle.std.specs.Prelude.{◌≡◌, Bool, true, false, length, Some, Result, Ok, Err, IfOk, IfErr, OnOk, OnErr, is_some,
-    ◌⊎◌, refl}
+use Rattle.std.specs.Prelude.{◌≡◌, Bool, true, false, length, Some, Result, Ok, Err, IfOk, IfErr, OnOk, OnErr, is_some}
+use Rattle.std.specs.Prelude.{◌⊎◌, refl}
 use Rattle.std.proofs.Common.{sym, ◌∙◌, ap, subst, cond, inl, inr}
 use Rattle.std.proofs.lemmas.Bool.{false≢true}
 use Rattle.tnc_base.specs.declared.fault.OutOfMemory.{OutOfMemory}
@@ -50,7 +50,7 @@ nothing_by : (held : Held) (m : Machine) (event : Event) (fault : LinkFault) (re
     → result ≡ Ok nothing_done → IfOk result (λ done. done ≡ done_of (step m event))
 nothing_by held m event fault result h refused e =
     subst (λ r. IfOk r (λ done. done ≡ done_of (step m event))) (sym e)
-        (sym (ap done_of (refused_step held m event fault h refused)))
+    (sym (ap done_of (refused_step held m event fault h refused)))
 
 -- what a link did is what its step does
 pub passes_acts : (held : Held) (m : Machine) (event : Event) (answer : Result Done LinkFault)
@@ -99,6 +99,11 @@ passes_stands held new m event (Err Memory) (Err fault) h ok err same p = tt
 pub link_stands : (held : OwnedLink) (new : Held) (link : Link) (event : Event) (result : Result Done OutOfMemory)
     → StandsForLink held link → OnOk result (StandsFor new (step link.machine event).now)
     → OnOk result (StandsForLink (record held { machine = new }) (stepped_link event link))
-link_stands held new link event (Ok done) h stands = record { local = h.local; remote = h.remote; owner = h.owner;
-    pid = h.pid; machine = stands }
+link_stands held new link event (Ok done) h stands = record {
+  local = h.local;
+  remote = h.remote;
+  owner = h.owner;
+  pid = h.pid;
+  machine = stands;
+}
 link_stands held new link event (Err fault) h stands = tt

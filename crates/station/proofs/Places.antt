@@ -43,7 +43,7 @@ pub places_of-set : (old new : Slab OwnedLink) (key : ℕ) (slot : Option OwnedL
     → ((other : ℕ) → other ≢ key → get new other ≡ get old other) → places_of new ≡ set (places_of old) key slot
 places_of-set old new key slot below changed others =
     sym (fill_by_all (get new) (set (places_of old) key slot) 64 None (length-set (places_of old) key slot
-        ∙ length-places_of old) (λ k within.
+    ∙ length-places_of old) (λ k within.
     let inside : key < length (places_of old) = omega (arith, length-places_of old, below) in
     elim (cases_eq k key) [
       | inl e ↦ ap (λ n. get_or (set (places_of old) key slot) n None) e

@@ -4,8 +4,8 @@ use Rattle.std.proofs.Common.{sym, ◌∙◌, ap, subst, inl, inr}
 use Rattle.std.proofs.lemmas.Bool.{false≢true}
 use Rattle.tnc_base.specs.declared.fault.OutOfMemory.{OutOfMemory}
 use Rattle.ax25_frames.specs.declared.fault.FrameFault.{FrameFault}
-use Rattle.ax25_frames.specs.declared.fault.FrameFault.TheVariants.{Address, NoControl, NoPid, UnknownControl,
-    InfoTooLong, StrayInfo, Memory}
+use Rattle.ax25_frames.specs.declared.fault.FrameFault.TheVariants.{Address, NoControl, NoPid, UnknownControl}
+use Rattle.ax25_frames.specs.declared.fault.FrameFault.TheVariants.{InfoTooLong, StrayInfo, Memory}
 use Rattle.ax25_frames.specs.declared.frame.Frame.{Frame}
 use Rattle.ax25_frames.specs.declared.frame.Modulus.{Modulus}
 use Rattle.ax25_frames.specs.FrameOctets.{IsFrame}

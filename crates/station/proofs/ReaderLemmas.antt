@@ -36,7 +36,7 @@ kiss_says reader Agw stream octets items f h = absurd h
 pub agw_says : (reader next : AgwHeld) (kind : PortKind) (stream octets : List ℕ) (messages : List AgwMessage)
     (failed : Bool) → ((s : List ℕ) → AgwStandsFor reader s → messages_in (s ++ octets) ≡ messages_in s ++ messages)
     → ((s : List ℕ) → AgwStandsFor reader s → failed ≡ is_some (bad_length_in (s ++ octets)))
-        → Reads (AgwReader reader) kind stream → SaysMessages kind stream octets messages failed
+    → Reads (AgwReader reader) kind stream → SaysMessages kind stream octets messages failed
 agw_says reader next Kiss stream octets messages failed f g h = absurd h
 agw_says reader next Agw stream octets messages failed f g h =
     (behind (messages_in (stream ++ octets)) (messages_in stream) messages (f stream h), g stream h)

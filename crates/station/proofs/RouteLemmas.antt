@@ -1,6 +1,6 @@
 -- The calls of a list of repeaters, one after another.
-use Rattle.std.specs.Prelude.{◌≡◌, ℕ, suc, ◌+◌, ◌-◌, ◌*◌, ◌<◌, List, [], ◌∷◌, ◌++◌, take, drop, Option, Some, None,
-    refl}
+use Rattle.std.specs.Prelude.{◌≡◌, ℕ, suc, ◌+◌, ◌-◌, ◌*◌, ◌<◌, List, [], ◌∷◌, ◌++◌, take, drop, Option, Some, None}
+use Rattle.std.specs.Prelude.{refl}
 use Rattle.std.proofs.Common.{sym, ◌∙◌, ap, arith, append_assoc}
 use Rattle.std.proofs.lemmas.List.{drop-drop}
 use Rattle.ax25_address.specs.Callsign.{Callsign}
@@ -26,15 +26,15 @@ calls_in-next count k octets less =
     let place : 10 * k + 10 ≡ 10 * (k + 1) = omega arith in
     ap (λ n. calls_in n (drop (10 * k) octets)) size
     ∙ ap (λ xs. before_calls (call_in (take 10 (drop (10 * k) octets))) (calls_in (count - (k + 1)) xs))
-        (drop-drop 10 (10 * k) octets ∙ ap (λ n. drop n octets) place)
+    (drop-drop 10 (10 * k) octets ∙ ap (λ n. drop n octets) place)
 
 pub calls_more : (count k : ℕ) (octets field : List ℕ) (calls : List Callsign) (call : Callsign) → k < count
     → field ≡ take 10 (drop (10 * k) octets) → call_in field ≡ Some call
     → calls_in count octets ≡ before_rest calls (calls_in (count - k) (drop (10 * k) octets))
-        → calls_in count octets ≡ before_rest (calls ++ call ∷ [])
-        (calls_in (count - (k + 1)) (drop (10 * (k + 1)) octets))
+    → calls_in count octets ≡ before_rest (calls ++ call ∷ [])
+    (calls_in (count - (k + 1)) (drop (10 * (k + 1)) octets))
 calls_more count k octets field calls call less is found so_far =
     let rest = calls_in (count - (k + 1)) (drop (10 * (k + 1)) octets) in
     so_far ∙ ap (before_rest calls) (calls_in-next count k octets less
-        ∙ ap (λ c. before_calls c rest) (ap call_in (sym is) ∙ found))
+    ∙ ap (λ c. before_calls c rest) (ap call_in (sym is) ∙ found))
     ∙ before_rest-more calls call rest

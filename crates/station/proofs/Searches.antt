@@ -1,6 +1,6 @@
 -- The first place, or the first item, that passes a test.
-use Rattle.std.specs.Prelude.{◌≡◌, ℕ, zero, suc, ◌+◌, ◌<◌, Bool, true, false, not, List, [], ◌∷◌, length, nat_lt, cond,
-    position, find, Some, None, refl}
+use Rattle.std.specs.Prelude.{◌≡◌, ℕ, zero, suc, ◌+◌, ◌<◌, Bool, true, false, not, List, [], ◌∷◌, length, nat_lt, cond}
+use Rattle.std.specs.Prelude.{position, find, Some, None, refl}
 use Rattle.std.specs.List.{AllZip, position_or_len}
 use Rattle.std.proofs.Common.{◌∙◌, ap, arith, get_or}
 use Rattle.std.proofs.lemmas.Bool.{cond-true, cond-false}
@@ -54,4 +54,4 @@ pub find_none : {X : Type 0} (p : X → Bool) (xs : List X) (d : X)
 find_none p [] d fails = refl
 find_none p (x ∷ xs) d fails =
     cond-false (p x) (Some x) (find p xs) (fails 0 (omega arith))
-        ∙ find_none p xs d (λ j less. fails (suc j) (omega (arith, less)))
+    ∙ find_none p xs d (λ j less. fails (suc j) (omega (arith, less)))

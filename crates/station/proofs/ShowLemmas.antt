@@ -28,7 +28,7 @@ shows_shown parts old new turn held connection from to octets shows stands shown
   holds = shows.holds;
   gave = shown
       ∙ ap (λ kind. with_shown kind held.id held.raw from to octets old)
-          (kind_read held.reader connection.kind connection.stream stands.reader)
+      (kind_read held.reader connection.kind connection.stream stands.reader)
       ∙ ap (λ id. with_shown connection.kind id held.raw from to octets old) stands.id
       ∙ ap (λ raw. with_shown connection.kind connection.id raw from to octets old) stands.raw
       ∙ ap (λ (out : Out). with_shown connection.kind connection.id connection.raw from to octets out) shows.gave;

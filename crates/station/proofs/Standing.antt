@@ -50,7 +50,7 @@ few_places id held places h few k d within =
     let same = AllZip-length StandsForPlace held places h in
     let below : k < length held = omega (arith, same, within) in
     few_place id (get_or held k None) (get_or places k d) (AllZip-at StandsForPlace held places k None d h below)
-        (few k None below)
+    (few k None below)
 
 pub places_few : (id : ℕ) (held : List (Option OwnedLink)) (places : List (Option Link))
     → AllZip StandsForPlace held places → All (λ place. IfSome place (HoldsFew id)) places
@@ -59,4 +59,4 @@ places_few id held places h few k d below =
     let same = AllZip-length StandsForPlace held places h in
     let within : k < length places = omega (arith, same, below) in
     place_few id (get_or held k d) (get_or places k None) (AllZip-at StandsForPlace held places k d None h below)
-        (few k None within)
+    (few k None within)

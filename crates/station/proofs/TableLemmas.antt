@@ -1,6 +1,6 @@
 -- What a change of one place makes of a table of links.
-use Rattle.std.specs.Prelude.{◌≡◌, ◌≢◌, ℕ, ◌+◌, ◌<◌, true, false, List, length, count_by, is_some, cond, Option, Some,
-    None, Result, Ok, Err, OnOk}
+use Rattle.std.specs.Prelude.{◌≡◌, ◌≢◌, ℕ, ◌+◌, ◌<◌, true, false, List, length, count_by, is_some, cond, Option, Some}
+use Rattle.std.specs.Prelude.{None, Result, Ok, Err, OnOk}
 use Rattle.std.proofs.Common.{sym, ◌∙◌, ap, subst, arith, get_or, set, inl, inr}
 use Rattle.std.proofs.lemmas.Bool.{cases_lt, cond-true, cond-false}
 use Rattle.std.proofs.lemmas.List.{get_or-set_same, get_or-set_other, get_or_past}
@@ -31,14 +31,16 @@ pub at_slab : (slab : Slab OwnedLink) (held : HeldLinks) (key : ℕ) (link : Lin
     → IsTable slab → table_of slab ≡ held → slot ≡ get slab key → HasAt key held link → StandsForPlace slot (Some link)
 at_slab slab held key link slot h same e here =
     subst (λ (place : Option OwnedLink). StandsForPlace place (Some link)) (ap (place_at key) (sym same)
-        ∙ place-table_of slab key h ∙ sym e) here
+    ∙ place-table_of slab key h ∙ sym e) here
 
 -- a key that has a link is below 64
 pub key_below : (slab : Slab OwnedLink) (key : ℕ) (value : OwnedLink) → IsTable slab → get slab key ≡ Some value
     → key < 64
-key_below slab key value h e = elim (cases_lt key 64)
-    [ inl below ↦ below | inr beyond ↦ (let none : None ≡ Some value = sym (h.beyond key (omega arith))
-    ∙ e in absurd (cc)) ]
+key_below slab key value h e = elim (cases_lt key 64) [
+  | inl below ↦ below
+  | inr beyond ↦ (let none : None ≡ Some value = sym (h.beyond key (omega arith))
+      ∙ e in absurd (cc))
+]
 
 abbrev pub one_if : Option OwnedLink → ℕ
 one_if slot = cond (is_some slot) 1 0
@@ -68,11 +70,11 @@ IsTable-with_value slab key old new h e =
     let within = within_slots slab.slots key old e in
     let places : places_of (with_value slab key new) ≡ set (places_of slab) key (Some new) =
     places_of-set slab (with_value slab key new) key (Some new) below
-        (get_or-set_same slab.slots key (Some new) None within)
-        (λ other ne. get_or-set_other slab.slots key other (Some new) None ne) in
+    (get_or-set_same slab.slots key (Some new) None within)
+    (λ other ne. get_or-set_other slab.slots key other (Some new) None ne) in
     let of_slots = count-set slab.slots key (Some new) old within e in
     let of_places = count-set (places_of slab) key (Some new) old (omega (arith, length-places_of slab, below))
-        (place-places_of slab key None below ∙ e) in
+    (place-places_of slab key None below ∙ e) in
     let of_new = ap (λ xs. count_by is_some xs) places in
     record {
       capacity = h.capacity;
@@ -87,9 +89,9 @@ pub IsTable-removed : (old new : Slab OwnedLink) (key : ℕ) (value : OwnedLink)
 IsTable-removed old new key value h e capacity updates len =
     let below = key_below old key value h e in
     let places : places_of new ≡ set (places_of old) key None =
-        places_of-set old new key None below updates.changed updates.others in
+    places_of-set old new key None below updates.changed updates.others in
     let of_places = count-set (places_of old) key None value (omega (arith, length-places_of old, below))
-        (place-places_of old key None below ∙ e) in
+    (place-places_of old key None below ∙ e) in
     let of_new = ap (λ xs. count_by is_some xs) places in
     record {
       capacity = capacity ∙ h.capacity;
@@ -125,15 +127,15 @@ settled-removed old new held key value link h same e updates next stands idle =
     let table : List (Option OwnedLink) → ℕ → HeldLinks = λ places n. record { places = places; next = n } in
     let below = key_below old key value h e in
     let places : places_of new ≡ set held.places key None =
-        places_of-set old new key None below updates.changed updates.others
-        ∙ ap (λ (t : HeldLinks). set t.places key None) same in
+    places_of-set old new key None below updates.changed updates.others
+    ∙ ap (λ (t : HeldLinks). set t.places key None) same in
     ap (λ xs. table xs new.vacant_key) places ∙ ap (λ n. table (set held.places key None) n) next
     ∙ sym (cond-true (is_idle link.machine.control.state) (table (set held.places key None) key) held
-        (ap (λ c. is_idle c.state) (sym stands.machine.control) ∙ idle))
+    (ap (λ c. is_idle c.state) (sym stands.machine.control) ∙ idle))
 
 -- and one that is not idle stays
 pub settled-kept : (held : HeldLinks) (key : ℕ) (value : OwnedLink) (link : Link) → StandsForLink value link
     → is_idle value.machine.control.state ≡ false → held ≡ settled_at key held link.machine.control.state
 settled-kept held key value link stands busy =
     sym (cond-false (is_idle link.machine.control.state) (record { places = set held.places key None; next = key }) held
-        (ap (λ c. is_idle c.state) (sym stands.machine.control) ∙ busy))
+    (ap (λ c. is_idle c.state) (sym stands.machine.control) ∙ busy))

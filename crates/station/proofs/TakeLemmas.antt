@@ -1,6 +1,6 @@
 -- A connection that is changed, and the station around it.
-use Rattle.std.specs.Prelude.{◌≡◌, ◌≢◌, ℕ, zero, suc, ◌<◌, ◌==◌, Bool, true, false, List, [], ◌∷◌, length, map, cond,
-    not, All, AllPairs, Some, None, Result, Ok, Err, OnOk, refl}
+use Rattle.std.specs.Prelude.{◌≡◌, ◌≢◌, ℕ, zero, suc, ◌<◌, ◌==◌, Bool, true, false, List, [], ◌∷◌, length, map, cond}
+use Rattle.std.specs.Prelude.{not, All, AllPairs, Some, None, Result, Ok, Err, OnOk, refl}
 use Rattle.std.specs.List.{AllZip}
 use Rattle.std.proofs.Common.{sym, ◌∙◌, ap, subst, arith, get_or, set, inl, inr}
 use Rattle.std.proofs.lemmas.Bool.{cond-true, cond-false, cases_lt, false_from_ne_true, eq-eqb, eqb-true}
@@ -45,7 +45,7 @@ pub zip_changed : (id k : ℕ) (change : Connection → Connection) (new : HeldC
     (connections : List Connection) (d : Connection) → AllZip StandsForConnection held connections
     → IsPlace id k connections
     → StandsForConnection new (change (get_or connections k d))
-        → AllZip StandsForConnection (set held k new) (with_connection id change connections)
+    → AllZip StandsForConnection (set held k new) (with_connection id change connections)
 zip_changed id k change new [] [] d h at stands = tt
 zip_changed id k change new [] (y ∷ ys) d h at stands = absurd h
 zip_changed id k change new (x ∷ xs) [] d h at stands = absurd h
@@ -73,7 +73,7 @@ pub stands_here : (held : List HeldConnection) (connections : List Connection) (
     → StandsForConnection here (get_or connections k d)
 stands_here held connections k here d h within is =
     subst (λ (item : HeldConnection). StandsForConnection item (get_or connections k d)) (sym is)
-        (AllZip-at StandsForConnection held connections k here d h within)
+    (AllZip-at StandsForConnection held connections k here d h within)
 
 -- and still does where it is turned
 pub stands_turned : (here new : HeldConnection) (connection : Connection) → StandsForConnection here connection
@@ -81,14 +81,14 @@ pub stands_turned : (here new : HeldConnection) (connection : Connection) → St
     → StandsForConnection new (turned_raw connection)
 stands_turned here new connection h is =
     subst (λ (item : HeldConnection). StandsForConnection item (turned_raw connection)) (sym is)
-        (record { id = h.id; raw = ap not h.raw; monitors = h.monitors; reader = h.reader })
+    (record { id = h.id; raw = ap not h.raw; monitors = h.monitors; reader = h.reader })
 
 pub stands_monitoring : (here new : HeldConnection) (connection : Connection) → StandsForConnection here connection
     → new ≡ record { id = here.id; raw = here.raw; monitors = not here.monitors; reader = here.reader }
     → StandsForConnection new (turned_monitor connection)
 stands_monitoring here new connection h is =
     subst (λ (item : HeldConnection). StandsForConnection item (turned_monitor connection)) (sym is)
-        (record { id = h.id; raw = h.raw; monitors = ap not h.monitors; reader = h.reader })
+    (record { id = h.id; raw = h.raw; monitors = ap not h.monitors; reader = h.reader })
 
 -- a connection keeps its id
 abbrev pub KeepsId : (Connection → Connection) → Type 0
@@ -105,11 +105,11 @@ pub ids_apart : (id : ℕ) (change : Connection → Connection) → KeepsId chan
 ids_apart id change keeps connections apart i j d less within =
     let f : Connection → Connection = λ connection. cond (connection.id == id) (change connection) connection in
     let inside : j < length connections = (let size : length (map f connections) ≡ length connections =
-        map_length f connections in omega (arith, within)) in
+    map_length f connections in omega (arith, within)) in
     let own : (n : ℕ) → n < length connections → (get_or (map f connections) n d).id ≡ (get_or connections n d).id =
-        λ n below.
+    λ n below.
     ap (λ (c : Connection). c.id) (at_map f connections n d below)
-        ∙ kept id change keeps (get_or connections n d) ((get_or connections n d).id == id) in
+    ∙ kept id change keeps (get_or connections n d) ((get_or connections n d).id == id) in
     λ same. apart i j d less inside (sym (own i (omega arith)) ∙ same ∙ own j inside)
   where
     map_length : (f : Connection → Connection) (xs : List Connection) → length (map f xs) ≡ length xs
@@ -130,7 +130,7 @@ place_is id k [] connections h apart at = absurd (let less = at.within in omega 
 place_is id k (x ∷ xs) connections h apart at =
     let held = x ∷ xs in
     let inside : k < length connections = (let less = at.within in
-        omega (arith, AllZip-length StandsForConnection held connections h)) in
+    omega (arith, AllZip-length StandsForConnection held connections h)) in
     let same : (d : Connection) → (get_or connections k d).id ≡ id = λ d.
     sym (AllZip-at StandsForConnection held connections k x d h at.within).id ∙ at.same x in
     record {
@@ -141,7 +141,7 @@ place_is id k (x ∷ xs) connections h apart at =
             (λ e. apart j k d earlier inside (eqb-true (get_or connections j d).id id e ∙ sym (same d)))
         | inr from ↦ (let later : k < j = omega arith in
             false_from_ne_true ((get_or connections j d).id == id)
-                (λ e. apart k j d later less (same d ∙ sym (eqb-true (get_or connections j d).id id e))))
+            (λ e. apart k j d later less (same d ∙ sym (eqb-true (get_or connections j d).id id e))))
       ];
     }
 
@@ -150,7 +150,7 @@ pub connection_at : (id k : ℕ) (connections : List Connection) (d : Connection
     → connection_of id connections ≡ Some (get_or connections k d)
 connection_at id k connections d at =
     find_at (has_id id) connections k d at.within (λ j less. at.others j d (let within = at.within in omega arith)
-        (λ same. absurd (omega arith))) (at.here d)
+    (λ same. absurd (omega arith))) (at.here d)
 
 none_zip : (id : ℕ) (held : List HeldConnection) (connections : List Connection)
     → AllZip StandsForConnection held connections → All (λ connection. connection.id ≢ id) held
@@ -194,7 +194,7 @@ pub shows_connections : (parts new : Parts) (out : Out) (turn : Turn) (id : ℕ)
     → Shows parts out turn → KeepsId change → AllZip StandsForConnection new.connections.items
     (with_connection id change turn.now.connections)
     → new.parameters ≡ parts.parameters → new.digi ≡ parts.digi → new.registrations ≡ parts.registrations
-        → new.links ≡ parts.links → new.channel ≡ parts.channel → new.dropped ≡ parts.dropped → new.ticks ≡ parts.ticks
+    → new.links ≡ parts.links → new.channel ≡ parts.channel → new.dropped ≡ parts.dropped → new.ticks ≡ parts.ticks
     → Shows new out (changing (with_connections (with_connection id change)) turn)
 shows_connections parts new out turn id change shows keeps each parameters digi registrations links channel dropped
     ticks =

@@ -1,6 +1,6 @@
 -- What the octets of a connection do, by what they say.
-use Rattle.std.specs.Prelude.{◌≡◌, ℕ, ◌==◌, Bool, true, false, List, [], ◌∷◌, ◌++◌, cond, is_some, Option, Some, None,
-    IfSome, refl}
+use Rattle.std.specs.Prelude.{◌≡◌, ℕ, ◌==◌, Bool, true, false, List, [], ◌∷◌, ◌++◌, cond, is_some, Option, Some, None}
+use Rattle.std.specs.Prelude.{IfSome, refl}
 use Rattle.std.proofs.Common.{sym, ◌∙◌, ap, subst}
 use Rattle.std.proofs.lemmas.Bool.{eqb-true, false≢true}
 use Rattle.agwpe_port.specs.declared.message.AgwMessage.{AgwMessage}

@@ -1,6 +1,7 @@
 -- What an AGWPE message asks of a station (the AGWPE TCP/IP API tutorial, SV2AGW; as this project has it).
-use Rattle.std.specs.Prelude.{◌≡◌, ℕ, ◌+◌, ◌-◌, ◌*◌, ◌/◌, ◌==◌, nat_lt, nat_le, Bool, true, false, ◌&&◌, ◌||◌,
-    if◌then◌else◌, List, [], ◌∷◌, ◌++◌, length, map, take, drop, codes, Option, Some, None, is_none, MatchBool}
+use Rattle.std.specs.Prelude.{◌≡◌, ℕ, ◌+◌, ◌-◌, ◌*◌, ◌/◌, ◌==◌, nat_lt, nat_le, Bool, true, false, ◌&&◌, ◌||◌}
+use Rattle.std.specs.Prelude.{if◌then◌else◌, List, [], ◌∷◌, ◌++◌, length, map, take, drop, codes, Option, Some, None}
+use Rattle.std.specs.Prelude.{is_none, MatchBool}
 use Rattle.std.specs.List.{range_with_len}
 use Rattle.byteorder.specs.Endian.{little_bytes}
 use Rattle.ax25_address.specs.Callsign.{Callsign}
@@ -11,9 +12,10 @@ use Rattle.agwpe_port.specs.declared.message.AgwMessage.{AgwMessage}
 use Rattle.agwpe_port.specs.Messages.{spelling}
 use Rattle.selective_reject.specs.declared.packet.Packet.{Packet}
 use Rattle.link_machine.specs.Event.Event.{Connect, Send, Disconnect}
-use Rattle.station.specs.AgwKinds.{version_kind, ports_kind, capabilities_kind, register_kind, unregister_kind,
-    toggle_kind, monitor_kind, raw_kind, unproto_kind, unproto_via_kind, connect_kind, connect_via_kind,
-    connect_pid_kind, data_kind, disconnect_kind, pending_kind, waiting_kind}
+use Rattle.station.specs.AgwKinds.{version_kind, ports_kind, capabilities_kind, register_kind, unregister_kind}
+use Rattle.station.specs.AgwKinds.{toggle_kind, monitor_kind, raw_kind, unproto_kind, unproto_via_kind, connect_kind}
+use Rattle.station.specs.AgwKinds.{connect_via_kind, connect_pid_kind, data_kind, disconnect_kind, pending_kind}
+use Rattle.station.specs.AgwKinds.{waiting_kind}
 use Rattle.station.specs.CallFields.{call_in, field_text, field_of, sent_back}
 use Rattle.station.specs.Connections.{with_connection, turned_raw, turned_monitor}
 use Rattle.station.specs.FrameSpelling.{frame_octets}
@@ -87,8 +89,10 @@ abbrev pub most_information : ℕ
 most_information = 937
 
 abbrev pub unnumbered_frame : Route → ℕ → List ℕ → Frame
-unnumbered_frame route pid information = record { path = path_along route;
-    kind = Ui false (pid_or no_layer_3 pid) information }
+unnumbered_frame route pid information = record {
+  path = path_along route;
+  kind = Ui false (pid_or no_layer_3 pid) information;
+}
 
 abbrev pub sending_unnumbered : ℕ → List ℕ → Option Route → Act
 sending_unnumbered pid information None = nothing

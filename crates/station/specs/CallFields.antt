@@ -1,6 +1,6 @@
 -- A call in a field of an AGWPE header: its text, ended by NUL or full.
-use Rattle.std.specs.Prelude.{ℕ, ◌==◌, nat_lt, nat_le, Bool, ◌&&◌, ◌||◌, if◌then◌else◌, List, length, take, find,
-    Option, Some, None, option_map}
+use Rattle.std.specs.Prelude.{ℕ, ◌==◌, nat_lt, nat_le, Bool, ◌&&◌, ◌||◌, if◌then◌else◌, List, length, take, find}
+use Rattle.std.specs.Prelude.{Option, Some, None, option_map}
 use Rattle.std.specs.List.{range_with_len, list_all, position_or_len}
 use Rattle.std.specs.Str.{bytes_eq}
 use Rattle.ax25_address.specs.Callsign.{Callsign}

@@ -14,8 +14,9 @@ use Rattle.link_machine.specs.Machine.{modulus_named}
 use Rattle.link_machine.specs.Step.{step}
 use Rattle.station.specs.declared.link_event.LinkEvent.{LinkEvent}
 use Rattle.station.specs.declared.owned_link.OwnedLink.{OwnedLink}
-use Rattle.station.specs.declared.link_event.LinkEvent.TheVariants.{Connect as ConnectNow, Send as SendNow,
-    Disconnect as DisconnectNow, Hear as HearNow, Tick as TickNow}
+use Rattle.station.specs.declared.link_event.LinkEvent.TheVariants.{Connect as ConnectNow, Send as SendNow}
+use Rattle.station.specs.declared.link_event.LinkEvent.TheVariants.{Disconnect as DisconnectNow, Hear as HearNow}
+use Rattle.station.specs.declared.link_event.LinkEvent.TheVariants.{Tick as TickNow}
 use Rattle.station.specs.Links.{Link}
 
 abbrev pub event_of : LinkEvent → Event

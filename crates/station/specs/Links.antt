@@ -1,7 +1,7 @@
 -- The links of a station. A link stands between a call of this station and one of another; it has a key, under which
 -- its frames wait to be sent, and an owner, the connection that is told of it.
-use Rattle.std.specs.Prelude.{◌≡◌, ℕ, ◌<◌, ◌&&◌, Bool, false, List, replicate, position, slice_index_or, slice_set,
-    count_by, is_some, Option, Some, None, IfSome}
+use Rattle.std.specs.Prelude.{◌≡◌, ℕ, ◌<◌, ◌&&◌, Bool, false, List, replicate, position, slice_index_or, slice_set}
+use Rattle.std.specs.Prelude.{count_by, is_some, Option, Some, None, IfSome}
 use Rattle.ax25_address.specs.Callsign.{Callsign}
 use Rattle.ax25_address.specs.SameCall.{is_same_call}
 use Rattle.ax25_frames.specs.declared.frame.Modulus.{Modulus}

@@ -1,6 +1,6 @@
 -- The calls that host programs have registered (AGWPE, kinds X and x). A call is registered by one connection at most.
-use Rattle.std.specs.Prelude.{ℕ, ◌==◌, Bool, true, false, not, ◌&&◌, List, [], ◌∷◌, ◌++◌, filter, find, Option, Some,
-    None, option_map}
+use Rattle.std.specs.Prelude.{ℕ, ◌==◌, Bool, true, false, not, ◌&&◌, List, [], ◌∷◌, ◌++◌, filter, find, Option, Some}
+use Rattle.std.specs.Prelude.{None, option_map}
 use Rattle.ax25_address.specs.Callsign.{Callsign}
 use Rattle.ax25_address.specs.SameCall.{is_same_call}
 use Rattle.station.specs.declared.registration.Registration.{Registration}

@@ -1,6 +1,6 @@
 -- The calls of an AGWPE message: from which to which, and by way of which repeaters.
-use Rattle.std.specs.Prelude.{ℕ, zero, suc, ◌*◌, ◌&&◌, nat_le, false, if◌then◌else◌, List, [], ◌∷◌, length, map, take,
-    drop, Option, Some, None}
+use Rattle.std.specs.Prelude.{ℕ, zero, suc, ◌*◌, ◌&&◌, nat_le, false, if◌then◌else◌, List, [], ◌∷◌, length, map, take}
+use Rattle.std.specs.Prelude.{drop, Option, Some, None}
 use Rattle.ax25_address.specs.Callsign.{Callsign}
 use Rattle.ax25_address.specs.declared.path.Hop.{Hop}
 use Rattle.ax25_address.specs.declared.path.Path.{Path}

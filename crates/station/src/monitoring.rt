@@ -9,7 +9,7 @@ ghost use Rattle.station.specs.StandsFor.{Shows};
 ghost use Rattle.station.specs.Ticks.{IsSentFrame};
 ghost use Rattle.station.specs.Turn.{Turn};
 
-use crate::hearing::frame_in;
+use crate::frame_hearing::frame_in;
 use crate::host_out::HostOut;
 use crate::messages::{MOST_BODY, message};
 use crate::parts::Parts;

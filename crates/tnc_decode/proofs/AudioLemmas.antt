@@ -1,6 +1,6 @@
 -- Audio, one octet more at a time.
-use Rattle.std.proofs.Common.{◌≡◌, ℕ, ◌+◌, ◌<◌, ◌≤◌, ℤ, List, [], ◌∷◌, ◌++◌, length, take, drop, get_or, refl, ap, sym,
-    subst, ◌∙◌, arith, append_assoc, inl, inr}
+use Rattle.std.proofs.Common.{◌≡◌, ℕ, ◌+◌, ◌<◌, ◌≤◌, ℤ, List, [], ◌∷◌, ◌++◌, length, take, drop, get_or, refl, ap, sym}
+use Rattle.std.proofs.Common.{subst, ◌∙◌, arith, append_assoc, inl, inr}
 use Rattle.std.proofs.lemmas.List.{append-nil, take_more, take-append-drop}
 use Rattle.std.specs.Prelude.{Option, Some, None, Result, Ok, Err, option_map, ◌⊎◌}
 use Rattle.std.specs.Result.{result_err}
@@ -20,8 +20,8 @@ use Rattle.tnc_words.specs.declared.command.Receiving.{Receiving}
 use Rattle.tnc_words.specs.declared.command.Receiving.TheVariants.{Standard, Sensitive, ShortWave}
 use Rattle.tnc_decode.specs.declared.audio.Audio.{Audio}
 use Rattle.tnc_decode.specs.declared.audio.Audio.TheVariants.{Pcm, File}
-use Rattle.tnc_decode.specs.Audio.{rates_of, samples_at, samples_read, stopping_fault_at, form_fault_at,
-    fault_in_verdict}
+use Rattle.tnc_decode.specs.Audio.{rates_of, samples_at, samples_read, stopping_fault_at, form_fault_at}
+use Rattle.tnc_decode.specs.Audio.{fault_in_verdict}
 use Rattle.tnc_decode.specs.Modem.{modem_of, modem_for, modem_of_file}
 use Rattle.tnc_decode.specs.Held.{odd_octet, HasTakenAt}
 use Rattle.tnc_decode.proofs.WavFaults.{fault_stays, rate_stays, silent_before, quiet_before}
@@ -31,7 +31,7 @@ use Rattle.tnc_decode.proofs.WavFaults.{fault_stays, rate_stays, silent_before, 
 -- octets that begin with a sample
 even_more : (before octets : List ℕ) → None ≡ odd_octet before
     → (samples (before ++ octets) ≡ samples before ++ samples octets)
-        × (odd_octet octets ≡ odd_octet (before ++ octets))
+    × (odd_octet octets ≡ odd_octet (before ++ octets))
 even_more [] octets e = (refl, refl)
 even_more (low ∷ []) octets e = absurd cc
 even_more (low ∷ high ∷ rest) octets e = let more = even_more rest octets e in
@@ -53,8 +53,11 @@ TakesPcm low now octets found = (before : List ℕ) → low ≡ odd_octet before
     → (now ≡ odd_octet (before ++ octets)) × (samples (before ++ octets) ≡ samples before ++ found)
 
 pub pcm_none : (low : Option ℕ) → TakesPcm low low [] []
-pcm_none low before e = (e ∙ ap odd_octet (sym (append-nil before)), ap samples (append-nil before)
-    ∙ sym (append-nil (samples before)))
+pcm_none low before e = (
+  e ∙ ap odd_octet (sym (append-nil before)),
+  ap samples (append-nil before)
+      ∙ sym (append-nil (samples before)),
+)
 
 -- as the code has it: with the samples that were found before and those that it appends
 pub even_given : (octets : List ℕ) (low now : Option ℕ) (was found : List ℤ) → low ≡ None → now ≡ odd_octet octets
@@ -68,7 +71,7 @@ even_given octets low now was found none odd is empty before e =
 pub odd_given : (octets rest : List ℕ) (low : Option ℕ) (first : ℕ) (now : Option ℕ) (was one found : List ℤ)
     → 1 ≤ length octets → rest ≡ drop 1 octets
     → low ≡ Some first → now ≡ odd_octet rest → found ≡ one ++ samples rest
-        → one ≡ was ++ sample_of first (get_or octets 0 0) ∷ [] → was ≡ []
+    → one ≡ was ++ sample_of first (get_or octets 0 0) ∷ [] → was ≡ []
     → TakesPcm low now octets found
 odd_given [] rest low first now was one found some is waits odd all appended empty before e = absurd (omega arith)
 odd_given (high ∷ octets) rest low first now was one found some is waits odd all appended empty before e =
@@ -89,7 +92,7 @@ pub record PairsOn (octets rest : List ℕ) (was found : List ℤ) : Type 0 wher
 pub pcm_takes : (low now : Option ℕ) (octets : List ℕ) (found : List ℤ) → TakesPcm low now octets found
     → (rates : Rates) (form : AudioForm) (before : List ℕ) → HasTakenAt rates form (Pcm low) before
     → HasTakenAt rates form (Pcm now) (before ++ octets)
-        × (samples_at rates form (before ++ octets) ≡ samples_at rates form before ++ found)
+    × (samples_at rates form (before ++ octets) ≡ samples_at rates form before ++ found)
 pcm_takes low now octets found takes rates Raw before h = takes before h
 pcm_takes low now octets found takes rates Wav before h = absurd h
 
@@ -99,20 +102,23 @@ module _ (rates : Rates) (form : AudioForm) (before : List ℕ) (octet : ℕ) (f
     (result : Result (Option ℤ) WavFault)
     (stands : (octets : List ℕ) → FileStandsFor rates file octets → FileStandsFor rates next (octets ++ octet ∷ []))
     (gives : (octets : List ℕ) → FileStandsFor rates file octets
-        → samples_in rates (octets ++ octet ∷ []) ≡ samples_in rates octets ++ given result)
+    → samples_in rates (octets ++ octet ∷ []) ≡ samples_in rates octets ++ given result)
     (shows : (octets : List ℕ) → FileStandsFor rates file octets
-        → fault_in rates (octets ++ octet ∷ []) ≡ result_err result) where
+    → fault_in rates (octets ++ octet ∷ []) ≡ result_err result) where
   pub file_takes : (sample : Option ℤ) → result ≡ Ok sample → HasTakenAt rates form (File file) before
       → HasTakenAt rates form (File next) (before ++ octet ∷ [])
-          × (samples_at rates form (before ++ octet ∷ []) ≡ samples_at rates form before ++ given (Ok sample))
+      × (samples_at rates form (before ++ octet ∷ []) ≡ samples_at rates form before ++ given (Ok sample))
   file_takes sample is h = by_form form h
     where
       by_form : (form : AudioForm) → HasTakenAt rates form (File file) before
           → HasTakenAt rates form (File next) (before ++ octet ∷ [])
-              × (samples_at rates form (before ++ octet ∷ []) ≡ samples_at rates form before ++ given (Ok sample))
+          × (samples_at rates form (before ++ octet ∷ []) ≡ samples_at rates form before ++ given (Ok sample))
       by_form Raw h = absurd h
-      by_form Wav h = ((stands before h.0, shows before h.0 ∙ ap result_err is), gives before h.0
-          ∙ ap (λ r. samples_in rates before ++ given r) is)
+      by_form Wav h = (
+        (stands before h.0, shows before h.0 ∙ ap result_err is),
+        gives before h.0
+            ∙ ap (λ r. samples_in rates before ++ given r) is,
+      )
 
   pub file_stops : (fault : WavFault) → result ≡ Err fault → HasTakenAt rates form (File file) before
       → stopping_fault_at rates form (before ++ octet ∷ []) ≡ Some (BadWav fault)
@@ -132,7 +138,7 @@ pcm_verdict rates Wav octets low h = absurd h
 pub file_verdict : (rates : Rates) (form : AudioForm) (octets : List ℕ) (file : HeldFile)
     (verdict : Result (Unit {0}) WavFault)
     → ((octets : List ℕ) → FileStandsFor rates file octets → verdict ≡ verdict_of rates octets)
-        → HasTakenAt rates form (File file) octets
+    → HasTakenAt rates form (File file) octets
     → fault_in_verdict verdict ≡ form_fault_at rates form octets
 file_verdict rates Raw octets file verdict is h = absurd h
 file_verdict rates Wav octets file verdict is h = ap fault_in_verdict (is octets h.0)
@@ -194,8 +200,10 @@ pub begins_with : (rates : Rates) (form : AudioForm) (audio : Audio) (octets mor
     → (rest : List ℤ) × (samples_at rates form (octets ++ more) ≡ samples_at rates form octets ++ rest)
 begins_with rates Raw audio octets more h = samples_begin octets more
 begins_with rates Wav (Pcm low) octets more h = absurd h
-begins_with rates Wav (File file) octets more h = ((rest_reading rates (length octets) file.part file.unit more).heard,
-    ap (λ (r : Reading). r.heard) (h.0.rest more))
+begins_with rates Wav (File file) octets more h = (
+  (rest_reading rates (length octets) file.part file.unit more).heard,
+  ap (λ (r : Reading). r.heard) (h.0.rest more),
+)
 
 -- of a new file nothing has come
 pub new_file : (rates : Rates) (file : HeldFile) → FileStandsFor rates file [] → HasTakenAt rates Wav (File file) []
@@ -208,7 +216,7 @@ new_file rates file h = (h, refl)
 pub record TakesOn (initial now : Audio) (octets : List ℕ) (count : ℕ) (found : List ℤ) : Type 0 where
   pub takes : (rates : Rates) (form : AudioForm) (before : List ℕ) → HasTakenAt rates form initial before
       → HasTakenAt rates form now (before ++ take count octets)
-          × (samples_at rates form (before ++ take count octets) ≡ samples_at rates form before ++ found)
+      × (samples_at rates form (before ++ take count octets) ≡ samples_at rates form before ++ found)
   pub few : length found ≤ count
 
 pub takes_none : (audio : Audio) (octets : List ℕ) (found : List ℤ) → found ≡ [] → TakesOn audio audio octets 0 found
@@ -226,14 +234,14 @@ pub octet_more : (octets before : List ℕ) (count : ℕ) → count < length oct
     → before ++ take (count + 1) octets ≡ (before ++ take count octets) ++ get_or octets count 0 ∷ []
 octet_more octets before count below =
     ap (λ t. before ++ t) (take_more octets count 0 below)
-        ∙ sym (append_assoc before (take count octets) (get_or octets count 0 ∷ []))
+    ∙ sym (append_assoc before (take count octets) (get_or octets count 0 ∷ []))
 
 pub takes_more : (initial was now : Audio) (octets : List ℕ) (count : ℕ) (found more : List ℤ) → count < length octets
     → TakesOn initial was octets count found
     → ((rates : Rates) (form : AudioForm) (before : List ℕ) → HasTakenAt rates form was before
-        → HasTakenAt rates form now (before ++ get_or octets count 0 ∷ []))
+    → HasTakenAt rates form now (before ++ get_or octets count 0 ∷ []))
     → ((rates : Rates) (form : AudioForm) (before : List ℕ) (front : List ℤ) → HasTakenAt rates form was before
-        → samples_at rates form before ≡ front ++ found
+    → samples_at rates form before ≡ front ++ found
     → samples_at rates form (before ++ get_or octets count 0 ∷ []) ≡ front ++ more)
     → length more ≤ length found + 1
     → TakesOn initial now octets (count + 1) more
@@ -253,19 +261,19 @@ pub stops_within : (initial was : Audio) (octets : List ℕ) (count : ℕ) (foun
     → count < length octets
     → TakesOn initial was octets count found
     → ((rates : Rates) (form : AudioForm) (before : List ℕ) → HasTakenAt rates form was before
-        → stopping_fault_at rates form (before ++ get_or octets count 0 ∷ []) ≡ Some fault)
+    → stopping_fault_at rates form (before ++ get_or octets count 0 ∷ []) ≡ Some fault)
     → (rates : Rates) (form : AudioForm) (before : List ℕ) → HasTakenAt rates form initial before
-        → stopping_fault_at rates form (before ++ octets) ≡ Some fault
+    → stopping_fault_at rates form (before ++ octets) ≡ Some fault
 stops_within initial was octets count found fault below h stops rates form before k =
     let so_far = h.takes rates form before k in
     let here = stops rates form (before ++ take count octets) so_far.0 in
     let all : before ++ octets ≡ ((before ++ take count octets) ++ get_or octets count 0 ∷ [])
-        ++ drop (count + 1) octets
+    ++ drop (count + 1) octets
     = ap (λ t. before ++ t) (sym (take-append-drop (count + 1) octets))
-        ∙ sym (append_assoc before (take (count + 1) octets) (drop (count + 1) octets))
+    ∙ sym (append_assoc before (take (count + 1) octets) (drop (count + 1) octets))
     ∙ ap (λ t. t ++ drop (count + 1) octets) (octet_more octets before count below) in
     ap (stopping_fault_at rates form) all ∙ stops_still rates form
-        ((before ++ take count octets) ++ get_or octets count 0 ∷ []) (drop (count + 1) octets) fault here
+    ((before ++ take count octets) ++ get_or octets count 0 ∷ []) (drop (count + 1) octets) fault here
 
 -- what is wrong with a form is wrong with a WAV file
 pub form_is_wav : (rates : Rates) (form : AudioForm) (octets : List ℕ) (fault : InputFault)
@@ -287,13 +295,13 @@ modem_stays words octets more = by_words words.receiving words.audio
   where
     of_file : (rate : Option ℕ) → rate_in NarrowOrWide octets ≡ rate
         → (modem_of_file (rate_in NarrowOrWide (octets ++ more)) ≡ modem_of_file (rate_in NarrowOrWide octets))
-            ⊎ (samples_in NarrowOrWide octets ≡ [])
+        ⊎ (samples_in NarrowOrWide octets ≡ [])
     of_file None is = inr (quiet_before NarrowOrWide octets is)
     of_file (Some rate) is = inl (ap modem_of_file (rate_stays NarrowOrWide octets more rate is ∙ sym is))
 
     by_words : (receiving : Receiving) (form : AudioForm)
         → (modem_for receiving form (octets ++ more) ≡ modem_for receiving form octets)
-            ⊎ (samples_at (rates_of receiving) form octets ≡ [])
+        ⊎ (samples_at (rates_of receiving) form octets ≡ [])
     by_words (Standard rate) Raw = inl refl
     by_words (Standard rate) Wav = of_file (rate_in NarrowOrWide octets) refl
     by_words Sensitive form = inl refl

@@ -1,6 +1,6 @@
 -- An input has one text, and an input is refused for the first fault that reading it meets.
-use Rattle.std.proofs.Common.{◌≡◌, ℕ, ◌+◌, ◌-◌, ◌<◌, ◌≤◌, List, ◌++◌, length, take, refl, ap, sym, ◌∙◌, arith, inl, inr,
-    length-append}
+use Rattle.std.proofs.Common.{◌≡◌, ℕ, ◌+◌, ◌-◌, ◌<◌, ◌≤◌, List, ◌++◌, length, take, refl, ap, sym, ◌∙◌, arith, inl, inr}
+use Rattle.std.proofs.Common.{length-append}
 use Rattle.std.specs.Prelude.{Some, None, if◌then◌else◌}
 use Rattle.std.specs.Option.{option_or}
 use Rattle.std.proofs.Math.Seq.{take-append-add, take-append_seam}
@@ -30,21 +30,21 @@ pub one_text : (words : DecodeWords) (octets text other : List ℕ) → IsDecode
     → IsDecoded words octets other → text ≡ other
 one_text words octets text other h k =
     h.is ∙ ap (λ t. print words.frames (candidate_frames (merged t)))
-        (one_heard (modem_of words octets) (samples_read words octets) h.candidates k.candidates h.are k.are) ∙ sym k.is
+    (one_heard (modem_of words octets) (samples_read words octets) h.candidates k.candidates h.are k.are) ∙ sym k.is
 
 -- an input that is not too long is refused for what is wrong with its form
 pub audio_fault_short : (rates : Rates) (form : AudioForm) (octets : List ℕ) → length octets ≤ input_limit
     → audio_fault_at rates form octets ≡ form_fault_at rates form octets
 audio_fault_short rates form octets short =
     ap (λ b. if b then option_or (stopping_fault_at rates form (take (input_limit + 1) octets)) (Some TooLong)
-        else form_fault_at rates form octets) (le-ltb input_limit (length octets) short)
+    else form_fault_at rates form octets) (le-ltb input_limit (length octets) short)
 
 audio_fault_long : (rates : Rates) (form : AudioForm) (octets : List ℕ) → input_limit < length octets
     → audio_fault_at rates form octets ≡ option_or (stopping_fault_at rates form (take (input_limit + 1) octets))
-        (Some TooLong)
+    (Some TooLong)
 audio_fault_long rates form octets long =
     ap (λ b. if b then option_or (stopping_fault_at rates form (take (input_limit + 1) octets)) (Some TooLong)
-        else form_fault_at rates form octets) (lt-ltb input_limit (length octets) long)
+    else form_fault_at rates form octets) (lt-ltb input_limit (length octets) long)
 
 -- the first octets of an input that stop its reading
 pub audio_fault_stops : (rates : Rates) (form : AudioForm) (octets read rest : List ℕ) (fault : InputFault)
@@ -59,10 +59,10 @@ audio_fault_stops rates form octets read rest fault is few stops =
           = ap (take most) is ∙ ap (λ n. take n (read ++ rest)) at ∙ take-append-add read rest (most - length read) in
           audio_fault_long rates form octets long
           ∙ ap (λ t. option_or t (Some TooLong)) (ap (stopping_fault_at rates form) first
-              ∙ stops_still rates form read (take (most - length read) rest) fault stops)
+          ∙ stops_still rates form read (take (most - length read) rest) fault stops)
       | inr short ↦
           audio_fault_short rates form octets short ∙ ap (form_fault_at rates form) is
-              ∙ stops_form rates form (read ++ rest) fault (stops_still rates form read rest fault stops)
+          ∙ stops_form rates form (read ++ rest) fault (stops_still rates form read rest fault stops)
     ]
 
 -- an input whose first octets, one more than it may have, do not stop its reading
@@ -71,6 +71,6 @@ pub audio_fault_too_long : (rates : Rates) (form : AudioForm) (octets read rest 
     → stopping_fault_at rates form read ≡ None → audio_fault_at rates form octets ≡ Some TooLong
 audio_fault_too_long rates form octets read rest is count none =
     let first : take (input_limit + 1) octets ≡ read = ap (take (input_limit + 1)) is
-        ∙ ap (λ n. take n (read ++ rest)) (sym count) ∙ take-append_seam read rest in
+    ∙ ap (λ n. take n (read ++ rest)) (sym count) ∙ take-append_seam read rest in
     audio_fault_long rates form octets (let l = ap length is in omega (arith, length-append read rest))
     ∙ ap (λ t. option_or t (Some TooLong)) (ap (stopping_fault_at rates form) first ∙ none)

@@ -1,6 +1,6 @@
 -- An input that is decoded in blocks: how far it is, and what was written where it stops.
-use Rattle.std.proofs.Common.{◌≡◌, ℕ, ◌+◌, ◌<◌, ◌≤◌, ℤ, List, [], ◌++◌, length, take, drop, refl, ap, sym, subst, ◌∙◌,
-    arith, append_assoc, length-append}
+use Rattle.std.proofs.Common.{◌≡◌, ℕ, ◌+◌, ◌<◌, ◌≤◌, ℤ, List, [], ◌++◌, length, take, drop, refl, ap, sym, subst, ◌∙◌}
+use Rattle.std.proofs.Common.{arith, append_assoc, length-append}
 use Rattle.std.specs.Prelude.{Option, Some}
 use Rattle.std.proofs.lemmas.List.{append-nil, nil_from_length, length-take-le}
 use Rattle.tnc_base.specs.Streams.{Gives, WrotePart}
@@ -19,8 +19,8 @@ use Rattle.tnc_decode.specs.Settled.{IsSettled}
 use Rattle.tnc_forms.specs.Taken.{WereRead}
 use Rattle.tnc_decode.specs.Written.{WroteMost}
 use Rattle.tnc_decode.proofs.AudioLemmas.{begins_with, none_stops, stops_silent, stops_still}
-use Rattle.tnc_decode.proofs.DecodedLemmas.{some_text, one_text, audio_fault_short, audio_fault_stops,
-    audio_fault_too_long}
+use Rattle.tnc_decode.proofs.DecodedLemmas.{some_text, one_text, audio_fault_short, audio_fault_stops}
+use Rattle.tnc_decode.proofs.DecodedLemmas.{audio_fault_too_long}
 use Rattle.tnc_decode.proofs.SettledLemmas.{settled_first, decoded_behind, silent_text, wrote_most}
 
 -- so many octets of the whole were read and given to the receiver, and what they settle was written
@@ -61,7 +61,7 @@ module _ (words : DecodeWords) (whole : List ℕ) (left : Option (List ℕ)) (re
       → WrotePart before text mid
   part_of_whole before text w d =
       let first = first_of_whole words receiver whole p.read p.taken.rest p.text text p.taken.parts p.heard.audio
-          p.heard.settled d in
+      p.heard.settled d in
       (p.text, first.0, first.1, p.written before w)
 
   -- what was written so far is a first part of what the octets read give, with a piece more
@@ -69,7 +69,7 @@ module _ (words : DecodeWords) (whole : List ℕ) (left : Option (List ℕ)) (re
   part_with piece =
       let whole = some_text words (p.read ++ piece) in
       let first = first_of_whole words receiver (p.read ++ piece)
-          p.read piece p.text whole.0 refl p.heard.audio p.heard.settled whole.1 in
+      p.read piece p.text whole.0 refl p.heard.audio p.heard.settled whole.1 in
       (first.0, subst (λ t. IsDecoded words (p.read ++ piece) t) first.1 whole.1)
 
   -- the whole was read
@@ -89,7 +89,7 @@ module _ (words : DecodeWords) (whole : List ℕ) (left : Option (List ℕ)) (re
     pub piece_read : WereRead whole next (p.read ++ piece)
     piece_read =
         let more = read_on whole p.read p.taken.rest buffer tail (p.read ++ piece) next count p.taken.parts bound gives
-            (ap (λ t. p.read ++ t) is) in
+        (ap (λ t. p.read ++ t) is) in
         record { rest = more.0; parts = more.1; left_over = more.2 }
 
     pub piece_count : length (p.read ++ piece) ≡ total + count
@@ -98,7 +98,7 @@ module _ (words : DecodeWords) (whole : List ℕ) (left : Option (List ℕ)) (re
     pub progress_more : (receiver' : Receiver) (now : Option (List ℕ))
         → ((words : DecodeWords) (before text : List ℕ) → HasHeard receiver words before text
         → (more : List ℕ) × HasHeard receiver' words (before ++ piece) (text ++ more)
-            × ((b : List ℕ) → mid ≡ Some b → now ≡ Some (b ++ more)))
+        × ((b : List ℕ) → mid ≡ Some b → now ≡ Some (b ++ more)))
         → Progress words whole next receiver' was now (total + count)
     progress_more receiver' now heard =
         let more = heard words p.read p.text p.heard in
@@ -125,32 +125,32 @@ module _ (words : DecodeWords) (whole : List ℕ) (left : Option (List ℕ)) (re
         let silent : samples_read words whole ≡ []
         = ap (samples_read words) piece_read.parts
         ∙ stops_silent (rates_of words.receiving) words.audio ((p.read ++ piece) ++ piece_read.rest) fault
-            (stops_still (rates_of words.receiving) words.audio (p.read ++ piece) piece_read.rest fault stops) in
+        (stops_still (rates_of words.receiving) words.audio (p.read ++ piece) piece_read.rest fault stops) in
         let nothing : IsDecoded words whole [] = silent_text words whole silent in
         let first = first_of_whole words receiver whole p.read p.taken.rest p.text []
-            p.taken.parts p.heard.audio p.heard.settled nothing in
+        p.taken.parts p.heard.audio p.heard.settled nothing in
         (nothing, nil_from_length p.text (let l = ap length first.1 in omega (arith, length-append p.text first.0)))
 
     -- what the piece settles could not be written whole
     module _ (receiver' : Receiver) (now : Option (List ℕ)) (cut : CutShort receiver' words p.read piece p.text mid now)
-        where
-      pub piece_most : (before : List ℕ) → was ≡ Some before → WroteMost words (p.read ++ piece) before now
-      piece_most before w =
-          let y = begins_with (rates_of words.receiving) words.audio receiver.audio p.read piece p.heard.audio in
-          let rest = decoded_behind words (p.read ++ piece) (p.text ++ cut.more) cut.settled in
-          let few : length y.0 ≤ 2048 = (let a = cut.few in let b = ap length y.1 in
-              omega (arith, length-append (samples_read words p.read) y.0)) in
-          wrote_most words p.read (p.read ++ piece) piece p.text cut.more rest.0 before y.0 now refl y.1 few
-              p.heard.settled rest.1 (cut.written (before ++ p.text) (p.written before w))
+      where
+        pub piece_most : (before : List ℕ) → was ≡ Some before → WroteMost words (p.read ++ piece) before now
+        piece_most before w =
+            let y = begins_with (rates_of words.receiving) words.audio receiver.audio p.read piece p.heard.audio in
+            let rest = decoded_behind words (p.read ++ piece) (p.text ++ cut.more) cut.settled in
+            let few : length y.0 ≤ 2048 = (let a = cut.few in let b = ap length y.1 in
+            omega (arith, length-append (samples_read words p.read) y.0)) in
+            wrote_most words p.read (p.read ++ piece) piece p.text cut.more rest.0 before y.0 now refl y.1 few
+            p.heard.settled rest.1 (cut.written (before ++ p.text) (p.written before w))
 
-      pub piece_cut : (before text : List ℕ) → was ≡ Some before → IsDecoded words whole text
-          → WrotePart before text now
-      piece_cut before text w d =
-          let first = first_of_whole words receiver' whole (p.read ++ piece) piece_read.rest (p.text ++ cut.more)
-              text piece_read.parts cut.audio cut.settled d in
-          let behind : WrotePart before (p.text ++ cut.more) now =
-              wrote_behind before p.text cut.more now (cut.written (before ++ p.text) (p.written before w)) in
-          subst (λ t. WrotePart before t now) (sym first.1) (wrote_front before (p.text ++ cut.more) first.0 now behind)
+        pub piece_cut : (before text : List ℕ) → was ≡ Some before → IsDecoded words whole text
+            → WrotePart before text now
+        piece_cut before text w d =
+            let first = first_of_whole words receiver' whole (p.read ++ piece) piece_read.rest (p.text ++ cut.more)
+            text piece_read.parts cut.audio cut.settled d in
+            let behind : WrotePart before (p.text ++ cut.more) now =
+            wrote_behind before p.text cut.more now (cut.written (before ++ p.text) (p.written before w)) in
+            subst (λ t. WrotePart before t now) (sym first.1) (wrote_front before (p.text ++ cut.more) first.0 now behind)
 
   -- ---- the end of the input
 
@@ -181,29 +181,29 @@ module _ (words : DecodeWords) (whole : List ℕ) (left : Option (List ℕ)) (re
         → WrotePart before text now
     all_part now wrote before text w d =
         wrote_all before text now (all_written now wrote before w
-            ∙ ap (λ t. Some (before ++ t)) (one_text words whole (p.text ++ more) text of_whole d))
+        ∙ ap (λ t. Some (before ++ t)) (one_text words whole (p.text ++ more) text of_whole d))
 
     pub end_cut : (now : Option (List ℕ)) → ((b : List ℕ) → mid ≡ Some b → WrotePart b more now)
         → (before text : List ℕ) → was ≡ Some before → IsDecoded words whole text
         → WrotePart before text now
     end_cut now wrote before text w d =
         subst (λ t. WrotePart before t now) (one_text words whole (p.text ++ more) text of_whole d)
-            (wrote_behind before p.text more now (wrote (before ++ p.text) (p.written before w)))
+        (wrote_behind before p.text more now (wrote (before ++ p.text) (p.written before w)))
 
     pub end_most : (now : Option (List ℕ)) → ((b : List ℕ) → mid ≡ Some b → WrotePart b more now) → (before : List ℕ)
         → was ≡ Some before → WroteMost words p.read before now
     end_most now wrote before w =
         let x : List ℤ = samples_read words p.read in
         wrote_most words p.read p.read [] p.text more [] before [] now (sym (append-nil p.read)) (sym (append-nil x))
-            (omega arith) p.heard.settled
+        (omega arith) p.heard.settled
         (subst (λ t. IsDecoded words p.read t) (sym (append-nil (p.text ++ more))) decoded)
-            (wrote (before ++ p.text) (p.written before w))
+        (wrote (before ++ p.text) (p.written before w))
 
   -- the fault of the whole
   pub end_fault : p.read ≡ whole → total ≤ input_limit → audio_fault words whole ≡ form_fault words p.read
   end_fault all few =
       audio_fault_short (rates_of words.receiving) words.audio whole
-          (let a = ap length all in let b = p.count in omega arith) ∙ ap (form_fault words) (sym all)
+      (let a = ap length all in let b = p.count in omega arith) ∙ ap (form_fault words) (sym all)
 
   -- ---- too long
 

@@ -1,6 +1,6 @@
 -- How a decoding ends: where it stops, and what each clause says of its answer.
-use Rattle.std.proofs.Common.{◌≡◌, ℕ, ◌+◌, ◌≤◌, List, [], ◌++◌, length, drop, refl, ap, sym, subst, ◌∙◌, arith, inl,
-    inr, take, true, false, length-append}
+use Rattle.std.proofs.Common.{◌≡◌, ℕ, ◌+◌, ◌≤◌, List, [], ◌++◌, length, drop, refl, ap, sym, subst, ◌∙◌, arith, inl}
+use Rattle.std.proofs.Common.{inr, take, true, false, length-append}
 use Rattle.std.specs.Prelude.{Option, Some, None, Result, Ok, Err, OnOk, OnErr, ◌⊎◌}
 use Rattle.std.proofs.lemmas.List.{append-nil}
 use Rattle.tnc_base.specs.Streams.{Gives, WrotePart}
@@ -21,8 +21,9 @@ use Rattle.tnc_forms.specs.Taken.{WereRead}
 use Rattle.tnc_decode.specs.Written.{WroteMost}
 use Rattle.tnc_decode.proofs.AudioLemmas.{form_is_wav, stops_form}
 use Rattle.tnc_decode.proofs.DecodedLemmas.{some_text}
-use Rattle.tnc_decode.proofs.DecodingLemmas.{Progress, part_of_whole, part_with, piece_read, piece_bad, piece_silent,
-    piece_most, piece_cut, all_written, all_part, of_whole, end_cut, end_most, end_fault, too_long, too_long_left}
+use Rattle.tnc_decode.proofs.DecodingLemmas.{Progress, part_of_whole, part_with, piece_read, piece_bad, piece_silent}
+use Rattle.tnc_decode.proofs.DecodingLemmas.{piece_most, piece_cut, all_written, all_part, of_whole, end_cut, end_most}
+use Rattle.tnc_decode.proofs.DecodingLemmas.{end_fault, too_long, too_long_left}
 use Rattle.tnc_decode.proofs.SettledLemmas.{settled_none, decoded_behind}
 
 -- the answer of a fault
@@ -71,8 +72,12 @@ module _ (words : DecodeWords) (whole : List ℕ) (left : Option (List ℕ)) (re
   pub ended_long : total ≡ input_limit + 1 → IsEnded words whole left was mid (Err (Input TooLong))
   ended_long full = (
     too_long words whole left receiver was mid total p full,
-    inl (refl, (let a = p.count in let b = ap length p.taken.parts in omega (arith, length-append p.read p.taken.rest)),
-        too_long_left words whole left receiver was mid total p full, settled_so_far left refl),
+    inl (
+      refl,
+      (let a = p.count in let b = ap length p.taken.parts in omega (arith, length-append p.read p.taken.rest)),
+      too_long_left words whole left receiver was mid total p full,
+      settled_so_far left refl,
+    ),
     first,
   )
 
@@ -85,24 +90,32 @@ module _ (words : DecodeWords) (whole : List ℕ) (left : Option (List ℕ)) (re
 
     pub ended_piece : (e : Fault)
         → ((fault : InputFault) (words : DecodeWords) (before text : List ℕ) → failed e ≡ Err (Input fault)
-            → HasHeard receiver words before text
+        → HasHeard receiver words before text
         → stopping_fault words (before ++ piece) ≡ Some fault)
         → ((words : DecodeWords) (before text : List ℕ) → failed e ≡ Err Write → HasHeard receiver words before text
-            → CutShort receiver' words before piece text mid now)
+        → CutShort receiver' words before piece text mid now)
         → ((failed e ≡ Err Memory) ⊎ ((fault : InputFault) × (failed e ≡ Err (Input fault))) → now ≡ mid)
         → (failed e ≡ Err Read → ⊥)
         → IsEnded words whole next was now (Err e)
     ended_piece (Input fault) stops cut kept never =
         let shown = stops fault words p.read p.text refl p.heard in
         let silent = piece_silent words whole left receiver was mid total p buffer tail piece next count bound gives is
-            fault shown in
+        fault shown in
         let wav = form_is_wav (rates_of words.receiving) words.audio (p.read ++ piece) fault
-            (stops_form (rates_of words.receiving) words.audio (p.read ++ piece) fault shown) in
+        (stops_form (rates_of words.receiving) words.audio (p.read ++ piece) fault shown) in
         let same = kept (inr (fault, refl)) in (
           piece_bad words whole left receiver was mid total p buffer tail piece next count bound gives is fault few
               shown,
-          inr (wav.0, wav.1, record { text = []; decoded = silent.0; written = λ before w. same ∙ p.written before w
-              ∙ ap (λ t. Some (before ++ t)) silent.1 }),
+          inr (
+            wav.0,
+            wav.1,
+            record {
+              text = [];
+              decoded = silent.0;
+              written = λ before w. same ∙ p.written before w
+                  ∙ ap (λ t. Some (before ++ t)) silent.1;
+            },
+          ),
           λ before text w d. subst (WrotePart before text) (sym same) (first before text w d),
         )
     ended_piece Memory stops cut kept never =
@@ -148,21 +161,21 @@ module _ (words : DecodeWords) (whole : List ℕ) (left : Option (List ℕ)) (re
 
     pub ended_ok : (form_fault words p.read ≡ None)
         → (more : List ℕ) × IsDecoded words p.read (p.text ++ more)
-            × ((b : List ℕ) → mid ≡ Some b → now ≡ Some (b ++ more))
+        × ((b : List ℕ) → mid ≡ Some b → now ≡ Some (b ++ more))
         → IsEnded words whole next was now (Ok tt)
     ended_ok good wrote =
         (gone, end_fault words whole left receiver was mid total p all few ∙ good, wrote_whole wrote.0 wrote.1 wrote.2)
 
     pub ended_end : (e : Fault)
         → ((fault : InputFault) (words : DecodeWords) (octets text : List ℕ) → failed e ≡ Err (Input fault)
-            → HasHeard receiver words octets text → form_fault words octets ≡ Some fault)
+        → HasHeard receiver words octets text → form_fault words octets ≡ Some fault)
         → ((words : DecodeWords) (octets text : List ℕ) → HasHeard receiver words octets text
         → ((false ≡ true) ⊎ ((fault : InputFault) × (failed e ≡ Err (Input fault))))
         → (more : List ℕ) × IsDecoded words octets (text ++ more)
-            × ((b : List ℕ) → mid ≡ Some b → now ≡ Some (b ++ more)))
+        × ((b : List ℕ) → mid ≡ Some b → now ≡ Some (b ++ more)))
         → ((words : DecodeWords) (octets text : List ℕ) → failed e ≡ Err Write → HasHeard receiver words octets text
         → (more : List ℕ) × IsDecoded words octets (text ++ more)
-            × ((b : List ℕ) → mid ≡ Some b → WrotePart b more now))
+        × ((b : List ℕ) → mid ≡ Some b → WrotePart b more now))
         → (failed e ≡ Err Memory → now ≡ mid)
         → (failed e ≡ Err Read → ⊥)
         → IsEnded words whole next was now (Err e)
@@ -194,8 +207,12 @@ module _ (words : DecodeWords) (whole : List ℕ) (left : Option (List ℕ)) (re
     ended_end Read bad wrote cut kept never = absurd (never refl)
     ended_end Write bad wrote cut kept never =
         let short = cut words p.read p.text refl p.heard in (
-          record { read = p.read; taken = taken; most =
-              end_most words whole left receiver was mid total p all short.0 short.1 now short.2 },
+          record {
+            read = p.read;
+            taken = taken;
+            most =
+                end_most words whole left receiver was mid total p all short.0 short.1 now short.2;
+          },
           end_cut words whole left receiver was mid total p all short.0 short.1 now short.2,
         )
 
@@ -224,7 +241,7 @@ module _ (words : DecodeWords) (octets : List ℕ) (left was now : Option (List 
   pub to_decoded_before : (r : Result (Unit {0}) Fault) → IsEnded words octets left was now r
       → (before : List ℕ) (fault : InputFault) → was ≡ Some before
       → length octets ≤ input_limit → r ≡ Err (Input fault) → (text : List ℕ) × IsDecoded words octets text
-          × (now ≡ Some (before ++ text))
+      × (now ≡ Some (before ++ text))
   to_decoded_before r h before fault w short is = by_stop (subst (IsEnded words octets left was now) is h).1
     where
       by_stop : IsStopped words octets left was now fault → (text : List ℕ) × IsDecoded words octets text
@@ -252,7 +269,7 @@ module _ (words : DecodeWords) (octets : List ℕ) (left was now : Option (List 
       shown s = (s.read, s.text, s.taken, s.settled, s.written before w)
   to_settled r h before w (inr is) =
       let s = (subst (IsEnded words octets left was now) is h).0 in
-          (s.read, s.text, s.taken, s.settled, s.written before w)
+      (s.read, s.text, s.taken, s.settled, s.written before w)
 
   pub to_most : (r : Result (Unit {0}) Fault) → IsEnded words octets left was now r → (before : List ℕ)
       → was ≡ Some before → r ≡ Err Write
@@ -263,11 +280,11 @@ module _ (words : DecodeWords) (octets : List ℕ) (left was now : Option (List 
   pub to_part : (r : Result (Unit {0}) Fault) → IsEnded words octets left was now r → (before : List ℕ)
       → was ≡ Some before → r ≡ Err Memory
       → (read front rest text more : List ℕ) × WereRead octets left read × (read ≡ front ++ rest)
-          × IsSettled words front text
+      × IsSettled words front text
       × IsDecoded words read (text ++ more) × (now ≡ Some (before ++ text))
   to_part r h before w is =
       let s = (subst (IsEnded words octets left was now) is h).0 in
-          (s.read, s.front, s.rest, s.text, s.more, s.taken, s.parts, s.settled, s.decoded, s.written before w)
+      (s.read, s.front, s.rest, s.text, s.more, s.taken, s.parts, s.settled, s.decoded, s.written before w)
 
   pub to_cut : (r : Result (Unit {0}) Fault) → IsEnded words octets left was now r → (before text : List ℕ)
       → was ≡ Some before → IsDecoded words octets text

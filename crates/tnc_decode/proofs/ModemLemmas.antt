@@ -1,6 +1,6 @@
 -- What every modem has: samples have one list of candidates, and more samples change nothing of what is settled.
-use Rattle.std.proofs.Common.{◌≡◌, ℕ, ◌+◌, ◌/◌, ◌^◌, ◌<◌, ◌≤◌, ℤ, List, [], ◌++◌, length, refl, ap, sym, ◌∙◌, arith,
-    length-append}
+use Rattle.std.proofs.Common.{◌≡◌, ℕ, ◌+◌, ◌/◌, ◌^◌, ◌<◌, ◌≤◌, ℤ, List, [], ◌++◌, length, refl, ap, sym, ◌∙◌, arith}
+use Rattle.std.proofs.Common.{length-append}
 use Rattle.std.specs.List.Sorted.{IsNonDecreasingBy}
 use Rattle.std.proofs.lemmas.List.{append_cancel_left}
 use Rattle.frame_merge.specs.declared.candidate.Candidate.{Candidate}
@@ -20,8 +20,8 @@ use Rattle.hf_modem.proofs.MergedLemmas.{is_in_order as hf_in_order, given_still
 use Rattle.hf_modem.proofs.OneList.{one_list as one_hf}
 use Rattle.hf_modem.proofs.SomeList.{some_list as some_hf}
 use Rattle.sensitive_receiver.proofs.HeardLemmas.{none_heard as no_sensitive}
-use Rattle.sensitive_receiver.proofs.MergedLemmas.{one_list as one_sensitive, rising_heard as rising_sensitive,
-    below_still as sensitive_still}
+use Rattle.sensitive_receiver.proofs.MergedLemmas.{one_list as one_sensitive, rising_heard as rising_sensitive}
+use Rattle.sensitive_receiver.proofs.MergedLemmas.{below_still as sensitive_still}
 use Rattle.sensitive_receiver.proofs.SomeList.{some_list as some_sensitive}
 use Rattle.wide_input.specs.Streams.{least_count}
 use Rattle.wide_input.specs.MergedItems.{AreWideMergedBetween, AreWideRest}
@@ -31,8 +31,8 @@ use Rattle.wide_input.proofs.WideMerged.{one_wide, some_wide, below_still}
 use Rattle.slicer_bank.specs.HeldDecoder.{HeldDecoder, StandsFor as DecoderStandsFor}
 use Rattle.hf_modem.specs.HeldDecoder.{HeldDecoder as HeldHf, StandsFor as HfStandsFor}
 use Rattle.wide_input.specs.Held.{HeldWide, StandsFor as BankStandsFor}
-use Rattle.tnc_decode.specs.declared.decoders.Decoders.TheVariants.{Plain as PlainDecoder, Wide as WideDecoder,
-    ShortWave as ShortWaveDecoder}
+use Rattle.tnc_decode.specs.declared.decoders.Decoders.TheVariants.{Plain as PlainDecoder, Wide as WideDecoder}
+use Rattle.tnc_decode.specs.declared.decoders.Decoders.TheVariants.{ShortWave as ShortWaveDecoder}
 use Rattle.tnc_decode.specs.declared.modem.Modem.{Modem}
 use Rattle.tnc_decode.specs.declared.modem.Modem.TheVariants.{Plain, Wide, Sensitive, ShortWave}
 use Rattle.tnc_decode.specs.Held.{HasDecoded}
@@ -96,14 +96,14 @@ pub still_heard : (modem : Modem) (to : ℕ) (x y : List ℤ) (items whole : Lis
 still_heard Plain to x y items whole within are all_are =
     sym (from_zero to (merged items))
     ∙ given_still 0 to x y (between 0 to (merged items)) whole within
-        (record { candidates = items; are = are; is = refl }) all_are
+    (record { candidates = items; are = are; is = refl }) all_are
     ∙ from_zero to (merged whole)
 still_heard Wide to x y items whole within are all_are = sym (below_still to x y items whole within are all_are)
 still_heard Sensitive to x y items whole within are all_are = sensitive_still x y items whole are all_are to within
 still_heard ShortWave to x y items whole within are all_are =
     sym (from_zero to (merged items))
     ∙ hf_still 0 to x y (between 0 to (merged items)) whole within (record { candidates = items; are = are; is = refl })
-        all_are
+    all_are
     ∙ from_zero to (merged whole)
 
 -- what a block gives, and what the end gives, as each decoder tells it
@@ -122,7 +122,7 @@ rest_plain x items h =
     let zs : List Candidate = merged h.candidates in
     let rises : IsNonDecreasingBy (λ y. y.end) zs = rising_heard Plain x h.candidates h.are in
     let both : AreMerged x (between 0 (n + 1) zs) = all x (between 0 (n + 1) zs)
-        (record { candidates = h.candidates; are = h.are; is = refl }) in
+    (record { candidates = h.candidates; are = h.are; is = refl }) in
     let whole : below (n + 1) zs ≡ zs
     = sym (from_zero (n + 1) zs) ∙ both.is ∙ ap merged (one_list x both.candidates h.candidates both.are h.are) in
     record {
@@ -139,10 +139,10 @@ rest_wide x items h = record { candidates = h.candidates; are = h.are; is = h.is
 -- so each decoder, by its modem
 pub plain_block : (old new : HeldDecoder) (block : List ℤ) (items : List Candidate)
     → ((x : List ℤ) → DecoderStandsFor old x → DecoderStandsFor new (x ++ block)
-        × AreMergedBetween (length x) (length (x ++ block)) (x ++ block) items)
+    × AreMergedBetween (length x) (length (x ++ block)) (x ++ block) items)
     → (modem : Modem) (x : List ℤ) → HasDecoded modem (PlainDecoder old) x
     → HasDecoded modem (PlainDecoder new) (x ++ block)
-        × AreGivenBetween modem (settled_count modem x) (settled_count modem (x ++ block)) (x ++ block) items
+    × AreGivenBetween modem (settled_count modem x) (settled_count modem (x ++ block)) (x ++ block) items
 plain_block old new block items given Plain x h = let g = given x h in
     (g.0, given_plain (length x) (length (x ++ block)) (x ++ block) items g.1)
 plain_block old new block items given Wide x h = absurd h
@@ -151,10 +151,10 @@ plain_block old new block items given ShortWave x h = absurd h
 
 pub wide_block : (old new : HeldWide) (block : List ℤ) (items : List Candidate)
     → ((x : List ℤ) → BankStandsFor old x → BankStandsFor new (x ++ block)
-        × AreWideMergedBetween (least_count x) (least_count (x ++ block)) (x ++ block) items)
+    × AreWideMergedBetween (least_count x) (least_count (x ++ block)) (x ++ block) items)
     → (modem : Modem) (x : List ℤ) → HasDecoded modem (WideDecoder old) x
     → HasDecoded modem (WideDecoder new) (x ++ block)
-        × AreGivenBetween modem (settled_count modem x) (settled_count modem (x ++ block)) (x ++ block) items
+    × AreGivenBetween modem (settled_count modem x) (settled_count modem (x ++ block)) (x ++ block) items
 wide_block old new block items given Plain x h = absurd h
 wide_block old new block items given Sensitive x h = absurd h
 wide_block old new block items given ShortWave x h = absurd h
@@ -164,7 +164,7 @@ wide_block old new block items given Wide x h = let g = given x h in
 pub plain_finish : (old : HeldDecoder) (items : List Candidate) → old.position < 2 ^ 48
     → ((x : List ℤ) → length x < 2 ^ 48 → DecoderStandsFor old x → AreMergedBetween (length x) (length x + 1) x items)
     → (modem : Modem) (x : List ℤ) → HasDecoded modem (PlainDecoder old) x
-        → AreGivenRest modem (settled_count modem x) x items
+    → AreGivenRest modem (settled_count modem x) x items
 plain_finish old items room rest Plain x h = rest_plain x items (rest x (let count = h.count in omega arith) h)
 plain_finish old items room rest Wide x h = absurd h
 plain_finish old items room rest Sensitive x h = absurd h
@@ -173,7 +173,7 @@ plain_finish old items room rest ShortWave x h = absurd h
 pub wide_finish : (old : HeldWide) (items : List Candidate)
     → ((x : List ℤ) → BankStandsFor old x → AreWideRest (least_count x) x items)
     → (modem : Modem) (x : List ℤ) → HasDecoded modem (WideDecoder old) x
-        → AreGivenRest modem (settled_count modem x) x items
+    → AreGivenRest modem (settled_count modem x) x items
 wide_finish old items rest Plain x h = absurd h
 wide_finish old items rest Sensitive x h = absurd h
 wide_finish old items rest ShortWave x h = absurd h
@@ -190,7 +190,7 @@ rest_short_wave x items h =
     let zs : List Candidate = merged h.candidates in
     let rises : IsNonDecreasingBy (λ y. y.end) zs = rising_heard ShortWave x h.candidates h.are in
     let both : AreHfMerged x (between 0 (n + 1) zs) = hf_all x (between 0 (n + 1) zs)
-        (record { candidates = h.candidates; are = h.are; is = refl }) in
+    (record { candidates = h.candidates; are = h.are; is = refl }) in
     let whole : below (n + 1) zs ≡ zs
     = sym (from_zero (n + 1) zs) ∙ both.is ∙ ap merged (one_hf x both.candidates h.candidates both.are h.are) in
     record {
@@ -202,10 +202,10 @@ rest_short_wave x items h =
 
 pub short_wave_block : (old new : HeldHf) (block : List ℤ) (items : List Candidate)
     → ((x : List ℤ) → HfStandsFor old x → HfStandsFor new (x ++ block)
-        × AreHfMergedBetween (length x / 4) (length (x ++ block) / 4) (x ++ block) items)
+    × AreHfMergedBetween (length x / 4) (length (x ++ block) / 4) (x ++ block) items)
     → (modem : Modem) (x : List ℤ) → HasDecoded modem (ShortWaveDecoder old) x
     → HasDecoded modem (ShortWaveDecoder new) (x ++ block)
-        × AreGivenBetween modem (settled_count modem x) (settled_count modem (x ++ block)) (x ++ block) items
+    × AreGivenBetween modem (settled_count modem x) (settled_count modem (x ++ block)) (x ++ block) items
 short_wave_block old new block items given Plain x h = absurd h
 short_wave_block old new block items given Wide x h = absurd h
 short_wave_block old new block items given Sensitive x h = absurd h
@@ -214,9 +214,9 @@ short_wave_block old new block items given ShortWave x h =
 
 pub short_wave_finish : (old : HeldHf) (items : List Candidate) → old.position < 2 ^ 48
     → ((x : List ℤ) → length x < 2 ^ 48 → HfStandsFor old x
-        → AreHfMergedBetween (length x / 4) (length x / 4 + 1) x items)
+    → AreHfMergedBetween (length x / 4) (length x / 4 + 1) x items)
     → (modem : Modem) (x : List ℤ) → HasDecoded modem (ShortWaveDecoder old) x
-        → AreGivenRest modem (settled_count modem x) x items
+    → AreGivenRest modem (settled_count modem x) x items
 short_wave_finish old items room rest Plain x h = absurd h
 short_wave_finish old items room rest Wide x h = absurd h
 short_wave_finish old items room rest Sensitive x h = absurd h
@@ -258,7 +258,7 @@ pub given_first : (modem : Modem) (x y : List ℤ) (items whole : List Candidate
 given_first modem x y items whole h all_are =
     let n : ℕ = settled_count modem x in
     let same : items ≡ below n (merged whole) = h.is ∙ still_heard modem n x y h.candidates whole (omega arith)
-        h.are all_are in (
+    h.are all_are in (
       not_below n (merged whole),
       sym (below_then_rest n (merged whole) (rising_heard modem (x ++ y) whole all_are))
           ∙ ap (λ t. t ++ not_below n (merged whole)) (sym same),

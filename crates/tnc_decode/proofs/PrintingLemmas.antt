@@ -17,8 +17,8 @@ print_end form items i past = ap (λ t. flat_map (printed form) (candidate_frame
 pub print_next : (form : FrameForm) (items : List Candidate) (i : ℕ) (item : Candidate) → i < length items
     → item ≡ get_or items i item
     → print form (candidate_frames (drop i items)) ≡ printed form item.octets
-        ++ print form (candidate_frames (drop (i + 1) items))
+    ++ print form (candidate_frames (drop (i + 1) items))
 unfolding print
 print_next form items i item below is =
     ap (λ t. flat_map (printed form) (candidate_frames t)) (drop_more items i item below
-        ∙ ap (λ f. f ∷ drop (i + 1) items) (sym is))
+    ∙ ap (λ f. f ∷ drop (i + 1) items) (sym is))

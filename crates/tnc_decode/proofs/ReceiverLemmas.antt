@@ -1,6 +1,6 @@
 -- A receiver with octets more, and at the end of the input.
-use Rattle.std.proofs.Common.{◌≡◌, ℕ, ◌+◌, ◌≤◌, ℤ, List, [], ◌++◌, length, ap, sym, subst, ◌∙◌, arith, length-append,
-    inl, inr}
+use Rattle.std.proofs.Common.{◌≡◌, ℕ, ◌+◌, ◌≤◌, ℤ, List, [], ◌++◌, length, ap, sym, subst, ◌∙◌, arith, length-append}
+use Rattle.std.proofs.Common.{inl, inr}
 use Rattle.frame_merge.specs.declared.candidate.Candidate.{Candidate}
 use Rattle.frame_merge.specs.Merged.{candidate_frames}
 use Rattle.tnc_words.specs.declared.command.DecodeWords.{DecodeWords}
@@ -47,13 +47,13 @@ module _ (old new : Receiver) (words : DecodeWords) (before octets text : List �
     (items : List Candidate)
     (h : HasHeard old words before text)
     (took : HasTaken words new.audio (before ++ octets)
-        × (samples_read words (before ++ octets) ≡ samples_read words before ++ found))
+    × (samples_read words (before ++ octets) ≡ samples_read words before ++ found))
     (is : block ≡ found)
     (gave : HasDecoded (modem_of words (before ++ octets)) new.decoder (samples_read words before ++ block)
     × AreGivenBetween (modem_of words (before ++ octets))
-        (settled_count (modem_of words (before ++ octets)) (samples_read words before))
+    (settled_count (modem_of words (before ++ octets)) (samples_read words before))
     (settled_count (modem_of words (before ++ octets)) (samples_read words before ++ block))
-        (samples_read words before ++ block) items) where
+    (samples_read words before ++ block) items) where
   longer : samples_read words (before ++ octets) ≡ samples_read words before ++ block
   longer = took.1 ∙ ap (λ t. samples_read words before ++ t) (sym is)
 

@@ -1,7 +1,7 @@
 -- What octets settle: with more octets after them, at the end of the input, and as a first part of what the whole input
 -- gives.
-use Rattle.std.proofs.Common.{◌≡◌, ℕ, ◌-◌, ◌≤◌, ℤ, List, [], ◌++◌, length, refl, ap, sym, subst, ◌∙◌, arith,
-    append_assoc, inl, inr}
+use Rattle.std.proofs.Common.{◌≡◌, ℕ, ◌-◌, ◌≤◌, ℤ, List, [], ◌++◌, length, refl, ap, sym, subst, ◌∙◌, arith}
+use Rattle.std.proofs.Common.{append_assoc, inl, inr}
 use Rattle.std.specs.Prelude.{Option, Some}
 use Rattle.std.proofs.lemmas.List.{append-nil, map-append}
 use Rattle.std.proofs.lemmas.Grind.{flat_map-append}
@@ -23,8 +23,8 @@ use Rattle.tnc_decode.specs.Printing.{print, printed}
 use Rattle.tnc_decode.specs.Settled.{IsPrintBelow, IsSettled, sample_count}
 use Rattle.tnc_decode.specs.Written.{WroteMost}
 use Rattle.tnc_decode.proofs.AudioLemmas.{modem_stays}
-use Rattle.tnc_decode.proofs.ModemLemmas.{none_heard, one_heard, settled_rises, given_join, given_all, given_first,
-    given_early}
+use Rattle.tnc_decode.proofs.ModemLemmas.{none_heard, one_heard, settled_rises, given_join, given_all, given_first}
+use Rattle.tnc_decode.proofs.ModemLemmas.{given_early}
 
 -- frames are printed one after another
 pub print-append : (form : FrameForm) (a b : List Candidate)
@@ -32,7 +32,7 @@ pub print-append : (form : FrameForm) (a b : List Candidate)
 unfolding print
 print-append form a b =
     ap (print form) (map-append (λ item. item.octets) a b)
-        ∙ flat_map-append (printed form) (candidate_frames a) (candidate_frames b)
+    ∙ flat_map-append (printed form) (candidate_frames a) (candidate_frames b)
 
 print_nothing : (form : FrameForm) → [] ≡ print form []
 unfolding print
@@ -63,8 +63,11 @@ settled_none words = settled_silent words [] [] (no_sample (rates_of words.recei
 pub silent_text : (words : DecodeWords) (octets : List ℕ) → samples_read words octets ≡ [] → IsDecoded words octets []
 silent_text words octets none =
     let modem : Modem = modem_of words octets in
-    record { candidates = []; are = subst (λ (y : List ℤ). AreHeard modem y []) (sym none) (none_heard modem);
-        is = print_nothing words.frames }
+    record {
+      candidates = [];
+      are = subst (λ (y : List ℤ). AreHeard modem y []) (sym none) (none_heard modem);
+      is = print_nothing words.frames;
+    }
 
 -- what octets without a sample settled is nothing
 silent_nothing : (words : DecodeWords) (octets text : List ℕ) → samples_read words octets ≡ []
@@ -72,27 +75,29 @@ silent_nothing : (words : DecodeWords) (octets text : List ℕ) → samples_read
 silent_nothing words octets text none h =
     let modem : Modem = modem_of words octets in
     let are : AreHeard modem [] h.are.candidates = subst (λ (y : List ℤ). AreHeard modem y h.are.candidates)
-        none h.are.are in
+    none h.are.are in
     let empty : h.are.candidates ≡ [] = one_heard modem [] h.are.candidates [] are (none_heard modem) in
     h.is ∙ ap (λ t. print words.frames (candidate_frames t)) (h.are.is
-        ∙ ap (λ c. below (sample_count words octets) (merged c)) empty) ∙ sym (print_nothing words.frames)
+    ∙ ap (λ c. below (sample_count words octets) (merged c)) empty) ∙ sym (print_nothing words.frames)
 
 -- What octets settle they settle for the modem that hears more of them: either it is the same, or nothing is settled.
 pub settled_as : (words : DecodeWords) (before octets text : List ℕ) → IsSettled words before text
     → (items : List Candidate) × AreGivenBelow (modem_of words (before ++ octets))
-        (settled_count (modem_of words (before ++ octets)) (samples_read words before)) (samples_read words before)
-        items
+    (settled_count (modem_of words (before ++ octets)) (samples_read words before)) (samples_read words before)
+    items
     × (text ≡ print words.frames (candidate_frames items))
 settled_as words before octets text h = elim (modem_stays words before octets) [
   | inl same ↦
       let P : Modem → Type 0 = λ modem. AreGivenBelow modem (settled_count modem (samples_read words before))
-          (samples_read words before) h.items in
+      (samples_read words before) h.items in
       (h.items, subst P (sym same) h.are, h.is)
   | inr none ↦
       let modem : Modem = modem_of words (before ++ octets) in
-      let P : List ℤ → Type 0 = λ y. AreGivenBelow modem (settled_count modem y) y [] in
-      ([], subst P (sym none) (record { candidates = []; are = none_heard modem; is = refl }),
-          silent_nothing words before text none h ∙ print_nothing words.frames)
+      let P : List ℤ → Type 0 = λ y. AreGivenBelow modem (settled_count modem y) y [] in (
+        [],
+        subst P (sym none) (record { candidates = []; are = none_heard modem; is = refl }),
+        silent_nothing words before text none h ∙ print_nothing words.frames,
+      )
 ]
 
 -- more octets settle more
@@ -100,9 +105,9 @@ pub settled_more : (words : DecodeWords) (before octets text more : List ℕ) (y
     → samples_read words (before ++ octets) ≡ samples_read words before ++ y
     → IsSettled words before text
     → AreGivenBetween (modem_of words (before ++ octets))
-        (settled_count (modem_of words (before ++ octets)) (samples_read words before))
+    (settled_count (modem_of words (before ++ octets)) (samples_read words before))
     (settled_count (modem_of words (before ++ octets)) (samples_read words before ++ y))
-        (samples_read words before ++ y) items
+    (samples_read words before ++ y) items
     → more ≡ print words.frames (candidate_frames items)
     → IsSettled words (before ++ octets) (text ++ more)
 settled_more words before octets text more y items longer h next is =
@@ -128,8 +133,8 @@ decoded_at_end words octets text more items h rest is = record {
   is = ap (λ t. t ++ more) h.is ∙ ap (λ t. print words.frames (candidate_frames h.items) ++ t) is
       ∙ sym (print-append words.frames h.items items)
       ∙ ap (λ t. print words.frames (candidate_frames t))
-          (given_all (modem_of words octets) (sample_count words octets) (samples_read words octets)
-          h.items items h.are rest);
+      (given_all (modem_of words octets) (sample_count words octets) (samples_read words octets)
+      h.items items h.are rest);
 }
 
 -- what the first octets settle is a first part of what all give
@@ -143,7 +148,7 @@ settled_first words front octets rest text whole y parts longer h d =
     let s = settled_as words front rest text h in
     let are : AreHeard modem (samples_read words front ++ y) d.candidates
     = subst (λ (z : List ℤ). AreHeard modem z d.candidates) longer
-        (subst (λ m. AreHeard m (samples_read words octets) d.candidates) same d.are) in
+    (subst (λ m. AreHeard m (samples_read words octets) d.candidates) same d.are) in
     let first = given_first modem (samples_read words front) y s.0 d.candidates s.1 are in (
       print words.frames (candidate_frames first.0),
       d.is ∙ ap (λ t. print words.frames (candidate_frames t)) first.1 ∙ print-append words.frames s.0 first.0
@@ -172,7 +177,7 @@ pub early_part : (words : DecodeWords) (front octets rest text all_text : List �
     → samples_read words octets ≡ samples_read words front ++ y → length y ≤ 2048
     → IsSettled words front text → IsDecoded words octets all_text
     → (early : List ℕ) × (more : List ℕ) × IsPrintBelow (sample_count words octets - 2048) words octets early
-        × (text ≡ early ++ more)
+    × (text ≡ early ++ more)
 early_part words front octets rest text all_text y parts longer few h d =
     let modem : Modem = modem_of words (front ++ rest) in
     let same : modem_of words octets ≡ modem = ap (modem_of words) parts in
@@ -184,7 +189,7 @@ early_part words front octets rest text all_text y parts longer few h d =
     let s = settled_as words front rest text h in
     let are : AreHeard modem (x ++ y) d.candidates
     = subst (λ (z : List ℤ). AreHeard modem z d.candidates) longer
-        (subst (λ t. AreHeard t (samples_read words octets) d.candidates) same d.are) in
+    (subst (λ t. AreHeard t (samples_read words octets) d.candidates) same d.are) in
     let halves = given_early modem m x y s.0 d.candidates (omega arith) s.1 are in
     let early : List Candidate = below m (merged d.candidates) in (
       print words.frames (candidate_frames early),

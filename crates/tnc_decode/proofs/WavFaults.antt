@@ -1,6 +1,7 @@
 -- A fault or a rate that the octets of a WAV file tell is told as well if more octets follow, and before any sample.
-use Rattle.std.proofs.Common.{◌≡◌, ℕ, zero, suc, ◌+◌, ◌*◌, ◌-◌, ◌<◌, ◌≤◌, Bool, true, false, List, [], ◌∷◌, ◌++◌,
-    length, take, drop, get_or, refl, ap, sym, subst, ◌∙◌, arith, inl, inr, length-append, length-drop}
+use Rattle.std.proofs.Common.{◌≡◌, ℕ, zero, suc, ◌+◌, ◌*◌, ◌-◌, ◌<◌, ◌≤◌, Bool, true, false, List, [], ◌∷◌, ◌++◌}
+use Rattle.std.proofs.Common.{length, take, drop, get_or, refl, ap, sym, subst, ◌∙◌, arith, inl, inr, length-append}
+use Rattle.std.proofs.Common.{length-drop}
 use Rattle.std.specs.Prelude.{Option, Some, None, codes, ◌==◌, nat_lt, if◌then◌else◌}
 use Rattle.std.proofs.lemmas.Bool.{cases_lt, lt-ltb, le-ltb, ltb-false}
 use Rattle.std.proofs.lemmas.List.{take-append-le, drop-append-le, drop_all, get_or_append_left}
@@ -12,8 +13,8 @@ use Rattle.wav_file.specs.declared.rates.Rates.{Rates}
 use Rattle.wav_file.specs.Place.{told_place}
 use Rattle.wav_file.specs.Chunks.{Chunk, chunk_at, chunks, padded}
 use Rattle.wav_file.specs.Format.{fields, field_fault, width_of, number_of, accepts, rate_at_front}
-use Rattle.wav_file.specs.Reading.{Reading, unfinished, failed, unless, difference, is_format, is_data, endless_size,
-    of_data, formatted, of_format, unformatted, reading, fault_in, rate_in, samples_in}
+use Rattle.wav_file.specs.Reading.{Reading, unfinished, failed, unless, difference, is_format, is_data, endless_size}
+use Rattle.wav_file.specs.Reading.{of_data, formatted, of_format, unformatted, reading, fault_in, rate_in, samples_in}
 use Rattle.wav_file.proofs.ChunkLemmas.{chunks_short, chunks_whole}
 
 -- what a reader of these rates reads
@@ -26,7 +27,7 @@ module _ (rates : Rates) where
   difference_whole fault place (letter ∷ word) [] more l = absurd (omega arith)
   difference_whole fault place (letter ∷ word) (octet ∷ octets) more l =
       ap (λ t. if letter == octet then t else Some (fault place))
-          (difference_whole fault (place + 1) word octets more (omega arith))
+      (difference_whole fault (place + 1) word octets more (omega arith))
 
   difference_stays : (fault : ℕ → WavFault) (place : ℕ) (word octets more : List ℕ) (shown : WavFault)
       → difference fault place word octets ≡ Some shown
@@ -36,7 +37,7 @@ module _ (rates : Rates) where
   difference_stays fault place (letter ∷ word) (octet ∷ octets) more shown e =
       (elim (letter == octet)
       as (λ t. (if t then difference fault (place + 1) word octets else Some (fault place)) ≡ Some shown
-          → (if t then difference fault (place + 1) word (octets ++ more) else Some (fault place)) ≡ Some shown)
+      → (if t then difference fault (place + 1) word (octets ++ more) else Some (fault place)) ≡ Some shown)
       [ true ↦ difference_stays fault (place + 1) word octets more shown | false ↦ λ k. k ]) e
 
   -- ---- numbers and fields
@@ -56,12 +57,12 @@ module _ (rates : Rates) where
       let width : ℕ = width_of field in
       let judged : ℕ → List ℕ → Option WavFault
       = λ value rest. if accepts rates field value then field_fault rates others (place + width) rest
-          else Some (BadFormat (told_place (place + width - 1)) (number_of field) value) in
+      else Some (BadFormat (told_place (place + width - 1)) (number_of field) value) in
       elim (cases_lt (length octets) width) [
         | inl short ↦
             let none : field_fault rates (field ∷ others) place octets ≡ None =
-                ap (λ t. if t then None else judged (little_number width octets) (drop width octets))
-                (lt-ltb (length octets) width short) in
+            ap (λ t. if t then None else judged (little_number width octets) (drop width octets))
+            (lt-ltb (length octets) width short) in
             let both : None ≡ Some shown = sym none ∙ e in
             absurd cc
         | inr whole ↦
@@ -69,19 +70,19 @@ module _ (rates : Rates) where
             let first : field_fault rates (field ∷ others) place octets ≡ judged value (drop width octets)
             = ap (λ t. if t then None else judged value (drop width octets)) (le-ltb (length octets) width whole) in
             let second : field_fault rates (field ∷ others) place (octets ++ more)
-                ≡ judged value (drop width octets ++ more)
+            ≡ judged value (drop width octets ++ more)
             = ap (λ t. if t then None else judged (little_number width (octets ++ more)) (drop width (octets ++ more)))
-                (le-ltb (length (octets ++ more)) width (omega (arith, length-append octets more)))
+            (le-ltb (length (octets ++ more)) width (omega (arith, length-append octets more)))
             ∙ ap (λ v. judged v (drop width (octets ++ more))) (little_longer 0 width octets more (omega arith))
             ∙ ap (judged value) (drop-append-le width octets more whole) in
             second
             ∙ (elim (accepts rates field value)
             as (λ t. (if t then field_fault rates others (place + width) (drop width octets)
-                else Some (BadFormat (told_place (place + width - 1)) (number_of field) value)) ≡ Some shown
+            else Some (BadFormat (told_place (place + width - 1)) (number_of field) value)) ≡ Some shown
             → (if t then field_fault rates others (place + width) (drop width octets ++ more)
-                else Some (BadFormat (told_place (place + width - 1)) (number_of field) value)) ≡ Some shown)
+            else Some (BadFormat (told_place (place + width - 1)) (number_of field) value)) ≡ Some shown)
             [ true ↦ fields_stay others (place + width) (drop width octets) more shown | false ↦ λ k. k ]) (sym first
-                ∙ e)
+            ∙ e)
       ]
 
   -- how many octets fields have
@@ -98,23 +99,24 @@ module _ (rates : Rates) where
       let value : ℕ = little_number width octets in
       let judged : ℕ → List ℕ → Option WavFault
       = λ value rest. if accepts rates field value then field_fault rates others (place + width) rest
-          else Some (BadFormat (told_place (place + width - 1)) (number_of field) value) in
+      else Some (BadFormat (told_place (place + width - 1)) (number_of field) value) in
       let whole : width ≤ length octets = omega arith in
       let first : field_fault rates (field ∷ others) place octets ≡ judged value (drop width octets)
       = ap (λ t. if t then None else judged value (drop width octets)) (le-ltb (length octets) width whole) in
       let second : field_fault rates (field ∷ others) place (octets ++ more) ≡ judged value (drop width octets ++ more)
       = ap (λ t. if t then None else judged (little_number width (octets ++ more)) (drop width (octets ++ more)))
-          (le-ltb (length (octets ++ more)) width (omega (arith, length-append octets more)))
+      (le-ltb (length (octets ++ more)) width (omega (arith, length-append octets more)))
       ∙ ap (λ v. judged v (drop width (octets ++ more))) (little_longer 0 width octets more (omega arith))
       ∙ ap (judged value) (drop-append-le width octets more whole) in
       second
       ∙ elim (accepts rates field value)
       as (λ t. (if t then field_fault rates others (place + width) (drop width octets ++ more)
-          else Some (BadFormat (told_place (place + width - 1)) (number_of field) value))
+      else Some (BadFormat (told_place (place + width - 1)) (number_of field) value))
       ≡ (if t then field_fault rates others (place + width) (drop width octets)
-          else Some (BadFormat (told_place (place + width - 1)) (number_of field) value)))
-      [ true ↦ fields_whole others (place + width) (drop width octets) more (omega (arith, length-drop width octets))
-          | false ↦ refl ]
+      else Some (BadFormat (told_place (place + width - 1)) (number_of field) value))) [
+        | true ↦ fields_whole others (place + width) (drop width octets) more (omega (arith, length-drop width octets))
+        | false ↦ refl
+      ]
       ∙ sym first
 
   -- ---- chunks
@@ -155,29 +157,29 @@ module _ (rates : Rates) where
 
   module _ {X : Type 0} (tells : Reading → Option X) (nothing : tells unfinished ≡ None)
       (behind_format : (place : ℕ) (behind more : List ℕ) (others others' : List Chunk) (shown : X)
-          → field_fault rates fields (place + 8) behind ≡ None
+      → field_fault rates fields (place + 8) behind ≡ None
       → tells (formatted (rate_at_front behind) others) ≡ Some shown
       → tells (unless (field_fault rates fields (place + 8) (behind ++ more))
-          (formatted (rate_at_front (behind ++ more)) others')) ≡ Some shown) where
+      (formatted (rate_at_front (behind ++ more)) others')) ≡ Some shown) where
     format_stays : (place size : ℕ) (name behind more : List ℕ) (others others' : List Chunk) (shown : X)
         → tells (of_format rates (record { place = place; name = name; size = size; behind = behind }) others)
-            ≡ Some shown
+        ≡ Some shown
         → tells (of_format rates (record { place = place; name = name; size = size; behind = behind ++ more }) others')
-            ≡ Some shown
+        ≡ Some shown
     format_stays place size name behind more others others' shown e =
         (elim (nat_lt size 16)
         as (λ t. tells (if t then failed (NoFormat (told_place (place + 7)))
-            else unless (field_fault rates fields (place + 8) behind) (formatted (rate_at_front behind) others))
-            ≡ Some shown
+        else unless (field_fault rates fields (place + 8) behind) (formatted (rate_at_front behind) others))
+        ≡ Some shown
         → tells (if t then failed (NoFormat (told_place (place + 7)))
-            else unless (field_fault rates fields (place + 8) (behind ++ more))
-            (formatted (rate_at_front (behind ++ more)) others')) ≡ Some shown)
+        else unless (field_fault rates fields (place + 8) (behind ++ more))
+        (formatted (rate_at_front (behind ++ more)) others')) ≡ Some shown)
         [ true ↦ λ k. k | false ↦ by_fields (field_fault rates fields (place + 8) behind) refl ]) e
       where
         by_fields : (fault : Option WavFault) → field_fault rates fields (place + 8) behind ≡ fault
             → tells (unless fault (formatted (rate_at_front behind) others)) ≡ Some shown
             → tells (unless (field_fault rates fields (place + 8) (behind ++ more))
-                (formatted (rate_at_front (behind ++ more)) others')) ≡ Some shown
+            (formatted (rate_at_front (behind ++ more)) others')) ≡ Some shown
         by_fields (Some fault) is k = ap (λ t. tells (unless t (formatted (rate_at_front (behind ++ more)) others')))
             (fields_stay fields (place + 8) behind more fault is) ∙ k
         by_fields None is k = behind_format place behind more others others' shown is k
@@ -186,64 +188,70 @@ module _ (rates : Rates) where
         → tells (unformatted rates (chunks place octets)) ≡ Some shown → ⊥
     no_chunk place octets shown short e =
         let both : None ≡ Some shown = sym (ap (λ list. tells (unformatted rates list))
-            (chunks_short place octets short) ∙ nothing) ∙ e in
+        (chunks_short place octets short) ∙ nothing) ∙ e in
         cc
 
     -- a fault in the first chunk stays, and so does one after it, if each fault of fewer octets does
     chunk_stays : (place : ℕ) (octets more : List ℕ) (shown : X)
         → ((place : ℕ) (others : List ℕ) → length others < length octets
-            → tells (unformatted rates (chunks place others)) ≡ Some shown
-            → tells (unformatted rates (chunks place (others ++ more))) ≡ Some shown)
+        → tells (unformatted rates (chunks place others)) ≡ Some shown
+        → tells (unformatted rates (chunks place (others ++ more))) ≡ Some shown)
         → (size : ℕ) → little_number 4 (drop 4 octets) ≡ size → 8 ≤ length octets
-            → tells (unformatted rates (chunks place octets)) ≡ Some shown
+        → tells (unformatted rates (chunks place octets)) ≡ Some shown
         → tells (unformatted rates (chunks place (octets ++ more))) ≡ Some shown
     chunk_stays place octets more shown again size told whole e =
         let name : List ℕ = take 4 octets in
         let behind : List ℕ = drop 8 octets in
-        let with : List ℕ → ℕ → List ℕ → Chunk = λ name size behind. record { place = place; name = name; size = size;
-            behind = behind } in
+        let with : List ℕ → ℕ → List ℕ → Chunk = λ name size behind. record {
+          place = place;
+          name = name;
+          size = size;
+          behind = behind;
+        } in
         let next : ℕ → List ℕ → List Chunk = λ size behind. chunks (place + 8 + padded size) (drop (padded size) behind)
-            in
+        in
         let first : chunks place octets ≡ with name size behind ∷ next size behind
         = chunks_whole place octets whole ∙ ap (λ s. with name s behind ∷ next s behind) told in
         let size_longer : little_number 4 (drop 4 (octets ++ more)) ≡ size
         = ap (little_number 4) (drop-append-le 4 octets more (omega arith))
-            ∙ little_longer 0 4 (drop 4 octets) more (omega (arith, length-drop 4 octets)) ∙ told in
+        ∙ little_longer 0 4 (drop 4 octets) more (omega (arith, length-drop 4 octets)) ∙ told in
         let second : chunks place (octets ++ more) ≡ with name size (behind ++ more) ∷ next size (behind ++ more)
         = chunks_whole place (octets ++ more) (omega (arith, length-append octets more))
         ∙ ap (λ s. with (take 4 (octets ++ more)) s (drop 8 (octets ++ more)) ∷ next s (drop 8 (octets ++ more)))
-            size_longer
+        size_longer
         ∙ ap (λ l. with l size (drop 8 (octets ++ more)) ∷ next size (drop 8 (octets ++ more)))
-            (take-append-le 4 octets more (omega arith))
+        (take-append-le 4 octets more (omega arith))
         ∙ ap (λ l. with name size l ∷ next size l) (drop-append-le 8 octets more whole) in
         let rest : tells (unformatted rates (next size behind)) ≡ Some shown
-            → tells (unformatted rates (next size (behind ++ more))) ≡ Some shown
+        → tells (unformatted rates (next size (behind ++ more))) ≡ Some shown
         = λ k. elim (cases_lt (length behind) (padded size)) [
           | inl short ↦ absurd (no_chunk (place + 8 + padded size) (drop (padded size) behind) shown
               (omega (arith, length-drop (padded size) behind)) k)
           | inr enough ↦
               ap (λ l. tells (unformatted rates (chunks (place + 8 + padded size) l)))
-                  (drop-append-le (padded size) behind more enough)
+              (drop-append-le (padded size) behind more enough)
               ∙ again (place + 8 + padded size) (drop (padded size) behind)
-                  (omega (arith, length-drop (padded size) behind, length-drop 8 octets)) k
+              (omega (arith, length-drop (padded size) behind, length-drop 8 octets)) k
         ] in
         ap (λ list. tells (unformatted rates list)) second
         ∙ (elim (is_data (with name size behind))
         as (λ t. tells (if t then failed (NoFormat (told_place (place + 7)))
-            else (if is_format (with name size behind) then of_format rates (with name size behind) (next size behind)
-            else unformatted rates (next size behind))) ≡ Some shown
+        else (if is_format (with name size behind) then of_format rates (with name size behind) (next size behind)
+        else unformatted rates (next size behind))) ≡ Some shown
         → tells (if t then failed (NoFormat (told_place (place + 7)))
-            else (if is_format (with name size behind) then of_format rates (with name size (behind ++ more))
-            (next size (behind ++ more)) else unformatted rates (next size (behind ++ more)))) ≡ Some shown) [
+        else (if is_format (with name size behind) then of_format rates (with name size (behind ++ more))
+        (next size (behind ++ more)) else unformatted rates (next size (behind ++ more)))) ≡ Some shown) [
           | true ↦ λ k. k
           | false ↦
               elim (is_format (with name size behind))
               as (λ t. tells (if t then of_format rates (with name size behind) (next size behind)
-                  else unformatted rates (next size behind)) ≡ Some shown
+              else unformatted rates (next size behind)) ≡ Some shown
               → tells (if t then of_format rates (with name size (behind ++ more)) (next size (behind ++ more))
-                  else unformatted rates (next size (behind ++ more))) ≡ Some shown)
-              [ true ↦ format_stays place size name behind more (next size behind) (next size (behind ++ more))
-                  shown | false ↦ rest ]
+              else unformatted rates (next size (behind ++ more))) ≡ Some shown) [
+                | true ↦ format_stays place size name behind more (next size behind) (next size (behind ++ more))
+                    shown
+                | false ↦ rest
+              ]
         ]) (sym (ap (λ list. tells (unformatted rates list)) first) ∙ e)
 
     chunks_stay : (n place : ℕ) (octets more : List ℕ) (shown : X) → length octets ≤ n
@@ -271,21 +279,21 @@ module _ (rates : Rates) where
             → 8 ≤ length octets
             → tells (unless fault (unformatted rates (chunks 12 (drop 12 octets)))) ≡ Some shown
             → tells (unless (difference NotWave 8 (codes "WAVE") (drop 8 (octets ++ more)))
-                (unformatted rates (chunks 12 (drop 12 (octets ++ more))))) ≡ Some shown
+            (unformatted rates (chunks 12 (drop 12 (octets ++ more))))) ≡ Some shown
         by_wave (Some fault) is enough k =
             ap (λ l. tells (unless (difference NotWave 8 (codes "WAVE") l)
-                (unformatted rates (chunks 12 (drop 12 (octets ++ more)))))) (drop-append-le 8 octets more enough)
+            (unformatted rates (chunks 12 (drop 12 (octets ++ more)))))) (drop-append-le 8 octets more enough)
             ∙ ap (λ t. tells (unless t (unformatted rates (chunks 12 (drop 12 (octets ++ more))))))
-                (difference_stays NotWave 8 (codes "WAVE") (drop 8 octets) more fault is) ∙ k
+            (difference_stays NotWave 8 (codes "WAVE") (drop 8 octets) more fault is) ∙ k
         by_wave None is enough k =
             elim (cases_lt (length octets) 12) [
               | inl few ↦ absurd (none_behind (omega arith) k)
               | inr whole ↦
                   ap (λ l. tells (unless (difference NotWave 8 (codes "WAVE") l)
-                      (unformatted rates (chunks 12 (drop 12 (octets ++ more)))))) (drop-append-le 8 octets more enough)
+                  (unformatted rates (chunks 12 (drop 12 (octets ++ more)))))) (drop-append-le 8 octets more enough)
                   ∙ ap (λ t. tells (unless t (unformatted rates (chunks 12 (drop 12 (octets ++ more))))))
                   (difference_whole NotWave 8 (codes "WAVE") (drop 8 octets) more
-                      (let four : length (codes "WAVE") ≡ 4 = refl in omega (arith, length-drop 8 octets)) ∙ is)
+                  (let four : length (codes "WAVE") ≡ 4 = refl in omega (arith, length-drop 8 octets)) ∙ is)
                   ∙ ap (λ l. tells (unformatted rates (chunks 12 l))) (drop-append-le 12 octets more whole)
                   ∙ chunks_stay (length (drop 12 octets)) 12 (drop 12 octets) more shown (omega arith) k
             ]
@@ -294,27 +302,27 @@ module _ (rates : Rates) where
             (unformatted rates (chunks 12 (drop 12 octets)))) ≡ Some shown → ⊥
         short_wave few k =
             none_behind (omega arith)
-                (ap (λ l. tells (unless (difference NotWave 8 (codes "WAVE") l)
-                (unformatted rates (chunks 12 (drop 12 octets))))) (sym (drop_all 8 octets (omega arith))) ∙ k)
+            (ap (λ l. tells (unless (difference NotWave 8 (codes "WAVE") l)
+            (unformatted rates (chunks 12 (drop 12 octets))))) (sym (drop_all 8 octets (omega arith))) ∙ k)
 
         by_riff : (fault : Option WavFault) → difference NotRiff 0 (codes "RIFF") octets ≡ fault
             → tells (unless fault (unless (difference NotWave 8 (codes "WAVE") (drop 8 octets))
-                (unformatted rates (chunks 12 (drop 12 octets))))) ≡ Some shown
+            (unformatted rates (chunks 12 (drop 12 octets))))) ≡ Some shown
             → tells (unless (difference NotRiff 0 (codes "RIFF") (octets ++ more))
-                (unless (difference NotWave 8 (codes "WAVE") (drop 8 (octets ++ more)))
-                (unformatted rates (chunks 12 (drop 12 (octets ++ more)))))) ≡ Some shown
+            (unless (difference NotWave 8 (codes "WAVE") (drop 8 (octets ++ more)))
+            (unformatted rates (chunks 12 (drop 12 (octets ++ more)))))) ≡ Some shown
         by_riff (Some fault) is k =
             ap (λ t. tells (unless t (unless (difference NotWave 8 (codes "WAVE") (drop 8 (octets ++ more)))
-                (unformatted rates (chunks 12 (drop 12 (octets ++ more)))))))
-                (difference_stays NotRiff 0 (codes "RIFF") octets more fault is) ∙ k
+            (unformatted rates (chunks 12 (drop 12 (octets ++ more)))))))
+            (difference_stays NotRiff 0 (codes "RIFF") octets more fault is) ∙ k
         by_riff None is k =
             elim (cases_lt (length octets) 8) [
               | inl few ↦ absurd (short_wave few k)
               | inr enough ↦
                   ap (λ t. tells (unless t (unless (difference NotWave 8 (codes "WAVE") (drop 8 (octets ++ more)))
-                      (unformatted rates (chunks 12 (drop 12 (octets ++ more)))))))
+                  (unformatted rates (chunks 12 (drop 12 (octets ++ more)))))))
                   (difference_whole NotRiff 0 (codes "RIFF") octets more (let four : length (codes "RIFF") ≡ 4 = refl in
-                      omega arith) ∙ is)
+                  omega arith) ∙ is)
                   ∙ by_wave (difference NotWave 8 (codes "WAVE") (drop 8 octets)) refl enough k
             ]
 
@@ -323,7 +331,7 @@ module _ (rates : Rates) where
       → fault_in rates (octets ++ more) ≡ Some shown
   fault_stays = reading_stays (λ r. r.fault) refl
       (λ place behind more others others' shown is k. let both : None ≡ Some shown =
-          sym (faultless (rate_at_front behind) others) ∙ k in absurd cc)
+      sym (faultless (rate_at_front behind) others) ∙ k in absurd cc)
 
   -- so does the rate
   pub rate_stays : (octets more : List ℕ) (rate : ℕ) → rate_in rates octets ≡ Some rate
@@ -333,7 +341,7 @@ module _ (rates : Rates) where
       elim (cases_lt (length behind) 16) [
         | inl few ↦
             let none : rate_at_front behind ≡ None = ap (λ t. if t then None
-                else Some (little_number 4 (drop 4 behind))) (lt-ltb (length behind) 16 few) in
+            else Some (little_number 4 (drop 4 behind))) (lt-ltb (length behind) 16 few) in
             let both : None ≡ Some rate = sym none ∙ here in
             absurd cc
         | inr enough ↦
@@ -341,12 +349,12 @@ module _ (rates : Rates) where
             = ap (λ t. if t then None else Some (little_number 4 (drop 4 behind))) (le-ltb (length behind) 16 enough) in
             let second : rate_at_front (behind ++ more) ≡ Some (little_number 4 (drop 4 (behind ++ more)))
             = ap (λ t. if t then None else Some (little_number 4 (drop 4 (behind ++ more))))
-                (le-ltb (length (behind ++ more)) 16 (omega (arith, length-append behind more))) in
+            (le-ltb (length (behind ++ more)) 16 (omega (arith, length-append behind more))) in
             let same : little_number 4 (drop 4 (behind ++ more)) ≡ little_number 4 (drop 4 behind)
             = ap (little_number 4) (drop-append-le 4 behind more (omega arith))
-                ∙ little_longer 0 4 (drop 4 behind) more (omega (arith, length-drop 4 behind)) in
+            ∙ little_longer 0 4 (drop 4 behind) more (omega (arith, length-drop 4 behind)) in
             ap (λ t. (unless t (formatted (rate_at_front (behind ++ more)) others')).rate)
-                (fields_whole fields (place + 8) behind more enough ∙ is)
+            (fields_whole fields (place + 8) behind more enough ∙ is)
             ∙ keeps_rate (rate_at_front (behind ++ more)) others' ∙ second ∙ ap Some same ∙ sym first ∙ here
       ])
 
@@ -366,19 +374,21 @@ module _ (rates : Rates) where
   silent_unformatted [] shown e = refl
   silent_unformatted (chunk ∷ others) shown e =
       (elim (is_data chunk) as (λ t. IsSilent (if t then failed (NoFormat (told_place (chunk.place + 7)))
-          else (if is_format chunk then of_format rates chunk others else unformatted rates others))) [
+      else (if is_format chunk then of_format rates chunk others else unformatted rates others))) [
         | true ↦ λ shown e. refl
         | false ↦
             elim (is_format chunk) as (λ t. IsSilent (if t then of_format rates chunk others
-                else unformatted rates others)) [
+            else unformatted rates others)) [
               | true ↦
                   elim (nat_lt chunk.size 16) as (λ t. IsSilent (if t then failed
-                      (NoFormat (told_place (chunk.place + 7))) else unless
-                      (field_fault rates fields (chunk.place + 8) chunk.behind)
-                      (formatted (rate_at_front chunk.behind) others)))
-                  [ true ↦ λ shown e. refl | false ↦ silent_unless (field_fault rates fields (chunk.place + 8)
-                      chunk.behind) (formatted (rate_at_front chunk.behind) others)
-                      (silent_formatted (rate_at_front chunk.behind) others) ]
+                  (NoFormat (told_place (chunk.place + 7))) else unless
+                  (field_fault rates fields (chunk.place + 8) chunk.behind)
+                  (formatted (rate_at_front chunk.behind) others))) [
+                    | true ↦ λ shown e. refl
+                    | false ↦ silent_unless (field_fault rates fields (chunk.place + 8)
+                        chunk.behind) (formatted (rate_at_front chunk.behind) others)
+                        (silent_formatted (rate_at_front chunk.behind) others)
+                  ]
               | false ↦ silent_unformatted others
             ]
       ]) shown e
@@ -389,7 +399,7 @@ module _ (rates : Rates) where
   silent_before octets = silent_unless (difference NotRiff 0 (codes "RIFF") octets)
       (unless (difference NotWave 8 (codes "WAVE") (drop 8 octets)) (unformatted rates (chunks 12 (drop 12 octets))))
       (silent_unless (difference NotWave 8 (codes "WAVE") (drop 8 octets))
-          (unformatted rates (chunks 12 (drop 12 octets))) (silent_unformatted (chunks 12 (drop 12 octets))))
+      (unformatted rates (chunks 12 (drop 12 octets))) (silent_unformatted (chunks 12 (drop 12 octets))))
 
   -- ---- and none before the rate
 
@@ -407,14 +417,14 @@ module _ (rates : Rates) where
       elim (cases_lt (length behind) 16) [
         | inl few ↦
             ap (λ l. (formatted (rate_at_front behind) (chunks place l)).heard)
-                (drop_all (padded size) behind (omega arith))
+            (drop_all (padded size) behind (omega arith))
             ∙ ap (λ list. (formatted (rate_at_front behind) list).heard) (chunks_short place [] (omega arith))
         | inr enough ↦
             let value : ℕ = little_number 4 (drop 4 behind) in
             let some : rate_at_front behind ≡ Some value = ap (λ t. if t then None else Some value)
-                (le-ltb (length behind) 16 enough) in
+            (le-ltb (length behind) 16 enough) in
             let both : Some value ≡ None = sym some
-                ∙ sym (keeps_rate (rate_at_front behind) (chunks place (drop (padded size) behind))) ∙ e in
+            ∙ sym (keeps_rate (rate_at_front behind) (chunks place (drop (padded size) behind))) ∙ e in
             absurd cc
       ]
 
@@ -422,16 +432,16 @@ module _ (rates : Rates) where
   quiet_chunk : (place : ℕ) (chunk : Chunk) → chunk.place ≡ place
       → IsQuiet (unformatted rates (chunks (place + 8 + padded chunk.size) (drop (padded chunk.size) chunk.behind)))
       → IsQuiet (unformatted rates (chunk ∷ chunks (place + 8 + padded chunk.size)
-          (drop (padded chunk.size) chunk.behind)))
+      (drop (padded chunk.size) chunk.behind)))
   quiet_chunk place chunk at again =
       elim (is_data chunk) as (λ t. IsQuiet (if t then failed (NoFormat (told_place (chunk.place + 7)))
-          else (if is_format chunk then of_format rates chunk others else unformatted rates others))) [
+      else (if is_format chunk then of_format rates chunk others else unformatted rates others))) [
         | true ↦ λ e. refl
         | false ↦ elim (is_format chunk) as (λ t. IsQuiet (if t then of_format rates chunk others
             else unformatted rates others)) [
-          | true ↦ by_size (nat_lt chunk.size 16) refl
-          | false ↦ again
-        ]
+              | true ↦ by_size (nat_lt chunk.size 16) refl
+              | false ↦ again
+            ]
       ]
     where
       others : List Chunk
@@ -439,12 +449,12 @@ module _ (rates : Rates) where
 
       by_size : (b : Bool) → nat_lt chunk.size 16 ≡ b
           → IsQuiet (if b then failed (NoFormat (told_place (chunk.place + 7)))
-              else unless (field_fault rates fields (chunk.place + 8) chunk.behind)
-              (formatted (rate_at_front chunk.behind) others))
+          else unless (field_fault rates fields (chunk.place + 8) chunk.behind)
+          (formatted (rate_at_front chunk.behind) others))
       by_size true is = λ e. refl
       by_size false is =
           quiet_unless (field_fault rates fields (chunk.place + 8) chunk.behind)
-              (formatted (rate_at_front chunk.behind) others)
+          (formatted (rate_at_front chunk.behind) others)
           (quiet_formatted (place + 8 + padded chunk.size) chunk.size chunk.behind (ltb-false chunk.size 16 is))
 
   quiet_chunks : (n place : ℕ) (octets : List ℕ) → length octets ≤ n → IsQuiet (unformatted rates (chunks place octets))
@@ -457,7 +467,7 @@ module _ (rates : Rates) where
             let chunk : Chunk = chunk_at place octets in
             subst (λ list. IsQuiet (unformatted rates list)) (sym (chunks_whole place octets whole))
             (quiet_chunk place chunk refl (quiet_chunks n (place + 8 + padded chunk.size)
-                (drop (padded chunk.size) chunk.behind)
+            (drop (padded chunk.size) chunk.behind)
             (omega (arith, length-drop (padded chunk.size) chunk.behind, length-drop 8 octets))))
       ]
 
@@ -466,5 +476,5 @@ module _ (rates : Rates) where
   quiet_before octets = quiet_unless (difference NotRiff 0 (codes "RIFF") octets)
       (unless (difference NotWave 8 (codes "WAVE") (drop 8 octets)) (unformatted rates (chunks 12 (drop 12 octets))))
       (quiet_unless (difference NotWave 8 (codes "WAVE") (drop 8 octets))
-          (unformatted rates (chunks 12 (drop 12 octets))) (quiet_chunks (length (drop 12 octets)) 12 (drop 12 octets)
-          (omega arith)))
+      (unformatted rates (chunks 12 (drop 12 octets))) (quiet_chunks (length (drop 12 octets)) 12 (drop 12 octets)
+      (omega arith)))

@@ -1,6 +1,6 @@
 -- Audio in its two forms: raw PCM, which is signed 16-bit samples with the low octet first, and a WAV file of them.
-use Rattle.std.specs.Prelude.{ℕ, ◌+◌, nat_lt, if◌then◌else◌, ℤ, List, length, take, Option, Some, None, option_map,
-    Result, Ok, Err}
+use Rattle.std.specs.Prelude.{ℕ, ◌+◌, nat_lt, if◌then◌else◌, ℤ, List, length, take, Option, Some, None, option_map}
+use Rattle.std.specs.Prelude.{Result, Ok, Err}
 use Rattle.std.specs.Option.{option_or}
 use Rattle.wav_file.specs.declared.fault.WavFault.{WavFault}
 use Rattle.wav_file.specs.declared.rates.Rates.{Rates}

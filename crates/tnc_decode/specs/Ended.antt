@@ -56,7 +56,7 @@ WroteFirst words octets was now = (before text : List ℕ) → was ≡ Some befo
 abbrev pub IsStopped : DecodeWords → List ℕ → Option (List ℕ) → Option (List ℕ) → Option (List ℕ) → InputFault → Type 0
 IsStopped words octets left was now fault =
     ((fault ≡ TooLong) × (input_limit < length octets) × (left ≡ Some (drop (input_limit + 1) octets))
-        × WroteSettled words octets left was now)
+    × WroteSettled words octets left was now)
     ⊎ ((wav : WavFault) × (fault ≡ BadWav wav) × WroteAll words octets was now)
 
 abbrev pub IsEnded : DecodeWords → List ℕ → Option (List ℕ) → Option (List ℕ) → Option (List ℕ)
@@ -65,7 +65,7 @@ IsEnded words octets left was now (Ok x) = (left ≡ Some []) × (audio_fault wo
     × WroteAll words octets was now
 IsEnded words octets left was now (Err (Input fault)) =
     (audio_fault words octets ≡ Some fault) × IsStopped words octets left was now fault
-        × WroteFirst words octets was now
+    × WroteFirst words octets was now
 IsEnded words octets left was now (Err Memory) = WroteFront words octets left was now × WroteFirst words octets was now
 IsEnded words octets left was now (Err Read) = WroteSettled words octets left was now × WroteFirst words octets was now
 IsEnded words octets left was now (Err Write) = WroteCut words octets left was now × WroteFirst words octets was now

@@ -16,8 +16,8 @@ use Rattle.tnc_decode.specs.declared.audio.Audio.TheVariants.{Pcm, File}
 use Rattle.tnc_decode.specs.declared.decoders.Decoders.{Decoders}
 use Rattle.tnc_decode.specs.declared.decoders.Decoders.TheVariants.{Plain, Wide, Sensitive, ShortWave}
 use Rattle.tnc_decode.specs.declared.modem.Modem.{Modem}
-use Rattle.tnc_decode.specs.declared.modem.Modem.TheVariants.{Plain as PlainModem, Wide as WideModem,
-    Sensitive as SensitiveModem}
+use Rattle.tnc_decode.specs.declared.modem.Modem.TheVariants.{Plain as PlainModem, Wide as WideModem}
+use Rattle.tnc_decode.specs.declared.modem.Modem.TheVariants.{Sensitive as SensitiveModem}
 use Rattle.tnc_decode.specs.declared.modem.Modem.TheVariants.{ShortWave as ShortWaveModem}
 use Rattle.tnc_decode.specs.declared.receiver.Receiver.{Receiver}
 use Rattle.tnc_decode.specs.Audio.{rates_of, samples_read}

@@ -1,6 +1,6 @@
 -- How many samples frames take, one frame more at a time.
-use Rattle.std.proofs.Common.{◌≡◌, ℕ, zero, suc, eqb, true≢false, ◌+◌, ◌<◌, ℤ, List, [], ◌∷◌, ◌++◌, true, false, cond,
-    length, length-append, map, take, get_or, sym, ap, ◌∙◌, arith}
+use Rattle.std.proofs.Common.{◌≡◌, ℕ, zero, suc, eqb, true≢false, ◌+◌, ◌<◌, ℤ, List, [], ◌∷◌, ◌++◌, true, false, cond}
+use Rattle.std.proofs.Common.{length, length-append, map, take, get_or, sym, ap, ◌∙◌, arith}
 use Rattle.std.proofs.lemmas.List.{map-append, take_more}
 use Rattle.tnc_words.specs.declared.command.EncodeWords.{EncodeWords}
 use Rattle.afsk_modulator.specs.Signal.{Transmission}
@@ -33,17 +33,17 @@ module _ (words : EncodeWords) where
   pub own_samples-more : (frames : List (List ℕ)) (index : ℕ) (frame : List ℕ) → index < length frames
       → frame ≡ get_or frames index frame
       → length (own_samples (take (index + 1) frames)) ≡ length (own_samples (take index frames)) + length
-          (samples_at_once words (frame ∷ []))
+      (samples_at_once words (frame ∷ []))
   unfolding own_samples
   own_samples-more frames index frame below is =
       let before : List Transmission = map alone (take index frames) in
       ap (λ fs. length (signal_by words.modem words.level (map alone fs))) (take_more frames index frame below
-          ∙ ap (λ f. take index frames ++ f ∷ []) (sym is))
+      ∙ ap (λ f. take index frames ++ f ∷ []) (sym is))
       ∙ ap (λ ts. length (signal_by words.modem words.level ts)) (map-append alone (take index frames) (frame ∷ []))
       ∙ ap length (signal_by-append words.modem words.level before (alone frame ∷ []))
       ∙ length-append (signal_by words.modem words.level before) (signal_by words.modem words.level (alone frame ∷ []))
       ∙ ap (λ s. length (signal_by words.modem words.level before) + length s)
-          (signal_by-one words.modem words.level (alone frame))
+      (signal_by-one words.modem words.level (alone frame))
 
   -- all frames in one transmission
   pub joined_samples : (frames : List (List ℕ)) → words.join ≡ true → 0 < length frames
@@ -52,7 +52,7 @@ module _ (words : EncodeWords) where
   joined_samples (first ∷ frames) join some =
       sym (signal_by-one words.modem words.level (sent_at_once words (first ∷ frames)))
       ∙ ap (λ b. signal_by words.modem words.level (cond b (joined words (first ∷ frames))
-          (map alone (first ∷ frames)))) (sym join)
+      (map alone (first ∷ frames)))) (sym join)
 
   pub none_joined_samples : (frames : List (List ℕ)) → words.join ≡ true → length frames ≡ 0
       → signal_of words frames ≡ []

@@ -1,6 +1,6 @@
 -- What encode makes of an input, and what is wrong with it.
-use Rattle.std.proofs.Common.{◌≡◌, ℕ, ◌≤◌, ℤ, List, [], ◌∷◌, ◌++◌, length, Option, Some, None, true≢false, refl, sym,
-    subst, ap, ◌∙◌, le-ltb, arith}
+use Rattle.std.proofs.Common.{◌≡◌, ℕ, ◌≤◌, ℤ, List, [], ◌∷◌, ◌++◌, length, Option, Some, None, true≢false, refl, sym}
+use Rattle.std.proofs.Common.{subst, ap, ◌∙◌, le-ltb, arith}
 use Rattle.std.proofs.lemmas.List.{append-nil}
 use Rattle.std.specs.Prelude.{is_some, if◌then◌else◌}
 use Rattle.tnc_base.specs.Streams.{WrotePart}
@@ -17,8 +17,8 @@ use Rattle.tnc_words.specs.declared.command.FrameForm.{FrameForm}
 use Rattle.tnc_words.specs.declared.command.FrameForm.TheVariants.{Hex, Kiss}
 use Rattle.tnc_words.specs.declared.command.EncodeWords.{EncodeWords}
 use Rattle.tnc_encode.specs.Frames.{form_fault}
-use Rattle.tnc_encode.specs.Encoded.{encoded, encoded_before, fault_of_whole, first_of, length_fault, samples_sent,
-    written_as, written_before}
+use Rattle.tnc_encode.specs.Encoded.{encoded, encoded_before, fault_of_whole, first_of, length_fault, samples_sent}
+use Rattle.tnc_encode.specs.Encoded.{written_as, written_before}
 
 some_is_not_none : (fault : InputFault) → Some fault ≡ None → ⊥
 some_is_not_none fault e = true≢false (ap is_some e)
@@ -50,11 +50,11 @@ part_of Wav samples before now h = part_of_nothing before (written_as Wav sample
 module _ (words : EncodeWords) (input : List ℕ) where
   within : length input ≤ input_limit
       → fault_of_whole words input ≡ first_of (form_fault words.frames input)
-          (length_fault words.audio (length (samples_sent words input)))
+      (length_fault words.audio (length (samples_sent words input)))
   unfolding fault_of_whole
   within short =
       ap (λ b. if b then Some TooLong else first_of (form_fault words.frames input)
-          (length_fault words.audio (length (samples_sent words input))))
+      (length_fault words.audio (length (samples_sent words input))))
       (le-ltb input_limit (length input) short)
 
   -- an input without a fault of its form
@@ -85,4 +85,4 @@ module _ (words : EncodeWords) (input : List ℕ) where
   part_before before now h =
       subst (λ (text : List ℕ). WrotePart before text now) encoded_is
       (part_of words.audio (samples_sent words input) before now
-          (subst (λ (text : List ℕ). WrotePart before text now) (sym encoded_before_is) h))
+      (subst (λ (text : List ℕ). WrotePart before text now) (sym encoded_before_is) h))

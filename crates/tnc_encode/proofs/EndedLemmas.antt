@@ -1,6 +1,7 @@
 -- How an encoding ends whose frames are sent as they come: what each clause says of its answer.
-use Rattle.std.proofs.Common.{◌≡◌, ℕ, ◌+◌, ◌<◌, ◌≤◌, Bool, true, false, true≢false, List, [], ◌++◌, length, take, drop,
-    append_assoc, Option, Some, None, Result, Ok, Err, inl, inr, refl, sym, subst, ap, ◌∙◌, lt-ltb}
+use Rattle.std.proofs.Common.{◌≡◌, ℕ, ◌+◌, ◌<◌, ◌≤◌, Bool, true, false, true≢false, List, [], ◌++◌, length, take, drop}
+use Rattle.std.proofs.Common.{append_assoc, Option, Some, None, Result, Ok, Err, inl, inr, refl, sym, subst, ap, ◌∙◌}
+use Rattle.std.proofs.Common.{lt-ltb}
 use Rattle.std.specs.Prelude.{OnOk, OnErr, if◌then◌else◌}
 use Rattle.std.proofs.lemmas.Bool.{cases_lt}
 use Rattle.std.proofs.lemmas.List.{append-nil, take-append-drop}
@@ -18,8 +19,9 @@ use Rattle.tnc_forms.proofs.WrittenParts.{wrote_behind, wrote_front}
 use Rattle.tnc_words.specs.declared.command.AudioForm.{AudioForm}
 use Rattle.tnc_words.specs.declared.command.AudioForm.TheVariants.{Raw, Wav}
 use Rattle.tnc_words.specs.declared.command.EncodeWords.{EncodeWords}
-use Rattle.tnc_encode.specs.Encoded.{encode_fault, encoded, encoded_before, encoded_so_far, fault_of_pieces,
-    fault_of_whole, first_of, keeps_frames, length_fault, samples_sent, signal_of, written_as, written_before}
+use Rattle.tnc_encode.specs.Encoded.{encode_fault, encoded, encoded_before, encoded_so_far, fault_of_pieces}
+use Rattle.tnc_encode.specs.Encoded.{fault_of_whole, first_of, keeps_frames, length_fault, samples_sent, signal_of}
+use Rattle.tnc_encode.specs.Encoded.{written_as, written_before}
 use Rattle.tnc_encode.specs.Frames.{form_fault, form_fault_so_far, frames_of_input, frames_so_far}
 use Rattle.tnc_encode.specs.HeldFrames.{IsSignal, form_of}
 use Rattle.tnc_encode.proofs.FormLemmas.{forms_stay, signals_join}
@@ -44,7 +46,7 @@ pub whole_too_long : (words : EncodeWords) (octets : List ℕ) → input_limit <
 unfolding fault_of_whole
 whole_too_long words octets over =
     ap (λ b. if b then Some TooLong else first_of (form_fault words.frames octets)
-        (length_fault words.audio (length (samples_sent words octets)))) (lt-ltb input_limit (length octets) over)
+    (length_fault words.audio (length (samples_sent words octets)))) (lt-ltb input_limit (length octets) over)
 
 -- frames that are sent as they come
 module _ (words : EncodeWords) (sent : keeps_frames words.audio words.join ≡ false) where
@@ -129,7 +131,7 @@ module _ (words : EncodeWords) (sent : keeps_frames words.audio words.join ≡ f
     to_before r h before fault w short is =
         let f = subst Ended is h in
         wrote_is (frames_of_input words.frames octets) was now before w (f.wrote short)
-            ∙ ap (λ t. Some (before ++ t)) (sym (before_raw octets))
+        ∙ ap (λ t. Some (before ++ t)) (sym (before_raw octets))
 
     pub to_many : (r : Result (Unit {0}) Fault) → Ended r → (before : List ℕ) (fault : InputFault) → was ≡ Some before
         → input_limit < length octets
@@ -145,7 +147,7 @@ module _ (words : EncodeWords) (sent : keeps_frames words.audio words.join ≡ f
 
     pub to_so_far : (r : Result (Unit {0}) Fault) → Ended r → (before : List ℕ) → was ≡ Some before → r ≡ Err Read
         → (read : List ℕ) × WereRead octets left read × (form_fault_so_far words.frames read ≡ None)
-            × (now ≡ Some (before ++ encoded_so_far words read))
+        × (now ≡ Some (before ++ encoded_so_far words read))
     to_so_far r h before w is =
         let s = subst Ended is h in (
           s.read,
@@ -176,16 +178,16 @@ module _ (words : EncodeWords) (sent : keeps_frames words.audio words.join ≡ f
 
     pub to_most : (r : Result (Unit {0}) Fault) → Ended r → (before : List ℕ) → was ≡ Some before → r ≡ Err Write
         → (read front rest more left_out : List ℕ) × WereRead octets left read × (read ≡ front ++ rest)
-            × (length rest ≤ piece_limit)
+        × (length rest ≤ piece_limit)
         × (form_fault_so_far words.frames front ≡ None)
-            × (encoded words read ≡ (encoded_so_far words front ++ more) ++ left_out)
+        × (encoded words read ≡ (encoded_so_far words front ++ more) ++ left_out)
         × (now ≡ Some (before ++ (encoded_so_far words front ++ more)))
     to_most r h before w is =
         let s = subst Ended is h in
         let b = s.before in
         let first : List ℕ = pcm (signal_of words (frames_so_far words.frames b.front)) in
         let cut = s.wrote.written (before ++ first) (wrote_is (frames_so_far words.frames b.front)
-            was s.mid before w b.wrote) in
+        was s.mid before w b.wrote) in
         let last : List ℕ = pcm (signal_of words s.others) in
         let same : first ≡ encoded_so_far words b.front = sym (so_far_raw b.front) in (
           b.read,
@@ -200,7 +202,7 @@ module _ (words : EncodeWords) (sent : keeps_frames words.audio words.join ≡ f
           encoded_raw b.read ∙ ap (λ fs. pcm (signal_of words fs)) s.known
               ∙ signal_both (frames_so_far words.frames b.front ++ s.frames) s.others
               ∙ ap (λ t. t ++ last) (signal_both (frames_so_far words.frames b.front) s.frames
-                  ∙ ap (λ t. first ++ t) (sym s.wrote.is ∙ cut.2))
+              ∙ ap (λ t. first ++ t) (sym s.wrote.is ∙ cut.2))
               ∙ regrouped first cut.0 cut.1 last ∙ ap (λ t. (t ++ cut.0) ++ (cut.1 ++ last)) same,
           cut.3 ∙ ap Some (append_assoc before first cut.0) ∙ ap (λ t. Some (before ++ (t ++ cut.0))) same,
         )
@@ -211,34 +213,34 @@ module _ (words : EncodeWords) (sent : keeps_frames words.audio words.join ≡ f
     to_cut (Err (Input fault)) h before w = elim (cases_lt input_limit (length octets)) [
       | inl over ↦
           let first = first_frames (IsSignal words) (signals_join words apart) (form_of words.frames)
-              (forms_stay words.frames) (take input_limit octets) (drop input_limit octets) in
+          (forms_stay words.frames) (take input_limit octets) (drop input_limit octets) in
           part_of octets (frames_so_far words.frames (take input_limit octets)) first.0 was now before
           (ap (frames_of_input words.frames) (sym (take-append-drop input_limit octets)) ∙ first.1) w
-              (h.wrote_of_many over)
+          (h.wrote_of_many over)
       | inr short ↦ part_of octets (frames_of_input words.frames octets) [] was now before
           (sym (append-nil (frames_of_input words.frames octets))) w (h.wrote short)
     ]
     to_cut (Err Memory) h before w =
         let first = first_frames (IsSignal words) (signals_join words apart) (form_of words.frames)
-            (forms_stay words.frames) h.front (h.rest ++ h.taken.rest) in
+        (forms_stay words.frames) h.front (h.rest ++ h.taken.rest) in
         part_of octets (frames_so_far words.frames h.front) first.0 was now before
         (ap (frames_of_input words.frames) (h.taken.parts ∙ ap (λ o. o ++ h.taken.rest) h.parts
-            ∙ append_assoc h.front h.rest h.taken.rest) ∙ first.1) w h.wrote
+        ∙ append_assoc h.front h.rest h.taken.rest) ∙ first.1) w h.wrote
     to_cut (Err Read) h before w =
         let first = first_frames (IsSignal words) (signals_join words apart) (form_of words.frames)
-            (forms_stay words.frames) h.read h.taken.rest in
+        (forms_stay words.frames) h.read h.taken.rest in
         part_of octets (frames_so_far words.frames h.read) first.0 was now before
-            (ap (frames_of_input words.frames) h.taken.parts ∙ first.1) w h.wrote
+        (ap (frames_of_input words.frames) h.taken.parts ∙ first.1) w h.wrote
     to_cut (Err Write) h before w =
         let b = h.before in
         let first : List ℕ = pcm (signal_of words (frames_so_far words.frames b.front)) in
         let cut = h.wrote.written (before ++ first) (wrote_is (frames_so_far words.frames b.front)
-            was h.mid before w b.wrote) in
+        was h.mid before w b.wrote) in
         let whole : encoded words octets ≡ (first ++ h.wrote.text) ++ pcm (signal_of words h.known_whole.0) =
         encoded_raw octets ∙ ap (λ fs. pcm (signal_of words fs)) h.known_whole.1
         ∙ signal_both (frames_so_far words.frames b.front ++ h.frames) h.known_whole.0
         ∙ ap (λ t. t ++ pcm (signal_of words h.known_whole.0))
-            (signal_both (frames_so_far words.frames b.front) h.frames ∙ ap (λ t. first ++ t) (sym h.wrote.is)) in
+        (signal_both (frames_so_far words.frames b.front) h.frames ∙ ap (λ t. first ++ t) (sym h.wrote.is)) in
         subst (λ (t : List ℕ). WrotePart before t now) (sym whole)
         (wrote_front before (first ++ h.wrote.text) (pcm (signal_of words h.known_whole.0)) now
-            (wrote_behind before first h.wrote.text now cut))
+        (wrote_behind before first h.wrote.text now cut))

@@ -20,8 +20,8 @@ use Rattle.tnc_encode.specs.Encoded.{samples_at_once}
 use Rattle.tnc_encode.specs.Frames.{frame_of, kiss_frames}
 use Rattle.tnc_encode.specs.HeldFrames.{IsSignal, form_of}
 use Rattle.tnc_encode.proofs.FrameLemmas.{kiss_frames-none}
-use Rattle.tnc_encode.proofs.SendingLemmas.{own_octets, own_octets-all, own_octets-append, own_octets-none,
-    own_octets-one}
+use Rattle.tnc_encode.proofs.SendingLemmas.{own_octets, own_octets-all, own_octets-append, own_octets-none}
+use Rattle.tnc_encode.proofs.SendingLemmas.{own_octets-one}
 
 -- ---- KISS
 
@@ -37,7 +37,7 @@ first_pieces (octet ∷ octets) more = by_end (octet == fend) (first_pieces octe
   where
     by_end : (b : Bool) → (next : List (List ℕ)) × (pieces (octets ++ more) ≡ pieces octets ++ next)
         → (next : List (List ℕ)) × ((if b then [] ∷ pieces (octets ++ more)
-            else onto_first octet (pieces (octets ++ more)))
+        else onto_first octet (pieces (octets ++ more)))
         ≡ (if b then [] ∷ pieces octets else onto_first octet (pieces octets)) ++ next)
     by_end true (next, is) = (next, ap (λ cut. [] ∷ cut) is)
     by_end false (next, is) =
@@ -56,7 +56,7 @@ first_frames octets more =
       filter_map frame_of (flat_of next.0),
       ap (λ cut. filter_map frame_of (flat_of cut)) next.1
           ∙ ap (filter_map frame_of) (flat_map-append (λ piece. option_to_list (item_of (unescaped piece)))
-              (pieces octets) next.0)
+          (pieces octets) next.0)
           ∙ filter_map-append frame_of (flat_of (pieces octets)) (flat_of next.0),
     )
 
@@ -93,7 +93,7 @@ module _ (words : EncodeWords) (apart : words.join ≡ false) where
     none = sym own_none ∙ own_octets-all words [] apart;
     more = λ frames others text next h g.
         ap (λ t. t ++ next) (h ∙ sym (own_octets-all words frames apart))
-            ∙ ap (λ t. own_octets words frames ++ t) (g ∙ sym (own_octets-all words others apart))
+        ∙ ap (λ t. own_octets words frames ++ t) (g ∙ sym (own_octets-all words others apart))
         ∙ sym (own_octets-append words frames others) ∙ own_octets-all words (frames ++ others) apart;
   }
     where

@@ -1,6 +1,6 @@
 -- A piece of an input, sent frame by frame.
-use Rattle.std.proofs.Common.{◌≡◌, ℕ, List, [], ◌++◌, length, take, drop, append_assoc, false, Option, Some, None,
-    Result, Ok, Err, refl, sym, subst, ap, ◌∙◌, inl, inr}
+use Rattle.std.proofs.Common.{◌≡◌, ℕ, List, [], ◌++◌, length, take, drop, append_assoc, false, Option, Some, None}
+use Rattle.std.proofs.Common.{Result, Ok, Err, refl, sym, subst, ap, ◌∙◌, inl, inr}
 use Rattle.std.specs.Prelude.{◌⊎◌, OnOk, OnErr, ◌∷◌}
 use Rattle.std.specs.Option.{option_to_list}
 use Rattle.std.proofs.lemmas.List.{append-nil, nil_from_length, take-append-drop}
@@ -37,12 +37,12 @@ taken_good Kiss (Items items) octets h least = refl
 pub bad_lines : (form : FrameForm) (lines : HeldLine) (before octets : List ℕ) (fault : InputFault)
     → IsReader (Lines lines) → HasTaken form (Lines lines) before
     → (StandsFor lines before → (fault_so_far lines.least (before ++ octets) ≡ Some fault)
-        × (lines_so_far lines.least (before ++ octets) ≡ lines_so_far lines.least before))
+    × (lines_so_far lines.least (before ++ octets) ≡ lines_so_far lines.least before))
     → (form_fault_so_far form (before ++ octets) ≡ Some fault)
-        × (frames_so_far form (before ++ octets) ≡ frames_so_far form before)
+    × (frames_so_far form (before ++ octets) ≡ frames_so_far form before)
 bad_lines Hex lines before octets fault least h bad =
     subst (λ n. (fault_so_far n (before ++ octets) ≡ Some fault)
-        × (lines_so_far n (before ++ octets) ≡ lines_so_far n before)) least (bad h)
+    × (lines_so_far n (before ++ octets) ≡ lines_so_far n before)) least (bad h)
 bad_lines Kiss lines before octets fault least h bad = absurd h
 
 -- ---- one frame
@@ -70,7 +70,7 @@ pub none_sent : (words : EncodeWords) → words.join ≡ false → (frame : Opti
     → frame ≡ None → WroteFrames (IsSignal words) (option_to_list frame) out out
 none_sent words apart frame out none =
     subst (λ f. WroteFrames (IsSignal words) (option_to_list f) out out) (sym none)
-        (wrote_none (IsSignal words) (signals_join words apart) out)
+    (wrote_none (IsSignal words) (signals_join words apart) out)
 
 module _ (words : EncodeWords) (apart : words.join ≡ false) where
   pub sent_none : (reader : FrameIn) (octets : List ℕ) (out : Option (List ℕ))
@@ -109,24 +109,27 @@ module _ (words : EncodeWords) (apart : words.join ≡ false) where
         → HasTaken form now (before ++ octets) × WroteMore (IsSignal words) (form_of form) before octets out mid
     sent_all none form before h =
         let all : t.front ≡ octets = sym (t.parts ∙ ap (λ o. t.front ++ o) (nil_from_length rest none)
-            ∙ append-nil t.front) in
+        ∙ append-nil t.front) in
         subst (λ o. HasTaken form now (before ++ o) × WroteMore (IsSignal words) (form_of form) before o out mid) all
-            (t.each form before h)
+        (t.each form before h)
 
     -- no more octets were taken
     pub stopped : (e : Fault)
         → ((form : FrameForm) (before : List ℕ) (fault : InputFault) → HasTaken form now before → e ≡ Input fault
         → (form_fault_so_far form (before ++ rest) ≡ Some fault)
-            × (frames_so_far form (before ++ rest) ≡ frames_so_far form before))
+        × (frames_so_far form (before ++ rest) ≡ frames_so_far form before))
         → (e ≡ Read → ⊥) → (e ≡ Write → ⊥)
         → (form : FrameForm) (before : List ℕ) → HasTaken form was before
-            → IsTaken (IsSignal words) (form_of form) before octets out mid (Err e)
+        → IsTaken (IsSignal words) (form_of form) before octets out mid (Err e)
     stopped (Input fault) bad read write form before h =
         let e = t.each form before h in
         let b = bad form (before ++ t.front) fault e.0 refl in (
           ap (form_fault_so_far form) (whole before) ∙ b.0,
-          record { frames = e.1.frames; known = ap (frames_so_far form) (whole before) ∙ b.1 ∙ e.1.known;
-              wrote = e.1.wrote },
+          record {
+            frames = e.1.frames;
+            known = ap (frames_so_far form) (whole before) ∙ b.1 ∙ e.1.known;
+            wrote = e.1.wrote;
+          },
         )
     stopped Memory bad read write form before h = at_memory form before h
     stopped Read bad read write form before h = absurd (read refl)
@@ -135,9 +138,9 @@ module _ (words : EncodeWords) (apart : words.join ≡ false) where
     -- some octets more were taken, and the frame that ends with them is to be sent
     module _ (next : FrameIn) (count : ℕ) (frame : Option (List ℕ))
         (taken : (form : FrameForm) (before : List ℕ) → HasTaken form now before
-            → HasTaken form next (before ++ take count rest))
+        → HasTaken form next (before ++ take count rest))
         (known : (form : FrameForm) (before : List ℕ) → HasTaken form now before
-            → frames_so_far form (before ++ take count rest) ≡ frames_so_far form before ++ option_to_list frame) where
+        → frames_so_far form (before ++ take count rest) ≡ frames_so_far form before ++ option_to_list frame) where
       pub sent_more : (end : Option (List ℕ)) → WroteFrames (IsSignal words) (option_to_list frame) mid end
           → SentFront words was next octets (drop count rest) out end
       sent_more end wrote = record {
@@ -159,21 +162,21 @@ module _ (words : EncodeWords) (apart : words.join ≡ false) where
           → (e ≡ Write → WroteSome (IsSignal words) (option_to_list frame) mid end)
           → (e ≡ Memory) ⊎ (e ≡ Write) → IsReader next
           → (form : FrameForm) (before : List ℕ) → HasTaken form was before
-              → IsTaken (IsSignal words) (form_of form) before octets out end (Err e)
+          → IsTaken (IsSignal words) (form_of form) before octets out end (Err e)
       unfolding at_memory
       unsent end (Input fault) kept cut which after form before h = elim which [ inl is ↦ cc is | inr is ↦ cc is ]
       unsent end Read kept cut which after form before h = elim which [ inl is ↦ cc is | inr is ↦ cc is ]
       unsent end Memory kept cut which after form before h =
           subst (λ o. WroteFront (IsSignal words) (form_of form) before octets out o) (sym (kept refl))
-              (at_memory form before h)
+          (at_memory form before h)
       unsent end Write kept cut which after form before h =
           let e = t.each form before h in
           let good = taken_good form next ((before ++ t.front) ++ take count rest) (taken form (before ++ t.front) e.0)
-              after in
+          after in
           let others = (forms_stay form).more ((before ++ t.front) ++ take count rest) (drop count rest) good in
           let all : before ++ octets ≡ ((before ++ t.front) ++ take count rest) ++ drop count rest =
           whole before ∙ ap (λ o. (before ++ t.front) ++ o) (sym (take-append-drop count rest))
-              ∙ sym (append_assoc (before ++ t.front) (take count rest) (drop count rest)) in
+          ∙ sym (append_assoc (before ++ t.front) (take count rest) (drop count rest)) in
           record {
             mid = mid;
             front = at_memory form before h;

@@ -1,6 +1,6 @@
 -- Signals as octets, one piece after another.
-use Rattle.std.proofs.Common.{◌≡◌, ℕ, ◌+◌, ◌<◌, List, [], ◌∷◌, ◌++◌, true, false, cond, length, map, take, drop, get_or,
-    Option, Some, append_assoc, sym, ap, ◌∙◌, arith}
+use Rattle.std.proofs.Common.{◌≡◌, ℕ, ◌+◌, ◌<◌, List, [], ◌∷◌, ◌++◌, true, false, cond, length, map, take, drop, get_or}
+use Rattle.std.proofs.Common.{Option, Some, append_assoc, sym, ap, ◌∙◌, arith}
 use Rattle.std.proofs.lemmas.List.{map-append, take_more, take-append-drop}
 use Rattle.tnc_base.specs.Streams.{WrotePart}
 use Rattle.tnc_forms.proofs.PcmLemmas.{pcm-append}
@@ -20,7 +20,7 @@ module _ (words : EncodeWords) where
   unfolding octets_of
   octets_of-append ts us =
       ap pcm (signal_by-append words.modem words.level ts us)
-          ∙ pcm-append (signal_by words.modem words.level ts) (signal_by words.modem words.level us)
+      ∙ pcm-append (signal_by words.modem words.level ts) (signal_by words.modem words.level us)
 
   octets_of-one : (frames : List (List ℕ)) → octets_of (sent_at_once words frames ∷ [])
       ≡ pcm (samples_at_once words frames)
@@ -40,13 +40,13 @@ module _ (words : EncodeWords) where
   joined_sent (first ∷ frames) join some =
       sym (octets_of-one (first ∷ frames))
       ∙ ap (λ b. octets_of (cond b (joined words (first ∷ frames))
-          (map (λ frame. sent_at_once words (frame ∷ [])) (first ∷ frames)))) (sym join)
+      (map (λ frame. sent_at_once words (frame ∷ [])) (first ∷ frames)))) (sym join)
 
   pub none_joined : (frames : List (List ℕ)) → words.join ≡ true → length frames ≡ 0 → pcm (signal_of words frames) ≡ []
   unfolding octets_of
   none_joined [] join none =
       ap (λ b. octets_of (cond b (joined words []) (map (λ frame. sent_at_once words (frame ∷ [])) []))) join
-          ∙ nothing_sent
+      ∙ nothing_sent
   none_joined (first ∷ frames) join none = absurd (omega arith)
 
   -- each frame its own transmission
@@ -92,7 +92,7 @@ module _ (words : EncodeWords) where
         let left : List ℕ = own_octets (drop (index + 1) frames) in
         let whole : own_octets frames ≡ (done ++ pcm (samples_at_once words (frame ∷ []))) ++ left =
         ap own_octets (sym (take-append-drop (index + 1) frames))
-            ∙ own_octets-append (take (index + 1) frames) (drop (index + 1) frames)
+        ∙ own_octets-append (take (index + 1) frames) (drop (index + 1) frames)
         ∙ ap (λ xs. xs ++ left) own_octets-more in (
           done ++ part,
           rest ++ left,

@@ -1,6 +1,6 @@
 -- What encode makes of the octets of its input.
-use Rattle.std.specs.Prelude.{ℕ, ℤ, nat_lt, Bool, true, List, [], ◌∷◌, ◌++◌, map, length, take, Option, Some, None,
-    if◌then◌else◌}
+use Rattle.std.specs.Prelude.{ℕ, ℤ, nat_lt, Bool, true, List, [], ◌∷◌, ◌++◌, map, length, take, Option, Some, None}
+use Rattle.std.specs.Prelude.{if◌then◌else◌}
 use Rattle.afsk_modulator.specs.Signal.{Transmission}
 use Rattle.wav_file.specs.Head.{head_of}
 use Rattle.tnc_forms.specs.declared.fault.InputFault.{InputFault}
@@ -89,7 +89,7 @@ encoded_so_far words octets =
 unfoldable pub fault_of_whole : EncodeWords → List ℕ → Option InputFault
 fault_of_whole words input =
     fault_within input (first_of (form_fault words.frames input)
-        (length_fault words.audio (length (samples_sent words input))))
+    (length_fault words.audio (length (samples_sent words input))))
 
 -- and of which each frame is sent as it comes: a line is bad, or else it is too long
 abbrev pub fault_of_pieces : EncodeWords → List ℕ → Option InputFault

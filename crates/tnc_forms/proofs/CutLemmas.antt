@@ -1,6 +1,7 @@
 -- The lines of octets that go on.
-use Rattle.std.proofs.Common.{◌≡◌, ℕ, ◌+◌, ◌-◌, ◌<◌, ◌≤◌, ◌==◌, Bool, true, false, List, [], ◌∷◌, ◌++◌, length,
-    length-append, take, drop, get_or, append_assoc, Some, refl, sym, subst, ap, ◌∙◌, arith, lt-ltb}
+use Rattle.std.proofs.Common.{◌≡◌, ℕ, ◌+◌, ◌-◌, ◌<◌, ◌≤◌, ◌==◌, Bool, true, false, List, [], ◌∷◌, ◌++◌, length}
+use Rattle.std.proofs.Common.{length-append, take, drop, get_or, append_assoc, Some, refl, sym, subst, ap, ◌∙◌, arith}
+use Rattle.std.proofs.Common.{lt-ltb}
 use Rattle.std.specs.Prelude.{if◌then◌else◌, slice_index}
 use Rattle.std.specs.List.{All, position}
 use Rattle.std.specs.Str.Lines.{strip_carriage_return}
@@ -32,7 +33,7 @@ first_inside octets size found =
     let sized : length (take size octets) ≡ size = length-take-le size octets (omega (arith, below)) in (
       λ k d inside.
           subst (λ o. is_line_feed o ≡ false) (sym (get_or-take size octets k d (omega (arith, inside, sized))))
-              ((position-Some is_line_feed octets size d (sym found)).2 k (omega (arith, inside, sized))),
+          ((position-Some is_line_feed octets size d (sym found)).2 k (omega (arith, inside, sized))),
       sym (take-append-drop size octets) ∙ ap (λ xs. take size octets ++ xs) (drop_more octets size 0 below),
       at.1,
       below,
@@ -83,7 +84,7 @@ lines_inside place part inside = ap (lines_from place) (slice_split_none is_line
 -- a line, its line feed, and what follows
 pub lines_ended : (place : ℕ) (part : List ℕ) (feed : ℕ) (more : List ℕ) → IsInside part → is_line_feed feed ≡ true
     → lines_from place (parts_of (part ++ feed ∷ more)) ≡ record { place = place; text = strip_carriage_return part }
-        ∷ lines_from (place + length part + 1) (parts_of more)
+    ∷ lines_from (place + length part + 1) (parts_of more)
 lines_ended place part feed more inside is =
     ap (lines_from place) (slice_split_at is_line_feed part feed more inside is)
     ∙ lines_from-cons place part (parts_of more) (omega (arith, length-slice_split is_line_feed more))
@@ -105,17 +106,20 @@ first_line place part [] inside = record {
   cut = ap (λ o. lines_from place (parts_of o)) (append-nil part) ∙ lines_inside place part inside;
   here = refl;
   long = (strip_size part).0;
-  known = λ over. ([], ap (λ b. if b then record { place = place; text = part } ∷ [] else [])
-      (lt-ltb 2048 (length (strip_carriage_return part)) over));
+  known = λ over. (
+    [],
+    ap (λ b. if b then record { place = place; text = part } ∷ [] else [])
+        (lt-ltb 2048 (length (strip_carriage_return part)) over),
+  );
 }
 first_line place part (octet ∷ octets) inside =
     by_octet (is_line_feed octet) refl (first_line (place + length part + 1) [] octets inside_none)
     (λ other. first_line place (part ++ octet ∷ []) octets
-        (inside_more part (octet ∷ []) inside (All-cons (λ o. is_line_feed o ≡ false) octet [] other inside_none)))
+    (inside_more part (octet ∷ []) inside (All-cons (λ o. is_line_feed o ≡ false) octet [] other inside_none)))
   where
     by_octet : (b : Bool) → is_line_feed octet ≡ b → FirstLine (place + length part + 1) [] octets
         → (is_line_feed octet ≡ false → FirstLine place (part ++ octet ∷ []) octets)
-            → FirstLine place part (octet ∷ octets)
+        → FirstLine place part (octet ∷ octets)
     by_octet true is next same = record {
       first = record { place = place; text = strip_carriage_return part };
       rest = next.first ∷ next.rest;
@@ -147,16 +151,21 @@ pub record CutFrom (start : ℕ) (before octets : List ℕ) : Type 0 where
       ≡ ended ++ lines_from place (parts_of (part ++ more))
 
 pub cut_from : (start : ℕ) (before octets : List ℕ) → IsInside before → CutFrom start before octets
-cut_from start before [] inside = record { ended = []; place = start; part = before; inside = inside;
-    cut = λ more. refl }
+cut_from start before [] inside = record {
+  ended = [];
+  place = start;
+  part = before;
+  inside = inside;
+  cut = λ more. refl;
+}
 cut_from start before (octet ∷ octets) inside =
     by_octet (is_line_feed octet) refl (cut_from (start + length before + 1) [] octets inside_none)
     (λ other. cut_from start (before ++ octet ∷ []) octets
-        (inside_more before (octet ∷ []) inside (All-cons (λ o. is_line_feed o ≡ false) octet [] other inside_none)))
+    (inside_more before (octet ∷ []) inside (All-cons (λ o. is_line_feed o ≡ false) octet [] other inside_none)))
   where
     by_octet : (b : Bool) → is_line_feed octet ≡ b → CutFrom (start + length before + 1) [] octets
         → (is_line_feed octet ≡ false → CutFrom start (before ++ octet ∷ []) octets)
-            → CutFrom start before (octet ∷ octets)
+        → CutFrom start before (octet ∷ octets)
     by_octet true is next same = record {
       ended = record { place = start; text = strip_carriage_return before } ∷ next.ended;
       place = next.place;
@@ -184,7 +193,7 @@ module _ (octets : List ℕ) (ended : List Line) (place : ℕ) (part : List ℕ)
   lines_now =
       ap (λ o. lines_of o) (sym (append-nil octets)) ∙ cut []
       ∙ ap (λ o. ended ++ lines_from place (parts_of o)) (append-nil part)
-          ∙ ap (λ lines. ended ++ lines) (lines_inside place part inside)
+      ∙ ap (λ lines. ended ++ lines) (lines_inside place part inside)
 
   pub ended_now : ended_of (lines_of octets) ≡ ended
   ended_now = ap ended_of lines_now ∙ ended_of_more ended (record { place = place; text = part }) [] ∙ append-nil ended

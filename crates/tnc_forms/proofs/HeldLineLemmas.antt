@@ -1,6 +1,6 @@
 -- A reader of lines takes more octets.
-use Rattle.std.proofs.Common.{◌≡◌, ℕ, ◌+◌, ◌<◌, ◌≤◌, true, List, [], ◌∷◌, ◌++◌, length, length-append, append_assoc,
-    Some, None, refl, sym, ap, ◌∙◌, arith, lt-ltb, le-ltb}
+use Rattle.std.proofs.Common.{◌≡◌, ℕ, ◌+◌, ◌<◌, ◌≤◌, true, List, [], ◌∷◌, ◌++◌, length, length-append, append_assoc}
+use Rattle.std.proofs.Common.{Some, None, refl, sym, ap, ◌∙◌, arith, lt-ltb, le-ltb}
 use Rattle.std.specs.Prelude.{if◌then◌else◌}
 use Rattle.std.specs.Option.{option_to_list}
 use Rattle.std.specs.Str.Lines.{strip_carriage_return}
@@ -13,10 +13,10 @@ use Rattle.tnc_forms.specs.HeldLine.{HeldLine, StandsFor, new_line}
 use Rattle.tnc_forms.specs.HexFrames.{fault_of, fault_of_lines, frame_of, frames_of_lines, frames_of_lines, line_fault}
 use Rattle.tnc_forms.specs.HexLines.{Line, ended_of, is_line_feed, lines_from, lines_of, parts_of}
 use Rattle.tnc_forms.specs.LinesSoFar.{fault_so_far, frames_so_far, known_of}
-use Rattle.tnc_forms.proofs.CutLemmas.{IsInside, ended_now, ended_of_more, first_line, inside_more, inside_none,
-    known_now, known_of_more, lines_ended, lines_now, strip_size}
-use Rattle.tnc_forms.proofs.SoFarLemmas.{fault_join, fault_some, frames_join, line_fault_at, long_fault, one_bad,
-    one_fault, one_frame}
+use Rattle.tnc_forms.proofs.CutLemmas.{IsInside, ended_now, ended_of_more, first_line, inside_more, inside_none}
+use Rattle.tnc_forms.proofs.CutLemmas.{known_now, known_of_more, lines_ended, lines_now, strip_size}
+use Rattle.tnc_forms.proofs.SoFarLemmas.{fault_join, fault_some, frames_join, line_fault_at, long_fault, one_bad}
+use Rattle.tnc_forms.proofs.SoFarLemmas.{one_fault, one_frame}
 
 pub stands_new : (least : ℕ) → StandsFor (new_line least) []
 stands_new least = record {
@@ -43,7 +43,7 @@ module _ (held : HeldLine) (octets : List ℕ) (h : StandsFor held octets) where
       let known : known_of (lines_of octets) ≡ h.ended =
       known_now octets h.ended held.place held.part h.inside h.cut
       ∙ ap (λ b. h.ended ++ (if b then open_line ∷ [] else []))
-          (le-ltb 2048 (length (strip_carriage_return held.part)) h.short) ∙ append-nil h.ended in
+      (le-ltb 2048 (length (strip_carriage_return held.part)) h.short) ∙ append-nil h.ended in
       ap (λ lines. fault_in_line (fault_of_lines held.least lines)) known ∙ ap fault_in_line h.good
 
   -- the end of the input: the open line is the last one
@@ -60,7 +60,7 @@ module _ (held : HeldLine) (octets : List ℕ) (h : StandsFor held octets) where
   unfolding line_fault
   fault_last =
       ap (λ lines. fault_in_line (fault_of_lines held.least lines))
-          (lines_now octets h.ended held.place held.part h.inside h.cut)
+      (lines_now octets h.ended held.place held.part h.inside h.cut)
       ∙ ap fault_in_line (fault_join held.least h.ended (open_line ∷ []) h.good)
 
   pub good_last : fault_of held.least open_line ≡ None → hex_fault held.least octets ≡ None
@@ -68,7 +68,7 @@ module _ (held : HeldLine) (octets : List ℕ) (h : StandsFor held octets) where
 
   pub bad_last : (fault : InputFault) → fault_in_line (fault_of held.least open_line) ≡ Some fault
       → (hex_fault held.least octets ≡ Some fault) × (frames_of_lines held.least octets
-          ≡ frames_so_far held.least octets)
+      ≡ frames_so_far held.least octets)
   unfolding frames_of_lines
   bad_last fault is =
       let found = fault_some (fault_of held.least open_line) fault is in
@@ -77,7 +77,7 @@ module _ (held : HeldLine) (octets : List ℕ) (h : StandsFor held octets) where
         ap (frames_of_lines held.least) (lines_now octets h.ended held.place held.part h.inside h.cut)
             ∙ frames_join held.least h.ended (open_line ∷ []) h.good
             ∙ ap (λ fs. frames_of_lines held.least h.ended ++ fs) bad.0
-                ∙ append-nil (frames_of_lines held.least h.ended) ∙ sym frames_held,
+            ∙ append-nil (frames_of_lines held.least h.ended) ∙ sym frames_held,
       )
 
   module _ (more : List ℕ) (inside : IsInside more) where
@@ -107,7 +107,7 @@ module _ (held : HeldLine) (octets : List ℕ) (h : StandsFor held octets) where
     unfolding frames_so_far
     frames_kept =
         ap (frames_of_lines held.least) (ended_now (octets ++ more) h.ended held.place (held.part ++ more)
-            longer cut_more) ∙ sym frames_held
+        longer cut_more) ∙ sym frames_held
 
     -- too many of them
     pub long_more : 2048 < length (strip_carriage_return (held.part ++ more))
@@ -119,10 +119,10 @@ module _ (held : HeldLine) (octets : List ℕ) (h : StandsFor held octets) where
         ap (λ lines. fault_in_line (fault_of_lines held.least lines))
         (known_now (octets ++ more) h.ended held.place (held.part ++ more) longer cut_more
         ∙ ap (λ b. h.ended ++ (if b then now ∷ [] else []))
-            (lt-ltb 2048 (length (strip_carriage_return (held.part ++ more))) over))
+        (lt-ltb 2048 (length (strip_carriage_return (held.part ++ more))) over))
         ∙ ap fault_in_line (fault_join held.least h.ended (now ∷ []) h.good)
         ∙ ap fault_in_line (one_bad held.least now [] (line_fault_at LongLine held.place)
-            (long_fault held.least now (omega (arith, size, over)))).1
+        (long_fault held.least now (omega (arith, size, over)))).1
 
     module _ (feed : ℕ) (is_feed : is_line_feed feed ≡ true) where
       -- the line that ends with the line feed
@@ -136,8 +136,8 @@ module _ (held : HeldLine) (octets : List ℕ) (h : StandsFor held octets) where
           ≡ (h.ended ++ closed ∷ []) ++ lines_from opened.place (parts_of ([] ++ rest))
       cut_end rest =
           ap (λ o. lines_of o) (append_assoc octets (more ++ feed ∷ []) rest
-              ∙ ap (λ o. octets ++ o) (append_assoc more (feed ∷ []) rest)
-              ∙ sym (append_assoc octets more (feed ∷ rest)))
+          ∙ ap (λ o. octets ++ o) (append_assoc more (feed ∷ []) rest)
+          ∙ sym (append_assoc octets more (feed ∷ rest)))
           ∙ cut_more (feed ∷ rest)
           ∙ ap (λ lines. h.ended ++ lines) (lines_ended held.place (held.part ++ more) feed rest longer is_feed)
           ∙ sym (append_assoc h.ended (closed ∷ []) (lines_from opened.place (parts_of rest)))
@@ -155,11 +155,11 @@ module _ (held : HeldLine) (octets : List ℕ) (h : StandsFor held octets) where
 
       pub frames_end : fault_of held.least closed ≡ None
           → frames_so_far held.least (octets ++ (more ++ feed ∷ []))
-              ≡ frames_so_far held.least octets ++ option_to_list (frame_of held.least closed)
+          ≡ frames_so_far held.least octets ++ option_to_list (frame_of held.least closed)
       unfolding frames_so_far
       frames_end none =
           ap (frames_of_lines held.least) (ended_now (octets ++ (more ++ feed ∷ [])) (h.ended ++ closed ∷ [])
-              opened.place [] inside_none cut_end)
+          opened.place [] inside_none cut_end)
           ∙ frames_join held.least h.ended (closed ∷ []) h.good
           ∙ ap (λ fs. frames_of_lines held.least h.ended ++ fs) (one_frame held.least closed none)
           ∙ ap (λ fs. fs ++ option_to_list (frame_of held.least closed)) (sym frames_held)
@@ -184,10 +184,10 @@ module _ (held : HeldLine) (octets : List ℕ) (h : StandsFor held octets) where
             let lines : lines_of (octets ++ (more ++ feed ∷ rest)) ≡ h.ended ++ closed ∷ next.first ∷ next.rest =
             lines_there ∙ ap (λ ls. h.ended ++ closed ∷ ls) next.cut in
             let known : known_of (lines_of (octets ++ (more ++ feed ∷ rest)))
-                ≡ h.ended ++ closed ∷ known_of (next.first ∷ next.rest) =
+            ≡ h.ended ++ closed ∷ known_of (next.first ∷ next.rest) =
             ap known_of lines ∙ known_of_more h.ended closed (next.first ∷ next.rest) in
             let ended : ended_of (lines_of (octets ++ (more ++ feed ∷ rest)))
-                ≡ h.ended ++ closed ∷ ended_of (next.first ∷ next.rest) =
+            ≡ h.ended ++ closed ∷ ended_of (next.first ∷ next.rest) =
             ap ended_of lines ∙ ended_of_more h.ended closed (next.first ∷ next.rest) in
             let bad = one_bad held.least closed (known_of (next.first ∷ next.rest)) found.0 found.1 in
             let none = one_bad held.least closed (ended_of (next.first ∷ next.rest)) found.0 found.1 in (
@@ -197,5 +197,5 @@ module _ (held : HeldLine) (octets : List ℕ) (h : StandsFor held octets) where
               ap (frames_of_lines held.least) ended
                   ∙ frames_join held.least h.ended (closed ∷ ended_of (next.first ∷ next.rest)) h.good
                   ∙ ap (λ fs. frames_of_lines held.least h.ended ++ fs) none.0
-                      ∙ append-nil (frames_of_lines held.least h.ended) ∙ sym frames_held,
+                  ∙ append-nil (frames_of_lines held.least h.ended) ∙ sym frames_held,
             )

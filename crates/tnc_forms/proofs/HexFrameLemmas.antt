@@ -1,6 +1,6 @@
 -- The frames of lines, one line more at a time.
-use Rattle.std.proofs.Common.{◌≡◌, ℕ, ◌+◌, ◌<◌, ◌≤◌, cond, Bool, true, false, not, List, [], ◌∷◌, ◌++◌, length,
-    append_assoc, All, IfSome, Option, Some, None, refl, sym, ap, subst, ◌∙◌, arith}
+use Rattle.std.proofs.Common.{◌≡◌, ℕ, ◌+◌, ◌<◌, ◌≤◌, cond, Bool, true, false, not, List, [], ◌∷◌, ◌++◌, length}
+use Rattle.std.proofs.Common.{append_assoc, All, IfSome, Option, Some, None, refl, sym, ap, subst, ◌∙◌, arith}
 use Rattle.std.specs.Prelude.{find, is_some, option_and_then, suc, take, take_while}
 use Rattle.std.specs.List.{cons_option, filter_map, prefix_len}
 use Rattle.std.proofs.lemmas.List.{append-nil}
@@ -10,8 +10,8 @@ use Rattle.tnc_forms.specs.declared.line_fault.LineFlaw.{LineFlaw}
 use Rattle.tnc_forms.specs.declared.hex_line.LineText.{LineText}
 use Rattle.tnc_forms.specs.declared.hex_line.LineText.TheVariants.{Nothing, Frame, Refused}
 use Rattle.tnc_forms.specs.HexLines.{Line, lines_at, lines_behind, lines_of}
-use Rattle.tnc_forms.specs.HexFrames.{HasGoodLength, text_of, fault_in, fault_of, frame_in, frame_of, frames_of_lines,
-    frames_of_lines, line_fault, fault_of_lines, is_bad}
+use Rattle.tnc_forms.specs.HexFrames.{HasGoodLength, text_of, fault_in, fault_of, frame_in, frame_of, frames_of_lines}
+use Rattle.tnc_forms.specs.HexFrames.{frames_of_lines, line_fault, fault_of_lines, is_bad}
 use Rattle.tnc_forms.proofs.LineTextLemmas.{IsWithin, text_of-within}
 
 module _ {X : Type 0} (p : X → Bool) (x : X) (xs : List X) where
@@ -30,7 +30,7 @@ module _ (least : ℕ) (line : Line) (lines : List Line) where
       ≡ frames_of_lines least lines
   frames-nothing is =
       ap (filter_map (frame_of least)) (take_while-yes (λ l. not (is_bad least l)) line lines
-          (ap (λ t. not (is_some (fault_in line.place t))) is))
+      (ap (λ t. not (is_some (fault_in line.place t))) is))
       ∙ ap (λ t. cons_option (frame_in t) (frames_of_lines least lines)) is
 
   pub fault-nothing : text_of least line.text ≡ Nothing → fault_of_lines least (line ∷ lines)
@@ -43,7 +43,7 @@ module _ (least : ℕ) (line : Line) (lines : List Line) where
       → frames_of_lines least (line ∷ lines) ≡ octets ∷ frames_of_lines least lines
   frames-frame octets is =
       ap (filter_map (frame_of least)) (take_while-yes (λ l. not (is_bad least l)) line lines
-          (ap (λ t. not (is_some (fault_in line.place t))) is))
+      (ap (λ t. not (is_some (fault_in line.place t))) is))
       ∙ ap (λ t. cons_option (frame_in t) (frames_of_lines least lines)) is
 
   pub fault-frame : (octets : List ℕ) → text_of least line.text ≡ Frame octets
@@ -56,13 +56,13 @@ module _ (least : ℕ) (line : Line) (lines : List Line) where
       → frames_of_lines least (line ∷ lines) ≡ []
   frames-bad flaw at is =
       ap (filter_map (frame_of least)) (take_while-no (λ l. not (is_bad least l)) line lines
-          (ap (λ t. not (is_some (fault_in line.place t))) is))
+      (ap (λ t. not (is_some (fault_in line.place t))) is))
 
   pub fault-bad : (flaw : LineFlaw) (at : ℕ) → text_of least line.text ≡ Refused flaw at
       → fault_of_lines least (line ∷ lines) ≡ Some (record { flaw = flaw; place = line.place + at })
   fault-bad flaw at is =
       ap (λ t. option_and_then (fault_of least) (cond (is_some (fault_in line.place t)) (Some line)
-          (find (is_bad least) lines))) is
+      (find (is_bad least) lines))) is
       ∙ ap (fault_in line.place) is
 
 -- each frame of an input has a good length, and is octets
@@ -83,7 +83,7 @@ frames_of_lines-good : (least : ℕ) (lines : List Line) → All (IsGood least) 
 frames_of_lines-good least [] = All-nil (IsGood least)
 frames_of_lines-good least (line ∷ lines) =
     good-cons least line lines (frames_of_lines-good least lines) (text_of least line.text) refl
-        (text_of-within least line.text)
+    (text_of-within least line.text)
 
 pub frames_of_lines-good : (least : ℕ) (input : List ℕ) → All (IsGood least) (frames_of_lines least input)
 unfolding frames_of_lines
@@ -132,8 +132,8 @@ module _ (least : ℕ) (input : List ℕ) (frames : List (List ℕ)) (place next
     frames_so_far =
         append_assoc frames (octets ∷ []) (frames_of_lines least (lines_behind input next))
         ∙ ap (λ fs. frames ++ fs) (sym (ap (frames_of_lines least) cut_here
-            ∙ frames-frame least (record { place = at; text = text }) (lines_behind input next) octets is))
-            ∙ h.frames_so_far;
+        ∙ frames-frame least (record { place = at; text = text }) (lines_behind input next) octets is))
+        ∙ h.frames_so_far;
     fault_so_far = sym (ap (fault_of_lines least) cut_here
         ∙ fault-frame least (record { place = at; text = text }) (lines_behind input next) octets is) ∙ h.fault_so_far;
     within = if_within next at (length input) bound;
@@ -142,12 +142,12 @@ module _ (least : ℕ) (input : List ℕ) (frames : List (List ℕ)) (place next
   -- a bad one
   pub read_bad : (flaw : LineFlaw) (offset : ℕ) → text_of least text ≡ Refused flaw offset
       → (frames ≡ frames_of_lines least input) × (Some (record { flaw = flaw; place = at + offset })
-          ≡ line_fault least input) × (offset ≤ length text)
+      ≡ line_fault least input) × (offset ≤ length text)
   read_bad flaw offset is = (
     sym (append-nil frames)
         ∙ ap (λ fs. frames ++ fs) (sym (ap (frames_of_lines least) cut_here
-            ∙ frames-bad least (record { place = at; text = text }) (lines_behind input next) flaw offset is))
-            ∙ h.frames_so_far,
+        ∙ frames-bad least (record { place = at; text = text }) (lines_behind input next) flaw offset is))
+        ∙ h.frames_so_far,
     sym (ap (fault_of_lines least) cut_here ∙ fault-bad least (record { place = at; text = text })
         (lines_behind input next) flaw offset is) ∙ h.fault_so_far,
     subst (IsWithin least text) is (text_of-within least text),

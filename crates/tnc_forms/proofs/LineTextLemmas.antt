@@ -1,12 +1,12 @@
 -- How large that is which a line holds.
-use Rattle.std.proofs.Common.{◌≡◌, ℕ, ◌+◌, ◌*◌, ◌≤◌, ◌==◌, nat_lt, Bool, true, false, List, length, Result, Ok, Err,
-    inl, inr, refl, sym, subst, arith, lt-ltb, le-ltb}
+use Rattle.std.proofs.Common.{◌≡◌, ℕ, ◌+◌, ◌*◌, ◌≤◌, ◌==◌, nat_lt, Bool, true, false, List, length, Result, Ok, Err}
+use Rattle.std.proofs.Common.{inl, inr, refl, sym, subst, arith, lt-ltb, le-ltb}
 use Rattle.std.specs.Prelude.{⊤, if◌then◌else◌}
 use Rattle.std.proofs.lemmas.Bool.{cases_lt, ltb-false}
 use Rattle.hex.specs.Hex.{IsBytes, decode_of}
 use Rattle.hex.specs.declared.error.FromHexError.{FromHexError}
-use Rattle.hex.specs.declared.error.FromHexError.TheVariants.{InvalidHexCharacter, OddLength, InvalidStringLength,
-    OutOfMemory}
+use Rattle.hex.specs.declared.error.FromHexError.TheVariants.{InvalidHexCharacter, OddLength, InvalidStringLength}
+use Rattle.hex.specs.declared.error.FromHexError.TheVariants.{OutOfMemory}
 use Rattle.hex.proofs.HexLemmas.{decode_of-ok, decode_of-err}
 use Rattle.tnc_forms.specs.declared.line_fault.LineFlaw.TheVariants.{LongLine, ShortLine}
 use Rattle.tnc_forms.specs.declared.hex_line.LineText.{LineText}
@@ -35,9 +35,9 @@ digits_within least text (Ok octets) is short =
     ]
 digits_within least text (Err (InvalidHexCharacter digit at)) is short =
     elim (decode_of-err text (InvalidHexCharacter digit at) is) [
-  | inl odd ↦ let other : InvalidHexCharacter digit at ≡ OddLength = odd.1 in cc other
-  | inr bad ↦ let place : at ≡ 0 + bad.0 = cc (bad.1) in let below = bad.2 in omega arith
-]
+      | inl odd ↦ let other : InvalidHexCharacter digit at ≡ OddLength = odd.1 in cc other
+      | inr bad ↦ let place : at ≡ 0 + bad.0 = cc (bad.1) in let below = bad.2 in omega arith
+    ]
 digits_within least text (Err OddLength) is short = omega arith
 digits_within least text (Err InvalidStringLength) is short = omega arith
 digits_within least text (Err OutOfMemory) is short = omega arith
@@ -47,11 +47,11 @@ pub text_of-within : (least : ℕ) (text : List ℕ) → IsWithin least text (te
 unfolding text_of
 text_of-within least text =
     go (length text == 0) (nat_lt 2048 (length text))
-        (λ e. digits_within least text (decode_of text) refl (ltb-false 2048 (length text) e))
+    (λ e. digits_within least text (decode_of text) refl (ltb-false 2048 (length text) e))
   where
     go : (none long : Bool) → (long ≡ false → IsWithin least text (text_of_digits least (decode_of text)))
         → IsWithin least text (if none then Nothing else if long then Refused LongLine 0
-            else text_of_digits least (decode_of text))
+        else text_of_digits least (decode_of text))
     go true long h = tt
     go false true h = omega arith
     go false false h = h refl

@@ -1,6 +1,6 @@
 -- Raw PCM, one piece after another.
-use Rattle.std.proofs.Common.{◌≡◌, ℕ, ◌+◌, ◌<◌, ℤ, pos, List, [], ◌∷◌, ◌++◌, length, take, get_or, to_z, of_z, sym, ap,
-    ◌∙◌}
+use Rattle.std.proofs.Common.{◌≡◌, ℕ, ◌+◌, ◌<◌, ℤ, pos, List, [], ◌∷◌, ◌++◌, length, take, get_or, to_z, of_z, sym, ap}
+use Rattle.std.proofs.Common.{◌∙◌}
 use Rattle.std.proofs.lemmas.Int.{to_z-of_z}
 use Rattle.std.proofs.lemmas.Grind.{flat_map-append}
 use Rattle.std.proofs.lemmas.List.{append-nil, take_more}
@@ -12,14 +12,14 @@ use Rattle.tnc_forms.specs.Pcm.{pcm, sample_octets}
 pub pcm_more : (samples : List ℤ) (index : ℕ) (now pair next : List ℕ) → index < length samples
     → now ≡ pcm (take index samples)
     → SFits w16 (get_or samples index (pos 0)) → pair ≡ sample_octets
-        (to_z w16 (of_z w16 (get_or samples index (pos 0))))
+    (to_z w16 (of_z w16 (get_or samples index (pos 0))))
     → next ≡ now ++ pair → next ≡ pcm (take (index + 1) samples)
 unfolding pcm
 pcm_more samples index now pair next below is_now fits is_pair is_next =
     let sample : ℤ = get_or samples index (pos 0) in
     is_next ∙ ap (λ xs. xs ++ pair) is_now
     ∙ ap (λ xs. pcm (take index samples) ++ xs) (is_pair ∙ ap sample_octets (to_z-of_z w16 sample fits)
-        ∙ sym (append-nil (sample_octets sample)))
+    ∙ sym (append-nil (sample_octets sample)))
     ∙ sym (flat_map-append sample_octets (take index samples) (sample ∷ []))
     ∙ ap pcm (sym (take_more samples index (pos 0) below))
 

@@ -16,6 +16,6 @@ read_on whole octets rest buffer tail items left count is bound gives longer =
     let piece : take count (buffer ++ tail) ≡ take count rest = take-append-le count buffer tail bound ∙ gives.front in
     let parts : whole ≡ (octets ++ take count rest) ++ drop count rest =
     is ∙ ap (λ r. octets ++ r) (sym (take-append-drop count rest))
-        ∙ sym (append_assoc octets (take count rest) (drop count rest)) in
+    ∙ sym (append_assoc octets (take count rest) (drop count rest)) in
     let whole_items : octets ++ take count rest ≡ items = ap (λ p. octets ++ p) (sym piece) ∙ sym longer in
     (drop count rest, parts ∙ ap (λ p. p ++ drop count rest) whole_items, gives.rest)

@@ -1,6 +1,6 @@
 -- What is known of lines stays so, whatever follows.
-use Rattle.std.proofs.Common.{◌≡◌, ℕ, ◌+◌, ◌<◌, ◌==◌, nat_lt, Bool, true, false, List, [], ◌∷◌, ◌++◌, length, Option,
-    Some, None, refl, sym, ap, ◌∙◌, arith, lt-ltb, ne_eqb, true≢false}
+use Rattle.std.proofs.Common.{◌≡◌, ℕ, ◌+◌, ◌<◌, ◌==◌, nat_lt, Bool, true, false, List, [], ◌∷◌, ◌++◌, length, Option}
+use Rattle.std.proofs.Common.{Some, None, refl, sym, ap, ◌∙◌, arith, lt-ltb, ne_eqb, true≢false}
 use Rattle.std.specs.Prelude.{if◌then◌else◌}
 use Rattle.std.specs.Option.{option_to_list}
 use Rattle.std.specs.Str.Lines.{strip_carriage_return}
@@ -15,14 +15,14 @@ use Rattle.tnc_forms.specs.declared.line_fault.LineFault.{LineFault}
 use Rattle.tnc_forms.specs.declared.line_fault.LineFlaw.{LineFlaw}
 use Rattle.tnc_forms.specs.declared.line_fault.LineFlaw.TheVariants.{LongLine}
 use Rattle.tnc_forms.specs.Faults.{fault_in_line, hex_fault}
-use Rattle.tnc_forms.specs.HexFrames.{fault_in, fault_of, fault_of_lines, frame_in, frame_of, frames_of_lines,
-    frames_of_lines, line_fault, text_of, text_of_digits}
+use Rattle.tnc_forms.specs.HexFrames.{fault_in, fault_of, fault_of_lines, frame_in, frame_of, frames_of_lines}
+use Rattle.tnc_forms.specs.HexFrames.{frames_of_lines, line_fault, text_of, text_of_digits}
 use Rattle.tnc_forms.specs.HexLines.{Line, ended_of, lines_from, lines_of, parts_of}
 use Rattle.tnc_forms.specs.LinesSoFar.{fault_so_far, frames_so_far, is_over, known_of}
-use Rattle.tnc_forms.proofs.CutLemmas.{CutFrom, cut_from, ended_now, ended_of_more, first_line, inside_none, known_now,
-    known_of_more, strip_size}
-use Rattle.tnc_forms.proofs.HexFrameLemmas.{fault-bad, fault-frame, fault-nothing, frames-bad, frames-frame,
-    frames-nothing}
+use Rattle.tnc_forms.proofs.CutLemmas.{CutFrom, cut_from, ended_now, ended_of_more, first_line, inside_none, known_now}
+use Rattle.tnc_forms.proofs.CutLemmas.{known_of_more, strip_size}
+use Rattle.tnc_forms.proofs.HexFrameLemmas.{fault-bad, fault-frame, fault-nothing, frames-bad, frames-frame}
+use Rattle.tnc_forms.proofs.HexFrameLemmas.{frames-nothing}
 
 none_is_some : (fault : LineFault) → None ≡ Some fault → ⊥
 none_is_some fault e = cc e
@@ -35,15 +35,15 @@ line_fault_at flaw place = record { flaw = flaw; place = place }
 module _ (least : ℕ) (line : Line) (xs ys : List Line) where
   frames_join_cons : (text : LineText) → text_of least line.text ≡ text
       → (fault_of_lines least xs ≡ None → frames_of_lines least (xs ++ ys)
-          ≡ frames_of_lines least xs ++ frames_of_lines least ys)
+      ≡ frames_of_lines least xs ++ frames_of_lines least ys)
       → fault_of_lines least (line ∷ xs) ≡ None → frames_of_lines least (line ∷ (xs ++ ys))
-          ≡ frames_of_lines least (line ∷ xs) ++ frames_of_lines least ys
+      ≡ frames_of_lines least (line ∷ xs) ++ frames_of_lines least ys
   frames_join_cons Nothing is rest none =
       frames-nothing least line (xs ++ ys) is ∙ rest (sym (fault-nothing least line xs is) ∙ none)
       ∙ ap (λ fs. fs ++ frames_of_lines least ys) (sym (frames-nothing least line xs is))
   frames_join_cons (Frame octets) is rest none =
       frames-frame least line (xs ++ ys) octets is ∙ ap (λ fs. octets ∷ fs)
-          (rest (sym (fault-frame least line xs octets is) ∙ none))
+      (rest (sym (fault-frame least line xs octets is) ∙ none))
       ∙ ap (λ fs. fs ++ frames_of_lines least ys) (sym (frames-frame least line xs octets is))
   frames_join_cons (Refused flaw at) is rest none =
       absurd (none_is_some _ (sym none ∙ fault-bad least line xs flaw at is))
@@ -60,10 +60,10 @@ module _ (least : ℕ) (line : Line) (xs ys : List Line) where
 
   bad_join_cons : (fault : LineFault) (text : LineText) → text_of least line.text ≡ text
       → (fault_of_lines least xs ≡ Some fault → (frames_of_lines least (xs ++ ys) ≡ frames_of_lines least xs)
-          × (fault_of_lines least (xs ++ ys) ≡ Some fault))
+      × (fault_of_lines least (xs ++ ys) ≡ Some fault))
       → fault_of_lines least (line ∷ xs) ≡ Some fault
       → (frames_of_lines least (line ∷ (xs ++ ys)) ≡ frames_of_lines least (line ∷ xs))
-          × (fault_of_lines least (line ∷ (xs ++ ys)) ≡ Some fault)
+      × (fault_of_lines least (line ∷ (xs ++ ys)) ≡ Some fault)
   bad_join_cons fault Nothing is rest some =
       let h = rest (sym (fault-nothing least line xs is) ∙ some) in (
         frames-nothing least line (xs ++ ys) is ∙ h.0 ∙ sym (frames-nothing least line xs is),
@@ -130,8 +130,11 @@ one_bad least line more fault = go (text_of least line.text) refl
         → (frames_of_lines least (line ∷ more) ≡ []) × (fault_of_lines least (line ∷ more) ≡ Some fault)
     go Nothing is some = absurd (none_is_some fault (sym (ap (fault_in line.place) is) ∙ some))
     go (Frame octets) is some = absurd (none_is_some fault (sym (ap (fault_in line.place) is) ∙ some))
-    go (Refused flaw at) is some = (frames-bad least line more flaw at is, fault-bad least line more flaw at is
-        ∙ sym (ap (fault_in line.place) is) ∙ some)
+    go (Refused flaw at) is some = (
+      frames-bad least line more flaw at is,
+      fault-bad least line more flaw at is
+          ∙ sym (ap (fault_in line.place) is) ∙ some,
+    )
 
 -- a line with too many octets
 long_text : (least : ℕ) (text : List ℕ) → 2048 < length text → text_of least text ≡ Refused LongLine 0
@@ -141,7 +144,7 @@ long_text least text long = go (length text == 0) (nat_lt 2048 (length text))
   where
     go : (none over : Bool) → none ≡ false → over ≡ true
         → (if none then Nothing else if over then Refused LongLine 0 else text_of_digits least (decode_of text))
-            ≡ Refused LongLine 0
+        ≡ Refused LongLine 0
     go false true a b = refl
     go true over a b = absurd (true≢false a)
     go false false a b = absurd (true≢false (sym b))
@@ -217,7 +220,7 @@ module _ (least : ℕ) (octets : List ℕ) where
         let rest = ended_of (next.first ∷ next.rest) in
         let ended : ended_of (lines_of (octets ++ more)) ≡ the_cut.ended ++ rest =
         ap ended_of (lines_more more ∙ ap (λ ls. the_cut.ended ++ ls) next.cut)
-            ∙ ended_of_more the_cut.ended next.first next.rest in (
+        ∙ ended_of_more the_cut.ended next.first next.rest in (
           frames_of_lines least rest,
           ap (frames_of_lines least) ended ∙ frames_join least the_cut.ended rest (good_ended none)
               ∙ ap (λ fs. fs ++ frames_of_lines least rest) (sym frames_here),
@@ -228,7 +231,7 @@ module _ (least : ℕ) (octets : List ℕ) where
     StaysBad fault =
         (fault_so_far least (octets ++ more) ≡ Some fault) × (hex_fault least (octets ++ more) ≡ Some fault)
         × (frames_so_far least (octets ++ more) ≡ frames_so_far least octets)
-            × (frames_of_lines least (octets ++ more) ≡ frames_so_far least octets)
+        × (frames_of_lines least (octets ++ more) ≡ frames_so_far least octets)
 
     -- among the lines that have ended
     bad_ended : (bad : LineFault) (fault : InputFault) → fault_of_lines least the_cut.ended ≡ Some bad
@@ -237,13 +240,13 @@ module _ (least : ℕ) (octets : List ℕ) where
     bad_ended bad fault is same =
         let next = first_line the_cut.place the_cut.part more the_cut.inside in
         let lines : lines_of (octets ++ more) ≡ the_cut.ended ++ next.first ∷ next.rest = lines_more more
-            ∙ ap (λ ls. the_cut.ended ++ ls) next.cut in
+        ∙ ap (λ ls. the_cut.ended ++ ls) next.cut in
         let known : known_of (lines_of (octets ++ more)) ≡ the_cut.ended ++ known_of (next.first ∷ next.rest) =
         ap known_of lines ∙ known_of_more the_cut.ended next.first next.rest in
         let ended : ended_of (lines_of (octets ++ more)) ≡ the_cut.ended ++ ended_of (next.first ∷ next.rest) =
         ap ended_of lines ∙ ended_of_more the_cut.ended next.first next.rest in
         let here : frames_of_lines least the_cut.ended ≡ frames_of_lines least (ended_of (lines_of octets)) =
-            sym frames_here in (
+        sym frames_here in (
           ap (λ ls. fault_in_line (fault_of_lines least ls)) known
               ∙ ap fault_in_line (bad_join least the_cut.ended (known_of (next.first ∷ next.rest)) bad is).1 ∙ same,
           ap (λ ls. fault_in_line (fault_of_lines least ls)) lines
@@ -262,15 +265,15 @@ module _ (least : ℕ) (octets : List ℕ) where
         let next = first_line the_cut.place the_cut.part more the_cut.inside in
         let others = next.known over in
         let lines : lines_of (octets ++ more) ≡ the_cut.ended ++ next.first ∷ next.rest = lines_more more
-            ∙ ap (λ ls. the_cut.ended ++ ls) next.cut in
+        ∙ ap (λ ls. the_cut.ended ++ ls) next.cut in
         let known : known_of (lines_of (octets ++ more)) ≡ the_cut.ended ++ next.first ∷ others.0 =
         ap known_of lines ∙ known_of_more the_cut.ended next.first next.rest
-            ∙ ap (λ ls. the_cut.ended ++ ls) others.1 in
+        ∙ ap (λ ls. the_cut.ended ++ ls) others.1 in
         let bad : fault_of least next.first ≡ Some (line_fault_at LongLine the_cut.place) =
         long_fault least next.first (omega (arith, over, next.long))
-            ∙ ap (λ n. Some (line_fault_at LongLine n)) next.here in
+        ∙ ap (λ n. Some (line_fault_at LongLine n)) next.here in
         let here : frames_of_lines least the_cut.ended ≡ frames_of_lines least (ended_of (lines_of octets)) =
-            sym frames_here in (
+        sym frames_here in (
           ap (λ ls. fault_in_line (fault_of_lines least ls)) known
               ∙ ap fault_in_line (fault_join least the_cut.ended (next.first ∷ others.0) none)
               ∙ ap fault_in_line (one_bad least next.first others.0 _ bad).1 ∙ same,
@@ -280,7 +283,7 @@ module _ (least : ℕ) (octets : List ℕ) where
           ended_frames next.first next.rest bad lines none ∙ here,
           ap (frames_of_lines least) lines ∙ frames_join least the_cut.ended (next.first ∷ next.rest) none
               ∙ ap (λ fs. frames_of_lines least the_cut.ended ++ fs) (one_bad least next.first next.rest _ bad).0
-                  ∙ append-nil _ ∙ here,
+              ∙ append-nil _ ∙ here,
         )
       where
         ended_frames : (first : Line) (rest : List Line) → fault_of least first
@@ -289,13 +292,13 @@ module _ (least : ℕ) (octets : List ℕ) where
             → frames_of_lines least (ended_of (lines_of (octets ++ more))) ≡ frames_of_lines least the_cut.ended
         ended_frames first [] bad cut good =
             ap (λ ls. frames_of_lines least (ended_of ls)) cut
-                ∙ ap (frames_of_lines least) (ended_of_more the_cut.ended first [] ∙ append-nil the_cut.ended)
+            ∙ ap (frames_of_lines least) (ended_of_more the_cut.ended first [] ∙ append-nil the_cut.ended)
         ended_frames first (second ∷ rest) bad cut good =
             ap (λ ls. frames_of_lines least (ended_of ls)) cut
-                ∙ ap (frames_of_lines least) (ended_of_more the_cut.ended first (second ∷ rest))
+            ∙ ap (frames_of_lines least) (ended_of_more the_cut.ended first (second ∷ rest))
             ∙ frames_join least the_cut.ended (first ∷ ended_of (second ∷ rest)) good
             ∙ ap (λ fs. frames_of_lines least the_cut.ended ++ fs)
-                (one_bad least first (ended_of (second ∷ rest)) _ bad).0 ∙ append-nil _
+            (one_bad least first (ended_of (second ∷ rest)) _ bad).0 ∙ append-nil _
 
     pub stays : (fault : InputFault) → fault_so_far least octets ≡ Some fault → StaysBad fault
     stays fault is = go (fault_of_lines least the_cut.ended) refl
@@ -307,18 +310,18 @@ module _ (least : ℕ) (octets : List ℕ) where
             let size = strip_size the_cut.part in
             bad_last fault none long
             (sym (ap fault_in_line (one_bad least last_line [] _
-                (long_fault least last_line (omega (arith, long, size.0)))).1) ∙ bad)
+            (long_fault least last_line (omega (arith, long, size.0)))).1) ∙ bad)
         over_line false over none bad = cc bad
 
         go : (found : Option LineFault) → fault_of_lines least the_cut.ended ≡ found → StaysBad fault
         go (Some bad) e =
             bad_ended bad fault e
-                (sym (ap fault_in_line (bad_join least the_cut.ended (known_of (last_line ∷ [])) bad e).1)
-                ∙ sym fault_here ∙ is)
+            (sym (ap fault_in_line (bad_join least the_cut.ended (known_of (last_line ∷ [])) bad e).1)
+            ∙ sym fault_here ∙ is)
         go None e =
             over_line (is_over last_line) refl e
             (sym (ap fault_in_line (fault_join least the_cut.ended (known_of (last_line ∷ [])) e)) ∙ sym fault_here
-                ∙ is)
+            ∙ is)
 
 -- of no octet nothing is known
 pub frames_none : (least : ℕ) → frames_so_far least [] ≡ []

@@ -1,6 +1,7 @@
 -- A command that reads its input piece by piece: how far it is, and what stands written where it stops.
-use Rattle.std.proofs.Common.{◌≡◌, ℕ, ◌+◌, ◌-◌, ◌<◌, ◌≤◌, List, [], ◌++◌, length, length-append, take, drop,
-    append_assoc, Option, Some, None, Result, Ok, Err, inl, inr, refl, sym, subst, ap, ◌∙◌, arith, lt-ltb, le-ltb}
+use Rattle.std.proofs.Common.{◌≡◌, ℕ, ◌+◌, ◌-◌, ◌<◌, ◌≤◌, List, [], ◌++◌, length, length-append, take, drop}
+use Rattle.std.proofs.Common.{append_assoc, Option, Some, None, Result, Ok, Err, inl, inr, refl, sym, subst, ap, ◌∙◌}
+use Rattle.std.proofs.Common.{arith, lt-ltb, le-ltb}
 use Rattle.std.specs.Prelude.{if◌then◌else◌}
 use Rattle.std.specs.Option.{option_or}
 use Rattle.std.proofs.Math.Seq.{drop-append-add, take-append-add}
@@ -11,8 +12,8 @@ use Rattle.tnc_forms.specs.declared.fault.Fault.TheVariants.{Input, Memory, Read
 use Rattle.tnc_forms.specs.declared.fault.InputFault.{InputFault}
 use Rattle.tnc_forms.specs.declared.fault.InputFault.TheVariants.{TooLong}
 use Rattle.tnc_forms.specs.Reading.{input_limit, piece_limit}
-use Rattle.tnc_forms.specs.Streaming.{EndedAtMemory, Form, IsEnded, IsFinished, IsTaken, WroteFrames, WroteFront,
-    WroteMore, fault_in}
+use Rattle.tnc_forms.specs.Streaming.{EndedAtMemory, Form, IsEnded, IsFinished, IsTaken, WroteFrames, WroteFront}
+use Rattle.tnc_forms.specs.Streaming.{WroteMore, fault_in}
 use Rattle.tnc_forms.specs.Taken.{WereRead}
 
 -- texts of frames make a text of all of them
@@ -32,7 +33,7 @@ pub record IsForm (form : Form) : Type 0 where
   pub bad : (octets more : List ℕ) (fault : InputFault) → form.fault_so_far octets ≡ Some fault
       → (form.fault_so_far (octets ++ more) ≡ Some fault) × (form.fault_of (octets ++ more) ≡ Some fault)
       × (form.frames_so_far (octets ++ more) ≡ form.frames_so_far octets)
-          × (form.frames_of (octets ++ more) ≡ form.frames_so_far octets)
+      × (form.frames_of (octets ++ more) ≡ form.frames_so_far octets)
   pub not_long : (octets : List ℕ) (fault : InputFault) → form.fault_so_far octets ≡ Some fault → fault ≡ TooLong → ⊥
   pub not_long_whole : (octets : List ℕ) (fault : InputFault) → form.fault_of octets ≡ Some fault → fault ≡ TooLong → ⊥
 
@@ -75,8 +76,11 @@ module _ (Text : List (List ℕ) → List ℕ → Type 0) (joined : IsJoined Tex
 
   pub wrote_same : (frames : List (List ℕ)) (was mid now : Option (List ℕ)) → WroteFrames Text frames was mid
       → now ≡ mid → WroteFrames Text frames was now
-  wrote_same frames was mid now a same = record { text = a.text; is = a.is;
-      written = λ before w. same ∙ a.written before w }
+  wrote_same frames was mid now a same = record {
+    text = a.text;
+    is = a.is;
+    written = λ before w. same ∙ a.written before w;
+  }
 
   module _ (form : Form) (laws : IsForm form) where
     -- the frames so far are the first of the whole
@@ -113,7 +117,7 @@ module _ (Text : List (List ℕ) → List ℕ → Type 0) (joined : IsJoined Tex
         → WroteFrames Text (form.frames_so_far (octets ++ more)) was now
     wrote_all_more octets more was mid now a b =
         subst (λ fs. WroteFrames Text fs was now) (sym b.known)
-            (wrote_both (form.frames_so_far octets) b.frames was mid now a b.wrote)
+        (wrote_both (form.frames_so_far octets) b.frames was mid now a b.wrote)
 
     -- ---- a whole run
 
@@ -149,7 +153,7 @@ module _ (Text : List (List ℕ) → List ℕ → Type 0) (joined : IsJoined Tex
 
         pub ended_reading : (next : Option (List ℕ)) (e : Fault)
             → ((octets : List ℕ) → left ≡ Some octets → failed_read e ≡ Err (Input TooLong)
-                → (total ≡ input_limit) × (0 < length octets) × (next ≡ Some (drop 1 octets)))
+            → (total ≡ input_limit) × (0 < length octets) × (next ≡ Some (drop 1 octets)))
             → (failed_read e ≡ Err Read → next ≡ left)
             → (failed_read e ≡ Err Write → ⊥)
             → (failed_read e ≡ Err Memory → ⊥)
@@ -160,7 +164,7 @@ module _ (Text : List (List ℕ) → List ℕ → Type 0) (joined : IsJoined Tex
             let stop = long p.taken.rest p.taken.left_over (ap (λ f. failed_read (Input f)) same) in
             let full : length p.read ≡ input_limit = p.count ∙ stop.0 in
             let size : length whole ≡ length p.read + length p.taken.rest = ap length p.taken.parts
-                ∙ length-append p.read p.taken.rest in
+            ∙ length-append p.read p.taken.rest in
             let some = stop.1 in
             let first : take input_limit whole ≡ p.read =
             ap (take input_limit) p.taken.parts ∙ take_past input_limit p.read p.taken.rest (omega (arith, full))
@@ -169,7 +173,7 @@ module _ (Text : List (List ℕ) → List ℕ → Type 0) (joined : IsJoined Tex
               bad = ap (λ b. if b then option_or (form.fault_so_far (take input_limit whole)) (Some TooLong)
                   else form.fault_of whole) (lt-ltb input_limit (length whole) (omega (arith, full, size, some)))
                   ∙ ap (λ o. option_or (form.fault_so_far o) (Some TooLong)) first
-                      ∙ ap (λ f. option_or f (Some TooLong)) p.good ∙ ap Some (sym same);
+                  ∙ ap (λ f. option_or f (Some TooLong)) p.good ∙ ap Some (sym same);
               wrote = λ short. absurd (omega (arith, full, size, some, short));
               wrote_of_many = λ over. subst (λ o. WroteFrames Text (form.frames_so_far o) was mid) (sym first) p.wrote;
               stops = λ is. stop.2 ∙ ap Some (sym (ap (drop (input_limit + 1)) p.taken.parts
@@ -231,11 +235,11 @@ module _ (Text : List (List ℕ) → List ℕ → Type 0) (joined : IsJoined Tex
               let taken = piece_read in
               let wrote = wrote_all_more p.read piece was mid now p.wrote more in
               let size : length (p.read ++ piece) ≡ total + length piece = length-append p.read piece
-                  ∙ ap (λ n. n + length piece) p.count in
+              ∙ ap (λ n. n + length piece) p.count in
               let first : take input_limit whole ≡ (p.read ++ piece) ++ take (input_limit - length (p.read ++ piece))
-                  rest =
+              rest =
               ap (take input_limit) taken.parts ∙ take_past input_limit (p.read ++ piece) rest
-                  (omega (arith, size, fits)) in
+              (omega (arith, size, fits)) in
               let early = laws.bad (p.read ++ piece) (take (input_limit - length (p.read ++ piece)) rest) fault bad in
               let late = laws.bad (p.read ++ piece) rest fault bad in
               record {
@@ -243,7 +247,7 @@ module _ (Text : List (List ℕ) → List ℕ → Type 0) (joined : IsJoined Tex
                   | inl over ↦ ap (λ b. if b then option_or (form.fault_so_far (take input_limit whole)) (Some TooLong)
                       else form.fault_of whole) (lt-ltb input_limit (length whole) over)
                       ∙ ap (λ o. option_or (form.fault_so_far o) (Some TooLong)) first
-                          ∙ ap (λ f. option_or f (Some TooLong)) early.0
+                      ∙ ap (λ f. option_or f (Some TooLong)) early.0
                   | inr short ↦ ap (λ b. if b then option_or (form.fault_so_far (take input_limit whole)) (Some TooLong)
                       else form.fault_of whole) (le-ltb input_limit (length whole) short)
                       ∙ ap form.fault_of taken.parts ∙ late.1
@@ -262,7 +266,7 @@ module _ (Text : List (List ℕ) → List ℕ → Type 0) (joined : IsJoined Tex
               let behind : (others : List (List ℕ)) → form.frames_so_far (p.read ++ piece) ++ others
               ≡ (form.frames_so_far (p.read ++ cut.front.front) ++ cut.frames) ++ (cut.others ++ others) =
               λ others. ap (λ fs. fs ++ others) cut.known
-                  ∙ append_assoc (form.frames_so_far (p.read ++ cut.front.front) ++ cut.frames) cut.others others in
+              ∙ append_assoc (form.frames_so_far (p.read ++ cut.front.front) ++ cut.frames) cut.others others in
               record {
                 mid = cut.mid;
                 before = at_memory cut.mid small cut.front;
@@ -296,7 +300,7 @@ module _ (Text : List (List ℕ) → List ℕ → Type 0) (joined : IsJoined Tex
           fault_whole : fault_in form whole ≡ form.fault_of p.read
           fault_whole =
               ap (λ b. if b then option_or (form.fault_so_far (take input_limit whole)) (Some TooLong)
-                  else form.fault_of whole) (le-ltb input_limit (length whole) short_whole)
+              else form.fault_of whole) (le-ltb input_limit (length whole) short_whole)
               ∙ ap form.fault_of (sym all_read)
 
           pub ended_finish : (now : Option (List ℕ)) (r : Result (Unit {0}) Fault)
@@ -323,7 +327,10 @@ module _ (Text : List (List ℕ) → List ℕ → Type 0) (joined : IsJoined Tex
             frames = frames;
             others = [];
             known = known ∙ sym (append-nil (form.frames_so_far p.read ++ frames));
-            known_whole = ([], ap form.frames_of (sym all_read) ∙ known
-                ∙ sym (append-nil (form.frames_so_far p.read ++ frames)));
+            known_whole = (
+              [],
+              ap form.frames_of (sym all_read) ∙ known
+                  ∙ sym (append-nil (form.frames_so_far p.read ++ frames)),
+            );
             wrote = cut;
           }

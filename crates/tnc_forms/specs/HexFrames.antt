@@ -1,6 +1,6 @@
 -- Frames as lines of hexadecimal digits, two for an octet, in capitals or not.
-use Rattle.std.specs.Prelude.{ℕ, ◌≤◌, ◌+◌, ◌==◌, nat_lt, Bool, not, List, length, Option, Some, None, is_some,
-    option_and_then, find, take_while, Result, Ok, Err, if◌then◌else◌}
+use Rattle.std.specs.Prelude.{ℕ, ◌≤◌, ◌+◌, ◌==◌, nat_lt, Bool, not, List, length, Option, Some, None, is_some}
+use Rattle.std.specs.Prelude.{option_and_then, find, take_while, Result, Ok, Err, if◌then◌else◌}
 use Rattle.std.specs.List.{filter_map}
 use Rattle.hdlc_framer.specs.FrameLength.{most_frame_length}
 use Rattle.hex.specs.Hex.{decode_of}

@@ -1,8 +1,8 @@
 -- How a command ends that reads its input piece by piece, and writes what comes of each frame before it reads on. No
 -- public
 -- clause cites it.
-use Rattle.std.specs.Prelude.{◌≡◌, ℕ, ◌+◌, ◌<◌, ◌≤◌, List, [], ◌++◌, length, take, drop, Option, Some, None, Result, Ok,
-    Err}
+use Rattle.std.specs.Prelude.{◌≡◌, ℕ, ◌+◌, ◌<◌, ◌≤◌, List, [], ◌++◌, length, take, drop, Option, Some, None, Result, Ok}
+use Rattle.std.specs.Prelude.{Err}
 use Rattle.tnc_base.specs.Streams.{WrotePart}
 use Rattle.tnc_forms.specs.declared.fault.Fault.{Fault}
 use Rattle.tnc_forms.specs.declared.fault.Fault.TheVariants.{Input, Memory, Read, Write}
@@ -89,14 +89,14 @@ abbrev pub IsFinished : (List (List ℕ) → List ℕ → Type 0) → Form → L
     → Result (Unit {0}) Fault → Type 0
 IsFinished Text form octets was now (Ok x) =
     (form.fault_of octets ≡ None) × (frames : List (List ℕ))
-        × (form.frames_of octets ≡ form.frames_so_far octets ++ frames) × WroteFrames Text frames was now
+    × (form.frames_of octets ≡ form.frames_so_far octets ++ frames) × WroteFrames Text frames was now
 IsFinished Text form octets was now (Err (Input fault)) =
     (form.fault_of octets ≡ Some fault) × (form.frames_of octets ≡ form.frames_so_far octets) × (now ≡ was)
 IsFinished Text form octets was now (Err Memory) = now ≡ was
 IsFinished Text form octets was now (Err Read) = ⊥
 IsFinished Text form octets was now (Err Write) =
     (frames : List (List ℕ)) × (form.frames_of octets ≡ form.frames_so_far octets ++ frames)
-        × WroteSome Text frames was now
+    × WroteSome Text frames was now
 
 -- ---- the whole run, by its answer
 

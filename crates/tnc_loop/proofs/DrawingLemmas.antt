@@ -1,6 +1,6 @@
 -- Octets and transmissions, one draw after another.
-use Rattle.std.proofs.Common.{◌≡◌, Bool, true, false, ℕ, zero, suc, ◌+◌, ◌-◌, ◌%◌, ◌<◌, ◌≤◌, List, [], ◌∷◌, ◌++◌,
-    length, map, refl, ap, sym, ◌∙◌, arith, append_assoc, append-nil, length-append}
+use Rattle.std.proofs.Common.{◌≡◌, Bool, true, false, ℕ, zero, suc, ◌+◌, ◌-◌, ◌%◌, ◌<◌, ◌≤◌, List, [], ◌∷◌, ◌++◌}
+use Rattle.std.proofs.Common.{length, map, refl, ap, sym, ◌∙◌, arith, append_assoc, append-nil, length-append}
 use Rattle.rand_pcg.specs.Lcg.{Lcg}
 use Rattle.rand_pcg.specs.Pcg.{pcg32}
 use Rattle.std.proofs.Math.Nat.{mod-lt}
@@ -14,8 +14,8 @@ use Rattle.clean_signal.proofs.Law.{all_transmissions}
 use Rattle.tnc_words.specs.declared.command.LoopWords.{LoopWords}
 use Rattle.tnc_loop.specs.Words.{loop_generator, behind, word_at}
 use Rattle.channel_access.specs.Words.{words}
-use Rattle.tnc_loop.specs.Drawn.{length_drawn, octets_drawn, transmission_drawn, behind_transmission, heard_of,
-    behind_heard, all_heard, heard_drawn, received_drawn, drawn}
+use Rattle.tnc_loop.specs.Drawn.{length_drawn, octets_drawn, transmission_drawn, behind_transmission, heard_of}
+use Rattle.tnc_loop.specs.Drawn.{behind_heard, all_heard, heard_drawn, received_drawn, drawn}
 
 abbrev pub octet_of : ℕ → ℕ
 octet_of word = word % 256
@@ -72,8 +72,12 @@ module _ {X : Type 0} (f : ℕ → X) where
 -- ---- a transmission
 
 abbrev made : ℕ → ℕ → ℕ → List ℕ → Transmission
-made silence opening closing octets = record { silence = silence; opening = 2 + opening; closing = 1 + closing;
-    frames = octets ∷ [] }
+made silence opening closing octets = record {
+  silence = silence;
+  opening = 2 + opening;
+  closing = 1 + closing;
+  frames = octets ∷ [];
+}
 
 module _ (g0 g1 g2 g3 g4 : Lcg) (length : ℕ) (first : g1 ≡ behind 1 g0) (second : g2 ≡ behind 1 g1)
     (third : g3 ≡ behind 1 g2) (fourth : g4 ≡ behind 1 g3)
@@ -95,7 +99,7 @@ module _ (g0 g1 g2 g3 g4 : Lcg) (length : ℕ) (first : g1 ≡ behind 1 g0) (sec
       → opening ≡ word_at 0 g1 % 4 → closing ≡ word_at 0 g2 % 3
       → octets ≡ map (λ word. word % 256) (words (15 + length) g4)
       → record { silence = silence; opening = 2 + opening; closing = 1 + closing; frames = octets ∷ [] }
-          ≡ transmission_drawn g0
+      ≡ transmission_drawn g0
   unfolding transmission_drawn
   transmission_is silence opening closing octets s o c os =
       ap (λ n. made n opening closing octets) s
@@ -142,8 +146,11 @@ one_frame octets is (suc k) d l = absurd (omega arith)
 
 is_transmission : (g : Lcg) → IsTransmission (transmission_drawn g)
 unfolding transmission_drawn
-is_transmission g = record { frames = one_frame (octets_drawn g) (frame_drawn g); opening = omega arith;
-    closing = omega arith }
+is_transmission g = record {
+  frames = one_frame (octets_drawn g) (frame_drawn g);
+  opening = omega arith;
+  closing = omega arith;
+}
 
 -- transmissions that are received at phases and levels of the law
 is_received : (rough : Bool) (g h : Lcg) → IsReceived (heard_of rough (transmission_drawn g) h).received

@@ -1,6 +1,6 @@
 -- What is heard of the transmissions that are drawn: as much as of clean ones, and near it.
-use Rattle.std.proofs.Common.{◌≡◌, ℕ, zero, suc, ℤ, pos, Bool, true, false, List, ◌++◌, length, map, replicate, refl,
-    ap, sym, ◌∙◌, arith, append_assoc, length-append}
+use Rattle.std.proofs.Common.{◌≡◌, ℕ, zero, suc, ℤ, pos, Bool, true, false, List, ◌++◌, length, map, replicate, refl}
+use Rattle.std.proofs.Common.{ap, sym, ◌∙◌, arith, append_assoc, length-append}
 use Rattle.std.specs.List.{flat_map}
 use Rattle.std.proofs.lemmas.List.{length-map, length-replicate}
 use Rattle.std.proofs.lemmas.List.Concat.{flat_map-cons}
@@ -22,10 +22,10 @@ use Rattle.nrzi_bits.proofs.LineLemmas.{length-line_from}
 use Rattle.tnc_words.specs.declared.command.LoopWords.{LoopWords}
 use Rattle.tnc_loop.specs.Words.{loop_generator, behind}
 use Rattle.channel_access.specs.Words.{words}
-use Rattle.tnc_loop.specs.Rough.{level_drawn, noise_of, rough_samples, rough_received, exact_samples, with_errors,
-    behind_rough}
-use Rattle.tnc_loop.specs.Drawn.{Heard, heard_of, behind_heard, all_heard, transmission_drawn, behind_transmission,
-    heard_drawn, received_drawn, drawn, samples_drawn}
+use Rattle.tnc_loop.specs.Rough.{level_drawn, noise_of, rough_samples, rough_received, exact_samples, with_errors}
+use Rattle.tnc_loop.specs.Rough.{behind_rough}
+use Rattle.tnc_loop.specs.Drawn.{Heard, heard_of, behind_heard, all_heard, transmission_drawn, behind_transmission}
+use Rattle.tnc_loop.specs.Drawn.{heard_drawn, received_drawn, drawn, samples_drawn}
 use Rattle.tnc_loop.proofs.DrawingLemmas.{length-words, received_good}
 use Rattle.tnc_loop.proofs.RoughLemmas.{with_errors-near}
 
@@ -69,8 +69,15 @@ length-heard rough t g =
     let is = is_heard rough t g in
     let r : Received = h.received in
     let same : sample_count r.transmission ≡ sample_count t = ap sample_count (transmission-heard rough t g) in
-    omega (arith, ap length is.whole, length-append is.gap is.part, is.silence, is.near.size,
-        length-wave_from r.phase (line (body_of r.transmission)), length-line_from Mark (body_of r.transmission))
+    omega (
+      arith,
+      ap length is.whole,
+      length-append is.gap is.part,
+      is.silence,
+      is.near.size,
+      length-wave_from r.phase (line (body_of r.transmission)),
+      length-line_from Mark (body_of r.transmission),
+    )
 
 all_near : (rough : Bool) (count : ℕ) (g : Lcg)
     → IsNearAll (map (λ h. h.received) (all_heard rough count g)) (flat_map (λ h. h.samples) (all_heard rough count g))

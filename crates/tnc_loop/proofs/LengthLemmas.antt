@@ -1,6 +1,6 @@
 -- How long a signal that is drawn can be.
-use Rattle.std.proofs.Common.{◌≡◌, ℕ, zero, suc, ◌+◌, ◌*◌, ◌%◌, ◌^◌, ◌<◌, ◌≤◌, Bool, true, false, List, [], ◌∷◌, ◌++◌,
-    length, ap, ◌∙◌, arith, length-append}
+use Rattle.std.proofs.Common.{◌≡◌, ℕ, zero, suc, ◌+◌, ◌*◌, ◌%◌, ◌^◌, ◌<◌, ◌≤◌, Bool, true, false, List, [], ◌∷◌, ◌++◌}
+use Rattle.std.proofs.Common.{length, ap, ◌∙◌, arith, length-append}
 use Rattle.std.proofs.Math.Nat.{mod-lt}
 use Rattle.std.proofs.lemmas.List.Concat.{flat_map-cons}
 use Rattle.rand_pcg.specs.Lcg.{Lcg}
@@ -18,8 +18,8 @@ use Rattle.clean_signal.proofs.CarriedFrames.{length-flags}
 use Rattle.clean_signal.proofs.WaveLemmas.{length-samples_of}
 use Rattle.tnc_words.specs.declared.command.LoopWords.{LoopWords}
 use Rattle.tnc_loop.specs.Words.{loop_generator, word_at}
-use Rattle.tnc_loop.specs.Drawn.{length_drawn, octets_drawn, transmission_drawn, behind_transmission, heard_of,
-    behind_heard, all_heard, heard_drawn}
+use Rattle.tnc_loop.specs.Drawn.{length_drawn, octets_drawn, transmission_drawn, behind_transmission, heard_of}
+use Rattle.tnc_loop.specs.Drawn.{behind_heard, all_heard, heard_drawn}
 use Rattle.tnc_loop.specs.Held.{sent_of}
 use Rattle.tnc_loop.proofs.HeardLemmas.{transmission-heard}
 use Rattle.tnc_loop.proofs.DrawingLemmas.{length-octets_drawn, length_drawn-most}
@@ -42,8 +42,13 @@ length-body_of : (octets : List ℕ) (opening closing : ℕ) → length (body (o
     ≡ 8 * opening + length (frame_bits octets) + 8 * closing
 unfolding body
 length-body_of octets opening closing =
-    omega (arith, length-append (flags opening) (frame_bits octets ++ flags closing),
-        length-append (frame_bits octets) (flags closing), length-flags opening, length-flags closing)
+    omega (
+      arith,
+      length-append (flags opening) (frame_bits octets ++ flags closing),
+      length-append (frame_bits octets) (flags closing),
+      length-flags opening,
+      length-flags closing,
+    )
 
 -- a transmission has fewer than 2^17 samples
 transmission-most : (g : Lcg) → sample_count (transmission_drawn g) ≤ 131072

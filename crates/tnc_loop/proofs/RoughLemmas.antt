@@ -1,6 +1,7 @@
 -- Rough samples: an error more at a time, how many, and how near they are.
-use Rattle.std.proofs.Common.{◌≡◌, ℕ, zero, suc, ◌+◌, ◌-◌, ◌*◌, ◌%◌, ◌<◌, ◌≤◌, ℤ, pos, ◌+ℤ◌, List, [], ◌∷◌, ◌++◌,
-    length, map, get_or, drop, unsigned_abs, refl, ap, sym, ◌∙◌, arith, append_assoc, append-nil}
+use Rattle.std.proofs.Common.{◌≡◌, ℕ, zero, suc, ◌+◌, ◌-◌, ◌*◌, ◌%◌, ◌<◌, ◌≤◌, ℤ, pos, ◌+ℤ◌, List, [], ◌∷◌, ◌++◌}
+use Rattle.std.proofs.Common.{length, map, get_or, drop, unsigned_abs, refl, ap, sym, ◌∙◌, arith, append_assoc}
+use Rattle.std.proofs.Common.{append-nil}
 use Rattle.std.proofs.Math.Nat.{mod-lt}
 use Rattle.std.proofs.lemmas.Int.{ints, unsigned_abs-mul}
 use Rattle.std.proofs.lemmas.List.{drop_more, drop_all}
@@ -14,8 +15,8 @@ use Rattle.afsk_modulator.proofs.LevelLemmas.{sample_at-close}
 use Rattle.clean_signal.proofs.NearLemmas.{length-at_level}
 use Rattle.tnc_loop.specs.Words.{behind, word_at}
 use Rattle.channel_access.specs.Words.{words}
-use Rattle.tnc_loop.specs.Rough.{phase_drawn, level_drawn, noise_of, most_error, error_of, with_errors, rough_received,
-    exact_samples, rough_samples, behind_rough}
+use Rattle.tnc_loop.specs.Rough.{phase_drawn, level_drawn, noise_of, most_error, error_of, with_errors, rough_received}
+use Rattle.tnc_loop.specs.Rough.{exact_samples, rough_samples, behind_rough}
 
 -- ---- one error more
 
@@ -83,7 +84,7 @@ one-near level word sample least =
 
 with_errors-close : (level : ℕ) (wave : List ℤ) (g : Lcg) (i : ℕ) → 10 ≤ level → i < length wave
     → distance level (get_or wave i (pos 0)) (get_or (with_errors level (at_level level wave) g) i (pos 0))
-        ≤ 1000 * level
+    ≤ 1000 * level
 unfolding at_level
 with_errors-close level [] g i least below = absurd (omega arith)
 with_errors-close level (sample ∷ wave) g zero least below = one-near level (word_at 0 g) sample least

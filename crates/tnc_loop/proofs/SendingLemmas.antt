@@ -1,6 +1,6 @@
 -- Transmissions that are sent, one more at a time.
-use Rattle.std.proofs.Common.{◌≡◌, ℕ, ℤ, suc, ◌+◌, ◌-◌, ◌*◌, ◌<◌, ◌≤◌, ◌^◌, List, [], ◌∷◌, ◌++◌, length, inl, inr, zero,
-    refl, ap, sym, subst, ◌∙◌, arith, append_assoc, append-nil, length-append}
+use Rattle.std.proofs.Common.{◌≡◌, ℕ, ℤ, suc, ◌+◌, ◌-◌, ◌*◌, ◌<◌, ◌≤◌, ◌^◌, List, [], ◌∷◌, ◌++◌, length, inl, inr, zero}
+use Rattle.std.proofs.Common.{refl, ap, sym, subst, ◌∙◌, arith, append_assoc, append-nil, length-append}
 use Rattle.std.specs.List.{flat_map}
 use Rattle.std.proofs.lemmas.List.Concat.{flat_map-append}
 use Rattle.rand_pcg.specs.Lcg.{Lcg}
@@ -16,8 +16,8 @@ use Rattle.tnc_words.specs.declared.command.LoopWords.{LoopWords}
 use Rattle.tnc_loop.specs.declared.drawing.Drawn.{Drawn}
 use Rattle.tnc_loop.specs.declared.sending.Sent.{Sent}
 use Rattle.tnc_loop.specs.Words.{loop_generator}
-use Rattle.tnc_loop.specs.Drawn.{Heard, transmission_drawn, behind_transmission, heard_of, behind_heard, all_heard,
-    heard_drawn}
+use Rattle.tnc_loop.specs.Drawn.{Heard, transmission_drawn, behind_transmission, heard_of, behind_heard, all_heard}
+use Rattle.tnc_loop.specs.Drawn.{heard_drawn}
 use Rattle.tnc_loop.specs.Held.{drawn_as, sent_of, HasSent, IsGood}
 use Rattle.tnc_loop.proofs.HeardLemmas.{transmission-heard}
 use Rattle.tnc_loop.proofs.LengthLemmas.{signal_fits}
@@ -26,7 +26,7 @@ samples-push : (heard : List Heard) (one : Heard) → flat_map (λ h. h.samples)
     ≡ flat_map (λ h. h.samples) heard ++ one.samples
 samples-push heard one =
     flat_map-append (λ h. h.samples) heard (one ∷ [])
-        ∙ ap (λ xs. flat_map (λ h. h.samples) heard ++ xs) (append-nil one.samples)
+    ∙ ap (λ xs. flat_map (λ h. h.samples) heard ++ xs) (append-nil one.samples)
 
 sent_of-push : (heard : List Heard) (one : Heard) → sent_of (heard ++ one ∷ [])
     ≡ sent_of heard ++ one.received.transmission ∷ []
@@ -73,7 +73,7 @@ module _ (was now : Sent) (d : Drawn) (good : IsGood d) (heard : List ℤ)
       let same : end ≡ true_end = (let all = whole in omega arith) in
       let one : Heard = record { received = received; samples = heard } in
       let sent : sent_of (before ++ one ∷ []) ≡ sent_of before ++ drawn_as d ∷ [] = sent_of-push before one
-          ∙ ap (λ t. sent_of before ++ t ∷ []) this in
+      ∙ ap (λ t. sent_of before ++ t ∷ []) this in
       record {
         samples = samples ∙ ap (λ x. x ++ heard) h.samples ∙ sym (samples-push before one);
         count = count ∙ ap (λ n. n + sample_count (drawn_as d)) h.count
@@ -122,14 +122,14 @@ sent_next words place was drew now before after d samples h below is behind are 
     let fewer : words.frames - place ≡ suc left = omega arith in
     let one : Heard = heard_of words.rough (drawn_as d) drew in
     let same : record { received = one.received; samples = samples } ≡ one =
-        ap (λ xs. record { received = one.received; samples = xs }) are in
+    ap (λ xs. record { received = one.received; samples = xs }) are in
     record {
       done = h.done ++ one ∷ [];
       has = subst (λ x. HasSent after (h.done ++ x ∷ [])) same
           (more h.done one.received (transmission-heard words.rough (drawn_as d) drew) h.has);
       parts = append_assoc h.done (one ∷ []) (all_heard words.rough left now)
           ∙ (λ i. h.done ++ (heard_of words.rough (is i) (behind i) ∷ all_heard words.rough left
-              ((next ∙ (λ j. behind_heard words.rough (is j) (behind j))) i)))
+          ((next ∙ (λ j. behind_heard words.rough (is j) (behind j))) i)))
           ∙ ap (λ n. h.done ++ all_heard words.rough n was) (sym fewer)
           ∙ h.parts;
     }
@@ -140,7 +140,7 @@ pub sent_all : (words : LoopWords) (place : ℕ) (generator : Lcg) (sent : Sent)
 sent_all words place generator sent h past =
     let none : words.frames - place ≡ 0 = omega arith in
     let all : h.done ≡ heard_drawn words = sym (append-nil h.done)
-        ∙ ap (λ n. h.done ++ all_heard words.rough n generator) (sym none) ∙ h.parts in
+    ∙ ap (λ n. h.done ++ all_heard words.rough n generator) (sym none) ∙ h.parts in
     subst (HasSent sent) all h.has
 
 pub sent_fits : (words : LoopWords) (sent : Sent) → HasSent sent (heard_drawn words) → words.frames ≤ 65535

@@ -1,6 +1,6 @@
 -- The octets of what was heard, one frame more at a time, and the one summary of words.
-use Rattle.std.proofs.Common.{◌≡◌, ℕ, ◌+◌, ◌<◌, ◌≤◌, true, cond, refl, List, [], ◌∷◌, ◌++◌, length, get_or, drop,
-    Option, Some, append-nil, sym, ◌∙◌, ap}
+use Rattle.std.proofs.Common.{◌≡◌, ℕ, ◌+◌, ◌<◌, ◌≤◌, true, cond, refl, List, [], ◌∷◌, ◌++◌, length, get_or, drop}
+use Rattle.std.proofs.Common.{Option, Some, append-nil, sym, ◌∙◌, ap}
 use Rattle.std.specs.List.{All, concat}
 use Rattle.tnc_base.specs.Streams.{WrotePart}
 use Rattle.std.specs.Prelude.{not}
@@ -35,7 +35,7 @@ pub one_summary : (words : LoopWords) (text other : List ℕ) → IsSummary word
 one_summary words text other h k =
     h.is
     ∙ ap (λ items. summary words.frames (frames_heard (merged items)) (length (strays (true_ends (drawn words)) items)))
-        (one_list (samples_drawn words) h.candidates k.candidates h.are k.are)
+    (one_list (samples_drawn words) h.candidates k.candidates h.are k.are)
     ∙ sym k.is
 
 -- and at most one first stray
@@ -44,7 +44,7 @@ pub one_stray : (words : LoopWords) (octets other : List ℕ) → IsFirstStray w
 one_stray words octets other h k =
     let same : Some octets ≡ Some other =
     sym h.is ∙ ap (first_stray (true_ends (drawn words)))
-        (one_list (samples_drawn words) h.candidates k.candidates h.are k.are) ∙ k.is in
+    (one_list (samples_drawn words) h.candidates k.candidates h.are k.are) ∙ k.is in
     cc
 
 -- ---- if nothing is stray
@@ -54,7 +54,7 @@ no_strays : (ends : List TrueEnd) (items : List Candidate) → All (λ item. is_
 no_strays ends [] all = refl
 no_strays ends (item ∷ items) all =
     ap (λ b. cond (not b) (item ∷ strays ends items) (strays ends items))
-        (All-head (λ i. is_sent ends i ≡ true) item items all)
+    (All-head (λ i. is_sent ends i ≡ true) item items all)
     ∙ no_strays ends items (All-tail (λ i. is_sent ends i ≡ true) item items all)
 
 -- the summary is that of the frames that were made
@@ -62,12 +62,12 @@ pub clean_text : (words : LoopWords) (text : List ℕ) → IsSummary words text
     → NoStray (drawn words) (samples_drawn words) → text ≡ clean_summary words
 clean_text words text h clear =
     let all : All (λ item. is_sent (true_ends (drawn words)) item ≡ true) h.candidates =
-        λ k d l. clear (get_or h.candidates k d) (h.are.each k d l).0 in
+    λ k d l. clear (get_or h.candidates k d) (h.are.each k d l).0 in
     h.is
     ∙ ap (λ heard. summary words.frames heard (length (strays (true_ends (drawn words)) h.candidates)))
-        (drawn_law words clear h.candidates h.are)
+    (drawn_law words clear h.candidates h.are)
     ∙ ap (λ items. summary words.frames (frames_of (drawn words)) (length items))
-        (no_strays (true_ends (drawn words)) h.candidates all)
+    (no_strays (true_ends (drawn words)) h.candidates all)
 
 -- ---- what is written
 

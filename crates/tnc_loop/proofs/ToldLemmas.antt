@@ -1,6 +1,6 @@
 -- What is found among the candidates of the signal that is drawn.
-use Rattle.std.proofs.Common.{◌≡◌, ℕ, zero, suc, ℤ, Bool, true, false, true≢false, List, [], ◌∷◌, length, refl, ap, sym,
-    subst, ◌∙◌, arith, cond}
+use Rattle.std.proofs.Common.{◌≡◌, ℕ, zero, suc, ℤ, Bool, true, false, true≢false, List, [], ◌∷◌, length, refl, ap, sym}
+use Rattle.std.proofs.Common.{subst, ◌∙◌, arith, cond}
 use Rattle.std.specs.Prelude.{Option, Some, None, is_some, option_map, find, not}
 use Rattle.std.specs.List.{All}
 use Rattle.frame_merge.specs.declared.candidate.Candidate.{Candidate}
@@ -33,7 +33,7 @@ all_sent ends (item ∷ items) none = go (is_sent ends item) refl none (all_sent
     go : (b : Bool) → is_sent ends item ≡ b → option_map (λ i. i.octets)
         (cond (not b) (Some item) (find (is_stray ends) items)) ≡ None
         → (first_stray ends items ≡ None → All (λ i. is_sent ends i ≡ true) items)
-            → All (λ i. is_sent ends i ≡ true) (item ∷ items)
+        → All (λ i. is_sent ends i ≡ true) (item ∷ items)
     go true is rest others zero d l = is
     go true is rest others (suc k) d l = others rest k d (omega arith)
     go false is rest others k d l = absurd (true≢false (ap is_some rest))
@@ -50,7 +50,7 @@ has_found words ends items None are_ends are is =
 pub is_summary : (words : LoopWords) (ends : List TrueEnd) (items heard : List Candidate) (text : List ℕ) (count : ℕ)
     → ends ≡ true_ends (drawn words)
     → AreCandidates (samples_drawn words) items → heard ≡ merged items → count ≡ length (strays ends items)
-        → text ≡ summary words.frames (frames_heard heard) count
+    → text ≡ summary words.frames (frames_heard heard) count
     → IsSummary words text
 is_summary words ends items heard text count are_ends are is counted what = record {
   candidates = items;

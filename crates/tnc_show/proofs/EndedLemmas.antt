@@ -1,6 +1,6 @@
 -- How showing ends: what each clause says of its answer.
-use Rattle.std.proofs.Common.{◌≡◌, ℕ, ◌+◌, ◌<◌, ◌≤◌, List, [], ◌++◌, length, take, drop, append_assoc, Option, Some,
-    None, Result, Ok, Err, inl, inr, refl, sym, subst, ap, ◌∙◌}
+use Rattle.std.proofs.Common.{◌≡◌, ℕ, ◌+◌, ◌<◌, ◌≤◌, List, [], ◌++◌, length, take, drop, append_assoc, Option, Some}
+use Rattle.std.proofs.Common.{None, Result, Ok, Err, inl, inr, refl, sym, subst, ap, ◌∙◌}
 use Rattle.std.specs.Prelude.{OnOk, OnErr}
 use Rattle.std.proofs.lemmas.Bool.{cases_lt}
 use Rattle.std.proofs.lemmas.List.{append-nil, take-append-drop}
@@ -21,8 +21,10 @@ use Rattle.tnc_show.proofs.LineLemmas.{texts_join}
 
 -- of no octet
 pub shown_none : (words : ShowWords) → IsShownSoFar words [] []
-shown_none words = record { good = (lines_are_form 0).good;
-    is = subst (λ fs. IsTextOf words.modulus fs []) (sym (lines_are_form 0).none) (texts_join words.modulus).none }
+shown_none words = record {
+  good = (lines_are_form 0).good;
+  is = subst (λ fs. IsTextOf words.modulus fs []) (sym (lines_are_form 0).none) (texts_join words.modulus).none;
+}
 
 module _ (words : ShowWords) (octets : List ℕ) (left was now : Option (List ℕ)) where
   abbrev Ended : Result (Unit {0}) Fault → Type 0
@@ -73,19 +75,27 @@ module _ (words : ShowWords) (octets : List ℕ) (left was now : Option (List �
 
   pub to_part : (r : Result (Unit {0}) Fault) → Ended r → (before : List ℕ) → was ≡ Some before → r ≡ Err Memory
       → (read front rest text : List ℕ) × WereRead octets left read × (read ≡ front ++ rest)
-          × (length rest ≤ piece_limit)
+      × (length rest ≤ piece_limit)
       × IsShownSoFar words front text × (now ≡ Some (before ++ text))
   to_part r h before w is =
-      let s = subst Ended is h in
-      (s.read, s.front, s.rest, s.wrote.text, s.taken, s.parts, s.few, record { good = s.good; is = s.wrote.is },
-          s.wrote.written before w)
+      let s = subst Ended is h in (
+        s.read,
+        s.front,
+        s.rest,
+        s.wrote.text,
+        s.taken,
+        s.parts,
+        s.few,
+        record { good = s.good; is = s.wrote.is },
+        s.wrote.written before w,
+      )
 
   regrouped : (a b d : List ℕ) → a ++ (b ++ d) ≡ (a ++ b) ++ d
   regrouped a b d = sym (append_assoc a b d)
 
   pub to_most : (r : Result (Unit {0}) Fault) → Ended r → (before : List ℕ) → was ≡ Some before → r ≡ Err Write
       → (read front rest text more : List ℕ) × WereRead octets left read × (read ≡ front ++ rest)
-          × (length rest ≤ piece_limit)
+      × (length rest ≤ piece_limit)
       × IsShownSoFar words front text × IsShownPart words read (text ++ more) × (now ≡ Some (before ++ (text ++ more)))
   to_most r h before w is =
       let s = subst Ended is h in
@@ -120,8 +130,15 @@ module _ (words : ShowWords) (octets : List ℕ) (left was now : Option (List �
       → (part : List ℕ) × IsShownPart words octets part × (now ≡ Some (before ++ part))
   part_of frames others before known w h = (
     h.text,
-    record { frames = frames; others = others; parts = known; text = h.text; is = h.is; rest = [];
-        begins = sym (append-nil h.text) },
+    record {
+      frames = frames;
+      others = others;
+      parts = known;
+      text = h.text;
+      is = h.is;
+      rest = [];
+      begins = sym (append-nil h.text);
+    },
     h.written before w,
   )
 
@@ -131,21 +148,21 @@ module _ (words : ShowWords) (octets : List ℕ) (left was now : Option (List �
   to_cut (Err (Input fault)) h before w = elim (cases_lt input_limit (length octets)) [
     | inl over ↦
         let first = first_frames (IsTextOf words.modulus) (texts_join words.modulus) (lines_form 0) (lines_are_form 0)
-            (take input_limit octets) (drop input_limit octets) in
+        (take input_limit octets) (drop input_limit octets) in
         part_of (frames_so_far 0 (take input_limit octets)) first.0 before
-            (ap (frames_of_lines 0) (sym (take-append-drop input_limit octets)) ∙ first.1) w (h.wrote_of_many over)
+        (ap (frames_of_lines 0) (sym (take-append-drop input_limit octets)) ∙ first.1) w (h.wrote_of_many over)
     | inr short ↦ part_of (frames_of_lines 0 octets) [] before (sym (append-nil (frames_of_lines 0 octets))) w
         (h.wrote short)
   ]
   to_cut (Err Memory) h before w =
       let first = first_frames (IsTextOf words.modulus) (texts_join words.modulus) (lines_form 0) (lines_are_form 0)
-          h.front (h.rest ++ h.taken.rest) in
+      h.front (h.rest ++ h.taken.rest) in
       part_of (frames_so_far 0 h.front) first.0 before
       (ap (frames_of_lines 0) (h.taken.parts ∙ ap (λ o. o ++ h.taken.rest) h.parts
-          ∙ append_assoc h.front h.rest h.taken.rest) ∙ first.1) w h.wrote
+      ∙ append_assoc h.front h.rest h.taken.rest) ∙ first.1) w h.wrote
   to_cut (Err Read) h before w =
       let first = first_frames (IsTextOf words.modulus) (texts_join words.modulus) (lines_form 0) (lines_are_form 0)
-          h.read h.taken.rest in
+      h.read h.taken.rest in
       part_of (frames_so_far 0 h.read) first.0 before (ap (frames_of_lines 0) h.taken.parts ∙ first.1) w h.wrote
   to_cut (Err Write) h before w =
       let b = h.before in

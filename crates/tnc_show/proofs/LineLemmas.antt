@@ -8,8 +8,8 @@ use Rattle.std.specs.List.{AllZip, flat_map}
 use Rattle.ax25_frames.specs.declared.frame.Modulus.{Modulus}
 use Rattle.ax25_frames.specs.declared.frame.Frame.{Frame}
 use Rattle.ax25_frames.specs.declared.fault.FrameFault.{FrameFault}
-use Rattle.ax25_frames.specs.declared.fault.FrameFault.TheVariants.{Address, NoControl, NoPid, UnknownControl,
-    InfoTooLong, StrayInfo, Memory}
+use Rattle.ax25_frames.specs.declared.fault.FrameFault.TheVariants.{Address, NoControl, NoPid, UnknownControl}
+use Rattle.ax25_frames.specs.declared.fault.FrameFault.TheVariants.{InfoTooLong, StrayInfo, Memory}
 use Rattle.ax25_frames.specs.FrameOctets.{IsFrame}
 use Rattle.ax25_frames.specs.FrameFault.{FollowsPath, ShowsFrameFault}
 use Rattle.ax25_frames.specs.FrameText.{text_of_frame, text_of_frame_fault}
@@ -80,7 +80,7 @@ same_lines modulus (octets ∷ frames) [] others h g = absurd h
 same_lines modulus (octets ∷ frames) (line ∷ lines) [] h g = absurd g
 same_lines modulus (octets ∷ frames) (line ∷ lines) (other ∷ others) h g =
     ap (λ l. l ∷ lines) (one_line modulus octets line other h.0 g.0)
-        ∙ ap (λ ls. other ∷ ls) (same_lines modulus frames lines others h.1 g.1)
+    ∙ ap (λ ls. other ∷ ls) (same_lines modulus frames lines others h.1 g.1)
 
 -- and one text
 pub same_text : (modulus : Modulus) (frames : List (List ℕ)) (text other : List ℕ) → IsTextOf modulus frames text
@@ -91,8 +91,11 @@ same_text modulus frames text other h g = h.is ∙ ap (flat_map ended)
 -- the line of one frame
 pub text_of_one : (modulus : Modulus) (octets line : List ℕ) → IsLineOf modulus octets line
     → IsTextOf modulus (octets ∷ []) (ended line)
-text_of_one modulus octets line h = record { lines = line ∷ []; each = (h, tt);
-    is = sym (append-nil (ended line)) ∙ sym (flat_map-cons ended line []) }
+text_of_one modulus octets line h = record {
+  lines = line ∷ [];
+  each = (h, tt);
+  is = sym (append-nil (ended line)) ∙ sym (flat_map-cons ended line []);
+}
 
 zipped_both : {A B : Type 0} (R : A → B → Type 0) (xs others : List A) (ys more : List B) → AllZip R xs ys
     → AllZip R others more → AllZip R (xs ++ others) (ys ++ more)

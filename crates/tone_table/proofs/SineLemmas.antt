@@ -13,4 +13,4 @@ pub unsigned_abs-wave_sample : (phase : ℕ) → unsigned_abs (wave_sample phase
 unfolding wave_sample cycle_sample half_wave quarter
 unsigned_abs-wave_sample phase =
     leb-true _ _ (agree_below_at (λ k. nat_le (unsigned_abs (cycle_sample k)) 10000) (λ _. true) 48 (phase % 48) refl
-        (omega arith))
+    (omega arith))

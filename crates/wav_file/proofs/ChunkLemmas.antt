@@ -1,6 +1,6 @@
 -- Chunks one by one.
-use Rattle.std.proofs.Common.{◌≡◌, ℕ, zero, suc, ◌+◌, ◌<◌, ◌≤◌, ltb, cond, List, [], ◌∷◌, length, drop, refl, ap, ◌∙◌,
-    sym, inl, inr, arith, length-drop}
+use Rattle.std.proofs.Common.{◌≡◌, ℕ, zero, suc, ◌+◌, ◌<◌, ◌≤◌, ltb, cond, List, [], ◌∷◌, length, drop, refl, ap, ◌∙◌}
+use Rattle.std.proofs.Common.{sym, inl, inr, arith, length-drop}
 use Rattle.std.proofs.lemmas.Bool.{cond-true, cond-false, lt-ltb, le-ltb, cases_lt}
 use Rattle.wav_file.specs.Chunks.{Chunk, chunk_at, chunks, chunks_upto, padded}
 
@@ -8,16 +8,16 @@ use Rattle.wav_file.specs.Chunks.{Chunk, chunk_at, chunks, chunks_upto, padded}
 abbrev pub one_more : ℕ → ℕ → List ℕ → List Chunk
 one_more most place octets =
     cond (ltb (length octets) 8) [] (chunk_at place octets ∷ chunks_upto most
-        (place + 8 + padded (chunk_at place octets).size)
-        (drop (padded (chunk_at place octets).size) (chunk_at place octets).behind))
+    (place + 8 + padded (chunk_at place octets).size)
+    (drop (padded (chunk_at place octets).size) (chunk_at place octets).behind))
 
 short_more : (most place : ℕ) (octets : List ℕ) → length octets < 8 → one_more most place octets ≡ []
 short_more most place octets short = cond-true _ _ _ (lt-ltb (length octets) 8 short)
 
 whole_more : (most place : ℕ) (octets : List ℕ) → 8 ≤ length octets
     → one_more most place octets ≡ chunk_at place octets ∷ chunks_upto most
-        (place + 8 + padded (chunk_at place octets).size)
-        (drop (padded (chunk_at place octets).size) (chunk_at place octets).behind)
+    (place + 8 + padded (chunk_at place octets).size)
+    (drop (padded (chunk_at place octets).size) (chunk_at place octets).behind)
 whole_more most place octets whole = cond-false _ _ _ (le-ltb (length octets) 8 whole)
 
 -- after a chunk there are fewer octets
@@ -40,7 +40,7 @@ enough (suc m) (suc n) place octets first second =
           whole_more m place octets whole
           ∙ ap (λ others. chunk ∷ others)
           (enough m n (place + 8 + skip) (drop skip chunk.behind) (rest_le skip m octets whole first)
-              (rest_le skip n octets whole second))
+          (rest_le skip n octets whole second))
           ∙ sym (whole_more n place octets whole)
     ]
 
@@ -53,7 +53,7 @@ chunks_short place octets short = enough (length octets) (suc (length octets)) p
 -- the chunk at the front, and those after it
 pub chunks_whole : (place : ℕ) (octets : List ℕ) → 8 ≤ length octets
     → chunks place octets ≡ chunk_at place octets ∷ chunks (place + 8 + padded (chunk_at place octets).size)
-        (drop (padded (chunk_at place octets).size) (drop 8 octets))
+    (drop (padded (chunk_at place octets).size) (drop 8 octets))
 unfolding chunks
 chunks_whole place octets whole =
     let skip : ℕ = padded (chunk_at place octets).size in
@@ -62,4 +62,4 @@ chunks_whole place octets whole =
     ∙ whole_more (length octets) place octets whole
     ∙ ap (λ others. chunk_at place octets ∷ others)
     (enough (length octets) (length rest) (place + 8 + skip) rest
-        (rest_le skip (length octets) octets whole (omega arith)) (omega arith))
+    (rest_le skip (length octets) octets whole (omega arith)) (omega arith))

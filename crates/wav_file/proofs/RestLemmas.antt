@@ -1,7 +1,7 @@
 -- What is kept stands for all octets so far.
-use Rattle.std.proofs.Common.{◌≡◌, ℕ, zero, suc, ◌+◌, ◌-◌, ◌<◌, ◌≤◌, ltb, leb, eqb, cond, Bool, true, false, List, [],
-    ◌∷◌, ◌++◌, length, take, drop, codes, refl, ap, subst, ◌∙◌, sym, arith, append_assoc, append-nil, length-append,
-    Option, Some, None, Err, ℤ}
+use Rattle.std.proofs.Common.{◌≡◌, ℕ, zero, suc, ◌+◌, ◌-◌, ◌<◌, ◌≤◌, ltb, leb, eqb, cond, Bool, true, false, List, []}
+use Rattle.std.proofs.Common.{◌∷◌, ◌++◌, length, take, drop, codes, refl, ap, subst, ◌∙◌, sym, arith, append_assoc}
+use Rattle.std.proofs.Common.{append-nil, length-append, Option, Some, None, Err, ℤ}
 use Rattle.std.specs.Option.{option_to_list}
 use Rattle.std.specs.Result.{result_err}
 use Rattle.std.proofs.lemmas.Bool.{cond-true, lt-ltb, lt-leb, ne_eqb}
@@ -18,11 +18,11 @@ use Rattle.wav_file.specs.Place.{told_place}
 use Rattle.wav_file.specs.Chunks.{chunks}
 use Rattle.wav_file.specs.Format.{width_of, field_fault}
 use Rattle.wav_file.specs.Samples.{samples}
-use Rattle.wav_file.specs.Reading.{Reading, unless, unfinished, formatted, unformatted, difference, reading, given,
-    verdict_on, verdict_of, rate_in}
-use Rattle.wav_file.specs.Held.{Held, Fits, Step, made, to_part, step_of, after_head, after_chunk_head, after_field,
-    after_data_octet, fault_of_part, whole_of_part, rate_of_part, answer_of, fields_from, widths_from, rate_from,
-    chunks_reading, head_reading, rest_reading, behind, StandsFor}
+use Rattle.wav_file.specs.Reading.{Reading, unless, unfinished, formatted, unformatted, difference, reading, given}
+use Rattle.wav_file.specs.Reading.{verdict_on, verdict_of, rate_in}
+use Rattle.wav_file.specs.Held.{Held, Fits, Step, made, to_part, step_of, after_head, after_chunk_head, after_field}
+use Rattle.wav_file.specs.Held.{after_data_octet, fault_of_part, whole_of_part, rate_of_part, answer_of, fields_from}
+use Rattle.wav_file.specs.Held.{widths_from, rate_from, chunks_reading, head_reading, rest_reading, behind, StandsFor}
 use Rattle.wav_file.proofs.ChunkLemmas.{chunks_short}
 use Rattle.wav_file.proofs.StepLemmas.{step_keeps, unit_grows, width_le}
 
@@ -62,15 +62,19 @@ module _ (rates : Rates) where
 
   -- The rest is read as nothing if nothing comes.
   pub at_end : (n place : ℕ) (part : Part) (unit : List ℕ) → Fits place part unit
-      → rest_reading rates n part unit [] ≡ record { fault = fault_of_part part; rate = rate_of_part part; heard = [];
-          whole = whole_of_part part }
+      → rest_reading rates n part unit [] ≡ record {
+        fault = fault_of_part part;
+        rate = rate_of_part part;
+        heard = [];
+        whole = whole_of_part part;
+      }
   at_end n place Head unit fits =
       ap (λ d. unless d (unless (difference NotWave (8 + (n - 8)) (drop (n - 8) (codes "WAVE")) (drop (8 - n) []))
-          (chunks_reading rates None 12 (drop (12 - n) [])))) (difference_nil NotRiff n (drop n (codes "RIFF")))
+      (chunks_reading rates None 12 (drop (12 - n) [])))) (difference_nil NotRiff n (drop n (codes "RIFF")))
       ∙ ap (λ xs. unless (difference NotWave (8 + (n - 8)) (drop (n - 8) (codes "WAVE")) xs)
-          (chunks_reading rates None 12 (drop (12 - n) []))) (drop_nil (8 - n))
+      (chunks_reading rates None 12 (drop (12 - n) []))) (drop_nil (8 - n))
       ∙ ap (λ d. unless d (chunks_reading rates None 12 (drop (12 - n) [])))
-          (difference_nil NotWave (8 + (n - 8)) (drop (n - 8) (codes "WAVE")))
+      (difference_nil NotWave (8 + (n - 8)) (drop (n - 8) (codes "WAVE")))
       ∙ ap (chunks_reading rates None 12) (drop_nil (12 - n))
       ∙ chunks_end None 12 [] (omega arith)
   at_end n place (AtChunk rate skip) unit fits =
@@ -81,10 +85,10 @@ module _ (rates : Rates) where
       let place : ℕ = n + (widths_from field - length unit) + skip in
       let count : ℕ = widths_from field - length unit + skip in
       let untold : rate_from field rate (unit ++ []) ≡ None =
-          cond-true _ _ _ (lt-ltb (length (unit ++ [])) (widths_from field)
-          (omega (arith, few, (width_le rates field).1))) in
+      cond-true _ _ _ (lt-ltb (length (unit ++ [])) (widths_from field)
+      (omega (arith, few, (width_le rates field).1))) in
       ap (λ fault. unless fault (formatted (rate_from field rate (unit ++ [])) (chunks place (drop count []))))
-          (fields_end field (n - length unit) (unit ++ []) few)
+      (fields_end field (n - length unit) (unit ++ []) few)
       ∙ ap (λ told. formatted told (chunks place (drop count []))) untold
       ∙ ap (λ xs. formatted None (chunks place xs)) (drop_nil count)
       ∙ ap (formatted None) (chunks_short place [] (omega arith))
@@ -92,10 +96,14 @@ module _ (rates : Rates) where
       ap (λ xs. record { fault = None; rate = Some rate; heard = xs; whole = true })
       (ap samples (append-nil (option_to_list low)) ∙ samples_low low)
   at_end n place (Data rate (Some left) low) unit fits =
-      ap (λ xs. record { fault = None; rate = Some rate; heard = samples (option_to_list low ++ xs);
-          whole = leb left 0 }) (take_nil left)
+      ap (λ xs. record {
+        fault = None;
+        rate = Some rate;
+        heard = samples (option_to_list low ++ xs);
+        whole = leb left 0;
+      }) (take_nil left)
       ∙ ap (λ xs. record { fault = None; rate = Some rate; heard = xs; whole = leb left 0 })
-          (ap samples (append-nil (option_to_list low)) ∙ samples_low low)
+      (ap samples (append-nil (option_to_list low)) ∙ samples_low low)
       ∙ ap (λ b. record { fault = None; rate = Some rate; heard = []; whole = b }) (leb_zero left)
   at_end n place (Failed fault) unit fits = refl
 
@@ -127,13 +135,13 @@ module _ (rates : Rates) where
       let ended : Part = after_chunk_head place rate (take 4 u) (little_number 4 (drop 4 u)) in
       let goes : Step = to_part (AtChunk rate 0) u in
       tells_either (ltb 0 skip) (to_part (AtChunk rate (skip - 1)) unit)
-          (cond (ltb (length unit) 7) goes (to_part ended [])) (tells_none (AtChunk rate (skip - 1)) unit)
+      (cond (ltb (length unit) 7) goes (to_part ended [])) (tells_none (AtChunk rate (skip - 1)) unit)
       (tells_either (ltb (length unit) 7) goes (to_part ended []) (tells_none (AtChunk rate 0) u) (tells_none ended []))
   tells place (AtFormat field rate skip) unit octet =
       let u : List ℕ = unit ++ octet ∷ [] in
       let ended : Part = after_field rates place field rate skip (little_number (width_of field) u) in
       tells_either (ltb (length unit + 1) (width_of field)) (to_part (AtFormat field rate skip) u) (to_part ended [])
-          (tells_none (AtFormat field rate skip) u) (tells_none ended [])
+      (tells_none (AtFormat field rate skip) u) (tells_none ended [])
   tells place (Data rate None None) unit octet = refl
   tells place (Data rate None (Some low)) unit octet = refl
   tells place (Data rate (Some left) low) unit octet =
@@ -156,37 +164,47 @@ module _ (rates : Rates) where
     -- the file with one octet more
     one_more : (more : List ℕ) → reading rates (octets ++ octet ∷ more)
         ≡ behind ((reading rates octets).heard ++ option_to_list
-            (step_of rates held.position held.part held.unit octet).sample)
-            (rest_behind (length octets) (step_of rates held.position held.part held.unit octet) more)
+        (step_of rates held.position held.part held.unit octet).sample)
+        (rest_behind (length octets) (step_of rates held.position held.part held.unit octet) more)
     one_more more =
         let step : Step = step_of rates held.position held.part held.unit octet in
         stands.rest (octet ∷ more)
         ∙ ap (behind (reading rates octets).heard) (step_keeps rates (length octets)
-            held.position held.part held.unit octet more stands.place fitted stands.enough)
-        ∙ ap (λ xs. record { fault = (rest_behind (length octets) step more).fault;
-            rate = (rest_behind (length octets) step more).rate; heard = xs;
-            whole = (rest_behind (length octets) step more).whole })
+        held.position held.part held.unit octet more stands.place fitted stands.enough)
+        ∙ ap (λ xs. record {
+          fault = (rest_behind (length octets) step more).fault;
+          rate = (rest_behind (length octets) step more).rate;
+          heard = xs;
+          whole = (rest_behind (length octets) step more).whole;
+        })
         (sym (append_assoc (reading rates octets).heard (option_to_list step.sample)
-            (rest_behind (length octets) step more).heard))
+        (rest_behind (length octets) step more).heard))
 
     -- what is kept after the octet
     module _ (next : Held) (sample : Option ℤ) (made_is : made next sample
         ≡ step_of rates held.position held.part held.unit octet) (fits : Fits next.position next.part next.unit) where
       behind_more : (more : List ℕ) → reading rates (octets ++ octet ∷ more)
           ≡ behind ((reading rates octets).heard ++ option_to_list sample)
-              (rest_reading rates (suc (length octets)) next.part next.unit more)
+          (rest_reading rates (suc (length octets)) next.part next.unit more)
       behind_more more = subst (λ (step : Step). reading rates (octets ++ octet ∷ more)
           ≡ behind ((reading rates octets).heard ++ option_to_list step.sample) (rest_behind (length octets) step more))
           (sym made_is) (one_more more)
 
-      now : reading rates (octets ++ octet ∷ []) ≡ record { fault = fault_of_part next.part;
-          rate = rate_of_part next.part; heard = (reading rates octets).heard ++ option_to_list sample;
-          whole = whole_of_part next.part }
+      now : reading rates (octets ++ octet ∷ []) ≡ record {
+        fault = fault_of_part next.part;
+        rate = rate_of_part next.part;
+        heard = (reading rates octets).heard ++ option_to_list sample;
+        whole = whole_of_part next.part;
+      }
       now = behind_more []
           ∙ ap (behind ((reading rates octets).heard ++ option_to_list sample))
-              (at_end (suc (length octets)) next.position next.part next.unit fits)
-          ∙ ap (λ xs. record { fault = fault_of_part next.part; rate = rate_of_part next.part; heard = xs;
-              whole = whole_of_part next.part }) (append-nil ((reading rates octets).heard ++ option_to_list sample))
+          (at_end (suc (length octets)) next.position next.part next.unit fits)
+          ∙ ap (λ xs. record {
+            fault = fault_of_part next.part;
+            rate = rate_of_part next.part;
+            heard = xs;
+            whole = whole_of_part next.part;
+          }) (append-nil ((reading rates octets).heard ++ option_to_list sample))
 
       samples_next : (reading rates (octets ++ octet ∷ [])).heard
           ≡ (reading rates octets).heard ++ option_to_list sample
@@ -212,7 +230,7 @@ module _ (rates : Rates) where
       stands_next same counted =
           let longer : length next.unit ≤ length held.unit + 1 =
           subst (λ (step : Step). length step.unit ≤ length held.unit + 1) (sym made_is)
-              (unit_grows rates held.position held.part held.unit octet) in
+          (unit_grows rates held.position held.part held.unit octet) in
           let count : length (octets ++ octet ∷ []) ≡ suc (length octets) = omega (arith, length_push octets octet) in
           record {
             takes = same ∙ stands.takes;
@@ -222,9 +240,9 @@ module _ (rates : Rates) where
                 ap (reading rates) (append_assoc octets (octet ∷ []) more)
                 ∙ behind_more more
                 ∙ ap (λ xs. behind xs (rest_reading rates (suc (length octets)) next.part next.unit more))
-                    (sym samples_next)
+                (sym samples_next)
                 ∙ ap (λ n. behind (reading rates (octets ++ octet ∷ [])).heard
-                    (rest_reading rates n next.part next.unit more)) (sym count);
+                (rest_reading rates n next.part next.unit more)) (sym count);
           }
 
   -- ---- the ends
@@ -244,28 +262,31 @@ module _ (rates : Rates) where
   -- all that has come
   now_told : (held : Held) (octets : List ℕ) → StandsFor rates held octets → Fits held.position held.part held.unit
       → ((reading rates octets).fault ≡ fault_of_part held.part)
-          × ((reading rates octets).whole ≡ whole_of_part held.part)
-          × ((reading rates octets).rate ≡ rate_of_part held.part)
+      × ((reading rates octets).whole ≡ whole_of_part held.part)
+      × ((reading rates octets).rate ≡ rate_of_part held.part)
   now_told held octets stands fits =
       let all : reading rates octets ≡ behind (reading rates octets).heard
-          (rest_reading rates (length octets) held.part held.unit []) = ap (reading rates) (sym (append-nil octets))
-          ∙ stands.rest [] in
-      let end = at_end (length octets) held.position held.part held.unit fits in
-      (ap (λ (r : Reading). r.fault) all ∙ ap (λ (r : Reading). r.fault) end, ap (λ (r : Reading). r.whole) all
-          ∙ ap (λ (r : Reading). r.whole) end, ap (λ (r : Reading). r.rate) all ∙ ap (λ (r : Reading). r.rate) end)
+      (rest_reading rates (length octets) held.part held.unit []) = ap (reading rates) (sym (append-nil octets))
+      ∙ stands.rest [] in
+      let end = at_end (length octets) held.position held.part held.unit fits in (
+        ap (λ (r : Reading). r.fault) all ∙ ap (λ (r : Reading). r.fault) end,
+        ap (λ (r : Reading). r.whole) all
+            ∙ ap (λ (r : Reading). r.whole) end,
+        ap (λ (r : Reading). r.rate) all ∙ ap (λ (r : Reading). r.rate) end,
+      )
 
   -- a fault that has shown stays
   pub fault_again : (held : Held) (octets : List ℕ) (octet : ℕ) (fault : WavFault) (sample : Option ℤ) (next : Held)
       → StandsFor rates held octets → Fits held.position held.part held.unit
       → made next sample ≡ step_of rates held.position held.part held.unit octet
-          → (reading rates octets).fault ≡ Some fault → answer_of (fault_of_part next.part) sample ≡ Err fault
+      → (reading rates octets).fault ≡ Some fault → answer_of (fault_of_part next.part) sample ≡ Err fault
   fault_again held octets octet fault sample next stands fits made_is shown =
       subst (λ (step : Step). answer_of (fault_of_part step.part) step.sample ≡ Err fault) (sym made_is)
       (by_part held.part (sym (now_told held octets stands fits).0 ∙ shown))
     where
       by_part : (part : Part) → fault_of_part part ≡ Some fault
           → answer_of (fault_of_part (step_of rates held.position part held.unit octet).part)
-              (step_of rates held.position part held.unit octet).sample ≡ Err fault
+          (step_of rates held.position part held.unit octet).sample ≡ Err fault
       by_part Head e = absurd cc
       by_part (AtChunk rate skip) e = absurd cc
       by_part (AtFormat field rate skip) e = absurd cc

@@ -1,10 +1,10 @@
 -- What an octet does to the reading of the rest.
-use Rattle.std.proofs.Common.{◌≡◌, ℕ, zero, suc, ◌+◌, ◌-◌, ◌<◌, ◌≤◌, ltb, leb, eqb, cond, Bool, true, false, ◌&&◌, List,
-    [], ◌∷◌, ◌++◌, length, take, drop, refl, ap, subst, ◌∙◌, sym, inl, inr, arith, zero-add, append_assoc,
-    length-append, Option, Some, None, ℤ}
+use Rattle.std.proofs.Common.{◌≡◌, ℕ, zero, suc, ◌+◌, ◌-◌, ◌<◌, ◌≤◌, ltb, leb, eqb, cond, Bool, true, false, ◌&&◌, List}
+use Rattle.std.proofs.Common.{[], ◌∷◌, ◌++◌, length, take, drop, refl, ap, subst, ◌∙◌, sym, inl, inr, arith, zero-add}
+use Rattle.std.proofs.Common.{append_assoc, length-append, Option, Some, None, ℤ}
 use Rattle.std.specs.Option.{option_to_list}
-use Rattle.std.proofs.lemmas.Bool.{cond-true, cond-false, lt-ltb, le-ltb, le-leb, lt-leb, cases_lt, cases_eq, eq-eqb,
-    ne_eqb, ltb-false}
+use Rattle.std.proofs.lemmas.Bool.{cond-true, cond-false, lt-ltb, le-ltb, le-leb, lt-leb, cases_lt, cases_eq, eq-eqb}
+use Rattle.std.proofs.lemmas.Bool.{ne_eqb, ltb-false}
 use Rattle.std.proofs.lemmas.List.{length_push, drop-drop, drop_at, nil_from_length}
 use Rattle.byteorder.specs.Endian.{little_number}
 use Rattle.byteorder.specs.Numbers.{little_from-append}
@@ -19,11 +19,12 @@ use Rattle.wav_file.specs.Place.{told_place}
 use Rattle.wav_file.specs.Chunks.{Chunk, chunk_at, chunks, padded}
 use Rattle.wav_file.specs.Format.{number_of, width_of, accepts, field_fault, rate_at_front}
 use Rattle.wav_file.specs.Samples.{samples}
-use Rattle.wav_file.specs.Reading.{Reading, failed, unless, formatted, unformatted, is_data, is_format, of_data,
-    of_format}
-use Rattle.wav_file.specs.Held.{Fits, Step, to_part, step_of, after_head, after_chunk_head, after_field, after_data,
-    after_data_octet, following, next_of, rate_after, rate_from, data_begun, format_begun, fields_from, widths_from,
-    chunks_reading, head_reading, data_reading, rest_reading, behind}
+use Rattle.wav_file.specs.Reading.{Reading, failed, unless, formatted, unformatted, is_data, is_format, of_data}
+use Rattle.wav_file.specs.Reading.{of_format}
+use Rattle.wav_file.specs.Held.{Fits, Step, to_part, step_of, after_head, after_chunk_head, after_field, after_data}
+use Rattle.wav_file.specs.Held.{after_data_octet, following, next_of, rate_after, rate_from, data_begun, format_begun}
+use Rattle.wav_file.specs.Held.{fields_from, widths_from, chunks_reading, head_reading, data_reading, rest_reading}
+use Rattle.wav_file.specs.Held.{behind}
 use Rattle.wav_file.proofs.ChunkLemmas.{chunks_whole}
 
 -- what is read by a reader of these rates
@@ -32,7 +33,7 @@ module _ (rates : Rates) where
   abbrev pub Keeps : ℕ → Part → List ℕ → ℕ → List ℕ → Step → Type 0
   Keeps n part unit octet more step =
       rest_reading rates n part unit (octet ∷ more) ≡ behind (option_to_list step.sample)
-          (rest_reading rates (suc n) step.part step.unit more)
+      (rest_reading rates (suc n) step.part step.unit more)
 
   -- ---- lists and numbers
 
@@ -96,84 +97,92 @@ module _ (rates : Rates) where
       let place : n + skip - length unit ≡ suc n + (skip - 1) - length unit = omega arith in
       ap (λ p. chunks_reading rates rate p (unit ++ drop skip (octet ∷ more))) place
       ∙ ap (λ xs. chunks_reading rates rate (suc n + (skip - 1) - length unit) (unit ++ xs))
-          (drop_later skip octet more some)
+      (drop_later skip octet more some)
 
   -- an octet of a head that goes on
   head_goes_on : (n : ℕ) (rate : Option ℕ) (unit : List ℕ) (octet : ℕ) (more : List ℕ)
       → Keeps n (AtChunk rate 0) unit octet more (to_part (AtChunk rate 0) (unit ++ octet ∷ []))
   head_goes_on n rate unit octet more =
       let place : n + 0 - length unit ≡ suc n + 0 - length (unit ++ octet ∷ []) =
-          omega (arith, length_push unit octet) in
+      omega (arith, length_push unit octet) in
       ap (λ p. chunks_reading rates rate p (unit ++ octet ∷ more)) place
       ∙ ap (chunks_reading rates rate (suc n + 0 - length (unit ++ octet ∷ [])))
-          (sym (append_assoc unit (octet ∷ []) more))
+      (sym (append_assoc unit (octet ∷ []) more))
 
   -- a chunk to be skipped
   other_begins : (rate : Option ℕ) (start size : ℕ) (more : List ℕ)
       → chunks_reading rates rate (start + 8 + padded size) (drop (padded size) more)
-          ≡ rest_reading rates (start + 8) (AtChunk rate (padded size)) [] more
+      ≡ rest_reading rates (start + 8) (AtChunk rate (padded size)) [] more
   other_begins rate start size more =
       let place : start + 8 + padded size ≡ start + 8 + padded size - 0 = omega arith in
       ap (λ p. chunks_reading rates rate p (drop (padded size) more)) place
 
   data_begins : (rate start size : ℕ) (name more : List ℕ)
       → of_data (Some rate) (record { place = start; name = name; size = size; behind = more })
-          ≡ rest_reading rates (start + 8) (data_begun (told_place (start + 7)) (Some rate) size) [] more
+      ≡ rest_reading rates (start + 8) (data_begun (told_place (start + 7)) (Some rate) size) [] more
   data_begins rate start size name more = by_size (ltb size 0x7fff0000)
     where
       by_size : (b : Bool)
-          → cond b (record { fault = None; rate = Some rate; heard = samples (take size more);
-              whole = leb size (length more) }) (record { fault = None; rate = Some rate; heard = samples more;
-              whole = true })
+          → cond b (record {
+            fault = None;
+            rate = Some rate;
+            heard = samples (take size more);
+            whole = leb size (length more);
+          }) (record {
+            fault = None;
+            rate = Some rate;
+            heard = samples more;
+            whole = true;
+          })
           ≡ data_reading rate (cond b (Some size) None) [] more
       by_size true = refl
       by_size false = refl
 
   format_begins : (start size : ℕ) (name more : List ℕ)
       → of_format rates (record { place = start; name = name; size = size; behind = more })
-          (chunks (start + 8 + padded size) (drop (padded size) more))
+      (chunks (start + 8 + padded size) (drop (padded size) more))
       ≡ rest_reading rates (start + 8) (format_begun (told_place (start + 7)) size) [] more
   format_begins start size name more =
       choose (ltb size 16) _ _ (Failed (NoFormat (told_place (start + 7)))) (AtFormat Format 0 (padded size - 16))
-          (start + 8) more (λ e. refl) (λ e. fits (ltb-false size 16 e))
+      (start + 8) more (λ e. refl) (λ e. fits (ltb-false size 16 e))
     where
       fits : 16 ≤ size
           → unless (field_fault rates (fields_from Format) (start + 8) more)
-              (formatted (rate_at_front more) (chunks (start + 8 + padded size) (drop (padded size) more)))
+          (formatted (rate_at_front more) (chunks (start + 8 + padded size) (drop (padded size) more)))
           ≡ rest_reading rates (start + 8) (AtFormat Format 0 (padded size - 16)) [] more
       fits least =
           let first : start + 8 ≡ start + 8 - 0 = omega arith in
           let place : start + 8 + padded size ≡ start + 8 + (16 - 0) + (padded size - 16) = omega arith in
           let count : padded size ≡ 16 - 0 + (padded size - 16) = omega arith in
           ap (λ p. unless (field_fault rates (fields_from Format) p more)
-              (formatted (rate_at_front more) (chunks (start + 8 + padded size) (drop (padded size) more)))) first
+          (formatted (rate_at_front more) (chunks (start + 8 + padded size) (drop (padded size) more)))) first
           ∙ ap (λ p. unless (field_fault rates (fields_from Format) (start + 8 - 0) more)
-              (formatted (rate_at_front more) (chunks p (drop (padded size) more)))) place
+          (formatted (rate_at_front more) (chunks p (drop (padded size) more)))) place
           ∙ ap (λ k. unless (field_fault rates (fields_from Format) (start + 8 - 0) more)
-              (formatted (rate_at_front more) (chunks (start + 8 + (16 - 0) + (padded size - 16)) (drop k more)))) count
+          (formatted (rate_at_front more) (chunks (start + 8 + (16 - 0) + (padded size - 16)) (drop k more)))) count
 
   -- a head of eight octets ends
   head_ends : (rate : Option ℕ) (start : ℕ) (unit more : List ℕ) → length unit ≡ 8
       → chunks_reading rates rate start (unit ++ more)
       ≡ rest_reading rates (start + 8) (after_chunk_head (told_place (start + 7)) rate (take 4 unit)
-          (little_number 4 (drop 4 unit))) [] more
+      (little_number 4 (drop 4 unit))) [] more
   head_ends None start (a ∷ b ∷ c ∷ d ∷ e ∷ f ∷ g ∷ h ∷ []) more eight =
       let octets : List ℕ = a ∷ b ∷ c ∷ d ∷ e ∷ f ∷ g ∷ h ∷ more in
       let chunk : Chunk = chunk_at start octets in
       let others : List Chunk = chunks (start + 8 + padded chunk.size) (drop (padded chunk.size) more) in
       let P : Part = after_chunk_head (told_place (start + 7)) None chunk.name chunk.size in
       let unsorted : Part = cond (is_format chunk) (format_begun (told_place (start + 7)) chunk.size)
-          (AtChunk None (padded chunk.size)) in
+      (AtChunk None (padded chunk.size)) in
       ap (unformatted rates) (chunks_whole start octets (omega arith))
       ∙ choose (is_data chunk) (failed (NoFormat (told_place (start + 7))))
-          (cond (is_format chunk) (of_format rates chunk others) (unformatted rates others))
+      (cond (is_format chunk) (of_format rates chunk others) (unformatted rates others))
       (data_begun (told_place (start + 7)) None chunk.size) unsorted (start + 8) more (λ t. refl)
       (λ t. choose (is_format chunk) (of_format rates chunk others) (unformatted rates others)
-          (format_begun (told_place (start + 7)) chunk.size) (AtChunk None (padded chunk.size)) (start + 8) more
+      (format_begun (told_place (start + 7)) chunk.size) (AtChunk None (padded chunk.size)) (start + 8) more
       (λ u. format_begins start chunk.size chunk.name more) (λ u. other_begins None start chunk.size more))
       ∙ ap (λ test. rest_reading rates (start + 8) (cond (is_data chunk)
-          (data_begun (told_place (start + 7)) None chunk.size)
-          (cond test (format_begun (told_place (start + 7)) chunk.size) (AtChunk None (padded chunk.size)))) [] more)
+      (data_begun (told_place (start + 7)) None chunk.size)
+      (cond test (format_begun (told_place (start + 7)) chunk.size) (AtChunk None (padded chunk.size)))) [] more)
       (and_true (is_format chunk))
   head_ends (Some rate) start (a ∷ b ∷ c ∷ d ∷ e ∷ f ∷ g ∷ h ∷ []) more eight =
       let octets : List ℕ = a ∷ b ∷ c ∷ d ∷ e ∷ f ∷ g ∷ h ∷ more in
@@ -181,13 +190,13 @@ module _ (rates : Rates) where
       let others : List Chunk = chunks (start + 8 + padded chunk.size) (drop (padded chunk.size) more) in
       ap (formatted (Some rate)) (chunks_whole start octets (omega arith))
       ∙ choose (is_data chunk) (of_data (Some rate) chunk) (formatted (Some rate) others)
-          (data_begun (told_place (start + 7)) (Some rate) chunk.size) (AtChunk (Some rate) (padded chunk.size))
-          (start + 8) more
+      (data_begun (told_place (start + 7)) (Some rate) chunk.size) (AtChunk (Some rate) (padded chunk.size))
+      (start + 8) more
       (λ t. data_begins rate start chunk.size chunk.name more) (λ t. other_begins (Some rate) start chunk.size more)
       ∙ ap (λ test. rest_reading rates (start + 8) (cond (is_data chunk)
-          (data_begun (told_place (start + 7)) (Some rate) chunk.size)
-          (cond test (format_begun (told_place (start + 7)) chunk.size) (AtChunk (Some rate) (padded chunk.size)))) []
-          more)
+      (data_begun (told_place (start + 7)) (Some rate) chunk.size)
+      (cond test (format_begun (told_place (start + 7)) chunk.size) (AtChunk (Some rate) (padded chunk.size)))) []
+      more)
       (and_false (is_format chunk))
   head_ends rate start unit more eight = absurd (omega (arith, eight))
 
@@ -195,7 +204,7 @@ module _ (rates : Rates) where
   head_full : (n : ℕ) (rate : Option ℕ) (unit : List ℕ) (octet : ℕ) (more : List ℕ) → length unit ≡ 7 → length unit ≤ n
       → Keeps n (AtChunk rate 0) unit octet more
       (to_part (after_chunk_head (told_place n) rate (take 4 (unit ++ octet ∷ []))
-          (little_number 4 (drop 4 (unit ++ octet ∷ [])))) [])
+      (little_number 4 (drop 4 (unit ++ octet ∷ [])))) [])
   head_full n rate unit octet more seven enough =
       let u : List ℕ = unit ++ octet ∷ [] in
       let first : n + 0 - length unit ≡ n - 7 = omega arith in
@@ -206,9 +215,9 @@ module _ (rates : Rates) where
       ∙ ap (chunks_reading rates rate (n - 7)) (sym (append_assoc unit (octet ∷ []) more))
       ∙ head_ends rate (n - 7) u more eight
       ∙ ap (λ m. rest_reading rates m (after_chunk_head (told_place (n - 7 + 7)) rate (take 4 u)
-          (little_number 4 (drop 4 u))) [] more) next
+      (little_number 4 (drop 4 u))) [] more) next
       ∙ ap (λ m. rest_reading rates (suc n) (after_chunk_head (told_place m) rate (take 4 u)
-          (little_number 4 (drop 4 u))) [] more) last
+      (little_number 4 (drop 4 u))) [] more) last
 
   chunk_keeps : (n : ℕ) (rate : Option ℕ) (skip : ℕ) (unit : List ℕ) (octet : ℕ) (more : List ℕ) → length unit < 8
       → length unit ≤ n
@@ -270,18 +279,18 @@ module _ (rates : Rates) where
       → length unit ≡ width_of field
       → field_fault rates (field ∷ others) place (unit ++ more)
       ≡ cond (accepts rates field (little_number (width_of field) unit))
-          (field_fault rates others (place + width_of field) more)
+      (field_fault rates others (place + width_of field) more)
       (Some (BadFormat (told_place (place + width_of field - 1)) (number_of field)
-          (little_number (width_of field) unit)))
+      (little_number (width_of field) unit)))
   field_whole field others place unit more whole =
       let w : ℕ = width_of field in
       let value : little_number w (unit ++ more) ≡ little_number w unit =
-          little_from-append w unit more (omega arith) in
+      little_from-append w unit more (omega arith) in
       cond-false _ _ _ (le-ltb (length (unit ++ more)) w (omega (arith, length-append unit more)))
       ∙ ap (λ v. cond (accepts rates field v) (field_fault rates others (place + w) (drop w (unit ++ more)))
-          (Some (BadFormat (told_place (place + w - 1)) (number_of field) v))) value
+      (Some (BadFormat (told_place (place + w - 1)) (number_of field) v))) value
       ∙ ap (λ xs. cond (accepts rates field (little_number w unit)) (field_fault rates others (place + w) xs)
-          (Some (BadFormat (told_place (place + w - 1)) (number_of field) (little_number w unit))))
+      (Some (BadFormat (told_place (place + w - 1)) (number_of field) (little_number w unit))))
       (drop_at unit more w whole)
 
   -- the reading from a field on, if so many octets of the fields are still to come
@@ -291,7 +300,7 @@ module _ (rates : Rates) where
 
   to_field : (field : Field) (rate first place skip : ℕ) (more : List ℕ) → place ≡ first + widths_from field + skip
       → from_fields (rate_from field rate more) (fields_from field) first more place (widths_from field + skip) more
-          ≡ rest_reading rates first (AtFormat field rate skip) [] more
+      ≡ rest_reading rates first (AtFormat field rate skip) [] more
   to_field field rate first place skip more e =
       let told : Option ℕ = rate_from field rate more in
       let start : first ≡ first - 0 = omega arith in
@@ -300,7 +309,7 @@ module _ (rates : Rates) where
       ap (λ f. from_fields told (fields_from field) f more place (widths_from field + skip) more) start
       ∙ ap (λ p. from_fields told (fields_from field) (first - 0) more p (widths_from field + skip) more) later
       ∙ ap (λ k. from_fields told (fields_from field) (first - 0) more (first + (widths_from field - 0) + skip) k more)
-          count
+      count
 
   -- the rate that fields tell is told by those after the first, and the first
   abbrev rate_behind : Option Field → ℕ → List ℕ → Option ℕ
@@ -319,17 +328,17 @@ module _ (rates : Rates) where
 
   rate_split : (field : Field) (rate : ℕ) (unit more : List ℕ) → length unit ≡ width_of field
       → rate_from field rate (unit ++ more) ≡ rate_behind (next_of field)
-          (rate_after field rate (little_number (width_of field) unit)) more
+      (rate_after field rate (little_number (width_of field) unit)) more
   rate_split Format rate unit more whole =
       let gone : drop 2 (unit ++ more) ≡ more = drop_at unit more 2 whole in
       same_told (length (unit ++ more)) 16 (length more) 14 _ _ (omega (arith, length-append unit more, whole))
       (ap (little_number 4) (sym (drop-drop 2 2 (unit ++ more)) ∙ ap (drop 2) gone))
   rate_split Channels rate unit more whole =
       same_told (length (unit ++ more)) 14 (length more) 12 _ _ (omega (arith, length-append unit more, whole))
-          (ap (little_number 4) (drop_at unit more 2 whole))
+      (ap (little_number 4) (drop_at unit more 2 whole))
   rate_split Rate rate unit more whole =
       same_told (length (unit ++ more)) 12 (length more) 8 _ _ (omega (arith, length-append unit more, whole))
-          (little_from-append 4 unit more (omega (arith, whole)))
+      (little_from-append 4 unit more (omega (arith, whole)))
   rate_split ByteRate rate unit more whole = same_told (length (unit ++ more)) 8 (length more) 4 _ _
       (omega (arith, length-append unit more, whole)) refl
   rate_split Align rate unit more whole = same_told (length (unit ++ more)) 4 (length more) 2 _ _
@@ -340,7 +349,7 @@ module _ (rates : Rates) where
   -- after a field
   following_keeps : (field : Field) (rate start skip : ℕ) (more : List ℕ)
       → from_fields (rate_behind (next_of field) rate more) (fields_after (next_of field)) (start + width_of field) more
-          (start + widths_from field + skip) (widths_from field - width_of field + skip) more
+      (start + widths_from field + skip) (widths_from field - width_of field + skip) more
       ≡ rest_reading rates (start + width_of field) (following (next_of field) rate skip) [] more
   following_keeps Format rate start skip more = to_field Channels rate (start + 2) (start + 16 + skip) skip more
       (omega arith)
@@ -354,14 +363,14 @@ module _ (rates : Rates) where
   following_keeps Bits rate start skip more =
       let place : start + 2 + skip ≡ start + 2 + skip - 0 = omega arith in
       ap (λ k. formatted (Some rate) (chunks (start + 2 + skip) (drop k more))) (zero-add skip)
-          ∙ ap (λ p. chunks_reading rates (Some rate) p (drop skip more)) place
+      ∙ ap (λ p. chunks_reading rates (Some rate) p (drop skip more)) place
 
   -- a field ends
   field_ends : (field : Field) (rate start skip : ℕ) (unit more : List ℕ) → length unit ≡ width_of field
       → from_fields (rate_from field rate (unit ++ more)) (fields_from field) start (unit ++ more)
-          (start + widths_from field + skip) (widths_from field - width_of field + skip) more
+      (start + widths_from field + skip) (widths_from field - width_of field + skip) more
       ≡ rest_reading rates (start + width_of field) (after_field rates (told_place (start + width_of field - 1))
-          field rate skip (little_number (width_of field) unit)) [] more
+      field rate skip (little_number (width_of field) unit)) [] more
   field_ends field rate start skip unit more whole =
       let w : ℕ = width_of field in
       let value : ℕ = little_number w unit in
@@ -370,13 +379,13 @@ module _ (rates : Rates) where
       let after : ℕ = rate_after field rate value in
       let rest : Reading = formatted (rate_behind (next_of field) after more) (chunks place (drop count more)) in
       ap (λ told. from_fields told (fields_from field) start (unit ++ more) place count more)
-          (rate_split field rate unit more whole)
+      (rate_split field rate unit more whole)
       ∙ ap (λ fs. unless (field_fault rates fs start (unit ++ more)) rest) (fields_split field)
       ∙ ap (λ fault. unless fault rest) (field_whole field (fields_after (next_of field)) start unit more whole)
       ∙ passed (accepts rates field value) (BadFormat (told_place (start + w - 1)) (number_of field) value)
-          (following (next_of field) after skip) (start + w) more
+      (following (next_of field) after skip) (start + w) more
       (field_fault rates (fields_after (next_of field)) (start + w) more) rest
-          (following_keeps field after start skip more)
+      (following_keeps field after start skip more)
 
   -- an octet of a field that goes on
   field_goes_on : (n : ℕ) (field : Field) (rate skip : ℕ) (unit : List ℕ) (octet : ℕ) (more : List ℕ)
@@ -393,22 +402,22 @@ module _ (rates : Rates) where
       let some : 0 < total - length unit + skip = omega (arith, room.1) in
       let told : Option ℕ = rate_from field rate (u ++ more) in
       ap (λ xs. from_fields (rate_from field rate xs) (fields_from field) (n - length unit) xs
-          (n + (total - length unit) + skip) (total - length unit + skip) (octet ∷ more))
-          (sym (append_assoc unit (octet ∷ []) more))
+      (n + (total - length unit) + skip) (total - length unit + skip) (octet ∷ more))
+      (sym (append_assoc unit (octet ∷ []) more))
       ∙ ap (λ f. from_fields told (fields_from field) f (u ++ more) (n + (total - length unit) + skip)
-          (total - length unit + skip) (octet ∷ more)) first
+      (total - length unit + skip) (octet ∷ more)) first
       ∙ ap (λ p. from_fields told (fields_from field) (suc n - length u) (u ++ more) p (total - length unit + skip)
-          (octet ∷ more)) place
+      (octet ∷ more)) place
       ∙ ap (λ xs. unless (field_fault rates (fields_from field) (suc n - length u) (u ++ more))
-          (formatted told (chunks (suc n + (total - length u) + skip) xs)))
+      (formatted told (chunks (suc n + (total - length u) + skip) xs)))
       (drop_later (total - length unit + skip) octet more some ∙ ap (λ k. drop k more) count)
 
   -- an octet of a field that ends it
   field_full : (n : ℕ) (field : Field) (rate skip : ℕ) (unit : List ℕ) (octet : ℕ) (more : List ℕ)
       → length unit + 1 ≡ width_of field → length unit ≤ n
       → Keeps n (AtFormat field rate skip) unit octet more
-          (to_part (after_field rates (told_place n) field rate skip
-          (little_number (width_of field) (unit ++ octet ∷ []))) [])
+      (to_part (after_field rates (told_place n) field rate skip
+      (little_number (width_of field) (unit ++ octet ∷ []))) [])
   field_full n field rate skip unit octet more last enough =
       let u : List ℕ = unit ++ octet ∷ [] in
       let w : ℕ = width_of field in
@@ -423,22 +432,22 @@ module _ (rates : Rates) where
       let at : start + w - 1 ≡ n = omega arith in
       let told : Option ℕ = rate_from field rate (u ++ more) in
       ap (λ xs. from_fields (rate_from field rate xs) (fields_from field) start xs (n + (total - length unit) + skip)
-          (total - length unit + skip) (octet ∷ more)) (sym (append_assoc unit (octet ∷ []) more))
+      (total - length unit + skip) (octet ∷ more)) (sym (append_assoc unit (octet ∷ []) more))
       ∙ ap (λ p. from_fields told (fields_from field) start (u ++ more) p (total - length unit + skip) (octet ∷ more))
-          place
+      place
       ∙ ap (λ xs. unless (field_fault rates (fields_from field) start (u ++ more))
-          (formatted told (chunks (start + total + skip) xs)))
+      (formatted told (chunks (start + total + skip) xs)))
       (drop_later (total - length unit + skip) octet more some ∙ ap (λ k. drop k more) count)
       ∙ field_ends field rate start skip u more (omega arith)
       ∙ ap (λ m. rest_reading rates m (after_field rates (told_place (start + w - 1)) field rate skip
-          (little_number w u)) [] more) next
+      (little_number w u)) [] more) next
       ∙ ap (λ m. rest_reading rates (suc n) (after_field rates (told_place m) field rate skip (little_number w u)) []
-          more) at
+      more) at
 
   format_keeps : (n : ℕ) (field : Field) (rate skip : ℕ) (unit : List ℕ) (octet : ℕ) (more : List ℕ)
       → length unit < width_of field → length unit ≤ n
       → Keeps n (AtFormat field rate skip) unit octet more
-          (step_of rates (told_place n) (AtFormat field rate skip) unit octet)
+      (step_of rates (told_place n) (AtFormat field rate skip) unit octet)
   format_keeps n field rate skip unit octet more few enough =
       let K : Step → Type 0 = Keeps n (AtFormat field rate skip) unit octet more in
       elim (cases_lt (length unit + 1) (width_of field)) [
@@ -460,31 +469,47 @@ module _ (rates : Rates) where
   data_octet_keeps : (rate n left : ℕ) (low : Option ℕ) (unit : List ℕ) (octet : ℕ) (more : List ℕ) → 0 < left
       → data_reading rate (Some left) (option_to_list low) (octet ∷ more)
       ≡ behind (option_to_list (after_data_octet rate (Some (left - 1)) low octet).1)
-          (rest_reading rates (suc n) (after_data_octet rate (Some (left - 1)) low octet).0 unit more)
+      (rest_reading rates (suc n) (after_data_octet rate (Some (left - 1)) low octet).0 unit more)
   data_octet_keeps rate n zero low unit octet more some = absurd (omega arith)
   data_octet_keeps rate n (suc left) None unit octet more some =
       let less : left ≡ suc left - 1 = omega arith in
-      ap (λ k. record { fault = None; rate = Some rate; heard = samples (octet ∷ take k more);
-          whole = leb (suc left) (length (octet ∷ more)) }) less
-      ∙ ap (λ b. record { fault = None; rate = Some rate; heard = samples (octet ∷ take (suc left - 1) more);
-          whole = b }) (leb_later left (length more))
+      ap (λ k. record {
+        fault = None;
+        rate = Some rate;
+        heard = samples (octet ∷ take k more);
+        whole = leb (suc left) (length (octet ∷ more));
+      }) less
+      ∙ ap (λ b. record {
+        fault = None;
+        rate = Some rate;
+        heard = samples (octet ∷ take (suc left - 1) more);
+        whole = b;
+      }) (leb_later left (length more))
   data_octet_keeps rate n (suc left) (Some low) unit octet more some =
       let less : left ≡ suc left - 1 = omega arith in
-      ap (λ k. record { fault = None; rate = Some rate; heard = samples (low ∷ octet ∷ take k more);
-          whole = leb (suc left) (length (octet ∷ more)) }) less
-      ∙ ap (λ b. record { fault = None; rate = Some rate; heard = samples (low ∷ octet ∷ take (suc left - 1) more);
-          whole = b }) (leb_later left (length more))
+      ap (λ k. record {
+        fault = None;
+        rate = Some rate;
+        heard = samples (low ∷ octet ∷ take k more);
+        whole = leb (suc left) (length (octet ∷ more));
+      }) less
+      ∙ ap (λ b. record {
+        fault = None;
+        rate = Some rate;
+        heard = samples (low ∷ octet ∷ take (suc left - 1) more);
+        whole = b;
+      }) (leb_later left (length more))
 
   data_ended : (rate octet : ℕ) (low more : List ℕ) → data_reading rate (Some 0) low (octet ∷ more)
       ≡ data_reading rate (Some 0) low more
   data_ended rate octet low more =
       ap (λ b. record { fault = None; rate = Some rate; heard = samples (low ++ []); whole = b })
-          (le-leb 0 (length (octet ∷ more)) (omega arith) ∙ sym (le-leb 0 (length more) (omega arith)))
+      (le-leb 0 (length (octet ∷ more)) (omega arith) ∙ sym (le-leb 0 (length more) (omega arith)))
 
   data_keeps : (rate n : ℕ) (left low : Option ℕ) (unit : List ℕ) (octet : ℕ) (more : List ℕ)
       → data_reading rate left (option_to_list low) (octet ∷ more)
       ≡ behind (option_to_list (after_data rate left low octet).1)
-          (rest_reading rates (suc n) (after_data rate left low octet).0 unit more)
+      (rest_reading rates (suc n) (after_data rate left low octet).0 unit more)
   data_keeps rate n None None unit octet more = refl
   data_keeps rate n None (Some low) unit octet more = refl
   data_keeps rate n (Some left) low unit octet more =
@@ -501,7 +526,7 @@ module _ (rates : Rates) where
       ended : 0 ≡ left → K (Data rate (Some left) low, None)
       ended e =
           let P : ℕ → Type 0 = λ k. data_reading rate (Some k) (option_to_list low) (octet ∷ more)
-              ≡ data_reading rate (Some k) (option_to_list low) more in
+          ≡ data_reading rate (Some k) (option_to_list low) more in
           subst P e (data_ended rate octet (option_to_list low) more)
 
   -- ---- every part
@@ -514,17 +539,17 @@ module _ (rates : Rates) where
       let count : n ≡ place = omega (arith, fits.0) in
       let none : [] ≡ unit = sym (nil_from_length unit (omega (arith, fits.1))) in
       let P : ℕ → Type 0 = λ p. head_reading rates n (octet ∷ more)
-          ≡ rest_reading rates (suc n) (after_head p octet) [] more in
+      ≡ rest_reading rates (suc n) (after_head p octet) [] more in
       let Q : List ℕ → Type 0 = λ u. head_reading rates n (octet ∷ more)
-          ≡ rest_reading rates (suc n) (after_head place octet) u more in
+      ≡ rest_reading rates (suc n) (after_head place octet) u more in
       subst Q none (subst P count (head_keeps n octet more (omega (arith, fits.0))))
   step_keeps n place (AtChunk rate skip) unit octet more named fits enough =
       let P : ℕ → Type 0 = λ p. Keeps n (AtChunk rate skip) unit octet more
-          (step_of rates p (AtChunk rate skip) unit octet) in
+      (step_of rates p (AtChunk rate skip) unit octet) in
       subst P (sym named) (chunk_keeps n rate skip unit octet more fits enough)
   step_keeps n place (AtFormat field rate skip) unit octet more named fits enough =
       let P : ℕ → Type 0 = λ p. Keeps n (AtFormat field rate skip) unit octet more
-          (step_of rates p (AtFormat field rate skip) unit octet) in
+      (step_of rates p (AtFormat field rate skip) unit octet) in
       subst P (sym named) (format_keeps n field rate skip unit octet more fits enough)
   step_keeps n place (Data rate left low) unit octet more named fits enough = data_keeps rate n left low unit octet more
   step_keeps n place (Failed fault) unit octet more named fits enough = refl
@@ -545,6 +570,6 @@ module _ (rates : Rates) where
       (cond_grows (ltb (length unit) 7) _ _ (length unit + 1) (omega (arith, length_push unit octet)) (omega arith))
   unit_grows place (AtFormat field rate skip) unit octet =
       cond_grows (ltb (length unit + 1) (width_of field)) _ _ (length unit + 1) (omega (arith, length_push unit octet))
-          (omega arith)
+      (omega arith)
   unit_grows place (Data rate left low) unit octet = omega arith
   unit_grows place (Failed fault) unit octet = omega arith

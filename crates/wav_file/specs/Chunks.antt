@@ -19,8 +19,12 @@ padded size = size + size % 2
 
 -- the chunk whose head of eight octets stands at the front of these octets
 abbrev pub chunk_at : ℕ → List ℕ → Chunk
-chunk_at place octets = record { place = place; name = take 4 octets; size = little_number 4 (drop 4 octets);
-    behind = drop 8 octets }
+chunk_at place octets = record {
+  place = place;
+  name = take 4 octets;
+  size = little_number 4 (drop 4 octets);
+  behind = drop 8 octets;
+}
 
 -- at most so many chunks, one after the other
 abbrev pub chunks_upto : ℕ → ℕ → List ℕ → List Chunk

@@ -1,8 +1,8 @@
 -- The format of this project's WAV files: PCM, one channel, 16 bits a sample, at 9600 samples a second or at one of the
 -- rates that a reader takes (Multimedia Programming Interface and Data Specifications 1.0, "Waveform Audio File
 -- Format").
-use Rattle.std.specs.Prelude.{ℕ, ◌+◌, ◌-◌, ◌==◌, ◌||◌, nat_lt, if◌then◌else◌, Bool, true, List, [], ◌∷◌, length, drop,
-    Option, Some, None}
+use Rattle.std.specs.Prelude.{ℕ, ◌+◌, ◌-◌, ◌==◌, ◌||◌, nat_lt, if◌then◌else◌, Bool, true, List, [], ◌∷◌, length, drop}
+use Rattle.std.specs.Prelude.{Option, Some, None}
 use Rattle.byteorder.specs.Endian.{little_number}
 use Rattle.wav_file.specs.declared.fault.WavFault.{WavFault}
 use Rattle.wav_file.specs.declared.fault.WavFault.TheVariants.{BadFormat}
@@ -57,7 +57,7 @@ field_fault rates (field ∷ others) place octets =
     if accepts rates field (little_number (width_of field) octets)
     then field_fault rates others (place + width_of field) (drop (width_of field) octets)
     else Some (BadFormat (told_place (place + width_of field - 1)) (number_of field)
-        (little_number (width_of field) octets))
+    (little_number (width_of field) octets))
 
 -- The rate that a format names at the front of these octets, once its sixteen octets are there: the third field's
 -- number.

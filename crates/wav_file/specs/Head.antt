@@ -7,13 +7,13 @@ use Rattle.byteorder.specs.Endian.{little_bytes}
 abbrev pub format_octets : List ℕ
 format_octets =
     little_bytes 2 1 ++ (little_bytes 2 1 ++ (little_bytes 4 9600
-        ++ (little_bytes 4 19200 ++ (little_bytes 2 2 ++ little_bytes 2 16))))
+    ++ (little_bytes 4 19200 ++ (little_bytes 2 2 ++ little_bytes 2 16))))
 
 -- the head before so many octets of data; RIFF's size counts the 36 octets of the head that follow it, too
 unfoldable pub head_before : ℕ → List ℕ
 head_before size =
     codes "RIFF" ++ (little_bytes 4 (36 + size) ++ (codes "WAVE"
-        ++ (codes "fmt " ++ (little_bytes 4 16 ++ (format_octets ++ (codes "data" ++ little_bytes 4 size))))))
+    ++ (codes "fmt " ++ (little_bytes 4 16 ++ (format_octets ++ (codes "data" ++ little_bytes 4 size))))))
 
 -- the head of a file of so many samples
 abbrev pub head_of : ℕ → List ℕ

@@ -1,7 +1,8 @@
 -- What is kept of a file while its octets come: the part of the file that is under way. No public clause looks inside:
 -- they cite `StandsFor` alone.
-use Rattle.std.specs.Prelude.{◌≡◌, ℕ, ◌+◌, ◌-◌, ◌<◌, ◌≤◌, ◌==◌, ◌&&◌, is_none, nat_lt, nat_le, if◌then◌else◌, Bool,
-    true, false, List, [], ◌∷◌, ◌++◌, length, take, drop, codes, slice_index, ℤ, Option, Some, None, Result, Ok, Err}
+use Rattle.std.specs.Prelude.{◌≡◌, ℕ, ◌+◌, ◌-◌, ◌<◌, ◌≤◌, ◌==◌, ◌&&◌, is_none, nat_lt, nat_le, if◌then◌else◌, Bool}
+use Rattle.std.specs.Prelude.{true, false, List, [], ◌∷◌, ◌++◌, length, take, drop, codes, slice_index, ℤ, Option, Some}
+use Rattle.std.specs.Prelude.{None, Result, Ok, Err}
 use Rattle.std.specs.Option.{option_to_list}
 use Rattle.std.specs.Str.{bytes_eq}
 use Rattle.byteorder.specs.Endian.{little_number}
@@ -51,7 +52,7 @@ after_head place octet =
     if nat_lt place 4 then (if slice_index (codes "RIFF") place == octet then Head else Failed (NotRiff place)) else
     if nat_lt place 8 then Head else
     if slice_index (codes "WAVE") (place - 8) == octet then (if place == 11 then AtChunk None 0 else Head)
-        else Failed (NotWave place)
+    else Failed (NotWave place)
 
 -- a data chunk of this size begins
 abbrev pub data_begun : ℕ → Option ℕ → ℕ → Part
@@ -86,7 +87,7 @@ following None rate skip = AtChunk (Some rate) skip
 abbrev pub after_field : Rates → ℕ → Field → ℕ → ℕ → ℕ → Part
 after_field rates place field rate skip value =
     if accepts rates field value then following (next_of field) (rate_after field rate value) skip
-        else Failed (BadFormat place (number_of field) value)
+    else Failed (BadFormat place (number_of field) value)
 
 pub record Step : Type 0 where
   pub part : Part
@@ -116,7 +117,7 @@ step_of rates place (AtChunk rate skip) unit octet =
     if nat_lt 0 skip then to_part (AtChunk rate (skip - 1)) unit else
     if nat_lt (length unit) 7 then to_part (AtChunk rate 0) (unit ++ octet ∷ []) else
     to_part (after_chunk_head place rate (take 4 (unit ++ octet ∷ [])) (little_number 4 (drop 4 (unit ++ octet ∷ []))))
-        []
+    []
 step_of rates place (AtFormat field rate skip) unit octet =
     if nat_lt (length unit + 1) (width_of field) then to_part (AtFormat field rate skip) (unit ++ octet ∷ []) else
     to_part (after_field rates place field rate skip (little_number (width_of field) (unit ++ octet ∷ []))) []
@@ -199,10 +200,18 @@ head_reading rates place octets =
     (chunks_reading rates None 12 (drop (12 - place) octets)))
 
 abbrev pub data_reading : ℕ → Option ℕ → List ℕ → List ℕ → Reading
-data_reading rate None low octets = record { fault = None; rate = Some rate; heard = samples (low ++ octets);
-    whole = true }
-data_reading rate (Some left) low octets = record { fault = None; rate = Some rate;
-    heard = samples (low ++ take left octets); whole = nat_le left (length octets) }
+data_reading rate None low octets = record {
+  fault = None;
+  rate = Some rate;
+  heard = samples (low ++ octets);
+  whole = true;
+}
+data_reading rate (Some left) low octets = record {
+  fault = None;
+  rate = Some rate;
+  heard = samples (low ++ take left octets);
+  whole = nat_le left (length octets);
+}
 
 -- how the rest of a file is read in a part, after so many octets
 abbrev pub rest_reading : Rates → ℕ → Part → List ℕ → List ℕ → Reading
@@ -212,8 +221,8 @@ rest_reading rates count (AtChunk rate skip) unit octets =
 rest_reading rates count (AtFormat field rate skip) unit octets =
     unless (field_fault rates (fields_from field) (count - length unit) (unit ++ octets))
     (formatted (rate_from field rate (unit ++ octets))
-        (chunks (count + (widths_from field - length unit) + skip)
-        (drop (widths_from field - length unit + skip) octets)))
+    (chunks (count + (widths_from field - length unit) + skip)
+    (drop (widths_from field - length unit + skip) octets)))
 rest_reading rates count (Data rate left low) unit octets = data_reading rate left (option_to_list low) octets
 rest_reading rates count (Failed fault) unit octets = failed fault
 

@@ -1,7 +1,7 @@
 -- What the octets of a WAV file are read as (Multimedia Programming Interface and Data Specifications 1.0): "RIFF", a
 -- size that is not looked at, "WAVE", and chunks, of which a "fmt " comes before the first "data".
-use Rattle.std.specs.Prelude.{ℕ, ◌+◌, ◌==◌, nat_lt, nat_le, if◌then◌else◌, Bool, true, false, List, [], ◌∷◌, length,
-    take, drop, codes, ℤ, Option, Some, None, Result, Ok, Err}
+use Rattle.std.specs.Prelude.{ℕ, ◌+◌, ◌==◌, nat_lt, nat_le, if◌then◌else◌, Bool, true, false, List, [], ◌∷◌, length}
+use Rattle.std.specs.Prelude.{take, drop, codes, ℤ, Option, Some, None, Result, Ok, Err}
 use Rattle.std.specs.Option.{option_to_list}
 use Rattle.std.specs.Str.{bytes_eq}
 use Rattle.wav_file.specs.declared.fault.WavFault.{WavFault}
@@ -53,8 +53,12 @@ endless_size = 0x7fff0000
 abbrev pub of_data : Option ℕ → Chunk → Reading
 of_data rate chunk =
     if nat_lt chunk.size endless_size
-    then record { fault = None; rate = rate; heard = samples (take chunk.size chunk.behind);
-        whole = nat_le chunk.size (length chunk.behind) }
+    then record {
+      fault = None;
+      rate = rate;
+      heard = samples (take chunk.size chunk.behind);
+      whole = nat_le chunk.size (length chunk.behind);
+    }
     else record { fault = None; rate = rate; heard = samples chunk.behind; whole = true }
 
 -- chunks after the format, which names this rate

@@ -1,6 +1,6 @@
 -- The streams of samples that come in pieces, and how many samples they have.
-use Rattle.std.proofs.Common.{◌≡◌, ℕ, zero, suc, ◌+◌, ◌-◌, ◌*◌, ◌/◌, ◌<◌, ◌≤◌, ℤ, List, [], ◌∷◌, ◌++◌, length, get_or,
-    take, append-nil, pos, Option, Result, Ok, Err, refl, ap, sym, subst, ◌∙◌, arith}
+use Rattle.std.proofs.Common.{◌≡◌, ℕ, zero, suc, ◌+◌, ◌-◌, ◌*◌, ◌/◌, ◌<◌, ◌≤◌, ℤ, List, [], ◌∷◌, ◌++◌, length, get_or}
+use Rattle.std.proofs.Common.{take, append-nil, pos, Option, Result, Ok, Err, refl, ap, sym, subst, ◌∙◌, arith}
 use Rattle.std.specs.Prelude.{OnOk, OnErr}
 use Rattle.std.proofs.lemmas.List.{take_more}
 use Rattle.frame_merge.specs.declared.candidate.Candidate.{Candidate}
@@ -49,7 +49,7 @@ stream-least number x small =
 -- with one sample more
 pub stream-taken : (skipped : ℕ) (x : List ℤ) (sample : ℤ) → next_skipped skipped x ≡ 0
     → (stream skipped (x ++ sample ∷ []) ≡ stream skipped x ++ sample ∷ [])
-        × (next_skipped skipped (x ++ sample ∷ []) ≡ 4)
+    × (next_skipped skipped (x ++ sample ∷ []) ≡ 4)
 stream-taken skipped x sample here = (
   stream-append skipped x (sample ∷ []) ∙ ap (λ n. stream skipped x ++ stream n (sample ∷ [])) here,
   next_skipped-append skipped x (sample ∷ []) ∙ ap (λ n. next_skipped n (sample ∷ [])) here,
@@ -66,7 +66,7 @@ stream-skipped skipped left x sample here = (
 -- so along a block
 pub step_taken : (skipped i : ℕ) (block : List ℤ) (d : ℤ) → i < length block → next_skipped skipped (take i block) ≡ 0
     → (stream skipped (take (i + 1) block) ≡ stream skipped (take i block) ++ get_or block i d ∷ [])
-        × (next_skipped skipped (take (i + 1) block) ≡ 4)
+    × (next_skipped skipped (take (i + 1) block) ≡ 4)
 step_taken skipped i block d l here =
     let more : take (i + 1) block ≡ take i block ++ get_or block i d ∷ [] = take_more block i d l in
     let step = stream-taken skipped (take i block) (get_or block i d) here in
@@ -75,7 +75,7 @@ step_taken skipped i block d l here =
 pub step_skipped : (skipped left i : ℕ) (block : List ℤ) → i < length block
     → next_skipped skipped (take i block) ≡ suc left
     → (stream skipped (take (i + 1) block) ≡ stream skipped (take i block))
-        × (next_skipped skipped (take (i + 1) block) ≡ left)
+    × (next_skipped skipped (take (i + 1) block) ≡ left)
 step_skipped skipped left i block l here =
     let more : take (i + 1) block ≡ take i block ++ get_or block i (pos 0) ∷ [] = take_more block i (pos 0) l in
     let step = stream-skipped skipped left (take i block) (get_or block i (pos 0)) here in
@@ -86,14 +86,14 @@ pub heard_part : (old : HeldStream) (new : HeldBank) (kept : Option (List Candid
     (x block part : List ℤ) (items : List Candidate)
     → part ≡ stream old.skipped block → left ≡ next_skipped old.skipped block
     → ((s : List ℤ) → BankStandsFor old.bank s → BankStandsFor new (s ++ part)
-        × AreCandidatesBehind (length s) (s ++ part) items)
+    × AreCandidatesBehind (length s) (s ++ part) items)
     → StreamStandsFor number old x
     → StreamStandsFor number (record { bank = new; skipped = left; found = kept }) (x ++ block)
     × AreCandidatesBehind (length (stream number x)) (stream number (x ++ block)) items
 heard_part old new kept left number x block part items is after fed h =
     let s : List ℤ = stream number x in
     let whole : s ++ part ≡ stream number (x ++ block) = ap (λ t. s ++ t) (is ∙ ap (λ n. stream n block) h.skipped)
-        ∙ sym (stream-append number x block) in
+    ∙ sym (stream-append number x block) in
     let f = fed s h.bank in (
       record {
         bank = subst (BankStandsFor new) whole f.0;

@@ -1,10 +1,11 @@
 -- Streams that are visited one after another.
-use Rattle.std.proofs.Common.{◌≡◌, ℕ, ◌+◌, ◌<◌, ◌≤◌, ℤ, List, [], ◌∷◌, ◌++◌, Some, map, take, drop, replicate,
-    append-nil, length, get_or, set, refl, ap, sym, ◌∙◌, arith, subst, inl, inr, get_or-set_same, get_or-set_other}
+use Rattle.std.proofs.Common.{◌≡◌, ℕ, ◌+◌, ◌<◌, ◌≤◌, ℤ, List, [], ◌∷◌, ◌++◌, Some, map, take, drop, replicate}
+use Rattle.std.proofs.Common.{append-nil, length, get_or, set, refl, ap, sym, ◌∙◌, arith, subst, inl, inr}
+use Rattle.std.proofs.Common.{get_or-set_same, get_or-set_other}
 use Rattle.std.specs.List.{All}
 use Rattle.std.proofs.lemmas.Bool.{cases_eq, cases_lt}
-use Rattle.std.proofs.lemmas.List.{get_or_default, length-set, get_or_append_left, map-append, length-map, take_more,
-    length-take-le, get_or-replicate, length-replicate}
+use Rattle.std.proofs.lemmas.List.{get_or_default, length-set, get_or_append_left, map-append, length-map, take_more}
+use Rattle.std.proofs.lemmas.List.{length-take-le, get_or-replicate, length-replicate}
 use Rattle.std.proofs.Math.Seq.{get_or-append_seam, take-append_seam}
 use Rattle.frame_merge.specs.declared.candidate.Candidate.{Candidate}
 use Rattle.wide_input.specs.Candidates.{in_stream}
@@ -47,7 +48,7 @@ visited_more Did old now n was stream h l did =
         | inl e ↦
             subst (λ i. Did (get_or old i d) (get_or (set now n stream) i d)) (sym e)
             (subst (Did (get_or old n d)) (sym (get_or-set_same now n stream d (omega arith)))
-                (subst (λ x. Did x stream) (visited_here Did old now n was d h l) did))
+            (subst (λ x. Did x stream) (visited_here Did old now n was d h l) did))
         | inr ne ↦ subst (Did (get_or old k d)) (sym (get_or-set_other now n k stream d ne)) (h.done k d (omega arith))
       ];
       rest = λ k d le. get_or-set_other now n k stream d (λ e. omega arith) ∙ h.rest k d (omega arith);
@@ -62,7 +63,7 @@ each_push P xs n x size each last k d l = elim (cases_lt k n) [
   | inr here ↦
       let same : k ≡ length xs = omega arith in
       let at : get_or (xs ++ x ∷ []) k d ≡ x = ap (λ i. get_or (xs ++ x ∷ []) i d) same
-          ∙ get_or-append_seam xs x [] d in
+      ∙ get_or-append_seam xs x [] d in
       subst (P k) (sym at) (subst (λ i. P i x) (let e : n ≡ k = omega arith in e) last)
 ]
 
@@ -70,15 +71,15 @@ each_push P xs n x size each last k d l = elim (cases_lt k n) [
 pub brought-more : (streams : List HeldStream) (n : ℕ) (d : HeldStream) (found : List Candidate) → n < length streams
     → (get_or streams n d).found ≡ Some found
     → brought 0 (map found_by (take n streams)) ++ map (in_stream n) found
-        ≡ brought 0 (map found_by (take (n + 1) streams))
+    ≡ brought 0 (map found_by (take (n + 1) streams))
 brought-more streams n d found l is =
     let before : List (List Candidate) = map found_by (take n streams) in
     let size : length before ≡ n = length-map (take n streams) found_by ∙ length-take-le n streams (omega arith) in
     let at : 0 + length before ≡ n = omega arith in
     let last : map (in_stream n) found ≡ brought (0 + length before) (found_by (get_or streams n d) ∷ [])
     = ap (λ i. map (in_stream i) found) (sym at) ∙ ap (λ f. map (in_stream (0 + length before)) f)
-        (sym (ap items_of is)) ∙ sym (append-nil (map (in_stream (0 + length before)) (found_by (get_or streams n d))))
-        in
+    (sym (ap items_of is)) ∙ sym (append-nil (map (in_stream (0 + length before)) (found_by (get_or streams n d))))
+    in
     ap (λ t. brought 0 before ++ t) last
     ∙ sym (ap (λ t. brought 0 (map found_by t)) (take_more streams n d l)
     ∙ ap (brought 0) (map-append found_by (take n streams) (get_or streams n d ∷ []))
@@ -89,7 +90,7 @@ pub given_back : {X : Type 0} (n : ℕ) (streams before : List X) → n ≡ leng
     → take n (streams ++ drop (length streams) before) ≡ streams
 given_back n streams before full =
     ap (λ m. take m (streams ++ drop (length streams) before)) full
-        ∙ take-append_seam streams (drop (length streams) before)
+    ∙ take-append_seam streams (drop (length streams) before)
 
 -- each of equal marks is at most a greater one
 pub all_marks : (n mark most : ℕ) (marks : List ℕ) → mark ≤ most → marks ≡ replicate n mark → All (λ m. m ≤ most) marks

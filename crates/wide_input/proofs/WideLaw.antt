@@ -1,6 +1,6 @@
 -- The law of a signal near in one stream: each candidate of the forty lanes lies near the end of a frame that was sent.
-use Rattle.std.proofs.Common.{◌≡◌, ℕ, ◌+◌, ◌*◌, ◌/◌, ◌<◌, ◌≤◌, ℤ, true, List, [], ◌∷◌, get_or, map, refl, ◌∙◌, arith,
-    inl, inr}
+use Rattle.std.proofs.Common.{◌≡◌, ℕ, ◌+◌, ◌*◌, ◌/◌, ◌<◌, ◌≤◌, ℤ, true, List, [], ◌∷◌, get_or, map, refl, ◌∙◌, arith}
+use Rattle.std.proofs.Common.{inl, inr}
 use Rattle.std.specs.Prelude.{nat_lt, ◌&&◌}
 use Rattle.std.specs.List.{All, AllByRecursion}
 use Rattle.std.specs.Str.{bytes_eq}
@@ -36,9 +36,9 @@ is_in_wide number item e small lane is =
     let parts = and_parts (bytes_eq item.octets e.octets) (soon_test && late_test) is in
     let near = and_parts soon_test late_test parts.1 in
     let soon : 5 * item.end + item.offset / 8 < 5 * e.end + number + 36 =
-        ltb-true (wide_end item) (wide_place number e.end + 36) near.0 in
+    ltb-true (wide_end item) (wide_place number e.end + 36) near.0 in
     let late : 5 * e.end + number < 5 * item.end + item.offset / 8 + 36 =
-        ltb-true (wide_place number e.end) (wide_end item + 36) near.1 in
+    ltb-true (wide_place number e.end) (wide_end item + 36) near.1 in
     record { octets = (bytes_eq-Decides item.octets e.octets).0 parts.0; low = omega arith; high = omega arith }
 
 in_one_wide : (number : ℕ) (item : Candidate) (ends : List TrueEnd) → number < 5 → item.offset < 40
@@ -73,16 +73,16 @@ near_stream_law number received x small good near no_stray items are =
     let fits : AllByRecursion IsReceived received = recursion_from_All IsReceived received good in
     let sent : List Transmission = transmissions_of received in
     let whole : AllByRecursion IsTransmission sent = recursion_from_All IsTransmission sent
-        (all_transmissions received fits) in
+    (all_transmissions received fits) in
     let carries : CarriesAll sent (stream number x) = near_carries received (stream number x) fits near in
     let ends : List TrueEnd = true_ends sent in
     let cs : List Cluster = map cluster_of ends in
     let forty : All (λ item. item.offset < 40) items = λ k d l. lane_small x (get_or items k d) (are.each k d l) in
     let known : All (λ item. IsInOne cs item) items
     = λ k d l. in_one_wide number (get_or items k d) ends small (forty k d l)
-        (no_stray (get_or items k d) (are.each k d l)) in
+    (no_stray (get_or items k d) (are.each k d l)) in
     merge_keeps items [] 7 0 cs tt (rising items are.order (λ k d l. let lane = forty k d l in omega arith))
-        (all_known items 7 cs known)
+    (all_known items 7 cs known)
     (apart ends 0 (spaced sent 0 0 (omega arith) whole))
     (all_have_one_wide number x items ends small are (all_found sent [] (stream number x) 0 whole carries refl))
     ∙ octets-clusters ends ∙ octets-true_ends_from sent 0

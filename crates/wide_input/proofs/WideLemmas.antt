@@ -1,6 +1,6 @@
 -- The candidates of forty lanes: those of samples, and those that more samples bring.
-use Rattle.std.proofs.Common.{◌≡◌, ◌≢◌, ℕ, zero, suc, ◌+◌, ◌*◌, ◌/◌, ◌<◌, ◌≤◌, ℤ, List, [], ◌∷◌, ◌++◌, length, get_or,
-    map, append_assoc, refl, ap, sym, subst, ◌∙◌, arith, inl, inr}
+use Rattle.std.proofs.Common.{◌≡◌, ◌≢◌, ℕ, zero, suc, ◌+◌, ◌*◌, ◌/◌, ◌<◌, ◌≤◌, ℤ, List, [], ◌∷◌, ◌++◌, length, get_or}
+use Rattle.std.proofs.Common.{map, append_assoc, refl, ap, sym, subst, ◌∙◌, arith, inl, inr}
 use Rattle.std.specs.Prelude.{fold}
 use Rattle.std.specs.List.{All, AllPairs, Contains}
 use Rattle.std.proofs.lemmas.Bool.{cases_lt}
@@ -127,7 +127,7 @@ pub below_stays : (x y : List ℤ) (candidates items : List Candidate) → AreWi
 below_stays x y candidates items are brought =
     below_more (least_count x) candidates items (wide_in_order x candidates are)
     (λ k d l. let small = lane_small (x ++ y) (get_or items k d) (brought.each k d l).wide in omega arith)
-        (brought_late x y items brought)
+    (brought_late x y items brought)
 
 -- ---- the lists of several streams as one
 
@@ -137,9 +137,9 @@ brought-append number [] more = ap (λ n. brought n more) (let e : number ≡ nu
 brought-append number (found ∷ founds) more =
     ap (λ t. map (in_stream number) found ++ t)
     (brought-append (suc number) founds more ∙ ap (λ n. brought (suc number) founds ++ brought n more)
-        (let e : suc number + length founds ≡ number + suc (length founds) = omega arith in e))
+    (let e : suc number + length founds ≡ number + suc (length founds) = omega arith in e))
     ∙ sym (append_assoc (map (in_stream number) found) (brought (suc number) founds)
-        (brought (number + suc (length founds)) more))
+    (brought (number + suc (length founds)) more))
 
 -- each stream from a number on found what its part of more samples brings
 abbrev pub HaveFound : List ℤ → List ℤ → ℕ → List (List Candidate) → Type 0
@@ -152,7 +152,7 @@ module _ (x y : List ℤ) where
   next_found number found founds h k d l =
       let e : number + suc k ≡ suc number + k = omega arith in
       subst (λ n. AreCandidatesBehind (length (stream n x)) (stream n (x ++ y)) (get_or founds k d)) e
-          (h (suc k) d (omega arith))
+      (h (suc k) d (omega arith))
 
   first_found : (number : ℕ) (found : List Candidate) (founds : List (List Candidate))
       → HaveFound x y number (found ∷ founds)
@@ -175,15 +175,23 @@ module _ (x y : List ℤ) where
       let n = length-map found (in_stream number) in
       let within : k < length found = omega arith in
       let at : get_or (map (in_stream number) found) k d ≡ in_stream number (get_or found k d) =
-          get_or-map (in_stream number) found k d d within in
+      get_or-map (in_stream number) found k d d within in
       let c = first.each k d within in
       subst (IsOfLanes number) (sym at) (
-        record { wide = record { number = number; within = omega arith; heard = get_or found k d; candidate = c.0;
-            is = refl }; past = c.1 },
+        record {
+          wide = record {
+            number = number;
+            within = omega arith;
+            heard = get_or found k d;
+            candidate = c.0;
+            is = refl;
+          };
+          past = c.1;
+        },
         omega arith,
       ))
       (λ k d l. let r = each_brought (suc number) founds (omega arith) (next_found number found founds h) k d l in
-          let le = r.1 in (r.0, omega arith))
+      let le = r.1 in (r.0, omega arith))
 
   contains_map : (number : ℕ) (items : List Candidate) (item : Candidate) → Contains items item
       → Contains (map (in_stream number) items) (in_stream number item)
@@ -207,21 +215,21 @@ module _ (x y : List ℤ) where
       of_first same =
           let there : Contains found b.wide.heard = (first_found number found founds h).whole b.wide.heard
           (subst (λ n. IsCandidate (stream n (x ++ y)) b.wide.heard) same b.wide.candidate)
-              (subst (λ n. length (stream n x) < b.wide.heard.end) same b.past) in
+          (subst (λ n. length (stream n x) < b.wide.heard.end) same b.past) in
           subst (Contains (map (in_stream number) found)) (ap (λ n. in_stream n b.wide.heard) (sym same)
-              ∙ sym b.wide.is) (contains_map number found b.wide.heard there)
+          ∙ sym b.wide.is) (contains_map number found b.wide.heard there)
 
   apart_first : (number : ℕ) (items : List Candidate) → AllPairs (λ item later. standing item < standing later) items
       → AllPairs (λ item later. standing item ≢ standing later) (map (in_stream number) items)
   apart_first number items order i j d ij jl e =
       let n = length-map items (in_stream number) in
       let at_i : get_or (map (in_stream number) items) i d ≡ in_stream number (get_or items i d) =
-          get_or-map (in_stream number) items i d d (omega arith) in
+      get_or-map (in_stream number) items i d d (omega arith) in
       let at_j : get_or (map (in_stream number) items) j d ≡ in_stream number (get_or items j d) =
-          get_or-map (in_stream number) items j d d (omega arith) in
+      get_or-map (in_stream number) items j d d (omega arith) in
       let less = order i j d ij (omega arith) in
       let same : standing (in_stream number (get_or items i d)) ≡ standing (in_stream number (get_or items j d)) =
-          sym (ap standing at_i) ∙ e ∙ ap standing at_j in
+      sym (ap standing at_i) ∙ e ∙ ap standing at_j in
       omega arith
 
   apart_brought : (number : ℕ) (founds : List (List Candidate)) → number + length founds ≤ 5
@@ -231,15 +239,15 @@ module _ (x y : List ℤ) where
   apart_brought number (found ∷ founds) few h =
       let first = first_found number found founds h in
       AllPairs-append (λ item later. standing item ≢ standing later) (map (in_stream number) found)
-          (brought (suc number) founds)
+      (brought (suc number) founds)
       (apart_first number found first.order)
       (apart_brought (suc number) founds (omega arith) (next_found number found founds h))
       (λ i j d il jl e.
       let n = length-map found (in_stream number) in
       let at : get_or (map (in_stream number) found) i d ≡ in_stream number (get_or found i d) =
-          get_or-map (in_stream number) found i d d (omega arith) in
+      get_or-map (in_stream number) found i d d (omega arith) in
       let lane : (get_or (map (in_stream number) found) i d).offset ≡ 8 * number + (get_or found i d).offset =
-          ap (λ (t : Candidate). t.offset) at in
+      ap (λ (t : Candidate). t.offset) at in
       let small = (first.each i d (omega arith)).0.offset in
       let later = each_brought (suc number) founds (omega arith) (next_found number found founds h) j d jl in
       let small' = lane_small (x ++ y) (get_or (brought (suc number) founds) j d) later.0.wide in

@@ -1,6 +1,6 @@
 -- The merged candidates of forty lanes, and of these with more samples.
-use Rattle.std.proofs.Common.{◌≡◌, ℕ, zero, suc, ◌+◌, ◌<◌, ◌≤◌, ℤ, List, [], ◌∷◌, ◌++◌, length, get_or, refl, ap, sym,
-    subst, ◌∙◌, arith}
+use Rattle.std.proofs.Common.{◌≡◌, ℕ, zero, suc, ◌+◌, ◌<◌, ◌≤◌, ℤ, List, [], ◌∷◌, ◌++◌, length, get_or, refl, ap, sym}
+use Rattle.std.proofs.Common.{subst, ◌∙◌, arith}
 use Rattle.std.specs.Prelude.{nat_lt}
 use Rattle.std.specs.List.{All, AllPairs, Contains, filter}
 use Rattle.std.proofs.lemmas.Bool.{ltb-true, lt-ltb}
@@ -18,8 +18,8 @@ use Rattle.slicer_bank.proofs.SomeList.{some_list}
 use Rattle.wide_input.specs.Streams.{stream, least_count}
 use Rattle.wide_input.specs.Candidates.{IsWideCandidate, AreWideCandidates}
 use Rattle.wide_input.specs.Held.{brought}
-use Rattle.wide_input.proofs.WideLemmas.{AreBrought, HaveFound, all_brought, placed, candidates_with, lane_small,
-    brought_late, wide_in_order}
+use Rattle.wide_input.proofs.WideLemmas.{AreBrought, HaveFound, all_brought, placed, candidates_with, lane_small}
+use Rattle.wide_input.proofs.WideLemmas.{brought_late, wide_in_order}
 use Rattle.wide_input.proofs.WideSteps.{no_wide, rising_wide}
 
 -- samples have one list of wide candidates
@@ -42,7 +42,7 @@ behind_of position x =
       record {
         each = λ k d l.
             let e = All-filter (λ item. nat_lt position item.end) (λ item. IsCandidate x item × (0 < item.end))
-                all whole.each k d l in
+            all whole.each k d l in
             (e.0, ltb-true position (get_or late k d).end (passes k d l));
         whole = λ item is l. contains_passing (λ other. nat_lt position other.end) all item
             (whole.whole item is (omega arith)) (lt-ltb position item.end l);
@@ -97,5 +97,5 @@ below_still to x y items all within are whole =
     ap (λ t. below to (merged t)) (wide_begins x y items all are whole)
     ∙ below_more to items (new_items x y) (wide_in_order x items are)
     (λ k d l. let small = lane_small (x ++ y) (get_or (new_items x y) k d) ((new_are x y).each k d l).wide in
-        omega arith)
+    omega arith)
     (λ k d l. let late = brought_late x y (new_items x y) (new_are x y) k d l in omega arith)

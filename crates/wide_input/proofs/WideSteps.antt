@@ -1,6 +1,6 @@
 -- A wide bank with a block more, and at its end.
-use Rattle.std.proofs.Common.{◌≡◌, ℕ, zero, suc, ◌+◌, ◌-◌, ◌/◌, ◌^◌, ◌<◌, ◌≤◌, ℤ, Some, List, [], ◌∷◌, ◌++◌, length,
-    get_or, map, replicate, refl, ap, sym, subst, ◌∙◌, arith, zero-add, length-append}
+use Rattle.std.proofs.Common.{◌≡◌, ℕ, zero, suc, ◌+◌, ◌-◌, ◌/◌, ◌^◌, ◌<◌, ◌≤◌, ℤ, Some, List, [], ◌∷◌, ◌++◌, length}
+use Rattle.std.proofs.Common.{get_or, map, replicate, refl, ap, sym, subst, ◌∙◌, arith, zero-add, length-append}
 use Rattle.std.specs.Prelude.{fold}
 use Rattle.std.specs.List.{All}
 use Rattle.std.specs.List.Sorted.{IsNonDecreasingBy}
@@ -23,11 +23,11 @@ use Rattle.slicer_bank.proofs.MergedLemmas.{next_is}
 use Rattle.wide_input.specs.Streams.{stream, least_count}
 use Rattle.wide_input.specs.Candidates.{IsWideCandidate, AreWideCandidates}
 use Rattle.wide_input.specs.MergedItems.{AreWideMergedBetween, AreWideRest}
-use Rattle.wide_input.specs.Held.{HeldStream, StreamStandsFor, StreamsStandFor, HearsBlock, HasFound, AreAlike,
-    HaveTaken, items_of, found_by, brought}
+use Rattle.wide_input.specs.Held.{HeldStream, StreamStandsFor, StreamsStandFor, HearsBlock, HasFound, AreAlike}
+use Rattle.wide_input.specs.Held.{HaveTaken, items_of, found_by, brought}
 use Rattle.wide_input.proofs.StreamLemmas.{least_count-is}
-use Rattle.wide_input.proofs.WideLemmas.{AreBrought, HaveFound, all_brought, placed, candidates_with, below_stays,
-    wide_in_order}
+use Rattle.wide_input.proofs.WideLemmas.{AreBrought, HaveFound, all_brought, placed, candidates_with, below_stays}
+use Rattle.wide_input.proofs.WideLemmas.{wide_in_order}
 
 -- ---- nothing taken
 
@@ -47,8 +47,14 @@ no_wide = record {
 
 pub taken_none : (streams : List HeldStream) (merger : HeldMerger) → StreamsStandFor streams []
     → MergerStandsFor merger [] [] → HaveTaken streams merger []
-taken_none streams merger stand m = record { samples = stand; puts = []; candidates = []; are = no_wide; order = refl;
-    so_far = m }
+taken_none streams merger stand m = record {
+  samples = stand;
+  puts = [];
+  candidates = [];
+  are = no_wide;
+  order = refl;
+  so_far = m;
+}
 
 -- ---- what is merged
 
@@ -80,9 +86,9 @@ module _ (x y : List ℤ) (before mid : List HeldStream) (was : HeldMerger) (siz
       let small : k < 5 = omega arith in
       let found = kept k one (omega arith) in
       let there : AreCandidatesBehind (length (stream k x)) (stream k (x ++ y)) found.0 =
-          (heard k one small k x found.0 found.1 (h.samples k one small)).1 in
+      (heard k one small k x found.0 found.1 (h.samples k one small)).1 in
       let at : found.0 ≡ get_or (map found_by mid) k d = sym (get_or-map found_by mid k one d (omega arith)
-          ∙ ap items_of found.1) in
+      ∙ ap items_of found.1) in
       let number : k ≡ 0 + k = sym (zero-add k) in
       subst (λ i. AreCandidatesBehind (length (stream i x)) (stream i (x ++ y)) (get_or (map found_by mid) k d)) number
       (subst (AreCandidatesBehind (length (stream k x)) (stream k (x ++ y))) at there)
@@ -116,11 +122,11 @@ module _ (x y : List ℤ) (before mid : List HeldStream) (was : HeldMerger) (siz
       → AreAlike (get_or new k d) (get_or mid k d))
       (marked now : HeldMerger) (ready : List Candidate) (room : length (x ++ y) < 2 ^ 48)
       (puts : (puts given : List Candidate) → MergerStandsFor was puts given
-          → MergerStandsFor marked (puts ++ items) given)
+      → MergerStandsFor marked (puts ++ items) given)
       (marks : marked.marks ≡ replicate 40 (length (x ++ y) / 5))
       (gives : (puts given : List Candidate) → MergerStandsFor marked puts given
       → MergerStandsFor now puts (given ++ ready)
-          × (given ++ ready ≡ below (least marked.marks) (merged (in_order puts)))) where
+      × (given ++ ready ≡ below (least marked.marks) (merged (in_order puts)))) where
     at : least marked.marks ≡ least_count (x ++ y)
     at = ap least marks ∙ least-one 39 (length (x ++ y) / 5) (omega arith) ∙ sym (least_count-is (x ++ y))
 
@@ -134,7 +140,7 @@ module _ (x y : List ℤ) (before mid : List HeldStream) (was : HeldMerger) (siz
         let step = gives (h.puts ++ items) given stands in
         let total : given ++ ready ≡ below (least_count (x ++ y)) (merged candidates)
         = step.1 ∙ ap (λ t. below t (merged (in_order (h.puts ++ items)))) at
-            ∙ ap (λ t. below (least_count (x ++ y)) (merged t)) all in (
+        ∙ ap (λ t. below (least_count (x ++ y)) (merged t)) all in (
           record {
             samples = λ k d small.
                 let same = alike k d small in
@@ -167,8 +173,8 @@ pub gives_rest : (x : List ℤ) (streams : List HeldStream) (was marked : HeldMe
 gives_rest x streams was marked ready h marks takes =
     let zs : List Candidate = merged h.candidates in
     let total : below (least_count x) zs ++ ready ≡ zs =
-        takes h.puts (below (least_count x) zs) (marks h.puts (below (least_count x) zs) h.so_far)
-        ∙ ap merged h.order in
+    takes h.puts (below (least_count x) zs) (marks h.puts (below (least_count x) zs) h.so_far)
+    ∙ ap merged h.order in
     record {
       candidates = h.candidates;
       are = h.are;

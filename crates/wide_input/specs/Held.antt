@@ -1,6 +1,6 @@
 -- What a wide bank keeps, and what that stands for.
-use Rattle.std.specs.Prelude.{◌≡◌, ℕ, zero, suc, ◌<◌, ℤ, List, [], ◌∷◌, ◌++◌, length, map, Bool, false, Option, Some,
-    None, slice_index_or}
+use Rattle.std.specs.Prelude.{◌≡◌, ℕ, zero, suc, ◌<◌, ℤ, List, [], ◌∷◌, ◌++◌, length, map, Bool, false, Option, Some}
+use Rattle.std.specs.Prelude.{None, slice_index_or}
 use Rattle.std.specs.List.{All}
 use Rattle.frame_merge.specs.declared.candidate.Candidate.{Candidate}
 use Rattle.frame_merge.specs.Held.{Held as HeldMerger, StandsFor as MergerStandsFor}
@@ -35,7 +35,7 @@ abbrev pub HearsBlock : List ℤ → HeldStream → HeldStream → Type 0
 HearsBlock block was now = (number : ℕ) (x : List ℤ) (found : List Candidate) → now.found ≡ Some found
     → StreamStandsFor number was x
     → StreamStandsFor number now (x ++ block) × AreCandidatesBehind (length (stream number x))
-        (stream number (x ++ block)) found
+    (stream number (x ++ block)) found
 
 -- what a stream heard can be put into the lanes of its bank
 abbrev pub KeepsFit : HeldStream → Type 0

@@ -23,7 +23,7 @@ abbrev pub is_of_wide : ℕ → Candidate → TrueEnd → Bool
 is_of_wide number item sent =
     bytes_eq item.octets sent.octets
     && (nat_lt (wide_end item) (wide_place number sent.end + 36) && nat_lt (wide_place number sent.end)
-        (wide_end item + 36))
+    (wide_end item + 36))
 
 -- the item is one of the frames that were sent in a stream
 abbrev pub is_sent_wide : ℕ → List TrueEnd → Candidate → Bool

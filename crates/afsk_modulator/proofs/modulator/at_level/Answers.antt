@@ -1,5 +1,5 @@
-use Rattle.std.proofs.Common.{◌≡◌, ℕ, ◌≤◌, ℤ, pos, ◌*ℤ◌, unsigned_abs, FitsSigned, to_z, of_z, ap, ◌∙◌, sym, subst,
-    arith}
+use Rattle.std.proofs.Common.{◌≡◌, ℕ, ◌≤◌, ℤ, pos, ◌*ℤ◌, unsigned_abs, FitsSigned, to_z, of_z, ap, ◌∙◌, sym, subst}
+use Rattle.std.proofs.Common.{arith}
 use Rattle.std.specs.Prelude.{int_div}
 use Rattle.std.proofs.lemmas.Int.{ints, to_z-of_z, quot_is, fits_signed_mul}
 use mir.Syntax.{w16, w32}
@@ -11,8 +11,8 @@ use Rattle.afsk_modulator.proofs.modulator.at_level.Goals as goal
 abbrev computed : ℤ → ℤ → ℤ → ℤ
 computed level sample full =
     to_z w16 (of_z w16
-        (to_z w32 (of_z w32 (int_div (to_z w32 (of_z w32 (to_z w32 (of_z w32 level) *ℤ to_z w32 (of_z w32 sample))))
-        (to_z w32 (of_z w32 full))))))
+    (to_z w32 (of_z w32 (int_div (to_z w32 (of_z w32 (to_z w32 (of_z w32 level) *ℤ to_z w32 (of_z w32 sample))))
+    (to_z w32 (of_z w32 full))))))
 
 module _ (level : ℕ) (sample : ℤ) (most : level ≤ 32767) (small : unsigned_abs sample ≤ 10000) where
   computed_is : computed (pos level) sample (pos 10000) ≡ sample_at level sample
@@ -23,15 +23,15 @@ module _ (level : ℕ) (sample : ℤ) (most : level ≤ 32767) (small : unsigned
       let sample_fits : FitsSigned w32 sample = search (arith, ints) in
       let full_fits : FitsSigned w32 (pos 10000) = search (arith, ints) in
       let product_fits : FitsSigned w32 product = fits_signed_mul w32 (pos level) sample 32767 10000 most small
-          (omega arith) in
+      (omega arith) in
       let bound : unsigned_abs (sample_at level sample) ≤ level = unsigned_abs-sample_at level sample small in
       let quotient_fits : FitsSigned w32 (int_div product (pos 10000)) = search (arith, ints) in
       let result_fits : FitsSigned w16 (int_div product (pos 10000)) = search (arith, ints) in
       (λ i. to_z w16
-          (of_z w16 (to_z w32
-          (of_z w32 (int_div
-          (to_z w32 (of_z w32 (to_z-of_z w32 (pos level) level_fits i *ℤ to_z-of_z w32 sample sample_fits i)))
-          (to_z w32 (of_z w32 (pos 10000))))))))
+      (of_z w16 (to_z w32
+      (of_z w32 (int_div
+      (to_z w32 (of_z w32 (to_z-of_z w32 (pos level) level_fits i *ℤ to_z-of_z w32 sample sample_fits i)))
+      (to_z w32 (of_z w32 (pos 10000))))))))
       ∙ ap (λ z. to_z w16 (of_z w16 z)) (quot_is w32 product (pos 10000) product_fits full_fits quotient_fits)
       ∙ to_z-of_z w16 (int_div product (pos 10000)) result_fits
 
@@ -41,10 +41,10 @@ module _ (level : ℕ) (sample : ℤ) (most : level ≤ 32767) (small : unsigned
 pub returns-clause-value : goal.returns-clause-value
 returns-clause-value c =
     computed_from c.args.level c.args.sample c.requires.level c.requires.sample c.from.result c.from-2.result
-        c.from-3.result
+    c.from-3.result
     c.from.ensures (c.from-2.ensures ∙ to_z-of_z w16 c.args.sample c.ranges.sample) c.from-3.ensures
 
 pub returns-clause-bound : goal.returns-clause-bound
 returns-clause-bound c =
     subst (λ (z : ℤ). unsigned_abs z ≤ c.args.level) (sym (returns-clause-value c))
-        (unsigned_abs-sample_at c.args.level c.args.sample c.requires.sample)
+    (unsigned_abs-sample_at c.args.level c.args.sample c.requires.sample)

@@ -12,16 +12,16 @@ returns-clause-read c =
     (λ stream is more.
     ap (λ xs. messages_in (xs ++ more)) (is ∙ c.deref.ensures.value ∙ spell.spelled)
     ∙ ap (λ (r : Reading). r.messages) (written_reads c.args.message.now
-        (record { from = spell.from; to = spell.to; body = c.requires }) more))
+    (record { from = spell.from; to = spell.to; body = c.requires }) more))
     c.from_slice.ensures
 
 pub returns-clause-goes_on : goal.returns-clause-goes_on
 returns-clause-goes_on c =
     let spell = c.in_ok-octets.ensures in
     IfOk-weaker c.from_slice.result (λ stream. stream ≡ c.deref.result.now) (λ stream. (more : List ℕ)
-        → bad_length_in (stream ++ more) ≡ bad_length_in more)
+    → bad_length_in (stream ++ more) ≡ bad_length_in more)
     (λ stream is more.
     ap (λ xs. bad_length_in (xs ++ more)) (is ∙ c.deref.ensures.value ∙ spell.spelled)
     ∙ ap (λ (r : Reading). r.bad) (written_reads c.args.message.now
-        (record { from = spell.from; to = spell.to; body = c.requires }) more))
+    (record { from = spell.from; to = spell.to; body = c.requires }) more))
     c.from_slice.ensures

@@ -1,16 +1,24 @@
 use Rattle.std.proofs.Common.{◌≡◌, ◌-◌, ◌+◌, get_or, Some, ap, arith, inl, inr}
 use Rattle.ax25_address.proofs.SsidLemmas.{octets_from_tells, tells_one_digit, tells_two_digits}
 use Rattle.ax25_address.proofs.call.ssid_of.Goals as goal
-use Rattle.ax25_address.proofs.call.ssid_of.Goals.{else-tail-eq2-via-then-tail-eq2+else-is_ascii_digit,
-    else-tail-eq2-via-else-tail-eq2, else-tail-eq3-via-then-tail-eq3+then-tail-eq49+then-tail-ge48+else-tail-le53,
-    else-tail-eq3-via-then-tail-eq3+then-tail-eq49+else-tail-ge48, else-tail-eq3-via-then-tail-eq3+else-tail-eq49,
-    else-tail-eq3-via-else-tail-eq3}
+use Rattle.ax25_address.proofs.call.ssid_of.Goals.{else-tail-eq2-via-then-tail-eq2+else-is_ascii_digit}
+use Rattle.ax25_address.proofs.call.ssid_of.Goals.{else-tail-eq2-via-else-tail-eq2}
+use Rattle.ax25_address.proofs.call.ssid_of.Goals.{else-tail-eq3-via-then-tail-eq3+then-tail-eq49+then-tail-ge48+else-tail-le53}
+use Rattle.ax25_address.proofs.call.ssid_of.Goals.{else-tail-eq3-via-then-tail-eq3+then-tail-eq49+else-tail-ge48}
+use Rattle.ax25_address.proofs.call.ssid_of.Goals.{else-tail-eq3-via-then-tail-eq3+else-tail-eq49}
+use Rattle.ax25_address.proofs.call.ssid_of.Goals.{else-tail-eq3-via-else-tail-eq3}
 
 pub returns-then-is_ascii_digit-clause-ssid : goal.returns-then-is_ascii_digit-clause-ssid
 returns-then-is_ascii_digit-clause-ssid c =
-    let digit = c.if-is_ascii_digit.ensures.cases in
-    (omega arith, tells_one_digit _ _ (record { len = omega arith; small = omega arith; dash = omega arith;
-        digit = omega arith }))
+    let digit = c.if-is_ascii_digit.ensures.cases in (
+      omega arith,
+      tells_one_digit _ _ (record {
+        len = omega arith;
+        small = omega arith;
+        dash = omega arith;
+        digit = omega arith;
+      }),
+    )
 
 pub returns-then-is_ascii_digit-clause-exact : goal.returns-then-is_ascii_digit-clause-exact
 returns-then-is_ascii_digit-clause-exact c =
@@ -22,9 +30,16 @@ returns-then-is_ascii_digit-clause-exact c =
     ]
 
 pub returns-then-tail-le53-clause-ssid : goal.returns-then-tail-le53-clause-ssid
-returns-then-tail-le53-clause-ssid c =
-    (omega arith, tells_two_digits _ _ (omega arith) (record { len = omega arith; large = omega arith;
-        dash = omega arith; ten = omega arith; digit = omega arith }))
+returns-then-tail-le53-clause-ssid c = (
+  omega arith,
+  tells_two_digits _ _ (omega arith) (record {
+    len = omega arith;
+    large = omega arith;
+    dash = omega arith;
+    ten = omega arith;
+    digit = omega arith;
+  }),
+)
 
 pub returns-then-tail-le53-clause-exact : goal.returns-then-tail-le53-clause-exact
 returns-then-tail-le53-clause-exact c =

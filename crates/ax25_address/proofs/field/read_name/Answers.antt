@@ -27,4 +27,4 @@ from_characters-requires c = IsHeld-so_far _ _ _ _ _ (omega arith) c.loop-i.inva
 pub returns-clause-name : goal.returns-clause-name
 returns-clause-name c =
     so_far-octets _ _ _ _ _ (omega arith) c.loop-i.invariant
-        ∙ ap (λ call. map (λ x. 2 * x) (padded call.name)) (sym c.from_characters.ensures)
+    ∙ ap (λ call. map (λ x. 2 * x) (padded call.name)) (sym c.from_characters.ensures)

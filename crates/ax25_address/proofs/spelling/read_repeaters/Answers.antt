@@ -16,15 +16,15 @@ returns-then-field-clause-repeaters c =
     let field = c.in_ok-field.field in
     rw c.push.ensures.items
     (AreRepeaters-push c.loop-k.repeaters.items c.loop-k.k c.args.octets.now field.call field.top c.loop-k.invariant
-        (omega arith)
+    (omega arith)
     (subst (λ (last : Bool). IsField field.call field.top last (field_at c.args.octets.now c.loop-k.k))
-        c.if-field.true c.in_ok-field.ensures.field))
+    c.if-field.true c.in_ok-field.ensures.field))
 
 pub loop-k-preserved : goal.loop-k-preserved
 loop-k-preserved c =
     let field = c.in_ok-field.field in
     rw c.push.ensures.items
     (AreOpenRepeaters-push c.loop-k.repeaters.items c.loop-k.k c.args.octets.now field.call field.top c.loop-k.invariant
-        (omega arith)
+    (omega arith)
     (subst (λ (last : Bool). IsField field.call field.top last (field_at c.args.octets.now c.loop-k.k))
-        c.if-field.false c.in_ok-field.ensures.field))
+    c.if-field.false c.in_ok-field.ensures.field))

@@ -15,10 +15,10 @@ returns-in-None-split_first-clause-fault c =
     let first = c.in-Some.ensures.cases in
     let none = c.in-None-split_first.ensures.cases in
     let one : c.args.body.now ≡ c.in-Some.first.now ∷ [] = first.0
-        ∙ ap (λ (xs : List ℕ). c.in-Some.first.now ∷ xs) (nil_from_length c.in-Some.rest.now none) in (
+    ∙ ap (λ (xs : List ℕ). c.in-Some.first.now ∷ xs) (nil_from_length c.in-Some.rest.now none) in (
       omega arith,
       subst (λ (m : Modulus). LacksControl m c.args.body.now) (sym c.in-OneTwentyEight.is)
           (LacksControl-one c.in-Some.first.now c.args.body.now
-              (subst (λ (xs : List ℕ). get_or xs 0 0 < 256) first.0 (c.type_inv.body 0).fits)
-              c.if-first-eq3.false c.else-first-eq1.either one),
+          (subst (λ (xs : List ℕ). get_or xs 0 0 < 256) first.0 (c.type_inv.body 0).fits)
+          c.if-first-eq3.false c.else-first-eq1.either one),
     )

@@ -16,9 +16,9 @@ returns-in_err-kind c =
     let octets = c.args.octets.now in
     let reading = c.in-Ok.reading in
     let said = subst (λ (xs : List ℕ). IsOneKind c.args.modulus xs reading.1 (Err c.in_err-kind.field-0.0))
-        (take_rest octets reading.1) c.in_err-kind.ensures in
+    (take_rest octets reading.1) c.in_err-kind.ensures in
     let one : IsOneFrame c.args.modulus octets c.from_residual.result =
-        rw (p.1, p.2) (IsOneFrame-fault c.args.modulus octets reading.0 reading.1 _ c.in-Ok.ensures.path said) in
+    rw (p.1, p.2) (IsOneFrame-fault c.args.modulus octets reading.0 reading.1 _ c.in-Ok.ensures.path said) in
     record { frame = one.frame; fault = one.fault; each_frame = one.each_frame; each_fault = one.each_fault }
 
 pub returns : goal.returns
@@ -26,6 +26,6 @@ returns c =
     let octets = c.args.octets.now in
     let reading = c.in-Ok.reading in
     let said = subst (λ (xs : List ℕ). IsOneKind c.args.modulus xs reading.1 (Ok c.in_ok-kind.kind))
-        (take_rest octets reading.1) c.in_ok-kind.ensures in
+    (take_rest octets reading.1) c.in_ok-kind.ensures in
     let one = IsOneFrame-kind c.args.modulus octets reading.0 reading.1 c.in_ok-kind.kind c.in-Ok.ensures.path said in
     record { frame = one.frame; fault = one.fault; each_frame = one.each_frame; each_fault = one.each_fault }

@@ -17,4 +17,4 @@ returns c =
     let len : length c.args.body.now ≡ length (control_octets c.args.modulus control) + length rest =
     ap length whole.1 ∙ length-append (control_octets c.args.modulus control) rest in
     IsOneKind-verdict c.args.modulus c.args.body.now c.args.start _ control rest c.kind_of.result whole.0 whole.1
-        (omega arith) c.kind_of.ensures
+    (omega arith) c.kind_of.ensures

@@ -8,4 +8,4 @@ use Rattle.ax25_frames.proofs.text.path_line.Given as goal
 abbrev pub invariant-loop-hop : goal.invariant-loop-hop
 invariant-loop-hop l =
     string_bytes l.line ≡ text_of_call l.path.source ++ codes ">" ++ text_of_call l.path.dest
-        ++ flat_map hop_text (take l.hop-index l.hop-items)
+    ++ flat_map hop_text (take l.hop-index l.hop-items)

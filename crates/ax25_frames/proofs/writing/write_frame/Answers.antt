@@ -14,17 +14,20 @@ returns c =
     let spelling : c.as_slice-2.result.now ≡ address ++ body_octets modulus frame.kind =
     c.as_slice-2.ensures.value
     ∙ three_parts c.new-octets.result.items c.extend_from_slice.new.self.items c.push_control.new.octets.items
-        c.push_contents.new.octets.items
+    c.push_contents.new.octets.items
     address (control_octets modulus (control_of frame.kind)) (contents_of frame.kind)
     c.new-octets.ensures.items
     (c.in_ok-extend_from_slice.ensures.items ∙ ap (λ (xs : List ℕ). c.new-octets.result.items ++ xs)
-        c.as_slice.ensures.value)
+    c.as_slice.ensures.value)
     (c.in_ok-push_control.ensures ∙ ap (λ (control : Control). c.extend_from_slice.new.self.items
-        ++ control_octets modulus control) c.control_field.ensures)
+    ++ control_octets modulus control) c.control_field.ensures)
     c.in_ok-push_contents.ensures in
     let written : (list : List ℕ) → list ≡ c.as_slice-2.result.now
-        → IsWrittenFrame frame modulus list = λ list e. record { address = address; path = c.write_path.ensures.written;
-        spelling = e ∙ spelling } in
+    → IsWrittenFrame frame modulus list = λ list e. record {
+      address = address;
+      path = c.write_path.ensures.written;
+      spelling = e ∙ spelling;
+    } in
     record {
       written = IfOk-weaker c.from_slice.result (λ list. list ≡ c.as_slice-2.result.now) (IsWrittenFrame frame modulus)
           written c.from_slice.ensures;

@@ -9,10 +9,10 @@ loop-index-preserved c =
     elim c.if-is_ready.branch [
       | then-is_ready+in_ok-copy+in_ok-push w ↦
           ap (λ v. v.items) w.ready-is ∙ w.in_ok-push.ensures.items
-              ∙ ap (λ x. c.loop-index.ready.items ++ x ∷ []) w.in_ok-copy.ensures
-              ∙ ap (λ xs. xs ++ item ∷ []) c.loop-index.invariant
+          ∙ ap (λ x. c.loop-index.ready.items ++ x ∷ []) w.in_ok-copy.ensures
+          ∙ ap (λ xs. xs ++ item ∷ []) c.loop-index.invariant
           ∙ sym (ready_more c.args.from c.args.to c.args.items.now c.loop-index.index item c.loop-index-test.true
-              c.index-items-index.is (sym c.is_ready.ensures ∙ w.if-is_ready.true))
+          c.index-items-index.is (sym c.is_ready.ensures ∙ w.if-is_ready.true))
       | else-is_ready w ↦ ap (λ v. v.items) w.ready-is ∙ c.loop-index.invariant
           ∙ sym (ready_same c.args.from c.args.to c.args.items.now c.loop-index.index item c.loop-index-test.true
           c.index-items-index.is (sym c.is_ready.ensures ∙ w.if-is_ready.false))

@@ -8,5 +8,5 @@ pub returns : goal.returns
 returns c =
     let octets = c.args.octets.now in
     ap (λ n. 65535 - n) (c.loop-octet.invariant ∙ ap (fold after_octet 65535)
-        (take_all c.loop-octet.octet-index octets (omega arith)))
+    (take_all c.loop-octet.octet-index octets (omega arith)))
     ∙ sym (fcs_of-register octets)

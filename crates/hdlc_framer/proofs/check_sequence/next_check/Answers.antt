@@ -7,5 +7,5 @@ use Rattle.hdlc_framer.proofs.check_sequence.next_check.Goals as goal
 pub returns : goal.returns
 returns c =
     ap (bit_xor (c.args.check / 256)) (c.step.ensures
-        ∙ ap (λ n. step_of (bit_xor n c.args.octet)) (and_mask c.args.check 8))
+    ∙ ap (λ n. step_of (bit_xor n c.args.octet)) (and_mask c.args.check 8))
     ∙ sym (after_octet-is c.args.check c.args.octet (omega arith))

@@ -16,12 +16,12 @@ returns c =
     let frame = c.split_at.result.0.now in
     let sent = c.split_at.result.1.now in
     let fit : All (λ octet. octet < 256) octets = All-from_get_or (λ octet. octet < 256) octets 0
-        (λ i h. omega (arith, c.type_inv.octets i)) in (
+    (λ i h. omega (arith, c.type_inv.octets i)) in (
       λ e. let both = fcs_ends octets frame sent c.split_at.ensures.front c.split_at.ensures.back
           c.if-octets-lt-LEAST_OCTETS.false c.requires fit
           (sym c.from_le_bytes.ensures ∙ eqb-true c.from_le_bytes.result c.fcs.result e ∙ c.fcs.ensures) in
           (frame, both.0, both.1),
       λ h. eq-eqb c.from_le_bytes.result c.fcs.result
           (c.from_le_bytes.ensures ∙ ends_fcs octets frame sent h.0 c.split_at.ensures.front c.split_at.ensures.back h.1
-              ∙ sym c.fcs.ensures),
+          ∙ sym c.fcs.ensures),
     )

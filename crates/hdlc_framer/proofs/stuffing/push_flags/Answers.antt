@@ -9,4 +9,4 @@ loop-preserved c =
     c.in_ok-extend_from_slice.ensures.items ∙ ap (λ xs. xs ++ c.as_slice.result.now) c.loop.invariant
     ∙ ap (λ xs. (c.args.bits.now.items ++ flags c.loop.counter) ++ xs) c.as_slice.ensures
     ∙ append_assoc c.args.bits.now.items (flags c.loop.counter) flag
-        ∙ ap (λ xs. c.args.bits.now.items ++ xs) (sym (flags-more c.loop.counter))
+    ∙ ap (λ xs. c.args.bits.now.items ++ xs) (sym (flags-more c.loop.counter))

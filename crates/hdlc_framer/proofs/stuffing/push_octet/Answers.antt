@@ -27,7 +27,7 @@ unfolding octet_bits
 returns-clause-bits c =
     let all : c.loop-place.place ≡ 8 = omega arith in
     c.loop-place.invariant.bits ∙ ap (λ n. c.args.bits.now.items ++ stuffed_from (low_bits n c.args.octet) c.args.left)
-        all
+    all
 
 pub returns-clause-left : goal.returns-clause-left
 unfolding octet_bits

@@ -15,7 +15,7 @@ loop-octet-preserved c =
     let bits = sent_bits (take loop.octet-index octets) in
     let octet = get_or octets loop.octet-index 0 in
     let more = sym (ap sent_bits (take_more octets loop.octet-index 0 (omega arith))
-        ∙ sent_bits-push (take loop.octet-index octets) octet) in
+    ∙ sent_bits-push (take loop.octet-index octets) octet) in
     record {
       bits = sent_more bits (octet_bits octet) c.args.left loop.left before loop.bits.items c.push_octet.new.bits.items
           loop.invariant.bits loop.invariant.left c.in_ok-left.ensures.bits

@@ -1,5 +1,5 @@
-use Rattle.std.proofs.Common.{rules, ◌≡◌, ◌≤◌, ◌*◌, ◌<◌, ℤ, pos, ◌+ℤ◌, ◌*ℤ◌, unsigned_abs, get_or, length, FitsSigned,
-    w32, w64, to_z, of_z, refl, sym, ap, ◌∙◌, arith}
+use Rattle.std.proofs.Common.{rules, ◌≡◌, ◌≤◌, ◌*◌, ◌<◌, ℤ, pos, ◌+ℤ◌, ◌*ℤ◌, unsigned_abs, get_or, length, FitsSigned}
+use Rattle.std.proofs.Common.{w32, w64, to_z, of_z, refl, sym, ap, ◌∙◌, arith}
 use Rattle.std.proofs.lemmas.Int.{ints, to_z-of_z, fits_signed_mul}
 use Rattle.std.proofs.lemmas.List.Sums.{sum_by_more, sum_by_more_le}
 use Rattle.offset_slicers.specs.Decision.{sum_below, product_of}
@@ -32,7 +32,7 @@ wide_is : (sample weight product wide : ℤ) → FitsSigned w16 sample → FitsS
     → wide ≡ to_z w32 (of_z w32 product) → wide ≡ sample *ℤ weight
 wide_is sample weight product wide sample_fits weight_fits value is =
     let fits : FitsSigned w32 (sample *ℤ weight) = fits_signed_mul w32 sample weight 32768 32768 (omega (arith, ints))
-        (omega (arith, ints)) (omega arith) in
+    (omega (arith, ints)) (omega arith) in
     is ∙ ap (λ z. to_z w32 (of_z w32 z)) value ∙ to_z-of_z w32 (sample *ℤ weight) fits
 
 pub overflow_add-sum : goal.overflow_add-sum
@@ -43,9 +43,9 @@ overflow_add-sum c =
     let sample : FitsSigned w16 (get_or window i (pos 0)) = search rules in
     let weight : FitsSigned w16 (get_or weights i (pos 0)) = search rules in
     let value : c.product.result ≡ get_or window i (pos 0) *ℤ get_or weights i (pos 0) =
-        product_is _ _ _ sample weight c.product.ensures in
+    product_is _ _ _ sample weight c.product.ensures in
     let wide : c.from-sum.result ≡ get_or window i (pos 0) *ℤ get_or weights i (pos 0) =
-        wide_is _ _ _ _ sample weight value c.from-sum.ensures in
+    wide_is _ _ _ _ sample weight value c.from-sum.ensures in
     let bound = product_bound _ _ _ sample wide in
     let inside : i < length weights = search rules in
     omega (arith, ints, sum_by_more_le unsigned_abs weights i (pos 0) inside, bound)
@@ -58,9 +58,9 @@ loop-i-preserved c =
     let sample : FitsSigned w16 (get_or window i (pos 0)) = search rules in
     let weight : FitsSigned w16 (get_or weights i (pos 0)) = search rules in
     let value : c.product.result ≡ get_or window i (pos 0) *ℤ get_or weights i (pos 0) =
-        product_is _ _ _ sample weight c.product.ensures in
+    product_is _ _ _ sample weight c.product.ensures in
     let wide : c.from-sum.result ≡ get_or window i (pos 0) *ℤ get_or weights i (pos 0) =
-        wide_is _ _ _ _ sample weight value c.from-sum.ensures in
+    wide_is _ _ _ _ sample weight value c.from-sum.ensures in
     let bound = product_bound _ _ _ sample wide in
     let inside : i < length weights = search rules in
     let so_far : to_z w64 c.loop-i.sum-bits ≡ sum_below (product_of window weights) i = c.loop-i.invariant.so_far in

@@ -16,7 +16,7 @@ loop-bit-preserved c =
     let before : List Tone = line (take c.loop-bit.bit-index c.args.bits.now) in
     let more : line (take (c.loop-bit.bit-index + 1) c.args.bits.now) ≡ before ++ c.step-tone.result ∷ []
     = ap line (take_more c.args.bits.now c.loop-bit.bit-index false (omega arith))
-        ∙ c.step-tone.ensures.line (take c.loop-bit.bit-index c.args.bits.now) c.loop-bit.invariant.tone in
+    ∙ c.step-tone.ensures.line (take c.loop-bit.bit-index c.args.bits.now) c.loop-bit.invariant.tone in
     record {
       samples = c.in_ok-extend_from_slice.ensures.items
           ∙ (λ i. c.loop-bit.invariant.samples i ++ (c.as_slice.ensures ∙ c.window.ensures) i)
@@ -24,7 +24,7 @@ loop-bit-preserved c =
           ∙ ap (λ tones. at_level c.args.level (wave tones)) (sym more);
       tone = c.step-tone.ensures.stands_for (take c.loop-bit.bit-index c.args.bits.now) c.loop-bit.invariant.tone
           ∙ ap (λ bits. last_tone (line bits))
-              (sym (take_more c.args.bits.now c.loop-bit.bit-index false (omega arith)));
+          (sym (take_more c.args.bits.now c.loop-bit.bit-index false (omega arith)));
       phase = ap (λ s. (c.loop-bit.phase + 32 * s) % 48) c.step.ensures
           ∙ ap (λ p. phase_from p (c.step-tone.result ∷ [])) c.loop-bit.invariant.phase
           ∙ sym (phase_from-append 0 before (c.step-tone.result ∷ []))

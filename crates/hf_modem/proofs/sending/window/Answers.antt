@@ -6,7 +6,7 @@ pub loop-place-preserved : goal.loop-place-preserved
 loop-place-preserved c = record {
   samples = samples_more c.args.level c.args.phase c.loop-place.place c.step-step.result
       ((c.args.phase + c.loop-place.place * c.step-step.result) % 48)
-          c.args.tone c.loop-place.window c.sine.result c.at_level.result
+      c.args.tone c.loop-place.window c.sine.result c.at_level.result
       (omega arith) c.loop-place.invariant.samples c.step-step.ensures refl c.sine.ensures.sample
       c.sine.ensures.bound c.at_level.ensures.value c.at_level.ensures.bound c.requires.level;
   whole = search rules;

@@ -12,14 +12,18 @@ pub returns-clause-piece : goal.returns-clause-piece
 returns-clause-piece c =
     let said : List ℕ = kind_of c.args.port c.args.command ∷ c.args.octets.now in
     IfOk-weaker c.from_slice.result (λ stream. stream ≡ c.deref.result.now) (λ stream. (piece : List ℕ)
-        × (pieces stream ≡ [] ∷ piece ∷ []) × (unescaped piece ≡ said))
-    (λ stream is. (spelled said, ap pieces (is ∙ c.deref.ensures.value ∙ c.in_ok-stream.ensures)
-        ∙ spelled_piece said, spelled_back said)) c.from_slice.ensures
+    × (pieces stream ≡ [] ∷ piece ∷ []) × (unescaped piece ≡ said))
+    (λ stream is. (
+      spelled said,
+      ap pieces (is ∙ c.deref.ensures.value ∙ c.in_ok-stream.ensures)
+          ∙ spelled_piece said,
+      spelled_back said,
+    )) c.from_slice.ensures
 
 pub returns-clause-item : goal.returns-clause-item
 returns-clause-item c =
     let kind : ℕ = kind_of c.args.port c.args.command in
     IfOk-weaker c.from_slice.result (λ stream. stream ≡ c.deref.result.now)
-        (λ stream. items_in stream ≡ option_to_list (item_of (kind ∷ c.args.octets.now)))
+    (λ stream. items_in stream ≡ option_to_list (item_of (kind ∷ c.args.octets.now)))
     (λ stream is. ap items_in (is ∙ c.deref.ensures.value ∙ c.in_ok-stream.ensures)
-        ∙ item_written kind c.args.octets.now) c.from_slice.ensures
+    ∙ item_written kind c.args.octets.now) c.from_slice.ensures

@@ -10,7 +10,7 @@ use Rattle.link_machine.proofs.receiving.give_run.Goals as goal
 pub loop-packet-init : goal.loop-packet-init
 loop-packet-init c =
     let short : length (run c.args.incoming.now.places) ≤ length c.args.incoming.now.places =
-        length-run c.args.incoming.now.places in
+    length-run c.args.incoming.now.places in
     let places : length c.args.incoming.now.places ≡ c.args.incoming.now.window = c.requires.formed.places in
     let room = c.requires.room in
     record {
@@ -32,11 +32,11 @@ loop-packet-preserved c =
     let there : packet_at before.places 0 ≡ Some packet = sym c.in-Some.ensures.packet in
     let full : is_full before.places 0 ≡ true = ap is_some there in
     let places : behind.places ≡ drop 1 before.places ++ empty_place ∷ [] =
-        places_taken before behind full c.take.ensures.store in
+    places_taken before behind full c.take.ensures.store in
     let one : run before.places ≡ packet ∷ run (drop 1 before.places) = run_of_full before.places packet there in
     let same : run behind.places ≡ run (drop 1 before.places) = ap run places ∙ run-push (drop 1 before.places) in
     let less : length (run before.places) ≡ length (run behind.places) + 1 = ap length one
-        ∙ omega (arith, ap length same) in
+    ∙ omega (arith, ap length same) in
     let uses = c.tell.ensures.uses in
     let room = i.room in
     let used = i.used in
@@ -64,7 +64,7 @@ loop-packet-smaller c =
     let there : packet_at before.places 0 ≡ Some packet = sym c.in-Some.ensures.packet in
     let full : is_full before.places 0 ≡ true = ap is_some there in
     let places : behind.places ≡ drop 1 before.places ++ empty_place ∷ [] =
-        places_taken before behind full c.take.ensures.store in
+    places_taken before behind full c.take.ensures.store in
     let one : run before.places ≡ packet ∷ run (drop 1 before.places) = run_of_full before.places packet there in
     let same : run behind.places ≡ run (drop 1 before.places) = ap run places ∙ run-push (drop 1 before.places) in
     omega (arith, ap length one, ap length same)
@@ -72,7 +72,7 @@ loop-packet-smaller c =
 pub returns-clause-uses : goal.returns-clause-uses
 returns-clause-uses c =
     let short : length (run c.args.incoming.now.places) ≤ length c.args.incoming.now.places =
-        length-run c.args.incoming.now.places in
+    length-run c.args.incoming.now.places in
     let places : length c.args.incoming.now.places ≡ c.args.incoming.now.window = c.requires.formed.places in
     let used = c.loop-packet.invariant.used in
     let frames = c.loop-packet.invariant.frames_same in

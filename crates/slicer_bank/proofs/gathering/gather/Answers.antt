@@ -20,7 +20,7 @@ loop-index-preserved c =
       found_more GaveHeard heard_by c.args.lanes.now c.loop-index.lanes c.loop-index.index c.index-lanes-index.result
           c.loop-index.found.items c.append.new.self.items before.0 c.loop-index-test.true
           before.1 (c.in_ok-append.ensures.items ∙ ap (λ items. c.loop-index.found.items ++ items)
-              (sym (ap items_of heard))),
+          (sym (ap items_of heard))),
     )
 
 pub returns-clause-alike : goal.returns-clause-alike
@@ -36,26 +36,26 @@ returns-clause-found c = λ position x keep.
     let past = c.loop-index-test.false in
     let most = c.loop-index.auto.index-end in
     let all = c.loop-index.invariant.1 ∙ ap (flat_map heard_by)
-        (all_visited GaveHeard c.args.lanes.now c.loop-index.lanes c.loop-index.index c.loop-index.invariant.0
-        (omega arith)) in
+    (all_visited GaveHeard c.args.lanes.now c.loop-index.lanes c.loop-index.index c.loop-index.invariant.0
+    (omega arith)) in
     let moved : IsPermutation (flat_map heard_by c.args.lanes.now) c.sort_unstable_by_key.new.self.items
     = subst (λ items. IsPermutation items c.sort_unstable_by_key.new.self.items)
-        all c.sort_unstable_by_key.ensures.permutation in
+    all c.sort_unstable_by_key.ensures.permutation in
     let rises : IsNonDecreasingBy (λ (y : Candidate). y.end) c.sort_unstable_by_key.new.self.items
     = IsNonDecreasingBy-from_sort_by_key (λ (y : Candidate). y.end) _ c.sort_unstable_by_key.ensures.sorted
-        (λ a r q k. search rules) in
+    (λ a r q k. search rules) in
     lanes_in_order c.args.lanes.now c.requires.lanes (λ k d l. (c.loop-index.invariant.0.done k d (omega arith)).1)
-        c.sort_unstable_by_key.new.self.items moved position x rises keep
+    c.sort_unstable_by_key.new.self.items moved position x rises keep
 
 pub returns-clause-bounds : goal.returns-clause-bounds
 returns-clause-bounds c = λ keep.
     let past = c.loop-index-test.false in
     let most = c.loop-index.auto.index-end in
     let all = c.loop-index.invariant.1 ∙ ap (flat_map heard_by)
-        (all_visited GaveHeard c.args.lanes.now c.loop-index.lanes c.loop-index.index c.loop-index.invariant.0
-        (omega arith)) in
+    (all_visited GaveHeard c.args.lanes.now c.loop-index.lanes c.loop-index.index c.loop-index.invariant.0
+    (omega arith)) in
     let moved : IsPermutation (flat_map heard_by c.args.lanes.now) c.sort_unstable_by_key.new.self.items
     = subst (λ items. IsPermutation items c.sort_unstable_by_key.new.self.items)
-        all c.sort_unstable_by_key.ensures.permutation in
+    all c.sort_unstable_by_key.ensures.permutation in
     fit_there c.args.lanes.now c.requires.lanes (λ k d l. (c.loop-index.invariant.0.done k d (omega arith)).1)
-        c.sort_unstable_by_key.new.self.items moved keep
+    c.sort_unstable_by_key.new.self.items moved keep

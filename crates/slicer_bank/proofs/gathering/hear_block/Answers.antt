@@ -4,6 +4,6 @@ use Rattle.slicer_bank.proofs.gathering.hear_block.Goals as goal
 pub returns-clause-found : goal.returns-clause-found
 returns-clause-found c =
     gathered (λ found. found.items) c.args.position c.args.lanes.now c.hear_in_turn.new.lanes c.gather.new.lanes
-        c.args.recent.now c.keep_last.new.recent c.args.block.now
+    c.args.recent.now c.keep_last.new.recent c.args.block.now
     c.hear_in_turn.ensures.heard c.keep_last.ensures c.gather.result c.gather.ensures.kept c.gather.ensures.alike
-        c.gather.ensures.found
+    c.gather.ensures.found

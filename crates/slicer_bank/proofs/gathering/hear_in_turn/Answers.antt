@@ -16,11 +16,14 @@ loop-offset-preserved c =
     let lane : HeldLane = c.hear_alone.new.lane in
     let Did : ℕ → HeldLane → HeldLane → Type 0 = DidJob c.args.position c.args.recent.now c.args.block.now in
     let did : Did offset (get_or lanes c.from.result was) lane =
-        record { heard = c.hear_alone.ensures.heard; fit = c.hear_alone.ensures.bounds;
-        asks = c.hear_alone.ensures.asks } in
+    record {
+      heard = c.hear_alone.ensures.heard;
+      fit = c.hear_alone.ensures.bounds;
+      asks = c.hear_alone.ensures.asks;
+    } in
     subst (λ i. Visited Did c.args.lanes.now (set lanes i lane) (offset + 1)) (sym c.from.ensures)
     (visited_more Did c.args.lanes.now lanes offset was lane c.loop-offset.invariant c.loop-offset-test.true
-        (subst (λ i. Did offset (get_or lanes i was) lane) c.from.ensures did))
+    (subst (λ i. Did offset (get_or lanes i was) lane) c.from.ensures did))
 
 pub returns-clause-heard : goal.returns-clause-heard
 returns-clause-heard c = λ offset d small. (c.loop-offset.invariant.done offset d

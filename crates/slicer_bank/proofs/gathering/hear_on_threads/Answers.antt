@@ -9,4 +9,4 @@ returns-clause-heard g c = λ offset d small.
     let changed = (c.for_each_mut.ensures offset d within).1 in
     let P : HeldLane → HeldLane → Type 0 = HearsAlone offset c.args.position c.args.recent.now c.args.block.now in
     subst (P (slice_index_or c.args.lanes.now offset d)) changed.left
-        (subst (λ was. P was changed.after_call.now) changed.argument_is changed.call.0)
+    (subst (λ was. P was changed.after_call.now) changed.argument_is changed.call.0)

@@ -10,11 +10,11 @@ use Rattle.slicer_bank.proofs.merging.merge.Goals as goal
 pub returns : goal.returns
 returns c =
     let put = c.finish.ensures.stands_for c.args.candidates.items []
-        (c.in_ok-put_all.ensures.stands_for [] [] c.in_ok-merger.ensures.stands_for) in
+    (c.in_ok-put_all.ensures.stands_for [] [] c.in_ok-merger.ensures.stands_for) in
     IfOk-weaker c.take_ready.result
     (λ ready. least c.finish.new.self.marks ≡ 2 ^ 64 - 1 → (puts given : List Candidate)
-        → StandsFor c.finish.new.self puts given → given ++ ready.items ≡ merged (in_order puts))
+    → StandsFor c.finish.new.self puts given → given ++ ready.items ≡ merged (in_order puts))
     (λ items. items.items ≡ merged c.args.candidates.items)
     (λ items last. last c.finish.ensures.least c.args.candidates.items [] put
-        ∙ ap merged (in_order-strictly c.args.candidates.items c.requires.order))
+    ∙ ap merged (in_order-strictly c.args.candidates.items c.requires.order))
     c.take_ready.ensures.last

@@ -14,6 +14,8 @@ pub returns : goal.returns
 returns c = λ len flags h.
     let at_least = c.loop-lane-test.false in
     let at_most = c.loop-lane.auto.lane-index-end in
-    let all : c.loop-lane.lane-index ≡ length c.args.lanes.now = omega arith in
-    (λ t. absurd (false≢true t), λ busy. absurd (none_busy c.args.lanes.now c.requires
-        (subst (NoneBusy c.args.lanes.now) all c.loop-lane.invariant) len flags h busy))
+    let all : c.loop-lane.lane-index ≡ length c.args.lanes.now = omega arith in (
+      λ t. absurd (false≢true t),
+      λ busy. absurd (none_busy c.args.lanes.now c.requires
+          (subst (NoneBusy c.args.lanes.now) all c.loop-lane.invariant) len flags h busy),
+    )

@@ -14,10 +14,10 @@ pub returns-then-not-push-clause-found : goal.returns-then-not-push-clause-found
 returns-then-not-push-clause-found c =
     let stored : to_z w16 (of_z w16 c.args.sample) ≡ c.args.sample = to_z-of_z w16 c.args.sample c.ranges.sample in
     let tells : (s : Stretch) (octets : List ℕ) → StretchStandsFor c.args.lane.now s
-        → EndsLast c.args.lane.now.offset (with_sample s c.args.sample) octets
+    → EndsLast c.args.lane.now.offset (with_sample s c.args.sample) octets
     → (c.push.result ≡ true) × HoldsFrame c.push.new.self.deframer octets
     = subst (λ (z : ℤ). (s : Stretch) (octets : List ℕ) → StretchStandsFor c.args.lane.now s
-        → EndsLast c.args.lane.now.offset (with_sample s z) octets
+    → EndsLast c.args.lane.now.offset (with_sample s z) octets
     → (c.push.result ≡ true) × HoldsFrame c.push.new.self.deframer octets) stored c.push.ensures.frame in
     record {
       octets = [];
@@ -31,14 +31,14 @@ pub returns-clause-found : goal.returns-clause-found
 returns-clause-found c =
     let stored : to_z w16 (of_z w16 c.args.sample) ≡ c.args.sample = to_z-of_z w16 c.args.sample c.ranges.sample in
     let tells : (s : Stretch) (octets : List ℕ) → StretchStandsFor c.args.lane.now s
-        → EndsLast c.args.lane.now.offset (with_sample s c.args.sample) octets
+    → EndsLast c.args.lane.now.offset (with_sample s c.args.sample) octets
     → (c.push.result ≡ true) × HoldsFrame c.push.new.self.deframer octets
     = subst (λ (z : ℤ). (s : Stretch) (octets : List ℕ) → StretchStandsFor c.args.lane.now s
-        → EndsLast c.args.lane.now.offset (with_sample s z) octets
+    → EndsLast c.args.lane.now.offset (with_sample s z) octets
     → (c.push.result ≡ true) × HoldsFrame c.push.new.self.deframer octets) stored c.push.ensures.frame in
     let octets : List ℕ = c.in_ok-octets.octets in
     let unique : (s : Stretch) (o : List ℕ) → StretchStandsFor c.args.lane.now s
-        → EndsLast c.args.lane.now.offset (with_sample s c.args.sample) o → octets ≡ o
+    → EndsLast c.args.lane.now.offset (with_sample s c.args.sample) o → octets ≡ o
     = λ s o h ends. c.in_ok-octets.ensures ∙ c.octets.ensures o ends.frame.2 (tells s o h ends).1 in
     record {
       octets = octets ∷ [];
@@ -47,7 +47,7 @@ returns-clause-found c =
           ∷ []) c.push.ensures.offset;
       each = λ s h.
           let heard = subst (λ (z : ℤ). (o : List ℕ) × EndsLast c.args.lane.now.offset (with_sample s z) o) stored
-              (c.push.ensures.heard s h c.if-not-push.false) in
+          (c.push.ensures.heard s h c.if-not-push.false) in
           let P : List ℕ → Type 0 = EndsLast c.args.lane.now.offset (with_sample s c.args.sample) in
           All-cons P octets [] (subst P (sym (unique s heard.0 h heard.1)) heard.1) (All-nil P);
       whole = λ s o h ends. ap (λ t. t ∷ []) (unique s o h ends);

@@ -10,11 +10,11 @@ returns-in_default c = sym (call_of_text-octets c.args.text.now c.in_default.ens
 pub returns-in-Ok-parse : goal.returns-in-Ok-parse
 returns-in-Ok-parse c =
     sym (call_of_text-is c.args.text.now c.in-Ok-parse.call
-        (subst (λ (text : List ℕ). IsCallText text c.in-Ok-parse.call)
-        c.in-Ok.ensures.cases.0 c.in-Ok-parse.ensures.call))
+    (subst (λ (text : List ℕ). IsCallText text c.in-Ok-parse.call)
+    c.in-Ok.ensures.cases.0 c.in-Ok-parse.ensures.call))
 
 pub returns-in-Err : goal.returns-in-Err
 returns-in-Err c =
     sym (call_of_text-none c.args.text.now (λ call h. absurd
-        (cc (c.parse.ensures.accepted call (subst (λ (text : List ℕ). IsCallText text call)
-        (sym c.in-Ok.ensures.cases.0) h)))))
+    (cc (c.parse.ensures.accepted call (subst (λ (text : List ℕ). IsCallText text call)
+    (sym c.in-Ok.ensures.cases.0) h)))))

@@ -21,6 +21,6 @@ returns c =
     let least : c.min-len.result ≡ min (length octets - from) 256 = omega (arith, c.min-len.ensures) in
     let place : from ≡ 256 * c.args.place = omega arith in
     let given : c.in_ok-from_slice.field-0 ≡ take c.min-len.result (take (length octets - from) (drop from octets)) =
-        c.in_ok-from_slice.ensures in
+    c.in_ok-from_slice.ensures in
     let made : List ℕ → Packet = λ part. record { pid = c.args.pid; octets = part } in
     ap made (given ∙ first_of_rest octets from c.min-len.result least ∙ ap (λ n. take 256 (drop n octets)) place)

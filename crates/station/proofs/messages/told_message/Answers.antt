@@ -8,5 +8,5 @@ use Rattle.station.proofs.messages.told_message.Goals as goal
 pub returns-in-Ended : goal.returns-in-Ended
 returns-in-Ended c =
     subst (λ (told : Told). IfOk c.call_message-in-Ended.result (λ octets. octets
-        ≡ spelling (message_of_told c.args.local.now c.args.remote.now told)))
+    ≡ spelling (message_of_told c.args.local.now c.args.remote.now told)))
     (sym c.in-Ended.is) c.call_message-in-Ended.ensures

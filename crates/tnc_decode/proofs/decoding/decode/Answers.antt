@@ -1,5 +1,5 @@
-use Rattle.tnc_decode.proofs.EndedLemmas.{to_end, to_good, to_decoded, to_bad, to_decoded_before, to_stops, to_settled,
-    to_most, to_part, to_cut}
+use Rattle.tnc_decode.proofs.EndedLemmas.{to_end, to_good, to_decoded, to_bad, to_decoded_before, to_stops, to_settled}
+use Rattle.tnc_decode.proofs.EndedLemmas.{to_most, to_part, to_cut}
 use Rattle.tnc_decode.proofs.decoding.decode.Goals as goal
 
 pub returns-clause-end : goal.returns-clause-end
@@ -21,7 +21,7 @@ returns-clause-bad g c = λ octets fault left is. to_bad c.args.words octets _ _
 pub returns-clause-decoded_before : goal.returns-clause-decoded_before
 returns-clause-decoded_before g c = λ octets before fault left was short is.
     to_decoded_before c.args.words octets _ _ _ c.decode_blocks.result (c.decode_blocks.ensures.ended octets left)
-        before fault was short is
+    before fault was short is
 
 pub returns-clause-stops : goal.returns-clause-stops
 returns-clause-stops g c = λ octets left is. to_stops c.args.words octets _ _ _ c.decode_blocks.result

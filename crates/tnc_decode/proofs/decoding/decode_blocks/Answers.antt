@@ -11,9 +11,9 @@ pub returns-in_err-receiver-clause-ended : goal.returns-in_err-receiver-clause-e
 returns-in_err-receiver-clause-ended g c = λ octets left.
     let told = err_from_is_err_and c.from_residual.result c.from_residual.ensures.1 in
     subst (IsEnded c.args.words octets (g.I.Source.left c.args.input.now) (g.O.Sink.written c.args.output.now)
-        (g.O.Sink.written c.args.output.now))
+    (g.O.Sink.written c.args.output.now))
     (sym (told.1 ∙ ap Err told.2)) (ended_first c.args.words octets (g.I.Source.left c.args.input.now)
-        (g.O.Sink.written c.args.output.now) left)
+    (g.O.Sink.written c.args.output.now) left)
 
 pub reading-init : goal.reading-init
 reading-init g c = record {
@@ -31,7 +31,7 @@ reading-init g c = record {
 pub returns-in_default-clause-ended : goal.returns-in_default-clause-ended
 returns-in_default-clause-ended g c = λ octets left.
     ended_read c.args.words octets (g.I.Source.left c.reading.input) c.reading.receiver
-        (g.O.Sink.written c.args.output.now) (g.O.Sink.written c.reading.output) c.reading.total
+    (g.O.Sink.written c.args.output.now) (g.O.Sink.written c.reading.output) c.reading.total
     (c.reading.invariant.so_far octets left) (g.I.Source.left c.read.new.self) c.in_default.ensures.kept
 
 pub returns-in_err-end-clause-ended : goal.returns-in_err-end-clause-ended
@@ -47,11 +47,11 @@ returns-in_err-end-clause-ended g c = λ octets left.
     let below = c.reading-test.true in
     let room : 0 < length c.read.new.buffer = grind (arith, common_steps) in
     let ends = nothing_left c.args.words octets (g.I.Source.left c.reading.input)
-        c.reading.receiver was mid c.reading.total p c.read.new.buffer next c.in-Ok.count room c.if-count-eq0.true
+    c.reading.receiver was mid c.reading.total p c.read.new.buffer next c.in-Ok.count room c.if-count-eq0.true
     (c.in-Ok.ensures.gives p.taken.rest p.taken.left_over) in
     subst (IsEnded c.args.words octets next was now) (sym (told.1 ∙ ap Err told.2))
     (ended_end c.args.words octets (g.I.Source.left c.reading.input)
-        c.reading.receiver was mid c.reading.total p next now ends.0 ends.1 ends.2 below
+    c.reading.receiver was mid c.reading.total p next now ends.0 ends.1 ends.2 below
     c.in_err-end.field-0.0 c.in_err-end.ensures.bad c.in_err-end.ensures.wrote c.in_err-end.ensures.cut
     (λ is. ap g.O.Sink.written (c.in_err-end.ensures.unwritten is)) c.in_err-end.ensures.read)
 
@@ -67,12 +67,12 @@ returns-then-count-eq0-clause-ended g c = λ octets left.
     let below = c.reading-test.true in
     let room : 0 < length c.read.new.buffer = grind (arith, common_steps) in
     let ends = nothing_left c.args.words octets (g.I.Source.left c.reading.input)
-        c.reading.receiver was mid c.reading.total p c.read.new.buffer next c.in-Ok.count room c.if-count-eq0.true
+    c.reading.receiver was mid c.reading.total p c.read.new.buffer next c.in-Ok.count room c.if-count-eq0.true
     (c.in-Ok.ensures.gives p.taken.rest p.taken.left_over) in
     ended_ok c.args.words octets (g.I.Source.left c.reading.input)
-        c.reading.receiver was mid c.reading.total p next now ends.0 ends.1 ends.2 below
+    c.reading.receiver was mid c.reading.total p next now ends.0 ends.1 ends.2 below
     (c.in_ok-end.ensures.heard c.args.words p.read p.text p.heard)
-        (c.in_ok-end.ensures.wrote c.args.words p.read p.text p.heard (inl (refl {a = true})))
+    (c.in_ok-end.ensures.wrote c.args.words p.read p.text p.heard (inl (refl {a = true})))
 
 pub returns-in_err-hear-clause-ended : goal.returns-in_err-hear-clause-ended
 returns-in_err-hear-clause-ended g c = λ octets left.
@@ -89,7 +89,7 @@ returns-in_err-hear-clause-ended g c = λ octets left.
     let few : c.reading.total + c.in-Ok.count ≤ input_limit + 1 = grind (arith, common_steps) in
     subst (IsEnded c.args.words octets next was now) (sym (told.1 ∙ ap Err told.2))
     (ended_piece c.args.words octets (g.I.Source.left c.reading.input)
-        c.reading.receiver was mid c.reading.total p c.read.new.buffer _ _ next now c.in-Ok.count d
+    c.reading.receiver was mid c.reading.total p c.read.new.buffer _ _ next now c.in-Ok.count d
     (c.in-Ok.ensures.gives p.taken.rest p.taken.left_over) refl few c.hear.new.self
     c.in_err-hear.field-0.0 c.in_err-hear.ensures.stops c.in_err-hear.ensures.cut
     (λ is. ap g.O.Sink.written (c.in_err-hear.ensures.unwritten is)) c.in_err-hear.ensures.read)
@@ -104,9 +104,9 @@ reading-preserved g c =
       so_far = λ whole left.
           let p = c.reading.invariant.so_far whole left in
           progress_more c.args.words whole (g.I.Source.left c.reading.input) c.reading.receiver
-              (g.O.Sink.written c.args.output.now) (g.O.Sink.written c.reading.output) c.reading.total p
+          (g.O.Sink.written c.args.output.now) (g.O.Sink.written c.reading.output) c.reading.total p
           c.read.new.buffer _ _ (g.I.Source.left c.read.new.self) c.in-Ok.count d
-              (c.in-Ok.ensures.gives p.taken.rest p.taken.left_over) refl
+          (c.in-Ok.ensures.gives p.taken.rest p.taken.left_over) refl
           c.hear.new.self (g.O.Sink.written c.hear.new.output) c.in_ok-hear.ensures.heard;
       bound = grind (arith, common_steps);
       position = (let was = c.reading.invariant.position in let now = c.in_ok-hear.ensures.position in
@@ -124,4 +124,4 @@ returns-clause-ended g c = λ octets left.
     let most = c.reading.invariant.bound in
     let past = c.reading-test.false in
     ended_long c.args.words octets (g.I.Source.left c.reading.input) c.reading.receiver
-        (g.O.Sink.written c.args.output.now) (g.O.Sink.written c.reading.output) c.reading.total p (omega arith)
+    (g.O.Sink.written c.args.output.now) (g.O.Sink.written c.reading.output) c.reading.total p (omega arith)

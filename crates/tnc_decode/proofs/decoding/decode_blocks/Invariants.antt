@@ -9,7 +9,7 @@ abbrev pub invariant-reading : goal.invariant-reading
 invariant-reading g l = record {
   so_far : (whole : List ℕ) → g.I.Source.left l.initial.input ≡ Some whole
       → Progress l.fn.words whole (g.I.Source.left l.input) l.receiver (g.O.Sink.written l.initial.output)
-          (g.O.Sink.written l.output) l.total;
+      (g.O.Sink.written l.output) l.total;
   bound : l.total ≤ input_limit + 1;
   position : position_of l.receiver.decoder ≤ l.total;
   unfinished : finished_of l.receiver.decoder ≡ false;

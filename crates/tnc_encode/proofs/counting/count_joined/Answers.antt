@@ -6,10 +6,10 @@ use Rattle.tnc_encode.proofs.counting.count_joined.Goals as goal
 pub returns-then-is_empty : goal.returns-then-is_empty
 returns-then-is_empty c =
     sym (ap length (none_joined_samples c.args.words c.args.frames.now c.requires.join
-        (eqb-true (length c.args.frames.now) 0 (sym c.if-is_empty.ensures))))
+    (eqb-true (length c.args.frames.now) 0 (sym c.if-is_empty.ensures))))
 
 pub returns : goal.returns
 returns c =
     c.len.ensures ∙ c.in_ok-samples_at_once.field-0.ok.0
     ∙ ap length (c.in_ok-samples_at_once.ensures ∙ joined_samples c.args.words c.args.frames.now c.requires.join
-        (some_of (length c.args.frames.now) (sym c.if-is_empty.ensures)))
+    (some_of (length c.args.frames.now) (sym c.if-is_empty.ensures)))

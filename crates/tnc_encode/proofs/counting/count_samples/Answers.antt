@@ -11,7 +11,7 @@ pub returns : goal.returns
 returns c =
     c.loop-frame.invariant.counted
     ∙ ap (λ fs. length (own_samples c.args.words fs))
-        (take_all c.loop-frame.frame-index c.args.frames.now (let past = c.loop-frame-test.false in omega arith))
+    (take_all c.loop-frame.frame-index c.args.frames.now (let past = c.loop-frame-test.false in omega arith))
     ∙ ap length (own_samples-all c.args.words c.args.frames.now c.if-words.false)
 
 pub loop-frame-preserved : goal.loop-frame-preserved
@@ -19,9 +19,9 @@ loop-frame-preserved c =
     let len : c.len.result ≡ length (samples_at_once c.args.words (c.frame-item.result ∷ [])) =
     c.len.ensures ∙ c.in_ok-samples_at_once.field-0.ok.0
     ∙ ap length (c.in_ok-samples_at_once.ensures ∙ ap (λ fs. samples_at_once c.args.words fs) c.from_ref.ensures.value)
-        in
+    in
     let more = own_samples-more c.args.words c.args.frames.now c.loop-frame.frame-index c.frame-item.result
-        c.loop-frame-test.true c.frame-item.is in
+    c.loop-frame-test.true c.frame-item.is in
     let counted = c.loop-frame.invariant.counted in
     let bound = c.loop-frame.invariant.bound in
     let small : c.len.result < 2 ^ 64 = omega (arith, c.in_ok-samples_at_once.field-0.ok.0) in

@@ -5,8 +5,8 @@ use Rattle.tnc_forms.proofs.Ends.{map_ok, map_err, on_err}
 use Rattle.tnc_forms.proofs.WrittenParts.{wrote_all}
 use Rattle.tnc_encode.specs.Encoded.{encoded_before, length_fault, samples_sent, signal_of, written_as, written_before}
 use Rattle.tnc_encode.specs.Frames.{form_fault}
-use Rattle.tnc_encode.proofs.EncodedLemmas.{form_not_long, fault_of_length, fault_of_form, encoded_is,
-    encoded_before_is, no_file_before, part_before}
+use Rattle.tnc_encode.proofs.EncodedLemmas.{form_not_long, fault_of_length, fault_of_form, encoded_is}
+use Rattle.tnc_encode.proofs.EncodedLemmas.{encoded_before_is, no_file_before, part_before}
 use Rattle.tnc_encode.proofs.encoding.encode_octets.Goals as goal
 
 -- ---- an input without a fault
@@ -17,7 +17,7 @@ returns-in-None-clause-good g c =
     ap (λ frames. signal_of c.args.words frames) (c.deref.ensures.value ∙ c.in_ok-read.ensures.frames) in
     map_ok c.send_as_told.result
     (λ fits. fault_of_length c.args.words c.args.octets.now c.requires.limit (sym c.in_ok-read.ensures.fault
-        ∙ c.in-None.is)
+    ∙ c.in-None.is)
     ∙ ap (λ s. length_fault c.args.words.audio (length s)) (sym same) ∙ fits)
     c.send_as_told.ensures.fits
 
@@ -27,7 +27,7 @@ returns-in-None-clause-encoded g c = λ before was.
     ap (λ frames. signal_of c.args.words frames) (c.deref.ensures.value ∙ c.in_ok-read.ensures.frames) in
     map_ok c.send_as_told.result
     (λ h. h ∙ ap (λ text. Some (before ++ text)) (ap (written_as c.args.words.audio) same
-        ∙ encoded_is c.args.words c.args.octets.now))
+    ∙ encoded_is c.args.words c.args.octets.now))
     (c.send_as_told.ensures.sent before was)
 
 pub returns-in-None-clause-bad : goal.returns-in-None-clause-bad
@@ -70,7 +70,7 @@ pub returns-clause-bad : goal.returns-clause-bad
 returns-clause-bad g c = λ fault is.
     let same : c.in-Some.fault ≡ fault = cc is in
     let shown : form_fault c.args.words.frames c.args.octets.now ≡ Some fault = sym c.in_ok-read.ensures.fault
-        ∙ c.in-Some.is ∙ ap Some same in (
+    ∙ c.in-Some.is ∙ ap Some same in (
       fault_of_form c.args.words c.args.octets.now fault c.requires.limit shown,
       form_not_long c.args.words.frames c.args.octets.now fault shown,
     )
@@ -81,14 +81,14 @@ returns-clause-encoded_before g c = λ before fault was is.
     ap (λ frames. signal_of c.args.words frames) (c.deref-in-Some.ensures.value ∙ c.in_ok-read.ensures.frames) in
     c.in_ok-send_before_fault-in-Some.ensures.sent before was
     ∙ ap (λ text. Some (before ++ text)) (ap (written_before c.args.words.audio) same
-        ∙ encoded_before_is c.args.words c.args.octets.now)
+    ∙ encoded_before_is c.args.words c.args.octets.now)
 
 pub returns-clause-cut : goal.returns-clause-cut
 returns-clause-cut g c = λ before was.
     let same : signal_of c.args.words c.deref-in-Some.result.now ≡ samples_sent c.args.words c.args.octets.now =
     ap (λ frames. signal_of c.args.words frames) (c.deref-in-Some.ensures.value ∙ c.in_ok-read.ensures.frames) in
     part_before c.args.words c.args.octets.now before _
-        (wrote_all before (encoded_before c.args.words c.args.octets.now) _
+    (wrote_all before (encoded_before c.args.words c.args.octets.now) _
     (c.in_ok-send_before_fault-in-Some.ensures.sent before was
     ∙ ap (λ text. Some (before ++ text)) (ap (written_before c.args.words.audio) same
-        ∙ encoded_before_is c.args.words c.args.octets.now)))
+    ∙ encoded_before_is c.args.words c.args.octets.now)))

@@ -9,5 +9,5 @@ pub returns-in-Wav-clause-cut : goal.returns-in-Wav-clause-cut
 returns-in-Wav-clause-cut g c = λ before was.
     map_err c.send_wav.result
     (subst (λ (form : AudioForm). WrotePart before (written_as form (signal_of c.args.words c.args.frames.now))
-        (g.O.Sink.written c.send_wav.new.output)) (sym c.in-Wav.is))
+    (g.O.Sink.written c.send_wav.new.output)) (sym c.in-Wav.is))
     (c.send_wav.ensures.cut before was)

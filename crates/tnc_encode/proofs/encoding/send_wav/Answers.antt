@@ -13,9 +13,9 @@ returns-in-Ok-write-clause-cut g c = λ before was.
     let same : c.in-Ok.head ≡ octets = c.in-Ok.ensures.head ∙ ap head_of c.in_ok-count.ensures in
     map_err c.send_all.result
     (λ part. wrote_behind before octets (pcm (signal_of c.args.words c.args.frames.now))
-        (g.O.Sink.written c.send_all.new.output) part)
+    (g.O.Sink.written c.send_all.new.output) part)
     (c.send_all.ensures.cut (before ++ octets) (c.in-Ok-write.ensures.appends before was
-        ∙ ap (λ h. Some (before ++ h)) same))
+    ∙ ap (λ h. Some (before ++ h)) same))
 
 pub returns-in-Err-write-clause-cut : goal.returns-in-Err-write-clause-cut
 returns-in-Err-write-clause-cut g c = λ before was.
@@ -23,4 +23,4 @@ returns-in-Err-write-clause-cut g c = λ before was.
     let same : c.in-Ok.head ≡ octets = c.in-Ok.ensures.head ∙ ap head_of c.in_ok-count.ensures in
     wrote_front before octets (pcm (signal_of c.args.words c.args.frames.now)) (g.O.Sink.written c.write.new.self)
     (subst (λ (h : List ℕ). WrotePart before h (g.O.Sink.written c.write.new.self)) same
-        (c.in-Err-write.ensures.partly before was))
+    (c.in-Err-write.ensures.partly before was))

@@ -12,5 +12,5 @@ returns-in_ok-item-in-len1-up-clause-frame c = λ before h.
     let below : 0 < length octets = omega (arith, some) in
     ap (λ o. kiss_frames (before ++ o)) (take_more octets 0 0 below)
     ∙ kiss_frames-push before (get_or octets 0 0) (option_to_list c.in_ok-item-in-len1-up.item)
-        (c.in_ok-item-in-len1-up.ensures.item before h)
+    (c.in_ok-item-in-len1-up.ensures.item before h)
     ∙ ap (λ fs. kiss_frames before ++ fs) (sym c.frame_of_item.ensures.frame)

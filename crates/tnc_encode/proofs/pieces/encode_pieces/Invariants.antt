@@ -9,7 +9,7 @@ abbrev pub invariant-reading : goal.invariant-reading
 invariant-reading g l = record {
   so_far : (whole : List ℕ) → g.I.Source.left l.initial.input ≡ Some whole
       → Progress (IsSignal l.fn.words) (form_of l.fn.words.frames) (HasTaken l.fn.words.frames l.frames) whole
-          (g.I.Source.left l.input) (g.O.Sink.written l.initial.output) (g.O.Sink.written l.output) l.total;
+      (g.I.Source.left l.input) (g.O.Sink.written l.initial.output) (g.O.Sink.written l.output) l.total;
   bound : l.total ≤ input_limit;
   reader : IsReader l.frames;
   position : position l.frames ≤ l.total;

@@ -7,7 +7,7 @@ use Rattle.tnc_encode.proofs.sending.samples_at_once.Goals as goal
 pub unreachable-requires-in-Err-BadLength : goal.unreachable-requires-in-Err-BadLength
 unreachable-requires-in-Err-BadLength c =
     let first = (c.transmission.ensures.bad_length c.in-Err-BadLength.field-0-0).0 (c.in-Err-BadLength.is
-        ∙ ap Err c.in-Err-BadLength.field-0-is) in
+    ∙ ap Err c.in-Err-BadLength.field-0-is) in
     c.requires.lengths c.in-Err-BadLength.field-0-0 [] first.1.within first.1.bad
 
 pub returns : goal.returns
@@ -15,6 +15,6 @@ returns c =
     let words = c.args.words in
     let items : c.extend_from_slice.new.self.items
     ≡ replicate words.silence (pos 0) ++ transmission_by words.modem words.level c.args.frames.now words.opening
-        words.closing
+    words.closing
     = search rules in
     items ∙ sym (samples_by-is words.modem words.level (sent_at_once words c.args.frames.now))

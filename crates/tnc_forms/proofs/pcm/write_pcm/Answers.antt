@@ -12,5 +12,5 @@ pub loop-sample-preserved : goal.loop-sample-preserved
 loop-sample-preserved c =
     let fits : SFits w16 (get_or c.args.samples.now c.loop-sample.sample-index (pos 0)) = search rules in
     pcm_more c.args.samples.now c.loop-sample.sample-index c.loop-sample.octets.items c.write_i16.new.buf
-        c.extend_from_slice.new.self.items
+    c.extend_from_slice.new.self.items
     c.loop-sample-test.true c.loop-sample.invariant fits c.write_i16.ensures c.in_ok-extend_from_slice.ensures.items

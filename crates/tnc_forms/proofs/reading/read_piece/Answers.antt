@@ -25,7 +25,7 @@ returns-in-Ok-2-clause-piece g c = λ octets left.
     let e = c.read.auto.buffer in
     let some : 0 < length c.read.new.buffer = grind (arith, common_steps) in
     let piece = take-append-le c.in-Ok.count c.read.new.buffer (drop c.max-room.result c.args.buffer.now) d
-        ∙ gives.front in (
+    ∙ gives.front in (
       drop c.in-Ok.count octets,
       sym (take-append-drop c.in-Ok.count octets) ∙ ap (λ xs. xs ++ drop c.in-Ok.count octets) (sym piece),
       gives.rest,

@@ -8,20 +8,20 @@ returns-clause-samples c =
     c.in_ok-extend_from_slice.ensures.items
     ∙ ap (λ xs. c.in_ok-samples.samples.items ++ xs) c.deref-2.ensures.value
     ∙ rough_is (drawn_as c.args.drawn.now) c.args.generator.now c.draw_phase-phase.new.generator
-        c.draw_level-level.new.generator c.draw_noise.new.generator
+    c.draw_level-level.new.generator c.draw_noise.new.generator
     c.draw_phase-phase.result c.draw_level-level.result c.deref.result.now c.draw_phase-phase.ensures.behind
-        c.draw_level-level.ensures.behind
+    c.draw_level-level.ensures.behind
     c.in_ok-samples.ensures.behind c.draw_phase-phase.ensures.value c.draw_level-level.ensures.value
-        (c.deref.ensures.value ∙ c.in_ok-exact.ensures.samples)
+    (c.deref.ensures.value ∙ c.in_ok-exact.ensures.samples)
     c.in_ok-samples.samples.items c.in_ok-with_errors.field-0.items c.in_ok-samples.ensures.samples
-        c.in_ok-with_errors.ensures.samples
+    c.in_ok-with_errors.ensures.samples
 
 pub returns-clause-behind : goal.returns-clause-behind
 returns-clause-behind c =
     behind_rough_is (drawn_as c.args.drawn.now) c.args.generator.now c.draw_phase-phase.new.generator
-        c.draw_level-level.new.generator c.draw_noise.new.generator
+    c.draw_level-level.new.generator c.draw_noise.new.generator
     c.draw_phase-phase.result c.draw_level-level.result c.deref.result.now c.draw_phase-phase.ensures.behind
-        c.draw_level-level.ensures.behind
+    c.draw_level-level.ensures.behind
     c.in_ok-samples.ensures.behind c.draw_phase-phase.ensures.value c.draw_level-level.ensures.value
-        (c.deref.ensures.value ∙ c.in_ok-exact.ensures.samples)
+    (c.deref.ensures.value ∙ c.in_ok-exact.ensures.samples)
     c.with_errors.new.generator c.in_ok-with_errors.ensures.behind

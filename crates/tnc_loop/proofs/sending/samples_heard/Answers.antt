@@ -8,13 +8,13 @@ pub returns-then-rough-clause-samples : goal.returns-then-rough-clause-samples
 returns-then-rough-clause-samples c =
     subst (λ (xs : List ℤ). IfOk c.rough_samples.result (λ samples. samples.items ≡ xs))
     (samples-rough c.args.rough (drawn_as c.args.drawn.now) c.args.generator.now c.if-rough.true)
-        c.rough_samples.ensures.samples
+    c.rough_samples.ensures.samples
 
 pub returns-then-rough-clause-behind : goal.returns-then-rough-clause-behind
 returns-then-rough-clause-behind c =
     subst (λ (g : Lcg). OnOk c.rough_samples.result (c.rough_samples.new.generator ≡ g))
     (behind-rough c.args.rough (drawn_as c.args.drawn.now) c.args.generator.now c.if-rough.true)
-        c.rough_samples.ensures.behind
+    c.rough_samples.ensures.behind
 
 pub returns-else-rough-clause-samples : goal.returns-else-rough-clause-samples
 returns-else-rough-clause-samples c =

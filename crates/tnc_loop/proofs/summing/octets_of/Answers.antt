@@ -6,7 +6,7 @@ use Rattle.tnc_loop.proofs.summing.octets_of.Goals as goal
 pub loop-item-preserved : goal.loop-item-preserved
 loop-item-preserved c =
     let next = octets_next c.args.heard.now c.loop-item.item-index c.item-item.result c.loop-item-test.true
-        c.item-item.is in
+    c.item-item.is in
     let pushed = c.in_ok-extend_from_slice.ensures.items in
     let octets = c.as_slice.ensures.list in
     let so_far = c.loop-item.invariant in

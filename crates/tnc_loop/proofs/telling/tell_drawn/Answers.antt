@@ -13,14 +13,14 @@ unfolding drawn received_drawn
 returns-clause-summary g c =
     let are : AreCandidates (samples_drawn c.args.words) c.in_ok-candidates.candidates.items =
     are_of c.args.words c.in_ok-sent.sent c.deref.result.now c.in_ok-candidates.candidates.items
-        c.in_ok-sent.ensures.sent c.deref.ensures.value
+    c.in_ok-sent.ensures.sent c.deref.ensures.value
     c.in_ok-candidates.ensures.are in
     is_summary c.args.words c.deref-4.result.now c.in_ok-candidates.candidates.items c.deref-6.result.now
-        (string_bytes c.in_ok-summary.field-0) c.count_strays-stray_count.result
+    (string_bytes c.in_ok-summary.field-0) c.count_strays-stray_count.result
     (c.deref-4.ensures.value ∙ c.in_ok-sent.ensures.sent.ends) are
     (c.deref-6.ensures.value ∙ c.in_ok-heard.ensures)
     (c.count_strays-stray_count.ensures ∙ ap (λ items. length (strays c.deref-4.result.now items))
-        c.deref-5.ensures.value)
+    c.deref-5.ensures.value)
     c.in_ok-summary.ensures
 
 pub returns-clause-stray : goal.returns-clause-stray
@@ -28,7 +28,7 @@ unfolding drawn received_drawn
 returns-clause-stray g c =
     let are : AreCandidates (samples_drawn c.args.words) c.in_ok-candidates.candidates.items =
     are_of c.args.words c.in_ok-sent.sent c.deref.result.now c.in_ok-candidates.candidates.items
-        c.in_ok-sent.ensures.sent c.deref.ensures.value
+    c.in_ok-sent.ensures.sent c.deref.ensures.value
     c.in_ok-candidates.ensures.are in
     has_found c.args.words c.deref-2.result.now c.in_ok-candidates.candidates.items c.in_ok-stray.stray
     (c.deref-2.ensures.value ∙ c.in_ok-sent.ensures.sent.ends) are

@@ -1,5 +1,5 @@
-use Rattle.tnc_show.proofs.EndedLemmas.{to_bad, to_before, to_cut, to_end, to_good, to_many, to_most, to_part, to_shown,
-    to_so_far, to_stops}
+use Rattle.tnc_show.proofs.EndedLemmas.{to_bad, to_before, to_cut, to_end, to_good, to_many, to_most, to_part, to_shown}
+use Rattle.tnc_show.proofs.EndedLemmas.{to_so_far, to_stops}
 use Rattle.tnc_show.proofs.showing.show.Goals as goal
 
 pub returns-clause-end : goal.returns-clause-end
@@ -21,12 +21,12 @@ returns-clause-bad g c = λ octets fault left is. to_bad c.args.words octets _ _
 pub returns-clause-shown_before : goal.returns-clause-shown_before
 returns-clause-shown_before g c = λ octets before fault left was short is.
     to_before c.args.words octets _ _ _ c.show_pieces.result (c.show_pieces.ensures.ended octets left)
-        before fault was short is
+    before fault was short is
 
 pub returns-clause-shown_of_many : goal.returns-clause-shown_of_many
 returns-clause-shown_of_many g c = λ octets before fault left was over is.
     to_many c.args.words octets _ _ _ c.show_pieces.result (c.show_pieces.ensures.ended octets left)
-        before fault was over is
+    before fault was over is
 
 pub returns-clause-stops : goal.returns-clause-stops
 returns-clause-stops g c = λ octets left is. to_stops c.args.words octets _ _ _ c.show_pieces.result

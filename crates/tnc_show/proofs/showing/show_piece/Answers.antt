@@ -12,20 +12,20 @@ returns-in_err-fault-clause-taken g c = λ before h.
     let told = err_from_is_err_and c.from_residual.result c.from_residual.ensures.1 in
     let out = g.O.Sink.written c.args.output.now in
     subst (IsTaken (IsTextOf c.args.modulus) (lines_form 0) before c.args.octets.now out out)
-        (sym (told.1 ∙ ap Err told.2))
+    (sym (told.1 ∙ ap Err told.2))
     (nothing_taken c.args.modulus c.args.lines.now before c.args.octets.now c.requires.least h out)
 
 pub returns-in_err-write_text-clause-taken : goal.returns-in_err-write_text-clause-taken
 returns-in_err-write_text-clause-taken g c = λ before h.
     let told = err_from_is_err_and c.from_residual-in_err-write_text.result c.from_residual-in_err-write_text.ensures.1
-        in
+    in
     let was = g.O.Sink.written c.args.output.now in
     let now = g.O.Sink.written c.write_text.new.output in
     let text : List ℕ = c.take_lines.new.text.items in
     let more = text_more c.args.modulus before c.args.octets.now text c.take_lines.new.lines c.in_ok-fault.fault
-        (c.in_ok-fault.ensures.taken before h) in
+    (c.in_ok-fault.ensures.taken before h) in
     subst (IsTaken (IsTextOf c.args.modulus) (lines_form 0) before c.args.octets.now was now)
-        (sym (told.1 ∙ ap Err (told.2 ∙ c.in_err-write_text.ensures.only)))
+    (sym (told.1 ∙ ap Err (told.2 ∙ c.in_err-write_text.ensures.only)))
     (cut_more c.args.modulus c.args.lines.now before c.args.octets.now c.requires.least h was text more now
     (λ b w. subst (λ t. WrotePart b t now) c.deref.ensures.value (c.in_err-write_text.ensures.partly b w)))
 
@@ -35,7 +35,7 @@ returns-in-None-clause-taken g c = λ before h.
     let now = g.O.Sink.written c.write_text.new.output in
     let text : List ℕ = c.take_lines.new.text.items in
     let more = text_more c.args.modulus before c.args.octets.now text c.take_lines.new.lines c.in_ok-fault.fault
-        (c.in_ok-fault.ensures.taken before h) in
+    (c.in_ok-fault.ensures.taken before h) in
     wrote_more c.args.modulus before c.args.octets.now text more was now
     (λ b w. c.in_ok-write_text.ensures.appends b w ∙ ap (λ t. Some (b ++ t)) c.deref.ensures.value)
 
@@ -45,7 +45,7 @@ returns-in-Some-clause-taken g c = λ before h.
     let now = g.O.Sink.written c.write_text.new.output in
     let text : List ℕ = c.take_lines.new.text.items in
     let took = subst (HasTaken c.args.modulus before c.args.octets.now text c.take_lines.new.lines) c.in-Some.is
-        (c.in_ok-fault.ensures.taken before h) in (
+    (c.in_ok-fault.ensures.taken before h) in (
       took.0,
       wrote_more c.args.modulus before c.args.octets.now text took.1 was now
           (λ b w. c.in_ok-write_text.ensures.appends b w ∙ ap (λ t. Some (b ++ t)) c.deref.ensures.value),

@@ -11,7 +11,7 @@ abbrev pub invariant-reading : goal.invariant-reading
 invariant-reading g l = record {
   so_far : (whole : List ℕ) → g.I.Source.left l.initial.input ≡ Some whole
       → Progress (IsTextOf l.fn.modulus) (lines_form 0) (StandsFor l.lines) whole (g.I.Source.left l.input)
-          (g.O.Sink.written l.initial.output) (g.O.Sink.written l.output) l.total;
+      (g.O.Sink.written l.initial.output) (g.O.Sink.written l.output) l.total;
   bound : l.total ≤ input_limit;
   least : l.lines.least ≡ 0;
   position : position_of l.lines ≡ l.total;

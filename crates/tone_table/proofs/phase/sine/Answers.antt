@@ -1,5 +1,5 @@
-use Rattle.std.proofs.Common.{◌≡◌, ℕ, ℤ, pos, ◌<◌, ◌≤◌, unsigned_abs, FitsSigned, get_or, to_z, of_z, ap, subst, arith,
-    sym, ◌∙◌}
+use Rattle.std.proofs.Common.{◌≡◌, ℕ, ℤ, pos, ◌<◌, ◌≤◌, unsigned_abs, FitsSigned, get_or, to_z, of_z, ap, subst, arith}
+use Rattle.std.proofs.Common.{sym, ◌∙◌}
 use Rattle.std.proofs.lemmas.Int.{ints, to_z-of_z}
 use Rattle.std.proofs.lemmas.List.FromFn.{get_or-map-range_with_len}
 use mir.Syntax.{w16}
@@ -24,4 +24,4 @@ pub returns-clause-bound : goal.returns-clause-bound
 unfolding cycle wave_sample cycle_sample half_wave quarter
 returns-clause-bound c =
     subst (λ (z : ℤ). unsigned_abs z ≤ 10000) (sym (read c.args.phase c.requires))
-        (unsigned_abs-wave_sample c.args.phase)
+    (unsigned_abs-wave_sample c.args.phase)

@@ -1,5 +1,5 @@
-use Rattle.std.proofs.Common.{◌≡◌, ◌+◌, ◌-◌, ◌++◌, ◌∷◌, [], ℕ, ℤ, List, suc, take, get_or, pos, ap, sym, ◌∙◌,
-    append_assoc, arith}
+use Rattle.std.proofs.Common.{◌≡◌, ◌+◌, ◌-◌, ◌++◌, ◌∷◌, [], ℕ, ℤ, List, suc, take, get_or, pos, ap, sym, ◌∙◌}
+use Rattle.std.proofs.Common.{append_assoc, arith}
 use Rattle.std.proofs.lemmas.Grind.{common_steps}
 use Rattle.wide_input.specs.Streams.{stream}
 use Rattle.wide_input.specs.Held.{next_skipped}
@@ -18,7 +18,7 @@ loop-sample-preserved c =
           let some = w.if-left-gt0.true in
           let here : c.loop-sample.left ≡ suc (c.loop-sample.left - 1) = omega arith in
           let step = step_skipped c.args.skipped (c.loop-sample.left - 1) i block c.loop-sample-test.true
-              (sym before.left ∙ here) in
+          (sym before.left ∙ here) in
           record {
             part = ap (λ v. v.items) w.part-is ∙ before.part ∙ ap (λ t. was ++ t) (sym step.0);
             left = w.left-is ∙ sym step.1;
@@ -27,12 +27,12 @@ loop-sample-preserved c =
           let none = w.if-left-gt0.false in
           let here : c.loop-sample.left ≡ 0 = omega arith in
           let pushed : w.append.new.part.items ≡ c.loop-sample.part.items ++ get_or block i (pos 0) ∷ [] =
-              grind (arith, common_steps) in
+          grind (arith, common_steps) in
           let step = step_taken c.args.skipped i block (pos 0) c.loop-sample-test.true (sym before.left ∙ here) in
           record {
             part = ap (λ v. v.items) w.part-is ∙ pushed ∙ ap (λ t. t ++ get_or block i (pos 0) ∷ []) before.part
                 ∙ append_assoc was (stream c.args.skipped (take i block)) (get_or block i (pos 0) ∷ [])
-                    ∙ ap (λ t. was ++ t) (sym step.0);
+                ∙ ap (λ t. was ++ t) (sym step.0);
             left = w.left-is ∙ sym step.1;
           }
     ]

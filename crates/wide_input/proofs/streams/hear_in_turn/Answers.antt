@@ -10,9 +10,9 @@ loop-stream-preserved c =
     let did : Did (get_or c.loop-stream.streams c.loop-stream.stream-index c.stream-item.result) c.hear.new.self
     = record { heard = heard.heard; fits = heard.fits; position = heard.position } in
     visited_more Did c.args.streams.now c.loop-stream.streams c.loop-stream.stream-index c.stream-item.result
-        c.hear.new.self c.loop-stream.invariant c.loop-stream-test.true did
+    c.hear.new.self c.loop-stream.invariant c.loop-stream-test.true did
 
 pub returns-clause-heard : goal.returns-clause-heard
 returns-clause-heard c = λ number d small.
     (c.loop-stream.invariant.done number d (let past = c.loop-stream-test.false in let five = c.requires.streams in
-        omega arith)).heard
+    omega arith)).heard

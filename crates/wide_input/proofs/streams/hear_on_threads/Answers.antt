@@ -8,4 +8,4 @@ returns-clause-heard g c = λ number d small.
     let changed = (c.for_each_mut.ensures number d within).1 in
     let P : HeldStream → HeldStream → Type 0 = HearsBlock c.args.block.now in
     subst (P (slice_index_or c.args.streams.now number d)) changed.left
-        (subst (λ was. P was changed.after_call.now) changed.argument_is changed.call.0)
+    (subst (λ was. P was changed.after_call.now) changed.argument_is changed.call.0)

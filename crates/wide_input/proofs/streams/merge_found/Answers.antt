@@ -1,5 +1,5 @@
-use Rattle.std.proofs.Common.{◌≡◌, ◌+◌, ◌/◌, ◌^◌, ◌<◌, ◌≤◌, ◌++◌, ◌∙◌, ℕ, List, ap, sym, subst, length, map, replicate,
-    arith}
+use Rattle.std.proofs.Common.{◌≡◌, ◌+◌, ◌/◌, ◌^◌, ◌<◌, ◌≤◌, ◌++◌, ◌∙◌, ℕ, List, ap, sym, subst, length, map, replicate}
+use Rattle.std.proofs.Common.{arith}
 use Rattle.std.specs.List.{All}
 use Rattle.slicer_bank.specs.Held.{HeldBank}
 use Rattle.wide_input.specs.Held.{brought, found_by}
@@ -13,11 +13,11 @@ returns-clause-given c = λ before x y size heard h.
     let forty : length c.put_found.new.merger.marks ≡ 40 = ap length put.marks ∙ c.requires.lanes in
     let marks : c.mark_all.new.self.marks ≡ replicate 40 (length (x ++ y) / 5)
     = c.mark_all.ensures.marks ∙ ap (λ n. replicate n (c.args.position / 5)) forty
-        ∙ ap (λ n. replicate 40 (n / 5)) (sym size) in
+    ∙ ap (λ n. replicate 40 (n / 5)) (sym size) in
     taken_more x y before c.args.streams.now c.args.merger.now c.requires.streams heard put.kept h
     c.put_found.new.streams put.alike c.mark_all.new.self c.take_ready.new.self c.in_ok-ready.ready.items room
     (λ puts given stands. c.mark_all.ensures.stands_for (puts ++ brought 0 (map found_by c.args.streams.now)) given
-        (put.stands_for puts given stands))
+    (put.stands_for puts given stands))
     marks c.in_ok-ready.ensures.ready
 
 pub returns-clause-positions : goal.returns-clause-positions

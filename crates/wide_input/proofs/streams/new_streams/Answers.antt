@@ -17,7 +17,7 @@ loop-number-preserved c =
       count = ap length items ∙ length_push c.loop-number.streams.items made ∙ ap (λ k. k + 1) before.count;
       stand_for = λ k d l. subst (λ held. StreamStandsFor k held []) (sym (ap (λ t. get_or t k d) items))
           (each_push (λ k held. StreamStandsFor k held []) c.loop-number.streams.items n made before.count
-              before.stand_for c.in_ok-new.ensures.stands_for k d l);
+          before.stand_for c.in_ok-new.ensures.stands_for k d l);
       positions = subst (All P) (sym items) (All-append P c.loop-number.streams.items (made ∷ []) before.positions
           (All-cons P made [] (let at = c.in_ok-new.ensures.position in omega arith) (All-nil P)));
     }

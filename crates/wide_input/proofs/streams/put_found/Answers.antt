@@ -1,5 +1,5 @@
-use Rattle.std.proofs.Common.{◌≡◌, ◌<◌, ◌+◌, ◌∙◌, ◌++◌, ℕ, List, map, take, ap, sym, subst, length, get_or,
-    append_assoc, arith}
+use Rattle.std.proofs.Common.{◌≡◌, ◌<◌, ◌+◌, ◌∙◌, ◌++◌, ℕ, List, map, take, ap, sym, subst, length, get_or}
+use Rattle.std.proofs.Common.{append_assoc, arith}
 use Rattle.std.proofs.lemmas.List.{take_all}
 use Rattle.frame_merge.specs.declared.candidate.Candidate.{Candidate}
 use Rattle.frame_merge.specs.Held.{StandsFor}
@@ -23,28 +23,28 @@ loop-number-preserved c =
     let did : GaveFound (get_or now n was) after = (c.in_ok-found.ensures.alike, (found, is)) in
     let there = visited_here GaveFound old now n was was before.visited small in
     let same : brought 0 (map found_by (take n old)) ++ map (in_stream n) found
-        ≡ brought 0 (map found_by (take (n + 1) old))
+    ≡ brought 0 (map found_by (take (n + 1) old))
     = brought-more old n was found small (ap (λ (held : HeldStream). held.found) (sym there) ∙ is) in
     record {
       visited = visited_more GaveFound old now n was after before.visited small did;
       stands_for = λ puts given h.
           subst (λ t. StandsFor c.put_stream.new.merger t given)
           (append_assoc puts (brought 0 (map found_by (take n old))) (map (in_stream n) found)
-              ∙ ap (λ t. puts ++ t) same)
+          ∙ ap (λ t. puts ++ t) same)
           (c.in_ok-put_stream.ensures.stands_for (puts ++ brought 0 (map found_by (take n old))) given
-              (before.stands_for puts given h));
+          (before.stands_for puts given h));
       marks = c.in_ok-put_stream.ensures.marks ∙ before.marks;
     }
 
 pub returns-clause-kept : goal.returns-clause-kept
 returns-clause-kept c = λ k d l.
     (c.loop-number.invariant.visited.done k d (let past = c.loop-number-test.false in let five = c.requires.streams in
-        omega arith)).1
+    omega arith)).1
 
 pub returns-clause-stands_for : goal.returns-clause-stands_for
 returns-clause-stands_for c = λ puts given h.
     let past = c.loop-number-test.false in
     let five = c.requires.streams in
     subst (λ t. StandsFor c.loop-number.merger (puts ++ brought 0 (map found_by t)) given)
-        (take_all c.loop-number.number c.args.streams.now (omega arith))
+    (take_all c.loop-number.number c.args.streams.now (omega arith))
     (c.loop-number.invariant.stands_for puts given h)

@@ -12,9 +12,9 @@ loop-heard-preserved c =
     let heard : Candidate = c.in-Some.heard in
     let rest : List Candidate = c.next.new.self.rest.items in
     subst (λ t. HasPut c.args.merger.now c.put.new.self (map f c.args.found.items) t (map f rest)
-        c.next.new.self.rest.len) (sym (map-append f c.loop-heard.yielded (heard ∷ [])))
+    c.next.new.self.rest.len) (sym (map-append f c.loop-heard.yielded (heard ∷ [])))
     (has_put_more c.args.merger.now c.loop-heard.merger c.put.new.self (map f c.args.found.items)
-        (map f c.loop-heard.yielded) (map f c.loop-heard.heard-iterator.rest.items) (map f rest)
+    (map f c.loop-heard.yielded) (map f c.loop-heard.heard-iterator.rest.items) (map f rest)
     c.loop-heard.heard-iterator.rest.len c.next.new.self.rest.len (f heard) c.loop-heard.invariant
     (ap (map f) c.in-Some.ensures.steps.0) c.in-Some.ensures.steps.1 c.in-Ok.ensures.marks c.in-Ok.ensures.ok)
 
@@ -23,6 +23,6 @@ returns-clause-stands_for c = λ puts given h.
     let f : Candidate → Candidate = in_stream c.args.number in
     subst (λ t. StandsFor c.loop-heard.merger (puts ++ t) given)
     (has_put_all c.args.merger.now c.loop-heard.merger (map f c.args.found.items) (map f c.loop-heard.yielded)
-        (map f c.loop-heard.heard-iterator.rest.items) c.loop-heard.heard-iterator.rest.len
+    (map f c.loop-heard.heard-iterator.rest.items) c.loop-heard.heard-iterator.rest.len
     c.loop-heard.invariant c.in-None.ensures.steps.0)
     (c.loop-heard.invariant.stands_for puts given h)

@@ -11,7 +11,7 @@ use Rattle.agwpe_port.proofs.reader.AgwIn.push.Goals as goal
 pub returns-in-Some-clause-fault : goal.returns-in-Some-clause-fault
 returns-in-Some-clause-fault c =
     let P : Held → Type 0 = λ held. (stream : List ℕ) → StandsFor held stream
-        → (reading stream).bad ≡ Some c.in-Some.len in
+    → (reading stream).bad ≡ Some c.in-Some.len in
     subst P c.self.view_is (λ stream stands. bad_now _ stream stands ∙ c.in-Some.is)
 
 good : (c : goal.After-answer) → c.args.self.now.bad ≡ None
@@ -32,11 +32,11 @@ returns-clause-stands_for c = λ stream stands other.
 pub returns-clause-message : goal.returns-clause-message
 returns-clause-message c = λ stream stands other.
     given_next c.args.self.now stream stands (good c) c.args.octet
-        ∙ ap (λ result. (reading stream).messages ++ given result) (sym (answered c))
+    ∙ ap (λ result. (reading stream).messages ++ given result) (sym (answered c))
 
 pub returns-clause-fault : goal.returns-clause-fault
 returns-clause-fault c = λ stream stands.
     let P : Result (Option AgwMessage) AgwFault → Type 0 = λ result.
-        MatchResult result (λ message. (reading (stream ++ c.args.octet ∷ [])).bad ≡ None) (IsFault stream c.args.octet)
-        in
+    MatchResult result (λ message. (reading (stream ++ c.args.octet ∷ [])).bad ≡ None) (IsFault stream c.args.octet)
+    in
     subst P (sym (answered c)) (fault_next c.args.self.now stream stands (good c) c.args.octet)

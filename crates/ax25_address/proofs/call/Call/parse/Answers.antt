@@ -18,14 +18,15 @@ returns-in_err-call-clause-refused c =
     let p = err_from_is_err_and c.from_residual.result c.from_residual.ensures.1 in
     let name : c.as_slice.result.now ≡ name_part c.args.text.now = cc in
     rw (p.1, p.2) (fault_of_name _ _ _ (subst (λ (n : List ℕ). IsFaultOf n ⊥ c.in_err-call.field-0.0)
-        name c.in_err-call.ensures.refused))
+    name c.in_err-call.ensures.refused))
 
 pub returns-in-None-clause-refused : goal.returns-in-None-clause-refused
 returns-in-None-clause-refused c =
     let name : c.as_slice.result.now ≡ name_part c.args.text.now = cc in
-    let tail : c.split_at.result.1.now ≡ ssid_part c.args.text.now = cc in
-    (subst (λ (n : List ℕ). IsName n) name c.in_ok-call.ensures.valid,
-        λ n lt t. none_is_not_some n (c.in-None.ensures.exact n lt (rw tail t)))
+    let tail : c.split_at.result.1.now ≡ ssid_part c.args.text.now = cc in (
+      subst (λ (n : List ℕ). IsName n) name c.in_ok-call.ensures.valid,
+      λ n lt t. none_is_not_some n (c.in-None.ensures.exact n lt (rw tail t)),
+    )
 
 pub returns-in-None-clause-accepted : goal.returns-in-None-clause-accepted
 returns-in-None-clause-accepted c = λ call told.
@@ -44,7 +45,7 @@ returns-in_err-call-clause-each_fault c = λ fault h.
     let p = err_from_is_err_and c.from_residual.result c.from_residual.ensures.1 in
     let name : c.as_slice.result.now ≡ name_part c.args.text.now = cc in
     let mine = fault_of_name _ _ _ (subst (λ (n : List ℕ). IsFaultOf n ⊥ c.in_err-call.field-0.0)
-        name c.in_err-call.ensures.refused) in
+    name c.in_err-call.ensures.refused) in
     p.1 ∙ ap err (p.2 ∙ IsFaultOf-same _ _ _ fault mine h)
 
 pub returns-in-Some-clause-each_fault : goal.returns-in-Some-clause-each_fault
@@ -53,7 +54,7 @@ returns-in-Some-clause-each_fault c = λ fault h.
     let tail : c.split_at.result.1.now ≡ ssid_part c.args.text.now = cc in
     absurd (name_has_no_fault _ _ fault (subst (λ (n : List ℕ). IsName n) name c.in_ok-call.ensures.valid)
     (λ none. none c.in-Some.ssid c.in-Some.ensures.ssid.0
-        (subst (λ (t : List ℕ). TellsSsid t c.in-Some.ssid) tail c.in-Some.ensures.ssid.1)) h)
+    (subst (λ (t : List ℕ). TellsSsid t c.in-Some.ssid) tail c.in-Some.ensures.ssid.1)) h)
 
 pub returns-in-None-clause-each_fault : goal.returns-in-None-clause-each_fault
 returns-in-None-clause-each_fault c = λ fault h.

@@ -6,8 +6,12 @@ pub slice_bounds-result-count : goal.slice_bounds-result-count
 slice_bounds-result-count c =
     let s = c.self.inside in
     let held = c.requires in
-    omega (arith, frame_length s.octets.items s.filled s.part c.args.self.now held.0 c.self.invariant c.self.view_is
-        held.1 held.2, ap length c.as_slice-octets.ensures.value)
+    omega (
+      arith,
+      frame_length s.octets.items s.filled s.part c.args.self.now held.0 c.self.invariant c.self.view_is
+          held.1 held.2,
+      ap length c.as_slice-octets.ensures.value,
+    )
 
 pub returns : goal.returns
 returns c = λ octets is_frame closes.

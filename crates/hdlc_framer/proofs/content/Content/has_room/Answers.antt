@@ -13,5 +13,5 @@ pub returns-else-self-lt7 : goal.returns-else-self-lt7
 returns-else-self-lt7 c =
     let s = c.self.inside in
     room_in_octets (length s.octets.items) s.filled (length c.args.self.now) c.is_full.result c.self.invariant.room
-        (omega (arith, c.self.invariant.below_octet))
+    (omega (arith, c.self.invariant.below_octet))
     (sym (ap length c.self.view_is) ∙ length-packed s.octets.items s.filled s.part) c.is_full.ensures.value

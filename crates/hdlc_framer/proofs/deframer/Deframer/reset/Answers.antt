@@ -10,5 +10,5 @@ returns-clause-stands_for c = record {
   line = c.new-self-inside.ensures;
   carrier = subst (λ carrier. CarrierStandsFor carrier []) (sym c.reset.ensures.fresh)
       (carrier_new c.self.inside.carrier.flags (subst (λ carrier. 1 ≤ carrier.flags)
-          c.reset.ensures.fresh c.reset.ensures.asked));
+      c.reset.ensures.fresh c.reset.ensures.asked));
 }

@@ -19,7 +19,7 @@ returns-then-self-lt-WINDOW-clause-heard c = λ x h.
     let s = c.self.inside in
     let stood = subst (λ (held : HeldBank). BankStandsFor held x) (sym c.self.view_is) h in
     bank_early s.lanes.items s.recent c.push.new.self s.position x c.args.sample
-        (passed s.recent c.push.new.self c.args.sample c.ranges.sample c.push.ensures) stood c.if-self-lt-WINDOW.true
+    (passed s.recent c.push.new.self c.args.sample c.ranges.sample c.push.ensures) stood c.if-self-lt-WINDOW.true
 
 pub returns-clause-heard : goal.returns-clause-heard
 returns-clause-heard c = λ x h.
@@ -28,11 +28,11 @@ returns-clause-heard c = λ x h.
     let was : HeldLane = c.index_mut-lane.result.now in
     let there : was ≡ get_or s.lanes.items c.from.result was = c.index_mut-lane.ensures.value in
     bank_more s.lanes.items s.recent c.push.new.self s.position x c.args.sample
-        (passed s.recent c.push.new.self c.args.sample c.ranges.sample c.push.ensures) stood
+    (passed s.recent c.push.new.self c.args.sample c.ranges.sample c.push.ensures) stood
     c.from.result was c.hear.new.lane c.hf_decide-tone.result c.in_ok-heard.heard c.self.invariant
-        c.if-self-lt-WINDOW.false c.from.ensures
+    c.if-self-lt-WINDOW.false c.from.ensures
     (c.hf_decide-tone.ensures ∙ ap tone_of c.window.ensures)
     (λ tones stands. c.hear.ensures.stands_for tones (subst (λ l. LaneStandsFor l tones) (sym there) stands))
     (λ tones stands. subst (λ (o : ℕ). IsHeard o (s.position + 1) (bits_of (tones ++ c.hf_decide-tone.result ∷ []))
-        c.in_ok-heard.heard) (sym c.from.ensures)
+    c.in_ok-heard.heard) (sym c.from.ensures)
     (c.in_ok-heard.ensures.heard tones (subst (λ l. LaneStandsFor l tones) (sym there) stands)))

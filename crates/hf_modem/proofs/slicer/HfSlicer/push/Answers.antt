@@ -19,7 +19,7 @@ returns-then-not-ends_window-clause-stands_for c = λ x h.
     let s = c.self.inside in
     let stood = subst (λ (held : HeldSlicer). SlicerStandsFor held x) (sym c.self.view_is) h in
     stands_within s.offset s.position s.recent c.push.new.self s.line x c.args.sample
-        (passed s.recent c.push.new.self c.args.sample c.ranges.sample c.push.ensures) stood
+    (passed s.recent c.push.new.self c.args.sample c.ranges.sample c.push.ensures) stood
     (λ ends. true≢false (sym (c.ends_window.ensures.1 ends) ∙ c.if-not-ends_window.true))
 
 pub returns-then-not-ends_window-clause-bits : goal.returns-then-not-ends_window-clause-bits
@@ -29,7 +29,7 @@ returns-then-not-ends_window-clause-bits c =
     → bits held.offset (x ++ c.args.sample ∷ []) ≡ bits held.offset x ++ [] in
     subst P c.self.view_is (λ x h.
     no_bit s.offset s.position s.recent c.push.new.self s.line x c.args.sample
-        (passed s.recent c.push.new.self c.args.sample c.ranges.sample c.push.ensures) h
+    (passed s.recent c.push.new.self c.args.sample c.ranges.sample c.push.ensures) h
     (λ ends. true≢false (sym (c.ends_window.ensures.1 ends) ∙ c.if-not-ends_window.true)))
 
 pub returns-clause-stands_for : goal.returns-clause-stands_for
@@ -37,9 +37,9 @@ returns-clause-stands_for c = λ x h.
     let s = c.self.inside in
     let stood = subst (λ (held : HeldSlicer). SlicerStandsFor held x) (sym c.self.view_is) h in
     stands_last s.offset s.position s.recent c.push.new.self s.line x c.args.sample
-        (passed s.recent c.push.new.self c.args.sample c.ranges.sample c.push.ensures) stood
+    (passed s.recent c.push.new.self c.args.sample c.ranges.sample c.push.ensures) stood
     (c.ends_window.ensures.0 c.if-not-ends_window.false) c.step.new.self (c.step.ensures.tone ∙ c.hf_decide.ensures
-        ∙ ap tone_of c.window.ensures)
+    ∙ ap tone_of c.window.ensures)
 
 pub returns-clause-bits : goal.returns-clause-bits
 returns-clause-bits c =
@@ -48,7 +48,7 @@ returns-clause-bits c =
     → bits held.offset (x ++ c.args.sample ∷ []) ≡ bits held.offset x ++ c.step.result ∷ [] in
     subst P c.self.view_is (λ x h.
     one_bit s.offset s.position s.recent c.push.new.self s.line x c.args.sample
-        (passed s.recent c.push.new.self c.args.sample c.ranges.sample c.push.ensures) h
+    (passed s.recent c.push.new.self c.args.sample c.ranges.sample c.push.ensures) h
     (c.ends_window.ensures.0 c.if-not-ends_window.false) c.hf_decide.result (c.hf_decide.ensures
-        ∙ ap tone_of c.window.ensures)
+    ∙ ap tone_of c.window.ensures)
     c.step.result (c.step.ensures.bits _ h.before))

@@ -11,12 +11,12 @@ returns-then-octet-eq-FEND-clause-stands_for c = λ stream stands.
     let P : ℕ → Type 0 = λ octet. StandsFor new_held (stream ++ octet ∷ []) in
     let Q : Held → Type 0 = λ held. StandsFor held (stream ++ c.args.octet ∷ []) in
     on_ok_weaker c.end.result (λ opened. subst Q (sym opened)
-        (subst P (sym c.if-octet-eq-FEND.true) (stands_end c.args.self.now stream stands))) c.end.ensures.opened
+    (subst P (sym c.if-octet-eq-FEND.true) (stands_end c.args.self.now stream stands))) c.end.ensures.opened
 
 pub returns-then-octet-eq-FEND-clause-item : goal.returns-then-octet-eq-FEND-clause-item
 returns-then-octet-eq-FEND-clause-item c = λ stream stands.
     IfOk-weaker c.end.result (λ item. item ≡ held_item c.args.self.now)
-        (λ item. items_in (stream ++ c.args.octet ∷ []) ≡ items_in stream ++ option_to_list item)
+    (λ item. items_in (stream ++ c.args.octet ∷ []) ≡ items_in stream ++ option_to_list item)
     (λ item is.
     ap (λ octet. items_in (stream ++ octet ∷ [])) c.if-octet-eq-FEND.true ∙ items_end c.args.self.now stream stands
     ∙ ap (λ i. items_in stream ++ option_to_list i) (sym is))
@@ -26,7 +26,7 @@ pub returns-clause-stands_for : goal.returns-clause-stands_for
 returns-clause-stands_for c = λ stream stands.
     let Q : Held → Type 0 = λ held. StandsFor held (stream ++ c.args.octet ∷ []) in
     subst Q (sym c.in_ok-take.ensures.taken)
-        (stands_octet c.args.self.now stream stands c.args.octet c.if-octet-eq-FEND.false)
+    (stands_octet c.args.self.now stream stands c.args.octet c.if-octet-eq-FEND.false)
 
 pub returns-clause-item : goal.returns-clause-item
 returns-clause-item c = λ stream stands. items_same c.args.self.now stream stands c.args.octet c.if-octet-eq-FEND.false

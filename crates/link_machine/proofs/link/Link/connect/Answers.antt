@@ -26,15 +26,15 @@ returns-clause-step c = λ m h.
     let P : Held → Type 0 = λ x. StandsFor x m in
     let stands : StandsFor c.self.inside.machine m = subst P (sym c.self.view_is) h in
     let free = free_connect m (ap (λ (x : Control). has_link x.state) (sym stands.control) ∙ sym c.has_link.ensures
-        ∙ c.if-has_link.false) in
+    ∙ c.if-has_link.false) in
     (answers_right c.take_connect.new.self m (Connect) c.in_ok-acts.acts free
-        (c.in_ok-acts.ensures m (holds_of c.self.inside.machine m c.self.invariant.whole stands))).0
+    (c.in_ok-acts.ensures m (holds_of c.self.inside.machine m c.self.invariant.whole stands))).0
 
 pub returns-clause-stands_for : goal.returns-clause-stands_for
 returns-clause-stands_for c = λ m h.
     let P : Held → Type 0 = λ x. StandsFor x m in
     let stands : StandsFor c.self.inside.machine m = subst P (sym c.self.view_is) h in
     let free = free_connect m (ap (λ (x : Control). has_link x.state) (sym stands.control) ∙ sym c.has_link.ensures
-        ∙ c.if-has_link.false) in
+    ∙ c.if-has_link.false) in
     (answers_right c.take_connect.new.self m (Connect) c.in_ok-acts.acts free
-        (c.in_ok-acts.ensures m (holds_of c.self.inside.machine m c.self.invariant.whole stands))).1
+    (c.in_ok-acts.ensures m (holds_of c.self.inside.machine m c.self.invariant.whole stands))).1

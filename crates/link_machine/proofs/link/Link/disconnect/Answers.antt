@@ -13,7 +13,7 @@ invariant_of-self-2 c =
     let held = c.self.inside.machine in
     let free = free_disconnect (itself held) (sym c.is_closed.ensures ∙ c.if-is_closed.false) in
     (kept_by held c.take_disconnect.new.self Disconnect c.take_disconnect.result c.self.invariant free
-        c.take_disconnect.ensures).0
+    c.take_disconnect.ensures).0
 
 pub returns-clause-writable : goal.returns-clause-writable
 returns-clause-writable c =
@@ -28,7 +28,7 @@ returns-clause-step c = λ m h.
     let stands : StandsFor c.self.inside.machine m = subst P (sym c.self.view_is) h in
     let free = free_disconnect m (ap is_closed (sym stands.control) ∙ sym c.is_closed.ensures ∙ c.if-is_closed.false) in
     (answers_right c.take_disconnect.new.self m (Disconnect) c.in_ok-acts.acts free
-        (c.in_ok-acts.ensures m (holds_of c.self.inside.machine m c.self.invariant.whole stands))).0
+    (c.in_ok-acts.ensures m (holds_of c.self.inside.machine m c.self.invariant.whole stands))).0
 
 pub returns-clause-stands_for : goal.returns-clause-stands_for
 returns-clause-stands_for c = λ m h.
@@ -36,4 +36,4 @@ returns-clause-stands_for c = λ m h.
     let stands : StandsFor c.self.inside.machine m = subst P (sym c.self.view_is) h in
     let free = free_disconnect m (ap is_closed (sym stands.control) ∙ sym c.is_closed.ensures ∙ c.if-is_closed.false) in
     (answers_right c.take_disconnect.new.self m (Disconnect) c.in_ok-acts.acts free
-        (c.in_ok-acts.ensures m (holds_of c.self.inside.machine m c.self.invariant.whole stands))).1
+    (c.in_ok-acts.ensures m (holds_of c.self.inside.machine m c.self.invariant.whole stands))).1

@@ -18,10 +18,10 @@ pub returns-clause-step : goal.returns-clause-step
 returns-clause-step c = λ m h.
     let P : Held → Type 0 = λ x. StandsFor x m in
     (answers_all c.self.inside.machine c.hear.new.self (Hear c.args.frame.now) c.hear.result (λ _. refl)
-        c.self.invariant.whole c.hear.ensures m (subst P (sym c.self.view_is) h)).0
+    c.self.invariant.whole c.hear.ensures m (subst P (sym c.self.view_is) h)).0
 
 pub returns-clause-stands_for : goal.returns-clause-stands_for
 returns-clause-stands_for c = λ m h.
     let P : Held → Type 0 = λ x. StandsFor x m in
     (answers_all c.self.inside.machine c.hear.new.self (Hear c.args.frame.now) c.hear.result (λ _. refl)
-        c.self.invariant.whole c.hear.ensures m (subst P (sym c.self.view_is) h)).1
+    c.self.invariant.whole c.hear.ensures m (subst P (sym c.self.view_is) h)).1

@@ -14,9 +14,9 @@ invariant_of-self-2 c =
     let len : c.len.result ≡ length held.outgoing.packets = c.len.ensures.count in
     let octets : c.len-len.result ≡ length c.args.packet.octets = c.len-len.ensures.count in
     let free = free_send (itself held) c.args.packet (sym c.is_closed.ensures ∙ c.if-is_closed.false) (omega arith)
-        (omega arith) in
+    (omega arith) in
     (kept_by held c.take_packet.new.self (Send c.args.packet)
-        c.take_packet.result c.self.invariant free c.take_packet.ensures).0
+    c.take_packet.result c.self.invariant free c.take_packet.ensures).0
 
 pub returns-clause-writable : goal.returns-clause-writable
 returns-clause-writable c =
@@ -24,7 +24,7 @@ returns-clause-writable c =
     let len : c.len.result ≡ length held.outgoing.packets = c.len.ensures.count in
     let octets : c.len-len.result ≡ length c.args.packet.octets = c.len-len.ensures.count in
     let free = free_send (itself held) c.args.packet (sym c.is_closed.ensures ∙ c.if-is_closed.false) (omega arith)
-        (omega arith) in
+    (omega arith) in
     let made = c.in_ok-acts.ensures (itself held) (holds_itself held c.self.invariant.whole) in
     (kept_behind held c.take_packet.new.self (Send c.args.packet) c.in_ok-acts.acts c.self.invariant free made).1
 
@@ -33,23 +33,23 @@ returns-clause-step c = λ m h.
     let P : Held → Type 0 = λ x. StandsFor x m in
     let stands : StandsFor c.self.inside.machine m = subst P (sym c.self.view_is) h in
     let same : length c.self.inside.machine.outgoing.packets ≡ length m.outgoing.packets =
-        ap length stands.outgoing.packets in
+    ap length stands.outgoing.packets in
     let len : c.len.result ≡ length c.self.inside.machine.outgoing.packets = c.len.ensures.count in
     let octets : c.len-len.result ≡ length c.args.packet.octets = c.len-len.ensures.count in
     let free = free_send m c.args.packet (ap is_closed (sym stands.control) ∙ sym c.is_closed.ensures
-        ∙ c.if-is_closed.false) (omega arith) (omega arith) in
+    ∙ c.if-is_closed.false) (omega arith) (omega arith) in
     (answers_right c.take_packet.new.self m (Send c.args.packet) c.in_ok-acts.acts free
-        (c.in_ok-acts.ensures m (holds_of c.self.inside.machine m c.self.invariant.whole stands))).0
+    (c.in_ok-acts.ensures m (holds_of c.self.inside.machine m c.self.invariant.whole stands))).0
 
 pub returns-clause-stands_for : goal.returns-clause-stands_for
 returns-clause-stands_for c = λ m h.
     let P : Held → Type 0 = λ x. StandsFor x m in
     let stands : StandsFor c.self.inside.machine m = subst P (sym c.self.view_is) h in
     let same : length c.self.inside.machine.outgoing.packets ≡ length m.outgoing.packets =
-        ap length stands.outgoing.packets in
+    ap length stands.outgoing.packets in
     let len : c.len.result ≡ length c.self.inside.machine.outgoing.packets = c.len.ensures.count in
     let octets : c.len-len.result ≡ length c.args.packet.octets = c.len-len.ensures.count in
     let free = free_send m c.args.packet (ap is_closed (sym stands.control) ∙ sym c.is_closed.ensures
-        ∙ c.if-is_closed.false) (omega arith) (omega arith) in
+    ∙ c.if-is_closed.false) (omega arith) (omega arith) in
     (answers_right c.take_packet.new.self m (Send c.args.packet) c.in_ok-acts.acts free
-        (c.in_ok-acts.ensures m (holds_of c.self.inside.machine m c.self.invariant.whole stands))).1
+    (c.in_ok-acts.ensures m (holds_of c.self.inside.machine m c.self.invariant.whole stands))).1

@@ -1,8 +1,8 @@
 use Rattle.std.proofs.Common.{◌≡◌, ◌+◌, ◌<◌, ◌≤◌, ◌==◌, nat_lt, sym, ◌∙◌, ap, subst, Ok, arith}
 use Rattle.std.specs.Prelude.{not}
 use Rattle.std.proofs.lemmas.Bool.{cond-true}
-use Rattle.selective_reject.specs.Outgoing.{Outgoing, StandsForOutgoing, acknowledgement, after_acknowledge,
-    acknowledged as without_acknowledged}
+use Rattle.selective_reject.specs.Outgoing.{Outgoing, StandsForOutgoing, acknowledgement, after_acknowledge}
+use Rattle.selective_reject.specs.Outgoing.{acknowledged as without_acknowledged}
 use Rattle.link_machine.specs.declared.control.Control.{Control}
 use Rattle.link_machine.specs.Machine.{named}
 use Rattle.link_machine.specs.Acts.{timed_by}

@@ -8,29 +8,29 @@ use Rattle.selective_reject.specs.declared.window.Mode.TheVariants.{Srej as Srej
 use Rattle.std.proofs.lemmas.List.{map-append}
 use Rattle.selective_reject.specs.Places.{is_full, missing, asked}
 use Rattle.link_machine.specs.Held.{IsReady, srej_frame}
-use Rattle.link_machine.proofs.ReceiveLemmas.{first_asked, srejs_as_written, asks_at_most, before_in_window,
-    rej_is_not_srej}
+use Rattle.link_machine.proofs.ReceiveLemmas.{first_asked, srejs_as_written, asks_at_most, before_in_window}
+use Rattle.link_machine.proofs.ReceiveLemmas.{rej_is_not_srej}
 use Rattle.link_machine.proofs.Showing.{holds_incoming}
 use Rattle.link_machine.proofs.machine.Machine.ask.Goals as goal
 
 pub send_srejs-requires : goal.send_srejs-requires
 send_srejs-requires c =
     let few : length (numbers_to_ask c.args.self.now.incoming c.args.ns) ≤ c.args.self.now.incoming.window =
-        asks_at_most c.args.self.now.incoming c.args.ns in
+    asks_at_most c.args.self.now.incoming c.args.ns in
     let items : c.as_slice.result.now ≡ numbers_to_ask c.args.self.now.incoming c.args.ns = c.as_slice.ensures.value
-        ∙ c.ask-numbers.ensures.numbers in
+    ∙ c.ask-numbers.ensures.numbers in
     let count : length c.as_slice.result.now ≡ length (numbers_to_ask c.args.self.now.incoming c.args.ns) =
-        ap length items in
+    ap length items in
     omega (arith, c.requires.room)
 
 pub returns-clause-uses : goal.returns-clause-uses
 returns-clause-uses c =
     let few : length (numbers_to_ask c.args.self.now.incoming c.args.ns) ≤ c.args.self.now.incoming.window =
-        asks_at_most c.args.self.now.incoming c.args.ns in
+    asks_at_most c.args.self.now.incoming c.args.ns in
     let items : c.as_slice.result.now ≡ numbers_to_ask c.args.self.now.incoming c.args.ns = c.as_slice.ensures.value
-        ∙ c.ask-numbers.ensures.numbers in
+    ∙ c.ask-numbers.ensures.numbers in
     let count : length c.as_slice.result.now ≡ length (numbers_to_ask c.args.self.now.incoming c.args.ns) =
-        ap length items in
+    ap length items in
     let uses = c.send_srejs.ensures.uses in
     record { of_frames = omega (arith, uses.of_frames); of_told = omega (arith, uses.of_told) }
 
@@ -60,7 +60,7 @@ returns-clause-shows c = λ t h near.
     c.send_srejs.ensures.frames
     ∙ ap (λ xs. c.args.room.now.frames.items ++ map (srej_frame held) xs) numbers
     ∙ ap (λ fs. fs ++ map (srej_frame held) (map (λ k. (i.vr + k) % held.incoming.modulus) (missing i.places d)))
-        h.frames
+    h.frames
     ∙ ap (λ fs. sent_frames t.now.path t.sent ++ fs) (
     sym (srejs_as_written held t.now (missing i.places d))
     ∙ ap (λ p. sent_frames p (all_sent_in held.incoming.modulus srejs)) h.holds.stands.path

@@ -14,7 +14,7 @@ loop-place-preserved c =
       copied =
           c.in_ok-push_copy.ensures
           ∙ ap (λ xs. xs ++ option_to_list (slice_get packets (c.from-first.result + c.loop-place.place)))
-              c.loop-place.invariant.copied
+          c.loop-place.invariant.copied
           ∙ sym (copied_more packets c.from-first.result c.sent_behind-sent.result c.loop-place.place after);
       within = omega arith;
     }
@@ -29,16 +29,16 @@ returns c =
     let first : c.from-first.result ≡ c.args.acknowledged = search rules in
     let len : c.len.result ≡ length o.packets = c.len.ensures.count in
     let most : c.min-most.result ≡ min c.args.self.now.incoming.window (length o.packets - c.args.acknowledged) =
-        search rules in
+    search rules in
     let sent : c.sent_behind-sent.result ≡ behind.vs - behind.va = c.sent_behind-sent.ensures in
     let count : c.loop-place.place - c.sent_behind-sent.result ≡ c.min-most.result - c.sent_behind-sent.result =
-        omega arith in
+    omega arith in
     c.loop-place.invariant.copied
     ∙ ap (λ k. take k (drop (c.from-first.result + c.sent_behind-sent.result) o.packets)) count
     ∙ ap (λ k. take (k - c.sent_behind-sent.result) (drop (c.from-first.result + c.sent_behind-sent.result) o.packets))
-        most
+    most
     ∙ ap (λ k. take (min c.args.self.now.incoming.window (length o.packets - c.args.acknowledged)
-        - c.sent_behind-sent.result) (drop (k + c.sent_behind-sent.result) o.packets)) first
+    - c.sent_behind-sent.result) (drop (k + c.sent_behind-sent.result) o.packets)) first
     ∙ ap (λ k. take (min c.args.self.now.incoming.window (length o.packets - c.args.acknowledged) - k)
-        (drop (c.args.acknowledged + k) o.packets)) sent
+    (drop (c.args.acknowledged + k) o.packets)) sent
     ∙ sym (in_window_behind c.args.self.now.incoming.window c.args.acknowledged c.args.goes_back o)

@@ -14,5 +14,5 @@ returns c = λ m h.
     let t = telling (Ended Reset) (begin m) in
     let P : Turn → Type 0 = λ x. Made x c.open_again.new.self c.finish.result in
     subst P (sym (settled_open (numbers c.args.modulus) c.args.flag t))
-        (made c.open_again.new.self c.open_again.new.room (open_again (numbers c.args.modulus) c.args.flag (begin m))
-        c.finish.result (c.open_again.ensures.shows (begin m) begun) c.finish.ensures.frames c.finish.ensures.told)
+    (made c.open_again.new.self c.open_again.new.room (open_again (numbers c.args.modulus) c.args.flag (begin m))
+    c.finish.result (c.open_again.ensures.shows (begin m) begun) c.finish.ensures.frames c.finish.ensures.told)

@@ -6,8 +6,8 @@ use Rattle.link_machine.specs.Turn.{Turn, begin}
 use Rattle.link_machine.specs.Acts.{in_window}
 use Rattle.link_machine.specs.Frames.{hear_calling}
 use Rattle.link_machine.specs.Step.{settled}
-use Rattle.link_machine.proofs.Events.{itself, holds_itself, shows_begin, made, copies_right, opened_calling,
-    in_window_restarted}
+use Rattle.link_machine.proofs.Events.{itself, holds_itself, shows_begin, made, copies_right, opened_calling}
+use Rattle.link_machine.proofs.Events.{in_window_restarted}
 use Rattle.link_machine.proofs.machine.Machine.hear_calling.Goals as goal
 
 pub settle-requires-clause-formed : goal.settle-requires-clause-formed
@@ -24,11 +24,11 @@ returns c = λ m h.
     let shown = c.take_calling.ensures.shows (begin m) begun in
     let state = sym (ap (λ (x : Control). x.state) h.stands.control) ∙ c.requires.state in
     let right : (t.now.control.state ≡ Up → c.in_ok-packets.packets.items
-        ≡ in_window t.now.incoming.window t.now.outgoing) = λ up.
+    ≡ in_window t.now.incoming.window t.now.outgoing) = λ up.
     let opened = opened_calling c.args.kind.now (begin m) state up in
     copies_right c.args.self.now m 0 true c.in_ok-packets.packets.items h c.in_ok-packets.ensures
     ∙ in_window_restarted m.incoming.window m.outgoing
     ∙ sym (ap (λ o. in_window t.now.incoming.window o) opened.0 ∙ ap (λ k. in_window k (restarted m.outgoing)) opened.1)
-        in
+    in
     made c.settle.new.self c.settle.new.room (settled t) c.finish.result (c.settle.ensures.shows t shown right)
-        c.finish.ensures.frames c.finish.ensures.told
+    c.finish.ensures.frames c.finish.ensures.told

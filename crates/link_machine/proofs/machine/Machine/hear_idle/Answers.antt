@@ -12,5 +12,5 @@ returns c = λ m h.
     let state = sym (ap (λ (x : Control). x.state) h.stands.control) ∙ c.requires.state in
     let P : Turn → Type 0 = λ x. Made x c.take_idle.new.self c.finish.result in
     subst P (sym (settled_idle c.args.command c.args.kind.now (begin m) state))
-        (made c.take_idle.new.self c.take_idle.new.room (hear_idle c.args.command c.args.kind.now (begin m))
-        c.finish.result (c.take_idle.ensures (begin m) begun) c.finish.ensures.frames c.finish.ensures.told)
+    (made c.take_idle.new.self c.take_idle.new.room (hear_idle c.args.command c.args.kind.now (begin m))
+    c.finish.result (c.take_idle.ensures (begin m) begun) c.finish.ensures.frames c.finish.ensures.told)

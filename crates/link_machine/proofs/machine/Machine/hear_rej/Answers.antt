@@ -5,8 +5,8 @@ use Rattle.link_machine.specs.Turn.{Turn, begin, changing, setting}
 use Rattle.link_machine.specs.Acts.{acknowledged, gone_back, in_window}
 use Rattle.link_machine.specs.Frames.{with_busy, hear_rej}
 use Rattle.link_machine.specs.Step.{settled}
-use Rattle.link_machine.proofs.Events.{itself, holds_itself, shows_begin, made, valid_number, copies_right,
-    supervised_back}
+use Rattle.link_machine.proofs.Events.{itself, holds_itself, shows_begin, made, valid_number, copies_right}
+use Rattle.link_machine.proofs.Events.{supervised_back}
 use Rattle.link_machine.proofs.machine.Machine.hear_rej.Goals as goal
 
 pub settle-requires-clause-formed : goal.settle-requires-clause-formed
@@ -26,8 +26,8 @@ returns c = λ m h.
     let shown = c.take_rej.ensures.shows (begin m) begun valid.0 in
     let busy : Turn = changing gone_back (changing (acknowledged n) (setting (with_busy false) (begin m))) in
     let right : (t.now.control.state ≡ Up → c.in_ok-packets.packets.items
-        ≡ in_window t.now.incoming.window t.now.outgoing) = λ _.
+    ≡ in_window t.now.incoming.window t.now.outgoing) = λ _.
     copies_right c.args.self.now m c.args.count true c.in_ok-packets.packets.items h c.in_ok-packets.ensures
     ∙ supervised_back busy m n c.args.count c.args.asks c.args.answers refl refl valid.1 in
     made c.settle.new.self c.settle.new.room (settled t) c.finish.result (c.settle.ensures.shows t shown right)
-        c.finish.ensures.frames c.finish.ensures.told
+    c.finish.ensures.frames c.finish.ensures.told

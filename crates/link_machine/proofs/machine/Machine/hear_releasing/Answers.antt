@@ -12,6 +12,6 @@ returns c = λ m h.
     let state = sym (ap (λ (x : Control). x.state) h.stands.control) ∙ c.requires.state in
     let P : Turn → Type 0 = λ x. Made x c.take_releasing.new.self c.finish.result in
     subst P (sym (settled_releasing c.args.command c.args.kind.now (begin m) state))
-        (made c.take_releasing.new.self c.take_releasing.new.room
-        (hear_releasing c.args.command c.args.kind.now (begin m)) c.finish.result
-        (c.take_releasing.ensures (begin m) begun) c.finish.ensures.frames c.finish.ensures.told)
+    (made c.take_releasing.new.self c.take_releasing.new.room
+    (hear_releasing c.args.command c.args.kind.now (begin m)) c.finish.result
+    (c.take_releasing.ensures (begin m) begun) c.finish.ensures.frames c.finish.ensures.told)

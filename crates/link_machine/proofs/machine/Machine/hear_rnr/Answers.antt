@@ -6,8 +6,8 @@ use Rattle.link_machine.specs.Turn.{Turn, begin, changing, setting}
 use Rattle.link_machine.specs.Acts.{acknowledged, in_window}
 use Rattle.link_machine.specs.Frames.{with_busy, hear_rnr}
 use Rattle.link_machine.specs.Step.{settled}
-use Rattle.link_machine.proofs.Events.{itself, holds_itself, shows_begin, made, valid_number, copies_right, supervised,
-    acknowledged_poll}
+use Rattle.link_machine.proofs.Events.{itself, holds_itself, shows_begin, made, valid_number, copies_right, supervised}
+use Rattle.link_machine.proofs.Events.{acknowledged_poll}
 use Rattle.std.specs.Prelude.{◌&&◌}
 use Rattle.link_machine.proofs.machine.Machine.hear_rnr.Goals as goal
 
@@ -29,11 +29,11 @@ returns c = λ m h.
     let busy : Turn = changing (acknowledged n) (setting (with_busy true) (begin m)) in
     let poll : (busy.now.control.poll && c.args.answers) ≡ c.recovers-recovers.result =
     ap (λ p. p && c.args.answers) (acknowledged_poll n (setting (with_busy true) (begin m)).now
-        ∙ sym (ap (λ (x : Control). x.poll) h.stands.control)) ∙ sym c.recovers-recovers.ensures in
+    ∙ sym (ap (λ (x : Control). x.poll) h.stands.control)) ∙ sym c.recovers-recovers.ensures in
     let right : (t.now.control.state ≡ Up → c.in_ok-packets.packets.items
-        ≡ in_window t.now.incoming.window t.now.outgoing) = λ _.
+    ≡ in_window t.now.incoming.window t.now.outgoing) = λ _.
     copies_right c.args.self.now m c.args.count c.recovers-recovers.result c.in_ok-packets.packets.items h
-        c.in_ok-packets.ensures
+    c.in_ok-packets.ensures
     ∙ supervised busy m n c.args.count c.args.asks c.args.answers c.recovers-recovers.result refl refl poll valid.1 in
     made c.settle.new.self c.settle.new.room (settled t) c.finish.result (c.settle.ensures.shows t shown right)
-        c.finish.ensures.frames c.finish.ensures.told
+    c.finish.ensures.frames c.finish.ensures.told

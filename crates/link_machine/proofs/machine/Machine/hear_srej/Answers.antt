@@ -33,15 +33,15 @@ returns c = λ m h.
     let kept = send_again_keeps n acked in
     let poll : (again.now.control.poll && c.args.answers) ≡ c.recovers-recovers.result =
     ap (λ p. p && c.args.answers) (kept.2 ∙ srej_poll n c.args.flag busy.now
-        ∙ sym (ap (λ (x : Control). x.poll) h.stands.control)) ∙ sym c.recovers-recovers.ensures in
+    ∙ sym (ap (λ (x : Control). x.poll) h.stands.control)) ∙ sym c.recovers-recovers.ensures in
     let right : (t.now.control.state ≡ Up → c.in_ok-packets.packets.items
-        ≡ in_window t.now.incoming.window t.now.outgoing) = λ _.
+    ≡ in_window t.now.incoming.window t.now.outgoing) = λ _.
     copies_right c.args.self.now m c.acknowledged_by_srej.result c.recovers-recovers.result
-        c.in_ok-packets.packets.items h c.in_ok-packets.ensures
+    c.in_ok-packets.packets.items h c.in_ok-packets.ensures
     ∙ ap (λ k. in_window m.incoming.window (outgoing_behind k c.recovers-recovers.result m.outgoing))
-        c.acknowledged_by_srej.ensures.value
+    c.acknowledged_by_srej.ensures.value
     ∙ supervised_srej again m (with_busy false m.control)
-        n c.args.count c.args.flag c.args.asks c.args.answers c.recovers-recovers.result kept.0 (kept.1
-        ∙ srej_incoming n c.args.flag busy.now) poll valid.1 in
+    n c.args.count c.args.flag c.args.asks c.args.answers c.recovers-recovers.result kept.0 (kept.1
+    ∙ srej_incoming n c.args.flag busy.now) poll valid.1 in
     made c.settle.new.self c.settle.new.room (settled t) c.finish.result (c.settle.ensures.shows t shown right)
-        c.finish.ensures.frames c.finish.ensures.told
+    c.finish.ensures.frames c.finish.ensures.told

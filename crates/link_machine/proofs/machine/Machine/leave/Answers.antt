@@ -8,6 +8,6 @@ pub returns-clause-shows : goal.returns-clause-shows
 returns-clause-shows c = λ room t h.
     let empty = shows_emptied c.args.self.now c.empty.new.self room t h c.empty.ensures.holds in
     let narrow = shows_in_modulus 8 c.empty.new.self c.narrow.new.self room (changing emptied t)
-        empty c.narrow.ensures.holds in
+    empty c.narrow.ensures.holds in
     shows_control stopped c.narrow.new.self c.leave.new.self room (changing narrowed (changing emptied t))
-        c.leave.ensures narrow
+    c.leave.ensures narrow

@@ -17,6 +17,7 @@ refused_in (Err bad) = bad.window
 
 pub returns-in-Err-clause-bad_window : goal.returns-in-Err-clause-bad_window
 returns-in-Err-clause-bad_window c = λ w.
-    let is = c.in-Err.ensures.bad_window w in
-    (λ e. is.0 (ap (λ k. Err (record { window = k })) (ap window_in e)),
-        λ r. ap (λ k. Err (BadWindow k)) (ap refused_in (is.1 r)))
+    let is = c.in-Err.ensures.bad_window w in (
+      λ e. is.0 (ap (λ k. Err (record { window = k })) (ap window_in e)),
+      λ r. ap (λ k. Err (BadWindow k)) (ap refused_in (is.1 r)),
+    )

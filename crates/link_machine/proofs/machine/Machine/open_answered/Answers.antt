@@ -9,4 +9,4 @@ pub returns-clause-shows : goal.returns-clause-shows
 returns-clause-shows c = λ t h.
     let begun = shows_fresh c.args.self.now c.begin.new.self c.args.room.now t h c.begin.ensures in
     c.tell.ensures.shows _ (shows_control (in_state Up) c.begin.new.self _ c.args.room.now (changing fresh t)
-        refl begun)
+    refl begun)

@@ -14,6 +14,6 @@ returns-clause-shows c = λ t h.
     let empty = shows_emptied c.begin.new.self c.empty.new.self room (changing fresh t) begun c.empty.ensures.holds in
     let anew = changing emptied (changing fresh t) in
     let counted = shows_in_modulus modulus c.empty.new.self c.count_in.new.self room anew empty c.count_in.ensures.holds
-        in
+    in
     let up = shows_control (in_state Up) c.count_in.new.self _ room (changing (in_modulus modulus) anew) refl counted in
     c.tell.ensures.shows _ (c.send_setup.ensures.shows _ up)

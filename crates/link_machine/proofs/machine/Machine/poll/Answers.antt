@@ -10,10 +10,10 @@ use Rattle.link_machine.proofs.machine.Machine.poll.Goals as goal
 pub returns-clause-shows : goal.returns-clause-shows
 returns-clause-shows c = λ t h.
     let due : Shows (record c.args.self.now { control = c.settle_due.new.self }) c.args.room.now (setting nothing_due t)
-        =
+    =
     shows_control nothing_due c.args.self.now c.settle_due.new.self c.args.room.now t c.settle_due.ensures h in
     let nr : c.vr.result ≡ t.now.incoming.vr % c.args.self.now.incoming.modulus =
     vr_as_sent c.args.self.now t.now c.vr.result h.holds
-        (c.vr.ensures.stands_for t.now.incoming h.holds.stands.incoming) in
+    (c.vr.ensures.stands_for t.now.incoming h.holds.stands.incoming) in
     shows_control polling _ c.poll.new.self _ (report (SuperSent Rr true t.now.incoming.vr true) t) c.poll.ensures
-        (c.send_super.ensures.shows (setting nothing_due t) t.now.incoming.vr due nr)
+    (c.send_super.ensures.shows (setting nothing_due t) t.now.incoming.vr due nr)

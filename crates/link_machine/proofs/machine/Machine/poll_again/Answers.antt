@@ -13,17 +13,17 @@ use Rattle.link_machine.proofs.machine.Machine.poll_again.Goals as goal
 pub returns-then-is_spent-clause-shows : goal.returns-then-is_spent-clause-shows
 returns-then-is_spent-clause-shows c = λ t h.
     let spent : is_spent t.now.control ≡ true = ap is_spent (sym h.holds.stands.control) ∙ sym c.is_spent.ensures
-        ∙ c.if-is_spent.true in
+    ∙ c.if-is_spent.true in
     let P : Turn → Type 0 = λ x. Shows c.leave.new.self c.tell.new.room x in
     subst P (sym (cond-true (is_spent t.now.control) _ (in_order (setting retried ∷ poll ∷ []) t) spent))
-        (c.tell.ensures.shows _ (c.leave.ensures.shows c.send_setup.new.room _ (c.send_setup.ensures.shows t h)))
+    (c.tell.ensures.shows _ (c.leave.ensures.shows c.send_setup.new.room _ (c.send_setup.ensures.shows t h)))
 
 pub returns-else-is_spent-clause-shows : goal.returns-else-is_spent-clause-shows
 returns-else-is_spent-clause-shows c = λ t h.
     let spent : is_spent t.now.control ≡ false = ap is_spent (sym h.holds.stands.control) ∙ sym c.is_spent.ensures
-        ∙ c.if-is_spent.false in
+    ∙ c.if-is_spent.false in
     let retry = shows_control retried c.args.self.now c.retry.new.self c.args.room.now t c.retry.ensures h in
     let P : Turn → Type 0 = λ x. Shows c.poll.new.self c.poll.new.room x in
     subst P (sym (cond-false (is_spent t.now.control)
-        (in_order (answer_dm false ∷ leave ∷ telling (Ended Failed) ∷ []) t) _ spent))
-        (c.poll.ensures.shows (setting retried t) retry)
+    (in_order (answer_dm false ∷ leave ∷ telling (Ended Failed) ∷ []) t) _ spent))
+    (c.poll.ensures.shows (setting retried t) retry)

@@ -1,5 +1,5 @@
-use Rattle.std.proofs.Common.{◌≡◌, ◌≤◌, ◌<◌, length, true, false, nat_lt, [], ◌∷◌, ◌++◌, drop, map, refl, sym, ◌∙◌, ap,
-    subst, arith}
+use Rattle.std.proofs.Common.{◌≡◌, ◌≤◌, ◌<◌, length, true, false, nat_lt, [], ◌∷◌, ◌++◌, drop, map, refl, sym, ◌∙◌, ap}
+use Rattle.std.proofs.Common.{subst, arith}
 use Rattle.selective_reject.specs.Numbers.{ahead}
 use Rattle.selective_reject.specs.Incoming.{Incoming, StandsForIncoming, after_accept, took}
 use Rattle.link_machine.specs.declared.acts.Told.TheVariants.{Given}
@@ -16,8 +16,9 @@ use Rattle.selective_reject.specs.Incoming.{keeps}
 use Rattle.selective_reject.specs.Places.{is_full, with_packet}
 use Rattle.link_machine.specs.Held.{IsReady}
 use Rattle.link_machine.proofs.RunLemmas.{run_with_next}
-use Rattle.link_machine.proofs.ReceiveLemmas.{is_next, is_stored, not_next, not_stored, keeps_none, took_by_srej,
-    accepted, not_accepted, moved_with, first_kept, rej_is_not_srej, both_first}
+use Rattle.link_machine.proofs.ReceiveLemmas.{is_next, is_stored, not_next, not_stored, keeps_none, took_by_srej}
+use Rattle.link_machine.proofs.ReceiveLemmas.{accepted, not_accepted, moved_with, first_kept, rej_is_not_srej}
+use Rattle.link_machine.proofs.ReceiveLemmas.{both_first}
 use Rattle.link_machine.proofs.Showing.{shows_incoming, holds_incoming, same_incoming, shows_as}
 use Rattle.std.proofs.Common.{◌==◌, eqb-true}
 use Rattle.std.proofs.lemmas.Bool.{ltb-true}
@@ -29,14 +30,14 @@ returns-in-Next-clause-shows c = λ t h.
     let p = c.args.packet in
     let accept = c.accept.ensures.stands_for i h.holds.stands.incoming in
     let empty : is_full i.places 0 ≡ false = ap (λ ps. is_full ps 0) (sym h.holds.stands.incoming.places)
-        ∙ h.holds.next.next in
+    ∙ h.holds.next.next in
     let srej : i.mode ≡ SrejMode = sym h.holds.stands.incoming.mode ∙ c.requires.mode in
     let some : 1 ≤ c.args.self.now.incoming.window = c.requires.formed.incoming.window.0 in
     let w : c.args.self.now.incoming.window ≡ i.window = h.holds.stands.incoming.window in
     let some_whole : 1 ≤ i.window = omega arith in
     let took_next : took i c.args.ns ≡ Next = sym accept.0 ∙ c.in-Next.is in
     let yes : (ahead_of_vr c.args.ns t.now == 0) ≡ true = sym (took_by_srej i c.args.ns srej empty some_whole).0
-        ∙ ap is_next took_next in
+    ∙ ap is_next took_next in
     let zero_ahead : ahead i.modulus i.vr c.args.ns ≡ 0 = eqb-true _ 0 yes in
     let store : Incoming = record i { places = with_packet i.places 0 p } in
     let becomes : after_accept i c.args.ns p ≡ store =
@@ -44,25 +45,25 @@ returns-in-Next-clause-shows c = λ t h.
     let P : Incoming → Type 0 = λ s. StandsForIncoming c.accept.new.self s in
     let stands : StandsForIncoming c.accept.new.self store = subst P becomes accept.1 in
     let held_window : length c.args.self.now.incoming.places ≡ c.args.self.now.incoming.window =
-        c.requires.formed.incoming.places in
+    c.requires.formed.incoming.places in
     let same : length c.args.self.now.incoming.places ≡ length i.places = ap length h.holds.stands.incoming.places in
     let one : 1 ≤ length i.places = omega arith in
     let all : run store.places ≡ run_with p t.now = run_with_next i.places p one in
     let given : StandsForIncoming c.give_run.new.incoming (moved_on (length (run_with p t.now)) i) =
     let Q : Incoming → Type 0 = λ s. StandsForIncoming c.give_run.new.incoming s in
     subst Q (ap (λ xs. moved_on (length xs) store) all ∙ moved_with i (length (run (drop 1 i.places))) p)
-        (c.give_run.ensures.stands_for store stands) in
+    (c.give_run.ensures.stands_for store stands) in
     let ready : IsReady c.give_run.new.incoming = record {
       next = c.give_run.ensures.next;
       in_sequence = λ rej. absurd (rej_is_not_srej (sym rej ∙ given.mode ∙ srej));
     } in
     let told : c.give_run.new.room.told.items ≡ c.args.room.now.told.items ++ map Given (run_with p t.now) =
     c.give_run.ensures.told ∙ ap (λ ps. c.args.room.now.told.items ++ map Given (run ps)) stands.places
-        ∙ ap (λ xs. c.args.room.now.told.items ++ map Given xs) all in
+    ∙ ap (λ xs. c.args.room.now.told.items ++ map Given xs) all in
     let shown = shows_incoming c.args.self.now c.give_run.new.incoming c.args.room.now c.give_run.new.room t i
-        (run_with p t.now) h given c.give_run.ensures.formed ready told c.give_run.ensures.frames in
+    (run_with p t.now) h given c.give_run.ensures.formed ready told c.give_run.ensures.frames in
     shows_as c.args.self.now c.give_run.new.incoming c.give_run.new.room _ _
-        (sym (cond-true (ahead_of_vr c.args.ns t.now == 0) (give (run_with p t.now) t) _ yes)) shown
+    (sym (cond-true (ahead_of_vr c.args.ns t.now == 0) (give (run_with p t.now) t) _ yes)) shown
 
 pub returns-in-Stored-clause-shows : goal.returns-in-Stored-clause-shows
 returns-in-Stored-clause-shows c = λ t h.
@@ -71,7 +72,7 @@ returns-in-Stored-clause-shows c = λ t h.
     let d = ahead_of_vr c.args.ns t.now in
     let accept = c.accept.ensures.stands_for i h.holds.stands.incoming in
     let empty : is_full i.places 0 ≡ false = ap (λ ps. is_full ps 0) (sym h.holds.stands.incoming.places)
-        ∙ h.holds.next.next in
+    ∙ h.holds.next.next in
     let srej : i.mode ≡ SrejMode = sym h.holds.stands.incoming.mode ∙ c.requires.mode in
     let some : 1 ≤ c.args.self.now.incoming.window = c.requires.formed.incoming.window.0 in
     let w : c.args.self.now.incoming.window ≡ i.window = h.holds.stands.incoming.window in
@@ -81,12 +82,12 @@ returns-in-Stored-clause-shows c = λ t h.
     let no : (d == 0) ≡ false = sym tests.0 ∙ ap is_next took_stored in
     let free : (nat_lt d i.window && not (is_full i.places d)) ≡ true =
     sym (cond-false (d == 0) false (nat_lt d i.window && not (is_full i.places d)) no) ∙ sym tests.1
-        ∙ ap is_stored took_stored in
+    ∙ ap is_stored took_stored in
     let near : d < i.window = ltb-true d i.window (both_first _ _ free) in
     let store : Incoming = record i { places = with_packet i.places d p } in
     let P : Incoming → Type 0 = λ s. StandsForIncoming c.accept.new.self s in
     let stands : StandsForIncoming c.accept.new.self store =
-        subst P (accepted i c.args.ns p (ap keeps took_stored)) accept.1 in
+    subst P (accepted i c.args.ns p (ap keeps took_stored)) accept.1 in
     let ready : IsReady c.accept.new.self = record {
       next = ap (λ ps. is_full ps 0) stands.places ∙ first_kept i.places d p no ∙ empty;
       in_sequence = λ rej. absurd (rej_is_not_srej (sym rej ∙ stands.mode ∙ srej));
@@ -94,12 +95,12 @@ returns-in-Stored-clause-shows c = λ t h.
     let t1 = changing (stored d p) t in
     let kept : Shows (record c.args.self.now { incoming = c.accept.new.self }) c.args.room.now t1 =
     shows_changing (stored d p) c.args.self.now _ c.args.room.now t refl h
-        (holds_incoming c.args.self.now t.now c.accept.new.self store h.holds stands c.accept.ensures.formed ready) in
+    (holds_incoming c.args.self.now t.now c.accept.new.self store h.holds stands c.accept.ensures.formed ready) in
     let asked_for = c.ask.ensures.shows t1 kept near in
     let T : Turn → Type 0 = λ x. Shows c.ask.new.self c.ask.new.room x in
     subst T (sym (cond-false (d == 0) (give (run_with p t.now) t) _ no
-        ∙ cond-true (nat_lt d i.window && not (is_full i.places d)) (in_order (changing (stored d p) ∷ ask d ∷ []) t)
-        t free)) asked_for
+    ∙ cond-true (nat_lt d i.window && not (is_full i.places d)) (in_order (changing (stored d p) ∷ ask d ∷ []) t)
+    t free)) asked_for
 
 pub returns-in_default-clause-shows : goal.returns-in_default-clause-shows
 returns-in_default-clause-shows c = λ t h.
@@ -108,29 +109,29 @@ returns-in_default-clause-shows c = λ t h.
     let d = ahead_of_vr c.args.ns t.now in
     let accept = c.accept.ensures.stands_for i h.holds.stands.incoming in
     let empty : is_full i.places 0 ≡ false = ap (λ ps. is_full ps 0) (sym h.holds.stands.incoming.places)
-        ∙ h.holds.next.next in
+    ∙ h.holds.next.next in
     let srej : i.mode ≡ SrejMode = sym h.holds.stands.incoming.mode ∙ c.requires.mode in
     let some : 1 ≤ c.args.self.now.incoming.window = c.requires.formed.incoming.window.0 in
     let w : c.args.self.now.incoming.window ≡ i.window = h.holds.stands.incoming.window in
     let some_whole : 1 ≤ i.window = omega arith in
     let tests = took_by_srej i c.args.ns srej empty some_whole in
     let no_next : is_next (took i c.args.ns) ≡ false = ap is_next (sym accept.0)
-        ∙ not_next c.accept.result c.in_default.not-Next in
+    ∙ not_next c.accept.result c.in_default.not-Next in
     let no_stored : is_stored (took i c.args.ns) ≡ false = ap is_stored (sym accept.0)
-        ∙ not_stored c.accept.result c.in_default.not-Stored in
+    ∙ not_stored c.accept.result c.in_default.not-Stored in
     let no : (d == 0) ≡ false = sym tests.0 ∙ no_next in
     let taken_already : (nat_lt d i.window && not (is_full i.places d)) ≡ false =
     sym (cond-false (d == 0) false (nat_lt d i.window && not (is_full i.places d)) no) ∙ sym tests.1 ∙ no_stored in
     let P : Incoming → Type 0 = λ s. StandsForIncoming c.accept.new.self s in
     let stands : StandsForIncoming c.accept.new.self i =
-        subst P (not_accepted i c.args.ns p (keeps_none (took i c.args.ns) no_next no_stored)) accept.1 in
+    subst P (not_accepted i c.args.ns p (keeps_none (took i c.args.ns) no_next no_stored)) accept.1 in
     let ready : IsReady c.accept.new.self = record {
       next = ap (λ ps. is_full ps 0) stands.places ∙ empty;
       in_sequence = λ rej. absurd (rej_is_not_srej (sym rej ∙ stands.mode ∙ srej));
     } in
     let same = same_incoming c.args.self.now c.accept.new.self c.args.room.now t h stands c.accept.ensures.formed ready
-        in
+    in
     shows_as c.args.self.now c.accept.new.self c.args.room.now _ _
-        (sym (cond-false (d == 0) (give (run_with p t.now) t) _ no
-        ∙ cond-false (nat_lt d i.window && not (is_full i.places d)) (in_order (changing (stored d p) ∷ ask d ∷ []) t)
-        t taken_already)) same
+    (sym (cond-false (d == 0) (give (run_with p t.now) t) _ no
+    ∙ cond-false (nat_lt d i.window && not (is_full i.places d)) (in_order (changing (stored d p) ∷ ask d ∷ []) t)
+    t taken_already)) same

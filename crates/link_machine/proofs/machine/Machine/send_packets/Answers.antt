@@ -15,7 +15,7 @@ loop-packet-init c = record {
   control = refl;
   sent = λ t h all.
       let order = in_number_order c.args.self.now.outgoing t.now.outgoing h.holds.formed.outgoing
-          h.holds.stands.outgoing in
+      h.holds.stands.outgoing in
       let P : Turn → Type 0 = λ x. Shows c.args.self.now c.args.room.now x in
       record { gone = []; all = refl; shows = subst P (sending_none t order.1) h };
 }
@@ -25,7 +25,7 @@ loop-packet-preserved c =
     let i = c.loop-packet.invariant in
     let items : c.loop-packet.packets.items ≡ c.in-Some.packet ∷ c.pop_front.new.self.items = c.in-Some.ensures.items in
     let one_less : length c.loop-packet.packets.items ≡ length c.pop_front.new.self.items + 1 = ap length items
-        ∙ omega arith in
+    ∙ omega arith in
     let used = c.send_next.ensures.uses in
     let room = i.room in
     let before = i.used in
@@ -33,18 +33,20 @@ loop-packet-preserved c =
     record {
       formed = c.send_next.ensures.formed;
       room = omega (arith, used.of_frames);
-      used = record { of_frames = omega (arith, used.of_frames, frames);
-          of_told = omega (arith, used.of_told, before.of_told) };
+      used = record {
+        of_frames = omega (arith, used.of_frames, frames);
+        of_told = omega (arith, used.of_told, before.of_told);
+      };
       frames = omega (arith, used.of_frames);
       control = c.send_next.ensures.control ∙ i.control;
       sent = λ t h all.
           let so = i.sent t h all in
           let split : c.args.packets.items ≡ so.gone ++ c.in-Some.packet ∷ c.pop_front.new.self.items = so.all
-              ∙ ap (λ xs. so.gone ++ xs) items in
+          ∙ ap (λ xs. so.gone ++ xs) items in
           let order = in_number_order c.args.self.now.outgoing t.now.outgoing h.holds.formed.outgoing
-              h.holds.stands.outgoing in
+          h.holds.stands.outgoing in
           let may = may_send_more t.now.incoming.window t.now.outgoing so.gone c.pop_front.new.self.items
-              c.in-Some.packet order.0 (sym all ∙ split) in
+          c.in-Some.packet order.0 (sym all ∙ split) in
           let P : Turn → Type 0 = λ x. Shows c.send_next.new.self c.send_next.new.room x in
           record {
             gone = so.gone ++ c.in-Some.packet ∷ [];

@@ -19,7 +19,7 @@ pub returns-in_default : goal.returns-in_default
 returns-in_default c = record {
   shows = λ t h all.
       let other : (t.now.control.state ≡ Up → ⊥) = λ e. c.in_default.not-Up
-          (ap (λ (x : Control). x.state) h.holds.stands.control ∙ e) in
+      (ap (λ (x : Control). x.state) h.holds.stands.control ∙ e) in
       let P : Turn → Type 0 = λ x. Shows c.args.self.now c.args.room.now x in
       subst P (sym (unsettled t (not_up t.now.control.state other))) h;
 }

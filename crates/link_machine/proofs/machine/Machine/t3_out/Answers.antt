@@ -12,6 +12,6 @@ pub returns-in-Up-clause-shows : goal.returns-in-Up-clause-shows
 returns-in-Up-clause-shows c = λ t h.
     let state : Up ≡ t.now.control.state = sym c.in-Up.is ∙ ap (λ (x : Control). x.state) h.holds.stands.control in
     let begun = shows_control unretried c.args.self.now c.begin_retries.new.self c.args.room.now t
-        c.begin_retries.ensures h in
+    c.begin_retries.ensures h in
     let P : LinkState → Type 0 = λ s. Shows c.poll.new.self c.poll.new.room (t3_out s t) in
     subst P state (c.poll.ensures.shows (setting unretried t) begun)

@@ -14,7 +14,7 @@ returns c = λ m h.
     let t : Turn = setting quitting (begin m) in
     let shown = shows_control quitting c.args.self.now _ c.in_ok-room.room (begin m) refl begun in
     let right : (t.now.control.state ≡ Up → c.in_ok-packets.packets.items
-        ≡ in_window t.now.incoming.window t.now.outgoing) = λ _.
+    ≡ in_window t.now.incoming.window t.now.outgoing) = λ _.
     copies_right_now c.args.self.now m c.in_ok-packets.packets.items h c.in_ok-packets.ensures in
     made c.settle.new.self c.settle.new.room (settled t) c.finish.result (c.settle.ensures.shows t shown right)
-        c.finish.ensures.frames c.finish.ensures.told
+    c.finish.ensures.frames c.finish.ensures.told

@@ -16,16 +16,16 @@ pub returns : goal.returns
 returns c = λ m h.
     let begun = shows_begin c.args.self.now m c.in_ok-room.room _ _ c.in_ok-room.ensures h in
     let not_full : (IsErr c.push.result → ⊥) = λ e. let full : length c.args.self.now.outgoing.packets ≡ 1024 =
-        c.push.ensures.full.0 e in omega (arith, c.requires.room) in
+    c.push.ensures.full.0 e in omega (arith, c.requires.room) in
     let pushed = on_ok c.push.result _ not_full (c.push.ensures.stands_for m.outgoing h.stands.outgoing) in
     let t : Turn = changing (joined c.args.packet) (begin m) in
     let shown = shows_changing (joined c.args.packet) c.args.self.now _ c.in_ok-room.room (begin m) refl begun
-        (holds_outgoing c.args.self.now m c.push.new.self (after_push c.args.packet m.outgoing)
-        h c.push.ensures.formed pushed) in
+    (holds_outgoing c.args.self.now m c.push.new.self (after_push c.args.packet m.outgoing)
+    h c.push.ensures.formed pushed) in
     let right : (t.now.control.state ≡ Up → c.in_ok-packets.packets.items
-        ≡ in_window t.now.incoming.window t.now.outgoing) = λ _.
+    ≡ in_window t.now.incoming.window t.now.outgoing) = λ _.
     c.in_ok-packets.ensures
     ∙ same_pushed c.args.self.now.incoming.window c.args.packet c.args.self.now.outgoing m.outgoing h.stands.outgoing
     ∙ ap (λ k. in_window k (after_push c.args.packet m.outgoing)) h.stands.incoming.window in
     made c.settle.new.self c.settle.new.room (settled t) c.finish.result (c.settle.ensures.shows t shown right)
-        c.finish.ensures.frames c.finish.ensures.told
+    c.finish.ensures.frames c.finish.ensures.told

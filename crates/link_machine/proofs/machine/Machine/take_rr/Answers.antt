@@ -12,5 +12,5 @@ returns-clause-shows c = λ t h valid.
     let busy = shows_control (with_busy false) c.args.self.now _ c.args.room.now t refl h in
     let n = named c.args.nr t.now in
     let acked = shows_changing (acknowledged n) _ c.acknowledge.new.self c.args.room.now t1 refl busy
-        (c.acknowledge.ensures.holds t1.now busy.holds valid) in
+    (c.acknowledge.ensures.holds t1.now busy.holds valid) in
     c.recover.ensures c.answer_poll.new.room _ (c.answer_poll.ensures.shows _ acked)

@@ -19,8 +19,8 @@ returns-clause-shows c = λ t h valid asked.
     let busy = shows_control (with_busy false) c.args.self.now _ c.args.room.now t refl h in
     let t2 = changing (acknowledged_by_srej n c.args.flag) t1 in
     let acked : Shows c.acknowledge_by_srej.new.self c.args.room.now t2 =
-        shows_changing (acknowledged_by_srej n c.args.flag) _ c.acknowledge_by_srej.new.self c.args.room.now t1
-        (srej_path n c.args.flag t1.now) busy (c.acknowledge_by_srej.ensures t1.now busy.holds valid) in
+    shows_changing (acknowledged_by_srej n c.args.flag) _ c.acknowledge_by_srej.new.self c.args.room.now t1
+    (srej_path n c.args.flag t1.now) busy (c.acknowledge_by_srej.ensures t1.now busy.holds valid) in
     let held = c.args.self.now in
     let modulus : held.incoming.modulus ≡ t.now.incoming.modulus = h.holds.stands.incoming.modulus in
     let known = h.holds.formed.incoming.modulus in
@@ -36,8 +36,8 @@ returns-clause-shows c = λ t h valid asked.
     let above : t2.now.outgoing.va ≤ n = srej_va n c.args.flag t1.now (omega arith) in
     let which : option_to_list c.args.again ≡ sent_packet n t2.now.outgoing =
     ap option_to_list (asked ∙ same_sent_packet held.outgoing t.now.outgoing held.incoming.modulus c.args.nr known
-        h.holds.stands.outgoing)
+    h.holds.stands.outgoing)
     ∙ asked_right t.now.outgoing t1.now.control t1.now n (ahead held.incoming.modulus t.now.outgoing.va c.args.nr)
-        c.args.flag refl as_held in
+    c.args.flag refl as_held in
     let again = c.send_again.ensures.shows t2 n acked (number ∙ ap (λ k. n % k) same) above which in
     c.recover.ensures c.answer_poll.new.room _ (c.answer_poll.ensures.shows _ again)

@@ -21,9 +21,9 @@ returns c = λ m h.
     let t : Turn = tick c.args.waiting (begin m) in
     let shown = c.tick_timers.ensures.shows (begin m) begun in
     let right : (t.now.control.state ≡ Up → c.in_ok-packets.packets.items
-        ≡ in_window t.now.incoming.window t.now.outgoing) = λ up.
+    ≡ in_window t.now.incoming.window t.now.outgoing) = λ up.
     let kept = tick_keeps m.control.state c.args.waiting (begin m) (ap is_up up) in
     copies_right_now c.args.self.now m c.in_ok-packets.packets.items h c.in_ok-packets.ensures
     ∙ sym (ap (λ o. in_window t.now.incoming.window o) kept.0 ∙ ap (λ k. in_window k m.outgoing) kept.1) in
     made c.settle.new.self c.settle.new.room (settled t) c.finish.result (c.settle.ensures.shows t shown right)
-        c.finish.ensures.frames c.finish.ensures.told
+    c.finish.ensures.frames c.finish.ensures.told

@@ -12,7 +12,7 @@ use Rattle.link_machine.proofs.machine.Machine.tick_t1.Goals as goal
 pub returns-clause-shows : goal.returns-clause-shows
 returns-clause-shows c = λ t h.
     let timer : Some c.in-Some.left ≡ t.now.control.t1 = sym c.in-Some.is
-        ∙ ap (λ (x : Control). x.t1) h.holds.stands.control in
+    ∙ ap (λ (x : Control). x.t1) h.holds.stands.control in
     let out : runs_out c.in-Some.left ≡ true = le-leb c.in-Some.left 1 (omega arith) in
     let off = shows_control (with_t1 None) c.args.self.now _ c.args.room.now t refl h in
     let shown = c.t1_out.ensures.shows (setting (with_t1 None) t) off in
@@ -20,5 +20,5 @@ returns-clause-shows c = λ t h.
     let Q : Option ℕ → Type 0 = λ o. P (tick_t1_of o c.args.waiting t) in
     let W : Bool → Type 0 = λ w. P (tick_t1_of (Some c.in-Some.left) w t) in
     subst Q timer (subst W (sym c.if-waiting.false)
-        (subst P (sym (cond-true (runs_out c.in-Some.left) _ (setting (with_t1 (lowered c.in-Some.left)) t) out))
-        shown))
+    (subst P (sym (cond-true (runs_out c.in-Some.left) _ (setting (with_t1 (lowered c.in-Some.left)) t) out))
+    shown))

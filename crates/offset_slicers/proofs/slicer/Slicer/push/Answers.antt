@@ -1,12 +1,12 @@
-use Rattle.std.proofs.Common.{◌≡◌, ℕ, ◌+◌, ◌%◌, ◌-◌, ◌↔◌, List, ℤ, [], ◌∷◌, ◌++◌, IsSome, to_z, of_z, set, Bool, refl,
-    subst, sym, ◌∙◌, Option, Some, None}
+use Rattle.std.proofs.Common.{◌≡◌, ℕ, ◌+◌, ◌%◌, ◌-◌, ◌↔◌, List, ℤ, [], ◌∷◌, ◌++◌, IsSome, to_z, of_z, set, Bool, refl}
+use Rattle.std.proofs.Common.{subst, sym, ◌∙◌, Option, Some, None}
 use Rattle.std.proofs.lemmas.Int.{to_z-of_z}
 use Rattle.std.proofs.lemmas.Bool.{false≢true}
 use mir.Syntax.{w16}
 use Rattle.offset_slicers.specs.Windows.{EndsWindow, bits}
 use Rattle.offset_slicers.specs.Held.{Held, held_of, offset_from, StandsFor}
-use Rattle.offset_slicers.proofs.SlicerLemmas.{bits-push_none, bits-push_one, stands_before, stands_within, stands_last,
-    tones_last, early_windows, same_windows, no_window, window_ends}
+use Rattle.offset_slicers.proofs.SlicerLemmas.{bits-push_none, bits-push_one, stands_before, stands_within, stands_last}
+use Rattle.offset_slicers.proofs.SlicerLemmas.{tones_last, early_windows, same_windows, no_window, window_ends}
 use Rattle.offset_slicers.proofs.slicer.Slicer.push.Goals as goal
 
 pub returns-then-at-self-clause-stands_for : goal.returns-then-at-self-clause-stands_for
@@ -23,10 +23,10 @@ returns-then-place-lt7-clause-stands_for c = λ begin x h.
     let stood = subst P (sym c.self.view_is) h in
     let stored : to_z w16 (of_z w16 c.args.sample) ≡ c.args.sample = to_z-of_z w16 c.args.sample c.ranges.sample in
     let Q : ℤ → Type 0 = λ z. StandsFor (held_of s.offset s.first (s.position + 1)
-        (set s.window ((s.position - s.first) % 8) z) s.line) begin (x ++ c.args.sample ∷ []) in
+    (set s.window ((s.position - s.first) % 8) z) s.line) begin (x ++ c.args.sample ∷ []) in
     subst Q (sym stored)
     (stands_within s.offset s.first s.position begin s.window s.line x c.args.sample _ refl stood c.if-at-self.false
-        c.if-place-lt7.true c.self.told)
+    c.if-place-lt7.true c.self.told)
 
 pub returns-clause-stands_for : goal.returns-clause-stands_for
 returns-clause-stands_for c = λ begin x h.
@@ -35,7 +35,7 @@ returns-clause-stands_for c = λ begin x h.
     let stood = subst P (sym c.self.view_is) h in
     stands_last s.offset s.first s.position begin s.window s.line x c.args.sample _ refl stood c.if-at-self.false
     c.if-place-lt7.false c.self.told _ c.step.new.self (to_z-of_z w16 c.args.sample c.ranges.sample)
-        (c.step.ensures.tone ∙ c.decide.ensures)
+    (c.step.ensures.tone ∙ c.decide.ensures)
 
 pub returns-then-at-self-clause-bits : goal.returns-then-at-self-clause-bits
 returns-then-at-self-clause-bits c =
@@ -44,7 +44,7 @@ returns-then-at-self-clause-bits c =
     → bits (offset_from held.offset begin) (x ++ c.args.sample ∷ []) ≡ bits (offset_from held.offset begin) x ++ [] in
     subst P c.self.view_is (λ begin x h.
     bits-push_none (offset_from s.offset begin) x c.args.sample
-        (early_windows s.offset s.first s.position begin s.window s.line x c.args.sample _ refl h c.if-at-self.true))
+    (early_windows s.offset s.first s.position begin s.window s.line x c.args.sample _ refl h c.if-at-self.true))
 
 pub returns-then-place-lt7-clause-bits : goal.returns-then-place-lt7-clause-bits
 returns-then-place-lt7-clause-bits c =
@@ -54,14 +54,14 @@ returns-then-place-lt7-clause-bits c =
     subst P c.self.view_is (λ begin x h.
     bits-push_none (offset_from s.offset begin) x c.args.sample
     (same_windows s.offset s.first s.position begin s.window s.line x c.args.sample _ refl h c.if-at-self.false
-        c.if-place-lt7.true))
+    c.if-place-lt7.true))
 
 pub returns-clause-bits : goal.returns-clause-bits
 returns-clause-bits c =
     let s = c.self.inside in
     let P : Held → Type 0 = λ held. (begin : ℕ) (x : List ℤ) → StandsFor held begin x
     → bits (offset_from held.offset begin) (x ++ c.args.sample ∷ [])
-        ≡ bits (offset_from held.offset begin) x ++ c.step.result ∷ [] in
+    ≡ bits (offset_from held.offset begin) x ++ c.step.result ∷ [] in
     subst P c.self.view_is (λ begin x h.
     bits-push_one (offset_from s.offset begin) x c.args.sample c.decide.result c.step.result
     (tones_last s.offset s.first s.position begin s.window s.line x c.args.sample _ refl h c.if-at-self.false
@@ -78,7 +78,7 @@ returns-then-at-self-clause-ends c =
       λ some. absurd (false≢true some),
       λ ends. absurd (no_window s.offset s.first s.position begin s.window s.line x c.args.sample _ refl h
           (early_windows s.offset s.first s.position begin s.window s.line x c.args.sample _ refl h c.if-at-self.true)
-              ends),
+          ends),
     ))
 
 pub returns-then-place-lt7-clause-ends : goal.returns-then-place-lt7-clause-ends
@@ -91,7 +91,7 @@ returns-then-place-lt7-clause-ends c =
       λ some. absurd (false≢true some),
       λ ends. absurd (no_window s.offset s.first s.position begin s.window s.line x c.args.sample _ refl h
           (same_windows s.offset s.first s.position begin s.window s.line x c.args.sample _ refl h c.if-at-self.false
-              c.if-place-lt7.true) ends),
+          c.if-place-lt7.true) ends),
     ))
 
 pub returns-clause-ends : goal.returns-clause-ends
@@ -99,6 +99,8 @@ returns-clause-ends c =
     let s = c.self.inside in
     let P : Held → Type 0 = λ held. (begin : ℕ) (x : List ℤ) → StandsFor held begin x
     → IsSome (Some c.step.result) ↔ EndsWindow (offset_from held.offset begin) (x ++ c.args.sample ∷ []) in
-    subst P c.self.view_is (λ begin x h.
-    (λ _. window_ends s.offset s.first s.position begin s.window s.line x c.args.sample _ refl h c.if-at-self.false
-        c.if-place-lt7.false, λ _. refl))
+    subst P c.self.view_is (λ begin x h. (
+      λ _. window_ends s.offset s.first s.position begin s.window s.line x c.args.sample _ refl h c.if-at-self.false
+          c.if-place-lt7.false,
+      λ _. refl,
+    ))

@@ -7,9 +7,13 @@ join_seat-requires c =
     let self = c.args.self.now in
     let reader = c.args.reader in
     let ring = c.args.ring.now in
-    let wide = ring.words in
-    (c.requires.ring, c.requires.reader, reader.bare, omega arith,
-        join_reader ring.table.shared.key self.seat.id reader.seat.id self.seat.me.0 reader.seat.me.0)
+    let wide = ring.words in (
+      c.requires.ring,
+      c.requires.reader,
+      reader.bare,
+      omega arith,
+      join_reader ring.table.shared.key self.seat.id reader.seat.id self.seat.me.0 reader.seat.me.0,
+    )
 
 pub load-requires : goal.load-requires
 load-requires c =
@@ -17,6 +21,8 @@ load-requires c =
     let wide = ring.words in
     let seat = c.join_seat.new.seat in
     let joined = c.join_seat.ensures in
-    let lives : seat.me.0.lives ≡ true = ap (λ m. m.0.lives) joined.2 ∙ c.args.self.now.lives in
-    (joined.0 ∙ c.requires.ring, omega arith,
-        settle ring.table.shared.key ring.table.shared.table_id.slots seat.id seat.me 0 lives)
+    let lives : seat.me.0.lives ≡ true = ap (λ m. m.0.lives) joined.2 ∙ c.args.self.now.lives in (
+      joined.0 ∙ c.requires.ring,
+      omega arith,
+      settle ring.table.shared.key ring.table.shared.table_id.slots seat.id seat.me 0 lives,
+    )

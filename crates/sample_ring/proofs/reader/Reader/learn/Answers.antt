@@ -7,9 +7,13 @@ join_seat-requires c =
     let self = c.args.self.now in
     let note = c.args.note in
     let ring = c.args.ring.now in
-    let wide = ring.words in
-    (c.requires.reader, c.requires.note, note.bare, omega arith,
-        join_note ring.table.shared.key self.seat.id note.seat.id self.seat.me.0 note.seat.me.0 self.calm)
+    let wide = ring.words in (
+      c.requires.reader,
+      c.requires.note,
+      note.bare,
+      omega arith,
+      join_note ring.table.shared.key self.seat.id note.seat.id self.seat.me.0 note.seat.me.0 self.calm,
+    )
 
 pub load-requires : goal.load-requires
 load-requires c =
@@ -17,6 +21,8 @@ load-requires c =
     let wide = ring.words in
     let seat = c.join_seat.new.seat in
     let joined = c.join_seat.ensures in
-    let lives : seat.me.0.lives ≡ true = ap (λ m. m.0.lives) joined.2 ∙ c.args.self.now.lives in
-    (joined.0 ∙ c.requires.reader, omega arith,
-        settle ring.table.shared.key ring.table.shared.table_id.slots seat.id seat.me 0 lives)
+    let lives : seat.me.0.lives ≡ true = ap (λ m. m.0.lives) joined.2 ∙ c.args.self.now.lives in (
+      joined.0 ∙ c.requires.reader,
+      omega arith,
+      settle ring.table.shared.key ring.table.shared.table_id.slots seat.id seat.me 0 lives,
+    )

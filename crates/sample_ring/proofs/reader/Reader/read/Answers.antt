@@ -10,9 +10,12 @@ load-cell-requires c =
     let wide = ring.words in
     let below : self.at % ring.len < ring.len = mod-lt self.at ring.positive in
     let place : self.at % ring.len ≡ self.seat.me.0.track.at % ring.table.shared.key =
-        ap (λ at. at % ring.len) (sym self.stands) ∙ ap (λ len. self.seat.me.0.track.at % len) (sym ring.key) in
-    (c.requires, omega arith, look ring.table.shared.key ring.table.shared.table_id.slots self.seat.id self.seat.me
-        (self.at % ring.len) self.lives self.calm place)
+    ap (λ at. at % ring.len) (sym self.stands) ∙ ap (λ len. self.seat.me.0.track.at % len) (sym ring.key) in (
+      c.requires,
+      omega arith,
+      look ring.table.shared.key ring.table.shared.table_id.slots self.seat.id self.seat.me
+          (self.at % ring.len) self.lives self.calm place,
+    )
 
 pub load-last-requires : goal.load-last-requires
 load-last-requires c =
@@ -24,7 +27,7 @@ load-last-requires c =
     let lap = c.lap_in-lap.ensures in
     let low = c.if-lap-at.true in
     let looked = c.load-cell.ensures.2.0 ∙ ap (λ view. (view, self.seat.me.1))
-        (looked_waits self.seat.me.0 c.load-cell.result (omega arith)) in (
+    (looked_waits self.seat.me.0 c.load-cell.result (omega arith)) in (
       c.load-cell.ensures.0 ∙ c.requires,
       omega arith,
       look_last ring.table.shared.key ring.table.shared.table_id.slots seat.id seat.me ring.len

@@ -8,7 +8,7 @@ loop-reader-preserved c =
     let before = c.loop-reader.reader-iterator.rest in
     let after = c.next.new.self.rest in
     has_kept_more (ring_id self) (ring_len self) (all_published c.args.done)
-        c.args.readers.items c.loop-reader.history c.keep.new.self before.items after.items before.len after.len
-        c.in-Some.reader c.loop-reader.invariant
+    c.args.readers.items c.loop-reader.history c.keep.new.self before.items after.items before.len after.len
+    c.in-Some.reader c.loop-reader.invariant
     c.in-Some.ensures.steps.0 c.in-Some.ensures.steps.1 c.keep.ensures.ring c.keep.ensures.list c.keep.ensures.kept
-        c.keep.ensures.stand
+    c.keep.ensures.stand

@@ -9,4 +9,4 @@ pub of_words-requires : goal.of_words-requires
 of_words-requires c =
     let zeros : c.in_ok-words.words.items ≡ replicate (c.args.len + 1) 0 = search rules in
     subst (λ words. Holds c.args.len (opening words [] (first_view c.args.len)))
-        (sym (c.as_slice.ensures.value ∙ zeros)) (opens c.args.len c.requires.0)
+    (sym (c.as_slice.ensures.value ∙ zeros)) (opens c.args.len c.requires.0)

@@ -21,8 +21,13 @@ returns-clause-formed c = invariant_of-self c
 pub returns-clause-stands_for : goal.returns-clause-stands_for
 returns-clause-stands_for c store h =
     let held = c.args.self.now in
-    let new : Incoming = record { modulus = c.self.inside.modulus; window = c.self.inside.window;
-        mode = c.self.inside.mode; vr = c.self.inside.vr; places = c.ask_first.new.self } in
+    let new : Incoming = record {
+      modulus = c.self.inside.modulus;
+      window = c.self.inside.window;
+      mode = c.self.inside.mode;
+      vr = c.self.inside.vr;
+      places = c.ask_first.new.self;
+    } in
     let is : c.ask_first.result.items ≡ numbers_to_ask held c.args.ns = search rules in
     let becomes : new ≡ after_ask held c.args.ns = search rules in
     let P : Incoming → Type 0 = λ t. StandsForIncoming t (after_ask store c.args.ns) in

@@ -1,8 +1,8 @@
 use Rattle.std.proofs.Common.{◌≡◌, ◌+◌, ◌-◌, ◌%◌, sym, ◌∙◌, subst, rules}
-use Rattle.selective_reject.specs.Outgoing.{Outgoing, StandsForOutgoing, reduced_outgoing, acknowledged,
-    acknowledgement, after_acknowledge}
-use Rattle.selective_reject.proofs.OutgoingRounds.{same_acknowledgement, stands_for-after_acknowledge,
-    acknowledge-truly}
+use Rattle.selective_reject.specs.Outgoing.{Outgoing, StandsForOutgoing, reduced_outgoing, acknowledged}
+use Rattle.selective_reject.specs.Outgoing.{acknowledgement, after_acknowledge}
+use Rattle.selective_reject.proofs.OutgoingRounds.{same_acknowledgement, stands_for-after_acknowledge}
+use Rattle.selective_reject.proofs.OutgoingRounds.{acknowledge-truly}
 use Rattle.selective_reject.proofs.outgoing.OutStore.acknowledge.Goals as goal
 
 pub returns-in_err-count-clause-stands_for : goal.returns-in_err-count-clause-stands_for
@@ -23,7 +23,7 @@ returns-in_err-count-clause-true_number c store number h low sent high is =
     let becomes : held ≡ reduced_outgoing (after_acknowledge c.args.modulus c.args.nr held) = search rules in
     let Q : Outgoing → Type 0 = λ t. StandsForOutgoing t (acknowledged number store) in
     let truly = acknowledge-truly held store c.args.modulus number c.args.nr c.requires.modulus
-        c.acknowledgement.ensures.formed h low sent high is in
+    c.acknowledgement.ensures.formed h low sent high is in
     (is_refused ∙ truly.0, subst Q (sym becomes) truly.1)
 
 pub returns-clause-stands_for : goal.returns-clause-stands_for
@@ -58,5 +58,5 @@ returns-clause-true_number c store number h low sent high is =
     let becomes : new ≡ reduced_outgoing (after_acknowledge c.args.modulus c.args.nr held) = search rules in
     let Q : Outgoing → Type 0 = λ t. StandsForOutgoing t (acknowledged number store) in
     let truly = acknowledge-truly held store c.args.modulus number c.args.nr c.requires.modulus
-        c.acknowledgement.ensures.formed h low sent high is in
+    c.acknowledgement.ensures.formed h low sent high is in
     (c.in_ok-count.ensures.count ∙ truly.0, subst Q (sym becomes) truly.1)

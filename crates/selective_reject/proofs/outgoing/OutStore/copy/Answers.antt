@@ -4,8 +4,8 @@ use Rattle.std.specs.Option.{option_copied}
 use Rattle.circular_buffer.specs.Buffer.{keep_last}
 use Rattle.selective_reject.proofs.Copies.{kept_next, none_next}
 use Rattle.selective_reject.proofs.outgoing.OutStore.copy.Goals as goal
-use Rattle.selective_reject.proofs.outgoing.OutStore.copy.Goals.{in-Some+in_ok-copy+in-Some-1,
-    in-Some+in_ok-copy+in-None-1, in_default}
+use Rattle.selective_reject.proofs.outgoing.OutStore.copy.Goals.{in-Some+in_ok-copy+in-Some-1}
+use Rattle.selective_reject.proofs.outgoing.OutStore.copy.Goals.{in-Some+in_ok-copy+in-None-1, in_default}
 
 pub loop-place-preserved : goal.loop-place-preserved
 loop-place-preserved c =
@@ -15,7 +15,7 @@ loop-place-preserved c =
     let most = c.loop-place.packets.capacity in
     let same : c.self.inside.packets.items ≡ xs = ap (λ o. o.packets) c.self.view_is in
     let fits : length xs ≤ most = let room = c.self.invariant.1.room in let size = ap length same in let capacity =
-        c.loop-place.invariant.1 in omega arith in
+    c.loop-place.invariant.1 in omega arith in
     elim c.match-get.branch [
       | in-Some+in_ok-copy+in-Some-1 w ↦ (
         ap (λ b. b.items) (w.packets-is ∙ w.push_back.ensures.items)

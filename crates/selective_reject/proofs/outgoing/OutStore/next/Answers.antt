@@ -8,8 +8,12 @@ returns-clause-packet c =
     let inside = c.self.inside in
     let m = c.args.modulus in
     let number = inside.va + inside.sent in
-    let new : Outgoing = record { va = inside.va; vs = inside.va + (inside.sent + 1);
-        top = inside.va + c.max-self-inside.result; packets = inside.packets.items } in
+    let new : Outgoing = record {
+      va = inside.va;
+      vs = inside.va + (inside.sent + 1);
+      top = inside.va + c.max-self-inside.result;
+      packets = inside.packets.items;
+    } in
     let sent : number < new.top = omega (arith, c.max-self-inside.ensures) in
     let within : number < inside.va + m = omega (arith, c.min-most.ensures, c.requires.at_most) in
     let P : Outgoing → Type 0 = λ t. sent_packet m (number % m) new ≡ slice_get t.packets (t.vs - t.va) in

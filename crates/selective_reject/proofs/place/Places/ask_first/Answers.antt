@@ -1,7 +1,7 @@
 use Rattle.std.proofs.Common.{◌≡◌, ℕ, ◌+◌, ◌%◌, ◌<◌, true, false, length, map, get_or, ap, sym, ◌∙◌, arith}
 use Rattle.selective_reject.specs.Places.{empty_place, misses, is_missing, with_asked}
-use Rattle.selective_reject.proofs.PlaceLemmas.{missing-none, asked-none, length-asked, get_or-asked, asked-more,
-    numbers-more}
+use Rattle.selective_reject.proofs.PlaceLemmas.{missing-none, asked-none, length-asked, get_or-asked, asked-more}
+use Rattle.selective_reject.proofs.PlaceLemmas.{numbers-more}
 use Rattle.selective_reject.proofs.place.Places.ask_first.Goals as goal
 use Rattle.selective_reject.proofs.place.Places.ask_first.Goals.{then-ask, else-ask}
 
@@ -17,7 +17,7 @@ loop-place-init c =
 pub ask-requires : goal.ask-requires
 ask-requires c =
     let same : length c.loop-place.self ≡ length c.args.self.now = ap length c.loop-place.invariant.places
-        ∙ length-asked c.args.self.now c.loop-place.place in
+    ∙ length-asked c.args.self.now c.loop-place.place in
     omega arith
 
 pub loop-place-preserved : goal.loop-place-preserved
@@ -28,7 +28,7 @@ loop-place-preserved c =
     let f : ℕ → ℕ = λ k. (c.args.vr + k) % c.args.modulus in
     let within : place < length old = omega arith in
     let is : c.ask.result ≡ is_missing old place = c.ask.ensures.asked
-        ∙ ap (λ t. misses (get_or t place empty_place)) inv.places ∙ ap misses (get_or-asked old place empty_place) in
+    ∙ ap (λ t. misses (get_or t place empty_place)) inv.places ∙ ap misses (get_or-asked old place empty_place) in
     record {
       places = c.ask.ensures.places ∙ ap (λ t. with_asked t place) inv.places ∙ asked-more old place within;
       numbers = elim c.if-ask.branch [

@@ -8,7 +8,7 @@ use Rattle.slicer_bank.proofs.bank.Bank.busy.Goals as goal
 pub returns : goal.returns
 returns c =
     let P : HeldBank → Type 0 = λ now. (x : List ℤ) → StandsFor now x
-        → IsTrue c.is_some_busy.result ↔ HearsCarrier now.flags x in
+    → IsTrue c.is_some_busy.result ↔ HearsCarrier now.flags x in
     subst P c.self.view_is (λ x h.
     c.is_some_busy.ensures c.self.inside.flags x
     (subst (λ lanes. LanesStandFor lanes x) (sym c.deref.ensures.value) h.lanes)

@@ -11,18 +11,23 @@ pub returns-clause-given : goal.returns-clause-given
 returns-clause-given g c =
     let P : HeldDecoder → Type 0 = λ old. IfOk c.settle.result (λ items. (x : List ℤ) → StandsFor old x
     → StandsFor c.settle.new.self (x ++ c.args.block.now)
-        × AreMergedBetween (length x) (length (x ++ c.args.block.now)) (x ++ c.args.block.now) items.items) in
+    × AreMergedBetween (length x) (length (x ++ c.args.block.now)) (x ++ c.args.block.now) items.items) in
     subst P c.self.view_is (IfOk-weaker c.settle.result
     (λ items. (before : HeldBank) (x y : List ℤ) → c.self.inside.finished ≡ false → length x ≡ c.self.inside.position
-        → length y ≡ length c.args.block.now
+    → length y ≡ length c.args.block.now
     → (BankStandsFor before x → BankStandsFor c.feed_threads.new.self (x ++ y)
-        × AreCandidatesBehind (length x) (x ++ y) c.in_ok-found.found.items)
+    × AreCandidatesBehind (length x) (x ++ y) c.in_ok-found.found.items)
     → HaveTaken before c.self.inside.merger x
     → StandsFor c.settle.new.self (x ++ y) × AreMergedBetween (length x) (length (x ++ y)) (x ++ y) items.items)
-    (λ items. (x : List ℤ) → StandsFor (record { bank = c.self.inside.bank; merger = c.self.inside.merger;
-        position = c.self.inside.position; finished = c.self.inside.finished; spent = c.self.inside.spent }) x
+    (λ items. (x : List ℤ) → StandsFor (record {
+      bank = c.self.inside.bank;
+      merger = c.self.inside.merger;
+      position = c.self.inside.position;
+      finished = c.self.inside.finished;
+      spent = c.self.inside.spent;
+    }) x
     → StandsFor c.settle.new.self (x ++ c.args.block.now)
-        × AreMergedBetween (length x) (length (x ++ c.args.block.now)) (x ++ c.args.block.now) items.items)
+    × AreMergedBetween (length x) (length (x ++ c.args.block.now)) (x ++ c.args.block.now) items.items)
     (λ items given x h. given c.self.inside.bank x c.args.block.now h.finished (sym h.count) refl
-        (c.in_ok-found.ensures.found x) h.taken)
+    (c.in_ok-found.ensures.found x) h.taken)
     c.settle.ensures.given)

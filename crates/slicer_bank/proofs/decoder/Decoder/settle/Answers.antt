@@ -7,12 +7,17 @@ use Rattle.slicer_bank.proofs.decoder.Decoder.settle.Goals as goal
 
 pub returns-clause-given : goal.returns-clause-given
 returns-clause-given c =
-    let now : HeldDecoder = record { bank = c.self.inside.bank; merger = c.merge_block.new.merger;
-        position = c.self.inside.position + c.args.count; finished = c.self.inside.finished; spent = false } in
+    let now : HeldDecoder = record {
+      bank = c.self.inside.bank;
+      merger = c.merge_block.new.merger;
+      position = c.self.inside.position + c.args.count;
+      finished = c.self.inside.finished;
+      spent = false;
+    } in
     let P : HeldDecoder → Type 0 = λ old. (before : HeldBank) (x y : List ℤ) → old.finished ≡ false
-        → length x ≡ old.position → length y ≡ c.args.count
+    → length x ≡ old.position → length y ≡ c.args.count
     → (BankStandsFor before x → BankStandsFor old.bank (x ++ y)
-        × AreCandidatesBehind (length x) (x ++ y) c.args.found.items)
+    × AreCandidatesBehind (length x) (x ++ y) c.args.found.items)
     → HaveTaken before old.merger x
     → StandsFor now (x ++ y) × AreMergedBetween (length x) (length (x ++ y)) (x ++ y) c.in_ok-items.items.items in
     subst P c.self.view_is (λ before x y unfinished size more heard h.

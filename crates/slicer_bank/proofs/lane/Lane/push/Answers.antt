@@ -12,11 +12,12 @@ pub returns-clause-frame : goal.returns-clause-frame
 returns-clause-frame c =
     let P : HeldLane → Type 0 = λ old. (tones : List Tone) (octets : List ℕ) → LaneStandsFor old tones
     → EndsFrame (bits_of (tones ++ tone_of c.args.window.now ∷ [])) octets
-        → (c.eq.result ≡ true) × HoldsFrame c.push.new.self octets in
+    → (c.eq.result ≡ true) × HoldsFrame c.push.new.self octets in
     subst P c.self.view_is (λ tones octets h ends.
     let more : bits_of (tones ++ tone_of c.args.window.now ∷ []) ≡ bits_of tones ++ c.step-bit.result ∷ []
     = ap (λ t. bits_of (tones ++ t ∷ [])) (sym c.decide.ensures) ∙ c.step-bit.ensures.bits tones h.before in
     let last : EndsFrame (bits_of tones ++ c.step-bit.result ∷ []) octets = subst (λ b. EndsFrame b octets) more ends in
-    let told = c.push.ensures.event (bits_of tones) h.deframer in
-    (c.eq.ensures ∙ test_of_frame (bits_of tones) c.step-bit.result c.push.result octets told last,
-        c.push.ensures.frame (bits_of tones) octets h.deframer last))
+    let told = c.push.ensures.event (bits_of tones) h.deframer in (
+      c.eq.ensures ∙ test_of_frame (bits_of tones) c.step-bit.result c.push.result octets told last,
+      c.push.ensures.frame (bits_of tones) octets h.deframer last,
+    ))

@@ -12,17 +12,17 @@ pub make_turn-requires-clause-ready : goal.make_turn-requires-clause-ready
 make_turn-requires-clause-ready g c κs within =
     let ring = ring_id c.args.ring.now in
     let rings = subst (λ (v : HeldRingBank). All (λ reader. reader_ring reader ≡ ring) (readers_of v.lanes))
-        (sym c.self.view_is) c.requires in
+    (sym c.self.view_is) c.requires in
     subst (LanesAreReady ring) (sym c.deref_mut.ensures.value)
-        (are_ready ring c.self.inside.lanes.items c.self.invariant.0 c.self.invariant.3
-        (c.self.invariant.4 c.if-self.false) rings)
+    (are_ready ring c.self.inside.lanes.items c.self.invariant.0 c.self.invariant.3
+    (c.self.invariant.4 c.if-self.false) rings)
 
 pub invariant_of-self : goal.invariant_of-self
 invariant_of-self g c =
     let new : List RingLane = c.make_turn.new.lanes in
     let back : take c.self.inside.lanes.len (new ++ drop (length new) c.self.inside.lanes.items) ≡ new =
-        lent_back c.self.inside.lanes.len new c.self.inside.lanes.items
-        (sym (c.make_turn.auto.lanes ∙ c.deref_mut.ensures.len)) in
+    lent_back c.self.inside.lanes.len new c.self.inside.lanes.items
+    (sym (c.make_turn.auto.lanes ∙ c.deref_mut.ensures.len)) in
     let eight = c.make_turn.ensures.lanes in (
       ap length back ∙ c.make_turn.ensures.lanes,
       c.self.invariant.1,
@@ -35,55 +35,55 @@ pub returns-in-Ok-clause-ring : goal.returns-in-Ok-clause-ring
 returns-in-Ok-clause-ring g c =
     let new : List RingLane = c.make_turn.new.lanes in
     let back : take c.self.inside.lanes.len (new ++ drop (length new) c.self.inside.lanes.items) ≡ new =
-        lent_back c.self.inside.lanes.len new c.self.inside.lanes.items
-        (sym (c.make_turn.auto.lanes ∙ c.deref_mut.ensures.len)) in
+    lent_back c.self.inside.lanes.len new c.self.inside.lanes.items
+    (sym (c.make_turn.auto.lanes ∙ c.deref_mut.ensures.len)) in
     subst (λ (ls : List RingLane). All (λ reader. reader_ring reader ≡ ring_id c.args.ring.now) (readers_of ls))
-        (sym back) (rings_stay (ring_id c.args.ring.now) new c.make_turn.ensures.lanes c.make_turn.ensures.stay)
+    (sym back) (rings_stay (ring_id c.args.ring.now) new c.make_turn.ensures.lanes c.make_turn.ensures.stay)
 
 pub returns-in-Err-clause-ring : goal.returns-in-Err-clause-ring
 returns-in-Err-clause-ring g c =
     let new : List RingLane = c.make_turn.new.lanes in
     let back : take c.self.inside.lanes.len (new ++ drop (length new) c.self.inside.lanes.items) ≡ new =
-        lent_back c.self.inside.lanes.len new c.self.inside.lanes.items
-        (sym (c.make_turn.auto.lanes ∙ c.deref_mut.ensures.len)) in
+    lent_back c.self.inside.lanes.len new c.self.inside.lanes.items
+    (sym (c.make_turn.auto.lanes ∙ c.deref_mut.ensures.len)) in
     subst (λ (ls : List RingLane). All (λ reader. reader_ring reader ≡ ring_id c.args.ring.now) (readers_of ls))
-        (sym back) (rings_stay (ring_id c.args.ring.now) new c.make_turn.ensures.lanes c.make_turn.ensures.stay)
+    (sym back) (rings_stay (ring_id c.args.ring.now) new c.make_turn.ensures.lanes c.make_turn.ensures.stay)
 
 pub returns-in-Ok-clause-grown : goal.returns-in-Ok-clause-grown
 returns-in-Ok-clause-grown g c =
     let new : List RingLane = c.make_turn.new.lanes in
     let back : take c.self.inside.lanes.len (new ++ drop (length new) c.self.inside.lanes.items) ≡ new =
-        lent_back c.self.inside.lanes.len new c.self.inside.lanes.items
-        (sym (c.make_turn.auto.lanes ∙ c.deref_mut.ensures.len)) in
+    lent_back c.self.inside.lanes.len new c.self.inside.lanes.items
+    (sym (c.make_turn.auto.lanes ∙ c.deref_mut.ensures.len)) in
     let same : c.deref_mut.result.now ≡ c.args.self.now.lanes = c.deref_mut.ensures.value
-        ∙ ap (λ (v : HeldRingBank). v.lanes) c.self.view_is in
+    ∙ ap (λ (v : HeldRingBank). v.lanes) c.self.view_is in
     subst (λ (ls : List RingLane). AreGrown (map record_of (readers_of c.args.self.now.lanes))
-        (map record_of (readers_of ls))) (sym back)
+    (map record_of (readers_of ls))) (sym back)
     (subst (λ (ls : List RingLane). AreGrown (map record_of (readers_of ls)) (map record_of (readers_of new)))
-        same c.make_turn.ensures.grown)
+    same c.make_turn.ensures.grown)
 
 pub returns-in-Err-clause-grown : goal.returns-in-Err-clause-grown
 returns-in-Err-clause-grown g c =
     let new : List RingLane = c.make_turn.new.lanes in
     let back : take c.self.inside.lanes.len (new ++ drop (length new) c.self.inside.lanes.items) ≡ new =
-        lent_back c.self.inside.lanes.len new c.self.inside.lanes.items
-        (sym (c.make_turn.auto.lanes ∙ c.deref_mut.ensures.len)) in
+    lent_back c.self.inside.lanes.len new c.self.inside.lanes.items
+    (sym (c.make_turn.auto.lanes ∙ c.deref_mut.ensures.len)) in
     let same : c.deref_mut.result.now ≡ c.args.self.now.lanes = c.deref_mut.ensures.value
-        ∙ ap (λ (v : HeldRingBank). v.lanes) c.self.view_is in
+    ∙ ap (λ (v : HeldRingBank). v.lanes) c.self.view_is in
     subst (λ (ls : List RingLane). AreGrown (map record_of (readers_of c.args.self.now.lanes))
-        (map record_of (readers_of ls))) (sym back)
+    (map record_of (readers_of ls))) (sym back)
     (subst (λ (ls : List RingLane). AreGrown (map record_of (readers_of ls)) (map record_of (readers_of new)))
-        same c.make_turn.ensures.grown)
+    same c.make_turn.ensures.grown)
 
 pub returns-in-Ok-clause-listens : goal.returns-in-Ok-clause-listens
 returns-in-Ok-clause-listens g c =
     let len = ring_len c.args.ring.now in
     let new : List RingLane = c.make_turn.new.lanes in
     let back : take c.self.inside.lanes.len (new ++ drop (length new) c.self.inside.lanes.items) ≡ new =
-        lent_back c.self.inside.lanes.len new c.self.inside.lanes.items
-        (sym (c.make_turn.auto.lanes ∙ c.deref_mut.ensures.len)) in
+    lent_back c.self.inside.lanes.len new c.self.inside.lanes.items
+    (sym (c.make_turn.auto.lanes ∙ c.deref_mut.ensures.len)) in
     let P : HeldRingBank → List RingLane → Type 0 = λ old lanes. Listens len old
-        → Listens len record { lanes = lanes; flags = c.self.inside.flags; spent = c.self.inside.spent } in
+    → Listens len record { lanes = lanes; flags = c.self.inside.flags; spent = c.self.inside.spent } in
     subst (P c.args.self.now) (sym back) (subst (λ (old : HeldRingBank). P old new) c.self.view_is (λ h. record {
       spent = h.spent;
       lanes = c.in-Ok.ensures.listen c.self.inside.flags
@@ -95,26 +95,26 @@ returns-in-Ok-clause-heard g c =
     let len = ring_len c.args.ring.now in
     let new : List RingLane = c.make_turn.new.lanes in
     let back : take c.self.inside.lanes.len (new ++ drop (length new) c.self.inside.lanes.items) ≡ new =
-        lent_back c.self.inside.lanes.len new c.self.inside.lanes.items
-        (sym (c.make_turn.auto.lanes ∙ c.deref_mut.ensures.len)) in
+    lent_back c.self.inside.lanes.len new c.self.inside.lanes.items
+    (sym (c.make_turn.auto.lanes ∙ c.deref_mut.ensures.len)) in
     let P : HeldRingBank → List RingLane → Type 0
     = λ old lanes. Listens len old → BringsOnRing (answers_by len old.lanes) (answers_by len lanes)
-        c.in-Ok.advance.positions c.in-Ok.advance.candidates.items in
+    c.in-Ok.advance.positions c.in-Ok.advance.candidates.items in
     subst (P c.args.self.now) (sym back) (subst (λ (old : HeldRingBank). P old new) c.self.view_is (λ h.
     let Q : List RingLane → Type 0 = λ old. LanesListen len c.self.inside.flags old
-        → BringsOnRing (answers_by len old) (answers_by len new)
-        c.in-Ok.advance.positions c.in-Ok.advance.candidates.items in
+    → BringsOnRing (answers_by len old) (answers_by len new)
+    c.in-Ok.advance.positions c.in-Ok.advance.candidates.items in
     subst Q c.deref_mut.ensures.value (c.in-Ok.ensures.heard c.self.inside.flags) h.lanes))
 
 pub returns-in-Ok-clause-forward : goal.returns-in-Ok-clause-forward
 returns-in-Ok-clause-forward g c =
     let new : List RingLane = c.make_turn.new.lanes in
     let back : take c.self.inside.lanes.len (new ++ drop (length new) c.self.inside.lanes.items) ≡ new =
-        lent_back c.self.inside.lanes.len new c.self.inside.lanes.items
-        (sym (c.make_turn.auto.lanes ∙ c.deref_mut.ensures.len)) in
+    lent_back c.self.inside.lanes.len new c.self.inside.lanes.items
+    (sym (c.make_turn.auto.lanes ∙ c.deref_mut.ensures.len)) in
     let same : c.deref_mut.result.now ≡ c.args.self.now.lanes = c.deref_mut.ensures.value
-        ∙ ap (λ (v : HeldRingBank). v.lanes) c.self.view_is in
+    ∙ ap (λ (v : HeldRingBank). v.lanes) c.self.view_is in
     subst (λ (ls : List RingLane). AreForward (map position_of (readers_of c.args.self.now.lanes))
-        (map position_of (readers_of ls))) (sym back)
+    (map position_of (readers_of ls))) (sym back)
     (subst (λ (ls : List RingLane). AreForward (map position_of (readers_of ls)) (map position_of (readers_of new)))
-        same c.in-Ok.ensures.forward)
+    same c.in-Ok.ensures.forward)

@@ -8,7 +8,7 @@ pub returns : goal.returns
 returns c = λ len h.
     let bank = c.args.self.now in
     let same : c.deref.result.now ≡ bank.lanes = c.deref.ensures.value
-        ∙ ap (λ (v : HeldRingBank). v.lanes) c.self.view_is in
+    ∙ ap (λ (v : HeldRingBank). v.lanes) c.self.view_is in
     subst (λ (lanes : List RingLane). LanesListen len bank.flags lanes
-        → IsTrue c.is_some_busy.result ↔ IsBusyOnRing bank.flags (answers_by len lanes)) same
-        (c.is_some_busy.ensures len bank.flags) h.lanes
+    → IsTrue c.is_some_busy.result ↔ IsBusyOnRing bank.flags (answers_by len lanes)) same
+    (c.is_some_busy.ensures len bank.flags) h.lanes

@@ -10,9 +10,9 @@ loop-lane-init c =
     let lanes = c.self.invariant.0 in
     let many = gives.1 in
     let same : c.into_iter-lane-iterator.result.rest.items ≡ c.args.self.lanes = gives.0
-        ∙ ap (λ v. v.lanes) c.self.view_is in
+    ∙ ap (λ v. v.lanes) c.self.view_is in
     let size : length c.into_iter-lane-iterator.result.rest.items ≡ length c.self.inside.lanes.items =
-        ap length gives.0 in
+    ap length gives.0 in
     let empty : length c.self.inside.room.items ≡ 0 = ap length c.self.invariant.1 in
     let room = c.self.invariant.2 in
     record {
@@ -28,12 +28,12 @@ push_reserved-requires c = let r = c.loop-lane.invariant.room in let n = c.in-So
 pub loop-lane-preserved : goal.loop-lane-preserved
 loop-lane-preserved c =
     given_back_more c.args.self.lanes c.loop-lane.lane-iterator.rest.items c.next.new.self.rest.items
-        c.loop-lane.lane-iterator.rest.len c.next.new.self.rest.len c.loop-lane.room.items
-        c.push_reserved.new.self.items
+    c.loop-lane.lane-iterator.rest.len c.next.new.self.rest.len c.loop-lane.room.items
+    c.push_reserved.new.self.items
     (vec_len c.loop-lane.room) (vec_len c.push_reserved.new.self) (vec_capacity c.loop-lane.room)
-        (vec_capacity c.push_reserved.new.self) c.in-Some.lane c.loop-lane.invariant
+    (vec_capacity c.push_reserved.new.self) c.in-Some.lane c.loop-lane.invariant
     c.in-Some.ensures.steps.0 c.in-Some.ensures.steps.1 c.push_reserved.ensures.items c.push_reserved.ensures.len
-        c.push_reserved.ensures.capacity
+    c.push_reserved.ensures.capacity
 
 pub returns : goal.returns
 returns c = all_given_back c.args.self.lanes c.loop-lane.lane-iterator.rest.items c.loop-lane.lane-iterator.rest.len

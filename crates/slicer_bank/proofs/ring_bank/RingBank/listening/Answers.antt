@@ -21,10 +21,10 @@ returns-clause-listens c = λ len. record { spent = refl; lanes = c.in_ok-new_ri
 pub returns-clause-nothing : goal.returns-clause-nothing
 returns-clause-nothing c = λ len.
     ap (λ (r : List Reader). map (answers_of len) r) c.in_ok-new_ring_lanes.ensures.readers
-        ∙ nothing_answered len c.args.readers.items c.requires.fresh
+    ∙ nothing_answered len c.args.readers.items c.requires.fresh
     ∙ ap (λ n. replicate n []) c.requires.eight
 
 pub returns-clause-start : goal.returns-clause-start
 returns-clause-start c =
     ap (λ (r : List Reader). map position_of r) c.in_ok-new_ring_lanes.ensures.readers
-        ∙ at_the_start c.args.readers.items c.requires.fresh ∙ ap (λ n. replicate n 0) c.requires.eight
+    ∙ at_the_start c.args.readers.items c.requires.fresh ∙ ap (λ n. replicate n 0) c.requires.eight

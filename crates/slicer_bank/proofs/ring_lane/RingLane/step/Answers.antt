@@ -13,16 +13,16 @@ pub returns-in_ok-hear-in-Item-clause-took : goal.returns-in_ok-hear-in-Item-cla
 returns-in_ok-hear-in-Item-clause-took c =
     let got : Got = Item c.in-Item.at c.in-Item.sample in
     let stored : to_z w16 (of_z w16 c.in-Item.sample) ≡ c.in-Item.sample =
-        to_z-of_z w16 c.in-Item.sample (search rules) in
+    to_z-of_z w16 c.in-Item.sample (search rules) in
     let read = c.in-Item.ensures.read in
     let heard : HearsSample c.args.self.now.lane c.in-Item.sample (c.in-Item.at + 1)
-        c.args.self.now.found.items c.hear.new.found.items
+    c.args.self.now.found.items c.hear.new.found.items
     = subst (λ (z : ℤ). HearsSample c.args.self.now.lane z (c.in-Item.at + 1)
-        c.args.self.now.found.items c.hear.new.found.items) stored c.in_ok-hear-in-Item.ensures.found in
+    c.args.self.now.found.items c.hear.new.found.items) stored c.in_ok-hear-in-Item.ensures.found in
     let stands : (s : Stretch) → StretchStandsFor c.args.self.now.lane s
-        → StretchStandsFor c.hear.new.lane (with_sample s c.in-Item.sample)
+    → StretchStandsFor c.hear.new.lane (with_sample s c.in-Item.sample)
     = subst (λ (z : ℤ). (s : Stretch) → StretchStandsFor c.args.self.now.lane s
-        → StretchStandsFor c.hear.new.lane (with_sample s z)) stored c.hear.ensures.stands_for in (
+    → StretchStandsFor c.hear.new.lane (with_sample s z)) stored c.hear.ensures.stands_for in (
       got,
       refl,
       record {

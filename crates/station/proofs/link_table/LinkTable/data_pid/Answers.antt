@@ -8,7 +8,7 @@ pub returns-in-Some : goal.returns-in-Some
 returns-in-Some c = λ links h.
     let key = c.args.key in
     c.pid_or.ensures ∙ pid_held c.args.pid c.in-Some.link.now (link_at key links)
-        (stands_at c.args.self.now links key (Some c.in-Some.link.now) h c.in-Some.ensures)
+    (stands_at c.args.self.now links key (Some c.in-Some.link.now) h c.in-Some.ensures)
 
 pub returns-in-None : goal.returns-in-None
 returns-in-None c = λ links h.

@@ -13,11 +13,11 @@ returns-in-loop-key c =
       λ t. absurd (false≢true t),
       λ all.
           let of_slab : All (λ place. IfSome place (HasFew c.args.id)) (places_of slab) =
-              subst (λ v. All (λ place. IfSome place (HasFew c.args.id)) v.places) (sym c.self.view_is) all in
+          subst (λ v. All (λ place. IfSome place (HasFew c.args.id)) v.places) (sym c.self.view_is) all in
           let here : IfSome (get slab c.loop-key.key) (HasFew c.args.id) =
-              places_of-All (λ place. IfSome place (HasFew c.args.id)) slab of_slab c.loop-key.key (omega arith) in
+          places_of-All (λ place. IfSome place (HasFew c.args.id)) slab of_slab c.loop-key.key (omega arith) in
           let few : HasFew c.args.id c.in-Some.link.now = subst (λ place. IfSome place (HasFew c.args.id))
-              (sym c.in-Some.ensures) here in
+          (sym c.in-Some.ensures) here in
           sym c.if-not-has_few.true ∙ c.has_few.ensures.1 few,
     )
 
@@ -26,6 +26,6 @@ returns c =
     let slab = c.self.inside.slab in (
       λ t k d within. subst (λ v. All (λ place. IfSome place (HasFew c.args.id)) v.places) c.self.view_is
           (All-places_of (λ place. IfSome place (HasFew c.args.id)) slab
-              (λ k below. c.loop-key.invariant k (omega arith))) k d within,
+          (λ k below. c.loop-key.invariant k (omega arith))) k d within,
       λ all. refl,
     )

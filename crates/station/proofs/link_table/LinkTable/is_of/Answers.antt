@@ -8,7 +8,7 @@ pub returns-in-Some : goal.returns-in-Some
 returns-in-Some c = λ links h.
     let key = c.args.key in
     c.is_of.ensures ∙ owner_held c.args.id c.in-Some.link.now (link_at key links)
-        (stands_at c.args.self.now links key (Some c.in-Some.link.now) h c.in-Some.ensures)
+    (stands_at c.args.self.now links key (Some c.in-Some.link.now) h c.in-Some.ensures)
 
 pub returns-in-None : goal.returns-in-None
 returns-in-None c = λ links h.

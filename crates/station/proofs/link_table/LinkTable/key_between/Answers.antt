@@ -13,7 +13,7 @@ returns-in-loop-key c =
     let test : Option OwnedLink → Bool = is_held_between c.args.local.now c.args.remote.now in
     let key = c.loop-key.key in
     let here : test (get slab key) ≡ true = ap test (sym c.in-Some.ensures) ∙ sym c.is_between.ensures
-        ∙ c.if-is_between.true in
+    ∙ c.if-is_between.true in
     sym (ap (λ (held : HeldLinks). position test held.places) (sym c.self.view_is)
     ∙ position_is test (places_of slab) key None (omega (arith, length-places_of slab))
     (λ j less. ap test (place-places_of slab j None (omega arith)) ∙ c.loop-key.invariant j less)

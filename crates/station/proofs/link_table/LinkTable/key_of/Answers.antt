@@ -14,4 +14,4 @@ returns c = λ links h.
     c.key_between.ensures ∙ key_found c.args.self.now links local remote h
     ∙ ap (λ (call : Option Callsign). key_of_route (route_of call (Some remote) (Some [])) links) c.in-Some.ensures
     ∙ ap (λ (call : Option Callsign). key_of_route (route_of (call_in c.args.message.now.from) call (Some [])) links)
-        c.in-Some-call_in.ensures
+    c.in-Some-call_in.ensures

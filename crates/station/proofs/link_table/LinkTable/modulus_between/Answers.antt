@@ -17,7 +17,7 @@ both_found : (held : HeldLinks) (links : Links) (first second : Callsign) → St
     (position (is_held_between second first) held.places) ≡ key_of_both first second links
 both_found held links first second h =
     ap (λ (key : Option ℕ). option_or key (position (is_held_between second first) held.places))
-        (key_found held links first second h)
+    (key_found held links first second h)
     ∙ ap (λ (key : Option ℕ). option_or (key_between first second links) key) (key_found held links second first h)
 
 pub returns-in-Some : goal.returns-in-Some
@@ -25,11 +25,11 @@ returns-in-Some c = λ links h.
     let held = c.args.self.now in
     let key = c.in-Some.key in
     c.modulus.ensures ∙ same_modulus (place_at key held) (link_at key links)
-        (places-at held.places links.places key h.places)
+    (places-at held.places links.places key h.places)
     ∙ ap (λ (key : Option ℕ). modulus_at key links) (c.in-Some.ensures
-        ∙ both_found held links c.args.first.now c.args.second.now h)
+    ∙ both_found held links c.args.first.now c.args.second.now h)
 
 pub returns-in-None : goal.returns-in-None
 returns-in-None c = λ links h.
     ap (λ (key : Option ℕ). modulus_at key links) (c.in-None.ensures
-        ∙ both_found c.args.self.now links c.args.first.now c.args.second.now h)
+    ∙ both_found c.args.self.now links c.args.first.now c.args.second.now h)

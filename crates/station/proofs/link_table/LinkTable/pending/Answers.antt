@@ -14,7 +14,7 @@ returns-in-Some-get c = λ links h.
     c.pending.ensures.count
     ∙ held_some c.in-Some-get.link.now (link_at key links)
     (subst (λ (held : Option OwnedLink). StandsForPlace held (link_at key links)) (sym c.in-Some-get.ensures)
-        (places-at c.args.self.now.places links.places key h.places))
+    (places-at c.args.self.now.places links.places key h.places))
     ∙ ap (λ (own : Option ℕ). pending_at own links) (sym c.in-Some.is ∙ c.key_of.ensures links h)
 
 pub returns-in-None : goal.returns-in-None
@@ -22,5 +22,5 @@ returns-in-None c = λ links h.
     let key = c.in-Some.key in
     held_none (link_at key links)
     (subst (λ (held : Option OwnedLink). StandsForPlace held (link_at key links)) (sym c.in-None.ensures)
-        (places-at c.args.self.now.places links.places key h.places))
+    (places-at c.args.self.now.places links.places key h.places))
     ∙ ap (λ (own : Option ℕ). pending_at own links) (sym c.in-Some.is ∙ c.key_of.ensures links h)

@@ -13,29 +13,29 @@ pub returns-in-Connect-clause-acts : goal.returns-in-Connect-clause-acts
 returns-in-Connect-clause-acts c = λ link h.
     let held = c.args.self.now.machine in
     subst (λ (event : LinkEvent). IfOk c.unless_refused.result (λ acts. acts
-        ≡ done_of (step link.machine (event_of event)))) (sym c.in-Connect.is)
+    ≡ done_of (step link.machine (event_of event)))) (sym c.in-Connect.is)
     (passes_acts held link.machine Connect c.connect.result c.unless_refused.result h.machine
-        (c.connect.ensures.step link.machine h.machine) c.connect.ensures.fault c.unless_refused.ensures)
+    (c.connect.ensures.step link.machine h.machine) c.connect.ensures.fault c.unless_refused.ensures)
 
 pub returns-in-Connect-clause-stands_for : goal.returns-in-Connect-clause-stands_for
 returns-in-Connect-clause-stands_for c = λ link h.
     let held : OwnedLink = c.args.self.now in
     let new = c.connect.new.self in
     subst (λ (event : LinkEvent). OnOk c.unless_refused.result
-        (StandsForLink (record held { machine = new }) (stepped_link (event_of event) link))) (sym c.in-Connect.is)
+    (StandsForLink (record held { machine = new }) (stepped_link (event_of event) link))) (sym c.in-Connect.is)
     (link_stands held new link Connect c.unless_refused.result h
     (passes_stands held.machine new link.machine Connect c.connect.result c.unless_refused.result h.machine
-        (c.connect.ensures.stands_for link.machine h.machine)
-        c.connect.ensures.fault c.connect.ensures.unchanged c.unless_refused.ensures))
+    (c.connect.ensures.stands_for link.machine h.machine)
+    c.connect.ensures.fault c.connect.ensures.unchanged c.unless_refused.ensures))
 
 pub returns-in-Send-clause-acts : goal.returns-in-Send-clause-acts
 returns-in-Send-clause-acts c = λ link h.
     let held = c.args.self.now.machine in
     let packet = c.in-Send.packet in
     subst (λ (event : LinkEvent). IfOk c.unless_refused-in-Send.result
-        (λ acts. acts ≡ done_of (step link.machine (event_of event)))) (sym c.in-Send.is)
+    (λ acts. acts ≡ done_of (step link.machine (event_of event)))) (sym c.in-Send.is)
     (passes_acts held link.machine (Send packet) c.send.result c.unless_refused-in-Send.result h.machine
-        (c.send.ensures.step link.machine h.machine) c.send.ensures.fault c.unless_refused-in-Send.ensures)
+    (c.send.ensures.step link.machine h.machine) c.send.ensures.fault c.unless_refused-in-Send.ensures)
 
 pub returns-in-Send-clause-stands_for : goal.returns-in-Send-clause-stands_for
 returns-in-Send-clause-stands_for c = λ link h.
@@ -43,28 +43,28 @@ returns-in-Send-clause-stands_for c = λ link h.
     let new = c.send.new.self in
     let packet = c.in-Send.packet in
     subst (λ (event : LinkEvent). OnOk c.unless_refused-in-Send.result
-        (StandsForLink (record held { machine = new }) (stepped_link (event_of event) link))) (sym c.in-Send.is)
+    (StandsForLink (record held { machine = new }) (stepped_link (event_of event) link))) (sym c.in-Send.is)
     (link_stands held new link (Send packet) c.unless_refused-in-Send.result h
     (passes_stands held.machine new link.machine (Send packet) c.send.result c.unless_refused-in-Send.result h.machine
-        (c.send.ensures.stands_for link.machine h.machine)
-        c.send.ensures.fault c.send.ensures.unchanged c.unless_refused-in-Send.ensures))
+    (c.send.ensures.stands_for link.machine h.machine)
+    c.send.ensures.fault c.send.ensures.unchanged c.unless_refused-in-Send.ensures))
 
 pub returns-in-Disconnect-clause-acts : goal.returns-in-Disconnect-clause-acts
 returns-in-Disconnect-clause-acts c = λ link h.
     let held = c.args.self.now.machine in
     subst (λ (event : LinkEvent). IfOk c.unless_refused-in-Disconnect.result
-        (λ acts. acts ≡ done_of (step link.machine (event_of event)))) (sym c.in-Disconnect.is)
+    (λ acts. acts ≡ done_of (step link.machine (event_of event)))) (sym c.in-Disconnect.is)
     (passes_acts held link.machine Disconnect c.disconnect.result c.unless_refused-in-Disconnect.result h.machine
-        (c.disconnect.ensures.step link.machine h.machine)
-        c.disconnect.ensures.fault c.unless_refused-in-Disconnect.ensures)
+    (c.disconnect.ensures.step link.machine h.machine)
+    c.disconnect.ensures.fault c.unless_refused-in-Disconnect.ensures)
 
 pub returns-in-Disconnect-clause-stands_for : goal.returns-in-Disconnect-clause-stands_for
 returns-in-Disconnect-clause-stands_for c = λ link h.
     let held : OwnedLink = c.args.self.now in
     let new = c.disconnect.new.self in
     subst (λ (event : LinkEvent). OnOk c.unless_refused-in-Disconnect.result
-        (StandsForLink (record held { machine = new }) (stepped_link (event_of event) link))) (sym c.in-Disconnect.is)
+    (StandsForLink (record held { machine = new }) (stepped_link (event_of event) link))) (sym c.in-Disconnect.is)
     (link_stands held new link Disconnect c.unless_refused-in-Disconnect.result h
     (passes_stands held.machine new link.machine Disconnect c.disconnect.result c.unless_refused-in-Disconnect.result
-        h.machine (c.disconnect.ensures.stands_for link.machine h.machine)
-        c.disconnect.ensures.fault c.disconnect.ensures.unchanged c.unless_refused-in-Disconnect.ensures))
+    h.machine (c.disconnect.ensures.stands_for link.machine h.machine)
+    c.disconnect.ensures.fault c.disconnect.ensures.unchanged c.unless_refused-in-Disconnect.ensures))

@@ -15,7 +15,7 @@ loop-message-preserved c = record {
       let next = c.in_ok-answer.ensures.step so_far.0 so_far.2 in
       let more : take i messages ++ c.message-item.result ∷ [] ≡ take (i + 1) messages =
       ap (λ (message : AgwMessage). take i messages ++ message ∷ []) c.message-item.is
-          ∙ sym (take_more messages i c.message-item.result c.loop-message-test.true) in (
+      ∙ sym (take_more messages i c.message-item.result c.loop-message-test.true) in (
         next.0,
         subst (λ (all : List AgwMessage). AreAnswered c.args.id all turn next.0) more
             (answered-more c.args.id (take i messages) c.message-item.result turn so_far.0 next.0 so_far.1 next.1),

@@ -24,7 +24,7 @@ returns-then-not-may_call-clause-step c = λ turn shows.
     let route : Route = as_route c.in-Some.route in
     let told : Some route ≡ called_route message = c.in-Some.ensures in
     let may : may_call id route turn.now ≡ false = sym (c.may_call.ensures.may turn.now shows.holds)
-        ∙ c.if-not-may_call.true in
+    ∙ c.if-not-may_call.true in
     on_ok_weaker c.refuse-then-not-may_call.result (λ is. (
       replying id (refused_reply message) turn,
       call-refused id message route (called_route message) turn told may,
@@ -38,7 +38,7 @@ returns-clause-step c = λ turn shows.
     let route : Route = as_route c.in-Some.route in
     let told : Some route ≡ called_route message = c.in-Some.ensures in
     let may : may_call id route turn.now ≡ true = sym (c.may_call.ensures.may turn.now shows.holds)
-        ∙ c.if-not-may_call.false in
+    ∙ c.if-not-may_call.false in
     on_ok_weaker c.connect.result (λ p. (
       p.0,
       call-made id message route (called_route message) turn p.0 told may

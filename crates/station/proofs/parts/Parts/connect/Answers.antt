@@ -20,6 +20,9 @@ returns-clause-made c = λ turn shows.
     let before : Turn = making key id pid route.local route.remote c.path.result turn in
     let same : before ≡ making key id pid route.local route.remote (path_along route) turn =
     ap (λ (path : Path). making key id pid route.local route.remote path turn) c.path.ensures in
-    on_ok_weaker c.link_event.result (λ s. (event_at key Connect before, (key, made.0, ap (event_at key Connect) same),
-        s))
+    on_ok_weaker c.link_event.result (λ s. (
+      event_at key Connect before,
+      (key, made.0, ap (event_at key Connect) same),
+      s,
+    ))
     (c.link_event.ensures.shows before made.1)

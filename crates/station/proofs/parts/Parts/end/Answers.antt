@@ -9,7 +9,10 @@ pub returns-clause-shows : goal.returns-clause-shows
 returns-clause-shows c = λ bad turn told shows.
     let id = c.args.id in
     subst (λ (behind : Turn). OnOk c.leave.result (Shows c.leave.new.self c.leave.new.out behind))
-        (sym (ending_some id bad turn (sym told ∙ c.if-not-failed.false)))
+    (sym (ending_some id bad turn (sym told ∙ c.if-not-failed.false)))
     (c.leave.ensures.shows (closing id turn)
-    (record { holds = shows.holds; gave = c.in_ok-close.ensures
-        ∙ ap (λ (out : Out). record out { closed = out.closed ++ id ∷ [] }) shows.gave }))
+    (record {
+      holds = shows.holds;
+      gave = c.in_ok-close.ensures
+          ∙ ap (λ (out : Out). record out { closed = out.closed ++ id ∷ [] }) shows.gave;
+    }))

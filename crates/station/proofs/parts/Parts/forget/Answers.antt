@@ -6,12 +6,14 @@ use Rattle.station.proofs.parts.Parts.forget.Goals as goal
 
 pub returns-clause-shows : goal.returns-clause-shows
 returns-clause-shows c = λ out turn shows.
-    shows_forgotten c.args.self.now (record c.args.self.now { connections = c.remove_connection.new.connections;
-        registrations = c.remove_registrations.new.registrations }) out turn c.args.id shows
+    shows_forgotten c.args.self.now (record c.args.self.now {
+      connections = c.remove_connection.new.connections;
+      registrations = c.remove_registrations.new.registrations;
+    }) out turn c.args.id shows
     c.remove_connection.ensures c.remove_registrations.ensures refl refl refl refl refl refl
 
 pub returns-clause-ids : goal.returns-clause-ids
 returns-clause-ids c =
     ap (λ (items : List HeldConnection). map (λ (connection : HeldConnection). connection.id) items)
-        c.remove_connection.ensures
+    c.remove_connection.ensures
     ∙ ids_filtered c.args.id c.args.self.now.connections.items

@@ -16,7 +16,7 @@ loop-place-preserved c = record {
       let before : Turn = giving_packets key (first_packets c.args.pid octets k) turn in
       subst (λ (behind : Turn). Shows c.link_event.new.self c.link_event.new.out behind)
       (sym (packets-more key c.args.pid octets k turn ∙ ap (λ (packet : Packet). giving_packet key packet before)
-          (sym c.in_ok-packet.ensures)))
+      (sym c.in_ok-packet.ensures)))
       (c.in_ok-link_event.ensures.shows before (c.loop-place.invariant.shows turn shows));
   ids = c.in_ok-link_event.ensures.ids ∙ c.loop-place.invariant.ids;
   closed = c.in_ok-link_event.ensures.closed ∙ c.loop-place.invariant.closed;
@@ -27,5 +27,5 @@ returns-clause-shows c = λ turn shows.
     let octets = c.args.octets.now in
     let all : c.loop-place.place ≡ (length octets + 255) / 256 = omega (arith, c.div_ceil-place-end.ensures) in
     subst (λ count. Shows c.loop-place.self c.loop-place.out
-        (giving_packets c.args.key (first_packets c.args.pid octets count) turn)) all
+    (giving_packets c.args.key (first_packets c.args.pid octets count) turn)) all
     (c.loop-place.invariant.shows turn shows)

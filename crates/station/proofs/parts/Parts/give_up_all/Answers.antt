@@ -13,7 +13,7 @@ loop-key-preserved c = record {
   shows = λ turn shows.
       let before : Turn = in_order (map (giving_up c.args.id) (range_with_len 0 c.loop-key.key)) turn in
       subst (λ (behind : Turn). Shows c.give_up.new.self c.give_up.new.out behind)
-          (sym (in_order-next (giving_up c.args.id) c.loop-key.key turn))
+      (sym (in_order-next (giving_up c.args.id) c.loop-key.key turn))
       (c.in_ok-give_up.ensures.shows before (c.loop-key.invariant.shows turn shows));
   ids = c.in_ok-give_up.ensures.ids ∙ c.loop-key.invariant.ids;
   closed = c.in_ok-give_up.ensures.closed ∙ c.loop-key.invariant.closed;
@@ -22,4 +22,4 @@ loop-key-preserved c = record {
 pub returns-clause-shows : goal.returns-clause-shows
 returns-clause-shows c = λ turn shows.
     subst (λ (behind : Turn). Shows c.loop-key.self c.loop-key.out behind)
-        (all_given_up c.args.id c.loop-key.key turn (omega arith)) (c.loop-key.invariant.shows turn shows)
+    (all_given_up c.args.id c.loop-key.key turn (omega arith)) (c.loop-key.invariant.shows turn shows)

@@ -20,14 +20,14 @@ returns-then-waits_for_repeater-clause-heard c = λ turn len begins shows.
     ap (λ (from : List ℕ). showing from c.call_text-2.result octets turn) c.call_text.ensures
     ∙ ap (λ (to : List ℕ). showing (call_field path.source) to octets turn) c.call_text-2.ensures in
     let first : Shows c.args.self.now c.show.new.out shown =
-        subst (λ (behind : Turn). Shows c.args.self.now c.show.new.out behind) same
-        (c.in_ok-show.ensures.shows turn shows) in
+    subst (λ (behind : Turn). Shows c.args.self.now c.show.new.out behind) same
+    (c.in_ok-show.ensures.shows turn shows) in
     let told = c.in_ok-monitor_heard.ensures.shows shown first in
     let all : Turn = shown_to_hosts (Some path) octets told.0 turn in
     let station : shown.now ≡ turn.now = same_station (call_field path.source) (call_field path.dest) octets turn in
     let second : Shows c.args.self.now c.monitor_heard.new.out all =
     subst (λ (s : StationState). Shows c.args.self.now c.monitor_heard.new.out (monitoring false s.ticks told.0 shown))
-        station told.2 in
+    station told.2 in
     on_ok_weaker c.repeat.result (λ p. (
       p.0,
       record {
@@ -52,14 +52,14 @@ returns-else-waits_for_repeater-clause-heard c = λ turn len begins shows.
     ap (λ (from : List ℕ). showing from c.call_text-2.result octets turn) c.call_text.ensures
     ∙ ap (λ (to : List ℕ). showing (call_field path.source) to octets turn) c.call_text-2.ensures in
     let first : Shows c.args.self.now c.show.new.out shown =
-        subst (λ (behind : Turn). Shows c.args.self.now c.show.new.out behind) same
-        (c.in_ok-show.ensures.shows turn shows) in
+    subst (λ (behind : Turn). Shows c.args.self.now c.show.new.out behind) same
+    (c.in_ok-show.ensures.shows turn shows) in
     let told = c.in_ok-monitor_heard.ensures.shows shown first in
     let all : Turn = shown_to_hosts (Some path) octets told.0 turn in
     let station : shown.now ≡ turn.now = same_station (call_field path.source) (call_field path.dest) octets turn in
     let second : Shows c.args.self.now c.monitor_heard.new.out all =
     subst (λ (s : StationState). Shows c.args.self.now c.monitor_heard.new.out (monitoring false s.ticks told.0 shown))
-        station told.2 in
+    station told.2 in
     on_ok_weaker c.hear_octets.result (λ p. (
       p.0,
       record {

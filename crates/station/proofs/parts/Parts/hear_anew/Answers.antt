@@ -26,9 +26,12 @@ returns-then-not-may_make-clause-heard c = λ turn shows.
     ∙ ap (registrar frame.path.dest) shows.holds.registrations in
     let may : c.may_make.result ≡ may_make frame.kind turn.now.links =
     c.may_make.ensures ∙ ap (λ n. makes_link frame.kind && nat_lt n 64)
-        (links_counted c.args.self.now.links turn.now.links shows.holds.links) in
-    (turn, heard_passed c.in-Some.id frame turn (registrar frame.path.dest turn.now.registrations) registered (sym may
-        ∙ c.if-not-may_make.true), shows)
+    (links_counted c.args.self.now.links turn.now.links shows.holds.links) in (
+      turn,
+      heard_passed c.in-Some.id frame turn (registrar frame.path.dest turn.now.registrations) registered (sym may
+          ∙ c.if-not-may_make.true),
+      shows,
+    )
 
 pub returns-clause-heard : goal.returns-clause-heard
 returns-clause-heard c = λ turn shows.
@@ -41,14 +44,14 @@ returns-clause-heard c = λ turn shows.
     ∙ ap (registrar frame.path.dest) shows.holds.registrations in
     let may : c.may_make.result ≡ may_make frame.kind turn.now.links =
     c.may_make.ensures ∙ ap (λ n. makes_link frame.kind && nat_lt n 64)
-        (links_counted c.args.self.now.links turn.now.links shows.holds.links) in
+    (links_counted c.args.self.now.links turn.now.links shows.holds.links) in
     let made = c.in_ok-key.ensures.made c.args.out.now turn shows in
     let before : Turn = making key id no_layer_3 c.ends_of-dest.result.0 c.ends_of-dest.result.1 c.back_from-back.result
-        turn in
+    turn in
     let same : before ≡ making key id no_layer_3 frame.path.dest frame.path.source (way_back frame.path Command) turn =
     ap (λ (both : Callsign × Callsign). making key id no_layer_3 both.0 both.1 c.back_from-back.result turn) ends
     ∙ ap (λ (back : Path). making key id no_layer_3 frame.path.dest frame.path.source back turn)
-        c.back_from-back.ensures in
+    c.back_from-back.ensures in
     on_ok_weaker c.link_event.result (λ s. (
       event_at key (Hear frame) before,
       heard_made id key frame turn (event_at key (Hear frame) before) (registrar frame.path.dest turn.now.registrations)

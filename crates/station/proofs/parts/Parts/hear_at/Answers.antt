@@ -18,8 +18,8 @@ pub link_event-requires : goal.link_event-requires
 link_event-requires c =
     let frame = c.in-Some.frame in
     let is : IsReadAs c.modulus-modulus.result c.args.octets.now (Some frame) =
-        subst (λ (reading : Option Frame). IsReadAs c.modulus-modulus.result c.args.octets.now reading)
-        c.in-Some.is c.in_ok-frame.ensures in
+    subst (λ (reading : Option Frame). IsReadAs c.modulus-modulus.result c.args.octets.now reading)
+    c.in-Some.is c.in_ok-frame.ensures in
     subst (λ (modulus : Modulus). IsNumbered modulus (control_of frame.kind)) c.modulus-modulus.ensures is.kind.numbered
 
 pub returns-in-Some-clause-heard : goal.returns-in-Some-clause-heard
@@ -30,12 +30,15 @@ returns-in-Some-clause-heard c = λ turn shows.
     let links = c.args.self.now.links in
     let modulus : c.modulus-modulus.result ≡ link_modulus (link_at key turn.now.links) =
     c.modulus-modulus.ensures ∙ same_modulus (place_at key links) (link_at key turn.now.links)
-        (places-at links.places turn.now.links.places key shows.holds.links.places) in
+    (places-at links.places turn.now.links.places key shows.holds.links.places) in
     let is : IsReadAs c.modulus-modulus.result octets (Some frame) =
-        subst (λ (reading : Option Frame). IsReadAs c.modulus-modulus.result octets reading)
-        c.in-Some.is c.in_ok-frame.ensures in
-    on_ok_weaker c.link_event.result (λ s. (event_at key (Hear frame) turn,
-        (Some frame, subst (λ (m : Modulus). IsReadAs m octets (Some frame)) modulus is, refl), s))
+    subst (λ (reading : Option Frame). IsReadAs c.modulus-modulus.result octets reading)
+    c.in-Some.is c.in_ok-frame.ensures in
+    on_ok_weaker c.link_event.result (λ s. (
+      event_at key (Hear frame) turn,
+      (Some frame, subst (λ (m : Modulus). IsReadAs m octets (Some frame)) modulus is, refl),
+      s,
+    ))
     (c.link_event.ensures.shows turn shows)
 
 pub returns-in-None-clause-heard : goal.returns-in-None-clause-heard
@@ -45,8 +48,8 @@ returns-in-None-clause-heard c = λ turn shows.
     let links = c.args.self.now.links in
     let modulus : c.modulus-modulus.result ≡ link_modulus (link_at key turn.now.links) =
     c.modulus-modulus.ensures ∙ same_modulus (place_at key links) (link_at key turn.now.links)
-        (places-at links.places turn.now.links.places key shows.holds.links.places) in
+    (places-at links.places turn.now.links.places key shows.holds.links.places) in
     let is : IsReadAs c.modulus-modulus.result octets None =
-        subst (λ (reading : Option Frame). IsReadAs c.modulus-modulus.result octets reading)
-        c.in-None.is c.in_ok-frame.ensures in
+    subst (λ (reading : Option Frame). IsReadAs c.modulus-modulus.result octets reading)
+    c.in-None.is c.in_ok-frame.ensures in
     (turn, (None, subst (λ (m : Modulus). IsReadAs m octets None) modulus is, refl), shows)

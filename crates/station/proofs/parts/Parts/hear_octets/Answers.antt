@@ -11,8 +11,12 @@ returns-in-Some-clause-heard c = λ turn shows.
     let path = c.args.path.now in
     let found : Some c.in-Some.key ≡ key_between path.dest path.source turn.now.links =
     c.in-Some.ensures ∙ key_found c.args.self.now.links turn.now.links path.dest path.source shows.holds.links in
-    on_ok_weaker c.hear_at.result (λ p. (p.0, subst (λ (own : Option ℕ). AreHeardAt own c.args.octets.now turn p.0)
-        found p.1, p.2))
+    on_ok_weaker c.hear_at.result (λ p. (
+      p.0,
+      subst (λ (own : Option ℕ). AreHeardAt own c.args.octets.now turn p.0)
+          found p.1,
+      p.2,
+    ))
     (c.hear_at.ensures.heard turn shows)
 
 pub returns-in-None-clause-heard : goal.returns-in-None-clause-heard
@@ -21,5 +25,5 @@ returns-in-None-clause-heard c = λ turn shows.
     let found : None ≡ key_between path.dest path.source turn.now.links =
     c.in-None.ensures ∙ key_found c.args.self.now.links turn.now.links path.dest path.source shows.holds.links in
     on_ok_weaker c.hear_unlinked.result
-        (λ p. (p.0, subst (λ (own : Option ℕ). AreHeardAt own c.args.octets.now turn p.0) found p.1, p.2))
+    (λ p. (p.0, subst (λ (own : Option ℕ). AreHeardAt own c.args.octets.now turn p.0) found p.1, p.2))
     (c.hear_unlinked.ensures.heard turn shows)

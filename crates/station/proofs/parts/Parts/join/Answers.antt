@@ -17,14 +17,17 @@ pub returns-then-len-ge-MOST_CONNECTIONS-clause-shows : goal.returns-then-len-ge
 returns-then-len-ge-MOST_CONNECTIONS-clause-shows c = λ turn shows.
     let id = c.args.id in
     let same = AllZip-length StandsForConnection c.args.self.now.connections.items turn.now.connections
-        shows.holds.connections in
+    shows.holds.connections in
     let full : nat_lt (length turn.now.connections) 64 ≡ false =
-        grind (arith, nat_tests, c.len.ensures, c.args.self.now.connections.ok) in
+    grind (arith, nat_tests, c.len.ensures, c.args.self.now.connections.ok) in
     on_ok_weaker c.close.result (λ e. subst (λ (behind : Turn). Shows c.args.self.now c.close.new.self behind)
     (sym (cond-false (nat_lt (length turn.now.connections) 64) (changing (with_host id c.args.kind) turn)
-        (closing id turn) full))
-    (record { holds = shows.holds; gave = e ∙ ap (λ (out : Out). record out { closed = out.closed ++ id ∷ [] })
-        shows.gave })) c.close.ensures
+    (closing id turn) full))
+    (record {
+      holds = shows.holds;
+      gave = e ∙ ap (λ (out : Out). record out { closed = out.closed ++ id ∷ [] })
+          shows.gave;
+    })) c.close.ensures
 
 pub returns-then-len-ge-MOST_CONNECTIONS-clause-ids : goal.returns-then-len-ge-MOST_CONNECTIONS-clause-ids
 returns-then-len-ge-MOST_CONNECTIONS-clause-ids c =
@@ -38,13 +41,13 @@ returns-clause-shows c = λ turn shows.
     let parts = c.args.self.now in
     let same = AllZip-length StandsForConnection parts.connections.items turn.now.connections shows.holds.connections in
     let room : nat_lt (length turn.now.connections) 64 ≡ true =
-        grind (arith, nat_tests, c.len.ensures, parts.connections.ok) in
+    grind (arith, nat_tests, c.len.ensures, parts.connections.ok) in
     let held : HeldConnection = record { id = id; raw = false; monitors = false; reader = c.new_reader.result } in
     let joined = shows_joined parts c.args.out.now turn c.push.new.self.items held c.args.kind shows c.requires refl
-        refl c.new_reader.ensures c.in_ok-push.ensures.items in
+    refl c.new_reader.ensures c.in_ok-push.ensures.items in
     subst (λ (behind : Turn). Shows (record parts { connections = c.push.new.self }) c.args.out.now behind)
     (sym (cond-true (nat_lt (length turn.now.connections) 64) (changing (with_host id c.args.kind) turn)
-        (closing id turn) room))
+    (closing id turn) room))
     (record {
       holds = record {
         parameters = shows.holds.parameters;
@@ -65,6 +68,6 @@ returns-clause-ids c = λ none.
     let id = c.args.id in
     let held : HeldConnection = record { id = id; raw = false; monitors = false; reader = c.new_reader.result } in
     ap (λ (items : List HeldConnection). map (λ (connection : HeldConnection). connection.id) items)
-        c.in_ok-push.ensures.items
+    c.in_ok-push.ensures.items
     ∙ map-append (λ (connection : HeldConnection). connection.id) c.args.self.now.connections.items (held ∷ [])
     ∙ sym (ap (λ (gone : List ℕ). without_ids gone (ids_in c.args.self.now ++ id ∷ [])) none)

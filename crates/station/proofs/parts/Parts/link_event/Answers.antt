@@ -6,8 +6,8 @@ use Rattle.link_machine.specs.Event.{Event}
 use Rattle.link_machine.specs.Step.{step, done_of}
 use Rattle.station.specs.declared.owned_link.OwnedLink.{OwnedLink}
 use Rattle.station.specs.declared.parts.Parts.{Parts}
-use Rattle.station.specs.LinkEvents.{event_of as event_of_place, link_event, settled_link, with_links, queueing_frames,
-    telling_to}
+use Rattle.station.specs.LinkEvents.{event_of as event_of_place, link_event, settled_link, with_links, queueing_frames}
+use Rattle.station.specs.LinkEvents.{telling_to}
 use Rattle.station.specs.LinkRequests.{event_of, stepped_link}
 use Rattle.station.specs.Links.{Link, link_at}
 use Rattle.station.specs.StandsFor.{StandsForPlace, StandsForLink, Shows}
@@ -27,7 +27,7 @@ returns-in_default-clause-shows c = λ turn shows.
     let places = shows.holds.links.places in
     none_at c.args.self.now c.args.out.now turn c.args.key (event_of c.args.event) (link_at c.args.key turn.now.links)
     (subst (λ (held : Option OwnedLink). StandsForPlace held (link_at c.args.key turn.now.links))
-        (sym c.in_default.ensures)
+    (sym c.in_default.ensures)
     (places-at c.args.self.now.links.places turn.now.links.places c.args.key places))
     shows
 
@@ -45,33 +45,33 @@ returns-clause-shows c = λ turn shows.
     let held : OwnedLink = c.in-Some.link.now in
     let places = shows.holds.links.places in
     some_at (λ place. Shows c.queue_frames.new.self c.tell.new.out (event_of_place key event place turn)) held
-        (link_at key turn.now.links)
+    (link_at key turn.now.links)
     (subst (λ (slot : Option OwnedLink). StandsForPlace slot (link_at key turn.now.links)) (sym c.in-Some.ensures)
     (places-at parts.links.places turn.now.links.places key places))
     (λ link stands at.
     let here : HasAt key parts.links link = subst (λ (slot : Option OwnedLink). StandsForPlace slot (Some link))
-        c.in-Some.ensures stands in
+    c.in-Some.ensures stands in
     let stepped = step link.machine event in
     let next : Link = stepped_link event link in
     let acts : c.in_ok-acts.acts ≡ done_of stepped = c.in_ok-acts.ensures.acts link here in
     let is = c.in_ok-acts.ensures.stands_for link here in
     let settled = c.settle.ensures next
-        (HasAt-set parts.links c.take.new.self turn.now.links key link next shows.holds.links at is) in
+    (HasAt-set parts.links c.take.new.self turn.now.links key link next shows.holds.links at is) in
     let first : Turn = changing (with_links (settled_link key link stepped.now)) turn in
     let shown = shows-settled parts c.args.out.now turn c.take.new.self c.settle.new.self key link stepped.now shows at
-        is settled in
+    is settled in
     let frames : c.deref.result.now ≡ (done_of stepped).frames = c.deref.ensures.value
-        ∙ ap (λ (done : Done). done.frames) (c.acts.view_is ∙ acts) in
+    ∙ ap (λ (done : Done). done.frames) (c.acts.view_is ∙ acts) in
     let told : c.deref-2.result.now ≡ (done_of stepped).told = c.deref-2.ensures.value
-        ∙ ap (λ (done : Done). done.told) (c.acts.view_is ∙ acts) in
+    ∙ ap (λ (done : Done). done.told) (c.acts.view_is ∙ acts) in
     let queued : Turn = queueing_frames key c.deref.result.now first in
     let all : telling_to held.owner held.local held.remote c.deref-2.result.now queued
-        ≡ link_event key event link turn =
+    ≡ link_event key event link turn =
     ap (λ owner. telling_to owner held.local held.remote c.deref-2.result.now queued) stands.owner
     ∙ ap (λ (local : Callsign). telling_to link.owner local held.remote c.deref-2.result.now queued) stands.local
     ∙ ap (λ (remote : Callsign). telling_to link.owner link.local remote c.deref-2.result.now queued) stands.remote
     ∙ ap (λ items. telling_to link.owner link.local link.remote items queued) told
     ∙ ap (λ sent. telling_to link.owner link.local link.remote (done_of stepped).told (queueing_frames key sent first))
-        frames in
+    frames in
     subst (λ (behind : Turn). Shows c.queue_frames.new.self c.tell.new.out behind) all
     (c.in_ok-tell.ensures.shows queued (c.in_ok-queue_frames.ensures.shows first shown)))

@@ -11,11 +11,16 @@ use Rattle.station.proofs.parts.Parts.make_link.Goals as goal
 pub returns-in-Ok-clause-made : goal.returns-in-Ok-clause-made
 returns-in-Ok-clause-made c = λ out turn shows.
     let machine = c.in-Ok.machine in
-    let held : OwnedLink = record { local = c.args.local; remote = c.args.remote; owner = Some c.args.owner;
-        pid = c.args.pid; machine = machine } in
+    let held : OwnedLink = record {
+      local = c.args.local;
+      remote = c.args.remote;
+      owner = Some c.args.owner;
+      pid = c.args.pid;
+      machine = machine;
+    } in
     let e = c.insert.ensures in
     shows_made c.args.self.now out turn c.insert.result c.args.owner c.args.pid c.args.local c.args.remote c.args.path
-        held c.insert.new.self shows e.next e.within e.vacant e.places
+    held c.insert.new.self shows e.next e.within e.vacant e.places
     (record {
       local = λ i. c.args.local;
       remote = λ i. c.args.remote;

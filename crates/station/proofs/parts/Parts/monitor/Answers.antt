@@ -12,7 +12,7 @@ returns-in-Some c = record {
       let frame = c.in-Some.frame in
       let is : IsReadAs c.args.modulus c.args.octets.now (Some frame) =
       subst (λ (read : Option Frame). IsReadAs c.args.modulus c.args.octets.now read)
-          c.in-Some.is c.in_ok-frame.ensures in
+      c.in-Some.is c.in_ok-frame.ensures in
       on_ok_weaker c.show_frame.result (λ s. (Some frame, is, s)) (c.show_frame.ensures.shows turn shows);
 }
 
@@ -21,6 +21,6 @@ returns-in-None c = record {
   shows = λ turn shows.
       let is : IsReadAs c.args.modulus c.args.octets.now None =
       subst (λ (read : Option Frame). IsReadAs c.args.modulus c.args.octets.now read)
-          c.in-None.is c.in_ok-frame.ensures in
+      c.in-None.is c.in_ok-frame.ensures in
       (None, is, shows_nothing c.args.self.now c.args.out.now turn shows);
 }

@@ -16,13 +16,13 @@ loop-sent-preserved c = record {
       let key = c.args.key in
       let before : Turn = queueing_frames key (take i frames) turn in
       let octets : c.in_ok-octets.octets ≡ frame_octets c.sent-item.result.modulus c.sent-item.result.frame =
-          c.in_ok-octets.ensures.octets in
+      c.in_ok-octets.ensures.octets in
       let more : queueing_frames key (take (i + 1) frames) turn ≡ queueing (Some key) c.in_ok-octets.octets before =
       in_order-more (queueing_frame key) frames i c.sent-item.result turn c.loop-sent-test.true
       ∙ ap (λ (sent : SentFrame). queueing_frame key sent before) (sym c.sent-item.is)
       ∙ ap (λ (spelled : List ℕ). queueing (Some key) spelled before) (sym octets) in
       subst (λ (behind : Turn). Shows c.queue.new.self c.queue.new.out behind) (sym more)
-          (c.in_ok-queue.ensures.shows before (c.loop-sent.invariant.shows turn shows));
+      (c.in_ok-queue.ensures.shows before (c.loop-sent.invariant.shows turn shows));
   ids = c.in_ok-queue.ensures.ids ∙ c.loop-sent.invariant.ids;
   closed = c.in_ok-queue.ensures.closed ∙ c.loop-sent.invariant.closed;
 }

@@ -9,8 +9,8 @@ use Rattle.station.specs.declared.reading.Said.{Said}
 use Rattle.station.specs.Connections.{Connection, connection_of, new_connection}
 use Rattle.station.specs.HeldReading.{IsSaid, Says}
 use Rattle.station.specs.Host.{with_octets}
-use Rattle.station.proofs.TakeLemmas.{connection_at, place_is, shows_connections, stands_here, zip_changed, ids_set,
-    on_any}
+use Rattle.station.proofs.TakeLemmas.{connection_at, place_is, shows_connections, stands_here, zip_changed, ids_set}
+use Rattle.station.proofs.TakeLemmas.{on_any}
 use Rattle.station.proofs.TakenLemmas.{said_by}
 use Rattle.station.proofs.parts.Parts.read_at.Goals as goal
 
@@ -25,15 +25,19 @@ returns-clause-shows c = λ out turn shows.
     let connection : Connection = get_or places k (new_connection 0 Kiss) in
     let here = c.index_mut.result.now in
     let stands = stands_here held places k here (new_connection 0 Kiss)
-        shows.holds.connections c.requires.within c.index_mut.ensures.value in
-    let next : HeldConnection = record { id = here.id; raw = here.raw; monitors = here.monitors;
-        reader = c.read.new.self } in
+    shows.holds.connections c.requires.within c.index_mut.ensures.value in
+    let next : HeldConnection = record {
+      id = here.id;
+      raw = here.raw;
+      monitors = here.monitors;
+      reader = c.read.new.self;
+    } in
     let new : Parts = record parts { connections = with_item parts.connections k next } in
     on_ok_weaker c.read.result (λ reads.
     shows_connections parts new out turn id (with_octets octets) shows (λ connection. refl)
     (zip_changed id k (with_octets octets) next held places (new_connection 0 Kiss) shows.holds.connections
     (place_is id k held places shows.holds.connections shows.holds.ids c.requires)
-        (record { id = stands.id; raw = stands.raw; monitors = stands.monitors; reader = reads }))
+    (record { id = stands.id; raw = stands.raw; monitors = stands.monitors; reader = reads }))
     refl refl refl refl refl refl refl)
     (c.read.ensures.stands_for connection.kind connection.stream stands.reader)
 
@@ -46,19 +50,23 @@ returns-clause-said c = λ out turn shows.
     let places = turn.now.connections in
     let connection : Connection = get_or places k (new_connection 0 Kiss) in
     let stands = stands_here held places k c.index_mut.result.now (new_connection 0 Kiss)
-        shows.holds.connections c.requires.within c.index_mut.ensures.value in
+    shows.holds.connections c.requires.within c.index_mut.ensures.value in
     let own : connection_of id places ≡ Some connection =
     connection_at id k places (new_connection 0 Kiss)
-        (place_is id k held places shows.holds.connections shows.holds.ids c.requires) in
+    (place_is id k held places shows.holds.connections shows.holds.ids c.requires) in
     IfOk-weaker c.read.result (λ (said : Said). Says connection.kind connection.stream octets said)
-        (λ (said : Said). IsSaid (connection_of id places) octets said)
+    (λ (said : Said). IsSaid (connection_of id places) octets said)
     (λ said says. said_by octets said connection (connection_of id places) own says)
     (c.read.ensures.says connection.kind connection.stream stands.reader)
 
 pub returns-clause-ids : goal.returns-clause-ids
 returns-clause-ids c =
     let here = c.index_mut.result.now in
-    let next : HeldConnection = record { id = here.id; raw = here.raw; monitors = here.monitors;
-        reader = c.read.new.self } in
+    let next : HeldConnection = record {
+      id = here.id;
+      raw = here.raw;
+      monitors = here.monitors;
+      reader = c.read.new.self;
+    } in
     on_any c.read.result (ids_set c.args.self.now.connections.items c.args.place next here refl
-        c.index_mut.ensures.value)
+    c.index_mut.ensures.value)

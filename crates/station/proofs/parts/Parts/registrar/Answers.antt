@@ -26,4 +26,4 @@ returns c =
     let test : Registration → Bool = λ registration. is_same_call registration.call c.args.call.now in
     let owner : Option Registration → Option ℕ = option_map (λ (registration : Registration). registration.id) in
     sym (ap owner (find_none test items d (λ j less. c.loop-registration.invariant j d
-        (omega (arith, less, ap length c.deref-registration-items.ensures.value)))))
+    (omega (arith, less, ap length c.deref-registration-items.ensures.value)))))

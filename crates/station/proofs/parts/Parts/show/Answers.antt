@@ -22,16 +22,19 @@ loop-connection-preserved c = λ turn shows.
     let d : Connection = new_connection 0 Kiss in
     let one : Connection → Turn → Turn = showing_to c.args.from c.args.to c.args.octets.now in
     let each = subst (λ xs. AllZip StandsForConnection xs places) (sym c.deref-connection-items.ensures.value)
-        shows.holds.connections in
-    let within : i < length places = omega (arith, AllZip-length StandsForConnection held places each,
-        c.loop-connection-test.true) in
+    shows.holds.connections in
+    let within : i < length places = omega (
+      arith,
+      AllZip-length StandsForConnection held places each,
+      c.loop-connection-test.true,
+    ) in
     let stands : StandsForConnection c.connection-item.result (get_or places i d) =
     subst (λ (item : HeldConnection). StandsForConnection item (get_or places i d)) (sym c.connection-item.is)
     (AllZip-at StandsForConnection held places i c.connection-item.result d each c.loop-connection-test.true) in
     let before : Turn = in_order (map one (take i places)) turn in
     subst (λ (behind : Turn). Shows parts c.show_to.new.out behind) (sym (in_order-more one places i d turn within))
     (shows_shown parts c.loop-connection.out c.show_to.new.out before c.connection-item.result (get_or places i d)
-        c.args.from c.args.to c.args.octets.now
+    c.args.from c.args.to c.args.octets.now
     (c.loop-connection.invariant turn shows) stands c.in_ok-show_to.ensures)
 
 pub returns : goal.returns
@@ -41,10 +44,10 @@ returns c = record {
       let places = turn.now.connections in
       let one : Connection → Turn → Turn = showing_to c.args.from c.args.to c.args.octets.now in
       let each = subst (λ xs. AllZip StandsForConnection xs places) (sym c.deref-connection-items.ensures.value)
-          shows.holds.connections in
+      shows.holds.connections in
       let all : take c.loop-connection.connection-index places ≡ places =
       take_all c.loop-connection.connection-index places
-          (omega (arith, AllZip-length StandsForConnection c.deref-connection-items.result.now places each)) in
+      (omega (arith, AllZip-length StandsForConnection c.deref-connection-items.result.now places each)) in
       subst (λ shown. Shows parts c.loop-connection.out (in_order (map one shown) turn)) all
-          (c.loop-connection.invariant turn shows);
+      (c.loop-connection.invariant turn shows);
 }

@@ -23,23 +23,26 @@ loop-connection-preserved c = λ turn shows.
     let d : Connection = new_connection 0 Kiss in
     let octets : List ℕ = spelling (monitor_message c.args.sent parts.ticks c.args.frame.now) in
     let each = subst (λ xs. AllZip StandsForConnection xs places) (sym c.deref-connection-items.ensures.value)
-        shows.holds.connections in
-    let within : i < length places = omega (arith, AllZip-length StandsForConnection held places each,
-        c.loop-connection-test.true) in
+    shows.holds.connections in
+    let within : i < length places = omega (
+      arith,
+      AllZip-length StandsForConnection held places each,
+      c.loop-connection-test.true,
+    ) in
     let stands : StandsForConnection c.connection-item.result (get_or places i d) =
     subst (λ (item : HeldConnection). StandsForConnection item (get_or places i d)) (sym c.connection-item.is)
     (AllZip-at StandsForConnection held places i c.connection-item.result d each c.loop-connection-test.true) in
     elim c.if-connection.branch [
       | then-connection+in_ok-shown+in_ok-send w ↦
           subst (λ (out : Out). Shows parts out (with_pieces (to_monitors octets (take (i + 1) places)) turn))
-              (sym w.out-is)
+          (sym w.out-is)
           (shown_more parts c.loop-connection.out w.send.new.self turn octets w.in_ok-shown.shown i d
-              c.connection-item.result
+          c.connection-item.result
           (c.loop-connection.invariant turn shows) within stands w.if-connection.true w.in_ok-shown.ensures
-              w.in_ok-send.ensures)
+          w.in_ok-send.ensures)
       | else-connection w ↦
           subst (λ (out : Out). Shows parts out (with_pieces (to_monitors octets (take (i + 1) places)) turn))
-              (sym w.out-is)
+          (sym w.out-is)
           (passed_more parts c.loop-connection.out turn octets i d c.connection-item.result
           (c.loop-connection.invariant turn shows) within stands w.if-connection.false)
     ]
@@ -52,14 +55,14 @@ returns c = record {
       let places = turn.now.connections in
       let frame = c.args.frame.now in
       let each = subst (λ xs. AllZip StandsForConnection xs places) (sym c.deref-connection-items.ensures.value)
-          shows.holds.connections in
+      shows.holds.connections in
       let all : take c.loop-connection.connection-index places ≡ places =
       take_all c.loop-connection.connection-index places
-          (omega (arith, AllZip-length StandsForConnection c.deref-connection-items.result.now places each)) in
+      (omega (arith, AllZip-length StandsForConnection c.deref-connection-items.result.now places each)) in
       let whole : Shows parts out (with_pieces (to_monitors (spelling (monitor_message c.args.sent parts.ticks frame))
-          places) turn) =
+      places) turn) =
       subst (λ shown. Shows parts out
-          (with_pieces (to_monitors (spelling (monitor_message c.args.sent parts.ticks frame)) shown) turn)) all
+      (with_pieces (to_monitors (spelling (monitor_message c.args.sent parts.ticks frame)) shown) turn)) all
       (c.loop-connection.invariant turn shows) in
       subst (λ ticks. Shows parts out (monitoring c.args.sent ticks (Some frame) turn)) shows.holds.ticks whole;
 }

@@ -19,7 +19,7 @@ returns-in_default-clause-step c = λ turn shows. (
   turn,
   taken_none c.args.octets.now turn (connection_of c.args.id turn.now.connections)
       (connection_none c.args.id c.args.self.now.connections.items turn.now.connections (new_connection 0 Kiss)
-          shows.holds.connections (c.in_default.ensures.none refl)),
+      shows.holds.connections (c.in_default.ensures.none refl)),
   shows,
 )
 
@@ -30,12 +30,15 @@ returns-in-Items-clause-step c = λ turn shows.
     let own = connection_of id turn.now.connections in
     let items = c.deref.result.now in
     let told : IsSaid own octets (Items c.in-Items.items) =
-        subst (λ (said : Said). IsSaid own octets said) c.in-Items.is
-        (c.in_ok-items.ensures.said c.args.out.now turn shows) in
+    subst (λ (said : Said). IsSaid own octets said) c.in-Items.is
+    (c.in_ok-items.ensures.said c.args.out.now turn shows) in
     let said : AreSaidItems own octets items = subst (λ (all : List KissItem). AreSaidItems own octets all)
-        (sym c.deref.ensures.value) told in
-    on_ok_weaker c.heed_all.result (λ done. (heeding_all items (taking id octets turn),
-        taken_items id octets turn items own (found_id id turn.now.connections) said, done))
+    (sym c.deref.ensures.value) told in
+    on_ok_weaker c.heed_all.result (λ done. (
+      heeding_all items (taking id octets turn),
+      taken_items id octets turn items own (found_id id turn.now.connections) said,
+      done,
+    ))
     (c.heed_all.ensures.shows (taking id octets turn) (c.in_ok-items.ensures.shows c.args.out.now turn shows))
 
 pub returns-in_ok-answer_all-in-Messages-clause-step : goal.returns-in_ok-answer_all-in-Messages-clause-step
@@ -46,14 +49,14 @@ returns-in_ok-answer_all-in-Messages-clause-step c = λ turn shows.
     let messages = c.deref-in-Messages.result.now in
     let failed = c.in-Messages.failed in
     let told : IsSaid own octets (Messages c.in-Messages.messages failed) =
-        subst (λ (said : Said). IsSaid own octets said) c.in-Messages.is
-        (c.in_ok-items.ensures.said c.args.out.now turn shows) in
+    subst (λ (said : Said). IsSaid own octets said) c.in-Messages.is
+    (c.in_ok-items.ensures.said c.args.out.now turn shows) in
     let said : AreSaidMessages own octets messages failed =
-        subst (λ (all : List AgwMessage). AreSaidMessages own octets all failed) (sym c.deref-in-Messages.ensures.value)
-        told in
+    subst (λ (all : List AgwMessage). AreSaidMessages own octets all failed) (sym c.deref-in-Messages.ensures.value)
+    told in
     let answered = c.in_ok-answer_all-in-Messages.ensures.step (taking id octets turn)
-        (c.in_ok-items.ensures.shows c.args.out.now turn shows) in
+    (c.in_ok-items.ensures.shows c.args.out.now turn shows) in
     let taken = taken_messages id octets turn answered.0 messages failed own (found_id id turn.now.connections)
-        said answered.1 in
+    said answered.1 in
     on_ok_weaker c.end.result (λ done. (ending id taken.bad answered.0, taken.taken, done))
-        (c.end.ensures.shows taken.bad answered.0 taken.told answered.2)
+    (c.end.ensures.shows taken.bad answered.0 taken.told answered.2)

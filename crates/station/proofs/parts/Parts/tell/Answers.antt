@@ -15,10 +15,10 @@ loop-item-preserved c = record {
       let one : Told → Turn → Turn = telling_one c.args.owner c.args.local.now c.args.remote.now in
       let before : Turn = telling_to c.args.owner c.args.local.now c.args.remote.now (take i told) turn in
       let more : telling_to c.args.owner c.args.local.now c.args.remote.now (take (i + 1) told) turn
-          ≡ one c.item-item.result before =
+      ≡ one c.item-item.result before =
       in_order-more one told i c.item-item.result turn c.loop-item-test.true
-          ∙ ap (λ item. one item before) (sym c.item-item.is) in
+      ∙ ap (λ item. one item before) (sym c.item-item.is) in
       subst (λ (behind : Turn). Shows c.args.self.now c.tell_one.new.out behind) (sym more)
-          (c.in_ok-tell_one.ensures.shows before (c.loop-item.invariant.shows turn shows));
+      (c.in_ok-tell_one.ensures.shows before (c.loop-item.invariant.shows turn shows));
   closed = c.in_ok-tell_one.ensures.closed ∙ c.loop-item.invariant.closed;
 }

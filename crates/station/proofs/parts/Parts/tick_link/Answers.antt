@@ -14,5 +14,5 @@ returns-clause-shows c = λ turn shows.
     waits_told c.waiting-waiting.result key c.args.self.now.channel.waiting c.waiting-waiting.ensures
     ∙ ap (waits key) shows.holds.channel.waiting in
     subst (λ (waiting : Bool). OnOk c.link_event.result
-        (Shows c.link_event.new.self c.link_event.new.out (event_at key (Tick waiting) turn))) told
+    (Shows c.link_event.new.self c.link_event.new.out (event_at key (Tick waiting) turn))) told
     (c.link_event.ensures.shows turn shows)

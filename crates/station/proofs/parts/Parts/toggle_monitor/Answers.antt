@@ -5,15 +5,15 @@ use Rattle.station.specs.declared.connection.Connection.{Connection as HeldConne
 use Rattle.station.specs.declared.host_event.PortKind.TheVariants.{Kiss}
 use Rattle.station.specs.declared.parts.Parts.{Parts}
 use Rattle.station.specs.Connections.{Connection, new_connection, turned_monitor}
-use Rattle.station.proofs.TakeLemmas.{none_changed, place_is, shows_connections, stands_here, stands_monitoring,
-    zip_changed, ids_set}
+use Rattle.station.proofs.TakeLemmas.{none_changed, place_is, shows_connections, stands_here, stands_monitoring}
+use Rattle.station.proofs.TakeLemmas.{zip_changed, ids_set}
 use Rattle.station.proofs.parts.Parts.toggle_monitor.Goals as goal
 
 pub returns-in_default-clause-shows : goal.returns-in_default-clause-shows
 returns-in_default-clause-shows c = λ out turn shows.
     shows_connections c.args.self.now c.args.self.now out turn c.args.id turned_monitor shows (λ connection. refl)
     (none_changed c.args.id turned_monitor c.args.self.now.connections.items turn.now.connections
-        shows.holds.connections (c.in_default.ensures.none refl)) refl refl refl refl refl refl refl
+    shows.holds.connections (c.in_default.ensures.none refl)) refl refl refl refl refl refl refl
 
 pub returns-clause-shows : goal.returns-clause-shows
 returns-clause-shows c = λ out turn shows.
@@ -27,13 +27,13 @@ returns-clause-shows c = λ out turn shows.
     let new : Parts = record parts { connections = with_item parts.connections k c.toggle_monitor.new.connection } in
     shows_connections parts new out turn id turned_monitor shows (λ connection. refl)
     (zip_changed id k turned_monitor c.toggle_monitor.new.connection held places d shows.holds.connections
-        (place_is id k held places shows.holds.connections shows.holds.ids at)
+    (place_is id k held places shows.holds.connections shows.holds.ids at)
     (stands_monitoring c.index_mut.result.now c.toggle_monitor.new.connection _
     (stands_here held places k c.index_mut.result.now d shows.holds.connections at.within c.index_mut.ensures.value)
-        c.toggle_monitor.ensures))
+    c.toggle_monitor.ensures))
     refl refl refl refl refl refl refl
 
 pub returns-clause-ids : goal.returns-clause-ids
 returns-clause-ids c =
     ids_set c.args.self.now.connections.items c.in-Some.place c.toggle_monitor.new.connection c.index_mut.result.now
-        (ap (λ (item : HeldConnection). item.id) c.toggle_monitor.ensures) c.index_mut.ensures.value
+    (ap (λ (item : HeldConnection). item.id) c.toggle_monitor.ensures) c.index_mut.ensures.value

@@ -10,7 +10,7 @@ pub returns-then-len-lt-MOST_WAITING-clause-accepts : goal.returns-then-len-lt-M
 returns-then-len-lt-MOST_WAITING-clause-accepts c =
     let parts = c.self.inside.parts in
     let accepts : Held → Type 0 = λ held. (s : StationState) → StandsFor held s
-        → (IsTrue c.hold_few.result → Accepts c.args.id s) × (Accepts c.args.id s → IsTrue c.hold_few.result) in
+    → (IsTrue c.hold_few.result → Accepts c.args.id s) × (Accepts c.args.id s → IsTrue c.hold_few.result) in
     subst accepts c.self.view_is (λ s h. (
       λ t. record {
         queue = let same = ap length h.parts.channel.waiting in

@@ -14,10 +14,13 @@ host-requires c = subst (λ (held : Held). JoinsAnew c.args.event held.parts) (s
 pub returns-clause-step : goal.returns-clause-step
 returns-clause-step c = λ s h.
     let held : AreParts c.self.inside.parts s =
-        (subst (λ (held : Held). StandsFor held s) (sym c.self.view_is) h).parts in
-    let p = c.in_ok-host.ensures.step (begin s) (record { holds = held; gave = c.new-out.ensures }) in
-    (p.0.now, subst (λ (out : Out). IsHostTurn c.args.event (begin s) (record { now = p.0.now; out = out }))
-        (sym p.2.gave) p.1, record { live = refl; parts = p.2.holds })
+    (subst (λ (held : Held). StandsFor held s) (sym c.self.view_is) h).parts in
+    let p = c.in_ok-host.ensures.step (begin s) (record { holds = held; gave = c.new-out.ensures }) in (
+      p.0.now,
+      subst (λ (out : Out). IsHostTurn c.args.event (begin s) (record { now = p.0.now; out = out }))
+          (sym p.2.gave) p.1,
+      record { live = refl; parts = p.2.holds },
+    )
 
 pub returns-clause-ids : goal.returns-clause-ids
 returns-clause-ids c =

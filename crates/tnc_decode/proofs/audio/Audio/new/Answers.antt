@@ -11,4 +11,4 @@ pub returns-in-Wav : goal.returns-in-Wav
 returns-in-Wav c =
     let rates : Rates = rates_of c.args.words.receiving in
     subst (λ (form : AudioForm). HasTakenAt rates form (File c.new_file.result) []) (sym c.in-Wav.is)
-        (new_file rates c.new_file.result c.new_file.ensures)
+    (new_file rates c.new_file.result c.new_file.ensures)

@@ -25,15 +25,15 @@ returns-in-Plain-clause-given g c =
     let old = c.in-Plain.decoder in
     let new = c.block_threads.new.self in
     let P : Decoders → Type 0 = λ self. IfOk c.block_threads.result (λ items. (modem : Modem) (x : List ℤ)
-        → HasDecoded modem self x
+    → HasDecoded modem self x
     → HasDecoded modem (Plain new) (x ++ block) × AreGivenBetween modem (settled_count modem x)
-        (settled_count modem (x ++ block)) (x ++ block) items.items) in
+    (settled_count modem (x ++ block)) (x ++ block) items.items) in
     subst P (sym c.in-Plain.is) (IfOk-weaker c.block_threads.result
     (λ items. (x : List ℤ) → StandsFor old x → StandsFor new (x ++ block)
-        × AreMergedBetween (length x) (length (x ++ block)) (x ++ block) items.items)
+    × AreMergedBetween (length x) (length (x ++ block)) (x ++ block) items.items)
     (λ items. (modem : Modem) (x : List ℤ) → HasDecoded modem (Plain old) x
     → HasDecoded modem (Plain new) (x ++ block) × AreGivenBetween modem (settled_count modem x)
-        (settled_count modem (x ++ block)) (x ++ block) items.items)
+    (settled_count modem (x ++ block)) (x ++ block) items.items)
     (λ items given. plain_block old new block items.items given)
     c.block_threads.ensures.given)
 
@@ -43,15 +43,15 @@ returns-in-Plain-2-clause-given g c =
     let old = c.in-Plain.decoder in
     let new = c.block.new.self in
     let P : Decoders → Type 0 = λ self. IfOk c.block.result (λ items. (modem : Modem) (x : List ℤ)
-        → HasDecoded modem self x
+    → HasDecoded modem self x
     → HasDecoded modem (Plain new) (x ++ block) × AreGivenBetween modem (settled_count modem x)
-        (settled_count modem (x ++ block)) (x ++ block) items.items) in
+    (settled_count modem (x ++ block)) (x ++ block) items.items) in
     subst P (sym c.in-Plain.is) (IfOk-weaker c.block.result
     (λ items. (x : List ℤ) → StandsFor old x → StandsFor new (x ++ block)
-        × AreMergedBetween (length x) (length (x ++ block)) (x ++ block) items.items)
+    × AreMergedBetween (length x) (length (x ++ block)) (x ++ block) items.items)
     (λ items. (modem : Modem) (x : List ℤ) → HasDecoded modem (Plain old) x
     → HasDecoded modem (Plain new) (x ++ block) × AreGivenBetween modem (settled_count modem x)
-        (settled_count modem (x ++ block)) (x ++ block) items.items)
+    (settled_count modem (x ++ block)) (x ++ block) items.items)
     (λ items given. plain_block old new block items.items given)
     c.block.ensures.given)
 
@@ -61,15 +61,15 @@ returns-in-Wide-clause-given g c =
     let old = c.in-Wide.bank in
     let new = c.block_threads-in-Wide.new.self in
     let P : Decoders → Type 0 = λ self. IfOk c.block_threads-in-Wide.result (λ items. (modem : Modem) (x : List ℤ)
-        → HasDecoded modem self x
+    → HasDecoded modem self x
     → HasDecoded modem (Wide new) (x ++ block) × AreGivenBetween modem (settled_count modem x)
-        (settled_count modem (x ++ block)) (x ++ block) items.items) in
+    (settled_count modem (x ++ block)) (x ++ block) items.items) in
     subst P (sym c.in-Wide.is) (IfOk-weaker c.block_threads-in-Wide.result
     (λ items. (x : List ℤ) → BankStandsFor old x → BankStandsFor new (x ++ block)
-        × AreWideMergedBetween (least_count x) (least_count (x ++ block)) (x ++ block) items.items)
+    × AreWideMergedBetween (least_count x) (least_count (x ++ block)) (x ++ block) items.items)
     (λ items. (modem : Modem) (x : List ℤ) → HasDecoded modem (Wide old) x
     → HasDecoded modem (Wide new) (x ++ block) × AreGivenBetween modem (settled_count modem x)
-        (settled_count modem (x ++ block)) (x ++ block) items.items)
+    (settled_count modem (x ++ block)) (x ++ block) items.items)
     (λ items given. wide_block old new block items.items given)
     c.block_threads-in-Wide.ensures.given)
 
@@ -79,15 +79,15 @@ returns-in-Wide-2-clause-given g c =
     let old = c.in-Wide.bank in
     let new = c.block-in-Wide-2.new.self in
     let P : Decoders → Type 0 = λ self. IfOk c.block-in-Wide-2.result (λ items. (modem : Modem) (x : List ℤ)
-        → HasDecoded modem self x
+    → HasDecoded modem self x
     → HasDecoded modem (Wide new) (x ++ block) × AreGivenBetween modem (settled_count modem x)
-        (settled_count modem (x ++ block)) (x ++ block) items.items) in
+    (settled_count modem (x ++ block)) (x ++ block) items.items) in
     subst P (sym c.in-Wide.is) (IfOk-weaker c.block-in-Wide-2.result
     (λ items. (x : List ℤ) → BankStandsFor old x → BankStandsFor new (x ++ block)
-        × AreWideMergedBetween (least_count x) (least_count (x ++ block)) (x ++ block) items.items)
+    × AreWideMergedBetween (least_count x) (least_count (x ++ block)) (x ++ block) items.items)
     (λ items. (modem : Modem) (x : List ℤ) → HasDecoded modem (Wide old) x
     → HasDecoded modem (Wide new) (x ++ block) × AreGivenBetween modem (settled_count modem x)
-        (settled_count modem (x ++ block)) (x ++ block) items.items)
+    (settled_count modem (x ++ block)) (x ++ block) items.items)
     (λ items given. wide_block old new block items.items given)
     c.block-in-Wide-2.ensures.given)
 
@@ -97,15 +97,15 @@ returns-in-ShortWave-clause-given g c =
     let old = c.in-ShortWave.decoder in
     let new = c.block-in-ShortWave.new.self in
     let P : Decoders → Type 0 = λ self. IfOk c.block-in-ShortWave.result (λ items. (modem : Modem) (x : List ℤ)
-        → HasDecoded modem self x
+    → HasDecoded modem self x
     → HasDecoded modem (ShortWave new) (x ++ block) × AreGivenBetween modem (settled_count modem x)
-        (settled_count modem (x ++ block)) (x ++ block) items.items) in
+    (settled_count modem (x ++ block)) (x ++ block) items.items) in
     subst P (sym c.in-ShortWave.is) (IfOk-weaker c.block-in-ShortWave.result
     (λ items. (x : List ℤ) → HfStandsFor old x → HfStandsFor new (x ++ block)
-        × AreHfMergedBetween (length x / 4) (length (x ++ block) / 4) (x ++ block) items.items)
+    × AreHfMergedBetween (length x / 4) (length (x ++ block) / 4) (x ++ block) items.items)
     (λ items. (modem : Modem) (x : List ℤ) → HasDecoded modem (ShortWave old) x
     → HasDecoded modem (ShortWave new) (x ++ block) × AreGivenBetween modem (settled_count modem x)
-        (settled_count modem (x ++ block)) (x ++ block) items.items)
+    (settled_count modem (x ++ block)) (x ++ block) items.items)
     (λ items given. short_wave_block old new block items.items given)
     c.block-in-ShortWave.ensures.given)
 

@@ -20,14 +20,14 @@ pub returns-in-Plain : goal.returns-in-Plain
 returns-in-Plain c =
     let decoder = c.in-Plain.decoder in
     let P : Decoders → Type 0 = λ self. position_of self < 2 ^ 48
-        → IfOk c.finish.result (λ items. (modem : Modem) (x : List ℤ) → HasDecoded modem self x
+    → IfOk c.finish.result (λ items. (modem : Modem) (x : List ℤ) → HasDecoded modem self x
     → AreGivenRest modem (settled_count modem x) x items.items) in
     record {
       rest = subst P (sym c.in-Plain.is) (λ room. IfOk-weaker c.finish.result
           (λ items. (x : List ℤ) → length x < 2 ^ 48 → StandsFor decoder x
-              → AreMergedBetween (length x) (length x + 1) x items.items)
+          → AreMergedBetween (length x) (length x + 1) x items.items)
           (λ items. (modem : Modem) (x : List ℤ) → HasDecoded modem (Plain decoder) x
-              → AreGivenRest modem (settled_count modem x) x items.items)
+          → AreGivenRest modem (settled_count modem x) x items.items)
           (λ items rest. plain_finish decoder items.items room rest)
           c.finish.ensures.rest) c.requires.room;
     }
@@ -37,14 +37,14 @@ returns-in-ShortWave c =
     let decoder = c.in-ShortWave.decoder in
     let result = c.finish-in-ShortWave.result in
     let P : Decoders → Type 0 = λ self. position_of self < 2 ^ 48
-        → IfOk result (λ items. (modem : Modem) (x : List ℤ) → HasDecoded modem self x
+    → IfOk result (λ items. (modem : Modem) (x : List ℤ) → HasDecoded modem self x
     → AreGivenRest modem (settled_count modem x) x items.items) in
     record {
       rest = subst P (sym c.in-ShortWave.is) (λ room. IfOk-weaker result
           (λ items. (x : List ℤ) → length x < 2 ^ 48 → HfStandsFor decoder x
-              → AreHfMergedBetween (length x / 4) (length x / 4 + 1) x items.items)
+          → AreHfMergedBetween (length x / 4) (length x / 4 + 1) x items.items)
           (λ items. (modem : Modem) (x : List ℤ) → HasDecoded modem (ShortWave decoder) x
-              → AreGivenRest modem (settled_count modem x) x items.items)
+          → AreGivenRest modem (settled_count modem x) x items.items)
           (λ items rest. short_wave_finish decoder items.items room rest)
           c.finish-in-ShortWave.ensures.rest) c.requires.room;
     }

@@ -10,7 +10,7 @@ use Rattle.tnc_decode.proofs.receiver.Receiver.end.Goals as goal
 pub returns-in_err-write_items-clause-cut : goal.returns-in_err-write_items-clause-cut
 returns-in_err-write_items-clause-cut g c = λ words octets text is h.
     let told = err_from_is_err_and c.from_residual-in_err-write_items.result
-        c.from_residual-in_err-write_items.ensures.1 in
+    c.from_residual-in_err-write_items.ensures.1 in
     let same = ap Err (sym told.2) ∙ sym told.1 ∙ is in
     let rest = c.in_ok-items.ensures.rest (modem_of words octets) (samples_read words octets) h.decoder in (
       print c.args.self.now.frames (candidate_frames c.deref.result.now),

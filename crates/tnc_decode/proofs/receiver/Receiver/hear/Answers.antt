@@ -15,14 +15,21 @@ returns-clause-heard g c = λ words before text h.
     let old : Receiver = c.args.self.now in
     let octets : List ℕ = c.args.octets.now in
     let new : Receiver
-    = record { alloc = old.alloc; frames = old.frames; threads = old.threads; audio = c.take.new.self;
-        receiving = old.receiving; samples = c.take.new.samples; decoder = c.block.new.self } in
+    = record {
+      alloc = old.alloc;
+      frames = old.frames;
+      threads = old.threads;
+      audio = c.take.new.self;
+      receiving = old.receiving;
+      samples = c.take.new.samples;
+      decoder = c.block.new.self;
+    } in
     let items : List Candidate = c.in_ok-items.items.items in
     let took = c.in_ok-take.ensures.takes (rates_of words.receiving) words.audio before h.audio in
     let modem : c.modem-modem.result ≡ modem_of words (before ++ octets) =
-        c.modem-modem.ensures words (before ++ octets) h.receiving took.0 in
+    c.modem-modem.ensures words (before ++ octets) h.receiving took.0 in
     let decoder = tuned words before octets c.modem-modem.result old.decoder c.tune.new.decoder modem
-        c.in_ok-tune.ensures.still c.in_ok-tune.ensures.fresh h.decoder in
+    c.in_ok-tune.ensures.still c.in_ok-tune.ensures.fresh h.decoder in
     let gave = c.in_ok-items.ensures.given (modem_of words (before ++ octets)) (samples_read words before) decoder in (
       print old.frames (candidate_frames items),
       heard_more old new words before octets text c.take.new.samples.items c.deref.result.now items h took
@@ -36,17 +43,24 @@ returns-in_err-write_items-clause-cut g c = λ words before text is h.
     let old : Receiver = c.args.self.now in
     let octets : List ℕ = c.args.octets.now in
     let new : Receiver
-    = record { alloc = old.alloc; frames = old.frames; threads = old.threads; audio = c.take.new.self;
-        receiving = old.receiving; samples = c.take.new.samples; decoder = c.block.new.self } in
+    = record {
+      alloc = old.alloc;
+      frames = old.frames;
+      threads = old.threads;
+      audio = c.take.new.self;
+      receiving = old.receiving;
+      samples = c.take.new.samples;
+      decoder = c.block.new.self;
+    } in
     let items : List Candidate = c.in_ok-items.items.items in
     let took = c.in_ok-take.ensures.takes (rates_of words.receiving) words.audio before h.audio in
     let modem : c.modem-modem.result ≡ modem_of words (before ++ octets) =
-        c.modem-modem.ensures words (before ++ octets) h.receiving took.0 in
+    c.modem-modem.ensures words (before ++ octets) h.receiving took.0 in
     let decoder = tuned words before octets c.modem-modem.result old.decoder c.tune.new.decoder modem
-        c.in_ok-tune.ensures.still c.in_ok-tune.ensures.fresh h.decoder in
+    c.in_ok-tune.ensures.still c.in_ok-tune.ensures.fresh h.decoder in
     let gave = c.in_ok-items.ensures.given (modem_of words (before ++ octets)) (samples_read words before) decoder in
     let told = err_from_is_err_and c.from_residual-in_err-write_items.result
-        c.from_residual-in_err-write_items.ensures.1 in
+    c.from_residual-in_err-write_items.ensures.1 in
     let same = ap Err (sym told.2) ∙ sym told.1 ∙ is in
     let few = c.in_ok-take.ensures.count in
     let most = c.requires.few in

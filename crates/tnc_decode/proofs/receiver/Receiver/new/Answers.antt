@@ -8,4 +8,4 @@ pub returns-clause-heard : goal.returns-clause-heard
 returns-clause-heard c =
     heard_none _ c.args.words refl refl c.new-audio.ensures
     (subst (λ (modem : Modem). HasDecoded modem c.in_ok-new.field-0 [])
-        (c.modem-modem.ensures c.args.words [] refl c.new-audio.ensures) c.in_ok-new.ensures.stands_for)
+    (c.modem-modem.ensures c.args.words [] refl c.new-audio.ensures) c.in_ok-new.ensures.stands_for)

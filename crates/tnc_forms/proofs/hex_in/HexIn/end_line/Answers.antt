@@ -13,5 +13,7 @@ returns-in_err-keep-clause-bad c = λ fault is.
     let same : c.in_err-keep.field-0.0 ≡ Input fault = same_fault _ _ (ap Err (sym told.2) ∙ sym told.1 ∙ is) in
     let long = c.in_err-keep.ensures.long fault (ap Err same) in
     let held = c.args.self.now in
-    ap fault_in_line (long_fault held.least (record { place = held.place;
-        text = strip_carriage_return (held.part ++ c.args.octets.now) }) long.1) ∙ ap Some (sym long.0)
+    ap fault_in_line (long_fault held.least (record {
+      place = held.place;
+      text = strip_carriage_return (held.part ++ c.args.octets.now);
+    }) long.1) ∙ ap Some (sym long.0)

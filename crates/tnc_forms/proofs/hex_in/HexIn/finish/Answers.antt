@@ -19,13 +19,13 @@ returns-clause-frame c =
     let line : List ℕ → Line = λ text. record { place = inside.place; text = text } in
     let P : HeldLine → Type 0 = λ held. (octets : List ℕ) → StandsFor held octets
     → IfOk c.frame_of_line.result (λ frame. frames_of_lines held.least octets
-        ≡ frames_so_far held.least octets ++ option_to_list frame) in
+    ≡ frames_so_far held.least octets ++ option_to_list frame) in
     subst P c.self.view_is (λ octets h.
     if_ok c.frame_of_line.result c.frame_of_line.ensures.good c.frame_of_line.ensures.frame
     (λ frame none is. frames_last view octets h (ap (λ t. fault_of inside.least (line t)) (sym c.deref.ensures.value)
-        ∙ none)
+    ∙ none)
     ∙ ap (λ f. frames_so_far inside.least octets ++ option_to_list f)
-        (ap (λ t. frame_of inside.least (line t)) (sym c.deref.ensures.value) ∙ sym is)))
+    (ap (λ t. frame_of inside.least (line t)) (sym c.deref.ensures.value) ∙ sym is)))
 
 pub returns-clause-good : goal.returns-clause-good
 returns-clause-good c =
@@ -33,10 +33,10 @@ returns-clause-good c =
     let view : HeldLine = record { least = inside.least; place = inside.place; part = inside.part.items } in
     let line : List ℕ → Line = λ text. record { place = inside.place; text = text } in
     let P : HeldLine → Type 0 = λ held. (octets : List ℕ) → StandsFor held octets
-        → OnOk c.frame_of_line.result (hex_fault held.least octets ≡ None) in
+    → OnOk c.frame_of_line.result (hex_fault held.least octets ≡ None) in
     subst P c.self.view_is (λ octets h.
     map_ok c.frame_of_line.result (λ none. good_last view octets h
-        (ap (λ t. fault_of inside.least (line t)) (sym c.deref.ensures.value) ∙ none)) c.frame_of_line.ensures.good)
+    (ap (λ t. fault_of inside.least (line t)) (sym c.deref.ensures.value) ∙ none)) c.frame_of_line.ensures.good)
 
 pub returns-clause-bad : goal.returns-clause-bad
 returns-clause-bad c =
@@ -44,9 +44,9 @@ returns-clause-bad c =
     let view : HeldLine = record { least = inside.least; place = inside.place; part = inside.part.items } in
     let line : List ℕ → Line = λ text. record { place = inside.place; text = text } in
     let P : HeldLine → Type 0 = λ held. (octets : List ℕ) → (fault : InputFault) → StandsFor held octets
-        → IsErrOf c.frame_of_line.result (Input fault)
+    → IsErrOf c.frame_of_line.result (Input fault)
     → (hex_fault held.least octets ≡ Some fault) × (frames_of_lines held.least octets ≡ frames_so_far held.least octets)
-        in
+    in
     subst P c.self.view_is (λ octets fault h is.
     bad_last view octets h fault (ap (λ t. fault_in_line (fault_of inside.least (line t))) (sym c.deref.ensures.value)
-        ∙ c.frame_of_line.ensures.bad fault is))
+    ∙ c.frame_of_line.ensures.bad fault is))

@@ -1,5 +1,5 @@
-use Rattle.std.proofs.Common.{◌≡◌, ◌≤◌, ◌+◌, ◌∷◌, [], ◌++◌, length, take, drop, get_or, Err, Some, append-nil, sym,
-    subst, ap, ◌∙◌, arith}
+use Rattle.std.proofs.Common.{◌≡◌, ◌≤◌, ◌+◌, ◌∷◌, [], ◌++◌, length, take, drop, get_or, Err, Some, append-nil, sym}
+use Rattle.std.proofs.Common.{subst, ap, ◌∙◌, arith}
 use Rattle.std.proofs.lemmas.List.{take_all, take_more}
 use Rattle.std.proofs.lemmas.Result.{err_from_is_err_and}
 use Rattle.std.specs.Option.{option_to_list}
@@ -23,9 +23,9 @@ returns-in_ok-frame-in-Some-clause-stands_for c = λ before h.
     let first = first_inside octets size (sym c.in-Some.is ∙ c.line_feed.ensures) in
     subst (λ o. StandsFor c.end_line.new.self (before ++ o)) (sym (take_more octets size 0 first.3))
     (subst (λ s. StandsFor s (before ++ (take size octets ++ get_or octets size 0 ∷ [])))
-        (sym c.in_ok-frame-in-Some.ensures.ended)
+    (sym c.in_ok-frame-in-Some.ensures.ended)
     (stands_end c.args.self.now before h (take size octets) first.0 (get_or octets size 0)
-        first.2 c.in_ok-frame-in-Some.ensures.good))
+    first.2 c.in_ok-frame-in-Some.ensures.good))
 
 pub returns-in_ok-frame-in-Some-clause-frame : goal.returns-in_ok-frame-in-Some-clause-frame
 returns-in_ok-frame-in-Some-clause-frame c = λ before h.
@@ -35,22 +35,22 @@ returns-in_ok-frame-in-Some-clause-frame c = λ before h.
     let first = first_inside octets size (sym c.in-Some.is ∙ c.line_feed.ensures) in
     ap (λ o. frames_so_far held.least (before ++ o)) (take_more octets size 0 first.3)
     ∙ frames_end held before h (take size octets) first.0 (get_or octets size 0)
-        first.2 c.in_ok-frame-in-Some.ensures.good
+    first.2 c.in_ok-frame-in-Some.ensures.good
     ∙ ap (λ f. frames_so_far held.least before ++ option_to_list f) (sym c.in_ok-frame-in-Some.ensures.frame)
 
 pub returns-in_err-frame-in-Some-clause-bad : goal.returns-in_err-frame-in-Some-clause-bad
 returns-in_err-frame-in-Some-clause-bad c = λ before fault h is.
     let told = err_from_is_err_and c.from_residual.result c.from_residual.ensures.1 in
     let same : c.in_err-frame-in-Some.field-0.0 ≡ Input fault =
-        same_fault _ _ (ap Err (sym told.2) ∙ sym told.1 ∙ is) in
+    same_fault _ _ (ap Err (sym told.2) ∙ sym told.1 ∙ is) in
     let octets = c.args.octets.now in
     let size = c.in-Some.length in
     let held = c.args.self.now in
     let first = first_inside octets size (sym c.in-Some.is ∙ c.line_feed.ensures) in
     subst (λ o. (fault_so_far held.least (before ++ o) ≡ Some fault)
-        × (frames_so_far held.least (before ++ o) ≡ frames_so_far held.least before)) (sym first.1)
+    × (frames_so_far held.least (before ++ o) ≡ frames_so_far held.least before)) (sym first.1)
     (bad_end held before h (take size octets) first.0 (get_or octets size 0) first.2 (drop (size + 1) octets) fault
-        (c.in_err-frame-in-Some.ensures.bad fault (ap Err same)))
+    (c.in_err-frame-in-Some.ensures.bad fault (ap Err same)))
 
 -- ---- the line goes on
 
@@ -75,7 +75,7 @@ returns-in_ok-keep-in-None-clause-frame c = λ before h.
 pub returns-in_err-keep-in-None-clause-bad : goal.returns-in_err-keep-in-None-clause-bad
 returns-in_err-keep-in-None-clause-bad c = λ before fault h is.
     let told = err_from_is_err_and c.from_residual-in_err-keep-in-None.result
-        c.from_residual-in_err-keep-in-None.ensures.1 in
+    c.from_residual-in_err-keep-in-None.ensures.1 in
     let same : c.in_err-keep-in-None.field-0.0 ≡ Input fault = same_fault _ _ (ap Err (sym told.2) ∙ sym told.1 ∙ is) in
     let octets = c.args.octets.now in
     let held = c.args.self.now in

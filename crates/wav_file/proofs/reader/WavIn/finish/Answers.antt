@@ -8,6 +8,6 @@ use Rattle.wav_file.proofs.reader.WavIn.finish.Goals as goal
 pub returns : goal.returns
 returns c =
     let P : Held → Type 0 = λ held. (rates : Rates) (octets : List ℕ) → StandsFor rates held octets
-        → c.verdict.result ≡ verdict_of rates octets in
+    → c.verdict.result ≡ verdict_of rates octets in
     subst P c.self.view_is (λ rates octets stands. c.verdict.ensures
-        ∙ verdict_now rates _ octets stands c.self.invariant)
+    ∙ verdict_now rates _ octets stands c.self.invariant)

@@ -7,5 +7,5 @@ use Rattle.wav_file.proofs.reader.WavIn.of_rates.Goals as goal
 pub returns : goal.returns
 returns c =
     let P : List ℕ → Type 0 = λ unit. StandsFor c.args.rates
-        (record { rates = c.args.rates; position = 0; part = Head; unit = unit }) [] in
+    (record { rates = c.args.rates; position = 0; part = Head; unit = unit }) [] in
     record { stands_for = subst P (sym c.new.ensures) (stands_new c.args.rates) }

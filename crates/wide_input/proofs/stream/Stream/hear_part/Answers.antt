@@ -11,12 +11,12 @@ use Rattle.wide_input.proofs.stream.Stream.hear_part.Goals as goal
 pub feed-requires : goal.feed-requires
 feed-requires c =
     let at : c.self.inside.bank.position ≡ c.args.self.now.bank.position =
-        ap (λ (h : HeldStream). h.bank.position) c.self.view_is in
+    ap (λ (h : HeldStream). h.bank.position) c.self.view_is in
     let part : c.deref.result.now ≡ stream c.self.inside.skipped c.args.block.now
     = c.deref.ensures.value ∙ c.in_ok-self-inside.ensures.part
-        ∙ ap (λ t. t ++ stream c.self.inside.skipped c.args.block.now) c.clear.ensures.items in
+    ∙ ap (λ t. t ++ stream c.self.inside.skipped c.args.block.now) c.clear.ensures.items in
     let few : length c.deref.result.now ≤ length c.args.block.now =
-        omega (arith, ap length part, stream-few c.self.inside.skipped c.args.block.now) in
+    omega (arith, ap length part, stream-few c.self.inside.skipped c.args.block.now) in
     let room = c.requires.room in
     omega arith
 
@@ -25,36 +25,42 @@ returns-clause-heard c =
     let block : List ℤ = c.args.block.now in
     let part : c.deref.result.now ≡ stream c.self.inside.skipped block
     = c.deref.ensures.value ∙ c.in_ok-self-inside.ensures.part
-        ∙ ap (λ t. t ++ stream c.self.inside.skipped block) c.clear.ensures.items in
-    let was : HeldStream = record { bank = c.self.inside.bank; skipped = c.self.inside.skipped;
-        found = option_map (λ v. v.items) c.self.inside.found } in
-    let now : HeldStream = record { bank = c.feed.new.self; skipped = c.in_ok-self-inside.field-0;
-        found = option_map (λ v. v.items) c.self.inside.found } in
+    ∙ ap (λ t. t ++ stream c.self.inside.skipped block) c.clear.ensures.items in
+    let was : HeldStream = record {
+      bank = c.self.inside.bank;
+      skipped = c.self.inside.skipped;
+      found = option_map (λ v. v.items) c.self.inside.found;
+    } in
+    let now : HeldStream = record {
+      bank = c.feed.new.self;
+      skipped = c.in_ok-self-inside.field-0;
+      found = option_map (λ v. v.items) c.self.inside.found;
+    } in
     let P : HeldStream → Type 0 = λ old. IfOk c.feed.result (λ found. (number : ℕ) (x : List ℤ)
-        → StreamStandsFor number old x
+    → StreamStandsFor number old x
     → StreamStandsFor number now (x ++ block) × AreCandidatesBehind (length (stream number x))
-        (stream number (x ++ block)) found.items) in
+    (stream number (x ++ block)) found.items) in
     subst P c.self.view_is (IfOk-weaker c.feed.result
     (λ found. (s : List ℤ) → BankStandsFor c.self.inside.bank s
-        → BankStandsFor c.feed.new.self (s ++ c.deref.result.now)
-        × AreCandidatesBehind (length s) (s ++ c.deref.result.now) found.items)
+    → BankStandsFor c.feed.new.self (s ++ c.deref.result.now)
+    × AreCandidatesBehind (length s) (s ++ c.deref.result.now) found.items)
     (λ found. (number : ℕ) (x : List ℤ) → StreamStandsFor number was x
     → StreamStandsFor number now (x ++ block) × AreCandidatesBehind (length (stream number x))
-        (stream number (x ++ block)) found.items)
+    (stream number (x ++ block)) found.items)
     (λ found fed number x h. heard_part was c.feed.new.self now.found c.in_ok-self-inside.field-0 number x block
-        c.deref.result.now found.items part c.in_ok-self-inside.ensures.skipped fed h)
+    c.deref.result.now found.items part c.in_ok-self-inside.ensures.skipped fed h)
     c.feed.ensures.found)
 
 pub returns-clause-position : goal.returns-clause-position
 returns-clause-position c =
     let at : c.self.inside.bank.position ≡ c.args.self.now.bank.position =
-        ap (λ (h : HeldStream). h.bank.position) c.self.view_is in
+    ap (λ (h : HeldStream). h.bank.position) c.self.view_is in
     let part : c.deref.result.now ≡ stream c.self.inside.skipped c.args.block.now
     = c.deref.ensures.value ∙ c.in_ok-self-inside.ensures.part
-        ∙ ap (λ t. t ++ stream c.self.inside.skipped c.args.block.now) c.clear.ensures.items in
+    ∙ ap (λ t. t ++ stream c.self.inside.skipped c.args.block.now) c.clear.ensures.items in
     let few : length c.deref.result.now ≤ length c.args.block.now =
-        omega (arith, ap length part, stream-few c.self.inside.skipped c.args.block.now) in
+    omega (arith, ap length part, stream-few c.self.inside.skipped c.args.block.now) in
     let past : c.feed.new.self.position ≤ c.self.inside.bank.position + length c.deref.result.now
     = position_past c.feed.result c.self.inside.bank.position c.feed.new.self.position (length c.deref.result.now)
-        c.feed.ensures.position c.feed.ensures.stays in
+    c.feed.ensures.position c.feed.ensures.stays in
     omega arith

@@ -16,26 +16,31 @@ returns-clause-given c =
     let lent : List HeldStream = take c.self.inside.streams.len (heard ++ drop (length heard) old) in
     let back : lent ≡ heard = given_back c.self.inside.streams.len heard old full in
     let each : (number : ℕ) (d : HeldStream) → number < 5
-        → HearsBlock block (get_or old number d) (get_or lent number d)
+    → HearsBlock block (get_or old number d) (get_or lent number d)
     = λ number d small. subst (λ (s : List HeldStream). HearsBlock block (get_or old number d) (get_or s number d))
-        (sym back)
+    (sym back)
     (subst (λ (s : List HeldStream). HearsBlock block (get_or s number d) (get_or heard number d))
-        c.deref_mut.ensures.value (c.hear_in_turn.ensures.heard number d small)) in
+    c.deref_mut.ensures.value (c.hear_in_turn.ensures.heard number d small)) in
     let was : HeldWide
-    = record { streams = old; merger = c.self.inside.merger; position = c.self.inside.position;
-        finished = c.self.inside.finished; spent = c.self.inside.spent } in
+    = record {
+      streams = old;
+      merger = c.self.inside.merger;
+      position = c.self.inside.position;
+      finished = c.self.inside.finished;
+      spent = c.self.inside.spent;
+    } in
     let P : HeldWide → Type 0 = λ held. IfOk c.settle.result (λ items. (x : List ℤ) → StandsFor held x
     → StandsFor c.settle.new.self (x ++ block) × AreWideMergedBetween (least_count x) (least_count (x ++ block))
-        (x ++ block) items.items) in
+    (x ++ block) items.items) in
     subst P c.self.view_is (IfOk-weaker c.settle.result
     (λ items. (before : List HeldStream) (x y : List ℤ) → c.self.inside.finished ≡ false
-        → length x ≡ c.self.inside.position → length y ≡ length block
+    → length x ≡ c.self.inside.position → length y ≡ length block
     → ((number : ℕ) (d : HeldStream) → number < 5 → HearsBlock y (get_or before number d) (get_or lent number d))
     → HaveTaken before c.self.inside.merger x
     → StandsFor c.settle.new.self (x ++ y) × AreWideMergedBetween (least_count x) (least_count (x ++ y)) (x ++ y)
-        items.items)
+    items.items)
     (λ items. (x : List ℤ) → StandsFor was x
     → StandsFor c.settle.new.self (x ++ block) × AreWideMergedBetween (least_count x) (least_count (x ++ block))
-        (x ++ block) items.items)
+    (x ++ block) items.items)
     (λ items given x h. given old x block h.finished (sym h.count) refl each h.taken)
     c.settle.ensures.given)

@@ -1,5 +1,5 @@
-use Rattle.std.proofs.Common.{◌≡◌, ◌+◌, ◌/◌, ◌≤◌, ◌<◌, ◌++◌, ◌∙◌, ℕ, ℤ, List, ap, sym, subst, refl, length,
-    length-append, get_or, take, drop, replicate, false, arith}
+use Rattle.std.proofs.Common.{◌≡◌, ◌+◌, ◌/◌, ◌≤◌, ◌<◌, ◌++◌, ◌∙◌, ℕ, ℤ, List, ap, sym, subst, refl, length}
+use Rattle.std.proofs.Common.{length-append, get_or, take, drop, replicate, false, arith}
 use Rattle.std.specs.List.{All}
 use Rattle.wide_input.specs.Streams.{least_count}
 use Rattle.wide_input.specs.MergedItems.{AreWideMergedBetween}
@@ -10,9 +10,9 @@ use Rattle.wide_input.proofs.wide_bank.WideBank.settle.Goals as goal
 pub merge_found-requires-clause-marks : goal.merge_found-requires-clause-marks
 merge_found-requires-clause-marks c =
     let marks = subst (λ (h : HeldWide). h.merger.marks ≡ replicate 40 (h.position / 5)) (sym c.self.view_is)
-        c.requires.marks in
+    c.requires.marks in
     all_marks 40 (c.self.inside.position / 5) ((c.self.inside.position + c.args.count) / 5) c.self.inside.merger.marks
-        (omega arith) marks
+    (omega arith) marks
 
 pub invariant_of-self-2 : goal.invariant_of-self-2
 invariant_of-self-2 c =
@@ -24,7 +24,7 @@ invariant_of-self-2 c =
     let P : HeldStream → Type 0 = λ held. held.bank.position ≤ most in
     let before : All P c.self.inside.streams.items
     = subst (λ (h : HeldWide). All (λ (held : HeldStream). held.bank.position ≤ h.position + c.args.count) h.streams)
-        (sym c.self.view_is) c.requires.positions in (
+    (sym c.self.view_is) c.requires.positions in (
       ap length back ∙ c.merge_found.ensures.streams,
       λ unspent unfinished. (
         subst (All P) (sym back) (c.in_ok-items.ensures.positions most
@@ -38,23 +38,28 @@ returns-clause-given c =
     let new : List HeldStream = c.merge_found.new.streams in
     let full : c.self.inside.streams.len ≡ length new = sym (c.merge_found.auto.streams ∙ c.deref_mut.ensures.len) in
     let lent : List HeldStream = take c.self.inside.streams.len (new ++ drop (length new) c.self.inside.streams.items)
-        in
+    in
     let back : lent ≡ new = given_back c.self.inside.streams.len new c.self.inside.streams.items full in
     let now : HeldWide
-    = record { streams = lent; merger = c.merge_found.new.merger; position = c.self.inside.position + c.args.count;
-        finished = c.self.inside.finished; spent = false } in
+    = record {
+      streams = lent;
+      merger = c.merge_found.new.merger;
+      position = c.self.inside.position + c.args.count;
+      finished = c.self.inside.finished;
+      spent = false;
+    } in
     let P : HeldWide → Type 0 = λ old. (before : List HeldStream) (x y : List ℤ) → old.finished ≡ false
-        → length x ≡ old.position → length y ≡ c.args.count
+    → length x ≡ old.position → length y ≡ c.args.count
     → ((number : ℕ) (d : HeldStream) → number < 5 → HearsBlock y (get_or before number d) (get_or old.streams number d))
     → HaveTaken before old.merger x
     → StandsFor now (x ++ y) × AreWideMergedBetween (least_count x) (least_count (x ++ y)) (x ++ y)
-        c.in_ok-items.items.items in
+    c.in_ok-items.items.items in
     subst P c.self.view_is (λ before x y unfinished size more heard h.
     let whole : length (x ++ y) ≡ c.self.inside.position + c.args.count
     = length-append x y ∙ ap (λ n. n + length y) size ∙ ap (λ n. c.self.inside.position + n) more in
     let taken = c.in_ok-items.ensures.given before x y whole
     (λ number d small. subst (λ (s : List HeldStream). HearsBlock y (get_or before number d) (get_or s number d))
-        (sym c.deref_mut.ensures.value) (heard number d small)) h in (
+    (sym c.deref_mut.ensures.value) (heard number d small)) h in (
       record {
         spent = refl;
         finished = unfinished;

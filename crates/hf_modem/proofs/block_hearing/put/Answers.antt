@@ -1,9 +1,9 @@
 use Rattle.std.proofs.Common.{◌++◌, sym, subst}
 use Rattle.std.specs.Option.{option_to_list}
 use Rattle.frame_merge.specs.Held.{StandsFor as MergerStandsFor}
-use Rattle.hf_modem.proofs.hearing.put.Goals as goal
+use Rattle.hf_modem.proofs.block_hearing.put.Goals as goal
 
 pub returns-clause-stands_for : goal.returns-clause-stands_for
 returns-clause-stands_for c = λ puts given h.
     subst (λ heard. MergerStandsFor c.put.new.self (puts ++ option_to_list heard) given) (sym c.in-Some.is)
-        (c.in-Ok.ensures.ok puts given h)
+    (c.in-Ok.ensures.ok puts given h)

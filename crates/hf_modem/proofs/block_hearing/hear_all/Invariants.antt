@@ -3,7 +3,7 @@ use Rattle.frame_merge.specs.declared.candidate.Candidate.{Candidate}
 use Rattle.frame_merge.specs.Held.{StandsFor as MergerStandsFor}
 use Rattle.hf_modem.specs.Held.{BankStandsFor}
 use Rattle.hf_modem.specs.Heard.{HasHeard}
-use Rattle.hf_modem.proofs.hearing.hear_all.Given as goal
+use Rattle.hf_modem.proofs.block_hearing.hear_all.Given as goal
 
 abbrev pub invariant-loop-sample : goal.invariant-loop-sample
 invariant-loop-sample l = record {

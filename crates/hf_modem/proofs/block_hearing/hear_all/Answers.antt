@@ -1,5 +1,5 @@
-use Rattle.std.proofs.Common.{◌+◌, ℤ, pos, List, [], ◌∷◌, ◌++◌, FitsSigned, get_or, length, take, ◌∙◌, arith, subst,
-    refl, rules}
+use Rattle.std.proofs.Common.{◌+◌, ℤ, pos, List, [], ◌∷◌, ◌++◌, FitsSigned, get_or, length, take, ◌∙◌, arith, subst}
+use Rattle.std.proofs.Common.{refl, rules}
 use Rattle.std.specs.Option.{option_to_list}
 use Rattle.std.proofs.lemmas.Int.{to_z-of_z}
 use Rattle.std.proofs.lemmas.List.{take_more, take_all}
@@ -8,7 +8,7 @@ use Rattle.hf_modem.specs.Candidates.{AreCandidatesAfter}
 use Rattle.hf_modem.specs.Held.{BankStandsFor}
 use Rattle.hf_modem.specs.Heard.{HasHeard}
 use Rattle.hf_modem.proofs.HearingLemmas.{heard_none, heard_more}
-use Rattle.hf_modem.proofs.hearing.hear_all.Goals as goal
+use Rattle.hf_modem.proofs.block_hearing.hear_all.Goals as goal
 
 pub loop-sample-init : goal.loop-sample-init
 loop-sample-init c = record {
@@ -24,9 +24,9 @@ loop-sample-preserved c =
     let sample : ℤ = get_or block i (pos 0) in
     let fits : FitsSigned w16 sample = search rules in
     let step = subst (λ (z : ℤ). (y : List ℤ) → BankStandsFor c.loop-sample.bank y
-        → BankStandsFor c.push.new.self (y ++ z ∷ [])
+    → BankStandsFor c.push.new.self (y ++ z ∷ [])
     × AreCandidatesAfter (length y) (y ++ z ∷ []) (option_to_list c.in_ok-heard.heard)) (to_z-of_z w16 sample fits)
-        c.in_ok-heard.ensures.heard in
+    c.in_ok-heard.ensures.heard in
     let place = c.loop-sample.invariant.position in
     let inside = c.loop-sample-test.true in
     let further = c.push.ensures.position in
@@ -35,14 +35,14 @@ loop-sample-preserved c =
       marks = c.put.ensures.marks ∙ c.loop-sample.invariant.marks;
       heard = λ x puts given b m.
           heard_more c.loop-sample.bank c.push.new.self c.loop-sample.merger c.put.new.merger x (take i block)
-              (take (i + 1) block) sample puts given
+          (take (i + 1) block) sample puts given
           (option_to_list c.in_ok-heard.heard) (c.loop-sample.invariant.heard x puts given b m)
-              (take_more block i (pos 0) (omega arith)) step c.in_ok-put.ensures.stands_for;
+          (take_more block i (pos 0) (omega arith)) step c.in_ok-put.ensures.stands_for;
     }
 
 pub returns-clause-heard : goal.returns-clause-heard
 returns-clause-heard c = λ x puts given b m.
     let past = c.loop-sample-test.false in
     subst (λ (y : List ℤ). HasHeard c.loop-sample.bank c.loop-sample.merger x y puts given)
-        (take_all c.loop-sample.sample-index c.args.block.now (omega arith))
+    (take_all c.loop-sample.sample-index c.args.block.now (omega arith))
     (c.loop-sample.invariant.heard x puts given b m)
