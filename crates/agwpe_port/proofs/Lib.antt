@@ -1,3 +1,4 @@
+pub mod StreamLemmas
 pub mod ReadingLemmas
 pub mod HeldLemmas
 pub mod WrittenLemmas

@@ -7,12 +7,14 @@
 mod call_field;
 mod fault;
 mod message;
+mod messages;
 mod reader;
 mod writer;
 
 pub use call_field::call_text;
 pub use fault::AgwFault;
 pub use message::AgwMessage;
+pub use messages::read_messages;
 pub use reader::AgwIn;
 pub use writer::write_agw;
 

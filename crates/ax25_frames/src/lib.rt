@@ -7,6 +7,7 @@
 mod control;
 mod fault;
 mod frame;
+mod names;
 mod reading;
 #[cfg(test)]
 mod tests;

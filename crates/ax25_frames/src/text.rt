@@ -5,7 +5,7 @@ ghost use Rattle.ax25_frames.specs.FrameText.{text_of_frame, text_of_frame_fault
 ghost use Rattle.hex.specs.Hex.{encode_lower};
 
 use crate::fault::FrameFault;
-use crate::frame::{Frame, Kind, S, U, W};
+use crate::frame::{Frame, Kind, U, W};
 use ax25_address::{AddrFault, Hop, Path, Role};
 use std::alloc::{AllocError, Global};
 use tnc_base::{Octets, OutOfMemory};
@@ -98,12 +98,12 @@ fn kind_line(alloc: Global, kind: &Kind, command: bool) -> Result<String, OutOfM
             format!(in alloc; "I {role} ns={ns} nr={nr} p={poll} pid={pid}{information}")?
         }
         Kind::Super { which, nr, flag } => {
-            let name = supervisory_word(*which);
+            let name = which.name();
             let flag = u8::from(*flag);
             format!(in alloc; "{name} {role} nr={nr} f={flag}")?
         }
         Kind::Setup { which, flag } => {
-            let name = setup_word(*which);
+            let name = which.name();
             let flag = u8::from(*flag);
             format!(in alloc; "{name} {role} f={flag}")?
         }
@@ -118,7 +118,7 @@ fn kind_line(alloc: Global, kind: &Kind, command: bool) -> Result<String, OutOfM
             flag,
             octets,
         } => {
-            let name = other_word(*which);
+            let name = which.name();
             let flag = u8::from(*flag);
             let information = information_line(alloc, octets)?;
             format!(in alloc; "{name} {role} f={flag}{information}")?
@@ -144,40 +144,4 @@ fn word_of(command: bool) -> &'static str
     ensures { result.now ≡ role_word command }
 {
     if command { "cmd" } else { "rsp" }
-}
-
-/// The name of a supervisory frame.
-fn supervisory_word(which: S) -> &'static str
-    ensures { result.now ≡ supervisory_name which }
-{
-    match which {
-        S::Rr => "RR",
-        S::Rnr => "RNR",
-        S::Rej => "REJ",
-        S::Srej => "SREJ",
-    }
-}
-
-/// The name of a frame that sets up or ends a link.
-fn setup_word(which: U) -> &'static str
-    ensures { result.now ≡ setup_name which }
-{
-    match which {
-        U::Sabm => "SABM",
-        U::Sabme => "SABME",
-        U::Disc => "DISC",
-        U::Dm => "DM",
-        U::Ua => "UA",
-    }
-}
-
-/// The name of another unnumbered frame.
-fn other_word(which: W) -> &'static str
-    ensures { result.now ≡ other_name which }
-{
-    match which {
-        W::Frmr => "FRMR",
-        W::Xid => "XID",
-        W::Test => "TEST",
-    }
 }

@@ -48,7 +48,6 @@ mod MatchedLaws
 mod SeenLemmas
 mod EarLemmas
 mod WordLemmas
-mod StreamLemmas
 mod Loudness
 mod FlightLemmas
 mod StepLemmas

@@ -14,7 +14,7 @@ use Rattle.channel_bench.specs.BenchState.{SideState}
 use Rattle.channel_bench.specs.BenchSteps.{told_octets, told_piece}
 use Rattle.channel_bench.specs.HeldBench.{EarStandsFor, StandsForSide}
 use Rattle.channel_bench.specs.HostProgram.{told_all}
-use Rattle.channel_bench.proofs.StreamLemmas.{behind}
+use Rattle.agwpe_port.proofs.StreamLemmas.{behind}
 
 -- it is another's, and is dropped
 pub told_other : (piece : Piece) (side : SideState) → piece.id ≢ 1 → told_piece piece side ≡ side

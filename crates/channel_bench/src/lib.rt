@@ -14,7 +14,6 @@ mod flight;
 mod laws;
 mod matching;
 mod program;
-mod reading;
 mod report;
 mod requests;
 mod run;

@@ -4,7 +4,7 @@ ghost use Rattle.ax25_frames.specs.FrameText.{supervisory_name, setup_name, othe
 ghost use Rattle.frame_monitor.specs.MonitorText.{description, poll_final_name, poll_final_text};
 
 use ax25_address::Role;
-use ax25_frames::{Kind, S, U, W};
+use ax25_frames::Kind;
 use std::alloc::Global;
 use tnc_base::OutOfMemory;
 
@@ -26,12 +26,12 @@ pub(crate) fn description(alloc: Global, role: Role, kind: &Kind) -> Result<Stri
             format!(in alloc; "<I S{ns} R{nr} pid=0x{pid} Len={len}{poll} >")?
         }
         Kind::Super { which, nr, flag } => {
-            let name = supervisory_word(*which);
+            let name = which.name();
             let flag = poll_final(alloc, role, *flag)?;
             format!(in alloc; "<{name} R{nr}{flag} >")?
         }
         Kind::Setup { which, flag } => {
-            let name = setup_word(*which);
+            let name = which.name();
             let flag = poll_final(alloc, role, *flag)?;
             format!(in alloc; "<{name}{flag} >")?
         }
@@ -46,7 +46,7 @@ pub(crate) fn description(alloc: Global, role: Role, kind: &Kind) -> Result<Stri
             flag,
             octets,
         } => {
-            let name = other_word(*which);
+            let name = which.name();
             let flag = poll_final(alloc, role, *flag)?;
             let len = octets.len();
             format!(in alloc; "<{name}{flag} Len={len} >")?
@@ -72,41 +72,5 @@ fn poll_final_word(role: Role) -> &'static str
         Role::Command => "P",
         Role::Response => "F",
         Role::Old(_) => "PF",
-    }
-}
-
-/// The name of a supervisory frame.
-fn supervisory_word(which: S) -> &'static str
-    ensures { result.now ≡ supervisory_name which }
-{
-    match which {
-        S::Rr => "RR",
-        S::Rnr => "RNR",
-        S::Rej => "REJ",
-        S::Srej => "SREJ",
-    }
-}
-
-/// The name of a frame that sets up or ends a link.
-fn setup_word(which: U) -> &'static str
-    ensures { result.now ≡ setup_name which }
-{
-    match which {
-        U::Sabm => "SABM",
-        U::Sabme => "SABME",
-        U::Disc => "DISC",
-        U::Dm => "DM",
-        U::Ua => "UA",
-    }
-}
-
-/// The name of another unnumbered frame.
-fn other_word(which: W) -> &'static str
-    ensures { result.now ≡ other_name which }
-{
-    match which {
-        W::Frmr => "FRMR",
-        W::Xid => "XID",
-        W::Test => "TEST",
     }
 }

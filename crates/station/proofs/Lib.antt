@@ -20,7 +20,6 @@ mod GiveLemmas
 mod HostLemmas
 mod CallLemmas
 mod RouteLemmas
-mod StreamLemmas
 mod TakeLemmas
 mod AnswerLemmas
 mod ReaderLemmas

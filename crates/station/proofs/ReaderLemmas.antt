@@ -11,7 +11,7 @@ use Rattle.station.specs.declared.host_event.PortKind.{PortKind}
 use Rattle.station.specs.declared.host_event.PortKind.TheVariants.{Kiss, Agw}
 use Rattle.station.specs.HeldReading.{SaysItems, SaysMessages}
 use Rattle.station.specs.StandsFor.{Reads}
-use Rattle.station.proofs.StreamLemmas.{behind}
+use Rattle.agwpe_port.proofs.StreamLemmas.{behind}
 
 pub kiss_stands : (reader next : KissHeld) (kind : PortKind) (stream octets : List ℕ)
     → ((s : List ℕ) → KissStandsFor reader s → KissStandsFor next (s ++ octets)) → Reads (KissReader reader) kind stream

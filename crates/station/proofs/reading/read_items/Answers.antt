@@ -4,7 +4,7 @@ use Rattle.std.proofs.Common.{sym, ◌∙◌, ap, subst, append_assoc}
 use Rattle.kiss_port.specs.Held.{StandsFor}
 use Rattle.kiss_port.specs.declared.item.KissItem.{KissItem}
 use Rattle.kiss_port.specs.Items.{items_in}
-use Rattle.station.proofs.StreamLemmas.{one_more}
+use Rattle.agwpe_port.proofs.StreamLemmas.{one_more}
 use Rattle.station.proofs.reading.read_items.Goals as goal
 
 pub loop-octet-preserved : goal.loop-octet-preserved

@@ -1,22 +1,24 @@
-//! The messages that a host program is sent.
+//! The messages that end in several octets.
 ghost use Rattle.std.specs.Prelude.{◌≡◌, ◌++◌, ℕ, [], ◌∷◌, List, IfOk, OnOk};
 ghost use Rattle.std.specs.Option.{option_to_list};
-ghost use Rattle.agwpe_port.specs.Held.{StandsFor as AgwStandsFor};
+ghost use Rattle.agwpe_port.specs.Held.{StandsFor};
 ghost use Rattle.agwpe_port.specs.Messages.{messages_in};
 
-use agwpe_port::{AgwFault, AgwIn, AgwMessage};
+use crate::fault::AgwFault;
+use crate::message::AgwMessage;
+use crate::reader::AgwIn;
 use std::alloc::Global;
 use tnc_base::OutOfMemory;
 
 /// The messages that end in the octets. None ends past a header that tells too long a body.
-pub(crate) fn read_messages(
+pub fn read_messages(
     alloc: Global,
     reader: &mut AgwIn,
     octets: &[u8],
 ) -> Result<Vec<AgwMessage>, OutOfMemory>
-    ensures stands_for { (stream : List ℕ) → AgwStandsFor reader.old stream
-        → OnOk result (AgwStandsFor reader.new (stream ++ octets.now)) }
-    ensures messages { (stream : List ℕ) → AgwStandsFor reader.old stream
+    ensures stands_for { (stream : List ℕ) → StandsFor reader.old stream
+        → OnOk result (StandsFor reader.new (stream ++ octets.now)) }
+    ensures messages { (stream : List ℕ) → StandsFor reader.old stream
         → IfOk result (λ messages. messages_in (stream ++ octets.now) ≡ messages_in stream ++ messages.items) }
 {
     let mut messages = Vec::new(alloc);
@@ -29,9 +31,9 @@ pub(crate) fn read_messages(
 
 /// The message that an octet ends.
 fn next_message(reader: &mut AgwIn, octet: u8) -> Result<Option<AgwMessage>, OutOfMemory>
-    ensures stands_for { (stream : List ℕ) → AgwStandsFor reader.old stream
-        → OnOk result (AgwStandsFor reader.new (stream ++ octet ∷ [])) }
-    ensures message { (stream : List ℕ) → AgwStandsFor reader.old stream → IfOk result (λ message.
+    ensures stands_for { (stream : List ℕ) → StandsFor reader.old stream
+        → OnOk result (StandsFor reader.new (stream ++ octet ∷ [])) }
+    ensures message { (stream : List ℕ) → StandsFor reader.old stream → IfOk result (λ message.
         messages_in (stream ++ octet ∷ []) ≡ messages_in stream ++ option_to_list message) }
 {
     match reader.push(octet) {

@@ -1,4 +1,4 @@
-use Rattle.channel_bench.proofs.reading.next_message.Goals as goal
+use Rattle.agwpe_port.proofs.messages.next_message.Goals as goal
 
 pub returns-in-Err-BadLength-clause-stands_for : goal.returns-in-Err-BadLength-clause-stands_for
 returns-in-Err-BadLength-clause-stands_for c = λ stream h. c.push.ensures.stands_for stream h

@@ -1,7 +1,7 @@
 use Rattle.std.specs.Prelude.{◌≡◌, ◌++◌, ℕ, List, take}
 use Rattle.agwpe_port.specs.Held.{StandsFor}
 use Rattle.agwpe_port.specs.Messages.{messages_in}
-use Rattle.station.proofs.reading.read_messages.Given as goal
+use Rattle.agwpe_port.proofs.messages.read_messages.Given as goal
 
 -- the octets so far are read, and gave these messages
 abbrev pub invariant-loop-octet : goal.invariant-loop-octet

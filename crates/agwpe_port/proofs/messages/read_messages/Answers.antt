@@ -4,8 +4,8 @@ use Rattle.std.proofs.Common.{sym, ◌∙◌, ap, subst, append_assoc}
 use Rattle.agwpe_port.specs.Held.{StandsFor}
 use Rattle.agwpe_port.specs.declared.message.AgwMessage.{AgwMessage}
 use Rattle.agwpe_port.specs.Messages.{messages_in}
-use Rattle.channel_bench.proofs.StreamLemmas.{one_more}
-use Rattle.channel_bench.proofs.reading.read_messages.Goals as goal
+use Rattle.agwpe_port.proofs.StreamLemmas.{one_more}
+use Rattle.agwpe_port.proofs.messages.read_messages.Goals as goal
 
 pub loop-octet-preserved : goal.loop-octet-preserved
 loop-octet-preserved c =

@@ -1,9 +1,0 @@
-use Rattle.station.proofs.reading.next_message.Goals as goal
-
-pub returns-in-Err-BadLength-clause-stands_for : goal.returns-in-Err-BadLength-clause-stands_for
-returns-in-Err-BadLength-clause-stands_for c = λ stream h. c.push.ensures.stands_for stream h
-    (λ e. absurd (cc (c.in-Err-BadLength.is, e)))
-
-pub returns-in-Err-Failed-clause-stands_for : goal.returns-in-Err-Failed-clause-stands_for
-returns-in-Err-Failed-clause-stands_for c = λ stream h. c.push.ensures.stands_for stream h
-    (λ e. absurd (cc (c.in-Err-Failed.is, e)))
