@@ -1,6 +1,6 @@
 #!/usr/bin/env python3
-"""Draws what `tnc decode`, Dire Wolf's atest and multimon-ng hear as two graphs, from counts that it takes itself: frames heard
-against noise, and against the sender's clock. If the program has `decode --sensitive`, that is one more curve.
+"""Draws what `tnc decode`, `tnc decode --sensitive`, Dire Wolf's atest, soundmodem and multimon-ng hear as two graphs, from counts
+that it takes itself: frames heard against noise, and against the sender's clock.
 
   scripts/score_graphs.py [--tnc PROGRAM] [--frames N] [--draw] [FOLDER]
 
@@ -12,20 +12,25 @@ import functools
 import html
 import os
 import shutil
-import subprocess
 import sys
 import tempfile
 
 import scores
 
-RATIOS = [2, 3, 3.5, 4, 4.5, 5, 5.5, 6, 6.5, 7, 7.5, 8, 9, 10, 12]
+RATIOS = [-2, -1, -0.5, 0, 0.5, 1, 1.5, 2, 2.5, 3, 3.5, 4, 4.5, 5, 5.5, 6, 6.5, 7, 7.5, 8, 9, 10, 12]
 CLOCKS = [0, 100, 300, 400, 500, 750, 1000, 1250, 1500, 2000, 3000, 4000]
 CLOCKS += [-it for it in CLOCKS[1:]]
 OCTETS = (20, 256)
 NAMES = {
-    "tnc": "tnc decode", "sensitive": "tnc decode --sensitive", "atest": "atest (Dire Wolf 1.6)", "multimon-ng": "multimon-ng 1.2.0"
+    "tnc": "tnc decode", "sensitive": "tnc decode --sensitive", "atest": "atest (Dire Wolf 1.6)",
+    "atest-repairing": "atest -P E+ -F 1", "soundmodem": "soundmodem 0.20", "multimon-ng": "multimon-ng 1.2.0"
 }
-COLOURS = {"tnc": "#1f5fbf", "sensitive": "#8e44ad", "atest": "#c0392b", "multimon-ng": "#2e8540"}
+COLOURS = {
+    "tnc": "#1f5fbf", "sensitive": "#8e44ad", "atest": "#c0392b", "atest-repairing": "#e08e0b", "soundmodem": "#555555",
+    "multimon-ng": "#2e8540"
+}
+# The programs of the second graph.
+BY_CLOCK = ("tnc", "sensitive", "atest", "multimon-ng")
 INK, FAINT = "#1b1f24", "#c9ced4"
 
 
@@ -41,19 +46,17 @@ def sounds(count):
             yield f"clock-{octets}", clock, sent, lambda sent=sent, clock=clock: scores.sound(sent, 13, clock=clock)
 
 
-def heard_by_sensitive(tnc, samples, _):
-    run = subprocess.run([tnc, "decode", "--sensitive"], input=scores.octets_of(samples), capture_output=True, check=True)
-    return run.stdout.decode().split()
-
-
 def counted(tnc, count, path):
     """Takes the counts and keeps them in a file: graph, place, and how many of a hundred each program heard."""
-    hears = {"tnc": (scores.heard_by_tnc, bytes.hex)}
-    if subprocess.run([tnc, "decode", "--sensitive"], stdin=subprocess.DEVNULL, capture_output=True).returncode == 0:
-        hears["sensitive"] = (heard_by_sensitive, bytes.hex)
-    hears["atest"] = (scores.heard_by_atest, bytes.hex)
-    hears["multimon-ng"] = (scores.heard_by_multimon, lambda frame: frame[16:].decode())
-    missing = [it for it in ("atest", "multimon-ng", "sox") if not shutil.which(it)]
+    hears = {
+        "tnc": (scores.heard_by_tnc, bytes.hex),
+        "sensitive": (scores.heard_by_sensitive, bytes.hex),
+        "atest": (scores.heard_by_atest, bytes.hex),
+        "atest-repairing": (scores.heard_by_atest_repairing, bytes.hex),
+        "soundmodem": (scores.heard_by_soundmodem, bytes.hex),
+        "multimon-ng": (scores.heard_by_multimon, lambda frame: frame[16:].decode()),
+    }
+    missing = [it for it in ("atest", "soundmodem", "multimon-ng", "sox") if not shutil.which(it)]
     if missing:
         sys.exit(f"score_graphs.py: {', '.join(missing)} is not installed")
     programs, graphs = read(path) if os.path.exists(path) else ([], {})
@@ -65,7 +68,8 @@ def counted(tnc, count, path):
             row = dict((it[0], it[1:]) for it in graphs.get(graph, [])).get(place)
             if row is None:
                 samples = made()
-                of_each = [count_of(sent, it, tnc, samples, room) for it in hears.values()]
+                wanted = hears if graph == "noise" else BY_CLOCK
+                of_each = [count_of(sent, it, tnc, samples, room) if name in wanted else 0 for name, it in hears.items()]
                 row = [100 * it / count for it in of_each]
             print(graph, f"{place:g}", *(f"{it:g}" for it in row), file=file, flush=True)
 
@@ -149,18 +153,18 @@ class Graph:
 
 def draw(programs, graphs, folder):
     """The two pictures."""
-    noise = Graph("Frames heard in white noise", "power of the tones to that of the noise in 4800 Hz, in dB", 2, 12, 2)
+    noise = Graph("Frames heard in white noise", "power of the tones to that of the noise in 4800 Hz, in dB", -2, 12, 2)
     for at, program in enumerate(programs):
         noise.curve([(row[0], row[1 + at]) for row in graphs["noise"]], COLOURS[program])
     noise.key([(NAMES[it], COLOURS[it], False) for it in programs])
     noise.write(f"{folder}/heard-in-noise.svg")
     clock = Graph("Frames heard from a sender whose clock is off", "the sender's clock, in parts per million", -4000, 4000, 1000)
     for octets in OCTETS:
-        for at, program in enumerate(programs):
+        for at, program in ((at, it) for at, it in enumerate(programs) if it in BY_CLOCK):
             points = sorted((row[0], row[1 + at]) for row in graphs[f"clock-{octets}"])
             clock.curve(points, COLOURS[program], octets != OCTETS[0])
     clock.key([
-        (f"{NAMES[it].split(' (')[0]}, {octets} octets", COLOURS[it], octets != OCTETS[0]) for it in programs for octets in OCTETS
+        (f"{NAMES[it].split(' (')[0]}, {octets} octets", COLOURS[it], octets != OCTETS[0]) for it in BY_CLOCK for octets in OCTETS
     ])
     clock.write(f"{folder}/heard-by-clock.svg")
 
