@@ -14,7 +14,8 @@ use ax25_address::read_path;
 use std::alloc::Global;
 use tnc_base::Octets;
 
-/// The frame that the octets are, without a check sequence after them.
+/// The frame that the octets are (AX.25 2.2 section 3), without a check sequence after them. The control fields of I
+/// and S frames are read in the modulus of their link.
 pub fn read_frame(alloc: Global, octets: &[u8], modulus: Modulus) -> Result<Frame, FrameFault>
     ensures frame { IfOk result (λ frame. IsFrame frame modulus octets.now) }
     ensures fault { IfErr result (λ fault. (fault ≡ Memory) ⊎ ShowsFrameFault modulus octets.now fault) }

@@ -10,8 +10,8 @@ use ax25_address::{AddrFault, Hop, Path, Role};
 use std::alloc::{AllocError, Global};
 use tnc_base::{Octets, OutOfMemory};
 
-/// Whether the frame is read as a command. I, UI, SABM, SABME, DISC, XID and TEST are commands and UA, DM
-/// and FRMR responses, whatever the C bits; an S frame is a command if its path's role is.
+/// Whether the frame is read as a command (AX.25 2.2 section 4.3). I, UI, SABM, SABME, DISC, XID and TEST are commands
+/// and UA, DM and FRMR responses, whatever the C bits; an S frame is a command if its path's role is.
 pub fn is_command(frame: &Frame) -> bool
     ensures { result ≡ is_command_of frame.now.path.role frame.now.kind }
 {

@@ -9,8 +9,8 @@ use ax25_address::write_path;
 use std::alloc::Global;
 use tnc_base::{Octets, OutOfMemory};
 
-/// The octets of a frame, without its check sequence. Its sequence numbers are below the modulus, and its
-/// information has at most 256 octets in an I frame and 937 in another. [`read_frame`](crate::read_frame)
+/// The octets of a frame (AX.25 2.2 section 3), without its check sequence. Its sequence numbers are below the modulus,
+/// and its information has at most 256 octets in an I frame and 937 in another. [`read_frame`](crate::read_frame)
 /// reads them in that modulus as the same frame.
 pub fn write_frame(alloc: Global, frame: &Frame, modulus: Modulus) -> Result<Octets, OutOfMemory>
     requires { CanWrite modulus frame.now }

@@ -1,7 +1,7 @@
 -- A frame that is written in one modulus and read in another (AX.25 2.2 sections 4.2 and 3.1). The lowest two bits of the
 -- first control octet tell an I frame, an S frame and a U frame apart in both, so none is taken for another. Modulo 8 an I
 -- or S frame has one control octet, modulo 128 two.
-use Rattle.std.specs.Prelude.{ℕ, ◌+◌, ◌*◌, ◌/◌, ◌%◌, Bool, true, false, ◌==◌, nat_lt, if◌then◌else◌, List, [], ◌∷◌, length, Option, Some, None}
+use Rattle.std.specs.Prelude.{ℕ, ◌+◌, ◌*◌, ◌/◌, ◌%◌, Bool, ◌==◌, nat_lt, if◌then◌else◌, List, [], ◌∷◌, length, Option, Some, None}
 use Rattle.ax25_address.specs.AddressField.{bit}
 use Rattle.ax25_frames.specs.declared.frame.Modulus.{Modulus}
 use Rattle.ax25_frames.specs.declared.frame.Modulus.TheVariants.{Eight, OneTwentyEight}

@@ -1,18 +1,16 @@
 -- An end: its link as a machine, with a record of its set-ups. What the record says never changes what the machine
 -- does.
-use Rattle.std.specs.Prelude.{ℕ, ◌==◌, ◌&&◌, ◌||◌, nat_lt, not, Bool, false, if◌then◌else◌, List, [], ◌∷◌, ◌++◌, length, fold, map, is_some}
+use Rattle.std.specs.Prelude.{ℕ, ◌&&◌, Bool, false, if◌then◌else◌, List, [], ◌∷◌, ◌++◌, length, fold, map, is_some}
 use Rattle.ax25_frames.specs.declared.frame.Frame.{Frame}
 use Rattle.ax25_frames.specs.declared.frame.Kind.{Kind}
 use Rattle.ax25_frames.specs.declared.frame.Kind.TheVariants.{Info, Super, Setup, Ui, Other}
 use Rattle.selective_reject.specs.declared.packet.Packet.{Packet}
-use Rattle.selective_reject.specs.declared.window.Mode.{Mode}
-use Rattle.selective_reject.specs.declared.window.Mode.TheVariants.{Rej, Srej}
-use Rattle.selective_reject.specs.Places.{is_full}
+use Rattle.selective_reject.specs.Incoming.{keeps, took}
 use Rattle.link_machine.specs.declared.acts.Told.{Told}
 use Rattle.link_machine.specs.declared.acts.Told.TheVariants.{Opened, Given, Ended}
 use Rattle.link_machine.specs.declared.state.LinkState.{LinkState}
 use Rattle.link_machine.specs.declared.state.LinkState.TheVariants.{Idle, Calling, Up, Releasing}
-use Rattle.link_machine.specs.Machine.{Machine, is_valid, ahead_of_vr}
+use Rattle.link_machine.specs.Machine.{Machine, is_valid}
 use Rattle.link_machine.specs.Sent.{SentIn, frame_of}
 use Rattle.link_machine.specs.Turn.{Turn}
 use Rattle.link_machine.specs.Event.{Event}
@@ -44,15 +42,9 @@ seen Disconnects = Disconnect
 seen (Ticks waiting) = Tick waiting
 seen (Hears tagged) = Hear tagged.frame
 
--- an I frame is accepted where it is the next, and by SREJ also where it is stored
-abbrev pub accepts_by : Mode → ℕ → Bool → ℕ → Bool
-accepts_by Rej window full ahead = ahead == 0
-accepts_by Srej window full ahead = (ahead == 0) || (nat_lt ahead window && not full)
-
+-- an I frame is accepted if its N(R) is valid and the receiver keeps its packet
 abbrev pub accepts : Machine → Kind → Bool
-accepts m (Info ns nr flag pid octets) =
-    let ahead = ahead_of_vr ns m in
-    is_valid nr m && accepts_by m.incoming.mode m.incoming.window (is_full m.incoming.places ahead) ahead
+accepts m (Info ns nr flag pid octets) = is_valid nr m && keeps (took m.incoming ns)
 accepts m (Super which nr flag) = false
 accepts m (Setup which flag) = false
 accepts m (Ui flag pid octets) = false

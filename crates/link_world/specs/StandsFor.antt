@@ -1,5 +1,5 @@
 -- Which worlds two real links and the frames in flight stand for.
-use Rattle.std.specs.Prelude.{◌≡◌, ℕ, List, map, Option, None}
+use Rattle.std.specs.Prelude.{◌≡◌, ℕ, List, map, Option}
 use Rattle.link_machine.specs.declared.acts.SentFrame.{SentFrame}
 use Rattle.link_machine.specs.Machine.{modulus_named}
 use Rattle.link_machine.specs.StandsFor.{StandsFor as LinkStandsFor}

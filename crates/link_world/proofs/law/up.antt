@@ -9,3 +9,4 @@ pub mod Ticks
 pub mod Progress
 pub mod Flushing
 pub mod Accepting
+pub mod Keeping

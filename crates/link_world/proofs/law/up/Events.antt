@@ -1,5 +1,30 @@
 -- Events of an end that is up: what the layer above asks for, and I and S frames.
-use Rattle.std.proofs.Common.{◌≡◌, ℕ, ◌%◌, ◌<◌, Bool, true, false, ◌&&◌, if◌then◌else◌, List, [], ◌∷◌, ◌++◌, map, Option, Some, None, is_some, refl, sym, ap, ◌∙◌, subst, append-nil}
+use Rattle.std.proofs.Common.{
+  ◌≡◌,
+  ℕ,
+  ◌%◌,
+  ◌<◌,
+  Bool,
+  true,
+  false,
+  ◌&&◌,
+  if◌then◌else◌,
+  List,
+  [],
+  ◌∷◌,
+  ◌++◌,
+  map,
+  Option,
+  Some,
+  None,
+  is_some,
+  refl,
+  sym,
+  ap,
+  ◌∙◌,
+  subst,
+  append-nil,
+}
 use Rattle.std.specs.List.{fold}
 use Rattle.std.proofs.lemmas.Bool.{cond-false}
 use Rattle.ax25_frames.specs.FrameText.{is_command_of}
@@ -7,9 +32,8 @@ use Rattle.ax25_frames.specs.declared.frame.Kind.TheVariants.{Info as InfoKind, 
 use Rattle.link_machine.specs.declared.acts.Told.TheVariants.{Given}
 use Rattle.ax25_frames.specs.declared.frame.S.{S}
 use Rattle.selective_reject.specs.declared.packet.Packet.{Packet}
-use Rattle.selective_reject.specs.Places.{is_full}
+use Rattle.selective_reject.specs.Incoming.{keeps, took}
 use Rattle.link_machine.specs.declared.state.LinkState.TheVariants.{Up as UpState}
-use Rattle.link_machine.specs.Machine.{ahead_of_vr}
 use Rattle.link_machine.specs.Sent.Sent.{InfoSent, SuperSent}
 use Rattle.link_machine.specs.Turn.{Turn, begin, changing, setting}
 use Rattle.link_machine.specs.Event.Event.{Send}
@@ -20,7 +44,7 @@ use Rattle.link_world.proofs.law.reduced.Core.{End, Tagged as CoreTagged, betwee
 use Rattle.link_world.proofs.law.reduced.CoreMoves.{first_origin}
 use Rattle.link_world.proofs.law.reduced.CoreOf.{end_behind, up_end}
 use Rattle.link_world.specs.SetUps.{SetUp, opened, change_last, giving, acting, first_of}
-use Rattle.link_world.specs.Recorded.{RecordedEnd, Happening, accepts_by, accepts, told_of, noting, hearing, hears_ask}
+use Rattle.link_world.specs.Recorded.{RecordedEnd, Happening, accepts, told_of, noting, hearing, hears_ask}
 use Rattle.link_world.specs.Recorded.Happening.{Sends, Disconnects, Hears}
 use Rattle.link_world.proofs.law.showing.PlacesFit.{IsSound, sound_same}
 use Rattle.link_world.proofs.law.moves.Standings.{give_up_keeps}
@@ -31,7 +55,14 @@ use Rattle.link_world.proofs.law.up.Hearing.{IsRead, nr_is_read, hear_super_keep
 use Rattle.link_world.proofs.law.up.Info.{WindowsOf, hear_info_heard}
 use Rattle.link_world.proofs.law.up.Accepting.{HasHeard}
 use Rattle.link_world.proofs.law.invariant.Invariant.{Invariant}
-use Rattle.link_world.proofs.law.showing.Shown.{core_set_up, core_set_ups, core_tagged, change_last-push, getting_all, told_given}
+use Rattle.link_world.proofs.law.showing.Shown.{
+  core_set_up,
+  core_set_ups,
+  core_tagged,
+  change_last-push,
+  getting_all,
+  told_given,
+}
 use Rattle.link_world.proofs.law.showing.Outcome.{Keeps}
 use Rattle.link_world.proofs.law.showing.Heard.{Arrival, heard_as, heard_frame}
 use Rattle.link_world.proofs.law.up.Settling.{EndsUp, progress_in, up_ends}
@@ -142,8 +173,7 @@ up_hears_info {r} {ended} {last} a ns nr packet {y} {rest} {to_y} own windows u 
     let m = r.machine in
     let i = m.incoming in
     let tag = a.set_up in
-    let k = ahead_of_vr (ns % i.modulus) m in
-    let takes : Bool = accepts_by i.mode i.window (is_full i.places k) k in
+    let takes : Bool = keeps (took i (ns % i.modulus)) in
     let g = progress_of r y to_y ended last in
     let up = up_begins u in
     let read : IsRead m nr = nr_is_read refl windows.own up in

@@ -9,7 +9,7 @@ use Rattle.link_machine.specs.Machine.{t1_ticks}
 use Rattle.link_machine.specs.Sent.{sent_in, all_sent_in, infos_from}
 use Rattle.link_machine.specs.Sent.Sent.{InfoSent}
 use Rattle.link_machine.specs.Turn.{Turn}
-use Rattle.link_machine.specs.Acts.{to_send, in_window, flush, send_packets, awaiting, nothing_due, poll}
+use Rattle.link_machine.specs.Acts.{to_send, in_window, flush, send_packets, awaiting, nothing_due}
 use Rattle.link_world.proofs.law.reduced.Core.{End, Running, Tagged, era}
 use Rattle.link_world.proofs.law.reduced.Core.Numbered.{Info}
 use Rattle.link_world.proofs.law.reduced.Core.Kind.{IsNumbered}

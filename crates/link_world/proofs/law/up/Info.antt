@@ -1,27 +1,68 @@
 -- A link that is up hears an I frame.
-use Rattle.std.proofs.Common.{◌≡◌, ℕ, ◌+◌, ◌-◌, ◌%◌, ◌<◌, ◌≤◌, Bool, true, false, ◌&&◌, ◌||◌, not, nat_lt, ◌==◌, if◌then◌else◌, List, [], ◌∷◌, refl, sym, subst, arith, inl, inr}
+use Rattle.std.proofs.Common.{
+  ◌≡◌,
+  ℕ,
+  ◌+◌,
+  ◌-◌,
+  ◌%◌,
+  ◌<◌,
+  ◌≤◌,
+  Bool,
+  true,
+  false,
+  ◌&&◌,
+  ◌||◌,
+  not,
+  nat_lt,
+  ◌==◌,
+  if◌then◌else◌,
+  List,
+  [],
+  ◌∷◌,
+  refl,
+  sym,
+  subst,
+  arith,
+  inl,
+  inr,
+}
 use Rattle.std.proofs.lemmas.Bool.{cond-true, eqb-true, eqb-false, ltb-true, and_parts, not-true, cases_lt}
 use Rattle.ax25_frames.specs.declared.frame.Kind.TheVariants.{Info as InfoKind}
 use Rattle.selective_reject.specs.declared.packet.Packet.{Packet}
 use Rattle.selective_reject.specs.declared.window.Mode.{Mode}
 use Rattle.selective_reject.specs.declared.window.Mode.TheVariants.{Rej as RejMode, Srej as SrejMode}
 use Rattle.selective_reject.specs.Places.{is_full}
-use Rattle.selective_reject.specs.Incoming.{Incoming}
+use Rattle.selective_reject.specs.Incoming.{Incoming, keeps, taking_by, took}
 use Rattle.link_machine.specs.Machine.{named, ahead_of_vr}
 use Rattle.link_machine.specs.Turn.{Turn, changing, setting}
 use Rattle.link_machine.specs.Acts.{answer_poll, reject, owing, with_rej, run_with, give, stored, ask}
-use Rattle.link_machine.specs.Frames.{hear_up, hear_info, hear_info_by, hear_info_by_rej, hear_info_by_srej, take_in_sequence, refuse_out_of_sequence}
+use Rattle.link_machine.specs.Frames.{
+  hear_up,
+  hear_info,
+  hear_info_by,
+  hear_info_by_rej,
+  hear_info_by_srej,
+  take_in_sequence,
+  refuse_out_of_sequence,
+}
 use Rattle.link_world.proofs.law.reduced.Core.{End, Tagged}
 use Rattle.link_world.proofs.law.reduced.Core.Numbered.{Info}
 use Rattle.link_world.proofs.law.reduced.CoreMoves.{numbered_to}
 use Rattle.link_world.proofs.law.reduced.CoreOf.{end_behind}
-use Rattle.link_world.specs.Recorded.{accepts_by}
 use Rattle.link_world.proofs.law.numbers.Deciding.{ns_by_rej, ns_by_srej}
 use Rattle.link_world.proofs.law.showing.PlacesFit.{IsFit}
 use Rattle.link_world.proofs.law.up.Acts.{setting_keeps, acknowledged_keeps, answer_poll_keeps, reject_keeps}
 use Rattle.link_world.proofs.law.up.Progress.{IsUp, Progress}
 use Rattle.link_world.proofs.law.up.Hearing.{IsRead, nr_is_read}
-use Rattle.link_world.proofs.law.up.Accepting.{HasHeard, heard_nothing, heard_then, sequence_heard, run_heard, stored_heard}
+use Rattle.link_world.proofs.law.up.Keeping.{kept_by_rej, kept_by_srej}
+use Rattle.link_world.proofs.law.up.Accepting.{
+  HasHeard,
+  heard_nothing,
+  heard_then,
+  sequence_heard,
+  run_heard,
+  stored_heard,
+}
 
 -- the windows of a hearer in this mode, and of the sender, fit the modulus
 pub record WindowsOf (i : Incoming) (y : End) : Type 0 where
@@ -128,24 +169,28 @@ by_mode_heard :
     (mode : Mode) → WindowsOf turn.now.incoming g.partner → turn.now.incoming.mode ≡ mode → IsFit turn.now.incoming
     → IsUp (numbered_to tag c (Info ns nr packet) ∷ rest) g turn
     → let k = ahead_of_vr (ns % turn.now.incoming.modulus) turn.now in
-    HasHeard rest tag (accepts_by mode turn.now.incoming.window (is_full turn.now.incoming.places k) k) g
+    HasHeard rest tag (keeps (taking_by mode turn.now.incoming.window k (is_full turn.now.incoming.places k))) g
     (hear_info_by mode (ns % turn.now.incoming.modulus) flag packet turn)
-by_mode_heard flag RejMode windows mode fit h = by_rej_heard flag windows mode fit h
-by_mode_heard flag SrejMode windows mode fit h = by_srej_heard flag windows mode fit h
+by_mode_heard {tag} {ns} {packet} {rest} {g} {turn} flag RejMode windows mode fit h =
+    subst (λ b. HasHeard rest tag b g (hear_info_by_rej (ns % turn.now.incoming.modulus) flag packet turn))
+    (sym (kept_by_rej (ahead_of_vr (ns % turn.now.incoming.modulus) turn.now) fit))
+    (by_rej_heard flag windows mode fit h)
+by_mode_heard {tag} {ns} {packet} {rest} {g} {turn} flag SrejMode windows mode fit h =
+    subst (λ b. HasHeard rest tag b g (hear_info_by_srej (ns % turn.now.incoming.modulus) flag packet turn))
+    (sym (kept_by_srej (ahead_of_vr (ns % turn.now.incoming.modulus) turn.now) fit))
+    (by_srej_heard flag windows mode fit h)
 
 -- An I frame as it is heard.
 pub hear_info_heard :
     {tag c ns nr : ℕ} {packet : Packet} {rest : List Tagged} {g : Progress} {turn : Turn}
     (command flag : Bool) → WindowsOf turn.now.incoming g.partner → IsFit turn.now.incoming
     → IsUp (numbered_to tag c (Info ns nr packet) ∷ rest) g turn → let i = turn.now.incoming in
-    let k = ahead_of_vr (ns % i.modulus) turn.now in
-    HasHeard rest tag (accepts_by i.mode i.window (is_full i.places k) k) g
+    HasHeard rest tag (keeps (took i (ns % i.modulus))) g
     (hear_up command (InfoKind (ns % i.modulus) (nr % i.modulus) flag packet.pid packet.octets) turn)
 hear_info_heard {tag} {ns} {nr} {packet} {rest} {g} {turn} command flag windows fit h =
     let m = turn.now in
     let i = m.incoming in
-    let k = ahead_of_vr (ns % i.modulus) m in
-    let accepts = accepts_by i.mode i.window (is_full i.places k) k in
+    let accepts = keeps (took i (ns % i.modulus)) in
     let read : IsRead m nr = nr_is_read refl windows.own h in
     let acked = acknowledged_keeps nr refl h in
     subst (λ t. HasHeard rest tag accepts g t)
