@@ -1,8 +1,9 @@
 -- What the added lanes keep of samples, and what that stands for.
-use Rattle.std.specs.Prelude.{◌≡◌, ℕ, ◌+◌, ◌<◌, nat_lt, if◌then◌else◌, ℤ, List, length, slice_index_or}
+use Rattle.std.specs.Prelude.{◌≡◌, ℕ, ◌+◌, ◌<◌, nat_lt, if◌then◌else◌, Bool, ℤ, List, length, slice_index_or}
 use Rattle.tone_table.specs.declared.tone.Tone.{Tone}
 use Rattle.nrzi_bits.specs.Line.{bits_of, last_tone}
-use Rattle.hdlc_framer.specs.Held.{Held as HeldDeframer, StandsFor as DeframerStandsFor}
+use Rattle.hdlc_framer.specs.Frames.{EndsFrame}
+use Rattle.hdlc_framer.specs.Held.{Held as HeldDeframer, HoldsFrame, StandsFor as DeframerStandsFor}
 use Rattle.tone_tracking.specs.declared.bit_clock.Pull.{Pull}
 use Rattle.tone_tracking.specs.declared.bit_clock.Pull.TheVariants.{Slow, Fast}
 use Rattle.tone_tracking.specs.declared.reach.Reach.TheVariants.{Near, Far}
@@ -21,6 +22,12 @@ pub record HeldLane : Type 0 where
 pub record LaneStandsFor (held : HeldLane) (tones : List Tone) : Type 0 where
   pub before : held.before ≡ last_tone tones
   pub deframer : DeframerStandsFor held.deframer (bits_of tones)
+
+-- a frame ends with the bits, and the lane holds whatever frame that is
+pub record HoldsFrameOf (held : HeldLane) (bits : List Bool) : Type 0 where
+  pub octets : List ℕ
+  pub ends : EndsFrame bits octets
+  pub holds : (frame : List ℕ) → EndsFrame bits frame → HoldsFrame held.deframer frame
 
 -- how many samples were taken, the lists of tones, the clocks on them, and the lanes from lane 8 on
 pub record HeldBank : Type 0 where

@@ -2,13 +2,15 @@
 
 ghost use Rattle.std.specs.Prelude.{◌≡◌, true, ◌+◌, ◌<◌, ◌≤◌, ◌^◌, ℕ, ℤ, List, length, OnOk};
 ghost use Rattle.std.specs.List.{All};
+ghost use Rattle.hdlc_framer.specs.Frames.{IsFrame};
+ghost use Rattle.hdlc_framer.specs.Held.{HoldsFrame};
 ghost use Rattle.tone_tracking.specs.Clock.{changes};
 ghost use Rattle.tone_tracking.specs.Heard.{places_in};
 ghost use Rattle.tone_tracking.specs.HeldLists.{HasTaken as ListsHaveTaken};
 ghost use Rattle.sensitive_receiver.specs.AddedCandidates.{is_in_time};
 ghost use Rattle.sensitive_receiver.specs.Found.{AddsAmong, AddsAt, AddsBelow, CanBePut};
-ghost use Rattle.sensitive_receiver.specs.HeldLanes.{IsLastPlace, LaneStandsFor, LanesAreAt, LanesHaveRead};
-ghost use Rattle.sensitive_receiver.specs.Lanes.{is_read_by, lane_tones};
+ghost use Rattle.sensitive_receiver.specs.HeldLanes.{HoldsFrameOf, IsLastPlace, LaneStandsFor, LanesAreAt, LanesHaveRead};
+ghost use Rattle.sensitive_receiver.specs.Lanes.{is_read_by, lane_bits, lane_tones};
 
 use crate::added_lane::{AddedLane, has_path};
 use crate::readings::{FIRST, Readings, delay_of, list_of};
@@ -152,6 +154,30 @@ fn hear(
     if !lane.push(tone) {
         return Ok(());
     }
+    add_frame(alloc, lists, lane, number, readings, found)
+}
+
+/// Adds the frame that ends with the bit that a lane read last, if it begins with a path and its flag is in time. Few bits
+/// end a frame, so this stays apart from what each bit costs.
+#[cold]
+fn add_frame(
+    alloc: Global,
+    lists: &ToneLists,
+    lane: &AddedLane,
+    number: u8,
+    readings: &Readings,
+    found: &mut Vec<Candidate>,
+) -> Result<(), OutOfMemory>
+    requires number { (8 ≤ number) × (number < 23) }
+    requires reads { is_read_by number readings.now ≡ true }
+    requires holds { (octets : List ℕ) × IsFrame octets × HoldsFrame lane.now.deframer octets }
+    requires room { lists.now.count < 2 ^ 49 }
+    requires place { readings.now.place < 2 ^ 48 }
+    ensures found { OnOk result ((x : List ℤ) → IsLastPlace lists.now readings.now x
+        → HoldsFrameOf lane.now (lane_bits x number (readings.now.place + 1))
+        → AddsAt readings.now.place number x found.old.items found.new.items) }
+    ensures bounds { OnOk result (All CanBePut found.old.items → All CanBePut found.new.items) }
+{
     if !ends_in_time(lists, number) {
         return Ok(());
     }
