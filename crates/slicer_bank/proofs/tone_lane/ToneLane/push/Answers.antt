@@ -1,0 +1,23 @@
+use Rattle.std.proofs.Common.{◌≡◌, ℕ, List, Bool, [], ◌∷◌, ◌++◌, true, ◌∙◌, subst}
+use Rattle.tone_table.specs.declared.tone.Tone.{Tone}
+use Rattle.nrzi_bits.specs.Line.{bits_of}
+use Rattle.hdlc_framer.specs.Frames.{EndsFrame}
+use Rattle.hdlc_framer.specs.Held.{HoldsFrame}
+use Rattle.slicer_bank.proofs.LaneLemmas.{test_of_frame}
+use Rattle.slicer_bank.specs.ToneLanes.{HeldToneLane, ToneLaneStandsFor}
+use Rattle.slicer_bank.proofs.tone_lane.ToneLane.push.Goals as goal
+
+pub returns-clause-frame : goal.returns-clause-frame
+returns-clause-frame c =
+    let P : HeldToneLane → Type 0 = λ old. (tones : List Tone) (octets : List ℕ) → ToneLaneStandsFor old tones
+    → EndsFrame (bits_of (tones ++ c.args.tone ∷ [])) octets → (c.eq.result ≡ true)
+    × HoldsFrame c.push.new.self octets in
+    subst P c.self.view_is (λ tones octets h ends.
+    let more : bits_of (tones ++ c.args.tone ∷ []) ≡ bits_of tones ++ c.step-bit.result ∷ [] =
+    c.step-bit.ensures.bits tones h.before in
+    let last : EndsFrame (bits_of tones ++ c.step-bit.result ∷ []) octets =
+    subst (λ (b : List Bool). EndsFrame b octets) more ends in
+    let told = c.push.ensures.event (bits_of tones) h.deframer in (
+      c.eq.ensures ∙ test_of_frame (bits_of tones) c.step-bit.result c.push.result octets told last,
+      c.push.ensures.frame (bits_of tones) octets h.deframer last,
+    ))
