@@ -9,13 +9,14 @@ use Rattle.frame_merge.specs.declared.candidate.Candidate.{Candidate}
 use Rattle.hf_modem.specs.Decision.{tone_of}
 use Rattle.hf_modem.specs.Windows.{EndsWindow, tones_at, bits}
 use Rattle.hf_modem.specs.Candidates.{AreCandidatesAfter}
-use Rattle.hf_modem.specs.Held.{HeldLane, LaneStandsFor, BankStandsFor, last_window}
+use Rattle.slicer_bank.specs.ToneLanes.{HeldToneLane, ToneLaneStandsFor}
+use Rattle.hf_modem.specs.Held.{BankStandsFor, last_window}
 use Rattle.hf_modem.specs.Heard.{IsHeard}
 use Rattle.hf_modem.proofs.LastWindow.{tones_at-last}
 use Rattle.hf_modem.proofs.LaneLemmas.{lanes_none, lanes_more}
 use Rattle.hf_modem.proofs.HeardLemmas.{lane_hears, nothing_heard}
 
-module _ (lanes : List HeldLane) (recent now : List ℤ) (position : ℕ) (x : List ℤ) (sample : ℤ)
+module _ (lanes : List HeldToneLane) (recent now : List ℤ) (position : ℕ) (x : List ℤ) (sample : ℤ)
     (push : (y : List ℤ) → recent ≡ last_window y → now ≡ last_window (y ++ sample ∷ []))
     (h : BankStandsFor (record { lanes = lanes; recent = recent; position = position }) x) where
   abbrev all : List ℤ
@@ -34,11 +35,12 @@ module _ (lanes : List HeldLane) (recent now : List ℤ) (position : ℕ) (x : L
       )
 
   -- from then on
-  pub bank_more : (offset : ℕ) (was lane : HeldLane) (tone : Tone) (heard : Option Candidate) → length lanes ≡ 32
+  pub bank_more : (offset : ℕ) (was lane : HeldToneLane) (tone : Tone) (heard : Option Candidate) → length lanes ≡ 32
       → 32 ≤ position + 1 → offset ≡ (position + 1) % 32
       → tone ≡ tone_of now
-      → ((tones : List Tone) → LaneStandsFor (get_or lanes offset was) tones → LaneStandsFor lane (tones ++ tone ∷ []))
-      → ((tones : List Tone) → LaneStandsFor (get_or lanes offset was) tones
+      → ((tones : List Tone) → ToneLaneStandsFor (get_or lanes offset was) tones
+      → ToneLaneStandsFor lane (tones ++ tone ∷ []))
+      → ((tones : List Tone) → ToneLaneStandsFor (get_or lanes offset was) tones
       → IsHeard offset (position + 1) (bits_of (tones ++ tone ∷ [])) heard)
       → BankStandsFor (record { lanes = set lanes offset lane; recent = now; position = position + 1 }) all
       × AreCandidatesAfter (length x) all (option_to_list heard)

@@ -1,8 +1,8 @@
--- What a slicer, a lane and a bank of lanes keep, and what that stands for.
+-- What a slicer and a bank of lanes keep, and what that stands for.
 use Rattle.std.specs.Prelude.{◌≡◌, ℕ, ◌<◌, ℤ, pos, List, ◌++◌, length, drop, replicate, slice_index_or}
 use Rattle.tone_table.specs.declared.tone.Tone.{Tone}
-use Rattle.nrzi_bits.specs.Line.{bits_of, last_tone}
-use Rattle.hdlc_framer.specs.Held.{Held as HeldDeframer, StandsFor as DeframerStandsFor}
+use Rattle.nrzi_bits.specs.Line.{last_tone}
+use Rattle.slicer_bank.specs.ToneLanes.{HeldToneLane, ToneLaneStandsFor}
 use Rattle.hf_modem.specs.Windows.{tones_at}
 
 -- what stands before the first sample
@@ -26,23 +26,14 @@ pub record SlicerStandsFor (held : HeldSlicer) (x : List ℤ) : Type 0 where
   pub recent : held.recent ≡ last_window x
   pub before : held.before ≡ last_tone (tones_at held.offset x)
 
--- the tone of the last window, and the deframer of the bits
-pub record HeldLane : Type 0 where
-  pub before : Tone
-  pub deframer : HeldDeframer
-
--- the lane has taken windows of these tones
-pub record LaneStandsFor (held : HeldLane) (tones : List Tone) : Type 0 where
-  pub before : held.before ≡ last_tone tones
-  pub deframer : DeframerStandsFor held.deframer (bits_of tones)
-
 -- each lane has taken the windows at its offset that lie in these samples
-abbrev pub LanesStandFor : List HeldLane → List ℤ → Type 0
+abbrev pub LanesStandFor : List HeldToneLane → List ℤ → Type 0
 LanesStandFor lanes x =
-    (offset : ℕ) (d : HeldLane) → offset < 32 → LaneStandsFor (slice_index_or lanes offset d) (tones_at offset x)
+    (offset : ℕ) (d : HeldToneLane) → offset < 32
+    → ToneLaneStandsFor (slice_index_or lanes offset d) (tones_at offset x)
 
 pub record HeldBank : Type 0 where
-  pub lanes : List HeldLane
+  pub lanes : List HeldToneLane
   pub recent : List ℤ
   pub position : ℕ
 

@@ -5,15 +5,16 @@ ghost use Rattle.std.specs.Option.{option_to_list};
 ghost use Rattle.tone_table.specs.declared.tone.Tone.{Tone};
 ghost use Rattle.nrzi_bits.specs.Line.{bits_of};
 ghost use Rattle.hf_modem.specs.Candidates.{AreCandidatesAfter};
-ghost use Rattle.hf_modem.specs.Held.{LaneStandsFor, BankStandsFor};
+ghost use Rattle.slicer_bank.specs.ToneLanes.{ToneLaneStandsFor};
+ghost use Rattle.hf_modem.specs.Held.{BankStandsFor};
 ghost use Rattle.hf_modem.specs.Heard.{IsHeard};
 ghost use Rattle.hf_modem.specs.HeldDecoder.{CanBePut};
 
 use crate::decision::hf_decide;
-use crate::lane::{Lane, new_lanes};
 use crate::recent::Recent;
 use crate::window::WINDOW;
 use frame_merge::Candidate;
+use slicer_bank::{ToneLane, new_tone_lanes};
 use std::alloc::Global;
 use std::marker::Model;
 use tnc_base::{Octets, OutOfMemory};
@@ -26,7 +27,7 @@ pub(crate) const SAMPLES_AN_END: u64 = 4;
 #[derive(Drop)]
 pub(crate) struct Bank {
     alloc: Global,
-    lanes: Vec<Lane>,
+    lanes: Vec<ToneLane>,
     recent: Recent,
     position: u64,
 }
@@ -50,7 +51,7 @@ impl Bank {
     {
         Ok(Bank {
             alloc,
-            lanes: new_lanes(alloc)?,
+            lanes: new_tone_lanes(alloc, WINDOW)?,
             recent: Recent::new(),
             position: 0,
         })
@@ -88,14 +89,14 @@ impl Bank {
 /// it.
 fn hear(
     alloc: Global,
-    lane: &mut Lane,
+    lane: &mut ToneLane,
     offset: u8,
     at: u64,
     tone: Tone,
 ) -> Result<Option<Candidate>, OutOfMemory>
     requires { offset < 32 }
-    ensures stands_for { (tones : List Tone) → LaneStandsFor lane.old tones → LaneStandsFor lane.new (tones ++ tone ∷ []) }
-    ensures heard { IfOk result (λ heard. (tones : List Tone) → LaneStandsFor lane.old tones
+    ensures stands_for { (tones : List Tone) → ToneLaneStandsFor lane.old tones → ToneLaneStandsFor lane.new (tones ++ tone ∷ []) }
+    ensures heard { IfOk result (λ heard. (tones : List Tone) → ToneLaneStandsFor lane.old tones
         → IsHeard offset at (bits_of (tones ++ tone ∷ [])) heard) }
     ensures bounds { IfOk result (λ heard. IfSome heard CanBePut) }
 {

@@ -12,7 +12,6 @@ mod block_hearing;
 mod correlators;
 mod decision;
 mod decoder;
-mod lane;
 mod laws;
 mod recent;
 mod sending;

@@ -3,10 +3,10 @@ use Rattle.std.specs.Prelude.{◌≡◌, ℕ, ◌<◌, ℤ, pos, List, ◌++◌,
 use Rattle.std.specs.Prelude.{slice_index_or}
 use Rattle.std.specs.List.{All}
 use Rattle.tone_table.specs.declared.tone.Tone.{Tone}
-use Rattle.nrzi_bits.specs.Line.{bits_of, last_tone}
 use Rattle.offset_slicers.specs.Windows.{tones_at}
-use Rattle.hdlc_framer.specs.Held.{Held as HeldDeframer, StandsFor as DeframerStandsFor, flags_asked}
+use Rattle.hdlc_framer.specs.Held.{Held as HeldDeframer, flags_asked}
 use Rattle.frame_merge.specs.declared.candidate.Candidate.{Candidate}
+use Rattle.slicer_bank.specs.ToneLanes.{HeldToneLane, ToneLaneStandsFor}
 
 -- the tone of the last window, the deframer of the bits, and what the lane heard in a job of its own; nothing if the
 -- job
@@ -16,10 +16,13 @@ pub record HeldLane : Type 0 where
   pub deframer : HeldDeframer
   pub heard : Option (List Candidate)
 
+-- what it keeps of the tones of its windows
+abbrev pub tones_kept : HeldLane → HeldToneLane
+tones_kept held = record { before = held.before; deframer = held.deframer }
+
 -- the lane has taken windows of these tones
-pub record LaneStandsFor (held : HeldLane) (tones : List Tone) : Type 0 where
-  pub before : held.before ≡ last_tone tones
-  pub deframer : DeframerStandsFor held.deframer (bits_of tones)
+abbrev pub LaneStandsFor : HeldLane → List Tone → Type 0
+LaneStandsFor held tones = ToneLaneStandsFor (tones_kept held) tones
 
 -- the lane listens for so many flags in a row
 abbrev pub AsksFor : ℕ → HeldLane → Type 0

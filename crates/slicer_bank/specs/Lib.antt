@@ -1,4 +1,5 @@
 pub mod Candidates
+pub mod ToneLanes
 pub mod Held
 pub mod Busy
 pub mod Merging

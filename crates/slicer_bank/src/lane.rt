@@ -1,4 +1,4 @@
-//! One lane: the rule of the line and the deframer of its bits.
+//! One lane of the bank: a lane of tones that takes windows.
 
 ghost use Rattle.std.specs.Prelude.{◌≡◌, ◌↔◌, ℕ, ◌≤◌, ℤ, List, [], ◌∷◌, ◌++◌, length, true, Some, IfOk, OnOk, IsTrue};
 ghost use Rattle.std.specs.List.{All};
@@ -12,9 +12,8 @@ ghost use Rattle.slicer_bank.specs.Busy.{HearsCarrier};
 ghost use Rattle.slicer_bank.specs.Heard.{AreAlike};
 ghost use Rattle.slicer_bank.specs.Held.{AsksFor, LaneStandsFor, LanesStandFor};
 
+use crate::tone_lane::ToneLane;
 use frame_merge::Candidate;
-use hdlc_framer::{Deframer, Event};
-use nrzi_bits::NrziIn;
 use offset_slicers::decide;
 use std::alloc::Global;
 use std::marker::Model;
@@ -23,12 +22,11 @@ use tnc_base::OutOfMemory;
 /// One lane for each offset of a bit.
 pub(crate) const LANES: u64 = 8;
 
-/// The rule of inverted NRZ for the windows of one offset, and the deframer of the bits that it gives. A job on a thread of
-/// its own leaves in `heard` what the lane heard, or `None` if memory ran out.
+/// The lane of the tones of the windows of one offset. A job on a thread of its own leaves in `heard` what the lane heard,
+/// or `None` if memory ran out.
 #[derive(Drop)]
 pub(crate) struct Lane {
-    line: NrziIn,
-    deframer: Deframer,
+    tones: ToneLane,
     pub(crate) heard: Option<Vec<Candidate>>,
 }
 
@@ -38,7 +36,7 @@ impl Model for Lane {
 
     ghost Value = { HeldLane };
 
-    ghost view = { λ s. record { before = s.line; deframer = s.deframer; heard = option_map (λ v. v.items) s.heard } };
+    ghost view = { λ s. record { before = s.tones.before; deframer = s.tones.deframer; heard = option_map (λ v. v.items) s.heard } };
 }
 
 impl Lane {
@@ -49,8 +47,7 @@ impl Lane {
         ensures asks { AsksFor flags result }
     {
         Lane {
-            line: NrziIn::new(),
-            deframer: Deframer::listening(flags),
+            tones: ToneLane::listening(flags),
             heard: None,
         }
     }
@@ -67,8 +64,7 @@ impl Lane {
             → (result ≡ true) × HoldsFrame self.new.deframer octets }
         ensures asks { flags_asked self.new.deframer ≡ flags_asked self.old.deframer }
     {
-        let bit = self.line.step(decide(window));
-        self.deframer.push(bit) == Event::Frame
+        self.tones.push(decide(window))
     }
 
     /// The octets of the frame that the last window ended, without its check sequence.
@@ -76,7 +72,7 @@ impl Lane {
         requires { (octets : List ℕ) × IsFrame octets × HoldsFrame self.now.deframer octets }
         ensures { (octets : List ℕ) → IsFrame octets → HoldsFrame self.now.deframer octets → result.now ≡ octets }
     {
-        self.deframer.octets()
+        self.tones.octets()
     }
 
     /// Whether the bits of the windows hold a carrier of as many flags as the lane listens for.
@@ -84,7 +80,7 @@ impl Lane {
         ensures { (tones : List Tone) → LaneStandsFor self.now tones
             → (IsTrue result ↔ HoldsCarrier (flags_asked self.now.deframer) (bits_of tones)) }
     {
-        self.deframer.busy()
+        self.tones.busy()
     }
 
     /// What the lane heard in its last job, which it keeps no more.

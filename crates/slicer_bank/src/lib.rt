@@ -23,6 +23,7 @@ mod ring_merging;
 mod ring_turn;
 mod stretch_hearing;
 mod stretch_lane;
+mod tone_lane;
 mod window_hearing;
 
 pub use advance::{Advance, LaneGap};
@@ -34,6 +35,7 @@ pub use laws::{blocks_join, items_are_all, items_join, one_list_of_candidates};
 pub use merging::merge;
 pub use ring_bank::RingBank;
 pub use ring_merging::{merge_advance, nothing_is_merged};
+pub use tone_lane::{ToneLane, new_tone_lanes};
 
 #[cfg(test)]
 mod meeting;

@@ -2,7 +2,8 @@ use Rattle.std.proofs.Common.{◌≡◌, ◌∙◌, ℕ, ◌+◌, ℤ, get_or, L
 use Rattle.std.proofs.lemmas.Int.{to_z-of_z}
 use mir.Syntax.{w16}
 use Rattle.hf_modem.specs.Decision.{tone_of}
-use Rattle.hf_modem.specs.Held.{HeldBank, HeldLane, BankStandsFor, LaneStandsFor, last_window}
+use Rattle.slicer_bank.specs.ToneLanes.{HeldToneLane, ToneLaneStandsFor}
+use Rattle.hf_modem.specs.Held.{HeldBank, BankStandsFor, last_window}
 use Rattle.hf_modem.specs.Heard.{IsHeard}
 use Rattle.nrzi_bits.specs.Line.{bits_of}
 use Rattle.hf_modem.proofs.BankLemmas.{bank_early, bank_more}
@@ -25,14 +26,14 @@ pub returns-clause-heard : goal.returns-clause-heard
 returns-clause-heard c = λ x h.
     let s = c.self.inside in
     let stood = subst (λ (held : HeldBank). BankStandsFor held x) (sym c.self.view_is) h in
-    let was : HeldLane = c.index_mut-lane.result.now in
+    let was : HeldToneLane = c.index_mut-lane.result.now in
     let there : was ≡ get_or s.lanes.items c.from.result was = c.index_mut-lane.ensures.value in
     bank_more s.lanes.items s.recent c.push.new.self s.position x c.args.sample
     (passed s.recent c.push.new.self c.args.sample c.ranges.sample c.push.ensures) stood
     c.from.result was c.hear.new.lane c.hf_decide-tone.result c.in_ok-heard.heard c.self.invariant
     c.if-self-lt-WINDOW.false c.from.ensures
     (c.hf_decide-tone.ensures ∙ ap tone_of c.window.ensures)
-    (λ tones stands. c.hear.ensures.stands_for tones (subst (λ l. LaneStandsFor l tones) (sym there) stands))
+    (λ tones stands. c.hear.ensures.stands_for tones (subst (λ l. ToneLaneStandsFor l tones) (sym there) stands))
     (λ tones stands. subst (λ (o : ℕ). IsHeard o (s.position + 1) (bits_of (tones ++ c.hf_decide-tone.result ∷ []))
     c.in_ok-heard.heard) (sym c.from.ensures)
-    (c.in_ok-heard.ensures.heard tones (subst (λ l. LaneStandsFor l tones) (sym there) stands)))
+    (c.in_ok-heard.ensures.heard tones (subst (λ l. ToneLaneStandsFor l tones) (sym there) stands)))

@@ -4,12 +4,12 @@ use Rattle.nrzi_bits.specs.Line.{bits_of}
 use Rattle.hdlc_framer.specs.Frames.{EndsFrame}
 use Rattle.hdlc_framer.specs.Held.{HoldsFrame}
 use Rattle.slicer_bank.proofs.LaneLemmas.{test_of_frame}
-use Rattle.hf_modem.specs.Held.{HeldLane, LaneStandsFor}
-use Rattle.hf_modem.proofs.lane.Lane.push.Goals as goal
+use Rattle.slicer_bank.specs.ToneLanes.{HeldToneLane, ToneLaneStandsFor}
+use Rattle.slicer_bank.proofs.tone_lane.ToneLane.push.Goals as goal
 
 pub returns-clause-frame : goal.returns-clause-frame
 returns-clause-frame c =
-    let P : HeldLane → Type 0 = λ old. (tones : List Tone) (octets : List ℕ) → LaneStandsFor old tones
+    let P : HeldToneLane → Type 0 = λ old. (tones : List Tone) (octets : List ℕ) → ToneLaneStandsFor old tones
     → EndsFrame (bits_of (tones ++ c.args.tone ∷ [])) octets → (c.eq.result ≡ true)
     × HoldsFrame c.push.new.self octets in
     subst P c.self.view_is (λ tones octets h ends.
