@@ -1,10 +1,10 @@
-//! The shortest transmission as raw PCM, from sources that cut it in several ways.
+//! The shortest transmission as raw PCM, from sources that cut it in several ways and from a slow sender.
 
 use crate::decode;
 use std::alloc::{AllocError, Global};
 use std::test::Fail;
 use tnc_base::{MemSink, MemSource};
-use tnc_forms::Fault;
+use tnc_forms::{Fault, InputFault};
 use tnc_words::{AudioForm, DecodeWords, FrameForm, Receiving, SampleRate};
 
 /// The tones of a SABM from N7LEM to NJ7P between two flags and one, 162 bits in all, M for mark and S for space.
@@ -31,6 +31,12 @@ const WORDS: DecodeWords = DecodeWords {
     },
 };
 
+/// By all 23 lanes.
+const SENSITIVE: DecodeWords = DecodeWords {
+    receiving: Receiving::Sensitive,
+    ..WORDS
+};
+
 /// The head of a WAV file of 12,960 octets at 48,000 samples a second.
 const WIDE_HEAD: [u8; 44] =
     *b"RIFF\xc4\x32\0\0WAVEfmt \x10\0\0\0\x01\0\x01\0\x80\xbb\0\0\0\x77\x01\0\x02\0\x10\0data\xa0\x32\0\0";
@@ -46,15 +52,41 @@ fn recording(alloc: Global) -> Result<Vec<u8>, AllocError> {
 fn record(octets: &mut Vec<u8>, times: usize) -> Result<(), AllocError> {
     let mut phase = 0usize;
     for tone in TONES {
-        let step = if *tone == b'M' { 6 } else { 11 };
-        for _ in 0..8 {
-            for _ in 0..times {
-                octets.extend_from_slice(&SINE[phase % 48].to_le_bytes())?;
-            }
-            phase = (phase % 48 + step) % 48;
-        }
+        phase = record_tone(octets, phase, *tone, 8, times)?;
     }
     Ok(())
+}
+
+/// The octets of the samples of a sender whose clock is slow by one part in eighty: each tenth tone has nine samples.
+/// Two bits of silence follow, since an added lane decides a bit together with the two after it.
+fn slow_recording(alloc: Global) -> Result<Vec<u8>, AllocError> {
+    let mut octets = Vec::new(alloc);
+    let mut phase = 0usize;
+    for (index, tone) in TONES.iter().enumerate() {
+        let samples = if index % 10 == 9 { 9 } else { 8 };
+        phase = record_tone(&mut octets, phase, *tone, samples, 1)?;
+    }
+    octets.extend_from_slice(&[0; 32])?;
+    Ok(octets)
+}
+
+/// Appends so many samples of a tone from a phase on, each of them so many times, and gives the phase after them.
+fn record_tone(
+    octets: &mut Vec<u8>,
+    start: usize,
+    tone: u8,
+    samples: usize,
+    times: usize,
+) -> Result<usize, AllocError> {
+    let step = if tone == b'M' { 6 } else { 11 };
+    let mut phase = start;
+    for _ in 0..samples {
+        for _ in 0..times {
+            octets.extend_from_slice(&SINE[phase % 48].to_le_bytes())?;
+        }
+        phase = (phase % 48 + step) % 48;
+    }
+    Ok(phase)
 }
 
 #[test]
@@ -118,16 +150,40 @@ fn samples_at_48000_a_second_give_the_same_line(rt: HostRuntime) -> Result<(), F
 }
 
 #[test]
-fn all_lanes_give_it_once(rt: HostRuntime) -> Result<(), Fail> {
-    let octets = recording(rt.alloc())?;
+fn all_lanes_hear_a_slow_sender_too(rt: HostRuntime) -> Result<(), Fail> {
+    let exact = recording(rt.alloc())?;
+    let slow = slow_recording(rt.alloc())?;
+    let on_threads = DecodeWords {
+        threads: true,
+        ..SENSITIVE
+    };
+    for (octets, words, want) in [
+        (exact.as_slice(), SENSITIVE, LINE.as_slice()),
+        (slow.as_slice(), SENSITIVE, LINE.as_slice()),
+        (slow.as_slice(), on_threads, LINE.as_slice()),
+        (slow.as_slice(), WORDS, [].as_slice()),
+    ] {
+        let octets = octets.to_vec(rt.alloc())?;
+        let mut input = MemSource::new(octets, 4095, Vec::new(rt.alloc()));
+        let mut output = MemSink::new(rt.alloc(), 1000, Vec::new(rt.alloc()))?;
+        let end = decode(&rt, rt.alloc(), words, &mut input, &mut output);
+        assert!(rt; end.is_ok());
+        assert!(rt; output.written() == want, "of {words:?}");
+    }
+    Ok(())
+}
+
+// The rate ends at the 28th octet of a WAV file.
+#[test]
+fn all_lanes_take_no_file_of_48000_a_second(rt: HostRuntime) -> Result<(), Fail> {
+    let octets = WIDE_HEAD.to_vec(rt.alloc())?;
     let mut input = MemSource::new(octets, 4095, Vec::new(rt.alloc()));
     let mut output = MemSink::new(rt.alloc(), 1000, Vec::new(rt.alloc()))?;
     let words = DecodeWords {
-        receiving: Receiving::Sensitive,
-        ..WORDS
+        audio: AudioForm::Wav,
+        ..SENSITIVE
     };
     let end = decode(&rt, rt.alloc(), words, &mut input, &mut output);
-    assert!(rt; end.is_ok());
-    assert!(rt; output.written() == LINE.as_slice());
+    assert!(rt; matches!(end, Err(Fault::Input(InputFault::Wav(_)))));
     Ok(())
 }
