@@ -1,7 +1,7 @@
 -- How an encoding ends whose frames are sent as they come: what each clause says of its answer.
 use Rattle.std.proofs.Common.{◌≡◌, ℕ, ◌+◌, ◌<◌, ◌≤◌, Bool, true, false, true≢false, List, [], ◌++◌, length, take, drop}
 use Rattle.std.proofs.Common.{append_assoc, Option, Some, None, Result, Ok, Err, inl, inr, refl, sym, subst, ap, ◌∙◌}
-use Rattle.std.proofs.Common.{lt-ltb}
+use Rattle.std.proofs.Common.{lt-ltb, arith}
 use Rattle.std.specs.Prelude.{OnOk, OnErr, if◌then◌else◌}
 use Rattle.std.proofs.lemmas.Bool.{cases_lt}
 use Rattle.std.proofs.lemmas.List.{append-nil, take-append-drop}
@@ -14,8 +14,9 @@ use Rattle.tnc_forms.specs.Pcm.{pcm}
 use Rattle.tnc_forms.specs.Reading.{input_limit, piece_limit}
 use Rattle.tnc_forms.specs.Streaming.{IsEnded, WroteFrames, fault_in}
 use Rattle.tnc_forms.specs.Taken.{WereRead}
+use Rattle.tnc_forms.proofs.Ends.{same_fault}
 use Rattle.tnc_forms.proofs.StreamingLemmas.{first_frames}
-use Rattle.tnc_forms.proofs.WrittenParts.{wrote_behind, wrote_front}
+use Rattle.tnc_forms.proofs.WrittenParts.{wrote_behind, wrote_front, wrote_nothing}
 use Rattle.tnc_words.specs.declared.command.AudioForm.{AudioForm}
 use Rattle.tnc_words.specs.declared.command.AudioForm.TheVariants.{Raw, Wav}
 use Rattle.tnc_words.specs.declared.command.EncodeWords.{EncodeWords}
@@ -24,6 +25,7 @@ use Rattle.tnc_encode.specs.Encoded.{fault_of_whole, first_of, keeps_frames, len
 use Rattle.tnc_encode.specs.Encoded.{written_as, written_before}
 use Rattle.tnc_encode.specs.Frames.{form_fault, form_fault_so_far, frames_of_input, frames_so_far}
 use Rattle.tnc_encode.specs.HeldFrames.{IsSignal, form_of}
+use Rattle.tnc_encode.specs.Writing.{EncodesWhole}
 use Rattle.tnc_encode.proofs.FormLemmas.{forms_stay, signals_join}
 
 pub raw_apart : (form : AudioForm) (join : Bool) → keeps_frames form join ≡ false → (form ≡ Raw) × (join ≡ false)
@@ -47,6 +49,29 @@ unfolding fault_of_whole
 whole_too_long words octets over =
     ap (λ b. if b then Some TooLong else first_of (form_fault words.frames octets)
     (length_fault words.audio (length (samples_sent words octets)))) (lt-ltb input_limit (length octets) over)
+
+-- and nothing is written if it cannot be read whole
+pub whole_unread : (words : EncodeWords) (octets : List ℕ) (left was : Option (List ℕ)) (fault : Fault)
+    → (fault ≡ Input TooLong → input_limit < length octets)
+    → (fault ≡ Input TooLong → left ≡ Some (drop (input_limit + 1) octets))
+    → ((other : InputFault) → fault ≡ Input other → other ≡ TooLong)
+    → EncodesWhole words octets left was was (Err fault)
+whole_unread words octets left was fault long stops only =
+    let told : (other : InputFault) → ◌≡◌ {A = Result (Unit {0}) Fault} (Err fault) (Err (Input other))
+    → (other ≡ TooLong) × (fault ≡ Input TooLong) = λ other is.
+    let same = only other (same_fault fault (Input other) is) in
+    (same, same_fault fault (Input other) is ∙ ap Input same) in
+    record {
+      end = tt;
+      good = tt;
+      writes = record {
+        all = λ before is. tt;
+        part = λ before is. wrote_nothing before (encoded words octets) was is;
+      };
+      bad = λ other is. whole_too_long words octets (long (told other is).1) ∙ ap Some (sym (told other is).0);
+      before_bad = λ before other is short e. let over = long (told other e).1 in absurd (omega arith);
+      stops = λ is. stops (same_fault fault (Input TooLong) is);
+    }
 
 -- frames that are sent as they come
 module _ (words : EncodeWords) (sent : keeps_frames words.audio words.join ≡ false) where

@@ -6,3 +6,4 @@ pub mod FormLemmas
 pub mod PieceLemmas
 pub mod EndedLemmas
 pub mod ModemLemmas
+pub mod WritingLemmas

@@ -2,3 +2,4 @@ pub mod Sending
 pub mod Frames
 pub mod Encoded
 pub mod HeldFrames
+pub mod Writing

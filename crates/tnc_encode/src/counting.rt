@@ -1,10 +1,9 @@
 //! How many samples a signal has, and the head of its WAV file.
 ghost use Rattle.std.specs.Prelude.{◌≡◌, ◌≤◌, ◌<◌, ◌+◌, ◌*◌, ◌^◌, All, IfOk, IfErr, OnOk, length, true};
-ghost use Rattle.afsk_modulator.specs.Modulation.{IsLevel};
-ghost use Rattle.hdlc_framer.specs.FrameLength.{IsBadLength};
 ghost use Rattle.wav_file.specs.Head.{head_of};
 ghost use Rattle.tnc_forms.specs.declared.fault.InputFault.{InputFault};
 ghost use Rattle.tnc_encode.specs.Encoded.{most_samples, signal_of, transmissions};
+ghost use Rattle.tnc_encode.specs.Writing.{CanBeSent, CanSend};
 
 use crate::sending::samples_at_once;
 use std::alloc::Global;
@@ -20,10 +19,8 @@ pub(crate) fn count_samples(
     words: EncodeWords,
     frames: &[Octets],
 ) -> Result<u128, OutOfMemory>
-    requires opening { 2 ≤ words.opening }
-    requires closing { 1 ≤ words.closing }
-    requires level { IsLevel words.level }
-    requires lengths { All (λ octets. ¬ IsBadLength octets) frames.now }
+    requires words { CanSend words }
+    requires frames { CanBeSent frames.now }
     ensures { IfOk result (λ count. count ≡ length (signal_of words frames.now)) }
 {
     if words.join {
@@ -39,10 +36,8 @@ pub(crate) fn count_samples(
 
 /// The count of samples if all frames are one transmission.
 fn count_joined(alloc: Global, words: EncodeWords, frames: &[Octets]) -> Result<u128, OutOfMemory>
-    requires opening { 2 ≤ words.opening }
-    requires closing { 1 ≤ words.closing }
-    requires level { IsLevel words.level }
-    requires lengths { All (λ octets. ¬ IsBadLength octets) frames.now }
+    requires words { CanSend words }
+    requires frames { CanBeSent frames.now }
     requires join { words.join ≡ true }
     ensures { IfOk result (λ count. count ≡ length (signal_of words frames.now)) }
 {

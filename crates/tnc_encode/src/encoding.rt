@@ -3,14 +3,13 @@ ghost use Rattle.std.specs.Prelude.{◌≡◌, ◌≢◌, ◌≤◌, ◌<◌, �
 ghost use Rattle.tnc_base.specs.Faults.{HasRisen};
 ghost use Rattle.tnc_base.specs.Streams.{WrotePart};
 ghost use Rattle.afsk_modulator.specs.Modulation.{IsLevel};
-ghost use Rattle.hdlc_framer.specs.FrameLength.{IsBadLength};
-ghost use Rattle.wav_file.specs.Head.{head_of};
 ghost use Rattle.tnc_forms.specs.declared.fault.InputFault.{InputFault};
 ghost use Rattle.tnc_forms.specs.Pcm.{pcm};
 ghost use Rattle.tnc_forms.specs.Reading.{input_limit, piece_limit};
 ghost use Rattle.tnc_forms.specs.Taken.{WereRead};
 ghost use Rattle.tnc_encode.specs.Encoded.{encode_fault, encoded, encoded_before, encoded_so_far, fault_of_whole, keeps_frames, length_fault, samples_at_once, signal_of, written_as, written_before};
 ghost use Rattle.tnc_encode.specs.Frames.{form_fault_so_far};
+ghost use Rattle.tnc_encode.specs.Writing.{CanBeSent, CanSend, CountsFaults, CountsWrites, EncodesWhole, FailsInWriting, Writes};
 
 use crate::counting::{count_samples, head};
 use crate::frames::read_frames;
@@ -108,29 +107,11 @@ fn encode_whole<I: Source, O: Sink>(
     input: &mut I,
     output: &mut O,
 ) -> Result<(), Fault>
-    requires opening { 2 ≤ words.opening }
-    requires closing { 1 ≤ words.closing }
-    requires level { IsLevel words.level }
-    ensures end { (octets : List ℕ) → I.left input.old ≡ Some octets
-        → OnOk result (I.left input.new ≡ Some []) }
-    ensures good { (octets : List ℕ) → I.left input.old ≡ Some octets
-        → OnOk result (fault_of_whole words octets ≡ None) }
-    ensures encoded { (octets before : List ℕ) → I.left input.old ≡ Some octets
-        → O.written output.old ≡ Some before
-        → OnOk result (O.written output.new ≡ Some (before ++ encoded words octets)) }
-    ensures faultless { OnOk result ((I.faults input.new ≡ I.faults input.old) × (O.faults output.new ≡ O.faults output.old)) }
-    ensures bad { (octets : List ℕ) → (fault : InputFault) → I.left input.old ≡ Some octets
-        → IsErrOf result (Fault.Input fault) → fault_of_whole words octets ≡ Some fault }
-    ensures encoded_before { (octets before : List ℕ) → (fault : InputFault) → I.left input.old ≡ Some octets
-        → O.written output.old ≡ Some before → length octets ≤ input_limit
-        → IsErrOf result (Fault.Input fault) → O.written output.new ≡ Some (before ++ encoded_before words octets) }
-    ensures stops { (octets : List ℕ) → I.left input.old ≡ Some octets
-        → IsErrOf result (Fault.Input InputFault.TooLong) → I.left input.new ≡ Some (drop (input_limit + 1) octets) }
-    ensures read { IsErrOf result Fault.Read → HasRisen (I.faults input.old) (I.faults input.new) }
-    ensures write { IsErrOf result Fault.Write → HasRisen (O.faults output.old) (O.faults output.new) }
-    ensures cut { (octets before : List ℕ) → I.left input.old ≡ Some octets
-        → O.written output.old ≡ Some before
-        → OnErr result (WrotePart before (encoded words octets) (O.written output.new)) }
+    requires { CanSend words }
+    ensures whole { (octets : List ℕ) → I.left input.old ≡ Some octets
+        → EncodesWhole words octets (I.left input.new) (O.written output.old) (O.written output.new) result }
+    ensures counts { CountsFaults (I.faults input.old) (I.faults input.new)
+        (O.faults output.old) (O.faults output.new) result }
     ensures unwritten { (result ≡ Err (Fault.Input InputFault.TooLong)) ⊎ (result ≡ Err Fault.Read) → output.new ≡ output.old }
 {
     let octets = read_all(alloc, input)?;
@@ -144,22 +125,16 @@ fn encode_octets<O: Sink>(
     octets: &[u8],
     output: &mut O,
 ) -> Result<(), Fault>
-    requires opening { 2 ≤ words.opening }
-    requires closing { 1 ≤ words.closing }
-    requires level { IsLevel words.level }
+    requires words { CanSend words }
     requires limit { length octets.now ≤ input_limit }
     ensures good { OnOk result (fault_of_whole words octets.now ≡ None) }
-    ensures encoded { (before : List ℕ) → O.written output.old ≡ Some before
-        → OnOk result (O.written output.new ≡ Some (before ++ encoded words octets.now)) }
+    ensures writes { Writes (encoded words octets.now) (O.written output.old) (O.written output.new) result }
     ensures bad { (fault : InputFault) → IsErrOf result (Fault.Input fault)
         → (fault_of_whole words octets.now ≡ Some fault) × (fault ≢ InputFault.TooLong) }
     ensures encoded_before { (before : List ℕ) → (fault : InputFault) → O.written output.old ≡ Some before
         → IsErrOf result (Fault.Input fault) → O.written output.new ≡ Some (before ++ encoded_before words octets.now) }
-    ensures cut { (before : List ℕ) → O.written output.old ≡ Some before
-        → OnErr result (WrotePart before (encoded words octets.now) (O.written output.new)) }
     ensures read { ¬ IsErrOf result Fault.Read }
-    ensures faultless { OnOk result (O.faults output.new ≡ O.faults output.old) }
-    ensures write { IsErrOf result Fault.Write → HasRisen (O.faults output.old) (O.faults output.new) }
+    ensures counts { CountsWrites (O.faults output.old) (O.faults output.new) result }
 {
     let read = read_frames(alloc, words.frames, octets)?;
     match read.fault {
@@ -178,23 +153,16 @@ fn send_as_told<O: Sink>(
     frames: &[Octets],
     output: &mut O,
 ) -> Result<(), Fault>
-    requires opening { 2 ≤ words.opening }
-    requires closing { 1 ≤ words.closing }
-    requires level { IsLevel words.level }
-    requires lengths { All (λ octets. ¬ IsBadLength octets) frames.now }
-    ensures sent { (before : List ℕ) → O.written output.old ≡ Some before
-        → OnOk result (O.written output.new
-        ≡ Some (before ++ written_as words.audio (signal_of words frames.now))) }
+    requires words { CanSend words }
+    requires frames { CanBeSent frames.now }
+    ensures writes { Writes (written_as words.audio (signal_of words frames.now))
+        (O.written output.old) (O.written output.new) result }
     ensures fits { OnOk result (length_fault words.audio (length (signal_of words frames.now)) ≡ None) }
     ensures long { (fault : InputFault) → IsErrOf result (Fault.Input fault)
         → (length_fault words.audio (length (signal_of words frames.now)) ≡ Some fault)
         × (fault ≢ InputFault.TooLong) × (words.audio ≡ AudioForm.Wav) × (output.new ≡ output.old) }
-    ensures cut { (before : List ℕ) → O.written output.old ≡ Some before
-        → OnErr result (WrotePart before (written_as words.audio (signal_of words frames.now))
-        (O.written output.new)) }
     ensures read { ¬ IsErrOf result Fault.Read }
-    ensures faultless { OnOk result (O.faults output.new ≡ O.faults output.old) }
-    ensures write { IsErrOf result Fault.Write → HasRisen (O.faults output.old) (O.faults output.new) }
+    ensures counts { CountsWrites (O.faults output.old) (O.faults output.new) result }
 {
     match words.audio {
         AudioForm::Raw => send_all(alloc, words, frames, output),
@@ -209,19 +177,12 @@ fn send_before_fault<O: Sink>(
     frames: &[Octets],
     output: &mut O,
 ) -> Result<(), Fault>
-    requires opening { 2 ≤ words.opening }
-    requires closing { 1 ≤ words.closing }
-    requires level { IsLevel words.level }
-    requires lengths { All (λ octets. ¬ IsBadLength octets) frames.now }
-    ensures sent { (before : List ℕ) → O.written output.old ≡ Some before
-        → OnOk result (O.written output.new
-        ≡ Some (before ++ written_before words.audio (signal_of words frames.now))) }
-    ensures cut { (before : List ℕ) → O.written output.old ≡ Some before
-        → OnErr result (WrotePart before (written_before words.audio (signal_of words frames.now))
-        (O.written output.new)) }
-    ensures faultless { OnOk result (O.faults output.new ≡ O.faults output.old) }
-    ensures write { IsErrOf result Fault.Write → HasRisen (O.faults output.old) (O.faults output.new) }
-    ensures faults { IfErr result (λ fault. (fault ≡ Fault.Memory) ⊎ (fault ≡ Fault.Write)) }
+    requires words { CanSend words }
+    requires frames { CanBeSent frames.now }
+    ensures writes { Writes (written_before words.audio (signal_of words frames.now))
+        (O.written output.old) (O.written output.new) result }
+    ensures counts { CountsWrites (O.faults output.old) (O.faults output.new) result }
+    ensures faults { FailsInWriting result }
 {
     match words.audio {
         AudioForm::Raw => send_all(alloc, words, frames, output),
@@ -236,22 +197,15 @@ fn send_wav<O: Sink>(
     frames: &[Octets],
     output: &mut O,
 ) -> Result<(), Fault>
-    requires opening { 2 ≤ words.opening }
-    requires closing { 1 ≤ words.closing }
-    requires level { IsLevel words.level }
-    requires lengths { All (λ octets. ¬ IsBadLength octets) frames.now }
-    ensures sent { (before : List ℕ) → O.written output.old ≡ Some before
-        → OnOk result (O.written output.new
-        ≡ Some (before ++ written_as AudioForm.Wav (signal_of words frames.now))) }
+    requires words { CanSend words }
+    requires frames { CanBeSent frames.now }
+    ensures writes { Writes (written_as AudioForm.Wav (signal_of words frames.now))
+        (O.written output.old) (O.written output.new) result }
     ensures fits { OnOk result (length_fault AudioForm.Wav (length (signal_of words frames.now)) ≡ None) }
     ensures long { (fault : InputFault) → IsErrOf result (Fault.Input fault)
         → (length_fault AudioForm.Wav (length (signal_of words frames.now)) ≡ Some fault)
         × (fault ≢ InputFault.TooLong) × (output.new ≡ output.old) }
-    ensures cut { (before : List ℕ) → O.written output.old ≡ Some before
-        → OnErr result (WrotePart before (written_as AudioForm.Wav (signal_of words frames.now))
-        (O.written output.new)) }
-    ensures faultless { OnOk result (O.faults output.new ≡ O.faults output.old) }
-    ensures write { IsErrOf result Fault.Write → HasRisen (O.faults output.old) (O.faults output.new) }
+    ensures counts { CountsWrites (O.faults output.old) (O.faults output.new) result }
     ensures read { ¬ IsErrOf result Fault.Read }
 {
     let count = count_samples(alloc, words, frames)?;
@@ -272,17 +226,11 @@ fn send_all<O: Sink>(
     frames: &[Octets],
     output: &mut O,
 ) -> Result<(), Fault>
-    requires opening { 2 ≤ words.opening }
-    requires closing { 1 ≤ words.closing }
-    requires level { IsLevel words.level }
-    requires lengths { All (λ octets. ¬ IsBadLength octets) frames.now }
-    ensures sent { (before : List ℕ) → O.written output.old ≡ Some before
-        → OnOk result (O.written output.new ≡ Some (before ++ pcm (signal_of words frames.now))) }
-    ensures cut { (before : List ℕ) → O.written output.old ≡ Some before
-        → OnErr result (WrotePart before (pcm (signal_of words frames.now)) (O.written output.new)) }
-    ensures faultless { OnOk result (O.faults output.new ≡ O.faults output.old) }
-    ensures write { IsErrOf result Fault.Write → HasRisen (O.faults output.old) (O.faults output.new) }
-    ensures faults { IfErr result (λ fault. (fault ≡ Fault.Memory) ⊎ (fault ≡ Fault.Write)) }
+    requires words { CanSend words }
+    requires frames { CanBeSent frames.now }
+    ensures writes { Writes (pcm (signal_of words frames.now)) (O.written output.old) (O.written output.new) result }
+    ensures counts { CountsWrites (O.faults output.old) (O.faults output.new) result }
+    ensures faults { FailsInWriting result }
 {
     if words.join {
         return if frames.is_empty() {
@@ -304,19 +252,14 @@ pub(crate) fn send<O: Sink>(
     frames: &[Octets],
     output: &mut O,
 ) -> Result<(), Fault>
-    requires opening { 2 ≤ words.opening }
-    requires closing { 1 ≤ words.closing }
-    requires level { IsLevel words.level }
-    requires lengths { All (λ octets. ¬ IsBadLength octets) frames.now }
-    ensures sent { (before : List ℕ) → O.written output.old ≡ Some before
-        → OnOk result (O.written output.new ≡ Some (before ++ pcm (samples_at_once words frames.now))) }
-    ensures cut { (before : List ℕ) → O.written output.old ≡ Some before
-        → OnErr result (WrotePart before (pcm (samples_at_once words frames.now)) (O.written output.new)) }
+    requires words { CanSend words }
+    requires frames { CanBeSent frames.now }
+    ensures writes { Writes (pcm (samples_at_once words frames.now))
+        (O.written output.old) (O.written output.new) result }
     ensures unwritten { IsErrOf result Fault.Memory → output.new ≡ output.old }
     ensures later { O.faults output.old ≤ O.faults output.new }
-    ensures faultless { OnOk result (O.faults output.new ≡ O.faults output.old) }
-    ensures write { IsErrOf result Fault.Write → HasRisen (O.faults output.old) (O.faults output.new) }
-    ensures faults { IfErr result (λ fault. (fault ≡ Fault.Memory) ⊎ (fault ≡ Fault.Write)) }
+    ensures counts { CountsWrites (O.faults output.old) (O.faults output.new) result }
+    ensures faults { FailsInWriting result }
 {
     let samples = samples_at_once(alloc, words, frames)?;
     let octets = write_pcm(alloc, &samples)?;

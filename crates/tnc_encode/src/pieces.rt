@@ -1,13 +1,12 @@
 //! Frames that are sent as they come, each a transmission of its own, as raw PCM.
 ghost use Rattle.std.specs.Prelude.{◌≡◌, ◌≤◌, ◌<◌, ◌+◌, ◌^◌, ◌++◌, ◌⊎◌, List, ℕ, Some, None, Ok, Err, [], false, length, IfErr, IfSome, OnOk, OnErr, IsErrOf};
 ghost use Rattle.std.specs.Option.{option_to_list};
-ghost use Rattle.tnc_base.specs.Faults.{HasRisen};
-ghost use Rattle.afsk_modulator.specs.Modulation.{IsLevel};
 ghost use Rattle.hdlc_framer.specs.FrameLength.{IsBadLength};
 ghost use Rattle.tnc_forms.specs.declared.fault.InputFault.{InputFault};
 ghost use Rattle.tnc_forms.specs.Streaming.{IsEnded, IsFinished, IsTaken, WroteFrames, WroteSome};
 ghost use Rattle.tnc_words.specs.declared.command.FrameForm.{FrameForm};
 ghost use Rattle.tnc_encode.specs.HeldFrames.{HasTaken, IsReader, IsSignal, form_of, position};
+ghost use Rattle.tnc_encode.specs.Writing.{CanSend, CountsFaults, CountsWrites, FailsInWriting};
 
 use crate::encoding::send;
 use crate::frame_in::FrameIn;
@@ -25,15 +24,12 @@ pub(crate) fn encode_pieces<I: Source, O: Sink>(
     input: &mut I,
     output: &mut O,
 ) -> Result<(), Fault>
-    requires opening { 2 ≤ words.opening }
-    requires closing { 1 ≤ words.closing }
-    requires level { IsLevel words.level }
+    requires words { CanSend words }
     requires apart { words.join ≡ false }
     ensures ended { (octets : List ℕ) → I.left input.old ≡ Some octets → IsEnded (IsSignal words) (form_of words.frames) octets
         (I.left input.new) (O.written output.old) (O.written output.new) result }
-    ensures faultless { OnOk result ((I.faults input.new ≡ I.faults input.old) × (O.faults output.new ≡ O.faults output.old)) }
-    ensures read { IsErrOf result Fault.Read → HasRisen (I.faults input.old) (I.faults input.new) }
-    ensures write { IsErrOf result Fault.Write → HasRisen (O.faults output.old) (O.faults output.new) }
+    ensures counts { CountsFaults (I.faults input.old) (I.faults input.new)
+        (O.faults output.old) (O.faults output.new) result }
 {
     let mut frames = FrameIn::new(alloc, words.frames);
     let mut buffer = [0; PIECE];
@@ -56,9 +52,7 @@ fn send_piece<O: Sink>(
     octets: &[u8],
     output: &mut O,
 ) -> Result<(), Fault>
-    requires opening { 2 ≤ words.opening }
-    requires closing { 1 ≤ words.closing }
-    requires level { IsLevel words.level }
+    requires words { CanSend words }
     requires apart { words.join ≡ false }
     requires reader { IsReader frames.old }
     requires room { position frames.old + length octets.now < 2 ^ 64 }
@@ -68,8 +62,7 @@ fn send_piece<O: Sink>(
         → OnOk result (HasTaken form frames.new (before ++ octets.now)) }
     ensures reader { OnOk result (IsReader frames.new) }
     ensures position { OnOk result (position frames.new ≤ position frames.old + length octets.now) }
-    ensures faultless { OnOk result (O.faults output.new ≡ O.faults output.old) }
-    ensures write { IsErrOf result Fault.Write → HasRisen (O.faults output.old) (O.faults output.new) }
+    ensures counts { CountsWrites (O.faults output.old) (O.faults output.new) result }
     ensures read { ¬ IsErrOf result Fault.Read }
 {
     let mut rest = octets;
@@ -88,16 +81,13 @@ fn send_last<O: Sink>(
     frames: &FrameIn,
     output: &mut O,
 ) -> Result<(), Fault>
-    requires opening { 2 ≤ words.opening }
-    requires closing { 1 ≤ words.closing }
-    requires level { IsLevel words.level }
+    requires words { CanSend words }
     requires apart { words.join ≡ false }
     requires reader { IsReader frames.now }
     requires room { position frames.now < 2 ^ 64 }
     ensures finished { (form : FrameForm) (octets : List ℕ) → HasTaken form frames.now octets
         → IsFinished (IsSignal words) (form_of form) octets (O.written output.old) (O.written output.new) result }
-    ensures faultless { OnOk result (O.faults output.new ≡ O.faults output.old) }
-    ensures write { IsErrOf result Fault.Write → HasRisen (O.faults output.old) (O.faults output.new) }
+    ensures counts { CountsWrites (O.faults output.old) (O.faults output.new) result }
     ensures read { ¬ IsErrOf result Fault.Read }
 {
     let frame = frames.finish()?;
@@ -112,9 +102,7 @@ fn send_frame<O: Sink>(
     frame: Option<Octets>,
     output: &mut O,
 ) -> Result<(), Fault>
-    requires opening { 2 ≤ words.opening }
-    requires closing { 1 ≤ words.closing }
-    requires level { IsLevel words.level }
+    requires words { CanSend words }
     requires apart { words.join ≡ false }
     requires length { IfSome frame (λ octets. ¬ IsBadLength octets) }
     ensures sent { OnOk result (WroteFrames (IsSignal words) (option_to_list frame) (O.written output.old) (O.written output.new)) }
@@ -122,9 +110,8 @@ fn send_frame<O: Sink>(
         → WroteSome (IsSignal words) (option_to_list frame) (O.written output.old) (O.written output.new) }
     ensures unwritten { IsErrOf result Fault.Memory → output.new ≡ output.old }
     ensures later { O.faults output.old ≤ O.faults output.new }
-    ensures faultless { OnOk result (O.faults output.new ≡ O.faults output.old) }
-    ensures write { IsErrOf result Fault.Write → HasRisen (O.faults output.old) (O.faults output.new) }
-    ensures faults { IfErr result (λ fault. (fault ≡ Fault.Memory) ⊎ (fault ≡ Fault.Write)) }
+    ensures counts { CountsWrites (O.faults output.old) (O.faults output.new) result }
+    ensures faults { FailsInWriting result }
 {
     match frame {
         Some(octets) => send(alloc, words, slice::from_ref(&octets), output),

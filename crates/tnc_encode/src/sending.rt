@@ -2,9 +2,9 @@
 ghost use Rattle.std.specs.Prelude.{◌≡◌, ◌≤◌, ◌↔◌, ℕ, All, IfOk, IsErrOf};
 ghost use Rattle.afsk_modulator.specs.Modulation.{IsLevel};
 ghost use Rattle.afsk_modulator.specs.Transmission.{AreFewFlags, IsFirstBadLength};
-ghost use Rattle.hdlc_framer.specs.FrameLength.{IsBadLength};
 ghost use Rattle.tnc_encode.specs.Encoded.{samples_at_once};
 ghost use Rattle.tnc_encode.specs.Sending.{transmission_by};
+ghost use Rattle.tnc_encode.specs.Writing.{CanBeSent, CanSend};
 
 use afsk_modulator::{ModFault, transmission_at};
 use hf_modem::hf_transmission;
@@ -19,10 +19,8 @@ pub(crate) fn samples_at_once(
     words: EncodeWords,
     frames: &[Octets],
 ) -> Result<Vec<i16>, OutOfMemory>
-    requires opening { 2 ≤ words.opening }
-    requires closing { 1 ≤ words.closing }
-    requires level { IsLevel words.level }
-    requires lengths { All (λ octets. ¬ IsBadLength octets) frames.now }
+    requires words { CanSend words }
+    requires frames { CanBeSent frames.now }
     ensures { IfOk result (λ samples. samples.items ≡ samples_at_once words frames.now) }
 {
     let mut samples = Vec::new(alloc);

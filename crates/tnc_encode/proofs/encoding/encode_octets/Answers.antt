@@ -1,12 +1,11 @@
-use Rattle.std.proofs.Common.{◌≡◌, ◌++◌, List, ℕ, Some, length, sym, subst, ap, ◌∙◌}
-use Rattle.std.proofs.lemmas.List.{append-nil}
-use Rattle.tnc_base.specs.Streams.{WrotePart}
-use Rattle.tnc_forms.proofs.Ends.{map_ok, map_err, on_err}
+use Rattle.std.proofs.Common.{◌≡◌, ◌++◌, Some, length, append-nil, sym, ap, ◌∙◌, rules}
+use Rattle.tnc_forms.proofs.Ends.{map_ok, on_err}
 use Rattle.tnc_forms.proofs.WrittenParts.{wrote_all}
 use Rattle.tnc_encode.specs.Encoded.{encoded_before, length_fault, samples_sent, signal_of, written_as, written_before}
 use Rattle.tnc_encode.specs.Frames.{form_fault}
 use Rattle.tnc_encode.proofs.EncodedLemmas.{form_not_long, fault_of_length, fault_of_form, encoded_is}
 use Rattle.tnc_encode.proofs.EncodedLemmas.{encoded_before_is, no_file_before, part_before}
+use Rattle.tnc_encode.proofs.WritingLemmas.{writes_same}
 use Rattle.tnc_encode.proofs.encoding.encode_octets.Goals as goal
 
 -- ---- an input without a fault
@@ -21,14 +20,12 @@ returns-in-None-clause-good g c =
     ∙ ap (λ s. length_fault c.args.words.audio (length s)) (sym same) ∙ fits)
     c.send_as_told.ensures.fits
 
-pub returns-in-None-clause-encoded : goal.returns-in-None-clause-encoded
-returns-in-None-clause-encoded g c = λ before was.
+pub returns-in-None-clause-writes : goal.returns-in-None-clause-writes
+returns-in-None-clause-writes g c =
     let same : signal_of c.args.words c.deref.result.now ≡ samples_sent c.args.words c.args.octets.now =
     ap (λ frames. signal_of c.args.words frames) (c.deref.ensures.value ∙ c.in_ok-read.ensures.frames) in
-    map_ok c.send_as_told.result
-    (λ h. h ∙ ap (λ text. Some (before ++ text)) (ap (written_as c.args.words.audio) same
-    ∙ encoded_is c.args.words c.args.octets.now))
-    (c.send_as_told.ensures.sent before was)
+    writes_same _ _ _ _ _ (ap (written_as c.args.words.audio) same ∙ encoded_is c.args.words c.args.octets.now)
+    c.send_as_told.ensures.writes
 
 pub returns-in-None-clause-bad : goal.returns-in-None-clause-bad
 returns-in-None-clause-bad g c = λ fault is.
@@ -46,25 +43,19 @@ returns-in-None-clause-encoded_before g c = λ before fault was is.
     ap g.O.Sink.written long.3 ∙ was ∙ ap Some (sym (append-nil before))
     ∙ ap (λ text. Some (before ++ text)) (sym (no_file_before c.args.words c.args.octets.now long.2))
 
-pub returns-in-None-clause-cut : goal.returns-in-None-clause-cut
-returns-in-None-clause-cut g c = λ before was.
-    let same : signal_of c.args.words c.deref.result.now ≡ samples_sent c.args.words c.args.octets.now =
-    ap (λ frames. signal_of c.args.words frames) (c.deref.ensures.value ∙ c.in_ok-read.ensures.frames) in
-    map_err c.send_as_told.result
-    (subst (λ (text : List ℕ). WrotePart before text (g.O.Sink.written c.send_as_told.new.output))
-    (ap (written_as c.args.words.audio) same ∙ encoded_is c.args.words c.args.octets.now))
-    (c.send_as_told.ensures.cut before was)
-
 -- ---- an input with a bad line
 
-pub returns-in_err-send_before_fault-in-Some-clause-cut : goal.returns-in_err-send_before_fault-in-Some-clause-cut
-returns-in_err-send_before_fault-in-Some-clause-cut g c = λ before was.
+pub returns-in_err-send_before_fault-in-Some-clause-writes : goal.returns-in_err-send_before_fault-in-Some-clause-writes
+returns-in_err-send_before_fault-in-Some-clause-writes g c =
     let same : signal_of c.args.words c.deref-in-Some.result.now ≡ samples_sent c.args.words c.args.octets.now =
     ap (λ frames. signal_of c.args.words frames) (c.deref-in-Some.ensures.value ∙ c.in_ok-read.ensures.frames) in
-    on_err _ (part_before c.args.words c.args.octets.now before _
-    (subst (λ (text : List ℕ). WrotePart before text (g.O.Sink.written c.send_before_fault.new.output))
-    (ap (written_before c.args.words.audio) same ∙ encoded_before_is c.args.words c.args.octets.now)
-    (c.in_err-send_before_fault-in-Some.ensures.cut before was)))
+    let before_fault = writes_same _ _ _ _ _ (ap (written_before c.args.words.audio) same
+    ∙ encoded_before_is c.args.words c.args.octets.now) c.in_err-send_before_fault-in-Some.ensures.writes in
+    record {
+      all = search rules;
+      part = λ before was. on_err _ (part_before c.args.words c.args.octets.now before _
+          (before_fault.part before was));
+    }
 
 pub returns-clause-bad : goal.returns-clause-bad
 returns-clause-bad g c = λ fault is.
@@ -79,16 +70,18 @@ pub returns-clause-encoded_before : goal.returns-clause-encoded_before
 returns-clause-encoded_before g c = λ before fault was is.
     let same : signal_of c.args.words c.deref-in-Some.result.now ≡ samples_sent c.args.words c.args.octets.now =
     ap (λ frames. signal_of c.args.words frames) (c.deref-in-Some.ensures.value ∙ c.in_ok-read.ensures.frames) in
-    c.in_ok-send_before_fault-in-Some.ensures.sent before was
+    c.in_ok-send_before_fault-in-Some.ensures.writes.all before was
     ∙ ap (λ text. Some (before ++ text)) (ap (written_before c.args.words.audio) same
     ∙ encoded_before_is c.args.words c.args.octets.now)
 
-pub returns-clause-cut : goal.returns-clause-cut
-returns-clause-cut g c = λ before was.
+pub returns-clause-writes : goal.returns-clause-writes
+returns-clause-writes g c =
     let same : signal_of c.args.words c.deref-in-Some.result.now ≡ samples_sent c.args.words c.args.octets.now =
     ap (λ frames. signal_of c.args.words frames) (c.deref-in-Some.ensures.value ∙ c.in_ok-read.ensures.frames) in
-    part_before c.args.words c.args.octets.now before _
-    (wrote_all before (encoded_before c.args.words c.args.octets.now) _
-    (c.in_ok-send_before_fault-in-Some.ensures.sent before was
-    ∙ ap (λ text. Some (before ++ text)) (ap (written_before c.args.words.audio) same
-    ∙ encoded_before_is c.args.words c.args.octets.now)))
+    let before_fault = writes_same _ _ _ _ _ (ap (written_before c.args.words.audio) same
+    ∙ encoded_before_is c.args.words c.args.octets.now) c.in_ok-send_before_fault-in-Some.ensures.writes in
+    record {
+      all = λ before was. tt;
+      part = λ before was. part_before c.args.words c.args.octets.now before _
+          (wrote_all before (encoded_before c.args.words c.args.octets.now) _ (before_fault.all before was));
+    }

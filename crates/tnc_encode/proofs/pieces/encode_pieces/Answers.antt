@@ -103,5 +103,5 @@ reading-preserved g c =
       reader = c.in_ok-send_piece.ensures.reader;
       position = (let b = c.in_ok-send_piece.ensures.position in let d = inv.position in omega (arith, b, d, size));
       read_faultless = c.in_ok-count.ensures.faultless ∙ inv.read_faultless;
-      write_faultless = c.in_ok-send_piece.ensures.faultless ∙ inv.write_faultless;
+      write_faultless = c.in_ok-send_piece.ensures.counts.faultless ∙ inv.write_faultless;
     }

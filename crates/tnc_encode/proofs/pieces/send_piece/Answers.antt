@@ -36,7 +36,7 @@ sending-preserved g c =
       position = subst (λ o. position c.take.new.self + length o
           ≤ position c.args.frames.now + length c.args.octets.now) (sym (take_all _ rest (omega (arith, size))))
           (let a = taken.position in let b = inv.position in let d = taken.count.0 in omega (arith, size, a, b, d));
-      faultless = c.in_ok-send_frame.ensures.faultless ∙ inv.faultless;
+      faultless = c.in_ok-send_frame.ensures.counts.faultless ∙ inv.faultless;
     }
 
 pub returns-in_err-count-clause-sent : goal.returns-in_err-count-clause-sent
