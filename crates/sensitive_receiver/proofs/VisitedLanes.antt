@@ -6,7 +6,7 @@ use Rattle.std.proofs.lemmas.List.{get_or_push, get_or_append_left, length_push,
 use Rattle.frame_merge.specs.declared.candidate.Candidate.{Candidate}
 use Rattle.tone_tracking.specs.HeldLists.{HeldLists}
 use Rattle.sensitive_receiver.specs.declared.readings.Readings.{Readings}
-use Rattle.sensitive_receiver.specs.Found.{AddsAmong, AddsAt, CanBePut}
+use Rattle.sensitive_receiver.specs.Found.{AddsAmong, AddsAt, HasRoom}
 use Rattle.sensitive_receiver.specs.HeldLanes.{HeldLane, LaneStandsFor, LanesAreAt, LanesHaveRead, IsLastPlace}
 use Rattle.sensitive_receiver.specs.Lanes.{lane_tones}
 use Rattle.sensitive_receiver.proofs.PlaceLanes.{adds_next_among, adds_nobody, lane_before, lane_read}
@@ -51,7 +51,7 @@ pub record Visited (lists : HeldLists) (readings : Readings) (old now : List Hel
       → LanesAreAt n now readings.place x
   pub found : (x : List ℤ) → IsLastPlace lists readings x → LanesAreAt first old readings.place x
       → AddsAmong readings.place first n x before after
-  pub bounds : All CanBePut before → All CanBePut after
+  pub bounds : All HasRoom before → All HasRoom after
 
 pub visited_none : (lists : HeldLists) (readings : Readings) (lanes : List HeldLane) (found : List Candidate) (first : ℕ)
     → length lanes ≡ 15
@@ -73,7 +73,7 @@ module _ (lists : HeldLists) (readings : Readings) (old now : List HeldLane) (be
     (adds : (x : List ℤ) → IsLastPlace lists readings x
     → LaneStandsFor (get_or now n was) (lane_tones x (8 + n) readings.place)
     → AddsAt readings.place (8 + n) x found after)
-    (bound : All CanBePut found → All CanBePut after) where
+    (bound : All HasRoom found → All HasRoom after) where
   pub visited_more : Visited lists readings old (set now n lane) before after first (n + 1)
   visited_more =
       let least = h.least in

@@ -8,7 +8,7 @@ ghost use Rattle.tone_tracking.specs.Clock.{changes};
 ghost use Rattle.tone_tracking.specs.Heard.{places_in};
 ghost use Rattle.tone_tracking.specs.HeldLists.{HasTaken as ListsHaveTaken};
 ghost use Rattle.sensitive_receiver.specs.AddedCandidates.{is_in_time};
-ghost use Rattle.sensitive_receiver.specs.Found.{AddsAmong, AddsAt, AddsBelow, CanBePut};
+ghost use Rattle.sensitive_receiver.specs.Found.{AddsAmong, AddsAt, AddsBelow, HasRoom};
 ghost use Rattle.sensitive_receiver.specs.HeldLanes.{HoldsFrameOf, IsLastPlace, LaneStandsFor, LanesAreAt, LanesHaveRead};
 ghost use Rattle.sensitive_receiver.specs.Lanes.{is_read_by, lane_bits, lane_tones};
 
@@ -37,7 +37,7 @@ pub(crate) fn hear_place(
     ensures found { OnOk result ((x : List ℤ) → IsLastPlace lists.now readings.now x
         → LanesHaveRead lanes.old readings.now.place x
         → AddsBelow readings.now.place 23 x found.old.items found.new.items) }
-    ensures bounds { OnOk result (All CanBePut found.old.items → All CanBePut found.new.items) }
+    ensures bounds { OnOk result (All HasRoom found.old.items → All HasRoom found.new.items) }
 {
     hear_fixed(alloc, lists, lanes, readings, found)?;
     hear_clocked(alloc, lists, lanes, 8, 11, readings, found)?;
@@ -62,7 +62,7 @@ fn hear_fixed(
     ensures found { OnOk result ((x : List ℤ) → IsLastPlace lists.now readings.now x
         → LanesAreAt 0 lanes.old readings.now.place x
         → AddsAmong readings.now.place 0 8 x found.old.items found.new.items) }
-    ensures bounds { OnOk result (All CanBePut found.old.items → All CanBePut found.new.items) }
+    ensures bounds { OnOk result (All HasRoom found.old.items → All HasRoom found.new.items) }
 {
     let index = (readings.place % 8) as u8;
     let lane = &mut lanes[usize::from(index)];
@@ -91,7 +91,7 @@ fn hear_clocked(
     ensures found { OnOk result ((x : List ℤ) → IsLastPlace lists.now readings.now x
         → LanesAreAt first lanes.old readings.now.place x
         → AddsAmong readings.now.place first end x found.old.items found.new.items) }
-    ensures bounds { OnOk result (All CanBePut found.old.items → All CanBePut found.new.items) }
+    ensures bounds { OnOk result (All HasRoom found.old.items → All HasRoom found.new.items) }
 {
     if !readings.are_for(FIRST + first) {
         return Ok(());
@@ -120,7 +120,7 @@ fn hear_each(
     ensures found { OnOk result ((x : List ℤ) → IsLastPlace lists.now readings.now x
         → LanesAreAt first lanes.old readings.now.place x
         → AddsAmong readings.now.place first end x found.old.items found.new.items) }
-    ensures bounds { OnOk result (All CanBePut found.old.items → All CanBePut found.new.items) }
+    ensures bounds { OnOk result (All HasRoom found.old.items → All HasRoom found.new.items) }
 {
     for index in first..end {
         let lane = &mut lanes[usize::from(index)];
@@ -148,7 +148,7 @@ fn hear(
     ensures found { OnOk result ((x : List ℤ) → IsLastPlace lists.now readings.now x
         → LaneStandsFor lane.old (lane_tones x number readings.now.place)
         → AddsAt readings.now.place number x found.old.items found.new.items) }
-    ensures bounds { OnOk result (All CanBePut found.old.items → All CanBePut found.new.items) }
+    ensures bounds { OnOk result (All HasRoom found.old.items → All HasRoom found.new.items) }
 {
     let tone = lists.tone_before(list_of(number), delay_of(number));
     if !lane.push(tone) {
@@ -176,7 +176,7 @@ fn add_frame(
     ensures found { OnOk result ((x : List ℤ) → IsLastPlace lists.now readings.now x
         → HoldsFrameOf lane.now (lane_bits x number (readings.now.place + 1))
         → AddsAt readings.now.place number x found.old.items found.new.items) }
-    ensures bounds { OnOk result (All CanBePut found.old.items → All CanBePut found.new.items) }
+    ensures bounds { OnOk result (All HasRoom found.old.items → All HasRoom found.new.items) }
 {
     if !ends_in_time(lists, number) {
         return Ok(());
