@@ -1,8 +1,7 @@
 -- The added lanes as they are made, and visited one after another.
-use Rattle.std.proofs.Common.{◌≡◌, ℕ, ◌+◌, ◌<◌, ◌≤◌, ℤ, List, [], ◌∷◌, ◌++◌, length, get_or, set, refl, ap, sym, subst, ◌∙◌, arith, inl, inr}
+use Rattle.std.proofs.Common.{◌≡◌, ℕ, ◌+◌, ◌<◌, ◌≤◌, ℤ, List, [], length, get_or, set, refl, sym, subst, ◌∙◌, arith}
 use Rattle.std.specs.List.{All}
-use Rattle.std.proofs.lemmas.Bool.{cases_lt}
-use Rattle.std.proofs.lemmas.List.{get_or_push, get_or_append_left, length_push, length-set}
+use Rattle.std.proofs.lemmas.List.{length-set}
 use Rattle.frame_merge.specs.declared.candidate.Candidate.{Candidate}
 use Rattle.tone_tracking.specs.HeldLists.{HeldLists}
 use Rattle.sensitive_receiver.specs.declared.readings.Readings.{Readings}
@@ -15,21 +14,6 @@ use Rattle.sensitive_receiver.proofs.PlaceLanes.{adds_next_among, adds_nobody, l
 pub record AreFresh (n : ℕ) (lanes : List HeldLane) : Type 0 where
   pub count : length lanes ≡ n
   pub each : (k : ℕ) (d : HeldLane) → k < n → LaneStandsFor (get_or lanes k d) []
-
-pub fresh_none : AreFresh 0 []
-fresh_none = record { count = refl; each = λ k d l. absurd (omega arith) }
-
-pub fresh_more : (n : ℕ) (lanes : List HeldLane) (lane : HeldLane) → AreFresh n lanes → LaneStandsFor lane []
-    → AreFresh (n + 1) (lanes ++ lane ∷ [])
-fresh_more n lanes lane h stands = record {
-  count = length_push lanes lane ∙ ap (λ t. t + 1) h.count;
-  each = λ k d l. elim (cases_lt k n) [
-    | inl lt ↦ subst (λ t. LaneStandsFor t [])
-        (sym (get_or_append_left lanes (lane ∷ []) d k (let e = h.count in omega arith))) (h.each k d lt)
-    | inr ge ↦ (let last : k ≡ n = omega arith in
-        subst (λ t. LaneStandsFor t []) (sym (get_or_push lanes lane d k (h.count ∙ sym last))) stands)
-  ];
-}
 
 -- of no places no lane reads a tone
 pub tones_of_none : (x : List ℤ) (lane : ℕ) → lane_tones x lane 0 ≡ []

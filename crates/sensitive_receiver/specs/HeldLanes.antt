@@ -1,9 +1,8 @@
 -- What the added lanes keep of samples, and what that stands for.
 use Rattle.std.specs.Prelude.{◌≡◌, ℕ, ◌+◌, ◌<◌, nat_lt, if◌then◌else◌, Bool, ℤ, List, length, slice_index_or}
-use Rattle.tone_table.specs.declared.tone.Tone.{Tone}
-use Rattle.nrzi_bits.specs.Line.{bits_of, last_tone}
 use Rattle.hdlc_framer.specs.Frames.{EndsFrame}
-use Rattle.hdlc_framer.specs.Held.{Held as HeldDeframer, HoldsFrame, StandsFor as DeframerStandsFor}
+use Rattle.hdlc_framer.specs.Held.{HoldsFrame}
+pub use Rattle.slicer_bank.specs.ToneLanes.{HeldToneLane as HeldLane, ToneLaneStandsFor as LaneStandsFor}
 use Rattle.tone_tracking.specs.declared.bit_clock.Pull.{Pull}
 use Rattle.tone_tracking.specs.declared.bit_clock.Pull.TheVariants.{Slow, Fast}
 use Rattle.tone_tracking.specs.declared.reach.Reach.TheVariants.{Near, Far}
@@ -12,16 +11,6 @@ use Rattle.tone_tracking.specs.Heard.{heard, places_in}
 use Rattle.tone_tracking.specs.HeldLists.{HeldLists, HasTaken as ListsHaveTaken}
 use Rattle.sensitive_receiver.specs.declared.readings.Readings.{Readings}
 use Rattle.sensitive_receiver.specs.Lanes.{lane_tones, readings_at}
-
--- the tone read last, and the deframer of the bits
-pub record HeldLane : Type 0 where
-  pub before : Tone
-  pub deframer : HeldDeframer
-
--- the lane has read these tones
-pub record LaneStandsFor (held : HeldLane) (tones : List Tone) : Type 0 where
-  pub before : held.before ≡ last_tone tones
-  pub deframer : DeframerStandsFor held.deframer (bits_of tones)
 
 -- a frame ends with the bits, and the lane holds whatever frame that is
 pub record HoldsFrameOf (held : HeldLane) (bits : List Bool) : Type 0 where

@@ -10,6 +10,7 @@ use crate::added_lane::AddedLane;
 use crate::hearing::hear_place;
 use crate::readings::{FIRST, LANES, Readings};
 use frame_merge::Candidate;
+use slicer_bank::new_tone_lanes;
 use std::alloc::Global;
 use std::marker::Model;
 use tnc_base::OutOfMemory;
@@ -61,7 +62,7 @@ impl AddedBank {
             slow_near: BitClock::new(Pull::Slow),
             slow_far: BitClock::new(Pull::Slow),
             fast_near: BitClock::new(Pull::Fast),
-            lanes: new_lanes(alloc)?,
+            lanes: new_tone_lanes(alloc, u64::from(LANES - FIRST))?,
         })
     }
 
@@ -109,16 +110,4 @@ impl AddedBank {
         };
         hear_place(self.alloc, &self.lists, &mut self.lanes, &readings, found)
     }
-}
-
-/// The lanes from lane 8 on, which have taken nothing.
-fn new_lanes(alloc: Global) -> Result<Vec<AddedLane>, OutOfMemory>
-    ensures count { IfOk result (λ lanes. length lanes.items ≡ 15) }
-    ensures read { IfOk result (λ lanes. (x : List ℤ) → LanesHaveRead lanes.items 0 x) }
-{
-    let mut lanes = Vec::new(alloc);
-    for _ in 0..LANES - FIRST {
-        lanes.push(AddedLane::new())?;
-    }
-    Ok(lanes)
 }

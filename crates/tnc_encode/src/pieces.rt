@@ -1,5 +1,5 @@
 //! Frames that are sent as they come, each a transmission of its own, as raw PCM.
-ghost use Rattle.std.specs.Prelude.{◌≡◌, ◌≤◌, ◌<◌, ◌+◌, ◌^◌, ◌++◌, ◌⊎◌, List, ℕ, Some, None, Ok, Err, [], false, length, IfErr, IfSome, OnOk, OnErr, IsErrOf};
+ghost use Rattle.std.specs.Prelude.{◌≡◌, ◌≤◌, ◌<◌, ◌+◌, ◌^◌, ◌++◌, List, ℕ, Some, None, Ok, Err, [], false, length, IfSome, OnOk, OnErr, IsErrOf};
 ghost use Rattle.std.specs.Option.{option_to_list};
 ghost use Rattle.hdlc_framer.specs.FrameLength.{IsBadLength};
 ghost use Rattle.tnc_forms.specs.declared.fault.InputFault.{InputFault};

@@ -1,6 +1,7 @@
-use Rattle.std.proofs.Common.{[], refl}
+use Rattle.std.proofs.Common.{[], refl, ◌∙◌, arith}
 use Rattle.tone_tracking.specs.declared.reach.Reach.TheVariants.{Near, Far}
 use Rattle.tone_tracking.specs.Heard.{heard}
+use Rattle.sensitive_receiver.proofs.VisitedLanes.{read_none}
 use Rattle.sensitive_receiver.proofs.added_bank.AddedBank.new.Goals as goal
 
 pub returns-clause-stands_for : goal.returns-clause-stands_for
@@ -14,6 +15,8 @@ returns-clause-stands_for c = record {
       slow_far = c.new-3.ensures.stands_for (heard Far []);
       fast_near = c.new-4.ensures.stands_for (heard Near []);
     };
-    lanes = c.in_ok-new_lanes.ensures.read [];
+    lanes = (let made = c.in_ok-new_tone_lanes.ensures in
+        let count = made.count ∙ c.from.ensures in
+        read_none 15 _ [] refl (record { count = count; each = λ k d l. made.fresh k d (omega (arith, count)) }));
   };
 }
