@@ -33,7 +33,7 @@ use Rattle.tnc_encode.specs.Sending.{signal_by}
 use Rattle.tnc_encode.proofs.EndedLemmas.{fault_kept}
 use Rattle.tnc_main.specs.RoundTrip.{receiving_of, IsWithoutStray}
 use Rattle.tnc_main.proofs.PcmRoundTrip.{IsSample, rate-wav, samples-pcm, samples-wav, signal_fits, hf_signal_fits, wav_whole}
-use Rattle.tnc_main.proofs.SentFrames.{AreOctets, frames_of-fit, frames_sent, transmissions_good}
+use Rattle.tnc_main.proofs.SentFrames.{AreOctets, frames_of_input-fit, frames_sent, transmissions_good}
 use Rattle.tnc_main.proofs.TextLemmas.{merged_text}
 
 some_is_not_none : (fault : InputFault) → Some fault ≡ None → ⊥
