@@ -1,11 +1,42 @@
 -- Words that ask for help or for the version ask for no other command, and for one text.
-use Rattle.std.proofs.Common.{◌≡◌, ◌∷◌, [], ◌&&◌, ◌||◌, Bool, true, false, if◌then◌else◌, Option, Some, None, List, codes, slice_get, refl, sym, ap, ◌∙◌, inl, inr}
+use Rattle.std.proofs.Common.{
+  ◌≡◌,
+  ◌∷◌,
+  [],
+  ◌&&◌,
+  ◌||◌,
+  Bool,
+  true,
+  false,
+  if◌then◌else◌,
+  Option,
+  Some,
+  None,
+  List,
+  codes,
+  slice_get,
+  refl,
+  sym,
+  ap,
+  ◌∙◌,
+  inl,
+  inr,
+}
 use Rattle.std.proofs.lemmas.Slice.Eq.{bytes_eq-Decides}
 use Rattle.std.specs.Str.{bytes_eq}
 use Rattle.clap.specs.Faults.{walk_fault}
 use Rattle.clap.specs.Words.{Kinds, Text}
 use Rattle.tnc_words.specs.declared.command.Command.{Command}
-use Rattle.tnc_words.specs.declared.command.Command.TheVariants.{Decode as ToDecode, Encode as ToEncode, Show as ToShow, Loop as ToLoop, Bench as ToBench, Serve as ToServe, Help, Version}
+use Rattle.tnc_words.specs.declared.command.Command.TheVariants.{
+  Decode as ToDecode,
+  Encode as ToEncode,
+  Show as ToShow,
+  Loop as ToLoop,
+  Bench as ToBench,
+  Serve as ToServe,
+  Help,
+  Version,
+}
 use Rattle.tnc_words.specs.declared.topic.Topic.{Topic}
 use Rattle.tnc_words.specs.declared.topic.Topic.TheVariants.{Program, Decode, Encode, Show, Loop, Bench, Serve}
 use Rattle.tnc_words.specs.Commands.{Asks, first_word}
@@ -102,14 +133,16 @@ IsOther (ToServe words) = Unit {0}
 IsOther (Help topic) = ⊥
 IsOther Version = ⊥
 
-other_is_taken : (words : List Text) (command : Command) → IsOther command → Asks words command → takes_some words ≡ true
+other_is_taken : (words : List Text) (command : Command) → IsOther command → Asks words command
+    → takes_some words ≡ true
 unfolding takes_some
 other_is_taken words (ToDecode decode) other h =
     or_left _ _ (takes_named _ _ words h.named h.taken)
 other_is_taken words (ToEncode encode) other h =
     or_right (takes_decode words) _ (or_left _ _ (takes_named _ _ words h.named h.taken))
 other_is_taken words (ToShow show) other h =
-    or_right (takes_decode words) _ (or_right (takes_encode words) _ (or_left _ _ (takes_named _ _ words h.named h.taken)))
+    or_right (takes_decode words) _ (or_right (takes_encode words) _
+    (or_left _ _ (takes_named _ _ words h.named h.taken)))
 other_is_taken words (ToLoop run) other h =
     or_right (takes_decode words) _ (or_right (takes_encode words) _ (or_right (takes_show words) _
     (or_left _ _ (takes_named _ _ words h.named h.taken))))
@@ -126,7 +159,8 @@ true_is_not_false : true ≡ false → ⊥
 true_is_not_false same = cc
 
 pub help_alone :
-    (words : List Text) (topic : Topic) (command : Command) → IsHelp words topic → IsOther command → Asks words command → ⊥
+    (words : List Text) (topic : Topic) (command : Command) → IsHelp words topic → IsOther command → Asks words command
+    → ⊥
 help_alone words topic command h other k =
     true_is_not_false (sym (other_is_taken words command other k) ∙ help_takes_none words topic h)
 

@@ -1,6 +1,35 @@
 -- What clap found for an option.
-use Rattle.std.proofs.Common.{◌≡◌, Bool, true, false, true≢false, ◌&&◌, Option, Some, None, find, refl, ap, ◌∙◌, sym, subst}
-use Rattle.std.specs.Prelude.{option_map, option_and_then, Result, Ok, Err, IfOk, IfSome, IsNone, IsErrAnd, IsErrOf, is_ok, ok_or}
+use Rattle.std.proofs.Common.{
+  ◌≡◌,
+  Bool,
+  true,
+  false,
+  true≢false,
+  ◌&&◌,
+  Option,
+  Some,
+  None,
+  find,
+  refl,
+  ap,
+  ◌∙◌,
+  sym,
+  subst,
+}
+use Rattle.std.specs.Prelude.{
+  option_map,
+  option_and_then,
+  Result,
+  Ok,
+  Err,
+  IfOk,
+  IfSome,
+  IsNone,
+  IsErrAnd,
+  IsErrOf,
+  is_ok,
+  ok_or,
+}
 use Rattle.std.specs.Str.{bytes_eq}
 use Rattle.clap.specs.Matches.{matched_of}
 use Rattle.clap.specs.Walk.{row_of}
@@ -36,7 +65,8 @@ pub passed_on : {T E : Type 0} (r : Result T E) (e f : E) → IsErrOf r f → Is
 passed_on r e f h k = let same : f ≡ e = subst (λ q. IsErrAnd q (λ x. x ≡ e)) h k in sym same
 
 -- an answer that is there or else an error: what it is
-pub chosen : {T E : Type 0} (o : Option T) (r : Result T E) (e : E) (Q : T → Type 0) {P : T → Type 0} → r ≡ ok_or o e → ((x : T) → P x → Q x) → IfSome o P → IfOk r Q
+pub chosen : {T E : Type 0} (o : Option T) (r : Result T E) (e : E) (Q : T → Type 0) {P : T → Type 0} → r ≡ ok_or o e
+    → ((x : T) → P x → Q x) → IfSome o P → IfOk r Q
 chosen (Some x) r e Q is f h = subst (λ q. IfOk q Q) (sym is) (f x h)
 chosen None r e Q is f h = subst (λ q. IfOk q Q) (sym is) tt
 

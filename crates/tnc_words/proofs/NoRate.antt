@@ -7,7 +7,8 @@ use Rattle.tnc_words.specs.declared.command.SampleRate.{SampleRate}
 use Rattle.tnc_words.specs.declared.command.SampleRate.TheVariants.{Narrow}
 use Rattle.tnc_words.specs.Rates.{HasRate, HasReceiving}
 
-pub no_rate : (found : List Row) → ((rate : SampleRate) → HasRate found rate → ⊥) → (receiving : Receiving) → HasReceiving found receiving → ⊥
+pub no_rate : (found : List Row) → ((rate : SampleRate) → HasRate found rate → ⊥) → (receiving : Receiving)
+    → HasReceiving found receiving → ⊥
 no_rate found none (Standard rate) h = none rate h.2
 no_rate found none Sensitive h = none Narrow h.2
 no_rate found none ShortWave h = none Narrow h.3

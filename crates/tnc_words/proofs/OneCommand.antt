@@ -7,7 +7,16 @@ use Rattle.ax25_frames.specs.ControlField.{numbers}
 use Rattle.ax25_frames.specs.declared.frame.Modulus.{Modulus}
 use Rattle.ax25_frames.specs.declared.frame.Modulus.TheVariants.{Eight, OneTwentyEight}
 use Rattle.tnc_words.specs.declared.command.Command.{Command}
-use Rattle.tnc_words.specs.declared.command.Command.TheVariants.{Decode, Encode, Show, Loop, Bench, Serve, Help, Version}
+use Rattle.tnc_words.specs.declared.command.Command.TheVariants.{
+  Decode,
+  Encode,
+  Show,
+  Loop,
+  Bench,
+  Serve,
+  Help,
+  Version,
+}
 use Rattle.tnc_words.specs.declared.command.DecodeWords.{DecodeWords}
 use Rattle.tnc_words.specs.declared.command.Receiving.{Receiving}
 use Rattle.tnc_words.specs.declared.command.Receiving.TheVariants.{Standard, Sensitive, ShortWave}
@@ -20,7 +29,14 @@ use Rattle.tnc_words.specs.declared.command.BenchOptions.{BenchOptions}
 use Rattle.tnc_words.specs.declared.command.ServeOptions.{ServeOptions}
 use Rattle.tnc_words.specs.declared.topic.Topic.{Topic}
 use Rattle.tnc_words.specs.Commands.{Asks, IsDecode, IsEncode, IsShow, IsLoop, IsBench, IsServe, first_word}
-use Rattle.tnc_words.specs.Commands.{HasDecodeOptions, HasEncodeOptions, HasShowOptions, HasLoopOptions, HasBenchOptions, HasServeOptions}
+use Rattle.tnc_words.specs.Commands.{
+  HasDecodeOptions,
+  HasEncodeOptions,
+  HasShowOptions,
+  HasLoopOptions,
+  HasBenchOptions,
+  HasServeOptions,
+}
 use Rattle.tnc_words.specs.Help.{IsHelp, IsVersion}
 use Rattle.tnc_words.specs.Rates.{HasReceiving, samples_a_second}
 use Rattle.tnc_words.proofs.AskedHelp.{help_alone, help_is_no_version, one_topic, version_alone}
@@ -47,8 +63,10 @@ one_rate Narrow Wide h = absurd (narrow_is_not 48000 refl h)
 one_rate Wide Narrow h = absurd (narrow_is_not 48000 refl (sym h))
 one_rate Wide Wide h = refl
 
-one_receiving : (found : List Row) (receiving other : Receiving) → HasReceiving found receiving → HasReceiving found other → receiving ≡ other
-one_receiving found (Standard rate) (Standard other) h k = ap Standard (one_rate rate other (one_number _ _ _ _ _ _ h.2 k.2))
+one_receiving : (found : List Row) (receiving other : Receiving) → HasReceiving found receiving
+    → HasReceiving found other → receiving ≡ other
+one_receiving found (Standard rate) (Standard other) h k =
+    ap Standard (one_rate rate other (one_number _ _ _ _ _ _ h.2 k.2))
 one_receiving found (Standard rate) Sensitive h k = absurd (true≢false (sym k.1 ∙ h.1))
 one_receiving found (Standard rate) ShortWave h k = absurd (true≢false (sym k.0 ∙ h.0))
 one_receiving found Sensitive (Standard other) h k = absurd (true≢false (sym h.1 ∙ k.1))
@@ -66,7 +84,8 @@ one_decode_options found decode other h k =
     ap (λ v. record decode { audio = v }) (h.audio ∙ sym k.audio)
     ∙ ap (λ v. record decode { audio = other.audio; frames = v }) (h.frames ∙ sym k.frames)
     ∙ ap (λ v. record decode { audio = other.audio; frames = other.frames; threads = v }) (h.threads ∙ sym k.threads)
-    ∙ ap (λ v. record other { receiving = v }) (one_receiving found decode.receiving other.receiving h.receiving k.receiving)
+    ∙ ap (λ v. record other { receiving = v })
+    (one_receiving found decode.receiving other.receiving h.receiving k.receiving)
 
 one_encode_options : (found : List Row) (encode other : EncodeWords) → HasEncodeOptions found encode
     → HasEncodeOptions found other → encode ≡ other
@@ -84,7 +103,14 @@ one_encode_options found encode other h k =
     (one_number _ _ _ _ _ _ h.opening k.opening)
     ∙ ap (λ v. record encode { frames = frames; audio = audio; join = join; opening = opening; closing = v })
     (one_number _ _ _ _ _ _ h.closing k.closing)
-    ∙ ap (λ v. record encode { frames = frames; audio = audio; join = join; opening = opening; closing = closing; silence = v })
+    ∙ ap (λ v. record encode {
+      frames = frames;
+      audio = audio;
+      join = join;
+      opening = opening;
+      closing = closing;
+      silence = v;
+    })
     (one_number _ _ _ _ _ _ h.silence k.silence)
     ∙ ap (λ v. record other { level = v; modem = encode.modem }) (one_number _ _ _ _ _ _ h.level k.level)
     ∙ ap (λ v. record other { modem = v }) (h.modem ∙ sym k.modem)
@@ -92,7 +118,8 @@ one_encode_options found encode other h k =
 one_show_options : (found : List Row) (show other : ShowWords) → HasShowOptions found show
     → HasShowOptions found other → show ≡ other
 one_show_options found show other h k =
-    ap (λ v. record { modulus = v }) (one_modulus show.modulus other.modulus (one_number _ _ _ _ _ _ h.modulus k.modulus))
+    ap (λ v. record { modulus = v }) (one_modulus show.modulus other.modulus
+    (one_number _ _ _ _ _ _ h.modulus k.modulus))
 
 one_loop_options : (found : List Row) (run other : LoopWords) → HasLoopOptions found run
     → HasLoopOptions found other → run ≡ other
@@ -114,7 +141,8 @@ one_bench_options found bench other h k =
     ∙ ap (λ v. record bench { seed = seed; octets = octets; loss = v }) (one_number _ _ _ _ _ _ h.loss k.loss)
     ∙ ap (λ v. record bench { seed = seed; octets = octets; loss = loss; noise = v })
     (one_number _ _ _ _ _ _ h.noise k.noise)
-    ∙ ap (λ v. record bench { seed = seed; octets = octets; loss = loss; noise = noise; full = v }) (h.full ∙ sym k.full)
+    ∙ ap (λ v. record bench { seed = seed; octets = octets; loss = loss; noise = noise; full = v }) (h.full
+    ∙ sym k.full)
     ∙ ap (λ v. record other { wide = v }) (h.wide ∙ sym k.wide)
 
 one_serve_options : (found : List Row) (serve other : ServeOptions) → HasServeOptions found serve
@@ -135,7 +163,15 @@ one_serve_options found serve other h k =
     (one_call _ serve.digi other.digi h.digi k.digi)
     ∙ ap (λ v. record serve { kiss = kiss; agw = agw; seed = seed; params = params; digi = digi; dcd = v })
     (one_number _ _ _ _ _ _ h.dcd k.dcd)
-    ∙ ap (λ v. record serve { kiss = kiss; agw = agw; seed = seed; params = params; digi = digi; dcd = dcd; sensitive = v })
+    ∙ ap (λ v. record serve {
+      kiss = kiss;
+      agw = agw;
+      seed = seed;
+      params = params;
+      digi = digi;
+      dcd = dcd;
+      sensitive = v;
+    })
     (h.sensitive ∙ sym k.sensitive)
     ∙ ap (λ v. record other { monitor = v }) (h.monitor ∙ sym k.monitor)
 

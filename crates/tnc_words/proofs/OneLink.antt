@@ -1,5 +1,24 @@
 -- Options name one mode, say one set of parameters and spell one call.
-use Rattle.std.proofs.Common.{◌≡◌, ℕ, ◌<◌, Option, Some, None, List, [], ◌∷◌, length, codes, refl, sym, ap, ◌∙◌, inl, inr, arith}
+use Rattle.std.proofs.Common.{
+  ◌≡◌,
+  ℕ,
+  ◌<◌,
+  Option,
+  Some,
+  None,
+  List,
+  [],
+  ◌∷◌,
+  length,
+  codes,
+  refl,
+  sym,
+  ap,
+  ◌∙◌,
+  inl,
+  inr,
+  arith,
+}
 use Rattle.std.specs.Fmt.{decimal}
 use Rattle.std.proofs.lemmas.Bool.{eqb-false}
 use Rattle.std.proofs.lemmas.Fmt.{decimal_injective}
@@ -22,7 +41,8 @@ one_mode (Some text) Rej Srej h k = absurd (other_name (sym h ∙ k))
 one_mode (Some text) Srej Rej h k = absurd (other_name (sym k ∙ h))
 one_mode (Some text) Srej Srej h k = refl
 
-pub one_params : (found : List Row) (params other : Params) → SaysParams found params → SaysParams found other → params ≡ other
+pub one_params : (found : List Row) (params other : Params) → SaysParams found params → SaysParams found other
+    → params ≡ other
 one_params found params other h k =
     ap (λ v. record params { mode = v }) (one_mode _ params.mode other.mode h.mode k.mode)
     ∙ ap (λ v. record params { mode = other.mode; window = v }) (one_number _ _ _ _ _ _ h.window k.window)
@@ -30,10 +50,13 @@ one_params found params other h k =
     ∙ ap (λ v. record other { wide_window = v }) (one_number _ _ _ _ _ _ h.wide_window k.wide_window)
 
 -- what tells an SSID tells one
-one_ssid : (tail : List ℕ) (ssid other : ℕ) → ssid < 16 → other < 16 → TellsSsid tail ssid → TellsSsid tail other → ssid ≡ other
+one_ssid : (tail : List ℕ) (ssid other : ℕ) → ssid < 16 → other < 16 → TellsSsid tail ssid → TellsSsid tail other
+    → ssid ≡ other
 one_ssid tail ssid other small less (inl (none, is)) (inl (gone, same)) = is ∙ sym same
-one_ssid tail ssid other small less (inl (none, is)) (inr same) = absurd (let both : [] ≡ 45 ∷ decimal other = sym none ∙ same in cc both)
-one_ssid tail ssid other small less (inr is) (inl (gone, same)) = absurd (let both : [] ≡ 45 ∷ decimal ssid = sym gone ∙ is in cc both)
+one_ssid tail ssid other small less (inl (none, is)) (inr same) =
+    absurd (let both : [] ≡ 45 ∷ decimal other = sym none ∙ same in cc both)
+one_ssid tail ssid other small less (inr is) (inl (gone, same)) =
+    absurd (let both : [] ≡ 45 ∷ decimal ssid = sym gone ∙ is in cc both)
 one_ssid tail ssid other small less (inr is) (inr same) =
     let both : 45 ∷ decimal ssid ≡ 45 ∷ decimal other = sym is ∙ same in
     decimal_injective ssid other (omega arith) (omega arith) (cc both)
@@ -44,6 +67,7 @@ one_spelled text call other h k =
     ap (λ v. record call { name = v }) (sym h.name ∙ k.name)
     ∙ ap (λ v. record other { ssid = v }) (one_ssid _ call.ssid other.ssid h.valid.ssid k.valid.ssid h.ssid k.ssid)
 
-pub one_call : (text : Option Text) (call other : Option Callsign) → HasCall text call → HasCall text other → call ≡ other
+pub one_call : (text : Option Text) (call other : Option Callsign) → HasCall text call → HasCall text other
+    → call ≡ other
 one_call None call other h k = h ∙ sym k
 one_call (Some text) call other h k = h.2 ∙ ap Some (one_spelled text h.0 k.0 h.1 k.1) ∙ sym k.2

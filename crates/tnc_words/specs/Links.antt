@@ -20,8 +20,8 @@ abbrev pub HasMode : Option Text → Mode → Type 0
 HasMode None mode = mode ≡ Rej
 HasMode (Some text) mode = text ≡ mode_name mode
 
--- What the options say of links. If no other was given, the mode is REJ, the window 4, calls are modulo 8, and the window
--- modulo 128 is 32.
+-- What the options say of links. If no other was given, the mode is REJ, the window 4, calls are modulo 8, and the
+-- window modulo 128 is 32.
 pub record SaysParams (found : List Row) (params : Params) : Type 0 where
   pub mode : HasMode (first_of (codes "mode") found) params.mode
   pub window : HasNumber (first_of (codes "window") found) 4 0 255 params.window

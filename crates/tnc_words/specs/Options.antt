@@ -25,7 +25,8 @@ with_forms app = with_rule (with_rule app (flag_rule (codes "wav"))) (flag_rule 
 -- decode [--wav] [--kiss] [--threads] [--hf] [--sensitive] [--rate n]
 abbrev pub decode_app : App
 decode_app = with_rule (with_rule (with_rule (with_rule (with_forms (new_app (codes "decode")))
-    (flag_rule (codes "threads"))) (flag_rule (codes "hf"))) (flag_rule (codes "sensitive"))) (option_rule (codes "rate"))
+    (flag_rule (codes "threads"))) (flag_rule (codes "hf"))) (flag_rule (codes "sensitive")))
+    (option_rule (codes "rate"))
 
 -- [--opening n] [--closing n] [--silence n] [--level n]
 abbrev pub with_numbers : App → App
@@ -35,7 +36,8 @@ with_numbers app = with_rule (with_rule (with_rule (with_rule app
 
 -- encode [--wav] [--kiss] [--join] [--hf] [--opening n] [--closing n] [--silence n] [--level n]
 abbrev pub encode_app : App
-encode_app = with_numbers (with_rule (with_rule (with_forms (new_app (codes "encode"))) (flag_rule (codes "join"))) (flag_rule (codes "hf")))
+encode_app = with_numbers (with_rule (with_rule (with_forms (new_app (codes "encode"))) (flag_rule (codes "join")))
+    (flag_rule (codes "hf")))
 
 -- show [--modulo n]
 abbrev pub show_app : App
@@ -44,7 +46,8 @@ show_app = with_rule (new_app (codes "show")) (option_rule (codes "modulo"))
 -- loop --seed n --frames n [--rough] [--threads]
 abbrev pub loop_app : App
 loop_app = with_rule (with_rule (with_rule (with_rule (new_app (codes "loop"))
-    (needed_rule (codes "seed"))) (needed_rule (codes "frames"))) (flag_rule (codes "rough"))) (flag_rule (codes "threads"))
+    (needed_rule (codes "seed"))) (needed_rule (codes "frames"))) (flag_rule (codes "rough")))
+    (flag_rule (codes "threads"))
 
 -- [--octets n] [--loss n] [--noise n]
 abbrev pub with_run : App → App
@@ -71,12 +74,14 @@ with_wide_window app = with_rule (with_rule app (flag_rule (codes "wide"))) (opt
 -- [--digi call] [--dcd n] [--sensitive] [--monitor]
 abbrev pub with_station : App → App
 with_station app = with_rule (with_rule (with_rule (with_rule app
-    (option_rule (codes "digi"))) (option_rule (codes "dcd"))) (flag_rule (codes "sensitive"))) (flag_rule (codes "monitor"))
+    (option_rule (codes "digi"))) (option_rule (codes "dcd"))) (flag_rule (codes "sensitive")))
+    (flag_rule (codes "monitor"))
 
--- serve --kiss n --agw n [--seed n] [--mode rej or srej] [--window n] [--wide] [--wide-window n] [--digi call] [--dcd n]
--- [--sensitive] [--monitor]
+-- serve --kiss n --agw n [--seed n] [--mode rej or srej] [--window n] [--wide] [--wide-window n] [--digi call]
+-- [--dcd n] [--sensitive] [--monitor]
 abbrev pub serve_app : App
-serve_app = with_station (with_wide_window (with_window (with_rule (with_ports (new_app (codes "serve"))) (option_rule (codes "seed")))))
+serve_app = with_station (with_wide_window
+    (with_window (with_rule (with_ports (new_app (codes "serve"))) (option_rule (codes "seed")))))
 
 -- Why clap refuses words, of which the first is the command's own: nothing if it takes them.
 unfoldable pub decode_faults : List Text → Kinds

@@ -5,5 +5,6 @@ ghost use Rattle.tnc_words.specs.Commands.{Asks};
 
 /// The law of words, which holds of all lists and needs no work: they ask for one command at most.
 pub fn one_command()
-    ensures { (words : List Text) → (command other : Command) → Asks words command → Asks words other → command ≡ other }
+    ensures { (words : List Text) → (command other : Command) → Asks words command → Asks words other
+        → command ≡ other }
 {}

@@ -2,7 +2,8 @@
 ghost use Rattle.std.specs.Prelude.{◌≡◌, IfOk, false};
 ghost use Rattle.clap.specs.Words.{app_of, rule_of, with_rule};
 ghost use Rattle.tnc_words.specs.Options.{decode_app, encode_app, show_app, loop_app, bench_app, serve_app};
-ghost use Rattle.tnc_words.specs.Options.{flag_rule, needed_rule, option_rule, with_forms, with_numbers, with_ports, with_run, with_station, with_wide_window, with_window};
+ghost use Rattle.tnc_words.specs.Options.{flag_rule, needed_rule, option_rule, with_forms, with_numbers, with_ports};
+ghost use Rattle.tnc_words.specs.Options.{with_run, with_station, with_wide_window, with_window};
 
 use clap::{Arg, ArgAction, Command};
 use std::alloc::{AllocError, Global};

@@ -7,4 +7,5 @@ use Rattle.tnc_words.proofs.decode_words.receiving.Goals as goal
 
 pub returns-in_err-rate-clause-none : goal.returns-in_err-rate-clause-none
 returns-in_err-rate-clause-none c = λ none. no_rate (rows_of (found_of c.args.found.now)) (λ rate has.
-    c.in_err-rate.ensures.none refl rate (subst (λ (text : Option Text). HasNumber text 9600 9600 48000 (samples_a_second rate)) (sym c.text_of.ensures) has))
+    c.in_err-rate.ensures.none refl rate (subst (λ (text : Option Text).
+    HasNumber text 9600 9600 48000 (samples_a_second rate)) (sym c.text_of.ensures) has))

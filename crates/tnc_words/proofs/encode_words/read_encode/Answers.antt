@@ -8,7 +8,9 @@ use Rattle.tnc_words.proofs.encode_words.read_encode.Goals as goal
 pub returns-in_err-found-clause-refused : goal.returns-in_err-found-clause-refused
 unfolding encode_faults
 returns-in_err-found-clause-refused c = λ refused encode asks.
-    c.in_err-found.ensures.refused (ap Err (passed_on c.from_residual-in_err-found.result c.in_err-found.field-0.0 _ refused c.from_residual-in_err-found.ensures.1))
+    c.in_err-found.ensures.refused
+    (ap Err (passed_on c.from_residual-in_err-found.result c.in_err-found.field-0.0 _ refused
+    c.from_residual-in_err-found.ensures.1))
     (ap (λ app. fault_of app (map string_bytes c.args.words.now)) c.in_ok-encode_command.ensures ∙ asks.taken)
 
 pub returns-clause-taken : goal.returns-clause-taken
@@ -31,5 +33,6 @@ returns-clause-refused c = λ refused encode asks.
     let words = map string_bytes c.args.words.now in
     let found : rows_of (found_of c.in_ok-found.found) ≡ encode_rows words =
     c.in_ok-found.ensures.rows ∙ ap (λ app. matches_of app words) c.in_ok-encode_command.ensures in
-    c.encode_options.ensures.none (not_chosen c.encode_options.result c.ok_or.result _ _ c.ok_or.ensures.value refused) encode
+    c.encode_options.ensures.none (not_chosen c.encode_options.result c.ok_or.result _ _ c.ok_or.ensures.value refused)
+    encode
     (subst (λ (rows : List Row). HasEncodeOptions rows encode) (sym found) asks.options)

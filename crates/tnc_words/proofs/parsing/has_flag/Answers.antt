@@ -16,4 +16,5 @@ returns-in-Some-DefaultValue c =
 
 pub returns-in-None : goal.returns-in-None
 returns-in-None c =
-    sym (ap is_from_words (sym (source-rows (found_of c.args.found.now) c.args.name.now) ∙ sym c.value_source.ensures ∙ c.in-None.is))
+    sym (ap is_from_words (sym (source-rows (found_of c.args.found.now) c.args.name.now) ∙ sym c.value_source.ensures
+    ∙ c.in-None.is))

@@ -14,4 +14,5 @@ returns-in_err-read_decode-in-decode-clause-refused c = λ refused.
     ∙ ap Some (sym c.as_str.ensures.value ∙ c.in-decode.is) in
     no_decode _ named (c.in_default.ensures.no_help refl) (c.in_default.ensures.no_version refl)
     (c.in_err-read_decode-in-decode.ensures.refused
-    (ap Err (passed_on c.from_residual.result c.in_err-read_decode-in-decode.field-0.0 _ refused c.from_residual.ensures.1)))
+    (ap Err (passed_on c.from_residual.result c.in_err-read_decode-in-decode.field-0.0 _ refused
+    c.from_residual.ensures.1)))

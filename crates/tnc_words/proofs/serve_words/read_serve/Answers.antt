@@ -8,7 +8,9 @@ use Rattle.tnc_words.proofs.serve_words.read_serve.Goals as goal
 pub returns-in_err-found-clause-refused : goal.returns-in_err-found-clause-refused
 unfolding serve_faults
 returns-in_err-found-clause-refused c = λ refused serve asks.
-    c.in_err-found.ensures.refused (ap Err (passed_on c.from_residual-in_err-found.result c.in_err-found.field-0.0 _ refused c.from_residual-in_err-found.ensures.1))
+    c.in_err-found.ensures.refused
+    (ap Err (passed_on c.from_residual-in_err-found.result c.in_err-found.field-0.0 _ refused
+    c.from_residual-in_err-found.ensures.1))
     (ap (λ app. fault_of app (map string_bytes c.args.words.now)) c.in_ok-serve_command.ensures ∙ asks.taken)
 
 pub returns-in-Some-clause-taken : goal.returns-in-Some-clause-taken
