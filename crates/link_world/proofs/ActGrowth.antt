@@ -1,5 +1,6 @@
 -- The acts of a link that is up keep it.
-use Rattle.std.proofs.Common.{ℕ, ◌+◌, ◌-◌, Bool, true, false, if◌then◌else◌, ◌&&◌, nat_lt, ◌==◌, List, [], ◌∷◌, length, take, drop, map, min, refl, zero, suc}
+use Rattle.std.proofs.Common.{ℕ, ◌+◌, ◌-◌, Bool, true, false, if◌then◌else◌, ◌&&◌, nat_lt, ◌==◌, List, [], ◌∷◌, length}
+use Rattle.std.proofs.Common.{take, drop, map, min, refl, zero, suc}
 use Rattle.std.specs.List.{AllByRecursion as Each}
 use Rattle.std.specs.Prelude.{slice_get, ◌||◌}
 use Rattle.std.specs.Option.{option_to_list}
@@ -8,14 +9,17 @@ use Rattle.selective_reject.specs.Places.{missing}
 use Rattle.link_machine.specs.Machine.{Machine}
 use Rattle.link_machine.specs.Sent.{all_sent_in, infos_from}
 use Rattle.link_machine.specs.Sent.Sent.{SuperSent, SetupSent}
-use Rattle.link_machine.specs.Acts.{respond_ready, answer_poll, recover, poll, in_window, to_send, send_packets, flush, release, close, settle, reset, calling_frame, reject, give, ask, srej_for, send_again, sent_packet}
+use Rattle.link_machine.specs.Acts.{respond_ready, answer_poll, recover, poll, in_window, to_send, send_packets, flush}
+use Rattle.link_machine.specs.Acts.{release, close, settle, reset, calling_frame, reject, give, ask, srej_for}
+use Rattle.link_machine.specs.Acts.{send_again, sent_packet}
 use Rattle.ax25_frames.specs.declared.frame.S.TheVariants.{Rr, Rej}
 use Rattle.ax25_frames.specs.declared.frame.U.TheVariants.{Disc}
 use Rattle.link_world.specs.Held.{IsShort, IsModulus, IsCounting}
 use Rattle.link_world.proofs.Growth.{IsGood, with_packets, Keeps, still, more, one, either, both}
 
 pub respond_ready_keeps : (flag : Bool) → Keeps (respond_ready flag)
-respond_ready_keeps flag = λ t low. one t (respond_ready flag t) t.now.incoming.modulus (SuperSent Rr false t.now.incoming.vr flag) low low.modulus_is tt refl
+respond_ready_keeps flag = λ t low. one t (respond_ready flag t) t.now.incoming.modulus
+    (SuperSent Rr false t.now.incoming.vr flag) low low.modulus_is tt refl
 
 pub answer_poll_keeps : (asks : Bool) → Keeps (answer_poll asks)
 answer_poll_keeps asks = λ t low. either asks t (respond_ready true t) t (respond_ready_keeps true t low)
@@ -26,7 +30,8 @@ recover_keeps answers = λ t low. either (t.now.control.poll && answers) t _ t (
     (still t t low refl)
 
 pub poll_keeps : Keeps poll
-poll_keeps = λ t low. one t (poll t) t.now.incoming.modulus (SuperSent Rr true t.now.incoming.vr true) low low.modulus_is tt refl
+poll_keeps = λ t low. one t (poll t) t.now.incoming.modulus (SuperSent Rr true t.now.incoming.vr true)
+    low low.modulus_is tt refl
 
 -- short packets are sent as good frames
 infos_good :
@@ -85,7 +90,8 @@ reset_keeps = λ t low.
     low.modulus_is tt refl
 
 pub reject_keeps : (flag : Bool) → Keeps (reject flag)
-reject_keeps flag = λ t low. one t (reject flag t) t.now.incoming.modulus (SuperSent Rej false t.now.incoming.vr flag) low low.modulus_is tt refl
+reject_keeps flag = λ t low. one t (reject flag t) t.now.incoming.modulus (SuperSent Rej false t.now.incoming.vr flag)
+    low low.modulus_is tt refl
 
 pub give_keeps : (packets : List Packet) → Keeps (give packets)
 give_keeps packets = λ t low. still t (give packets t) low refl

@@ -1,5 +1,6 @@
 -- How two sides follow the step of a world.
-use Rattle.std.proofs.Common.{◌≡◌, ℕ, ◌+◌, Bool, true, false, if◌then◌else◌, List, ◌++◌, length, map, sym, ◌∙◌, ap, subst, Some, None}
+use Rattle.std.proofs.Common.{◌≡◌, ℕ, ◌+◌, Bool, true, false, if◌then◌else◌, List, ◌++◌, length, map, sym, ◌∙◌, ap}
+use Rattle.std.proofs.Common.{subst, Some, None}
 use Rattle.std.specs.Prelude.{Option}
 use Rattle.std.proofs.lemmas.List.{map-append}
 use Rattle.link_machine.specs.declared.acts.Told.{Told}
@@ -19,8 +20,10 @@ use Rattle.link_world.specs.World.{World, near_turn, staying}
 use Rattle.link_world.specs.Quiet.{is_alone, sends_alone}
 use Rattle.link_world.specs.Faults.{is_there, refused_by, cause_by, near_cause}
 use Rattle.link_world.specs.StandsFor.{in_flight, all_in_flight}
-use Rattle.link_world.specs.Held.{StandForBoth, flying, asking_frames, asking, answering, may_fly, MadeStep, Flew, Stayed}
-use Rattle.link_world.proofs.TagLemmas.{frames-tagged, all_in_flight-tagged, asks_in-flight, answers_in-flight, asks_in-frames}
+use Rattle.link_world.specs.Held.{StandForBoth, flying, asking_frames, asking, answering, may_fly, MadeStep, Flew}
+use Rattle.link_world.specs.Held.{Stayed}
+use Rattle.link_world.proofs.TagLemmas.{frames-tagged, all_in_flight-tagged, asks_in-flight, answers_in-flight}
+use Rattle.link_world.proofs.TagLemmas.{asks_in-frames}
 
 -- what an end's event is: its happening, what is heard then, and that it may be asked for
 pub record IsAsked (event : Event) (h : Happening) (w : World) (back : List InFlight) (done : Done) : Type 0 where

@@ -1,5 +1,6 @@
 -- Whatever a link hears keeps it.
-use Rattle.std.proofs.Common.{ℕ, Bool, true, false, if◌then◌else◌, ◌&&◌, not, nat_lt, ◌==◌, ◌-◌, drop, [], ◌∷◌, inl, inr, refl}
+use Rattle.std.proofs.Common.{ℕ, Bool, true, false, if◌then◌else◌, ◌&&◌, not, nat_lt, ◌==◌, ◌-◌, drop, [], ◌∷◌, inl}
+use Rattle.std.proofs.Common.{inr, refl}
 use Rattle.ax25_frames.specs.declared.frame.Kind.{Kind}
 use Rattle.ax25_frames.specs.declared.frame.Kind.TheVariants.{Info, Super, Setup, Ui, Other}
 use Rattle.ax25_frames.specs.declared.frame.S.{S}
@@ -17,11 +18,18 @@ use Rattle.link_machine.specs.declared.acts.Why.TheVariants.{Asked, Refused}
 use Rattle.link_machine.specs.Machine.{Machine, is_wide, is_valid, named, ahead_of_vr}
 use Rattle.link_machine.specs.Sent.Sent.{SetupSent}
 use Rattle.link_machine.specs.Turn.{Turn, changing, setting, in_order}
-use Rattle.link_machine.specs.Acts.{acknowledged, answer_poll, recover, gone_back, reset, owing, watching, with_rej, reject, run_with, give, stored, ask, send_again}
-use Rattle.link_machine.specs.Frames.{answer_dm, end_call, open_answered, answer_ua, open_called, call_narrow, hear_idle, hear_calling_in, hear_releasing, with_busy, hear_rr, hear_rnr, hear_rej, acknowledged_by_srej, hear_srej, hear_supervisory, take_in_sequence, refuse_out_of_sequence, hear_info_by_rej, take_selected, hear_info_by_srej, hear_info_by, hear_info, open_again, end_by_disc, end_by_dm, hear_up, hear_in, hear}
+use Rattle.link_machine.specs.Acts.{acknowledged, answer_poll, recover, gone_back, reset, owing, watching, with_rej}
+use Rattle.link_machine.specs.Acts.{reject, run_with, give, stored, ask, send_again}
+use Rattle.link_machine.specs.Frames.{answer_dm, end_call, open_answered, answer_ua, open_called, call_narrow}
+use Rattle.link_machine.specs.Frames.{hear_idle, hear_calling_in, hear_releasing, with_busy, hear_rr, hear_rnr}
+use Rattle.link_machine.specs.Frames.{hear_rej, acknowledged_by_srej, hear_srej, hear_supervisory, take_in_sequence}
+use Rattle.link_machine.specs.Frames.{refuse_out_of_sequence, hear_info_by_rej, take_selected, hear_info_by_srej}
+use Rattle.link_machine.specs.Frames.{hear_info_by, hear_info, open_again, end_by_disc, end_by_dm, hear_up, hear_in}
+use Rattle.link_machine.specs.Frames.{hear}
 use Rattle.link_world.specs.Held.{IsModulus, Counts, IsCounting}
 use Rattle.link_world.proofs.Growth.{in_another, with_packets, GoesOn, Keeps, still, one, either, both}
-use Rattle.link_world.proofs.ActGrowth.{short_left, answer_poll_keeps, recover_keeps, reset_keeps, reject_keeps, give_keeps, ask_keeps, send_again_keeps}
+use Rattle.link_world.proofs.ActGrowth.{short_left, answer_poll_keeps, recover_keeps, reset_keeps, reject_keeps}
+use Rattle.link_world.proofs.ActGrowth.{give_keeps, ask_keeps, send_again_keeps}
 
 -- the link goes on counting, and nothing is sent
 pub changing_keeps : (f : Machine → Machine) → ((m : Machine) → IsCounting m → IsCounting (f m)) → Keeps (changing f)
@@ -53,11 +61,14 @@ open_called_keeps modulus flag is = λ t low.
 hear_idle_keeps : (command : Bool) (kind : Kind) → Keeps (hear_idle command kind)
 hear_idle_keeps command (Setup Sabm flag) = open_called_keeps 8 flag (inl refl)
 hear_idle_keeps command (Setup Sabme flag) = open_called_keeps 128 flag (inr refl)
-hear_idle_keeps command (Setup Disc flag) = λ t low. one t _ t.now.incoming.modulus (SetupSent Dm flag) low low.modulus_is tt refl
+hear_idle_keeps command (Setup Disc flag) = λ t low. one t _ t.now.incoming.modulus (SetupSent Dm flag)
+    low low.modulus_is tt refl
 hear_idle_keeps command (Setup Dm flag) = λ t low. still t t low refl
 hear_idle_keeps command (Setup Ua flag) = λ t low. still t t low refl
-hear_idle_keeps command (Info ns nr flag pid octets) = λ t low. one t _ t.now.incoming.modulus (SetupSent Dm flag) low low.modulus_is tt refl
-hear_idle_keeps true (Super which nr flag) = λ t low. one t _ t.now.incoming.modulus (SetupSent Dm flag) low low.modulus_is tt refl
+hear_idle_keeps command (Info ns nr flag pid octets) = λ t low.
+    one t _ t.now.incoming.modulus (SetupSent Dm flag) low low.modulus_is tt refl
+hear_idle_keeps true (Super which nr flag) = λ t low. one t _ t.now.incoming.modulus (SetupSent Dm flag)
+    low low.modulus_is tt refl
 hear_idle_keeps false (Super which nr flag) = λ t low. still t t low refl
 hear_idle_keeps command (Ui flag pid octets) = λ t low. still t t low refl
 hear_idle_keeps command (Other which flag octets) = λ t low. still t t low refl
@@ -93,12 +104,17 @@ dm_where true = λ t low. one t _ t.now.incoming.modulus (SetupSent Dm true) low
 dm_where false = λ t low. still t t low refl
 
 hear_releasing_keeps : (command : Bool) (kind : Kind) → Keeps (hear_releasing command kind)
-hear_releasing_keeps command (Setup Sabm flag) = λ t low. one t _ t.now.incoming.modulus (SetupSent Dm flag) low low.modulus_is tt refl
-hear_releasing_keeps command (Setup Sabme flag) = λ t low. one t _ t.now.incoming.modulus (SetupSent Dm flag) low low.modulus_is tt refl
-hear_releasing_keeps command (Setup Disc flag) = λ t low. one t _ t.now.incoming.modulus (SetupSent Ua flag) low low.modulus_is tt refl
-hear_releasing_keeps command (Setup Dm true) = λ t low. still t (end_call Asked t) (emptied_in t.now 8 (inl refl) low) refl
+hear_releasing_keeps command (Setup Sabm flag) = λ t low. one t _ t.now.incoming.modulus (SetupSent Dm flag)
+    low low.modulus_is tt refl
+hear_releasing_keeps command (Setup Sabme flag) = λ t low. one t _ t.now.incoming.modulus (SetupSent Dm flag)
+    low low.modulus_is tt refl
+hear_releasing_keeps command (Setup Disc flag) = λ t low. one t _ t.now.incoming.modulus (SetupSent Ua flag)
+    low low.modulus_is tt refl
+hear_releasing_keeps command (Setup Dm true) = λ t low. still t (end_call Asked t) (emptied_in t.now 8 (inl refl) low)
+    refl
 hear_releasing_keeps command (Setup Dm false) = λ t low. still t t low refl
-hear_releasing_keeps command (Setup Ua true) = λ t low. still t (end_call Asked t) (emptied_in t.now 8 (inl refl) low) refl
+hear_releasing_keeps command (Setup Ua true) = λ t low. still t (end_call Asked t) (emptied_in t.now 8 (inl refl) low)
+    refl
 hear_releasing_keeps command (Setup Ua false) = λ t low. still t t low refl
 hear_releasing_keeps command (Info ns nr flag pid octets) = dm_where flag
 hear_releasing_keeps command (Super which nr flag) = dm_where (command && flag)
@@ -106,7 +122,8 @@ hear_releasing_keeps command (Ui flag pid octets) = λ t low. still t t low refl
 hear_releasing_keeps command (Other which flag octets) = λ t low. still t t low refl
 
 -- an acknowledgement leaves what comes in alone
-busy_and_acknowledged : (busy : Bool) (f : Machine → Machine) → ((m : Machine) → IsCounting m → IsCounting (f m)) → Keeps (λ t. changing f (setting (with_busy busy) t))
+busy_and_acknowledged : (busy : Bool) (f : Machine → Machine) → ((m : Machine) → IsCounting m → IsCounting (f m))
+    → Keeps (λ t. changing f (setting (with_busy busy) t))
 busy_and_acknowledged busy f h = both (setting (with_busy busy)) (changing f) (setting_keeps (with_busy busy))
     (changing_keeps f h)
 
@@ -149,7 +166,8 @@ hear_supervisory_keeps : (which : S) (n : ℕ) (command flag : Bool) → Keeps (
 hear_supervisory_keeps Rr n command flag = λ t low. (hear_rr_keeps n (command && flag) (not command && flag) t low)
 hear_supervisory_keeps Rnr n command flag = λ t low. (hear_rnr_keeps n (command && flag) (not command && flag) t low)
 hear_supervisory_keeps Rej n command flag = λ t low. (hear_rej_keeps n (command && flag) (not command && flag) t low)
-hear_supervisory_keeps Srej n command flag = λ t low. (hear_srej_keeps n flag (command && flag) (not command && flag) t low)
+hear_supervisory_keeps Srej n command flag = λ t low.
+    (hear_srej_keeps n flag (command && flag) (not command && flag) t low)
 
 take_in_sequence_keeps : (flag : Bool) (packet : Packet) → Keeps (take_in_sequence flag packet)
 take_in_sequence_keeps flag packet =
@@ -195,7 +213,8 @@ hear_info_by_keeps SrejMode = hear_info_by_srej_keeps
 hear_info_keeps : (n ns : ℕ) (flag : Bool) (packet : Packet) → Keeps (hear_info n ns flag packet)
 hear_info_keeps n ns flag packet = λ t low.
     both (changing (acknowledged n)) (hear_info_by t.now.incoming.mode ns flag packet)
-    (changing_keeps (acknowledged n) (acknowledged_counts n)) (hear_info_by_keeps t.now.incoming.mode ns flag packet) t low
+    (changing_keeps (acknowledged n) (acknowledged_counts n)) (hear_info_by_keeps t.now.incoming.mode ns flag packet)
+    t low
 
 open_again_keeps : (modulus : ℕ) (flag : Bool) → IsModulus modulus → Keeps (open_again modulus flag)
 open_again_keeps modulus flag is = λ t low.
@@ -205,7 +224,8 @@ hear_up_keeps : (command : Bool) (kind : Kind) → Keeps (hear_up command kind)
 hear_up_keeps command (Setup Sabm flag) = λ t low. (open_again_keeps 8 flag (inl refl) t low)
 hear_up_keeps command (Setup Sabme flag) = λ t low.
     (open_again_keeps 128 flag (inr refl) t low)
-hear_up_keeps command (Setup Disc flag) = λ t low. (one t (end_by_disc flag t) t.now.incoming.modulus (SetupSent Ua flag) (emptied_in t.now 8 (inl refl) low)
+hear_up_keeps command (Setup Disc flag) = λ t low.
+    (one t (end_by_disc flag t) t.now.incoming.modulus (SetupSent Ua flag) (emptied_in t.now 8 (inl refl) low)
     low.modulus_is tt refl)
 hear_up_keeps command (Setup Dm flag) = λ t low. still t (end_by_dm t) (emptied_in t.now 8 (inl refl) low) refl
 hear_up_keeps command (Setup Ua flag) = λ t low. still t t low refl

@@ -1,6 +1,8 @@
 -- A frame that is written in one modulus and read in another, in octets: what it is read as, and that it is read as
 -- nothing else.
-use Rattle.std.proofs.Common.{◌≡◌, ℕ, ◌+◌, ◌*◌, ◌/◌, ◌%◌, ◌<◌, ◌≤◌, Bool, true, false, ◌==◌, nat_lt, if◌then◌else◌, List, [], ◌∷◌, length, drop, Option, Some, None, ◌⊎◌, inl, inr, refl, sym, ap, ◌∙◌, subst, arith}
+use Rattle.std.proofs.Common.{◌≡◌, ℕ, ◌+◌, ◌*◌, ◌/◌, ◌%◌, ◌<◌, ◌≤◌, Bool, true, false, ◌==◌, nat_lt, if◌then◌else◌}
+use Rattle.std.proofs.Common.{List, [], ◌∷◌, length, drop, Option, Some, None, ◌⊎◌, inl, inr, refl, sym, ap, ◌∙◌, subst}
+use Rattle.std.proofs.Common.{arith}
 use Rattle.std.specs.Prelude.{All, Result, Ok, Err, IfOk, IfErr}
 use Rattle.std.proofs.lemmas.List.Elements.{All-drop}
 use Rattle.std.proofs.lemmas.Bool.{eqb-true, eqb-false, ltb-true, ltb-false}
@@ -118,7 +120,8 @@ only_super read body P one super (Other which flag octets) h =
 -- an I frame of modulus 8, read modulo 128
 wide_info :
     (ns nr : ℕ) (poll : Bool) (second : ℕ) (octets : List ℕ) → ns < 8 → nr < 8 → second < 256 → length octets ≤ 256
-    → IsReadBy OneTwentyEight (body_octets Eight (Info ns nr poll second octets)) (info_read_wide ns nr poll second octets)
+    → IsReadBy OneTwentyEight (body_octets Eight (Info ns nr poll second octets))
+    (info_read_wide ns nr poll second octets)
 wide_info ns nr poll second [] low small below fits =
     only_info OneTwentyEight (body_octets Eight (Info ns nr poll second [])) ⊥ (omega arith)
     (λ n r p pid octets h. let size = ap length h.spelling in omega arith)
@@ -143,7 +146,8 @@ wide_super which nr flag =
 -- an I frame of modulus 128, read modulo 8
 narrow_info :
     (ns nr : ℕ) (poll : Bool) (pid : ℕ) (octets : List ℕ) → ns < 128
-    → IsReadBy Eight (body_octets OneTwentyEight (Info ns nr poll pid octets)) (read_narrow (Info ns nr poll pid octets))
+    → IsReadBy Eight (body_octets OneTwentyEight (Info ns nr poll pid octets))
+    (read_narrow (Info ns nr poll pid octets))
 narrow_info ns nr poll pid octets low = go (nat_lt (length octets) 256) refl
   where
     second : ℕ
@@ -235,7 +239,8 @@ none_by written read frame g octets is low e h =
 some_same : (g h : Frame) (answer : Result Frame FrameFault) → answer ≡ Ok g → answer ≡ Ok h → Some h ≡ Some g
 some_same g h answer one other = subst (λ a. IfOk a (λ x. Some x ≡ Some g)) (sym one ∙ other) refl
 
-ok_is_no_err : (g : Frame) (fault : FrameFault) (answer : Result Frame FrameFault) → answer ≡ Ok g → answer ≡ Err fault → ⊥
+ok_is_no_err : (g : Frame) (fault : FrameFault) (answer : Result Frame FrameFault) → answer ≡ Ok g → answer ≡ Err fault
+    → ⊥
 ok_is_no_err g fault answer one other = subst (λ a. IfErr a (λ x. ⊥)) (sym one ∙ other) tt
 
 -- a frame that is read is the one that the modulus makes of it
@@ -255,7 +260,8 @@ reads_frame written read frame g octets answer is low reading ok = go (kind_read
         ]
 
 fault_same :
-    (fault other : FrameFault) (answer : Result Frame FrameFault) → answer ≡ Err fault → answer ≡ Err other → fault ≡ other
+    (fault other : FrameFault) (answer : Result Frame FrameFault) → answer ≡ Err fault → answer ≡ Err other
+    → fault ≡ other
 fault_same fault other answer one two = subst (λ a. IfErr a (λ x. fault ≡ x)) (sym one ∙ two) refl
 
 -- and one that is refused, for another cause than memory, is none

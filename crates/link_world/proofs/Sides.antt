@@ -1,5 +1,6 @@
 -- What a request, a tick, a frame heard and a frame lost make of two sides.
-use Rattle.std.proofs.Common.{◌≡◌, ℕ, suc, ◌+◌, ◌<◌, Bool, true, false, List, [], ◌∷◌, ◌++◌, length, drop, refl, sym, ◌∙◌, ap, subst, arith, Some, None, Result, Ok, Err}
+use Rattle.std.proofs.Common.{◌≡◌, ℕ, suc, ◌+◌, ◌<◌, Bool, true, false, List, [], ◌∷◌, ◌++◌, length, drop, refl, sym}
+use Rattle.std.proofs.Common.{◌∙◌, ap, subst, arith, Some, None, Result, Ok, Err}
 use Rattle.std.specs.Prelude.{Option, remove, slice_index_or}
 use Rattle.std.proofs.lemmas.Bool.{lt-ltb}
 use Rattle.std.proofs.lemmas.List.{append-nil, length-map}
@@ -19,7 +20,8 @@ use Rattle.link_world.specs.declared.event.Event.TheVariants.{Hear, Lose}
 use Rattle.link_world.specs.declared.fault.WorldFault.{WorldFault}
 use Rattle.link_world.specs.declared.flight.InFlight.{InFlight}
 use Rattle.link_world.specs.declared.request.Request.{Request}
-use Rattle.link_world.specs.declared.request.Request.TheVariants.{Connect as ConnectRequest, Send as SendRequest, Disconnect as DisconnectRequest, Tick as TickRequest}
+use Rattle.link_world.specs.declared.request.Request.TheVariants.{Connect as ConnectRequest, Send as SendRequest}
+use Rattle.link_world.specs.declared.request.Request.TheVariants.{Disconnect as DisconnectRequest, Tick as TickRequest}
 use Rattle.link_world.specs.declared.side.Side.{Side as HeldSide}
 use Rattle.link_world.specs.Reading.{frame_read}
 use Rattle.link_world.specs.Quiet.{is_alone}
@@ -123,13 +125,15 @@ heard_at :
     (end : End) (r : RecordedEnd) (tags : List Tagged) (b : Side) (items : List InFlight) (heard : InFlight)
     (named : Modulus) (frame : Frame) (done : Done)
     → items ≡ all_in_flight tags → 0 < length items → heard ≡ slice_index_or items 0 heard
-    → named ≡ modulus_named r.machine.incoming.modulus → frame_read heard.sent.modulus named heard.sent.frame ≡ Some frame
+    → named ≡ modulus_named r.machine.incoming.modulus → frame_read heard.sent.modulus named heard.sent.frame
+    ≡ Some frame
     → done ≡ done_of (step r.machine (LinkHear frame))
     → IsHeard end (record { a = record { end = r; towards = tags }; b = b }) frame (drop 1 items) done
 heard_at end r [] b items heard named frame done e some first same read does =
     absurd (let n : length items ≡ 0 = ap length e in omega arith)
 heard_at end r (tag ∷ tags) b items heard named frame done e some first same read does =
-    let reads = read_tagged r.machine.incoming.modulus heard tag named (Some frame) (first_of tag tags items heard e first)
+    let reads = read_tagged r.machine.incoming.modulus heard tag named (Some frame)
+    (first_of tag tags items heard e first)
     same read in
     record {
       tagged = tag;

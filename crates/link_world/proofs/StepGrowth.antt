@@ -1,5 +1,6 @@
 -- Each event keeps a link.
-use Rattle.std.proofs.Common.{◌≡◌, ℕ, Bool, true, false, ◌==◌, nat_lt, nat_le, if◌then◌else◌, [], ◌∷◌, ◌++◌, length, inl, inr, refl, sym, arith, Option, Some, None}
+use Rattle.std.proofs.Common.{◌≡◌, ℕ, Bool, true, false, ◌==◌, nat_lt, nat_le, if◌then◌else◌, [], ◌∷◌, ◌++◌, length}
+use Rattle.std.proofs.Common.{inl, inr, refl, sym, arith, Option, Some, None}
 use Rattle.std.specs.Bool.{⊤}
 use Rattle.std.proofs.lemmas.Bool.{false≢true, ltb-false}
 use Rattle.selective_reject.specs.declared.packet.Packet.{Packet}
@@ -18,7 +19,9 @@ use Rattle.link_machine.specs.Turn.{begin, changing, setting}
 use Rattle.link_machine.specs.Acts.{calling_frame, poll}
 use Rattle.link_machine.specs.Frames.{end_call}
 use Rattle.link_machine.specs.Requests.{connect, joined, quitting, is_closed}
-use Rattle.link_machine.specs.Ticks.{runs_out, lowered, with_t1, with_t2, with_t3, t2_out, is_spent, retried, call_again, poll_again, release_again, t1_out, unretried, t3_out, tick_t2_of, tick_t2, tick_t3_of, tick_t1_of, tick_t1, tick_in}
+use Rattle.link_machine.specs.Ticks.{runs_out, lowered, with_t1, with_t2, with_t3, t2_out, is_spent, retried}
+use Rattle.link_machine.specs.Ticks.{call_again, poll_again, release_again, t1_out, unretried, t3_out, tick_t2_of}
+use Rattle.link_machine.specs.Ticks.{tick_t2, tick_t3_of, tick_t1_of, tick_t1, tick_in}
 use Rattle.link_machine.specs.Event.{Event}
 use Rattle.link_machine.specs.Event.Event.{Connect, Send, Disconnect, Hear, Tick}
 use Rattle.link_machine.specs.Step.{refusal_of, row, settle_in, settled, step}
@@ -44,12 +47,14 @@ t2_out_keeps Releasing = λ t low. still t t low refl
 
 call_again_keeps : Keeps call_again
 call_again_keeps = λ t low.
-    either (is_spent t.now.control) t (end_call Failed t) _ (still t (end_call Failed t) (emptied_in t.now 8 (inl refl) low) refl)
+    either (is_spent t.now.control) t (end_call Failed t) _
+    (still t (end_call Failed t) (emptied_in t.now 8 (inl refl) low) refl)
     (one t _ t.now.incoming.modulus (SetupSent (calling_frame (is_wide t.now)) true) low low.modulus_is tt refl)
 
 release_again_keeps : Keeps release_again
 release_again_keeps = λ t low.
-    either (is_spent t.now.control) t (end_call Failed t) _ (still t (end_call Failed t) (emptied_in t.now 8 (inl refl) low) refl)
+    either (is_spent t.now.control) t (end_call Failed t) _
+    (still t (end_call Failed t) (emptied_in t.now 8 (inl refl) low) refl)
     (one t _ t.now.incoming.modulus (SetupSent Disc true) low low.modulus_is tt refl)
 
 poll_again_keeps : Keeps poll_again
@@ -125,7 +130,8 @@ row_keeps : (event : Event) → BringsShort event → Keeps (row event)
 row_keeps Connect brings = λ t low. (connect_keeps t low)
 row_keeps (Send packet) brings = λ t low. still t (changing (joined packet) t)
     (with_packets t.now.incoming.modulus t.now.outgoing.packets
-    (t.now.outgoing.packets ++ packet ∷ []) (each_pushed IsShort t.now.outgoing.packets packet low.short brings) low) refl
+    (t.now.outgoing.packets ++ packet ∷ []) (each_pushed IsShort t.now.outgoing.packets packet low.short brings) low)
+    refl
 row_keeps Disconnect brings = λ t low. still t (setting quitting t) low refl
 row_keeps (Hear frame) brings = hear_keeps (is_command_of frame.path.role frame.kind) frame.kind
 row_keeps (Tick waiting) brings = λ t low. (tick_in_keeps t.now.control.state waiting t low)
@@ -157,7 +163,8 @@ short_by packet false false state quit e = go (nat_lt 256 (length packet.octets)
 brings_short : (m : Machine) (event : Event) → is_some (refusal_of m event) ≡ false → BringsShort event
 brings_short m Connect e = tt
 brings_short m (Send packet) e =
-    short_by packet (is_closed m.control) (nat_le most_packets (length m.outgoing.packets)) m.control.state m.control.quit
+    short_by packet (is_closed m.control) (nat_le most_packets (length m.outgoing.packets))
+    m.control.state m.control.quit
     e
 brings_short m Disconnect e = tt
 brings_short m (Hear frame) e = tt

@@ -16,7 +16,8 @@ use Rattle.link_world.specs.Recorded.{RecordedEnd, Happening, end_turn, seen, he
 use Rattle.link_world.specs.Recorded.Happening.{Connects, Sends, Disconnects, Ticks, Hears}
 use Rattle.link_world.specs.World.{Side, World, read_in, hearing_as, turn_of, seen_from, end_of, near_step, step}
 use Rattle.link_world.specs.StandsFor.{sent_tagged}
-use Rattle.link_world.specs.Untagged.{UntaggedWorld, hear_frame, link_turn, frames, untagged, untagged_from, untagged_near_step, untagged_step}
+use Rattle.link_world.specs.Untagged.{UntaggedWorld, hear_frame, link_turn, frames, untagged, untagged_from}
+use Rattle.link_world.specs.Untagged.{untagged_near_step, untagged_step}
 use Rattle.link_world.proofs.TagLemmas.{frames-tagged, map-remove}
 
 -- frames that are sent go after the others

@@ -1,4 +1,5 @@
--- Two links that come and go. A station has no link that is idle: for the next call, or the next frame, it makes one anew,
+-- Two links that come and go. A station has no link that is idle: for the next call, or the next frame, it makes one
+-- anew,
 -- perhaps on another path. And a frame that finds its transmit queue full is lost as it is sent.
 use Rattle.std.specs.Prelude.{Bool, true, false, List, [], ◌∷◌, ◌++◌, IsTrue}
 use Rattle.ax25_address.specs.declared.path.Path.{Path}
@@ -22,7 +23,8 @@ pub data Change : Type 0 where
   Makes : (end : End) → (path : Path) → Change
   -- an event
   Happens : (event : Event) → Change
-  -- An event; of the frames that it sends only those are in flight from then on that are marked by `true`, in their order.
+  -- An event; of the frames that it sends only those are in flight from then on that are marked by `true`, in their
+  -- order.
   -- The others, also those without a mark, are lost as they are sent.
   Keeps : (event : Event) → (marks : List Bool) → Change
 
@@ -94,7 +96,8 @@ pub record ChangesKeepOrder (w : World) (changes : List Change) : Type 0 where
   pub b : let now = run_changes w changes in GotInOrder now.b.end now.a.end
   pub numbers : ChangesAreValid w changes
 
--- After every quiet list of changes of a new world whose windows fit, each set-up got a prefix of what the other end was
+-- After every quiet list of changes of a new world whose windows fit, each set-up got a prefix of what the other end
+-- was
 -- given in its origin, and origins rise strictly.
 abbrev pub ChangesLaw : Type 0
 ChangesLaw =

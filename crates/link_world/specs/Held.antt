@@ -1,9 +1,11 @@
 -- What a world keeps in one event. No public clause speaks of this.
-use Rattle.std.specs.Prelude.{◌≡◌, ℕ, ◌+◌, ◌≤◌, ◌⊎◌, ◌&&◌, Bool, true, List, length, map, count_by, All, Option, Some, None, Result, Ok, Err, ◌++◌, false}
+use Rattle.std.specs.Prelude.{◌≡◌, ℕ, ◌+◌, ◌≤◌, ◌⊎◌, ◌&&◌, Bool, true, List, length, map, count_by, All, Option, Some}
+use Rattle.std.specs.Prelude.{None, Result, Ok, Err, ◌++◌, false}
 use Rattle.std.specs.List.{AllByRecursion as Each}
 use Rattle.ax25_frames.specs.FrameOctets.{CanWrite}
 use Rattle.ax25_frames.specs.declared.fault.FrameFault.{FrameFault}
-use Rattle.ax25_frames.specs.declared.fault.FrameFault.TheVariants.{Address, NoControl, NoPid, UnknownControl, InfoTooLong, StrayInfo, Memory as OutOfRoom}
+use Rattle.ax25_frames.specs.declared.fault.FrameFault.TheVariants.{Address, NoControl, NoPid, UnknownControl}
+use Rattle.ax25_frames.specs.declared.fault.FrameFault.TheVariants.{InfoTooLong, StrayInfo, Memory as OutOfRoom}
 use Rattle.selective_reject.specs.declared.packet.Packet.{Packet}
 use Rattle.link_machine.specs.declared.acts.SentFrame.{SentFrame}
 use Rattle.link_machine.specs.declared.acts.Told.{Told}
@@ -14,13 +16,15 @@ use Rattle.link_machine.specs.declared.machine.Machine.{Machine as HeldLink}
 use Rattle.link_machine.specs.Machine.{Machine}
 use Rattle.link_machine.specs.StandsFor.{StandsFor as LinkStandsFor}
 use Rattle.link_machine.specs.Event.{Event as LinkEvent}
-use Rattle.link_machine.specs.Event.Event.{Connect as LinkConnect, Send as LinkSend, Disconnect as LinkDisconnect, Tick as LinkTick}
+use Rattle.link_machine.specs.Event.Event.{Connect as LinkConnect, Send as LinkSend, Disconnect as LinkDisconnect}
+use Rattle.link_machine.specs.Event.Event.{Tick as LinkTick}
 use Rattle.link_world.specs.declared.end.End.{End}
 use Rattle.link_world.specs.declared.end.End.TheVariants.{A, B}
 use Rattle.link_world.specs.declared.event.Event.{Event}
 use Rattle.link_world.specs.declared.event.Event.TheVariants.{Connect, Send, Disconnect, Tick}
 use Rattle.link_world.specs.declared.request.Request.{Request}
-use Rattle.link_world.specs.declared.request.Request.TheVariants.{Connect as ConnectRequest, Send as SendRequest, Disconnect as DisconnectRequest, Tick as TickRequest}
+use Rattle.link_world.specs.declared.request.Request.TheVariants.{Connect as ConnectRequest, Send as SendRequest}
+use Rattle.link_world.specs.declared.request.Request.TheVariants.{Disconnect as DisconnectRequest, Tick as TickRequest}
 use Rattle.link_world.specs.Recorded.{Happening}
 use Rattle.link_world.specs.Recorded.Happening.{Connects, Sends, Disconnects, Ticks}
 use Rattle.link_world.specs.declared.fault.WorldFault.{WorldFault}

@@ -1,7 +1,10 @@
--- A frame that is written in one modulus and read in another (AX.25 2.2 sections 4.2 and 3.1). The lowest two bits of the
--- first control octet tell an I frame, an S frame and a U frame apart in both, so none is taken for another. Modulo 8 an I
+-- A frame that is written in one modulus and read in another (AX.25 2.2 sections 4.2 and 3.1). The lowest two bits of
+-- the
+-- first control octet tell an I frame, an S frame and a U frame apart in both, so none is taken for another. Modulo 8
+-- an I
 -- or S frame has one control octet, modulo 128 two.
-use Rattle.std.specs.Prelude.{ℕ, ◌+◌, ◌*◌, ◌/◌, ◌%◌, Bool, ◌==◌, nat_lt, if◌then◌else◌, List, [], ◌∷◌, length, Option, Some, None}
+use Rattle.std.specs.Prelude.{ℕ, ◌+◌, ◌*◌, ◌/◌, ◌%◌, Bool, ◌==◌, nat_lt, if◌then◌else◌, List, [], ◌∷◌, length, Option}
+use Rattle.std.specs.Prelude.{Some, None}
 use Rattle.ax25_address.specs.AddressField.{bit}
 use Rattle.ax25_frames.specs.declared.frame.Modulus.{Modulus}
 use Rattle.ax25_frames.specs.declared.frame.Modulus.TheVariants.{Eight, OneTwentyEight}
@@ -28,7 +31,8 @@ read_wide (Ui flag pid octets) = Some (Ui flag pid octets)
 read_wide (Other which flag octets) = Some (Other which flag octets)
 
 -- An I frame of modulus 128, read modulo 8: its second control octet is read as the PID, and its PID as the first octet
--- of the information, which may have 256. An S frame has an octet too many, and is refused. A U frame is the same in both.
+-- of the information, which may have 256. An S frame has an octet too many, and is refused. A U frame is the same in
+-- both.
 abbrev pub read_narrow : Kind → Option Kind
 read_narrow (Info ns nr poll pid octets) =
     if nat_lt (length octets) 256

@@ -6,7 +6,8 @@ use Rattle.link_machine.specs.declared.acts.SentFrame.{SentFrame}
 use Rattle.link_machine.specs.Machine.{Machine, modulus_named}
 use Rattle.link_machine.specs.Turn.{Turn, begin}
 use Rattle.link_machine.specs.Event.{Event as LinkEvent}
-use Rattle.link_machine.specs.Event.Event.{Connect as LinkConnect, Send as LinkSend, Disconnect as LinkDisconnect, Hear as LinkHear, Tick as LinkTick}
+use Rattle.link_machine.specs.Event.Event.{Connect as LinkConnect, Send as LinkSend, Disconnect as LinkDisconnect}
+use Rattle.link_machine.specs.Event.Event.{Hear as LinkHear, Tick as LinkTick}
 use Rattle.link_machine.specs.Sent.{sent_frames}
 use Rattle.link_machine.specs.Step.{step as link_step}
 use Rattle.link_world.specs.declared.end.End.{End}

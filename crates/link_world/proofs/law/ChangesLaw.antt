@@ -6,7 +6,8 @@ use Rattle.std.proofs.lemmas.List.{append_assoc, map-append}
 use Rattle.ax25_address.specs.declared.path.Path.{Path}
 use Rattle.link_machine.specs.declared.params.Params.{Params}
 use Rattle.link_machine.specs.declared.state.LinkState.{LinkState}
-use Rattle.link_machine.specs.declared.state.LinkState.TheVariants.{Idle as IdleState, Calling as CallingState, Up as UpState, Releasing as ReleasingState}
+use Rattle.link_machine.specs.declared.state.LinkState.TheVariants.{Idle as IdleState, Calling as CallingState}
+use Rattle.link_machine.specs.declared.state.LinkState.TheVariants.{Up as UpState, Releasing as ReleasingState}
 use Rattle.link_machine.specs.Machine.{Machine, new_machine}
 use Rattle.link_world.specs.declared.end.End.{End as Name}
 use Rattle.link_world.specs.declared.end.End.TheVariants.{A, B}
@@ -16,7 +17,8 @@ use Rattle.link_world.specs.Recorded.{RecordedEnd}
 use Rattle.link_world.specs.Quiet.{sends_alone, called_alone, IsQuietRun}
 use Rattle.link_world.specs.Windows.{WindowsFit}
 use Rattle.link_world.specs.World.{Side, World, seen_from, end_of, new_world, near_step, near_turn, staying, run}
-use Rattle.link_world.specs.Changes.{Change, kept, made_in, near_made, near_kept, changed, run_changes, is_quiet_change, AreQuiet, hears_valid_in, ChangesAreValid, ChangesLaw}
+use Rattle.link_world.specs.Changes.{Change, kept, made_in, near_made, near_kept, changed, run_changes, is_quiet_change}
+use Rattle.link_world.specs.Changes.{AreQuiet, hears_valid_in, ChangesAreValid, ChangesLaw}
 use Rattle.link_world.specs.Changes.Change.{Makes, Happens, Keeps}
 use Rattle.link_world.proofs.law.reduced.Core.{End, SetUp as CoreSetUp, Tagged as CoreTagged, Kind, between}
 use Rattle.link_world.proofs.law.reduced.Core.Kind.{Sabm, Disc, Ua, Dm, IsNumbered}

@@ -50,7 +50,8 @@ returns-clause-step c = λ w end both.
     let free =
     not_refused c.ask.result c.in_ok-acts.acts (refusal_of w.a.end.machine event)
     (λ fault e. c.ask.ensures.refused w.a.end.machine fault stands e) c.in_ok-acts.was in
-    asked_made c.args.request end c.args.number w c.args.near.now c.args.far.now near c.deliver.new.far c.in_ok-acts.acts
+    asked_made c.args.request end c.args.number w c.args.near.now c.args.far.now near c.deliver.new.far
+    c.in_ok-acts.acts
     c.in_ok-told.told.items both steps free refl c.in_ok-told.ensures.link c.in_ok-told.ensures.flew
 
 pub returns-clause-formed : goal.returns-clause-formed
@@ -62,7 +63,8 @@ returns-clause-formed c =
     (record { does = c.in_ok-acts.ensures.step; stands = c.in_ok-acts.ensures.stands_for }) in
     let near : HeldSide = record { link = c.ask.new.link; towards = c.args.near.now.towards } in
     record {
-      of_near = near_formed event c.args.near.now near c.in_ok-acts.acts c.requires.of_near steps c.requires.of_near.frames;
+      of_near = near_formed event c.args.near.now near c.in_ok-acts.acts c.requires.of_near steps
+          c.requires.of_near.frames;
       of_far = far_formed event false c.args.near.now near c.args.far.now c.deliver.new.far c.in_ok-acts.acts
           c.requires.of_near c.requires.of_far steps c.in_ok-told.ensures.link c.in_ok-told.ensures.flew.towards;
     }

@@ -1,11 +1,13 @@
 -- Events of an end that is calling.
-use Rattle.std.proofs.Common.{◌≡◌, ℕ, Bool, true, false, ◌==◌, if◌then◌else◌, List, [], ◌∷◌, ◌++◌, is_some, refl, sym, ap, ◌∙◌, subst, append-nil, ◌&&◌}
+use Rattle.std.proofs.Common.{◌≡◌, ℕ, Bool, true, false, ◌==◌, if◌then◌else◌, List, [], ◌∷◌, ◌++◌, is_some, refl, sym}
+use Rattle.std.proofs.Common.{ap, ◌∙◌, subst, append-nil, ◌&&◌}
 use Rattle.std.specs.List.{fold}
 use Rattle.std.proofs.lemmas.Bool.{cond-false, false≢true}
 use Rattle.ax25_frames.specs.declared.frame.Kind.{Kind as FrameKind}
 use Rattle.ax25_frames.specs.declared.frame.Kind.TheVariants.{Info, Super, Setup, Ui, Other}
 use Rattle.ax25_frames.specs.declared.frame.U.{U}
-use Rattle.ax25_frames.specs.declared.frame.U.TheVariants.{Sabm as SabmFrame, Sabme as SabmeFrame, Disc as DiscFrame, Dm as DmFrame, Ua as UaFrame}
+use Rattle.ax25_frames.specs.declared.frame.U.TheVariants.{Sabm as SabmFrame, Sabme as SabmeFrame, Disc as DiscFrame}
+use Rattle.ax25_frames.specs.declared.frame.U.TheVariants.{Dm as DmFrame, Ua as UaFrame}
 use Rattle.selective_reject.specs.declared.packet.Packet.{Packet}
 use Rattle.link_machine.specs.declared.control.Control.{Control}
 use Rattle.link_machine.specs.declared.state.LinkState.TheVariants.{Calling as CallingState}
@@ -43,7 +45,9 @@ use Rattle.link_world.proofs.law.showing.Outcome.{Keeps, end_with, none_sent}
 use Rattle.link_world.proofs.law.showing.Heard.{Arrival, heard_as, heard_frame}
 use Rattle.link_world.proofs.law.up.Progress.{IsUp}
 use Rattle.link_world.proofs.law.up.Settling.{EndsUp, progress_in, up_ends}
-use Rattle.link_world.proofs.law.down.Ends.{DownEnd, EndsDown, IsDown, down_end, goes_on, down_keeps, down_stays, down_silent, down_passes, down_noted, down_answers, down_declines, down_ends}
+use Rattle.link_world.proofs.law.down.Ends.{DownEnd, EndsDown, IsDown, down_end, goes_on, down_keeps, down_stays}
+use Rattle.link_world.proofs.law.down.Ends.{down_silent, down_passes, down_noted, down_answers, down_declines}
+use Rattle.link_world.proofs.law.down.Ends.{down_ends}
 
 -- a packet is given
 pub calling_sends :

@@ -1,5 +1,6 @@
 -- A call in a modulus: SABM in 8, SABME in 128.
-use Rattle.std.proofs.Common.{◌≡◌, ℕ, ◌+◌, Bool, true, false, ◌==◌, if◌then◌else◌, List, [], ◌∷◌, inl, inr, refl, sym, ap, subst, arith, ◌∙◌, length}
+use Rattle.std.proofs.Common.{◌≡◌, ℕ, ◌+◌, Bool, true, false, ◌==◌, if◌then◌else◌, List, [], ◌∷◌, inl, inr, refl, sym}
+use Rattle.std.proofs.Common.{ap, subst, arith, ◌∙◌, length}
 use Rattle.link_machine.specs.declared.params.Params.{Params}
 use Rattle.link_machine.specs.Params.{called_modulus}
 use Rattle.link_machine.specs.Sent.{SentIn, sent_in}

@@ -4,7 +4,8 @@ use Rattle.std.proofs.lemmas.Bool.{false≢true}
 use Rattle.ax25_frames.specs.declared.frame.Kind.{Kind as FrameKind}
 use Rattle.ax25_frames.specs.declared.frame.Kind.TheVariants.{Info, Super, Setup, Ui, Other}
 use Rattle.ax25_frames.specs.declared.frame.U.{U}
-use Rattle.ax25_frames.specs.declared.frame.U.TheVariants.{Sabm as SabmFrame, Sabme as SabmeFrame, Disc as DiscFrame, Dm as DmFrame, Ua as UaFrame}
+use Rattle.ax25_frames.specs.declared.frame.U.TheVariants.{Sabm as SabmFrame, Sabme as SabmeFrame, Disc as DiscFrame}
+use Rattle.ax25_frames.specs.declared.frame.U.TheVariants.{Dm as DmFrame, Ua as UaFrame}
 use Rattle.link_machine.specs.declared.state.LinkState.TheVariants.{Idle as IdleState, Calling as CallingState}
 use Rattle.link_machine.specs.Params.{called_modulus}
 use Rattle.link_machine.specs.Sent.{Sent}
@@ -31,7 +32,8 @@ use Rattle.link_world.proofs.law.showing.Shown.{core_set_ups, core_tagged}
 use Rattle.link_world.proofs.law.down.Called.{open_called_outcome}
 use Rattle.link_world.proofs.law.showing.Outcome.{Keeps, end_with}
 use Rattle.link_world.proofs.law.showing.Heard.{Arrival, heard_as, heard_frame}
-use Rattle.link_world.proofs.law.down.Ends.{DownEnd, EndsDown, down_keeps, down_passes, down_noted, down_dm, down_declines}
+use Rattle.link_world.proofs.law.down.Ends.{DownEnd, EndsDown, down_keeps, down_passes, down_noted, down_dm}
+use Rattle.link_world.proofs.law.down.Ends.{down_declines}
 
 -- it calls, in its own modulus
 pub idle_connects :

@@ -1,10 +1,12 @@
 -- Events of an end that releases the link.
-use Rattle.std.proofs.Common.{◌≡◌, ◌+◌, Bool, true, false, ◌&&◌, if◌then◌else◌, List, [], ◌∷◌, inl, inr, refl, sym, ap, subst, arith}
+use Rattle.std.proofs.Common.{◌≡◌, ◌+◌, Bool, true, false, ◌&&◌, if◌then◌else◌, List, [], ◌∷◌, inl, inr, refl, sym, ap}
+use Rattle.std.proofs.Common.{subst, arith}
 use Rattle.std.proofs.lemmas.Bool.{false≢true}
 use Rattle.ax25_frames.specs.declared.frame.Kind.{Kind as FrameKind}
 use Rattle.ax25_frames.specs.declared.frame.Kind.TheVariants.{Info, Super, Setup, Ui, Other}
 use Rattle.ax25_frames.specs.declared.frame.U.{U}
-use Rattle.ax25_frames.specs.declared.frame.U.TheVariants.{Sabm as SabmFrame, Sabme as SabmeFrame, Disc as DiscFrame, Dm as DmFrame, Ua as UaFrame}
+use Rattle.ax25_frames.specs.declared.frame.U.TheVariants.{Sabm as SabmFrame, Sabme as SabmeFrame, Disc as DiscFrame}
+use Rattle.ax25_frames.specs.declared.frame.U.TheVariants.{Dm as DmFrame, Ua as UaFrame}
 use Rattle.link_machine.specs.declared.control.Control.{Control}
 use Rattle.link_machine.specs.declared.state.LinkState.TheVariants.{Releasing as ReleasingState}
 use Rattle.link_machine.specs.declared.acts.Why.TheVariants.{Failed, Asked}
@@ -29,7 +31,8 @@ use Rattle.link_world.proofs.law.down.Ticks.{ticks_down}
 use Rattle.link_world.proofs.law.up.Settling.{disc_in}
 use Rattle.link_world.proofs.law.showing.Outcome.{Keeps, IsAlone, end_with}
 use Rattle.link_world.proofs.law.showing.Heard.{Arrival, heard_as, heard_frame}
-use Rattle.link_world.proofs.law.down.Ends.{DownEnd, IsDown, goes_on, setup_sent, down_stays, down_silent, down_passes, down_noted, down_answers, down_dm, down_declines, down_ends}
+use Rattle.link_world.proofs.law.down.Ends.{DownEnd, IsDown, goes_on, setup_sent, down_stays, down_silent, down_passes}
+use Rattle.link_world.proofs.law.down.Ends.{down_noted, down_answers, down_dm, down_declines, down_ends}
 
 -- DISC goes out once more, or the release has failed
 releases_again :

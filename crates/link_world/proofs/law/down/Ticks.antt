@@ -2,10 +2,12 @@
 use Rattle.std.proofs.Common.{◌≡◌, ℕ, Bool, true, false, if◌then◌else◌, Option, Some, None, refl, sym, subst, List, []}
 use Rattle.link_machine.specs.declared.control.Control.{Control}
 use Rattle.link_machine.specs.declared.state.LinkState.{LinkState}
-use Rattle.link_machine.specs.declared.state.LinkState.TheVariants.{Idle as IdleState, Calling as CallingState, Up as UpState, Releasing as ReleasingState}
+use Rattle.link_machine.specs.declared.state.LinkState.TheVariants.{Idle as IdleState, Calling as CallingState}
+use Rattle.link_machine.specs.declared.state.LinkState.TheVariants.{Up as UpState, Releasing as ReleasingState}
 use Rattle.link_machine.specs.Machine.{Machine}
 use Rattle.link_machine.specs.Turn.{Turn, begin}
-use Rattle.link_machine.specs.Ticks.{runs_out, lowered, with_t1, with_t2, with_t3, t1_out, t2_out, t3_out, tick_t1, tick_t2, tick_t1_of, tick_t2_of, tick_t3_of}
+use Rattle.link_machine.specs.Ticks.{runs_out, lowered, with_t1, with_t2, with_t3, t1_out, t2_out, t3_out, tick_t1}
+use Rattle.link_machine.specs.Ticks.{tick_t2, tick_t1_of, tick_t2_of, tick_t3_of}
 use Rattle.selective_reject.specs.declared.packet.Packet.{Packet}
 use Rattle.link_world.proofs.law.down.Ends.{IsDown, goes_on}
 

@@ -3,7 +3,8 @@
 use Rattle.std.proofs.Common.{◌≡◌, ℕ, ◌+◌, ◌<◌, ◌≤◌, List, length, drop, slice_get, Option, Some, IfSome}
 use Rattle.std.specs.Bool.{⊤}
 use Rattle.std.specs.List.{AllByRecursion as Each}
-use Rattle.link_world.proofs.law.reduced.Core.{End, Core, Running, Standing, Stored, SetUp, Tagged, Kind, set_ups, era, count, set_up_at, given_in, got_in, modulus_in}
+use Rattle.link_world.proofs.law.reduced.Core.{End, Core, Running, Standing, Stored, SetUp, Tagged, Kind, set_ups, era}
+use Rattle.link_world.proofs.law.reduced.Core.{count, set_up_at, given_in, got_in, modulus_in}
 use Rattle.link_world.proofs.law.reduced.Core.Numbered.{Info, Super, Srej}
 use Rattle.link_world.proofs.law.reduced.Core.Kind.{Sabm, Disc, Ua, Dm, IsNumbered}
 use Rattle.link_world.proofs.law.reduced.Core.Standing.{Idle, Calling, Up, Releasing}

@@ -1,15 +1,18 @@
 -- x is up, and its own numbers change: V(A), V(S), one past the highest number sent, and the packets it
 -- keeps.
-use Rattle.std.proofs.Common.{◌≡◌, ℕ, ◌+◌, ◌-◌, ◌<◌, ◌≤◌, max, List, ◌∷◌, Option, Some, length, drop, arith, ap, refl, ◌∙◌, subst, le_trans, le_refl}
+use Rattle.std.proofs.Common.{◌≡◌, ℕ, ◌+◌, ◌-◌, ◌<◌, ◌≤◌, max, List, ◌∷◌, Option, Some, length, drop, arith, ap, refl}
+use Rattle.std.proofs.Common.{◌∙◌, subst, le_trans, le_refl}
 use Rattle.std.proofs.lemmas.List.{drop-drop}
 use Rattle.selective_reject.specs.declared.packet.Packet.{Packet}
-use Rattle.link_world.proofs.law.reduced.Core.{between, End, Running, Tagged, Numbered, set_ups, count, got_in, modulus_in}
+use Rattle.link_world.proofs.law.reduced.Core.{between, End, Running, Tagged, Numbered, set_ups, count, got_in}
+use Rattle.link_world.proofs.law.reduced.Core.{modulus_in}
 use Rattle.link_world.proofs.law.reduced.Core.Numbered.{Info, Super, Srej}
 use Rattle.link_world.proofs.law.reduced.Core.Standing.{Up}
 use Rattle.link_world.proofs.law.reduced.CoreMoves.{now, sending_from, numbered_to, acknowledged_to, Acknowledges}
 use Rattle.link_world.proofs.law.invariant.Mates.{of_mate, of_mate_same}
 use Rattle.link_world.proofs.law.Each.{each_weaker, each_last}
-use Rattle.link_world.proofs.law.numbers.AckChain.{AcksRise, AckHolds, ack_next, acks_higher, acks_rising, acks_start, acks_advanced}
+use Rattle.link_world.proofs.law.numbers.AckChain.{AcksRise, AckHolds, ack_next, acks_higher, acks_rising, acks_start}
+use Rattle.link_world.proofs.law.numbers.AckChain.{acks_advanced}
 use Rattle.link_world.proofs.law.numbers.InfoChain.{info_below_higher}
 use Rattle.link_world.proofs.law.invariant.Views.{View, view, view_up}
 use Rattle.link_world.proofs.law.invariant.Options.{if_weaker}

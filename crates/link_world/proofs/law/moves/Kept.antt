@@ -5,7 +5,11 @@ use Rattle.link_world.proofs.law.reduced.Core.{End, Core, Tagged, between, mirro
 use Rattle.link_world.proofs.law.reduced.Core.Kind.{Sabm, Disc, Dm}
 use Rattle.link_world.proofs.law.reduced.Core.Standing.{Calling}
 use Rattle.link_world.proofs.law.reduced.CoreMoves.{Move, Moves, asks, answers, now, of_end, new_end, new_core}
-use Rattle.link_world.proofs.law.reduced.CoreMoves.Move.{Lose, AckFront, SetVs, SendInfo, SendSuper, SendSrej, AcceptFront, StoreFront, TakeStored, GiveUp, GiveCalling, LeaveToIdle, LeaveToReleasing, Begin, Call, Release, SendDm, DeclineByDm, DeclineIdle, DeclineReleasing, Agree, OpenCalled, OpenAgain, OpenAnswered}
+use Rattle.link_world.proofs.law.reduced.CoreMoves.Move.{Lose, AckFront, SetVs, SendInfo, SendSuper, SendSrej}
+use Rattle.link_world.proofs.law.reduced.CoreMoves.Move.{AcceptFront, StoreFront, TakeStored, GiveUp, GiveCalling}
+use Rattle.link_world.proofs.law.reduced.CoreMoves.Move.{LeaveToIdle, LeaveToReleasing, Begin, Call, Release, SendDm}
+use Rattle.link_world.proofs.law.reduced.CoreMoves.Move.{DeclineByDm, DeclineIdle, DeclineReleasing, Agree, OpenCalled}
+use Rattle.link_world.proofs.law.reduced.CoreMoves.Move.{OpenAgain, OpenAnswered}
 use Rattle.link_world.proofs.law.reduced.CoreMoves.Moves.{NoMove, ThenX, ThenY}
 use Rattle.link_world.proofs.law.reduced.CoreLaw.{ObeysPrefixLaw}
 use Rattle.link_world.proofs.law.moves.Losing.{lose_keeps}
@@ -13,7 +17,8 @@ use Rattle.link_world.proofs.law.moves.Sending.{sent_other_keeps}
 use Rattle.link_world.proofs.law.invariant.Upward.{set_vs_keeps, ack_front_keeps}
 use Rattle.link_world.proofs.law.moves.UpSending.{send_super_keeps, send_srej_keeps, send_kept_keeps}
 use Rattle.link_world.proofs.law.moves.Receiving.{accept_front_keeps, store_front_keeps, take_stored_keeps}
-use Rattle.link_world.proofs.law.moves.Standings.{leave_to_idle_keeps, leave_to_releasing_keeps, begin_keeps, give_calling_keeps, give_up_keeps}
+use Rattle.link_world.proofs.law.moves.Standings.{leave_to_idle_keeps, leave_to_releasing_keeps, begin_keeps}
+use Rattle.link_world.proofs.law.moves.Standings.{give_calling_keeps, give_up_keeps}
 use Rattle.link_world.proofs.law.moves.Opening.{agree_keeps, open_called_keeps, open_answered_keeps, no_call_of_up}
 use Rattle.link_world.proofs.law.moves.Declining.{decline_by_dm_keeps, decline_idle_keeps, decline_releasing_keeps}
 use Rattle.link_world.proofs.law.invariant.Invariant.{Hears, Invariant}

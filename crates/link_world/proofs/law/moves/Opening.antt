@@ -1,8 +1,10 @@
 -- x hears a SABM, a DISC or a UA.
-use Rattle.std.proofs.Common.{◌≡◌, ℕ, ◌+◌, ◌≤◌, List, [], ◌∷◌, ◌++◌, Option, Some, None, IfSome, length, arith, ap, refl, sym, ◌∙◌, subst, le_refl}
+use Rattle.std.proofs.Common.{◌≡◌, ℕ, ◌+◌, ◌≤◌, List, [], ◌∷◌, ◌++◌, Option, Some, None, IfSome, length, arith, ap}
+use Rattle.std.proofs.Common.{refl, sym, ◌∙◌, subst, le_refl}
 use Rattle.std.specs.List.{AllByRecursion as Each}
 use Rattle.selective_reject.specs.declared.packet.Packet.{Packet}
-use Rattle.link_world.proofs.law.reduced.Core.{between, End, Running, SetUp, Tagged, set_ups, era, count, got_in, modulus_in}
+use Rattle.link_world.proofs.law.reduced.Core.{between, End, Running, SetUp, Tagged, set_ups, era, count, got_in}
+use Rattle.link_world.proofs.law.reduced.Core.{modulus_in}
 use Rattle.link_world.proofs.law.reduced.Core.Kind.{Sabm, Ua}
 use Rattle.link_world.proofs.law.reduced.Core.Standing.{Calling, Up}
 use Rattle.link_world.proofs.law.reduced.CoreMoves.{now, called, opened, of_end, sabms, setup_to}
@@ -19,7 +21,9 @@ use Rattle.link_world.proofs.law.invariant.Exchanges.{no_ua, sabms_are_asks}
 use Rattle.link_world.proofs.law.moves.NoView.{mates_blind, numbers_blind, packets_blind}
 use Rattle.link_world.proofs.law.moves.Losing.{lose_keeps, both_lost}
 use Rattle.link_world.proofs.law.invariant.Growing.{packets_grown, origins_pushed}
-use Rattle.link_world.proofs.law.moves.Silences.{silent_of_unopened, sent_of_silent, origins_opened, ua_tag_of_each, no_calls, of_more_set_ups, no_calls_of_up, era_le_count, blind_of_down, if_calling}
+use Rattle.link_world.proofs.law.moves.Silences.{silent_of_unopened, sent_of_silent, origins_opened, ua_tag_of_each}
+use Rattle.link_world.proofs.law.moves.Silences.{no_calls, of_more_set_ups, no_calls_of_up, era_le_count, blind_of_down}
+use Rattle.link_world.proofs.law.moves.Silences.{if_calling}
 use Rattle.link_world.proofs.law.invariant.Moduli.{frames_grown, origins_grown, no_caller}
 use Rattle.link_world.proofs.law.moves.Answering.{sent_ua_keeps}
 use Rattle.link_world.proofs.law.reduced.CoreLaw.{OriginBelow}

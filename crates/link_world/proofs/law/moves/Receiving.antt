@@ -1,10 +1,12 @@
 -- x is up and takes packets: the next in sequence, one that came before its turn, or one that it stores.
-use Rattle.std.proofs.Common.{◌≡◌, ℕ, ◌+◌, ◌<◌, ◌≤◌, max, List, [], ◌∷◌, ◌++◌, Option, Some, None, IfSome, IsSome, length, slice_get, arith, ap, refl, sym, ◌∙◌, subst, le_trans, le_refl}
+use Rattle.std.proofs.Common.{◌≡◌, ℕ, ◌+◌, ◌<◌, ◌≤◌, max, List, [], ◌∷◌, ◌++◌, Option, Some, None, IfSome, IsSome}
+use Rattle.std.proofs.Common.{length, slice_get, arith, ap, refl, sym, ◌∙◌, subst, le_trans, le_refl}
 use Rattle.std.specs.List.{AllByRecursion as Each}
 use Rattle.std.proofs.lemmas.List.{length_push}
 use Rattle.std.proofs.lemmas.Bool.{false≢true}
 use Rattle.selective_reject.specs.declared.packet.Packet.{Packet}
-use Rattle.link_world.proofs.law.reduced.Core.{End, Running, SetUp, Stored, Tagged, Numbered, IsPrefixOf, set_ups, era, count, given_in, got_in, modulus_in}
+use Rattle.link_world.proofs.law.reduced.Core.{End, Running, SetUp, Stored, Tagged, Numbered, IsPrefixOf, set_ups, era}
+use Rattle.link_world.proofs.law.reduced.Core.{count, given_in, got_in, modulus_in}
 use Rattle.link_world.proofs.law.reduced.Core.Numbered.{Info}
 use Rattle.link_world.proofs.law.reduced.Core.Standing.{Up}
 use Rattle.link_world.proofs.law.reduced.CoreMoves.{now, numbered_to, got_more, first_origin, storing}
@@ -17,7 +19,8 @@ use Rattle.link_world.proofs.law.numbers.InfoChain.{InfosFit, InfoBelow, held, i
 use Rattle.link_world.proofs.law.invariant.Views.{view}
 use Rattle.link_world.proofs.law.invariant.Options.{if_weaker, if_both}
 use Rattle.link_world.proofs.law.moves.Losing.{lose_keeps}
-use Rattle.link_world.proofs.law.invariant.Growing.{last_changes, got_grows, got_stays, given_opened, origins_before, origins_pushed}
+use Rattle.link_world.proofs.law.invariant.Growing.{last_changes, got_grows, got_stays, given_opened, origins_before}
+use Rattle.link_world.proofs.law.invariant.Growing.{origins_pushed}
 use Rattle.link_world.proofs.law.invariant.Upward.{front_of_mate}
 use Rattle.link_world.proofs.law.moves.UpSending.{UpInvariant, got_as_mate, seen_of_own}
 use Rattle.link_world.proofs.law.invariant.Moduli.{moduli_up}

@@ -1,17 +1,20 @@
 -- x sends a frame.
-use Rattle.std.proofs.Common.{◌≡◌, ℕ, ◌+◌, ◌≤◌, List, [], ◌∷◌, ◌++◌, Option, None, IfSome, length, arith, ap, refl, le_refl}
+use Rattle.std.proofs.Common.{◌≡◌, ℕ, ◌+◌, ◌≤◌, List, [], ◌∷◌, ◌++◌, Option, None, IfSome, length, arith, ap, refl}
+use Rattle.std.proofs.Common.{le_refl}
 use Rattle.link_world.proofs.law.reduced.Core.{between, End, SetUp, Tagged, Kind, Numbered, set_ups, era, count, got_in}
 use Rattle.link_world.proofs.law.reduced.CoreMoves.{asks, answers, ask_of, answer_of, of_end}
 use Rattle.link_world.proofs.law.invariant.Mates.{of_mate, numbered, of_mate_none}
 use Rattle.link_world.proofs.law.Each.{each_pushed}
 use Rattle.link_world.proofs.law.invariant.TagChain.{tags_pushed}
 use Rattle.link_world.proofs.law.numbers.AckChain.{AckHolds, ack_next, acks_pushed}
-use Rattle.link_world.proofs.law.numbers.InfoChain.{InfosFit, InfoHolds, InfoBelow, held, infos_pushed_other, info_below_silent}
+use Rattle.link_world.proofs.law.numbers.InfoChain.{InfosFit, InfoHolds, InfoBelow, held, infos_pushed_other}
+use Rattle.link_world.proofs.law.numbers.InfoChain.{info_below_silent}
 use Rattle.link_world.proofs.law.invariant.Views.{View, ua_by, view, view_by}
 use Rattle.link_world.proofs.law.invariant.Options.{if_both, if_all}
 use Rattle.link_world.proofs.law.invariant.Exchanges.{asks_pushed, answers_pushed, ua_pushed}
 use Rattle.link_world.proofs.law.invariant.Moduli.{moduli_sent}
-use Rattle.link_world.proofs.law.invariant.Invariant.{OfSetUp, IsCurrentCall, Carries, HasModulus, CallsIn, Tags, Numbers, Packets, BothHear, Invariant}
+use Rattle.link_world.proofs.law.invariant.Invariant.{OfSetUp, IsCurrentCall, Carries, HasModulus, CallsIn, Tags}
+use Rattle.link_world.proofs.law.invariant.Invariant.{Numbers, Packets, BothHear, Invariant}
 
 pub tags_sent :
     {low : ℕ} {fs : List Tagged} (f : Tagged) {era count : ℕ} → f.tag ≡ era → OfSetUp count f.tag f.kind

@@ -1,5 +1,6 @@
 -- What is under way says nothing yet of a set-up that was not opened.
-use Rattle.std.proofs.Common.{◌≡◌, ℕ, ◌+◌, ◌<◌, ◌≤◌, List, [], ◌∷◌, Option, Some, None, IfSome, length, arith, refl, ap, le_trans}
+use Rattle.std.proofs.Common.{◌≡◌, ℕ, ◌+◌, ◌<◌, ◌≤◌, List, [], ◌∷◌, Option, Some, None, IfSome, length, arith, refl, ap}
+use Rattle.std.proofs.Common.{le_trans}
 use Rattle.std.specs.List.{AllByRecursion as Each}
 use Rattle.selective_reject.specs.declared.packet.Packet.{Packet}
 use Rattle.link_world.proofs.law.reduced.Core.{End, Standing, SetUp, Tagged, Kind, with_running, set_ups, era, count}

@@ -1,9 +1,11 @@
 -- x is no longer up, or begins to call; and more is given to it.
-use Rattle.std.proofs.Common.{◌≡◌, ℕ, ◌+◌, ◌≤◌, List, [], ◌∷◌, ◌++◌, Option, Some, None, IfSome, length, arith, ap, refl, sym, ◌∙◌, subst, le_refl, length-append}
+use Rattle.std.proofs.Common.{◌≡◌, ℕ, ◌+◌, ◌≤◌, List, [], ◌∷◌, ◌++◌, Option, Some, None, IfSome, length, arith, ap}
+use Rattle.std.proofs.Common.{refl, sym, ◌∙◌, subst, le_refl, length-append}
 use Rattle.std.specs.List.{AllByRecursion as Each}
 use Rattle.std.proofs.lemmas.List.{drop-append-le}
 use Rattle.selective_reject.specs.declared.packet.Packet.{Packet}
-use Rattle.link_world.proofs.law.reduced.Core.{between, End, Running, Standing, SetUp, Tagged, with_running, set_ups, era}
+use Rattle.link_world.proofs.law.reduced.Core.{between, End, Running, Standing, SetUp, Tagged, with_running, set_ups}
+use Rattle.link_world.proofs.law.reduced.Core.{era}
 use Rattle.link_world.proofs.law.reduced.Core.Standing.{Idle, Calling, Up, Releasing}
 use Rattle.link_world.proofs.law.reduced.CoreMoves.{now, after_all, in_modulus, given_more, asks, answers}
 use Rattle.link_world.proofs.law.Each.{each_before, each_last, each_pushed}
@@ -22,7 +24,8 @@ use Rattle.link_world.proofs.law.moves.UpSending.{UpInvariant}
 use Rattle.link_world.proofs.law.moves.Receiving.{own_origin}
 use Rattle.link_world.proofs.law.invariant.Moduli.{moduli_up, no_calls_yet, no_caller}
 use Rattle.link_world.proofs.law.reduced.CoreLaw.{GotOf, OriginsRise, OriginAlike}
-use Rattle.link_world.proofs.law.invariant.Invariant.{low_by, OwnModulus, CallsIn, KeepsBy, Keeps, Packets, Hears, BothHear, Invariant}
+use Rattle.link_world.proofs.law.invariant.Invariant.{low_by, OwnModulus, CallsIn, KeepsBy, Keeps, Packets, Hears}
+use Rattle.link_world.proofs.law.invariant.Invariant.{BothHear, Invariant}
 
 -- an end that sees nothing and has the same set-ups
 pub record IsDown (x z : End) : Type 0 where

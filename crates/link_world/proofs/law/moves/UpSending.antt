@@ -1,9 +1,11 @@
 -- x is up and sends an I or S frame.
-use Rattle.std.proofs.Common.{◌≡◌, ℕ, zero, suc, ◌+◌, ◌-◌, ◌<◌, ◌≤◌, max, List, [], ◌∷◌, ◌++◌, Option, Some, IfSome, length, drop, slice_get, arith, ap, refl, sym, ◌∙◌, subst, le_trans, le_refl}
+use Rattle.std.proofs.Common.{◌≡◌, ℕ, zero, suc, ◌+◌, ◌-◌, ◌<◌, ◌≤◌, max, List, [], ◌∷◌, ◌++◌, Option, Some, IfSome}
+use Rattle.std.proofs.Common.{length, drop, slice_get, arith, ap, refl, sym, ◌∙◌, subst, le_trans, le_refl}
 use Rattle.std.specs.List.{AllByRecursion as Each}
 use Rattle.std.proofs.lemmas.Option.{slice_get_within}
 use Rattle.selective_reject.specs.declared.packet.Packet.{Packet}
-use Rattle.link_world.proofs.law.reduced.Core.{between, End, Running, SetUp, Stored, Tagged, Numbered, set_ups, era, count, got_in, given_in}
+use Rattle.link_world.proofs.law.reduced.Core.{between, End, Running, SetUp, Stored, Tagged, Numbered, set_ups, era}
+use Rattle.link_world.proofs.law.reduced.Core.{count, got_in, given_in}
 use Rattle.link_world.proofs.law.reduced.Core.Numbered.{Info, Super, Srej}
 use Rattle.link_world.proofs.law.reduced.Core.Kind.{IsNumbered}
 use Rattle.link_world.proofs.law.reduced.Core.Standing.{Up}
@@ -12,7 +14,8 @@ use Rattle.link_world.proofs.law.invariant.Mates.{of_mate, of_mate_same}
 use Rattle.link_world.proofs.law.Each.{each_at}
 use Rattle.link_world.proofs.law.invariant.SetUps.{at_last, length_last}
 use Rattle.link_world.proofs.law.numbers.AckChain.{AckHolds, ack_next}
-use Rattle.link_world.proofs.law.numbers.InfoChain.{InfosFit, InfoHolds, InfoBelow, held, infos_pushed, infos_pushed_other}
+use Rattle.link_world.proofs.law.numbers.InfoChain.{InfosFit, InfoHolds, InfoBelow, held, infos_pushed}
+use Rattle.link_world.proofs.law.numbers.InfoChain.{infos_pushed_other}
 use Rattle.link_world.proofs.law.invariant.Views.{view, view_up}
 use Rattle.link_world.proofs.law.invariant.Options.{if_weaker, if_both}
 use Rattle.link_world.proofs.law.moves.Sending.{NumbersOfOne, both_sent, view_sent}

@@ -7,7 +7,8 @@ use Rattle.link_world.proofs.law.reduced.Core.{Tagged, Numbered}
 use Rattle.link_world.proofs.law.reduced.Core.Numbered.{Info, Super, Srej}
 use Rattle.link_world.proofs.law.invariant.Mates.{of_mate, IsSilent}
 use Rattle.link_world.proofs.law.Each.{each_weaker}
-use Rattle.link_world.proofs.law.invariant.Chains.{Rule, Chain, IsRising, chain_from, chain_wider, chain_pushed, chain_start, chain_silent}
+use Rattle.link_world.proofs.law.invariant.Chains.{Rule, Chain, IsRising, chain_from, chain_wider, chain_pushed}
+use Rattle.link_world.proofs.law.invariant.Chains.{chain_start, chain_silent}
 
 abbrev pub AckHolds : ℕ → ℕ → Option Numbered → Type 0
 AckHolds top n None = ⊤

@@ -1,5 +1,6 @@
 -- Numbers on the air are modulo the modulus. Of a front frame that an end hears while it is up they name the true ones.
-use Rattle.std.proofs.Common.{◌≡◌, ℕ, ◌+◌, ◌-◌, ◌%◌, ◌<◌, ◌≤◌, List, [], ◌∷◌, Option, Some, length, arith, le_trans, ◌↔◌, subst, inl, inr}
+use Rattle.std.proofs.Common.{◌≡◌, ℕ, ◌+◌, ◌-◌, ◌%◌, ◌<◌, ◌≤◌, List, [], ◌∷◌, Option, Some, length, arith, le_trans}
+use Rattle.std.proofs.Common.{◌↔◌, subst, inl, inr}
 use Rattle.std.proofs.lemmas.Bool.{cases_lt}
 use Rattle.selective_reject.specs.Numbers.{ahead}
 use Rattle.selective_reject.proofs.Distances.{ahead-at_or_ahead, ahead-behind}

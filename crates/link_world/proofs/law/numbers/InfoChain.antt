@@ -1,13 +1,15 @@
 -- The numbers of I frames along what is under way: each is less than a window above V(R), and at most a window below
 -- all that is stored or comes before it. The window is the sender's.
-use Rattle.std.proofs.Common.{◌≡◌, ℕ, ◌+◌, ◌<◌, ◌≤◌, max, List, [], ◌∷◌, ◌++◌, Option, Some, None, arith, le_refl, le_trans}
+use Rattle.std.proofs.Common.{◌≡◌, ℕ, ◌+◌, ◌<◌, ◌≤◌, max, List, [], ◌∷◌, ◌++◌, Option, Some, None, arith, le_refl}
+use Rattle.std.proofs.Common.{le_trans}
 use Rattle.std.specs.Bool.{⊤}
 use Rattle.std.specs.List.{AllByRecursion as Each}
 use Rattle.link_world.proofs.law.reduced.Core.{Tagged, Numbered, Stored}
 use Rattle.link_world.proofs.law.reduced.Core.Numbered.{Info, Super, Srej}
 use Rattle.link_world.proofs.law.invariant.Mates.{of_mate, IsSilent}
 use Rattle.link_world.proofs.law.Each.{each_weaker}
-use Rattle.link_world.proofs.law.invariant.Chains.{Rule, Chain, IsRising, chain_from, chain_wider, chain_pushed, chain_pushed_within, chain_silent}
+use Rattle.link_world.proofs.law.invariant.Chains.{Rule, Chain, IsRising, chain_from, chain_wider, chain_pushed}
+use Rattle.link_world.proofs.law.invariant.Chains.{chain_pushed_within, chain_silent}
 
 -- one past the highest number that is stored or got
 abbrev pub held : ℕ → List Stored → ℕ

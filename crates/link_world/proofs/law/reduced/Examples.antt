@@ -5,8 +5,10 @@ use Rattle.selective_reject.specs.declared.packet.Packet.{Packet}
 use Rattle.link_world.proofs.law.reduced.Core.{Core, End, Running, Stored, Tagged, set_ups, set_up_at, mirror, between}
 use Rattle.link_world.proofs.law.reduced.Core.Numbered.{Info, Srej}
 use Rattle.link_world.proofs.law.reduced.Core.Standing.{Calling, Up}
-use Rattle.link_world.proofs.law.reduced.CoreMoves.{Move, Moves, new_end, new_core, now, opened, given_more, sent_number, storing, got_more, numbered_to}
-use Rattle.link_world.proofs.law.reduced.CoreMoves.Move.{Lose, SendInfo, SendSrej, AcceptFront, StoreFront, TakeStored, GiveUp, Begin, Call, OpenCalled, OpenAnswered}
+use Rattle.link_world.proofs.law.reduced.CoreMoves.{Move, Moves, new_end, new_core, now, opened, given_more}
+use Rattle.link_world.proofs.law.reduced.CoreMoves.{sent_number, storing, got_more, numbered_to}
+use Rattle.link_world.proofs.law.reduced.CoreMoves.Move.{Lose, SendInfo, SendSrej, AcceptFront, StoreFront, TakeStored}
+use Rattle.link_world.proofs.law.reduced.CoreMoves.Move.{GiveUp, Begin, Call, OpenCalled, OpenAnswered}
 use Rattle.link_world.proofs.law.reduced.CoreMoves.Moves.{NoMove, ThenX, ThenY}
 
 by_x : {w v u : Core} → Moves w v → Move v u → Moves w u

@@ -1,5 +1,6 @@
 -- A quiet run keeps what holds, from a new world on.
-use Rattle.std.proofs.Common.{◌≡◌, ℕ, ◌+◌, Option, Some, None, Bool, true, ◌&&◌, ◌||◌, not, ◌==◌, List, [], ◌∷◌, ◌++◌, ◌⊎◌, inl, inr, refl, sym, ap, ◌∙◌}
+use Rattle.std.proofs.Common.{◌≡◌, ℕ, ◌+◌, Option, Some, None, Bool, true, ◌&&◌, ◌||◌, not, ◌==◌, List, [], ◌∷◌, ◌++◌}
+use Rattle.std.proofs.Common.{◌⊎◌, inl, inr, refl, sym, ap, ◌∙◌}
 use Rattle.std.specs.Prelude.{IsTrue}
 use Rattle.std.proofs.lemmas.Bool.{and_parts, eqb-true}
 use Rattle.ax25_address.specs.declared.path.Path.{Path}
@@ -13,7 +14,8 @@ use Rattle.link_world.proofs.law.reduced.CoreMoves.{new_end}
 use Rattle.link_world.specs.Flight.{Tagged, asks_in, answers_in}
 use Rattle.link_world.specs.Recorded.{RecordedEnd}
 use Rattle.link_world.specs.Recorded.Happening.{Connects, Sends, Disconnects, Ticks}
-use Rattle.link_world.specs.World.{Side, World, read_in, hearing_as, turn_of, near_step, seen_from, end_of, step, run, new_world}
+use Rattle.link_world.specs.World.{Side, World, read_in, hearing_as, turn_of, near_step, seen_from, end_of, step, run}
+use Rattle.link_world.specs.World.{new_world}
 use Rattle.link_world.specs.Quiet.{is_alone, sends_alone, called_alone, is_quiet, IsQuietRun, is_idle}
 use Rattle.link_world.specs.Windows.{WindowsFit, HasHalfWindows}
 use Rattle.link_world.specs.declared.end.End.{End as Name}

@@ -10,7 +10,8 @@ use Rattle.link_machine.specs.Step.{step as link_step}
 use Rattle.link_world.specs.Recorded.{RecordedEnd, seen}
 use Rattle.link_world.specs.Recorded.Happening.{Connects, Sends, Disconnects, Ticks, Hears}
 use Rattle.link_world.specs.Flight.{Tagged}
-use Rattle.link_world.specs.World.{Side, World, read_in, hearing_as, turn_of, near_step, seen_from, end_of, step, run, new_world}
+use Rattle.link_world.specs.World.{Side, World, read_in, hearing_as, turn_of, near_step, seen_from, end_of, step, run}
+use Rattle.link_world.specs.World.{new_world}
 use Rattle.link_world.specs.Quiet.{IsQuietRun}
 use Rattle.link_world.specs.Windows.{WindowsFit}
 use Rattle.link_world.specs.Origin.{GotInOrder}

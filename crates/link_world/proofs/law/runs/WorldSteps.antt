@@ -1,11 +1,13 @@
 -- Each event of a quiet run keeps what holds of a world.
-use Rattle.std.proofs.Common.{◌≡◌, ℕ, zero, suc, ◌+◌, ◌<◌, ◌≤◌, Some, Bool, true, false, ◌==◌, cond, List, [], ◌∷◌, ◌++◌, map, ◌⊎◌, inl, inr, refl, sym, ap, ◌∙◌, subst, arith, append-nil}
+use Rattle.std.proofs.Common.{◌≡◌, ℕ, zero, suc, ◌+◌, ◌<◌, ◌≤◌, Some, Bool, true, false, ◌==◌, cond, List, [], ◌∷◌}
+use Rattle.std.proofs.Common.{◌++◌, map, ◌⊎◌, inl, inr, refl, sym, ap, ◌∙◌, subst, arith, append-nil}
 use Rattle.std.specs.List.{AllByRecursion as Each, remove}
 use Rattle.std.proofs.lemmas.Bool.{eqb-true, or_cases}
 use Rattle.std.proofs.lemmas.List.{map-append}
 use Rattle.std.proofs.lemmas.List.Sums.{sum_by-cons}
 use Rattle.ax25_frames.specs.declared.frame.Frame.{Frame}
-use Rattle.ax25_frames.specs.declared.frame.U.TheVariants.{Sabm as SabmFrame, Sabme as SabmeFrame, Disc as DiscFrame, Dm as DmFrame, Ua as UaFrame}
+use Rattle.ax25_frames.specs.declared.frame.U.TheVariants.{Sabm as SabmFrame, Sabme as SabmeFrame, Disc as DiscFrame}
+use Rattle.ax25_frames.specs.declared.frame.U.TheVariants.{Dm as DmFrame, Ua as UaFrame}
 use Rattle.selective_reject.specs.declared.window.Mode.{Mode}
 use Rattle.selective_reject.specs.declared.window.Mode.TheVariants.{Rej as RejMode, Srej as SrejMode}
 use Rattle.selective_reject.specs.Window.{IsWindow}
@@ -16,7 +18,8 @@ use Rattle.link_machine.specs.Sent.{Sent, SentIn, sent_kind}
 use Rattle.link_machine.specs.Sent.Sent.{InfoSent, SuperSent, SetupSent}
 use Rattle.link_machine.specs.Step.{step as link_step}
 use Rattle.link_world.proofs.law.reduced.Core.{End, between}
-use Rattle.link_world.proofs.law.reduced.CoreMoves.{asks as core_asks, answers as core_answers, sabms, ask_of, answer_of}
+use Rattle.link_world.proofs.law.reduced.CoreMoves.{asks as core_asks, answers as core_answers, sabms, ask_of}
+use Rattle.link_world.proofs.law.reduced.CoreMoves.{answer_of}
 use Rattle.link_world.proofs.law.reduced.CoreOf.{cores_sent, kind_of}
 use Rattle.link_world.specs.Flight.{Tagged, asks, asks_in, answers_in}
 use Rattle.link_world.specs.Recorded.{RecordedEnd, Happening, seen, hears_ask, behind, tagged}
@@ -88,7 +91,8 @@ below modulus window SrejMode some h = let high = h.1 in omega arith
 -- so is that which a link has in a modulus
 window_below : (p : Params) (modulus : ℕ) → IsModulus modulus → HasWindows p → window_in modulus p < modulus
 window_below p modulus (inl is) h = subst (λ m. window_in m p < m) (sym is) (below 8 p.window p.mode (omega arith) h.0)
-window_below p modulus (inr is) h = subst (λ m. window_in m p < m) (sym is) (below 128 p.wide_window p.mode (omega arith) h.1)
+window_below p modulus (inr is) h = subst (λ m. window_in m p < m) (sym is)
+    (below 128 p.wide_window p.mode (omega arith) h.1)
 
 -- and perhaps at most half of it
 window_half :

@@ -9,7 +9,8 @@ use Rattle.link_machine.specs.Machine.{Machine}
 use Rattle.link_machine.specs.Sent.{SentIn}
 use Rattle.link_machine.specs.Turn.{Turn}
 use Rattle.link_world.specs.SetUps.{SetUp}
-use Rattle.link_world.specs.Recorded.{RecordedEnd, Happening, tagged, waiting_in, told_of, opening, noting, behind, hears_ask}
+use Rattle.link_world.specs.Recorded.{RecordedEnd, Happening, tagged, waiting_in, told_of, opening, noting, behind}
+use Rattle.link_world.specs.Recorded.{hears_ask}
 use Rattle.link_world.proofs.law.reduced.Core.{End, Tagged as CoreTagged, between}
 use Rattle.link_world.proofs.law.reduced.CoreMoves.{asks, answers}
 use Rattle.link_world.proofs.law.reduced.CoreOf.{cores_sent}

@@ -1,5 +1,7 @@
 -- The places of a link between two events: as many as the window, and nothing in the first; by REJ nothing in any.
-use Rattle.std.proofs.Common.{◌≡◌, ℕ, zero, suc, ◌+◌, ◌-◌, ◌≤◌, Bool, true, false, ◌==◌, if◌then◌else◌, ◌⊎◌, subst, List, [], ◌∷◌, ◌++◌, length, drop, replicate, Option, Some, None, refl, sym, ap, ◌∙◌, arith, length-append, length-drop, length-set}
+use Rattle.std.proofs.Common.{◌≡◌, ℕ, zero, suc, ◌+◌, ◌-◌, ◌≤◌, Bool, true, false, ◌==◌, if◌then◌else◌, ◌⊎◌, subst}
+use Rattle.std.proofs.Common.{List, [], ◌∷◌, ◌++◌, length, drop, replicate, Option, Some, None, refl, sym, ap, ◌∙◌}
+use Rattle.std.proofs.Common.{arith, length-append, length-drop, length-set}
 use Rattle.std.proofs.lemmas.List.{length-replicate, drop-replicate, replicate-append-replicate, get_or-set_other}
 use Rattle.selective_reject.specs.declared.packet.Packet.{Packet}
 use Rattle.selective_reject.specs.declared.place.Place.{Place}

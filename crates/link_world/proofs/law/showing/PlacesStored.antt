@@ -1,5 +1,6 @@
 -- The packets in places, by their numbers, when a place is filled, asked for or left behind.
-use Rattle.std.proofs.Common.{◌≡◌, ℕ, zero, suc, ◌+◌, ◌<◌, ◌≤◌, Bool, true, false, List, [], ◌∷◌, ◌++◌, length, drop, filter, replicate, Option, Some, None, is_some, if◌then◌else◌, refl, sym, ap, ◌∙◌, arith}
+use Rattle.std.proofs.Common.{◌≡◌, ℕ, zero, suc, ◌+◌, ◌<◌, ◌≤◌, Bool, true, false, List, [], ◌∷◌, ◌++◌, length, drop}
+use Rattle.std.proofs.Common.{filter, replicate, Option, Some, None, is_some, if◌then◌else◌, refl, sym, ap, ◌∙◌, arith}
 use Rattle.std.specs.List.{AllByRecursion as Each, range_with_len}
 use Rattle.std.proofs.lemmas.Bool.{false≢true}
 use Rattle.selective_reject.specs.declared.packet.Packet.{Packet}

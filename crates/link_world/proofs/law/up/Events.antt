@@ -1,30 +1,6 @@
 -- Events of an end that is up: what the layer above asks for, and I and S frames.
-use Rattle.std.proofs.Common.{
-  ◌≡◌,
-  ℕ,
-  ◌%◌,
-  ◌<◌,
-  Bool,
-  true,
-  false,
-  ◌&&◌,
-  if◌then◌else◌,
-  List,
-  [],
-  ◌∷◌,
-  ◌++◌,
-  map,
-  Option,
-  Some,
-  None,
-  is_some,
-  refl,
-  sym,
-  ap,
-  ◌∙◌,
-  subst,
-  append-nil,
-}
+use Rattle.std.proofs.Common.{◌≡◌, ℕ, ◌%◌, ◌<◌, Bool, true, false, ◌&&◌, if◌then◌else◌, List, [], ◌∷◌, ◌++◌, map}
+use Rattle.std.proofs.Common.{Option, Some, None, is_some, refl, sym, ap, ◌∙◌, subst, append-nil}
 use Rattle.std.specs.List.{fold}
 use Rattle.std.proofs.lemmas.Bool.{cond-false}
 use Rattle.ax25_frames.specs.FrameText.{is_command_of}
@@ -55,14 +31,8 @@ use Rattle.link_world.proofs.law.up.Hearing.{IsRead, nr_is_read, hear_super_keep
 use Rattle.link_world.proofs.law.up.Info.{WindowsOf, hear_info_heard}
 use Rattle.link_world.proofs.law.up.Accepting.{HasHeard}
 use Rattle.link_world.proofs.law.invariant.Invariant.{Invariant}
-use Rattle.link_world.proofs.law.showing.Shown.{
-  core_set_up,
-  core_set_ups,
-  core_tagged,
-  change_last-push,
-  getting_all,
-  told_given,
-}
+use Rattle.link_world.proofs.law.showing.Shown.{core_set_up, core_set_ups, core_tagged, change_last-push, getting_all}
+use Rattle.link_world.proofs.law.showing.Shown.{told_given}
 use Rattle.link_world.proofs.law.showing.Outcome.{Keeps}
 use Rattle.link_world.proofs.law.showing.Heard.{Arrival, heard_as, heard_frame}
 use Rattle.link_world.proofs.law.up.Settling.{EndsUp, progress_in, up_ends}

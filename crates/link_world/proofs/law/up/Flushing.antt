@@ -1,5 +1,7 @@
 -- The packets that may go out go out.
-use Rattle.std.proofs.Common.{◌≡◌, ℕ, suc, ◌+◌, ◌-◌, ◌<◌, ◌≤◌, min, max, Bool, true, false, ◌||◌, if◌then◌else◌, ◌==◌, is_none, List, [], ◌∷◌, ◌++◌, length, drop, slice_get, Some, None, refl, sym, ap, ◌∙◌, subst, arith, append_assoc, length-take, take-append-drop, drop-drop}
+use Rattle.std.proofs.Common.{◌≡◌, ℕ, suc, ◌+◌, ◌-◌, ◌<◌, ◌≤◌, min, max, Bool, true, false, ◌||◌, if◌then◌else◌, ◌==◌}
+use Rattle.std.proofs.Common.{is_none, List, [], ◌∷◌, ◌++◌, length, drop, slice_get, Some, None, refl, sym, ap, ◌∙◌}
+use Rattle.std.proofs.Common.{subst, arith, append_assoc, length-take, take-append-drop, drop-drop}
 use Rattle.std.specs.List.{AllByRecursion as Each}
 use Rattle.link_world.proofs.law.Each.{each_append}
 use Rattle.std.proofs.lemmas.Bool.{cond-false, ne_eqb}

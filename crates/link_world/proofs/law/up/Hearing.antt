@@ -1,5 +1,7 @@
 -- A link that is up hears an S frame.
-use Rattle.std.proofs.Common.{◌≡◌, ℕ, ◌+◌, ◌-◌, ◌%◌, ◌<◌, ◌≤◌, le_refl, max, Bool, true, false, ◌&&◌, not, nat_lt, if◌then◌else◌, List, [], ◌∷◌, ◌++◌, length, slice_get, option_to_list, Option, Some, None, refl, sym, subst, arith, append-nil}
+use Rattle.std.proofs.Common.{◌≡◌, ℕ, ◌+◌, ◌-◌, ◌%◌, ◌<◌, ◌≤◌, le_refl, max, Bool, true, false, ◌&&◌, not, nat_lt}
+use Rattle.std.proofs.Common.{if◌then◌else◌, List, [], ◌∷◌, ◌++◌, length, slice_get, option_to_list, Option, Some, None}
+use Rattle.std.proofs.Common.{refl, sym, subst, arith, append-nil}
 use Rattle.std.proofs.lemmas.Bool.{cond-true, le-leb, ltb-true}
 use Rattle.ax25_frames.specs.declared.frame.S.{S}
 use Rattle.ax25_frames.specs.declared.frame.S.TheVariants.{Rr, Rnr, Rej as RejFrame, Srej as SrejFrame}
@@ -21,7 +23,8 @@ use Rattle.link_world.proofs.law.moves.UpSending.{UpInvariant, send_kept_keeps}
 use Rattle.link_world.proofs.law.numbers.Deciding.{nr_of, nr_in_order, nr_is_named}
 use Rattle.link_world.proofs.law.invariant.Invariant.{Keeps}
 use Rattle.link_world.proofs.law.Each.{each_append, each_pushed}
-use Rattle.link_world.proofs.law.up.Acts.{setting_keeps, gone_back_keeps, acknowledged_keeps, answer_poll_keeps, recover_keeps, passed_over}
+use Rattle.link_world.proofs.law.up.Acts.{setting_keeps, gone_back_keeps, acknowledged_keeps, answer_poll_keeps}
+use Rattle.link_world.proofs.law.up.Acts.{recover_keeps, passed_over}
 use Rattle.link_world.proofs.law.up.Progress.{IsUp, Progress, sent_one}
 
 -- An I frame that was sent goes out again.

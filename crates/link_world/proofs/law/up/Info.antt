@@ -1,31 +1,6 @@
 -- A link that is up hears an I frame.
-use Rattle.std.proofs.Common.{
-  ◌≡◌,
-  ℕ,
-  ◌+◌,
-  ◌-◌,
-  ◌%◌,
-  ◌<◌,
-  ◌≤◌,
-  Bool,
-  true,
-  false,
-  ◌&&◌,
-  ◌||◌,
-  not,
-  nat_lt,
-  ◌==◌,
-  if◌then◌else◌,
-  List,
-  [],
-  ◌∷◌,
-  refl,
-  sym,
-  subst,
-  arith,
-  inl,
-  inr,
-}
+use Rattle.std.proofs.Common.{◌≡◌, ℕ, ◌+◌, ◌-◌, ◌%◌, ◌<◌, ◌≤◌, Bool, true, false, ◌&&◌, ◌||◌, not, nat_lt, ◌==◌}
+use Rattle.std.proofs.Common.{if◌then◌else◌, List, [], ◌∷◌, refl, sym, subst, arith, inl, inr}
 use Rattle.std.proofs.lemmas.Bool.{cond-true, eqb-true, eqb-false, ltb-true, and_parts, not-true, cases_lt}
 use Rattle.ax25_frames.specs.declared.frame.Kind.TheVariants.{Info as InfoKind}
 use Rattle.selective_reject.specs.declared.packet.Packet.{Packet}
@@ -36,15 +11,8 @@ use Rattle.selective_reject.specs.Incoming.{Incoming, keeps, taking_by, took}
 use Rattle.link_machine.specs.Machine.{named, ahead_of_vr}
 use Rattle.link_machine.specs.Turn.{Turn, changing, setting}
 use Rattle.link_machine.specs.Acts.{answer_poll, reject, owing, with_rej, run_with, give, stored, ask}
-use Rattle.link_machine.specs.Frames.{
-  hear_up,
-  hear_info,
-  hear_info_by,
-  hear_info_by_rej,
-  hear_info_by_srej,
-  take_in_sequence,
-  refuse_out_of_sequence,
-}
+use Rattle.link_machine.specs.Frames.{hear_up, hear_info, hear_info_by, hear_info_by_rej, hear_info_by_srej}
+use Rattle.link_machine.specs.Frames.{take_in_sequence, refuse_out_of_sequence}
 use Rattle.link_world.proofs.law.reduced.Core.{End, Tagged}
 use Rattle.link_world.proofs.law.reduced.Core.Numbered.{Info}
 use Rattle.link_world.proofs.law.reduced.CoreMoves.{numbered_to}
@@ -55,14 +23,8 @@ use Rattle.link_world.proofs.law.up.Acts.{setting_keeps, acknowledged_keeps, ans
 use Rattle.link_world.proofs.law.up.Progress.{IsUp, Progress}
 use Rattle.link_world.proofs.law.up.Hearing.{IsRead, nr_is_read}
 use Rattle.link_world.proofs.law.up.Keeping.{kept_by_rej, kept_by_srej}
-use Rattle.link_world.proofs.law.up.Accepting.{
-  HasHeard,
-  heard_nothing,
-  heard_then,
-  sequence_heard,
-  run_heard,
-  stored_heard,
-}
+use Rattle.link_world.proofs.law.up.Accepting.{HasHeard, heard_nothing, heard_then, sequence_heard, run_heard}
+use Rattle.link_world.proofs.law.up.Accepting.{stored_heard}
 
 -- the windows of a hearer in this mode, and of the sender, fit the modulus
 pub record WindowsOf (i : Incoming) (y : End) : Type 0 where

@@ -1,6 +1,7 @@
 -- What an event of a link that is up ends with: what may go out goes out, and then, if it is time, the link is
 -- released.
-use Rattle.std.proofs.Common.{◌≡◌, ℕ, ◌+◌, Bool, true, false, ◌&&◌, ◌==◌, if◌then◌else◌, List, [], ◌∷◌, ◌++◌, length, map, inl, inr, refl, sym, ap, ◌∙◌, subst, arith, append_assoc}
+use Rattle.std.proofs.Common.{◌≡◌, ℕ, ◌+◌, Bool, true, false, ◌&&◌, ◌==◌, if◌then◌else◌, List, [], ◌∷◌, ◌++◌, length}
+use Rattle.std.proofs.Common.{map, inl, inr, refl, sym, ap, ◌∙◌, subst, arith, append_assoc}
 use Rattle.std.specs.List.{AllByRecursion as Each, fold}
 use Rattle.std.proofs.lemmas.Bool.{and_parts, and_right, eqb-true}
 use Rattle.std.proofs.lemmas.List.{map-append, nil_from_length}
@@ -19,7 +20,8 @@ use Rattle.link_world.proofs.law.reduced.CoreMoves.{now, of_end, asks, answers, 
 use Rattle.link_world.proofs.law.reduced.CoreOf.{core_sent, cores_sent, kind_of, end_behind, up_end}
 use Rattle.link_world.specs.SetUps.{SetUp, opened}
 use Rattle.link_world.specs.Flight.{is_answer, set_up_of}
-use Rattle.link_world.specs.Recorded.{RecordedEnd, tagged, waiting_in, Happening, told_of, mate_of, opening, noting, hears_ask}
+use Rattle.link_world.specs.Recorded.{RecordedEnd, tagged, waiting_in, Happening, told_of, mate_of, opening, noting}
+use Rattle.link_world.specs.Recorded.{hears_ask}
 use Rattle.link_world.proofs.law.invariant.Exchanges.{asks_append}
 use Rattle.link_world.proofs.law.moves.Standings.{leave_to_releasing_keeps}
 use Rattle.link_world.proofs.law.moves.Kept.{release_keeps}
@@ -27,12 +29,14 @@ use Rattle.link_world.proofs.law.showing.PlacesFit.{IsSound}
 use Rattle.link_world.proofs.law.invariant.Invariant.{Invariant}
 use Rattle.link_world.proofs.law.up.Flushing.{flush_keeps}
 use Rattle.link_world.proofs.law.up.Progress.{IsUp, Progress, IsNumberedSent, SentFits}
-use Rattle.link_world.proofs.law.showing.Shown.{core_set_up, core_set_ups, core_flight, IsWritten, AnswersAsSent, kind_by}
+use Rattle.link_world.proofs.law.showing.Shown.{core_set_up, core_set_ups, core_flight, IsWritten, AnswersAsSent}
+use Rattle.link_world.proofs.law.showing.Shown.{kind_by}
 use Rattle.link_world.proofs.law.showing.Shown.Shown.{ShownUp}
 use Rattle.link_machine.specs.declared.acts.Told.{Told}
 use Rattle.link_machine.specs.declared.state.LinkState.TheVariants.{Releasing as ReleasingState}
 use Rattle.link_machine.specs.Step.{settled, settle_in}
-use Rattle.link_world.proofs.law.showing.Outcome.{Outcome, IsAlone, Keeps, IsSentAs, end_with, outcome_behind, sent_after}
+use Rattle.link_world.proofs.law.showing.Outcome.{Outcome, IsAlone, Keeps, IsSentAs, end_with, outcome_behind}
+use Rattle.link_world.proofs.law.showing.Outcome.{sent_after}
 use Rattle.link_world.proofs.law.down.Ends.{EndsDown, down_end, down_keeps, setup_sent}
 
 answers_by :

@@ -1,5 +1,6 @@
 -- A tick of an end that is up.
-use Rattle.std.proofs.Common.{◌≡◌, ℕ, Bool, true, false, if◌then◌else◌, List, [], ◌∷◌, ◌++◌, length, Option, Some, None, inl, refl, sym, ap, ◌∙◌, subst, append_assoc}
+use Rattle.std.proofs.Common.{◌≡◌, ℕ, Bool, true, false, if◌then◌else◌, List, [], ◌∷◌, ◌++◌, length, Option, Some, None}
+use Rattle.std.proofs.Common.{inl, refl, sym, ap, ◌∙◌, subst, append_assoc}
 use Rattle.std.specs.List.{fold}
 use Rattle.std.proofs.lemmas.Bool.{cond-false}
 use Rattle.ax25_frames.specs.declared.frame.U.TheVariants.{Dm as DmFrame}
@@ -12,7 +13,9 @@ use Rattle.link_machine.specs.Sent.{sent_in}
 use Rattle.link_machine.specs.Sent.Sent.{SetupSent}
 use Rattle.link_machine.specs.Turn.{Turn, begin, setting}
 use Rattle.link_machine.specs.Acts.{poll}
-use Rattle.link_machine.specs.Ticks.{runs_out, lowered, with_t1, with_t2, with_t3, t1_out, t2_out, t3_out, tick_t2, tick_t1_of, tick_t2_of, tick_t3_of, tick, tick_in, is_spent, poll_again, retried, unretried}
+use Rattle.link_machine.specs.Ticks.{runs_out, lowered, with_t1, with_t2, with_t3, t1_out, t2_out, t3_out, tick_t2}
+use Rattle.link_machine.specs.Ticks.{tick_t1_of, tick_t2_of, tick_t3_of, tick, tick_in, is_spent, poll_again, retried}
+use Rattle.link_machine.specs.Ticks.{unretried}
 use Rattle.link_machine.specs.Step.{settled}
 use Rattle.link_world.proofs.law.reduced.Core.{End, Tagged as CoreTagged, between}
 use Rattle.link_world.proofs.law.reduced.Core.Kind.{Dm}
