@@ -1,0 +1,95 @@
+-- What a receiver keeps that reads a ring, what contracts see of its readers, and what it stands for.
+use Rattle.std.specs.Prelude.{◌≡◌, ℕ, ◌+◌, ◌-◌, Bool, false, Option, Some, None, List, [], ◌∷◌, ◌++◌, map, replicate}
+use Rattle.sample_ring.specs.declared.got.Got.{Got}
+use Rattle.sample_ring.specs.declared.reader.Reader.{Reader}
+use Rattle.sample_ring.specs.declared.view.Track.{Track}
+use Rattle.sample_ring.specs.Ends.{position_of, record_of}
+use Rattle.frame_merge.specs.declared.candidate.Candidate.{Candidate}
+use Rattle.frame_merge.specs.Held.{Held as HeldMerger, StandsFor as MergerStandsFor}
+use Rattle.frame_merge.specs.Merged.{merged, below}
+use Rattle.frame_merge.specs.Order.{in_order}
+use Rattle.slicer_bank.specs.RingLanes.{HeldRingBank, answers_of, Listens, readers_in as readers_of_bank, positions_in as positions_of_bank}
+use Rattle.slicer_bank.specs.RingTurns.{Leads}
+use Rattle.slicer_bank.specs.Stretches.{Stretch, last_stretch}
+use Rattle.sensitive_receiver.specs.HeldLanes.{StandsFor as AddedStandsFor}
+use Rattle.ring_receiver.specs.declared.added_ring.AddedRing.{AddedRing}
+use Rattle.ring_receiver.specs.HeardByAll.{AreHeardBy, settled_position}
+
+-- the eight lanes, the added ones if they listen, and the merger of what all of them hear; whether the ring has ended
+-- and whether memory was wanted
+pub record HeldReceiver : Type 0 where
+  pub sensitive : Bool
+  pub flags : ℕ
+  pub bank : HeldRingBank
+  pub added : Option AddedRing
+  pub merger : HeldMerger
+  pub over : Bool
+  pub spent : Bool
+
+-- the reader of the added lanes, if these listen
+abbrev pub readers_of_added : Option AddedRing → List Reader
+readers_of_added None = []
+readers_of_added (Some added) = added.reader ∷ []
+
+-- the readers: those of the eight lanes in their order, and then that of the added ones
+abbrev pub readers_in : HeldReceiver → List Reader
+readers_in receiver = readers_of_bank receiver.bank ++ readers_of_added receiver.added
+
+-- their records
+abbrev pub records_in : HeldReceiver → List Track
+records_in receiver = map record_of (readers_in receiver)
+
+-- all that each of them was answered
+abbrev pub answers_in : ℕ → HeldReceiver → List (List Got)
+answers_in len receiver = map (answers_of len) (readers_in receiver)
+
+-- the added lanes have heard a stretch
+pub record StandsForStretch (added : AddedRing) (stretch : Stretch) : Type 0 where
+  pub begin : added.begin ≡ stretch.begin
+  pub lanes : AddedStandsFor added.bank stretch.samples
+
+-- the added lanes have heard the last stretch of their reader's answers, which lead to its position
+pub record AddedListens (len : ℕ) (added : AddedRing) : Type 0 where
+  pub lead : Leads 0 (answers_of len added.reader) (position_of added.reader)
+  pub stands : StandsForStretch added (last_stretch (answers_of len added.reader))
+
+-- so they have, if they listen
+abbrev pub AddedListenIf : ℕ → Option AddedRing → Type 0
+AddedListenIf len None = Unit {0}
+AddedListenIf len (Some added) = AddedListens len added
+
+-- the marks of the lanes: each at its position, and the added ones at theirs less 17
+abbrev pub marks_of : HeldRingBank → Option AddedRing → List ℕ
+marks_of bank None = positions_of_bank bank
+marks_of bank (Some added) = positions_of_bank bank ++ replicate 15 (position_of added.reader - 17)
+
+-- how far the added lanes have heard, and how far their reader has read
+abbrev pub heard_to : Option AddedRing → ℕ
+heard_to None = 0
+heard_to (Some added) = added.begin + added.bank.position
+
+abbrev pub read_to : Option AddedRing → ℕ
+read_to None = 0
+read_to (Some added) = position_of added.reader
+
+-- The merger took all that the lanes heard, in whatever order, and what ends below the settled position is given.
+pub record HasMergedBy (sensitive : Bool) (merger : HeldMerger) (lanes : List (List Got)) : Type 0 where
+  pub puts : List Candidate
+  pub candidates : List Candidate
+  pub are : AreHeardBy sensitive lanes candidates
+  pub order : in_order puts ≡ candidates
+  pub so_far : MergerStandsFor merger puts (below (settled_position sensitive lanes) (merged candidates))
+
+-- The eight lanes of a receiver have heard all that their readers were answered, also after the end of the ring.
+abbrev pub EightListen : ℕ → HeldReceiver → Type 0
+EightListen len receiver = Listens len receiver.bank
+
+-- All lanes have heard all that their readers were answered, and the merger has given what is settled. The ring has not
+-- ended, and every growth that was wanted was given.
+pub record Hears (len : ℕ) (receiver : HeldReceiver) : Type 0 where
+  pub spent : receiver.spent ≡ false
+  pub over : receiver.over ≡ false
+  pub eight : EightListen len receiver
+  pub added : AddedListenIf len receiver.added
+  pub merged : HasMergedBy receiver.sensitive receiver.merger (answers_in len receiver)
+  pub marks : receiver.merger.marks ≡ marks_of receiver.bank receiver.added

@@ -1,0 +1,5 @@
+pub mod Readers
+pub mod AddedOnRing
+pub mod HeardByAll
+pub mod Turns
+pub mod HeldReceiver
