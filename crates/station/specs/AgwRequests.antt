@@ -8,6 +8,7 @@ use Rattle.ax25_address.specs.Callsign.{Callsign}
 use Rattle.ax25_frames.specs.declared.frame.Frame.{Frame}
 use Rattle.ax25_frames.specs.declared.frame.Kind.TheVariants.{Ui}
 use Rattle.ax25_frames.specs.declared.frame.Modulus.TheVariants.{Eight}
+use Rattle.hdlc_framer.specs.FrameLength.{has_frame_length}
 use Rattle.agwpe_port.specs.declared.message.AgwMessage.{AgwMessage}
 use Rattle.agwpe_port.specs.Messages.{spelling}
 use Rattle.selective_reject.specs.declared.packet.Packet.{Packet}
