@@ -1,12 +1,17 @@
 -- The lists of answers of a receiver: those of the readers of the eight lanes, and then that of the added ones.
-use Rattle.std.proofs.Common.{◌≡◌, ◌↔◌, ℕ, ◌<◌, List, [], ◌++◌, length, sym, subst, arith}
-use Rattle.std.proofs.lemmas.List.{get_or_append_left}
+use Rattle.std.specs.Prelude.{Option, Some, None}
+use Rattle.std.proofs.Common.{◌≡◌, ◌↔◌, ℕ, ◌<◌, List, [], ◌∷◌, ◌++◌, ◌∙◌, length, map, sym, subst, arith}
+use Rattle.std.proofs.lemmas.List.{get_or_append_left, map-append, length-map}
 use Rattle.hdlc_framer.specs.Carrier.{HoldsCarrier}
 use Rattle.sample_ring.specs.declared.got.Got.{Got}
+use Rattle.sample_ring.specs.declared.reader.Reader.{Reader}
 use Rattle.slicer_bank.specs.HeardOnRing.{IsBusyOnRing, lane_of}
+use Rattle.slicer_bank.specs.RingLanes.{answers_of}
 use Rattle.slicer_bank.specs.Stretches.{stretch_bits, last_stretch}
+use Rattle.ring_receiver.specs.declared.added_ring.AddedRing.{AddedRing}
+use Rattle.ring_receiver.specs.HeldReceiver.{readers_with}
 
--- the lanes of the first lists are those of the first lists
+-- further lists change nothing of the first ones
 pub lane_of-first : (first more : List (List Got)) (lane : ℕ) → lane < length first
     → lane_of (first ++ more) lane ≡ lane_of first lane
 lane_of-first first more lane l = get_or_append_left first more [] lane l
@@ -32,3 +37,13 @@ busy_by_eight flags first more eight = (
             (lane_of-first first more h.lane (omega arith)) h.holds;
       },
 )
+
+pub busy_of : (len flags : ℕ) (eight : List Reader) (added : Option AddedRing) → length eight ≡ 8
+    → IsBusyOnRing flags (map (answers_of len) eight)
+    ↔ IsBusyOnRing flags (map (answers_of len) (readers_with eight added))
+busy_of len flags eight None many = (λ h. h, λ h. h)
+busy_of len flags eight (Some added) many =
+    subst (λ a. IsBusyOnRing flags (map (answers_of len) eight) ↔ IsBusyOnRing flags a)
+    (sym (map-append (answers_of len) eight (added.reader ∷ [])))
+    (busy_by_eight flags (map (answers_of len) eight) (answers_of len added.reader ∷ [])
+    (length-map eight (answers_of len) ∙ many))

@@ -1,2 +1,10 @@
 pub mod ReaderLemmas
 pub mod AnswerLemmas
+pub mod StretchWalks
+pub mod AddedLemmas
+pub mod AddedTurnLemmas
+pub mod MergeLemmas
+pub mod MovedLemmas
+pub mod TurnLemmas
+pub mod LengthLemmas
+pub mod ReceiverLemmas

@@ -1,5 +1,5 @@
 -- What a receiver keeps that reads a ring, what contracts see of its readers, and what it stands for.
-use Rattle.std.specs.Prelude.{◌≡◌, ℕ, ◌+◌, ◌-◌, Bool, false, Option, Some, None, List, [], ◌∷◌, ◌++◌, map, replicate}
+use Rattle.std.specs.Prelude.{◌≡◌, ℕ, ◌+◌, ◌-◌, Bool, true, false, Option, Some, None, List, [], ◌∷◌, ◌++◌, map, take, replicate}
 use Rattle.sample_ring.specs.declared.got.Got.{Got}
 use Rattle.sample_ring.specs.declared.reader.Reader.{Reader}
 use Rattle.sample_ring.specs.declared.view.Track.{Track}
@@ -9,31 +9,32 @@ use Rattle.frame_merge.specs.Held.{Held as HeldMerger, StandsFor as MergerStands
 use Rattle.frame_merge.specs.Merged.{merged, below}
 use Rattle.frame_merge.specs.Order.{in_order}
 use Rattle.slicer_bank.specs.RingLanes.{HeldRingBank, answers_of, Listens, readers_in as readers_of_bank, positions_in as positions_of_bank}
+use Rattle.slicer_bank.specs.HeardOnRing.{lane_of, lane_positions}
+use Rattle.slicer_bank.specs.RingMerging.{HasMerged}
 use Rattle.slicer_bank.specs.RingTurns.{Leads}
-use Rattle.slicer_bank.specs.Stretches.{Stretch, last_stretch}
+use Rattle.slicer_bank.specs.Stretches.{Stretch, last_stretch, position_after}
 use Rattle.sensitive_receiver.specs.HeldLanes.{StandsFor as AddedStandsFor}
 use Rattle.ring_receiver.specs.declared.added_ring.AddedRing.{AddedRing}
 use Rattle.ring_receiver.specs.HeardByAll.{AreHeardBy, settled_position}
 
--- the eight lanes, the added ones if they listen, and the merger of what all of them hear; whether the ring has ended
--- and whether memory was wanted
+-- the eight lanes, the added ones if they listen, and the merger of what all of them hear; and whether memory was
+-- wanted or the ring has ended
 pub record HeldReceiver : Type 0 where
   pub sensitive : Bool
   pub flags : ℕ
   pub bank : HeldRingBank
   pub added : Option AddedRing
   pub merger : HeldMerger
-  pub over : Bool
   pub spent : Bool
 
--- the reader of the added lanes, if these listen
-abbrev pub readers_of_added : Option AddedRing → List Reader
-readers_of_added None = []
-readers_of_added (Some added) = added.reader ∷ []
+-- the readers of eight lanes in their order, and then that of the added ones if they listen
+abbrev pub readers_with : List Reader → Option AddedRing → List Reader
+readers_with eight None = eight
+readers_with eight (Some added) = eight ++ added.reader ∷ []
 
--- the readers: those of the eight lanes in their order, and then that of the added ones
+-- the readers of a receiver
 abbrev pub readers_in : HeldReceiver → List Reader
-readers_in receiver = readers_of_bank receiver.bank ++ readers_of_added receiver.added
+readers_in receiver = readers_with (readers_of_bank receiver.bank) receiver.added
 
 -- their records
 abbrev pub records_in : HeldReceiver → List Track
@@ -72,24 +73,30 @@ abbrev pub read_to : Option AddedRing → ℕ
 read_to None = 0
 read_to (Some added) = position_of added.reader
 
--- The merger took all that the lanes heard, in whatever order, and what ends below the settled position is given.
-pub record HasMergedBy (sensitive : Bool) (merger : HeldMerger) (lanes : List (List Got)) : Type 0 where
+-- The merger of all lanes took all that these heard, in whatever order, each lane is marked at its position, the added
+-- ones at theirs less 17, and what ends below the settled position is given.
+pub record HasMergedAll (merger : HeldMerger) (lanes : List (List Got)) : Type 0 where
+  pub marks : merger.marks ≡ lane_positions (take 8 lanes) ++ replicate 15 (position_after (lane_of lanes 8) - 17)
   pub puts : List Candidate
   pub candidates : List Candidate
-  pub are : AreHeardBy sensitive lanes candidates
+  pub are : AreHeardBy true lanes candidates
   pub order : in_order puts ≡ candidates
-  pub so_far : MergerStandsFor merger puts (below (settled_position sensitive lanes) (merged candidates))
+  pub so_far : MergerStandsFor merger puts (below (settled_position true lanes) (merged candidates))
 
--- The eight lanes of a receiver have heard all that their readers were answered, also after the end of the ring.
+-- so has the merger of the lanes that listen
+abbrev pub HasMergedBy : Bool → HeldMerger → List (List Got) → Type 0
+HasMergedBy false merger lanes = HasMerged merger lanes
+HasMergedBy true merger lanes = HasMergedAll merger lanes
+
+-- The eight lanes of a receiver have heard all that their readers were answered. This is so after the end of the ring,
+-- too.
 abbrev pub EightListen : ℕ → HeldReceiver → Type 0
 EightListen len receiver = Listens len receiver.bank
 
 -- All lanes have heard all that their readers were answered, and the merger has given what is settled. The ring has not
--- ended, and every growth that was wanted was given.
+-- ended, and all memory that was wanted was given.
 pub record Hears (len : ℕ) (receiver : HeldReceiver) : Type 0 where
   pub spent : receiver.spent ≡ false
-  pub over : receiver.over ≡ false
   pub eight : EightListen len receiver
   pub added : AddedListenIf len receiver.added
   pub merged : HasMergedBy receiver.sensitive receiver.merger (answers_in len receiver)
-  pub marks : receiver.merger.marks ≡ marks_of receiver.bank receiver.added

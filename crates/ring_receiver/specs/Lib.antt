@@ -3,3 +3,6 @@ pub mod AddedOnRing
 pub mod HeardByAll
 pub mod Turns
 pub mod HeldReceiver
+pub mod AddedTurns
+pub mod AllMerging
+pub mod ReceiverTurns

@@ -5,13 +5,18 @@ ghost use Rattle.ring_receiver.specs.Readers.{readers_wanted};
 
 use crate::added_ring::AddedRing;
 use crate::heard::Heard;
+use crate::turn::hear;
 use frame_merge::Merger;
 use sample_ring::{Reader, Ring};
+use sensitive_receiver::LANES;
 use slicer_bank::{Gate, RingBank};
 use std::alloc::Global;
 use std::marker::Model;
 use std::thread::Threads;
 use tnc_base::OutOfMemory;
+
+/// The lanes of a receiver whose added lanes do not listen.
+const EIGHT: u8 = 8;
 
 /// The readers that a receiver wants: one for each of the eight lanes, and one more if the added lanes listen.
 pub fn readers_wanted(sensitive: bool) -> u8
@@ -21,37 +26,28 @@ pub fn readers_wanted(sensitive: bool) -> u8
 }
 
 /// Eight lanes that read a ring, and the added lanes if they listen: `new`, then `advance` turn by turn, then `finish`.
-/// After want of memory it is spent: no later turn reads.
+/// After want of memory, and after the turn in which every reader has met the end of the ring, it is spent: no later
+/// turn reads, and each wants memory.
 #[derive(Drop)]
 pub struct RingReceiver {
     bank: RingBank,
     added: Option<AddedRing>,
     merger: Merger,
-    // The ring has ended, and all that was heard is given.
-    over: bool,
     spent: bool,
 }
 
 impl Model for RingReceiver {
-    ghost use Rattle.std.specs.Prelude.{◌≡◌, false, length, is_some};
+    ghost use Rattle.std.specs.Prelude.{◌≡◌, false, length};
     ghost use Rattle.slicer_bank.specs.RingLanes.{readers_in as readers_of_bank};
-    ghost use Rattle.ring_receiver.specs.HeldReceiver.{HeldReceiver, marks_of, heard_to, read_to};
+    ghost use Rattle.ring_receiver.specs.HeldReceiver.{HeldReceiver};
+    ghost use Rattle.ring_receiver.specs.ReceiverTurns.{held_of, AreInStep};
 
     ghost Value = { HeldReceiver };
 
-    ghost view = { λ s. record {
-      sensitive = is_some s.added;
-      flags = s.bank.flags;
-      bank = s.bank;
-      added = s.added;
-      merger = s.merger;
-      over = s.over;
-      spent = s.spent;
-    } };
+    ghost view = { λ s. held_of s.bank s.added s.merger s.spent };
 
     ghost invariant = { λ s. (length (readers_of_bank s.bank) ≡ 8)
-        × (s.spent ≡ false → heard_to s.added ≡ read_to s.added)
-        × (s.spent ≡ false → s.over ≡ false → s.merger.marks ≡ marks_of s.bank s.added) };
+        × (s.spent ≡ false → AreInStep s.bank s.added s.merger) };
 }
 
 impl RingReceiver {
@@ -82,7 +78,43 @@ impl RingReceiver {
         ensures flags { IfOk result (λ receiver. receiver.flags ≡ flags) }
         ensures sensitive { IfOk result (λ receiver. receiver.sensitive ≡ sensitive) }
     {
-        Err(OutOfMemory)
+        if sensitive {
+            return RingReceiver::with_added(alloc, readers, flags);
+        }
+        Ok(RingReceiver {
+            bank: RingBank::listening(alloc, readers, flags)?,
+            added: None,
+            merger: Merger::new(alloc, EIGHT)?,
+            spent: false,
+        })
+    }
+
+    /// The same, with the added lanes.
+    fn with_added(
+        alloc: Global,
+        mut readers: Vec<Reader>,
+        flags: u8,
+    ) -> Result<RingReceiver, OutOfMemory>
+        requires nine { length readers.items ≡ 9 }
+        requires fresh { All IsNew readers.items }
+        requires flags { (1 ≤ flags) × (flags ≤ 8) }
+        ensures readers { IfOk result (λ receiver. readers_in receiver ≡ readers.items) }
+        ensures hears { IfOk result (λ receiver. (len : ℕ) → Hears len receiver) }
+        ensures nothing { IfOk result (λ receiver. (len : ℕ) → answers_in len receiver ≡ replicate 9 []) }
+        ensures flags { IfOk result (λ receiver. receiver.flags ≡ flags) }
+        ensures sensitive { IfOk result (λ receiver. receiver.sensitive ≡ true) }
+    {
+        let Some(last) = readers.pop() else {
+            unreachable!()
+        };
+        let mut eight = Vec::new(alloc);
+        eight.append(&mut readers)?;
+        Ok(RingReceiver {
+            bank: RingBank::listening(alloc, eight, flags)?,
+            added: Some(AddedRing::new(alloc, last, readers)?),
+            merger: Merger::new(alloc, LANES)?,
+            spent: false,
+        })
     }
 
     /// Each reader reads until the ring is empty or has ended, or 9600 times. Two threads share the eight lanes, and
@@ -117,8 +149,20 @@ impl RingReceiver {
         ensures fails { self.old.spent ≡ true → IsErr result }
         ensures spent { OnErr result (self.new.spent ≡ true) }
     {
+        if self.spent {
+            return Err(OutOfMemory);
+        }
         self.spent = true;
-        Err(OutOfMemory)
+        let heard = hear(
+            rt,
+            ring,
+            gate,
+            &mut self.bank,
+            &mut self.added,
+            &mut self.merger,
+        )?;
+        self.spent = heard.ended;
+        Ok(heard)
     }
 
     /// Whether another station is heard: one of the eight lanes holds a carrier.

@@ -10,7 +10,7 @@ use Rattle.hdlc_framer.specs.Frames.{EndsFrame}
 use Rattle.slicer_bank.proofs.CandidateLemmas.{AllPairs-append}
 use Rattle.sensitive_receiver.specs.Lanes.{delay_of, lane_bits}
 use Rattle.sensitive_receiver.specs.AddedCandidates.{EndsAtPlace}
-use Rattle.sensitive_receiver.specs.Found.{AreAddedWhere, AddsWhere, AddsAt, AddsBelow, AddsBetween, CanBePut}
+use Rattle.sensitive_receiver.specs.Found.{AreAddedWhere, AddsWhere, AddsAt, AddsBelow, AddsBetween, HasRoom}
 
 abbrev Apart : Candidate → Candidate → Type 0
 Apart item later = standing item ≢ standing later
@@ -129,11 +129,11 @@ adds_one x place lane before after item is of ends unique =
       };
     }
 
--- what was found can be put into a merger, and so can one item more
-pub bounds_more : (found after : List Candidate) (item : Candidate) → after ≡ found ++ item ∷ [] → CanBePut item
-    → All CanBePut found → All CanBePut after
-bounds_more found after item is can all = subst (All CanBePut) (sym is)
-    (All-append CanBePut found (item ∷ []) all (All-cons CanBePut item [] can (All-nil CanBePut)))
+-- what was found has room to be moved, and so has one item more
+pub bounds_more : (found after : List Candidate) (item : Candidate) → after ≡ found ++ item ∷ [] → HasRoom item
+    → All HasRoom found → All HasRoom after
+bounds_more found after item is can all = subst (All HasRoom) (sym is)
+    (All-append HasRoom found (item ∷ []) all (All-cons HasRoom item [] can (All-nil HasRoom)))
 
 -- what the lanes below one find at a place, and what that one finds there
 pub adds_next_lane : (place lane : ℕ) (x : List ℤ) (before found after : List Candidate)

@@ -6,7 +6,7 @@ use Rattle.std.proofs.lemmas.List.{get_or_push, get_or_append_left, length_push,
 use Rattle.frame_merge.specs.declared.candidate.Candidate.{Candidate}
 use Rattle.tone_tracking.specs.HeldLists.{HeldLists}
 use Rattle.sensitive_receiver.specs.declared.readings.Readings.{Readings}
-use Rattle.sensitive_receiver.specs.Found.{AddsAt, AddsBelow, CanBePut}
+use Rattle.sensitive_receiver.specs.Found.{AddsAt, AddsBelow, HasRoom}
 use Rattle.sensitive_receiver.specs.HeldLanes.{HeldLane, LaneStandsFor, LanesHaveRead, IsLastPlace}
 use Rattle.sensitive_receiver.specs.Lanes.{lane_tones}
 use Rattle.sensitive_receiver.proofs.FoundLemmas.{adds_none, adds_next_lane}
@@ -53,7 +53,7 @@ pub record Visited (lists : HeldLists) (readings : Readings) (old now : List Hel
       → LaneStandsFor (get_or now k d) (lane_tones x (8 + k) (readings.place + 1))
   pub found : (x : List ℤ) → IsLastPlace lists readings x → LanesHaveRead old readings.place x
       → AddsBelow readings.place (8 + n) x before after
-  pub bounds : All CanBePut before → All CanBePut after
+  pub bounds : All HasRoom before → All HasRoom after
 
 pub visited_none : (lists : HeldLists) (readings : Readings) (lanes : List HeldLane) (found : List Candidate)
     → length lanes ≡ 15
@@ -77,7 +77,7 @@ module _ (lists : HeldLists) (readings : Readings) (old now : List HeldLane) (be
     (adds : (x : List ℤ) → IsLastPlace lists readings x
     → LaneStandsFor (get_or now n was) (lane_tones x (8 + n) readings.place)
     → AddsAt readings.place (8 + n) x found after)
-    (bound : All CanBePut found → All CanBePut after) where
+    (bound : All HasRoom found → All HasRoom after) where
   -- the next lane is as it was
   here : (x : List ℤ) → LanesHaveRead old readings.place x
       → LaneStandsFor (get_or now n was) (lane_tones x (8 + n) readings.place)

@@ -10,6 +10,11 @@ pub record CanBePut (item : Candidate) : Type 0 where
   pub lane : item.offset < 23
   pub end : item.end < 2 ^ 64 - 1
 
+-- the candidate is of one of 23 lanes, and its end has room to be moved to where its samples begin in a ring
+pub record HasRoom (item : Candidate) : Type 0 where
+  pub lane : item.offset < 23
+  pub end : item.end < 2 ^ 49
+
 -- the items are all that the added lanes hear at a place and in a lane of some kind, each once, in any order
 pub record AreAddedWhere (Of : ℕ → ℕ → Type 0) (x : List ℤ) (items : List Candidate) : Type 0 where
   pub each : All (λ item. (place : ℕ) × Of place item.offset × EndsAtPlace x item place) items

@@ -3,7 +3,7 @@
 ghost use Rattle.std.specs.Prelude.{◌≡◌, ◌+◌, ◌<◌, ◌^◌, ℤ, pos, List, [], ◌++◌, length, IfOk, OnOk, slice_index_or};
 ghost use Rattle.std.specs.List.{All};
 ghost use Rattle.tone_tracking.specs.Heard.{places_in};
-ghost use Rattle.sensitive_receiver.specs.Found.{AddsBetween, AreAddedBetween, CanBePut};
+ghost use Rattle.sensitive_receiver.specs.Found.{AddsBetween, AreAddedBetween, HasRoom};
 ghost use Rattle.sensitive_receiver.specs.HeldLanes.{HasTaken, LanesHaveRead, StandsFor};
 
 use crate::added_lane::AddedLane;
@@ -72,7 +72,7 @@ impl AddedBank {
             → StandsFor self.new (x ++ block.now)
             × AreAddedBetween (places_in (length x)) (places_in (length (x ++ block.now)))
             (x ++ block.now) found.items) }
-        ensures bounds { IfOk result (λ found. All CanBePut found.items) }
+        ensures bounds { IfOk result (λ found. All HasRoom found.items) }
         ensures position { OnOk result (self.new.position ≡ self.old.position + length block.now) }
     {
         let mut found = Vec::new(self.alloc);
@@ -91,7 +91,7 @@ impl AddedBank {
             → sample ≡ slice_index_or x self.old.position (pos 0)
             → AddsBetween (places_in self.old.position) (places_in (self.old.position + 1)) x
             found.old.items found.new.items) }
-        ensures bounds { OnOk result (All CanBePut found.old.items → All CanBePut found.new.items) }
+        ensures bounds { OnOk result (All HasRoom found.old.items → All HasRoom found.new.items) }
         ensures position { self.new.position ≡ self.old.position + 1 }
     {
         let decided = self.lists.push(sample);

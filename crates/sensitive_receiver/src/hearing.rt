@@ -6,7 +6,7 @@ ghost use Rattle.tone_tracking.specs.Clock.{changes};
 ghost use Rattle.tone_tracking.specs.Heard.{places_in};
 ghost use Rattle.tone_tracking.specs.HeldLists.{HasTaken as ListsHaveTaken};
 ghost use Rattle.sensitive_receiver.specs.AddedCandidates.{is_in_time};
-ghost use Rattle.sensitive_receiver.specs.Found.{AddsAt, AddsBelow, CanBePut};
+ghost use Rattle.sensitive_receiver.specs.Found.{AddsAt, AddsBelow, HasRoom};
 ghost use Rattle.sensitive_receiver.specs.HeldLanes.{IsLastPlace, LaneStandsFor, LanesHaveRead};
 ghost use Rattle.sensitive_receiver.specs.Lanes.{lane_tones};
 
@@ -35,7 +35,7 @@ pub(crate) fn hear_place(
     ensures found { OnOk result ((x : List ℤ) → IsLastPlace lists.now readings.now x
         → LanesHaveRead lanes.old readings.now.place x
         → AddsBelow readings.now.place 23 x found.old.items found.new.items) }
-    ensures bounds { OnOk result (All CanBePut found.old.items → All CanBePut found.new.items) }
+    ensures bounds { OnOk result (All HasRoom found.old.items → All HasRoom found.new.items) }
 {
     for index in 0..15u8 {
         let lane = &mut lanes[usize::from(index)];
@@ -62,7 +62,7 @@ fn hear(
     ensures found { OnOk result ((x : List ℤ) → IsLastPlace lists.now readings.now x
         → LaneStandsFor lane.old (lane_tones x number readings.now.place)
         → AddsAt readings.now.place number x found.old.items found.new.items) }
-    ensures bounds { OnOk result (All CanBePut found.old.items → All CanBePut found.new.items) }
+    ensures bounds { OnOk result (All HasRoom found.old.items → All HasRoom found.new.items) }
 {
     if !readings.are_for(number) {
         return Ok(());

@@ -26,6 +26,8 @@ pub use laws::{
     one_list_of_all_lanes, sensitive_carried_frames, sensitive_items_are_all, sensitive_items_join,
     sensitive_level_frames, sensitive_near_frames, sensitive_none_stray, some_list_of_all_lanes,
 };
+pub use merging::put_all;
+pub use readings::LANES;
 
 #[cfg(test)]
 mod tests;

@@ -8,7 +8,7 @@ ghost use Rattle.frame_merge.specs.Held.{StandsFor};
 ghost use Rattle.slicer_bank.specs.Candidates.{AreCandidatesBehind};
 ghost use Rattle.slicer_bank.specs.Held.{HeldBank, StandsFor as BankStandsFor};
 ghost use Rattle.slicer_bank.specs.Merging.{CanBePut as CanBePutOfEight};
-ghost use Rattle.sensitive_receiver.specs.Found.{AreAddedBetween, CanBePut};
+ghost use Rattle.sensitive_receiver.specs.Found.{AreAddedBetween, CanBePut, HasRoom};
 ghost use Rattle.sensitive_receiver.specs.HeldDecoder.{HaveTaken};
 ghost use Rattle.sensitive_receiver.specs.HeldLanes.{HeldBank as HeldAdded, StandsFor as AddedStandsFor};
 ghost use Rattle.sensitive_receiver.specs.MergedItems.{AreMergedBetween, settled};
@@ -30,7 +30,7 @@ pub(crate) fn merge_block(
 ) -> Result<Vec<Candidate>, OutOfMemory>
     requires room { position + count < 2 ^ 48 }
     requires found { All CanBePutOfEight found.items }
-    requires added { All CanBePut added.items }
+    requires added { All HasRoom added.items }
     requires marks { merger.old.marks ≡ replicate 23 (settled position) }
     ensures given { IfOk result (λ ready. (old new : HeldBank) (before after : HeldAdded) (x y : List ℤ)
         → length x ≡ position → length y ≡ count
@@ -50,7 +50,7 @@ pub(crate) fn merge_block(
 }
 
 /// Puts candidates into a merger of 23 lanes, in their order. None of them ends below the mark of its lane.
-fn put_all(merger: &mut Merger, items: Vec<Candidate>) -> Result<(), OutOfMemory>
+pub fn put_all(merger: &mut Merger, items: Vec<Candidate>) -> Result<(), OutOfMemory>
     requires marks { length merger.old.marks ≡ 23 }
     requires items { All CanBePut items.items }
     ensures stands_for { OnOk result ((puts given : List Candidate) → StandsFor merger.old puts given

@@ -9,7 +9,7 @@ use tone_tracking::Reach;
 pub(crate) const FIRST: u8 = 8;
 
 /// One past the last lane.
-pub(crate) const LANES: u8 = 23;
+pub const LANES: u8 = 23;
 
 /// A place, and whether the clocks say that a bit is read there.
 #[derive(Clone, Copy, PartialEq, Eq, Debug)]

@@ -7,27 +7,28 @@ use Rattle.frame_merge.specs.declared.candidate.Candidate.{Candidate}
 use Rattle.frame_merge.specs.Held.{Held, StandsFor}
 use Rattle.slicer_bank.proofs.GatheringLemmas.{same_list}
 
--- so many lanes are marked at their positions
-pub record HasMarked (initial now : Held) (positions : List ℕ) (n : ℕ) : Type 0 where
-  pub size : length now.marks ≡ 8
+-- so many of all lanes are marked at their positions
+pub record HasMarked (lanes : ℕ) (initial now : Held) (positions : List ℕ) (n : ℕ) : Type 0 where
+  pub size : length now.marks ≡ lanes
   pub done : (k : ℕ) → k < n → get_or now.marks k 0 ≡ get_or positions k 0
   pub rest : (k : ℕ) → n ≤ k → get_or now.marks k 0 ≡ get_or initial.marks k 0
   pub stands_for : (puts given : List Candidate) → StandsFor initial puts given → StandsFor now puts given
 
-pub has_marked_none : (initial : Held) (positions : List ℕ) → length initial.marks ≡ 8
-    → HasMarked initial initial positions 0
-has_marked_none initial positions eight = record {
-  size = eight;
+pub has_marked_none : (lanes : ℕ) (initial : Held) (positions : List ℕ) → length initial.marks ≡ lanes
+    → HasMarked lanes initial initial positions 0
+has_marked_none lanes initial positions size = record {
+  size = size;
   done = λ k l. absurd (omega arith);
   rest = λ k l. refl;
   stands_for = λ puts given h. h;
 }
 
-pub has_marked_more : (initial was now : Held) (positions : List ℕ) (n position : ℕ) → HasMarked initial was positions n
-    → n < 8 → position ≡ get_or positions n 0 → now.marks ≡ set was.marks n position
+pub has_marked_more : (lanes : ℕ) (initial was now : Held) (positions : List ℕ) (n position : ℕ)
+    → HasMarked lanes initial was positions n → n < lanes → position ≡ get_or positions n 0
+    → now.marks ≡ set was.marks n position
     → ((puts given : List Candidate) → StandsFor was puts given → StandsFor now puts given)
-    → HasMarked initial now positions (n + 1)
-has_marked_more initial was now positions n position h l is marks step =
+    → HasMarked lanes initial now positions (n + 1)
+has_marked_more lanes initial was now positions n position h l is marks step =
     let size = h.size in
     record {
       size = ap length marks ∙ length-set was.marks n position ∙ size;
@@ -41,7 +42,7 @@ has_marked_more initial was now positions n position h l is marks step =
       stands_for = λ puts given s. step puts given (h.stands_for puts given s);
     }
 
-pub all_marked : (initial now : Held) (positions : List ℕ) (n : ℕ) → HasMarked initial now positions n → 8 ≤ n
-    → length positions ≡ 8 → now.marks ≡ positions
-all_marked initial now positions n h full eight = let size = h.size in
+pub all_marked : (lanes : ℕ) (initial now : Held) (positions : List ℕ) (n : ℕ) → HasMarked lanes initial now positions n
+    → lanes ≤ n → length positions ≡ lanes → now.marks ≡ positions
+all_marked lanes initial now positions n h full many = let size = h.size in
     same_list now.marks positions (omega arith) (λ k l. h.done k (omega arith))

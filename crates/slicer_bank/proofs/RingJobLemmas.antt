@@ -28,7 +28,7 @@ use Rattle.slicer_bank.proofs.StretchLemmas.{leads_up, leads_more, leads_positio
 pub stays_more : (a b c : RingLane) → StaysLane a b → StaysLane b c → StaysLane a c
 stays_more a b c h k = record { ring = k.ring ∙ h.ring; offset = k.offset ∙ h.offset; flags = k.flags ∙ h.flags }
 
-gaps_of-append : (lane : ℕ) (a b : List Got) → gaps_of lane (a ++ b) ≡ gaps_of lane a ++ gaps_of lane b
+pub gaps_of-append : (lane : ℕ) (a b : List Got) → gaps_of lane (a ++ b) ≡ gaps_of lane a ++ gaps_of lane b
 gaps_of-append lane [] b = refl
 gaps_of-append lane (Item at x ∷ a) b = gaps_of-append lane a b
 gaps_of-append lane (Gap from to ∷ a) b = ap (λ l. record { lane = lane; from = from; to = to } ∷ l)
@@ -209,7 +209,7 @@ reads_none len lane none no_gaps = record {
   quiet = λ l. absurd (omega arith);
 }
 
-goes_on : (got : Got) → reads_on got ≡ true → is_end got ≡ false
+pub goes_on : (got : Got) → reads_on got ≡ true → is_end got ≡ false
 goes_on (Item p x) e = refl
 goes_on (Gap from to) e = refl
 goes_on (Empty p) e = absurd (true≢false (sym e))
@@ -228,10 +228,11 @@ reads_more len before now after count got r stays spent more t = record {
   quiet = λ l. t.ended ∙ goes_on got (sym more);
 }
 
-meets_none : (answers : List Got) → All (λ got. reads_on got ≡ true) answers → MeetsEnd answers → ⊥
+pub meets_none : (answers : List Got) → All (λ got. reads_on got ≡ true) answers → MeetsEnd answers → ⊥
 meets_none answers each (total, (k, l, e)) = true≢false (sym (each k (End total) l) ∙ ap reads_on e)
 
-meets_last : (answers : List Got) (got : Got) → All (λ g. reads_on g ≡ true) answers → MeetsEnd (answers ++ got ∷ [])
+pub meets_last : (answers : List Got) (got : Got) → All (λ g. reads_on g ≡ true) answers
+    → MeetsEnd (answers ++ got ∷ [])
     → is_end got ≡ true
 meets_last answers got each (total, c) =
     ⊎_elim (λ (b : Contains answers (End total)). absurd (meets_none answers each (total, b)))
@@ -241,7 +242,7 @@ meets_last answers got each (total, c) =
     here (zero, l, e) = ap is_end e
     here (suc k, l, e) = absurd (omega arith)
 
-last_meets : (answers : List Got) (got : Got) → is_end got ≡ true → MeetsEnd (answers ++ got ∷ [])
+pub last_meets : (answers : List Got) (got : Got) → is_end got ≡ true → MeetsEnd (answers ++ got ∷ [])
 last_meets answers (Item at x) e = absurd (true≢false (sym e))
 last_meets answers (Gap from to) e = absurd (true≢false (sym e))
 last_meets answers (Empty at) e = absurd (true≢false (sym e))

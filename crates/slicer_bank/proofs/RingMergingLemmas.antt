@@ -1,6 +1,6 @@
 -- What eight lanes that read a ring hear, merged turn by turn.
 use Rattle.std.proofs.Common.{◌≡◌, ℕ, ◌<◌, ◌≤◌, List, [], ◌∷◌, ◌++◌, refl, ap, sym, ◌∙◌, arith, subst, replicate}
-use Rattle.std.proofs.Common.{get_or, zero, suc, ◌-◌, ◌^◌, inl, inr, le_refl}
+use Rattle.std.proofs.Common.{get_or, zero, suc, ◌-◌, ◌^◌, inl, inr, le_refl, ◌⊎◌, ⊎_elim, ◌≢◌, ◌+◌, ◌*◌, length}
 use Rattle.std.specs.Prelude.{fold, min}
 use Rattle.std.specs.List.{All, Contains}
 use Rattle.std.specs.List.Sorted.{IsNonDecreasingBy}
@@ -10,7 +10,7 @@ use Rattle.std.proofs.lemmas.List.{get_or-replicate, get_or-map, length-map, app
 use Rattle.std.proofs.lemmas.List.Elements.{All-nil, Contains-append_left, Contains-append_right}
 use Rattle.frame_merge.specs.declared.candidate.Candidate.{Candidate}
 use Rattle.frame_merge.specs.Held.{Held as HeldMerger, StandsFor as MergerStandsFor, least}
-use Rattle.frame_merge.specs.Order.{place, in_order, IsInOrder}
+use Rattle.frame_merge.specs.Order.{place, in_order, standing, IsInOrder}
 use Rattle.frame_merge.specs.Merged.{merged, below, not_below}
 use Rattle.frame_merge.proofs.Ordering.{rising_ends}
 use Rattle.frame_merge.proofs.Merging.{merged-rising}
@@ -81,7 +81,7 @@ module _ (before now : List (List Got)) (positions : List ℕ) (items : List Can
       (subst (λ a. Leads 0 a lead.0) (b.longer.each k l) lead.1) in
       (parts.0, parts.1, (lead.0, parts.2))
 
-  heard_still : (item : Candidate) → IsHeardOnRing before item → IsHeardOnRing now item
+  pub heard_still : (item : Candidate) → IsHeardOnRing before item → IsHeardOnRing now item
   heard_still item h = record {
     offset = h.offset;
     heard = subst (λ a. IsHeardIn a item) (sym (b.longer.each item.offset h.offset))
@@ -118,33 +118,41 @@ module _ (before now : List (List Got)) (positions : List ℕ) (items : List Can
       let q = leads_position (lane_of before j) (led j m).0 (led j m).1 in
       sym p ∙ ap (λ i. position_after (lane_of before i)) e ∙ q
 
+  -- what is heard now was heard before, or is one of the items
+  pub known_or_new : (item : Candidate) → IsHeardOnRing now item → IsHeardOnRing before item ⊎ Contains items item
+  known_or_new item h = elim (cases_lt (led item.offset h.offset).0 item.end) [
+    | inl lt ↦ inr (b.heard.whole item h (λ was. let le = up_to item was in let e =
+        same_end item.offset item.offset was.offset h.offset refl in absurd (omega arith)))
+    | inr le ↦ inl (was_heard item h.offset h le)
+  ]
+
+  -- none of the items stands as one that was heard before
+  pub stands_apart : (k : ℕ) (d : Candidate) → k < length items → (old : Candidate) → IsHeardOnRing before old
+      → standing old ≢ standing (get_or items k d)
+  stands_apart k d l old was =
+      let new = b.heard.each k d l in
+      let item : Candidate = get_or items k d in
+      let small = new.0.offset in
+      let small_old = was.offset in
+      let far : (led item.offset new.0.offset).0 < item.end = past item new.0.offset new.0 new.1 in
+      let near : old.end ≤ (led old.offset was.offset).0 = up_to old was in
+      λ e.
+      let same : old.offset ≡ item.offset = omega arith in
+      let here : (led old.offset was.offset).0 ≡ (led item.offset new.0.offset).0 =
+      same_end old.offset item.offset was.offset new.0.offset same in
+      omega arith
+
   pub heard_by_all : (candidates : List Candidate) → AreHeardOnRing before candidates
       → AreHeardOnRing now (fold_items candidates)
   heard_by_all candidates are = record {
     each = all_more (IsHeardOnRing now) candidates items (λ k d l. heard_still (get_or candidates k d) (are.each k d l))
         (λ k d l. (b.heard.each k d l).0);
-    whole = λ item h. contains_more candidates items item (elim (cases_lt (led item.offset h.offset).0 item.end) [
-      | inl lt ↦ Contains-append_right candidates items item
-          (b.heard.whole item h (λ was. let le = up_to item was in let e =
-          same_end item.offset item.offset was.offset h.offset refl in absurd (omega arith)))
-      | inr le ↦ Contains-append_left candidates items item (are.whole item (was_heard item h.offset h le))
-    ]);
+    whole = λ item h. contains_more candidates items item (⊎_elim
+        (λ (was : IsHeardOnRing before item). Contains-append_left candidates items item (are.whole item was))
+        (λ (new : Contains items item). Contains-append_right candidates items item new) (known_or_new item h));
     order = strictly_more candidates items are.order (λ i j d ij jl. let lt = b.heard.order i j d ij jl in
         λ e. omega arith)
-        (λ i d il j c jl.
-        let new = b.heard.each i d il in
-        let old = are.each j c jl in
-        let x : Candidate = get_or items i d in
-        let y : Candidate = get_or candidates j c in
-        let small = new.0.offset in
-        let small_old = old.offset in
-        let far : (led x.offset new.0.offset).0 < x.end = past x new.0.offset new.0 new.1 in
-        let near : y.end ≤ (led y.offset old.offset).0 = up_to y old in
-        λ e.
-        let same : y.offset ≡ x.offset = omega arith in
-        let here : (led y.offset old.offset).0 ≡ (led x.offset new.0.offset).0 =
-        same_end y.offset x.offset old.offset new.0.offset same in
-        omega arith);
+        (λ i d il j c jl. stands_apart i d il (get_or candidates j c) (are.each j c jl));
   }
 
   least_below : (k : ℕ) (l : k < 8) → least_position before ≤ (led k l).0
@@ -157,7 +165,7 @@ module _ (before now : List (List Got)) (positions : List ℕ) (items : List Can
       least-each (lane_positions before) k 0 (omega arith) in
       omega arith
 
-  late : All (λ item. least_position before ≤ item.end) items
+  pub late : All (λ item. least_position before ≤ item.end) items
   late k d l =
       let h = b.heard.each k d l in
       let item : Candidate = get_or items k d in
@@ -165,7 +173,7 @@ module _ (before now : List (List Got)) (positions : List ℕ) (items : List Can
       let le = least_below item.offset h.0.offset in
       omega arith
 
-  small : All (λ item. item.offset < 256) items
+  pub small : All (λ item. item.offset < 256) items
   small k d l = let h = b.heard.each k d l in let o = h.0.offset in omega arith
 
   -- what is merged below the least position before stays as it is
@@ -175,7 +183,7 @@ module _ (before now : List (List Got)) (positions : List ℕ) (items : List Can
   given_stays candidates order = below_more (least_position before) candidates items order small late
 
   -- the least position does not fall
-  least_rises : least_position before ≤ least_position now
+  pub least_rises : least_position before ≤ least_position now
   least_rises =
       let eight = b.longer.eight_now in
       let n = length-map now position_after in

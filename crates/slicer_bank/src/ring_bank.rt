@@ -92,6 +92,7 @@ impl RingBank {
     ) -> Result<Advance, OutOfMemory>
         requires { All (λ reader. reader_ring reader ≡ ring_id ring.now) (readers_in self.old) }
         ensures ring { All (λ reader. reader_ring reader ≡ ring_id ring.now) (readers_in self.new) }
+        ensures eight { length (readers_in self.new) ≡ 8 }
         ensures grown { AreGrown (records_in self.old) (records_in self.new) }
         ensures turn { IfOk result (λ advance. IsTurn (answers_in (ring_len ring.now) self.old) (answers_in (ring_len ring.now) self.new) advance.gaps.items advance.ended) }
         ensures listens { OnOk result (Listens (ring_len ring.now) self.old → Listens (ring_len ring.now) self.new) }

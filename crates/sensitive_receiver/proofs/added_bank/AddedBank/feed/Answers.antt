@@ -3,7 +3,7 @@ use Rattle.std.specs.List.{All}
 use Rattle.std.proofs.lemmas.Int.{to_z-of_z}
 use Rattle.std.proofs.lemmas.List.Elements.{All-nil}
 use mir.Syntax.{w16}
-use Rattle.sensitive_receiver.specs.Found.{CanBePut}
+use Rattle.sensitive_receiver.specs.Found.{HasRoom}
 use Rattle.sensitive_receiver.proofs.BankLemmas.{HasFed, fed_none, fed_more, fed_all}
 use Rattle.sensitive_receiver.proofs.added_bank.AddedBank.feed.Goals as goal
 
@@ -11,7 +11,7 @@ pub loop-sample-init : goal.loop-sample-init
 loop-sample-init c = record {
   fed = subst (λ items. HasFed c.args.self.now c.args.self.now c.args.block.now items 0) (sym c.new-found.ensures.items)
       (fed_none c.args.self.now c.args.block.now);
-  bounds = subst (All CanBePut) (sym c.new-found.ensures.items) (All-nil CanBePut);
+  bounds = subst (All HasRoom) (sym c.new-found.ensures.items) (All-nil HasRoom);
 }
 
 pub loop-sample-preserved : goal.loop-sample-preserved

@@ -1,5 +1,6 @@
 use Rattle.std.proofs.Common.{◌≡◌, List, ◌++◌, ap, sym, ◌∙◌, subst, length, take, drop, map, arith}
 use Rattle.std.specs.List.{All}
+use Rattle.std.proofs.lemmas.List.{length-map}
 use Rattle.sample_ring.specs.Ends.{ring_id, ring_len, reader_ring, record_of, position_of}
 use Rattle.slicer_bank.specs.declared.ring_lane.RingLane.{RingLane}
 use Rattle.slicer_bank.specs.RingJobs.{AreInPlace, IsTaken, LanesAreReady}
@@ -118,3 +119,26 @@ returns-in-Ok-clause-forward g c =
     (map position_of (readers_of ls))) (sym back)
     (subst (λ (ls : List RingLane). AreForward (map position_of (readers_of ls)) (map position_of (readers_of new)))
     same c.in-Ok.ensures.forward)
+
+pub returns-then-self-clause-eight : goal.returns-then-self-clause-eight
+returns-then-self-clause-eight g c =
+    subst (λ (v : HeldRingBank). length (readers_of v.lanes) ≡ 8) c.self.view_is
+    (length-map c.self.inside.lanes.items (λ lane. lane.reader) ∙ c.self.invariant.0)
+
+pub returns-in-Ok-clause-eight : goal.returns-in-Ok-clause-eight
+returns-in-Ok-clause-eight g c =
+    let new : List RingLane = c.make_turn.new.lanes in
+    let back : take c.self.inside.lanes.len (new ++ drop (length new) c.self.inside.lanes.items) ≡ new =
+    lent_back c.self.inside.lanes.len new c.self.inside.lanes.items
+    (sym (c.make_turn.auto.lanes ∙ c.deref_mut.ensures.len)) in
+    subst (λ (ls : List RingLane). length (readers_of ls) ≡ 8) (sym back)
+    (length-map new (λ lane. lane.reader) ∙ c.make_turn.ensures.lanes)
+
+pub returns-in-Err-clause-eight : goal.returns-in-Err-clause-eight
+returns-in-Err-clause-eight g c =
+    let new : List RingLane = c.make_turn.new.lanes in
+    let back : take c.self.inside.lanes.len (new ++ drop (length new) c.self.inside.lanes.items) ≡ new =
+    lent_back c.self.inside.lanes.len new c.self.inside.lanes.items
+    (sym (c.make_turn.auto.lanes ∙ c.deref_mut.ensures.len)) in
+    subst (λ (ls : List RingLane). length (readers_of ls) ≡ 8) (sym back)
+    (length-map new (λ lane. lane.reader) ∙ c.make_turn.ensures.lanes)

@@ -1,0 +1,157 @@
+-- Turns of the added lanes: one read after another.
+use Rattle.std.proofs.Common.{◌≡◌, ℕ, ◌+◌, ◌<◌, Bool, true, false, List, [], ◌∷◌, ◌++◌, length, map, refl, ap, sym, subst, ◌∙◌, arith, append_assoc, inl, inr}
+use Rattle.std.specs.Prelude.{◌↔◌}
+use Rattle.std.specs.List.{All}
+use Rattle.std.proofs.lemmas.Bool.{true≢false}
+use Rattle.std.proofs.lemmas.List.{append-nil, length_push, map-append}
+use Rattle.std.proofs.lemmas.List.Elements.{All-nil, All-push}
+use Rattle.sample_ring.specs.declared.got.Got.{Got}
+use Rattle.sample_ring.specs.declared.view.Entry.{Entry}
+use Rattle.sample_ring.specs.Ends.{position_of, reads_of, reader_ring}
+use Rattle.sample_ring.specs.Record.{answer}
+use Rattle.frame_merge.specs.declared.candidate.Candidate.{Candidate}
+use Rattle.slicer_bank.specs.declared.advance.LaneGap.{LaneGap}
+use Rattle.slicer_bank.specs.RingJobs.{is_end}
+use Rattle.slicer_bank.specs.RingLanes.{answers_of}
+use Rattle.slicer_bank.specs.RingTurns.{IsReading, MeetsEnd, gaps_of, reads_on, most_reads, Leads}
+use Rattle.slicer_bank.specs.Stretches.{last_stretch}
+use Rattle.slicer_bank.proofs.RingJobLemmas.{gaps_of-append, goes_on, meets_none, meets_last, last_meets}
+use Rattle.slicer_bank.proofs.StretchLemmas.{last-more, leads_more}
+use Rattle.sensitive_receiver.specs.Found.{CanBePut}
+use Rattle.ring_receiver.specs.declared.added_ring.AddedRing.{AddedRing}
+use Rattle.ring_receiver.specs.declared.added_turn.AddedTurn.{AddedTurn}
+use Rattle.ring_receiver.specs.AddedTurns.{TookAdded, AreAddedSince, WentOnAdded, MadeAddedTurn}
+use Rattle.ring_receiver.specs.HeldReceiver.{StandsForStretch, AddedListens}
+use Rattle.ring_receiver.proofs.AddedLemmas.{since_none, since_more}
+
+went_none : (len : ℕ) (lanes : AddedRing) → WentOnAdded len lanes lanes [] [] []
+went_none len lanes = record {
+  entries = [];
+  are = refl;
+  read = sym (append-nil (reads_of lanes.reader));
+  forward = refl;
+  gaps = refl;
+  heard = λ h. (h, since_none (answers_of len lanes.reader));
+}
+
+went_more : (len : ℕ) (before now after : AddedRing) (answers : List Got) (got : Got) (was items : List Candidate)
+    (told_before told : List LaneGap) → WentOnAdded len before now answers was told_before
+    → TookAdded len now after got was items told_before told
+    → WentOnAdded len before after (answers ++ got ∷ []) items told
+went_more len before now after answers got was items told_before told on t =
+    let a : List Got = answers_of len now.reader in
+    let longer : answers_of len after.reader ≡ a ++ got ∷ []
+    = ap (map (answer len)) t.read ∙ map-append (answer len) (reads_of now.reader) (t.entry ∷ [])
+    ∙ ap (λ g. a ++ g ∷ []) (sym t.is) in
+    record {
+      entries = on.entries ++ t.entry ∷ [];
+      are = ap (λ l. l ++ got ∷ []) on.are ∙ ap (λ g. map (answer len) on.entries ++ g ∷ []) t.is
+          ∙ sym (map-append (answer len) on.entries (t.entry ∷ []));
+      read = t.read ∙ ap (λ l. l ++ t.entry ∷ []) on.read
+          ∙ append_assoc (reads_of before.reader) on.entries (t.entry ∷ []);
+      forward = subst (Leads (position_of before.reader) (answers ++ got ∷ [])) (sym t.position)
+          (leads_more (position_of before.reader) answers (position_of now.reader) got on.forward t.forward);
+      gaps = t.gaps ∙ ap (λ g. g ++ gaps_of 8 (got ∷ [])) on.gaps ∙ sym (gaps_of-append 8 answers (got ∷ []));
+      heard = λ h.
+          let first : AddedListens len now = (on.heard h).0 in
+          let since = (on.heard h).1 in (
+            record {
+              lead = subst (λ l. Leads 0 l (position_of after.reader)) (sym longer)
+                  (subst (Leads 0 (a ++ got ∷ [])) (sym t.position)
+                  (leads_more 0 a (position_of now.reader) got first.lead t.forward));
+              stands = subst (λ l. StandsForStretch after (last_stretch l)) (sym longer)
+                  (subst (StandsForStretch after) (sym (last-more a got)) (t.stands (last_stretch a) first.stands));
+            },
+            subst (λ l. AreAddedSince (answers_of len before.reader) l items) (sym longer)
+                (subst (AreAddedSince (answers_of len before.reader) (a ++ got ∷ [])) (sym t.found)
+                (since_more (answers_of len before.reader) a (position_of now.reader) got was t.items first.lead
+                t.forward since (t.heard (last_stretch a) first.stands))),
+          );
+    }
+
+-- in a turn of reading: so many answers so far, after each of which the added lanes read on
+pub record ReadsOnAdded (len : ℕ) (before now : AddedRing) (turn : AddedTurn) (count : ℕ) : Type 0 where
+  pub ring : reader_ring now.reader ≡ reader_ring before.reader
+  pub at : now.begin + now.bank.position ≡ position_of now.reader
+  pub quiet : turn.ended ≡ false
+  pub bounds : All CanBePut turn.candidates.items
+  pub answers : List Got
+  pub on : WentOnAdded len before now answers turn.candidates.items turn.gaps.items
+  pub each : All (λ got. reads_on got ≡ true) answers
+  pub counted : length answers ≡ count
+
+pub reads_none : (len : ℕ) (lanes : AddedRing) (turn : AddedTurn)
+    → lanes.begin + lanes.bank.position ≡ position_of lanes.reader → turn.candidates.items ≡ []
+    → turn.gaps.items ≡ [] → turn.ended ≡ false → ReadsOnAdded len lanes lanes turn 0
+reads_none len lanes turn at none no_gaps quiet = record {
+  ring = refl;
+  at = at;
+  quiet = quiet;
+  bounds = subst (All CanBePut) (sym none) (All-nil CanBePut);
+  answers = [];
+  on = subst (λ items. WentOnAdded len lanes lanes [] items turn.gaps.items) (sym none)
+      (subst (WentOnAdded len lanes lanes [] []) (sym no_gaps) (went_none len lanes));
+  each = All-nil (λ got. reads_on got ≡ true);
+  counted = refl;
+}
+
+pub reads_more : (len : ℕ) (before now after : AddedRing) (was turn : AddedTurn) (count : ℕ) (got : Got)
+    → ReadsOnAdded len before now was count → reader_ring after.reader ≡ reader_ring now.reader
+    → after.begin + after.bank.position ≡ position_of after.reader → turn.ended ≡ was.ended
+    → (All CanBePut was.candidates.items → All CanBePut turn.candidates.items) → reads_on got ≡ true
+    → TookAdded len now after got was.candidates.items turn.candidates.items was.gaps.items turn.gaps.items
+    → ReadsOnAdded len before after turn (count + 1)
+reads_more len before now after was turn count got r ring at quiet bounds more t = record {
+  ring = ring ∙ r.ring;
+  at = at;
+  quiet = quiet ∙ r.quiet;
+  bounds = bounds r.bounds;
+  answers = r.answers ++ got ∷ [];
+  on = went_more len before now after r.answers got was.candidates.items turn.candidates.items was.gaps.items
+      turn.gaps.items r.on t;
+  each = All-push (λ g. reads_on g ≡ true) r.answers got r.each more;
+  counted = (let c = r.counted in let n = length_push r.answers got in omega arith);
+}
+
+-- the added lanes have met an answer after which they do not read on
+pub turn_over : (len : ℕ) (before now after : AddedRing) (was turn : AddedTurn) (count : ℕ) (got : Got)
+    → ReadsOnAdded len before now was count → count < most_reads → reads_on got ≡ false → turn.ended ≡ is_end got
+    → TookAdded len now after got was.candidates.items turn.candidates.items was.gaps.items turn.gaps.items
+    → MadeAddedTurn len before after turn
+turn_over len before now after was turn count got r few stop ended t = record {
+  answers = r.answers ++ got ∷ [];
+  on = went_more len before now after r.answers got was.candidates.items turn.candidates.items was.gaps.items
+      turn.gaps.items r.on t;
+  reading = record {
+    on = r.answers;
+    rest = got ∷ [];
+    are = refl;
+    each = r.each;
+    over = inr (got, refl, stop, (let c = r.counted in omega arith));
+  };
+  met = (λ e. last_meets r.answers got (sym ended ∙ e), λ m. ended ∙ meets_last r.answers got r.each m);
+}
+
+-- or they have read as often as a lane reads
+pub turn_full : (len : ℕ) (before now : AddedRing) (turn : AddedTurn) (count : ℕ)
+    → ReadsOnAdded len before now turn count → count ≡ most_reads → MadeAddedTurn len before now turn
+turn_full len before now turn count r full = record {
+  answers = r.answers;
+  on = r.on;
+  reading = record {
+    on = r.answers;
+    rest = [];
+    are = sym (append-nil r.answers);
+    each = r.each;
+    over = inl (refl, r.counted ∙ full);
+  };
+  met = (λ e. absurd (true≢false (sym e ∙ r.quiet)), λ m. absurd (meets_none r.answers r.each m));
+}
+
+pub grown_more : (len : ℕ) (before now after : AddedRing) (turn : AddedTurn) (count : ℕ) (entry : Entry)
+    → ReadsOnAdded len before now turn count → reads_of after.reader ≡ reads_of now.reader ++ entry ∷ []
+    → (entries : List Entry) × (reads_of after.reader ≡ reads_of before.reader ++ entries)
+grown_more len before now after turn count entry r more = (
+  r.on.entries ++ entry ∷ [],
+  more ∙ ap (λ l. l ++ entry ∷ []) r.on.read ∙ append_assoc (reads_of before.reader) r.on.entries (entry ∷ []),
+)

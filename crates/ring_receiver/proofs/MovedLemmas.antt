@@ -1,0 +1,58 @@
+-- Candidates moved to where their stretch begins, one after another.
+use Rattle.std.proofs.Common.{◌≡◌, ℕ, ◌+◌, ◌^◌, ◌<◌, List, [], ◌∷◌, ◌++◌, length, map, get_or, refl, ap, sym, subst, ◌∙◌, arith, append_assoc, length-append}
+use Rattle.std.specs.List.{All}
+use Rattle.std.proofs.lemmas.List.{append-nil, nil_from_length, map-append}
+use Rattle.std.proofs.lemmas.List.Elements.{All-append, All-map}
+use Rattle.std.proofs.Math.Seq.{get_or-append_seam}
+use Rattle.frame_merge.specs.declared.candidate.Candidate.{Candidate}
+use Rattle.sensitive_receiver.specs.Found.{CanBePut, HasRoom}
+use Rattle.ring_receiver.specs.AddedOnRing.{moved}
+
+-- so many of the candidates that were heard are moved and found, and so many others are left
+pub record HasMoved (begin : ℕ) (before found all items left : List Candidate) (count : ℕ) : Type 0 where
+  pub is : found ≡ before ++ map (moved begin) items
+  pub parts : items ++ left ≡ all
+  pub counted : length left ≡ count
+
+pub moved_none : (begin : ℕ) (before all left : List Candidate) (count : ℕ) → left ≡ all → length left ≡ count
+    → HasMoved begin before before all [] left count
+moved_none begin before all left count is counted =
+    record { is = sym (append-nil before); parts = is; counted = counted }
+
+pub moved_more : (begin : ℕ) (before found found' all items left rest : List Candidate) (count less : ℕ)
+    (item : Candidate) → HasMoved begin before found all items left count → left ≡ item ∷ rest → less + 1 ≡ count
+    → found' ≡ found ++ moved begin item ∷ [] → HasMoved begin before found' all (items ++ item ∷ []) rest less
+moved_more begin before found found' all items left rest count less item h is fewer put = record {
+  is = put ∙ ap (λ f. f ++ moved begin item ∷ []) h.is
+      ∙ append_assoc before (map (moved begin) items) (moved begin item ∷ [])
+      ∙ ap (λ m. before ++ m) (sym (map-append (moved begin) items (item ∷ [])));
+  parts = append_assoc items (item ∷ []) rest ∙ ap (λ t. items ++ t) (sym is) ∙ h.parts;
+  counted = (let c = h.counted in let l : length left ≡ length (item ∷ rest) = ap length is in omega arith);
+}
+
+pub moved_all : (begin : ℕ) (before found all items left : List Candidate) (count : ℕ)
+    → HasMoved begin before found all items left count → count ≡ 0 → found ≡ before ++ map (moved begin) all
+moved_all begin before found all items left count h none =
+    let empty : left ≡ [] = nil_from_length left (h.counted ∙ none) in
+    h.is ∙ ap (λ l. before ++ map (moved begin) l) (sym (append-nil items) ∙ ap (λ t. items ++ t) (sym empty) ∙ h.parts)
+
+-- the next of them has room to be moved
+pub next_has_room : (begin : ℕ) (before found all items left rest : List Candidate) (count : ℕ) (item : Candidate)
+    → HasMoved begin before found all items left count → left ≡ item ∷ rest → All HasRoom all → HasRoom item
+next_has_room begin before found all items left rest count item h is each =
+    let whole : items ++ item ∷ rest ≡ all = ap (λ t. items ++ t) (sym is) ∙ h.parts in
+    let within : length items < length all = (let l : length (items ++ item ∷ rest) ≡ length all = ap length whole in
+    let m = length-append items (item ∷ rest) in omega arith) in
+    subst HasRoom (ap (λ t. get_or t (length items) item) (sym whole) ∙ get_or-append_seam items item rest item)
+    (each (length items) item within)
+
+-- what is moved can be put into a merger
+pub moved_bounds : (begin : ℕ) (before found heard : List Candidate) → begin < 2 ^ 48
+    → found ≡ before ++ map (moved begin) heard → All HasRoom heard → All CanBePut before → All CanBePut found
+moved_bounds begin before found heard small is room can =
+    subst (All CanBePut) (sym is) (All-append CanBePut before (map (moved begin) heard) can
+    (All-map CanBePut (moved begin) heard (λ k d l.
+    let r = room k d l in
+    let lane = r.lane in
+    let end = r.end in
+    record { lane = lane; end = omega arith })))

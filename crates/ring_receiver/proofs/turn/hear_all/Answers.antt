@@ -1,0 +1,67 @@
+use Rattle.std.proofs.Common.{◌≡◌, ◌≤◌, Bool, ◌&&◌, [], sym, ap, subst, ◌∙◌}
+use Rattle.std.specs.Prelude.{min}
+use Rattle.std.proofs.lemmas.List.{append-nil}
+use Rattle.sample_ring.specs.Ends.{ring_id, ring_len, position_of, reads_of}
+use Rattle.ring_receiver.proofs.ReceiverLemmas.{all_stay, all_turn, goes_forward, marks_added}
+use Rattle.ring_receiver.proofs.turn.hear_all.Goals.{then-advance, else-advance}
+use Rattle.ring_receiver.proofs.turn.hear_all.Goals as goal
+
+pub returns-in_err-advance-clause-stay : goal.returns-in_err-advance-clause-stay
+returns-in_err-advance-clause-stay g c =
+    all_stay (ring_id c.args.ring.now) c.args.bank.now c.advance.new.self c.args.added.now c.args.added.now
+    c.args.merger.now c.args.merger.now [] c.requires.eight c.advance.ensures.eight c.advance.ensures.ring
+    c.requires.ring c.advance.ensures.grown (sym (append-nil (reads_of c.args.added.now.reader)))
+    c.advance.ensures.flags
+
+pub returns-in_err-turn-clause-stay : goal.returns-in_err-turn-clause-stay
+returns-in_err-turn-clause-stay g c =
+    all_stay (ring_id c.args.ring.now) c.args.bank.now c.advance.new.self c.args.added.now c.advance-2.new.self
+    c.args.merger.now c.args.merger.now c.advance-2.ensures.grown.0 c.requires.eight c.advance.ensures.eight
+    c.advance.ensures.ring (c.advance-2.ensures.ring ∙ c.requires.ring) c.advance.ensures.grown
+    c.advance-2.ensures.grown.1 c.advance.ensures.flags
+
+pub returns-in_err-append-clause-stay : goal.returns-in_err-append-clause-stay
+returns-in_err-append-clause-stay g c =
+    all_stay (ring_id c.args.ring.now) c.args.bank.now c.advance.new.self c.args.added.now c.advance-2.new.self
+    c.args.merger.now c.args.merger.now c.advance-2.ensures.grown.0 c.requires.eight c.advance.ensures.eight
+    c.advance.ensures.ring (c.advance-2.ensures.ring ∙ c.requires.ring) c.advance.ensures.grown
+    c.advance-2.ensures.grown.1 c.advance.ensures.flags
+
+pub merge_all-requires-clause-position : goal.merge_all-requires-clause-position
+merge_all-requires-clause-position g c = λ lane low most.
+    marks_added c.args.bank.now c.args.added.now c.args.merger.now c.at-position.result c.requires.eight
+    c.requires.step
+    (subst (λ p. position_of c.args.added.now.reader ≤ p) (sym c.at-position.ensures)
+    (goes_forward (ring_len c.args.ring.now) c.args.added.now c.advance-2.new.self c.in_ok-turn.turn
+    c.in_ok-turn.ensures.made)) lane low most
+
+pub returns-in_err-items-clause-stay : goal.returns-in_err-items-clause-stay
+returns-in_err-items-clause-stay g c =
+    all_stay (ring_id c.args.ring.now) c.args.bank.now c.advance.new.self c.args.added.now c.advance-2.new.self
+    c.args.merger.now c.merge_all.new.merger c.advance-2.ensures.grown.0 c.requires.eight c.advance.ensures.eight
+    c.advance.ensures.ring (c.advance-2.ensures.ring ∙ c.requires.ring) c.advance.ensures.grown
+    c.advance-2.ensures.grown.1 c.advance.ensures.flags
+
+pub returns-clause-stay : goal.returns-clause-stay
+returns-clause-stay g c =
+    all_stay (ring_id c.args.ring.now) c.args.bank.now c.advance.new.self c.args.added.now c.advance-2.new.self
+    c.args.merger.now c.merge_all.new.merger c.advance-2.ensures.grown.0 c.requires.eight c.advance.ensures.eight
+    c.advance.ensures.ring (c.advance-2.ensures.ring ∙ c.requires.ring) c.advance.ensures.grown
+    c.advance-2.ensures.grown.1 c.advance.ensures.flags
+
+pub returns-clause-made : goal.returns-clause-made
+returns-clause-made g c =
+    let first : Bool = c.in_ok-advance.advance.ended in
+    let last : Bool = c.in_ok-turn.turn.ended in
+    let over : c.if-advance.ended ≡ (first && last) = elim c.if-advance.branch [
+      | then-advance w ↦ w.ended-is ∙ ap (λ (b : Bool). b && last) (sym w.if-advance.true)
+      | else-advance w ↦ w.ended-is ∙ w.if-advance.false ∙ ap (λ (b : Bool). b && last) (sym w.if-advance.false)
+    ] in
+    all_turn (ring_len c.args.ring.now) c.args.bank.now c.advance.new.self c.args.added.now c.advance-2.new.self
+    c.args.merger.now c.merge_all.new.merger _ c.in_ok-advance.advance.positions c.at-position.result
+    c.in_ok-advance.advance.candidates.items c.in_ok-advance.advance.gaps.items first c.in_ok-turn.turn
+    c.requires.eight c.advance.ensures.eight c.in_ok-advance.ensures.turn c.in_ok-advance.ensures.listens
+    c.in_ok-advance.ensures.heard c.in_ok-advance.ensures.positions c.in_ok-turn.ensures.made c.at-position.ensures
+    c.in_ok-turn.ensures.at over c.in_ok-append.ensures.items c.in_ok-items.ensures.heard c.in_ok-items.ensures.rest
+    c.in_ok-items.ensures.marks
+    (c.min-least.ensures ∙ ap (λ p. min p c.at-position.result) c.least_of.ensures)
