@@ -1,5 +1,32 @@
 -- What sockets tell of a turn, call by call.
-use Rattle.std.specs.Prelude.{◌≡◌, ◌≢◌, ℕ, ◌+◌, ◌-◌, ◌^◌, ◌<◌, ◌≤◌, ◌==◌, Bool, true, false, if◌then◌else◌, List, [], ◌∷◌, ◌++◌, All, length, map, take, min, Option, Some, None, refl}
+use Rattle.std.specs.Prelude.{
+  ◌≡◌,
+  ◌≢◌,
+  ℕ,
+  ◌+◌,
+  ◌-◌,
+  ◌^◌,
+  ◌<◌,
+  ◌≤◌,
+  ◌==◌,
+  Bool,
+  true,
+  false,
+  if◌then◌else◌,
+  List,
+  [],
+  ◌∷◌,
+  ◌++◌,
+  All,
+  length,
+  map,
+  take,
+  min,
+  Option,
+  Some,
+  None,
+  refl,
+}
 use Rattle.std.specs.List.{list_any, flat_map}
 use Rattle.std.proofs.Common.{sym, ◌∙◌, ap, subst, arith, inl, inr, append_assoc}
 use Rattle.std.proofs.lemmas.Bool.{eqb-true, eq-eqb, ne_eqb, cases_Bool, cond-true, cond-false, false≢true, true≢false}
@@ -28,7 +55,8 @@ offered_nothing t = record {
 
 -- nothing more was sent
 pub offered_still : (offers : List Offer) (failing : List ℕ) (t a b : Told) → AreOffered offers failing t a
-    → b.polls ≡ a.polls → b.sends ≡ a.sends → ((id : ℕ) → b.sent id ≡ a.sent id) → ((id : ℕ) → b.is_shut id ≡ a.is_shut id) → a.faults ≤ b.faults
+    → b.polls ≡ a.polls → b.sends ≡ a.sends → ((id : ℕ) → b.sent id ≡ a.sent id)
+    → ((id : ℕ) → b.is_shut id ≡ a.is_shut id) → a.faults ≤ b.faults
     → AreOffered offers failing t b
 offered_still offers failing t a b before polled sends sent shut later = record {
   polled = polled ∙ before.polled;
@@ -46,17 +74,24 @@ map_snoc : {A B : Type 0} (f : A → B) (xs : List A) (x : A) → map f (xs ++ x
 map_snoc f [] x = refl
 map_snoc f (y ∷ xs) x = ap (λ rest. f y ∷ rest) (map_snoc f xs x)
 
-taken_snoc : (id : ℕ) (offers : List Offer) (offer : Offer) → taken_of id (offers ++ offer ∷ []) ≡ taken_of id offers ++ taken_of id (offer ∷ [])
-taken_snoc id offers offer = flat_map-append (λ (one : Offer). if one.id == id then take one.took one.octets else []) offers (offer ∷ [])
+taken_snoc : (id : ℕ) (offers : List Offer) (offer : Offer)
+    → taken_of id (offers ++ offer ∷ []) ≡ taken_of id offers ++ taken_of id (offer ∷ [])
+taken_snoc id offers offer = flat_map-append (λ (one : Offer). if one.id == id then take one.took one.octets else [])
+    offers (offer ∷ [])
 
-taken_one : (id : ℕ) (offer : Offer) (b : Bool) → (offer.id == id) ≡ b → taken_of id (offer ∷ []) ≡ (if b then take offer.took offer.octets else [])
-taken_one id offer b is = append-nil (if offer.id == id then take offer.took offer.octets else []) ∙ ap (λ c. if c then take offer.took offer.octets else []) is
+taken_one : (id : ℕ) (offer : Offer) (b : Bool) → (offer.id == id) ≡ b
+    → taken_of id (offer ∷ []) ≡ (if b then take offer.took offer.octets else [])
+taken_one id offer b is = append-nil (if offer.id == id then take offer.took offer.octets else [])
+    ∙ ap (λ c. if c then take offer.took offer.octets else []) is
 
 -- a send that did not fail
-pub offered_more : (offers : List Offer) (failing : List ℕ) (offer : Offer) (t a b : Told) → AreOffered offers failing t a
+pub offered_more : (offers : List Offer) (failing : List ℕ) (offer : Offer) (t a b : Told)
+    → AreOffered offers failing t a
     → b.polls ≡ a.polls
-    → ((polls : List Poll) (sends : List Send) → a.polls ≡ Some polls → a.sends ≡ Some sends → b.sends ≡ Some (sends ++ send_of (length polls) offer ∷ []))
-    → ((octets : List ℕ) → a.sent offer.id ≡ Some octets → b.sent offer.id ≡ Some (octets ++ take offer.took offer.octets))
+    → ((polls : List Poll) (sends : List Send) → a.polls ≡ Some polls → a.sends ≡ Some sends
+    → b.sends ≡ Some (sends ++ send_of (length polls) offer ∷ []))
+    → ((octets : List ℕ) → a.sent offer.id ≡ Some octets → b.sent offer.id
+    ≡ Some (octets ++ take offer.took offer.octets))
     → ((other : ℕ) → other ≢ offer.id → b.sent other ≡ a.sent other)
     → ((id : ℕ) → b.is_shut id ≡ a.is_shut id) → a.faults ≤ b.faults
     → AreOffered (offers ++ offer ∷ []) failing t b
@@ -72,10 +107,14 @@ offered_more offers failing offer t a b before polled sends sent others shut lat
         subst (λ n. b.sent n ≡ Some (octets ++ taken_of n (offers ++ offer ∷ []))) same
         (sent (octets ++ taken_of offer.id offers) (before.sent offer.id octets (ap t.sent same ∙ s))
         ∙ ap Some (append_assoc octets (taken_of offer.id offers) (take offer.took offer.octets)
-        ∙ ap (λ more. octets ++ more) (ap (λ more. taken_of offer.id offers ++ more) (sym (taken_one offer.id offer true (eq-eqb offer.id offer.id refl))) ∙ sym (taken_snoc offer.id offers offer))))
+        ∙ ap (λ more. octets ++ more) (ap (λ more. taken_of offer.id offers ++ more)
+        (sym (taken_one offer.id offer true (eq-eqb offer.id offer.id refl)))
+        ∙ sym (taken_snoc offer.id offers offer))))
     | inr fails ↦
         others id (λ same. true≢false (sym (eq-eqb offer.id id (sym same)) ∙ fails)) ∙ before.sent id octets s
-        ∙ ap (λ more. Some (octets ++ more)) (sym (append-nil (taken_of id offers)) ∙ ap (λ more. taken_of id offers ++ more) (sym (taken_one id offer false fails)) ∙ sym (taken_snoc id offers offer))
+        ∙ ap (λ more. Some (octets ++ more)) (sym (append-nil (taken_of id offers))
+        ∙ ap (λ more. taken_of id offers ++ more) (sym (taken_one id offer false fails))
+        ∙ sym (taken_snoc id offers offer))
   ];
   shut = λ id. shut id ∙ before.shut id;
   later = let e = before.later in omega (arith, later);
@@ -84,7 +123,8 @@ offered_more offers failing offer t a b before polled sends sent others shut lat
 
 -- one that failed
 pub offered_in_vain : (offers : List Offer) (failing : List ℕ) (id : ℕ) (t a b : Told) → AreOffered offers failing t a
-    → b.polls ≡ a.polls → b.sends ≡ a.sends → ((other : ℕ) → b.sent other ≡ a.sent other) → ((other : ℕ) → b.is_shut other ≡ a.is_shut other) → HasRisen a.faults b.faults → a.faults ≤ b.faults
+    → b.polls ≡ a.polls → b.sends ≡ a.sends → ((other : ℕ) → b.sent other ≡ a.sent other)
+    → ((other : ℕ) → b.is_shut other ≡ a.is_shut other) → HasRisen a.faults b.faults → a.faults ≤ b.faults
     → AreOffered offers (failing ++ id ∷ []) t b
 offered_in_vain offers failing id t a b before polled sends sent shut rises later = record {
   polled = polled ∙ before.polled;
@@ -96,9 +136,12 @@ offered_in_vain offers failing id t a b before polled sends sent shut rises late
 }
 
 -- a turn as a whole
-pub asked_all : (paused : List ℕ) (events : List HostEvent) (offers : List Offer) (failing shut : List ℕ) (a b c d : Told) → All (MayCome paused) events
-    → ((polls : List Poll) → a.polls ≡ Some polls → b.polls ≡ Some (polls ++ (record { wait = poll_wait; paused = paused; events = events }) ∷ []))
-    → b.sends ≡ a.sends → ((id : ℕ) → b.sent id ≡ a.sent id) → ((id : ℕ) → b.is_shut id ≡ a.is_shut id) → a.faults ≤ b.faults
+pub asked_all : (paused : List ℕ) (events : List HostEvent) (offers : List Offer) (failing shut : List ℕ)
+    (a b c d : Told) → All (MayCome paused) events
+    → ((polls : List Poll) → a.polls ≡ Some polls → b.polls
+    ≡ Some (polls ++ (record { wait = poll_wait; paused = paused; events = events }) ∷ []))
+    → b.sends ≡ a.sends → ((id : ℕ) → b.sent id ≡ a.sent id) → ((id : ℕ) → b.is_shut id ≡ a.is_shut id)
+    → a.faults ≤ b.faults
     → AreOffered offers failing b c → AreShut shut c d
     → IsAsked (record { paused = paused; events = events; offers = offers; failed = failing; shut = shut }) a d
 asked_all paused events offers failing shut a b c d may polled sends sent shown later offered told =
@@ -110,7 +153,8 @@ asked_all paused events offers failing shut a b c d may polled sends sent shown 
           told.sends ∙ offered.sends (polls ++ asked_poll ∷ []) sofar (polled polls p) (sends ∙ s)
           ∙ ap (λ n. Some (sofar ++ map (send_of n) offers)) (length-append polls (asked_poll ∷ []));
       sent = λ id octets s. told.sent id ∙ offered.sent id octets (sent id ∙ s);
-      shut = λ polls id was p come before among. told.shut polls id was (sym told.polled ∙ p) come (offered.shut id ∙ shown id ∙ before) among;
+      shut = λ polls id was p come before among. told.shut polls id was (sym told.polled ∙ p) come (offered.shut id
+          ∙ shown id ∙ before) among;
       others = λ id not_shut. told.others id not_shut ∙ offered.shut id ∙ shown id;
       failed = λ some. risen_later a.faults b.faults c.faults d.faults later (offered.failed some) told.later;
     }

@@ -1,8 +1,45 @@
 -- What a step says, piece by piece.
-use Rattle.std.specs.Prelude.{◌≡◌, ◌≢◌, ℕ, ◌+◌, ◌*◌, ◌<◌, ◌≤◌, ◌==◌, ◌||◌, Bool, true, false, nat_le, if◌then◌else◌, List, [], ◌∷◌, ◌++◌, length, take, All, Option, Some, None, refl}
+use Rattle.std.specs.Prelude.{
+  ◌≡◌,
+  ◌≢◌,
+  ℕ,
+  ◌+◌,
+  ◌*◌,
+  ◌<◌,
+  ◌≤◌,
+  ◌==◌,
+  ◌||◌,
+  Bool,
+  true,
+  false,
+  nat_le,
+  if◌then◌else◌,
+  List,
+  [],
+  ◌∷◌,
+  ◌++◌,
+  length,
+  take,
+  All,
+  Option,
+  Some,
+  None,
+  refl,
+}
 use Rattle.std.specs.List.{list_any}
 use Rattle.std.proofs.Common.{sym, ◌∙◌, ap, subst, arith, inl, inr, get_or, set}
-use Rattle.std.proofs.lemmas.Bool.{eqb-true, cases_Bool, cond-true, cond-false, or_cases, false≢true, true≢false, false_from_ne_true, le-leb, lt-leb}
+use Rattle.std.proofs.lemmas.Bool.{
+  eqb-true,
+  cases_Bool,
+  cond-true,
+  cond-false,
+  or_cases,
+  false≢true,
+  true≢false,
+  false_from_ne_true,
+  le-leb,
+  lt-leb,
+}
 use Rattle.std.proofs.lemmas.List.{take_more}
 use Rattle.std.proofs.lemmas.List.Folds.{list_any-append}
 use Rattle.station.specs.declared.host_out.Piece.{Piece}
@@ -11,7 +48,24 @@ use Rattle.tnc_ports.specs.declared.host_parts.HostParts.{HostParts}
 use Rattle.tnc_ports.specs.declared.line.Line.{Line}
 use Rattle.tnc_ports.specs.declared.report_line.ReportLine.{ReportLine}
 use Rattle.tnc_ports.specs.HeldHosts.{AreParts, Moves, Narrows, is_named, weight}
-use Rattle.tnc_ports.specs.Hosts.{Hosts, without, closing, cutting, appending, appending_one, appending_to, closing_all, closing_one, waiting_too, with_waiting, fits, line_of, is_line_of, is_among, is_there}
+use Rattle.tnc_ports.specs.Hosts.{
+  Hosts,
+  without,
+  closing,
+  cutting,
+  appending,
+  appending_one,
+  appending_to,
+  closing_all,
+  closing_one,
+  waiting_too,
+  with_waiting,
+  fits,
+  line_of,
+  is_line_of,
+  is_among,
+  is_there,
+}
 use Rattle.tnc_ports.specs.IdRanges.{is_within}
 use Rattle.tnc_ports.specs.Waiting.{most_octets, octets_of, with_piece}
 use Rattle.tnc_ports.proofs.LineLemmas.{waiting_names, waiting_length, waiting_same}
@@ -19,32 +73,44 @@ use Rattle.tnc_ports.proofs.MoveLemmas.{moves_then, moves_as, narrows_then}
 
 -- ---- all pieces
 
-appending-snoc : (closed : List ℕ) (pieces : List Piece) (piece : Piece) (hosts : Hosts) → appending closed (pieces ++ piece ∷ []) hosts ≡ appending_one closed piece (appending closed pieces hosts)
+appending-snoc : (closed : List ℕ) (pieces : List Piece) (piece : Piece) (hosts : Hosts)
+    → appending closed (pieces ++ piece ∷ []) hosts ≡ appending_one closed piece (appending closed pieces hosts)
 appending-snoc closed [] piece hosts = refl
-appending-snoc closed (first ∷ pieces) piece hosts = appending-snoc closed pieces piece (appending_one closed first hosts)
+appending-snoc closed (first ∷ pieces) piece hosts =
+    appending-snoc closed pieces piece (appending_one closed first hosts)
 
 -- a piece more
-pub append_more : (closed : List ℕ) (pieces : List Piece) (i : ℕ) (d : Piece) (a b c : HostParts) → i < length pieces → Moves (appending closed (take i pieces)) a b → Moves (appending_one closed (get_or pieces i d)) b c
+pub append_more : (closed : List ℕ) (pieces : List Piece) (i : ℕ) (d : Piece) (a b c : HostParts) → i < length pieces
+    → Moves (appending closed (take i pieces)) a b → Moves (appending_one closed (get_or pieces i d)) b c
     → Moves (appending closed (take (i + 1) pieces)) a c
 append_more closed pieces i d a b c within first second =
-    moves_as (λ hosts. appending_one closed (get_or pieces i d) (appending closed (take i pieces) hosts)) (appending closed (take (i + 1) pieces)) a c
-    (λ hosts. sym (ap (λ ps. appending closed ps hosts) (take_more pieces i d within) ∙ appending-snoc closed (take i pieces) (get_or pieces i d) hosts))
+    moves_as (λ hosts. appending_one closed (get_or pieces i d) (appending closed (take i pieces) hosts))
+    (appending closed (take (i + 1) pieces)) a c
+    (λ hosts. sym (ap (λ ps. appending closed ps hosts) (take_more pieces i d within)
+    ∙ appending-snoc closed (take i pieces) (get_or pieces i d) hosts))
     (moves_then (appending closed (take i pieces)) (appending_one closed (get_or pieces i d)) a b c first second)
 
-pub dropped_one : (closed : List ℕ) (piece : Piece) (a : HostParts) → is_among piece.id closed ≡ true → Moves (appending_one closed piece) a a
+pub dropped_one : (closed : List ℕ) (piece : Piece) (a : HostParts) → is_among piece.id closed ≡ true
+    → Moves (appending_one closed piece) a a
 dropped_one closed piece a holds = λ printed hosts h.
-    subst (AreParts a printed) (sym (cond-true (is_among piece.id closed) hosts (appending_to (line_of piece.id hosts.lines) piece hosts) holds)) h
+    subst (AreParts a printed) (sym (cond-true (is_among piece.id closed) hosts
+    (appending_to (line_of piece.id hosts.lines) piece hosts) holds)) h
 
-pub appended_one : (closed : List ℕ) (piece : Piece) (a b : HostParts) → is_among piece.id closed ≡ false → Moves (λ hosts. appending_to (line_of piece.id hosts.lines) piece hosts) a b → Moves (appending_one closed piece) a b
+pub appended_one : (closed : List ℕ) (piece : Piece) (a b : HostParts) → is_among piece.id closed ≡ false
+    → Moves (λ hosts. appending_to (line_of piece.id hosts.lines) piece hosts) a b
+    → Moves (appending_one closed piece) a b
 appended_one closed piece a b fails moves = λ printed hosts h.
-    subst (AreParts b printed) (sym (cond-false (is_among piece.id closed) hosts (appending_to (line_of piece.id hosts.lines) piece hosts) fails)) (moves printed hosts h)
+    subst (AreParts b printed) (sym (cond-false (is_among piece.id closed) hosts
+    (appending_to (line_of piece.id hosts.lines) piece hosts) fails)) (moves printed hosts h)
 
 -- ---- one piece
 
 -- for nobody
-pub append_nowhere : (piece : Piece) (a : HostParts) → line_of piece.id a.lines.items ≡ None → Moves (λ hosts. appending_to (line_of piece.id hosts.lines) piece hosts) a a
+pub append_nowhere : (piece : Piece) (a : HostParts) → line_of piece.id a.lines.items ≡ None
+    → Moves (λ hosts. appending_to (line_of piece.id hosts.lines) piece hosts) a a
 append_nowhere piece a none = λ printed hosts h.
-    subst (AreParts a printed) (sym (ap (λ line. appending_to line piece hosts) (ap (line_of piece.id) h.lines ∙ none))) h
+    subst (AreParts a printed) (sym (ap (λ line. appending_to line piece hosts) (ap (line_of piece.id) h.lines ∙ none)))
+    h
 
 -- the lines are as they were but for what waits
 pub record Waits (id : ℕ) (waiting : List (List ℕ)) (a b : HostParts) : Type 0 where
@@ -56,7 +122,8 @@ pub record Waits (id : ℕ) (waiting : List (List ℕ)) (a b : HostParts) : Type
   pub to_shut : b.to_shut ≡ a.to_shut
   pub leaving : b.leaving ≡ a.leaving
 
-pub waits_stands : (id : ℕ) (waiting : List (List ℕ)) (a b : HostParts) → Waits id waiting a b → Moves (λ hosts. record hosts { lines = with_waiting id waiting hosts.lines }) a b
+pub waits_stands : (id : ℕ) (waiting : List (List ℕ)) (a b : HostParts) → Waits id waiting a b
+    → Moves (λ hosts. record hosts { lines = with_waiting id waiting hosts.lines }) a b
 waits_stands id waiting a b s = λ printed hosts h. record {
   station = subst (λ t. StandsForStation t hosts.station) (sym s.station) h.station;
   came = λ other. ap (λ ranges. is_within other ranges.items) s.came ∙ h.came other;
@@ -83,8 +150,10 @@ waits_narrows id waiting a b s = record {
 }
 
 -- it fits
-pub append_fits : (piece : Piece) (line : Line) (a b : HostParts) → line_of piece.id a.lines.items ≡ Some line → line.id ≡ piece.id → length (octets_of line.waiting) + length piece.octets ≤ most_octets
-    → Waits piece.id (with_piece piece.octets line.waiting) a b → Moves (λ hosts. appending_to (line_of piece.id hosts.lines) piece hosts) a b
+pub append_fits : (piece : Piece) (line : Line) (a b : HostParts) → line_of piece.id a.lines.items ≡ Some line
+    → line.id ≡ piece.id → length (octets_of line.waiting) + length piece.octets ≤ most_octets
+    → Waits piece.id (with_piece piece.octets line.waiting) a b
+    → Moves (λ hosts. appending_to (line_of piece.id hosts.lines) piece hosts) a b
 append_fits piece line a b found same room s = λ printed hosts h.
     let stands = waits_stands piece.id (with_piece piece.octets line.waiting) a b s printed hosts h in
     let now : AreParts b printed (waiting_too piece line hosts) = record {
@@ -98,61 +167,82 @@ append_fits piece line a b found same room s = λ printed hosts h.
     } in
     subst (AreParts b printed)
     (sym (ap (λ one. appending_to one piece hosts) (ap (line_of piece.id) h.lines ∙ found)
-    ∙ cond-true (fits piece.octets line.waiting) (waiting_too piece line hosts) (cutting line.id hosts) (le-leb (length (octets_of line.waiting) + length piece.octets) most_octets room)))
+    ∙ cond-true (fits piece.octets line.waiting) (waiting_too piece line hosts) (cutting line.id hosts)
+    (le-leb (length (octets_of line.waiting) + length piece.octets) most_octets room)))
     now
 
 -- what waits is as it was
-pub stands_still : (id : ℕ) (line : Line) (a b : HostParts) (printed : List ReportLine) (hosts : Hosts) → line_of id a.lines.items ≡ Some line → Waits id line.waiting a b → AreParts a printed hosts → AreParts b printed hosts
+pub stands_still : (id : ℕ) (line : Line) (a b : HostParts) (printed : List ReportLine) (hosts : Hosts)
+    → line_of id a.lines.items ≡ Some line → Waits id line.waiting a b → AreParts a printed hosts
+    → AreParts b printed hosts
 stands_still id line a b printed hosts found s h =
-    subst (λ lines. AreParts b printed (record hosts { lines = lines })) (waiting_same id hosts.lines line (ap (line_of id) h.lines ∙ found)) (waits_stands id line.waiting a b s printed hosts h)
+    subst (λ lines. AreParts b printed (record hosts { lines = lines }))
+    (waiting_same id hosts.lines line (ap (line_of id) h.lines ∙ found))
+    (waits_stands id line.waiting a b s printed hosts h)
 
 -- it does not
-pub append_cuts : (piece : Piece) (line : Line) (a b c : HostParts) → line_of piece.id a.lines.items ≡ Some line → line.id ≡ piece.id → most_octets < length (octets_of line.waiting) + length piece.octets
-    → Waits piece.id line.waiting a b → Moves (cutting piece.id) b c → Moves (λ hosts. appending_to (line_of piece.id hosts.lines) piece hosts) a c
+pub append_cuts : (piece : Piece) (line : Line) (a b c : HostParts) → line_of piece.id a.lines.items ≡ Some line
+    → line.id ≡ piece.id → most_octets < length (octets_of line.waiting) + length piece.octets
+    → Waits piece.id line.waiting a b → Moves (cutting piece.id) b c
+    → Moves (λ hosts. appending_to (line_of piece.id hosts.lines) piece hosts) a c
 append_cuts piece line a b c found same full s moves = λ printed hosts h.
     let found_too : line_of piece.id hosts.lines ≡ Some line = ap (line_of piece.id) h.lines ∙ found in
     let stands : AreParts b printed hosts = stands_still piece.id line a b printed hosts found s h in
     subst (AreParts c printed)
     (sym (ap (λ one. appending_to one piece hosts) found_too
-    ∙ cond-false (fits piece.octets line.waiting) (waiting_too piece line hosts) (cutting line.id hosts) (lt-leb (length (octets_of line.waiting) + length piece.octets) most_octets full)
+    ∙ cond-false (fits piece.octets line.waiting) (waiting_too piece line hosts) (cutting line.id hosts)
+    (lt-leb (length (octets_of line.waiting) + length piece.octets) most_octets full)
     ∙ ap (λ id. cutting id hosts) same))
     (moves printed hosts stands)
 
 -- ---- the connections that the step closes
 
-closing_all-snoc : (ids : List ℕ) (id : ℕ) (hosts : Hosts) → closing_all (ids ++ id ∷ []) hosts ≡ closing_one id (closing_all ids hosts)
+closing_all-snoc : (ids : List ℕ) (id : ℕ) (hosts : Hosts)
+    → closing_all (ids ++ id ∷ []) hosts ≡ closing_one id (closing_all ids hosts)
 closing_all-snoc [] id hosts = refl
 closing_all-snoc (first ∷ ids) id hosts = closing_all-snoc ids id (closing_one first hosts)
 
-pub close_more : (ids : List ℕ) (i : ℕ) (a b c : HostParts) → i < length ids → Moves (closing_all (take i ids)) a b → Moves (closing_one (get_or ids i 0)) b c → Moves (closing_all (take (i + 1) ids)) a c
+pub close_more : (ids : List ℕ) (i : ℕ) (a b c : HostParts) → i < length ids → Moves (closing_all (take i ids)) a b
+    → Moves (closing_one (get_or ids i 0)) b c → Moves (closing_all (take (i + 1) ids)) a c
 close_more ids i a b c within first second =
-    moves_as (λ hosts. closing_one (get_or ids i 0) (closing_all (take i ids) hosts)) (closing_all (take (i + 1) ids)) a c
-    (λ hosts. sym (ap (λ some. closing_all some hosts) (take_more ids i 0 within) ∙ closing_all-snoc (take i ids) (get_or ids i 0) hosts))
+    moves_as (λ hosts. closing_one (get_or ids i 0) (closing_all (take i ids) hosts)) (closing_all (take (i + 1) ids))
+    a c
+    (λ hosts. sym (ap (λ some. closing_all some hosts) (take_more ids i 0 within)
+    ∙ closing_all-snoc (take i ids) (get_or ids i 0) hosts))
     (moves_then (closing_all (take i ids)) (closing_one (get_or ids i 0)) a b c first second)
 
-there_same : (id : ℕ) (a : HostParts) (hosts : Hosts) (b : Bool) → hosts.lines ≡ a.lines.items → list_any (is_line_of id) a.lines.items ≡ b → is_there id hosts ≡ b
+there_same : (id : ℕ) (a : HostParts) (hosts : Hosts) (b : Bool) → hosts.lines ≡ a.lines.items
+    → list_any (is_line_of id) a.lines.items ≡ b → is_there id hosts ≡ b
 there_same id a hosts b lines is = ap (λ all. list_any (is_line_of id) all) lines ∙ is
 
-pub closes_there : (id : ℕ) (a b : HostParts) → list_any (is_line_of id) a.lines.items ≡ true → Moves (closing id) a b → Moves (closing_one id) a b
+pub closes_there : (id : ℕ) (a b : HostParts) → list_any (is_line_of id) a.lines.items ≡ true → Moves (closing id) a b
+    → Moves (closing_one id) a b
 closes_there id a b there moves = λ printed hosts h.
-    subst (AreParts b printed) (sym (cond-true (is_there id hosts) (closing id hosts) (without id hosts) (there_same id a hosts true h.lines there))) (moves printed hosts h)
+    subst (AreParts b printed) (sym (cond-true (is_there id hosts) (closing id hosts) (without id hosts)
+    (there_same id a hosts true h.lines there))) (moves printed hosts h)
 
-pub closes_nobody : (id : ℕ) (a b : HostParts) → list_any (is_line_of id) a.lines.items ≡ false → Moves (without id) a b → Moves (closing_one id) a b
+pub closes_nobody : (id : ℕ) (a b : HostParts) → list_any (is_line_of id) a.lines.items ≡ false → Moves (without id) a b
+    → Moves (closing_one id) a b
 closes_nobody id a b there moves = λ printed hosts h.
-    subst (AreParts b printed) (sym (cond-false (is_there id hosts) (closing id hosts) (without id hosts) (there_same id a hosts false h.lines there))) (moves printed hosts h)
+    subst (AreParts b printed) (sym (cond-false (is_there id hosts) (closing id hosts) (without id hosts)
+    (there_same id a hosts false h.lines there))) (moves printed hosts h)
 
 or_nothing : (b : Bool) → (b || false) ≡ b
 or_nothing true = refl
 or_nothing false = refl
 
 -- those so far are gone
-pub gone_more : (ids : List ℕ) (i : ℕ) (b c : HostParts) → i < length ids → ((id : ℕ) → is_among id (take i ids) ≡ true → is_named id b ≡ false) → Narrows b c → is_named (get_or ids i 0) c ≡ false
+pub gone_more : (ids : List ℕ) (i : ℕ) (b c : HostParts) → i < length ids
+    → ((id : ℕ) → is_among id (take i ids) ≡ true → is_named id b ≡ false) → Narrows b c
+    → is_named (get_or ids i 0) c ≡ false
     → (id : ℕ) → is_among id (take (i + 1) ids) ≡ true → is_named id c ≡ false
 gone_more ids i b c within before narrows gone id among =
     let one : ℕ = get_or ids i 0 in
     let either : (is_among id (take i ids) || ((one == id) || false)) ≡ true =
-    sym (list_any-append (λ other. other == id) (take i ids) (one ∷ [])) ∙ ap (is_among id) (sym (take_more ids i 0 within)) ∙ among in
+    sym (list_any-append (λ other. other == id) (take i ids) (one ∷ []))
+    ∙ ap (is_among id) (sym (take_more ids i 0 within)) ∙ among in
     elim (or_cases (is_among id (take i ids)) ((one == id) || false) either) [
-      | inl was ↦ false_from_ne_true (is_named id c) (λ named. true≢false (sym (narrows.named id named) ∙ before id was))
+      | inl was ↦ false_from_ne_true (is_named id c) (λ named. true≢false (sym (narrows.named id named)
+          ∙ before id was))
       | inr same ↦ subst (λ n. is_named n c ≡ false) (eqb-true one id (sym (or_nothing (one == id)) ∙ same)) gone
     ]

@@ -1,5 +1,26 @@
 -- The station is told of the connections that were shut, one after another.
-use Rattle.std.specs.Prelude.{◌≡◌, ℕ, zero, suc, ◌==◌, ◌<◌, ◌≤◌, ◌||◌, Bool, true, false, List, [], ◌∷◌, drop, length, Option, Some, None, refl}
+use Rattle.std.specs.Prelude.{
+  ◌≡◌,
+  ℕ,
+  zero,
+  suc,
+  ◌==◌,
+  ◌<◌,
+  ◌≤◌,
+  ◌||◌,
+  Bool,
+  true,
+  false,
+  List,
+  [],
+  ◌∷◌,
+  drop,
+  length,
+  Option,
+  Some,
+  None,
+  refl,
+}
 use Rattle.std.specs.List.{list_any, slice_get}
 use Rattle.std.proofs.Common.{sym, ◌∙◌, ap, subst, arith}
 use Rattle.std.proofs.lemmas.Bool.{or_left, or_right}
@@ -8,7 +29,16 @@ use Rattle.station.specs.Host.{IsHostTurn}
 use Rattle.tnc_ports.specs.declared.host_parts.HostParts.{HostParts}
 use Rattle.tnc_ports.specs.declared.report_line.ReportLine.{ReportLine}
 use Rattle.tnc_ports.specs.HeldHosts.{AreParts, Moves, MovesBy, IsKnown, is_named, is_known}
-use Rattle.tnc_ports.specs.Hosts.{Hosts, without, is_line_of, is_among, IsDelivered, HaveLeft, FirstHasLeft, AllHaveLeft}
+use Rattle.tnc_ports.specs.Hosts.{
+  Hosts,
+  without,
+  is_line_of,
+  is_among,
+  IsDelivered,
+  HaveLeft,
+  FirstHasLeft,
+  AllHaveLeft,
+}
 use Rattle.tnc_ports.proofs.NamedLemmas.{itself}
 
 -- whatever hosts the first parts stand for, the station was told of some that left
@@ -20,7 +50,8 @@ SomeLeft a b =
 pub nobody_left : (a : HostParts) → SomeLeft a a
 nobody_left a = λ printed hosts h. (zero, hosts, refl, h)
 
-pub one_left : (id : ℕ) (others : List ℕ) (a b c d : HostParts) → SomeLeft a b → b.leaving.items ≡ id ∷ others → Moves (without id) b c → MovesBy (IsDelivered (IsHostTurn (Left id))) c d → SomeLeft a d
+pub one_left : (id : ℕ) (others : List ℕ) (a b c d : HostParts) → SomeLeft a b → b.leaving.items ≡ id ∷ others
+    → Moves (without id) b c → MovesBy (IsDelivered (IsHostTurn (Left id))) c d → SomeLeft a d
 one_left id others a b c d some first forgets tells = λ printed hosts h.
     let s = some printed hosts h in
     let t = tells printed (without id s.1) (forgets printed s.1 s.3) in
@@ -44,4 +75,5 @@ first_among ids others id is = ap (is_among id) is ∙ or_left (id == id) (is_am
 
 -- who leaves is known
 pub leaving_known : (id : ℕ) (a : HostParts) → IsKnown a → is_among id a.leaving.items ≡ true → is_known id a ≡ true
-leaving_known id a known leaves = known.known id (or_right (list_any (is_line_of id) a.lines.items) (is_among id a.leaving.items) leaves)
+leaving_known id a known leaves = known.known id (or_right (list_any (is_line_of id) a.lines.items)
+    (is_among id a.leaving.items) leaves)

@@ -16,44 +16,56 @@ use Rattle.tnc_ports.proofs.KeptLemmas.{IsKeptByStep, kept_step}
 pub record IsKeptByFrames (P : Hosts → Type 0) : Type 0 where
   pub steps : IsKeptByStep P
   pub received : (text : List ℕ) (hosts : Hosts) → P hosts → P (with_lines (ReceivedLine text ∷ []) hosts)
-  pub sent : (text : List ℕ) (report reported : List ReportLine) (hosts : Hosts) → hosts.report ≡ report ++ reported → P hosts
+  pub sent : (text : List ℕ) (report reported : List ReportLine) (hosts : Hosts) → hosts.report ≡ report ++ reported
+      → P hosts
       → P (record hosts { report = report ++ (SentLine text ∷ [] ++ reported) })
 
-received_or_none : (monitor : Bool) (octets : List ℕ) (links : Links) (lines : List ReportLine) → AreReceivedLines monitor octets links lines
+received_or_none : (monitor : Bool) (octets : List ℕ) (links : Links) (lines : List ReportLine)
+    → AreReceivedLines monitor octets links lines
     → (lines ≡ []) ⊎ ((text : List ℕ) × (lines ≡ ReceivedLine text ∷ []))
 received_or_none true octets links lines shown = inr (shown.1.text, shown.2 ∙ ap (λ line. line ∷ []) shown.1.is)
 received_or_none false octets links lines shown = inl shown
 
-sent_or_none : (monitor : Bool) (sent : Option Sent) (links : Links) (lines : List ReportLine) → AreSentLines monitor sent links lines
+sent_or_none : (monitor : Bool) (sent : Option Sent) (links : Links) (lines : List ReportLine)
+    → AreSentLines monitor sent links lines
     → (lines ≡ []) ⊎ ((text : List ℕ) × (lines ≡ SentLine text ∷ []))
 sent_or_none monitor None links lines shown = inl shown
 sent_or_none true (Some sent) links lines shown = inr (shown.1.text, shown.2 ∙ ap (λ line. line ∷ []) shown.1.is)
 sent_or_none false (Some sent) links lines shown = inl shown
 
 module _ (P : Hosts → Type 0) (k : IsKeptByFrames P) where
-  kept_frame : (monitor : Bool) (octets : List ℕ) (before after : Hosts) → IsFrameHeard monitor octets before after → P before → P after
+  kept_frame : (monitor : Bool) (octets : List ℕ) (before after : Hosts) → IsFrameHeard monitor octets before after
+      → P before → P after
   kept_frame monitor octets before after f p =
       kept_step P k.steps _ (with_lines f.lines before) after f.step
       (elim (received_or_none monitor octets before.station.links f.lines f.shown) [
-        | inl none ↦ subst (λ lines. P (with_lines lines before)) (sym none) (subst (λ report. P (record before { report = report })) (sym (append-nil before.report)) p)
+        | inl none ↦ subst (λ lines. P (with_lines lines before)) (sym none)
+            (subst (λ report. P (record before { report = report })) (sym (append-nil before.report)) p)
         | inr some ↦ subst (λ lines. P (with_lines lines before)) (sym some.1) (k.received some.0 before p)
       ])
 
-  pub kept_heard : (monitor : Bool) (items : List Candidate) (before after : Hosts) → AreHeard monitor items before after → P before → P after
+  pub kept_heard : (monitor : Bool) (items : List Candidate) (before after : Hosts)
+      → AreHeard monitor items before after → P before → P after
   kept_heard monitor [] before after heard p = subst P (sym heard) p
-  kept_heard monitor (item ∷ items) before after heard p = kept_heard monitor items heard.0 after heard.2 (kept_frame monitor item.octets before heard.0 heard.1 p)
+  kept_heard monitor (item ∷ items) before after heard p =
+      kept_heard monitor items heard.0 after heard.2 (kept_frame monitor item.octets before heard.0 heard.1 p)
 
-  kept_tick : (monitor busy : Bool) (air : AirTick) (before after : Hosts) → IsTickMade monitor busy air before after → P before → P after
+  kept_tick : (monitor busy : Bool) (air : AirTick) (before after : Hosts) → IsTickMade monitor busy air before after
+      → P before → P after
   kept_tick monitor busy air before after t p =
       let q : P t.ticked = kept_step P k.steps _ before t.ticked t.step.step p in
       subst P (sym t.is)
       (elim (sent_or_none monitor air.sent t.ticked.station.links t.lines t.shown) [
-        | inl none ↦ subst (λ lines. P (record t.ticked { report = before.report ++ (lines ++ t.reported) })) (sym none) (subst (λ report. P (record t.ticked { report = report })) t.told q)
-        | inr some ↦ subst (λ lines. P (record t.ticked { report = before.report ++ (lines ++ t.reported) })) (sym some.1) (k.sent some.0 before.report t.reported t.ticked t.told q)
+        | inl none ↦ subst (λ lines. P (record t.ticked { report = before.report ++ (lines ++ t.reported) })) (sym none)
+            (subst (λ report. P (record t.ticked { report = report })) t.told q)
+        | inr some ↦ subst (λ lines. P (record t.ticked { report = before.report ++ (lines ++ t.reported) }))
+            (sym some.1) (k.sent some.0 before.report t.reported t.ticked t.told q)
       ])
 
-  pub kept_ticks : (monitor busy : Bool) (count : ℕ) (before after : Live) → AreTicked monitor busy count before after → P before.hosts → P after.hosts
+  pub kept_ticks : (monitor busy : Bool) (count : ℕ) (before after : Live) → AreTicked monitor busy count before after
+      → P before.hosts → P after.hosts
   kept_ticks monitor busy zero before after ticked p = subst (λ (live : Live). P live.hosts) (sym ticked) p
   kept_ticks monitor busy (suc count) before after ticked p =
       kept_ticks monitor busy count ticked.0 after ticked.2
-      (subst (λ (live : Live). P live.hosts) (sym ticked.1.is) (kept_tick monitor busy ticked.1.air before.hosts ticked.1.hosts ticked.1.step p))
+      (subst (λ (live : Live). P live.hosts) (sym ticked.1.is)
+      (kept_tick monitor busy ticked.1.air before.hosts ticked.1.hosts ticked.1.step p))

@@ -1,9 +1,29 @@
 -- All turns of a live station, from the first to the last.
 use Rattle.std.specs.Prelude.{Bool, true, false, Option, Some, All, replicate}
-use Rattle.std.proofs.Common.{◌≡◌, ℕ, zero, suc, ◌+◌, ◌≤◌, ◌⊎◌, List, [], ◌∷◌, ◌++◌, refl, sym, ap, subst, inl, inr, ◌∙◌, arith}
+use Rattle.std.proofs.Common.{
+  ◌≡◌,
+  ℕ,
+  zero,
+  suc,
+  ◌+◌,
+  ◌≤◌,
+  ◌⊎◌,
+  List,
+  [],
+  ◌∷◌,
+  ◌++◌,
+  refl,
+  sym,
+  ap,
+  subst,
+  inl,
+  inr,
+  ◌∙◌,
+  arith,
+}
 use Rattle.std.proofs.lemmas.List.{append-nil}
 use Rattle.sample_ring.specs.declared.got.Got.{Got}
-use Rattle.slicer_bank.specs.RingLanes.{HeldRingBank, answers_in}
+use Rattle.ring_receiver.specs.HeldReceiver.{HeldReceiver, answers_in}
 use Rattle.tnc_base.specs.Streams.{WrotePart}
 use Rattle.tnc_ports.specs.declared.looping.LoopEnd.{LoopEnd}
 use Rattle.tnc_ports.specs.declared.looping.LoopEnd.TheVariants.{Done, Memory, WriteFault}
@@ -14,7 +34,21 @@ use Rattle.tnc_ports.specs.HostTurns.{Asked}
 use Rattle.tnc_ports.specs.ReportText.{output_octets, report_text}
 use Rattle.tnc_ports.specs.Sampled.{Live, new_live, HaveEnded, IsTurn, MakesAll}
 use Rattle.tnc_ports.specs.SampledHeld.{StandsForLive, Turns, IsCutOff, Runs, output_of, report_of, told_in}
-use Rattle.tnc_ports.specs.SampledRun.{Outside, AreTurns, IsRun, IsCutRun, IsCutTurn, IsCutInServing, PortsTell, PortsStay, AllIsWritten, PartIsWritten, IsWhole, IsCut, IsLooped}
+use Rattle.tnc_ports.specs.SampledRun.{
+  Outside,
+  AreTurns,
+  IsRun,
+  IsCutRun,
+  IsCutTurn,
+  IsCutInServing,
+  PortsTell,
+  PortsStay,
+  AllIsWritten,
+  PartIsWritten,
+  IsWhole,
+  IsCut,
+  IsLooped,
+}
 use Rattle.tnc_ports.specs.SampledWrites.{Stream, WritesMore}
 use Rattle.tnc_ports.proofs.LiveSteps.{turns_more}
 use Rattle.tnc_ports.proofs.LiveAccounts.{are_sent, are_shut, accounted_cut}
@@ -26,39 +60,46 @@ stay_stay : (x y z : Outside) → PortsStay x y → z.listens ≡ y.listens → 
 stay_stay x y z h same le = record { listens = same ∙ h.listens; faults = let f = h.faults in omega (arith, f, le) }
 
 -- before the first turn
-pub runs_first : (words : ServeWords) (turning : Turning) (len : ℕ) (bank : HeldRingBank) (start : Outside)
-    → StandsForLive turning len bank (new_live words) → turning.words ≡ words → turning.failed ≡ false → Runs words turning len bank start start
-runs_first words turning len bank start stands same none = record {
+pub runs_first : (words : ServeWords) (turning : Turning) (len : ℕ) (receiver : HeldReceiver) (start : Outside)
+    → StandsForLive turning len receiver (new_live words) → turning.words ≡ words → turning.failed ≡ false
+    → Runs words turning len receiver start start
+runs_first words turning len receiver start stands same none = record {
   count = 0;
   live = new_live words;
   turns = refl;
   stands = stands;
   words_kept = same;
-  writes = subst (λ f. WritesMore false f (new_live words) (new_live words) (output_of start) (output_of start) (report_of start) (report_of start)) (sym none)
+  writes = subst (λ f. WritesMore false f (new_live words) (new_live words) (output_of start) (output_of start)
+      (report_of start) (report_of start)) (sym none)
       (no_write false (new_live words) (output_of start) (report_of start));
   told = tells_nothing start;
   stay = record { listens = refl; faults = omega arith };
 }
 
 -- one turn more
-pub runs_more : (words : ServeWords) (a b : Turning) (len : ℕ) (old bank : HeldRingBank) (start x y : Outside)
+pub runs_more : (words : ServeWords) (a b : Turning) (len : ℕ) (old receiver : HeldReceiver) (start x y : Outside)
     → (h : Runs words a len old start x)
-    → Turns false a b len bank h.live (output_of x) (output_of y) (report_of x) (report_of y) (told_in x) (told_in y)
-    → b.words ≡ a.words → y.listens ≡ x.listens → x.port_faults ≤ y.port_faults → Runs words b len bank start y
-runs_more words a b len old bank start x y h t same listens later = record {
+    → Turns false a b len receiver h.live (output_of x) (output_of y) (report_of x) (report_of y) (told_in x)
+    (told_in y)
+    → b.words ≡ a.words → y.listens ≡ x.listens → x.port_faults ≤ y.port_faults → Runs words b len receiver start y
+runs_more words a b len old receiver start x y h t same listens later = record {
   count = suc h.count;
   live = t.next;
-  turns = turns_more words h.count (new_live words) h.live t.next h.turns (subst (λ w. IsTurn w false h.live t.next) h.words_kept t.turn);
+  turns = turns_more words h.count (new_live words) h.live t.next h.turns
+      (subst (λ w. IsTurn w false h.live t.next) h.words_kept t.turn);
   stands = t.goes_on refl;
   words_kept = same ∙ h.words_kept;
-  writes = writes_more false a.failed b.failed (new_live words) h.live t.next (output_of start) (output_of x) (output_of y) (report_of start) (report_of x) (report_of y) h.writes t.writes;
-  told = subst (λ xs. PortsTell xs start y) (sym t.asks) (tells_more h.live.asked t.asked start x y h.stay.faults later h.told t.tells);
+  writes = writes_more false a.failed b.failed (new_live words) h.live t.next (output_of start) (output_of x)
+      (output_of y) (report_of start) (report_of x) (report_of y) h.writes t.writes;
+  told = subst (λ xs. PortsTell xs start y) (sym t.asks)
+      (tells_more h.live.asked t.asked start x y h.stay.faults later h.told t.tells);
   stay = stay_stay start x y h.stay listens later;
 }
 
 -- ---- what is written
 
-all_written : (words : ServeWords) (live : Live) (start now : Outside) → WritesMore false false (new_live words) live (output_of start) (output_of now) (report_of start) (report_of now)
+all_written : (words : ServeWords) (live : Live) (start now : Outside)
+    → WritesMore false false (new_live words) live (output_of start) (output_of now) (report_of start) (report_of now)
     → AllIsWritten live start now
 all_written words live start now h = record {
   output = λ was e. h.puts.0.written was e ∙ ap (λ s. Some (was ++ output_octets s)) (sym h.sent);
@@ -67,7 +108,8 @@ all_written words live start now h = record {
   no_report_fault = h.puts.1.faultless;
 }
 
-part_written : (words : ServeWords) (live : Live) (start now : Outside) → WritesMore false true (new_live words) live (output_of start) (output_of now) (report_of start) (report_of now)
+part_written : (words : ServeWords) (live : Live) (start now : Outside)
+    → WritesMore false true (new_live words) live (output_of start) (output_of now) (report_of start) (report_of now)
     → PartIsWritten live start now
 part_written words live start now h = record {
   output = λ was e. subst (λ s. WrotePart was (output_octets s) now.output) (sym h.sent) (h.puts.0.written was e);
@@ -79,19 +121,23 @@ abbrev pub WrittenBy : Bool → Live → Outside → Outside → Type 0
 WrittenBy false live start now = AllIsWritten live start now
 WrittenBy true live start now = PartIsWritten live start now
 
-written : (failed : Bool) (words : ServeWords) (live : Live) (start now : Outside) → WritesMore false failed (new_live words) live (output_of start) (output_of now) (report_of start) (report_of now)
+written : (failed : Bool) (words : ServeWords) (live : Live) (start now : Outside)
+    → WritesMore false failed (new_live words) live (output_of start) (output_of now) (report_of start) (report_of now)
     → WrittenBy failed live start now
 written false words live start now h = all_written words live start now h
 written true words live start now h = part_written words live start now h
 
 -- ---- the end
 
-whole : (words : ServeWords) (a b : Turning) (len : ℕ) (old bank : HeldRingBank) (start x y : Outside)
+whole : (words : ServeWords) (a b : Turning) (len : ℕ) (old receiver : HeldReceiver) (start x y : Outside)
     → (h : Runs words a len old start x)
-    → (t : Turns true a b len bank h.live (output_of x) (output_of y) (report_of x) (report_of y) (told_in x) (told_in y))
+    → (t : Turns true a b len receiver h.live (output_of x) (output_of y) (report_of x) (report_of y) (told_in x)
+    (told_in y))
     → y.listens ≡ x.listens → x.port_faults ≤ y.port_faults
-    → IsWhole words (answers_in len bank) t.next start y × WritesMore false b.failed (new_live words) t.next (output_of start) (output_of y) (report_of start) (report_of y)
-whole words a b len old bank start x y h t listens later =
+    → IsWhole words (answers_in len receiver) t.next start y
+    × WritesMore false b.failed (new_live words) t.next (output_of start) (output_of y) (report_of start)
+    (report_of y)
+whole words a b len old receiver start x y h t listens later =
     let run : IsRun words t.next = record {
       count = h.count;
       last = h.live;
@@ -103,7 +149,8 @@ whole words a b len old bank start x y h t listens later =
       record {
         run = run;
         lanes = sym t.lanes;
-        told = subst (λ xs. PortsTell xs start y) (sym t.asks) (tells_more h.live.asked t.asked start x y h.stay.faults later h.told t.tells);
+        told = subst (λ xs. PortsTell xs start y) (sym t.asks)
+            (tells_more h.live.asked t.asked start x y h.stay.faults later h.told t.tells);
         stay = stay_stay start x y h.stay listens later;
         sends = are_sent t.next.asked t.next.hosts served.accounted;
         shuts = are_shut t.next.asked t.next.hosts served.accounted;
@@ -111,35 +158,50 @@ whole words a b len old bank start x y h t listens later =
         gaps = served.gaps;
         size = served.size;
       },
-      writes_more false a.failed b.failed (new_live words) h.live t.next (output_of start) (output_of x) (output_of y) (report_of start) (report_of x) (report_of y) h.writes t.writes,
+      writes_more false a.failed b.failed (new_live words) h.live t.next (output_of start) (output_of x) (output_of y)
+          (report_of start) (report_of x) (report_of y) h.writes t.writes,
     )
 
-pub loop_done : (words : ServeWords) (a b : Turning) (len : ℕ) (old bank : HeldRingBank) (start x y : Outside)
+pub loop_done : (words : ServeWords) (a b : Turning) (len : ℕ) (old receiver : HeldReceiver) (start x y : Outside)
     → (h : Runs words a len old start x)
-    → Turns true a b len bank h.live (output_of x) (output_of y) (report_of x) (report_of y) (told_in x) (told_in y)
-    → y.listens ≡ x.listens → x.port_faults ≤ y.port_faults → b.failed ≡ false → IsLooped words Done (answers_in len bank) start y
-loop_done words a b len old bank start x y h t listens later none =
-    let w = whole words a b len old bank start x y h t listens later in
-    (t.next, w.0, all_written words t.next start y (subst (λ f. WritesMore false f (new_live words) t.next (output_of start) (output_of y) (report_of start) (report_of y)) none w.1))
+    → Turns true a b len receiver h.live (output_of x) (output_of y) (report_of x) (report_of y) (told_in x) (told_in y)
+    → y.listens ≡ x.listens → x.port_faults ≤ y.port_faults → b.failed ≡ false
+    → IsLooped words Done (answers_in len receiver) start y
+loop_done words a b len old receiver start x y h t listens later none =
+    let w = whole words a b len old receiver start x y h t listens later in (
+      t.next,
+      w.0,
+      all_written words t.next start y
+          (subst (λ f. WritesMore false f (new_live words) t.next (output_of start) (output_of y) (report_of start)
+          (report_of y)) none w.1),
+    )
 
-pub loop_fault : (words : ServeWords) (a b : Turning) (len : ℕ) (old bank : HeldRingBank) (start x y : Outside)
+pub loop_fault : (words : ServeWords) (a b : Turning) (len : ℕ) (old receiver : HeldReceiver) (start x y : Outside)
     → (h : Runs words a len old start x)
-    → Turns true a b len bank h.live (output_of x) (output_of y) (report_of x) (report_of y) (told_in x) (told_in y)
-    → y.listens ≡ x.listens → x.port_faults ≤ y.port_faults → b.failed ≡ true → IsLooped words WriteFault (answers_in len bank) start y
-loop_fault words a b len old bank start x y h t listens later some =
-    let w = whole words a b len old bank start x y h t listens later in
-    (t.next, w.0, part_written words t.next start y (subst (λ f. WritesMore false f (new_live words) t.next (output_of start) (output_of y) (report_of start) (report_of y)) some w.1))
+    → Turns true a b len receiver h.live (output_of x) (output_of y) (report_of x) (report_of y) (told_in x) (told_in y)
+    → y.listens ≡ x.listens → x.port_faults ≤ y.port_faults → b.failed ≡ true
+    → IsLooped words WriteFault (answers_in len receiver) start y
+loop_fault words a b len old receiver start x y h t listens later some =
+    let w = whole words a b len old receiver start x y h t listens later in (
+      t.next,
+      w.0,
+      part_written words t.next start y
+          (subst (λ f. WritesMore false f (new_live words) t.next (output_of start) (output_of y) (report_of start)
+          (report_of y)) some w.1),
+    )
 
-either : (failed : Bool) (live : Live) (start now : Outside) → WrittenBy failed live start now → AllIsWritten live start now ⊎ PartIsWritten live start now
+either : (failed : Bool) (live : Live) (start now : Outside) → WrittenBy failed live start now
+    → AllIsWritten live start now ⊎ PartIsWritten live start now
 either false live start now h = inl h
 either true live start now h = inr h
 
-pub loop_memory : (words : ServeWords) (a b : Turning) (len : ℕ) (old bank : HeldRingBank) (start x y : Outside)
+pub loop_memory : (words : ServeWords) (a b : Turning) (len : ℕ) (old receiver : HeldReceiver) (start x y : Outside)
     → (h : Runs words a len old start x)
-    → IsCutOff a b len bank h.live (output_of x) (output_of y) (report_of x) (report_of y) (told_in x) (told_in y)
-    → y.listens ≡ x.listens → x.port_faults ≤ y.port_faults → IsLooped words Memory (answers_in len bank) start y
-loop_memory words a b len old bank start x y h t listens later =
-    let all = writes_more false a.failed b.failed (new_live words) h.live t.next (output_of start) (output_of x) (output_of y) (report_of start) (report_of x) (report_of y) h.writes t.writes in
+    → IsCutOff a b len receiver h.live (output_of x) (output_of y) (report_of x) (report_of y) (told_in x) (told_in y)
+    → y.listens ≡ x.listens → x.port_faults ≤ y.port_faults → IsLooped words Memory (answers_in len receiver) start y
+loop_memory words a b len old receiver start x y h t listens later =
+    let all = writes_more false a.failed b.failed (new_live words) h.live t.next (output_of start) (output_of x)
+    (output_of y) (report_of start) (report_of x) (report_of y) h.writes t.writes in
     let run : IsCutRun words t.next = record {
       count = h.count;
       last = h.live;
@@ -155,7 +217,8 @@ loop_memory words a b len old bank start x y h t listens later =
           turns = t.next.asked;
           reached = t.next.hosts;
           asked = inl (refl, refl);
-          told = subst (λ xs. PortsTell xs start y) (sym t.asks) (tells_still h.live.asked start x y h.stay.faults h.told none);
+          told = subst (λ xs. PortsTell xs start y) (sym t.asks)
+              (tells_still h.live.asked start x y h.stay.faults h.told none);
           stay = stay_stay start x y h.stay listens later;
           sends = are_sent t.next.asked t.next.hosts served.accounted;
           shuts = are_shut t.next.asked t.next.hosts served.accounted;
@@ -165,7 +228,8 @@ loop_memory words a b len old bank start x y h t listens later =
         | inr some ↦
             let asked = some.0 in
             let reached = some.1 in
-            let cut : IsCutInServing words h.live t.next asked reached = subst (λ w. IsCutInServing w h.live t.next asked reached) h.words_kept some.2 in
+            let cut : IsCutInServing words h.live t.next asked reached =
+            subst (λ w. IsCutInServing w h.live t.next asked reached) h.words_kept some.2 in
             let all = accounted_cut t.next.asked asked t.next.hosts reached cut.part served.accounted in
             record {
               run = run;
@@ -173,7 +237,8 @@ loop_memory words a b len old bank start x y h t listens later =
               turns = t.next.asked ++ asked ∷ [];
               reached = reached;
               asked = inr (asked, cut, refl);
-              told = subst (λ xs. PortsTell (xs ++ asked ∷ []) start y) (sym t.asks) (tells_more h.live.asked asked start x y h.stay.faults later h.told some.3);
+              told = subst (λ xs. PortsTell (xs ++ asked ∷ []) start y) (sym t.asks)
+                  (tells_more h.live.asked asked start x y h.stay.faults later h.told some.3);
               stay = stay_stay start x y h.stay listens later;
               sends = are_sent (t.next.asked ++ asked ∷ []) reached all;
               shuts = are_shut (t.next.asked ++ asked ∷ []) reached all;
@@ -186,10 +251,13 @@ loop_memory words a b len old bank start x y h t listens later =
 
 -- ---- whether a turn was the last
 
-pub turned_over : (ended : Bool) (a b : Turning) (len : ℕ) (bank : HeldRingBank) (live : Live) (o o' r r' : Stream) (t t' : Told) → ended ≡ true
-    → Turns ended a b len bank live o o' r r' t t' → Turns true a b len bank live o o' r r' t t'
-turned_over ended a b len bank live o o' r r' t t' e h = subst (λ x. Turns x a b len bank live o o' r r' t t') e h
+pub turned_over : (ended : Bool) (a b : Turning) (len : ℕ) (receiver : HeldReceiver) (live : Live) (o o' r r' : Stream)
+    (t t' : Told) → ended ≡ true
+    → Turns ended a b len receiver live o o' r r' t t' → Turns true a b len receiver live o o' r r' t t'
+turned_over ended a b len receiver live o o' r r' t t' e h =
+    subst (λ x. Turns x a b len receiver live o o' r r' t t') e h
 
-pub turned_on : (ended : Bool) (a b : Turning) (len : ℕ) (bank : HeldRingBank) (live : Live) (o o' r r' : Stream) (t t' : Told) → ended ≡ false
-    → Turns ended a b len bank live o o' r r' t t' → Turns false a b len bank live o o' r r' t t'
-turned_on ended a b len bank live o o' r r' t t' e h = subst (λ x. Turns x a b len bank live o o' r r' t t') e h
+pub turned_on : (ended : Bool) (a b : Turning) (len : ℕ) (receiver : HeldReceiver) (live : Live) (o o' r r' : Stream)
+    (t t' : Told) → ended ≡ false
+    → Turns ended a b len receiver live o o' r r' t t' → Turns false a b len receiver live o o' r r' t t'
+turned_on ended a b len receiver live o o' r r' t t' e h = subst (λ x. Turns x a b len receiver live o o' r r' t t') e h

@@ -1,6 +1,51 @@
 -- Facts on serving as a whole.
-use Rattle.std.specs.Prelude.{Bool, true, false, Contains, ℤ, Option, Some, None, ◌==◌, nat_lt, if◌then◌else◌, zero, suc, Result, Ok, Err, is_err, OnOk, All, replicate}
-use Rattle.std.proofs.Common.{◌≡◌, ◌≢◌, ℕ, ◌+◌, ◌-◌, ◌<◌, ◌≤◌, ⊎_elim, List, [], ◌∷◌, ◌++◌, get_or, length, map, refl, sym, ap, subst, inl, inr, ◌∙◌, arith}
+use Rattle.std.specs.Prelude.{
+  Bool,
+  true,
+  false,
+  Contains,
+  ℤ,
+  Option,
+  Some,
+  None,
+  ◌==◌,
+  nat_lt,
+  if◌then◌else◌,
+  zero,
+  suc,
+  Result,
+  Ok,
+  Err,
+  is_err,
+  OnOk,
+  All,
+  replicate,
+}
+use Rattle.std.proofs.Common.{
+  ◌≡◌,
+  ◌≢◌,
+  ℕ,
+  ◌+◌,
+  ◌-◌,
+  ◌<◌,
+  ◌≤◌,
+  ⊎_elim,
+  List,
+  [],
+  ◌∷◌,
+  ◌++◌,
+  get_or,
+  length,
+  map,
+  refl,
+  sym,
+  ap,
+  subst,
+  inl,
+  inr,
+  ◌∙◌,
+  arith,
+}
 use Rattle.std.proofs.lemmas.List.{append-nil, get_or-replicate, length-map}
 use Rattle.std.proofs.lemmas.List.Elements.{All-head, All-tail, Contains-append_cases}
 use Rattle.std.proofs.lemmas.Option.{slice_get_past}
@@ -14,9 +59,10 @@ use Rattle.sample_ring.specs.Cells.{lap_of, sample_of}
 use Rattle.sample_ring.specs.Ends.{record_of}
 use Rattle.sample_ring.specs.Record.{answer, next, Stands, StandsAs, StandsIn, Tiles}
 use Rattle.slicer_bank.specs.HeardOnRing.{lane_of}
-use Rattle.slicer_bank.specs.RingLanes.{HeldRingBank, answers_of, answers_in, positions_in, Listens}
-use Rattle.slicer_bank.specs.RingMerging.{HasMerged}
+use Rattle.slicer_bank.specs.RingLanes.{answers_of}
 use Rattle.slicer_bank.specs.RingTurns.{MeetsEnd}
+use Rattle.ring_receiver.specs.HeldReceiver.{HeldReceiver, answers_in, Hears}
+use Rattle.ring_receiver.specs.Readers.{readers_wanted}
 use Rattle.tnc_base.specs.Faults.{HasRisen}
 use Rattle.tnc_ports.specs.declared.looping.LoopEnd.{LoopEnd}
 use Rattle.tnc_ports.specs.declared.looping.LoopEnd.TheVariants.{Done as LoopDone, Memory, WriteFault as LoopFault}
@@ -31,15 +77,27 @@ use Rattle.tnc_ports.specs.Sampled.{Live, new_live, HaveEnded}
 use Rattle.tnc_ports.specs.declared.turning.Turning.{Turning}
 use Rattle.tnc_ports.specs.HeldHosts.{StandsFor}
 use Rattle.tnc_ports.specs.Hosts.{new_hosts}
-use Rattle.tnc_ports.specs.SampledHeld.{AreMarkedWithin, StandsForLive}
+use Rattle.tnc_ports.specs.SampledHeld.{StandsForLive}
 use Rattle.tnc_ports.specs.SampledRun.{Outside, IsCutInReading, IsCutRun, IsLooped, AllIsWritten}
-use Rattle.tnc_ports.specs.ServeRun.{InputSide, ReadFaults, ring_cells, answers_of_record, LanesStandIn, end_of, OnlyListens, HasOpened, HasServed, IsServed}
+use Rattle.tnc_ports.specs.ServeRun.{
+  InputSide,
+  ReadFaults,
+  ring_cells,
+  answers_of_record,
+  LanesStandIn,
+  end_of,
+  OnlyListens,
+  HasOpened,
+  HasServed,
+  IsServed,
+}
 use Rattle.tnc_ports.specs.SampledPump.{IsClosed}
 use Rattle.tnc_ports.proofs.LiveAccounts.{are_sent, are_shut}
 use Rattle.tnc_ports.proofs.LiveServed.{served_cut}
 use Rattle.tnc_ports.proofs.LiveTold.{tells_nothing}
 
-pub read_faults : (end : PumpEnd) (before after : InputSide) → (end ≡ ReadFault → HasRisen before.faults after.faults) → (end ≢ ReadFault → after.faults ≡ before.faults) → ReadFaults end before after
+pub read_faults : (end : PumpEnd) (before after : InputSide) → (end ≡ ReadFault → HasRisen before.faults after.faults)
+    → (end ≢ ReadFault → after.faults ≡ before.faults) → ReadFaults end before after
 read_faults InputEnd before after h g = g (λ e. cc e)
 read_faults ReadFault before after h g = h refl
 read_faults TooLong before after h g = g (λ e. cc e)
@@ -47,34 +105,34 @@ read_faults NotBegun before after h g = g (λ e. cc e)
 
 -- ---- before the first turn
 
-pub marked_at_start : (positions : List ℕ) → AreMarkedWithin (replicate 8 0) positions
-marked_at_start positions lane lt = zero_first (get_or (replicate 8 0) lane 0) (get_or positions lane 0) (get_or-replicate 8 lane 0 0 lt)
-  where
-    zero_first : (a b : ℕ) → a ≡ 0 → a ≤ b
-    zero_first a b e = omega (arith, e)
-
-pub first_stands : (words : ServeWords) (turning : Turning) (len : ℕ) (bank : HeldRingBank) → StandsFor turning.hosts [] (new_hosts words.config words.seed)
-    → HasMerged turning.merger (replicate 8 []) → turning.merger.marks ≡ replicate 8 0 → turning.ticks ≡ 0
-    → answers_in len bank ≡ replicate 8 [] → Listens len bank → StandsForLive turning len bank (new_live words)
-first_stands words turning len bank hosts merged marks ticks new listens = record {
+pub first_stands : (words : ServeWords) (turning : Turning) (len : ℕ) (receiver : HeldReceiver)
+    → StandsFor turning.hosts [] (new_hosts words.config words.seed)
+    → turning.words ≡ words → turning.ticks ≡ 0 → receiver.sensitive ≡ words.sensitive
+    → answers_in len receiver ≡ replicate (readers_wanted words.sensitive) [] → Hears len receiver
+    → StandsForLive turning len receiver (new_live words)
+first_stands words turning len receiver hosts same ticks sensitive new hears = record {
   hosts = hosts;
   ticks = ticks;
-  merged = merged;
-  marks = subst (λ m. AreMarkedWithin m (positions_in bank)) (sym marks) (marked_at_start (positions_in bank));
-  eight = refl;
+  sensitive = sensitive ∙ ap (λ (w : ServeWords). w.sensitive) (sym same);
   lanes = new;
-  listens = listens;
+  hears = hears;
   passed = omega arith;
 }
 
-pub nothing_looped : (words : ServeWords) (lanes : List (List Got)) (start : Outside) → lanes ≡ replicate 8 [] → IsLooped words Memory lanes start start
+pub nothing_looped : (words : ServeWords) (lanes : List (List Got)) (start : Outside)
+    → lanes ≡ replicate (readers_wanted words.sensitive) [] → IsLooped words Memory lanes start start
 nothing_looped words lanes start same =
-    let cut : IsCutInReading (new_live words) (new_live words) = record {
-      lanes = replicate 8 [];
-      more = λ lane lt. ([], sym (append-nil (lane_of (replicate 8 []) lane)));
+    let cut : IsCutInReading words (new_live words) (new_live words) = record {
+      lanes = replicate (readers_wanted words.sensitive) [];
+      more = λ lane lt. ([], sym (append-nil (lane_of (replicate (readers_wanted words.sensitive) []) lane)));
       is = refl;
     } in
-    let run : IsCutRun words (new_live words) = record { count = 0; last = new_live words; turns = refl; cut = inl cut } in
+    let run : IsCutRun words (new_live words) = record {
+      count = 0;
+      last = new_live words;
+      turns = refl;
+      cut = inl cut;
+    } in
     let served = served_cut words (new_live words) run in
     let all : AllIsWritten (new_live words) start start = record {
       output = λ was e. e ∙ ap Some (sym (append-nil was));
@@ -126,95 +184,125 @@ answer_at len e =
     (either_at (e.last == e.at + 1) (End e.at) (Empty e.at) e.at refl refl))
 
 -- past the last published sample a reader stays
-stays : (len known : ℕ) (published : List ℤ) (got : Got) → at_of got ≡ length published → StandsAs len published true known got → next got ≡ length published
+stays : (len known : ℕ) (published : List ℤ) (got : Got) → at_of got ≡ length published
+    → StandsAs len published true known got → next got ≡ length published
 unfolding at_of
-stays len known published (Item at sample) e s = absurd (let n : Some sample ≡ None = sym s ∙ slice_get_past published at (omega (arith, e)) in cc n)
+stays len known published (Item at sample) e s = absurd (let n : Some sample ≡ None = sym s
+    ∙ slice_get_past published at (omega (arith, e)) in cc n)
 stays len known published (Gap from to) e s = absurd (let a = s.0 in let b = s.2 in omega (arith, e, a, b))
 stays len known published (Empty at) e s = e
 stays len known published (End total) e s = e
 
-stays_on : (len from to : ℕ) (published : List ℤ) (reads : List Entry) → All (Stands len published true) reads → Tiles len from reads to → from ≡ length published → to ≡ length published
+stays_on : (len from to : ℕ) (published : List ℤ) (reads : List Entry) → All (Stands len published true) reads
+    → Tiles len from reads to → from ≡ length published → to ≡ length published
 stays_on len from to published [] stands tiles is = sym tiles ∙ is
 stays_on len from to published (e ∷ reads) stands tiles is =
     stays_on len (next (answer len e)) to published reads (All-tail (Stands len published true) e reads stands) tiles.1
-    (stays len e.known published (answer len e) (answer_at len e ∙ tiles.0 ∙ is) (All-head (Stands len published true) e reads stands))
+    (stays len e.known published (answer len e) (answer_at len e ∙ tiles.0 ∙ is)
+    (All-head (Stands len published true) e reads stands))
 
 only_one : (x y : Got) → Contains (x ∷ []) y → x ≡ y
 only_one x y (zero, lt, e) = e
 only_one x y (suc k, lt, e) = absurd (omega arith)
 
-end_at : (len from to : ℕ) (published : List ℤ) (reads : List Entry) → All (Stands len published true) reads → Tiles len from reads to → MeetsEnd (map (answer len) reads) → to ≡ length published
+end_at : (len from to : ℕ) (published : List ℤ) (reads : List Entry) → All (Stands len published true) reads
+    → Tiles len from reads to → MeetsEnd (map (answer len) reads) → to ≡ length published
 end_at len from to published [] stands tiles (total, (k, lt, e)) = absurd (omega arith)
 end_at len from to published (e ∷ reads) stands tiles (total, c) =
     let rest = All-tail (Stands len published true) e reads stands in
     ⊎_elim
     (λ (h : Contains (answer len e ∷ []) (End total)).
     let last : answer len e ≡ End total = only_one (answer len e) (End total) h in
-    let s : StandsAs len published true e.known (End total) = subst (StandsAs len published true e.known) last (All-head (Stands len published true) e reads stands) in
+    let s : StandsAs len published true e.known (End total) =
+    subst (StandsAs len published true e.known) last (All-head (Stands len published true) e reads stands) in
     stays_on len (next (answer len e)) to published reads rest tiles.1 (ap next last ∙ sym s.1))
-    (λ (h : Contains (map (answer len) reads) (End total)). end_at len (next (answer len e)) to published reads rest tiles.1 (total, h))
+    (λ (h : Contains (map (answer len) reads) (End total)). end_at len (next (answer len e))
+    to published reads rest tiles.1 (total, h))
     (Contains-append_cases (answer len e ∷ []) (map (answer len) reads) (End total) c)
 
 -- each record that meets the end is read to the last published sample
-ends_whole : (published : List ℤ) (records : List Track) → All (StandsIn ring_cells published true) records → HaveEnded (map answers_of_record records)
+ends_whole : (published : List ℤ) (records : List Track) → All (StandsIn ring_cells published true) records
+    → HaveEnded (map answers_of_record records)
     → All (λ track. track.at ≡ length published) records
 ends_whole published records stand ended = λ k d lt.
     let track = get_or records k d in
     let s = stand k d lt in
     let m : MeetsEnd (answers_of_record track) =
-    subst MeetsEnd (get_or-map answers_of_record records k d) (ended k (answers_of_record d) (subst (λ n. k < n) (sym (length-map records answers_of_record)) lt)) in
+    subst MeetsEnd (get_or-map answers_of_record records k d)
+    (ended k (answers_of_record d) (subst (λ n. k < n) (sym (length-map records answers_of_record)) lt)) in
     end_at ring_cells 0 track.at published track.reads s.stands s.tiles m
 
-map_tracks : (readers : List Reader) → map (answers_of ring_cells) readers ≡ map answers_of_record (map record_of readers)
+map_tracks : (readers : List Reader) → map (answers_of ring_cells) readers
+    ≡ map answers_of_record (map record_of readers)
 map_tracks [] = refl
 map_tracks (reader ∷ readers) = ap (λ xs. answers_of ring_cells reader ∷ xs) (map_tracks readers)
 
-pub lanes_stand : (published : List ℤ) (readers : List Reader) (records : List Track) → records ≡ map record_of readers → All (StandsIn ring_cells published true) records
+pub lanes_stand : (published : List ℤ) (readers : List Reader) (records : List Track) → records ≡ map record_of readers
+    → All (StandsIn ring_cells published true) records
     → LanesStandIn published (map (answers_of ring_cells) readers)
 lanes_stand published readers records is stand = record {
   records = records;
   answers = map_tracks readers ∙ ap (map answers_of_record) (sym is);
   stand = stand;
-  whole = λ ended. ends_whole published records stand (subst HaveEnded (map_tracks readers ∙ ap (map answers_of_record) (sym is)) ended);
+  whole = λ ended. ends_whole published records stand
+      (subst HaveEnded (map_tracks readers ∙ ap (map answers_of_record) (sym is)) ended);
 }
 
 -- ---- by how serving ends
 
-pub served : (words : ServeWords) (loop : LoopEnd) (pump : PumpEnd) (end : ServeEnd) (input left : InputSide) (before after : Outside) → end ≡ end_of loop pump
+pub served : (words : ServeWords) (loop : LoopEnd) (pump : PumpEnd) (end : ServeEnd) (input left : InputSide)
+    (before after : Outside) → end ≡ end_of loop pump
     → HasServed words end input left before after → IsServed words end input left before after
-served words LoopDone InputEnd end input left before after e h = subst (λ r. IsServed words r input left before after) (sym e) (subst (λ r. HasServed words r input left before after) e h)
-served words LoopDone ReadFault end input left before after e h = subst (λ r. IsServed words r input left before after) (sym e) (subst (λ r. HasServed words r input left before after) e h)
-served words LoopDone TooLong end input left before after e h = subst (λ r. IsServed words r input left before after) (sym e) (subst (λ r. HasServed words r input left before after) e h)
-served words LoopDone NotBegun end input left before after e h = subst (λ r. IsServed words r input left before after) (sym e) (inr (subst (λ r. HasServed words r input left before after) e h))
-served words Memory pump end input left before after e h = subst (λ r. IsServed words r input left before after) (sym e) (inr (subst (λ r. HasServed words r input left before after) e h))
-served words LoopFault pump end input left before after e h = subst (λ r. IsServed words r input left before after) (sym e) (subst (λ r. HasServed words r input left before after) e h)
+served words LoopDone InputEnd end input left before after e h =
+    subst (λ r. IsServed words r input left before after) (sym e)
+    (subst (λ r. HasServed words r input left before after) e h)
+served words LoopDone ReadFault end input left before after e h =
+    subst (λ r. IsServed words r input left before after) (sym e)
+    (subst (λ r. HasServed words r input left before after) e h)
+served words LoopDone TooLong end input left before after e h =
+    subst (λ r. IsServed words r input left before after) (sym e)
+    (subst (λ r. HasServed words r input left before after) e h)
+served words LoopDone NotBegun end input left before after e h =
+    subst (λ r. IsServed words r input left before after) (sym e)
+    (inr (subst (λ r. HasServed words r input left before after) e h))
+served words Memory pump end input left before after e h =
+    subst (λ r. IsServed words r input left before after) (sym e)
+    (inr (subst (λ r. HasServed words r input left before after) e h))
+served words LoopFault pump end input left before after e h =
+    subst (λ r. IsServed words r input left before after) (sym e)
+    (subst (λ r. HasServed words r input left before after) e h)
 
 -- ---- the ports
 
 -- the ports are opened if listening is no error
-pub has_opened : {T E : Type 0} → (words : ServeWords) (before after : Outside) (r : Result T E) (failed : Bool) → failed ≡ is_err r → failed ≡ false
-    → ((was : List Listen) → before.listens ≡ Some was → OnOk r (after.listens ≡ Some (was ++ (record { kiss = words.kiss; agw = words.agw }) ∷ [])))
+pub has_opened : {T E : Type 0} → (words : ServeWords) (before after : Outside) (r : Result T E) (failed : Bool)
+    → failed ≡ is_err r → failed ≡ false
+    → ((was : List Listen) → before.listens ≡ Some was
+    → OnOk r (after.listens ≡ Some (was ++ (record { kiss = words.kiss; agw = words.agw }) ∷ [])))
     → OnlyListens before after → HasOpened words before after
 has_opened words before after (Ok v) failed e f opens only = record { opened = opens; only = only }
 has_opened words before after (Err x) failed e f opens only = absurd (false≢true (sym f ∙ e))
 
-pub no_ring : (words : ServeWords) (input : InputSide) (before after : Outside) → HasOpened words before after → IsServed words NoMemory input input before after
+pub no_ring : (words : ServeWords) (input : InputSide) (before after : Outside) → HasOpened words before after
+    → IsServed words NoMemory input input before after
 no_ring words input before after h = inl (record { opens = h; unread = refl })
 
-pub all_served : (words : ServeWords) (loop : LoopEnd) (end : ServeEnd) (len : ℕ) (bank : HeldRingBank) (input left : InputSide) (before opened after : Outside)
-    → HasOpened words before opened → IsLooped words loop (answers_in len bank) opened after → IsClosed loop end (answers_in ring_cells bank) input left → len ≡ ring_cells
+pub all_served : (words : ServeWords) (loop : LoopEnd) (end : ServeEnd) (len : ℕ) (receiver : HeldReceiver)
+    (input left : InputSide) (before opened after : Outside)
+    → HasOpened words before opened → IsLooped words loop (answers_in len receiver) opened after
+    → IsClosed loop end (answers_in ring_cells receiver) input left → len ≡ ring_cells
     → IsServed words end input left before after
-all_served words loop end len bank input left before opened after opens looped closed cells =
+all_served words loop end len receiver input left before opened after opens looped closed cells =
     served words loop closed.pump end input left before after closed.ends (record {
       open_ports = opened;
       opens = opens;
       loop = loop;
-      lanes = answers_in len bank;
+      lanes = answers_in len receiver;
       looped = looped;
       pump = closed.pump;
       published = closed.published;
       pumped = closed.pumped;
       faults = closed.faults;
-      stand = subst (λ n. LanesStandIn closed.published (answers_in n bank)) (sym cells) closed.stand;
+      stand = subst (λ n. LanesStandIn closed.published (answers_in n receiver)) (sym cells) closed.stand;
       ends = closed.ends;
     })

@@ -1,18 +1,73 @@
 -- What a run did for the hosts: the account of its turns.
-use Rattle.std.specs.Prelude.{◌≡◌, ◌⊎◌, ℕ, zero, suc, ◌*◌, ◌<◌, Bool, true, false, List, [], ◌∷◌, ◌++◌, length, map, replicate, refl}
+use Rattle.std.specs.Prelude.{
+  ◌≡◌,
+  ◌⊎◌,
+  ℕ,
+  zero,
+  suc,
+  ◌*◌,
+  ◌<◌,
+  Bool,
+  true,
+  false,
+  List,
+  [],
+  ◌∷◌,
+  ◌++◌,
+  length,
+  map,
+  replicate,
+  refl,
+}
 use Rattle.std.proofs.Common.{sym, ◌∙◌, ap, subst, arith, inl, inr, length-append}
 use Rattle.frame_merge.specs.declared.candidate.Candidate.{Candidate}
 use Rattle.slicer_bank.specs.HeardOnRing.{lane_of}
 use Rattle.slicer_bank.specs.RingTurns.{gaps_of}
+use Rattle.ring_receiver.specs.Readers.{readers_wanted}
 use Rattle.tnc_ports.specs.declared.serve_words.ServeWords.{ServeWords}
 use Rattle.tnc_ports.specs.Hosts.{Hosts, new_hosts}
 use Rattle.tnc_ports.specs.HostTurns.{Asked, IsHostPart}
 use Rattle.tnc_ports.specs.ReportedGaps.{gaps_in, AreAllGaps, AreFirstGaps}
-use Rattle.tnc_ports.specs.Sampled.{Live, new_live, with_hosts, gap_line, LanesReadOn, AreHeard, HearsAll, AreTicked, MakesTicks, MakesAll, ServesHosts, IsTurn}
-use Rattle.tnc_ports.specs.SampledRun.{AreTurns, IsRun, IsCutInReading, IsCutInHearing, IsCutInTicking, IsCutTurn, IsCutRun}
+use Rattle.tnc_ports.specs.Sampled.{
+  Live,
+  new_live,
+  with_hosts,
+  gap_line,
+  LanesReadOn,
+  AreHeard,
+  HearsAll,
+  AreTicked,
+  MakesTicks,
+  MakesAll,
+  ServesHosts,
+  IsTurn,
+}
+use Rattle.tnc_ports.specs.SampledRun.{
+  AreTurns,
+  IsRun,
+  IsCutInReading,
+  IsCutInHearing,
+  IsCutInTicking,
+  IsCutTurn,
+  IsCutRun,
+}
 use Rattle.tnc_ports.proofs.KeptLemmas.{kept_part}
-use Rattle.tnc_ports.proofs.LiveAccounts.{IsAccounted, accounted_new, accounted_relined, accounted_by_frames, accounted_part}
-use Rattle.tnc_ports.proofs.LiveGaps.{TellsGaps, gaps_by_frames, gaps_by_part, gaps_closed, read_gaps, first_gaps, cut_gaps}
+use Rattle.tnc_ports.proofs.LiveAccounts.{
+  IsAccounted,
+  accounted_new,
+  accounted_relined,
+  accounted_by_frames,
+  accounted_part,
+}
+use Rattle.tnc_ports.proofs.LiveGaps.{
+  TellsGaps,
+  gaps_by_frames,
+  gaps_by_part,
+  gaps_closed,
+  read_gaps,
+  first_gaps,
+  cut_gaps,
+}
 use Rattle.tnc_ports.proofs.LiveKept.{IsKeptByFrames, kept_heard, kept_ticks}
 use Rattle.tnc_ports.proofs.LiveSteps.{ticked_to}
 use Rattle.tnc_ports.proofs.SentLemmas.{orderly_new}
@@ -26,56 +81,67 @@ abbrev pub HasTicked : Live → Type 0
 HasTicked live = length live.sent ≡ 96 * live.ticks
 
 -- so far, with all gaps
-pub record IsServed (live : Live) : Type 0 where
+pub record IsServed (words : ServeWords) (live : Live) : Type 0 where
   pub accounted : IsAccountedFor live
-  pub gaps : AreAllGaps live
+  pub gaps : AreAllGaps words live
   pub size : HasTicked live
 
 -- if a turn is cut short, the last gaps may be missing
-pub record IsServedInPart (live : Live) : Type 0 where
+pub record IsServedInPart (words : ServeWords) (live : Live) : Type 0 where
   pub accounted : IsAccountedFor live
-  pub gaps : AreFirstGaps live
+  pub gaps : AreFirstGaps words live
   pub size : HasTicked live
 
-in_part : (live : Live) → IsServed live → IsServedInPart live
-in_part live h = record { accounted = h.accounted; gaps = first_gaps live h.gaps; size = h.size }
+in_part : (words : ServeWords) (live : Live) → IsServed words live → IsServedInPart words live
+in_part words live h = record { accounted = h.accounted; gaps = first_gaps words live h.gaps; size = h.size }
 
 no_gaps : (name lane count : ℕ) → [] ≡ gaps_of name (lane_of (replicate count []) lane)
 no_gaps name lane zero = refl
 no_gaps name zero (suc count) = refl
 no_gaps name (suc lane) (suc count) = no_gaps name lane count
 
-served_new : (words : ServeWords) → IsServed (new_live words)
+served_new : (words : ServeWords) → IsServed words (new_live words)
 served_new words = record {
-  accounted = accounted_new (new_hosts words.config words.seed) (orderly_new words.config words.seed) (sound_new words.config words.seed)
+  accounted = accounted_new (new_hosts words.config words.seed) (orderly_new words.config words.seed)
+      (sound_new words.config words.seed)
       (λ id. omega arith) refl refl;
-  gaps = λ lane lt. no_gaps lane lane 8;
+  gaps = λ lane lt. no_gaps lane lane (readers_wanted words.sensitive);
   size = refl;
 }
 
 -- ---- each part of a turn
 
-served_reading : (ended : Bool) (before after : Live) → LanesReadOn ended before after → IsServed before → IsServed after
-served_reading ended before after r h = record {
+served_reading : (words : ServeWords) (ended : Bool) (before after : Live) → LanesReadOn words ended before after
+    → IsServed words before → IsServed words after
+served_reading words ended before after r h = record {
   accounted = subst IsAccountedFor (sym r.is)
-      (accounted_relined before.asked (before.hosts.report ++ map gap_line r.gaps) before.hosts (gaps_closed before.hosts.report r.gaps) h.accounted);
-  gaps = read_gaps ended before after r h.gaps;
+      (accounted_relined before.asked (before.hosts.report ++ map gap_line r.gaps) before.hosts
+      (gaps_closed before.hosts.report r.gaps) h.accounted);
+  gaps = read_gaps words ended before after r h.gaps;
   size = subst HasTicked (sym r.is) h.size;
 }
 
--- the hosts go on, and the lanes stay
-with_gaps : (live next : Live) → next.lanes ≡ live.lanes → AreAllGaps live → ((lane : ℕ) → gaps_in lane next.hosts.report ≡ gaps_in lane live.hosts.report) → AreAllGaps next
-with_gaps live next lanes h same = λ lane lt. same lane ∙ h lane lt ∙ ap (λ ls. gaps_of lane (lane_of ls lane)) (sym lanes)
+-- the hosts go on, and the readers stay
+with_gaps : (words : ServeWords) (live next : Live) → next.lanes ≡ live.lanes → AreAllGaps words live
+    → ((lane : ℕ) → gaps_in lane next.hosts.report ≡ gaps_in lane live.hosts.report) → AreAllGaps words next
+with_gaps words live next lanes h same = λ lane lt. same lane ∙ h lane lt
+    ∙ ap (λ ls. gaps_of lane (lane_of ls lane)) (sym lanes)
 
-served_heard : (monitor : Bool) (items : List Candidate) (read : Live) (hosts : Hosts) → AreHeard monitor items read.hosts hosts → IsServed read → IsServed (with_hosts hosts read)
-served_heard monitor items read hosts heard h = record {
-  accounted = kept_heard (IsAccounted read.asked) (accounted_by_frames read.asked) monitor items read.hosts hosts heard h.accounted;
-  gaps = with_gaps read (with_hosts hosts read) refl h.gaps
-      (kept_heard (TellsGaps (λ lane. gaps_in lane read.hosts.report)) (gaps_by_frames (λ lane. gaps_in lane read.hosts.report)) monitor items read.hosts hosts heard (λ lane. refl));
+served_heard : (words : ServeWords) (items : List Candidate) (read : Live) (hosts : Hosts)
+    → AreHeard words.monitor items read.hosts hosts → IsServed words read
+    → IsServed words (with_hosts hosts read)
+served_heard words items read hosts heard h = record {
+  accounted = kept_heard (IsAccounted read.asked) (accounted_by_frames read.asked)
+      words.monitor items read.hosts hosts heard h.accounted;
+  gaps = with_gaps words read (with_hosts hosts read) refl h.gaps
+      (kept_heard (TellsGaps (λ lane. gaps_in lane read.hosts.report))
+      (gaps_by_frames (λ lane. gaps_in lane read.hosts.report)) words.monitor items read.hosts hosts heard
+      (λ lane. refl));
   size = h.size;
 }
 
-ticked_size : (monitor busy : Bool) (count : ℕ) (before after : Live) → AreTicked monitor busy count before after → HasTicked before → HasTicked after
+ticked_size : (monitor busy : Bool) (count : ℕ) (before after : Live) → AreTicked monitor busy count before after
+    → HasTicked before → HasTicked after
 ticked_size monitor busy zero before after ticked h = subst HasTicked (sym ticked) h
 ticked_size monitor busy (suc count) before after ticked h =
     let one = ticked.1 in
@@ -84,69 +150,96 @@ ticked_size monitor busy (suc count) before after ticked h =
     let size = one.size in
     ticked_size monitor busy count ticked.0 after ticked.2 (omega (arith, h, sent, ticks, size))
 
-served_hearing : (words : ServeWords) (ended : Bool) (before after : Live) → HearsAll words ended before after → IsServed before → IsServed after
+served_hearing : (words : ServeWords) (ended : Bool) (before after : Live) → HearsAll words ended before after
+    → IsServed words before → IsServed words after
 served_hearing words ended before after t h =
-    subst IsServed (sym t.is) (served_heard words.monitor t.items t.read t.hosts t.hears (served_reading ended before t.read t.reads h))
+    subst (IsServed words) (sym t.is) (served_heard words t.items t.read t.hosts t.hears
+    (served_reading words ended before t.read t.reads h))
 
-served_ticks : (monitor busy : Bool) (count : ℕ) (before after : Live) → AreTicked monitor busy count before after → IsServed before → IsServed after
-served_ticks monitor busy count before after ticked h =
-    let to = ticked_to monitor busy count before after ticked in
+served_ticks : (words : ServeWords) (busy : Bool) (count : ℕ) (before after : Live)
+    → AreTicked words.monitor busy count before after → IsServed words before → IsServed words after
+served_ticks words busy count before after ticked h =
+    let to = ticked_to words.monitor busy count before after ticked in
     record {
-      accounted = subst (λ asked. IsAccounted asked after.hosts) (sym to.asked) (kept_ticks (IsAccounted before.asked) (accounted_by_frames before.asked) monitor busy count before after ticked h.accounted);
-      gaps = with_gaps before after to.lanes h.gaps
-          (kept_ticks (TellsGaps (λ lane. gaps_in lane before.hosts.report)) (gaps_by_frames (λ lane. gaps_in lane before.hosts.report)) monitor busy count before after ticked (λ lane. refl));
-      size = ticked_size monitor busy count before after ticked h.size;
+      accounted = subst (λ asked. IsAccounted asked after.hosts) (sym to.asked)
+          (kept_ticks (IsAccounted before.asked) (accounted_by_frames before.asked)
+          words.monitor busy count before after ticked h.accounted);
+      gaps = with_gaps words before after to.lanes h.gaps
+          (kept_ticks (TellsGaps (λ lane. gaps_in lane before.hosts.report))
+          (gaps_by_frames (λ lane. gaps_in lane before.hosts.report)) words.monitor busy count before after ticked
+          (λ lane. refl));
+      size = ticked_size words.monitor busy count before after ticked h.size;
     }
 
-pub served_making : (words : ServeWords) (ended : Bool) (before after : Live) → MakesAll words ended before after → IsServed before → IsServed after
+pub served_making : (words : ServeWords) (ended : Bool) (before after : Live) → MakesAll words ended before after
+    → IsServed words before → IsServed words after
 served_making words ended before after m h =
-    served_ticks words.monitor m.makes.busy m.count m.heard after m.makes.made (served_hearing words ended before m.heard m.hears h)
+    served_ticks words m.makes.busy m.count m.heard after m.makes.made
+    (served_hearing words ended before m.heard m.hears h)
 
-part_gaps : (asked : Asked) (before after : Hosts) → IsHostPart asked before after → (lane : ℕ) → gaps_in lane after.report ≡ gaps_in lane before.report
+part_gaps : (asked : Asked) (before after : Hosts) → IsHostPart asked before after → (lane : ℕ)
+    → gaps_in lane after.report ≡ gaps_in lane before.report
 part_gaps asked before after p =
-    let kept : TellsGaps (λ lane. gaps_in lane before.report) p.offered.hosts = kept_part asked (TellsGaps (λ lane. gaps_in lane before.report)) before after p (gaps_by_part (λ lane. gaps_in lane before.report) asked.events) (λ lane. refl) in
+    let kept : TellsGaps (λ lane. gaps_in lane before.report) p.offered.hosts =
+    kept_part asked (TellsGaps (λ lane. gaps_in lane before.report)) before after p
+    (gaps_by_part (λ lane. gaps_in lane before.report) asked.events) (λ lane. refl) in
     λ lane. ap (λ (h : Hosts). gaps_in lane h.report) p.done ∙ kept lane
 
-served_hosts : (before after : Live) → ServesHosts before after → IsServed before → IsServed after
-served_hosts before after s h = subst IsServed (sym s.is) (record {
+served_hosts : (words : ServeWords) (before after : Live) → ServesHosts before after → IsServed words before
+    → IsServed words after
+served_hosts words before after s h = subst (IsServed words) (sym s.is) (record {
   accounted = accounted_part before.asked s.asked before.hosts s.hosts s.part h.accounted;
-  gaps = with_gaps before (record before { hosts = s.hosts; asked = before.asked ++ s.asked ∷ [] }) refl h.gaps (part_gaps s.asked before.hosts s.hosts s.part);
+  gaps = with_gaps words before (record before { hosts = s.hosts; asked = before.asked ++ s.asked ∷ [] }) refl h.gaps
+      (part_gaps s.asked before.hosts s.hosts s.part);
   size = h.size;
 })
 
-served_turn : (words : ServeWords) (ended : Bool) (before after : Live) → IsTurn words ended before after → IsServed before → IsServed after
-served_turn words ended before after t h = served_hosts t.made after t.serves (served_making words ended before t.made t.makes h)
+served_turn : (words : ServeWords) (ended : Bool) (before after : Live) → IsTurn words ended before after
+    → IsServed words before → IsServed words after
+served_turn words ended before after t h = served_hosts words t.made after t.serves
+    (served_making words ended before t.made t.makes h)
 
-served_turns : (words : ServeWords) (count : ℕ) (before after : Live) → AreTurns words count before after → IsServed before → IsServed after
-served_turns words zero before after turns h = subst IsServed (sym turns) h
-served_turns words (suc count) before after turns h = served_turns words count turns.0 after turns.2 (served_turn words false before turns.0 turns.1 h)
+served_turns : (words : ServeWords) (count : ℕ) (before after : Live) → AreTurns words count before after
+    → IsServed words before → IsServed words after
+served_turns words zero before after turns h = subst (IsServed words) (sym turns) h
+served_turns words (suc count) before after turns h =
+    served_turns words count turns.0 after turns.2 (served_turn words false before turns.0 turns.1 h)
 
 -- ---- a run
 
-pub served_run : (words : ServeWords) (live : Live) → IsRun words live → IsServed live
-served_run words live r = served_turn words true r.last live r.over (served_turns words r.count (new_live words) r.last r.turns (served_new words))
+pub served_run : (words : ServeWords) (live : Live) → IsRun words live → IsServed words live
+served_run words live r = served_turn words true r.last live r.over
+    (served_turns words r.count (new_live words) r.last r.turns (served_new words))
 
 -- after a turn the sockets are told of all that were shut
 pub all_told : (words : ServeWords) (live : Live) → IsRun words live → live.hosts.to_shut ≡ []
 all_told words live r =
     ap (λ (l : Live). l.hosts.to_shut) r.over.serves.is ∙ ap (λ (h : Hosts). h.to_shut) r.over.serves.part.done
 
-cut_turn : (words : ServeWords) (before after : Live) → IsCutTurn words before after → IsServed before → IsServedInPart after
+cut_turn : (words : ServeWords) (before after : Live) → IsCutTurn words before after → IsServed words before
+    → IsServedInPart words after
 cut_turn words before after cut h = elim cut [
   | inl reading ↦
-      subst IsServedInPart (sym reading.is) (record { accounted = h.accounted; gaps = cut_gaps before reading.lanes reading.more h.gaps; size = h.size })
+      subst (IsServedInPart words) (sym reading.is) (record {
+        accounted = h.accounted;
+        gaps = cut_gaps words before reading.lanes reading.more h.gaps;
+        size = h.size;
+      })
   | inr rest ↦ elim rest [
     | inl hearing ↦
-        subst IsServedInPart (sym hearing.is) (in_part (with_hosts hearing.hosts hearing.read)
-        (served_heard words.monitor hearing.items hearing.read hearing.hosts hearing.hears (served_reading hearing.ended before hearing.read hearing.reads h)))
+        subst (IsServedInPart words) (sym hearing.is) (in_part words (with_hosts hearing.hosts hearing.read)
+        (served_heard words hearing.items hearing.read hearing.hosts hearing.hears
+        (served_reading words hearing.ended before hearing.read hearing.reads h)))
     | inr more ↦ elim more [
       | inl ticking ↦
-          in_part after
-          (served_ticks words.monitor ticking.makes.busy ticking.count ticking.heard after ticking.makes.made (served_hearing words ticking.ended before ticking.heard ticking.hears h))
-      | inr serving ↦ in_part after (served_making words serving.0 before after serving.1 h)
+          in_part words after
+          (served_ticks words ticking.makes.busy ticking.count ticking.heard after ticking.makes.made
+          (served_hearing words ticking.ended before ticking.heard ticking.hears h))
+      | inr serving ↦ in_part words after (served_making words serving.0 before after serving.1 h)
     ]
   ]
 ]
 
-pub served_cut : (words : ServeWords) (live : Live) → IsCutRun words live → IsServedInPart live
-served_cut words live r = cut_turn words r.last live r.cut (served_turns words r.count (new_live words) r.last r.turns (served_new words))
+pub served_cut : (words : ServeWords) (live : Live) → IsCutRun words live → IsServedInPart words live
+served_cut words live r = cut_turn words r.last live r.cut
+    (served_turns words r.count (new_live words) r.last r.turns (served_new words))

@@ -1,6 +1,30 @@
 -- Each step of a live station, of what the code keeps and what it writes.
 use Rattle.std.specs.Prelude.{Bool, true, false, Option, Some, Result, Ok, Err, OnErr}
-use Rattle.std.proofs.Common.{◌≡◌, ℕ, zero, suc, ◌+◌, ◌-◌, ◌<◌, ◌≤◌, List, [], ◌∷◌, ◌++◌, length, take, drop, get_or, refl, sym, ap, subst, ◌∙◌, arith, append_assoc}
+use Rattle.std.proofs.Common.{
+  ◌≡◌,
+  ℕ,
+  zero,
+  suc,
+  ◌+◌,
+  ◌-◌,
+  ◌<◌,
+  ◌≤◌,
+  List,
+  [],
+  ◌∷◌,
+  ◌++◌,
+  length,
+  take,
+  drop,
+  get_or,
+  refl,
+  sym,
+  ap,
+  subst,
+  ◌∙◌,
+  arith,
+  append_assoc,
+}
 use Rattle.std.proofs.lemmas.List.{append-nil, append_cancel_left, take_more, take-append-drop, take_all}
 use Rattle.ax25_address.specs.declared.path.Path.{Path}
 use Rattle.ax25_frames.specs.declared.frame.Modulus.{Modulus}
@@ -20,7 +44,14 @@ use Rattle.tnc_ports.specs.HostTurns.{Asked, IsHostPart}
 use Rattle.tnc_ports.specs.ReportText.{report_text, output_octets}
 use Rattle.tnc_ports.specs.Sampled.{Live, AreHeard, IsTicked, AreTicked, IsTurn}
 use Rattle.tnc_ports.specs.declared.report_line.ReportLine.TheVariants.{ReceivedLine, SentLine}
-use Rattle.tnc_ports.specs.SampledFrames.{with_lines, AreReceivedLines, AreSentLines, IsFrameHeard, IsTickMade, IsFrameText}
+use Rattle.tnc_ports.specs.SampledFrames.{
+  with_lines,
+  AreReceivedLines,
+  AreSentLines,
+  IsFrameHeard,
+  IsTickMade,
+  IsFrameText,
+}
 use Rattle.tnc_ports.specs.SampledHeld.{Keeps, HearsFrame, HearsFrames, HearsSome, Ticks, TicksAll, ServesAll}
 use Rattle.tnc_ports.specs.SampledRun.{AreTurns}
 use Rattle.tnc_ports.specs.SampledWrites.{Stream, Puts, ReportsMore, WritesMore}
@@ -30,7 +61,8 @@ use Rattle.tnc_ports.proofs.LiveWrites.{both_puts, reports_more, writes_more, no
 -- ---- lines
 
 -- if all lines are printed, they may be any others
-pub relined : (held : HeldHosts) (hosts : Hosts) (report : List ReportLine) → StandsFor held hosts.report hosts → StandsFor held report (record hosts { report = report })
+pub relined : (held : HeldHosts) (hosts : Hosts) (report : List ReportLine) → StandsFor held hosts.report hosts
+    → StandsFor held report (record hosts { report = report })
 relined held hosts report h =
     let none : held.parts.report.items ≡ [] =
     sym (append_cancel_left hosts.report [] held.parts.report.items (append-nil hosts.report ∙ h.parts.report)) in
@@ -55,18 +87,28 @@ AreTakenLines before after taken = (hosts : Hosts) (printed : List ReportLine) �
 
 -- ---- what a monitor shows
 
-pub received_line : (monitor : Bool) (octets text : List ℕ) (links : Links) (modulus : Modulus) (lines : List ReportLine) (path : Option Path)
-    → monitor ≡ true → IsPathOf octets path → modulus ≡ heard_modulus path links → IsFrameText modulus octets text → lines ≡ ReceivedLine text ∷ []
+pub received_line : (monitor : Bool) (octets text : List ℕ) (links : Links) (modulus : Modulus)
+    (lines : List ReportLine) (path : Option Path)
+    → monitor ≡ true → IsPathOf octets path → modulus ≡ heard_modulus path links → IsFrameText modulus octets text
+    → lines ≡ ReceivedLine text ∷ []
     → AreReceivedLines monitor octets links lines
 received_line monitor octets text links modulus lines path m reading is shown one =
     subst (λ b. AreReceivedLines b octets links lines) (sym m) (
       ReceivedLine text,
-      record { path = path; reading = reading; text = text; is_text = subst (λ x. IsFrameText x octets text) is shown; is = refl },
+      record {
+        path = path;
+        reading = reading;
+        text = text;
+        is_text = subst (λ x. IsFrameText x octets text) is shown;
+        is = refl;
+      },
       one,
     )
 
-pub sent_line : (monitor : Bool) (sent : Option Sent) (one : Sent) (octets text : List ℕ) (links : Links) (modulus : Modulus) (lines : List ReportLine) (path : Option Path)
-    → monitor ≡ true → sent ≡ Some one → octets ≡ one.octets → IsPathOf octets path → modulus ≡ sent_modulus path links → IsFrameText modulus octets text → lines ≡ SentLine text ∷ []
+pub sent_line : (monitor : Bool) (sent : Option Sent) (one : Sent) (octets text : List ℕ) (links : Links)
+    (modulus : Modulus) (lines : List ReportLine) (path : Option Path)
+    → monitor ≡ true → sent ≡ Some one → octets ≡ one.octets → IsPathOf octets path → modulus ≡ sent_modulus path links
+    → IsFrameText modulus octets text → lines ≡ SentLine text ∷ []
     → AreSentLines monitor sent links lines
 sent_line monitor sent one octets text links modulus lines path m some same reading is shown only =
     subst (λ s. AreSentLines monitor s links lines) (sym some)
@@ -76,7 +118,8 @@ sent_line monitor sent one octets text links modulus lines path m some same read
         path = path;
         reading = subst (λ o. IsPathOf o path) same reading;
         text = text;
-        is_text = subst (λ o. IsFrameText (sent_modulus path links) o text) same (subst (λ x. IsFrameText x octets text) is shown);
+        is_text = subst (λ o. IsFrameText (sent_modulus path links) o text) same
+            (subst (λ x. IsFrameText x octets text) is shown);
         is = refl;
       },
       only,
@@ -88,13 +131,15 @@ abbrev pub IsHearing : List ℕ → HeldHosts → HeldHosts → Type 0
 IsHearing octets before after = (hosts : Hosts) (printed : List ReportLine) → StandsFor before printed hosts
     → (next : Hosts) × IsHeardStep octets hosts next × StandsFor after printed next
 
-pub hears_frame : (octets : List ℕ) (before after : Turning) (between : HeldHosts) (hosts : Hosts) (shown taken : List ReportLine) (text : List ℕ) (report report' : Stream)
+pub hears_frame : (octets : List ℕ) (before after : Turning) (between : HeldHosts) (hosts : Hosts)
+    (shown taken : List ReportLine) (text : List ℕ) (report report' : Stream)
     → Keeps before.hosts hosts → AreReceivedLines before.words.monitor octets hosts.station.links shown
     → IsHearing octets before.hosts between → AreTakenLines between after.hosts taken
     → text ≡ report_text (shown ++ taken) → Puts before.failed after.failed text report report'
     → HearsFrame octets before after hosts report report'
 hears_frame octets before after between hosts shown taken text report report' keeps are hear take is put =
-    let given = hear (with_lines shown hosts) (hosts.report ++ shown) (relined before.hosts hosts (hosts.report ++ shown) keeps) in
+    let given = hear (with_lines shown hosts) (hosts.report ++ shown)
+    (relined before.hosts hosts (hosts.report ++ shown) keeps) in
     let took = take given.0 (hosts.report ++ shown) given.2 in
     record {
       next = given.0;
@@ -109,11 +154,13 @@ hears_frame octets before after between hosts shown taken text report report' ke
 
 -- ---- several frames
 
-heard_more : (monitor : Bool) (items : List Candidate) (item : Candidate) (a b c : Hosts) → AreHeard monitor items a b → IsFrameHeard monitor item.octets b c → AreHeard monitor (items ++ item ∷ []) a c
+heard_more : (monitor : Bool) (items : List Candidate) (item : Candidate) (a b c : Hosts) → AreHeard monitor items a b
+    → IsFrameHeard monitor item.octets b c → AreHeard monitor (items ++ item ∷ []) a c
 heard_more monitor [] item a b c h g = (c, subst (λ x. IsFrameHeard monitor item.octets x c) h g, refl)
 heard_more monitor (first ∷ items) item a b c h g = (h.0, h.1, heard_more monitor items item h.0 b c h.2 g)
 
-pub hears_more : (items : List Candidate) (item : Candidate) (octets : List ℕ) (first before after : Turning) (hosts : Hosts) (r r' r'' : Stream)
+pub hears_more : (items : List Candidate) (item : Candidate) (octets : List ℕ) (first before after : Turning)
+    (hosts : Hosts) (r r' r'' : Stream)
     → octets ≡ item.octets → before.words ≡ first.words
     → HearsFrames items first before hosts r r'
     → ((hosts : Hosts) → Keeps before.hosts hosts → HearsFrame octets before after hosts r' r'')
@@ -130,25 +177,36 @@ hears_more items item octets first before after hosts r r' r'' is words h hear =
     }
 
 -- with the next of the frames
-pub hears_next : (items : List Candidate) (k : ℕ) (item : Candidate) (octets : List ℕ) (first before after : Turning) (hosts : Hosts) (r r' r'' : Stream)
+pub hears_next : (items : List Candidate) (k : ℕ) (item : Candidate) (octets : List ℕ) (first before after : Turning)
+    (hosts : Hosts) (r r' r'' : Stream)
     → k < length items → item ≡ get_or items k item → octets ≡ item.octets → before.words ≡ first.words
     → HearsFrames (take k items) first before hosts r r'
     → ((hosts : Hosts) → Keeps before.hosts hosts → HearsFrame octets before after hosts r' r'')
     → HearsFrames (take (k + 1) items) first after hosts r r''
 hears_next items k item octets first before after hosts r r' r'' lt at is words h hear =
-    let e : take (k + 1) items ≡ take k items ++ item ∷ [] = take_more items k item lt ∙ ap (λ x. take k items ++ x ∷ []) (sym at) in
+    let e : take (k + 1) items ≡ take k items ++ item ∷ [] = take_more items k item lt
+    ∙ ap (λ x. take k items ++ x ∷ []) (sym at) in
     subst (λ xs. HearsFrames xs first after hosts r r'') (sym e)
     (hears_more (take k items) item octets first before after hosts r r' r'' is words h hear)
 
-pub hears_none : (turning : Turning) (items : List Candidate) (hosts : Hosts) (r : Stream) → Keeps turning.hosts hosts → HearsFrames (take 0 items) turning turning hosts r r
-hears_none turning items hosts r keeps = record { next = hosts; heard = refl; keeps = keeps; writes = no_report turning.failed hosts r }
+pub hears_none : (turning : Turning) (items : List Candidate) (hosts : Hosts) (r : Stream) → Keeps turning.hosts hosts
+    → HearsFrames (take 0 items) turning turning hosts r r
+hears_none turning items hosts r keeps = record {
+  next = hosts;
+  heard = refl;
+  keeps = keeps;
+  writes = no_report turning.failed hosts r;
+}
 
-pub hears_done : (items : List Candidate) (k : ℕ) (first after : Turning) (hosts : Hosts) (r r' : Stream) → length items ≤ k
+pub hears_done : (items : List Candidate) (k : ℕ) (first after : Turning) (hosts : Hosts) (r r' : Stream)
+    → length items ≤ k
     → HearsFrames (take k items) first after hosts r r' → HearsFrames items first after hosts r r'
-hears_done items k first after hosts r r' past h = subst (λ xs. HearsFrames xs first after hosts r r') (take_all k items past) h
+hears_done items k first after hosts r r' past h = subst (λ xs. HearsFrames xs first after hosts r r')
+    (take_all k items past) h
 
 pub hears_some : (items : List Candidate) (k : ℕ) (first before after : Turning) (hosts : Hosts) (r r' r'' : Stream)
-    → HearsFrames (take k items) first before hosts r r' → r'' ≡ r' → after.failed ≡ before.failed → HearsSome items first after hosts r r''
+    → HearsFrames (take k items) first before hosts r r' → r'' ≡ r' → after.failed ≡ before.failed
+    → HearsSome items first after hosts r r''
 hears_some items k first before after hosts r r' r'' h same failed = record {
   first = take k items;
   others = drop k items;
@@ -159,11 +217,13 @@ hears_some items k first before after hosts r r' r'' h same failed = record {
       (subst (λ f. ReportsMore first.failed f hosts h.next r r') (sym failed) h.writes);
 }
 
-pub hears_same : (items others : List Candidate) (first after : Turning) (hosts : Hosts) (r r' : Stream) → items ≡ others
+pub hears_same : (items others : List Candidate) (first after : Turning) (hosts : Hosts) (r r' : Stream)
+    → items ≡ others
     → HearsFrames items first after hosts r r' → HearsFrames others first after hosts r r'
 hears_same items others first after hosts r r' e h = subst (λ xs. HearsFrames xs first after hosts r r') e h
 
-pub hears_some_same : (items others : List Candidate) (first after : Turning) (hosts : Hosts) (r r' : Stream) → items ≡ others
+pub hears_some_same : (items others : List Candidate) (first after : Turning) (hosts : Hosts) (r r' : Stream)
+    → items ≡ others
     → HearsSome items first after hosts r r' → HearsSome others first after hosts r r'
 hears_some_same items others first after hosts r r' e h = subst (λ xs. HearsSome xs first after hosts r r') e h
 
@@ -173,14 +233,17 @@ abbrev pub IsTicking : Bool → AirTick → HeldHosts → HeldHosts → Type 0
 IsTicking busy air before after = (hosts : Hosts) (printed : List ReportLine) → StandsFor before printed hosts
     → (next : Hosts) × IsTickStep busy air hosts next × StandsFor after printed next
 
-pub ticks_once : (busy : Bool) (air : AirTick) (before after : Turning) (between : HeldHosts) (live : Live) (shown taken : List ReportLine) (mid : Bool) (wrote text : List ℕ) (o o' r r' : Stream)
+pub ticks_once : (busy : Bool) (air : AirTick) (before after : Turning) (between : HeldHosts) (live : Live)
+    (shown taken : List ReportLine) (mid : Bool) (wrote text : List ℕ) (o o' r r' : Stream)
     → Keeps before.hosts live.hosts → IsTicking busy air before.hosts between → AreTakenLines between after.hosts taken
-    → ((hosts : Hosts) (printed : List ReportLine) → StandsFor after.hosts printed hosts → AreSentLines before.words.monitor air.sent hosts.station.links shown)
+    → ((hosts : Hosts) (printed : List ReportLine) → StandsFor after.hosts printed hosts
+    → AreSentLines before.words.monitor air.sent hosts.station.links shown)
     → text ≡ report_text (shown ++ taken) → wrote ≡ output_octets air.samples
     → Puts before.failed mid wrote o o' → Puts mid after.failed text r r'
     → after.ticks ≡ live.ticks + 1 → length air.samples ≡ 96
     → TicksAll busy 1 before after live o o' r r'
-ticks_once busy air before after between live shown taken mid wrote text o o' r r' keeps tick take sent is is_out out rep count size =
+ticks_once busy air before after between live shown taken mid wrote text o o' r r' keeps tick take sent is is_out out
+    rep count size =
     let given = tick live.hosts live.hosts.report keeps in
     let took = take given.0 live.hosts.report given.2 in
     let all = live.hosts.report ++ (shown ++ taken) in
@@ -203,14 +266,16 @@ ticks_once busy air before after between live shown taken mid wrote text o o' r 
         more = refl;
         samples = air.samples;
         sent = refl;
-        puts = both_puts before.failed mid after.failed (output_octets air.samples) (report_text (shown ++ taken)) o o' r r' (subst (λ t. Puts before.failed mid t o o') is_out out)
+        puts = both_puts before.failed mid after.failed (output_octets air.samples) (report_text (shown ++ taken))
+            o o' r r' (subst (λ t. Puts before.failed mid t o o') is_out out)
             (subst (λ t. Puts mid after.failed t r r') is rep);
       };
       keeps = relined after.hosts given.0 all (subst (λ x. StandsFor after.hosts x given.0) (sym took.0) took.1);
       ticks = count;
     }
 
-ticked_more : (monitor busy : Bool) (count : ℕ) (a b c : Live) → AreTicked monitor busy count a b → AreTicked monitor busy 1 b c → AreTicked monitor busy (suc count) a c
+ticked_more : (monitor busy : Bool) (count : ℕ) (a b c : Live) → AreTicked monitor busy count a b
+    → AreTicked monitor busy 1 b c → AreTicked monitor busy (suc count) a c
 ticked_more monitor busy zero a b c h g = (g.0, subst (λ x. IsTicked monitor busy x g.0) h g.1, g.2)
 ticked_more monitor busy (suc count) a b c h g = (h.0, h.1, ticked_more monitor busy count h.0 b c h.2 g)
 
@@ -234,10 +299,12 @@ ticked_to monitor busy (suc count) a b h =
       asked = rest.asked ∙ ap (λ (l : Live). l.asked) h.1.is;
     }
 
-pub ticks_more : (busy : Bool) (count tick : ℕ) (first before after : Turning) (live : Live) (o o' o'' r r' r'' : Stream)
+pub ticks_more : (busy : Bool) (count tick : ℕ) (first before after : Turning) (live : Live)
+    (o o' o'' r r' r'' : Stream)
     → before.words ≡ first.words → tick ≡ live.ticks + count
     → TicksAll busy count first before live o o' r r'
-    → ((live : Live) → Keeps before.hosts live.hosts → tick ≡ live.ticks → TicksAll busy 1 before after live o' o'' r' r'')
+    → ((live : Live) → Keeps before.hosts live.hosts → tick ≡ live.ticks
+    → TicksAll busy 1 before after live o' o'' r' r'')
     → TicksAll busy (suc count) first after live o o'' r r''
 ticks_more busy count tick first before after live o o' o'' r r' r'' words at h step =
     let to = ticked_to first.words.monitor busy count live h.next h.ticked in
@@ -246,12 +313,14 @@ ticks_more busy count tick first before after live o o' o'' r r' r'' words at h 
       next = one.next;
       ticked = ticked_more first.words.monitor busy count live h.next one.next h.ticked
           (subst (λ w. AreTicked w.monitor busy 1 h.next one.next) words one.ticked);
-      writes = writes_more first.failed before.failed after.failed live h.next one.next o o' o'' r r' r'' h.writes one.writes;
+      writes = writes_more first.failed before.failed after.failed live h.next one.next o o' o'' r r' r'' h.writes
+          one.writes;
       keeps = one.keeps;
       ticks = one.ticks;
     }
 
-pub ticks_none : (busy : Bool) (turning : Turning) (live : Live) (o r : Stream) → Keeps turning.hosts live.hosts → turning.ticks ≡ live.ticks
+pub ticks_none : (busy : Bool) (turning : Turning) (live : Live) (o r : Stream) → Keeps turning.hosts live.hosts
+    → turning.ticks ≡ live.ticks
     → TicksAll busy 0 turning turning live o o r r
 ticks_none busy turning live o r keeps at =
     record { next = live; ticked = refl; writes = no_write turning.failed live o r; keeps = keeps; ticks = at }
@@ -261,9 +330,11 @@ pub ticks_done : (busy : Bool) (count due : ℕ) (first after : Turning) (live :
 ticks_done busy count due first after live o o' r r' e h = subst (λ n. TicksAll busy n first after live o o' r r') e h
 
 -- how many ticks are due
-pub count_due : (count tick ticks due : ℕ) → tick ≡ ticks + count → (0 < count → tick ≤ due) → due ≤ tick → count ≡ due - ticks
+pub count_due : (count tick ticks due : ℕ) → tick ≡ ticks + count → (0 < count → tick ≤ due) → due ≤ tick
+    → count ≡ due - ticks
 count_due zero tick ticks due a b t = omega (arith, a, t)
-count_due (suc n) tick ticks due a b t = let positive : 0 < suc n = omega arith in let h = b positive in omega (arith, a, h, t)
+count_due (suc n) tick ticks due a b t = let positive : 0 < suc n = omega arith in let h = b positive in
+    omega (arith, a, h, t)
 
 pub ticks_some : (busy : Bool) (count : ℕ) (first before after : Turning) (live : Live) (o o' o'' r r' r'' : Stream)
     → TicksAll busy count first before live o o' r r' → o'' ≡ o' → r'' ≡ r' → after.failed ≡ before.failed
@@ -283,11 +354,13 @@ on_err (Err e) P p = p
 
 -- ---- hosts
 
-pub serves_all : (before after : Turning) (between : HeldHosts) (hosts : Hosts) (taken : List ReportLine) (text : List ℕ) (report report' : Stream) (told told' : Told)
+pub serves_all : (before after : Turning) (between : HeldHosts) (hosts : Hosts) (taken : List ReportLine)
+    (text : List ℕ) (report report' : Stream) (told told' : Told)
     → Keeps before.hosts hosts
     → ((hosts : Hosts) (printed : List ReportLine) → StandsFor before.hosts printed hosts
     → (asked : Asked) × (next : Hosts) × IsHostPart asked hosts next × StandsFor between printed next
-    × ((id : ℕ) → octets_for id next.sent ≡ octets_for id hosts.sent ++ taken_of id asked.offers) × IsAsked asked told told')
+    × ((id : ℕ) → octets_for id next.sent ≡ octets_for id hosts.sent ++ taken_of id asked.offers)
+    × IsAsked asked told told')
     → AreTakenLines between after.hosts taken
     → text ≡ report_text taken → Puts before.failed after.failed text report report'
     → ServesAll before after hosts report report' told told'
@@ -309,6 +382,7 @@ serves_all before after between hosts taken text report report' told told' keeps
 
 -- ---- turns
 
-pub turns_more : (words : ServeWords) (count : ℕ) (a b c : Live) → AreTurns words count a b → IsTurn words false b c → AreTurns words (suc count) a c
+pub turns_more : (words : ServeWords) (count : ℕ) (a b c : Live) → AreTurns words count a b → IsTurn words false b c
+    → AreTurns words (suc count) a c
 turns_more words zero a b c h g = (c, subst (λ x. IsTurn words false x c) h g, refl)
 turns_more words (suc count) a b c h g = (h.0, h.1, turns_more words count h.0 b c h.2 g)

@@ -1,6 +1,25 @@
 -- What is written step by step is written in one.
 use Rattle.std.specs.Prelude.{Bool, true, false, Option, Some, Result, Ok, Err, is_err, OnOk, OnErr}
-use Rattle.std.proofs.Common.{◌≡◌, ℕ, ◌+◌, ◌≤◌, ◌⊎◌, List, [], ◌∷◌, ◌++◌, refl, sym, ap, subst, inl, inr, ◌∙◌, arith, append_assoc}
+use Rattle.std.proofs.Common.{
+  ◌≡◌,
+  ℕ,
+  ◌+◌,
+  ◌≤◌,
+  ◌⊎◌,
+  List,
+  [],
+  ◌∷◌,
+  ◌++◌,
+  refl,
+  sym,
+  ap,
+  subst,
+  inl,
+  inr,
+  ◌∙◌,
+  arith,
+  append_assoc,
+}
 use Rattle.std.proofs.lemmas.List.{append-nil}
 use Rattle.std.proofs.lemmas.Bool.{false≢true}
 use Rattle.std.proofs.lemmas.Grind.{flat_map-append}
@@ -43,14 +62,17 @@ all_then_part a b x y z h g = record {
 }
 
 -- what a write puts
-pub put_wrote : {T E : Type 0} → (failed now : Bool) (octets : List ℕ) (x y : Stream) (result : Result T E) → failed ≡ false → now ≡ is_err result
+pub put_wrote : {T E : Type 0} → (failed now : Bool) (octets : List ℕ) (x y : Stream) (result : Result T E)
+    → failed ≡ false → now ≡ is_err result
     → ((was : List ℕ) → x.written ≡ Some was → OnOk result (y.written ≡ Some (was ++ octets)))
     → ((was : List ℕ) → x.written ≡ Some was → OnErr result (WrotePart was octets y.written))
     → OnOk result (y.faults ≡ x.faults) → OnErr result (HasRisen x.faults y.faults) → Puts failed now octets x y
 put_wrote failed now octets x y (Ok v) ef en a p n h =
-    subst (λ f. Puts f now octets x y) (sym ef) (subst (λ g. Puts false g octets x y) (sym en) (record { written = a; faultless = n }))
+    subst (λ f. Puts f now octets x y) (sym ef) (subst (λ g. Puts false g octets x y) (sym en)
+    (record { written = a; faultless = n }))
 put_wrote failed now octets x y (Err e) ef en a p n h =
-    subst (λ f. Puts f now octets x y) (sym ef) (subst (λ g. Puts false g octets x y) (sym en) (record { written = p }, h))
+    subst (λ f. Puts f now octets x y) (sym ef) (subst (λ g. Puts false g octets x y) (sym en)
+    (record { written = p }, h))
 
 -- ---- both streams
 
@@ -59,7 +81,8 @@ none_both true o r = (refl, refl, refl)
 none_both false o r = (all_none o, all_none r)
 
 -- first the output, then the report
-pub both_puts : (f m f' : Bool) (out text : List ℕ) (o o' r r' : Stream) → Puts f m out o o' → Puts m f' text r r' → PutsBoth f f' out text o o' r r'
+pub both_puts : (f m f' : Bool) (out text : List ℕ) (o o' r r' : Stream) → Puts f m out o o' → Puts m f' text r r'
+    → PutsBoth f f' out text o o' r r'
 both_puts true true f' out text o o' r r' h g = (g.0, h.1, g.1)
 both_puts true false f' out text o o' r r' h g = absurd (false≢true h.0)
 both_puts false false false out text o o' r r' h g = (h, g)
@@ -84,7 +107,8 @@ risen_later : (a b c : ℕ) → HasRisen a b → b ≤ c → HasRisen a c
 risen_later a b c h le = omega arith
 
 -- one after the other
-pub both_both : (f m f' : Bool) (a b t u : List ℕ) (o o' o'' r r' r'' : Stream) → PutsBoth f m a t o o' r r' → PutsBoth m f' b u o' o'' r' r'' → PutsBoth f f' (a ++ b) (t ++ u) o o'' r r''
+pub both_both : (f m f' : Bool) (a b t u : List ℕ) (o o' o'' r r' r'' : Stream) → PutsBoth f m a t o o' r r'
+    → PutsBoth m f' b u o' o'' r' r'' → PutsBoth f f' (a ++ b) (t ++ u) o o'' r r''
 both_both true true f' a b t u o o' o'' r r' r'' h g = (g.0, g.1 ∙ h.1, g.2 ∙ h.2)
 both_both true false f' a b t u o o' o'' r r' r'' h g = absurd (false≢true h.0)
 both_both false false false a b t u o o' o'' r r' r'' h g = (all_all a b o o' o'' h.0 g.0, all_all t u r r' r'' h.1 g.1)
@@ -118,19 +142,26 @@ reports_none failed hosts r = record { lines = []; more = sym (append-nil hosts.
     none true = (refl, refl)
     none false = all_none r
 
-puts_puts : (f m f' : Bool) (t u : List ℕ) (r r' r'' : Stream) → Puts f m t r r' → Puts m f' u r' r'' → Puts f f' (t ++ u) r r''
+puts_puts : (f m f' : Bool) (t u : List ℕ) (r r' r'' : Stream) → Puts f m t r r' → Puts m f' u r' r''
+    → Puts f f' (t ++ u) r r''
 puts_puts true true f' t u r r' r'' h g = (g.0, g.1 ∙ h.1)
 puts_puts true false f' t u r r' r'' h g = absurd (false≢true h.0)
 puts_puts false false false t u r r' r'' h g = all_all t u r r' r'' h g
-puts_puts false false true t u r r' r'' h g = (all_then_part t u r r' r'' h g.0, subst (λ n. HasRisen n r''.faults) h.faultless g.1)
-puts_puts false true true t u r r' r'' h g =
-    (subst (λ s. PutsPart (t ++ u) r s) (sym g.1) (part_then t u r r' h.0), subst (λ s. HasRisen r.faults s.faults) (sym g.1) h.1)
+puts_puts false false true t u r r' r'' h g = (
+  all_then_part t u r r' r'' h g.0,
+  subst (λ n. HasRisen n r''.faults) h.faultless g.1,
+)
+puts_puts false true true t u r r' r'' h g = (
+  subst (λ s. PutsPart (t ++ u) r s) (sym g.1) (part_then t u r r' h.0),
+  subst (λ s. HasRisen r.faults s.faults) (sym g.1) h.1,
+)
 puts_puts false true false t u r r' r'' h g = absurd (false≢true g.0)
 
 pub no_report : (failed : Bool) (hosts : Hosts) (r : Stream) → ReportsMore failed failed hosts hosts r r
 no_report failed hosts r = reports_none failed hosts r
 
-pub reports_more : (f m f' : Bool) (a b c : Hosts) (r r' r'' : Stream) → ReportsMore f m a b r r' → ReportsMore m f' b c r' r'' → ReportsMore f f' a c r r''
+pub reports_more : (f m f' : Bool) (a b c : Hosts) (r r' r'' : Stream) → ReportsMore f m a b r r'
+    → ReportsMore m f' b c r' r'' → ReportsMore f f' a c r r''
 reports_more f m f' a b c r r' r'' h g = record {
   lines = h.lines ++ g.lines;
   more = g.more ∙ ap (λ xs. xs ++ g.lines) h.more ∙ append_assoc a.report h.lines g.lines;
@@ -147,19 +178,24 @@ no_write failed live o r = record {
   puts = none_both failed o r;
 }
 
-pub writes_more : (f m f' : Bool) (a b c : Live) (o o' o'' r r' r'' : Stream) → WritesMore f m a b o o' r r' → WritesMore m f' b c o' o'' r' r'' → WritesMore f f' a c o o'' r r''
+pub writes_more : (f m f' : Bool) (a b c : Live) (o o' o'' r r' r'' : Stream) → WritesMore f m a b o o' r r'
+    → WritesMore m f' b c o' o'' r' r'' → WritesMore f f' a c o o'' r r''
 writes_more f m f' a b c o o' o'' r r' r'' h g = record {
   lines = h.lines ++ g.lines;
   more = g.more ∙ ap (λ xs. xs ++ g.lines) h.more ∙ append_assoc a.hosts.report h.lines g.lines;
   samples = h.samples ++ g.samples;
   sent = g.sent ∙ ap (λ xs. xs ++ g.samples) h.sent ∙ append_assoc a.sent h.samples g.samples;
-  puts = subst (λ t. PutsBoth f f' t (report_text (h.lines ++ g.lines)) o o'' r r'') (sym (flat_map-append sample_octets h.samples g.samples))
-      (subst (λ t. PutsBoth f f' (output_octets h.samples ++ output_octets g.samples) t o o'' r r'') (sym (report_text-append h.lines g.lines))
-      (both_both f m f' (output_octets h.samples) (output_octets g.samples) (report_text h.lines) (report_text g.lines) o o' o'' r r' r'' h.puts g.puts));
+  puts = subst (λ t. PutsBoth f f' t (report_text (h.lines ++ g.lines)) o o'' r r'')
+      (sym (flat_map-append sample_octets h.samples g.samples))
+      (subst (λ t. PutsBoth f f' (output_octets h.samples ++ output_octets g.samples) t o o'' r r'')
+      (sym (report_text-append h.lines g.lines))
+      (both_both f m f' (output_octets h.samples) (output_octets g.samples) (report_text h.lines) (report_text g.lines)
+      o o' o'' r r' r'' h.puts g.puts));
 }
 
 -- what came to the report alone
-pub writes_report : (f f' : Bool) (a b : Live) (o r r' : Stream) → b.sent ≡ a.sent → ReportsMore f f' a.hosts b.hosts r r' → WritesMore f f' a b o o r r'
+pub writes_report : (f f' : Bool) (a b : Live) (o r r' : Stream) → b.sent ≡ a.sent
+    → ReportsMore f f' a.hosts b.hosts r r' → WritesMore f f' a b o o r r'
 writes_report f f' a b o r r' same h = record {
   lines = h.lines;
   more = h.more;

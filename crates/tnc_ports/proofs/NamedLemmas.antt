@@ -1,8 +1,58 @@
 -- Which connections are named, and which the station knows.
-use Rattle.std.specs.Prelude.{◌≡◌, ◌≢◌, ℕ, zero, suc, ◌+◌, ◌*◌, ◌<◌, ◌≤◌, ◌==◌, ◌&&◌, ◌||◌, ◌⊎◌, Bool, true, false, not, List, [], ◌∷◌, ◌++◌, length, filter, All, Any, cond, refl}
+use Rattle.std.specs.Prelude.{
+  ◌≡◌,
+  ◌≢◌,
+  ℕ,
+  zero,
+  suc,
+  ◌+◌,
+  ◌*◌,
+  ◌<◌,
+  ◌≤◌,
+  ◌==◌,
+  ◌&&◌,
+  ◌||◌,
+  ◌⊎◌,
+  Bool,
+  true,
+  false,
+  not,
+  List,
+  [],
+  ◌∷◌,
+  ◌++◌,
+  length,
+  filter,
+  All,
+  Any,
+  cond,
+  refl,
+}
 use Rattle.std.specs.List.{list_any}
 use Rattle.std.proofs.Common.{sym, ◌∙◌, ap, subst, arith, inl, inr}
-use Rattle.std.proofs.lemmas.Bool.{eqb-true, eq-eqb, ne_eqb, and_parts, and_from, or_cases, or_left, or_right, or_from, or_parts, not_from_true, not_from_false, not-true, not-false, cases_Bool, cond-true, cond-false, false≢true, true≢false, false_from_ne_true, true_from_ne_false}
+use Rattle.std.proofs.lemmas.Bool.{
+  eqb-true,
+  eq-eqb,
+  ne_eqb,
+  and_parts,
+  and_from,
+  or_cases,
+  or_left,
+  or_right,
+  or_from,
+  or_parts,
+  not_from_true,
+  not_from_false,
+  not-true,
+  not-false,
+  cases_Bool,
+  cond-true,
+  cond-false,
+  false≢true,
+  true≢false,
+  false_from_ne_true,
+  true_from_ne_false,
+}
 use Rattle.std.proofs.lemmas.List.Folds.{Any-from_list_any, list_any-from_Any, list_any-append}
 use Rattle.std.proofs.lemmas.Map.Views.{any-filter_same}
 use Rattle.station.specs.declared.host_event.HostEvent.{HostEvent}
@@ -14,12 +64,15 @@ use Rattle.tnc_ports.specs.Hosts.{is_line_of, is_among}
 
 -- ---- one connection is left out
 
-pub lines_without : (id other : ℕ) (lines : List Line) → list_any (is_line_of other) (filter (λ line. not (line.id == id)) lines) ≡ (not (other == id) && list_any (is_line_of other) lines)
+pub lines_without : (id other : ℕ) (lines : List Line)
+    → list_any (is_line_of other) (filter (λ line. not (line.id == id)) lines)
+    ≡ (not (other == id) && list_any (is_line_of other) lines)
 lines_without id other lines =
     any-filter_same (is_line_of other) (λ line. not (line.id == id)) (not (other == id))
     (λ line same. ap (λ n. not (n == id)) (eqb-true line.id other same)) lines
 
-pub ids_without : (id other : ℕ) (ids : List ℕ) → is_among other (filter (λ one. not (one == id)) ids) ≡ (not (other == id) && is_among other ids)
+pub ids_without : (id other : ℕ) (ids : List ℕ) → is_among other (filter (λ one. not (one == id)) ids)
+    ≡ (not (other == id) && is_among other ids)
 ids_without id other ids =
     any-filter_same (λ one. one == other) (λ one. not (one == id)) (not (other == id))
     (λ one same. ap (λ n. not (n == id)) (eqb-true one other same)) ids
@@ -32,35 +85,44 @@ not_itself id b = ap (λ t. not t && b) (itself id)
 
 -- ---- how many are left
 
-length_step : {X : Type 0} (b : Bool) (x : X) (kept xs : List X) → length kept ≤ length xs → length (cond (not b) (x ∷ kept) kept) ≤ length (x ∷ xs)
+length_step : {X : Type 0} (b : Bool) (x : X) (kept xs : List X) → length kept ≤ length xs
+    → length (cond (not b) (x ∷ kept) kept) ≤ length (x ∷ xs)
 length_step true x kept xs less = omega arith
 length_step false x kept xs less = omega arith
 
-pub length_without_lines : (id : ℕ) (lines : List Line) → length (filter (λ line. not (line.id == id)) lines) ≤ length lines
+pub length_without_lines : (id : ℕ) (lines : List Line) → length (filter (λ line. not (line.id == id)) lines)
+    ≤ length lines
 length_without_lines id [] = omega arith
-length_without_lines id (line ∷ lines) = length_step (line.id == id) line (filter (λ one. not (one.id == id)) lines) lines (length_without_lines id lines)
+length_without_lines id (line ∷ lines) = length_step (line.id == id) line (filter (λ one. not (one.id == id)) lines)
+    lines (length_without_lines id lines)
 
 rest_found : (a b : Bool) → a ≡ false → (a || b) ≡ true → b ≡ true
 rest_found true b here found = absurd (true≢false here)
 rest_found false b here found = found
 
-fewer_step : {X : Type 0} (b : Bool) (x : X) (kept xs : List X) → length kept ≤ length xs → (b ≡ false → length kept + 1 ≤ length xs) → length (cond (not b) (x ∷ kept) kept) + 1 ≤ length (x ∷ xs)
+fewer_step : {X : Type 0} (b : Bool) (x : X) (kept xs : List X) → length kept ≤ length xs
+    → (b ≡ false → length kept + 1 ≤ length xs) → length (cond (not b) (x ∷ kept) kept) + 1 ≤ length (x ∷ xs)
 fewer_step true x kept xs less fewer = omega arith
 fewer_step false x kept xs less fewer = let e = fewer refl in omega (arith, e)
 
-pub fewer_lines : (id : ℕ) (lines : List Line) → list_any (is_line_of id) lines ≡ true → length (filter (λ line. not (line.id == id)) lines) + 1 ≤ length lines
+pub fewer_lines : (id : ℕ) (lines : List Line) → list_any (is_line_of id) lines ≡ true
+    → length (filter (λ line. not (line.id == id)) lines) + 1 ≤ length lines
 fewer_lines id [] found = absurd (false≢true found)
 fewer_lines id (line ∷ lines) found =
-    fewer_step (line.id == id) line (filter (λ one. not (one.id == id)) lines) lines (length_without_lines id lines) (λ here. fewer_lines id lines (rest_found (line.id == id) (list_any (is_line_of id) lines) here found))
+    fewer_step (line.id == id) line (filter (λ one. not (one.id == id)) lines) lines (length_without_lines id lines)
+    (λ here. fewer_lines id lines (rest_found (line.id == id) (list_any (is_line_of id) lines) here found))
 
 pub length_without_ids : (id : ℕ) (ids : List ℕ) → length (filter (λ one. not (one == id)) ids) ≤ length ids
 length_without_ids id [] = omega arith
-length_without_ids id (one ∷ ids) = length_step (one == id) one (filter (λ other. not (other == id)) ids) ids (length_without_ids id ids)
+length_without_ids id (one ∷ ids) = length_step (one == id) one (filter (λ other. not (other == id)) ids) ids
+    (length_without_ids id ids)
 
-pub fewer_ids : (id : ℕ) (ids : List ℕ) → is_among id ids ≡ true → length (filter (λ one. not (one == id)) ids) + 1 ≤ length ids
+pub fewer_ids : (id : ℕ) (ids : List ℕ) → is_among id ids ≡ true
+    → length (filter (λ one. not (one == id)) ids) + 1 ≤ length ids
 fewer_ids id [] found = absurd (false≢true found)
 fewer_ids id (one ∷ ids) found =
-    fewer_step (one == id) one (filter (λ other. not (other == id)) ids) ids (length_without_ids id ids) (λ here. fewer_ids id ids (rest_found (one == id) (is_among id ids) here found))
+    fewer_step (one == id) one (filter (λ other. not (other == id)) ids) ids (length_without_ids id ids)
+    (λ here. fewer_ids id ids (rest_found (one == id) (is_among id ids) here found))
 
 -- ---- the ids after an event
 
@@ -69,13 +131,15 @@ among_there id ids found =
     let a : Any (λ other. (other == id) ≡ true) ids = Any-from_list_any (λ other. other == id) ids found in
     (a.0, a.1, a.2, a.3, eqb-true a.1 id a.4)
 
-not_step : (id one : ℕ) (ids : List ℕ) → (one == id) ≡ false → All (λ other. other ≢ id) ids → All (λ other. other ≢ id) (one ∷ ids)
+not_step : (id one : ℕ) (ids : List ℕ) → (one == id) ≡ false → All (λ other. other ≢ id) ids
+    → All (λ other. other ≢ id) (one ∷ ids)
 not_step id one ids differs others zero d within = λ same. false≢true (sym differs ∙ eq-eqb one id same)
 not_step id one ids differs others (suc k) d within = others k d (omega (arith, within))
 
 pub not_among : (id : ℕ) (ids : List ℕ) → is_among id ids ≡ false → All (λ other. other ≢ id) ids
 not_among id [] none = λ k d within. absurd (omega (arith, within))
-not_among id (one ∷ ids) none = not_step id one ids (or_parts (one == id) (is_among id ids) none).0 (not_among id ids (or_parts (one == id) (is_among id ids) none).1)
+not_among id (one ∷ ids) none = not_step id one ids (or_parts (one == id) (is_among id ids) none).0
+    (not_among id ids (or_parts (one == id) (is_among id ids) none).1)
 
 not_either : (b : Bool) → (not b && false) ≡ false
 not_either true = refl
@@ -93,7 +157,8 @@ eqb_turned a b = elim (cases_Bool (a == b)) [
   | inr differs ↦ differs ∙ sym (ne_eqb b a (λ same. true≢false (sym (eq-eqb a b (sym same)) ∙ differs)))
 ]
 
-pub without_ids-among : (closed ids : List ℕ) (id : ℕ) → is_among id (without_ids closed ids) ≡ (not (is_among id closed) && is_among id ids)
+pub without_ids-among : (closed ids : List ℕ) (id : ℕ) → is_among id (without_ids closed ids)
+    ≡ (not (is_among id closed) && is_among id ids)
 without_ids-among [] ids id = refl
 without_ids-among (one ∷ closed) ids id =
     without_ids-among closed (filter (λ other. not (other == one)) ids) id
@@ -109,25 +174,33 @@ among_joined id x ids =
     list_any-append (λ other. other == x) ids (id ∷ []) ∙ ap (λ b. is_among x ids || b) (or_nothing (id == x))
 
 -- a connection that is neither closed nor leaves is still known
-pub still_known : (event : HostEvent) (closed ids : List ℕ) (x : ℕ) → is_among x closed ≡ false → leaves x event ≡ false → (is_among x ids || joins x event) ≡ true → is_among x (ids_behind event closed ids) ≡ true
+pub still_known : (event : HostEvent) (closed ids : List ℕ) (x : ℕ) → is_among x closed ≡ false → leaves x event ≡ false
+    → (is_among x ids || joins x event) ≡ true → is_among x (ids_behind event closed ids) ≡ true
 still_known (Joined id kind) closed ids x not_closed stays was =
     without_ids-among closed (ids ++ id ∷ []) x
-    ∙ and_from (not (is_among x closed)) (is_among x (ids ++ id ∷ [])) (not_from_false (is_among x closed) not_closed) (among_joined id x ids ∙ was)
+    ∙ and_from (not (is_among x closed)) (is_among x (ids ++ id ∷ [])) (not_from_false (is_among x closed) not_closed)
+    (among_joined id x ids ∙ was)
 still_known (Bytes id octets) closed ids x not_closed stays was =
     without_ids-among closed ids x
-    ∙ and_from (not (is_among x closed)) (is_among x ids) (not_from_false (is_among x closed) not_closed) (sym (or_nothing (is_among x ids)) ∙ was)
+    ∙ and_from (not (is_among x closed)) (is_among x ids) (not_from_false (is_among x closed) not_closed)
+    (sym (or_nothing (is_among x ids)) ∙ was)
 still_known (Left id) closed ids x not_closed stays was =
     without_ids-among (id ∷ []) ids x
-    ∙ and_from (not (is_among x (id ∷ []))) (is_among x ids) (not_from_false (is_among x (id ∷ [])) (or_nothing (id == x) ∙ stays)) (sym (or_nothing (is_among x ids)) ∙ was)
+    ∙ and_from (not (is_among x (id ∷ []))) (is_among x ids)
+    (not_from_false (is_among x (id ∷ [])) (or_nothing (id == x) ∙ stays)) (sym (or_nothing (is_among x ids)) ∙ was)
 
 and_second : (a b : Bool) → (a && b) ≡ true → b ≡ true
 and_second a b both = (and_parts a b both).1
 
 -- nobody else is
-pub was_known : (event : HostEvent) (closed ids : List ℕ) (x : ℕ) → is_among x (ids_behind event closed ids) ≡ true → (is_among x ids || joins x event) ≡ true
+pub was_known : (event : HostEvent) (closed ids : List ℕ) (x : ℕ) → is_among x (ids_behind event closed ids) ≡ true
+    → (is_among x ids || joins x event) ≡ true
 was_known (Joined id kind) closed ids x now =
-    sym (among_joined id x ids) ∙ and_second (not (is_among x closed)) (is_among x (ids ++ id ∷ [])) (sym (without_ids-among closed (ids ++ id ∷ []) x) ∙ now)
+    sym (among_joined id x ids) ∙ and_second (not (is_among x closed)) (is_among x (ids ++ id ∷ []))
+    (sym (without_ids-among closed (ids ++ id ∷ []) x) ∙ now)
 was_known (Bytes id octets) closed ids x now =
-    or_nothing (is_among x ids) ∙ and_second (not (is_among x closed)) (is_among x ids) (sym (without_ids-among closed ids x) ∙ now)
+    or_nothing (is_among x ids) ∙ and_second (not (is_among x closed)) (is_among x ids)
+    (sym (without_ids-among closed ids x) ∙ now)
 was_known (Left id) closed ids x now =
-    or_nothing (is_among x ids) ∙ and_second (not (is_among x (id ∷ []))) (is_among x ids) (sym (without_ids-among (id ∷ []) ids x) ∙ now)
+    or_nothing (is_among x ids) ∙ and_second (not (is_among x (id ∷ []))) (is_among x ids)
+    (sym (without_ids-among (id ∷ []) ids x) ∙ now)

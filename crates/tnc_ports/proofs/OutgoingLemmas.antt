@@ -1,6 +1,39 @@
 -- Octets in a ring, cut into pieces.
-use Rattle.std.proofs.Common.{◌≡◌, refl, ℕ, ◌+◌, ◌-◌, ◌<◌, ◌≤◌, List, [], ◌∷◌, ◌++◌, length, take, drop, set, sum, All, suc, sym, ap, ◌∙◌, arith, subst}
-use Rattle.std.proofs.lemmas.List.{take-append-drop, take-append-le, drop-append-le, drop-take, drop-drop, length-drop, length-take-le, length-append}
+use Rattle.std.proofs.Common.{
+  ◌≡◌,
+  refl,
+  ℕ,
+  ◌+◌,
+  ◌-◌,
+  ◌<◌,
+  ◌≤◌,
+  List,
+  [],
+  ◌∷◌,
+  ◌++◌,
+  length,
+  take,
+  drop,
+  set,
+  sum,
+  All,
+  suc,
+  sym,
+  ap,
+  ◌∙◌,
+  arith,
+  subst,
+}
+use Rattle.std.proofs.lemmas.List.{
+  take-append-drop,
+  take-append-le,
+  drop-append-le,
+  drop-take,
+  drop-drop,
+  length-drop,
+  length-take-le,
+  length-append,
+}
 use Rattle.std.proofs.lemmas.List.Sums.{sum_by-cons}
 use Rattle.std.proofs.Math.Seq.{take-length, drop-length, take-append-add}
 use Rattle.tnc_ports.specs.Waiting.{cut, octets_of, with_piece, front_of, after_sending, behind}
@@ -10,7 +43,8 @@ empty_of_no_length [] none = refl
 empty_of_no_length (octet ∷ octets) none = absurd (omega arith)
 
 -- the octets that are left when the front piece is cut off
-pub rest_counted : (len : ℕ) (lens octets : List ℕ) → sum (len ∷ lens) ≡ length octets → sum lens ≡ length (drop len octets)
+pub rest_counted : (len : ℕ) (lens octets : List ℕ) → sum (len ∷ lens) ≡ length octets
+    → sum lens ≡ length (drop len octets)
 rest_counted len lens octets all =
     let parts : len + sum lens ≡ length octets = sym (sum_by-cons (λ n. n) len lens) ∙ all in
     let l : length (drop len octets) ≡ length octets - len = length-drop len octets in
@@ -24,7 +58,8 @@ octets_of-cut (len ∷ lens) octets all =
     ∙ take-append-drop len octets
 
 -- a piece more
-pub cut-append : (lens octets piece : List ℕ) → sum lens ≡ length octets → cut (lens ++ length piece ∷ []) (octets ++ piece) ≡ cut lens octets ++ piece ∷ []
+pub cut-append : (lens octets piece : List ℕ) → sum lens ≡ length octets
+    → cut (lens ++ length piece ∷ []) (octets ++ piece) ≡ cut lens octets ++ piece ∷ []
 cut-append [] [] piece all = ap (λ first. first ∷ []) (take-length piece)
 cut-append [] (octet ∷ octets) piece all = absurd (omega arith)
 cut-append (len ∷ lens) octets piece all =
@@ -44,13 +79,15 @@ front_of-cut [] octets = refl
 front_of-cut (len ∷ lens) octets = refl
 
 -- the whole front piece is sent
-pub cut-all_sent : (lens octets : List ℕ) → sum lens ≡ length octets → cut (drop 1 lens) (drop (front_len lens) octets) ≡ after_sending (front_len lens) (cut lens octets)
+pub cut-all_sent : (lens octets : List ℕ) → sum lens ≡ length octets
+    → cut (drop 1 lens) (drop (front_len lens) octets) ≡ after_sending (front_len lens) (cut lens octets)
 cut-all_sent [] octets all = refl
 cut-all_sent (len ∷ lens) octets all =
     let parts : len + sum lens ≡ length octets = sym (sum_by-cons (λ n. n) len lens) ∙ all in
     let within : len ≤ length octets = omega arith in
     let long : length (take len octets) ≡ len = length-take-le len octets within in
-    let nothing : drop len (take len octets) ≡ [] = subst (λ n. drop n (take len octets) ≡ []) long (drop-length (take len octets)) in
+    let nothing : drop len (take len octets) ≡ [] = subst (λ n. drop n (take len octets) ≡ []) long
+    (drop-length (take len octets)) in
     ap (λ left. behind left (cut lens (drop len octets))) (sym nothing)
 
 -- a part of the front piece is sent
@@ -58,35 +95,43 @@ pub behind_some : (left : List ℕ) (pieces : List (List ℕ)) → 0 < length le
 behind_some [] pieces some = absurd (omega arith)
 behind_some (octet ∷ octets) pieces some = refl
 
-pub cut-part_sent : (count len : ℕ) (lens octets : List ℕ) → count < len → sum (len ∷ lens) ≡ length octets → cut ((len - count) ∷ lens) (drop count octets) ≡ after_sending count (cut (len ∷ lens) octets)
+pub cut-part_sent : (count len : ℕ) (lens octets : List ℕ) → count < len → sum (len ∷ lens) ≡ length octets
+    → cut ((len - count) ∷ lens) (drop count octets) ≡ after_sending count (cut (len ∷ lens) octets)
 cut-part_sent count len lens octets part all =
     let split : count + (len - count) ≡ len = omega arith in
     let parts : len + sum lens ≡ length octets = sym (sum_by-cons (λ n. n) len lens) ∙ all in
     let within : len ≤ length octets = omega arith in
     let left : drop count (take len octets) ≡ take (len - count) (drop count octets) =
-    subst (λ n. drop count (take n octets) ≡ take (len - count) (drop count octets)) split (drop-take count (len - count) octets) in
+    subst (λ n. drop count (take n octets) ≡ take (len - count) (drop count octets)) split
+    (drop-take count (len - count) octets) in
     let others : drop (len - count) (drop count octets) ≡ drop len octets =
     drop-drop (len - count) count octets ∙ ap (λ n. drop n octets) split in
     let long : length (take (len - count) (drop count octets)) ≡ len - count =
-    length-take-le (len - count) (drop count octets) (let l : length (drop count octets) ≡ length octets - count = length-drop count octets in omega arith) in
+    length-take-le (len - count) (drop count octets) (let l : length (drop count octets) ≡ length octets - count =
+    length-drop count octets in omega arith) in
     ap (λ o. take (len - count) (drop count octets) ∷ cut lens o) others
     ∙ sym (behind_some (take (len - count) (drop count octets)) (cut lens (drop len octets)) (omega arith))
     ∙ ap (λ l. behind l (cut lens (drop len octets))) (sym left)
 
-pub whole_of : (lens octets : List ℕ) (pieces : List (List ℕ)) → sum lens ≡ length octets → cut lens octets ≡ pieces → octets_of pieces ≡ octets
+pub whole_of : (lens octets : List ℕ) (pieces : List (List ℕ)) → sum lens ≡ length octets → cut lens octets ≡ pieces
+    → octets_of pieces ≡ octets
 whole_of lens octets pieces all view = sym (ap octets_of view) ∙ octets_of-cut lens octets all
 
-pub front_is : (lens octets : List ℕ) (pieces : List (List ℕ)) → cut lens octets ≡ pieces → front_of pieces ≡ take (front_len lens) octets
+pub front_is : (lens octets : List ℕ) (pieces : List (List ℕ)) → cut lens octets ≡ pieces
+    → front_of pieces ≡ take (front_len lens) octets
 front_is lens octets pieces view = sym (ap front_of view) ∙ front_of-cut lens octets
 
 -- two parts that follow one another, the second cut off
-pub parts_cut : (first second octets : List ℕ) (len : ℕ) → first ++ second ≡ octets → length first ≤ len → first ++ take (len - length first) second ≡ take len octets
+pub parts_cut : (first second octets : List ℕ) (len : ℕ) → first ++ second ≡ octets → length first ≤ len
+    → first ++ take (len - length first) second ≡ take len octets
 parts_cut first second octets len parts more =
     let sum_is : length first + (len - length first) ≡ len = omega arith in
-    sym (take-append-add first second (len - length first)) ∙ ap (λ n. take n (first ++ second)) sum_is ∙ ap (λ o. take len o) parts
+    sym (take-append-add first second (len - length first)) ∙ ap (λ n. take n (first ++ second)) sum_is
+    ∙ ap (λ o. take len o) parts
 
 -- a piece with octets waits as it is
-pub some_piece : (piece : List ℕ) (pieces : List (List ℕ)) → 0 < length piece → with_piece piece pieces ≡ pieces ++ piece ∷ []
+pub some_piece : (piece : List ℕ) (pieces : List (List ℕ)) → 0 < length piece
+    → with_piece piece pieces ≡ pieces ++ piece ∷ []
 some_piece [] pieces some = absurd (omega arith)
 some_piece (octet ∷ octets) pieces some = refl
 
@@ -98,15 +143,18 @@ front_within (len ∷ lens) octets all =
     let parts : len + sum lens ≡ length octets = sym (sum_by-cons (λ n. n) len lens) ∙ all in
     omega arith
 
-pub front_long : (lens octets : List ℕ) (pieces : List (List ℕ)) → sum lens ≡ length octets → cut lens octets ≡ pieces → length (front_of pieces) ≡ front_len lens
+pub front_long : (lens octets : List ℕ) (pieces : List (List ℕ)) → sum lens ≡ length octets → cut lens octets ≡ pieces
+    → length (front_of pieces) ≡ front_len lens
 front_long lens octets pieces all view =
     ap length (front_is lens octets pieces view) ∙ length-take-le (front_len lens) octets (front_within lens octets all)
 
-pub all_sent_sum : (lens octets : List ℕ) → sum lens ≡ length octets → sum (drop 1 lens) ≡ length (drop (front_len lens) octets)
+pub all_sent_sum : (lens octets : List ℕ) → sum lens ≡ length octets
+    → sum (drop 1 lens) ≡ length (drop (front_len lens) octets)
 all_sent_sum [] octets all = all
 all_sent_sum (len ∷ lens) octets all = rest_counted len lens octets all
 
-pub part_sent_sum : (count : ℕ) (lens octets : List ℕ) → count < front_len lens → sum lens ≡ length octets → sum (set lens 0 (front_len lens - count)) ≡ length (drop count octets)
+pub part_sent_sum : (count : ℕ) (lens octets : List ℕ) → count < front_len lens → sum lens ≡ length octets
+    → sum (set lens 0 (front_len lens - count)) ≡ length (drop count octets)
 part_sent_sum count [] octets part all = absurd (omega arith)
 part_sent_sum count (len ∷ lens) octets part all =
     let parts : len + sum lens ≡ length octets = sym (sum_by-cons (λ n. n) len lens) ∙ all in
@@ -114,13 +162,18 @@ part_sent_sum count (len ∷ lens) octets part all =
     let long : length (drop count octets) ≡ length octets - count = length-drop count octets in
     omega arith
 
-pub part_sent : (count : ℕ) (lens octets : List ℕ) (pieces : List (List ℕ)) → count < front_len lens → sum lens ≡ length octets → cut lens octets ≡ pieces → cut (set lens 0 (front_len lens - count)) (drop count octets) ≡ after_sending count pieces
+pub part_sent : (count : ℕ) (lens octets : List ℕ) (pieces : List (List ℕ)) → count < front_len lens
+    → sum lens ≡ length octets → cut lens octets ≡ pieces
+    → cut (set lens 0 (front_len lens - count)) (drop count octets) ≡ after_sending count pieces
 part_sent count [] octets pieces part all view = absurd (omega arith)
-part_sent count (len ∷ lens) octets pieces part all view = cut-part_sent count len lens octets part all ∙ ap (after_sending count) view
+part_sent count (len ∷ lens) octets pieces part all view = cut-part_sent count len lens octets part all
+    ∙ ap (after_sending count) view
 
-pub octets_split : (old new : List (List ℕ)) (octets : List ℕ) (count : ℕ) → octets_of old ≡ octets → octets_of new ≡ drop count octets → octets_of old ≡ take count (octets_of old) ++ octets_of new
+pub octets_split : (old new : List (List ℕ)) (octets : List ℕ) (count : ℕ) → octets_of old ≡ octets
+    → octets_of new ≡ drop count octets → octets_of old ≡ take count (octets_of old) ++ octets_of new
 octets_split old new octets count is_old is_new =
-    is_old ∙ sym (take-append-drop count octets) ∙ ap (λ o. take count o ++ drop count octets) (sym is_old) ∙ ap (λ o. take count (octets_of old) ++ o) (sym is_new)
+    is_old ∙ sym (take-append-drop count octets) ∙ ap (λ o. take count o ++ drop count octets) (sym is_old)
+    ∙ ap (λ o. take count (octets_of old) ++ o) (sym is_new)
 
 pub positive_rest : (lens : List ℕ) → All (λ len. 0 < len) lens → All (λ len. 0 < len) (drop 1 lens)
 positive_rest [] each = each

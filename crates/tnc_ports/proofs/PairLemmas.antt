@@ -3,7 +3,8 @@ use Rattle.std.proofs.Common.{◌≡◌, refl, ℕ, ℤ, List, [], ◌∷◌, �
 use Rattle.wav_file.specs.Samples.{samples, sample_of}
 use Rattle.tnc_ports.specs.OddOctet.{odd_octet, odd_after, ended}
 
-pub samples-snoc : (read : List ℕ) (octet : ℕ) → samples (read ++ octet ∷ []) ≡ samples read ++ ended (odd_octet read) octet
+pub samples-snoc : (read : List ℕ) (octet : ℕ) → samples (read ++ octet ∷ [])
+    ≡ samples read ++ ended (odd_octet read) octet
 samples-snoc [] octet = refl
 samples-snoc (low ∷ []) octet = refl
 samples-snoc (low ∷ high ∷ rest) octet = ap (λ more. sample_of low high ∷ more) (samples-snoc rest octet)

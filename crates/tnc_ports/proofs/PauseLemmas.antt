@@ -1,10 +1,46 @@
 -- The connections that a poll pauses.
-use Rattle.std.specs.Prelude.{◌≡◌, ◌≢◌, ℕ, zero, suc, ◌+◌, ◌<◌, ◌≤◌, ◌==◌, ◌||◌, ◌⊎◌, ◌↔◌, Bool, true, false, List, [], ◌∷◌, ◌++◌, length, take, Contains, IsPermutation, IsTrue, refl}
+use Rattle.std.specs.Prelude.{
+  ◌≡◌,
+  ◌≢◌,
+  ℕ,
+  zero,
+  suc,
+  ◌+◌,
+  ◌<◌,
+  ◌≤◌,
+  ◌==◌,
+  ◌||◌,
+  ◌⊎◌,
+  ◌↔◌,
+  Bool,
+  true,
+  false,
+  List,
+  [],
+  ◌∷◌,
+  ◌++◌,
+  length,
+  take,
+  Contains,
+  IsPermutation,
+  IsTrue,
+  refl,
+}
 use Rattle.std.specs.Cmp.{IsEquivalence}
 use Rattle.std.specs.List.{list_any, dedup}
 use Rattle.std.specs.List.Sorted.{IsStrictlyIncreasing, IsSorted}
 use Rattle.std.proofs.Common.{sym, ◌∙◌, ap, subst, arith, inl, inr, get_or}
-use Rattle.std.proofs.lemmas.Bool.{eqb-true, eq-eqb, ne_eqb, cases_Bool, or_cases, or_left, or_right, false≢true, true≢false}
+use Rattle.std.proofs.lemmas.Bool.{
+  eqb-true,
+  eq-eqb,
+  ne_eqb,
+  cases_Bool,
+  or_cases,
+  or_left,
+  or_right,
+  false≢true,
+  true≢false,
+}
 use Rattle.std.proofs.lemmas.List.{take_more}
 use Rattle.std.proofs.lemmas.List.Elements.{Contains-push, Contains-push_cases, Contains-append_left}
 use Rattle.std.proofs.lemmas.List.Folds.{list_any-append}
@@ -34,52 +70,80 @@ numbers_alike = record {
 contains_too : (xs ys : List ℕ) (x : ℕ) → IsPermutation xs ys → Contains xs x → Contains ys x
 contains_too xs ys x same has =
     Contains-from_any {eq = λ a b. a == b} eqb-true x ys
-    (sym (list_any-IsPermutation (λ y. x == y) xs ys same) ∙ list_any-from_Contains {eq = λ a b. a == b} numbers_alike x xs has)
+    (sym (list_any-IsPermutation (λ y. x == y) xs ys same)
+    ∙ list_any-from_Contains {eq = λ a b. a == b} numbers_alike x xs has)
 
 -- sorted, and each once
-pub are_paused : (waiting sorted ids : List ℕ) (hosts : Hosts) → AreWaiting waiting hosts → IsPermutation waiting sorted → IsPermutation sorted waiting → IsStrictlyIncreasing (dedup (λ a b. a == b) sorted) → ids ≡ dedup (λ a b. a == b) sorted → ArePaused hosts ids
+pub are_paused : (waiting sorted ids : List ℕ) (hosts : Hosts) → AreWaiting waiting hosts → IsPermutation waiting sorted
+    → IsPermutation sorted waiting → IsStrictlyIncreasing (dedup (λ a b. a == b) sorted)
+    → ids ≡ dedup (λ a b. a == b) sorted → ArePaused hosts ids
 are_paused waiting sorted ids hosts are same back rising is = record {
   rising = subst IsStrictlyIncreasing (sym is) rising;
   exactly = λ id. (
-    λ has. (are id).0 (contains_too sorted waiting id back (Contains-from_dedup (λ a b. a == b) sorted id (subst (λ xs. Contains xs id) is has))),
-    λ waits. subst (λ xs. Contains xs id) (sym is) (Contains-dedup_nat sorted id (contains_too waiting sorted id same ((are id).1 waits))),
+    λ has. (are id).0 (contains_too sorted waiting id back
+        (Contains-from_dedup (λ a b. a == b) sorted id (subst (λ xs. Contains xs id) is has))),
+    λ waits. subst (λ xs. Contains xs id) (sym is) (Contains-dedup_nat sorted id
+        (contains_too waiting sorted id same ((are id).1 waits))),
   );
 }
 
 -- ---- line by line
 
 abbrev pub AreWaitingOf : List ℕ → List Line → Hosts → Type 0
-AreWaitingOf ids lines hosts = (id : ℕ) → Contains ids id ↔ (IsTrue (list_any (is_line_of id) lines) × HasToWait id hosts)
+AreWaitingOf ids lines hosts = (id : ℕ) → Contains ids id
+    ↔ (IsTrue (list_any (is_line_of id) lines) × HasToWait id hosts)
 
 or_nothing : (b : Bool) → (b || false) ≡ b
 or_nothing true = refl
 or_nothing false = refl
 
-any_more : (id i : ℕ) (lines : List Line) (d : Line) → i < length lines → list_any (is_line_of id) (take (i + 1) lines) ≡ (list_any (is_line_of id) (take i lines) || ((get_or lines i d).id == id))
+any_more : (id i : ℕ) (lines : List Line) (d : Line) → i < length lines
+    → list_any (is_line_of id) (take (i + 1) lines)
+    ≡ (list_any (is_line_of id) (take i lines) || ((get_or lines i d).id == id))
 any_more id i lines d within =
-    ap (list_any (is_line_of id)) (take_more lines i d within) ∙ list_any-append (is_line_of id) (take i lines) (get_or lines i d ∷ [])
+    ap (list_any (is_line_of id)) (take_more lines i d within)
+    ∙ list_any-append (is_line_of id) (take i lines) (get_or lines i d ∷ [])
     ∙ ap (λ t. list_any (is_line_of id) (take i lines) || t) (or_nothing ((get_or lines i d).id == id))
 
-pub one_waits : (i : ℕ) (ids next : List ℕ) (lines : List Line) (d : Line) (hosts : Hosts) → i < length lines → AreWaitingOf ids (take i lines) hosts → HasToWait (get_or lines i d).id hosts → next ≡ ids ++ (get_or lines i d).id ∷ []
+pub one_waits : (i : ℕ) (ids next : List ℕ) (lines : List Line) (d : Line) (hosts : Hosts) → i < length lines
+    → AreWaitingOf ids (take i lines) hosts → HasToWait (get_or lines i d).id hosts
+    → next ≡ ids ++ (get_or lines i d).id ∷ []
     → AreWaitingOf next (take (i + 1) lines) hosts
 one_waits i ids next lines d hosts within are waits is id =
     let one : ℕ = (get_or lines i d).id in (
       λ has. elim (Contains-push_cases ids one id (subst (λ xs. Contains xs id) is has)) [
-        | inl was ↦ (any_more id i lines d within ∙ or_left (list_any (is_line_of id) (take i lines)) (one == id) ((are id).0 was).0, ((are id).0 was).1)
-        | inr same ↦ (any_more id i lines d within ∙ or_right (list_any (is_line_of id) (take i lines)) (one == id) (eq-eqb one id same), subst (λ n. HasToWait n hosts) same waits)
+        | inl was ↦ (
+          any_more id i lines d within ∙ or_left (list_any (is_line_of id) (take i lines)) (one == id)
+              ((are id).0 was).0,
+          ((are id).0 was).1,
+        )
+        | inr same ↦ (
+          any_more id i lines d within ∙ or_right (list_any (is_line_of id) (take i lines)) (one == id)
+              (eq-eqb one id same),
+          subst (λ n. HasToWait n hosts) same waits,
+        )
       ],
-      λ both. subst (λ xs. Contains xs id) (sym is) (elim (or_cases (list_any (is_line_of id) (take i lines)) (one == id) (sym (any_more id i lines d within) ∙ both.0)) [
-        | inl was ↦ Contains-append_left ids (one ∷ []) id ((are id).1 (was, both.1))
-        | inr same ↦ subst (λ n. Contains (ids ++ one ∷ []) n) (eqb-true one id same) (Contains-push ids one)
-      ]),
+      λ both. subst (λ xs. Contains xs id) (sym is)
+          (elim (or_cases (list_any (is_line_of id) (take i lines)) (one == id) (sym (any_more id i lines d within)
+          ∙ both.0)) [
+            | inl was ↦ Contains-append_left ids (one ∷ []) id ((are id).1 (was, both.1))
+            | inr same ↦ subst (λ n. Contains (ids ++ one ∷ []) n) (eqb-true one id same) (Contains-push ids one)
+          ]),
     )
 
-pub one_goes : (i : ℕ) (ids : List ℕ) (lines : List Line) (d : Line) (hosts : Hosts) → i < length lines → AreWaitingOf ids (take i lines) hosts → ¬ HasToWait (get_or lines i d).id hosts → AreWaitingOf ids (take (i + 1) lines) hosts
+pub one_goes : (i : ℕ) (ids : List ℕ) (lines : List Line) (d : Line) (hosts : Hosts) → i < length lines
+    → AreWaitingOf ids (take i lines) hosts → ¬ HasToWait (get_or lines i d).id hosts
+    → AreWaitingOf ids (take (i + 1) lines) hosts
 one_goes i ids lines d hosts within are goes id =
     let one : ℕ = (get_or lines i d).id in (
-      λ has. (any_more id i lines d within ∙ or_left (list_any (is_line_of id) (take i lines)) (one == id) ((are id).0 has).0, ((are id).0 has).1),
-      λ both. elim (or_cases (list_any (is_line_of id) (take i lines)) (one == id) (sym (any_more id i lines d within) ∙ both.0)) [
-        | inl was ↦ (are id).1 (was, both.1)
-        | inr same ↦ absurd (goes (subst (λ n. HasToWait n hosts) (sym (eqb-true one id same)) both.1))
-      ],
+      λ has. (
+        any_more id i lines d within ∙ or_left (list_any (is_line_of id) (take i lines)) (one == id)
+            ((are id).0 has).0,
+        ((are id).0 has).1,
+      ),
+      λ both. elim (or_cases (list_any (is_line_of id) (take i lines)) (one == id) (sym (any_more id i lines d within)
+          ∙ both.0)) [
+            | inl was ↦ (are id).1 (was, both.1)
+            | inr same ↦ absurd (goes (subst (λ n. HasToWait n hosts) (sym (eqb-true one id same)) both.1))
+          ],
     )

@@ -11,10 +11,12 @@ ok_or_err r x e is_ok_one is_err_one = true≢false (sym (ap is_ok is_ok_one) �
 err_same : {T E : Type 0} (a b : E) → (let r : Result T E = Err a in r ≡ Err b) → a ≡ b
 err_same a b same = cc
 
-pub err_again : {T U E : Type 0} (r : Result T E) (a b : E) → r ≡ Err a → (let same : Result U E = Err a in same ≡ Err b) → r ≡ Err b
+pub err_again : {T U E : Type 0} (r : Result T E) (a b : E) → r ≡ Err a
+    → (let same : Result U E = Err a in same ≡ Err b) → r ≡ Err b
 err_again r a b is same = let e : a ≡ b = err_same a b same in is ∙ ap (λ x. Err x) e
 
-pub err_there : {T U E : Type 0} (r : Result T E) (a b : E) → r ≡ Err a → r ≡ Err b → (let other : Result U E = Err a in other ≡ Err b)
+pub err_there : {T U E : Type 0} (r : Result T E) (a b : E) → r ≡ Err a → r ≡ Err b
+    → (let other : Result U E = Err a in other ≡ Err b)
 err_there r a b is too = let same : a ≡ b = err_same a b (sym is ∙ too) in ap (λ x. Err x) same
 
 abbrev pub is_full : {T : Type 0} → Result T AppendFault → Bool
@@ -22,7 +24,8 @@ is_full (Ok x) = false
 is_full (Err Full) = true
 is_full (Err Memory) = false
 
-pub memory_or_full : {T : Type 0} (r : Result T AppendFault) (fault : AppendFault) → r ≡ Err fault → fault ≡ Memory → r ≡ Err Full → ⊥
+pub memory_or_full : {T : Type 0} (r : Result T AppendFault) (fault : AppendFault) → r ≡ Err fault → fault ≡ Memory
+    → r ≡ Err Full → ⊥
 memory_or_full r fault is memory full = false≢true (sym (ap is_full (is ∙ ap (λ f. Err f) memory)) ∙ ap is_full full)
 
 -- what follows if there is a value

@@ -1,8 +1,48 @@
 -- Which connections are shut: every change of hosts keeps the report's account of it.
-use Rattle.std.specs.Prelude.{⊤, ◌≡◌, ◌≢◌, ℕ, zero, suc, ◌==◌, ◌||◌, Bool, true, false, not, cond, List, [], ◌∷◌, ◌++◌, All, map, filter, Option, Some, None, refl}
+use Rattle.std.specs.Prelude.{
+  ⊤,
+  ◌≡◌,
+  ◌≢◌,
+  ℕ,
+  zero,
+  suc,
+  ◌==◌,
+  ◌||◌,
+  Bool,
+  true,
+  false,
+  not,
+  cond,
+  List,
+  [],
+  ◌∷◌,
+  ◌++◌,
+  All,
+  map,
+  filter,
+  Option,
+  Some,
+  None,
+  refl,
+}
 use Rattle.std.specs.List.{list_any, flat_map}
 use Rattle.std.proofs.Common.{sym, ◌∙◌, ap, subst, arith, inl, inr, append_assoc}
-use Rattle.std.proofs.lemmas.Bool.{eqb-true, eq-eqb, ne_eqb, cases_Bool, cases_eq, cond-true, cond-false, or_parts, or_cases, or_left, or_right, false≢true, true≢false, false_from_ne_true}
+use Rattle.std.proofs.lemmas.Bool.{
+  eqb-true,
+  eq-eqb,
+  ne_eqb,
+  cases_Bool,
+  cases_eq,
+  cond-true,
+  cond-false,
+  or_parts,
+  or_cases,
+  or_left,
+  or_right,
+  false≢true,
+  true≢false,
+  false_from_ne_true,
+}
 use Rattle.std.proofs.lemmas.Grind.{flat_map-append}
 use Rattle.std.proofs.lemmas.List.{append-nil}
 use Rattle.std.proofs.lemmas.List.Folds.{list_any-append}
@@ -14,7 +54,19 @@ use Rattle.tnc_ports.specs.declared.line.Line.{Line}
 use Rattle.tnc_ports.specs.declared.report_line.ReportLine.{ReportLine}
 use Rattle.tnc_ports.specs.declared.report_line.ReportLine.TheVariants.{ClosedLine}
 use Rattle.tnc_ports.specs.declared.untaken.Untaken.{Untaken}
-use Rattle.tnc_ports.specs.Hosts.{Hosts, new_hosts, without, closing, waiting_too, with_waiting, line_of, is_line_of, is_among, is_there, was_there}
+use Rattle.tnc_ports.specs.Hosts.{
+  Hosts,
+  new_hosts,
+  without,
+  closing,
+  waiting_too,
+  with_waiting,
+  line_of,
+  is_line_of,
+  is_among,
+  is_there,
+  was_there,
+}
 use Rattle.tnc_ports.specs.HostTurns.{joining, ids_of_lines}
 use Rattle.tnc_ports.specs.ServedHosts.{NoneTwice, ids_closed, closed_by}
 use Rattle.tnc_ports.specs.Sockets.{is_joining_of}
@@ -30,7 +82,8 @@ among_snoc id [] one = or_none (one == id)
     or_none : (b : Bool) → (b || false) ≡ b
     or_none true = refl
     or_none false = refl
-among_snoc id (first ∷ ids) one = ap (λ b. (first == id) || b) (among_snoc id ids one) ∙ sym (or_assoc (first == id) (is_among id ids) (one == id))
+among_snoc id (first ∷ ids) one = ap (λ b. (first == id) || b) (among_snoc id ids one)
+    ∙ sym (or_assoc (first == id) (is_among id ids) (one == id))
   where
     or_assoc : (a b c : Bool) → ((a || b) || c) ≡ (a || (b || c))
     or_assoc true b c = refl
@@ -40,7 +93,8 @@ pub none_twice-snoc : (ids : List ℕ) (id : ℕ) → NoneTwice ids → is_among
 none_twice-snoc [] id once new = (refl, tt)
 none_twice-snoc (first ∷ ids) id once new =
     let parts = or_parts (first == id) (is_among id ids) new in (
-      among_snoc first ids id ∙ or_both (is_among first ids) (id == first) once.0 (ne_eqb id first (λ same. true≢false (sym (eq-eqb first id (sym same)) ∙ parts.0))),
+      among_snoc first ids id ∙ or_both (is_among first ids) (id == first) once.0
+          (ne_eqb id first (λ same. true≢false (sym (eq-eqb first id (sym same)) ∙ parts.0))),
       none_twice-snoc ids id once.1 parts.1,
     )
   where
@@ -61,15 +115,20 @@ either false b f g e = g e
 abbrev others_of : ℕ → List Line → List Line
 others_of id lines = filter (λ line. not (line.id == id)) lines
 
-there_without : (id other : ℕ) (lines : List Line) → list_any (is_line_of other) (others_of id lines) ≡ true → list_any (is_line_of other) lines ≡ true
+there_without : (id other : ℕ) (lines : List Line) → list_any (is_line_of other) (others_of id lines) ≡ true
+    → list_any (is_line_of other) lines ≡ true
 there_without id other [] there = there
 there_without id other (line ∷ lines) there = elim (cases_Bool (line.id == id)) [
   | inl is ↦
       or_right (line.id == other) (list_any (is_line_of other) lines)
-      (there_without id other lines (sym (ap (λ b. list_any (is_line_of other) (cond (not b) (line ∷ others_of id lines) (others_of id lines))) is) ∙ there))
+      (there_without id other lines
+      (sym (ap (λ b. list_any (is_line_of other) (cond (not b) (line ∷ others_of id lines) (others_of id lines)))
+      is) ∙ there))
   | inr isnt ↦
-      step (line.id == other) (list_any (is_line_of other) (others_of id lines)) (list_any (is_line_of other) lines) (there_without id other lines)
-      (sym (ap (λ b. list_any (is_line_of other) (cond (not b) (line ∷ others_of id lines) (others_of id lines))) isnt) ∙ there)
+      step (line.id == other) (list_any (is_line_of other) (others_of id lines)) (list_any (is_line_of other) lines)
+      (there_without id other lines)
+      (sym (ap (λ b. list_any (is_line_of other) (cond (not b) (line ∷ others_of id lines) (others_of id lines))) isnt)
+      ∙ there)
 ]
   where
     step : (b x y : Bool) → (x ≡ true → y ≡ true) → (b || x) ≡ true → (b || y) ≡ true
@@ -79,21 +138,25 @@ there_without id other (line ∷ lines) there = elim (cases_Bool (line.id == id)
 not_there_without : (id : ℕ) (lines : List Line) → list_any (is_line_of id) (others_of id lines) ≡ false
 not_there_without id [] = refl
 not_there_without id (line ∷ lines) = elim (cases_Bool (line.id == id)) [
-  | inl is ↦ ap (λ b. list_any (is_line_of id) (cond (not b) (line ∷ others_of id lines) (others_of id lines))) is ∙ not_there_without id lines
+  | inl is ↦ ap (λ b. list_any (is_line_of id) (cond (not b) (line ∷ others_of id lines) (others_of id lines))) is
+      ∙ not_there_without id lines
   | inr isnt ↦
       ap (λ b. list_any (is_line_of id) (cond (not b) (line ∷ others_of id lines) (others_of id lines))) isnt
       ∙ ap (λ b. b || list_any (is_line_of id) (others_of id lines)) isnt ∙ not_there_without id lines
 ]
 
-none_twice_without : (id : ℕ) (lines : List Line) → NoneTwice (ids_of_lines lines) → NoneTwice (ids_of_lines (others_of id lines))
+none_twice_without : (id : ℕ) (lines : List Line) → NoneTwice (ids_of_lines lines)
+    → NoneTwice (ids_of_lines (others_of id lines))
 none_twice_without id [] once = tt
 none_twice_without id (line ∷ lines) once = elim (cases_Bool (line.id == id)) [
   | inl is ↦
-      subst (λ b. NoneTwice (ids_of_lines (cond (not b) (line ∷ others_of id lines) (others_of id lines)))) (sym is) (none_twice_without id lines once.1)
+      subst (λ b. NoneTwice (ids_of_lines (cond (not b) (line ∷ others_of id lines) (others_of id lines)))) (sym is)
+      (none_twice_without id lines once.1)
   | inr isnt ↦
       subst (λ b. NoneTwice (ids_of_lines (cond (not b) (line ∷ others_of id lines) (others_of id lines)))) (sym isnt) (
         among_lines line.id (others_of id lines)
-            ∙ contra (list_any (is_line_of line.id) (others_of id lines)) (list_any (is_line_of line.id) lines) (there_without id line.id lines) (sym (among_lines line.id lines) ∙ once.0),
+            ∙ contra (list_any (is_line_of line.id) (others_of id lines)) (list_any (is_line_of line.id) lines)
+            (there_without id line.id lines) (sym (among_lines line.id lines) ∙ once.0),
         none_twice_without id lines once.1,
       )
 ]
@@ -102,14 +165,17 @@ none_twice_without id (line ∷ lines) once = elim (cases_Bool (line.id == id)) 
     contra true y f isnt = absurd (true≢false (sym (f refl) ∙ isnt))
     contra false y f isnt = refl
 
-ids_step : (b : Bool) (line : Line) (waiting : List (List ℕ)) (lines rest : List Line) → ids_of_lines rest ≡ ids_of_lines lines
+ids_step : (b : Bool) (line : Line) (waiting : List (List ℕ)) (lines rest : List Line)
+    → ids_of_lines rest ≡ ids_of_lines lines
     → ids_of_lines (cond b (record line { waiting = waiting } ∷ lines) (line ∷ rest)) ≡ line.id ∷ ids_of_lines lines
 ids_step true line waiting lines rest same = refl
 ids_step false line waiting lines rest same = ap (λ ids. line.id ∷ ids) same
 
-ids_waiting : (id : ℕ) (waiting : List (List ℕ)) (lines : List Line) → ids_of_lines (with_waiting id waiting lines) ≡ ids_of_lines lines
+ids_waiting : (id : ℕ) (waiting : List (List ℕ)) (lines : List Line)
+    → ids_of_lines (with_waiting id waiting lines) ≡ ids_of_lines lines
 ids_waiting id waiting [] = refl
-ids_waiting id waiting (line ∷ lines) = ids_step (line.id == id) line waiting lines (with_waiting id waiting lines) (ids_waiting id waiting lines)
+ids_waiting id waiting (line ∷ lines) = ids_step (line.id == id) line waiting lines (with_waiting id waiting lines)
+    (ids_waiting id waiting lines)
 
 -- ---- the account
 
@@ -131,14 +197,18 @@ sound_without gone id hosts h = record {
   once = h.once;
   gone_came = h.gone_came;
   not_there = λ other closed.
-      false_from_ne_true (is_there other (without id hosts)) (λ there. true≢false (sym (there_without id other hosts.lines there) ∙ h.not_there other closed));
+      false_from_ne_true (is_there other (without id hosts))
+      (λ there. true≢false (sym (there_without id other hosts.lines there) ∙ h.not_there other closed));
 }
 
-sound_shut : (gone : List ℕ) (id : ℕ) (hosts : Hosts) → is_there id hosts ≡ true → IsSound gone hosts → IsSound gone (closing id hosts)
+sound_shut : (gone : List ℕ) (id : ℕ) (hosts : Hosts) → is_there id hosts ≡ true → IsSound gone hosts
+    → IsSound gone (closing id hosts)
 sound_shut gone id hosts there h =
-    let more : ids_closed (hosts.report ++ ClosedLine id ∷ []) ≡ ids_closed hosts.report ++ id ∷ [] = flat_map-append closed_by hosts.report (ClosedLine id ∷ []) in
+    let more : ids_closed (hosts.report ++ ClosedLine id ∷ []) ≡ ids_closed hosts.report ++ id ∷ [] =
+    flat_map-append closed_by hosts.report (ClosedLine id ∷ []) in
     let new : is_among id (ids_closed hosts.report) ≡ false =
-    false_from_ne_true (is_among id (ids_closed hosts.report)) (λ closed. true≢false (sym there ∙ h.not_there id closed)) in
+    false_from_ne_true (is_among id (ids_closed hosts.report))
+    (λ closed. true≢false (sym there ∙ h.not_there id closed)) in
     let o = sound_without gone id hosts h in
     record {
       one_line = o.one_line;
@@ -151,12 +221,14 @@ sound_shut gone id hosts there h =
           (sym (ap (is_among other) more ∙ among_snoc other (ids_closed hosts.report) id) ∙ closed);
       not_there = λ other closed.
           either (is_among other (ids_closed hosts.report)) (id == other) (λ was. o.not_there other was)
-          (λ same. subst (λ n. is_there n (without id hosts) ≡ false) (eqb-true id other same) (not_there_without id hosts.lines))
+          (λ same. subst (λ n. is_there n (without id hosts) ≡ false) (eqb-true id other same)
+          (not_there_without id hosts.lines))
           (sym (ap (is_among other) more ∙ among_snoc other (ids_closed hosts.report) id) ∙ closed);
     }
 
 -- with other pieces for one connection
-sound_waiting : (gone : List ℕ) (id : ℕ) (waiting : List (List ℕ)) (appended sent : List Piece) (hosts : Hosts) → IsSound gone hosts
+sound_waiting : (gone : List ℕ) (id : ℕ) (waiting : List (List ℕ)) (appended sent : List Piece) (hosts : Hosts)
+    → IsSound gone hosts
     → IsSound gone (record hosts { lines = with_waiting id waiting hosts.lines; appended = appended; sent = sent })
 sound_waiting gone id waiting appended sent hosts h = record {
   one_line = subst NoneTwice (sym (ids_waiting id waiting hosts.lines)) h.one_line;
@@ -167,13 +239,17 @@ sound_waiting gone id waiting appended sent hosts h = record {
   not_there = λ other closed. waiting_names id other waiting hosts.lines ∙ h.not_there other closed;
 }
 
-pub sound_joining : (gone : List ℕ) (id : ℕ) (hosts : Hosts) → was_there id hosts ≡ false → IsSound gone hosts → IsSound gone (joining id hosts)
+pub sound_joining : (gone : List ℕ) (id : ℕ) (hosts : Hosts) → was_there id hosts ≡ false → IsSound gone hosts
+    → IsSound gone (joining id hosts)
 sound_joining gone id hosts new h =
     let line : Line = record { id = id; waiting = [] } in
-    let nobody : is_there id hosts ≡ false = false_from_ne_true (is_there id hosts) (λ there. true≢false (sym (h.came id there) ∙ new)) in
-    let ids : (lines : List Line) → ids_of_lines (lines ++ line ∷ []) ≡ ids_of_lines lines ++ id ∷ [] = λ lines. ids_more lines line in
+    let nobody : is_there id hosts ≡ false = false_from_ne_true (is_there id hosts)
+    (λ there. true≢false (sym (h.came id there) ∙ new)) in
+    let ids : (lines : List Line) → ids_of_lines (lines ++ line ∷ []) ≡ ids_of_lines lines ++ id ∷ [] =
+    λ lines. ids_more lines line in
     record {
-      one_line = subst NoneTwice (sym (ids hosts.lines)) (none_twice-snoc (ids_of_lines hosts.lines) id h.one_line (among_lines id hosts.lines ∙ nobody));
+      one_line = subst NoneTwice (sym (ids hosts.lines))
+          (none_twice-snoc (ids_of_lines hosts.lines) id h.one_line (among_lines id hosts.lines ∙ nobody));
       came = λ other there.
           either (is_there other hosts) (id == other)
           (λ was. still other (h.came other was))
@@ -185,7 +261,8 @@ sound_joining gone id hosts new h =
       not_there = λ other closed.
           lines_more other hosts.lines line
           ∙ both_fail (is_there other hosts) (id == other) (h.not_there other closed)
-          (ne_eqb id other (λ same. true≢false (sym (h.gone_came other closed) ∙ subst (λ n. was_there n hosts ≡ false) same new)));
+          (ne_eqb id other (λ same. true≢false (sym (h.gone_came other closed)
+          ∙ subst (λ n. was_there n hosts ≡ false) same new)));
     }
   where
     both_fail : (a b : Bool) → a ≡ false → b ≡ false → (a || b) ≡ false
@@ -196,9 +273,11 @@ sound_joining gone id hosts new h =
     ids_more [] one = refl
     ids_more (first ∷ lines) one = ap (λ ids. first.id ∷ ids) (ids_more lines one)
 
-    lines_more : (other : ℕ) (lines : List Line) (one : Line) → list_any (is_line_of other) (lines ++ one ∷ []) ≡ (list_any (is_line_of other) lines || (one.id == other))
+    lines_more : (other : ℕ) (lines : List Line) (one : Line) → list_any (is_line_of other) (lines ++ one ∷ [])
+        ≡ (list_any (is_line_of other) lines || (one.id == other))
     lines_more other lines one =
-        sym (among_lines other (lines ++ one ∷ [])) ∙ ap (is_among other) (ids_more lines one) ∙ among_snoc other (ids_of_lines lines) one.id
+        sym (among_lines other (lines ++ one ∷ [])) ∙ ap (is_among other) (ids_more lines one)
+        ∙ among_snoc other (ids_of_lines lines) one.id
         ∙ ap (λ b. b || (one.id == other)) (among_lines other lines)
 
     still : (other : ℕ) → was_there other hosts ≡ true → was_there other (joining id hosts) ≡ true
@@ -206,26 +285,50 @@ sound_joining gone id hosts new h =
 
 pub sound_by_step : (gone : List ℕ) → IsKeptByStep (IsSound gone)
 sound_by_step gone = record {
-  stepped = λ hosts station h. record { one_line = h.one_line; came = h.came; named = h.named; once = h.once; gone_came = h.gone_came; not_there = h.not_there };
+  stepped = λ hosts station h. record {
+    one_line = h.one_line;
+    came = h.came;
+    named = h.named;
+    once = h.once;
+    gone_came = h.gone_came;
+    not_there = h.not_there;
+  };
   left = λ id hosts h. sound_without gone id hosts h;
   shut = λ id hosts there h. sound_shut gone id hosts there h;
-  leaving = λ ids hosts h. record { one_line = h.one_line; came = h.came; named = h.named; once = h.once; gone_came = h.gone_came; not_there = h.not_there };
-  piece = λ piece line hosts found fit h. sound_waiting gone line.id (with_piece piece.octets line.waiting) (hosts.appended ++ piece ∷ []) hosts.sent hosts h;
+  leaving = λ ids hosts h. record {
+    one_line = h.one_line;
+    came = h.came;
+    named = h.named;
+    once = h.once;
+    gone_came = h.gone_came;
+    not_there = h.not_there;
+  };
+  piece = λ piece line hosts found fit h. sound_waiting gone line.id (with_piece piece.octets line.waiting)
+      (hosts.appended ++ piece ∷ []) hosts.sent hosts h;
 }
 
 pub sound_by_part : (gone : List ℕ) (events : List HostEvent) → IsKeptByPart events (IsSound gone)
 sound_by_part gone events = record {
   taking = record {
     steps = sound_by_step gone;
-    untaken = λ untaken hosts h. record { one_line = h.one_line; came = h.came; named = h.named; once = h.once; gone_came = h.gone_came; not_there = h.not_there };
+    untaken = λ untaken hosts h. record {
+      one_line = h.one_line;
+      came = h.came;
+      named = h.named;
+      once = h.once;
+      gone_came = h.gone_came;
+      not_there = h.not_there;
+    };
     joined = λ id hosts joins new h. sound_joining gone id hosts new h;
   };
   sent = λ line count hosts found h.
-      sound_waiting gone line.id (after_sending count line.waiting) hosts.appended (sending line count hosts).sent hosts h;
+      sound_waiting gone line.id (after_sending count line.waiting) hosts.appended
+      (sending line count hosts).sent hosts h;
 }
 
 -- with other lines that call the same connections closed
-pub sound_relined : (gone : List ℕ) (report : List ReportLine) (hosts : Hosts) → ids_closed report ≡ ids_closed hosts.report → IsSound gone hosts → IsSound gone (record hosts { report = report })
+pub sound_relined : (gone : List ℕ) (report : List ReportLine) (hosts : Hosts)
+    → ids_closed report ≡ ids_closed hosts.report → IsSound gone hosts → IsSound gone (record hosts { report = report })
 sound_relined gone report hosts same h = record {
   one_line = h.one_line;
   came = h.came;
@@ -236,7 +339,8 @@ sound_relined gone report hosts same h = record {
 }
 
 -- once the sockets are told who is to be shut
-pub sound_told : (gone : List ℕ) (hosts : Hosts) → IsSound gone hosts → IsSound (gone ++ hosts.to_shut) (record hosts { to_shut = [] })
+pub sound_told : (gone : List ℕ) (hosts : Hosts) → IsSound gone hosts
+    → IsSound (gone ++ hosts.to_shut) (record hosts { to_shut = [] })
 sound_told gone hosts h = record {
   one_line = h.one_line;
   came = h.came;

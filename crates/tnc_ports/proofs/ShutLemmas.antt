@@ -1,5 +1,28 @@
 -- Connections that go.
-use Rattle.std.specs.Prelude.{◌≡◌, ◌≢◌, ℕ, ◌+◌, ◌*◌, ◌<◌, ◌≤◌, ◌==◌, ◌&&◌, ◌||◌, Bool, true, false, not, List, [], ◌∷◌, ◌++◌, length, filter, All, refl}
+use Rattle.std.specs.Prelude.{
+  ◌≡◌,
+  ◌≢◌,
+  ℕ,
+  ◌+◌,
+  ◌*◌,
+  ◌<◌,
+  ◌≤◌,
+  ◌==◌,
+  ◌&&◌,
+  ◌||◌,
+  Bool,
+  true,
+  false,
+  not,
+  List,
+  [],
+  ◌∷◌,
+  ◌++◌,
+  length,
+  filter,
+  All,
+  refl,
+}
 use Rattle.std.specs.List.{list_any}
 use Rattle.std.proofs.Common.{sym, ◌∙◌, ap, subst, arith, inl, inr, append_assoc}
 use Rattle.std.proofs.lemmas.Bool.{eqb-true, and_parts, or_cases, or_left, or_right}
@@ -15,7 +38,14 @@ use Rattle.tnc_ports.specs.declared.untaken.Untaken.{Untaken}
 use Rattle.tnc_ports.specs.HeldHosts.{AreParts, Moves, Narrows, is_named, weight}
 use Rattle.tnc_ports.specs.Hosts.{Hosts, without, reporting, is_line_of, is_among}
 use Rattle.tnc_ports.specs.IdRanges.{is_within}
-use Rattle.tnc_ports.proofs.NamedLemmas.{itself, not_itself, fewer_lines, fewer_ids, length_without_lines, length_without_ids}
+use Rattle.tnc_ports.proofs.NamedLemmas.{
+  itself,
+  not_itself,
+  fewer_lines,
+  fewer_ids,
+  length_without_lines,
+  length_without_ids,
+}
 use Rattle.tnc_ports.proofs.MoveLemmas.{named_without}
 
 -- nothing of a connection is left
@@ -46,8 +76,10 @@ pub forget_narrows : (id : ℕ) (a b : HostParts) → Forgets id a b → Narrows
 forget_narrows id a b f = record {
   station = f.station;
   came = f.came;
-  named = λ other named. (and_parts (not (other == id)) (is_named other a) (sym (named_without a b id other f.lines f.leaving) ∙ named)).1;
-  pieces = λ pieces. subst (All (λ one. length one.octets ≤ 4096)) (sym f.untaken) (All-filter (λ (one : Untaken). not (one.id == id)) (λ one. length one.octets ≤ 4096) a.untaken.items pieces);
+  named = λ other named. (and_parts (not (other == id)) (is_named other a)
+      (sym (named_without a b id other f.lines f.leaving) ∙ named)).1;
+  pieces = λ pieces. subst (All (λ one. length one.octets ≤ 4096)) (sym f.untaken)
+      (All-filter (λ (one : Untaken). not (one.id == id)) (λ one. length one.octets ≤ 4096) a.untaken.items pieces);
   lighter =
       let lines = length_without_lines id a.lines.items in
       let leaving = length_without_ids id a.leaving.items in
@@ -56,7 +88,8 @@ forget_narrows id a b f = record {
       omega arith;
 }
 
-pub forget_one_less : (id : ℕ) (a b : HostParts) → Forgets id a b → is_among id a.leaving.items ≡ true → weight b + 1 ≤ weight a
+pub forget_one_less : (id : ℕ) (a b : HostParts) → Forgets id a b → is_among id a.leaving.items ≡ true
+    → weight b + 1 ≤ weight a
 forget_one_less id a b f found =
     let lines = length_without_lines id a.lines.items in
     let leaving = fewer_ids id a.leaving.items found in
@@ -64,7 +97,8 @@ forget_one_less id a b f found =
     let is_leaving = ap length f.leaving in
     omega arith
 
-pub forget_two_less : (id : ℕ) (a b : HostParts) → Forgets id a b → list_any (is_line_of id) a.lines.items ≡ true → weight b + 2 ≤ weight a
+pub forget_two_less : (id : ℕ) (a b : HostParts) → Forgets id a b → list_any (is_line_of id) a.lines.items ≡ true
+    → weight b + 2 ≤ weight a
 forget_two_less id a b f found =
     let lines = fewer_lines id a.lines.items found in
     let leaving = length_without_ids id a.leaving.items in
@@ -82,7 +116,8 @@ pub record Shuts (id : ℕ) (a b : HostParts) : Type 0 where
   pub to_shut : b.to_shut.items ≡ a.to_shut.items ++ id ∷ []
   pub leaving : b.leaving ≡ a.leaving
 
-pub shut_moves : (id : ℕ) (a b : HostParts) → Shuts id a b → Moves (λ hosts. reporting (ClosedLine id) (record hosts { to_shut = hosts.to_shut ++ id ∷ [] })) a b
+pub shut_moves : (id : ℕ) (a b : HostParts) → Shuts id a b
+    → Moves (λ hosts. reporting (ClosedLine id) (record hosts { to_shut = hosts.to_shut ++ id ∷ [] })) a b
 shut_moves id a b s = λ printed hosts h. record {
   station = subst (λ t. StandsForStation t hosts.station) (sym s.station) h.station;
   came = λ other. ap (λ ranges. is_within other ranges.items) s.came ∙ h.came other;
@@ -102,7 +137,8 @@ shut_names id a b s other =
 
 pub shut_weighs : (id : ℕ) (a b : HostParts) → Shuts id a b → weight b ≡ weight a
 shut_weighs id a b s =
-    ap (λ lines. 2 * length lines.items + length b.leaving.items) s.lines ∙ ap (λ ids. 2 * length a.lines.items + length ids.items) s.leaving
+    ap (λ lines. 2 * length lines.items + length b.leaving.items) s.lines
+    ∙ ap (λ ids. 2 * length a.lines.items + length ids.items) s.leaving
 
 pub shut_narrows : (id : ℕ) (a b : HostParts) → Shuts id a b → Narrows a b
 shut_narrows id a b s = record {
@@ -123,7 +159,8 @@ pub record Leaves (id : ℕ) (a b : HostParts) : Type 0 where
   pub to_shut : b.to_shut ≡ a.to_shut
   pub leaving : b.leaving.items ≡ a.leaving.items ++ id ∷ []
 
-pub leave_moves : (id : ℕ) (a b : HostParts) → Leaves id a b → Moves (λ hosts. record hosts { leaving = hosts.leaving ++ id ∷ [] }) a b
+pub leave_moves : (id : ℕ) (a b : HostParts) → Leaves id a b
+    → Moves (λ hosts. record hosts { leaving = hosts.leaving ++ id ∷ [] }) a b
 leave_moves id a b s = λ printed hosts h. record {
   station = subst (λ t. StandsForStation t hosts.station) (sym s.station) h.station;
   came = λ other. ap (λ ranges. is_within other ranges.items) s.came ∙ h.came other;
@@ -138,27 +175,32 @@ or_assoc : (a b c : Bool) → (a || (b || c)) ≡ ((a || b) || c)
 or_assoc true b c = refl
 or_assoc false b c = refl
 
-leave_names : (id other : ℕ) (a b : HostParts) → Leaves id a b → is_named other b ≡ (is_named other a || ((id == other) || false))
+leave_names : (id other : ℕ) (a b : HostParts) → Leaves id a b
+    → is_named other b ≡ (is_named other a || ((id == other) || false))
 leave_names id other a b s =
     ap (λ lines. list_any (is_line_of other) lines.items || is_among other b.leaving.items) s.lines
     ∙ ap (λ ids. list_any (is_line_of other) a.lines.items || is_among other ids) s.leaving
-    ∙ ap (λ t. list_any (is_line_of other) a.lines.items || t) (list_any-append (λ one. one == other) a.leaving.items (id ∷ []))
+    ∙ ap (λ t. list_any (is_line_of other) a.lines.items || t)
+    (list_any-append (λ one. one == other) a.leaving.items (id ∷ []))
     ∙ or_assoc (list_any (is_line_of other) a.lines.items) (is_among other a.leaving.items) ((id == other) || false)
 
 or_nothing : (b : Bool) → (b || false) ≡ b
 or_nothing true = refl
 or_nothing false = refl
 
-pub cut_narrows : (id : ℕ) (a b c : HostParts) → Narrows a b → weight b + 2 ≤ weight a → list_any (is_line_of id) a.lines.items ≡ true → Leaves id b c → Narrows a c
+pub cut_narrows : (id : ℕ) (a b c : HostParts) → Narrows a b → weight b + 2 ≤ weight a
+    → list_any (is_line_of id) a.lines.items ≡ true → Leaves id b c → Narrows a c
 cut_narrows id a b c narrows less there s = record {
   station = s.station ∙ narrows.station;
   came = s.came ∙ narrows.came;
   named = λ other named.
       elim (or_cases (is_named other b) ((id == other) || false) (sym (leave_names id other b c s) ∙ named)) [
         | inl was ↦ narrows.named other was
-        | inr same ↦ subst (λ n. is_named n a ≡ true) (eqb-true id other (sym (or_nothing (id == other)) ∙ same)) (or_left (list_any (is_line_of id) a.lines.items) (is_among id a.leaving.items) there)
+        | inr same ↦ subst (λ n. is_named n a ≡ true) (eqb-true id other (sym (or_nothing (id == other)) ∙ same))
+            (or_left (list_any (is_line_of id) a.lines.items) (is_among id a.leaving.items) there)
       ];
-  pieces = λ pieces. subst (λ all. All (λ one. length one.octets ≤ 4096) all.items) (sym s.untaken) (narrows.pieces pieces);
+  pieces = λ pieces. subst (λ all. All (λ one. length one.octets ≤ 4096) all.items) (sym s.untaken)
+      (narrows.pieces pieces);
   lighter =
       let lines = ap (λ lines. 2 * length lines.items) s.lines in
       let leaving = ap length s.leaving ∙ length-append b.leaving.items (id ∷ []) in

@@ -1,5 +1,26 @@
 -- What the sockets tell of a turn in which they were asked so.
-use Rattle.std.specs.Prelude.{◌≡◌, ◌≢◌, ℕ, ◌≤◌, ◌+◌, ◌==◌, Bool, true, false, if◌then◌else◌, List, [], ◌∷◌, ◌++◌, All, length, map, take, Option, Some}
+use Rattle.std.specs.Prelude.{
+  ◌≡◌,
+  ◌≢◌,
+  ℕ,
+  ◌≤◌,
+  ◌+◌,
+  ◌==◌,
+  Bool,
+  true,
+  false,
+  if◌then◌else◌,
+  List,
+  [],
+  ◌∷◌,
+  ◌++◌,
+  All,
+  length,
+  map,
+  take,
+  Option,
+  Some,
+}
 use Rattle.std.specs.List.{flat_map}
 use Rattle.tnc_base.specs.Faults.{HasRisen}
 use Rattle.tnc_ports.specs.Hosts.{is_among}
@@ -29,7 +50,8 @@ pub record Told : Type 0 where
   pub is_shut : ℕ → Option Bool
   pub faults : ℕ
 
-abbrev pub told_by : {P : Type 0} → (P → Option (List Poll)) → (P → Option (List Send)) → (P → ℕ → Option (List ℕ)) → (P → ℕ → Option Bool) → (P → ℕ) → P → Told
+abbrev pub told_by : {P : Type 0} → (P → Option (List Poll)) → (P → Option (List Send)) → (P → ℕ → Option (List ℕ))
+    → (P → ℕ → Option Bool) → (P → ℕ) → P → Told
 told_by polls sends sent is_shut faults ports = record {
   polls = polls ports;
   sends = sends ports;
@@ -51,7 +73,8 @@ pub record AreOffered (offers : List Offer) (failing : List ℕ) (before after :
   pub polled : after.polls ≡ before.polls
   pub sends : (polls : List Poll) (sends : List Send) → before.polls ≡ Some polls → before.sends ≡ Some sends
       → after.sends ≡ Some (sends ++ map (send_of (length polls)) offers)
-  pub sent : (id : ℕ) (octets : List ℕ) → before.sent id ≡ Some octets → after.sent id ≡ Some (octets ++ taken_of id offers)
+  pub sent : (id : ℕ) (octets : List ℕ) → before.sent id ≡ Some octets
+      → after.sent id ≡ Some (octets ++ taken_of id offers)
   pub shut : (id : ℕ) → after.is_shut id ≡ before.is_shut id
   pub later : before.faults ≤ after.faults
   pub failed : failing ≢ [] → HasRisen before.faults after.faults

@@ -2,7 +2,17 @@
 use Rattle.std.specs.Prelude.{◌≡◌, ℕ, ◌⊎◌, List, [], ◌++◌}
 use Rattle.tnc_ports.specs.AskedPorts.{Told, AreUnasked, IsAsked}
 use Rattle.tnc_ports.specs.Hosts.{Hosts}
-use Rattle.tnc_ports.specs.HostTurns.{Asked, Offering, ArePaused, AreTried, InOrder, IsTaken, IsOffered, IsHostPart, ids_of_lines}
+use Rattle.tnc_ports.specs.HostTurns.{
+  Asked,
+  Offering,
+  ArePaused,
+  AreTried,
+  InOrder,
+  IsTaken,
+  IsOffered,
+  IsHostPart,
+  ids_of_lines,
+}
 
 -- It is cut short when it takes what waits and what came: the ports were polled, and nothing is sent.
 pub record IsCutInTaking (asked : Asked) (before reached : Hosts) : Type 0 where
@@ -25,12 +35,15 @@ pub record IsCutInSending (asked : Asked) (before reached : Hosts) : Type 0 wher
   pub told : (offered.offers ≡ asked.offers) × (offered.failed ≡ asked.failed) × (asked.shut ≡ [])
   pub reaches : reached ≡ offered.hosts
 
--- It is cut short when it takes or when it sends; or all of it is done, and there is no memory to print its lines. These
+-- It is cut short when it takes or when it sends; or all of it is done, and there is no memory to print its lines.
+-- These
 -- are the hosts that its sends leave.
 abbrev pub IsCutPart : Asked → Hosts → Hosts → Type 0
-IsCutPart asked before reached = IsCutInTaking asked before reached ⊎ IsCutInSending asked before reached ⊎ IsHostPart asked before reached
+IsCutPart asked before reached = IsCutInTaking asked before reached ⊎ IsCutInSending asked before reached
+    ⊎ IsHostPart asked before reached
 
 -- The ports were asked nothing, or what a part asks that is cut short.
 abbrev pub HasCutPart : Hosts → Told → Told → Type 0
 HasCutPart before told told' =
-    AreUnasked told told' ⊎ ((asked : Asked) × (reached : Hosts) × IsCutPart asked before reached × IsAsked asked told told')
+    AreUnasked told told' ⊎ ((asked : Asked) × (reached : Hosts) × IsCutPart asked before reached
+    × IsAsked asked told told')

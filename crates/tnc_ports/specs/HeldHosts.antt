@@ -1,5 +1,24 @@
 -- What the code keeps of the hosts of a live station. Public clauses cite `StandsFor` and the field `spent` alone.
-use Rattle.std.specs.Prelude.{◌≡◌, ℕ, ◌≤◌, ◌+◌, ◌*◌, ◌==◌, ◌||◌, ◌↔◌, Contains, IsTrue, Bool, true, false, List, [], ◌++◌, length, All}
+use Rattle.std.specs.Prelude.{
+  ◌≡◌,
+  ℕ,
+  ◌≤◌,
+  ◌+◌,
+  ◌*◌,
+  ◌==◌,
+  ◌||◌,
+  ◌↔◌,
+  Contains,
+  IsTrue,
+  Bool,
+  true,
+  false,
+  List,
+  [],
+  ◌++◌,
+  length,
+  All,
+}
 use Rattle.std.specs.List.{list_any}
 use Rattle.station.specs.declared.host_event.HostEvent.{HostEvent}
 use Rattle.station.specs.declared.host_event.HostEvent.TheVariants.{Joined, Bytes, Left}
@@ -74,7 +93,8 @@ pub record Narrows (before after : HostParts) : Type 0 where
   pub station : after.station ≡ before.station
   pub came : after.came ≡ before.came
   pub named : (id : ℕ) → is_named id after ≡ true → is_named id before ≡ true
-  pub pieces : All (λ one. length one.octets ≤ 4096) before.untaken.items → All (λ one. length one.octets ≤ 4096) after.untaken.items
+  pub pieces : All (λ one. length one.octets ≤ 4096) before.untaken.items
+      → All (λ one. length one.octets ≤ 4096) after.untaken.items
   pub lighter : weight after ≤ weight before
 
 -- the connection joins with this event

@@ -1,6 +1,30 @@
--- What a turn does for hosts: it polls once, takes what waits and then what came, and offers each connection the rest of
+-- What a turn does for hosts: it polls once, takes what waits and then what came, and offers each connection the rest
+-- of
 -- one piece.
-use Rattle.std.specs.Prelude.{◌≡◌, ◌≢◌, ℕ, ◌≤◌, ◌⊎◌, ◌↔◌, ◌==◌, Bool, true, false, List, [], ◌∷◌, ◌++◌, length, map, take, Contains, IsTrue, Option, Some, None}
+use Rattle.std.specs.Prelude.{
+  ◌≡◌,
+  ◌≢◌,
+  ℕ,
+  ◌≤◌,
+  ◌⊎◌,
+  ◌↔◌,
+  ◌==◌,
+  Bool,
+  true,
+  false,
+  List,
+  [],
+  ◌∷◌,
+  ◌++◌,
+  length,
+  map,
+  take,
+  Contains,
+  IsTrue,
+  Option,
+  Some,
+  None,
+}
 use Rattle.std.specs.List.{list_any}
 use Rattle.std.specs.List.Sorted.{IsStrictlyIncreasing}
 use Rattle.station.specs.declared.host_event.HostEvent.{HostEvent}
@@ -10,7 +34,17 @@ use Rattle.station.specs.Host.{IsHostTurn}
 use Rattle.station.specs.State.{Accepts}
 use Rattle.tnc_ports.specs.declared.line.Line.{Line}
 use Rattle.tnc_ports.specs.declared.untaken.Untaken.{Untaken}
-use Rattle.tnc_ports.specs.Hosts.{Hosts, is_there, was_there, without, cutting, with_waiting, line_of, IsStep, AllHaveLeft}
+use Rattle.tnc_ports.specs.Hosts.{
+  Hosts,
+  is_there,
+  was_there,
+  without,
+  cutting,
+  with_waiting,
+  line_of,
+  IsStep,
+  AllHaveLeft,
+}
 use Rattle.tnc_ports.specs.Waiting.{front_of, after_sending}
 
 -- one step for each of these, in order
@@ -103,7 +137,8 @@ pub record Takes (line : Line) (before after : Offering) : Type 0 where
     lines = with_waiting line.id (after_sending took line.waiting) before.hosts.lines;
     sent = before.hosts.sent ++ (record { id = line.id; octets = take took (front_of line.waiting) }) ∷ [];
   }
-  pub offered : after.offers ≡ before.offers ++ (record { id = line.id; octets = front_of line.waiting; took = took }) ∷ []
+  pub offered : after.offers ≡ before.offers ++ (record { id = line.id; octets = front_of line.waiting; took = took })
+      ∷ []
   pub no_failure : after.failed ≡ before.failed
 
 -- its send fails, and it is shut

@@ -1,12 +1,40 @@
--- A live station, turn by turn. In a turn each lane reads on in the ring, the frames that end in what every lane has read
--- are heard, the ticks that every lane has passed are made, and the hosts are served. The samples are the only clock: a
--- tick of 10 ms is 96 of them.
-use Rattle.std.specs.Prelude.{◌≡◌, ℕ, zero, suc, ℤ, ◌+◌, ◌*◌, ◌<◌, ◌≤◌, ◌↔◌, Bool, true, false, IsTrue, List, [], ◌∷◌, ◌++◌, length, map, All, replicate}
+-- A live station, turn by turn. In a turn each reader reads on in the ring, the frames that are settled by what all
+-- have
+-- read are heard, the ticks that every reader has passed are made, and the hosts are served. The samples are the only
+-- clock: a tick of 10 ms is 96 of them. Each of the eight lanes has a reader of its own, and the added lanes share a
+-- ninth.
+use Rattle.std.specs.Prelude.{
+  ◌≡◌,
+  ℕ,
+  zero,
+  suc,
+  ℤ,
+  ◌+◌,
+  ◌*◌,
+  ◌<◌,
+  ◌≤◌,
+  ◌↔◌,
+  Bool,
+  true,
+  false,
+  IsTrue,
+  List,
+  [],
+  ◌∷◌,
+  ◌++◌,
+  length,
+  map,
+  All,
+  replicate,
+}
 use Rattle.sample_ring.specs.declared.got.Got.{Got}
 use Rattle.frame_merge.specs.declared.candidate.Candidate.{Candidate}
 use Rattle.slicer_bank.specs.declared.advance.LaneGap.{LaneGap}
-use Rattle.slicer_bank.specs.HeardOnRing.{AreMergedOnRing, AreRestOnRing, IsBusyOnRing, least_position}
-use Rattle.slicer_bank.specs.RingTurns.{IsTurn as IsReadingTurn, MeetsEnd}
+use Rattle.slicer_bank.specs.HeardOnRing.{IsBusyOnRing, least_position}
+use Rattle.slicer_bank.specs.RingTurns.{MeetsEnd}
+use Rattle.ring_receiver.specs.HeardByAll.{AreDueBy}
+use Rattle.ring_receiver.specs.Readers.{readers_wanted}
+use Rattle.ring_receiver.specs.Turns.{IsTurnOf}
 use Rattle.channel_access.specs.declared.air_tick.AirTick.{AirTick}
 use Rattle.tnc_ports.specs.declared.report_line.ReportLine.{ReportLine}
 use Rattle.tnc_ports.specs.declared.report_line.ReportLine.TheVariants.{GapLine}
@@ -18,7 +46,7 @@ use Rattle.tnc_ports.specs.SampledFrames.{with_lines, IsFrameHeard, IsTickMade}
 -- all that a live station has done so far
 pub record Live : Type 0 where
   pub hosts : Hosts
-  -- what each lane was answered
+  -- what each reader was answered: those of lanes 0 to 7, and then that of the added lanes if they listen
   pub lanes : List (List Got)
   -- how many ticks were made, and their samples
   pub ticks : ℕ
@@ -30,7 +58,7 @@ pub record Live : Type 0 where
 abbrev pub new_live : ServeWords → Live
 new_live words = record {
   hosts = new_hosts words.config words.seed;
-  lanes = replicate 8 [];
+  lanes = replicate (readers_wanted words.sensitive) [];
   ticks = 0;
   sent = [];
   asked = [];
@@ -39,28 +67,24 @@ new_live words = record {
 abbrev pub with_hosts : Hosts → Live → Live
 with_hosts hosts live = record live { hosts = hosts }
 
--- every lane has met the end of the ring
+-- every reader has met the end of the ring
 abbrev pub HaveEnded : List (List Got) → Type 0
 HaveEnded lanes = All MeetsEnd lanes
 
--- ---- the lanes read on
+-- ---- the readers read on
 
 abbrev pub gap_line : LaneGap → ReportLine
 gap_line gap = GapLine gap.lane gap.from gap.to
 
--- Each lane reads as far as a lane reads in a turn, and each gap is reported, lanes rising.
-pub record LanesReadOn (ended : Bool) (before after : Live) : Type 0 where
+-- Each reader reads as far as one reads in a turn, and each gap is reported, lanes rising. A gap of the ninth reader is
+-- that of the added lanes, and is reported as one of lane 8.
+pub record LanesReadOn (words : ServeWords) (ended : Bool) (before after : Live) : Type 0 where
   pub lanes : List (List Got)
   pub gaps : List LaneGap
-  pub turn : IsReadingTurn before.lanes lanes gaps ended
+  pub turn : IsTurnOf (readers_wanted words.sensitive) before.lanes lanes gaps ended
   pub is : after ≡ record before { lanes = lanes; hosts = with_lines (map gap_line gaps) before.hosts }
 
 -- ---- frames are heard
-
--- A frame is due once every lane has passed its end, and every frame that is left once the ring has ended.
-abbrev pub AreDue : Bool → List (List Got) → List (List Got) → List Candidate → Type 0
-AreDue false before now items = AreMergedOnRing (least_position before) (least_position now) now items
-AreDue true before now items = AreRestOnRing (least_position before) now items
 
 -- these are heard, in order
 abbrev pub AreHeard : Bool → List Candidate → Hosts → Hosts → Type 0
@@ -68,12 +92,13 @@ AreHeard monitor [] before after = after ≡ before
 AreHeard monitor (item ∷ items) before after =
     (between : Hosts) × IsFrameHeard monitor item.octets before between × AreHeard monitor items between after
 
--- the lanes read on, and all frames that are due are heard
+-- The readers read on, and all frames that are due are heard: those that all lanes have settled since, and every frame
+-- that is left once the ring has ended.
 pub record HearsAll (words : ServeWords) (ended : Bool) (before after : Live) : Type 0 where
   pub read : Live
-  pub reads : LanesReadOn ended before read
+  pub reads : LanesReadOn words ended before read
   pub items : List Candidate
-  pub due : AreDue ended before.lanes read.lanes items
+  pub due : AreDueBy words.sensitive ended before.lanes read.lanes items
   pub hosts : Hosts
   pub hears : AreHeard words.monitor items read.hosts hosts
   pub is : after ≡ with_hosts hosts read
@@ -98,14 +123,15 @@ AreTicked monitor busy zero before after = after ≡ before
 AreTicked monitor busy (suc count) before after =
     (between : Live) × IsTicked monitor busy before between × AreTicked monitor busy count between after
 
--- So many ticks are made, each passed by every lane. The channel is busy in them exactly where some lane holds a carrier.
+-- So many ticks are made, each passed by every reader. The channel is busy in them exactly where one of the eight lanes
+-- holds a carrier, since the added lanes do not ask for one.
 pub record MakesTicks (words : ServeWords) (count : ℕ) (before after : Live) : Type 0 where
   pub busy : Bool
   pub carrier : IsTrue busy ↔ IsBusyOnRing words.dcd before.lanes
   pub made : AreTicked words.monitor busy count before after
   pub passed : tick_samples * after.ticks ≤ least_position after.lanes
 
--- all that is due is heard, and every tick is made that every lane has passed
+-- all that is due is heard, and every tick is made that every reader has passed
 pub record MakesAll (words : ServeWords) (ended : Bool) (before after : Live) : Type 0 where
   pub heard : Live
   pub hears : HearsAll words ended before heard
@@ -124,7 +150,7 @@ pub record ServesHosts (before after : Live) : Type 0 where
 
 -- ---- a turn
 
--- A turn in which every lane meets the end of the ring, or not.
+-- A turn in which every reader meets the end of the ring, or not.
 pub record IsTurn (words : ServeWords) (ended : Bool) (before after : Live) : Type 0 where
   pub made : Live
   pub makes : MakesAll words ended before made

@@ -1,17 +1,27 @@
 -- What the code keeps of a live station between two turns, and what each part of a turn makes of it. No public clause
 -- cites this.
-use Rattle.std.specs.Prelude.{◌≡◌, ℕ, ◌+◌, ◌*◌, ◌<◌, ◌≤◌, ◌⊎◌, Bool, true, false, List, [], ◌∷◌, ◌++◌, length, slice_index}
+use Rattle.std.specs.Prelude.{◌≡◌, ℕ, ◌+◌, ◌*◌, ◌<◌, ◌≤◌, ◌⊎◌, Bool, true, false, List, [], ◌∷◌, ◌++◌}
 use Rattle.frame_merge.specs.declared.candidate.Candidate.{Candidate}
 use Rattle.slicer_bank.specs.HeardOnRing.{least_position}
-use Rattle.slicer_bank.specs.RingLanes.{HeldRingBank, answers_in, positions_in, Listens}
-use Rattle.slicer_bank.specs.RingMerging.{HasMerged}
+use Rattle.ring_receiver.specs.HeardByAll.{AreDueBy}
+use Rattle.ring_receiver.specs.HeldReceiver.{HeldReceiver, answers_in, Hears, EightListen}
 use Rattle.tnc_ports.specs.declared.serve_words.ServeWords.{ServeWords}
 use Rattle.tnc_ports.specs.declared.turning.Turning.{Turning}
 use Rattle.tnc_ports.specs.AskedPorts.{Told, AreUnasked, IsAsked}
 use Rattle.tnc_ports.specs.HeldHosts.{HeldHosts, StandsFor}
 use Rattle.tnc_ports.specs.Hosts.{Hosts}
 use Rattle.tnc_ports.specs.HostTurns.{Asked, IsHostPart}
-use Rattle.tnc_ports.specs.Sampled.{Live, new_live, HaveEnded, LanesReadOn, AreDue, AreHeard, IsTicked, AreTicked, IsTurn, tick_samples}
+use Rattle.tnc_ports.specs.Sampled.{
+  Live,
+  new_live,
+  HaveEnded,
+  LanesReadOn,
+  AreHeard,
+  IsTicked,
+  AreTicked,
+  IsTurn,
+  tick_samples,
+}
 use Rattle.tnc_ports.specs.SampledFrames.{IsFrameHeard}
 use Rattle.tnc_ports.specs.SampledRun.{IsCutTurn, IsCutInServing, AreTurns, Outside, PortsTell, PortsStay}
 use Rattle.tnc_ports.specs.SampledWrites.{Stream, Puts, ReportsMore, WritesMore}
@@ -20,36 +30,33 @@ use Rattle.tnc_ports.specs.SampledWrites.{Stream, Puts, ReportsMore, WritesMore}
 abbrev pub Keeps : HeldHosts → Hosts → Type 0
 Keeps held hosts = StandsFor held hosts.report hosts
 
--- no mark of a lane is past its position
-abbrev pub AreMarkedWithin : List ℕ → List ℕ → Type 0
-AreMarkedWithin marks positions = (lane : ℕ) → lane < 8 → slice_index marks lane ≤ slice_index positions lane
-
-pub record StandsForLive (turning : Turning) (len : ℕ) (bank : HeldRingBank) (live : Live) : Type 0 where
+pub record StandsForLive (turning : Turning) (len : ℕ) (receiver : HeldReceiver) (live : Live) : Type 0 where
   pub hosts : Keeps turning.hosts live.hosts
   pub ticks : turning.ticks ≡ live.ticks
-  pub merged : HasMerged turning.merger live.lanes
-  pub marks : AreMarkedWithin turning.merger.marks (positions_in bank)
-  pub eight : length live.lanes ≡ 8
-  pub lanes : answers_in len bank ≡ live.lanes
-  pub listens : Listens len bank
+  pub sensitive : receiver.sensitive ≡ turning.words.sensitive
+  pub lanes : answers_in len receiver ≡ live.lanes
+  pub hears : Hears len receiver
   pub passed : tick_samples * live.ticks ≤ least_position live.lanes
 
 -- ---- frames
 
-pub record HearsFrame (octets : List ℕ) (before after : Turning) (hosts : Hosts) (report report' : Stream) : Type 0 where
+pub record HearsFrame (octets : List ℕ) (before after : Turning) (hosts : Hosts) (report report' : Stream)
+    : Type 0 where
   pub next : Hosts
   pub heard : IsFrameHeard before.words.monitor octets hosts next
   pub keeps : Keeps after.hosts next
   pub writes : ReportsMore before.failed after.failed hosts next report report'
 
-pub record HearsFrames (items : List Candidate) (before after : Turning) (hosts : Hosts) (report report' : Stream) : Type 0 where
+pub record HearsFrames (items : List Candidate) (before after : Turning) (hosts : Hosts) (report report' : Stream)
+    : Type 0 where
   pub next : Hosts
   pub heard : AreHeard before.words.monitor items hosts next
   pub keeps : Keeps after.hosts next
   pub writes : ReportsMore before.failed after.failed hosts next report report'
 
 -- the first of them, whatever is kept
-pub record HearsSome (items : List Candidate) (before after : Turning) (hosts : Hosts) (report report' : Stream) : Type 0 where
+pub record HearsSome (items : List Candidate) (before after : Turning) (hosts : Hosts) (report report' : Stream)
+    : Type 0 where
   pub first : List Candidate
   pub others : List Candidate
   pub parts : items ≡ first ++ others
@@ -60,12 +67,14 @@ pub record HearsSome (items : List Candidate) (before after : Turning) (hosts : 
 -- ---- ticks
 
 -- so many ticks, whatever is kept
-pub record Ticks (busy : Bool) (count : ℕ) (before after : Turning) (live : Live) (output output' report report' : Stream) : Type 0 where
+pub record Ticks (busy : Bool) (count : ℕ) (before after : Turning) (live : Live)
+    (output output' report report' : Stream) : Type 0 where
   pub next : Live
   pub ticked : AreTicked before.words.monitor busy count live next
   pub writes : WritesMore before.failed after.failed live next output output' report report'
 
-pub record TicksAll (busy : Bool) (count : ℕ) (before after : Turning) (live : Live) (output output' report report' : Stream) : Type 0 where
+pub record TicksAll (busy : Bool) (count : ℕ) (before after : Turning) (live : Live)
+    (output output' report report' : Stream) : Type 0 where
   pub next : Live
   pub ticked : AreTicked before.words.monitor busy count live next
   pub writes : WritesMore before.failed after.failed live next output output' report report'
@@ -74,7 +83,8 @@ pub record TicksAll (busy : Bool) (count : ℕ) (before after : Turning) (live :
 
 -- ---- hosts
 
-pub record ServesAll (before after : Turning) (hosts : Hosts) (report report' : Stream) (told told' : Told) : Type 0 where
+pub record ServesAll (before after : Turning) (hosts : Hosts) (report report' : Stream) (told told' : Told)
+    : Type 0 where
   pub asked : Asked
   pub next : Hosts
   pub part : IsHostPart asked hosts next
@@ -84,42 +94,45 @@ pub record ServesAll (before after : Turning) (hosts : Hosts) (report report' : 
 
 -- ---- reading
 
-pub record Reads (ended : Bool) (least : ℕ) (items : List Candidate) (before after : Turning) (len : ℕ) (bank : HeldRingBank) (live : Live) (report report' : Stream) : Type 0 where
+pub record Reads (ended : Bool) (least : ℕ) (items : List Candidate) (before after : Turning) (len : ℕ)
+    (receiver : HeldReceiver) (live : Live) (report report' : Stream) : Type 0 where
   pub read : Live
-  pub reads : LanesReadOn ended live read
-  pub due : AreDue ended live.lanes read.lanes items
-  pub lanes : answers_in len bank ≡ read.lanes
-  pub listens : Listens len bank
+  pub reads : LanesReadOn before.words ended live read
+  pub due : AreDueBy before.words.sensitive ended live.lanes read.lanes items
+  pub lanes : answers_in len receiver ≡ read.lanes
+  pub sensitive : receiver.sensitive ≡ before.words.sensitive
+  pub listens : EightListen len receiver
   pub is_least : least ≡ least_position read.lanes
   pub forward : least_position live.lanes ≤ least
-  pub merged : ended ≡ false → HasMerged after.merger read.lanes
-  pub marks : ended ≡ false → AreMarkedWithin after.merger.marks (positions_in bank)
-  pub eight : length read.lanes ≡ 8
+  pub hears : ended ≡ false → Hears len receiver
   pub ends : ended ≡ true → HaveEnded read.lanes
   pub keeps : Keeps after.hosts read.hosts
   pub writes : ReportsMore before.failed after.failed live.hosts read.hosts report report'
 
 -- ---- a turn
 
-pub record Turns (ended : Bool) (before after : Turning) (len : ℕ) (bank : HeldRingBank) (live : Live) (output output' report report' : Stream) (told told' : Told) : Type 0 where
+pub record Turns (ended : Bool) (before after : Turning) (len : ℕ) (receiver : HeldReceiver) (live : Live)
+    (output output' report report' : Stream) (told told' : Told) : Type 0 where
   pub next : Live
   pub turn : IsTurn before.words ended live next
-  pub goes_on : ended ≡ false → StandsForLive after len bank next
+  pub goes_on : ended ≡ false → StandsForLive after len receiver next
   pub over : ended ≡ true → HaveEnded next.lanes
-  pub lanes : answers_in len bank ≡ next.lanes
+  pub lanes : answers_in len receiver ≡ next.lanes
   pub writes : WritesMore before.failed after.failed live next output output' report report'
   pub asked : Asked
   pub asks : next.asked ≡ live.asked ++ asked ∷ []
   pub tells : IsAsked asked told told'
 
-pub record IsCutOff (before after : Turning) (len : ℕ) (bank : HeldRingBank) (live : Live) (output output' report report' : Stream) (told told' : Told) : Type 0 where
+pub record IsCutOff (before after : Turning) (len : ℕ) (receiver : HeldReceiver) (live : Live)
+    (output output' report report' : Stream) (told told' : Told) : Type 0 where
   pub next : Live
   pub cut : IsCutTurn before.words live next
-  pub lanes : answers_in len bank ≡ next.lanes
+  pub lanes : answers_in len receiver ≡ next.lanes
   pub writes : WritesMore before.failed after.failed live next output output' report report'
   pub asks : next.asked ≡ live.asked
   pub tells : AreUnasked told told'
-      ⊎ ((asked : Asked) × (reached : Hosts) × IsCutInServing before.words live next asked reached × IsAsked asked told told')
+      ⊎ ((asked : Asked) × (reached : Hosts) × IsCutInServing before.words live next asked reached
+      × IsAsked asked told told')
 
 -- ---- all turns so far
 
@@ -133,12 +146,14 @@ abbrev pub told_in : Outside → Told
 told_in o = record { polls = o.polls; sends = o.sends; sent = o.sent_to; is_shut = o.is_shut; faults = o.port_faults }
 
 -- so many turns were made since the first
-pub record Runs (words : ServeWords) (turning : Turning) (len : ℕ) (bank : HeldRingBank) (start now : Outside) : Type 0 where
+pub record Runs (words : ServeWords) (turning : Turning) (len : ℕ) (receiver : HeldReceiver) (start now : Outside)
+    : Type 0 where
   pub count : ℕ
   pub live : Live
   pub turns : AreTurns words count (new_live words) live
-  pub stands : StandsForLive turning len bank live
+  pub stands : StandsForLive turning len receiver live
   pub words_kept : turning.words ≡ words
-  pub writes : WritesMore false turning.failed (new_live words) live (output_of start) (output_of now) (report_of start) (report_of now)
+  pub writes : WritesMore false turning.failed (new_live words) live (output_of start) (output_of now) (report_of start)
+      (report_of now)
   pub told : PortsTell live.asked start now
   pub stay : PortsStay start now

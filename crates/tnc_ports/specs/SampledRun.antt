@@ -1,10 +1,37 @@
--- A run of a live station: turns until every lane has met the end of the ring, or until memory is wanted; and what the
+-- A run of a live station: turns until every reader has met the end of the ring, or until memory is wanted; and what
+-- the
 -- outside then tells of it.
-use Rattle.std.specs.Prelude.{◌≡◌, ◌≢◌, ℕ, zero, suc, ◌+◌, ◌*◌, ◌<◌, ◌≤◌, ◌⊎◌, Bool, true, false, List, [], ◌∷◌, ◌++◌, All, length, map, Option, Some, None}
+use Rattle.std.specs.Prelude.{
+  ◌≡◌,
+  ◌≢◌,
+  ℕ,
+  zero,
+  suc,
+  ◌+◌,
+  ◌*◌,
+  ◌<◌,
+  ◌≤◌,
+  ◌⊎◌,
+  Bool,
+  true,
+  false,
+  List,
+  [],
+  ◌∷◌,
+  ◌++◌,
+  All,
+  length,
+  map,
+  Option,
+  Some,
+  None,
+}
 use Rattle.std.specs.List.{flat_map}
 use Rattle.frame_merge.specs.declared.candidate.Candidate.{Candidate}
 use Rattle.sample_ring.specs.declared.got.Got.{Got}
 use Rattle.slicer_bank.specs.HeardOnRing.{lane_of}
+use Rattle.ring_receiver.specs.HeardByAll.{AreDueBy}
+use Rattle.ring_receiver.specs.Readers.{readers_wanted}
 use Rattle.tnc_base.specs.Faults.{HasRisen}
 use Rattle.tnc_base.specs.Streams.{WrotePart}
 use Rattle.tnc_ports.specs.declared.records.Listen.{Listen}
@@ -17,19 +44,31 @@ use Rattle.tnc_ports.specs.Hosts.{Hosts, is_among}
 use Rattle.tnc_ports.specs.HostTurns.{Asked}
 use Rattle.tnc_ports.specs.ReportedGaps.{AreAllGaps, AreFirstGaps}
 use Rattle.tnc_ports.specs.ReportText.{output_octets, report_text}
-use Rattle.tnc_ports.specs.Sampled.{Live, new_live, with_hosts, HaveEnded, LanesReadOn, AreDue, AreHeard, HearsAll, MakesTicks, MakesAll, IsTurn, tick_samples}
+use Rattle.tnc_ports.specs.Sampled.{
+  Live,
+  new_live,
+  with_hosts,
+  HaveEnded,
+  LanesReadOn,
+  AreHeard,
+  HearsAll,
+  MakesTicks,
+  MakesAll,
+  IsTurn,
+  tick_samples,
+}
 use Rattle.tnc_ports.specs.ServedHosts.{octets_to, ids_shut, IsShutHavingCome, AreSentInTurns, AreShutInTurns}
 use Rattle.tnc_ports.specs.Sockets.{Poll, Send, MayCome}
 
 -- ---- a whole run
 
--- so many turns, each from what the one before it left, in which some lane does not meet the end of the ring
+-- so many turns, each from what the one before it left, in which some reader does not meet the end of the ring
 abbrev pub AreTurns : ServeWords → ℕ → Live → Live → Type 0
 AreTurns words zero before after = after ≡ before
 AreTurns words (suc count) before after =
     (between : Live) × IsTurn words false before between × AreTurns words count between after
 
--- A run ends with the first turn in which every lane meets the end of the ring.
+-- A run ends with the first turn in which every reader meets the end of the ring.
 pub record IsRun (words : ServeWords) (live : Live) : Type 0 where
   pub count : ℕ
   pub last : Live
@@ -39,20 +78,21 @@ pub record IsRun (words : ServeWords) (live : Live) : Type 0 where
 
 -- ---- a run that is cut short
 
--- a turn in which lanes read on, and nothing more came to pass
-pub record IsCutInReading (before after : Live) : Type 0 where
+-- a turn in which readers read on, and nothing more came to pass
+pub record IsCutInReading (words : ServeWords) (before after : Live) : Type 0 where
   pub lanes : List (List Got)
-  pub more : (lane : ℕ) → lane < 8 → (reads : List Got) × (lane_of lanes lane ≡ lane_of before.lanes lane ++ reads)
+  pub more : (lane : ℕ) → lane < readers_wanted words.sensitive
+      → (reads : List Got) × (lane_of lanes lane ≡ lane_of before.lanes lane ++ reads)
   pub is : after ≡ record before { lanes = lanes }
 
 -- a turn in which the first of the frames that are due are heard
 pub record IsCutInHearing (words : ServeWords) (before after : Live) : Type 0 where
   pub ended : Bool
   pub read : Live
-  pub reads : LanesReadOn ended before read
+  pub reads : LanesReadOn words ended before read
   pub items : List Candidate
   pub others : List Candidate
-  pub due : AreDue ended before.lanes read.lanes (items ++ others)
+  pub due : AreDueBy words.sensitive ended before.lanes read.lanes (items ++ others)
   pub hosts : Hosts
   pub hears : AreHeard words.monitor items read.hosts hosts
   pub is : after ≡ with_hosts hosts read
@@ -68,7 +108,7 @@ pub record IsCutInTicking (words : ServeWords) (before after : Live) : Type 0 wh
 -- a turn that is cut short: when it reads, hears, ticks, or serves its hosts
 abbrev pub IsCutTurn : ServeWords → Live → Live → Type 0
 IsCutTurn words before after =
-    IsCutInReading before after ⊎ IsCutInHearing words before after ⊎ IsCutInTicking words before after
+    IsCutInReading words before after ⊎ IsCutInHearing words before after ⊎ IsCutInTicking words before after
     ⊎ ((ended : Bool) × MakesAll words ended before after)
 
 -- Whole turns, and then a turn that is cut short.
@@ -93,20 +133,22 @@ pub record Outside : Type 0 where
   pub report : Option (List ℕ)
   pub report_faults : ℕ
 
-abbrev pub outside_by : {P O E : Type 0} → (P → Option (List Listen)) → (P → Option (List Poll)) → (P → Option (List Send)) → (P → ℕ → Option (List ℕ)) → (P → ℕ → Option Bool) → (P → ℕ)
+abbrev pub outside_by : {P O E : Type 0} → (P → Option (List Listen)) → (P → Option (List Poll))
+    → (P → Option (List Send)) → (P → ℕ → Option (List ℕ)) → (P → ℕ → Option Bool) → (P → ℕ)
     → (O → Option (List ℕ)) → (O → ℕ) → (E → Option (List ℕ)) → (E → ℕ) → P → O → E → Outside
-outside_by listens polls sends sent is_shut port_faults written faults reported report_faults ports output report = record {
-  listens = listens ports;
-  polls = polls ports;
-  sends = sends ports;
-  sent_to = sent ports;
-  is_shut = is_shut ports;
-  port_faults = port_faults ports;
-  output = written output;
-  output_faults = faults output;
-  report = reported report;
-  report_faults = report_faults report;
-}
+outside_by listens polls sends sent is_shut port_faults written faults reported report_faults ports output report =
+    record {
+      listens = listens ports;
+      polls = polls ports;
+      sends = sends ports;
+      sent_to = sent ports;
+      is_shut = is_shut ports;
+      port_faults = port_faults ports;
+      output = written output;
+      output_faults = faults output;
+      report = reported report;
+      report_faults = report_faults report;
+    }
 
 -- what is told grows by these
 abbrev pub GrowsBy : {A : Type 0} → List A → Option (List A) → Option (List A) → Type 0
@@ -118,7 +160,8 @@ sends_from poll [] = []
 sends_from poll (asked ∷ turns) = map (send_of poll) asked.offers ++ sends_from (poll + 1) turns
 
 -- The ports tell the polls, the sends and the octets that each connection took, turn by turn. A connection that a turn
--- shut is shut, and one that no turn shut is as it was. What came are whole pieces, none of a connection that was paused.
+-- shut is shut, and one that no turn shut is as it was. What came are whole pieces, none of a connection that was
+-- paused.
 -- A send that failed is a fault of theirs.
 pub record PortsTell (turns : List Asked) (before after : Outside) : Type 0 where
   pub polls : GrowsBy (map poll_of turns) before.polls after.polls
@@ -151,9 +194,11 @@ pub record PartIsWritten (live : Live) (before after : Outside) : Type 0 where
 
 -- ---- the loop
 
--- A whole run, whose lanes were answered this. The pieces for each connection were appended in order, and what it was
--- sent is a first part of them. The sockets are told of each connection that was shut, and the report names exactly these.
-pub record IsWhole (words : ServeWords) (answers : List (List Got)) (live : Live) (before after : Outside) : Type 0 where
+-- A whole run, whose readers were answered this. The pieces for each connection were appended in order, and what it was
+-- sent is a first part of them. The sockets are told of each connection that was shut, and the report names exactly
+-- these.
+pub record IsWhole (words : ServeWords) (answers : List (List Got)) (live : Live) (before after : Outside)
+    : Type 0 where
   pub run : IsRun words live
   pub lanes : live.lanes ≡ answers
   pub told : PortsTell live.asked before after
@@ -161,7 +206,7 @@ pub record IsWhole (words : ServeWords) (answers : List (List Got)) (live : Live
   pub sends : AreSentInTurns live.asked live.hosts
   pub shuts : AreShutInTurns live.asked live.hosts
   pub all_shut : live.hosts.to_shut ≡ []
-  pub gaps : AreAllGaps live
+  pub gaps : AreAllGaps words live
   pub size : length live.sent ≡ tick_samples * live.ticks
 
 -- A turn that has made its ticks is cut short when it serves its hosts: the ports were asked so.
@@ -170,7 +215,8 @@ pub record IsCutInServing (words : ServeWords) (before made : Live) (asked : Ask
   pub makes : MakesAll words ended before made
   pub part : IsCutPart asked made.hosts reached
 
--- The ports were asked so turn by turn, and these are the hosts that the sends leave: in the whole turns alone, or in the
+-- The ports were asked so turn by turn, and these are the hosts that the sends leave: in the whole turns alone, or in
+-- the
 -- turn too that is cut short.
 abbrev pub AreAskedInTurns : ServeWords → Live → Live → List Asked → Hosts → Type 0
 AreAskedInTurns words last live turns reached =
@@ -188,7 +234,7 @@ pub record IsCut (words : ServeWords) (answers : List (List Got)) (live : Live) 
   pub stay : PortsStay before after
   pub sends : AreSentInTurns turns reached
   pub shuts : AreShutInTurns turns reached
-  pub gaps : AreFirstGaps live
+  pub gaps : AreFirstGaps words live
   pub size : length live.sent ≡ tick_samples * live.ticks
 
 -- The loop by how it ends: all of a whole run is written; or after a write that failed the run went on to its end; or

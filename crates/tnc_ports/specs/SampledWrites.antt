@@ -1,4 +1,5 @@
--- What a live station adds to its two streams: all that it has to say, until a write fails. No public clause cites this.
+-- What a live station adds to its two streams: all that it has to say, until a write fails. No public clause cites
+-- this.
 use Rattle.std.specs.Prelude.{◌≡◌, ℕ, ℤ, ◌⊎◌, Bool, true, false, List, ◌++◌, Option, Some}
 use Rattle.tnc_base.specs.Faults.{HasRisen}
 use Rattle.tnc_base.specs.Streams.{WrotePart}

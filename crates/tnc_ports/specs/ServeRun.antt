@@ -1,21 +1,31 @@
--- A live station as a whole: it listens, a pump publishes the samples of its input in a ring, and a run reads them there.
+-- A live station as a whole: it listens, a pump publishes the samples of its input in a ring, and a run reads them
+-- there.
 use Rattle.std.specs.Prelude.{◌≡◌, ℕ, ℤ, ◌≤◌, ◌⊎◌, true, List, [], ◌∷◌, length, map, All, Option, Some}
 use Rattle.sample_ring.specs.declared.got.Got.{Got}
 use Rattle.sample_ring.specs.declared.view.Track.{Track}
 use Rattle.sample_ring.specs.Record.{StandsIn, answer}
 use Rattle.tnc_base.specs.Faults.{HasRisen}
 use Rattle.tnc_ports.specs.declared.pumping.PumpEnd.{PumpEnd}
-use Rattle.tnc_ports.specs.declared.pumping.PumpEnd.TheVariants.{InputEnd, ReadFault as PumpFailed, TooLong as InputTooLong, NotBegun}
+use Rattle.tnc_ports.specs.declared.pumping.PumpEnd.TheVariants.{
+  InputEnd,
+  ReadFault as PumpFailed,
+  TooLong as InputTooLong,
+  NotBegun,
+}
 use Rattle.tnc_ports.specs.declared.serving.ServeEnd.{ServeEnd}
 use Rattle.tnc_ports.specs.declared.serving.ServeEnd.TheVariants.{Done, TooLong, Memory, ReadFault, WriteFault, NoPort}
 use Rattle.tnc_ports.specs.declared.serve_words.ServeWords.{ServeWords}
 use Rattle.tnc_ports.specs.declared.looping.LoopEnd.{LoopEnd}
-use Rattle.tnc_ports.specs.declared.looping.LoopEnd.TheVariants.{Done as LoopDone, Memory as LoopMemory, WriteFault as LoopFault}
+use Rattle.tnc_ports.specs.declared.looping.LoopEnd.TheVariants.{
+  Done as LoopDone,
+  Memory as LoopMemory,
+  WriteFault as LoopFault,
+}
 use Rattle.tnc_ports.specs.Pumped.{IsPumped}
 use Rattle.tnc_ports.specs.Sampled.{HaveEnded}
 use Rattle.tnc_ports.specs.SampledRun.{Outside, GrowsBy, IsLooped}
 
--- ---- what the lanes were answered, and what was published
+-- ---- what the readers were answered, and what was published
 
 -- the cells of the ring
 abbrev pub ring_cells : ℕ
@@ -25,8 +35,8 @@ ring_cells = 65536
 abbrev pub answers_of_record : Track → List Got
 answers_of_record track = map (answer ring_cells) track.reads
 
--- The records of the lanes' readers stand in the published list: each sample is that of its position, and each gap is a
--- part that was overwritten. If every lane has met the end, samples and gaps tile the whole list.
+-- The records of all readers stand in the published list: each sample is that of its position, and each gap is a part
+-- that was overwritten. If every reader has met the end, samples and gaps tile the whole list.
 pub record LanesStandIn (published : List ℤ) (lanes : List (List Got)) : Type 0 where
   pub records : List Track
   pub answers : lanes ≡ map answers_of_record records
@@ -83,9 +93,10 @@ ReadFaults PumpFailed before after = HasRisen before.faults after.faults
 ReadFaults InputTooLong before after = after.faults ≡ before.faults
 ReadFaults NotBegun before after = after.faults ≡ before.faults
 
--- The ports are opened. The pump publishes the samples of what it reads of the input, and beside it the loop's lanes read
--- what is published.
-pub record HasServed (words : ServeWords) (end : ServeEnd) (input left : InputSide) (before after : Outside) : Type 0 where
+-- The ports are opened. The pump publishes the samples of what it reads of the input, and beside it the loop's readers
+-- read what is published.
+pub record HasServed (words : ServeWords) (end : ServeEnd) (input left : InputSide) (before after : Outside)
+    : Type 0 where
   pub open_ports : Outside
   pub opens : HasOpened words before open_ports
   pub loop : LoopEnd

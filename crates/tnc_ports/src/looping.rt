@@ -2,75 +2,68 @@
 ghost use Rattle.std.specs.Prelude.{◌≡◌, ℕ, All, replicate, []};
 ghost use Rattle.link_machine.specs.Params.{IsRefusedWindow};
 ghost use Rattle.sample_ring.specs.Ends.{ring_id, ring_len, reader_ring};
-ghost use Rattle.slicer_bank.specs.RingLanes.{readers_in, answers_in, Listens};
+ghost use Rattle.ring_receiver.specs.HeldReceiver.{readers_in, answers_in, Hears};
+ghost use Rattle.ring_receiver.specs.Readers.{readers_wanted};
 ghost use Rattle.tnc_ports.specs.SampledRun.{IsLooped, outside_by};
 
 use crate::host_side::HostSide;
 use crate::ports::Ports;
 use crate::serve_words::ServeWords;
 use crate::turning::Turning;
-use frame_merge::Merger;
+use ring_receiver::RingReceiver;
 use sample_ring::Ring;
-use slicer_bank::{RingBank, nothing_is_merged};
 use std::alloc::Global;
 use std::net::Net;
 use std::sync::Wait;
 use std::thread::Threads;
 use tnc_base::Sink;
 
-/// The lanes, one for each offset of a bit.
-const LANES: u8 = 8;
-
 /// How the turns of a live station end.
 #[derive(Clone, Copy, Debug, PartialEq, Eq)]
 pub enum LoopEnd {
-    /// Every lane has met the end of the ring, and all is written.
+    /// Every reader has met the end of the ring, and all is written.
     Done,
     /// Memory was wanted and not given.
     Memory,
-    /// A write failed. The turns went on without writing until every lane had met the end of the ring.
+    /// A write failed. The turns went on without writing until every reader had met the end of the ring.
     WriteFault,
 }
 
-/// Makes turn after turn until every lane of the bank has met the end of the ring, or memory is wanted. It may wait for
-/// the ring's writer.
+/// Makes turn after turn until every reader has met the end of the ring, or memory is wanted. It may wait for the ring's
+/// writer.
 pub fn station_loop<R: Threads + Wait + Net + Sync, O: Sink, E: Sink, N: Ports>(
     rt: &R,
     alloc: Global,
     words: &ServeWords,
     ring: &Ring,
-    bank: &mut RingBank,
+    receiver: &mut RingReceiver,
     output: &mut O,
     report: &mut E,
     ports: &mut N,
 ) -> LoopEnd
     requires window { (window : ℕ) → ¬ IsRefusedWindow words.now.config.params window }
-    requires readers { All (λ reader. reader_ring reader ≡ ring_id ring.now) (readers_in bank.old) }
-    requires new { answers_in (ring_len ring.now) bank.old ≡ replicate 8 [] }
-    requires listens { Listens (ring_len ring.now) bank.old }
-    requires flags { bank.old.flags ≡ words.now.dcd }
-    ensures readers { All (λ reader. reader_ring reader ≡ ring_id ring.now) (readers_in bank.new) }
-    ensures looped { IsLooped words.now result (answers_in (ring_len ring.now) bank.new)
+    requires readers { All (λ reader. reader_ring reader ≡ ring_id ring.now) (readers_in receiver.old) }
+    requires new { answers_in (ring_len ring.now) receiver.old ≡ replicate (readers_wanted words.now.sensitive) [] }
+    requires hears { Hears (ring_len ring.now) receiver.old }
+    requires flags { receiver.old.flags ≡ words.now.dcd }
+    requires sensitive { receiver.old.sensitive ≡ words.now.sensitive }
+    ensures readers { All (λ reader. reader_ring reader ≡ ring_id ring.now) (readers_in receiver.new) }
+    ensures looped { IsLooped words.now result (answers_in (ring_len ring.now) receiver.new)
         (outside_by N.listens N.polls N.sends N.sent N.is_shut N.faults O.written O.faults E.written E.faults ports.old output.old report.old)
         (outside_by N.listens N.polls N.sends N.sent N.is_shut N.faults O.written O.faults E.written E.faults ports.new output.new report.new) }
 {
-    let (Ok(hosts), Ok(merger)) = (
-        HostSide::new(alloc, words.config, words.seed),
-        Merger::new(alloc, LANES),
-    ) else {
+    let Ok(hosts) = HostSide::new(alloc, words.config, words.seed) else {
         return LoopEnd::Memory;
     };
-    nothing_is_merged();
     let mut turning = Turning {
         alloc,
         words: *words,
         hosts,
-        merger,
         ticks: 0,
         failed: false,
     };
     'turns: for _ in rt.forever() {
-        match turning.turn(rt, ring, bank, output, report, ports) {
+        match turning.turn(rt, ring, receiver, output, report, ports) {
             Ok(false) => {}
             Ok(true) if turning.failed => return LoopEnd::WriteFault,
             Ok(true) => return LoopEnd::Done,

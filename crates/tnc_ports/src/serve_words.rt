@@ -17,4 +17,6 @@ pub struct ServeWords {
     pub dcd: u8,
     /// Whether each frame that is heard or sent has a line in the report.
     pub monitor: bool,
+    /// Whether all 23 lanes listen, and not only eight.
+    pub sensitive: bool,
 }

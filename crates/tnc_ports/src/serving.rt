@@ -3,7 +3,8 @@ ghost use Rattle.std.specs.Prelude.{◌≡◌, ℕ, List, ◌≤◌, Some, All, 
 ghost use Rattle.std.specs.Thread.{IsSync};
 ghost use Rattle.link_machine.specs.Params.{IsRefusedWindow};
 ghost use Rattle.sample_ring.specs.Ends.{ring_id, ring_len, reader_ring, writer_ring, done_ring, published_by, all_published};
-ghost use Rattle.slicer_bank.specs.RingLanes.{readers_in, answers_in, Listens};
+ghost use Rattle.ring_receiver.specs.HeldReceiver.{readers_in, answers_in, Hears};
+ghost use Rattle.ring_receiver.specs.Readers.{readers_wanted};
 ghost use Rattle.tnc_ports.specs.Pumped.{IsPumped};
 ghost use Rattle.tnc_ports.specs.SampledPump.{IsWriting, HasPumped, IsClosed};
 ghost use Rattle.tnc_ports.specs.SampledRun.{IsLooped, outside_by};
@@ -16,8 +17,8 @@ use crate::pumping::{PumpEnd, Pumped, end_unread, pump};
 use crate::serve_words::ServeWords;
 use crate::spawner::Spawner;
 use crate::starting::Start;
+use ring_receiver::{RingReceiver, readers_wanted};
 use sample_ring::{Ring, Writer};
-use slicer_bank::RingBank;
 use std::alloc::Global;
 use std::mem;
 use std::net::Net;
@@ -27,9 +28,6 @@ use tnc_base::{Sink, Source};
 
 /// The cells of the ring, which hold about seven seconds.
 const CELLS: u32 = 65_536;
-
-/// A reader for each offset of a bit.
-const READERS: u8 = 8;
 
 /// How a live station ends.
 #[derive(Clone, Copy, Debug, PartialEq, Eq)]
@@ -85,10 +83,11 @@ pub fn serve<
     if ports.listen(rt, words.kiss, words.agw).is_err() {
         return ServeEnd::NoPort;
     }
-    let Ok((ring, writer, readers)) = Ring::new(alloc, CELLS, READERS) else {
+    let Ok((ring, writer, readers)) = Ring::new(alloc, CELLS, readers_wanted(words.sensitive))
+    else {
         return ServeEnd::Memory;
     };
-    let Ok(mut bank) = RingBank::listening(alloc, readers, words.dcd) else {
+    let Ok(mut receiver) = RingReceiver::new(alloc, readers, words.dcd, words.sensitive) else {
         return ServeEnd::Memory;
     };
     let start = Start::new();
@@ -101,7 +100,7 @@ pub fn serve<
         &ring,
         &start,
         &mut pumping,
-        &mut bank,
+        &mut receiver,
         &mut end,
         input,
         output,
@@ -109,7 +108,7 @@ pub fn serve<
         ports,
         spawner,
     );
-    close(ring, pumping, bank, end)
+    close(ring, pumping, receiver, end)
 }
 
 /// Runs the pump beside the turns.
@@ -127,7 +126,7 @@ fn run_beside<
     ring: &Ring,
     start: &Start,
     pumping: &mut Pumping,
-    bank: &mut RingBank,
+    receiver: &mut RingReceiver,
     end: &mut LoopEnd,
     input: &mut I,
     output: &mut O,
@@ -137,13 +136,14 @@ fn run_beside<
 )
     requires window { (window : ℕ) → ¬ IsRefusedWindow words.now.config.params window }
     requires writing { IsWriting ring.now pumping.old }
-    requires readers { All (λ reader. reader_ring reader ≡ ring_id ring.now) (readers_in bank.old) }
-    requires new { answers_in (ring_len ring.now) bank.old ≡ replicate 8 [] }
-    requires listens { Listens (ring_len ring.now) bank.old }
-    requires flags { bank.old.flags ≡ words.now.dcd }
+    requires readers { All (λ reader. reader_ring reader ≡ ring_id ring.now) (readers_in receiver.old) }
+    requires new { answers_in (ring_len ring.now) receiver.old ≡ replicate (readers_wanted words.now.sensitive) [] }
+    requires hears { Hears (ring_len ring.now) receiver.old }
+    requires flags { receiver.old.flags ≡ words.now.dcd }
+    requires sensitive { receiver.old.sensitive ≡ words.now.sensitive }
     ensures pumped { HasPumped ring.now pumping.new (input_by I.left I.faults input.old) (input_by I.left I.faults input.new) }
-    ensures readers { All (λ reader. reader_ring reader ≡ ring_id ring.now) (readers_in bank.new) }
-    ensures looped { IsLooped words.now end.new (answers_in (ring_len ring.now) bank.new)
+    ensures readers { All (λ reader. reader_ring reader ≡ ring_id ring.now) (readers_in receiver.new) }
+    ensures looped { IsLooped words.now end.new (answers_in (ring_len ring.now) receiver.new)
         (outside_by N.listens N.polls N.sends N.sent N.is_shut N.faults O.written O.faults E.written E.faults ports.old output.old report.old)
         (outside_by N.listens N.polls N.sends N.sent N.is_shut N.faults O.written O.faults E.written E.faults ports.new output.new report.new) }
 {
@@ -153,15 +153,20 @@ fn run_beside<
         &mut ||
             requires { IsSync R.row
                 × ((window : ℕ) → ¬ IsRefusedWindow words.now.config.params window)
-                × All (λ reader. reader_ring reader ≡ ring_id ring.now) (readers_in bank.now)
-                × (answers_in (ring_len ring.now) bank.now ≡ replicate 8 [])
-                × Listens (ring_len ring.now) bank.now
-                × (bank.now.flags ≡ words.now.dcd) }
-            ensures { All (λ reader. reader_ring reader ≡ ring_id ring.entry.now) (readers_in bank.exit.now)
-                × IsLooped words.entry.now end.exit.now (answers_in (ring_len ring.entry.now) bank.exit.now)
+                × All (λ reader. reader_ring reader ≡ ring_id ring.now) (readers_in receiver.now)
+                × (answers_in (ring_len ring.now) receiver.now ≡ replicate (readers_wanted words.now.sensitive) [])
+                × Hears (ring_len ring.now) receiver.now
+                × (receiver.now.flags ≡ words.now.dcd)
+                × (receiver.now.sensitive ≡ words.now.sensitive) }
+            ensures { All (λ reader. reader_ring reader ≡ ring_id ring.entry.now) (readers_in receiver.exit.now)
+                × IsLooped words.entry.now end.exit.now (answers_in (ring_len ring.entry.now) receiver.exit.now)
                 (outside_by N.listens N.polls N.sends N.sent N.is_shut N.faults O.written O.faults E.written E.faults ports.entry.now output.entry.now report.entry.now)
                 (outside_by N.listens N.polls N.sends N.sent N.is_shut N.faults O.written O.faults E.written E.faults ports.exit.now output.exit.now report.exit.now) }
-        { *end = turns(rt, alloc, words, ring, start, bank, output, report, ports) },
+        {
+            *end = turns(
+                rt, alloc, words, ring, start, receiver, output, report, ports,
+            )
+        },
     );
 }
 
@@ -172,25 +177,26 @@ fn turns<R: Threads + Wait + Net + Sync, O: Sink, E: Sink, N: Ports>(
     words: &ServeWords,
     ring: &Ring,
     start: &Start,
-    bank: &mut RingBank,
+    receiver: &mut RingReceiver,
     output: &mut O,
     report: &mut E,
     ports: &mut N,
 ) -> LoopEnd
     requires window { (window : ℕ) → ¬ IsRefusedWindow words.now.config.params window }
-    requires readers { All (λ reader. reader_ring reader ≡ ring_id ring.now) (readers_in bank.old) }
-    requires new { answers_in (ring_len ring.now) bank.old ≡ replicate 8 [] }
-    requires listens { Listens (ring_len ring.now) bank.old }
-    requires flags { bank.old.flags ≡ words.now.dcd }
-    ensures readers { All (λ reader. reader_ring reader ≡ ring_id ring.now) (readers_in bank.new) }
-    ensures looped { IsLooped words.now result (answers_in (ring_len ring.now) bank.new)
+    requires readers { All (λ reader. reader_ring reader ≡ ring_id ring.now) (readers_in receiver.old) }
+    requires new { answers_in (ring_len ring.now) receiver.old ≡ replicate (readers_wanted words.now.sensitive) [] }
+    requires hears { Hears (ring_len ring.now) receiver.old }
+    requires flags { receiver.old.flags ≡ words.now.dcd }
+    requires sensitive { receiver.old.sensitive ≡ words.now.sensitive }
+    ensures readers { All (λ reader. reader_ring reader ≡ ring_id ring.now) (readers_in receiver.new) }
+    ensures looped { IsLooped words.now result (answers_in (ring_len ring.now) receiver.new)
         (outside_by N.listens N.polls N.sends N.sent N.is_shut N.faults O.written O.faults E.written E.faults ports.old output.old report.old)
         (outside_by N.listens N.polls N.sends N.sent N.is_shut N.faults O.written O.faults E.written E.faults ports.new output.new report.new) }
 {
     if !start.wait(rt) {
         return LoopEnd::Memory;
     }
-    station_loop(rt, alloc, words, ring, bank, output, report, ports)
+    station_loop(rt, alloc, words, ring, receiver, output, report, ports)
 }
 
 /// Lets the pump take the writer, and end the ring.
@@ -222,14 +228,14 @@ fn pumped<I: Source>(ring: &Ring, start: &Start, writer: Writer, input: &mut I) 
 }
 
 /// Closes the ring once both have ended.
-fn close(ring: Ring, pumping: Pumping, bank: RingBank, end: LoopEnd) -> ServeEnd
+fn close(ring: Ring, pumping: Pumping, receiver: RingReceiver, end: LoopEnd) -> ServeEnd
     requires cells { ring_len ring ≡ CELLS }
-    requires readers { All (λ reader. reader_ring reader ≡ ring_id ring) (readers_in bank) }
+    requires readers { All (λ reader. reader_ring reader ≡ ring_id ring) (readers_in receiver) }
     requires pumped { (input : InputSide) × (left : InputSide) × HasPumped ring pumping input left }
     ensures { (input left : InputSide) → HasPumped ring pumping input left
-        → IsClosed end result (answers_in CELLS bank) input left }
+        → IsClosed end result (answers_in CELLS receiver) input left }
 {
-    let readers = bank.finish();
+    let readers = receiver.finish();
     match pumping {
         Pumping::After(pumped) => {
             let _history = ring.close(pumped.done, readers);

@@ -3,13 +3,11 @@
 //! Each step writes what it has to say once nothing of it can fail any more. So if memory is wanted, no line and no
 //! sample is written of a step that did not come to its end.
 
-ghost use Rattle.std.specs.Prelude.{◌≡◌, ℕ, ◌+◌, ◌-◌, ◌*◌, ◌/◌, ◌^◌, ◌<◌, ◌≤◌, Bool, true, false, List, Option, Some, None, length, map, slice_index, fold, min, All, IfOk, OnOk, OnErr};
+ghost use Rattle.std.specs.Prelude.{◌≡◌, ℕ, ◌+◌, ◌-◌, ◌*◌, ◌/◌, ◌^◌, ◌<◌, ◌≤◌, Bool, true, false, List, Option, Some, None, map, All, IfOk, OnOk, OnErr};
 ghost use Rattle.hdlc_framer.specs.FrameLength.{HasFrameLength};
-ghost use Rattle.frame_merge.specs.Held.{least};
 ghost use Rattle.ax25_address.specs.declared.path.Path.{Path};
 ghost use Rattle.sample_ring.specs.Ends.{ring_id, ring_len, reader_ring};
-ghost use Rattle.slicer_bank.specs.HeardOnRing.{IsBusyOnRing};
-ghost use Rattle.slicer_bank.specs.RingLanes.{readers_in, answers_in};
+ghost use Rattle.ring_receiver.specs.HeldReceiver.{readers_in, answers_in};
 ghost use Rattle.station.specs.Heard.{IsPathOf};
 ghost use Rattle.station.specs.Monitored.{heard_modulus, sent_modulus};
 ghost use Rattle.tnc_ports.specs.AskedPorts.{told_by};
@@ -32,9 +30,10 @@ use crate::writing::put;
 use ax25_address::read_path;
 use ax25_frames::Modulus;
 use channel_access::AirTick;
-use frame_merge::{Candidate, Merger};
+use frame_merge::Candidate;
+use ring_receiver::{Heard, RingReceiver};
 use sample_ring::Ring;
-use slicer_bank::{LaneGap, OpenGate, RingBank, merge_advance};
+use slicer_bank::{LaneGap, OpenGate};
 use std::alloc::Global;
 use std::net::Net;
 use std::thread::Threads;
@@ -49,96 +48,77 @@ pub(crate) struct Turning {
     pub(crate) alloc: Global,
     pub(crate) words: ServeWords,
     pub(crate) hosts: HostSide,
-    pub(crate) merger: Merger,
     /// How many ticks were made.
     pub(crate) ticks: u64,
     /// A write failed, so nothing more is written.
     pub(crate) failed: bool,
 }
 
-/// What a turn has read: the frames that are due, the least position of a lane, and whether every lane has met the end.
-#[derive(Drop)]
-struct Due {
-    items: Vec<Candidate>,
-    least: u64,
-    ended: bool,
-}
-
 impl Turning {
     ghost use Rattle.tnc_ports.specs.SampledHeld.{Keeps, StandsForLive, HearsFrame, HearsFrames, HearsSome, Ticks, TicksAll, ServesAll, Reads, Turns, IsCutOff};
 
-    /// Makes a turn, and answers whether every lane has met the end of the ring.
+    /// Makes a turn, and answers whether every reader has met the end of the ring.
     pub(crate) fn turn<R: Threads + Net + Sync, O: Sink, E: Sink, N: Ports>(
         &mut self,
         rt: &R,
         ring: &Ring,
-        bank: &mut RingBank,
+        receiver: &mut RingReceiver,
         output: &mut O,
         report: &mut E,
         ports: &mut N,
     ) -> Result<bool, OutOfMemory>
-        requires stands { (live : Live) × StandsForLive self.old (ring_len ring.now) bank.old live }
-        requires readers { All (λ reader. reader_ring reader ≡ ring_id ring.now) (readers_in bank.old) }
-        requires flags { bank.old.flags ≡ self.old.words.dcd }
-        ensures turned { (live : Live) → StandsForLive self.old (ring_len ring.now) bank.old live
-            → IfOk result (λ ended. Turns ended self.old self.new (ring_len ring.now) bank.new live
+        requires stands { (live : Live) × StandsForLive self.old (ring_len ring.now) receiver.old live }
+        requires readers { All (λ reader. reader_ring reader ≡ ring_id ring.now) (readers_in receiver.old) }
+        requires flags { receiver.old.flags ≡ self.old.words.dcd }
+        ensures turned { (live : Live) → StandsForLive self.old (ring_len ring.now) receiver.old live
+            → IfOk result (λ ended. Turns ended self.old self.new (ring_len ring.now) receiver.new live
             (stream_of O.written O.faults output.old) (stream_of O.written O.faults output.new)
             (stream_of E.written E.faults report.old) (stream_of E.written E.faults report.new)
             (told_by N.polls N.sends N.sent N.is_shut N.faults ports.old) (told_by N.polls N.sends N.sent N.is_shut N.faults ports.new)) }
-        ensures cut { (live : Live) → StandsForLive self.old (ring_len ring.now) bank.old live
-            → OnErr result (IsCutOff self.old self.new (ring_len ring.now) bank.new live
+        ensures cut { (live : Live) → StandsForLive self.old (ring_len ring.now) receiver.old live
+            → OnErr result (IsCutOff self.old self.new (ring_len ring.now) receiver.new live
             (stream_of O.written O.faults output.old) (stream_of O.written O.faults output.new)
             (stream_of E.written E.faults report.old) (stream_of E.written E.faults report.new)
             (told_by N.polls N.sends N.sent N.is_shut N.faults ports.old) (told_by N.polls N.sends N.sent N.is_shut N.faults ports.new)) }
         ensures words { self.new.words ≡ self.old.words }
-        ensures readers { All (λ reader. reader_ring reader ≡ ring_id ring.now) (readers_in bank.new) }
-        ensures flags { bank.new.flags ≡ bank.old.flags }
+        ensures readers { All (λ reader. reader_ring reader ≡ ring_id ring.now) (readers_in receiver.new) }
+        ensures flags { receiver.new.flags ≡ receiver.old.flags }
         ensures listens { N.listens ports.new ≡ N.listens ports.old }
         ensures later { N.faults ports.old ≤ N.faults ports.new }
     {
-        let due = self.read(rt, ring, bank, report)?;
-        self.hear_all(report, &due.items)?;
-        self.tick_up_to(output, report, bank.busy(), due.least)?;
+        let heard = self.read(rt, ring, receiver, report)?;
+        self.hear_all(report, &heard.items)?;
+        self.tick_up_to(output, report, receiver.busy(), heard.least)?;
         self.serve_hosts(rt, report, ports)?;
-        Ok(due.ended)
+        Ok(heard.ended)
     }
 
-    /// Lets each lane read on, and reports the gaps.
+    /// Lets each reader read on, and reports the gaps.
     fn read<R: Threads + Sync, E: Sink>(
         &mut self,
         rt: &R,
         ring: &Ring,
-        bank: &mut RingBank,
+        receiver: &mut RingReceiver,
         report: &mut E,
-    ) -> Result<Due, OutOfMemory>
-        requires stands { (live : Live) × StandsForLive self.old (ring_len ring.now) bank.old live }
-        requires readers { All (λ reader. reader_ring reader ≡ ring_id ring.now) (readers_in bank.old) }
-        ensures reads { (live : Live) → StandsForLive self.old (ring_len ring.now) bank.old live
-            → IfOk result (λ due. Reads due.ended due.least due.items.items self.old self.new (ring_len ring.now) bank.new live
+    ) -> Result<Heard, OutOfMemory>
+        requires stands { (live : Live) × StandsForLive self.old (ring_len ring.now) receiver.old live }
+        requires readers { All (λ reader. reader_ring reader ≡ ring_id ring.now) (readers_in receiver.old) }
+        ensures reads { (live : Live) → StandsForLive self.old (ring_len ring.now) receiver.old live
+            → IfOk result (λ heard. Reads heard.ended heard.least heard.items.items self.old self.new (ring_len ring.now) receiver.new live
             (stream_of E.written E.faults report.old) (stream_of E.written E.faults report.new)) }
-        ensures cut { (live : Live) → StandsForLive self.old (ring_len ring.now) bank.old live
-            → OnErr result (IsCutInReading live (record live { lanes = answers_in (ring_len ring.now) bank.new })) }
+        ensures cut { (live : Live) → StandsForLive self.old (ring_len ring.now) receiver.old live
+            → OnErr result (IsCutInReading self.old.words live (record live { lanes = answers_in (ring_len ring.now) receiver.new })) }
         ensures unwritten { OnErr result ((report.new ≡ report.old) × (self.new.failed ≡ self.old.failed)) }
         ensures rest { (self.new.words ≡ self.old.words) × (self.new.hosts ≡ self.old.hosts) × (self.new.ticks ≡ self.old.ticks) }
-        ensures lengths { IfOk result (λ due. All (λ item. HasFrameLength item.octets) due.items.items) }
-        ensures readers { All (λ reader. reader_ring reader ≡ ring_id ring.now) (readers_in bank.new) }
-        ensures flags { bank.new.flags ≡ bank.old.flags }
+        ensures lengths { IfOk result (λ heard. All (λ item. HasFrameLength item.octets) heard.items.items) }
+        ensures readers { All (λ reader. reader_ring reader ≡ ring_id ring.now) (readers_in receiver.new) }
+        ensures flags { receiver.new.flags ≡ receiver.old.flags }
     {
-        let advance = bank.advance(rt, ring, &OpenGate)?;
-        let items = merge_advance(
-            &mut self.merger,
-            advance.candidates,
-            &advance.positions,
-            advance.ended,
-        )?;
-        let lines = gap_lines(self.alloc, &advance.gaps)?;
+        let heard = receiver.advance(rt, ring, &OpenGate)?;
+        let lines = gap_lines(self.alloc, &heard.gaps)?;
         let text = text_of_lines(self.alloc, &lines)?;
         put(report, &mut self.failed, &text);
-        Ok(Due {
-            items,
-            least: least_of(&advance.positions),
-            ended: advance.ended,
-        })
+        Ok(heard)
     }
 
     /// Hears the frames that are due, in order.
@@ -148,7 +128,7 @@ impl Turning {
             → OnOk result (HearsFrames items.now self.old self.new hosts (stream_of E.written E.faults report.old) (stream_of E.written E.faults report.new)) }
         ensures cut { (hosts : Hosts) → Keeps self.old.hosts hosts
             → OnErr result (HearsSome items.now self.old self.new hosts (stream_of E.written E.faults report.old) (stream_of E.written E.faults report.new)) }
-        ensures rest { (self.new.words ≡ self.old.words) × (self.new.merger ≡ self.old.merger) × (self.new.ticks ≡ self.old.ticks) }
+        ensures rest { (self.new.words ≡ self.old.words) × (self.new.ticks ≡ self.old.ticks) }
     {
         for item in items {
             self.hear(report, item.octets.as_slice())?;
@@ -162,7 +142,7 @@ impl Turning {
         ensures heard { (hosts : Hosts) → Keeps self.old.hosts hosts
             → OnOk result (HearsFrame octets.now self.old self.new hosts (stream_of E.written E.faults report.old) (stream_of E.written E.faults report.new)) }
         ensures unwritten { OnErr result ((report.new ≡ report.old) × (self.new.failed ≡ self.old.failed)) }
-        ensures rest { (self.new.words ≡ self.old.words) × (self.new.merger ≡ self.old.merger) × (self.new.ticks ≡ self.old.ticks) }
+        ensures rest { (self.new.words ≡ self.old.words) × (self.new.ticks ≡ self.old.ticks) }
     {
         let shown = self.received_lines(octets)?;
         self.hosts.hear(octets)?;
@@ -188,7 +168,7 @@ impl Turning {
             → OnErr result ((count : ℕ) × (live.ticks + count ≤ least / 96) × Ticks busy count self.old self.new live
             (stream_of O.written O.faults output.old) (stream_of O.written O.faults output.new)
             (stream_of E.written E.faults report.old) (stream_of E.written E.faults report.new)) }
-        ensures rest { (self.new.words ≡ self.old.words) × (self.new.merger ≡ self.old.merger) }
+        ensures rest { self.new.words ≡ self.old.words }
     {
         for tick in self.ticks..least / TICK {
             self.tick(output, report, busy, tick)?;
@@ -211,7 +191,7 @@ impl Turning {
             (stream_of E.written E.faults report.old) (stream_of E.written E.faults report.new)) }
         ensures unwritten { OnErr result ((output.new ≡ output.old) × (report.new ≡ report.old) × (self.new.failed ≡ self.old.failed)) }
         ensures count { OnOk result (self.new.ticks ≡ tick + 1) }
-        ensures rest { (self.new.words ≡ self.old.words) × (self.new.merger ≡ self.old.merger) }
+        ensures rest { self.new.words ≡ self.old.words }
     {
         let air = self.hosts.tick(busy)?;
         let lines = self.hosts.take_lines();
@@ -237,7 +217,7 @@ impl Turning {
         ensures cut { (hosts : Hosts) → Keeps self.old.hosts hosts → OnErr result (HasCutPart hosts
             (told_by N.polls N.sends N.sent N.is_shut N.faults ports.old) (told_by N.polls N.sends N.sent N.is_shut N.faults ports.new)) }
         ensures unwritten { OnErr result ((report.new ≡ report.old) × (self.new.failed ≡ self.old.failed)) }
-        ensures rest { (self.new.words ≡ self.old.words) × (self.new.merger ≡ self.old.merger) × (self.new.ticks ≡ self.old.ticks) }
+        ensures rest { (self.new.words ≡ self.old.words) × (self.new.ticks ≡ self.old.ticks) }
         ensures listens { N.listens ports.new ≡ N.listens ports.old }
         ensures later { N.faults ports.old ≤ N.faults ports.new }
     {
@@ -316,13 +296,4 @@ fn gap_lines(alloc: Global, gaps: &[LaneGap]) -> Result<Vec<ReportLine>, OutOfMe
         })?;
     }
     Ok(lines)
-}
-
-/// The least of the positions.
-fn least_of(positions: &[u64; 8]) -> u64
-    ensures { result ≡ least positions.now }
-{
-    positions
-        .iter()
-        .fold(u64::MAX, |least, position| least.min(*position))
 }

@@ -17,7 +17,7 @@ use std::thread;
 use std::thread::Threads;
 use tnc_base::{Failed, MemSink, MemSource, Octets, OutOfMemory, Source};
 
-fn words(monitor: bool) -> ServeWords
+fn words(monitor: bool, sensitive: bool) -> ServeWords
     ensures window { (window : ℕ) → ¬ IsRefusedWindow result.config.params window }
     ensures dcd { (1 ≤ result.dcd) × (result.dcd ≤ 8) }
 {
@@ -31,6 +31,7 @@ fn words(monitor: bool) -> ServeWords
         },
         dcd: 1,
         monitor,
+        sensitive,
     }
 }
 
@@ -47,10 +48,22 @@ struct Outcome {
     report: Vec<u8>,
 }
 
-/// A station with a monitor, whose hosts are on these sockets.
+/// A station with a monitor, whose hosts are on these sockets. Eight lanes listen.
 fn served<R: Threads + Wait + Net + Sync, W: Spawner>(
     rt: &R,
     alloc: Global,
+    input: Vec<u8>,
+    failing: Failing<'_>,
+    live: &mut Live<MemPorts, W>,
+) -> Result<Outcome, OutOfMemory> {
+    served_by(rt, alloc, false, input, failing, live)
+}
+
+/// The same, or all 23 lanes listen.
+fn served_by<R: Threads + Wait + Net + Sync, W: Spawner>(
+    rt: &R,
+    alloc: Global,
+    sensitive: bool,
     input: Vec<u8>,
     [reads, writes, reports]: Failing<'_>,
     live: &mut Live<MemPorts, W>,
@@ -58,7 +71,7 @@ fn served<R: Threads + Wait + Net + Sync, W: Spawner>(
     let mut source = MemSource::new(input, 4096, reads.to_vec(alloc)?);
     let mut output = MemSink::new(alloc, 200_000, writes.to_vec(alloc)?)?;
     let mut report = MemSink::new(alloc, 1_000_000, reports.to_vec(alloc)?)?;
-    let words = words(true);
+    let words = words(true, sensitive);
     let end = serve(
         rt,
         alloc,
@@ -133,17 +146,23 @@ fn line_count(text: &[u8]) -> usize {
     count
 }
 
-// The ring keeps 65,536 samples, so each lane misses the first 4464 one by one.
+// The ring keeps 65,536 samples, so each reader misses the first 4464 one by one. The added lanes share the ninth.
 #[test]
 fn overwritten_samples_are_reported(rt: HostRuntime) -> Result<(), Fail> {
     let alloc = rt.alloc();
-    let mut live = no_hosts(alloc)?;
-    let served = served(&rt, alloc, silence(alloc, 70_000)?, NONE, &mut live)?;
-    assert_eq!(rt; served.end, ServeEnd::Done);
-    assert_eq!(rt; served.output.len(), 2 * 69_984);
-    assert!(rt; served.report.starts_with(b"gap 0 0 1\ngap 0 1 2\n"));
-    assert!(rt; served.report.ends_with(b"gap 7 4463 4464\n"));
-    assert_eq!(rt; line_count(&served.report), 8 * 4464);
+    for (sensitive, gaps, last) in [
+        (false, 8 * 4464, b"gap 7 4463 4464\n".as_slice()),
+        (true, 9 * 4464, b"gap 8 4463 4464\n"),
+    ] {
+        let mut live = no_hosts(alloc)?;
+        let input = silence(alloc, 70_000)?;
+        let served = served_by(&rt, alloc, sensitive, input, NONE, &mut live)?;
+        assert_eq!(rt; served.end, ServeEnd::Done);
+        assert_eq!(rt; served.output.len(), 2 * 69_984);
+        assert!(rt; served.report.starts_with(b"gap 0 0 1\ngap 0 1 2\n"));
+        assert!(rt; served.report.ends_with(last));
+        assert_eq!(rt; line_count(&served.report), gaps);
+    }
     Ok(())
 }
 
@@ -212,19 +231,22 @@ fn told(alloc: Global) -> Result<Vec<u8>, OutOfMemory> {
     Ok(told)
 }
 
+// All lanes hear the call, and it is told once.
 #[test]
 fn a_call_is_heard_and_told(rt: HostRuntime) -> Result<(), Fail> {
     let alloc = rt.alloc();
-    let mut live = with_registration(alloc)?.failing(&[])?;
-    let served = served(&rt, alloc, a_call(alloc)?, NONE, &mut live)?;
-    assert_eq!(rt; served.end, ServeEnd::Done);
-    assert_eq!(rt; served.output.len(), 2 * 213 * 96);
-    assert_eq!(rt;
-        served.report.as_slice(),
-        b"rx N7LEM>NJ7P SABM cmd f=1\n".as_slice()
-    );
-    assert_eq!(rt; live.ports.sends().len(), 2);
-    assert_eq!(rt; sent(alloc, &live)?.as_slice(), told(alloc)?.as_slice());
+    for sensitive in [false, true] {
+        let mut live = with_registration(alloc)?.failing(&[])?;
+        let served = served_by(&rt, alloc, sensitive, a_call(alloc)?, NONE, &mut live)?;
+        assert_eq!(rt; served.end, ServeEnd::Done);
+        assert_eq!(rt; served.output.len(), 2 * 213 * 96);
+        assert_eq!(rt;
+            served.report.as_slice(),
+            b"rx N7LEM>NJ7P SABM cmd f=1\n".as_slice()
+        );
+        assert_eq!(rt; live.ports.sends().len(), 2);
+        assert_eq!(rt; sent(alloc, &live)?.as_slice(), told(alloc)?.as_slice());
+    }
     Ok(())
 }
 
@@ -380,7 +402,7 @@ fn held<R: Threads + Wait + Net + Sync>(
     let mut live = Live { ports, spawner };
     let mut output = MemSink::new(alloc, 1000, Vec::new(alloc))?;
     let mut report = MemSink::new(alloc, 1000, Vec::new(alloc))?;
-    let words = words(false);
+    let words = words(false, false);
     let end = serve(
         rt,
         alloc,

@@ -7,5 +7,6 @@ returns-then-range-id c =
     let item = c.in-Some.ensures.item in
     let ok = c.args.ranges.now.ok in
     record {
-      added = λ other. range_longer c.args.ranges.now.items _ c.in-Some.range.now c.args.id other item.3.0 (ap (λ n. n - 1) ok.0) c.in-Some.ensures.value c.if-range.true c.if-range-id.true;
+      added = λ other. range_longer c.args.ranges.now.items _ c.in-Some.range.now c.args.id other item.3.0
+          (ap (λ n. n - 1) ok.0) c.in-Some.ensures.value c.if-range.true c.if-range-id.true;
     }

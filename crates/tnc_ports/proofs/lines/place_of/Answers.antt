@@ -14,4 +14,5 @@ returns-then-line-id-clause-waiting c = λ waiting d.
     waiting_at c.args.id c.args.lines.now c.loop-at.at d waiting c.loop-at-test.true c.loop-at.invariant here
 
 pub returns-clause-nowhere : goal.returns-clause-nowhere
-returns-clause-nowhere c = no_line c.args.id c.args.lines.now (λ j e less. c.loop-at.invariant j e (omega (arith, less)))
+returns-clause-nowhere c = no_line c.args.id c.args.lines.now
+    (λ j e less. c.loop-at.invariant j e (omega (arith, less)))

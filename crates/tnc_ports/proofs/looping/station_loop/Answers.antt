@@ -9,9 +9,9 @@ returns-in_default-clause-looped g c = nothing_looped c.args.words.now _ _ c.req
 
 pub turns-init : goal.turns-init
 turns-init g c = (
-  runs_first c.args.words.now _ (ring_len c.args.ring.now) c.args.bank.now _
-      (first_stands c.args.words.now _ (ring_len c.args.ring.now) c.args.bank.now c.in-Ok-Ok.ensures.stands_for
-      (c.nothing_is_merged.ensures c.in-Ok-Ok.merger c.in-Ok-Ok.ensures'.marks c.in-Ok-Ok.ensures'.stands_for) c.in-Ok-Ok.ensures'.marks refl c.requires.new c.requires.listens)
+  runs_first c.args.words.now _ (ring_len c.args.ring.now) c.args.receiver.now _
+      (first_stands c.args.words.now _ (ring_len c.args.ring.now) c.args.receiver.now c.in-Ok.ensures.stands_for
+      refl refl c.requires.sensitive c.requires.new c.requires.hears)
       refl refl,
   c.requires.readers,
   c.requires.flags,
@@ -19,8 +19,10 @@ turns-init g c = (
 
 pub turns-preserved : goal.turns-preserved
 turns-preserved g c = (
-  runs_more c.args.words.now c.turns.turning c.turn.new.self (ring_len c.args.ring.now) c.turns.bank c.turn.new.bank _ _ _ c.turns.invariant.0
-      (turned_on c.in-Ok-false.field-0 c.turns.turning c.turn.new.self (ring_len c.args.ring.now) c.turn.new.bank c.turns.invariant.0.live _ _ _ _ _ _
+  runs_more c.args.words.now c.turns.turning c.turn.new.self (ring_len c.args.ring.now)
+      c.turns.receiver c.turn.new.receiver _ _ _ c.turns.invariant.0
+      (turned_on c.in-Ok-false.field-0 c.turns.turning c.turn.new.self (ring_len c.args.ring.now)
+      c.turn.new.receiver c.turns.invariant.0.live _ _ _ _ _ _
       c.in-Ok-false.field-0-test (c.in-Ok-false.ensures.turned c.turns.invariant.0.live c.turns.invariant.0.stands))
       c.in-Ok-false.ensures.words c.in-Ok-false.ensures.listens c.in-Ok-false.ensures.later,
   c.in-Ok-false.ensures.readers,
@@ -29,19 +31,25 @@ turns-preserved g c = (
 
 pub returns-in-Ok-true-clause-looped : goal.returns-in-Ok-true-clause-looped
 returns-in-Ok-true-clause-looped g c =
-    loop_fault c.args.words.now c.turns.turning c.turn.new.self (ring_len c.args.ring.now) c.turns.bank c.turn.new.bank _ _ _ c.turns.invariant.0
-    (turned_over c.in-Ok-true.field-0 c.turns.turning c.turn.new.self (ring_len c.args.ring.now) c.turn.new.bank c.turns.invariant.0.live _ _ _ _ _ _
+    loop_fault c.args.words.now c.turns.turning c.turn.new.self (ring_len c.args.ring.now)
+    c.turns.receiver c.turn.new.receiver _ _ _ c.turns.invariant.0
+    (turned_over c.in-Ok-true.field-0 c.turns.turning c.turn.new.self (ring_len c.args.ring.now)
+    c.turn.new.receiver c.turns.invariant.0.live _ _ _ _ _ _
     c.in-Ok-true.field-0-test (c.in-Ok-true.ensures.turned c.turns.invariant.0.live c.turns.invariant.0.stands))
     c.in-Ok-true.ensures.listens c.in-Ok-true.ensures.later c.if-turning.true
 
 pub returns-in-Ok-true-2-clause-looped : goal.returns-in-Ok-true-2-clause-looped
 returns-in-Ok-true-2-clause-looped g c =
-    loop_done c.args.words.now c.turns.turning c.turn.new.self (ring_len c.args.ring.now) c.turns.bank c.turn.new.bank _ _ _ c.turns.invariant.0
-    (turned_over c.in-Ok-true.field-0 c.turns.turning c.turn.new.self (ring_len c.args.ring.now) c.turn.new.bank c.turns.invariant.0.live _ _ _ _ _ _
+    loop_done c.args.words.now c.turns.turning c.turn.new.self (ring_len c.args.ring.now)
+    c.turns.receiver c.turn.new.receiver _ _ _ c.turns.invariant.0
+    (turned_over c.in-Ok-true.field-0 c.turns.turning c.turn.new.self (ring_len c.args.ring.now)
+    c.turn.new.receiver c.turns.invariant.0.live _ _ _ _ _ _
     c.in-Ok-true.field-0-test (c.in-Ok-true.ensures.turned c.turns.invariant.0.live c.turns.invariant.0.stands))
     c.in-Ok-true.ensures.listens c.in-Ok-true.ensures.later c.if-turning.false
 
 pub returns-in-Err-clause-looped : goal.returns-in-Err-clause-looped
 returns-in-Err-clause-looped g c =
-    loop_memory c.args.words.now c.turns.turning c.turn.new.self (ring_len c.args.ring.now) c.turns.bank c.turn.new.bank _ _ _ c.turns.invariant.0
-    (c.in-Err.ensures.cut c.turns.invariant.0.live c.turns.invariant.0.stands) c.in-Err.ensures.listens c.in-Err.ensures.later
+    loop_memory c.args.words.now c.turns.turning c.turn.new.self (ring_len c.args.ring.now)
+    c.turns.receiver c.turn.new.receiver _ _ _ c.turns.invariant.0
+    (c.in-Err.ensures.cut c.turns.invariant.0.live c.turns.invariant.0.stands)
+    c.in-Err.ensures.listens c.in-Err.ensures.later

@@ -2,17 +2,17 @@
 use Rattle.std.specs.Prelude.{All}
 use Rattle.std.proofs.Common.{◌≡◌}
 use Rattle.sample_ring.specs.Ends.{ring_id, ring_len, reader_ring}
-use Rattle.slicer_bank.specs.RingLanes.{readers_in}
+use Rattle.ring_receiver.specs.HeldReceiver.{readers_in}
 use Rattle.tnc_ports.specs.SampledHeld.{Runs}
 use Rattle.tnc_ports.specs.SampledRun.{outside_by}
 use Rattle.tnc_ports.proofs.looping.station_loop.Given as goal
 
 abbrev pub invariant-turns : goal.invariant-turns
 invariant-turns g l =
-    Runs l.words l.turning (ring_len l.ring) l.bank
+    Runs l.words l.turning (ring_len l.ring) l.receiver
     (outside_by g.N.Ports.listens g.N.Ports.polls g.N.Ports.sends g.N.Ports.sent g.N.Ports.is_shut g.N.Ports.faults
     g.O.Sink.written g.O.Sink.faults g.E.Sink.written g.E.Sink.faults l.initial.ports l.initial.output l.initial.report)
     (outside_by g.N.Ports.listens g.N.Ports.polls g.N.Ports.sends g.N.Ports.sent g.N.Ports.is_shut g.N.Ports.faults
     g.O.Sink.written g.O.Sink.faults g.E.Sink.written g.E.Sink.faults l.ports l.output l.report)
-    × All (λ reader. reader_ring reader ≡ ring_id l.ring) (readers_in l.bank)
-    × (l.bank.flags ≡ l.words.dcd)
+    × All (λ reader. reader_ring reader ≡ ring_id l.ring) (readers_in l.receiver)
+    × (l.receiver.flags ≡ l.words.dcd)

@@ -11,5 +11,6 @@ loop-at-preserved c =
     let ok = c.args.came.now.ok in
     let below = c.loop-at-test.true in
     let within : at < length c.args.came.now.items = subst (λ n. at < n) (long ∙ ok.0) below in
-    shut_more c.args.id at c.args.came.now.items now (set now at c.shut_one.new.one) c.index_mut.result.now within c.loop-at.invariant
+    shut_more c.args.id at c.args.came.now.items now (set now at c.shut_one.new.one)
+    c.index_mut.result.now within c.loop-at.invariant
     (ap (set now at) (c.shut_one.ensures ∙ ap (shut_one c.args.id) c.index_mut.ensures.value))

@@ -5,6 +5,7 @@ use Rattle.tnc_ports.proofs.offering.tell_shut.Goals as goal
 pub loop-id-preserved : goal.loop-id-preserved
 loop-id-preserved g c = record {
   shut = shut_more c.args.ids.now c.loop-id.id-index _ _ _ c.loop-id-test.true c.loop-id.invariant.shut
-      c.shut.ensures.shut c.shut.ensures.others c.shut.ensures.polls c.shut.ensures.sends c.shut.ensures.sent c.shut.ensures.later;
+      c.shut.ensures.shut c.shut.ensures.others c.shut.ensures.polls c.shut.ensures.sends c.shut.ensures.sent
+      c.shut.ensures.later;
   listens = c.shut.ensures.listens ∙ c.loop-id.invariant.listens;
 }

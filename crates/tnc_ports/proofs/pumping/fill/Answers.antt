@@ -16,7 +16,8 @@ returns-then-count-eq0-clause-pumped g c = λ octets left.
     let most = c.reading-test.true in
     let taken = length-take c.min-room.result c.reading.buffer in
     let room : 0 < length c.read.new.buffer = grind (arith, a, b, taken, most) in
-    pumped_all octets _ _ _ _ _ _ _ (c.reading.invariant.so_far octets left) c.in-Ok.ensures.gives c.if-count-eq0.true room c.reading-test.true
+    pumped_all octets _ _ _ _ _ _ _ (c.reading.invariant.so_far octets left)
+    c.in-Ok.ensures.gives c.if-count-eq0.true room c.reading-test.true
 
 pub returns-clause-pumped : goal.returns-clause-pumped
 returns-clause-pumped g c = λ octets left.
@@ -36,14 +37,19 @@ reading-preserved g c =
     record {
       ring = c.publish.ensures.ring ∙ c.reading.invariant.ring;
       so_far = λ whole left.
-          pumped_more whole c.read.new.buffer _ _ _ _ _ _ _ _ (c.reading.invariant.so_far whole left) c.in-Ok.ensures.gives c.in-Ok.ensures.bound (λ read published low.
-          let same : take c.in-Ok.count (c.read.new.buffer ++ drop c.min-room.result c.reading.buffer) ≡ take c.in-Ok.count c.read.new.buffer = take-append-le c.in-Ok.count c.read.new.buffer (drop c.min-room.result c.reading.buffer) c.in-Ok.ensures.bound in
+          pumped_more whole c.read.new.buffer _ _ _ _ _ _ _ _ (c.reading.invariant.so_far whole left)
+          c.in-Ok.ensures.gives c.in-Ok.ensures.bound (λ read published low.
+          let same : take c.in-Ok.count (c.read.new.buffer ++ drop c.min-room.result c.reading.buffer)
+          ≡ take c.in-Ok.count c.read.new.buffer = take-append-le c.in-Ok.count c.read.new.buffer
+          (drop c.min-room.result c.reading.buffer) c.in-Ok.ensures.bound in
           let now = d read published low in
           (now.0 ∙ ap (λ xs. samples (read ++ xs)) same, now.1 ∙ ap (λ xs. odd_octet (read ++ xs)) same));
       bound = grind (arith, a, b, taken, within, most);
       count =
-          let long : length (take c.in-Ok.count (c.read.new.buffer ++ drop c.min-room.result c.reading.buffer)) ≡ c.in-Ok.count =
-          ap length (take-append-le c.in-Ok.count c.read.new.buffer (drop c.min-room.result c.reading.buffer) within) ∙ length-take-le c.in-Ok.count c.read.new.buffer within in
+          let long : length (take c.in-Ok.count (c.read.new.buffer ++ drop c.min-room.result c.reading.buffer))
+          ≡ c.in-Ok.count =
+          ap length (take-append-le c.in-Ok.count c.read.new.buffer (drop c.min-room.result c.reading.buffer) within)
+          ∙ length-take-le c.in-Ok.count c.read.new.buffer within in
           let before = c.reading.invariant.count in
           omega (arith, e, long, before);
       later = let l = c.reading.invariant.later in let m = c.read.ensures.later in omega (arith, l, m);

@@ -6,4 +6,7 @@ pub returns-in_ok-take_piece : goal.returns-in_ok-take_piece
 returns-in_ok-take_piece c =
     let isnt = c.if-not-is_among.true in
     let among = c.is_among.ensures in
-    record { kept = λ may. c.in_ok-take_piece.ensures.kept c.args.paused.now may (not_among c.args.socket.now.id c.args.paused.now (sym among ∙ isnt)) }
+    record {
+      kept = λ may. c.in_ok-take_piece.ensures.kept c.args.paused.now may
+          (not_among c.args.socket.now.id c.args.paused.now (sym among ∙ isnt));
+    }

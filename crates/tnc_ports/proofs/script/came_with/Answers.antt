@@ -9,4 +9,5 @@ loop-event-preserved c =
     let before = joined_in (take c.loop-event.event-index events) in
     c.in_ok-add_joined.ensures ∙ ap (λ all. all ++ joined_of c.event-item.result) c.loop-event.invariant
     ∙ append_assoc c.args.came.now before (joined_of c.event-item.result)
-    ∙ ap (λ more. c.args.came.now ++ more) (ap (λ event. before ++ joined_of event) c.event-item.is ∙ sym (joined_in_more events c.loop-event.event-index c.event-item.result c.loop-event-test.true))
+    ∙ ap (λ more. c.args.came.now ++ more) (ap (λ event. before ++ joined_of event) c.event-item.is
+    ∙ sym (joined_in_more events c.loop-event.event-index c.event-item.result c.loop-event-test.true))

@@ -10,4 +10,5 @@ loop-entry-preserved c =
     let before = scripted_for number (take c.loop-entry.entry-index script) in
     c.in_ok-add_due.ensures ∙ ap (λ all. all ++ due_of number c.entry-item.result) c.loop-entry.invariant
     ∙ append_assoc c.args.waiting.now before (due_of number c.entry-item.result)
-    ∙ ap (λ more. c.args.waiting.now ++ more) (ap (λ entry. before ++ due_of number entry) c.entry-item.is ∙ sym (scripted_for_more number script c.loop-entry.entry-index c.entry-item.result c.loop-entry-test.true))
+    ∙ ap (λ more. c.args.waiting.now ++ more) (ap (λ entry. before ++ due_of number entry) c.entry-item.is
+    ∙ sym (scripted_for_more number script c.loop-entry.entry-index c.entry-item.result c.loop-entry-test.true))

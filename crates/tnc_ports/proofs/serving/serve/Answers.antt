@@ -6,7 +6,8 @@ use Rattle.tnc_ports.proofs.serving.serve.Goals as goal
 pub returns-in_default : goal.returns-in_default
 returns-in_default g c =
     no_ring c.args.words _ _ _
-    (has_opened c.args.words _ _ c.listen.result c.is_err.result c.is_err.ensures.value c.if-is_err.false c.listen.ensures.opened (record {
+    (has_opened c.args.words _ _ c.listen.result c.is_err.result c.is_err.ensures.value c.if-is_err.false
+    c.listen.ensures.opened (record {
       polls = c.listen.ensures.polls;
       sends = c.listen.ensures.sends;
       sent_to = c.listen.ensures.sent;
@@ -18,10 +19,11 @@ returns-in_default g c =
       report_faults = refl;
     }))
 
-pub returns-in_default-listening : goal.returns-in_default-listening
-returns-in_default-listening g c =
+pub returns-in_default-new : goal.returns-in_default-new
+returns-in_default-new g c =
     no_ring c.args.words _ _ _
-    (has_opened c.args.words _ _ c.listen.result c.is_err.result c.is_err.ensures.value c.if-is_err.false c.listen.ensures.opened (record {
+    (has_opened c.args.words _ _ c.listen.result c.is_err.result c.is_err.ensures.value c.if-is_err.false
+    c.listen.ensures.opened (record {
       polls = c.listen.ensures.polls;
       sends = c.listen.ensures.sends;
       sent_to = c.listen.ensures.sent;
@@ -33,13 +35,15 @@ returns-in_default-listening g c =
       report_faults = refl;
     }))
 
-pub run_beside-requires-clause-listens : goal.run_beside-requires-clause-listens
-run_beside-requires-clause-listens g c = λ κs within. c.in-Ok-listening.ensures.listens (ring_len c.in-Ok.ring)
+pub run_beside-requires-clause-hears : goal.run_beside-requires-clause-hears
+run_beside-requires-clause-hears g c = λ κs within. c.in-Ok-new.ensures.hears (ring_len c.in-Ok.ring)
 
 pub returns : goal.returns
 returns g c =
-    all_served c.args.words c.run_beside.new.end c.close.result (ring_len c.in-Ok.ring) c.run_beside.new.bank _ _ _ _ _
-    (has_opened c.args.words _ _ c.listen.result c.is_err.result c.is_err.ensures.value c.if-is_err.false c.listen.ensures.opened (record {
+    all_served c.args.words c.run_beside.new.end c.close.result (ring_len c.in-Ok.ring)
+    c.run_beside.new.receiver _ _ _ _ _
+    (has_opened c.args.words _ _ c.listen.result c.is_err.result c.is_err.ensures.value c.if-is_err.false
+    c.listen.ensures.opened (record {
       polls = c.listen.ensures.polls;
       sends = c.listen.ensures.sends;
       sent_to = c.listen.ensures.sent;

@@ -5,7 +5,11 @@ use Rattle.tnc_ports.proofs.host_parts.HostParts.forget.Goals as goal
 
 pub returns-clause-narrows : goal.returns-clause-narrows
 returns-clause-narrows c =
-    let after : HostParts = record c.args.self.now { lines = c.remove_line.new.lines; untaken = c.remove_untaken.new.untaken; leaving = c.remove_id.new.ids } in
+    let after : HostParts = record c.args.self.now {
+      lines = c.remove_line.new.lines;
+      untaken = c.remove_untaken.new.untaken;
+      leaving = c.remove_id.new.ids;
+    } in
     let forgets : Forgets c.args.id c.args.self.now after = record {
       station = refl;
       came = refl;
@@ -19,7 +23,11 @@ returns-clause-narrows c =
 
 pub returns-clause-gone : goal.returns-clause-gone
 returns-clause-gone c =
-    let after : HostParts = record c.args.self.now { lines = c.remove_line.new.lines; untaken = c.remove_untaken.new.untaken; leaving = c.remove_id.new.ids } in
+    let after : HostParts = record c.args.self.now {
+      lines = c.remove_line.new.lines;
+      untaken = c.remove_untaken.new.untaken;
+      leaving = c.remove_id.new.ids;
+    } in
     let forgets : Forgets c.args.id c.args.self.now after = record {
       station = refl;
       came = refl;
@@ -33,7 +41,11 @@ returns-clause-gone c =
 
 pub returns-clause-one_less : goal.returns-clause-one_less
 returns-clause-one_less c =
-    let after : HostParts = record c.args.self.now { lines = c.remove_line.new.lines; untaken = c.remove_untaken.new.untaken; leaving = c.remove_id.new.ids } in
+    let after : HostParts = record c.args.self.now {
+      lines = c.remove_line.new.lines;
+      untaken = c.remove_untaken.new.untaken;
+      leaving = c.remove_id.new.ids;
+    } in
     let forgets : Forgets c.args.id c.args.self.now after = record {
       station = refl;
       came = refl;
@@ -47,7 +59,11 @@ returns-clause-one_less c =
 
 pub returns-clause-two_less : goal.returns-clause-two_less
 returns-clause-two_less c =
-    let after : HostParts = record c.args.self.now { lines = c.remove_line.new.lines; untaken = c.remove_untaken.new.untaken; leaving = c.remove_id.new.ids } in
+    let after : HostParts = record c.args.self.now {
+      lines = c.remove_line.new.lines;
+      untaken = c.remove_untaken.new.untaken;
+      leaving = c.remove_id.new.ids;
+    } in
     let forgets : Forgets c.args.id c.args.self.now after = record {
       station = refl;
       came = refl;

@@ -10,6 +10,7 @@ returns-clause-moves c =
     let between : HostParts = record before { station = c.heard.new.self } in
     on_ok_weaker c.tell_who_left.result
     (λ left. stepped (IsHeard c.args.octets.now) before c.deliver.new.self c.tell_who_left.new.self
-    (delivered (IsHeard c.args.octets.now) c.in_ok-out.out before between c.deliver.new.self c.in_ok-out.ensures.step (with_station before c.heard.new.self) c.in_ok-deliver.ensures.moves)
+    (delivered (IsHeard c.args.octets.now) c.in_ok-out.out before between c.deliver.new.self c.in_ok-out.ensures.step
+    (with_station before c.heard.new.self) c.in_ok-deliver.ensures.moves)
     left)
     c.tell_who_left.ensures.moves

@@ -20,17 +20,25 @@ returns-in-Ok-clause-offers g c =
     let line : Line = c.index_mut.result.now in
     let value : line ≡ get_or a.lines.items at line = c.index_mut.ensures.value in
     let lines : c.deref.result.now ≡ a.lines.items = c.deref.ensures.value in
-    let b : HostParts = record a { lines = with_item a.lines at (record { id = line.id; waiting = c.offer.new.waiting }) } in
+    let b : HostParts = record a {
+      lines = with_item a.lines at (record { id = line.id; waiting = c.offer.new.waiting });
+    } in
     let within : at < length a.lines.items = subst (λ ls. at < length ls) lines c.in-Some.ensures.within in
-    let found : line_of id a.lines.items ≡ Some line = subst (λ ls. line_of id ls ≡ Some (get_or ls at line)) lines (c.in-Some.ensures.line line) ∙ ap (λ (l : Line). Some l) (sym value) in
-    let same : line.id ≡ id = ap (λ (l : Line). l.id) value ∙ subst (λ ls. (get_or ls at line).id ≡ id) lines (c.in-Some.ensures.id line) in
-    let written : set a.lines.items at (record { id = line.id; waiting = c.offer.new.waiting }) ≡ with_waiting id c.offer.new.waiting a.lines.items =
+    let found : line_of id a.lines.items ≡ Some line = subst (λ ls. line_of id ls ≡ Some (get_or ls at line)) lines
+    (c.in-Some.ensures.line line) ∙ ap (λ (l : Line). Some l) (sym value) in
+    let same : line.id ≡ id = ap (λ (l : Line). l.id) value
+    ∙ subst (λ ls. (get_or ls at line).id ≡ id) lines (c.in-Some.ensures.id line) in
+    let written : set a.lines.items at (record { id = line.id; waiting = c.offer.new.waiting })
+    ≡ with_waiting id c.offer.new.waiting a.lines.items =
     ap (λ (l : Line). set a.lines.items at (record { id = l.id; waiting = c.offer.new.waiting })) value
-    ∙ sym (subst (λ ls. with_waiting id c.offer.new.waiting ls ≡ set ls at (record (get_or ls at line) { waiting = c.offer.new.waiting })) lines (c.in-Some.ensures.waiting c.offer.new.waiting line)) in
+    ∙ sym (subst (λ ls. with_waiting id c.offer.new.waiting ls
+    ≡ set ls at (record (get_or ls at line) { waiting = c.offer.new.waiting })) lines
+    (c.in-Some.ensures.waiting c.offer.new.waiting line)) in
     let tested : Line = c.index.result.now in
     let one : tested ≡ line = c.index.ensures ∙ get_or_any a.lines.items at tested line within ∙ sym value in
     let some : line.waiting ≢ [] = λ nothing.
-    true≢false (sym (eq-eqb (length tested.waiting) 0 (ap (λ (l : Line). length l.waiting) one ∙ ap length nothing)) ∙ sym c.is_empty.ensures ∙ c.if-is_empty.false) in
+    true≢false (sym (eq-eqb (length tested.waiting) 0 (ap (λ (l : Line). length l.waiting) one ∙ ap length nothing))
+    ∙ sym c.is_empty.ensures ∙ c.if-is_empty.false) in
     let waits : Waits id (after_sending c.in-Ok.field-0 line.waiting) a b = record {
       station = refl;
       came = refl;
@@ -40,7 +48,8 @@ returns-in-Ok-clause-offers g c =
       to_shut = refl;
       leaving = refl;
     } in
-    offers_part id line c.in-Ok.field-0 a b _ _ found same some c.in-Ok.ensures.rest.0 waits c.in-Ok.ensures.polls c.in-Ok.ensures.told c.in-Ok.ensures.sent c.in-Ok.ensures.others c.in-Ok.ensures.shut c.in-Ok.ensures.later
+    offers_part id line c.in-Ok.field-0 a b _ _ found same some c.in-Ok.ensures.rest.0 waits c.in-Ok.ensures.polls
+    c.in-Ok.ensures.told c.in-Ok.ensures.sent c.in-Ok.ensures.others c.in-Ok.ensures.shut c.in-Ok.ensures.later
 
 pub returns-in-Ok-clause-rest : goal.returns-in-Ok-clause-rest
 returns-in-Ok-clause-rest g c =
@@ -50,17 +59,25 @@ returns-in-Ok-clause-rest g c =
     let line : Line = c.index_mut.result.now in
     let value : line ≡ get_or a.lines.items at line = c.index_mut.ensures.value in
     let lines : c.deref.result.now ≡ a.lines.items = c.deref.ensures.value in
-    let b : HostParts = record a { lines = with_item a.lines at (record { id = line.id; waiting = c.offer.new.waiting }) } in
+    let b : HostParts = record a {
+      lines = with_item a.lines at (record { id = line.id; waiting = c.offer.new.waiting });
+    } in
     let within : at < length a.lines.items = subst (λ ls. at < length ls) lines c.in-Some.ensures.within in
-    let found : line_of id a.lines.items ≡ Some line = subst (λ ls. line_of id ls ≡ Some (get_or ls at line)) lines (c.in-Some.ensures.line line) ∙ ap (λ (l : Line). Some l) (sym value) in
-    let same : line.id ≡ id = ap (λ (l : Line). l.id) value ∙ subst (λ ls. (get_or ls at line).id ≡ id) lines (c.in-Some.ensures.id line) in
-    let written : set a.lines.items at (record { id = line.id; waiting = c.offer.new.waiting }) ≡ with_waiting id c.offer.new.waiting a.lines.items =
+    let found : line_of id a.lines.items ≡ Some line = subst (λ ls. line_of id ls ≡ Some (get_or ls at line)) lines
+    (c.in-Some.ensures.line line) ∙ ap (λ (l : Line). Some l) (sym value) in
+    let same : line.id ≡ id = ap (λ (l : Line). l.id) value
+    ∙ subst (λ ls. (get_or ls at line).id ≡ id) lines (c.in-Some.ensures.id line) in
+    let written : set a.lines.items at (record { id = line.id; waiting = c.offer.new.waiting })
+    ≡ with_waiting id c.offer.new.waiting a.lines.items =
     ap (λ (l : Line). set a.lines.items at (record { id = l.id; waiting = c.offer.new.waiting })) value
-    ∙ sym (subst (λ ls. with_waiting id c.offer.new.waiting ls ≡ set ls at (record (get_or ls at line) { waiting = c.offer.new.waiting })) lines (c.in-Some.ensures.waiting c.offer.new.waiting line)) in
+    ∙ sym (subst (λ ls. with_waiting id c.offer.new.waiting ls
+    ≡ set ls at (record (get_or ls at line) { waiting = c.offer.new.waiting })) lines
+    (c.in-Some.ensures.waiting c.offer.new.waiting line)) in
     let tested : Line = c.index.result.now in
     let one : tested ≡ line = c.index.ensures ∙ get_or_any a.lines.items at tested line within ∙ sym value in
     let some : line.waiting ≢ [] = λ nothing.
-    true≢false (sym (eq-eqb (length tested.waiting) 0 (ap (λ (l : Line). length l.waiting) one ∙ ap length nothing)) ∙ sym c.is_empty.ensures ∙ c.if-is_empty.false) in
+    true≢false (sym (eq-eqb (length tested.waiting) 0 (ap (λ (l : Line). length l.waiting) one ∙ ap length nothing))
+    ∙ sym c.is_empty.ensures ∙ c.if-is_empty.false) in
     let waits : Waits id (after_sending c.in-Ok.field-0 line.waiting) a b = record {
       station = refl;
       came = refl;
@@ -80,17 +97,25 @@ returns-in-Err-Failed-clause-offers g c =
     let line : Line = c.index_mut.result.now in
     let value : line ≡ get_or a.lines.items at line = c.index_mut.ensures.value in
     let lines : c.deref.result.now ≡ a.lines.items = c.deref.ensures.value in
-    let b : HostParts = record a { lines = with_item a.lines at (record { id = line.id; waiting = c.offer.new.waiting }) } in
+    let b : HostParts = record a {
+      lines = with_item a.lines at (record { id = line.id; waiting = c.offer.new.waiting });
+    } in
     let within : at < length a.lines.items = subst (λ ls. at < length ls) lines c.in-Some.ensures.within in
-    let found : line_of id a.lines.items ≡ Some line = subst (λ ls. line_of id ls ≡ Some (get_or ls at line)) lines (c.in-Some.ensures.line line) ∙ ap (λ (l : Line). Some l) (sym value) in
-    let same : line.id ≡ id = ap (λ (l : Line). l.id) value ∙ subst (λ ls. (get_or ls at line).id ≡ id) lines (c.in-Some.ensures.id line) in
-    let written : set a.lines.items at (record { id = line.id; waiting = c.offer.new.waiting }) ≡ with_waiting id c.offer.new.waiting a.lines.items =
+    let found : line_of id a.lines.items ≡ Some line = subst (λ ls. line_of id ls ≡ Some (get_or ls at line)) lines
+    (c.in-Some.ensures.line line) ∙ ap (λ (l : Line). Some l) (sym value) in
+    let same : line.id ≡ id = ap (λ (l : Line). l.id) value
+    ∙ subst (λ ls. (get_or ls at line).id ≡ id) lines (c.in-Some.ensures.id line) in
+    let written : set a.lines.items at (record { id = line.id; waiting = c.offer.new.waiting })
+    ≡ with_waiting id c.offer.new.waiting a.lines.items =
     ap (λ (l : Line). set a.lines.items at (record { id = l.id; waiting = c.offer.new.waiting })) value
-    ∙ sym (subst (λ ls. with_waiting id c.offer.new.waiting ls ≡ set ls at (record (get_or ls at line) { waiting = c.offer.new.waiting })) lines (c.in-Some.ensures.waiting c.offer.new.waiting line)) in
+    ∙ sym (subst (λ ls. with_waiting id c.offer.new.waiting ls
+    ≡ set ls at (record (get_or ls at line) { waiting = c.offer.new.waiting })) lines
+    (c.in-Some.ensures.waiting c.offer.new.waiting line)) in
     let tested : Line = c.index.result.now in
     let one : tested ≡ line = c.index.ensures ∙ get_or_any a.lines.items at tested line within ∙ sym value in
     let some : line.waiting ≢ [] = λ nothing.
-    true≢false (sym (eq-eqb (length tested.waiting) 0 (ap (λ (l : Line). length l.waiting) one ∙ ap length nothing)) ∙ sym c.is_empty.ensures ∙ c.if-is_empty.false) in
+    true≢false (sym (eq-eqb (length tested.waiting) 0 (ap (λ (l : Line). length l.waiting) one ∙ ap length nothing))
+    ∙ sym c.is_empty.ensures ∙ c.if-is_empty.false) in
     let waits : Waits id line.waiting a b = record {
       station = refl;
       came = refl;
@@ -106,8 +131,10 @@ returns-in-Err-Failed-clause-offers g c =
     (λ shown hosts stands. moves shown hosts (stands_still id line a b shown hosts found waits stands))
     c.in-Err-Failed.ensures.polls c.in-Err-Failed.ensures.refused.1
     (λ other. elim (cases_eq other id) [
-      | inl is ↦ subst (λ n. g.N.Ports.sent c.offer.new.ports n ≡ g.N.Ports.sent c.args.ports.now n) (sym is) c.in-Err-Failed.ensures.refused.0
+      | inl is ↦ subst (λ n. g.N.Ports.sent c.offer.new.ports n ≡ g.N.Ports.sent c.args.ports.now n) (sym is)
+          c.in-Err-Failed.ensures.refused.0
       | inr isnt ↦ c.in-Err-Failed.ensures.others other isnt
     ])
-    c.in-Err-Failed.ensures.shut (c.in-Err-Failed.ensures.failed (ap (λ f. Err f) c.in-Err-Failed.field-0-is)) c.in-Err-Failed.ensures.later printed before start h was)
+    c.in-Err-Failed.ensures.shut (c.in-Err-Failed.ensures.failed (ap (λ f. Err f) c.in-Err-Failed.field-0-is))
+    c.in-Err-Failed.ensures.later printed before start h was)
     c.cut_off.ensures.moves

@@ -7,7 +7,8 @@ use Rattle.tnc_ports.proofs.host_parts.HostParts.paused.Goals as goal
 pub returns : goal.returns
 returns c = record {
   paused = λ printed hosts h.
-      are_paused c.in_ok-ids.ids.items c.sort.new.self.items c.dedup.new.self.items hosts (c.in_ok-ids.ensures.waiting printed hosts h)
+      are_paused c.in_ok-ids.ids.items c.sort.new.self.items c.dedup.new.self.items hosts
+      (c.in_ok-ids.ensures.waiting printed hosts h)
       c.in_ok-sort.ensures.permutation (IsPermutation-sym _ _ c.in_ok-sort.ensures.permutation)
       (IsStrictlyIncreasing-dedup c.sort.new.self.items c.in_ok-sort.ensures.sorted)
       (dedup_is _ _ _ c.dedup.ensures.filtered);

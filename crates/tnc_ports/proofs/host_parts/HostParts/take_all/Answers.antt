@@ -7,9 +7,11 @@ use Rattle.tnc_ports.proofs.host_parts.HostParts.take_all.Goals as goal
 pub loop-event-preserved : goal.loop-event-preserved
 loop-event-preserved c =
     let left = c.next.new.self.rest.items in
-    let whole : All IsWholePiece (c.in-Some.event ∷ left) = subst (All IsWholePiece) c.in-Some.ensures.steps.0 c.loop-event.invariant.pieces in
+    let whole : All IsWholePiece (c.in-Some.event ∷ left) =
+    subst (All IsWholePiece) c.in-Some.ensures.steps.0 c.loop-event.invariant.pieces in
     record {
-      moves = runs_more IsTaken c.loop-event.yielded c.in-Some.event c.args.self.now c.loop-event.self c.take.new.self c.loop-event.invariant.moves c.in_ok-take.ensures.moves;
+      moves = runs_more IsTaken c.loop-event.yielded c.in-Some.event c.args.self.now c.loop-event.self c.take.new.self
+          c.loop-event.invariant.moves c.in_ok-take.ensures.moves;
       rest = c.in_ok-take.ensures.rest;
       parts =
           c.loop-event.invariant.parts ∙ ap (λ more. c.loop-event.yielded ++ more) c.in-Some.ensures.steps.0

@@ -11,7 +11,8 @@ returns-clause-moves c =
     let before : HostParts = c.args.self.now in
     let between : HostParts = record before { station = c.host.new.self } in
     on_ok_weaker c.deliver.result
-    (λ moves. delivered (IsHostTurn c.args.event) c.in_ok-out.out before between c.deliver.new.self c.in_ok-out.ensures.step (with_station before c.host.new.self) moves)
+    (λ moves. delivered (IsHostTurn c.args.event) c.in_ok-out.out before between c.deliver.new.self
+    c.in_ok-out.ensures.step (with_station before c.host.new.self) moves)
     c.deliver.ensures.moves
 
 pub returns-clause-known : goal.returns-clause-known
@@ -19,5 +20,6 @@ returns-clause-known c =
     let before : HostParts = c.args.self.now in
     let between : HostParts = record before { station = c.host.new.self } in
     on_ok_two c.deliver.result
-    (λ narrows gone. known_after c.args.event c.in_ok-out.out.closed before between c.deliver.new.self c.requires.known refl refl refl refl c.in_ok-out.ensures.ids narrows gone)
+    (λ narrows gone. known_after c.args.event c.in_ok-out.out.closed before between c.deliver.new.self c.requires.known
+    refl refl refl refl c.in_ok-out.ensures.ids narrows gone)
     c.deliver.ensures.narrows c.deliver.ensures.gone

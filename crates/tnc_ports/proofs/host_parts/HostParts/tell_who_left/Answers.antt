@@ -10,18 +10,22 @@ pub tell-requires-clause-admitted : goal.tell-requires-clause-admitted
 tell-requires-clause-admitted c =
     let items : List ℕ = c.loop-first.self.leaving.items in
     let id : ℕ = c.in-Some.first.now in
-    let got : slice_get items 0 ≡ Some id = ap (λ ids. slice_get ids 0) (sym c.deref.ensures.value) ∙ sym c.in-Some.ensures.value in
+    let got : slice_get items 0 ≡ Some id = ap (λ ids. slice_get ids 0) (sym c.deref.ensures.value)
+    ∙ sym c.in-Some.ensures.value in
     let is : items ≡ id ∷ drop 1 items = first_of items id got in
     among_there id (ids_of c.forget.new.self.station)
-    (ap (λ station. is_among id (ids_of station)) c.forget.ensures.narrows.station ∙ leaving_known id c.loop-first.self c.loop-first.invariant.known (first_among items (drop 1 items) id is))
+    (ap (λ station. is_among id (ids_of station)) c.forget.ensures.narrows.station
+    ∙ leaving_known id c.loop-first.self c.loop-first.invariant.known (first_among items (drop 1 items) id is))
 
 pub loop-first-preserved : goal.loop-first-preserved
 loop-first-preserved c =
     let items : List ℕ = c.loop-first.self.leaving.items in
     let id : ℕ = c.in-Some.first.now in
-    let got : slice_get items 0 ≡ Some id = ap (λ ids. slice_get ids 0) (sym c.deref.ensures.value) ∙ sym c.in-Some.ensures.value in
+    let got : slice_get items 0 ≡ Some id = ap (λ ids. slice_get ids 0) (sym c.deref.ensures.value)
+    ∙ sym c.in-Some.ensures.value in
     let is : items ≡ id ∷ drop 1 items = first_of items id got in
     record {
-      some = one_left id (drop 1 items) c.args.self.now c.loop-first.self c.forget.new.self c.tell.new.self c.loop-first.invariant.some is c.forget.ensures.moves c.in_ok-tell.ensures.moves;
+      some = one_left id (drop 1 items) c.args.self.now c.loop-first.self c.forget.new.self c.tell.new.self
+          c.loop-first.invariant.some is c.forget.ensures.moves c.in_ok-tell.ensures.moves;
       known = c.in_ok-tell.ensures.known;
     }

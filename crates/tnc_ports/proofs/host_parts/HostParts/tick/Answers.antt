@@ -12,7 +12,8 @@ returns-clause-moves c =
     let step = IsTick c.args.busy in
     let moves : MovesBy (IsStep step) before c.tell_who_left.new.self =
     stepped step before c.deliver.new.self c.tell_who_left.new.self
-    (delivered step c.in_ok-tick.tick.out before between c.deliver.new.self c.in_ok-tick.ensures.step (with_station before c.tick.new.self) c.in_ok-deliver.ensures.moves)
+    (delivered step c.in_ok-tick.tick.out before between c.deliver.new.self c.in_ok-tick.ensures.step
+    (with_station before c.tick.new.self) c.in_ok-deliver.ensures.moves)
     c.in_ok-tell_who_left.ensures.moves in
     λ printed hosts h.
     let m = moves printed hosts h in

@@ -17,19 +17,25 @@ loop-line-preserved c =
     let within : at < length lines = subst (λ ls. at < length ls) same c.loop-line-test.true in
     elim c.if-has_to_wait.branch [
       | then-has_to_wait+in_ok-push w ↦ λ printed hosts h.
-          one_waits at c.loop-line.ids.items c.if-has_to_wait.ids.items lines line hosts within (c.loop-line.invariant printed hosts h)
-          (subst (λ (l : Line). HasToWait l.id hosts) one ((c.has_to_wait.ensures.waits printed hosts h).0 w.if-has_to_wait.true))
-          (ap (λ v. v.items) w.ids-is ∙ w.in_ok-push.ensures.items ∙ ap (λ (l : Line). c.loop-line.ids.items ++ l.id ∷ []) one)
+          one_waits at c.loop-line.ids.items c.if-has_to_wait.ids.items lines line hosts within
+          (c.loop-line.invariant printed hosts h)
+          (subst (λ (l : Line). HasToWait l.id hosts) one
+          ((c.has_to_wait.ensures.waits printed hosts h).0 w.if-has_to_wait.true))
+          (ap (λ v. v.items) w.ids-is ∙ w.in_ok-push.ensures.items
+          ∙ ap (λ (l : Line). c.loop-line.ids.items ++ l.id ∷ []) one)
       | else-has_to_wait w ↦ λ printed hosts h.
           subst (λ ids. AreWaitingOf ids (take (at + 1) lines) hosts) (ap (λ v. v.items) (sym w.ids-is))
           (one_goes at c.loop-line.ids.items lines line hosts within (c.loop-line.invariant printed hosts h)
-          (λ waits. true≢false (sym ((c.has_to_wait.ensures.waits printed hosts h).1 (subst (λ (l : Line). HasToWait l.id hosts) (sym one) waits)) ∙ w.if-has_to_wait.false)))
+          (λ waits. true≢false (sym ((c.has_to_wait.ensures.waits printed hosts h).1
+          (subst (λ (l : Line). HasToWait l.id hosts) (sym one) waits)) ∙ w.if-has_to_wait.false)))
     ]
 
 pub returns : goal.returns
 returns c = record {
   waiting = λ printed hosts h.
       let lines : List Line = c.args.self.now.lines.items in
-      let end : length lines ≤ c.loop-line.line-index = subst (λ ls. length ls ≤ c.loop-line.line-index) c.deref-line-items.ensures.value c.loop-line-test.false in
-      subst (λ ls. AreWaitingOf c.loop-line.ids.items ls hosts) (take_end lines c.loop-line.line-index end ∙ sym h.lines) (c.loop-line.invariant printed hosts h);
+      let end : length lines ≤ c.loop-line.line-index = subst (λ ls. length ls ≤ c.loop-line.line-index)
+      c.deref-line-items.ensures.value c.loop-line-test.false in
+      subst (λ ls. AreWaitingOf c.loop-line.ids.items ls hosts) (take_end lines c.loop-line.line-index end
+      ∙ sym h.lines) (c.loop-line.invariant printed hosts h);
 }

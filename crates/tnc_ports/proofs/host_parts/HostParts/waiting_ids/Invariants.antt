@@ -8,4 +8,5 @@ use Rattle.tnc_ports.proofs.host_parts.HostParts.waiting_ids.Given as goal
 
 abbrev pub invariant-loop-line : goal.invariant-loop-line
 invariant-loop-line l =
-    (printed : List ReportLine) (hosts : Hosts) → AreParts l.self printed hosts → AreWaitingOf l.ids.items (take l.line-index l.self.lines.items) hosts
+    (printed : List ReportLine) (hosts : Hosts) → AreParts l.self printed hosts
+    → AreWaitingOf l.ids.items (take l.line-index l.self.lines.items) hosts

@@ -10,34 +10,43 @@ use Rattle.tnc_ports.proofs.mem_ports.MemPorts.give.Goals as goal
 
 pub invariant_of-self-2 : goal.invariant_of-self-2
 invariant_of-self-2 c =
-    let due : c.in_ok-all.all.items ≡ c.self.inside.waiting.items ++ scripted_for c.len.result c.self.inside.script.items =
+    let due : c.in_ok-all.all.items ≡ c.self.inside.waiting.items
+    ++ scripted_for c.len.result c.self.inside.script.items =
     c.in_ok-all.ensures ∙ ap (λ before. before ++ scripted_for c.len.result c.deref-2.result.now) c.deref.ensures.value
     ∙ ap (λ script. c.self.inside.waiting.items ++ scripted_for c.len.result script) c.deref-2.ensures.value in
     let whole : All IsWholePiece c.in_ok-all.all.items =
     subst (All IsWholePiece) (sym due)
-    (All-append IsWholePiece c.self.inside.waiting.items (scripted_for c.len.result c.self.inside.script.items) c.self.invariant.1 (whole_scripted c.len.result c.self.inside.script.items c.self.invariant.0)) in
+    (All-append IsWholePiece c.self.inside.waiting.items (scripted_for c.len.result c.self.inside.script.items)
+    c.self.invariant.1 (whole_scripted c.len.result c.self.inside.script.items c.self.invariant.0)) in
     let came : c.in_ok-came.came.items ≡ c.self.inside.came.items ++ joined_in c.in_ok-parted.parted.given.items =
     c.in_ok-came.ensures ∙ ap (λ before. before ++ joined_in c.deref-6.result.now) c.deref-5.ensures.value
     ∙ ap (λ events. c.self.inside.came.items ++ joined_in events) c.deref-6.ensures.value in
     let events = ap (λ (poll : Poll). poll.events) c.in_ok-record.ensures ∙ c.deref-4.ensures.value in (
       c.self.invariant.0,
-      subst (All IsWholePiece) (sym (c.in_ok-parted.ensures.waiting ∙ ap (waiting_of c.args.paused.now []) c.deref-3.ensures.value)) (whole_waiting c.args.paused.now [] c.in_ok-all.all.items whole),
+      subst (All IsWholePiece) (sym (c.in_ok-parted.ensures.waiting
+          ∙ ap (waiting_of c.args.paused.now []) c.deref-3.ensures.value))
+          (whole_waiting c.args.paused.now [] c.in_ok-all.all.items whole),
       λ id.
           ap (has_come id) c.in_ok-push.ensures.items
-          ∙ come_more id c.self.inside.polls.items c.in_ok-record.record c.self.inside.came.items (c.self.invariant.2 id)
+          ∙ come_more id c.self.inside.polls.items c.in_ok-record.record c.self.inside.came.items
+          (c.self.invariant.2 id)
           ∙ ap (λ new. list_any (λ (one : Came). one.id == id) (c.self.inside.came.items ++ joined_in new)) events
           ∙ sym (ap (list_any (λ (one : Came). one.id == id)) came),
     )
 
 pub returns-clause-events : goal.returns-clause-events
 returns-clause-events c =
-    let due : c.in_ok-all.all.items ≡ c.self.inside.waiting.items ++ scripted_for c.len.result c.self.inside.script.items =
+    let due : c.in_ok-all.all.items ≡ c.self.inside.waiting.items
+    ++ scripted_for c.len.result c.self.inside.script.items =
     c.in_ok-all.ensures ∙ ap (λ before. before ++ scripted_for c.len.result c.deref-2.result.now) c.deref.ensures.value
     ∙ ap (λ script. c.self.inside.waiting.items ++ scripted_for c.len.result script) c.deref-2.ensures.value in
     let whole : All IsWholePiece c.in_ok-all.all.items =
     subst (All IsWholePiece) (sym due)
-    (All-append IsWholePiece c.self.inside.waiting.items (scripted_for c.len.result c.self.inside.script.items) c.self.invariant.1 (whole_scripted c.len.result c.self.inside.script.items c.self.invariant.0)) in
-    subst (All (MayCome c.args.paused.now)) (sym (c.in_ok-parted.ensures.given ∙ ap (given_of c.args.paused.now []) c.deref-3.ensures.value)) (given_may_come c.args.paused.now [] c.in_ok-all.all.items whole)
+    (All-append IsWholePiece c.self.inside.waiting.items (scripted_for c.len.result c.self.inside.script.items)
+    c.self.invariant.1 (whole_scripted c.len.result c.self.inside.script.items c.self.invariant.0)) in
+    subst (All (MayCome c.args.paused.now)) (sym (c.in_ok-parted.ensures.given
+    ∙ ap (given_of c.args.paused.now []) c.deref-3.ensures.value))
+    (given_may_come c.args.paused.now [] c.in_ok-all.all.items whole)
 
 pub returns-clause-shut : goal.returns-clause-shut
 returns-clause-shut c = λ id.

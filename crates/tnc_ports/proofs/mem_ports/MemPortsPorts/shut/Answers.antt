@@ -10,15 +10,18 @@ pub invariant_of-self : goal.invariant_of-self
 invariant_of-self c = (
   c.self.invariant.0,
   c.self.invariant.1,
-  λ id. c.self.invariant.2 id ∙ sym (with_shut-ids c.args.id id c.self.inside.came.items) ∙ ap (list_any (λ one. one.id == id)) (sym c.shut_all_of.ensures),
+  λ id. c.self.invariant.2 id ∙ sym (with_shut-ids c.args.id id c.self.inside.came.items)
+      ∙ ap (list_any (λ one. one.id == id)) (sym c.shut_all_of.ensures),
 )
 
 pub returns-clause-shut : goal.returns-clause-shut
 returns-clause-shut c = λ come.
     ap (λ all. was_shut all c.args.id) c.shut_all_of.ensures
-    ∙ with_shut-itself c.args.id c.self.inside.came.items (sym (c.self.invariant.2 c.args.id) ∙ ap (λ (view : PortsView). has_come c.args.id view.polls) c.self.view_is ∙ come)
+    ∙ with_shut-itself c.args.id c.self.inside.came.items (sym (c.self.invariant.2 c.args.id)
+    ∙ ap (λ (view : PortsView). has_come c.args.id view.polls) c.self.view_is ∙ come)
 
 pub returns-clause-others : goal.returns-clause-others
 returns-clause-others c = λ other differs.
-    ap (λ all. was_shut all other) c.shut_all_of.ensures ∙ with_shut-others c.args.id c.self.inside.came.items other differs
+    ap (λ all. was_shut all other) c.shut_all_of.ensures
+    ∙ with_shut-others c.args.id c.self.inside.came.items other differs
     ∙ ap (λ (view : PortsView). was_shut view.came other) c.self.view_is

@@ -10,21 +10,25 @@ use Rattle.tnc_ports.proofs.outgoing.Outgoing.append.Goals as goal
 
 pub returns-then-len-piece-clause-full : goal.returns-then-len-piece-clause-full
 returns-then-len-piece-clause-full c =
-    let whole : length (octets_of c.args.self.now) ≡ length c.self.inside.octets.items = ap length (whole_of _ _ _ c.self.invariant.0 c.self.view_is) in
+    let whole : length (octets_of c.args.self.now) ≡ length c.self.inside.octets.items =
+    ap length (whole_of _ _ _ c.self.invariant.0 c.self.view_is) in
     let len = c.len.ensures.len in
     (λ e. omega arith, λ more. refl)
 
 pub returns-then-is_empty-clause-full : goal.returns-then-is_empty-clause-full
 returns-then-is_empty-clause-full c =
-    let whole : length (octets_of c.args.self.now) ≡ length c.self.inside.octets.items = ap length (whole_of _ _ _ c.self.invariant.0 c.self.view_is) in
+    let whole : length (octets_of c.args.self.now) ≡ length c.self.inside.octets.items =
+    ap length (whole_of _ _ _ c.self.invariant.0 c.self.view_is) in
     let len = c.len.ensures.len in
     let within = c.self.invariant.3 in
-    let none : length c.args.piece.now ≡ 0 = eqb-true (length c.args.piece.now) 0 (sym c.is_empty.ensures ∙ c.if-is_empty.true) in
+    let none : length c.args.piece.now ≡ 0 = eqb-true (length c.args.piece.now) 0 (sym c.is_empty.ensures
+    ∙ c.if-is_empty.true) in
     (λ e. absurd (ok_or_err _ _ _ refl e), λ more. absurd (omega arith))
 
 pub returns-in_err-push_back-clause-full : goal.returns-in_err-push_back-clause-full
 returns-in_err-push_back-clause-full c =
-    let whole : length (octets_of c.args.self.now) ≡ length c.self.inside.octets.items = ap length (whole_of _ _ _ c.self.invariant.0 c.self.view_is) in
+    let whole : length (octets_of c.args.self.now) ≡ length c.self.inside.octets.items =
+    ap length (whole_of _ _ _ c.self.invariant.0 c.self.view_is) in
     let len = c.len.ensures.len in
     let within = c.self.invariant.3 in
     let p = err_from_is_err_and c.from_residual.result c.from_residual.ensures.1 in
@@ -32,7 +36,8 @@ returns-in_err-push_back-clause-full c =
 
 pub returns-clause-full : goal.returns-clause-full
 returns-clause-full c =
-    let whole : length (octets_of c.args.self.now) ≡ length c.self.inside.octets.items = ap length (whole_of _ _ _ c.self.invariant.0 c.self.view_is) in
+    let whole : length (octets_of c.args.self.now) ≡ length c.self.inside.octets.items =
+    ap length (whole_of _ _ _ c.self.invariant.0 c.self.view_is) in
     let len = c.len.ensures.len in
     let within = c.self.invariant.3 in
     (λ e. absurd (ok_or_err _ _ _ refl e), λ more. absurd (omega arith))
@@ -49,7 +54,8 @@ returns-clause-appended c =
     let count : c.fill_from_slice.result ≡ length piece = grind (arith, c.fill_from_slice.ensures.count) in
     let some : 0 < length piece = grind (arith, nat_tests, c.is_empty.ensures, c.if-is_empty.false) in
     let filled : c.fill_from_slice.new.self.items ≡ octets ++ piece =
-    ap (λ b. b.items) c.fill_from_slice.ensures.items ∙ ap (λ n. octets ++ take n piece) count ∙ ap (λ p. octets ++ p) (take-length piece) in
+    ap (λ b. b.items) c.fill_from_slice.ensures.items ∙ ap (λ n. octets ++ take n piece) count
+    ∙ ap (λ p. octets ++ p) (take-length piece) in
     ap (λ ls. cut ls c.fill_from_slice.new.self.items) c.in_ok-push_back.ensures.items
     ∙ ap (cut (lens ++ length piece ∷ [])) filled
     ∙ cut-append lens octets piece c.self.invariant.0 ∙ ap (λ ps. ps ++ piece ∷ []) c.self.view_is

@@ -7,4 +7,5 @@ returns-clause-events g c =
     c.in_ok-gather.ensures.kept
     (c.in_ok-admit-2.ensures.kept c.args.paused.now
     (c.in_ok-admit.ensures.kept c.args.paused.now
-    (subst (All (MayCome c.args.paused.now)) (sym c.new-events.ensures.items) (λ k d within. absurd (omega (arith, within))))))
+    (subst (All (MayCome c.args.paused.now)) (sym c.new-events.ensures.items)
+    (λ k d within. absurd (omega (arith, within))))))

@@ -10,4 +10,4 @@ invariant-loop-item g l =
     ((hosts : Hosts) → Keeps l.initial.self.hosts hosts
     → HearsFrames (take l.item-index l.items) l.initial.self l.self hosts
     (stream_of g.E.Sink.written g.E.Sink.faults l.initial.report) (stream_of g.E.Sink.written g.E.Sink.faults l.report))
-    × (l.self.words ≡ l.initial.self.words) × (l.self.merger ≡ l.initial.self.merger) × (l.self.ticks ≡ l.initial.self.ticks)
+    × (l.self.words ≡ l.initial.self.words) × (l.self.ticks ≡ l.initial.self.ticks)

@@ -7,7 +7,6 @@ pub loop-tick-init : goal.loop-tick-init
 loop-tick-init g c = (
   (λ live keeps at. (0, omega (arith, at), omega arith, ticks_none c.args.busy c.args.self.now live _ _ keeps at)),
   refl,
-  refl,
 )
 
 pub loop-tick-preserved : goal.loop-tick-preserved
@@ -20,8 +19,7 @@ loop-tick-preserved g c = (
         ticks_more c.args.busy h.0 c.loop-tick.tick c.args.self.now c.loop-tick.self c.tick.new.self live _ _ _ _ _ _
             c.loop-tick.invariant.1 h.1 h.3 c.in_ok-tick.ensures.ticked,
       )),
-  c.in_ok-tick.ensures.rest.0 ∙ c.loop-tick.invariant.1,
-  c.in_ok-tick.ensures.rest.1 ∙ c.loop-tick.invariant.2,
+  c.in_ok-tick.ensures.rest ∙ c.loop-tick.invariant.1,
 )
 
 pub returns-in_err-tick-clause-cut : goal.returns-in_err-tick-clause-cut
@@ -37,10 +35,7 @@ returns-in_err-tick-clause-cut g c = λ live keeps at.
     )
 
 pub returns-in_err-tick-clause-rest : goal.returns-in_err-tick-clause-rest
-returns-in_err-tick-clause-rest g c = (
-  c.in_err-tick.ensures.rest.0 ∙ c.loop-tick.invariant.1,
-  c.in_err-tick.ensures.rest.1 ∙ c.loop-tick.invariant.2,
-)
+returns-in_err-tick-clause-rest g c = c.in_err-tick.ensures.rest ∙ c.loop-tick.invariant.1
 
 pub returns-clause-ticked : goal.returns-clause-ticked
 returns-clause-ticked g c = λ live keeps at.

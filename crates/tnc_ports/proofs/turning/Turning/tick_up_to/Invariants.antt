@@ -12,4 +12,4 @@ invariant-loop-tick g l =
     × TicksAll l.busy count l.initial.self l.self live
     (stream_of g.O.Sink.written g.O.Sink.faults l.initial.output) (stream_of g.O.Sink.written g.O.Sink.faults l.output)
     (stream_of g.E.Sink.written g.E.Sink.faults l.initial.report) (stream_of g.E.Sink.written g.E.Sink.faults l.report))
-    × (l.self.words ≡ l.initial.self.words) × (l.self.merger ≡ l.initial.self.merger)
+    × (l.self.words ≡ l.initial.self.words)
