@@ -57,7 +57,8 @@ module _ (lists : HeldLists) (readings : Readings) (x : List ℤ) (number : ℕ)
 
   -- a frame ends
   pub some_frame : ((octets : List ℕ) × EndsFrame (bits_of (lane_tones x number place ++ tone ∷ [])) octets)
-      → ((octets : List ℕ) → EndsFrame (bits_of (lane_tones x number place ++ tone ∷ [])) octets → HoldsFrame new.deframer octets)
+      → ((octets : List ℕ) → EndsFrame (bits_of (lane_tones x number place ++ tone ∷ [])) octets
+      → HoldsFrame new.deframer octets)
       → HoldsFrameOf new (lane_bits x number (place + 1))
   some_frame some holds = record {
     octets = some.0;

@@ -9,9 +9,8 @@ use Rattle.tone_tracking.specs.declared.reach.Reach.{Reach}
 use Rattle.tone_tracking.specs.Clock.{changes}
 use Rattle.tone_tracking.specs.Heard.{heard}
 use Rattle.tone_tracking.specs.HeldTracker.{tone_before}
-use Rattle.sensitive_receiver.specs.declared.readings.Readings.{Readings}
 use Rattle.sensitive_receiver.specs.AddedCandidates.{is_in_time}
-use Rattle.sensitive_receiver.specs.Lanes.{list_of, delay_of, is_read_by, is_read_at, readings_at, tone_back, tone_read, lane_tones}
+use Rattle.sensitive_receiver.specs.Lanes.{list_of, delay_of, is_read_at, tone_back, tone_read, lane_tones}
 
 range-more : (a n : ℕ) → range_with_len a (suc n) ≡ range_with_len a n ++ (a + n) ∷ []
 range-more a zero = ap (λ k. k ∷ []) (let e : a ≡ a + 0 = omega arith in e)
@@ -58,12 +57,6 @@ pub tone_is_back : (x : List ℤ) (lane place count back delay : ℕ) (reach : R
     → reach ≡ list_of lane → count ≡ place + 1 → delay ≡ delay_of lane + back → tone ≡ tone_back x lane place back
 tone_is_back x lane place count back delay reach tone is same_list same_count same_delay =
     is ∙ (λ i. tone_before (heard (same_list i) x) (same_count i) (same_delay i))
-
--- whether a lane reads, as the readings tell it
-pub reads_as_told : (x : List ℤ) (lane : ℕ) (readings : Readings) (b : Bool) → readings ≡ readings_at x readings.place
-    → b ≡ is_read_by lane readings
-    → b ≡ is_read_at x lane readings.place
-reads_as_told x lane readings b same is = is ∙ ap (is_read_by lane) same
 
 -- the tones with the one that the lane reads, as it was asked for
 pub tones-pushed : (x : List ℤ) (lane place : ℕ) (tone : Tone) → is_read_at x lane place ≡ true

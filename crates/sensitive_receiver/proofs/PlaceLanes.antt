@@ -1,7 +1,7 @@
 -- The added lanes at one place: which of them read, and what they have read once some of them have.
 use Rattle.std.proofs.Common.{◌≡◌, ◌≢◌, ℕ, ◌+◌, ◌-◌, ◌%◌, ◌<◌, ◌≤◌, true, false, ℤ, List, length, get_or, set, ap, sym, subst, ◌∙◌, arith, inl, inr, get_or-set_same, get_or-set_other}
 use Rattle.std.specs.Prelude.{nat_lt, if◌then◌else◌, ◌==◌}
-use Rattle.std.proofs.lemmas.Bool.{cases_lt, cases_eq, lt-ltb, le-ltb, eq-eqb, ne_eqb, eqb-true, true≢false}
+use Rattle.std.proofs.lemmas.Bool.{cases_lt, cases_eq, lt-ltb, le-ltb, ne_eqb, eqb-true, true≢false}
 use Rattle.frame_merge.specs.declared.candidate.Candidate.{Candidate}
 use Rattle.sensitive_receiver.specs.declared.readings.Readings.{Readings}
 use Rattle.sensitive_receiver.specs.AddedCandidates.{EndsAtPlace}
@@ -17,14 +17,10 @@ use Rattle.sensitive_receiver.proofs.LaneLemmas.{lane_tones-not}
 pub fixed_told : (lane : ℕ) (r : Readings) → lane < 16 → is_read_by lane r ≡ (r.place % 8 == lane - 8)
 fixed_told lane r small =
     ap (λ b. if b then r.place % 8 == lane - 8
-    else if nat_lt lane 19 then r.slow_near else if nat_lt lane 22 then r.slow_far else r.fast_near) (lt-ltb lane 16 small)
+    else if nat_lt lane 19 then r.slow_near else if nat_lt lane 22 then r.slow_far else r.fast_near)
+    (lt-ltb lane 16 small)
 
--- of them the one whose turn it is
-pub fixed_reads : (r : Readings) (k : ℕ) → k ≡ r.place % 8 → is_read_by (8 + k) r ≡ true
-fixed_reads r k is =
-    fixed_told (8 + k) r (omega arith) ∙ eq-eqb (r.place % 8) (8 + k - 8) (omega arith)
-
--- and no other
+-- no other than the one whose turn it is reads
 pub fixed_not : (r : Readings) (k : ℕ) → k < 8 → k ≢ r.place % 8 → is_read_by (8 + k) r ≡ false
 fixed_not r k small other =
     fixed_told (8 + k) r (omega arith)
@@ -46,11 +42,13 @@ places_read-other n place k ne = elim (cases_lt k n) [
 ]
 
 -- before any lane has read
-pub lanes_before : (place : ℕ) (lanes : List HeldLane) (x : List ℤ) → LanesHaveRead lanes place x → LanesAreAt 0 lanes place x
+pub lanes_before : (place : ℕ) (lanes : List HeldLane) (x : List ℤ) → LanesHaveRead lanes place x
+    → LanesAreAt 0 lanes place x
 lanes_before place lanes x h k d m = subst (λ p. LaneStandsFor (get_or lanes k d) (lane_tones x (8 + k) p))
     (sym (places_read-from 0 place k (omega arith))) (h k d m)
 
-pub before_lanes : (place : ℕ) (lanes : List HeldLane) (x : List ℤ) → LanesAreAt 0 lanes place x → LanesHaveRead lanes place x
+pub before_lanes : (place : ℕ) (lanes : List HeldLane) (x : List ℤ) → LanesAreAt 0 lanes place x
+    → LanesHaveRead lanes place x
 before_lanes place lanes x h k d m = subst (λ p. LaneStandsFor (get_or lanes k d) (lane_tones x (8 + k) p))
     (places_read-from 0 place k (omega arith)) (h k d m)
 
@@ -61,7 +59,8 @@ lanes_after place lanes x h k d m = subst (λ p. LaneStandsFor (get_or lanes k d
     (places_read-below 15 place k m) (h k d m)
 
 -- the next lane has not read yet
-pub lane_before : (place n : ℕ) (lanes : List HeldLane) (was : HeldLane) (x : List ℤ) → n < 15 → LanesAreAt n lanes place x
+pub lane_before : (place n : ℕ) (lanes : List HeldLane) (was : HeldLane) (x : List ℤ) → n < 15
+    → LanesAreAt n lanes place x
     → LaneStandsFor (get_or lanes n was) (lane_tones x (8 + n) place)
 lane_before place n lanes was x l h =
     subst (λ m. LaneStandsFor (get_or lanes n was) (lane_tones x (8 + n) m))
@@ -69,10 +68,12 @@ lane_before place n lanes was x l h =
 
 -- the next lane reads
 pub lane_read : (place n : ℕ) (lanes : List HeldLane) (was lane : HeldLane) (x : List ℤ) → length lanes ≡ 15 → n < 15
-    → (LaneStandsFor (get_or lanes n was) (lane_tones x (8 + n) place) → LaneStandsFor lane (lane_tones x (8 + n) (place + 1)))
+    → (LaneStandsFor (get_or lanes n was) (lane_tones x (8 + n) place)
+    → LaneStandsFor lane (lane_tones x (8 + n) (place + 1)))
     → LanesAreAt n lanes place x → LanesAreAt (n + 1) (set lanes n lane) place x
 lane_read place n lanes was lane x size l reads h k d m = elim (cases_eq k n) [
-  | inl e ↦ subst (λ i. LaneStandsFor (get_or (set lanes n lane) i d) (lane_tones x (8 + i) (places_read (n + 1) place i)))
+  | inl e ↦ subst (λ i. LaneStandsFor (get_or (set lanes n lane) i d)
+      (lane_tones x (8 + i) (places_read (n + 1) place i)))
       (sym e)
       (subst (λ t. LaneStandsFor t (lane_tones x (8 + n) (places_read (n + 1) place n)))
       (sym (get_or-set_same lanes n lane d (omega arith)))
@@ -142,7 +143,8 @@ pub adds_join_among : (place first middle end : ℕ) (x : List ℤ) (before foun
     → middle ≤ end → AddsAmong place first middle x before found → AddsAmong place middle end x found after
     → AddsAmong place first end x before after
 adds_join_among place first middle end x before found after le le' a b =
-    adds_join (λ p l. (p ≡ place) × (8 + first ≤ l) × (l < 8 + middle)) (λ p l. (p ≡ place) × (8 + middle ≤ l) × (l < 8 + end))
+    adds_join (λ p l. (p ≡ place) × (8 + first ≤ l) × (l < 8 + middle))
+    (λ p l. (p ≡ place) × (8 + middle ≤ l) × (l < 8 + end))
     (λ p l. (p ≡ place) × (8 + first ≤ l) × (l < 8 + end)) x before found after a b
     (λ p l h. (h.0, h.1, (let small = h.2 in omega arith)))
     (λ p l h. (h.0, (let large = h.1 in omega arith), h.2))
@@ -179,7 +181,7 @@ module _ (r : Readings) (k : ℕ) (x : List ℤ) (k_is : k ≡ r.place % 8) (tol
     heard = a.heard;
     found = a.found;
     are = record {
-      each = λ i d l. let e = a.are.each i d l in (e.0, (e.1.0, (let lane = e.1.1 in omega arith), (let lane = e.1.1 in omega arith)), e.2);
+      each = λ i d l. let e = a.are.each i d l in let lane = e.1.1 in (e.0, (e.1.0, omega arith, omega arith), e.2);
       whole = λ item p of ends. a.are.whole item p (of.0, turn item p of.0 of.1 of.2 ends) ends;
       apart = a.are.apart;
     };
@@ -187,13 +189,15 @@ module _ (r : Readings) (k : ℕ) (x : List ℤ) (k_is : k ≡ r.place % 8) (tol
 
   -- and that lane alone reads
   pub lanes_fixed : (lanes : List HeldLane) (was lane : HeldLane) → length lanes ≡ 15
-      → (LaneStandsFor (get_or lanes k was) (lane_tones x (8 + k) r.place) → LaneStandsFor lane (lane_tones x (8 + k) (r.place + 1)))
+      → (LaneStandsFor (get_or lanes k was) (lane_tones x (8 + k) r.place)
+      → LaneStandsFor lane (lane_tones x (8 + k) (r.place + 1)))
       → LanesAreAt 0 lanes r.place x → LanesAreAt 8 (set lanes k lane) r.place x
   lanes_fixed lanes was lane size reads h i d m =
       let before = before_lanes r.place lanes x h in
       let k_small : k < 8 = omega arith in
       elim (cases_eq i k) [
-        | inl e ↦ subst (λ j. LaneStandsFor (get_or (set lanes k lane) j d) (lane_tones x (8 + j) (places_read 8 r.place j)))
+        | inl e ↦ subst (λ j. LaneStandsFor (get_or (set lanes k lane) j d)
+            (lane_tones x (8 + j) (places_read 8 r.place j)))
             (sym e)
             (subst (λ t. LaneStandsFor t (lane_tones x (8 + k) (places_read 8 r.place k)))
             (sym (get_or-set_same lanes k lane d (omega arith)))

@@ -37,7 +37,8 @@ pub record Visited (lists : HeldLists) (readings : Readings) (old now : List Hel
       → AddsAmong readings.place first n x before after
   pub bounds : All HasRoom before → All HasRoom after
 
-pub visited_none : (lists : HeldLists) (readings : Readings) (lanes : List HeldLane) (found : List Candidate) (first : ℕ)
+pub visited_none : (lists : HeldLists) (readings : Readings) (lanes : List HeldLane) (found : List Candidate)
+    (first : ℕ)
     → length lanes ≡ 15
     → Visited lists readings lanes lanes found found first first
 visited_none lists readings lanes found first size = record {
@@ -65,7 +66,8 @@ module _ (lists : HeldLists) (readings : Readings) (old now : List HeldLane) (be
         least = omega arith;
         size = length-set now n lane ∙ h.size;
         read = λ x last start. lane_read readings.place n now was lane x h.size l (reads x last) (h.read x last start);
-        found = λ x last start. adds_next_among readings.place first n x before found after h.least (h.found x last start)
+        found = λ x last start. adds_next_among readings.place first n x before found after h.least
+            (h.found x last start)
             (adds x last (lane_before readings.place n now was x l (h.read x last start)));
         bounds = λ all. bound (h.bounds all);
       }

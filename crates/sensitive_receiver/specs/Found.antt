@@ -37,7 +37,8 @@ AddsBelow place lane x before after = AddsWhere (λ p l. (p ≡ place) × (l < l
 
 -- at one place by the lanes from one to below another, counted from lane 8 on
 abbrev pub AddsAmong : ℕ → ℕ → ℕ → List ℤ → List Candidate → List Candidate → Type 0
-AddsAmong place from to x before after = AddsWhere (λ p l. (p ≡ place) × (8 + from ≤ l) × (l < 8 + to)) x before after
+AddsAmong place from to x before after =
+    AddsWhere (λ p l. (p ≡ place) × (8 + from ≤ l) × (l < 8 + to)) x before after
 
 -- at the places from one to below another
 abbrev pub AddsBetween : ℕ → ℕ → List ℤ → List Candidate → List Candidate → Type 0

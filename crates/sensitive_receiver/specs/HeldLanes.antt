@@ -38,11 +38,11 @@ abbrev pub LanesHaveRead : List HeldLane → ℕ → List ℤ → Type 0
 LanesHaveRead lanes count x =
     (k : ℕ) (d : HeldLane) → k < 15 → LaneStandsFor (slice_index_or lanes k d) (lane_tones x (8 + k) count)
 
--- how many places a lane has read if the first lanes have read one place more than the others
+-- how many places a lane has taken, if the first lanes have taken a place and the others have not
 abbrev pub places_read : ℕ → ℕ → ℕ → ℕ
 places_read first place k = if nat_lt k first then place + 1 else place
 
--- the first lanes have read what they read at a place, and the others only what they read before it
+-- The first lanes have taken a place, and the others have not: each has read its tones of the places that it has taken.
 abbrev pub LanesAreAt : ℕ → List HeldLane → ℕ → List ℤ → Type 0
 LanesAreAt first lanes place x =
     (k : ℕ) (d : HeldLane) → k < 15

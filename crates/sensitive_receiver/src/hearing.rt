@@ -9,7 +9,8 @@ ghost use Rattle.tone_tracking.specs.Heard.{places_in};
 ghost use Rattle.tone_tracking.specs.HeldLists.{HasTaken as ListsHaveTaken};
 ghost use Rattle.sensitive_receiver.specs.AddedCandidates.{is_in_time};
 ghost use Rattle.sensitive_receiver.specs.Found.{AddsAmong, AddsAt, AddsBelow, HasRoom};
-ghost use Rattle.sensitive_receiver.specs.HeldLanes.{HoldsFrameOf, IsLastPlace, LaneStandsFor, LanesAreAt, LanesHaveRead};
+ghost use Rattle.sensitive_receiver.specs.HeldLanes.{HoldsFrameOf, IsLastPlace};
+ghost use Rattle.sensitive_receiver.specs.HeldLanes.{LaneStandsFor, LanesAreAt, LanesHaveRead};
 ghost use Rattle.sensitive_receiver.specs.Lanes.{is_read_by, lane_bits, lane_tones};
 
 use crate::added_lane::{AddedLane, has_path};
@@ -40,12 +41,13 @@ pub(crate) fn hear_place(
     ensures bounds { OnOk result (All HasRoom found.old.items → All HasRoom found.new.items) }
 {
     hear_fixed(alloc, lists, lanes, readings, found)?;
+    // Lanes 16 to 18 follow one clock, lanes 19 to 21 another, and lane 22 a third.
     hear_clocked(alloc, lists, lanes, 8, 11, readings, found)?;
     hear_clocked(alloc, lists, lanes, 11, 14, readings, found)?;
     hear_clocked(alloc, lists, lanes, 14, 15, readings, found)
 }
 
-/// Has the one of the first eight lanes whose turn it is read its bit.
+/// Has one of lanes 8 to 15 read its bit: the one whose turn it is at the place.
 fn hear_fixed(
     alloc: Global,
     lists: &ToneLists,
@@ -69,7 +71,8 @@ fn hear_fixed(
     hear(alloc, lists, lane, FIRST + index, readings, found)
 }
 
-/// Has the lanes from one to below another, which follow one clock, read their bits if it says so.
+/// Has the lanes from one to below another, counted from lane 8 on, read their bits if the clock that they share says
+/// so.
 fn hear_clocked(
     alloc: Global,
     lists: &ToneLists,
@@ -99,7 +102,7 @@ fn hear_clocked(
     hear_each(alloc, lists, lanes, first, end, readings, found)
 }
 
-/// Has the lanes from one to below another read their bits.
+/// Has the lanes from one to below another, counted from lane 8 on, read their bits.
 fn hear_each(
     alloc: Global,
     lists: &ToneLists,
@@ -157,8 +160,8 @@ fn hear(
     add_frame(alloc, lists, lane, number, readings, found)
 }
 
-/// Adds the frame that ends with the bit that a lane read last, if it begins with a path and its flag is in time. Few bits
-/// end a frame, so this stays apart from what each bit costs.
+/// Adds the frame that ends with the bit that a lane read last, if it begins with a path and its flag is in time. Few
+/// bits end a frame, so this stays apart from what each bit costs.
 #[cold]
 fn add_frame(
     alloc: Global,

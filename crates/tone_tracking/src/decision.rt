@@ -119,7 +119,7 @@ pub(crate) fn pass(reach: Reach, tone: Tone, now: &Correlations, past: Phasor) -
     ensures past { result ≡ passed reach tone now.now past }
     ensures bound { IsWithin 200000000 result }
 {
-    // Both are summed before one is chosen, so that the choice needs no jump, which would often be foretold wrongly.
+    // Both sums are made before one is chosen: processors often mispredict a jump to the one that is wanted.
     let remains = remains(reach, past);
     let mark = now.mark.plus(remains);
     let space = now.space.plus(remains).turned_back(Tone::Space);

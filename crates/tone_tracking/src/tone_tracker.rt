@@ -67,8 +67,8 @@ impl ToneTracker {
         self.decide_as(self.reach, now, next, later)
     }
 
-    /// Does what [`ToneTracker::decide`] does for a caller that knows how far the tracker reaches. A known reach makes the
-    /// decision about a quarter quicker.
+    /// Does what [`ToneTracker::decide`] does, for a caller that knows how far the tracker reaches. A reach that is known
+    /// when the program is built makes the decision about a quarter faster.
     pub(crate) fn decide_as(
         &mut self,
         reach: Reach,

@@ -25,7 +25,8 @@ loop-index-preserved c =
     let after : List Candidate = c.hear.new.found.items in
     let test = c.loop-index-test.true in
     let range = c.requires.range in
-    subst (λ i. Visited lists told c.args.lanes.now (set lanes i lane) c.args.found.now.items after c.args.first (n + 1))
+    subst (λ i. Visited lists told c.args.lanes.now (set lanes i lane) c.args.found.now.items after c.args.first
+    (n + 1))
     (sym c.from.ensures)
     (visited_more lists told c.args.lanes.now lanes c.args.found.now.items found after c.args.first n was lane
     c.loop-index.invariant (omega arith)
@@ -42,7 +43,8 @@ returns-clause-read c = λ x last start.
     let past = c.loop-index-test.false in
     let most = c.loop-index.auto.index-end in
     let all : c.loop-index.index ≡ c.args.end = omega arith in
-    subst (λ n. LanesAreAt n c.loop-index.lanes c.args.readings.now.place x) all (c.loop-index.invariant.read x last start)
+    subst (λ n. LanesAreAt n c.loop-index.lanes c.args.readings.now.place x) all
+    (c.loop-index.invariant.read x last start)
 
 pub returns-clause-found : goal.returns-clause-found
 returns-clause-found c = λ x last start.

@@ -29,6 +29,7 @@ returns-clause-found c =
     let was : HeldLane = c.index-lanes-from.result in
     on_ok_weaker c.hear.result (λ found x last h.
     adds_fixed told k x refl last.readings _ _
-    (found x last (subst (λ i. LaneStandsFor (get_or lanes i was) (lane_tones x (8 + k) told.place)) (sym c.from.ensures)
+    (found x last (subst (λ i. LaneStandsFor (get_or lanes i was) (lane_tones x (8 + k) told.place))
+    (sym c.from.ensures)
     (before_lanes told.place lanes x h k was (omega arith)))))
     c.hear.ensures.found

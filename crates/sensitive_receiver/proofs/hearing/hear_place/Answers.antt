@@ -32,5 +32,6 @@ returns-clause-found c =
 pub returns-clause-bounds : goal.returns-clause-bounds
 returns-clause-bounds c =
     on_ok_weaker c.hear_clocked-3.result (λ bounds all.
-    bounds (c.in_ok-hear_clocked-2.ensures.bounds (c.in_ok-hear_clocked.ensures.bounds (c.in_ok-hear_fixed.ensures.bounds all))))
+    bounds (c.in_ok-hear_clocked-2.ensures.bounds (c.in_ok-hear_clocked.ensures.bounds
+    (c.in_ok-hear_fixed.ensures.bounds all))))
     c.hear_clocked-3.ensures.bounds

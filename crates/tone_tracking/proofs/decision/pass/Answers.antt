@@ -13,5 +13,7 @@ returns-in-Mark-clause-bound c =
 
 pub returns-in-Space-clause-bound : goal.returns-in-Space-clause-bound
 returns-in-Space-clause-bound c =
-    let sum = within_more 190000002 200000000 _ (sum_within 40000000 150000002 _ _ _ c.plus.ensures c.requires.now.space c.remains-remains.ensures.bound) (omega arith) in
+    let sum = within_more 190000002 200000000 _
+    (sum_within 40000000 150000002 _ _ _ c.plus.ensures c.requires.now.space c.remains-remains.ensures.bound)
+    (omega arith) in
     turned_back_within 200000000 Space _ _ c.turned_back-space.ensures sum

@@ -4,17 +4,17 @@ use mir.Syntax.{w16}
 use Rattle.tone_tracking.proofs.tone_lists.with_next.Goals as goal
 
 -- seven numbers from the second on, and one more
-seven : (w : List ℤ) (p q r s t u v z : ℤ) → p ≡ get_or w 1 (pos 0) → q ≡ get_or w 2 (pos 0) → r ≡ get_or w 3 (pos 0) → s ≡ get_or w 4 (pos 0)
-    → t ≡ get_or w 5 (pos 0) → u ≡ get_or w 6 (pos 0) → v ≡ get_or w 7 (pos 0) → (i : ℕ) → i < 7
-    → get_or (p ∷ q ∷ r ∷ s ∷ t ∷ u ∷ v ∷ z ∷ []) i (pos 0) ≡ get_or w (i + 1) (pos 0)
-seven w p q r s t u v z first second third fourth fifth sixth seventh zero l = first
-seven w p q r s t u v z first second third fourth fifth sixth seventh (suc zero) l = second
-seven w p q r s t u v z first second third fourth fifth sixth seventh (suc (suc zero)) l = third
-seven w p q r s t u v z first second third fourth fifth sixth seventh (suc (suc (suc zero))) l = fourth
-seven w p q r s t u v z first second third fourth fifth sixth seventh (suc (suc (suc (suc zero)))) l = fifth
-seven w p q r s t u v z first second third fourth fifth sixth seventh (suc (suc (suc (suc (suc zero))))) l = sixth
-seven w p q r s t u v z first second third fourth fifth sixth seventh (suc (suc (suc (suc (suc (suc zero)))))) l = seventh
-seven w p q r s t u v z first second third fourth fifth sixth seventh (suc (suc (suc (suc (suc (suc (suc n))))))) l = absurd (omega arith)
+seven : (w : List ℤ) (p q r s t u v z : ℤ) → p ≡ get_or w 1 (pos 0) → q ≡ get_or w 2 (pos 0) → r ≡ get_or w 3 (pos 0)
+    → s ≡ get_or w 4 (pos 0) → t ≡ get_or w 5 (pos 0) → u ≡ get_or w 6 (pos 0) → v ≡ get_or w 7 (pos 0)
+    → (i : ℕ) → i < 7 → get_or (p ∷ q ∷ r ∷ s ∷ t ∷ u ∷ v ∷ z ∷ []) i (pos 0) ≡ get_or w (i + 1) (pos 0)
+seven w p q r s t u v z a b c d e f g zero l = a
+seven w p q r s t u v z a b c d e f g (suc zero) l = b
+seven w p q r s t u v z a b c d e f g (suc (suc zero)) l = c
+seven w p q r s t u v z a b c d e f g (suc (suc (suc zero))) l = d
+seven w p q r s t u v z a b c d e f g (suc (suc (suc (suc zero)))) l = e
+seven w p q r s t u v z a b c d e f g (suc (suc (suc (suc (suc zero))))) l = f
+seven w p q r s t u v z a b c d e f g (suc (suc (suc (suc (suc (suc zero)))))) l = g
+seven w p q r s t u v z a b c d e f g (suc (suc (suc (suc (suc (suc (suc n))))))) l = absurd (omega arith)
 
 pub returns-clause-moved : goal.returns-clause-moved
 returns-clause-moved c =
