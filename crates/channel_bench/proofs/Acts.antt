@@ -1,6 +1,5 @@
 -- What holds of a station and of the end of its link between two calls, act by act: the end's machine is the link's,
--- and
--- what is in flight from it is what was queued, as the pairs that are still to be heard name it.
+-- and what is in flight from it is what was queued, as the pairs that are still to be heard name it.
 use Rattle.std.proofs.Common.{◌≡◌, ℕ, ◌+◌, ◌-◌, ◌<◌, ◌≤◌, Bool, true, false, List, [], ◌∷◌, ◌++◌, length, map, drop}
 use Rattle.std.proofs.Common.{Option, Some, refl, sym, ap, ◌∙◌, subst, arith}
 use Rattle.std.specs.Bool.{⊤}

@@ -1,6 +1,5 @@
 -- A frame of a link as it is written, and as it is heard again: the same calls, the same role, and the kind that its
--- modulus
--- makes of it.
+-- modulus makes of it.
 use Rattle.std.specs.Prelude.{◌≡◌, ℕ, suc, ◌+◌, ◌≤◌, false, List, [], ◌∷◌, ◌++◌, length, drop, refl}
 use Rattle.std.proofs.Common.{sym, ◌∙◌, ap, subst, arith, get_or, eqb}
 use Rattle.std.specs.List.{AllByRecursion as Each}

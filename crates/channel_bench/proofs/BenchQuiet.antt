@@ -1,6 +1,5 @@
 -- The frames of a step, if each SABM, SABME and DISC of them finds a quiet channel: at most one is such a frame, and
--- then
--- nothing of the kind is in flight.
+-- then nothing of the kind is in flight.
 use Rattle.std.proofs.Common.{◌≡◌, ℕ, ◌+◌, ◌≤◌, Bool, true, false, not, ◌||◌, List, [], ◌∷◌, length, ◌⊎◌, refl, ap, ◌∙◌}
 use Rattle.std.proofs.Common.{arith, inl, inr}
 use Rattle.std.specs.Bool.{⊤}

@@ -1,6 +1,5 @@
 -- The law in the terms of host programs: what it asks of the events of a link follows from what hosts ask and from the
--- counts
--- of dropped frames.
+-- counts of dropped frames.
 use Rattle.std.proofs.Common.{◌≡◌, List, [], ◌∷◌, refl, sym, ap, ◌∙◌}
 use Rattle.std.specs.List.{AllByRecursion as Each}
 use Rattle.std.proofs.lemmas.List.Elements.{All-from_recursion, recursion_from_All}

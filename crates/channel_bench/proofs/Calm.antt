@@ -1,6 +1,5 @@
 -- A link that no host of its own connects or disconnects sends no SABM, SABME or DISC, if it hears no invalid N(R) and
--- no
--- FRMR: it is idle or up, and stays so.
+-- no FRMR: it is idle or up, and stays so.
 use Rattle.std.proofs.Common.{◌≡◌, ℕ, ◌==◌, Bool, true, false, ◌&&◌, [], ◌∷◌, length, cond, Option, Some, None, is_some}
 use Rattle.std.proofs.Common.{refl, sym, ap, ◌∙◌, subst}
 use Rattle.std.specs.Bool.{⊤}

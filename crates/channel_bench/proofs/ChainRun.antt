@@ -1,7 +1,6 @@
 -- In a joint run that is heard in order the events of a link at a station are a chain: each finds the machine that the
--- one
--- before it left. If only A calls and no N(R) is invalid, A hears no SABM, SABME or DISC, and no frame that resets its
--- link.
+-- one before it left. If only A calls and no N(R) is invalid, A hears no SABM, SABME or DISC, and no frame that resets
+-- its link.
 use Rattle.std.proofs.Common.{◌≡◌, ℕ, ◌+◌, Bool, true, false, List, [], ◌∷◌, ◌++◌, length, take, Option, Some, None}
 use Rattle.std.proofs.Common.{refl, sym, ap, ◌∙◌, subst, arith}
 use Rattle.std.specs.Bool.{⊤}

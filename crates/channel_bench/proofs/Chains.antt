@@ -1,6 +1,5 @@
 -- The events of a link at a station, each with the machine that the event before it left: what they tell, and how the
--- link
--- stands then.
+-- link stands then.
 use Rattle.std.proofs.Common.{◌≡◌, ◌||◌, Bool, true, false, List, [], ◌∷◌, ◌++◌, map, if◌then◌else◌, cond, Option, Some}
 use Rattle.std.proofs.Common.{None, refl, sym, ap, ◌∙◌, subst}
 use Rattle.std.specs.Bool.{⊤}

@@ -1,6 +1,5 @@
 -- A worked joint run with no data: a host at AAAA calls BBBB (SABM, UA) and disconnects (DISC, UA). What its
--- definitions
--- compute to, and what one lost frame makes of them.
+-- definitions compute to, and what one lost frame makes of them.
 use Rattle.std.specs.Prelude.{◌≡◌, ℕ, ◌<◌, true, false, All, nat_lt, List, [], ◌∷◌, ◌++◌, Some, None, refl}
 use Rattle.std.proofs.Common.{inl, arith}
 use Rattle.std.specs.List.{list_all, AllByRecursion as Each}

@@ -1,6 +1,5 @@
 -- What is in flight from the links of a station: the frames that were queued, each with its tags if it is a frame of
--- the
--- link that is meant, read along the pairs that are still to be heard.
+-- the link that is meant, read along the pairs that are still to be heard.
 use Rattle.std.proofs.Common.{◌≡◌, ℕ, zero, suc, ◌+◌, ◌<◌, ◌≤◌, Bool, true, false, ◌||◌, List, [], ◌∷◌, ◌++◌, length}
 use Rattle.std.proofs.Common.{map, Option, Some, None, get_or, refl, sym, ap, ◌∙◌, arith, inl, inr}
 use Rattle.std.specs.Bool.{⊤}

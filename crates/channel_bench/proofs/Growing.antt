@@ -1,6 +1,5 @@
 -- A joint run with one step more: it is a run, and it is heard in order, if the step adds the next pair or none.
--- Whoever
--- makes a run step by step keeps these.
+-- Whoever makes a run step by step keeps these.
 use Rattle.std.proofs.Common.{◌≡◌, ℕ, ◌+◌, ◌<◌, ◌≤◌, List, [], ◌∷◌, ◌++◌, length, take, Some, get_or, refl, sym, ap}
 use Rattle.std.proofs.Common.{◌∙◌, subst, arith, inl, inr}
 use Rattle.std.specs.Prelude.{All, slice_get}

@@ -1,6 +1,5 @@
 -- A frame that is heard keeps what holds of a link between two calls: as an event of that link it is the frame in front
--- of
--- those in flight, and as an event of another it is not among them.
+-- of those in flight, and as an event of another it is not among them.
 use Rattle.std.proofs.Common.{◌≡◌, ℕ, ◌<◌, Bool, true, false, List, [], ◌∷◌, length, drop, arith, cond, Option, Some}
 use Rattle.std.proofs.Common.{None, is_some, refl, sym, ap, ◌∙◌, subst, inl, inr}
 use Rattle.std.specs.Prelude.{All, MatchBool, map, is_none}

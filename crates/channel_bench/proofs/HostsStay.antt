@@ -26,8 +26,7 @@ use Rattle.channel_bench.proofs.TurnWalks.{Kept, kept_by_acts}
 -- ---- the connections
 
 -- A connection of the bench: of the host program by AGWPE, and another by KISS. What came by AGWPE are whole messages,
--- and
--- what came by KISS sets full duplex.
+-- and what came by KISS sets full duplex.
 pub record IsHosts (c : Connection) : Type 0 where
   pub kiss : c.id ≡ kiss_id → c.kind ≡ Kiss
   pub program : c.id ≡ program_id → c.kind ≡ Agw

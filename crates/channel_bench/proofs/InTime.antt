@@ -87,8 +87,7 @@ matched_more (first ∷ moments) moment ways matched next =
 -- ---- one direction
 
 -- The frames that a station has sent are those whose sending has ended and one that is still to be told of. Those that
--- are no
--- longer in flight were matched, or a mark has passed them.
+-- are no longer in flight were matched, or a mark has passed them.
 pub record WayHolds (pending : Option Sent) (sent : List (List ℕ)) (front ticks : ℕ) (towards : List SentAt)
     (matched samples : ℕ)
     : Type 0 where

@@ -1,6 +1,5 @@
 -- The law on any two stations: over a joint run that is heard in order, the two ends of a link follow it, so that the
--- law of
--- two links is the law of what the stations did.
+-- law of two links is the law of what the stations did.
 use Rattle.std.proofs.Common.{◌≡◌, ℕ, zero, suc, ◌+◌, ◌<◌, ◌≤◌, Bool, List, [], ◌∷◌, ◌++◌, length, take, replicate}
 use Rattle.std.proofs.Common.{Option, Some, None, refl, sym, ap, ◌∙◌, subst, arith}
 use Rattle.std.specs.Prelude.{AllPairs, slice_get}

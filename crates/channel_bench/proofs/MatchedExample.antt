@@ -1,6 +1,5 @@
 -- The worked joint run with its matches: each heard frame was in flight, and SABM and DISC found a quiet channel, so
--- that the
--- law over matched runs speaks of it. A DISC that follows the SABM at once would find no quiet channel.
+-- that the law over matched runs speaks of it. A DISC that follows the SABM at once would find no quiet channel.
 use Rattle.std.specs.Prelude.{◌≡◌, true, false, List, [], ◌∷◌, Some, None, refl}
 use Rattle.std.proofs.Common.{arith}
 use Rattle.std.proofs.lemmas.List.Elements.{All-from_recursion}

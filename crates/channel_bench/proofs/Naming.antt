@@ -1,6 +1,5 @@
 -- Of the frames that a step queues as many ask for an answer as its events sent that joined the queue, at least. This
--- is seen
--- by pairs that name all of them: then all are in flight.
+-- is seen by pairs that name all of them: then all are in flight.
 use Rattle.std.proofs.Common.{◌≡◌, ℕ, zero, suc, ◌+◌, ◌<◌, ◌≤◌, ◌==◌, Bool, true, List, [], ◌∷◌, ◌++◌, length, take}
 use Rattle.std.proofs.Common.{drop, Option, Some, None, refl, sym, ap, ◌∙◌, subst, arith}
 use Rattle.std.specs.Prelude.{max, slice_get}

@@ -1,6 +1,5 @@
 -- At a station of a bench each link is between the two calls, and the host program owns it: what the acts of a step
--- make of
--- that, what the program is sent, and which frames join the queue.
+-- make of that, what the program is sent, and which frames join the queue.
 use Rattle.std.proofs.Common.{◌≡◌, ℕ, ◌==◌, nat_lt, Bool, true, false, List, [], ◌∷◌, ◌++◌, length, map, cond, Option}
 use Rattle.std.proofs.Common.{Some, None, refl, sym, ap, ◌∙◌, subst}
 use Rattle.std.specs.Bool.{⊤}

@@ -1,6 +1,5 @@
 -- What a station reads of a frame of a link that it hears: the kind that its modulus makes of the one that was sent, in
--- the
--- same role.
+-- the same role.
 use Rattle.std.proofs.Common.{◌≡◌, ℕ, ◌<◌, List, drop, Option, Some, None, refl, sym, ap, ◌∙◌, subst, inl}
 use Rattle.std.specs.Prelude.{All, Result, Ok}
 use Rattle.ax25_address.specs.Callsign.{Callsign}

@@ -1,6 +1,5 @@
 -- The frames that the links of a station have queued: each is a frame of the link between two calls, with its tags, or
--- of
--- another.
+-- of another.
 use Rattle.std.proofs.Common.{◌≡◌, ℕ, suc, Bool, true, List, [], ◌∷◌, ◌++◌, length, map, Option, Some, None, refl, sym}
 use Rattle.std.proofs.Common.{ap, ◌∙◌, subst, arith, inl, inr}
 use Rattle.std.specs.Bool.{⊤}

@@ -166,8 +166,7 @@ module _ (w : BenchWords) (end : End) (ticks_made size : ℕ) (far : SideState) 
 -- ---- the bench
 
 -- The two stations, of which each may have sent a frame in this tick that the other has not been told of, and the
--- samples, to
--- which this tick may have added its own.
+-- samples, to which this tick may have added its own.
 pub record AtBench (sounded : ℕ) (pending_a pending_b : Option Sent) (bench : BenchState) : Type 0 where
   pub both : Both A pending_a pending_b bench.ticks bench.common.moments bench.a bench.b
   pub turn : SentInTurn bench.common.moments (stations_of bench)

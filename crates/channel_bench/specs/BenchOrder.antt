@@ -28,8 +28,7 @@ abbrev pub steps_of_run : BenchState → List Step
 steps_of_run bench = steps_in bench.common.moments
 
 -- The steps of these moments are a joint run, and it ends in the states that the stations have. Each SABM, SABME and
--- DISC found
--- a quiet channel.
+-- DISC found a quiet channel.
 pub record IsNoted (w : BenchWords) (moments : List Moment) (s : Stations) : Type 0 where
   pub run : IsJointRun (first_stations w) (steps_in moments)
   pub now : all_stepped (steps_in moments) (first_stations w) ≡ s

@@ -1,7 +1,6 @@
 -- The steps of a station of the bench, and what its host program and the channel make of each: the program is told what
 -- it is sent, and each frame that a link queues is in flight. A SABM, SABME or DISC that finds no quiet channel ends
--- the
--- run.
+-- the run.
 use Rattle.std.specs.Prelude.{◌≡◌, ◌≢◌, ℕ, ◌+◌, ◌-◌, ◌==◌, nat_lt, ◌&&◌, Bool, IsTrue, ◌↔◌, MatchBool, if◌then◌else◌}
 use Rattle.std.specs.Prelude.{List, [], ◌∷◌, ◌++◌, length, All, Any, drop, position, Option, Some, None, option_map}
 use Rattle.std.specs.Str.{bytes_eq}

@@ -1,6 +1,5 @@
 -- The law on two stations of which only one calls, in the terms of their host programs: hosts of A alone connect and
--- disconnect,
--- and no frame finds a transmit queue full.
+-- disconnect, and no frame finds a transmit queue full.
 use Rattle.std.specs.Prelude.{◌≡◌, ℕ, List, [], ◌∷◌}
 use Rattle.link_world.specs.declared.end.End.TheVariants.{B}
 use Rattle.link_world.specs.Windows.{WindowsFit}
@@ -23,9 +22,8 @@ pub record DroppedNothing (s : Stations) : Type 0 where
   pub b : s.b.dropped ≡ 0
 
 -- Over each joint run of two new stations whose windows fit, if each heard frame is matched with one in flight, and
--- each
--- SABM, SABME and DISC finds a quiet channel, each link keeps the order, if no host of B connects or disconnects and no
--- frame found a transmit queue full.
+-- each SABM, SABME and DISC finds a quiet channel, each link keeps the order, if no host of B connects or disconnects
+-- and no frame found a transmit queue full.
 abbrev pub CallerLaw : Type 0
 CallerLaw =
     (a b : Config) (seed_a seed_b : ℕ) (moments : List Moment)

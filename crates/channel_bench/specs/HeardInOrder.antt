@@ -1,6 +1,5 @@
 -- Frames that are heard in the order in which they were sent, each once, and none that was not sent: one list of pairs
--- for
--- each direction, over all links.
+-- for each direction, over all links.
 use Rattle.std.specs.Prelude.{◌≡◌, ◌≢◌, ℕ, ◌<◌, List, [], map, take, drop, All, AllPairs, Contains, slice_get, Some}
 use Rattle.std.specs.Prelude.{is_some}
 use Rattle.ax25_address.specs.FramePath.{BeginsWithPath, undone}
@@ -16,8 +15,7 @@ abbrev pub with_none_done : Path → Path
 with_none_done path = record path { repeaters = record { items = map undone path.repeaters.items } }
 
 -- Two frames in octets, equal but for the H bits of their repeaters: they begin with paths that are the same but for
--- them,
--- and all else is the same. (The two reserved bits of a call are no part of a path, and may differ as well.)
+-- them, and all else is the same. (The two reserved bits of a call are no part of a path, and may differ as well.)
 pub record AreAlikeButForH (heard sent : List ℕ) : Type 0 where
   pub len : ℕ
   pub path_heard : Path

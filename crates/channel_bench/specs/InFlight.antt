@@ -1,9 +1,7 @@
 -- What is in flight between two stations, to someone who sees which sent frame each heard one is, but who cannot know
 -- beforehand which will be heard. A frame of a link is in flight from the moment at which it joins the transmit queue
--- until
--- it is heard, a later one of its direction is heard, or it has passed the other station. So of each direction the
--- frames
--- from a number on are in flight.
+-- until it is heard, a later one of its direction is heard, or it has passed the other station. So of each direction
+-- the frames from a number on are in flight.
 use Rattle.std.specs.Prelude.{◌≡◌, ℕ, ◌+◌, ◌≤◌, ◌%◌, ◌==◌, ◌||◌, ◌&&◌, max, not, Bool, false, if◌then◌else◌, List, []}
 use Rattle.std.specs.Prelude.{◌∷◌, ◌++◌, length, drop, slice_get, Option, Some, None, IsTrue}
 use Rattle.std.specs.List.{list_any}
@@ -161,8 +159,7 @@ pub record IsInFlight (octets : List ℕ) (number : ℕ) (way : OneWay) : Type 0
   pub same : frame.octets ≡ octets
 
 -- each frame that is heard is matched with one in flight, of the same octets, and nothing else is; only what was queued
--- can
--- have passed
+-- can have passed
 abbrev pub IsMatched : Input → Option ℕ → OneWay → Type 0
 IsMatched (FromHost event) matched way = matched ≡ None
 IsMatched (OffAir octets) None way = ⊥
@@ -187,8 +184,7 @@ abbrev pub answers : LinkFrame → Bool
 answers frame = frame.on_ask && is_ua_or_dm frame.octets
 
 -- A station queues SABM, SABME or DISC only if no earlier one of its own is in flight, and no answer to one is in
--- flight
--- to it.
+-- flight to it.
 abbrev pub is_quiet_for : List ℕ → OneWay → OneWay → Bool
 is_quiet_for octets own back =
     not (is_ask octets) || not (list_any asks (in_flight own) || list_any answers (in_flight back))

@@ -1,6 +1,5 @@
 -- A joint run of two stations, A and B: the steps of both, in the order in which they are made. What a station hears is
--- a
--- list of octets. Nothing is said here of how they come to it.
+-- a list of octets. Nothing is said here of how they come to it.
 use Rattle.std.specs.Prelude.{◌≡◌, ℕ, ◌<◌, Bool, List, [], ◌∷◌, ◌++◌, All}
 use Rattle.link_world.specs.declared.end.End.{End}
 use Rattle.link_world.specs.declared.end.End.TheVariants.{A, B}

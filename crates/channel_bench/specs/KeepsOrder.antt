@@ -1,6 +1,5 @@
 -- Two host programs in order: in each set-up a program got a first part of what its partner gave in one set-up of its
--- own, and
--- these come in order.
+-- own, and these come in order.
 use Rattle.std.specs.Prelude.{◌≡◌, ℕ, ◌<◌, Bool, true, false, List, [], ◌∷◌, ◌++◌, filter, AllPairs, slice_get, Some}
 use Rattle.channel_bench.specs.declared.report.SetUp.{SetUp}
 use Rattle.channel_bench.specs.Report.{Report}

@@ -1,9 +1,7 @@
 -- The link of two calls in a joint run, as a world of two ends. What a station did to it happens to its end. Of the
--- frames
--- that an event sends those are in flight that some pair names, from the event until they are heard; the others were
--- sent
--- and lost, also those that found the transmit queue full. So what is in flight is what was sent and is still to be
--- heard.
+-- frames that an event sends those are in flight that some pair names, from the event until they are heard; the others
+-- were sent and lost, also those that found the transmit queue full. So what is in flight is what was sent and is still
+-- to be heard.
 use Rattle.std.specs.Prelude.{◌≡◌, ℕ, ◌+◌, ◌==◌, Bool, List, [], ◌∷◌, ◌++◌, length, map, Option, Some, None}
 use Rattle.std.specs.List.{range_with_len, list_any}
 use Rattle.ax25_address.specs.Callsign.{Callsign}
@@ -111,8 +109,7 @@ abbrev pub first_world : Calls → Params → Params → World
 first_world calls a b = new_world (path_between calls.a calls.b) (path_between calls.b calls.a) a b
 
 -- The two ends after the run, each with its record: the set-ups of the link with the packets that the host programs
--- gave in
--- each, and those that its owner was told of.
+-- gave in each, and those that its owner was told of.
 abbrev pub world_of : Calls → Pairs → Params → Params → List Step → World
 world_of calls pairs a b steps = run_changes (first_world calls a b) (changes_of calls pairs steps)
 

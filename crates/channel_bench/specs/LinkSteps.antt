@@ -1,7 +1,6 @@
 -- What a step of a station does to some of its links, event by event: to the one between two calls, or to any. A host
 -- program connects (AGWPE, C, v and c), sends (each packet of D), and disconnects (d, and when it leaves). A frame that
--- is
--- heard, and that passes every test on the way to a link, is an event of that link. A tick is one of each link.
+-- is heard, and that passes every test on the way to a link, is an event of that link. A tick is one of each link.
 use Rattle.std.specs.Prelude.{◌≡◌, ℕ, ◌-◌, ◌==◌, Bool, true, false, if◌then◌else◌, List, [], ◌∷◌, ◌++◌, length, Option}
 use Rattle.std.specs.Prelude.{Some, None, MatchBool}
 use Rattle.std.specs.List.{range_with_len}
@@ -37,8 +36,7 @@ use Rattle.channel_bench.specs.JointRun.{Input, IsTurn, Step}
 use Rattle.channel_bench.specs.JointRun.Input.{FromHost, OffAir, OfClock}
 
 -- An event of a link. Of the frames that it makes the link send the first so many join the transmit queue, and the
--- others,
--- which find it full, are lost.
+-- others, which find it full, are lost.
 pub record LinkStep : Type 0 where
   -- the link before it
   pub link : Link

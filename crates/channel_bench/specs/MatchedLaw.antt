@@ -1,8 +1,6 @@
 -- The law on two stations of which only one ever calls, over a run whose heard frames are matched as they are heard:
--- each
--- with a frame that was then in flight, as far as one could know. The map of frames heard to frames sent is found so,
--- and a
--- channel that is quiet by this wider count of what is in flight is quiet.
+-- each with a frame that was then in flight, as far as one could know. The map of frames heard to frames sent is found
+-- so, and a channel that is quiet by this wider count of what is in flight is quiet.
 use Rattle.std.specs.Prelude.{◌≡◌, ℕ, ◌+◌, Bool, true, false, List, [], ◌∷◌, ◌++◌, drop, All, Option, Some, None}
 use Rattle.std.specs.Prelude.{is_some}
 use Rattle.std.specs.List.{list_any}
@@ -100,8 +98,7 @@ MatchedInOrder =
     × AreHeardInOrder B (steps_in moments) (pairs_in moments).at_b
 
 -- Over each joint run of two new stations whose windows fit, if each heard frame is matched with one in flight, and
--- each
--- SABM, SABME and DISC finds a quiet channel, the link of two calls keeps the order, if only A calls.
+-- each SABM, SABME and DISC finds a quiet channel, the link of two calls keeps the order, if only A calls.
 abbrev pub MatchedLaw : Type 0
 MatchedLaw =
     (a b : Config) (seed_a seed_b : ℕ) (moments : List Moment)

@@ -1,6 +1,5 @@
 -- What a host program is told of its links in a step: the connections that open and the data, one AGWPE message each,
--- in the
--- order of the events.
+-- in the order of the events.
 use Rattle.std.specs.Prelude.{◌≡◌, ℕ, ◌==◌, ◌||◌, ◌&&◌, Bool, All, List, filter, flat_map, slice_index, is_some}
 use Rattle.link_machine.specs.Step.{step as link_turn}
 use Rattle.station.specs.declared.host_event.PortKind.TheVariants.{Agw}

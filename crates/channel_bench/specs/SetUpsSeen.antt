@@ -1,6 +1,5 @@
 -- The set-ups of a link at one of its stations, as a host program sees them: one begins when the link tells that it is
--- open.
--- It has the packets that were given in it and those that were told of, in order.
+-- open. It has the packets that were given in it and those that were told of, in order.
 use Rattle.std.specs.Prelude.{◌≡◌, ℕ, List, [], ◌∷◌, ◌++◌, All, fold, map, None}
 use Rattle.selective_reject.specs.declared.packet.Packet.{Packet}
 use Rattle.link_machine.specs.declared.acts.Told.{Told}
@@ -97,10 +96,8 @@ pub record AreSetUpsSeen (calls : Calls) (pairs : Pairs) (a b : Config) (steps :
       map as_seen w.b.end.set_ups ≡ set_ups_seen calls B steps
 
 -- Over every joint run of two new stations that is heard in order in both directions, if packets are given only while
--- the link
--- is up, the set-ups of the link's two ends are those that are seen at the stations: as many, each with the packets
--- that were
--- given in it and those that were told of.
+-- the link is up, the set-ups of the link's two ends are those that are seen at the stations: as many, each with the
+-- packets that were given in it and those that were told of.
 abbrev pub SetUpsLaw : Type 0
 SetUpsLaw =
     (a b : Config) (seed_a seed_b : ℕ) (steps : List Step) (pairs : Pairs)

@@ -47,8 +47,7 @@ pub record LinkKeepsOrder (calls : Calls) (pairs : Pairs) (a b : Config) (steps 
   pub ends : EndsFollow calls pairs a b steps now
 
 -- Over every joint run of two new stations that is heard in order in both directions, the two ends of each link follow
--- it,
--- whether its channel is quiet or not.
+-- it, whether its channel is quiet or not.
 abbrev pub FollowingLaw : Type 0
 FollowingLaw =
     (a b : Config) (seed_a seed_b : ℕ) (steps : List Step) (pairs : Pairs)
@@ -57,8 +56,7 @@ FollowingLaw =
     → (calls : Calls) → EndsFollow calls pairs a b steps (all_stepped steps start)
 
 -- Over every joint run of two new stations that is heard in order in both directions, each link whose windows fit and
--- whose
--- channel is quiet keeps the order.
+-- whose channel is quiet keeps the order.
 abbrev pub StationsLaw : Type 0
 StationsLaw =
     (a b : Config) (seed_a seed_b : ℕ) (steps : List Step) (pairs : Pairs)

@@ -1,6 +1,5 @@
 -- Each frame of carried transmissions is a candidate, exactly at its true end: the slicer whose windows are those of
--- the
--- transmission hears it.
+-- the transmission hears it.
 use Rattle.std.proofs.Common.{◌≡◌, ℕ, zero, suc, ◌+◌, ◌*◌, ◌/◌, ◌%◌, ◌≤◌, ℤ, Bool, true, false, List, [], ◌∷◌, ◌++◌}
 use Rattle.std.proofs.Common.{length, take, refl, ap, sym, subst, ◌∙◌, arith, length-append, append_assoc, add-one}
 use Rattle.std.specs.List.{AllByRecursion}

@@ -1,8 +1,6 @@
 -- The candidates of samples: every frame that the slicer at one of the 32 offsets of a bit hears, with where it ends. A
--- bit
--- has four times the samples of one at 1200 bits a second, so an end counts fours of samples, rounded down: then
--- slicers
--- that hear one frame do so at ends within 15, as at 1200 bits a second.
+-- bit has four times the samples of one at 1200 bits a second, so an end counts fours of samples, rounded down: then
+-- slicers that hear one frame do so at ends within 15, as at 1200 bits a second.
 use Rattle.std.specs.Prelude.{◌≡◌, ℕ, ◌+◌, ◌*◌, ◌/◌, ◌%◌, ◌<◌, ℤ, List, length, take}
 use Rattle.std.specs.List.{All, AllPairs, Contains}
 use Rattle.hdlc_framer.specs.Frames.{EndsFrame}
@@ -11,8 +9,7 @@ use Rattle.frame_merge.specs.Order.{standing}
 use Rattle.hf_modem.specs.Windows.{bits, EndsWindow}
 
 -- a frame ends at bit `index` of the bits at the item's offset, and the item's end is a quarter of the place of the
--- first
--- sample after that bit's window, rounded down
+-- first sample after that bit's window, rounded down
 pub record EndsAtBit (x : List ℤ) (item : Candidate) (index : ℕ) : Type 0 where
   pub within : index < length (bits item.offset x)
   pub end_of : item.end ≡ (item.offset + 32 * (index + 1)) / 4
@@ -25,8 +22,7 @@ pub record IsCandidate (x : List ℤ) (item : Candidate) : Type 0 where
   pub ends : EndsAtBit x item index
 
 -- the first sample after the last window of an item: its windows begin at all places that are its offset modulo 32, so
--- the
--- rest that rounding took away is that of its offset
+-- the rest that rounding took away is that of its offset
 abbrev pub end_sample : Candidate → ℕ
 end_sample item = 4 * item.end + item.offset % 4
 

@@ -19,8 +19,7 @@ pub record CanBePut (item : Candidate) : Type 0 where
   pub end : item.end < 2 ^ 64 - 1
 
 -- The bank has taken these samples, and the merger their candidates, of which it has given those whose end is below a
--- quarter
--- of their number, rounded down.
+-- quarter of their number, rounded down.
 pub record HaveTaken (bank : HeldBank) (merger : HeldMerger) (x : List ℤ) : Type 0 where
   pub samples : BankStandsFor bank x
   pub candidates : List Candidate

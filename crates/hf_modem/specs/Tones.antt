@@ -1,6 +1,5 @@
 -- Packet radio on short wave: 300 bits a second and a shift of 200 Hz. Mark is 1600 Hz and space is 1800 Hz, here at
--- 9600
--- samples a second, so that a bit has 32 samples.
+-- 9600 samples a second, so that a bit has 32 samples.
 use Rattle.std.specs.Prelude.{ℕ, ◌+◌, ◌*◌, ◌%◌}
 use Rattle.tone_table.specs.declared.tone.Tone.{Tone}
 use Rattle.tone_table.specs.declared.tone.Tone.TheVariants.{Mark, Space}

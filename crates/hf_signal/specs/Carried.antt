@@ -1,6 +1,5 @@
 -- Samples that carry transmissions at 300 bits a second: where each is due, the windows are decided as its tones.
--- Nothing is
--- said of the other samples.
+-- Nothing is said of the other samples.
 use Rattle.std.specs.Prelude.{◌≡◌, ◌*◌, ℤ, List, [], ◌∷◌, ◌++◌, length}
 use Rattle.tone_table.specs.declared.tone.Tone.{Tone}
 use Rattle.nrzi_bits.specs.Line.{line}

@@ -1,6 +1,5 @@
 -- Samples near a signal of 300 bits a second. Receivers differ in level, they add noise, and before a transmission and
--- after
--- it stands whatever they hear.
+-- after it stands whatever they hear.
 use Rattle.std.specs.Prelude.{◌≡◌, ◌≤◌, ℤ, List, [], ◌∷◌, ◌++◌, length}
 use Rattle.nrzi_bits.specs.Line.{line}
 use Rattle.offset_slicers.specs.Near.{IsNear}

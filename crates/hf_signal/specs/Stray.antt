@@ -10,8 +10,7 @@ use Rattle.hf_modem.specs.Candidates.{IsCandidate, end_sample}
 use Rattle.hf_signal.specs.TrueEnds.{true_ends}
 
 -- The item has the octets of a sent frame, and the sample at which it ends is less than 30 from the true end. Ends of
--- one frame
--- then lie within 15 quarters, so that merging keeps one.
+-- one frame then lie within 15 quarters, so that merging keeps one.
 abbrev pub is_of : Candidate → TrueEnd → Bool
 is_of item sent = bytes_eq item.octets sent.octets &&
     (nat_lt (end_sample item) (sent.end + 30) && nat_lt sent.end (end_sample item + 30))

@@ -1,6 +1,5 @@
 -- Where the frames of transmissions end at 300 bits a second: the true end of a frame is the first sample after the
--- last
--- window of the flag that follows it.
+-- last window of the flag that follows it.
 use Rattle.std.specs.Prelude.{ℕ, ◌+◌, ◌*◌, List, [], ◌∷◌, ◌++◌, length}
 use Rattle.hdlc_framer.specs.Frames.{frame_bits}
 use Rattle.hdlc_framer.specs.Stuffing.{flag}

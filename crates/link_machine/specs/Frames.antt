@@ -136,8 +136,7 @@ hear_supervisory Rej n command flag = hear_rej n (command && flag) (not command 
 hear_supervisory Srej n command flag = hear_srej n flag (command && flag) (not command && flag)
 
 -- Up, by REJ: the packet with number V(R) is given, and no other. Another one is answered by one REJ, until the one
--- that
--- it asks for comes.
+-- that it asks for comes.
 abbrev pub take_in_sequence : Bool → Packet → Act
 take_in_sequence flag packet =
     in_order (give (packet ∷ []) ∷ setting (with_rej false) ∷ setting owing ∷ answer_poll flag ∷ [])

@@ -1,6 +1,5 @@
 -- Two links that come and go. A station has no link that is idle: for the next call, or the next frame, it makes one
--- anew,
--- perhaps on another path. And a frame that finds its transmit queue full is lost as it is sent.
+-- anew, perhaps on another path. And a frame that finds its transmit queue full is lost as it is sent.
 use Rattle.std.specs.Prelude.{Bool, true, false, List, [], ◌∷◌, ◌++◌, IsTrue}
 use Rattle.ax25_address.specs.declared.path.Path.{Path}
 use Rattle.link_machine.specs.declared.params.Params.{Params}
@@ -24,8 +23,7 @@ pub data Change : Type 0 where
   -- an event
   Happens : (event : Event) → Change
   -- An event; of the frames that it sends only those are in flight from then on that are marked by `true`, in their
-  -- order.
-  -- The others, also those without a mark, are lost as they are sent.
+  -- order. The others, also those without a mark, are lost as they are sent.
   Keeps : (event : Event) → (marks : List Bool) → Change
 
 abbrev pub kept_by : Bool → Tagged → List Tagged → List Tagged
@@ -97,8 +95,7 @@ pub record ChangesKeepOrder (w : World) (changes : List Change) : Type 0 where
   pub numbers : ChangesAreValid w changes
 
 -- After every quiet list of changes of a new world whose windows fit, each set-up got a prefix of what the other end
--- was
--- given in its origin, and origins rise strictly.
+-- was given in its origin, and origins rise strictly.
 abbrev pub ChangesLaw : Type 0
 ChangesLaw =
     (to_b to_a : Path) (a b : Params) → WindowsFit a b

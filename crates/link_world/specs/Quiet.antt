@@ -12,8 +12,7 @@ use Rattle.link_world.specs.Flight.{Tagged, asks_in, answers_in}
 use Rattle.link_world.specs.World.{World, seen_from, end_of, near_turn, staying, step}
 
 -- A SABM, SABME or DISC of an end is sent alone: no earlier one is in flight to the other end, and no answer to one
--- comes
--- back. `sent` counts those that the event sends, `ahead` the earlier ones and their answers.
+-- comes back. `sent` counts those that the event sends, `ahead` the earlier ones and their answers.
 abbrev pub is_alone : ℕ → ℕ → Bool
 is_alone sent ahead = (sent == 0) || (sent + ahead == 1)
 

@@ -1,8 +1,6 @@
 -- A frame that is written in one modulus and read in another (AX.25 2.2 sections 4.2 and 3.1). The lowest two bits of
--- the
--- first control octet tell an I frame, an S frame and a U frame apart in both, so none is taken for another. Modulo 8
--- an I
--- or S frame has one control octet, modulo 128 two.
+-- the first control octet tell an I frame, an S frame and a U frame apart in both, so none is taken for another. Modulo
+-- 8 an I or S frame has one control octet, modulo 128 two.
 use Rattle.std.specs.Prelude.{ℕ, ◌+◌, ◌*◌, ◌/◌, ◌%◌, Bool, ◌==◌, nat_lt, if◌then◌else◌, List, [], ◌∷◌, length, Option}
 use Rattle.std.specs.Prelude.{Some, None}
 use Rattle.ax25_address.specs.AddressField.{bit}

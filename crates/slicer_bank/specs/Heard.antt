@@ -21,8 +21,7 @@ pub record Adds (offset end : ℕ) (bits : List Bool) (before after : List Candi
   pub whole : (o : List ℕ) → EndsFrame bits o → octets ≡ o ∷ []
 
 -- the items are the candidates of one offset that end with one of its windows, from a window's number to below
--- another's,
--- each once and in order
+-- another's, each once and in order
 pub record AreOfWindows (offset first next : ℕ) (x : List ℤ) (items : List Candidate) : Type 0 where
   pub each : All (λ item. IsCandidate x item × (item.offset ≡ offset) × (offset + 8 * first < item.end)
       × (item.end ≤ offset + 8 * next)) items
@@ -38,8 +37,7 @@ pub record LaneHearsMore (offset : ℕ) (x more : List ℤ) (before after : List
       heard
 
 -- the lane of an offset, which had taken `position` samples with `seven` as the last, has taken these, too, and added
--- what
--- it heard in them
+-- what it heard in them
 abbrev pub LaneHears : ℕ → ℕ → List ℤ → List ℤ → HeldLane → HeldLane → List Candidate → List Candidate → Type 0
 LaneHears offset position seven more initial lane before after = (x : List ℤ) → length x ≡ position
     → seven ≡ last_seven x → LaneStandsFor initial (tones_at offset x)

@@ -1,6 +1,5 @@
 -- What eight lanes hear that each have a reader of one ring. Lane k takes the windows of offset k. A list of lanes is
--- the
--- list of the answers of each; places are those of the whole input.
+-- the list of the answers of each; places are those of the whole input.
 use Rattle.std.specs.Prelude.{◌≡◌, ℕ, ◌+◌, ◌*◌, ◌<◌, List, [], length, map, take, slice_index_or}
 use Rattle.std.specs.List.{All, AllPairs, Contains}
 use Rattle.hdlc_framer.specs.Carrier.{HoldsCarrier}

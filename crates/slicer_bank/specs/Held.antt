@@ -9,8 +9,7 @@ use Rattle.frame_merge.specs.declared.candidate.Candidate.{Candidate}
 use Rattle.slicer_bank.specs.ToneLanes.{HeldToneLane, ToneLaneStandsFor}
 
 -- the tone of the last window, the deframer of the bits, and what the lane heard in a job of its own; nothing if the
--- job
--- wanted memory
+-- job wanted memory
 pub record HeldLane : Type 0 where
   pub before : Tone
   pub deframer : HeldDeframer

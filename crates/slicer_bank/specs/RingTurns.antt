@@ -71,8 +71,7 @@ pub record IsTurn (before now : List (List Got)) (gaps : List LaneGap) (ended : 
   pub over : (ended ≡ true) ↔ All MeetsEnd reads
 
 -- answers that follow one another from a position to a position: each sample and each gap begins where the one before
--- it
--- ended, and a gap goes forward
+-- it ended, and a gap goes forward
 abbrev pub Leads : ℕ → List Got → ℕ → Type 0
 Leads from [] to = from ≡ to
 Leads from (got ∷ answers) to = GoesForward from got × Leads (next got) answers to

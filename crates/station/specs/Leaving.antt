@@ -1,6 +1,5 @@
 -- A connection leaves: its registrations end, and each link of it, in the order of their keys, has no owner from then
--- on
--- and is disconnected. What it tells is told to nobody.
+-- on and is disconnected. What it tells is told to nobody.
 use Rattle.std.specs.Prelude.{ℕ, if◌then◌else◌, map, Option, Some, None}
 use Rattle.std.specs.List.{range_with_len}
 use Rattle.link_machine.specs.Event.Event.{Disconnect}

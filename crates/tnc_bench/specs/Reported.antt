@@ -1,6 +1,5 @@
 -- What bench tells of a run that is over: its ticks, how many transmissions began and how many of them were lost, and
--- for
--- each set-up of A, and then of B, what its host gave and got.
+-- for each set-up of A, and then of B, what its host gave and got.
 use Rattle.std.specs.Prelude.{◌≡◌, ℕ, ◌+◌, List, [], ◌∷◌, ◌++◌, length, codes, decimal}
 use Rattle.std.specs.Int.{to_be_bytes, w64}
 use Rattle.hex.specs.Hex.{encode_lower}
@@ -47,8 +46,7 @@ report_text report =
     ++ set_up_lines (codes "B") 1 report.b))))))))
 
 -- The text tells of a run that is over, which the options ask for. In each set-up a side got a first part of what the
--- other
--- gave in one set-up of its own, and these come in order.
+-- other gave in one set-up of its own, and these come in order.
 pub record IsReportOf (options : BenchOptions) (text : List ℕ) : Type 0 where
   pub report : Report
   pub over : IsOver (words_of options) report

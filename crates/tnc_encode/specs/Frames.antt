@@ -34,8 +34,7 @@ form_fault Hex octets = hex_fault least_frame_length octets
 form_fault Kiss octets = None
 
 -- the frames of octets that are known before the input has ended: those of the lines that a line feed has ended, or of
--- the
--- items that a FEND has
+-- the items that a FEND has
 abbrev pub frames_so_far : FrameForm → List ℕ → List (List ℕ)
 frames_so_far Hex octets = frames_of_lines_so_far least_frame_length octets
 frames_so_far Kiss octets = kiss_frames octets

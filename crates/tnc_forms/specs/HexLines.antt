@@ -1,6 +1,5 @@
 -- The lines of an input: it is cut at each line feed, which belongs to no line, and neither does a carriage return
--- right
--- before it. A carriage return at the very end of the input is an octet of its line.
+-- right before it. A carriage return at the very end of the input is an octet of its line.
 use Rattle.std.specs.Prelude.{ℕ, ◌+◌, ◌==◌, Bool, List, [], ◌∷◌, drop, length, Option}
 use Rattle.std.specs.List.{slice_split}
 use Rattle.std.specs.Option.{option_map_or}

@@ -31,8 +31,7 @@ unfoldable pub fault_so_far : ℕ → List ℕ → Option InputFault
 fault_so_far least octets = fault_in_line (fault_of_lines least (known_lines octets))
 
 -- Why an input is refused that is read piece by piece: for what is wrong with its form. Of an input with too many
--- octets
--- the first 2^40 are taken. What is known to be wrong in these is told, or else that there are too many.
+-- octets the first 2^40 are taken. What is known to be wrong in these is told, or else that there are too many.
 abbrev pub fault_as_read : Option InputFault → Option InputFault → List ℕ → Option InputFault
 fault_as_read so_far whole octets =
     if nat_lt input_limit (length octets) then option_or so_far (Some TooLong) else whole

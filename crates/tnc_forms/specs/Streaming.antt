@@ -1,6 +1,5 @@
 -- How a command ends that reads its input piece by piece, and writes what comes of each frame before it reads on. No
--- public
--- clause cites it.
+-- public clause cites it.
 use Rattle.std.specs.Prelude.{◌≡◌, ℕ, ◌+◌, ◌<◌, ◌≤◌, List, [], ◌++◌, length, take, drop, Option, Some, None, Result, Ok}
 use Rattle.std.specs.Prelude.{Err}
 use Rattle.tnc_base.specs.Streams.{WrotePart}

@@ -34,8 +34,7 @@ abbrev pub summary_of : ℕ → List TrueEnd → List Candidate → List ℕ
 summary_of made ends candidates = summary made (frames_heard (merged candidates)) (length (strays ends candidates))
 
 -- The text is the summary of the candidates of the samples that were drawn. Samples have one list of candidates, so
--- words
--- have one summary.
+-- words have one summary.
 pub record IsSummary (words : LoopWords) (text : List ℕ) : Type 0 where
   pub candidates : List Candidate
   pub are : AreCandidates (samples_drawn words) candidates

@@ -9,20 +9,8 @@ use Rattle.station.specs.declared.host_out.Piece.{Piece}
 use Rattle.tnc_ports.specs.declared.line.Line.{Line}
 use Rattle.tnc_ports.specs.AskedPorts.{taken_of}
 use Rattle.tnc_ports.specs.Hosts.{Hosts, cutting, line_of, AllHaveLeft}
-use Rattle.tnc_ports.specs.HostTurns.{
-  Asked,
-  Offer,
-  Offering,
-  InOrder,
-  AreTried,
-  IsTaken,
-  IsOffered,
-  IsOfferedTo,
-  Takes,
-  Fails,
-  IsHostPart,
-  ids_of_lines,
-}
+use Rattle.tnc_ports.specs.HostTurns.{Asked, Offer, Offering, InOrder, AreTried, IsTaken, IsOffered, IsOfferedTo, Takes}
+use Rattle.tnc_ports.specs.HostTurns.{Fails, IsHostPart, ids_of_lines}
 use Rattle.tnc_ports.specs.SentSoFar.{octets_for}
 use Rattle.tnc_ports.specs.Waiting.{front_of}
 use Rattle.tnc_ports.proofs.KeptLemmas.{IsKeptByStep, IsKeptByTaking, kept_left, kept_tried, kept_takes}

@@ -1,26 +1,7 @@
 -- All turns of a live station, from the first to the last.
 use Rattle.std.specs.Prelude.{Bool, true, false, Option, Some, All, replicate}
-use Rattle.std.proofs.Common.{
-  ◌≡◌,
-  ℕ,
-  zero,
-  suc,
-  ◌+◌,
-  ◌≤◌,
-  ◌⊎◌,
-  List,
-  [],
-  ◌∷◌,
-  ◌++◌,
-  refl,
-  sym,
-  ap,
-  subst,
-  inl,
-  inr,
-  ◌∙◌,
-  arith,
-}
+use Rattle.std.proofs.Common.{◌≡◌, ℕ, zero, suc, ◌+◌, ◌≤◌, ◌⊎◌, List, [], ◌∷◌, ◌++◌, refl, sym, ap, subst, inl, inr}
+use Rattle.std.proofs.Common.{◌∙◌, arith}
 use Rattle.std.proofs.lemmas.List.{append-nil}
 use Rattle.sample_ring.specs.declared.got.Got.{Got}
 use Rattle.ring_receiver.specs.HeldReceiver.{HeldReceiver, answers_in}
@@ -34,21 +15,8 @@ use Rattle.tnc_ports.specs.HostTurns.{Asked}
 use Rattle.tnc_ports.specs.ReportText.{output_octets, report_text}
 use Rattle.tnc_ports.specs.Sampled.{Live, new_live, HaveEnded, IsTurn, MakesAll}
 use Rattle.tnc_ports.specs.SampledHeld.{StandsForLive, Turns, IsCutOff, Runs, output_of, report_of, told_in}
-use Rattle.tnc_ports.specs.SampledRun.{
-  Outside,
-  AreTurns,
-  IsRun,
-  IsCutRun,
-  IsCutTurn,
-  IsCutInServing,
-  PortsTell,
-  PortsStay,
-  AllIsWritten,
-  PartIsWritten,
-  IsWhole,
-  IsCut,
-  IsLooped,
-}
+use Rattle.tnc_ports.specs.SampledRun.{Outside, AreTurns, IsRun, IsCutRun, IsCutTurn, IsCutInServing, PortsTell}
+use Rattle.tnc_ports.specs.SampledRun.{PortsStay, AllIsWritten, PartIsWritten, IsWhole, IsCut, IsLooped}
 use Rattle.tnc_ports.specs.SampledWrites.{Stream, WritesMore}
 use Rattle.tnc_ports.proofs.LiveSteps.{turns_more}
 use Rattle.tnc_ports.proofs.LiveAccounts.{are_sent, are_shut, accounted_cut}

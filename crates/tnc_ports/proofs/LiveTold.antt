@@ -1,31 +1,7 @@
 -- What the ports tell turn by turn, they tell of all turns.
 use Rattle.std.specs.Prelude.{Bool, true, false, Option, Some, ◌||◌, ◌≢◌, All}
-use Rattle.std.proofs.Common.{
-  ◌≡◌,
-  ◌⊎◌,
-  inl,
-  inr,
-  ℕ,
-  zero,
-  suc,
-  ◌+◌,
-  ◌≤◌,
-  rules,
-  List,
-  [],
-  ◌∷◌,
-  ◌++◌,
-  length,
-  map,
-  refl,
-  sym,
-  ap,
-  subst,
-  ◌∙◌,
-  arith,
-  append_assoc,
-  length-append,
-}
+use Rattle.std.proofs.Common.{◌≡◌, ◌⊎◌, inl, inr, ℕ, zero, suc, ◌+◌, ◌≤◌, rules, List, [], ◌∷◌, ◌++◌, length, map, refl}
+use Rattle.std.proofs.Common.{sym, ap, subst, ◌∙◌, arith, append_assoc, length-append}
 use Rattle.std.specs.List.{list_any, flat_map}
 use Rattle.std.proofs.lemmas.List.{append-nil, map-append}
 use Rattle.std.proofs.lemmas.Bool.{false≢true}

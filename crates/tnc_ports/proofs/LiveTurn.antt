@@ -1,31 +1,7 @@
 -- The parts of a turn make a turn, and those that came to pass one that is cut short.
 use Rattle.std.specs.Prelude.{Bool, true, false, IsTrue, ◌↔◌}
-use Rattle.std.proofs.Common.{
-  ◌≡◌,
-  ℕ,
-  zero,
-  suc,
-  ◌+◌,
-  ◌-◌,
-  ◌*◌,
-  ◌/◌,
-  ◌<◌,
-  ◌≤◌,
-  ◌⊎◌,
-  List,
-  [],
-  ◌∷◌,
-  ◌++◌,
-  length,
-  refl,
-  sym,
-  ap,
-  subst,
-  inl,
-  inr,
-  ◌∙◌,
-  arith,
-}
+use Rattle.std.proofs.Common.{◌≡◌, ℕ, zero, suc, ◌+◌, ◌-◌, ◌*◌, ◌/◌, ◌<◌, ◌≤◌, ◌⊎◌, List, [], ◌∷◌, ◌++◌, length, refl}
+use Rattle.std.proofs.Common.{sym, ap, subst, inl, inr, ◌∙◌, arith}
 use Rattle.frame_merge.specs.declared.candidate.Candidate.{Candidate}
 use Rattle.sample_ring.specs.declared.got.Got.{Got}
 use Rattle.slicer_bank.specs.HeardOnRing.{IsBusyOnRing, least_position}
@@ -37,30 +13,10 @@ use Rattle.tnc_ports.specs.AskedPorts.{Told, AreUnasked, IsAsked}
 use Rattle.tnc_ports.specs.CutPart.{HasCutPart}
 use Rattle.tnc_ports.specs.Hosts.{Hosts}
 use Rattle.tnc_ports.specs.HostTurns.{Asked}
-use Rattle.tnc_ports.specs.Sampled.{
-  Live,
-  HaveEnded,
-  with_hosts,
-  AreHeard,
-  AreTicked,
-  HearsAll,
-  MakesTicks,
-  MakesAll,
-  ServesHosts,
-  IsTurn,
-}
-use Rattle.tnc_ports.specs.SampledHeld.{
-  Keeps,
-  StandsForLive,
-  HearsFrames,
-  HearsSome,
-  Ticks,
-  TicksAll,
-  ServesAll,
-  Reads,
-  Turns,
-  IsCutOff,
-}
+use Rattle.tnc_ports.specs.Sampled.{Live, HaveEnded, with_hosts, AreHeard, AreTicked, HearsAll, MakesTicks, MakesAll}
+use Rattle.tnc_ports.specs.Sampled.{ServesHosts, IsTurn}
+use Rattle.tnc_ports.specs.SampledHeld.{Keeps, StandsForLive, HearsFrames, HearsSome, Ticks, TicksAll, ServesAll, Reads}
+use Rattle.tnc_ports.specs.SampledHeld.{Turns, IsCutOff}
 use Rattle.tnc_ports.specs.SampledRun.{IsCutTurn, IsCutInReading, IsCutInHearing, IsCutInTicking, IsCutInServing}
 use Rattle.tnc_ports.specs.SampledWrites.{Stream, WritesMore}
 use Rattle.tnc_ports.proofs.AskedLemmas.{unasked}

@@ -1,29 +1,6 @@
 -- What connections are offered, one after another.
-use Rattle.std.specs.Prelude.{
-  ◌≡◌,
-  ◌≢◌,
-  ℕ,
-  ◌+◌,
-  ◌<◌,
-  ◌≤◌,
-  ◌==◌,
-  ◌||◌,
-  ◌⊎◌,
-  Bool,
-  true,
-  false,
-  List,
-  [],
-  ◌∷◌,
-  ◌++◌,
-  length,
-  map,
-  take,
-  Option,
-  Some,
-  None,
-  refl,
-}
+use Rattle.std.specs.Prelude.{◌≡◌, ◌≢◌, ℕ, ◌+◌, ◌<◌, ◌≤◌, ◌==◌, ◌||◌, ◌⊎◌, Bool, true, false, List, [], ◌∷◌, ◌++◌}
+use Rattle.std.specs.Prelude.{length, map, take, Option, Some, None, refl}
 use Rattle.std.specs.List.{list_any}
 use Rattle.std.proofs.Common.{sym, ◌∙◌, ap, subst, arith, inl, inr, get_or}
 use Rattle.std.proofs.lemmas.Bool.{eqb-true, eq-eqb, cases_Bool, or_cases, or_left, or_right, false≢true, true≢false}

@@ -1,50 +1,11 @@
 -- Each connection is sent a first part of what is appended for it: every step of hosts keeps that.
-use Rattle.std.specs.Prelude.{
-  ◌≡◌,
-  ◌≢◌,
-  ℕ,
-  zero,
-  suc,
-  ◌+◌,
-  ◌≤◌,
-  ◌==◌,
-  ◌||◌,
-  ◌⊎◌,
-  Bool,
-  true,
-  false,
-  not,
-  nat_le,
-  if◌then◌else◌,
-  List,
-  [],
-  ◌∷◌,
-  ◌++◌,
-  length,
-  map,
-  take,
-  drop,
-  filter,
-  Option,
-  Some,
-  None,
-  cond,
-  refl,
-}
+use Rattle.std.specs.Prelude.{◌≡◌, ◌≢◌, ℕ, zero, suc, ◌+◌, ◌≤◌, ◌==◌, ◌||◌, ◌⊎◌, Bool, true, false, not, nat_le}
+use Rattle.std.specs.Prelude.{if◌then◌else◌, List, [], ◌∷◌, ◌++◌, length, map, take, drop, filter, Option, Some, None}
+use Rattle.std.specs.Prelude.{cond, refl}
 use Rattle.std.specs.List.{list_any, flat_map}
 use Rattle.std.proofs.Common.{sym, ◌∙◌, ap, subst, arith, inl, inr, append_assoc}
-use Rattle.std.proofs.lemmas.Bool.{
-  eqb-true,
-  eq-eqb,
-  ne_eqb,
-  cases_Bool,
-  cases_eq,
-  cond-true,
-  cond-false,
-  or_parts,
-  false≢true,
-  true≢false,
-}
+use Rattle.std.proofs.lemmas.Bool.{eqb-true, eq-eqb, ne_eqb, cases_Bool, cases_eq, cond-true, cond-false, or_parts}
+use Rattle.std.proofs.lemmas.Bool.{false≢true, true≢false}
 use Rattle.std.proofs.lemmas.Grind.{flat_map-append}
 use Rattle.std.proofs.lemmas.List.{append-nil, take-append-drop}
 use Rattle.std.proofs.lemmas.List.Folds.{list_any-append}

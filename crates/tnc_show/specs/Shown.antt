@@ -43,8 +43,7 @@ abbrev pub IsShown : ShowWords → List ℕ → List ℕ → Type 0
 IsShown words octets text = IsTextOf words.modulus (frames_in_lines 0 octets) text
 
 -- The text is what octets show before it is known whether more follow: the lines of the frames whose lines have ended.
--- None
--- of these is bad.
+-- None of these is bad.
 pub record IsShownSoFar (words : ShowWords) (octets text : List ℕ) : Type 0 where
   pub good : fault_so_far 0 octets ≡ None
   pub is : IsTextOf words.modulus (frames_so_far 0 octets) text

@@ -1,6 +1,5 @@
 -- The candidates of samples at 48,000 a second: what the eight slicers of each of the five streams hear. Ends are
--- counted
--- in the samples of the stream, and stream r has the lanes 8r to 8r + 7.
+-- counted in the samples of the stream, and stream r has the lanes 8r to 8r + 7.
 use Rattle.std.specs.Prelude.{◌≡◌, ℕ, ◌+◌, ◌*◌, ◌<◌, ℤ, List}
 use Rattle.std.specs.List.{All, AllPairs, Contains}
 use Rattle.frame_merge.specs.declared.candidate.Candidate.{Candidate}
