@@ -149,23 +149,33 @@ fn a_gap_starts_the_added_lanes_anew(rt: HostRuntime) -> Result<(), Fail> {
     let frames = [Octets::from_slice(rt.alloc(), &SHORTEST)?];
     let sent = transmission(rt.alloc(), &frames, 2, 1)?;
     let noisy = in_noise(rt.alloc(), &sent)?;
+    assert_eq!(rt; noisy.len(), 1360);
+    let (first, rest) = noisy.split_at(700);
     let (ring, mut writer, mut receiver) = with_receiver(rt.alloc(), 64, true)?;
-    publish(&ring, &mut writer, &noisy[..700])?;
+    publish(&ring, &mut writer, first)?;
     let lost = turn(&rt, &mut receiver, &ring)?;
     let last = lost.gaps.iter().filter(|gap| gap.lane == 8).last();
     assert!(rt; lost.gaps.len() % 9 == 0);
     assert!(rt; last.map(|gap| gap.to) == Some(636));
-    assert!(rt; receiver.busy() && lost.least == 700);
-    let places = heard(
-        &rt,
-        rt.alloc(),
-        &mut receiver,
-        &ring,
-        &mut writer,
-        &noisy[700..],
-    )?;
+    assert_eq!(rt; lost.least, 700);
+    let places = heard(&rt, rt.alloc(), &mut receiver, &ring, &mut writer, rest)?;
     assert!(rt; places.is_empty());
     let places = heard(&rt, rt.alloc(), &mut receiver, &ring, &mut writer, &noisy)?;
-    assert!(rt; places.as_slice() == [(1360 + 1295, 15)].as_slice());
+    assert_eq!(rt; places.len(), 1);
+    assert_eq!(rt; places[0], (1360 + 1295, 11));
+    Ok(())
+}
+
+#[test]
+fn a_transmission_makes_a_receiver_busy(rt: HostRuntime) -> Result<(), Fail> {
+    let frames = [Octets::from_slice(rt.alloc(), &SHORTEST)?];
+    let sent = transmission(rt.alloc(), &frames, 2, 1)?;
+    for sensitive in [false, true] {
+        let (ring, mut writer, mut receiver) = with_receiver(rt.alloc(), 2048, sensitive)?;
+        assert!(rt; !receiver.busy());
+        publish(&ring, &mut writer, &sent)?;
+        assert!(rt; !turn(&rt, &mut receiver, &ring)?.ended);
+        assert!(rt; receiver.busy());
+    }
     Ok(())
 }
