@@ -1,30 +1,7 @@
 -- Each step of a live station, of what the code keeps and what it writes.
 use Rattle.std.specs.Prelude.{Bool, true, false, Option, Some, Result, Ok, Err, OnErr}
-use Rattle.std.proofs.Common.{
-  ◌≡◌,
-  ℕ,
-  zero,
-  suc,
-  ◌+◌,
-  ◌-◌,
-  ◌<◌,
-  ◌≤◌,
-  List,
-  [],
-  ◌∷◌,
-  ◌++◌,
-  length,
-  take,
-  drop,
-  get_or,
-  refl,
-  sym,
-  ap,
-  subst,
-  ◌∙◌,
-  arith,
-  append_assoc,
-}
+use Rattle.std.proofs.Common.{◌≡◌, ℕ, zero, suc, ◌+◌, ◌-◌, ◌<◌, ◌≤◌, List, [], ◌∷◌, ◌++◌, length, take, drop, get_or}
+use Rattle.std.proofs.Common.{refl, sym, ap, subst, ◌∙◌, arith, append_assoc}
 use Rattle.std.proofs.lemmas.List.{append-nil, append_cancel_left, take_more, take-append-drop, take_all}
 use Rattle.ax25_address.specs.declared.path.Path.{Path}
 use Rattle.ax25_frames.specs.declared.frame.Modulus.{Modulus}
@@ -44,14 +21,8 @@ use Rattle.tnc_ports.specs.HostTurns.{Asked, IsHostPart}
 use Rattle.tnc_ports.specs.ReportText.{report_text, output_octets}
 use Rattle.tnc_ports.specs.Sampled.{Live, AreHeard, IsTicked, AreTicked, IsTurn}
 use Rattle.tnc_ports.specs.declared.report_line.ReportLine.TheVariants.{ReceivedLine, SentLine}
-use Rattle.tnc_ports.specs.SampledFrames.{
-  with_lines,
-  AreReceivedLines,
-  AreSentLines,
-  IsFrameHeard,
-  IsTickMade,
-  IsFrameText,
-}
+use Rattle.tnc_ports.specs.SampledFrames.{with_lines, AreReceivedLines, AreSentLines, IsFrameHeard, IsTickMade}
+use Rattle.tnc_ports.specs.SampledFrames.{IsFrameText}
 use Rattle.tnc_ports.specs.SampledHeld.{Keeps, HearsFrame, HearsFrames, HearsSome, Ticks, TicksAll, ServesAll}
 use Rattle.tnc_ports.specs.SampledRun.{AreTurns}
 use Rattle.tnc_ports.specs.SampledWrites.{Stream, Puts, ReportsMore, WritesMore}

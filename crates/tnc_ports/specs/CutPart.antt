@@ -2,17 +2,8 @@
 use Rattle.std.specs.Prelude.{◌≡◌, ℕ, ◌⊎◌, List, [], ◌++◌}
 use Rattle.tnc_ports.specs.AskedPorts.{Told, AreUnasked, IsAsked}
 use Rattle.tnc_ports.specs.Hosts.{Hosts}
-use Rattle.tnc_ports.specs.HostTurns.{
-  Asked,
-  Offering,
-  ArePaused,
-  AreTried,
-  InOrder,
-  IsTaken,
-  IsOffered,
-  IsHostPart,
-  ids_of_lines,
-}
+use Rattle.tnc_ports.specs.HostTurns.{Asked, Offering, ArePaused, AreTried, InOrder, IsTaken, IsOffered, IsHostPart}
+use Rattle.tnc_ports.specs.HostTurns.{ids_of_lines}
 
 -- It is cut short when it takes what waits and what came: the ports were polled, and nothing is sent.
 pub record IsCutInTaking (asked : Asked) (before reached : Hosts) : Type 0 where
@@ -36,8 +27,7 @@ pub record IsCutInSending (asked : Asked) (before reached : Hosts) : Type 0 wher
   pub reaches : reached ≡ offered.hosts
 
 -- It is cut short when it takes or when it sends; or all of it is done, and there is no memory to print its lines.
--- These
--- are the hosts that its sends leave.
+-- These are the hosts that its sends leave.
 abbrev pub IsCutPart : Asked → Hosts → Hosts → Type 0
 IsCutPart asked before reached = IsCutInTaking asked before reached ⊎ IsCutInSending asked before reached
     ⊎ IsHostPart asked before reached

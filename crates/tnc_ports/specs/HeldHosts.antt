@@ -1,24 +1,6 @@
 -- What the code keeps of the hosts of a live station. Public clauses cite `StandsFor` and the field `spent` alone.
-use Rattle.std.specs.Prelude.{
-  ◌≡◌,
-  ℕ,
-  ◌≤◌,
-  ◌+◌,
-  ◌*◌,
-  ◌==◌,
-  ◌||◌,
-  ◌↔◌,
-  Contains,
-  IsTrue,
-  Bool,
-  true,
-  false,
-  List,
-  [],
-  ◌++◌,
-  length,
-  All,
-}
+use Rattle.std.specs.Prelude.{◌≡◌, ℕ, ◌≤◌, ◌+◌, ◌*◌, ◌==◌, ◌||◌, ◌↔◌, Contains, IsTrue, Bool, true, false, List, []}
+use Rattle.std.specs.Prelude.{◌++◌, length, All}
 use Rattle.std.specs.List.{list_any}
 use Rattle.station.specs.declared.host_event.HostEvent.{HostEvent}
 use Rattle.station.specs.declared.host_event.HostEvent.TheVariants.{Joined, Bytes, Left}

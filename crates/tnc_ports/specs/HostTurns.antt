@@ -1,30 +1,7 @@
 -- What a turn does for hosts: it polls once, takes what waits and then what came, and offers each connection the rest
--- of
--- one piece.
-use Rattle.std.specs.Prelude.{
-  ◌≡◌,
-  ◌≢◌,
-  ℕ,
-  ◌≤◌,
-  ◌⊎◌,
-  ◌↔◌,
-  ◌==◌,
-  Bool,
-  true,
-  false,
-  List,
-  [],
-  ◌∷◌,
-  ◌++◌,
-  length,
-  map,
-  take,
-  Contains,
-  IsTrue,
-  Option,
-  Some,
-  None,
-}
+-- of one piece.
+use Rattle.std.specs.Prelude.{◌≡◌, ◌≢◌, ℕ, ◌≤◌, ◌⊎◌, ◌↔◌, ◌==◌, Bool, true, false, List, [], ◌∷◌, ◌++◌, length, map}
+use Rattle.std.specs.Prelude.{take, Contains, IsTrue, Option, Some, None}
 use Rattle.std.specs.List.{list_any}
 use Rattle.std.specs.List.Sorted.{IsStrictlyIncreasing}
 use Rattle.station.specs.declared.host_event.HostEvent.{HostEvent}
@@ -34,17 +11,8 @@ use Rattle.station.specs.Host.{IsHostTurn}
 use Rattle.station.specs.State.{Accepts}
 use Rattle.tnc_ports.specs.declared.line.Line.{Line}
 use Rattle.tnc_ports.specs.declared.untaken.Untaken.{Untaken}
-use Rattle.tnc_ports.specs.Hosts.{
-  Hosts,
-  is_there,
-  was_there,
-  without,
-  cutting,
-  with_waiting,
-  line_of,
-  IsStep,
-  AllHaveLeft,
-}
+use Rattle.tnc_ports.specs.Hosts.{Hosts, is_there, was_there, without, cutting, with_waiting, line_of, IsStep}
+use Rattle.tnc_ports.specs.Hosts.{AllHaveLeft}
 use Rattle.tnc_ports.specs.Waiting.{front_of, after_sending}
 
 -- one step for each of these, in order

@@ -9,8 +9,7 @@ abbrev pub most_input : ℕ
 most_input = 2 ^ 40
 
 -- where a pump may stop: at the end, at a fault, at the octet after the last that an input may have, or before the
--- first
--- one, if it has not begun
+-- first one, if it has not begun
 abbrev pub StopsAt : PumpEnd → List ℕ → List ℕ → Type 0
 StopsAt InputEnd read rest = (rest ≡ []) × (length read ≤ most_input)
 StopsAt ReadFault read rest = length read ≤ most_input

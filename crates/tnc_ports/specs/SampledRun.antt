@@ -1,31 +1,7 @@
 -- A run of a live station: turns until every reader has met the end of the ring, or until memory is wanted; and what
--- the
--- outside then tells of it.
-use Rattle.std.specs.Prelude.{
-  ◌≡◌,
-  ◌≢◌,
-  ℕ,
-  zero,
-  suc,
-  ◌+◌,
-  ◌*◌,
-  ◌<◌,
-  ◌≤◌,
-  ◌⊎◌,
-  Bool,
-  true,
-  false,
-  List,
-  [],
-  ◌∷◌,
-  ◌++◌,
-  All,
-  length,
-  map,
-  Option,
-  Some,
-  None,
-}
+-- the outside then tells of it.
+use Rattle.std.specs.Prelude.{◌≡◌, ◌≢◌, ℕ, zero, suc, ◌+◌, ◌*◌, ◌<◌, ◌≤◌, ◌⊎◌, Bool, true, false, List, [], ◌∷◌, ◌++◌}
+use Rattle.std.specs.Prelude.{All, length, map, Option, Some}
 use Rattle.std.specs.List.{flat_map}
 use Rattle.frame_merge.specs.declared.candidate.Candidate.{Candidate}
 use Rattle.sample_ring.specs.declared.got.Got.{Got}
@@ -44,19 +20,8 @@ use Rattle.tnc_ports.specs.Hosts.{Hosts, is_among}
 use Rattle.tnc_ports.specs.HostTurns.{Asked}
 use Rattle.tnc_ports.specs.ReportedGaps.{AreAllGaps, AreFirstGaps}
 use Rattle.tnc_ports.specs.ReportText.{output_octets, report_text}
-use Rattle.tnc_ports.specs.Sampled.{
-  Live,
-  new_live,
-  with_hosts,
-  HaveEnded,
-  LanesReadOn,
-  AreHeard,
-  HearsAll,
-  MakesTicks,
-  MakesAll,
-  IsTurn,
-  tick_samples,
-}
+use Rattle.tnc_ports.specs.Sampled.{Live, new_live, with_hosts, HaveEnded, LanesReadOn, AreHeard, HearsAll, MakesTicks}
+use Rattle.tnc_ports.specs.Sampled.{MakesAll, IsTurn, tick_samples}
 use Rattle.tnc_ports.specs.ServedHosts.{octets_to, ids_shut, IsShutHavingCome, AreSentInTurns, AreShutInTurns}
 use Rattle.tnc_ports.specs.Sockets.{Poll, Send, MayCome}
 
@@ -161,8 +126,7 @@ sends_from poll (asked ∷ turns) = map (send_of poll) asked.offers ++ sends_fro
 
 -- The ports tell the polls, the sends and the octets that each connection took, turn by turn. A connection that a turn
 -- shut is shut, and one that no turn shut is as it was. What came are whole pieces, none of a connection that was
--- paused.
--- A send that failed is a fault of theirs.
+-- paused. A send that failed is a fault of theirs.
 pub record PortsTell (turns : List Asked) (before after : Outside) : Type 0 where
   pub polls : GrowsBy (map poll_of turns) before.polls after.polls
   pub sends : (was : List Poll) → before.polls ≡ Some was
@@ -216,8 +180,7 @@ pub record IsCutInServing (words : ServeWords) (before made : Live) (asked : Ask
   pub part : IsCutPart asked made.hosts reached
 
 -- The ports were asked so turn by turn, and these are the hosts that the sends leave: in the whole turns alone, or in
--- the
--- turn too that is cut short.
+-- the turn too that is cut short.
 abbrev pub AreAskedInTurns : ServeWords → Live → Live → List Asked → Hosts → Type 0
 AreAskedInTurns words last live turns reached =
     ((turns ≡ live.asked) × (reached ≡ live.hosts))

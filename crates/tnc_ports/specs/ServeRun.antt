@@ -6,21 +6,14 @@ use Rattle.sample_ring.specs.declared.view.Track.{Track}
 use Rattle.sample_ring.specs.Record.{StandsIn, answer}
 use Rattle.tnc_base.specs.Faults.{HasRisen}
 use Rattle.tnc_ports.specs.declared.pumping.PumpEnd.{PumpEnd}
-use Rattle.tnc_ports.specs.declared.pumping.PumpEnd.TheVariants.{
-  InputEnd,
-  ReadFault as PumpFailed,
-  TooLong as InputTooLong,
-  NotBegun,
-}
+use Rattle.tnc_ports.specs.declared.pumping.PumpEnd.TheVariants.{InputEnd, ReadFault as PumpFailed}
+use Rattle.tnc_ports.specs.declared.pumping.PumpEnd.TheVariants.{TooLong as InputTooLong, NotBegun}
 use Rattle.tnc_ports.specs.declared.serving.ServeEnd.{ServeEnd}
 use Rattle.tnc_ports.specs.declared.serving.ServeEnd.TheVariants.{Done, TooLong, Memory, ReadFault, WriteFault, NoPort}
 use Rattle.tnc_ports.specs.declared.serve_words.ServeWords.{ServeWords}
 use Rattle.tnc_ports.specs.declared.looping.LoopEnd.{LoopEnd}
-use Rattle.tnc_ports.specs.declared.looping.LoopEnd.TheVariants.{
-  Done as LoopDone,
-  Memory as LoopMemory,
-  WriteFault as LoopFault,
-}
+use Rattle.tnc_ports.specs.declared.looping.LoopEnd.TheVariants.{Done as LoopDone, Memory as LoopMemory}
+use Rattle.tnc_ports.specs.declared.looping.LoopEnd.TheVariants.{WriteFault as LoopFault}
 use Rattle.tnc_ports.specs.Pumped.{IsPumped}
 use Rattle.tnc_ports.specs.Sampled.{HaveEnded}
 use Rattle.tnc_ports.specs.SampledRun.{Outside, GrowsBy, IsLooped}

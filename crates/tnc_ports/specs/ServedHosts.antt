@@ -28,8 +28,7 @@ abbrev pub ids_sent_to : Asked → List ℕ
 ids_sent_to asked = map (λ offer. offer.id) asked.offers
 
 -- What a connection took in the turns is a first part of what was appended for it, in order, and for one that never
--- came
--- nothing was appended. No more than 262,144 octets wait for a connection, and no turn sends twice to it.
+-- came nothing was appended. No more than 262,144 octets wait for a connection, and no turn sends twice to it.
 pub record AreSentInTurns (turns : List Asked) (hosts : Hosts) : Type 0 where
   pub in_order : IsOrderly hosts
   pub few : (id : ℕ) → length (octets_waiting_for id hosts) ≤ most_octets

@@ -1,23 +1,6 @@
 -- Which of the connections that are there a step of the station shuts, and what waits for the others.
-use Rattle.std.specs.Prelude.{
-  ◌≡◌,
-  ℕ,
-  ◌+◌,
-  ◌<◌,
-  ◌≤◌,
-  ◌⊎◌,
-  ◌↔◌,
-  true,
-  false,
-  IsTrue,
-  List,
-  [],
-  ◌++◌,
-  length,
-  Option,
-  Some,
-  None,
-}
+use Rattle.std.specs.Prelude.{◌≡◌, ℕ, ◌+◌, ◌<◌, ◌≤◌, ◌⊎◌, ◌↔◌, true, false, IsTrue, List, [], ◌++◌, length, Option}
+use Rattle.std.specs.Prelude.{Some, None}
 use Rattle.station.specs.Turn.{Out}
 use Rattle.tnc_ports.specs.declared.line.Line.{Line}
 use Rattle.tnc_ports.specs.Hosts.{Hosts, line_of, is_among, is_there, delivering}

@@ -1,6 +1,5 @@
 -- What waits to be sent to a connection: the pieces that were appended, in order, the front one without the octets of
--- it
--- that are sent.
+-- it that are sent.
 use Rattle.std.specs.Prelude.{ℕ, List, [], ◌∷◌, ◌++◌, take, drop}
 
 -- the most octets that wait for one connection

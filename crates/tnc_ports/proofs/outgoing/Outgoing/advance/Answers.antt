@@ -1,18 +1,8 @@
 use Rattle.std.proofs.Common.{◌≡◌, ◌<◌, ◌≤◌, ◌-◌, ℕ, List, length, drop, set, sum, sym, ap, subst, ◌∙◌, arith, All}
 use Rattle.std.proofs.lemmas.List.{length-drop}
 use Rattle.tnc_ports.specs.Waiting.{front_of, octets_of, cut, most_octets}
-use Rattle.tnc_ports.proofs.OutgoingLemmas.{
-  front_len,
-  front_long,
-  front_within,
-  all_sent_sum,
-  part_sent,
-  part_sent_sum,
-  positive_rest,
-  octets_split,
-  octets_of-cut,
-  whole_of,
-}
+use Rattle.tnc_ports.proofs.OutgoingLemmas.{front_len, front_long, front_within, all_sent_sum, part_sent, part_sent_sum}
+use Rattle.tnc_ports.proofs.OutgoingLemmas.{positive_rest, octets_split, octets_of-cut, whole_of}
 use Rattle.tnc_ports.proofs.outgoing.Outgoing.advance.Goals as goal
 
 pub invariant_of-self : goal.invariant_of-self
