@@ -13,7 +13,7 @@ use Rattle.tnc_main.specs.declared.status.Status.{Status}
 use Rattle.tnc_main.specs.declared.status.Status.TheVariants.{Done as WellDone, BadInput, Memory as NoMemory, ReadFault as InputFailed, WriteFault as OutputFailed, NoPort as PortsFailed}
 use Rattle.tnc_main.specs.Report.{input_line, no_port_line}
 
--- the ports, the station and the report that the options ask for
+-- the ports, the station, the lanes and the report that the options ask for
 abbrev pub words_of : ServeOptions → ServeWords
 words_of options = record {
   kiss = options.kiss;
@@ -22,6 +22,7 @@ words_of options = record {
   config = record { params = options.params; digi = options.digi };
   dcd = options.dcd;
   monitor = options.monitor;
+  sensitive = options.sensitive;
 }
 
 -- the status of an end

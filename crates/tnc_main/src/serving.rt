@@ -76,5 +76,6 @@ pub(crate) fn serve_words(options: ServeOptions) -> ServeWords
         },
         dcd: options.dcd,
         monitor: options.monitor,
+        sensitive: options.sensitive,
     }
 }

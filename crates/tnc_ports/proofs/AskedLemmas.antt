@@ -1,17 +1,15 @@
 -- What sockets tell of a turn, call by call.
-use Rattle.std.specs.Prelude.{◌≡◌, ◌≢◌, ℕ, ◌+◌, ◌-◌, ◌^◌, ◌<◌, ◌≤◌, ◌==◌, Bool, true, false, if◌then◌else◌, List, []}
-use Rattle.std.specs.Prelude.{◌∷◌, ◌++◌, All, length, map, take, min, Option, Some, None, refl}
-use Rattle.std.specs.List.{list_any, flat_map}
+use Rattle.std.specs.Prelude.{◌≡◌, ◌≢◌, ℕ, ◌≤◌, ◌==◌, Bool, true, false, if◌then◌else◌, List, [], ◌∷◌, ◌++◌, All}
+use Rattle.std.specs.Prelude.{length, map, take, Some, refl}
 use Rattle.std.proofs.Common.{sym, ◌∙◌, ap, subst, arith, inl, inr, append_assoc}
-use Rattle.std.proofs.lemmas.Bool.{eqb-true, eq-eqb, ne_eqb, cases_Bool, cond-true, cond-false, false≢true, true≢false}
+use Rattle.std.proofs.lemmas.Bool.{eqb-true, eq-eqb, cases_Bool, true≢false}
 use Rattle.std.proofs.lemmas.Grind.{flat_map-append}
 use Rattle.std.proofs.lemmas.List.{append-nil, length-append}
-use Rattle.tnc_base.specs.Faults.{HasRisen, next_count}
+use Rattle.tnc_base.specs.Faults.{HasRisen}
 use Rattle.station.specs.declared.host_event.HostEvent.{HostEvent}
 use Rattle.tnc_ports.specs.AskedPorts.{Told, AreUnasked, IsAsked, AreOffered, AreShut, send_of, taken_of, poll_wait}
-use Rattle.tnc_ports.specs.HostTurns.{Asked, Offer}
-use Rattle.tnc_ports.specs.Hosts.{is_among}
-use Rattle.tnc_ports.specs.Sockets.{Poll, Send, MayCome, has_come}
+use Rattle.tnc_ports.specs.HostTurns.{Offer}
+use Rattle.tnc_ports.specs.Sockets.{Poll, Send, MayCome}
 
 pub risen_later : (a b c d : ℕ) → a ≤ b → HasRisen b c → c ≤ d → HasRisen a d
 risen_later a b c d before rises after = grind (arith)

@@ -1,6 +1,5 @@
 -- What connections are sent is what they take of their offers: no other step sends anything.
 use Rattle.std.specs.Prelude.{◌≡◌, ℕ, ◌==◌, if◌then◌else◌, List, [], ◌∷◌, ◌++◌, take, Option, Some, None, refl}
-use Rattle.std.specs.List.{flat_map}
 use Rattle.std.proofs.Common.{sym, ◌∙◌, ap, subst, inl, inr, append_assoc}
 use Rattle.std.proofs.lemmas.Grind.{flat_map-append}
 use Rattle.std.proofs.lemmas.List.{append-nil}
@@ -10,7 +9,7 @@ use Rattle.tnc_ports.specs.declared.line.Line.{Line}
 use Rattle.tnc_ports.specs.AskedPorts.{taken_of}
 use Rattle.tnc_ports.specs.Hosts.{Hosts, cutting, line_of, AllHaveLeft}
 use Rattle.tnc_ports.specs.HostTurns.{Asked, Offer, Offering, InOrder, AreTried, IsTaken, IsOffered, IsOfferedTo, Takes}
-use Rattle.tnc_ports.specs.HostTurns.{Fails, IsHostPart, ids_of_lines}
+use Rattle.tnc_ports.specs.HostTurns.{IsHostPart, ids_of_lines}
 use Rattle.tnc_ports.specs.SentSoFar.{octets_for}
 use Rattle.tnc_ports.specs.Waiting.{front_of}
 use Rattle.tnc_ports.proofs.KeptLemmas.{IsKeptByStep, IsKeptByTaking, kept_left, kept_tried, kept_takes}

@@ -1,13 +1,11 @@
 -- What each change of hosts keeps, each step keeps, and so does each part of a turn.
-use Rattle.std.specs.Prelude.{◌≡◌, ℕ, zero, suc, ◌==◌, Bool, true, false, if◌then◌else◌, List, [], ◌∷◌, ◌++◌, take}
-use Rattle.std.specs.Prelude.{Option, Some, None, refl}
+use Rattle.std.specs.Prelude.{◌≡◌, ℕ, zero, suc, true, false, List, [], ◌∷◌, ◌++◌, take, Option, Some, None, refl}
 use Rattle.std.specs.List.{list_any}
 use Rattle.std.proofs.Common.{sym, ◌∙◌, ap, subst, inl, inr}
 use Rattle.std.proofs.lemmas.Bool.{cases_Bool, cond-true, cond-false, or_left, or_right}
 use Rattle.station.specs.State.{StationState}
 use Rattle.station.specs.declared.host_event.HostEvent.{HostEvent}
 use Rattle.station.specs.declared.host_event.HostEvent.TheVariants.{Joined, Bytes, Left}
-use Rattle.station.specs.declared.host_event.PortKind.{PortKind}
 use Rattle.station.specs.declared.host_out.Piece.{Piece}
 use Rattle.station.specs.Turn.{Turn}
 use Rattle.tnc_ports.specs.declared.line.Line.{Line}

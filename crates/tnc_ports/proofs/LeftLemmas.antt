@@ -1,16 +1,14 @@
 -- The station is told of the connections that were shut, one after another.
-use Rattle.std.specs.Prelude.{◌≡◌, ℕ, zero, suc, ◌==◌, ◌<◌, ◌≤◌, ◌||◌, Bool, true, false, List, [], ◌∷◌, drop, length}
-use Rattle.std.specs.Prelude.{Option, Some, None, refl}
+use Rattle.std.specs.Prelude.{◌≡◌, ℕ, zero, suc, ◌==◌, true, List, [], ◌∷◌, drop, Some, None, refl}
 use Rattle.std.specs.List.{list_any, slice_get}
-use Rattle.std.proofs.Common.{sym, ◌∙◌, ap, subst, arith}
+use Rattle.std.proofs.Common.{◌∙◌, ap}
 use Rattle.std.proofs.lemmas.Bool.{or_left, or_right}
 use Rattle.station.specs.declared.host_event.HostEvent.TheVariants.{Left}
 use Rattle.station.specs.Host.{IsHostTurn}
 use Rattle.tnc_ports.specs.declared.host_parts.HostParts.{HostParts}
 use Rattle.tnc_ports.specs.declared.report_line.ReportLine.{ReportLine}
-use Rattle.tnc_ports.specs.HeldHosts.{AreParts, Moves, MovesBy, IsKnown, is_named, is_known}
-use Rattle.tnc_ports.specs.Hosts.{Hosts, without, is_line_of, is_among, IsDelivered, HaveLeft, FirstHasLeft}
-use Rattle.tnc_ports.specs.Hosts.{AllHaveLeft}
+use Rattle.tnc_ports.specs.HeldHosts.{AreParts, Moves, MovesBy, IsKnown, is_known}
+use Rattle.tnc_ports.specs.Hosts.{Hosts, without, is_line_of, is_among, IsDelivered, HaveLeft, AllHaveLeft}
 use Rattle.tnc_ports.proofs.NamedLemmas.{itself}
 
 -- whatever hosts the first parts stand for, the station was told of some that left

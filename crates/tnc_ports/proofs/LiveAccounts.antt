@@ -1,15 +1,14 @@
 -- What turns did for the hosts, one after another and all together.
-use Rattle.std.specs.Prelude.{⊤, ◌≡◌, ◌⊎◌, ℕ, zero, suc, ◌+◌, ◌<◌, ◌==◌, ◌||◌, Bool, true, false, if◌then◌else◌, List}
-use Rattle.std.specs.Prelude.{[], ◌∷◌, ◌++◌, All, length, map, take, Option, Some, None, refl}
-use Rattle.std.specs.List.{list_any, flat_map}
+use Rattle.std.specs.Prelude.{◌≡◌, ◌⊎◌, ℕ, zero, suc, ◌==◌, ◌||◌, Bool, true, false, List, [], ◌∷◌, ◌++◌, All, map}
+use Rattle.std.specs.Prelude.{Option, Some, None, refl}
+use Rattle.std.specs.List.{list_any}
 use Rattle.std.proofs.Common.{sym, ◌∙◌, ap, subst, arith, inl, inr, append_assoc}
-use Rattle.std.proofs.lemmas.Bool.{cases_Bool, or_parts, or_cases, or_left, or_right, false≢true, true≢false}
-use Rattle.std.proofs.lemmas.Bool.{false_from_ne_true, eqb-true, ne_eqb, eq-eqb}
+use Rattle.std.proofs.lemmas.Bool.{cases_Bool, or_parts, or_cases, or_left, or_right, false≢true, true≢false, eqb-true}
+use Rattle.std.proofs.lemmas.Bool.{ne_eqb, eq-eqb}
 use Rattle.std.proofs.lemmas.Grind.{flat_map-append}
 use Rattle.std.proofs.lemmas.List.{append-nil, map-append}
 use Rattle.std.proofs.lemmas.List.Elements.{All-append}
 use Rattle.std.proofs.lemmas.List.Folds.{list_any-append}
-use Rattle.station.specs.declared.host_event.HostEvent.{HostEvent}
 use Rattle.tnc_ports.specs.declared.line.Line.{Line}
 use Rattle.tnc_ports.specs.declared.report_line.ReportLine.{ReportLine}
 use Rattle.tnc_ports.specs.declared.report_line.ReportLine.TheVariants.{ReceivedLine, SentLine}
@@ -18,13 +17,12 @@ use Rattle.tnc_ports.specs.CutPart.{IsCutPart, IsCutInTaking, IsCutInSending}
 use Rattle.tnc_ports.specs.Hosts.{Hosts, line_of, is_among, was_there}
 use Rattle.tnc_ports.specs.HostTurns.{Asked, Offer, Offering, InOrder, AreTried, IsTaken, IsOffered, IsOfferedTo}
 use Rattle.tnc_ports.specs.HostTurns.{IsHostPart, ids_of_lines}
-use Rattle.tnc_ports.specs.SampledFrames.{with_lines}
 use Rattle.tnc_ports.specs.SentSoFar.{octets_for, IsOrderly}
 use Rattle.tnc_ports.specs.ServedHosts.{NoneTwice, octets_to, ids_sent_to, ids_shut, ids_closed, closed_by}
 use Rattle.tnc_ports.specs.ServedHosts.{IsShutHavingCome, AreSentInTurns, AreShutInTurns}
 use Rattle.tnc_ports.specs.Sockets.{Poll, has_come, is_joining_of}
 use Rattle.tnc_ports.proofs.GivenLemmas.{offers_given}
-use Rattle.tnc_ports.proofs.KeptLemmas.{IsKeptByStep, IsKeptByTaking, IsKeptByPart, kept_tried, kept_takes, kept_offers}
+use Rattle.tnc_ports.proofs.KeptLemmas.{IsKeptByStep, IsKeptByPart, kept_tried, kept_takes, kept_offers}
 use Rattle.tnc_ports.proofs.LineLemmas.{found_id}
 use Rattle.tnc_ports.proofs.LiveKept.{IsKeptByFrames}
 use Rattle.tnc_ports.proofs.SentLemmas.{orderly_by_step, orderly_by_part}

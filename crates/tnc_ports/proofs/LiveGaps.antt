@@ -1,8 +1,7 @@
 -- The gap lines of the report are the gaps that the readers were told of.
-use Rattle.std.specs.Prelude.{◌≡◌, ℕ, zero, suc, ◌+◌, ◌-◌, ◌<◌, ◌≤◌, ◌==◌, Bool, true, false, if◌then◌else◌, List, []}
-use Rattle.std.specs.Prelude.{◌∷◌, ◌++◌, length, map, refl}
-use Rattle.std.proofs.Common.{sym, ◌∙◌, ap, subst, arith, append_assoc, get_or}
-use Rattle.std.proofs.lemmas.Bool.{cases_Bool, cond-true, cond-false, eq-eqb, ne_eqb}
+use Rattle.std.specs.Prelude.{◌≡◌, ℕ, zero, suc, ◌+◌, ◌<◌, ◌==◌, Bool, false, List, [], ◌∷◌, ◌++◌, length, map, refl}
+use Rattle.std.proofs.Common.{sym, ◌∙◌, ap, subst, arith, get_or}
+use Rattle.std.proofs.lemmas.Bool.{cond-true, cond-false, eq-eqb, ne_eqb}
 use Rattle.std.proofs.lemmas.Grind.{flat_map-append}
 use Rattle.std.proofs.lemmas.List.{append-nil, map-append}
 use Rattle.sample_ring.specs.declared.got.Got.{Got}
@@ -14,12 +13,12 @@ use Rattle.ring_receiver.specs.Readers.{readers_wanted}
 use Rattle.station.specs.declared.host_event.HostEvent.{HostEvent}
 use Rattle.tnc_ports.specs.declared.report_line.ReportLine.{ReportLine}
 use Rattle.tnc_ports.specs.declared.serve_words.ServeWords.{ServeWords}
-use Rattle.tnc_ports.specs.declared.report_line.ReportLine.TheVariants.{GapLine, ClosedLine, ReceivedLine, SentLine}
+use Rattle.tnc_ports.specs.declared.report_line.ReportLine.TheVariants.{ClosedLine, ReceivedLine, SentLine}
 use Rattle.tnc_ports.specs.Hosts.{Hosts}
 use Rattle.tnc_ports.specs.ReportedGaps.{gap_by, gaps_in, AreAllGaps, AreFirstGaps}
 use Rattle.tnc_ports.specs.Sampled.{Live, LanesReadOn, gap_line}
 use Rattle.tnc_ports.specs.ServedHosts.{ids_closed, closed_by}
-use Rattle.tnc_ports.proofs.KeptLemmas.{IsKeptByStep, IsKeptByTaking, IsKeptByPart}
+use Rattle.tnc_ports.proofs.KeptLemmas.{IsKeptByStep, IsKeptByPart}
 use Rattle.tnc_ports.proofs.LiveKept.{IsKeptByFrames}
 
 -- ---- what hosts do leaves the gaps

@@ -1,26 +1,21 @@
 -- All turns of a live station, from the first to the last.
-use Rattle.std.specs.Prelude.{Bool, true, false, Option, Some, All, replicate}
-use Rattle.std.proofs.Common.{◌≡◌, ℕ, zero, suc, ◌+◌, ◌≤◌, ◌⊎◌, List, [], ◌∷◌, ◌++◌, refl, sym, ap, subst, inl, inr}
-use Rattle.std.proofs.Common.{◌∙◌, arith}
-use Rattle.std.proofs.lemmas.List.{append-nil}
-use Rattle.sample_ring.specs.declared.got.Got.{Got}
+use Rattle.std.specs.Prelude.{Bool, true, false, Some}
+use Rattle.std.proofs.Common.{◌≡◌, ℕ, suc, ◌≤◌, ◌⊎◌, [], ◌∷◌, ◌++◌, refl, sym, ap, subst, inl, inr, ◌∙◌, arith}
 use Rattle.ring_receiver.specs.HeldReceiver.{HeldReceiver, answers_in}
 use Rattle.tnc_base.specs.Streams.{WrotePart}
-use Rattle.tnc_ports.specs.declared.looping.LoopEnd.{LoopEnd}
 use Rattle.tnc_ports.specs.declared.looping.LoopEnd.TheVariants.{Done, Memory, WriteFault}
 use Rattle.tnc_ports.specs.declared.serve_words.ServeWords.{ServeWords}
 use Rattle.tnc_ports.specs.declared.turning.Turning.{Turning}
 use Rattle.tnc_ports.specs.AskedPorts.{Told}
-use Rattle.tnc_ports.specs.HostTurns.{Asked}
 use Rattle.tnc_ports.specs.ReportText.{output_octets, report_text}
-use Rattle.tnc_ports.specs.Sampled.{Live, new_live, HaveEnded, IsTurn, MakesAll}
+use Rattle.tnc_ports.specs.Sampled.{Live, new_live, IsTurn}
 use Rattle.tnc_ports.specs.SampledHeld.{StandsForLive, Turns, IsCutOff, Runs, output_of, report_of, told_in}
-use Rattle.tnc_ports.specs.SampledRun.{Outside, AreTurns, IsRun, IsCutRun, IsCutTurn, IsCutInServing, PortsTell}
-use Rattle.tnc_ports.specs.SampledRun.{PortsStay, AllIsWritten, PartIsWritten, IsWhole, IsCut, IsLooped}
+use Rattle.tnc_ports.specs.SampledRun.{Outside, IsRun, IsCutRun, IsCutTurn, IsCutInServing, PortsTell, PortsStay}
+use Rattle.tnc_ports.specs.SampledRun.{AllIsWritten, PartIsWritten, IsWhole, IsLooped}
 use Rattle.tnc_ports.specs.SampledWrites.{Stream, WritesMore}
 use Rattle.tnc_ports.proofs.LiveSteps.{turns_more}
 use Rattle.tnc_ports.proofs.LiveAccounts.{are_sent, are_shut, accounted_cut}
-use Rattle.tnc_ports.proofs.LiveServed.{IsAccountedFor, IsServed, served_run, served_cut, all_told}
+use Rattle.tnc_ports.proofs.LiveServed.{served_run, served_cut, all_told}
 use Rattle.tnc_ports.proofs.LiveTold.{tells_nothing, tells_more, tells_still}
 use Rattle.tnc_ports.proofs.LiveWrites.{no_write, writes_more}
 

@@ -1,9 +1,9 @@
 -- Facts on serving as a whole.
-use Rattle.std.specs.Prelude.{Bool, true, false, Contains, ℤ, Option, Some, None, ◌==◌, nat_lt, if◌then◌else◌, zero}
-use Rattle.std.specs.Prelude.{suc, Result, Ok, Err, is_err, OnOk, All, replicate}
-use Rattle.std.proofs.Common.{◌≡◌, ◌≢◌, ℕ, ◌+◌, ◌-◌, ◌<◌, ◌≤◌, ⊎_elim, List, [], ◌∷◌, ◌++◌, get_or, length, map, refl}
-use Rattle.std.proofs.Common.{sym, ap, subst, inl, inr, ◌∙◌, arith}
-use Rattle.std.proofs.lemmas.List.{append-nil, get_or-replicate, length-map}
+use Rattle.std.specs.Prelude.{Bool, true, false, Contains, ℤ, Some, None, ◌==◌, nat_lt, if◌then◌else◌, zero, suc}
+use Rattle.std.specs.Prelude.{Result, Ok, Err, is_err, OnOk, All, replicate}
+use Rattle.std.proofs.Common.{◌≡◌, ◌≢◌, ℕ, ◌+◌, ◌-◌, ◌<◌, ⊎_elim, List, [], ◌∷◌, ◌++◌, get_or, length, map, refl, sym}
+use Rattle.std.proofs.Common.{ap, subst, inl, inr, ◌∙◌, arith}
+use Rattle.std.proofs.lemmas.List.{append-nil, length-map}
 use Rattle.std.proofs.lemmas.List.Elements.{All-head, All-tail, Contains-append_cases}
 use Rattle.std.proofs.lemmas.Option.{slice_get_past}
 use Rattle.std.proofs.Math.ListN.{get_or-map}
@@ -30,7 +30,7 @@ use Rattle.tnc_ports.specs.declared.serving.ServeEnd.TheVariants.{Memory as NoMe
 use Rattle.tnc_ports.specs.declared.pumping.PumpEnd.{PumpEnd}
 use Rattle.tnc_ports.specs.declared.pumping.PumpEnd.TheVariants.{InputEnd, ReadFault, TooLong, NotBegun}
 use Rattle.tnc_ports.specs.declared.serve_words.ServeWords.{ServeWords}
-use Rattle.tnc_ports.specs.Sampled.{Live, new_live, HaveEnded}
+use Rattle.tnc_ports.specs.Sampled.{new_live, HaveEnded}
 use Rattle.tnc_ports.specs.declared.turning.Turning.{Turning}
 use Rattle.tnc_ports.specs.HeldHosts.{StandsFor}
 use Rattle.tnc_ports.specs.Hosts.{new_hosts}

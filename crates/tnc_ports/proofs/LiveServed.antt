@@ -1,6 +1,6 @@
 -- What a run did for the hosts: the account of its turns.
-use Rattle.std.specs.Prelude.{◌≡◌, ◌⊎◌, ℕ, zero, suc, ◌*◌, ◌<◌, Bool, true, false, List, [], ◌∷◌, ◌++◌, length, map}
-use Rattle.std.specs.Prelude.{replicate, refl}
+use Rattle.std.specs.Prelude.{◌≡◌, ℕ, zero, suc, ◌*◌, Bool, true, false, List, [], ◌∷◌, ◌++◌, length, map, replicate}
+use Rattle.std.specs.Prelude.{refl}
 use Rattle.std.proofs.Common.{sym, ◌∙◌, ap, subst, arith, inl, inr, length-append}
 use Rattle.frame_merge.specs.declared.candidate.Candidate.{Candidate}
 use Rattle.slicer_bank.specs.HeardOnRing.{lane_of}
@@ -11,15 +11,14 @@ use Rattle.tnc_ports.specs.Hosts.{Hosts, new_hosts}
 use Rattle.tnc_ports.specs.HostTurns.{Asked, IsHostPart}
 use Rattle.tnc_ports.specs.ReportedGaps.{gaps_in, AreAllGaps, AreFirstGaps}
 use Rattle.tnc_ports.specs.Sampled.{Live, new_live, with_hosts, gap_line, LanesReadOn, AreHeard, HearsAll, AreTicked}
-use Rattle.tnc_ports.specs.Sampled.{MakesTicks, MakesAll, ServesHosts, IsTurn}
-use Rattle.tnc_ports.specs.SampledRun.{AreTurns, IsRun, IsCutInReading, IsCutInHearing, IsCutInTicking, IsCutTurn}
-use Rattle.tnc_ports.specs.SampledRun.{IsCutRun}
+use Rattle.tnc_ports.specs.Sampled.{MakesAll, ServesHosts, IsTurn}
+use Rattle.tnc_ports.specs.SampledRun.{AreTurns, IsRun, IsCutTurn, IsCutRun}
 use Rattle.tnc_ports.proofs.KeptLemmas.{kept_part}
 use Rattle.tnc_ports.proofs.LiveAccounts.{IsAccounted, accounted_new, accounted_relined, accounted_by_frames}
 use Rattle.tnc_ports.proofs.LiveAccounts.{accounted_part}
 use Rattle.tnc_ports.proofs.LiveGaps.{TellsGaps, gaps_by_frames, gaps_by_part, gaps_closed, read_gaps, first_gaps}
 use Rattle.tnc_ports.proofs.LiveGaps.{cut_gaps}
-use Rattle.tnc_ports.proofs.LiveKept.{IsKeptByFrames, kept_heard, kept_ticks}
+use Rattle.tnc_ports.proofs.LiveKept.{kept_heard, kept_ticks}
 use Rattle.tnc_ports.proofs.LiveSteps.{ticked_to}
 use Rattle.tnc_ports.proofs.SentLemmas.{orderly_new}
 use Rattle.tnc_ports.proofs.ServedLemmas.{sound_new}

@@ -1,5 +1,5 @@
 -- What the ports tell turn by turn, they tell of all turns.
-use Rattle.std.specs.Prelude.{Bool, true, false, Option, Some, ◌||◌, ◌≢◌, All}
+use Rattle.std.specs.Prelude.{Bool, true, false, Some, ◌||◌, ◌≢◌, All}
 use Rattle.std.proofs.Common.{◌≡◌, ◌⊎◌, inl, inr, ℕ, zero, suc, ◌+◌, ◌≤◌, rules, List, [], ◌∷◌, ◌++◌, length, map, refl}
 use Rattle.std.proofs.Common.{sym, ap, subst, ◌∙◌, arith, append_assoc, length-append}
 use Rattle.std.specs.List.{list_any, flat_map}
@@ -7,13 +7,13 @@ use Rattle.std.proofs.lemmas.List.{append-nil, map-append}
 use Rattle.std.proofs.lemmas.Bool.{false≢true}
 use Rattle.std.proofs.lemmas.List.Elements.{All-append}
 use Rattle.std.proofs.lemmas.Grind.{flat_map-append}
-use Rattle.tnc_ports.specs.AskedPorts.{poll_of, send_of, taken_of, Told, AreUnasked, IsAsked}
+use Rattle.tnc_ports.specs.AskedPorts.{poll_of, send_of, taken_of, AreUnasked, IsAsked}
 use Rattle.tnc_ports.specs.Hosts.{is_among}
 use Rattle.tnc_ports.specs.HostTurns.{Asked}
 use Rattle.tnc_ports.specs.SampledHeld.{told_in}
-use Rattle.tnc_ports.specs.SampledRun.{Outside, GrowsBy, sends_from, PortsTell}
+use Rattle.tnc_ports.specs.SampledRun.{Outside, sends_from, PortsTell}
 use Rattle.tnc_ports.specs.ServedHosts.{octets_to, IsShutHavingCome}
-use Rattle.tnc_ports.specs.Sockets.{Poll, Send, MayCome, has_come, is_joining_of}
+use Rattle.tnc_ports.specs.Sockets.{Poll, MayCome, has_come, is_joining_of}
 use Rattle.tnc_ports.proofs.AskedLemmas.{risen_later}
 
 sends-more : (n : ℕ) (turns : List Asked) (asked : Asked) → sends_from n (turns ++ asked ∷ [])

@@ -1,9 +1,8 @@
 -- The parts of a turn make a turn, and those that came to pass one that is cut short.
-use Rattle.std.specs.Prelude.{Bool, true, false, IsTrue, ◌↔◌}
-use Rattle.std.proofs.Common.{◌≡◌, ℕ, zero, suc, ◌+◌, ◌-◌, ◌*◌, ◌/◌, ◌<◌, ◌≤◌, ◌⊎◌, List, [], ◌∷◌, ◌++◌, length, refl}
-use Rattle.std.proofs.Common.{sym, ap, subst, inl, inr, ◌∙◌, arith}
+use Rattle.std.specs.Prelude.{Bool, IsTrue, ◌↔◌}
+use Rattle.std.proofs.Common.{◌≡◌, ℕ, ◌+◌, ◌-◌, ◌*◌, ◌/◌, ◌<◌, ◌≤◌, ◌⊎◌, List, [], ◌∷◌, ◌++◌, refl, sym, ap, subst, inl}
+use Rattle.std.proofs.Common.{inr, ◌∙◌, arith}
 use Rattle.frame_merge.specs.declared.candidate.Candidate.{Candidate}
-use Rattle.sample_ring.specs.declared.got.Got.{Got}
 use Rattle.slicer_bank.specs.HeardOnRing.{IsBusyOnRing, least_position}
 use Rattle.ring_receiver.specs.HeardByAll.{AreDueBy}
 use Rattle.ring_receiver.specs.HeldReceiver.{HeldReceiver, answers_in, EightListen}
@@ -14,13 +13,12 @@ use Rattle.tnc_ports.specs.CutPart.{HasCutPart}
 use Rattle.tnc_ports.specs.Hosts.{Hosts}
 use Rattle.tnc_ports.specs.HostTurns.{Asked}
 use Rattle.tnc_ports.specs.Sampled.{Live, HaveEnded, with_hosts, AreHeard, AreTicked, HearsAll, MakesTicks, MakesAll}
-use Rattle.tnc_ports.specs.Sampled.{ServesHosts, IsTurn}
 use Rattle.tnc_ports.specs.SampledHeld.{Keeps, StandsForLive, HearsFrames, HearsSome, Ticks, TicksAll, ServesAll, Reads}
 use Rattle.tnc_ports.specs.SampledHeld.{Turns, IsCutOff}
-use Rattle.tnc_ports.specs.SampledRun.{IsCutTurn, IsCutInReading, IsCutInHearing, IsCutInTicking, IsCutInServing}
+use Rattle.tnc_ports.specs.SampledRun.{IsCutInReading, IsCutInHearing, IsCutInTicking, IsCutInServing}
 use Rattle.tnc_ports.specs.SampledWrites.{Stream, WritesMore}
 use Rattle.tnc_ports.proofs.AskedLemmas.{unasked}
-use Rattle.tnc_ports.proofs.LiveSteps.{IsTickedTo, ticked_to}
+use Rattle.tnc_ports.proofs.LiveSteps.{ticked_to}
 use Rattle.tnc_ports.proofs.LiveWrites.{writes_more, writes_report, no_write}
 
 -- nothing is written

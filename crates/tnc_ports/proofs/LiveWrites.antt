@@ -1,7 +1,6 @@
 -- What is written step by step is written in one.
-use Rattle.std.specs.Prelude.{Bool, true, false, Option, Some, Result, Ok, Err, is_err, OnOk, OnErr}
-use Rattle.std.proofs.Common.{◌≡◌, ℕ, ◌+◌, ◌≤◌, ◌⊎◌, List, [], ◌∷◌, ◌++◌, refl, sym, ap, subst, inl, inr, ◌∙◌, arith}
-use Rattle.std.proofs.Common.{append_assoc}
+use Rattle.std.specs.Prelude.{Bool, true, false, Some, Result, Ok, Err, is_err, OnOk, OnErr}
+use Rattle.std.proofs.Common.{◌≡◌, ℕ, ◌≤◌, List, [], ◌++◌, refl, sym, ap, subst, inl, inr, ◌∙◌, arith, append_assoc}
 use Rattle.std.proofs.lemmas.List.{append-nil}
 use Rattle.std.proofs.lemmas.Bool.{false≢true}
 use Rattle.std.proofs.lemmas.Grind.{flat_map-append}
@@ -10,8 +9,7 @@ use Rattle.tnc_base.specs.Streams.{WrotePart}
 use Rattle.tnc_ports.specs.declared.report_line.ReportLine.{ReportLine}
 use Rattle.tnc_ports.specs.Hosts.{Hosts}
 use Rattle.tnc_ports.specs.ReportText.{report_text, output_octets, ended_line, sample_octets}
-use Rattle.tnc_ports.specs.Sampled.{Live, with_hosts}
-use Rattle.tnc_ports.specs.SampledRun.{GrowsBy}
+use Rattle.tnc_ports.specs.Sampled.{Live}
 use Rattle.tnc_ports.specs.SampledWrites.{Stream, PutsAll, PutsPart, Puts, PutsBoth, ReportsMore, WritesMore}
 
 -- ---- one stream

@@ -1,30 +1,22 @@
 -- What the parts stand for, step by step.
-use Rattle.std.specs.Prelude.{◌≡◌, ◌≢◌, ℕ, zero, suc, ◌+◌, ◌*◌, ◌<◌, ◌≤◌, ◌==◌, ◌&&◌, ◌||◌, Bool, true, false, not}
-use Rattle.std.specs.Prelude.{List, [], ◌∷◌, ◌++◌, length, filter, All, Option, Some, None, cond, refl}
+use Rattle.std.specs.Prelude.{◌≡◌, ℕ, suc, ◌≤◌, ◌==◌, ◌&&◌, ◌||◌, Bool, true, false, not, List, length, filter, All}
+use Rattle.std.specs.Prelude.{refl}
 use Rattle.std.specs.List.{list_any}
-use Rattle.std.proofs.Common.{sym, ◌∙◌, ap, subst, arith, inl, inr, append_assoc}
-use Rattle.std.proofs.lemmas.Bool.{eqb-true, eq-eqb, and_parts, or_cases, or_left, or_right, or_from, or_parts}
-use Rattle.std.proofs.lemmas.Bool.{not-true, cases_Bool, cond-true, cond-false, false≢true, true≢false}
+use Rattle.std.proofs.Common.{sym, ◌∙◌, ap, subst, arith, inl, inr}
+use Rattle.std.proofs.lemmas.Bool.{or_cases, or_left, or_right, cases_Bool, true≢false}
 use Rattle.station.specs.declared.host_event.HostEvent.{HostEvent}
-use Rattle.station.specs.declared.host_event.HostEvent.TheVariants.{Joined, Bytes, Left}
-use Rattle.station.specs.declared.host_out.Piece.{Piece}
 use Rattle.station.specs.Held.{Held, ids_of, ids_behind}
 use Rattle.station.specs.State.{StationState}
 use Rattle.station.specs.StandsFor.{StandsFor as StandsForStation}
 use Rattle.station.specs.Turn.{Out, Turn, begin}
-use Rattle.station.specs.Host.{IsHostTurn}
 use Rattle.tnc_ports.specs.declared.host_parts.HostParts.{HostParts}
-use Rattle.tnc_ports.specs.declared.line.Line.{Line}
 use Rattle.tnc_ports.specs.declared.report_line.ReportLine.{ReportLine}
-use Rattle.tnc_ports.specs.declared.report_line.ReportLine.TheVariants.{ClosedLine}
-use Rattle.tnc_ports.specs.declared.untaken.Untaken.{Untaken}
 use Rattle.tnc_ports.specs.HeldHosts.{AreParts, Moves, MovesBy, Narrows, IsKnown, IsKnownBefore, IsAtRest, is_named}
-use Rattle.tnc_ports.specs.HeldHosts.{is_known, joins, leaves, weight}
-use Rattle.tnc_ports.specs.Hosts.{Hosts, without, closing, cutting, delivering, is_line_of, is_among, IsDelivered}
-use Rattle.tnc_ports.specs.Hosts.{IsStep, HaveLeft, FirstHasLeft, AllHaveLeft}
+use Rattle.tnc_ports.specs.HeldHosts.{joins, leaves}
+use Rattle.tnc_ports.specs.Hosts.{Hosts, delivering, is_line_of, is_among, IsDelivered, IsStep, HaveLeft, FirstHasLeft}
+use Rattle.tnc_ports.specs.Hosts.{AllHaveLeft}
 use Rattle.tnc_ports.specs.IdRanges.{is_within}
-use Rattle.tnc_ports.proofs.NamedLemmas.{lines_without, ids_without, not_itself, fewer_lines, fewer_ids}
-use Rattle.tnc_ports.proofs.NamedLemmas.{length_without_lines, length_without_ids, still_known, was_known}
+use Rattle.tnc_ports.proofs.NamedLemmas.{lines_without, ids_without, still_known, was_known}
 
 -- ---- one after another
 

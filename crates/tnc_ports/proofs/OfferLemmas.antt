@@ -1,9 +1,8 @@
 -- What connections are offered, one after another.
-use Rattle.std.specs.Prelude.{◌≡◌, ◌≢◌, ℕ, ◌+◌, ◌<◌, ◌≤◌, ◌==◌, ◌||◌, ◌⊎◌, Bool, true, false, List, [], ◌∷◌, ◌++◌}
-use Rattle.std.specs.Prelude.{length, map, take, Option, Some, None, refl}
-use Rattle.std.specs.List.{list_any}
+use Rattle.std.specs.Prelude.{◌≡◌, ◌≢◌, ℕ, ◌+◌, ◌<◌, ◌≤◌, ◌==◌, ◌||◌, Bool, true, false, List, [], ◌∷◌, ◌++◌, length}
+use Rattle.std.specs.Prelude.{take, Option, Some, None, refl}
 use Rattle.std.proofs.Common.{sym, ◌∙◌, ap, subst, arith, inl, inr, get_or}
-use Rattle.std.proofs.lemmas.Bool.{eqb-true, eq-eqb, cases_Bool, or_cases, or_left, or_right, false≢true, true≢false}
+use Rattle.std.proofs.lemmas.Bool.{eqb-true, eq-eqb, cases_Bool, false≢true, true≢false}
 use Rattle.std.proofs.lemmas.List.{take_more}
 use Rattle.std.proofs.lemmas.List.Folds.{list_any-append}
 use Rattle.tnc_base.specs.Faults.{HasRisen}
@@ -11,10 +10,10 @@ use Rattle.station.specs.declared.host_out.Piece.{Piece}
 use Rattle.tnc_ports.specs.declared.host_parts.HostParts.{HostParts}
 use Rattle.tnc_ports.specs.declared.line.Line.{Line}
 use Rattle.tnc_ports.specs.declared.report_line.ReportLine.{ReportLine}
-use Rattle.tnc_ports.specs.AskedPorts.{Told, AreOffered, AreShut, send_of}
+use Rattle.tnc_ports.specs.AskedPorts.{Told, AreOffered, AreShut}
 use Rattle.tnc_ports.specs.HeldHosts.{AreParts, MovesBy}
-use Rattle.tnc_ports.specs.Hosts.{Hosts, cutting, with_waiting, line_of, is_line_of, is_among, AllHaveLeft}
-use Rattle.tnc_ports.specs.HostTurns.{Offer, Offering, IsOffered, IsOfferedTo, InOrder, ids_of_lines}
+use Rattle.tnc_ports.specs.Hosts.{Hosts, cutting, with_waiting, line_of, is_among, AllHaveLeft}
+use Rattle.tnc_ports.specs.HostTurns.{Offer, Offering, IsOffered, IsOfferedTo, InOrder}
 use Rattle.tnc_ports.specs.Sockets.{Poll, Send, has_come}
 use Rattle.tnc_ports.specs.Waiting.{front_of, after_sending}
 use Rattle.tnc_ports.proofs.AskedLemmas.{offered_more, offered_in_vain}

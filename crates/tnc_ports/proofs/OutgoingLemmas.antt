@@ -2,7 +2,7 @@
 use Rattle.std.proofs.Common.{◌≡◌, refl, ℕ, ◌+◌, ◌-◌, ◌<◌, ◌≤◌, List, [], ◌∷◌, ◌++◌, length, take, drop, set, sum, All}
 use Rattle.std.proofs.Common.{suc, sym, ap, ◌∙◌, arith, subst}
 use Rattle.std.proofs.lemmas.List.{take-append-drop, take-append-le, drop-append-le, drop-take, drop-drop, length-drop}
-use Rattle.std.proofs.lemmas.List.{length-take-le, length-append}
+use Rattle.std.proofs.lemmas.List.{length-take-le}
 use Rattle.std.proofs.lemmas.List.Sums.{sum_by-cons}
 use Rattle.std.proofs.Math.Seq.{take-length, drop-length, take-append-add}
 use Rattle.tnc_ports.specs.Waiting.{cut, octets_of, with_piece, front_of, after_sending, behind}

@@ -1,5 +1,5 @@
 -- Octets taken in pairs: one more octet ends a sample if one was left over, and is left over itself if none was.
-use Rattle.std.proofs.Common.{◌≡◌, refl, ℕ, ℤ, List, [], ◌∷◌, ◌++◌, ap, Option, Some, None}
+use Rattle.std.proofs.Common.{◌≡◌, refl, ℕ, List, [], ◌∷◌, ◌++◌, ap}
 use Rattle.wav_file.specs.Samples.{samples, sample_of}
 use Rattle.tnc_ports.specs.OddOctet.{odd_octet, odd_after, ended}
 

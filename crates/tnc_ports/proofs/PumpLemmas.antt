@@ -5,7 +5,6 @@ use Rattle.std.proofs.Common.{sym, ap, ◌∙◌, append_assoc, arith, get_or, s
 use Rattle.std.proofs.lemmas.List.{take-append-drop, take_more, append-nil, length-append, length-take-le}
 use Rattle.tnc_base.specs.Streams.{Gives}
 use Rattle.wav_file.specs.Samples.{samples, sample_of}
-use Rattle.tnc_ports.specs.declared.pumping.PumpEnd.{PumpEnd}
 use Rattle.tnc_ports.specs.declared.pumping.PumpEnd.TheVariants.{InputEnd, ReadFault, TooLong, NotBegun}
 use Rattle.tnc_ports.specs.OddOctet.{odd_octet, odd_after, count_of, ended}
 use Rattle.tnc_ports.specs.Pumped.{IsPumped, most_input}

@@ -1,7 +1,7 @@
 -- The last range grows by one id.
 use Rattle.std.specs.Prelude.{◌≡◌, ℕ, zero, suc, ◌+◌, ◌-◌, ◌<◌, ◌≤◌, ◌==◌, ◌&&◌, ◌||◌, nat_le, Bool, true, false, List}
 use Rattle.std.specs.Prelude.{[], ◌∷◌, length, refl}
-use Rattle.std.proofs.Common.{sym, ◌∙◌, ap, subst, arith, get_or, set}
+use Rattle.std.proofs.Common.{◌∙◌, ap, arith, get_or, set}
 use Rattle.std.proofs.lemmas.Bool.Decides.{nat_tests}
 use Rattle.tnc_ports.specs.declared.id_range.IdRange.{IdRange}
 use Rattle.tnc_ports.specs.IdRanges.{is_in_range, is_within}

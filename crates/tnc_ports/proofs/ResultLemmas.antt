@@ -1,5 +1,5 @@
 -- Answers that can't be the same.
-use Rattle.std.specs.Prelude.{◌≡◌, Bool, true, false, is_ok, Result, Ok, Err, OnOk, refl}
+use Rattle.std.specs.Prelude.{◌≡◌, Bool, true, false, is_ok, Result, Ok, Err, OnOk}
 use Rattle.std.proofs.Common.{sym, ◌∙◌, ap}
 use Rattle.std.proofs.lemmas.Bool.{true≢false, false≢true}
 use Rattle.tnc_ports.specs.declared.outgoing.AppendFault.{AppendFault}

@@ -1,11 +1,8 @@
 -- Each connection is sent a first part of what is appended for it: every step of hosts keeps that.
-use Rattle.std.specs.Prelude.{◌≡◌, ◌≢◌, ℕ, zero, suc, ◌+◌, ◌≤◌, ◌==◌, ◌||◌, ◌⊎◌, Bool, true, false, not, nat_le}
-use Rattle.std.specs.Prelude.{if◌then◌else◌, List, [], ◌∷◌, ◌++◌, length, map, take, drop, filter, Option, Some, None}
-use Rattle.std.specs.Prelude.{cond, refl}
-use Rattle.std.specs.List.{list_any, flat_map}
-use Rattle.std.proofs.Common.{sym, ◌∙◌, ap, subst, arith, inl, inr, append_assoc}
+use Rattle.std.specs.Prelude.{◌≡◌, ℕ, zero, suc, ◌==◌, ◌||◌, false, not, if◌then◌else◌, List, [], ◌∷◌, ◌++◌, take, drop}
+use Rattle.std.specs.Prelude.{filter, Option, Some, None, cond, refl}
+use Rattle.std.proofs.Common.{sym, ◌∙◌, ap, subst, inl, inr, append_assoc}
 use Rattle.std.proofs.lemmas.Bool.{eqb-true, eq-eqb, ne_eqb, cases_Bool, cases_eq, cond-true, cond-false, or_parts}
-use Rattle.std.proofs.lemmas.Bool.{false≢true, true≢false}
 use Rattle.std.proofs.lemmas.Grind.{flat_map-append}
 use Rattle.std.proofs.lemmas.List.{append-nil, take-append-drop}
 use Rattle.std.proofs.lemmas.List.Folds.{list_any-append}
@@ -18,7 +15,7 @@ use Rattle.tnc_ports.specs.Hosts.{Hosts, new_hosts, waiting_too, with_waiting, l
 use Rattle.tnc_ports.specs.HostTurns.{Asked, IsHostPart, joining}
 use Rattle.tnc_ports.specs.SentSoFar.{octets_for, IsLeft, IsSentOf, AreSentInOrder, IsOrderly}
 use Rattle.tnc_ports.specs.Waiting.{octets_of, with_piece, front_of, after_sending, behind}
-use Rattle.tnc_ports.proofs.KeptLemmas.{IsKeptByStep, IsKeptByTaking, IsKeptByPart, sending, kept_step, kept_part}
+use Rattle.tnc_ports.proofs.KeptLemmas.{IsKeptByStep, IsKeptByPart, sending, kept_step, kept_part}
 use Rattle.tnc_ports.proofs.LineLemmas.{found_id}
 
 -- ---- the line of a connection

@@ -1,28 +1,23 @@
 -- Which connections are shut: every change of hosts keeps the report's account of it.
-use Rattle.std.specs.Prelude.{⊤, ◌≡◌, ◌≢◌, ℕ, zero, suc, ◌==◌, ◌||◌, Bool, true, false, not, cond, List, [], ◌∷◌, ◌++◌}
-use Rattle.std.specs.Prelude.{All, map, filter, Option, Some, None, refl}
-use Rattle.std.specs.List.{list_any, flat_map}
-use Rattle.std.proofs.Common.{sym, ◌∙◌, ap, subst, arith, inl, inr, append_assoc}
-use Rattle.std.proofs.lemmas.Bool.{eqb-true, eq-eqb, ne_eqb, cases_Bool, cases_eq, cond-true, cond-false, or_parts}
-use Rattle.std.proofs.lemmas.Bool.{or_cases, or_left, or_right, false≢true, true≢false, false_from_ne_true}
+use Rattle.std.specs.Prelude.{◌≡◌, ℕ, ◌==◌, ◌||◌, Bool, true, false, not, cond, List, [], ◌∷◌, ◌++◌, filter, refl}
+use Rattle.std.specs.List.{list_any}
+use Rattle.std.proofs.Common.{sym, ◌∙◌, ap, subst, inl, inr, append_assoc}
+use Rattle.std.proofs.lemmas.Bool.{eqb-true, eq-eqb, ne_eqb, cases_Bool, or_parts, or_left, or_right, false≢true}
+use Rattle.std.proofs.lemmas.Bool.{true≢false, false_from_ne_true}
 use Rattle.std.proofs.lemmas.Grind.{flat_map-append}
 use Rattle.std.proofs.lemmas.List.{append-nil}
-use Rattle.std.proofs.lemmas.List.Folds.{list_any-append}
 use Rattle.station.specs.declared.config.Config.{Config}
 use Rattle.station.specs.declared.host_event.HostEvent.{HostEvent}
-use Rattle.station.specs.State.{StationState}
 use Rattle.station.specs.declared.host_out.Piece.{Piece}
 use Rattle.tnc_ports.specs.declared.line.Line.{Line}
 use Rattle.tnc_ports.specs.declared.report_line.ReportLine.{ReportLine}
 use Rattle.tnc_ports.specs.declared.report_line.ReportLine.TheVariants.{ClosedLine}
-use Rattle.tnc_ports.specs.declared.untaken.Untaken.{Untaken}
-use Rattle.tnc_ports.specs.Hosts.{Hosts, new_hosts, without, closing, waiting_too, with_waiting, line_of, is_line_of}
-use Rattle.tnc_ports.specs.Hosts.{is_among, is_there, was_there}
+use Rattle.tnc_ports.specs.Hosts.{Hosts, new_hosts, without, closing, with_waiting, is_line_of, is_among, is_there}
+use Rattle.tnc_ports.specs.Hosts.{was_there}
 use Rattle.tnc_ports.specs.HostTurns.{joining, ids_of_lines}
 use Rattle.tnc_ports.specs.ServedHosts.{NoneTwice, ids_closed, closed_by}
-use Rattle.tnc_ports.specs.Sockets.{is_joining_of}
 use Rattle.tnc_ports.specs.Waiting.{with_piece, after_sending}
-use Rattle.tnc_ports.proofs.KeptLemmas.{IsKeptByStep, IsKeptByTaking, IsKeptByPart, sending}
+use Rattle.tnc_ports.proofs.KeptLemmas.{IsKeptByStep, IsKeptByPart, sending}
 use Rattle.tnc_ports.proofs.LineLemmas.{waiting_names}
 
 -- ---- ids

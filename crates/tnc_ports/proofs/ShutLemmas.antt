@@ -1,23 +1,20 @@
 -- Connections that go.
-use Rattle.std.specs.Prelude.{◌≡◌, ◌≢◌, ℕ, ◌+◌, ◌*◌, ◌<◌, ◌≤◌, ◌==◌, ◌&&◌, ◌||◌, Bool, true, false, not, List, [], ◌∷◌}
-use Rattle.std.specs.Prelude.{◌++◌, length, filter, All, refl}
+use Rattle.std.specs.Prelude.{◌≡◌, ℕ, ◌+◌, ◌*◌, ◌≤◌, ◌==◌, ◌||◌, Bool, true, false, not, [], ◌∷◌, ◌++◌, length, filter}
+use Rattle.std.specs.Prelude.{All, refl}
 use Rattle.std.specs.List.{list_any}
 use Rattle.std.proofs.Common.{sym, ◌∙◌, ap, subst, arith, inl, inr, append_assoc}
-use Rattle.std.proofs.lemmas.Bool.{eqb-true, and_parts, or_cases, or_left, or_right}
+use Rattle.std.proofs.lemmas.Bool.{eqb-true, and_parts, or_cases, or_left}
 use Rattle.std.proofs.lemmas.List.{length-append}
 use Rattle.std.proofs.lemmas.List.Elements.{All-filter}
 use Rattle.std.proofs.lemmas.List.Folds.{list_any-append}
 use Rattle.station.specs.StandsFor.{StandsFor as StandsForStation}
 use Rattle.tnc_ports.specs.declared.host_parts.HostParts.{HostParts}
-use Rattle.tnc_ports.specs.declared.line.Line.{Line}
-use Rattle.tnc_ports.specs.declared.report_line.ReportLine.{ReportLine}
 use Rattle.tnc_ports.specs.declared.report_line.ReportLine.TheVariants.{ClosedLine}
 use Rattle.tnc_ports.specs.declared.untaken.Untaken.{Untaken}
-use Rattle.tnc_ports.specs.HeldHosts.{AreParts, Moves, Narrows, is_named, weight}
-use Rattle.tnc_ports.specs.Hosts.{Hosts, without, reporting, is_line_of, is_among}
+use Rattle.tnc_ports.specs.HeldHosts.{Moves, Narrows, is_named, weight}
+use Rattle.tnc_ports.specs.Hosts.{without, reporting, is_line_of, is_among}
 use Rattle.tnc_ports.specs.IdRanges.{is_within}
-use Rattle.tnc_ports.proofs.NamedLemmas.{itself, not_itself, fewer_lines, fewer_ids, length_without_lines}
-use Rattle.tnc_ports.proofs.NamedLemmas.{length_without_ids}
+use Rattle.tnc_ports.proofs.NamedLemmas.{not_itself, fewer_lines, fewer_ids, length_without_lines, length_without_ids}
 use Rattle.tnc_ports.proofs.MoveLemmas.{named_without}
 
 -- nothing of a connection is left

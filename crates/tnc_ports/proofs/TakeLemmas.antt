@@ -1,26 +1,22 @@
 -- What comes from connections, one after another.
-use Rattle.std.specs.Prelude.{◌≡◌, ◌≢◌, ℕ, zero, suc, ◌+◌, ◌*◌, ◌<◌, ◌≤◌, ◌==◌, ◌||◌, ◌⊎◌, Bool, true, false, List, []}
-use Rattle.std.specs.Prelude.{◌∷◌, ◌++◌, length, All, IsTrue, Option, Some, None, refl}
+use Rattle.std.specs.Prelude.{◌≡◌, ℕ, zero, suc, ◌≤◌, ◌==◌, ◌||◌, Bool, true, false, List, [], ◌∷◌, ◌++◌, length, All}
+use Rattle.std.specs.Prelude.{refl}
 use Rattle.std.specs.List.{list_any}
-use Rattle.std.proofs.Common.{sym, ◌∙◌, ap, subst, arith, inl, inr, get_or}
-use Rattle.std.proofs.lemmas.Bool.{eqb-true, eq-eqb, cases_Bool, or_cases, or_left, or_right, false≢true, true≢false}
-use Rattle.std.proofs.lemmas.Bool.{false_from_ne_true}
+use Rattle.std.proofs.Common.{sym, ◌∙◌, ap, subst, arith, inl, inr}
+use Rattle.std.proofs.lemmas.Bool.{eqb-true, or_left, or_right, false≢true, true≢false, false_from_ne_true}
 use Rattle.std.proofs.lemmas.List.{append-nil}
 use Rattle.std.proofs.lemmas.List.Elements.{All-append}
 use Rattle.std.proofs.lemmas.List.Folds.{list_any-append}
-use Rattle.station.specs.declared.host_event.HostEvent.{HostEvent}
 use Rattle.station.specs.declared.host_event.HostEvent.TheVariants.{Joined, Bytes, Left}
 use Rattle.station.specs.declared.host_event.PortKind.{PortKind}
 use Rattle.station.specs.StandsFor.{StandsFor as StandsForStation}
 use Rattle.station.specs.Held.{ids_of}
 use Rattle.station.specs.Host.{IsHostTurn}
 use Rattle.tnc_ports.specs.declared.host_parts.HostParts.{HostParts}
-use Rattle.tnc_ports.specs.declared.line.Line.{Line}
 use Rattle.tnc_ports.specs.declared.report_line.ReportLine.{ReportLine}
 use Rattle.tnc_ports.specs.declared.untaken.Untaken.{Untaken}
 use Rattle.tnc_ports.specs.HeldHosts.{AreParts, Moves, MovesBy, IsKnown, IsKnownBefore, IsAtRest, is_named, is_known}
-use Rattle.tnc_ports.specs.HeldHosts.{joins, leaves}
-use Rattle.tnc_ports.specs.Hosts.{Hosts, without, is_there, was_there, is_line_of, is_among, IsStep}
+use Rattle.tnc_ports.specs.Hosts.{Hosts, without, was_there, is_line_of, is_among, IsStep}
 use Rattle.tnc_ports.specs.HostTurns.{InOrder, HasToWait, AreTaken, HasJoined, HasLeft, holding, joining}
 use Rattle.tnc_ports.specs.IdRanges.{is_within}
 

@@ -1,11 +1,10 @@
 -- The hosts of a live station between two of its steps: which connections are there, what waits to be sent to each, and
 -- which of their octets the station has not taken yet.
 use Rattle.std.specs.Prelude.{◌≡◌, ℕ, zero, suc, ◌+◌, ◌==◌, Bool, not, nat_le, if◌then◌else◌, List, [], ◌∷◌, ◌++◌}
-use Rattle.std.specs.Prelude.{length, map, filter, find, Option, Some, None}
+use Rattle.std.specs.Prelude.{length, filter, find, Option, Some, None}
 use Rattle.std.specs.List.{list_any}
 use Rattle.channel_access.specs.declared.air_tick.AirTick.{AirTick}
 use Rattle.station.specs.declared.config.Config.{Config}
-use Rattle.station.specs.declared.host_event.HostEvent.{HostEvent}
 use Rattle.station.specs.declared.host_event.HostEvent.TheVariants.{Left}
 use Rattle.station.specs.declared.host_out.Piece.{Piece}
 use Rattle.station.specs.Heard.{IsHeard}

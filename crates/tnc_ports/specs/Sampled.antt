@@ -2,8 +2,8 @@
 -- have read are heard, the ticks that every reader has passed are made, and the hosts are served. The samples are the
 -- only clock: a tick of 10 ms is 96 of them. Each of the eight lanes has a reader of its own, and the added lanes share
 -- a ninth.
-use Rattle.std.specs.Prelude.{◌≡◌, ℕ, zero, suc, ℤ, ◌+◌, ◌*◌, ◌<◌, ◌≤◌, ◌↔◌, Bool, true, false, IsTrue, List, [], ◌∷◌}
-use Rattle.std.specs.Prelude.{◌++◌, length, map, All, replicate}
+use Rattle.std.specs.Prelude.{◌≡◌, ℕ, zero, suc, ℤ, ◌+◌, ◌*◌, ◌<◌, ◌≤◌, ◌↔◌, Bool, IsTrue, List, [], ◌∷◌, ◌++◌, length}
+use Rattle.std.specs.Prelude.{map, All, replicate}
 use Rattle.sample_ring.specs.declared.got.Got.{Got}
 use Rattle.frame_merge.specs.declared.candidate.Candidate.{Candidate}
 use Rattle.slicer_bank.specs.declared.advance.LaneGap.{LaneGap}

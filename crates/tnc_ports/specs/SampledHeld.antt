@@ -1,6 +1,6 @@
 -- What the code keeps of a live station between two turns, and what each part of a turn makes of it. No public clause
 -- cites this.
-use Rattle.std.specs.Prelude.{◌≡◌, ℕ, ◌+◌, ◌*◌, ◌<◌, ◌≤◌, ◌⊎◌, Bool, true, false, List, [], ◌∷◌, ◌++◌}
+use Rattle.std.specs.Prelude.{◌≡◌, ℕ, ◌*◌, ◌≤◌, ◌⊎◌, Bool, true, false, List, [], ◌∷◌, ◌++◌}
 use Rattle.frame_merge.specs.declared.candidate.Candidate.{Candidate}
 use Rattle.slicer_bank.specs.HeardOnRing.{least_position}
 use Rattle.ring_receiver.specs.HeardByAll.{AreDueBy}
@@ -11,11 +11,10 @@ use Rattle.tnc_ports.specs.AskedPorts.{Told, AreUnasked, IsAsked}
 use Rattle.tnc_ports.specs.HeldHosts.{HeldHosts, StandsFor}
 use Rattle.tnc_ports.specs.Hosts.{Hosts}
 use Rattle.tnc_ports.specs.HostTurns.{Asked, IsHostPart}
-use Rattle.tnc_ports.specs.Sampled.{Live, new_live, HaveEnded, LanesReadOn, AreHeard, IsTicked, AreTicked, IsTurn}
-use Rattle.tnc_ports.specs.Sampled.{tick_samples}
+use Rattle.tnc_ports.specs.Sampled.{Live, new_live, HaveEnded, LanesReadOn, AreHeard, AreTicked, IsTurn, tick_samples}
 use Rattle.tnc_ports.specs.SampledFrames.{IsFrameHeard}
 use Rattle.tnc_ports.specs.SampledRun.{IsCutTurn, IsCutInServing, AreTurns, Outside, PortsTell, PortsStay}
-use Rattle.tnc_ports.specs.SampledWrites.{Stream, Puts, ReportsMore, WritesMore}
+use Rattle.tnc_ports.specs.SampledWrites.{Stream, ReportsMore, WritesMore}
 
 -- the hosts' side stands for the hosts, and all that it reported is put to the report
 abbrev pub Keeps : HeldHosts → Hosts → Type 0

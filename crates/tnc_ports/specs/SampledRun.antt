@@ -1,7 +1,7 @@
 -- A run of a live station: turns until every reader has met the end of the ring, or until memory is wanted; and what
 -- the outside then tells of it.
 use Rattle.std.specs.Prelude.{◌≡◌, ◌≢◌, ℕ, zero, suc, ◌+◌, ◌*◌, ◌<◌, ◌≤◌, ◌⊎◌, Bool, true, false, List, [], ◌∷◌, ◌++◌}
-use Rattle.std.specs.Prelude.{All, length, map, Option, Some, None}
+use Rattle.std.specs.Prelude.{All, length, map, Option, Some}
 use Rattle.std.specs.List.{flat_map}
 use Rattle.frame_merge.specs.declared.candidate.Candidate.{Candidate}
 use Rattle.sample_ring.specs.declared.got.Got.{Got}
