@@ -1,5 +1,6 @@
 -- What added lanes hear in answers, with one answer more.
-use Rattle.std.proofs.Common.{◌≡◌, ◌≢◌, ℕ, ◌+◌, ◌*◌, ◌<◌, ◌≤◌, ◌⊎◌, ⊎_elim, inl, inr, ℤ, List, [], ◌∷◌, ◌++◌, length, map, get_or, refl, ap, sym, subst, ◌∙◌, arith}
+use Rattle.std.proofs.Common.{◌≡◌, ◌≢◌, ℕ, ◌+◌, ◌*◌, ◌<◌, ◌≤◌, ◌⊎◌, ⊎_elim, inl, inr, ℤ, List, [], ◌∷◌, ◌++◌, length}
+use Rattle.std.proofs.Common.{map, get_or, refl, ap, sym, subst, ◌∙◌, arith}
 use Rattle.std.specs.List.{All, AllPairs, Contains}
 use Rattle.std.proofs.lemmas.Bool.{cases_lt}
 use Rattle.std.proofs.lemmas.List.{length_push, length-map, get_or-map, append-nil}
@@ -11,7 +12,8 @@ use Rattle.sample_ring.specs.Record.{next}
 use Rattle.frame_merge.specs.declared.candidate.Candidate.{Candidate}
 use Rattle.frame_merge.specs.Order.{standing}
 use Rattle.slicer_bank.specs.RingTurns.{Leads}
-use Rattle.slicer_bank.specs.Stretches.{Stretch, stretch_at, with_sample, stretches, stretch_after, last_stretch, end_of, position_after}
+use Rattle.slicer_bank.specs.Stretches.{Stretch, stretch_at, with_sample, stretches, stretch_after, last_stretch}
+use Rattle.slicer_bank.specs.Stretches.{end_of, position_after}
 use Rattle.slicer_bank.proofs.CandidateLemmas.{AllPairs-append}
 use Rattle.slicer_bank.proofs.StretchLemmas.{last-more, leads_position, leads_up, next_is}
 use Rattle.tone_tracking.specs.Heard.{places_in}

@@ -1,5 +1,6 @@
 -- What all lanes hear of a ring, merged turn by turn.
-use Rattle.std.proofs.Common.{◌≡◌, ◌≢◌, ℕ, ◌+◌, ◌-◌, ◌*◌, ◌^◌, ◌<◌, ◌≤◌, ◌⊎◌, ⊎_elim, inl, inr, true, List, [], ◌∷◌, ◌++◌, length, map, take, get_or, replicate, refl, ap, sym, subst, ◌∙◌, arith, zero, suc}
+use Rattle.std.proofs.Common.{◌≡◌, ◌≢◌, ℕ, ◌+◌, ◌-◌, ◌*◌, ◌^◌, ◌<◌, ◌≤◌, ◌⊎◌, ⊎_elim, inl, inr, true, List, [], ◌∷◌}
+use Rattle.std.proofs.Common.{◌++◌, length, map, take, get_or, replicate, refl, ap, sym, subst, ◌∙◌, arith, zero, suc}
 use Rattle.std.specs.Prelude.{fold, min}
 use Rattle.std.specs.List.{All, AllPairs, Contains}
 use Rattle.std.specs.List.Sorted.{IsNonDecreasingBy}
@@ -24,7 +25,8 @@ use Rattle.slicer_bank.proofs.CandidateLemmas.{AllPairs-append}
 use Rattle.slicer_bank.proofs.MergedLemmas.{next_is}
 use Rattle.slicer_bank.proofs.MergingLemmas.{rising_strictly}
 use Rattle.slicer_bank.proofs.OrderingLemmas.{strictly_more, contains_more, all_more, below_more}
-use Rattle.slicer_bank.proofs.RingMergingLemmas.{none_on_ring, heard_still, known_or_new, stands_apart, late, small, least_rises}
+use Rattle.slicer_bank.proofs.RingMergingLemmas.{none_on_ring, heard_still, known_or_new, stands_apart, late, small}
+use Rattle.slicer_bank.proofs.RingMergingLemmas.{least_rises}
 use Rattle.ring_receiver.specs.AddedOnRing.{IsAddedIn}
 use Rattle.ring_receiver.specs.AllMerging.{BringsByAll}
 use Rattle.ring_receiver.specs.HeardByAll.{IsHeardBy, AreHeardBy, AreMergedBy, AreRestBy, settled_position}
@@ -230,7 +232,8 @@ module _ (before now : List (List Got)) (positions : List ℕ) (position : ℕ) 
     all =
         let step : List Candidate → Candidate → List Candidate = λ ordered item. place item ordered in
         fold-append step [] (h.puts ++ eight) added
-        ∙ ap (λ done. fold step done added) (fold-append step [] h.puts eight ∙ ap (λ done. fold step done eight) h.order)
+        ∙ ap (λ done. fold step done added) (fold-append step [] h.puts eight
+        ∙ ap (λ done. fold step done eight) h.order)
         ∙ sym (fold-append step h.candidates eight added)
 
     are : AreHeardBy true now candidates

@@ -1,6 +1,7 @@
 -- What a turn makes of a receiver: with the eight lanes alone, and with the added ones.
 use Rattle.std.specs.Prelude.{Option, Some, None, min}
-use Rattle.std.proofs.Common.{◌≡◌, ℕ, ◌+◌, ◌-◌, ◌<◌, ◌≤◌, Bool, true, false, ◌&&◌, List, [], ◌∷◌, ◌++◌, length, map, replicate, get_or, refl, ap, sym, subst, ◌∙◌, arith, length-append, get_or-append-add}
+use Rattle.std.proofs.Common.{◌≡◌, ℕ, ◌+◌, ◌-◌, ◌<◌, ◌≤◌, Bool, true, false, ◌&&◌, List, [], ◌∷◌, ◌++◌, length, map}
+use Rattle.std.proofs.Common.{replicate, get_or, refl, ap, sym, subst, ◌∙◌, arith, length-append, get_or-append-add}
 use Rattle.std.specs.List.{All}
 use Rattle.std.proofs.lemmas.List.{length-map, map-append, get_or_append_left, get_or-replicate}
 use Rattle.std.proofs.lemmas.List.Elements.{All-push}
@@ -15,7 +16,9 @@ use Rattle.frame_merge.specs.declared.candidate.Candidate.{Candidate}
 use Rattle.frame_merge.specs.Held.{Held as HeldMerger, least}
 use Rattle.slicer_bank.specs.declared.advance.LaneGap.{LaneGap}
 use Rattle.slicer_bank.specs.HeardOnRing.{AreHeardOnRing, AreMergedOnRing, AreRestOnRing, least_position, lane_of}
-use Rattle.slicer_bank.specs.RingLanes.{HeldRingBank, answers_of, Listens, readers_in as readers_of_bank, records_in as records_of_bank, positions_in as positions_of_bank, answers_in as answers_of_bank}
+use Rattle.slicer_bank.specs.RingLanes.{HeldRingBank, answers_of, Listens, readers_in as readers_of_bank}
+use Rattle.slicer_bank.specs.RingLanes.{records_in as records_of_bank, positions_in as positions_of_bank}
+use Rattle.slicer_bank.specs.RingLanes.{answers_in as answers_of_bank}
 use Rattle.slicer_bank.specs.RingMerging.{HasMerged}
 use Rattle.slicer_bank.specs.RingTurns.{AreGrown, IsTurn, BringsOnRing}
 use Rattle.slicer_bank.specs.Stretches.{position_after}

@@ -29,7 +29,8 @@ settled_position false lanes = least_position lanes
 settled_position true lanes = min (least_position (take 8 lanes)) (position_after (lane_of lanes 8) - 17)
 
 -- the items are those of what the lanes hear, merged, that end from one position to below another
-pub record AreMergedBy (sensitive : Bool) (from to : ℕ) (lanes : List (List Got)) (items : List Candidate) : Type 0 where
+pub record AreMergedBy (sensitive : Bool) (from to : ℕ) (lanes : List (List Got)) (items : List Candidate)
+    : Type 0 where
   pub candidates : List Candidate
   pub are : AreHeardBy sensitive lanes candidates
   pub is : items ≡ between from to (merged candidates)

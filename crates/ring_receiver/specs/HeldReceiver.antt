@@ -1,5 +1,6 @@
 -- What a receiver keeps that reads a ring, what contracts see of its readers, and what it stands for.
-use Rattle.std.specs.Prelude.{◌≡◌, ℕ, ◌+◌, ◌-◌, Bool, true, false, Option, Some, None, List, [], ◌∷◌, ◌++◌, map, take, replicate}
+use Rattle.std.specs.Prelude.{◌≡◌, ℕ, ◌+◌, ◌-◌, Bool, true, false, Option, Some, None, List, [], ◌∷◌, ◌++◌, map, take}
+use Rattle.std.specs.Prelude.{replicate}
 use Rattle.sample_ring.specs.declared.got.Got.{Got}
 use Rattle.sample_ring.specs.declared.reader.Reader.{Reader}
 use Rattle.sample_ring.specs.declared.view.Track.{Track}
@@ -8,7 +9,8 @@ use Rattle.frame_merge.specs.declared.candidate.Candidate.{Candidate}
 use Rattle.frame_merge.specs.Held.{Held as HeldMerger, StandsFor as MergerStandsFor}
 use Rattle.frame_merge.specs.Merged.{merged, below}
 use Rattle.frame_merge.specs.Order.{in_order}
-use Rattle.slicer_bank.specs.RingLanes.{HeldRingBank, answers_of, Listens, readers_in as readers_of_bank, positions_in as positions_of_bank}
+use Rattle.slicer_bank.specs.RingLanes.{HeldRingBank, answers_of, Listens, readers_in as readers_of_bank}
+use Rattle.slicer_bank.specs.RingLanes.{positions_in as positions_of_bank}
 use Rattle.slicer_bank.specs.HeardOnRing.{lane_of, lane_positions}
 use Rattle.slicer_bank.specs.RingMerging.{HasMerged}
 use Rattle.slicer_bank.specs.RingTurns.{Leads}

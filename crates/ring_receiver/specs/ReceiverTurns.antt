@@ -10,7 +10,8 @@ use Rattle.slicer_bank.specs.RingLanes.{HeldRingBank, readers_in as readers_of_b
 use Rattle.ring_receiver.specs.declared.added_ring.AddedRing.{AddedRing}
 use Rattle.ring_receiver.specs.declared.heard.Heard.{Heard}
 use Rattle.ring_receiver.specs.HeardByAll.{AreDueBy}
-use Rattle.ring_receiver.specs.HeldReceiver.{HeldReceiver, readers_in, records_in, answers_in, EightListen, Hears, heard_to, read_to, marks_of}
+use Rattle.ring_receiver.specs.HeldReceiver.{HeldReceiver, readers_in, records_in, answers_in, EightListen, Hears}
+use Rattle.ring_receiver.specs.HeldReceiver.{heard_to, read_to, marks_of}
 use Rattle.ring_receiver.specs.Readers.{readers_wanted}
 use Rattle.ring_receiver.specs.Turns.{AreGrownBy, IsTurnOf}
 

@@ -1,5 +1,6 @@
 -- A bank of added lanes with one sample more.
-use Rattle.std.proofs.Common.{◌≡◌, ℕ, ◌+◌, ◌-◌, ◌<◌, ◌≤◌, Bool, ℤ, pos, List, [], ◌++◌, length, get_or, take, drop, true, false, ap, sym, subst, ◌∙◌, arith, inl, inr, length-append, get_or-append-add}
+use Rattle.std.proofs.Common.{◌≡◌, ℕ, ◌+◌, ◌-◌, ◌<◌, ◌≤◌, Bool, ℤ, pos, List, [], ◌++◌, length, get_or, take, drop}
+use Rattle.std.proofs.Common.{true, false, ap, sym, subst, ◌∙◌, arith, inl, inr, length-append, get_or-append-add}
 use Rattle.std.specs.Prelude.{IsTrue, ◌↔◌}
 use Rattle.std.proofs.lemmas.Bool.{cases_lt, true≢false}
 use Rattle.std.proofs.Math.Seq.{take-append_seam}
@@ -16,7 +17,8 @@ use Rattle.tone_tracking.specs.HeldTracker.{tone_before}
 use Rattle.tone_tracking.proofs.TrackerLemmas.{tone_before-last}
 use Rattle.sensitive_receiver.specs.declared.readings.Readings.{Readings}
 use Rattle.sensitive_receiver.specs.Found.{AddsBelow, AddsBetween, AreAddedBetween}
-use Rattle.sensitive_receiver.specs.HeldLanes.{HeldLane, HeldBank, ClocksHaveTaken, LanesHaveRead, IsLastPlace, HasTaken, StandsFor}
+use Rattle.sensitive_receiver.specs.HeldLanes.{HeldLane, HeldBank, ClocksHaveTaken, LanesHaveRead, IsLastPlace}
+use Rattle.sensitive_receiver.specs.HeldLanes.{HasTaken, StandsFor}
 use Rattle.sensitive_receiver.specs.Lanes.{readings_at}
 use Rattle.sensitive_receiver.proofs.FoundLemmas.{adds_none, adds_next_places}
 use Rattle.sensitive_receiver.proofs.PrefixLanes.{bank_taken-append}

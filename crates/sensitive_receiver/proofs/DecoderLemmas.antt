@@ -1,5 +1,6 @@
 -- A decoder with a block more, and at its end.
-use Rattle.std.proofs.Common.{◌≡◌, ◌+◌, ◌-◌, ◌^◌, ◌<◌, ℤ, List, [], ◌++◌, length, replicate, refl, ap, sym, subst, ◌∙◌, arith, length-append, append_assoc}
+use Rattle.std.proofs.Common.{◌≡◌, ◌+◌, ◌-◌, ◌^◌, ◌<◌, ℤ, List, [], ◌++◌, length, replicate, refl, ap, sym, subst, ◌∙◌}
+use Rattle.std.proofs.Common.{arith, length-append, append_assoc}
 use Rattle.std.specs.Prelude.{fold}
 use Rattle.std.proofs.lemmas.List.Sums.{fold-append}
 use Rattle.frame_merge.specs.declared.candidate.Candidate.{Candidate}

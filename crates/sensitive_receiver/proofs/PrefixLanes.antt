@@ -1,5 +1,6 @@
 -- What the added lanes hear in samples stays as it is when more samples follow.
-use Rattle.std.proofs.Common.{◌≡◌, ℕ, zero, suc, ◌+◌, ◌<◌, ◌≤◌, Bool, true, false, ℤ, List, [], ◌∷◌, ◌++◌, length, get_or, refl, ap, sym, subst, ◌∙◌, arith, add-one}
+use Rattle.std.proofs.Common.{◌≡◌, ℕ, zero, suc, ◌+◌, ◌<◌, ◌≤◌, Bool, true, false, ℤ, List, [], ◌∷◌, ◌++◌, length}
+use Rattle.std.proofs.Common.{get_or, refl, ap, sym, subst, ◌∙◌, arith, add-one}
 use Rattle.std.specs.Prelude.{not, ◌&&◌}
 use Rattle.nrzi_bits.specs.Line.{bits_of}
 use Rattle.hdlc_framer.specs.Frames.{EndsFrame}
@@ -11,7 +12,8 @@ use Rattle.tone_tracking.specs.declared.reach.Reach.TheVariants.{Near, Far}
 use Rattle.tone_tracking.specs.Clock.{changes, clock_after, reads}
 use Rattle.tone_tracking.specs.Heard.{heard, places_in}
 use Rattle.sensitive_receiver.proofs.PrefixLemmas.{heard-append, heard_before-append, clock_after-agree, taken-append}
-use Rattle.sensitive_receiver.specs.Lanes.{delay_of, list_of, is_read_by, is_read_at, readings_at, tone_back, lane_tones}
+use Rattle.sensitive_receiver.specs.Lanes.{delay_of, list_of, is_read_by, is_read_at, readings_at, tone_back}
+use Rattle.sensitive_receiver.specs.Lanes.{lane_tones}
 use Rattle.sensitive_receiver.specs.AddedCandidates.{EndsAtPlace, is_in_time}
 use Rattle.sensitive_receiver.specs.HeldLanes.{HeldBank, LaneStandsFor, HasTaken}
 use Rattle.sensitive_receiver.proofs.LaneLemmas.{lane_tones-read, lane_tones-not}

@@ -34,4 +34,5 @@ module _ (command other : Command) (is : command ≡ other) where
   pub written : (octets before : List ℕ) (left now : Option (List ℕ)) (r end : Result (Unit {0}) Stop) → r ≡ end
       → Written other octets before left now (status_of end) → Written command octets before left now (status_of r)
   written octets before left now r end same h =
-      subst (λ c. Written c octets before left now (status_of r)) (sym is) (subst (λ e. Written other octets before left now (status_of e)) (sym same) h)
+      subst (λ c. Written c octets before left now (status_of r)) (sym is)
+      (subst (λ e. Written other octets before left now (status_of e)) (sym same) h)

@@ -3,7 +3,8 @@ use Rattle.std.proofs.Common.{◌≡◌, ℕ, ◌<◌, List, [], ◌++◌, lengt
 use Rattle.std.proofs.lemmas.List.{append_cancel_left}
 use Rattle.tnc_base.specs.Streams.{WrotePart}
 use Rattle.tnc_words.specs.declared.command.Command.{Command}
-use Rattle.tnc_words.specs.declared.command.Command.TheVariants.{Decode, Encode, Show, Loop, Bench, Serve, Help, Version}
+use Rattle.tnc_words.specs.declared.command.Command.TheVariants.{Decode, Encode, Show, Loop, Bench, Serve, Help}
+use Rattle.tnc_words.specs.declared.command.Command.TheVariants.{Version}
 use Rattle.tnc_words.specs.declared.command.DecodeWords.{DecodeWords}
 use Rattle.tnc_forms.specs.declared.fault.InputFault.{InputFault}
 use Rattle.tnc_forms.specs.declared.fault.InputFault.TheVariants.{TooLong, Line, Wav, LongWav}
@@ -21,7 +22,8 @@ use Rattle.tnc_main.specs.Parts.{HasAtMemory, MakesPart}
 use Rattle.tnc_main.proofs.LinesWriting.{encode_unread, show_unread}
 use Rattle.tnc_main.proofs.Writing.{Written}
 
-module _ (words : DecodeWords) (octets before : List ℕ) (left now : Option (List ℕ)) (cut : (text : List ℕ) → IsDecoded words octets text → WrotePart before text now) where
+module _ (words : DecodeWords) (octets before : List ℕ) (left now : Option (List ℕ)) (cut : (text : List ℕ)
+    → IsDecoded words octets text → WrotePart before text now) where
   abbrev Ended : Type 0
   Ended = (read text : List ℕ) × WereRead octets left read × IsSettled words read text × (now ≡ Some (before ++ text))
 
@@ -36,14 +38,24 @@ module _ (words : DecodeWords) (octets before : List ℕ) (left now : Option (Li
   pub at_read : Ended → Written (Decode words) octets before left now ReadFault
   at_read h = (h.1, (part_made h.1 h.4, record { read = h.0; taken = h.2; settled = h.3 }), h.4)
 
-  pub at_memory : (read front rest text more : List ℕ) × WereRead octets left read × (read ≡ front ++ rest) × IsSettled words front text
+  pub at_memory : (read front rest text more : List ℕ) × WereRead octets left read × (read ≡ front ++ rest)
+      × IsSettled words front text
       × IsDecoded words read (text ++ more) × (now ≡ Some (before ++ text))
       → Written (Decode words) octets before left now NoMemory
   at_memory (read, front, rest, text, more, taken, parts, settled, decoded, is) = (
     text,
     (
       part_made text is,
-      inl (record { read = read; front = front; whole = text ++ more; taken = taken; parts = (rest, parts); settled = settled; decoded = decoded; part = (more, refl) }),
+      inl (record {
+        read = read;
+        front = front;
+        whole = text ++ more;
+        taken = taken;
+        parts = (rest, parts);
+        settled = settled;
+        decoded = decoded;
+        part = (more, refl);
+      }),
     ),
     is,
   )
@@ -54,7 +66,16 @@ module _ (words : DecodeWords) (octets before : List ℕ) (left now : Option (Li
     most.early ++ most.more,
     (
       part_made (most.early ++ most.more) most.written,
-      inl (record { read = read; early = most.early; whole = most.text; taken = taken; settled = most.settled; decoded = most.decoded; has_early = (most.more, refl); part = (most.rest, most.parts) }),
+      inl (record {
+        read = read;
+        early = most.early;
+        whole = most.text;
+        taken = taken;
+        settled = most.settled;
+        decoded = most.decoded;
+        has_early = (most.more, refl);
+        part = (most.rest, most.parts);
+      }),
     ),
     most.written,
   )
@@ -66,24 +87,37 @@ module _ (words : DecodeWords) (octets before : List ℕ) (left now : Option (Li
       let whole = some_text words octets in
       let part = cut whole.0 whole.1 in (
         part.0,
-        record { part = part_made part.0 part.3; too_many = λ many is. absurd (other is); up_to_fault = λ few. absurd (omega arith) },
+        record {
+          part = part_made part.0 part.3;
+          too_many = λ many is. absurd (other is);
+          up_to_fault = λ few. absurd (omega arith);
+        },
         part.3,
       )
 
-  pub of_many : (fault : InputFault) → input_limit < length octets → audio_fault words octets ≡ Some fault → (fault ≡ TooLong → Ended)
+  pub of_many : (fault : InputFault) → input_limit < length octets → audio_fault words octets ≡ Some fault
+      → (fault ≡ TooLong → Ended)
       → Written (Decode words) octets before left now BadInput
   of_many TooLong over is ended =
       let h = ended refl in (
         h.1,
-        record { part = part_made h.1 h.4; too_many = λ many long. record { read = h.0; taken = h.2; settled = h.3 }; up_to_fault = λ few. absurd (omega arith) },
+        record {
+          part = part_made h.1 h.4;
+          too_many = λ many long. record { read = h.0; taken = h.2; settled = h.3 };
+          up_to_fault = λ few. absurd (omega arith);
+        },
         h.4,
       )
-  of_many (Line fault) over is ended = other_fault over (λ e. let both : Some (Line fault) ≡ Some TooLong = sym is ∙ e in cc both)
-  of_many (Wav fault) over is ended = other_fault over (λ e. let both : Some (Wav fault) ≡ Some TooLong = sym is ∙ e in cc both)
-  of_many (LongWav count) over is ended = other_fault over (λ e. let both : Some (LongWav count) ≡ Some TooLong = sym is ∙ e in cc both)
+  of_many (Line fault) over is ended = other_fault over (λ e. let both : Some (Line fault) ≡ Some TooLong = sym is
+      ∙ e in cc both)
+  of_many (Wav fault) over is ended = other_fault over (λ e. let both : Some (Wav fault) ≡ Some TooLong = sym is
+      ∙ e in cc both)
+  of_many (LongWav count) over is ended = other_fault over (λ e. let both : Some (LongWav count) ≡ Some TooLong = sym is
+      ∙ e in cc both)
 
 -- a command whose words no memory was there for has read nothing
-pub unread : (command : Command) (octets : List ℕ) (left : Option (List ℕ)) → Reads command left octets → HasAtMemory command octets left []
+pub unread : (command : Command) (octets : List ℕ) (left : Option (List ℕ)) → Reads command left octets
+    → HasAtMemory command octets left []
 unread (Decode words) octets left reads =
     let whole = some_text words [] in
     inl (record {

@@ -2,13 +2,16 @@
 use Rattle.std.proofs.Common.{◌≡◌, Result, Ok, Err, IfErr, inl, inr, refl, sym, subst, ◌∙◌}
 use Rattle.std.specs.Prelude.{◌⊎◌, OnOk, OnErr, List, ℕ}
 use Rattle.tnc_forms.specs.declared.fault.Fault.{Fault}
-use Rattle.tnc_forms.specs.declared.fault.Fault.TheVariants.{Input as OfInput, Memory as OfMemory, Read as OfRead, Write as OfWrite}
+use Rattle.tnc_forms.specs.declared.fault.Fault.TheVariants.{Input as OfInput, Memory as OfMemory, Read as OfRead}
+use Rattle.tnc_forms.specs.declared.fault.Fault.TheVariants.{Write as OfWrite}
 use Rattle.tnc_forms.specs.declared.fault.InputFault.{InputFault}
 use Rattle.tnc_loop.specs.declared.fault.LoopFault.{LoopFault}
-use Rattle.tnc_loop.specs.declared.fault.LoopFault.TheVariants.{Stray as LoopStray, Memory as LoopMemory, Write as LoopWrite}
+use Rattle.tnc_loop.specs.declared.fault.LoopFault.TheVariants.{Stray as LoopStray, Memory as LoopMemory}
+use Rattle.tnc_loop.specs.declared.fault.LoopFault.TheVariants.{Write as LoopWrite}
 use Rattle.tnc_loop.specs.Summary.{IsFirstStray}
 use Rattle.channel_bench.specs.declared.report.BenchFault.{BenchFault}
-use Rattle.channel_bench.specs.declared.report.BenchFault.TheVariants.{Stray as BenchStray, NotQuiet as BenchNotQuiet, Spent as BenchSpent, Memory as BenchMemory}
+use Rattle.channel_bench.specs.declared.report.BenchFault.TheVariants.{Stray as BenchStray, NotQuiet as BenchNotQuiet}
+use Rattle.channel_bench.specs.declared.report.BenchFault.TheVariants.{Spent as BenchSpent, Memory as BenchMemory}
 use Rattle.channel_bench.specs.BenchRun.{IsFaultOf}
 use Rattle.tnc_bench.specs.declared.fault.CommandFault.{CommandFault}
 use Rattle.tnc_bench.specs.declared.fault.CommandFault.TheVariants.{Run as OfRun, Write as OfBenchWrite}
@@ -86,7 +89,8 @@ module _ (r : Result (Unit {0}) Stop) (end : Result (Unit {0}) LoopFault) (is : 
   pub loop_sent : (command : Command) (words : LoopWords) → command ≡ Loop words
       → ((frame : List ℕ) → end ≡ Err (LoopStray frame) → IsFirstStray words frame) → IfErr r (IsStopOfRun command)
   loop_sent command words same strays =
-      subst (λ c. IfErr r (IsStopOfRun c)) (sym same) (subst (λ e. IfErr e (IsStopOfRun (Loop words))) (sym is) (go end strays))
+      subst (λ c. IfErr r (IsStopOfRun c)) (sym same) (subst (λ e. IfErr e (IsStopOfRun (Loop words))) (sym is)
+      (go end strays))
     where
       go : (x : Result (Unit {0}) LoopFault) → ((frame : List ℕ) → x ≡ Err (LoopStray frame) → IsFirstStray words frame)
           → IfErr (end_of_loop x) (IsStopOfRun (Loop words))
@@ -114,11 +118,14 @@ module _ (r : Result (Unit {0}) Stop) (end : Result (Unit {0}) CommandFault) (is
 
   -- it names what ended the run of the bench
   pub bench_sent : (command : Command) (options : BenchOptions) → command ≡ Bench options
-      → ((fault : BenchFault) → end ≡ Err (OfRun fault) → IsFaultOf (words_of options) fault) → IfErr r (IsStopOfRun command)
+      → ((fault : BenchFault) → end ≡ Err (OfRun fault) → IsFaultOf (words_of options) fault)
+      → IfErr r (IsStopOfRun command)
   bench_sent command options same faults =
-      subst (λ c. IfErr r (IsStopOfRun c)) (sym same) (subst (λ e. IfErr e (IsStopOfRun (Bench options))) (sym is) (go end faults))
+      subst (λ c. IfErr r (IsStopOfRun c)) (sym same) (subst (λ e. IfErr e (IsStopOfRun (Bench options))) (sym is)
+      (go end faults))
     where
-      go : (x : Result (Unit {0}) CommandFault) → ((fault : BenchFault) → x ≡ Err (OfRun fault) → IsFaultOf (words_of options) fault)
+      go : (x : Result (Unit {0}) CommandFault) → ((fault : BenchFault) → x ≡ Err (OfRun fault)
+          → IsFaultOf (words_of options) fault)
           → IfErr (end_of_bench x) (IsStopOfRun (Bench options))
       go (Ok x) h = tt
       go (Err (OfRun (BenchStray frame))) h = h (BenchStray frame) refl
@@ -161,7 +168,8 @@ module _ (r : Result (Unit {0}) Stop) (end : Result (Unit {0}) CommandFault) (is
       go (Err OfBenchWrite) h = refl
 
 -- a text was written, or the output failed: no input was
-pub text_no_input : (r : Result (Unit {0}) Stop) → (r ≡ Ok tt) ⊎ (r ≡ Err Write) → (fault : InputFault) → r ≡ Err (Input fault) → ⊥
+pub text_no_input : (r : Result (Unit {0}) Stop) → (r ≡ Ok tt) ⊎ (r ≡ Err Write) → (fault : InputFault)
+    → r ≡ Err (Input fault) → ⊥
 text_no_input r (inl is) fault e = let both : Ok tt ≡ Err (Input fault) = sym is ∙ e in cc both
 text_no_input r (inr is) fault e = let both : Err Write ≡ Err (Input fault) = sym is ∙ e in cc both
 
@@ -170,7 +178,8 @@ text_no_read r (inl is) e = let both : Ok tt ≡ Err Read = sym is ∙ e in cc b
 text_no_read r (inr is) e = let both : Err Write ≡ Err Read = sym is ∙ e in cc both
 
 -- a text was written, or the output failed: nothing that was sent is named
-pub text_sent : (command : Command) (r : Result (Unit {0}) Stop) → (r ≡ Ok tt) ⊎ (r ≡ Err Write) → IfErr r (IsStopOfRun command)
+pub text_sent : (command : Command) (r : Result (Unit {0}) Stop) → (r ≡ Ok tt) ⊎ (r ≡ Err Write)
+    → IfErr r (IsStopOfRun command)
 text_sent command r (inl is) = subst (λ e. IfErr e (IsStopOfRun command)) (sym is) tt
 text_sent command r (inr is) = subst (λ e. IfErr e (IsStopOfRun command)) (sym is) tt
 

@@ -1,5 +1,6 @@
 -- What show, and encode that keeps no frames, write, by how they end.
-use Rattle.std.proofs.Common.{◌≡◌, ℕ, ◌<◌, ◌≤◌, Bool, true, false, List, [], ◌++◌, length, take, Option, Some, None, inl, inr, refl, sym, ap, ◌∙◌, arith}
+use Rattle.std.proofs.Common.{◌≡◌, ℕ, ◌<◌, ◌≤◌, Bool, true, false, List, [], ◌++◌, length, take, Option, Some, None}
+use Rattle.std.proofs.Common.{inl, inr, refl, sym, ap, ◌∙◌, arith}
 use Rattle.std.proofs.lemmas.List.{append_cancel_left}
 use Rattle.tnc_base.specs.Streams.{WrotePart}
 use Rattle.tnc_words.specs.declared.command.Command.TheVariants.{Encode, Show}
@@ -26,21 +27,41 @@ module _ (words : ShowWords) (octets before : List ℕ) (left now : Option (List
       let both : Some (before ++ cut.0) ≡ Some (before ++ text) = sym cut.2 ∙ written in
       let same : before ++ cut.0 ≡ before ++ text = cc both in
       let is = cut.1 in
-      inr (is.text, (is.frames, is.others, is.parts, is.is), (is.rest, is.begins ∙ ap (λ p. p ++ is.rest) (append_cancel_left before cut.0 text same)))
+      inr (
+        is.text,
+        (is.frames, is.others, is.parts, is.is),
+        (is.rest, is.begins ∙ ap (λ p. p ++ is.rest) (append_cancel_left before cut.0 text same)),
+      )
 
-  pub show_at_memory : (read front rest text : List ℕ) × WereRead octets left read × (read ≡ front ++ rest) × (length rest ≤ piece_limit)
-      × IsShownSoFar words front text × (now ≡ Some (before ++ text)) → Written (Show words) octets before left now NoMemory
+  pub show_at_memory : (read front rest text : List ℕ) × WereRead octets left read × (read ≡ front ++ rest)
+      × (length rest ≤ piece_limit)
+      × IsShownSoFar words front text × (now ≡ Some (before ++ text))
+      → Written (Show words) octets before left now NoMemory
   show_at_memory (read, front, rest, text, taken, parts, few, settled, is) = (
     text,
-    (part_shown text is, inl (record { read = read; front = front; rest = rest; taken = taken; parts = parts; few = few; settled = settled })),
+    (
+      part_shown text is,
+      inl (record {
+        read = read;
+        front = front;
+        rest = rest;
+        taken = taken;
+        parts = parts;
+        few = few;
+        settled = settled;
+      }),
+    ),
     is,
   )
 
-  pub show_at_read : (read text : List ℕ) × WereRead octets left read × IsShownSoFar words read text × (now ≡ Some (before ++ text))
+  pub show_at_read : (read text : List ℕ) × WereRead octets left read × IsShownSoFar words read text
+      × (now ≡ Some (before ++ text))
       → Written (Show words) octets before left now ReadFault
-  show_at_read (read, text, taken, settled, is) = (text, (part_shown text is, record { read = read; taken = taken; settled = settled }), is)
+  show_at_read (read, text, taken, settled, is) =
+      (text, (part_shown text is, record { read = read; taken = taken; settled = settled }), is)
 
-  pub show_at_write : (read front rest text more : List ℕ) × WereRead octets left read × (read ≡ front ++ rest) × (length rest ≤ piece_limit)
+  pub show_at_write : (read front rest text more : List ℕ) × WereRead octets left read × (read ≡ front ++ rest)
+      × (length rest ≤ piece_limit)
       × IsShownSoFar words front text × IsShownPart words read (text ++ more) × (now ≡ Some (before ++ (text ++ more)))
       → Written (Show words) octets before left now WriteFault
   show_at_write (read, front, rest, text, more, taken, parts, few, settled, part, is) = (
@@ -49,7 +70,15 @@ module _ (words : ShowWords) (octets before : List ℕ) (left now : Option (List
       part_shown (text ++ more) is,
       inl (record {
         early = text;
-        most = record { read = read; front = front; rest = rest; taken = taken; parts = parts; few = few; settled = settled };
+        most = record {
+          read = read;
+          front = front;
+          rest = rest;
+          taken = taken;
+          parts = parts;
+          few = few;
+          settled = settled;
+        };
         has_early = (more, refl);
         whole = part.text;
         made = (part.frames, part.others, part.parts, part.is);
@@ -59,7 +88,8 @@ module _ (words : ShowWords) (octets before : List ℕ) (left now : Option (List
     is,
   )
 
-  pub show_of_many : input_limit < length octets → (text : List ℕ) × IsShownOfMany words octets text × (now ≡ Some (before ++ text))
+  pub show_of_many : input_limit < length octets → (text : List ℕ) × IsShownOfMany words octets text
+      × (now ≡ Some (before ++ text))
       → Written (Show words) octets before left now BadInput
   show_of_many over (text, shown, is) = (
     text,
@@ -68,7 +98,8 @@ module _ (words : ShowWords) (octets before : List ℕ) (left now : Option (List
   )
 
 -- of no octet
-pub show_unread : (words : ShowWords) (octets : List ℕ) (left : Option (List ℕ)) → left ≡ Some octets → HasAtMemory (Show words) octets left []
+pub show_unread : (words : ShowWords) (octets : List ℕ) (left : Option (List ℕ)) → left ≡ Some octets
+    → HasAtMemory (Show words) octets left []
 show_unread words octets left reads = inl (record {
   read = [];
   front = [];
@@ -81,23 +112,34 @@ show_unread words octets left reads = inl (record {
 
 -- ---- encode
 
-module _ (words : EncodeWords) (octets before : List ℕ) (left now : Option (List ℕ)) (cut : WrotePart before (encoded words octets) now) where
+module _ (words : EncodeWords) (octets before : List ℕ) (left now : Option (List ℕ))
+    (cut : WrotePart before (encoded words octets) now) where
   part_encoded : (text : List ℕ) → now ≡ Some (before ++ text) → MakesPart (Encode words) octets text
   part_encoded text is = part_made (Encode words) octets (encoded words octets) before text now refl cut is
 
-  pub encode_at_memory : (read front rest : List ℕ) × WereRead octets left read × (read ≡ front ++ rest) × (length rest ≤ piece_limit)
+  pub encode_at_memory : (read front rest : List ℕ) × WereRead octets left read × (read ≡ front ++ rest)
+      × (length rest ≤ piece_limit)
       × (form_fault_so_far words.frames front ≡ None) × (now ≡ Some (before ++ encoded_so_far words front))
       → Written (Encode words) octets before left now NoMemory
   encode_at_memory (read, front, rest, taken, parts, few, good, is) = (
     encoded_so_far words front,
     (
       part_encoded (encoded_so_far words front) is,
-      inl (record { read = read; front = front; rest = rest; taken = taken; parts = parts; few = few; settled = (good, refl) }),
+      inl (record {
+        read = read;
+        front = front;
+        rest = rest;
+        taken = taken;
+        parts = parts;
+        few = few;
+        settled = (good, refl);
+      }),
     ),
     is,
   )
 
-  pub encode_at_read : (read : List ℕ) × WereRead octets left read × (form_fault_so_far words.frames read ≡ None) × (now ≡ Some (before ++ encoded_so_far words read))
+  pub encode_at_read : (read : List ℕ) × WereRead octets left read × (form_fault_so_far words.frames read ≡ None)
+      × (now ≡ Some (before ++ encoded_so_far words read))
       → Written (Encode words) octets before left now ReadFault
   encode_at_read (read, taken, good, is) = (
     encoded_so_far words read,
@@ -105,8 +147,10 @@ module _ (words : EncodeWords) (octets before : List ℕ) (left now : Option (Li
     is,
   )
 
-  pub encode_at_write : (read front rest more left_out : List ℕ) × WereRead octets left read × (read ≡ front ++ rest) × (length rest ≤ piece_limit)
-      × (form_fault_so_far words.frames front ≡ None) × (encoded words read ≡ (encoded_so_far words front ++ more) ++ left_out)
+  pub encode_at_write : (read front rest more left_out : List ℕ) × WereRead octets left read × (read ≡ front ++ rest)
+      × (length rest ≤ piece_limit)
+      × (form_fault_so_far words.frames front ≡ None)
+      × (encoded words read ≡ (encoded_so_far words front ++ more) ++ left_out)
       × (now ≡ Some (before ++ (encoded_so_far words front ++ more)))
       → Written (Encode words) octets before left now WriteFault
   encode_at_write (read, front, rest, more, left_out, taken, parts, few, good, known, is) = (
@@ -115,7 +159,15 @@ module _ (words : EncodeWords) (octets before : List ℕ) (left now : Option (Li
       part_encoded (encoded_so_far words front ++ more) is,
       inl (record {
         early = encoded_so_far words front;
-        most = record { read = read; front = front; rest = rest; taken = taken; parts = parts; few = few; settled = (good, refl) };
+        most = record {
+          read = read;
+          front = front;
+          rest = rest;
+          taken = taken;
+          parts = parts;
+          few = few;
+          settled = (good, refl);
+        };
         has_early = (more, refl);
         whole = encoded words read;
         made = refl;
@@ -125,16 +177,22 @@ module _ (words : EncodeWords) (octets before : List ℕ) (left now : Option (Li
     is,
   )
 
-  pub encode_of_many : input_limit < length octets → now ≡ Some (before ++ encoded_so_far words (take input_limit octets))
+  pub encode_of_many : input_limit < length octets
+      → now ≡ Some (before ++ encoded_so_far words (take input_limit octets))
       → Written (Encode words) octets before left now BadInput
   encode_of_many over is = (
     encoded_so_far words (take input_limit octets),
-    record { part = part_encoded (encoded_so_far words (take input_limit octets)) is; too_many = λ many. refl; up_to_fault = λ few. absurd (omega arith) },
+    record {
+      part = part_encoded (encoded_so_far words (take input_limit octets)) is;
+      too_many = λ many. refl;
+      up_to_fault = λ few. absurd (omega arith);
+    },
     is,
   )
 
 -- of no octet
-pub encode_unread : (words : EncodeWords) (octets : List ℕ) (left : Option (List ℕ)) → left ≡ Some octets → HasAtMemory (Encode words) octets left []
+pub encode_unread : (words : EncodeWords) (octets : List ℕ) (left : Option (List ℕ)) → left ≡ Some octets
+    → HasAtMemory (Encode words) octets left []
 encode_unread words octets left reads = go (keeps_frames words.audio words.join) refl
   where
     go : (b : Bool) → keeps_frames words.audio words.join ≡ b → HasAtMemory (Encode words) octets left []
@@ -150,7 +208,8 @@ encode_unread words octets left reads = go (keeps_frames words.audio words.join)
     })
 
 -- an end by whether the frames are kept
-pub by_keeping : (words : EncodeWords) (P : Type 0) → (keeps_frames words.audio words.join ≡ true → P) → (keeps_frames words.audio words.join ≡ false → P) → P
+pub by_keeping : (words : EncodeWords) (P : Type 0) → (keeps_frames words.audio words.join ≡ true → P)
+    → (keeps_frames words.audio words.join ≡ false → P) → P
 by_keeping words P kept sent = go (keeps_frames words.audio words.join) refl
   where
     go : (b : Bool) → keeps_frames words.audio words.join ≡ b → P

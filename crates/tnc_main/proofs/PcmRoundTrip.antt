@@ -1,5 +1,6 @@
 -- What is written of the samples of a signal is read as these samples, as raw PCM and as a WAV file.
-use Rattle.std.proofs.Common.{◌≡◌, ℕ, ◌+◌, ◌*◌, ◌≤◌, ℤ, pos, List, [], ◌∷◌, ◌++◌, length, get_or, length-append, replicate, All, Ok, Some, refl, ap, ◌∙◌, arith, of_z}
+use Rattle.std.proofs.Common.{◌≡◌, ℕ, ◌+◌, ◌*◌, ◌≤◌, ℤ, pos, List, [], ◌∷◌, ◌++◌, length, get_or, length-append}
+use Rattle.std.proofs.Common.{replicate, All, Ok, Some, refl, ap, ◌∙◌, arith, of_z}
 use Rattle.std.specs.Prelude.{unsigned_abs}
 use Rattle.std.specs.Int.{cast_signed, from_le_bytes, to_le_bytes}
 use Rattle.std.specs.List.{AllByRecursion, range_with_len}
@@ -35,7 +36,8 @@ use Rattle.tnc_forms.specs.Pcm.{pcm, sample_octets}
 abbrev pub IsSample : ℤ → Type 0
 IsSample z = SFits w16 z
 
-pair_read : (n : ℕ) (more : List ℕ) → samples (to_le_bytes w16 n ++ more) ≡ cast_signed w16 (from_le_bytes w16 (to_le_bytes w16 n)) ∷ samples more
+pair_read : (n : ℕ) (more : List ℕ) → samples (to_le_bytes w16 n ++ more)
+    ≡ cast_signed w16 (from_le_bytes w16 (to_le_bytes w16 n)) ∷ samples more
 unfolding sample_of
 pair_read n more = refl
 
@@ -55,7 +57,8 @@ pcm-nil = refl
 
 pcm_read : (xs : List ℤ) → AllByRecursion IsSample xs → samples (pcm xs) ≡ xs
 pcm_read [] fit = ap samples pcm-nil
-pcm_read (z ∷ xs) fit = ap samples (pcm-cons z xs) ∙ sample_read z (pcm xs) fit.0 ∙ ap (λ ys. z ∷ ys) (pcm_read xs fit.1)
+pcm_read (z ∷ xs) fit = ap samples (pcm-cons z xs) ∙ sample_read z (pcm xs) fit.0
+    ∙ ap (λ ys. z ∷ ys) (pcm_read xs fit.1)
 
 -- samples that fit 16 bits are read as they were written
 pub samples-pcm : (xs : List ℤ) → All IsSample xs → samples (pcm xs) ≡ xs
@@ -74,13 +77,15 @@ module _ (xs : List ℤ) (few : length xs ≤ 2147483629) where
   pub samples-wav : (rates : Rates) → All IsSample xs → samples_in rates (head_of (length xs) ++ pcm xs) ≡ xs
   samples-wav rates fit =
       let count : length (pcm xs) ≡ 2 * length xs = length-pcm xs in
-      ap (λ (r : Reading). r.heard) (head_reads rates (2 * length xs) (pcm xs) (omega (arith, few)) (omega (arith, count))) ∙ samples-pcm xs fit
+      ap (λ (r : Reading). r.heard) (head_reads rates (2 * length xs) (pcm xs) (omega (arith, few))
+      (omega (arith, count))) ∙ samples-pcm xs fit
 
   -- at 9600 samples a second
   pub rate-wav : (rates : Rates) → rate_in rates (head_of (length xs) ++ pcm xs) ≡ Some 9600
   rate-wav rates =
       let count : length (pcm xs) ≡ 2 * length xs = length-pcm xs in
-      ap (λ (r : Reading). r.rate) (head_reads rates (2 * length xs) (pcm xs) (omega (arith, few)) (omega (arith, count)))
+      ap (λ (r : Reading). r.rate) (head_reads rates (2 * length xs) (pcm xs) (omega (arith, few))
+      (omega (arith, count)))
 
   pub wav_whole : (rates : Rates) → verdict_of rates (head_of (length xs) ++ pcm xs) ≡ Ok tt
   wav_whole rates = head_whole rates (2 * length xs) (pcm xs) (omega (arith, few)) (length-pcm xs)
@@ -94,12 +99,14 @@ IsQuiet z = unsigned_abs z ≤ 10000
 window_quiet : (phase : ℕ) (tone : Tone) → All IsQuiet (pure_window phase tone)
 unfolding pure_window
 window_quiet phase tone =
-    All-map IsQuiet (λ i. wave_sample (phase + i * phase_step tone)) (range_with_len 0 8) (λ k d below. unsigned_abs-wave_sample _)
+    All-map IsQuiet (λ i. wave_sample (phase + i * phase_step tone)) (range_with_len 0 8)
+    (λ k d below. unsigned_abs-wave_sample _)
 
 wave_quiet : (tones : List Tone) (phase : ℕ) → All IsQuiet (wave_from phase tones)
 wave_quiet [] phase = All-nil IsQuiet
 wave_quiet (tone ∷ tones) phase =
-    All-append IsQuiet (pure_window phase tone) (wave_from (next_phase phase tone) tones) (window_quiet phase tone) (wave_quiet tones (next_phase phase tone))
+    All-append IsQuiet (pure_window phase tone) (wave_from (next_phase phase tone) tones) (window_quiet phase tone)
+    (wave_quiet tones (next_phase phase tone))
 
 transmission_quiet : (t : Transmission) → All IsQuiet (samples_at t)
 unfolding transmission

@@ -1,5 +1,6 @@
 -- The frames of an input are frames as they are sent, and encode's transmissions have exactly these, in order.
-use Rattle.std.proofs.Common.{◌≡◌, ℕ, ◌/◌, ◌%◌, ◌<◌, ◌≤◌, ◌==◌, nat_le, nat_lt, ◌&&◌, Bool, true, false, List, [], ◌∷◌, ◌++◌, length, map, All, IfSome, Option, Some, None, get_or, refl, subst, ap, ◌∙◌, arith}
+use Rattle.std.proofs.Common.{◌≡◌, ℕ, ◌/◌, ◌%◌, ◌<◌, ◌≤◌, ◌==◌, nat_le, nat_lt, ◌&&◌, Bool, true, false, List, [], ◌∷◌}
+use Rattle.std.proofs.Common.{◌++◌, length, map, All, IfSome, Option, Some, None, get_or, refl, subst, ap, ◌∙◌, arith}
 use Rattle.std.specs.Prelude.{⊤, if◌then◌else◌}
 use Rattle.std.specs.Option.{option_to_list}
 use Rattle.std.specs.List.{cons_option, filter_map, flat_map}
@@ -39,16 +40,20 @@ later octet octets each = All-tail (λ o. o < 256) octet octets each
 
 -- ---- what a KISS stream says
 
-onto_first_fits : (octet : ℕ) (cut : List (List ℕ)) → octet < 256 → All AreOctets cut → All AreOctets (onto_first octet cut)
+onto_first_fits : (octet : ℕ) (cut : List (List ℕ)) → octet < 256 → All AreOctets cut
+    → All AreOctets (onto_first octet cut)
 onto_first_fits octet [] small each = All-nil AreOctets
 onto_first_fits octet (piece ∷ others) small each =
-    All-cons AreOctets (octet ∷ piece) others (with_octet octet piece small (All-head AreOctets piece others each)) (All-tail AreOctets piece others each)
+    All-cons AreOctets (octet ∷ piece) others (with_octet octet piece small (All-head AreOctets piece others each))
+    (All-tail AreOctets piece others each)
 
 pieces_fit : (stream : List ℕ) → AreOctets stream → All AreOctets (pieces stream)
 pieces_fit [] each = All-nil AreOctets
-pieces_fit (octet ∷ stream) each = by_end (octet == fend) (first octet stream each) (pieces_fit stream (later octet stream each))
+pieces_fit (octet ∷ stream) each = by_end (octet == fend) (first octet stream each)
+    (pieces_fit stream (later octet stream each))
   where
-    by_end : (b : Bool) → octet < 256 → All AreOctets (pieces stream) → All AreOctets (if b then [] ∷ pieces stream else onto_first octet (pieces stream))
+    by_end : (b : Bool) → octet < 256 → All AreOctets (pieces stream)
+        → All AreOctets (if b then [] ∷ pieces stream else onto_first octet (pieces stream))
     by_end true small rest = All-cons AreOctets [] (pieces stream) no_octets rest
     by_end false small rest = onto_first_fits octet (pieces stream) small rest
 
@@ -69,7 +74,8 @@ unescaped_fits (octet ∷ []) each = by_escape (octet == fesc)
     by_escape false = each
 unescaped_fits (octet ∷ next ∷ piece) each =
     let behind : AreOctets (next ∷ piece) = later octet (next ∷ piece) each in
-    by_escape (octet == fesc) (first octet (next ∷ piece) each) (unescaped_fits piece (later next piece behind)) (unescaped_fits (next ∷ piece) behind)
+    by_escape (octet == fesc) (first octet (next ∷ piece) each) (unescaped_fits piece (later next piece behind))
+    (unescaped_fits (next ∷ piece) behind)
   where
     by_escape : (b : Bool) → octet < 256 → AreOctets (unescaped piece) → AreOctets (unescaped (next ∷ piece))
         → AreOctets (if b then meant next ++ unescaped piece else octet ∷ unescaped (next ∷ piece))
@@ -87,21 +93,26 @@ either false x y h k = k
 
 setting_fits : (port command : ℕ) (octets : List ℕ) → HasOctets (setting port command octets)
 setting_fits port command [] = tt
-setting_fits port command (value ∷ octets) = either (nat_le 1 command && nat_le command 5) (Set port command value) (Other port command) tt tt
+setting_fits port command (value ∷ octets) = either (nat_le 1 command && nat_le command 5) (Set port command value)
+    (Other port command) tt tt
 
 by_command_fits : (port command : ℕ) (octets : List ℕ) → AreOctets octets → HasOctets (by_command port command octets)
 by_command_fits port command octets each =
-    either (command == 0) (Frame port octets) (if command == 6 then Hardware port octets else setting port command octets) each
+    either (command == 0) (Frame port octets) (if command == 6 then Hardware port octets
+    else setting port command octets) each
     (either (command == 6) (Hardware port octets) (setting port command octets) tt (setting_fits port command octets))
 
 by_type_fits : (kind : ℕ) (octets : List ℕ) → AreOctets octets → HasOctets (item_by_type kind octets)
 by_type_fits kind octets each =
-    either (nat_lt 1024 (length octets)) (TooLong (kind / 16)) (if kind == 0xff then Return else by_command (kind / 16) (kind % 16) octets) tt
-    (either (kind == 0xff) Return (by_command (kind / 16) (kind % 16) octets) tt (by_command_fits (kind / 16) (kind % 16) octets each))
+    either (nat_lt 1024 (length octets)) (TooLong (kind / 16)) (if kind == 0xff then Return
+    else by_command (kind / 16) (kind % 16) octets) tt
+    (either (kind == 0xff) Return (by_command (kind / 16) (kind % 16) octets) tt
+    (by_command_fits (kind / 16) (kind % 16) octets each))
 
 item_fits : (octets : List ℕ) → AreOctets octets → All HasOctets (option_to_list (item_of octets))
 item_fits [] each = All-nil HasOctets
-item_fits (kind ∷ octets) each = All-cons HasOctets (item_by_type kind octets) [] (by_type_fits kind octets (later kind octets each)) (All-nil HasOctets)
+item_fits (kind ∷ octets) each = All-cons HasOctets (item_by_type kind octets) []
+    (by_type_fits kind octets (later kind octets each)) (All-nil HasOctets)
 
 abbrev items_of : List ℕ → List KissItem
 items_of piece = option_to_list (item_of (unescaped piece))
@@ -109,12 +120,15 @@ items_of piece = option_to_list (item_of (unescaped piece))
 items_fit : (cut : List (List ℕ)) → All AreOctets cut → All HasOctets (flat_map items_of cut)
 items_fit [] each = All-nil HasOctets
 items_fit (piece ∷ others) each =
-    All-same HasOctets (flat_map items_of (piece ∷ others)) (items_of piece ++ flat_map items_of others) (flat_map-cons items_of piece others)
-    (All-append HasOctets (items_of piece) (flat_map items_of others) (item_fits (unescaped piece) (unescaped_fits piece (All-head AreOctets piece others each)))
+    All-same HasOctets (flat_map items_of (piece ∷ others)) (items_of piece ++ flat_map items_of others)
+    (flat_map-cons items_of piece others)
+    (All-append HasOctets (items_of piece) (flat_map items_of others)
+    (item_fits (unescaped piece) (unescaped_fits piece (All-head AreOctets piece others each)))
     (items_fit others (All-tail AreOctets piece others each)))
 
 frame_fits : (item : KissItem) → HasOctets item → IfSome (frame_of item) IsFrame
-frame_fits (Frame port octets) each = by_test ((port == 0) && (nat_le 15 (length octets) && nat_le (length octets) 1024)) refl
+frame_fits (Frame port octets) each =
+    by_test ((port == 0) && (nat_le 15 (length octets) && nat_le (length octets) 1024)) refl
   where
     by_test : (test : Bool) → (port == 0) && (nat_le 15 (length octets) && nat_le (length octets) 1024) ≡ test
         → IfSome (if test then Some octets else None) IsFrame
@@ -129,19 +143,22 @@ frame_fits Return each = tt
 frame_fits (TooLong port) each = tt
 frame_fits (Other port command) each = tt
 
-with_option : (frame : Option (List ℕ)) (frames : List (List ℕ)) → IfSome frame IsFrame → All IsFrame frames → All IsFrame (cons_option frame frames)
+with_option : (frame : Option (List ℕ)) (frames : List (List ℕ)) → IfSome frame IsFrame → All IsFrame frames
+    → All IsFrame (cons_option frame frames)
 with_option None frames h each = each
 with_option (Some octets) frames h each = All-cons IsFrame octets frames h each
 
 frames_fit : (items : List KissItem) → All HasOctets items → All IsFrame (filter_map frame_of items)
 frames_fit [] each = All-nil IsFrame
 frames_fit (item ∷ items) each =
-    with_option (frame_of item) (filter_map frame_of items) (frame_fits item (All-head HasOctets item items each)) (frames_fit items (All-tail HasOctets item items each))
+    with_option (frame_of item) (filter_map frame_of items) (frame_fits item (All-head HasOctets item items each))
+    (frames_fit items (All-tail HasOctets item items each))
 
 -- ---- the frames of an input
 
 -- each frame of an input can be sent
-pub frames_of_input-fit : (form : FrameForm) (octets : List ℕ) → AreOctets octets → All IsFrame (frames_of_input form octets)
+pub frames_of_input-fit : (form : FrameForm) (octets : List ℕ) → AreOctets octets
+    → All IsFrame (frames_of_input form octets)
 unfolding kiss_frames items_in
 frames_of_input-fit Hex octets each = λ k d below.
     let good = frames_in_lines-good 15 octets k d below in
@@ -161,11 +178,13 @@ module _ (words : EncodeWords) where
 
   own_frames : (frames : List (List ℕ)) → all_frames (map alone frames) ≡ frames
   own_frames [] = refl
-  own_frames (frame ∷ frames) = flat_map-cons (λ t. t.frames) (alone frame) (map alone frames) ∙ ap (λ fs. frame ∷ fs) (own_frames frames)
+  own_frames (frame ∷ frames) = flat_map-cons (λ t. t.frames) (alone frame) (map alone frames)
+      ∙ ap (λ fs. frame ∷ fs) (own_frames frames)
 
   joined_frames : (frames : List (List ℕ)) → all_frames (joined words frames) ≡ frames
   joined_frames [] = refl
-  joined_frames (frame ∷ frames) = flat_map-cons (λ t. t.frames) (sent_at_once words (frame ∷ frames)) [] ∙ append-nil (frame ∷ frames)
+  joined_frames (frame ∷ frames) = flat_map-cons (λ t. t.frames) (sent_at_once words (frame ∷ frames)) []
+      ∙ append-nil (frame ∷ frames)
 
   -- the frames of all transmissions, in order
   pub frames_sent : (frames : List (List ℕ)) → all_frames (transmissions words frames) ≡ frames
@@ -182,13 +201,16 @@ module _ (words : EncodeWords) where
     joined_good : (frames : List (List ℕ)) → All IsFrame frames → All IsTransmission (joined words frames)
     joined_good [] each = All-nil IsTransmission
     joined_good (frame ∷ frames) each =
-        All-cons IsTransmission (sent_at_once words (frame ∷ frames)) [] (at_once_good (frame ∷ frames) each) (All-nil IsTransmission)
+        All-cons IsTransmission (sent_at_once words (frame ∷ frames)) [] (at_once_good (frame ∷ frames) each)
+        (All-nil IsTransmission)
 
     -- a receiver can be held to each of them
-    pub transmissions_good : (frames : List (List ℕ)) → All IsFrame frames → All IsTransmission (transmissions words frames)
+    pub transmissions_good : (frames : List (List ℕ)) → All IsFrame frames
+        → All IsTransmission (transmissions words frames)
     transmissions_good frames each = by_join words.join
       where
         by_join : (b : Bool) → All IsTransmission (if b then joined words frames else map alone frames)
         by_join true = joined_good frames each
         by_join false = All-map IsTransmission alone frames
-            (λ k d below. at_once_good (get_or frames k d ∷ []) (All-cons IsFrame (get_or frames k d) [] (each k d below) (All-nil IsFrame)))
+            (λ k d below. at_once_good (get_or frames k d ∷ [])
+            (All-cons IsFrame (get_or frames k d) [] (each k d below) (All-nil IsFrame)))

@@ -1,13 +1,16 @@
 -- What the status of a live station says of the counts of faults, and that only few statuses are its own.
-use Rattle.std.proofs.Common.{◌≡◌, ℕ, ◌+◌, ◌≤◌, List, ◌++◌, length, length-append, Option, Some, inl, inr, refl, sym, subst, ap, ◌∙◌, arith}
+use Rattle.std.proofs.Common.{◌≡◌, ℕ, ◌+◌, ◌≤◌, List, ◌++◌, length, length-append, Option, Some, inl, inr, refl, sym}
+use Rattle.std.proofs.Common.{subst, ap, ◌∙◌, arith}
 use Rattle.std.specs.Prelude.{◌⊎◌}
 use Rattle.sample_ring.specs.declared.got.Got.{Got}
 use Rattle.tnc_base.specs.Faults.{HasRisen}
 use Rattle.tnc_forms.specs.Reading.{input_limit}
 use Rattle.tnc_ports.specs.declared.looping.LoopEnd.{LoopEnd}
-use Rattle.tnc_ports.specs.declared.looping.LoopEnd.TheVariants.{Done as LoopDone, Memory as LoopMemory, WriteFault as LoopFault}
+use Rattle.tnc_ports.specs.declared.looping.LoopEnd.TheVariants.{Done as LoopDone, Memory as LoopMemory}
+use Rattle.tnc_ports.specs.declared.looping.LoopEnd.TheVariants.{WriteFault as LoopFault}
 use Rattle.tnc_ports.specs.declared.pumping.PumpEnd.{PumpEnd}
-use Rattle.tnc_ports.specs.declared.pumping.PumpEnd.TheVariants.{InputEnd, ReadFault as PumpFailed, TooLong as InputTooLong, NotBegun}
+use Rattle.tnc_ports.specs.declared.pumping.PumpEnd.TheVariants.{InputEnd, ReadFault as PumpFailed}
+use Rattle.tnc_ports.specs.declared.pumping.PumpEnd.TheVariants.{TooLong as InputTooLong, NotBegun}
 use Rattle.tnc_ports.specs.declared.serve_words.ServeWords.{ServeWords}
 use Rattle.tnc_ports.specs.declared.serving.ServeEnd.{ServeEnd}
 use Rattle.tnc_ports.specs.declared.serving.ServeEnd.TheVariants.{Done, TooLong, Memory, ReadFault, WriteFault, NoPort}
@@ -15,7 +18,10 @@ use Rattle.tnc_ports.specs.Pumped.{IsPumped}
 use Rattle.tnc_ports.specs.SampledRun.{IsLooped, Outside}
 use Rattle.tnc_ports.specs.ServeRun.{HasServed, InputSide, IsServed, OnlyListens, ReadFaults, end_of}
 use Rattle.tnc_main.specs.declared.status.Status.{Status}
-use Rattle.tnc_main.specs.declared.status.Status.TheVariants.{Done as WellDone, BadWords, BadInput, Memory as NoMemory, ReadFault as InputFailed, WriteFault as OutputFailed, Stray as HeardStray, NotQuiet as FoundNoQuiet, Spent as WasSpent, NoPort as PortsFailed}
+use Rattle.tnc_main.specs.declared.status.Status.TheVariants.{Done as WellDone, BadWords, BadInput, Memory as NoMemory}
+use Rattle.tnc_main.specs.declared.status.Status.TheVariants.{ReadFault as InputFailed, WriteFault as OutputFailed}
+use Rattle.tnc_main.specs.declared.status.Status.TheVariants.{Stray as HeardStray, NotQuiet as FoundNoQuiet}
+use Rattle.tnc_main.specs.declared.status.Status.TheVariants.{Spent as WasSpent, NoPort as PortsFailed}
 use Rattle.tnc_main.specs.Serving.{HasLineMore, IsToldAs, LacksLine, last_line, status_of_end}
 
 -- ---- when serving has ended
@@ -26,13 +32,16 @@ AreWritten before after = (after.output_faults ≡ before.output_faults) × (aft
 
 -- some write failed
 abbrev pub WritesFailed : Outside → Outside → Type 0
-WritesFailed before after = HasRisen before.output_faults after.output_faults ⊎ HasRisen before.report_faults after.report_faults
+WritesFailed before after = HasRisen before.output_faults after.output_faults
+    ⊎ HasRisen before.report_faults after.report_faults
 
-module _ (words : ServeWords) (input left : InputSide) (before open_ports after : Outside) (lanes : List (List Got)) (only : OnlyListens before open_ports) where
+module _ (words : ServeWords) (input left : InputSide) (before open_ports after : Outside) (lanes : List (List Got))
+    (only : OnlyListens before open_ports) where
   all_written : IsLooped words LoopDone lanes open_ports after → AreWritten before after
   all_written looped = (looped.2.no_output_fault ∙ only.output_faults, looped.2.no_report_fault ∙ only.report_faults)
 
-  by_done : (loop : LoopEnd) (pump : PumpEnd) → Done ≡ end_of loop pump → IsLooped words loop lanes open_ports after → ReadFaults pump input left
+  by_done : (loop : LoopEnd) (pump : PumpEnd) → Done ≡ end_of loop pump → IsLooped words loop lanes open_ports after
+      → ReadFaults pump input left
       → (left.faults ≡ input.faults) × AreWritten before after
   by_done LoopDone InputEnd is looped faults = (faults, all_written looped)
   by_done LoopDone PumpFailed is looped faults = cc is
@@ -41,7 +50,8 @@ module _ (words : ServeWords) (input left : InputSide) (before open_ports after 
   by_done LoopMemory pump is looped faults = cc is
   by_done LoopFault pump is looped faults = cc is
 
-  by_too_long : (loop : LoopEnd) (pump : PumpEnd) → TooLong ≡ end_of loop pump → IsLooped words loop lanes open_ports after
+  by_too_long : (loop : LoopEnd) (pump : PumpEnd) → TooLong ≡ end_of loop pump
+      → IsLooped words loop lanes open_ports after
       → (pump ≡ InputTooLong) × AreWritten before after
   by_too_long LoopDone InputEnd is looped = cc is
   by_too_long LoopDone PumpFailed is looped = cc is
@@ -50,7 +60,8 @@ module _ (words : ServeWords) (input left : InputSide) (before open_ports after 
   by_too_long LoopMemory pump is looped = cc is
   by_too_long LoopFault pump is looped = cc is
 
-  by_read_fault : (loop : LoopEnd) (pump : PumpEnd) → ReadFault ≡ end_of loop pump → ReadFaults pump input left → HasRisen input.faults left.faults
+  by_read_fault : (loop : LoopEnd) (pump : PumpEnd) → ReadFault ≡ end_of loop pump → ReadFaults pump input left
+      → HasRisen input.faults left.faults
   by_read_fault LoopDone InputEnd is faults = cc is
   by_read_fault LoopDone PumpFailed is faults = faults
   by_read_fault LoopDone InputTooLong is faults = cc is
@@ -58,7 +69,8 @@ module _ (words : ServeWords) (input left : InputSide) (before open_ports after 
   by_read_fault LoopMemory pump is faults = cc is
   by_read_fault LoopFault pump is faults = cc is
 
-  by_write_fault : (loop : LoopEnd) (pump : PumpEnd) → WriteFault ≡ end_of loop pump → IsLooped words loop lanes open_ports after → WritesFailed before after
+  by_write_fault : (loop : LoopEnd) (pump : PumpEnd) → WriteFault ≡ end_of loop pump
+      → IsLooped words loop lanes open_ports after → WritesFailed before after
   by_write_fault LoopDone InputEnd is looped = cc is
   by_write_fault LoopDone PumpFailed is looped = cc is
   by_write_fault LoopDone InputTooLong is looped = cc is
@@ -71,19 +83,23 @@ module _ (words : ServeWords) (input left : InputSide) (before open_ports after 
 
 module _ (words : ServeWords) (input left : InputSide) (before after : Outside) where
   done : HasServed words Done input left before after → (left.faults ≡ input.faults) × AreWritten before after
-  done h = by_done words input left before h.open_ports after h.lanes h.opens.only h.loop h.pump h.ends h.looped h.faults
+  done h = by_done words input left before h.open_ports after h.lanes h.opens.only h.loop h.pump h.ends h.looped
+      h.faults
 
   too_long : (h : HasServed words TooLong input left before after) → (h.pump ≡ InputTooLong) × AreWritten before after
   too_long h = by_too_long words input left before h.open_ports after h.lanes h.opens.only h.loop h.pump h.ends h.looped
 
   read_failed : HasServed words ReadFault input left before after → HasRisen input.faults left.faults
-  read_failed h = by_read_fault words input left before h.open_ports after h.lanes h.opens.only h.loop h.pump h.ends h.faults
+  read_failed h = by_read_fault words input left before h.open_ports after h.lanes h.opens.only h.loop h.pump h.ends
+      h.faults
 
   write_failed : HasServed words WriteFault input left before after → WritesFailed before after
-  write_failed h = by_write_fault words input left before h.open_ports after h.lanes h.opens.only h.loop h.pump h.ends h.looped
+  write_failed h = by_write_fault words input left before h.open_ports after h.lanes h.opens.only h.loop h.pump h.ends
+      h.looped
 
   -- an input with so many octets is not too long
-  not_too_long : (octets : List ℕ) → input.left ≡ Some octets → length octets ≤ input_limit → HasServed words TooLong input left before after → ⊥
+  not_too_long : (octets : List ℕ) → input.left ≡ Some octets → length octets ≤ input_limit
+      → HasServed words TooLong input left before after → ⊥
   not_too_long octets is few h =
       let pumped = subst (IsPumped octets left.left h.published) (too_long h).0 (h.pumped octets is) in
       let size = ap length pumped.parts ∙ length-append pumped.read pumped.rest in
@@ -93,18 +109,25 @@ module _ (words : ServeWords) (input left : InputSide) (before after : Outside) 
 -- ---- when the end was told
 
 -- a line that was cut is a write that failed
-cut_line : (line : List ℕ) (before between after : Outside) → between.report_faults ≡ before.report_faults → LacksLine line between after → WritesFailed before after
+cut_line : (line : List ℕ) (before between after : Outside) → between.report_faults ≡ before.report_faults
+    → LacksLine line between after → WritesFailed before after
 cut_line line before between after same h = inr (subst (λ n. HasRisen n after.report_faults) same h.failed)
 
 module _ (words : ServeWords) (input left : InputSide) (before between after : Outside) (status : Status) where
   abbrev pub Ends : ServeEnd → Type 0
-  Ends end = IsServed words end input left before between × IsToldAs (last_line end) (status_of_end end) status between after
+  Ends end = IsServed words end input left before between
+      × IsToldAs (last_line end) (status_of_end end) status between after
 
   pub at_done : (end : ServeEnd) → Ends end → status ≡ WellDone
-      → (left.faults ≡ input.faults) × (after.output_faults ≡ before.output_faults) × (after.report_faults ≡ before.report_faults)
+      → (left.faults ≡ input.faults) × (after.output_faults ≡ before.output_faults)
+      × (after.report_faults ≡ before.report_faults)
   at_done Done (served, (is, same)) e =
-      let counts = done words input left before between served in
-      (counts.0, ap (λ (o : Outside). o.output_faults) same ∙ counts.1.0, ap (λ (o : Outside). o.report_faults) same ∙ counts.1.1)
+      let counts = done words input left before between served in (
+        counts.0,
+        ap (λ (o : Outside). o.output_faults) same ∙ counts.1.0,
+        ap (λ (o : Outside). o.report_faults) same
+            ∙ counts.1.1,
+      )
   at_done TooLong (served, inl (is, more)) e = let both : WellDone ≡ BadInput = sym e ∙ is in cc both
   at_done TooLong (served, inr (is, less)) e = let both : WellDone ≡ OutputFailed = sym e ∙ is in cc both
   at_done Memory (served, (is, same)) e = let both : WellDone ≡ NoMemory = sym e ∙ is in cc both
@@ -130,7 +153,8 @@ module _ (words : ServeWords) (input left : InputSide) (before between after : O
       cut_line _ before between after (too_long words input left before between served).1.1 less
   at_write_fault Memory (served, (is, same)) e = let both : OutputFailed ≡ NoMemory = sym e ∙ is in cc both
   at_write_fault ReadFault (served, (is, same)) e = let both : OutputFailed ≡ InputFailed = sym e ∙ is in cc both
-  at_write_fault WriteFault (served, (is, same)) e = subst (WritesFailed before) (sym same) (write_failed words input left before between served)
+  at_write_fault WriteFault (served, (is, same)) e = subst (WritesFailed before) (sym same)
+      (write_failed words input left before between served)
   at_write_fault NoPort (served, inl (is, more)) e = let both : OutputFailed ≡ PortsFailed = sym e ∙ is in cc both
   at_write_fault NoPort (served, inr (is, less)) e = cut_line _ before between after served.1.only.report_faults less
 
@@ -146,7 +170,8 @@ module _ (words : ServeWords) (input left : InputSide) (before between after : O
   at_no_port NoPort (served, inr (is, less)) e = let both : PortsFailed ≡ OutputFailed = sym e ∙ is in cc both
 
   -- good words, an input that is not too long, and no count that rises
-  pub ends_well : (end : ServeEnd) → Ends end → (octets : List ℕ) → input.left ≡ Some octets → length octets ≤ input_limit
+  pub ends_well : (end : ServeEnd) → Ends end → (octets : List ℕ) → input.left ≡ Some octets
+      → length octets ≤ input_limit
       → (HasRisen input.faults left.faults → ⊥) → (HasRisen before.output_faults after.output_faults → ⊥)
       → (HasRisen before.report_faults after.report_faults → ⊥) → (HasRisen before.port_faults after.port_faults → ⊥)
       → (status ≡ WellDone) ⊎ (status ≡ NoMemory)
@@ -157,14 +182,17 @@ module _ (words : ServeWords) (input left : InputSide) (before between after : O
   ends_well ReadFault (served, (is, same)) octets tells few no_read no_write no_report no_port =
       absurd (no_read (read_failed words input left before between served))
   ends_well WriteFault (served, (is, same)) octets tells few no_read no_write no_report no_port =
-      elim (at_write_fault WriteFault (served, (is, same)) is) [ inl output ↦ absurd (no_write output) | inr report ↦ absurd (no_report report) ]
+      elim (at_write_fault WriteFault (served, (is, same)) is)
+      [ inl output ↦ absurd (no_write output) | inr report ↦ absurd (no_report report) ]
   ends_well NoPort (served, inl (is, more)) octets tells few no_read no_write no_report no_port =
       absurd (no_port (at_no_port NoPort (served, inl (is, more)) is))
   ends_well NoPort (served, inr (is, less)) octets tells few no_read no_write no_report no_port =
-      elim (at_write_fault NoPort (served, inr (is, less)) is) [ inl output ↦ absurd (no_write output) | inr report ↦ absurd (no_report report) ]
+      elim (at_write_fault NoPort (served, inr (is, less)) is)
+      [ inl output ↦ absurd (no_write output) | inr report ↦ absurd (no_report report) ]
 
 -- the statuses of a live station
-own_status : (end : ServeEnd) (status : Status) (between after : Outside) → IsToldAs (last_line end) (status_of_end end) status between after
+own_status : (end : ServeEnd) (status : Status) (between after : Outside)
+    → IsToldAs (last_line end) (status_of_end end) status between after
     → (status ≡ status_of_end end) ⊎ (status ≡ OutputFailed)
 own_status Done status between after (is, same) = inl is
 own_status TooLong status between after (inl (is, more)) = inl is
@@ -207,7 +235,8 @@ not_spent ReadFault e = cc e
 not_spent WriteFault e = cc e
 not_spent NoPort e = cc e
 
-module _ (end : ServeEnd) (status : Status) (between after : Outside) (told : IsToldAs (last_line end) (status_of_end end) status between after) where
+module _ (end : ServeEnd) (status : Status) (between after : Outside)
+    (told : IsToldAs (last_line end) (status_of_end end) status between after) where
   pub words_are_good : status ≡ BadWords → ⊥
   words_are_good e = elim (own_status end status between after told) [
     | inl own ↦ not_bad_words end (sym e ∙ own)

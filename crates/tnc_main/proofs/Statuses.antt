@@ -3,7 +3,9 @@ use Rattle.std.proofs.Common.{◌≡◌, ◌≢◌, ℕ, zero, suc, Result, Ok, 
 use Rattle.std.specs.Prelude.{IsOk, List}
 use Rattle.tnc_forms.specs.declared.fault.InputFault.{InputFault}
 use Rattle.tnc_main.specs.declared.status.Status.{Status}
-use Rattle.tnc_main.specs.declared.status.Status.TheVariants.{Done, BadWords, BadInput, Memory as NoMemory, ReadFault, WriteFault, Stray as HeardStray, NotQuiet as FoundNoQuiet, Spent as WasSpent, NoPort}
+use Rattle.tnc_main.specs.declared.status.Status.TheVariants.{Done, BadWords, BadInput, Memory as NoMemory, ReadFault}
+use Rattle.tnc_main.specs.declared.status.Status.TheVariants.{WriteFault, Stray as HeardStray, NotQuiet as FoundNoQuiet}
+use Rattle.tnc_main.specs.declared.status.Status.TheVariants.{Spent as WasSpent, NoPort}
 use Rattle.tnc_main.specs.declared.stop.Stop.{Stop}
 use Rattle.tnc_main.specs.declared.stop.Stop.TheVariants.{Input, Stray, NotQuiet, Spent, Memory, Read, Write}
 use Rattle.tnc_main.specs.Status.{code_of}
@@ -45,10 +47,12 @@ status_done (Ok x) ok = refl
 status_done (Err stop) ok = absurd (true≢false (sym ok))
 
 -- a code that neither want of memory nor a write fault has is that of the end
-own_code : (end : Result (Unit {0}) Stop) (status : Status) (code : ℕ) → EndsAs end status → code_of status ≡ code → code ≢ 3 → code ≢ 5
+own_code : (end : Result (Unit {0}) Stop) (status : Status) (code : ℕ) → EndsAs end status → code_of status ≡ code
+    → code ≢ 3 → code ≢ 5
     → code_of (status_of end) ≡ code
 own_code end status code (inl same) is not_three not_five = ap code_of (sym same) ∙ is
-own_code end status code (inr (told, inl memory)) is not_three not_five = absurd (not_three (sym is ∙ ap code_of memory))
+own_code end status code (inr (told, inl memory)) is not_three not_five =
+    absurd (not_three (sym is ∙ ap code_of memory))
 own_code end status code (inr (told, inr write)) is not_three not_five = absurd (not_five (sym is ∙ ap code_of write))
 
 module _ (end : Result (Unit {0}) Stop) (status : Status) (ends : EndsAs end status) where

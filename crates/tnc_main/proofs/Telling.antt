@@ -1,5 +1,6 @@
 -- What a run leaves, why it ends, and what it tells, by how its command ends.
-use Rattle.std.proofs.Common.{◌≡◌, ℕ, ◌+◌, List, [], ◌++◌, drop, Option, Some, None, Result, Ok, Err, IfErr, inl, inr, append-nil, refl, sym, subst, ap, ◌∙◌}
+use Rattle.std.proofs.Common.{◌≡◌, ℕ, ◌+◌, List, [], ◌++◌, drop, Option, Some, None, Result, Ok, Err, IfErr, inl, inr}
+use Rattle.std.proofs.Common.{append-nil, refl, sym, subst, ap, ◌∙◌}
 use Rattle.std.specs.Prelude.{OnOk, ◌⊎◌}
 use Rattle.tnc_base.specs.Streams.{WrotePart}
 use Rattle.tnc_words.specs.declared.command.Command.{Command}
@@ -7,7 +8,9 @@ use Rattle.tnc_forms.specs.declared.fault.InputFault.{InputFault}
 use Rattle.tnc_forms.specs.declared.fault.InputFault.TheVariants.{TooLong}
 use Rattle.tnc_forms.specs.Reading.{input_limit}
 use Rattle.tnc_main.specs.declared.status.Status.{Status}
-use Rattle.tnc_main.specs.declared.status.Status.TheVariants.{Done, BadInput, Memory as NoMemory, ReadFault, WriteFault, Stray as HeardStray, NotQuiet as FoundNoQuiet, Spent as WasSpent}
+use Rattle.tnc_main.specs.declared.status.Status.TheVariants.{Done, BadInput, Memory as NoMemory, ReadFault, WriteFault}
+use Rattle.tnc_main.specs.declared.status.Status.TheVariants.{Stray as HeardStray, NotQuiet as FoundNoQuiet}
+use Rattle.tnc_main.specs.declared.status.Status.TheVariants.{Spent as WasSpent}
 use Rattle.tnc_main.specs.declared.stop.Stop.{Stop}
 use Rattle.tnc_main.specs.declared.stop.Stop.TheVariants.{Input, Stray, NotQuiet, Spent, Memory, Read, Write}
 use Rattle.tnc_main.specs.Commands.{IsFaultless, Reads, fault_of}
@@ -56,17 +59,20 @@ module _ (command : Command) (octets : List ℕ) where
   caused_own (Err Read) good bad sent = tt
   caused_own (Err Write) good bad sent = tt
 
-  pub caused : (end : Result (Unit {0}) Stop) (status : Status) → EndsAs end status → OnOk end (fault_of command octets ≡ None)
+  pub caused : (end : Result (Unit {0}) Stop) (status : Status) → EndsAs end status
+      → OnOk end (fault_of command octets ≡ None)
       → ((fault : InputFault) → end ≡ Err (Input fault) → fault_of command octets ≡ Some fault)
       → IfErr end (IsStopOfRun command)
       → IsCaused command octets status
-  caused end status (inl same) good bad sent = subst (λ s. IsCaused command octets s) (sym same) (caused_own end good bad sent)
+  caused end status (inl same) good bad sent = subst (λ s. IsCaused command octets s) (sym same)
+      (caused_own end good bad sent)
   caused end status (inr (told, inl is)) good bad sent = subst (λ s. IsCaused command octets s) (sym is) tt
   caused end status (inr (told, inr is)) good bad sent = subst (λ s. IsCaused command octets s) (sym is) tt
 
   -- with no fault but want of memory a command ends well or for that
   pub ends_well : (end : Result (Unit {0}) Stop) (status : Status) → EndsAs end status
-      → ((fault : InputFault) → end ≡ Err (Input fault) → ⊥) → IfErr end (IsStopOfRun command) → IsFaultless command octets
+      → ((fault : InputFault) → end ≡ Err (Input fault) → ⊥) → IfErr end (IsStopOfRun command)
+      → IsFaultless command octets
       → (end ≡ Err Read → ⊥) → (end ≡ Err Write → ⊥) → (code_of status ≡ 0) ⊎ (code_of status ≡ 3)
   ends_well (Ok x) status (inl same) bad sent faultless read write = inl (ap code_of same)
   ends_well (Ok x) status (inr (told, which)) bad sent faultless read write = absurd told
@@ -91,33 +97,48 @@ module _ (command : Command) (octets before : List ℕ) (now : Option (List ℕ)
       → ((fault : InputFault) → end ≡ Err (Input fault) → fault_of command octets ≡ Some fault)
       → IfErr end (IsStopOfRun command)
       → ((status_of end ≡ Done) ⊎ ((status_of end ≡ NoMemory) ⊎ (status_of end ≡ ReadFault)) → now ≡ Some before)
-      → ((status_of end ≡ BadInput) ⊎ ((status_of end ≡ HeardStray) ⊎ ((status_of end ≡ FoundNoQuiet) ⊎ (status_of end ≡ WasSpent))) → IfErr end (λ stop. now ≡ Some (before ++ line_of stop)))
+      → ((status_of end ≡ BadInput) ⊎ ((status_of end ≡ HeardStray)
+      ⊎ ((status_of end ≡ FoundNoQuiet) ⊎ (status_of end ≡ WasSpent)))
+      → IfErr end (λ stop. now ≡ Some (before ++ line_of stop)))
       → (status_of end ≡ WriteFault → IfErr end (λ stop. WrotePart before (line_of stop) now))
       → Told (status_of end)
   tells_own (Ok x) bad sent silent told cut = ([], refl, nothing_told (silent (inl refl)))
-  tells_own (Err (Input fault)) bad sent silent told cut = (input_line fault, (fault, bad fault refl, refl), told (inl refl))
-  tells_own (Err (Stray frame)) bad sent silent told cut = (stray_line frame, (frame, sent, refl), told (inr (inl refl)))
-  tells_own (Err (NotQuiet index)) bad sent silent told cut = (not_quiet_line index, (index, sent, refl), told (inr (inr (inl refl))))
-  tells_own (Err (Spent ticks)) bad sent silent told cut = (spent_line ticks, (ticks, sent, refl), told (inr (inr (inr refl))))
+  tells_own (Err (Input fault)) bad sent silent told cut =
+      (input_line fault, (fault, bad fault refl, refl), told (inl refl))
+  tells_own (Err (Stray frame)) bad sent silent told cut =
+      (stray_line frame, (frame, sent, refl), told (inr (inl refl)))
+  tells_own (Err (NotQuiet index)) bad sent silent told cut =
+      (not_quiet_line index, (index, sent, refl), told (inr (inr (inl refl))))
+  tells_own (Err (Spent ticks)) bad sent silent told cut =
+      (spent_line ticks, (ticks, sent, refl), told (inr (inr (inr refl))))
   tells_own (Err Memory) bad sent silent told cut = ([], refl, nothing_told (silent (inr (inl refl))))
   tells_own (Err Read) bad sent silent told cut = ([], refl, nothing_told (silent (inr (inr refl))))
-  tells_own (Err Write) bad sent silent told cut = let part = cut refl in (part.0, (Write, tt, (part.1, part.2)), part.3)
+  tells_own (Err Write) bad sent silent told cut = let part = cut refl in
+      (part.0, (Write, tt, (part.1, part.2)), part.3)
 
   pub tells : (end : Result (Unit {0}) Stop) (status : Status) → EndsAs end status
       → ((fault : InputFault) → end ≡ Err (Input fault) → fault_of command octets ≡ Some fault)
       → IfErr end (IsStopOfRun command)
       → ((status ≡ Done) ⊎ ((status ≡ NoMemory) ⊎ (status ≡ ReadFault)) → now ≡ Some before)
-      → ((status ≡ BadInput) ⊎ ((status ≡ HeardStray) ⊎ ((status ≡ FoundNoQuiet) ⊎ (status ≡ WasSpent))) → IfErr end (λ stop. now ≡ Some (before ++ line_of stop)))
+      → ((status ≡ BadInput) ⊎ ((status ≡ HeardStray) ⊎ ((status ≡ FoundNoQuiet) ⊎ (status ≡ WasSpent)))
+      → IfErr end (λ stop. now ≡ Some (before ++ line_of stop)))
       → (status ≡ WriteFault → IfErr end (λ stop. WrotePart before (line_of stop) now))
       → Told status
   tells end status (inl same) bad sent silent told cut =
       subst Told (sym same) (tells_own end bad sent
-      (λ which. elim which [ inl e ↦ silent (inl (same ∙ e)) | inr more ↦ elim more [ inl e ↦ silent (inr (inl (same ∙ e))) | inr e ↦ silent (inr (inr (same ∙ e))) ] ])
+      (λ which. elim which [
+        | inl e ↦ silent (inl (same ∙ e))
+        | inr more ↦ elim more
+            [ inl e ↦ silent (inr (inl (same ∙ e))) | inr e ↦ silent (inr (inr (same ∙ e))) ]
+      ])
       (λ which. elim which [
         | inl e ↦ told (inl (same ∙ e))
         | inr more ↦ elim more [
           | inl e ↦ told (inr (inl (same ∙ e)))
-          | inr last ↦ elim last [ inl e ↦ told (inr (inr (inl (same ∙ e)))) | inr e ↦ told (inr (inr (inr (same ∙ e)))) ]
+          | inr last ↦ elim last [
+            | inl e ↦ told (inr (inr (inl (same ∙ e))))
+            | inr e ↦ told (inr (inr (inr (same ∙ e))))
+          ]
         ]
       ])
       (λ e. cut (same ∙ e)))

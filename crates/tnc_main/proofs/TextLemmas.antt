@@ -8,7 +8,8 @@ use Rattle.clean_signal.specs.NearSignal.{Received, transmissions_of}
 use Rattle.clean_signal.proofs.Law.{near_law}
 use Rattle.wide_input.proofs.WideLaw.{near_stream_law}
 use Rattle.tnc_words.specs.declared.command.Command.{Command}
-use Rattle.tnc_words.specs.declared.command.Command.TheVariants.{Decode, Encode, Show, Loop, Bench, Serve, Help, Version}
+use Rattle.tnc_words.specs.declared.command.Command.TheVariants.{Decode, Encode, Show, Loop, Bench, Serve, Help}
+use Rattle.tnc_words.specs.declared.command.Command.TheVariants.{Version}
 use Rattle.tnc_words.specs.declared.command.DecodeWords.{DecodeWords}
 use Rattle.tnc_forms.specs.declared.fault.InputFault.TheVariants.{TooLong}
 use Rattle.tnc_forms.specs.Reading.{input_limit}
@@ -28,36 +29,45 @@ use Rattle.tnc_main.specs.Parts.{WritesAtEnd}
 use Rattle.sensitive_receiver.proofs.SignalLaw.{near_law as all_lanes_law}
 
 -- an input with too many octets is refused for that by a command that reads all of it first
-pub long_fault : (command : Command) (left : Option (List ℕ)) (octets : List ℕ) → WritesAtEnd command → Reads command left octets
+pub long_fault : (command : Command) (left : Option (List ℕ)) (octets : List ℕ) → WritesAtEnd command
+    → Reads command left octets
     → input_limit < length octets → fault_of command octets ≡ Some TooLong
 unfolding fault_of_whole
 long_fault (Decode words) left octets last read long = absurd last
 long_fault (Encode words) left octets last read long =
     fault_kept words last octets
-    ∙ ap (λ b. if b then Some TooLong else first_of (frames_fault words.frames octets) (length_fault words.audio (length (samples_sent words octets))))
+    ∙ ap (λ b. if b then Some TooLong else first_of (frames_fault words.frames octets)
+    (length_fault words.audio (length (samples_sent words octets))))
     (lt-ltb input_limit (length octets) long)
 long_fault (Show words) left octets last read long = absurd last
-long_fault (Loop words) left octets last read long = let none : length octets ≡ 0 = ap length read in absurd (omega arith)
-long_fault (Bench options) left octets last read long = let none : length octets ≡ 0 = ap length read in absurd (omega arith)
+long_fault (Loop words) left octets last read long = let none : length octets ≡ 0 = ap length read in
+    absurd (omega arith)
+long_fault (Bench options) left octets last read long = let none : length octets ≡ 0 = ap length read in
+    absurd (omega arith)
 long_fault (Serve options) left octets last read long = absurd last
-long_fault (Help topic) left octets last read long = let none : length octets ≡ 0 = ap length read in absurd (omega arith)
+long_fault (Help topic) left octets last read long = let none : length octets ≡ 0 = ap length read in
+    absurd (omega arith)
 long_fault Version left octets last read long = let none : length octets ≡ 0 = ap length read in absurd (omega arith)
 
 -- what decode makes of samples whose merged candidates are these frames
 pub merged_text : (words : DecodeWords) (frames : List (List ℕ)) (octets text : List ℕ)
-    → ((items : List Candidate) → AreHeard (modem_of words octets) (samples_read words octets) items → map (λ item. item.octets) (merged items) ≡ frames)
+    → ((items : List Candidate) → AreHeard (modem_of words octets) (samples_read words octets) items
+    → map (λ item. item.octets) (merged items) ≡ frames)
     → IsDecoded words octets text → text ≡ print words.frames frames
 merged_text words frames octets text merges h = h.is ∙ ap (print words.frames) (merges h.candidates h.are)
 
 -- as those near a signal are
-near_merges : (modem : Modem) (x : List ℤ) (received : List Received) → IsNearlyClean modem x received → (items : List Candidate) → AreHeard modem x items
+near_merges : (modem : Modem) (x : List ℤ) (received : List Received) → IsNearlyClean modem x received
+    → (items : List Candidate) → AreHeard modem x items
     → map (λ item. item.octets) (merged items) ≡ frames_of (transmissions_of received)
 near_merges Plain x received clean = near_law received x clean.each clean.near clean.no_stray
-near_merges Wide x received clean = near_stream_law clean.number received x clean.within clean.each clean.near clean.no_stray
+near_merges Wide x received clean = near_stream_law clean.number received x clean.within clean.each clean.near
+    clean.no_stray
 near_merges Sensitive x received clean = all_lanes_law received x clean.each clean.near clean.none_stray
 near_merges ShortWave x received clean = hf_near_law received x clean.each clean.near clean.no_stray
 
-pub near_text : (words : DecodeWords) (received : List Received) (octets text : List ℕ) → IsNearlyClean (modem_of words octets) (samples_read words octets) received
+pub near_text : (words : DecodeWords) (received : List Received) (octets text : List ℕ)
+    → IsNearlyClean (modem_of words octets) (samples_read words octets) received
     → IsDecoded words octets text → text ≡ print words.frames (frames_of (transmissions_of received))
 near_text words received octets text clean h =
     merged_text words (frames_of (transmissions_of received)) octets text

@@ -1,5 +1,6 @@
 -- What commands write, by how they end.
-use Rattle.std.proofs.Common.{◌≡◌, ℕ, ◌<◌, ◌≤◌, List, [], ◌++◌, length, Option, Some, Result, Ok, Err, IfErr, inl, inr, append-nil, refl, sym, subst, ap, ◌∙◌, arith}
+use Rattle.std.proofs.Common.{◌≡◌, ℕ, ◌<◌, ◌≤◌, List, [], ◌++◌, length, Option, Some, Result, Ok, Err, IfErr, inl, inr}
+use Rattle.std.proofs.Common.{append-nil, refl, sym, subst, ap, ◌∙◌, arith}
 use Rattle.std.specs.Prelude.{◌⊎◌, OnOk, OnErr}
 use Rattle.std.proofs.lemmas.Bool.{cases_lt}
 use Rattle.std.proofs.lemmas.List.{append_cancel_left}
@@ -7,11 +8,13 @@ use Rattle.tnc_base.specs.Streams.{WrotePart}
 use Rattle.slicer_bank.proofs.SomeList.{some_list}
 use Rattle.clean_signal.specs.TrueEnds.{true_ends}
 use Rattle.tnc_words.specs.declared.command.Command.{Command}
-use Rattle.tnc_words.specs.declared.command.Command.TheVariants.{Decode, Encode, Show, Loop, Bench, Serve, Help, Version}
+use Rattle.tnc_words.specs.declared.command.Command.TheVariants.{Decode, Encode, Show, Loop, Bench, Serve, Help}
+use Rattle.tnc_words.specs.declared.command.Command.TheVariants.{Version}
 use Rattle.tnc_words.specs.declared.command.LoopWords.{LoopWords}
 use Rattle.tnc_words.specs.declared.command.BenchOptions.{BenchOptions}
 use Rattle.tnc_forms.specs.declared.fault.Fault.{Fault}
-use Rattle.tnc_forms.specs.declared.fault.Fault.TheVariants.{Input as OfInput, Memory as OfMemory, Read as OfRead, Write as OfWrite}
+use Rattle.tnc_forms.specs.declared.fault.Fault.TheVariants.{Input as OfInput, Memory as OfMemory, Read as OfRead}
+use Rattle.tnc_forms.specs.declared.fault.Fault.TheVariants.{Write as OfWrite}
 use Rattle.tnc_forms.specs.declared.fault.InputFault.{InputFault}
 use Rattle.tnc_forms.specs.HexFrames.{frames_in_lines}
 use Rattle.tnc_forms.specs.Reading.{input_limit}
@@ -19,11 +22,13 @@ use Rattle.tnc_forms.proofs.WrittenParts.{wrote_all}
 use Rattle.tnc_encode.specs.Encoded.{encoded, encoded_before}
 use Rattle.tnc_encode.proofs.EncodedLemmas.{part_before}
 use Rattle.tnc_loop.specs.declared.fault.LoopFault.{LoopFault}
-use Rattle.tnc_loop.specs.declared.fault.LoopFault.TheVariants.{Stray as LoopStray, Memory as LoopMemory, Write as LoopWrite}
+use Rattle.tnc_loop.specs.declared.fault.LoopFault.TheVariants.{Stray as LoopStray, Memory as LoopMemory}
+use Rattle.tnc_loop.specs.declared.fault.LoopFault.TheVariants.{Write as LoopWrite}
 use Rattle.tnc_loop.specs.Drawn.{drawn, samples_drawn}
 use Rattle.tnc_loop.specs.Summary.{IsSummary, summary_of}
 use Rattle.channel_bench.specs.declared.report.BenchFault.{BenchFault}
-use Rattle.channel_bench.specs.declared.report.BenchFault.TheVariants.{Stray as BenchStray, NotQuiet as BenchNotQuiet, Spent as BenchSpent, Memory as BenchMemory}
+use Rattle.channel_bench.specs.declared.report.BenchFault.TheVariants.{Stray as BenchStray, NotQuiet as BenchNotQuiet}
+use Rattle.channel_bench.specs.declared.report.BenchFault.TheVariants.{Spent as BenchSpent, Memory as BenchMemory}
 use Rattle.tnc_bench.specs.declared.fault.CommandFault.{CommandFault}
 use Rattle.tnc_bench.specs.declared.fault.CommandFault.TheVariants.{Run as OfRun, Write as OfBenchWrite}
 use Rattle.tnc_bench.specs.Reported.{IsReportOf}
@@ -32,22 +37,26 @@ use Rattle.tnc_main.specs.declared.status.Status.TheVariants.{BadInput, Memory a
 use Rattle.tnc_main.specs.declared.stop.Stop.{Stop}
 use Rattle.tnc_main.specs.declared.stop.Stop.TheVariants.{Input, Stray, NotQuiet, Spent, Memory, Read, Write}
 use Rattle.tnc_main.specs.Commands.{FindsNoQuiet, IsSpent, Makes, MakesUpToFault, Strays, fault_of}
-use Rattle.tnc_main.specs.Parts.{Begins, HasAtMemory, HasAtWriteFault, IsRefused, MakesAtReadFault, MakesAtStray, MakesFirst, MakesPart, WritesAtEnd}
+use Rattle.tnc_main.specs.Parts.{Begins, HasAtMemory, HasAtWriteFault, IsRefused, MakesAtReadFault, MakesAtStray}
+use Rattle.tnc_main.specs.Parts.{MakesFirst, MakesPart, WritesAtEnd}
 use Rattle.tnc_main.specs.Runs.{Writes}
 use Rattle.tnc_main.specs.Stops.{EndsAs, IsStopOfRun, end_of, end_of_bench, end_of_loop, status_of}
 
 -- all words of loop have a summary
 pub some_summary : (words : LoopWords) → (text : List ℕ) × IsSummary words text
 some_summary words =
-    let found = some_list (samples_drawn words) in
-    (summary_of words.frames (true_ends (drawn words)) found.0, record { candidates = found.0; are = found.1; is = refl })
+    let found = some_list (samples_drawn words) in (
+      summary_of words.frames (true_ends (drawn words)) found.0,
+      record { candidates = found.0; are = found.1; is = refl },
+    )
 
 -- a text begins itself
 pub begins_all : (text : List ℕ) → Begins text text
 begins_all text = ([], sym (append-nil text))
 
 -- what a command makes is what it makes of all frames
-pub makes_first : (command : Command) (octets text : List ℕ) → Makes command octets text → MakesFirst command octets text
+pub makes_first : (command : Command) (octets text : List ℕ) → Makes command octets text
+    → MakesFirst command octets text
 makes_first (Decode words) octets text h = h
 makes_first (Encode words) octets text h = h
 makes_first (Show words) octets text h = (frames_in_lines 0 octets, [], sym (append-nil (frames_in_lines 0 octets)), h)
@@ -58,7 +67,8 @@ makes_first (Help topic) octets text h = h
 makes_first Version octets text h = h
 
 -- a first part of that which was written is what was written
-pub part_made : (command : Command) (octets whole before text : List ℕ) (now : Option (List ℕ)) → MakesFirst command octets whole → WrotePart before whole now
+pub part_made : (command : Command) (octets whole before text : List ℕ) (now : Option (List ℕ))
+    → MakesFirst command octets whole → WrotePart before whole now
     → now ≡ Some (before ++ text) → MakesPart command octets text
 part_made command octets whole before text now makes part is =
     let both : Some (before ++ part.0) ≡ Some (before ++ text) = sym part.3 ∙ is in
@@ -66,7 +76,8 @@ part_made command octets whole before text now makes part is =
     inr (whole, makes, (part.1, part.2 ∙ ap (λ p. p ++ part.1) (append_cancel_left before part.0 text same)))
 
 -- what is written before a fault is a first part of what would be written without it
-up_to_fault : (command : Command) (octets text : List ℕ) → MakesUpToFault command octets text → MakesPart command octets text
+up_to_fault : (command : Command) (octets text : List ℕ) → MakesUpToFault command octets text
+    → MakesPart command octets text
 up_to_fault (Decode words) octets text h = inr (text, h, begins_all text)
 up_to_fault (Encode words) octets text h =
     let sent = encoded_before words octets in
@@ -156,7 +167,8 @@ spent_at_end (Help topic) ticks h = absurd h
 spent_at_end Version ticks h = absurd h
 
 -- what is written at a stray frame is a first part of what would be written without it
-stray_part : (command : Command) (octets text : List ℕ) → MakesAtStray command octets text → MakesPart command octets text
+stray_part : (command : Command) (octets text : List ℕ) → MakesAtStray command octets text
+    → MakesPart command octets text
 stray_part (Decode words) octets text h = absurd h
 stray_part (Encode words) octets text h = absurd h
 stray_part (Show words) octets text h = absurd h
@@ -175,21 +187,45 @@ module _ (command : Command) (octets : List ℕ) (left : Option (List ℕ)) (tex
   told_writes end status (inl same) bad sent h = subst (λ s. Writes command octets left s text) (sym same) h
   told_writes (Ok x) status (inr (told, which)) bad sent h = absurd told
   told_writes (Err (Input fault)) status (inr (told, inl is)) bad sent h =
-      subst (λ s. Writes command octets left s text) (sym is) (h.part, refused_memory octets left text command (fault, bad fault refl, h))
+      subst (λ s. Writes command octets left s text) (sym is) (
+        h.part,
+        refused_memory octets left text command (fault, bad fault refl, h),
+      )
   told_writes (Err (Input fault)) status (inr (told, inr is)) bad sent h =
-      subst (λ s. Writes command octets left s text) (sym is) (h.part, refused_write octets left text command (fault, bad fault refl, h))
+      subst (λ s. Writes command octets left s text) (sym is) (
+        h.part,
+        refused_write octets left text command (fault, bad fault refl, h),
+      )
   told_writes (Err (Stray frame)) status (inr (told, inl is)) bad sent h =
-      subst (λ s. Writes command octets left s text) (sym is) (stray_part command octets text h, has_memory octets left text command (strays_at_end command frame sent))
+      subst (λ s. Writes command octets left s text) (sym is) (
+        stray_part command octets text h,
+        has_memory octets left text command (strays_at_end command frame sent),
+      )
   told_writes (Err (Stray frame)) status (inr (told, inr is)) bad sent h =
-      subst (λ s. Writes command octets left s text) (sym is) (stray_part command octets text h, has_write octets left text command (strays_at_end command frame sent))
+      subst (λ s. Writes command octets left s text) (sym is) (
+        stray_part command octets text h,
+        has_write octets left text command (strays_at_end command frame sent),
+      )
   told_writes (Err (NotQuiet index)) status (inr (told, inl is)) bad sent h =
-      subst (λ s. Writes command octets left s text) (sym is) (inl h, has_memory octets left text command (unquiet_at_end command index sent))
+      subst (λ s. Writes command octets left s text) (sym is) (
+        inl h,
+        has_memory octets left text command (unquiet_at_end command index sent),
+      )
   told_writes (Err (NotQuiet index)) status (inr (told, inr is)) bad sent h =
-      subst (λ s. Writes command octets left s text) (sym is) (inl h, has_write octets left text command (unquiet_at_end command index sent))
+      subst (λ s. Writes command octets left s text) (sym is) (
+        inl h,
+        has_write octets left text command (unquiet_at_end command index sent),
+      )
   told_writes (Err (Spent ticks)) status (inr (told, inl is)) bad sent h =
-      subst (λ s. Writes command octets left s text) (sym is) (inl h, has_memory octets left text command (spent_at_end command ticks sent))
+      subst (λ s. Writes command octets left s text) (sym is) (
+        inl h,
+        has_memory octets left text command (spent_at_end command ticks sent),
+      )
   told_writes (Err (Spent ticks)) status (inr (told, inr is)) bad sent h =
-      subst (λ s. Writes command octets left s text) (sym is) (inl h, has_write octets left text command (spent_at_end command ticks sent))
+      subst (λ s. Writes command octets left s text) (sym is) (
+        inl h,
+        has_write octets left text command (spent_at_end command ticks sent),
+      )
   told_writes (Err Memory) status (inr (told, which)) bad sent h = absurd told
   told_writes (Err Read) status (inr (told, which)) bad sent h = absurd told
   told_writes (Err Write) status (inr (told, which)) bad sent h = absurd told
@@ -217,14 +253,22 @@ module _ (command : Command) (octets before : List ℕ) (left now : Option (List
   reader_writes (Err (OfInput fault)) made told long memory read write = elim (cases_lt input_limit (length octets)) [
     | inl over ↦ long fault over refl
     | inr few ↦
-        let h = told fault few refl in
-        (h.0, record { part = up_to_fault command octets h.0 h.1; too_many = λ over. absurd (omega arith); up_to_fault = λ fits. h.1 }, h.2)
+        let h = told fault few refl in (
+          h.0,
+          record {
+            part = up_to_fault command octets h.0 h.1;
+            too_many = λ over. absurd (omega arith);
+            up_to_fault = λ fits. h.1;
+          },
+          h.2,
+        )
   ]
 
   -- of a loop
   pub loop_writes : (end : Result (Unit {0}) LoopFault)
       → OnOk end ((text : List ℕ) × Makes command octets text × (now ≡ Some (before ++ text)))
-      → ((frame : List ℕ) → end ≡ Err (LoopStray frame) → (text : List ℕ) × MakesAtStray command octets text × (now ≡ Some (before ++ text)))
+      → ((frame : List ℕ) → end ≡ Err (LoopStray frame) → (text : List ℕ) × MakesAtStray command octets text
+      × (now ≡ Some (before ++ text)))
       → (end ≡ Err LoopMemory → Written NoMemory)
       → (end ≡ Err LoopWrite → Written WriteFault)
       → Written (status_of (end_of_loop end))
@@ -235,7 +279,8 @@ module _ (command : Command) (octets before : List ℕ) (left now : Option (List
 
 -- ---- a command that writes when its input has ended
 
-none_at_read : (octets : List ℕ) (left : Option (List ℕ)) (command : Command) → WritesAtEnd command → MakesAtReadFault command octets left []
+none_at_read : (octets : List ℕ) (left : Option (List ℕ)) (command : Command) → WritesAtEnd command
+    → MakesAtReadFault command octets left []
 none_at_read octets left (Decode words) last = absurd last
 none_at_read octets left (Encode words) last = inr (last, refl)
 none_at_read octets left (Show words) last = absurd last
@@ -266,17 +311,19 @@ module _ (command : Command) (last : WritesAtEnd command) (octets before : List 
 
 -- ---- a command that writes a text of its own
 
-module _ (command : Command) (last : WritesAtEnd command) (octets before text : List ℕ) (left now : Option (List ℕ)) where
-  pub text_writes : (end : Result (Unit {0}) Stop) → (end ≡ Ok tt) ⊎ (end ≡ Err Write) → Makes command octets text
-      → OnOk end (now ≡ Some (before ++ text)) → OnErr end (WrotePart before text now)
-      → Written command octets before left now (status_of end)
-  text_writes end (inl same) makes whole cut =
-      subst (λ e. Written command octets before left now (status_of e)) (sym same)
-      (text, makes, subst (λ e. OnOk e (now ≡ Some (before ++ text))) same whole)
-  text_writes end (inr same) makes whole cut =
-      subst (λ e. Written command octets before left now (status_of e)) (sym same)
-      (at_write command last octets before left now
-      (part_written command last octets before left now text makes (subst (λ e. OnErr e (WrotePart before text now)) same cut)))
+module _ (command : Command) (last : WritesAtEnd command) (octets before text : List ℕ) (left now : Option (List ℕ))
+  where
+    pub text_writes : (end : Result (Unit {0}) Stop) → (end ≡ Ok tt) ⊎ (end ≡ Err Write) → Makes command octets text
+        → OnOk end (now ≡ Some (before ++ text)) → OnErr end (WrotePart before text now)
+        → Written command octets before left now (status_of end)
+    text_writes end (inl same) makes whole cut =
+        subst (λ e. Written command octets before left now (status_of e)) (sym same)
+        (text, makes, subst (λ e. OnOk e (now ≡ Some (before ++ text))) same whole)
+    text_writes end (inr same) makes whole cut =
+        subst (λ e. Written command octets before left now (status_of e)) (sym same)
+        (at_write command last octets before left now
+        (part_written command last octets before left now text makes
+        (subst (λ e. OnErr e (WrotePart before text now)) same cut)))
 
 -- ---- bench
 
@@ -287,9 +334,12 @@ module _ (options : BenchOptions) (octets before : List ℕ) (left now : Option 
       → (end ≡ Err OfBenchWrite → (text : List ℕ) × IsReportOf options text × WrotePart before text now)
       → Written (Bench options) octets before left now (status_of (end_of_bench end))
   bench_writes (Ok x) made none cut = made
-  bench_writes (Err (OfRun (BenchStray frame))) made none cut = ([], refl, none (BenchStray frame) refl ∙ ap Some (sym (append-nil before)))
-  bench_writes (Err (OfRun (BenchNotQuiet index))) made none cut = ([], refl, none (BenchNotQuiet index) refl ∙ ap Some (sym (append-nil before)))
-  bench_writes (Err (OfRun (BenchSpent ticks))) made none cut = ([], refl, none (BenchSpent ticks) refl ∙ ap Some (sym (append-nil before)))
+  bench_writes (Err (OfRun (BenchStray frame))) made none cut =
+      ([], refl, none (BenchStray frame) refl ∙ ap Some (sym (append-nil before)))
+  bench_writes (Err (OfRun (BenchNotQuiet index))) made none cut =
+      ([], refl, none (BenchNotQuiet index) refl ∙ ap Some (sym (append-nil before)))
+  bench_writes (Err (OfRun (BenchSpent ticks))) made none cut =
+      ([], refl, none (BenchSpent ticks) refl ∙ ap Some (sym (append-nil before)))
   bench_writes (Err (OfRun BenchMemory)) made none cut =
       at_memory (Bench options) tt octets before left now
       (nothing_written (Bench options) tt octets before left now (none BenchMemory refl))

@@ -1,9 +1,10 @@
--- What each command makes of its input, and why it refuses it. A live command does not make one text of its input: `serve`
--- is none of these.
+-- What each command makes of its input, and why it refuses it. A live command does not make one text of its input:
+-- `serve` is none of these.
 use Rattle.std.specs.Prelude.{◌≡◌, ℕ, ⊤, List, [], Option, Some, None}
 use Rattle.tnc_forms.specs.declared.fault.InputFault.{InputFault}
 use Rattle.tnc_words.specs.declared.command.Command.{Command}
-use Rattle.tnc_words.specs.declared.command.Command.TheVariants.{Decode, Encode, Show, Loop, Bench, Serve, Help, Version}
+use Rattle.tnc_words.specs.declared.command.Command.TheVariants.{Decode, Encode, Show, Loop, Bench, Serve, Help}
+use Rattle.tnc_words.specs.declared.command.Command.TheVariants.{Version}
 use Rattle.tnc_words.specs.declared.command.LoopWords.{LoopWords}
 use Rattle.tnc_words.specs.Help.{text_about, version_text}
 use Rattle.tnc_decode.specs.Audio.{audio_fault}
@@ -19,8 +20,8 @@ use Rattle.channel_bench.specs.declared.report.BenchFault.TheVariants.{Stray, No
 use Rattle.channel_bench.specs.BenchRun.{IsFaultOf}
 use Rattle.tnc_bench.specs.Reported.{IsReportOf, words_of}
 
--- a command has these octets to read, of those that its input has left: loop, bench, help and version read none, and serve
--- is no such command
+-- a command has these octets to read, of those that its input has left: loop, bench, help and version read none, and
+-- serve is no such command
 abbrev pub Reads : Command → Option (List ℕ) → List ℕ → Type 0
 Reads (Decode words) left octets = left ≡ Some octets
 Reads (Encode words) left octets = left ≡ Some octets

@@ -1,13 +1,15 @@
--- What of its text a command writes when it does not end well. Decode, show, and encode that keeps no frames write while they
--- read, and each other command when its input has ended.
-use Rattle.std.specs.Prelude.{◌≡◌, ℕ, ⊤, ◌≤◌, ◌<◌, ◌-◌, ◌⊎◌, true, false, List, [], ◌++◌, length, take, Option, Some, None}
+-- What of its text a command writes when it does not end well. Decode, show, and encode that keeps no frames write
+-- while they read, and each other command when its input has ended.
+use Rattle.std.specs.Prelude.{◌≡◌, ℕ, ⊤, ◌≤◌, ◌<◌, ◌-◌, ◌⊎◌, true, false, List, [], ◌++◌, length, take, Option, Some}
+use Rattle.std.specs.Prelude.{None}
 use Rattle.tnc_forms.specs.declared.fault.InputFault.{InputFault}
 use Rattle.tnc_forms.specs.declared.fault.InputFault.TheVariants.{TooLong}
 use Rattle.tnc_forms.specs.HexFrames.{frames_in_lines}
 use Rattle.tnc_forms.specs.Reading.{input_limit, piece_limit}
 use Rattle.tnc_forms.specs.Taken.{WereRead}
 use Rattle.tnc_words.specs.declared.command.Command.{Command}
-use Rattle.tnc_words.specs.declared.command.Command.TheVariants.{Decode, Encode, Show, Loop, Bench, Serve, Help, Version}
+use Rattle.tnc_words.specs.declared.command.Command.TheVariants.{Decode, Encode, Show, Loop, Bench, Serve, Help}
+use Rattle.tnc_words.specs.declared.command.Command.TheVariants.{Version}
 use Rattle.tnc_words.specs.declared.command.DecodeWords.{DecodeWords}
 use Rattle.tnc_words.specs.Help.{text_about, version_text}
 use Rattle.tnc_decode.specs.Audio.{audio_fault}
@@ -39,7 +41,8 @@ Begins part text = (rest : List ℕ) × (text ≡ part ++ rest)
 abbrev pub MakesFirst : Command → List ℕ → List ℕ → Type 0
 MakesFirst (Decode words) octets text = IsDecoded words octets text
 MakesFirst (Encode words) octets text = text ≡ encoded words octets
-MakesFirst (Show words) octets text = (frames others : List (List ℕ)) × (frames_in_lines 0 octets ≡ frames ++ others) × IsTextOf words.modulus frames text
+MakesFirst (Show words) octets text = (frames others : List (List ℕ)) × (frames_in_lines 0 octets ≡ frames ++ others)
+    × IsTextOf words.modulus frames text
 MakesFirst (Loop words) octets text = IsSummary words text
 MakesFirst (Bench options) octets text = IsReportOf options text
 MakesFirst (Serve options) octets text = ⊥
@@ -52,11 +55,12 @@ MakesPart command octets part = (part ≡ []) ⊎ ((text : List ℕ) × MakesFir
 
 -- ---- a command that writes while it reads, by the octets that it took from its input
 
--- The text is what octets settle, whatever follows: of decode the frames that end in them, of encode the signal of the frames
--- whose lines or KISS items have ended, of show the lines of these frames. No line of encode or show is bad.
+-- The text is what octets settle, whatever follows: of decode the frames that end in them, of encode the signal of the
+-- frames whose lines or KISS items have ended, of show the lines of these frames. No line of encode or show is bad.
 abbrev pub Settles : Command → List ℕ → List ℕ → Type 0
 Settles (Decode words) octets text = IsSettled words octets text
-Settles (Encode words) octets text = (form_fault_so_far words.frames octets ≡ None) × (text ≡ encoded_so_far words octets)
+Settles (Encode words) octets text = (form_fault_so_far words.frames octets ≡ None)
+    × (text ≡ encoded_so_far words octets)
 Settles (Show words) octets text = IsShownSoFar words octets text
 Settles (Loop words) octets text = ⊥
 Settles (Bench options) octets text = ⊥
@@ -80,8 +84,8 @@ pub record SettledByMost (command : Command) (octets : List ℕ) (left : Option 
   pub few : length rest ≤ piece_limit
   pub settled : Settles command front text
 
--- The text begins with what a first part of the octets read settles, which lacks at most the last 4096 of them. It is a first
--- part of what the octets read make.
+-- The text begins with what a first part of the octets read settles, which lacks at most the last 4096 of them. It is a
+-- first part of what the octets read make.
 pub record MostOfLines (command : Command) (octets : List ℕ) (left : Option (List ℕ)) (text : List ℕ) : Type 0 where
   pub early : List ℕ
   pub most : SettledByMost command octets left early
@@ -90,8 +94,8 @@ pub record MostOfLines (command : Command) (octets : List ℕ) (left : Option (L
   pub made : MakesFirst command most.read whole
   pub part : Begins text whole
 
--- The text of decode is the print of the frames that a first part of the octets read settles. It is a first part of what the
--- octets read are decoded to.
+-- The text of decode is the print of the frames that a first part of the octets read settles. It is a first part of
+-- what the octets read are decoded to.
 pub record SettledByPart (words : DecodeWords) (octets : List ℕ) (left : Option (List ℕ)) (text : List ℕ) : Type 0 where
   pub read : List ℕ
   pub front : List ℕ
@@ -102,8 +106,8 @@ pub record SettledByPart (words : DecodeWords) (octets : List ℕ) (left : Optio
   pub decoded : IsDecoded words read whole
   pub part : Begins text whole
 
--- The text of decode is a first part of what the octets read are decoded to. Each frame that ends more than 2048 samples before
--- the number of their samples is whole in it.
+-- The text of decode is a first part of what the octets read are decoded to. Each frame that ends more than 2048
+-- samples before the number of their samples is whole in it.
 pub record MostOfRead (words : DecodeWords) (octets : List ℕ) (left : Option (List ℕ)) (text : List ℕ) : Type 0 where
   pub read : List ℕ
   pub early : List ℕ
@@ -116,10 +120,11 @@ pub record MostOfRead (words : DecodeWords) (octets : List ℕ) (left : Option (
 
 -- ---- each command
 
--- The text is what a command writes of too many octets: of lines, what the first 2^40 octets settle. A WAV file can be refused
--- for its head before it is too long.
+-- The text is what a command writes of too many octets: of lines, what the first 2^40 octets settle. A WAV file can be
+-- refused for its head before it is too long.
 abbrev pub MakesOfTooMany : Command → List ℕ → Option (List ℕ) → List ℕ → Type 0
-MakesOfTooMany (Decode words) octets left text = audio_fault words octets ≡ Some TooLong → SettledByRead (Decode words) octets left text
+MakesOfTooMany (Decode words) octets left text = audio_fault words octets ≡ Some TooLong
+    → SettledByRead (Decode words) octets left text
 MakesOfTooMany (Encode words) octets left text = text ≡ encoded_so_far words (take input_limit octets)
 MakesOfTooMany (Show words) octets left text = IsShownOfMany words octets text
 MakesOfTooMany (Loop words) octets left text = text ≡ []
@@ -136,12 +141,14 @@ pub record MakesBefore (command : Command) (octets : List ℕ) (left : Option (L
 
 -- a command refuses the octets, and has written this text before
 abbrev pub IsRefused : Command → List ℕ → Option (List ℕ) → List ℕ → Type 0
-IsRefused command octets left text = (fault : InputFault) × (fault_of command octets ≡ Some fault) × MakesBefore command octets left text
+IsRefused command octets left text = (fault : InputFault) × (fault_of command octets ≡ Some fault)
+    × MakesBefore command octets left text
 
 -- the text is what a command has written when its input fails
 abbrev pub MakesAtReadFault : Command → List ℕ → Option (List ℕ) → List ℕ → Type 0
 MakesAtReadFault (Decode words) octets left text = SettledByRead (Decode words) octets left text
-MakesAtReadFault (Encode words) octets left text = SettledByRead (Encode words) octets left text ⊎ (WritesAtEnd (Encode words) × (text ≡ []))
+MakesAtReadFault (Encode words) octets left text = SettledByRead (Encode words) octets left text
+    ⊎ (WritesAtEnd (Encode words) × (text ≡ []))
 MakesAtReadFault (Show words) octets left text = SettledByRead (Show words) octets left text
 MakesAtReadFault (Loop words) octets left text = text ≡ []
 MakesAtReadFault (Bench options) octets left text = text ≡ []
@@ -149,7 +156,8 @@ MakesAtReadFault (Serve options) octets left text = ⊥
 MakesAtReadFault (Help topic) octets left text = text ≡ []
 MakesAtReadFault Version octets left text = text ≡ []
 
--- the text is what a command has written when something was stray in what it sent to itself: loop its summary, bench nothing
+-- the text is what a command has written when something was stray in what it sent to itself: loop its summary, bench
+-- nothing
 abbrev pub MakesAtStray : Command → List ℕ → List ℕ → Type 0
 MakesAtStray (Decode words) octets text = ⊥
 MakesAtStray (Encode words) octets text = ⊥
@@ -162,10 +170,13 @@ MakesAtStray Version octets text = ⊥
 
 -- How much a first part has at least when memory runs out. It can also run out when a refusal is to be told.
 abbrev pub HasAtMemory : Command → List ℕ → Option (List ℕ) → List ℕ → Type 0
-HasAtMemory (Decode words) octets left text = SettledByPart words octets left text ⊎ IsRefused (Decode words) octets left text
+HasAtMemory (Decode words) octets left text = SettledByPart words octets left text
+    ⊎ IsRefused (Decode words) octets left text
 HasAtMemory (Encode words) octets left text =
-    SettledByMost (Encode words) octets left text ⊎ (WritesAtEnd (Encode words) ⊎ IsRefused (Encode words) octets left text)
-HasAtMemory (Show words) octets left text = SettledByMost (Show words) octets left text ⊎ IsRefused (Show words) octets left text
+    SettledByMost (Encode words) octets left text ⊎ (WritesAtEnd (Encode words)
+    ⊎ IsRefused (Encode words) octets left text)
+HasAtMemory (Show words) octets left text = SettledByMost (Show words) octets left text
+    ⊎ IsRefused (Show words) octets left text
 HasAtMemory (Loop words) octets left text = ⊤
 HasAtMemory (Bench options) octets left text = ⊤
 HasAtMemory (Serve options) octets left text = ⊥
@@ -174,10 +185,13 @@ HasAtMemory Version octets left text = ⊤
 
 -- How much a first part has at least when the output fails. The report can also fail when a refusal is to be told.
 abbrev pub HasAtWriteFault : Command → List ℕ → Option (List ℕ) → List ℕ → Type 0
-HasAtWriteFault (Decode words) octets left text = MostOfRead words octets left text ⊎ IsRefused (Decode words) octets left text
+HasAtWriteFault (Decode words) octets left text = MostOfRead words octets left text
+    ⊎ IsRefused (Decode words) octets left text
 HasAtWriteFault (Encode words) octets left text =
-    MostOfLines (Encode words) octets left text ⊎ (WritesAtEnd (Encode words) ⊎ IsRefused (Encode words) octets left text)
-HasAtWriteFault (Show words) octets left text = MostOfLines (Show words) octets left text ⊎ IsRefused (Show words) octets left text
+    MostOfLines (Encode words) octets left text ⊎ (WritesAtEnd (Encode words)
+    ⊎ IsRefused (Encode words) octets left text)
+HasAtWriteFault (Show words) octets left text = MostOfLines (Show words) octets left text
+    ⊎ IsRefused (Show words) octets left text
 HasAtWriteFault (Loop words) octets left text = ⊤
 HasAtWriteFault (Bench options) octets left text = ⊤
 HasAtWriteFault (Serve options) octets left text = ⊥

@@ -32,7 +32,8 @@ abbrev pub wav_text : WavFault → List ℕ
 wav_text (NotRiff place) = codes "not riff" ++ at_place place
 wav_text (NotWave place) = codes "not wave" ++ at_place place
 wav_text (NoFormat place) = codes "no format" ++ at_place place
-wav_text (BadFormat place field value) = codes "bad format " ++ (decimal field ++ (codes " value " ++ (decimal value ++ at_place place)))
+wav_text (BadFormat place field value) = codes "bad format "
+    ++ (decimal field ++ (codes " value " ++ (decimal value ++ at_place place)))
 wav_text (Truncated place) = codes "truncated" ++ at_place place
 
 -- what is wrong with an input: one that is too long shows at the octet after the 2^40th, and a WAV file to be written

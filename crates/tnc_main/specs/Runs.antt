@@ -1,4 +1,5 @@
--- A run of a command that makes one text of its input and ends: what stands on its output and its report at each status.
+-- A run of a command that makes one text of its input and ends: what stands on its output and its report at each
+-- status.
 use Rattle.std.specs.Prelude.{◌≡◌, ℕ, ⊤, ◌+◌, List, [], drop, Option, Some, None}
 use Rattle.tnc_words.specs.declared.command.Command.{Command}
 use Rattle.tnc_words.specs.declared.command.ServeOptions.{ServeOptions}
@@ -7,10 +8,12 @@ use Rattle.tnc_forms.specs.declared.fault.InputFault.{InputFault}
 use Rattle.tnc_forms.specs.declared.fault.InputFault.TheVariants.{TooLong}
 use Rattle.tnc_forms.specs.Reading.{input_limit}
 use Rattle.tnc_main.specs.declared.status.Status.{Status}
-use Rattle.tnc_main.specs.declared.status.Status.TheVariants.{Done, BadWords, BadInput, Memory, ReadFault, WriteFault, Stray, NotQuiet, Spent, NoPort}
+use Rattle.tnc_main.specs.declared.status.Status.TheVariants.{Done, BadWords, BadInput, Memory, ReadFault, WriteFault}
+use Rattle.tnc_main.specs.declared.status.Status.TheVariants.{Stray, NotQuiet, Spent, NoPort}
 use Rattle.tnc_main.specs.declared.stop.Stop.{Stop}
 use Rattle.tnc_main.specs.Commands.{FindsNoQuiet, IsSpent, Makes, Reads, Strays, fault_of}
-use Rattle.tnc_main.specs.Parts.{Begins, HasAtMemory, HasAtWriteFault, MakesAtReadFault, MakesAtStray, MakesBefore, MakesPart}
+use Rattle.tnc_main.specs.Parts.{Begins, HasAtMemory, HasAtWriteFault, MakesAtReadFault, MakesAtStray, MakesBefore}
+use Rattle.tnc_main.specs.Parts.{MakesPart}
 use Rattle.tnc_main.specs.Report.{input_line, line_of, not_quiet_line, spent_line, stray_line}
 use Rattle.tnc_main.specs.Status.{code_of}
 use Rattle.tnc_main.specs.Stops.{IsStopOf}
@@ -23,7 +26,8 @@ AskNoServe words = (options : ServeOptions) → ¬ IsServe words options
 abbrev pub AskNothing : List (List ℕ) → Type 0
 AskNothing words = (command : Command) → ¬ Asks words command
 
--- The words ask for a command, which has these octets to read of those that its input has left, and it ends with a code.
+-- The words ask for a command, which has these octets to read of those that its input has left, and it ends with a
+-- code.
 pub record Job (words : List (List ℕ)) (left : Option (List ℕ)) (code : ℕ) : Type 0 where
   pub command : Command
   pub octets : List ℕ
@@ -36,7 +40,8 @@ pub record Job (words : List (List ℕ)) (left : Option (List ℕ)) (code : ℕ)
 abbrev pub Leaves : Command → List ℕ → Status → Option (List ℕ) → Type 0
 Leaves command octets Done left = Reads command left []
 Leaves command octets BadWords left = ⊥
-Leaves command octets BadInput left = fault_of command octets ≡ Some TooLong → Reads command left (drop (input_limit + 1) octets)
+Leaves command octets BadInput left = fault_of command octets ≡ Some TooLong
+    → Reads command left (drop (input_limit + 1) octets)
 Leaves command octets Memory left = ⊤
 Leaves command octets ReadFault left = ⊤
 Leaves command octets WriteFault left = ⊤
@@ -75,7 +80,8 @@ IsCaused command octets NoPort = ⊥
 abbrev pub Tells : Command → List ℕ → Status → List ℕ → Type 0
 Tells command octets Done line = line ≡ []
 Tells command octets BadWords line = ⊥
-Tells command octets BadInput line = (fault : InputFault) × (fault_of command octets ≡ Some fault) × (line ≡ input_line fault)
+Tells command octets BadInput line = (fault : InputFault) × (fault_of command octets ≡ Some fault)
+    × (line ≡ input_line fault)
 Tells command octets Memory line = line ≡ []
 Tells command octets ReadFault line = line ≡ []
 Tells command octets WriteFault line = (stop : Stop) × IsStopOf command octets stop × Begins line (line_of stop)

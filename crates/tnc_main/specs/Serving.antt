@@ -10,7 +10,9 @@ use Rattle.tnc_ports.specs.declared.serving.ServeEnd.TheVariants.{Done, TooLong,
 use Rattle.tnc_ports.specs.SampledRun.{Outside, GrowsBy}
 use Rattle.tnc_ports.specs.ServeRun.{InputSide, IsServed}
 use Rattle.tnc_main.specs.declared.status.Status.{Status}
-use Rattle.tnc_main.specs.declared.status.Status.TheVariants.{Done as WellDone, BadInput, Memory as NoMemory, ReadFault as InputFailed, WriteFault as OutputFailed, NoPort as PortsFailed}
+use Rattle.tnc_main.specs.declared.status.Status.TheVariants.{Done as WellDone, BadInput, Memory as NoMemory}
+use Rattle.tnc_main.specs.declared.status.Status.TheVariants.{ReadFault as InputFailed, WriteFault as OutputFailed}
+use Rattle.tnc_main.specs.declared.status.Status.TheVariants.{NoPort as PortsFailed}
 use Rattle.tnc_main.specs.Report.{input_line, no_port_line}
 
 -- the ports, the station, the lanes and the report that the options ask for
@@ -61,7 +63,8 @@ pub record LacksLine (line : List ℕ) (before after : Outside) : Type 0 where
   pub failed : HasRisen before.report_faults after.report_faults
   pub others : StaysButReport before after
 
--- A line is told with its status, or it could not be written, which is a write fault. If there is none, nothing is told.
+-- A line is told with its status, or it could not be written, which is a write fault. If there is none, nothing is
+-- told.
 abbrev pub IsToldAs : Option (List ℕ) → Status → Status → Outside → Outside → Type 0
 IsToldAs None own status before after = (status ≡ own) × (after ≡ before)
 IsToldAs (Some line) own status before after =
@@ -70,7 +73,8 @@ IsToldAs (Some line) own status before after =
 -- ---- a run
 
 -- A station was served until an end, and the end was told last.
-pub record Serves (words : ServeWords) (status : Status) (input left : InputSide) (before after : Outside) : Type 0 where
+pub record Serves (words : ServeWords) (status : Status) (input left : InputSide) (before after : Outside)
+    : Type 0 where
   pub end : ServeEnd
   -- what the outside told when serving had ended
   pub between : Outside

@@ -1,7 +1,8 @@
 -- The exit statuses of the program.
 use Rattle.std.specs.Prelude.{ℕ}
 use Rattle.tnc_main.specs.declared.status.Status.{Status}
-use Rattle.tnc_main.specs.declared.status.Status.TheVariants.{Done, BadWords, BadInput, Memory, ReadFault, WriteFault, Stray, NotQuiet, Spent, NoPort}
+use Rattle.tnc_main.specs.declared.status.Status.TheVariants.{Done, BadWords, BadInput, Memory, ReadFault, WriteFault}
+use Rattle.tnc_main.specs.declared.status.Status.TheVariants.{Stray, NotQuiet, Spent, NoPort}
 
 -- the number that the process ends with
 abbrev pub code_of : Status → ℕ

@@ -1,20 +1,26 @@
 -- What can stop a command.
 use Rattle.std.specs.Prelude.{◌≡◌, ◌⊎◌, ℕ, ⊤, ◌≤◌, List, Some, Result, Ok, Err, IsErrAnd}
 use Rattle.tnc_forms.specs.declared.fault.Fault.{Fault}
-use Rattle.tnc_forms.specs.declared.fault.Fault.TheVariants.{Input as OfInput, Memory as OfMemory, Read as OfRead, Write as OfWrite}
+use Rattle.tnc_forms.specs.declared.fault.Fault.TheVariants.{Input as OfInput, Memory as OfMemory, Read as OfRead}
+use Rattle.tnc_forms.specs.declared.fault.Fault.TheVariants.{Write as OfWrite}
 use Rattle.tnc_loop.specs.declared.fault.LoopFault.{LoopFault}
-use Rattle.tnc_loop.specs.declared.fault.LoopFault.TheVariants.{Stray as LoopStray, Memory as LoopMemory, Write as LoopWrite}
+use Rattle.tnc_loop.specs.declared.fault.LoopFault.TheVariants.{Stray as LoopStray, Memory as LoopMemory}
+use Rattle.tnc_loop.specs.declared.fault.LoopFault.TheVariants.{Write as LoopWrite}
 use Rattle.channel_bench.specs.declared.report.BenchFault.{BenchFault}
-use Rattle.channel_bench.specs.declared.report.BenchFault.TheVariants.{Stray as BenchStray, NotQuiet as BenchNotQuiet, Spent as BenchSpent, Memory as BenchMemory}
+use Rattle.channel_bench.specs.declared.report.BenchFault.TheVariants.{Stray as BenchStray, NotQuiet as BenchNotQuiet}
+use Rattle.channel_bench.specs.declared.report.BenchFault.TheVariants.{Spent as BenchSpent, Memory as BenchMemory}
 use Rattle.channel_bench.specs.Words.{AreInRange}
 use Rattle.tnc_bench.specs.declared.fault.CommandFault.{CommandFault}
 use Rattle.tnc_bench.specs.declared.fault.CommandFault.TheVariants.{Run as OfRun, Write as OfBenchWrite}
 use Rattle.tnc_bench.specs.Reported.{words_of}
 use Rattle.afsk_modulator.specs.Modulation.{IsLevel}
 use Rattle.tnc_words.specs.declared.command.Command.{Command}
-use Rattle.tnc_words.specs.declared.command.Command.TheVariants.{Decode, Encode, Show, Loop, Bench, Serve, Help, Version}
+use Rattle.tnc_words.specs.declared.command.Command.TheVariants.{Decode, Encode, Show, Loop, Bench, Serve, Help}
+use Rattle.tnc_words.specs.declared.command.Command.TheVariants.{Version}
 use Rattle.tnc_main.specs.declared.status.Status.{Status}
-use Rattle.tnc_main.specs.declared.status.Status.TheVariants.{Done, BadInput, Memory as NoMemory, ReadFault, WriteFault, Stray as HeardStray, NotQuiet as FoundNoQuiet, Spent as WasSpent}
+use Rattle.tnc_main.specs.declared.status.Status.TheVariants.{Done, BadInput, Memory as NoMemory, ReadFault, WriteFault}
+use Rattle.tnc_main.specs.declared.status.Status.TheVariants.{Stray as HeardStray, NotQuiet as FoundNoQuiet}
+use Rattle.tnc_main.specs.declared.status.Status.TheVariants.{Spent as WasSpent}
 use Rattle.tnc_main.specs.declared.stop.Stop.{Stop}
 use Rattle.tnc_main.specs.declared.stop.Stop.TheVariants.{Input, Stray, NotQuiet, Spent, Memory, Read, Write}
 use Rattle.tnc_main.specs.Commands.{FindsNoQuiet, IsSpent, Strays, fault_of}
@@ -98,7 +104,8 @@ abbrev pub end_of_bench : Result (Unit {0}) CommandFault → Result (Unit {0}) S
 end_of_bench (Ok nothing) = Ok nothing
 end_of_bench (Err fault) = Err (stop_of_bench fault)
 
--- a command that makes one text of its input; the flags of encode can be sent, at its level, and bench is within its ranges
+-- a command that makes one text of its input; the flags of encode can be sent, at its level, and bench is within its
+-- ranges
 abbrev pub CanRun : Command → Type 0
 CanRun (Decode words) = ⊤
 CanRun (Encode words) = (2 ≤ words.opening) × (1 ≤ words.closing) × IsLevel words.level

@@ -1,42 +1,14 @@
 -- Words that ask for help or for the version ask for no other command, and for one text.
-use Rattle.std.proofs.Common.{
-  ◌≡◌,
-  ◌∷◌,
-  [],
-  ◌&&◌,
-  ◌||◌,
-  Bool,
-  true,
-  false,
-  if◌then◌else◌,
-  Option,
-  Some,
-  None,
-  List,
-  codes,
-  slice_get,
-  refl,
-  sym,
-  ap,
-  ◌∙◌,
-  inl,
-  inr,
-}
+use Rattle.std.proofs.Common.{◌≡◌, ◌∷◌, [], ◌&&◌, ◌||◌, Bool, true, false, if◌then◌else◌, Option, Some, None, List}
+use Rattle.std.proofs.Common.{codes, slice_get, refl, sym, ap, ◌∙◌, inl, inr}
 use Rattle.std.proofs.lemmas.Slice.Eq.{bytes_eq-Decides}
 use Rattle.std.specs.Str.{bytes_eq}
 use Rattle.clap.specs.Faults.{walk_fault}
 use Rattle.clap.specs.Words.{Kinds, Text}
 use Rattle.tnc_words.specs.declared.command.Command.{Command}
-use Rattle.tnc_words.specs.declared.command.Command.TheVariants.{
-  Decode as ToDecode,
-  Encode as ToEncode,
-  Show as ToShow,
-  Loop as ToLoop,
-  Bench as ToBench,
-  Serve as ToServe,
-  Help,
-  Version,
-}
+use Rattle.tnc_words.specs.declared.command.Command.TheVariants.{Decode as ToDecode, Encode as ToEncode, Show as ToShow}
+use Rattle.tnc_words.specs.declared.command.Command.TheVariants.{Loop as ToLoop, Bench as ToBench, Serve as ToServe}
+use Rattle.tnc_words.specs.declared.command.Command.TheVariants.{Help, Version}
 use Rattle.tnc_words.specs.declared.topic.Topic.{Topic}
 use Rattle.tnc_words.specs.declared.topic.Topic.TheVariants.{Program, Decode, Encode, Show, Loop, Bench, Serve}
 use Rattle.tnc_words.specs.Commands.{Asks, first_word}

@@ -1,35 +1,8 @@
 -- What clap found for an option.
-use Rattle.std.proofs.Common.{
-  ◌≡◌,
-  Bool,
-  true,
-  false,
-  true≢false,
-  ◌&&◌,
-  Option,
-  Some,
-  None,
-  find,
-  refl,
-  ap,
-  ◌∙◌,
-  sym,
-  subst,
-}
-use Rattle.std.specs.Prelude.{
-  option_map,
-  option_and_then,
-  Result,
-  Ok,
-  Err,
-  IfOk,
-  IfSome,
-  IsNone,
-  IsErrAnd,
-  IsErrOf,
-  is_ok,
-  ok_or,
-}
+use Rattle.std.proofs.Common.{◌≡◌, Bool, true, false, true≢false, ◌&&◌, Option, Some, None, find, refl, ap, ◌∙◌, sym}
+use Rattle.std.proofs.Common.{subst}
+use Rattle.std.specs.Prelude.{option_map, option_and_then, Result, Ok, Err, IfOk, IfSome, IsNone, IsErrAnd, IsErrOf}
+use Rattle.std.specs.Prelude.{is_ok, ok_or}
 use Rattle.std.specs.Str.{bytes_eq}
 use Rattle.clap.specs.Matches.{matched_of}
 use Rattle.clap.specs.Walk.{row_of}

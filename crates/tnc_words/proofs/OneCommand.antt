@@ -7,16 +7,8 @@ use Rattle.ax25_frames.specs.ControlField.{numbers}
 use Rattle.ax25_frames.specs.declared.frame.Modulus.{Modulus}
 use Rattle.ax25_frames.specs.declared.frame.Modulus.TheVariants.{Eight, OneTwentyEight}
 use Rattle.tnc_words.specs.declared.command.Command.{Command}
-use Rattle.tnc_words.specs.declared.command.Command.TheVariants.{
-  Decode,
-  Encode,
-  Show,
-  Loop,
-  Bench,
-  Serve,
-  Help,
-  Version,
-}
+use Rattle.tnc_words.specs.declared.command.Command.TheVariants.{Decode, Encode, Show, Loop, Bench, Serve, Help}
+use Rattle.tnc_words.specs.declared.command.Command.TheVariants.{Version}
 use Rattle.tnc_words.specs.declared.command.DecodeWords.{DecodeWords}
 use Rattle.tnc_words.specs.declared.command.Receiving.{Receiving}
 use Rattle.tnc_words.specs.declared.command.Receiving.TheVariants.{Standard, Sensitive, ShortWave}
@@ -29,14 +21,8 @@ use Rattle.tnc_words.specs.declared.command.BenchOptions.{BenchOptions}
 use Rattle.tnc_words.specs.declared.command.ServeOptions.{ServeOptions}
 use Rattle.tnc_words.specs.declared.topic.Topic.{Topic}
 use Rattle.tnc_words.specs.Commands.{Asks, IsDecode, IsEncode, IsShow, IsLoop, IsBench, IsServe, first_word}
-use Rattle.tnc_words.specs.Commands.{
-  HasDecodeOptions,
-  HasEncodeOptions,
-  HasShowOptions,
-  HasLoopOptions,
-  HasBenchOptions,
-  HasServeOptions,
-}
+use Rattle.tnc_words.specs.Commands.{HasDecodeOptions, HasEncodeOptions, HasShowOptions, HasLoopOptions}
+use Rattle.tnc_words.specs.Commands.{HasBenchOptions, HasServeOptions}
 use Rattle.tnc_words.specs.Help.{IsHelp, IsVersion}
 use Rattle.tnc_words.specs.Rates.{HasReceiving, samples_a_second}
 use Rattle.tnc_words.proofs.AskedHelp.{help_alone, help_is_no_version, one_topic, version_alone}

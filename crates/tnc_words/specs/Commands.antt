@@ -3,16 +3,8 @@ use Rattle.std.specs.Prelude.{◌≡◌, ◌^◌, ◌-◌, List, [], Option, Som
 use Rattle.clap.specs.Words.{Row, Text, first_of}
 use Rattle.ax25_frames.specs.ControlField.{numbers}
 use Rattle.tnc_words.specs.declared.command.Command.{Command}
-use Rattle.tnc_words.specs.declared.command.Command.TheVariants.{
-  Decode,
-  Encode,
-  Show,
-  Loop,
-  Bench,
-  Serve,
-  Help,
-  Version,
-}
+use Rattle.tnc_words.specs.declared.command.Command.TheVariants.{Decode, Encode, Show, Loop, Bench, Serve, Help}
+use Rattle.tnc_words.specs.declared.command.Command.TheVariants.{Version}
 use Rattle.tnc_words.specs.declared.command.DecodeWords.{DecodeWords}
 use Rattle.tnc_words.specs.declared.command.EncodeWords.{EncodeWords}
 use Rattle.tnc_words.specs.declared.command.ShowWords.{ShowWords}

@@ -22,17 +22,21 @@ sum-product_at tone shift window weights table =
     λ k. get_or window (same k) (pos 0) *ℤ there k)
 
 -- windows with the same samples have the same correlations
-correlation-agree : (tone : Tone) (x y : List ℤ) (p q : ℕ) → ((i : ℕ) → i < 8 → get_or x (p + i) (pos 0) ≡ get_or y (q + i) (pos 0))
+correlation-agree : (tone : Tone) (x y : List ℤ) (p q : ℕ)
+    → ((i : ℕ) → i < 8 → get_or x (p + i) (pos 0) ≡ get_or y (q + i) (pos 0))
     → correlation tone x p ≡ correlation tone y q
 unfolding correlation
 correlation-agree tone x y p q same =
     let on : sum_below (product_at tone 8 x p) 8 ≡ sum_below (product_at tone 8 y q) 8
-    = sum_below-agree (product_at tone 8 x p) (product_at tone 8 y q) 8 (λ i l. ap (λ z. z *ℤ weight (i * phase_step tone + 8)) (same i l)) in
+    = sum_below-agree (product_at tone 8 x p) (product_at tone 8 y q) 8
+    (λ i l. ap (λ z. z *ℤ weight (i * phase_step tone + 8)) (same i l)) in
     let at : sum_below (product_at tone 0 x p) 8 ≡ sum_below (product_at tone 0 y q) 8
-    = sum_below-agree (product_at tone 0 x p) (product_at tone 0 y q) 8 (λ i l. ap (λ z. z *ℤ weight (i * phase_step tone + 0)) (same i l)) in
+    = sum_below-agree (product_at tone 0 x p) (product_at tone 0 y q) 8
+    (λ i l. ap (λ z. z *ℤ weight (i * phase_step tone + 0)) (same i l)) in
     λ i. record { a = on i; b = neg_ℤ (at i) }
 
-pub correlations-agree : (x y : List ℤ) (p q : ℕ) → ((i : ℕ) → i < 8 → get_or x (p + i) (pos 0) ≡ get_or y (q + i) (pos 0))
+pub correlations-agree : (x y : List ℤ) (p q : ℕ)
+    → ((i : ℕ) → i < 8 → get_or x (p + i) (pos 0) ≡ get_or y (q + i) (pos 0))
     → correlations x p ≡ correlations y q
 correlations-agree x y p q same =
     let mark = correlation-agree Mark x y p q same in

@@ -15,7 +15,8 @@ pub all_within_more : (m n : ℕ) (ps : List Phasor) → All (IsWithin m) ps →
 all_within_more m n ps h le = All-weaker (IsWithin m) (IsWithin n) (λ p w. within_more m n p w le) ps h
 
 -- the louder tone of two is the one that is decided
-pub decided_by : (past : Phasor) (now : Correlations) (next : List Correlations) (mark space : ℤ) (m s : Phasor) (ms ss : List Phasor) (tone : Tone)
+pub decided_by : (past : Phasor) (now : Correlations) (next : List Correlations) (mark space : ℤ) (m s : Phasor)
+    (ms ss : List Phasor) (tone : Tone)
     → m ≡ plus past now.mark → ms ≡ ahead Mark next → mark ≡ largest m ms
     → s ≡ plus past now.space → ss ≡ ahead Space next → space ≡ largest s ss
     → tone ≡ (if int_le space mark then Mark else Space) → tone ≡ decided past now next

@@ -1,5 +1,6 @@
 -- What the lists keep, with one sample more.
-use Rattle.std.proofs.Common.{◌≡◌, ◌≢◌, ℕ, ◌+◌, ◌-◌, ◌%◌, ◌<◌, ◌≤◌, ℤ, pos, List, length, get_or, set, replicate, sym, ap, subst, ◌∙◌, arith, inl, inr, get_or-set_same, get_or-set_other}
+use Rattle.std.proofs.Common.{◌≡◌, ◌≢◌, ℕ, ◌+◌, ◌-◌, ◌%◌, ◌<◌, ◌≤◌, ℤ, pos, List, length, get_or, set, replicate, sym}
+use Rattle.std.proofs.Common.{ap, subst, ◌∙◌, arith, inl, inr, get_or-set_same, get_or-set_other}
 use Rattle.std.specs.List.{All}
 use Rattle.std.proofs.lemmas.Bool.{cases_eq}
 use Rattle.std.proofs.lemmas.List.{length-set, get_or-replicate}
@@ -16,15 +17,19 @@ abbrev pub held : ℕ → List ℤ → List Correlations → HeldTracker → Hel
 held count window recent near far = record { count = count; window = window; recent = recent; near = near; far = far }
 
 -- a tracker that decides no place with a sample more
-pub still_decided : (tracker : HeldTracker) (count more : ℕ) (x : List ℤ) → places_in more ≡ places_in count → HasDecided tracker count x → HasDecided tracker more x
+pub still_decided : (tracker : HeldTracker) (count more : ℕ) (x : List ℤ) → places_in more ≡ places_in count
+    → HasDecided tracker count x → HasDecided tracker more x
 still_decided tracker count more x same h = record { place = h.place ∙ sym same; stands_for = h.stands_for }
 
 module _ (count : ℕ) (window moved : List ℤ) (recent : List Correlations) (x : List ℤ) (sample : ℤ)
     (was : HeldTracker) (other : HeldTracker)
-    (h : HasSamples (held count window recent was other) x) (room : count < length x) (is : sample ≡ get_or x count (pos 0))
-    (moves : (i : ℕ) → i < 7 → get_or moved i (pos 0) ≡ get_or window (i + 1) (pos 0)) (last : get_or moved 7 (pos 0) ≡ sample) where
+    (h : HasSamples (held count window recent was other) x) (room : count < length x)
+    (is : sample ≡ get_or x count (pos 0))
+    (moves : (i : ℕ) → i < 7 → get_or moved i (pos 0) ≡ get_or window (i + 1) (pos 0))
+    (last : get_or moved 7 (pos 0) ≡ sample) where
   -- the window is that of the samples
-  pub window_next : (i : ℕ) → i < 8 → 8 ≤ (count + 1) + i → get_or moved i (pos 0) ≡ get_or x ((count + 1) + i - 8) (pos 0)
+  pub window_next : (i : ℕ) → i < 8 → 8 ≤ (count + 1) + i → get_or moved i (pos 0)
+      ≡ get_or x ((count + 1) + i - 8) (pos 0)
   window_next i small enough = elim (cases_eq i 7) [
     | inl e ↦ (let at : count ≡ (count + 1) + i - 8 = omega arith in
         ap (λ k. get_or moved k (pos 0)) e ∙ last ∙ is ∙ ap (λ k. get_or x k (pos 0)) at)
@@ -41,30 +46,36 @@ module _ (count : ℕ) (window moved : List ℤ) (recent : List Correlations) (x
   }
 
   -- and then one more
-  pub samples_more : (near far : HeldTracker) (c : Correlations) → 8 ≤ count + 1 → length recent ≡ 32 → c ≡ correlations moved 0
+  pub samples_more : (near far : HeldTracker) (c : Correlations) → 8 ≤ count + 1 → length recent ≡ 32
+      → c ≡ correlations moved 0
       → HasSamples (held (count + 1) moved (set recent ((count + 1 - 8) % 32) c) near far) x
   samples_more near far c enough size c_is = record {
     within = omega arith;
     window = window_next;
     recent = λ place d inside late. elim (cases_eq place (count + 1 - 8)) [
       | inl e ↦ (let slot : place % 32 ≡ (count + 1 - 8) % 32 = ap (λ k. k % 32) e in
-          ap (λ k. get_or (set recent ((count + 1 - 8) % 32) c) k d) slot ∙ get_or-set_same recent ((count + 1 - 8) % 32) c d (omega arith)
+          ap (λ k. get_or (set recent ((count + 1 - 8) % 32) c) k d) slot
+          ∙ get_or-set_same recent ((count + 1 - 8) % 32) c d (omega arith)
           ∙ c_is ∙ correlations-agree moved x 0 place (λ i small.
           let none : 0 + i ≡ i = omega arith in
           let at : (count + 1) + i - 8 ≡ place + i = omega arith in
           ap (λ k. get_or moved k (pos 0)) none ∙ window_next i small (omega arith) ∙ ap (λ k. get_or x k (pos 0)) at))
       | inr ne ↦ (let apart : place % 32 ≢ (count + 1 - 8) % 32 = omega arith in
-          get_or-set_other recent ((count + 1 - 8) % 32) (place % 32) c d apart ∙ h.recent place d (omega arith) (omega arith))
+          get_or-set_other recent ((count + 1 - 8) % 32) (place % 32) c d apart
+          ∙ h.recent place d (omega arith) (omega arith))
     ];
   }
 
 -- the correlations that a tracker is given are those of its place
-pub kept_at : (held : HeldLists) (x : List ℤ) (d : Correlations) (place now : ℕ) → HasSamples held x → now ≡ place → place + 8 ≤ held.count → held.count < place + 40
+pub kept_at : (held : HeldLists) (x : List ℤ) (d : Correlations) (place now : ℕ) → HasSamples held x → now ≡ place
+    → place + 8 ≤ held.count → held.count < place + 40
     → get_or held.recent (now % 32) d ≡ correlations x place
-kept_at held x d place now h same inside late = ap (λ k. get_or held.recent (k % 32) d) same ∙ h.recent place d inside late
+kept_at held x d place now h same inside late = ap (λ k. get_or held.recent (k % 32) d) same
+    ∙ h.recent place d inside late
 
 -- a tracker that has decided one place more
-pub decided_more : (was now : HeldTracker) (count : ℕ) (x : List ℤ) (a b c : Correlations) → 24 ≤ count + 1 → HasDecided was count x
+pub decided_more : (was now : HeldTracker) (count : ℕ) (x : List ℤ) (a b c : Correlations) → 24 ≤ count + 1
+    → HasDecided was count x
     → a ≡ correlations x (count + 1 - 24) → b ≡ correlations x (count + 1 - 16) → c ≡ correlations x (count + 1 - 8)
     → now.place ≡ was.place + 1
     → ((windows : ℕ → Correlations) → TrackerStandsFor was windows → a ≡ windows was.place → b ≡ windows (was.place + 8)
@@ -77,21 +88,26 @@ decided_more was now count x a b c enough h a_is b_is c_is more step =
     let three : count + 1 - 8 ≡ was.place + 16 = omega arith in
     record {
       place = omega arith;
-      stands_for = step (correlations x) h.stands_for (a_is ∙ ap (correlations x) one) (b_is ∙ ap (correlations x) two) (c_is ∙ ap (correlations x) three);
+      stands_for = step (correlations x) h.stands_for (a_is ∙ ap (correlations x) one) (b_is ∙ ap (correlations x) two)
+          (c_is ∙ ap (correlations x) three);
     }
 
 -- correlations are bounded as before if one is set
-pub all_within-set : (recent : List Correlations) (at : ℕ) (c : Correlations) → All AreWithin recent → AreWithin c → All AreWithin (set recent at c)
+pub all_within-set : (recent : List Correlations) (at : ℕ) (c : Correlations) → All AreWithin recent → AreWithin c
+    → All AreWithin (set recent at c)
 all_within-set recent at c all one k d inside = elim (cases_eq k at) [
   | inl e ↦ (let size = length-set recent at c in
-      subst AreWithin (sym (ap (λ i. get_or (set recent at c) i d) e ∙ get_or-set_same recent at c d (omega arith))) one)
+      subst AreWithin (sym (ap (λ i. get_or (set recent at c) i d) e ∙ get_or-set_same recent at c d (omega arith)))
+      one)
   | inr ne ↦ (let size = length-set recent at c in
       subst AreWithin (sym (get_or-set_other recent at k c d ne)) (all k d (omega arith)))
 ]
 
 -- no samples are taken
-pub taken_none : (x : List ℤ) (window : List ℤ) (recent : List Correlations) (near far : HeldTracker) → near.place ≡ 0 → far.place ≡ 0
-    → TrackerStandsFor near (correlations x) → TrackerStandsFor far (correlations x) → HasTaken (held 0 window recent near far) x
+pub taken_none : (x : List ℤ) (window : List ℤ) (recent : List Correlations) (near far : HeldTracker) → near.place ≡ 0
+    → far.place ≡ 0
+    → TrackerStandsFor near (correlations x) → TrackerStandsFor far (correlations x)
+    → HasTaken (held 0 window recent near far) x
 taken_none x window recent near far near_place far_place near_stands far_stands = record {
   samples = record {
     within = omega arith;
@@ -107,4 +123,5 @@ pub within_none : AreWithin (record { mark = none; space = none })
 within_none = record { mark = phasor_within_none 40000000; space = phasor_within_none 40000000 }
 
 pub all_within-none : All AreWithin (replicate 32 (record { mark = none; space = none }))
-all_within-none k d inside = subst AreWithin (sym (get_or-replicate 32 k (record { mark = none; space = none }) d inside)) within_none
+all_within-none k d inside = subst AreWithin
+    (sym (get_or-replicate 32 k (record { mark = none; space = none }) d inside)) within_none

@@ -1,5 +1,5 @@
--- The clock of the sender's bits. Its phase counts in 2^20 a bit and goes from -2^19 to 2^19; changes of tone are expected
--- at 0, and bits are read when it passes 2^19, half a bit later. It is a fold over the tones of all places.
+-- The clock of the sender's bits. Its phase counts in 2^20 a bit and goes from -2^19 to 2^19; changes of tone are
+-- expected at 0, and bits are read when it passes 2^19, half a bit later. It is a fold over the tones of all places.
 use Rattle.std.specs.Prelude.{ℕ, zero, suc, ◌*◌, ℤ, pos, ◌+ℤ◌, ◌-ℤ◌, ◌*ℤ◌, int_le, Bool, true, false, if◌then◌else◌}
 use Rattle.std.specs.Int.{int_div_euclid, int_max, int_min}
 use Rattle.tone_table.specs.declared.tone.Tone.{Tone}

@@ -5,8 +5,8 @@ use Rattle.tone_tracking.specs.Correlation.{correlations}
 use Rattle.tone_tracking.specs.Heard.{places_in}
 use Rattle.tone_tracking.specs.HeldTracker.{HeldTracker, StandsFor as TrackerStandsFor}
 
--- how many samples were taken, the last eight of them, the correlations at the last places, each where its place is modulo
--- 32, and the trackers
+-- how many samples were taken, the last eight of them, the correlations at the last places, each where its place is
+-- modulo 32, and the trackers
 pub record HeldLists : Type 0 where
   pub count : ℕ
   pub window : List ℤ
@@ -22,7 +22,8 @@ pub record HasDecided (tracker : HeldTracker) (count : ℕ) (x : List ℤ) : Typ
 -- the samples that are kept, and the correlations, are those of so many of these samples as are counted
 pub record HasSamples (held : HeldLists) (x : List ℤ) : Type 0 where
   pub within : held.count ≤ length x
-  pub window : (i : ℕ) → i < 8 → 8 ≤ held.count + i → slice_index_or held.window i (pos 0) ≡ slice_index_or x (held.count + i - 8) (pos 0)
+  pub window : (i : ℕ) → i < 8 → 8 ≤ held.count + i → slice_index_or held.window i (pos 0)
+      ≡ slice_index_or x (held.count + i - 8) (pos 0)
   pub recent : (place : ℕ) (d : Correlations) → place + 8 ≤ held.count → held.count < place + 40
       → slice_index_or held.recent (place % 32) d ≡ correlations x place
 

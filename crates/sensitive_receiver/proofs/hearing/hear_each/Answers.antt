@@ -7,7 +7,8 @@ use Rattle.sensitive_receiver.proofs.VisitedLanes.{Visited, visited_none, visite
 use Rattle.sensitive_receiver.proofs.hearing.hear_each.Goals as goal
 
 pub loop-index-init : goal.loop-index-init
-loop-index-init c = visited_none c.args.lists.now c.args.readings.now c.args.lanes.now c.args.found.now.items c.args.first
+loop-index-init c = visited_none c.args.lists.now c.args.readings.now c.args.lanes.now c.args.found.now.items
+    c.args.first
     c.requires.lanes
 
 pub hear-requires-clause-reads : goal.hear-requires-clause-reads
@@ -51,5 +52,6 @@ returns-clause-found c = λ x last start.
     let past = c.loop-index-test.false in
     let most = c.loop-index.auto.index-end in
     let all : c.loop-index.index ≡ c.args.end = omega arith in
-    subst (λ n. AddsAmong c.args.readings.now.place c.args.first n x c.args.found.now.items c.loop-index.found.items) all
+    subst (λ n. AddsAmong c.args.readings.now.place c.args.first n x c.args.found.now.items c.loop-index.found.items)
+    all
     (c.loop-index.invariant.found x last start)

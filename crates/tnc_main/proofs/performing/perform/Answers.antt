@@ -9,41 +9,55 @@ use Rattle.tnc_encode.specs.Encoded.{encoded, encoded_before}
 use Rattle.tnc_main.specs.declared.status.Status.TheVariants.{Memory as NoMemory, ReadFault, WriteFault}
 use Rattle.tnc_main.specs.Commands.{HeardAsMade, ReadsNothing}
 use Rattle.tnc_main.specs.Stops.{end_of, end_of_bench, end_of_loop}
-use Rattle.tnc_main.proofs.Ends.{if_ok, if_input, if_read, reader_sent, loop_ok, loop_no_input, loop_sent, bench_no_input, bench_no_read, bench_ok, bench_sent, bench_write, on_ok, both_ok, on_fault, text_no_input, text_no_read, text_sent}
+use Rattle.tnc_main.proofs.Ends.{if_ok, if_input, if_read, reader_sent, loop_ok, loop_no_input, loop_sent}
+use Rattle.tnc_main.proofs.Ends.{bench_no_input, bench_no_read, bench_ok, bench_sent, bench_write, on_ok, both_ok}
+use Rattle.tnc_main.proofs.Ends.{on_fault, text_no_input, text_no_read, text_sent}
 use Rattle.tnc_forms.proofs.Ends.{map_ok}
 use Rattle.tnc_main.proofs.CommandLemmas.{reads, reads_back, same_fault, no_fault, last as last_of, written}
-use Rattle.tnc_main.proofs.LinesWriting.{by_keeping, encode_at_memory, encode_at_read, encode_at_write, encode_of_many, show_at_memory, show_at_read, show_at_write, show_of_many}
-use Rattle.tnc_main.proofs.Writing.{Written, some_summary, nothing_written, part_written, at_memory, at_read, at_write, reader_writes, loop_writes, text_writes, bench_writes}
-use Rattle.tnc_main.proofs.DecodeWriting.{at_memory as memory_decoded, at_read as read_decoded, at_write as write_decoded, of_many as of_many_decoded}
+use Rattle.tnc_main.proofs.LinesWriting.{by_keeping, encode_at_memory, encode_at_read, encode_at_write, encode_of_many}
+use Rattle.tnc_main.proofs.LinesWriting.{show_at_memory, show_at_read, show_at_write, show_of_many}
+use Rattle.tnc_main.proofs.Writing.{Written, some_summary, nothing_written, part_written, at_memory, at_read, at_write}
+use Rattle.tnc_main.proofs.Writing.{reader_writes, loop_writes, text_writes, bench_writes}
+use Rattle.tnc_main.proofs.DecodeWriting.{at_memory as memory_decoded, at_read as read_decoded}
+use Rattle.tnc_main.proofs.DecodeWriting.{at_write as write_decoded, of_many as of_many_decoded}
 use Rattle.tnc_main.proofs.performing.perform.Goals as goal
 
 -- ---- decode
 
 pub returns-in-Decode-clause-end : goal.returns-in-Decode-clause-end
 returns-in-Decode-clause-end g c = λ octets read.
-    if_ok c.ended.result c.decode.result c.ended.ensures (reads_back c.args.command (Decode c.in-Decode.words) c.in-Decode.is _ []) (c.decode.ensures.end octets (reads c.args.command (Decode c.in-Decode.words) c.in-Decode.is _ octets read))
+    if_ok c.ended.result c.decode.result c.ended.ensures
+    (reads_back c.args.command (Decode c.in-Decode.words) c.in-Decode.is _ [])
+    (c.decode.ensures.end octets (reads c.args.command (Decode c.in-Decode.words) c.in-Decode.is _ octets read))
 
 pub returns-in-Decode-clause-stops : goal.returns-in-Decode-clause-stops
 returns-in-Decode-clause-stops g c = λ octets read is.
-    reads_back c.args.command (Decode c.in-Decode.words) c.in-Decode.is _ _ (c.decode.ensures.stops octets (reads c.args.command (Decode c.in-Decode.words) c.in-Decode.is _ octets read) (if_input c.ended.result c.decode.result c.ended.ensures TooLong is))
+    reads_back c.args.command (Decode c.in-Decode.words) c.in-Decode.is _ _
+    (c.decode.ensures.stops octets (reads c.args.command (Decode c.in-Decode.words) c.in-Decode.is _ octets read)
+    (if_input c.ended.result c.decode.result c.ended.ensures TooLong is))
 
 pub returns-in-Decode-clause-unread : goal.returns-in-Decode-clause-unread
 returns-in-Decode-clause-unread g c = λ none. absurd (subst ReadsNothing c.in-Decode.is none)
 
 pub returns-in-Decode-clause-heard_as_made : goal.returns-in-Decode-clause-heard_as_made
-returns-in-Decode-clause-heard_as_made g c = λ words same. let both : Decode c.in-Decode.words ≡ Loop words = sym c.in-Decode.is ∙ same in cc both
+returns-in-Decode-clause-heard_as_made g c = λ words same. let both : Decode c.in-Decode.words ≡ Loop words =
+    sym c.in-Decode.is ∙ same in cc both
 
 pub returns-in-Decode-clause-good : goal.returns-in-Decode-clause-good
 returns-in-Decode-clause-good g c = λ octets read.
-    no_fault c.args.command (Decode c.in-Decode.words) c.in-Decode.is octets c.ended.result c.decode.result c.ended.ensures
+    no_fault c.args.command (Decode c.in-Decode.words)
+    c.in-Decode.is octets c.ended.result c.decode.result c.ended.ensures
     (c.decode.ensures.good octets (reads c.args.command (Decode c.in-Decode.words) c.in-Decode.is _ octets read))
 
 pub returns-in-Decode-clause-bad : goal.returns-in-Decode-clause-bad
 returns-in-Decode-clause-bad g c = λ octets fault read is.
-    same_fault c.args.command (Decode c.in-Decode.words) c.in-Decode.is octets ∙ c.decode.ensures.bad octets fault (reads c.args.command (Decode c.in-Decode.words) c.in-Decode.is _ octets read) (if_input c.ended.result c.decode.result c.ended.ensures fault is)
+    same_fault c.args.command (Decode c.in-Decode.words) c.in-Decode.is octets
+    ∙ c.decode.ensures.bad octets fault (reads c.args.command (Decode c.in-Decode.words)
+    c.in-Decode.is _ octets read) (if_input c.ended.result c.decode.result c.ended.ensures fault is)
 
 pub returns-in-Decode-clause-unwritten : goal.returns-in-Decode-clause-unwritten
-returns-in-Decode-clause-unwritten g c = λ last. absurd (last_of c.args.command (Decode c.in-Decode.words) c.in-Decode.is last)
+returns-in-Decode-clause-unwritten g c = λ last. absurd
+    (last_of c.args.command (Decode c.in-Decode.words) c.in-Decode.is last)
 
 pub returns-in-Decode-clause-written : goal.returns-in-Decode-clause-written
 returns-in-Decode-clause-written g c = λ octets before read was.
@@ -52,16 +66,24 @@ returns-in-Decode-clause-written g c = λ octets before read was.
     let left_now = g.I.Source.left c.decode.new.input in
     let now = g.O.Sink.written c.decode.new.output in
     let left = reads c.args.command (Decode words) c.in-Decode.is _ octets read in
-    written c.args.command (Decode words) c.in-Decode.is octets before left_now now c.ended.result (end_of end) c.ended.ensures
+    written c.args.command (Decode words) c.in-Decode.is octets before left_now now c.ended.result (end_of end)
+    c.ended.ensures
     (reader_writes (Decode words) octets before left_now now end
     (c.decode.ensures.decoded octets before left was)
     (λ fault few. c.decode.ensures.decoded_before octets before fault left was few)
     (λ fault over is.
-    of_many_decoded words octets before left_now now (λ text d. on_fault end is (c.decode.ensures.cut octets before text left was d)) fault over (c.decode.ensures.bad octets fault left is)
+    of_many_decoded words octets before left_now now (λ text d. on_fault end is
+    (c.decode.ensures.cut octets before text left was d)) fault over (c.decode.ensures.bad octets fault left is)
     (λ long. c.decode.ensures.settled octets before left was (inl (is ∙ ap (λ f. Err (OfInput f)) long))))
-    (λ is. memory_decoded words octets before left_now now (λ text d. on_fault end is (c.decode.ensures.cut octets before text left was d)) (c.decode.ensures.part octets before left was is))
-    (λ is. read_decoded words octets before left_now now (λ text d. on_fault end is (c.decode.ensures.cut octets before text left was d)) (c.decode.ensures.settled octets before left was (inr is)))
-    (λ is. write_decoded words octets before left_now now (λ text d. on_fault end is (c.decode.ensures.cut octets before text left was d)) (c.decode.ensures.most octets before left was is)))
+    (λ is. memory_decoded words octets before left_now now
+    (λ text d. on_fault end is (c.decode.ensures.cut octets before text left was d))
+    (c.decode.ensures.part octets before left was is))
+    (λ is. read_decoded words octets before left_now now
+    (λ text d. on_fault end is (c.decode.ensures.cut octets before text left was d))
+    (c.decode.ensures.settled octets before left was (inr is)))
+    (λ is. write_decoded words octets before left_now now
+    (λ text d. on_fault end is (c.decode.ensures.cut octets before text left was d))
+    (c.decode.ensures.most octets before left was is)))
 
 pub returns-in-Decode-clause-sent : goal.returns-in-Decode-clause-sent
 returns-in-Decode-clause-sent g c = reader_sent c.ended.result c.decode.result c.ended.ensures c.args.command
@@ -70,26 +92,35 @@ returns-in-Decode-clause-sent g c = reader_sent c.ended.result c.decode.result c
 
 pub returns-in-Encode-clause-end : goal.returns-in-Encode-clause-end
 returns-in-Encode-clause-end g c = λ octets read.
-    if_ok c.ended-in-Encode.result c.encode.result c.ended-in-Encode.ensures (reads_back c.args.command (Encode c.in-Encode.words) c.in-Encode.is _ []) (c.encode.ensures.end octets (reads c.args.command (Encode c.in-Encode.words) c.in-Encode.is _ octets read))
+    if_ok c.ended-in-Encode.result c.encode.result c.ended-in-Encode.ensures
+    (reads_back c.args.command (Encode c.in-Encode.words) c.in-Encode.is _ [])
+    (c.encode.ensures.end octets (reads c.args.command (Encode c.in-Encode.words) c.in-Encode.is _ octets read))
 
 pub returns-in-Encode-clause-stops : goal.returns-in-Encode-clause-stops
 returns-in-Encode-clause-stops g c = λ octets read is.
-    reads_back c.args.command (Encode c.in-Encode.words) c.in-Encode.is _ _ (c.encode.ensures.stops octets (reads c.args.command (Encode c.in-Encode.words) c.in-Encode.is _ octets read) (if_input c.ended-in-Encode.result c.encode.result c.ended-in-Encode.ensures TooLong is))
+    reads_back c.args.command (Encode c.in-Encode.words) c.in-Encode.is _ _
+    (c.encode.ensures.stops octets (reads c.args.command (Encode c.in-Encode.words) c.in-Encode.is _ octets read)
+    (if_input c.ended-in-Encode.result c.encode.result c.ended-in-Encode.ensures TooLong is))
 
 pub returns-in-Encode-clause-unread : goal.returns-in-Encode-clause-unread
 returns-in-Encode-clause-unread g c = λ none. absurd (subst ReadsNothing c.in-Encode.is none)
 
 pub returns-in-Encode-clause-heard_as_made : goal.returns-in-Encode-clause-heard_as_made
-returns-in-Encode-clause-heard_as_made g c = λ words same. let both : Encode c.in-Encode.words ≡ Loop words = sym c.in-Encode.is ∙ same in cc both
+returns-in-Encode-clause-heard_as_made g c = λ words same. let both : Encode c.in-Encode.words ≡ Loop words =
+    sym c.in-Encode.is ∙ same in cc both
 
 pub returns-in-Encode-clause-good : goal.returns-in-Encode-clause-good
 returns-in-Encode-clause-good g c = λ octets read.
-    no_fault c.args.command (Encode c.in-Encode.words) c.in-Encode.is octets c.ended-in-Encode.result c.encode.result c.ended-in-Encode.ensures
+    no_fault c.args.command (Encode c.in-Encode.words)
+    c.in-Encode.is octets c.ended-in-Encode.result c.encode.result c.ended-in-Encode.ensures
     (c.encode.ensures.good octets (reads c.args.command (Encode c.in-Encode.words) c.in-Encode.is _ octets read))
 
 pub returns-in-Encode-clause-bad : goal.returns-in-Encode-clause-bad
 returns-in-Encode-clause-bad g c = λ octets fault read is.
-    same_fault c.args.command (Encode c.in-Encode.words) c.in-Encode.is octets ∙ c.encode.ensures.bad octets fault (reads c.args.command (Encode c.in-Encode.words) c.in-Encode.is _ octets read) (if_input c.ended-in-Encode.result c.encode.result c.ended-in-Encode.ensures fault is)
+    same_fault c.args.command (Encode c.in-Encode.words) c.in-Encode.is octets
+    ∙ c.encode.ensures.bad octets fault (reads c.args.command (Encode c.in-Encode.words)
+    c.in-Encode.is _ octets read) (if_input c.ended-in-Encode.result c.encode.result c.ended-in-Encode.ensures fault
+    is)
 
 pub returns-in-Encode-clause-written : goal.returns-in-Encode-clause-written
 returns-in-Encode-clause-written g c = λ octets before read was.
@@ -97,25 +128,38 @@ returns-in-Encode-clause-written g c = λ octets before read was.
     let left_now = g.I.Source.left c.encode.new.input in
     let now = g.O.Sink.written c.encode.new.output in
     let left = reads c.args.command command c.in-Encode.is _ octets read in
-    written c.args.command command c.in-Encode.is octets before left_now now c.ended-in-Encode.result (end_of c.encode.result) c.ended-in-Encode.ensures
+    written c.args.command command c.in-Encode.is octets before left_now now c.ended-in-Encode.result
+    (end_of c.encode.result) c.ended-in-Encode.ensures
     (reader_writes command octets before left_now now c.encode.result
-    (map_ok c.encode.result (λ h. (encoded c.in-Encode.words octets, refl, h)) (c.encode.ensures.encoded octets before left was))
-    (λ fault few is. (encoded_before c.in-Encode.words octets, refl, c.encode.ensures.encoded_before octets before fault left was few is))
-    (λ fault over is. encode_of_many c.in-Encode.words octets before left_now now (on_fault c.encode.result is (c.encode.ensures.cut octets before left was)) over
+    (map_ok c.encode.result (λ h. (encoded c.in-Encode.words octets, refl, h))
+    (c.encode.ensures.encoded octets before left was))
+    (λ fault few is. (
+      encoded_before c.in-Encode.words octets,
+      refl,
+      c.encode.ensures.encoded_before octets before fault left was few is,
+    ))
+    (λ fault over is. encode_of_many c.in-Encode.words octets before left_now now
+    (on_fault c.encode.result is (c.encode.ensures.cut octets before left was)) over
     (c.encode.ensures.encoded_of_many octets before fault left was over is))
     (λ memory. by_keeping c.in-Encode.words (Written command octets before left_now now NoMemory)
     (λ kept. at_memory command kept octets before left_now now
-    (part_written command kept octets before left_now now (encoded c.in-Encode.words octets) refl (on_fault c.encode.result memory (c.encode.ensures.cut octets before left was))))
-    (λ sent. encode_at_memory c.in-Encode.words octets before left_now now (on_fault c.encode.result memory (c.encode.ensures.cut octets before left was))
+    (part_written command kept octets before left_now now (encoded c.in-Encode.words octets) refl
+    (on_fault c.encode.result memory (c.encode.ensures.cut octets before left was))))
+    (λ sent. encode_at_memory c.in-Encode.words octets before left_now now
+    (on_fault c.encode.result memory (c.encode.ensures.cut octets before left was))
     (c.encode.ensures.part octets before left was sent memory)))
     (λ is. by_keeping c.in-Encode.words (Written command octets before left_now now ReadFault)
-    (λ kept. at_read command kept octets before left_now now (ap g.O.Sink.written (c.encode.ensures.unwritten kept (inr is)) ∙ was))
-    (λ sent. encode_at_read c.in-Encode.words octets before left_now now (on_fault c.encode.result is (c.encode.ensures.cut octets before left was))
+    (λ kept. at_read command kept octets before left_now now
+    (ap g.O.Sink.written (c.encode.ensures.unwritten kept (inr is)) ∙ was))
+    (λ sent. encode_at_read c.in-Encode.words octets before left_now now
+    (on_fault c.encode.result is (c.encode.ensures.cut octets before left was))
     (c.encode.ensures.so_far octets before left was sent is)))
     (λ write. by_keeping c.in-Encode.words (Written command octets before left_now now WriteFault)
     (λ kept. at_write command kept octets before left_now now
-    (part_written command kept octets before left_now now (encoded c.in-Encode.words octets) refl (on_fault c.encode.result write (c.encode.ensures.cut octets before left was))))
-    (λ sent. encode_at_write c.in-Encode.words octets before left_now now (on_fault c.encode.result write (c.encode.ensures.cut octets before left was))
+    (part_written command kept octets before left_now now (encoded c.in-Encode.words octets) refl
+    (on_fault c.encode.result write (c.encode.ensures.cut octets before left was))))
+    (λ sent. encode_at_write c.in-Encode.words octets before left_now now
+    (on_fault c.encode.result write (c.encode.ensures.cut octets before left was))
     (c.encode.ensures.most octets before left was sent write))))
 
 pub returns-in-Encode-clause-unwritten : goal.returns-in-Encode-clause-unwritten
@@ -127,32 +171,41 @@ returns-in-Encode-clause-unwritten g c = λ last which.
     ])
 
 pub returns-in-Encode-clause-sent : goal.returns-in-Encode-clause-sent
-returns-in-Encode-clause-sent g c = reader_sent c.ended-in-Encode.result c.encode.result c.ended-in-Encode.ensures c.args.command
+returns-in-Encode-clause-sent g c = reader_sent c.ended-in-Encode.result c.encode.result c.ended-in-Encode.ensures
+    c.args.command
 
 -- ---- show
 
 pub returns-in-Show-clause-end : goal.returns-in-Show-clause-end
 returns-in-Show-clause-end g c = λ octets read.
-    if_ok c.ended-in-Show.result c.show.result c.ended-in-Show.ensures (reads_back c.args.command (Show c.in-Show.words) c.in-Show.is _ []) (c.show.ensures.end octets (reads c.args.command (Show c.in-Show.words) c.in-Show.is _ octets read))
+    if_ok c.ended-in-Show.result c.show.result c.ended-in-Show.ensures
+    (reads_back c.args.command (Show c.in-Show.words) c.in-Show.is _ [])
+    (c.show.ensures.end octets (reads c.args.command (Show c.in-Show.words) c.in-Show.is _ octets read))
 
 pub returns-in-Show-clause-stops : goal.returns-in-Show-clause-stops
 returns-in-Show-clause-stops g c = λ octets read is.
-    reads_back c.args.command (Show c.in-Show.words) c.in-Show.is _ _ (c.show.ensures.stops octets (reads c.args.command (Show c.in-Show.words) c.in-Show.is _ octets read) (if_input c.ended-in-Show.result c.show.result c.ended-in-Show.ensures TooLong is))
+    reads_back c.args.command (Show c.in-Show.words) c.in-Show.is _ _
+    (c.show.ensures.stops octets (reads c.args.command (Show c.in-Show.words) c.in-Show.is _ octets read)
+    (if_input c.ended-in-Show.result c.show.result c.ended-in-Show.ensures TooLong is))
 
 pub returns-in-Show-clause-unread : goal.returns-in-Show-clause-unread
 returns-in-Show-clause-unread g c = λ none. absurd (subst ReadsNothing c.in-Show.is none)
 
 pub returns-in-Show-clause-heard_as_made : goal.returns-in-Show-clause-heard_as_made
-returns-in-Show-clause-heard_as_made g c = λ words same. let both : Show c.in-Show.words ≡ Loop words = sym c.in-Show.is ∙ same in cc both
+returns-in-Show-clause-heard_as_made g c = λ words same. let both : Show c.in-Show.words ≡ Loop words = sym c.in-Show.is
+    ∙ same in cc both
 
 pub returns-in-Show-clause-good : goal.returns-in-Show-clause-good
 returns-in-Show-clause-good g c = λ octets read.
-    no_fault c.args.command (Show c.in-Show.words) c.in-Show.is octets c.ended-in-Show.result c.show.result c.ended-in-Show.ensures
+    no_fault c.args.command (Show c.in-Show.words) c.in-Show.is octets c.ended-in-Show.result c.show.result
+    c.ended-in-Show.ensures
     (c.show.ensures.good octets (reads c.args.command (Show c.in-Show.words) c.in-Show.is _ octets read))
 
 pub returns-in-Show-clause-bad : goal.returns-in-Show-clause-bad
 returns-in-Show-clause-bad g c = λ octets fault read is.
-    same_fault c.args.command (Show c.in-Show.words) c.in-Show.is octets ∙ c.show.ensures.bad octets fault (reads c.args.command (Show c.in-Show.words) c.in-Show.is _ octets read) (if_input c.ended-in-Show.result c.show.result c.ended-in-Show.ensures fault is)
+    same_fault c.args.command (Show c.in-Show.words) c.in-Show.is octets
+    ∙ c.show.ensures.bad octets fault (reads c.args.command (Show c.in-Show.words) c.in-Show.is _ octets read)
+    (if_input c.ended-in-Show.result c.show.result c.ended-in-Show.ensures fault is)
 
 pub returns-in-Show-clause-written : goal.returns-in-Show-clause-written
 returns-in-Show-clause-written g c = λ octets before read was.
@@ -160,38 +213,47 @@ returns-in-Show-clause-written g c = λ octets before read was.
     let left_now = g.I.Source.left c.show.new.input in
     let now = g.O.Sink.written c.show.new.output in
     let left = reads c.args.command command c.in-Show.is _ octets read in
-    written c.args.command command c.in-Show.is octets before left_now now c.ended-in-Show.result (end_of c.show.result) c.ended-in-Show.ensures
+    written c.args.command command c.in-Show.is octets before left_now now c.ended-in-Show.result (end_of c.show.result)
+    c.ended-in-Show.ensures
     (reader_writes command octets before left_now now c.show.result
     (c.show.ensures.shown octets before left was)
     (λ fault few. c.show.ensures.shown_before octets before fault left was few)
-    (λ fault over is. show_of_many c.in-Show.words octets before left_now now (on_fault c.show.result is (c.show.ensures.cut octets before left was)) over
+    (λ fault over is. show_of_many c.in-Show.words octets before left_now now
+    (on_fault c.show.result is (c.show.ensures.cut octets before left was)) over
     (c.show.ensures.shown_of_many octets before fault left was over is))
-    (λ memory. show_at_memory c.in-Show.words octets before left_now now (on_fault c.show.result memory (c.show.ensures.cut octets before left was))
+    (λ memory. show_at_memory c.in-Show.words octets before left_now now
+    (on_fault c.show.result memory (c.show.ensures.cut octets before left was))
     (c.show.ensures.part octets before left was memory))
-    (λ is. show_at_read c.in-Show.words octets before left_now now (on_fault c.show.result is (c.show.ensures.cut octets before left was))
+    (λ is. show_at_read c.in-Show.words octets before left_now now
+    (on_fault c.show.result is (c.show.ensures.cut octets before left was))
     (c.show.ensures.so_far octets before left was is))
-    (λ write. show_at_write c.in-Show.words octets before left_now now (on_fault c.show.result write (c.show.ensures.cut octets before left was))
+    (λ write. show_at_write c.in-Show.words octets before left_now now
+    (on_fault c.show.result write (c.show.ensures.cut octets before left was))
     (c.show.ensures.most octets before left was write)))
 
 pub returns-in-Show-clause-unwritten : goal.returns-in-Show-clause-unwritten
 returns-in-Show-clause-unwritten g c = λ last. absurd (last_of c.args.command (Show c.in-Show.words) c.in-Show.is last)
 
 pub returns-in-Show-clause-sent : goal.returns-in-Show-clause-sent
-returns-in-Show-clause-sent g c = reader_sent c.ended-in-Show.result c.show.result c.ended-in-Show.ensures c.args.command
+returns-in-Show-clause-sent g c = reader_sent c.ended-in-Show.result c.show.result c.ended-in-Show.ensures
+    c.args.command
 
 -- ---- loop
 
 pub returns-in-Loop-clause-end : goal.returns-in-Loop-clause-end
-returns-in-Loop-clause-end g c = λ octets read. on_ok c.ended_loop.result (reads_back c.args.command (Loop c.in-Loop.words) c.in-Loop.is _ [] refl)
+returns-in-Loop-clause-end g c = λ octets read. on_ok c.ended_loop.result
+    (reads_back c.args.command (Loop c.in-Loop.words) c.in-Loop.is _ [] refl)
 
 pub returns-in-Loop-clause-stops : goal.returns-in-Loop-clause-stops
-returns-in-Loop-clause-stops g c = λ octets read is. absurd (loop_no_input c.ended_loop.result c.loop_back.result c.ended_loop.ensures TooLong is)
+returns-in-Loop-clause-stops g c = λ octets read is. absurd
+    (loop_no_input c.ended_loop.result c.loop_back.result c.ended_loop.ensures TooLong is)
 
 pub returns-in-Loop-clause-heard_as_made : goal.returns-in-Loop-clause-heard_as_made
 returns-in-Loop-clause-heard_as_made g c = λ words same.
     let both : Loop c.in-Loop.words ≡ Loop words = sym c.in-Loop.is ∙ same in
     let same_words : c.in-Loop.words ≡ words = cc both in
-    loop_ok c.ended_loop.result c.loop_back.result c.ended_loop.ensures (λ h. subst (λ w. HeardAsMade w) same_words (record { no_stray = h.0; heard = h.1 }))
+    loop_ok c.ended_loop.result c.loop_back.result c.ended_loop.ensures
+    (λ h. subst (λ w. HeardAsMade w) same_words (record { no_stray = h.0; heard = h.1 }))
     (both_ok c.loop_back.result _ _ c.loop_back.ensures.no_stray c.loop_back.ensures.clean)
 
 pub returns-in-Loop-clause-written : goal.returns-in-Loop-clause-written
@@ -199,38 +261,46 @@ returns-in-Loop-clause-written g c = λ octets before read was.
     let command = Loop c.in-Loop.words in
     let left_now = g.I.Source.left c.args.input.now in
     let now = g.O.Sink.written c.loop_back.new.output in
-    written c.args.command command c.in-Loop.is octets before left_now now c.ended_loop.result (end_of_loop c.loop_back.result) c.ended_loop.ensures
+    written c.args.command command c.in-Loop.is octets before left_now now c.ended_loop.result
+    (end_of_loop c.loop_back.result) c.ended_loop.ensures
     (loop_writes command octets before left_now now c.loop_back.result
     (c.loop_back.ensures.done before was)
     (λ frame. c.loop_back.ensures.done_before frame before was)
     (λ memory. at_memory command tt octets before left_now now
-    (nothing_written command tt octets before left_now now (ap g.O.Sink.written (c.loop_back.ensures.unwritten memory) ∙ was)))
+    (nothing_written command tt octets before left_now now (ap g.O.Sink.written (c.loop_back.ensures.unwritten memory)
+    ∙ was)))
     (λ write.
     let text = some_summary c.in-Loop.words in
     at_write command tt octets before left_now now
-    (part_written command tt octets before left_now now text.0 text.1 (on_fault c.loop_back.result write (c.loop_back.ensures.cut before text.0 was text.1)))))
+    (part_written command tt octets before left_now now text.0 text.1
+    (on_fault c.loop_back.result write (c.loop_back.ensures.cut before text.0 was text.1)))))
 
 pub returns-in-Loop-clause-sent : goal.returns-in-Loop-clause-sent
 returns-in-Loop-clause-sent g c =
-    loop_sent c.ended_loop.result c.loop_back.result c.ended_loop.ensures c.args.command c.in-Loop.words c.in-Loop.is c.loop_back.ensures.stray
+    loop_sent c.ended_loop.result c.loop_back.result c.ended_loop.ensures c.args.command c.in-Loop.words c.in-Loop.is
+    c.loop_back.ensures.stray
 
 -- ---- bench
 
 pub returns-in-Bench-clause-end : goal.returns-in-Bench-clause-end
-returns-in-Bench-clause-end g c = λ octets read. on_ok c.ended_bench.result (reads_back c.args.command (Bench c.in-Bench.options) c.in-Bench.is _ [] refl)
+returns-in-Bench-clause-end g c = λ octets read. on_ok c.ended_bench.result
+    (reads_back c.args.command (Bench c.in-Bench.options) c.in-Bench.is _ [] refl)
 
 pub returns-in-Bench-clause-stops : goal.returns-in-Bench-clause-stops
-returns-in-Bench-clause-stops g c = λ octets read is. absurd (bench_no_input c.ended_bench.result c.bench.result c.ended_bench.ensures TooLong is)
+returns-in-Bench-clause-stops g c = λ octets read is. absurd
+    (bench_no_input c.ended_bench.result c.bench.result c.ended_bench.ensures TooLong is)
 
 pub returns-in-Bench-clause-heard_as_made : goal.returns-in-Bench-clause-heard_as_made
-returns-in-Bench-clause-heard_as_made g c = λ words same. let both : Bench c.in-Bench.options ≡ Loop words = sym c.in-Bench.is ∙ same in cc both
+returns-in-Bench-clause-heard_as_made g c = λ words same. let both : Bench c.in-Bench.options ≡ Loop words =
+    sym c.in-Bench.is ∙ same in cc both
 
 pub returns-in-Bench-clause-written : goal.returns-in-Bench-clause-written
 returns-in-Bench-clause-written g c = λ octets before read was.
     let options = c.in-Bench.options in
     let left_now = g.I.Source.left c.args.input.now in
     let now = g.O.Sink.written c.bench.new.output in
-    written c.args.command (Bench options) c.in-Bench.is octets before left_now now c.ended_bench.result (end_of_bench c.bench.result) c.ended_bench.ensures
+    written c.args.command (Bench options) c.in-Bench.is octets before left_now now c.ended_bench.result
+    (end_of_bench c.bench.result) c.ended_bench.ensures
     (bench_writes options octets before left_now now c.bench.result
     (c.bench.ensures.done before was)
     (λ fault is. ap g.O.Sink.written (c.bench.ensures.unwritten fault is) ∙ was)
@@ -248,30 +318,39 @@ returns-in-Bench-clause-faultless g c =
 
 pub returns-in-Bench-clause-sent : goal.returns-in-Bench-clause-sent
 returns-in-Bench-clause-sent g c =
-    bench_sent c.ended_bench.result c.bench.result c.ended_bench.ensures c.args.command c.in-Bench.options c.in-Bench.is c.bench.ensures.fault
+    bench_sent c.ended_bench.result c.bench.result c.ended_bench.ensures c.args.command c.in-Bench.options c.in-Bench.is
+    c.bench.ensures.fault
 
 pub returns-in-Bench-clause-write : goal.returns-in-Bench-clause-write
-returns-in-Bench-clause-write g c = λ is. c.bench.ensures.write (bench_write c.ended_bench.result c.bench.result c.ended_bench.ensures is)
+returns-in-Bench-clause-write g c = λ is. c.bench.ensures.write
+    (bench_write c.ended_bench.result c.bench.result c.ended_bench.ensures is)
 
 -- ---- help
 
 pub returns-in-Help-clause-end : goal.returns-in-Help-clause-end
-returns-in-Help-clause-end g c = λ octets read. on_ok c.print_text.result (reads_back c.args.command (Help c.in-Help.topic) c.in-Help.is _ [] refl)
+returns-in-Help-clause-end g c = λ octets read. on_ok c.print_text.result
+    (reads_back c.args.command (Help c.in-Help.topic) c.in-Help.is _ [] refl)
 
 pub returns-in-Help-clause-stops : goal.returns-in-Help-clause-stops
-returns-in-Help-clause-stops g c = λ octets read is. absurd (text_no_input c.print_text.result c.print_text.ensures.ends TooLong is)
+returns-in-Help-clause-stops g c = λ octets read is. absurd
+    (text_no_input c.print_text.result c.print_text.ensures.ends TooLong is)
 
 pub returns-in-Help-clause-heard_as_made : goal.returns-in-Help-clause-heard_as_made
-returns-in-Help-clause-heard_as_made g c = λ words same. let both : Help c.in-Help.topic ≡ Loop words = sym c.in-Help.is ∙ same in cc both
+returns-in-Help-clause-heard_as_made g c = λ words same. let both : Help c.in-Help.topic ≡ Loop words = sym c.in-Help.is
+    ∙ same in cc both
 
 pub returns-in-Help-clause-written : goal.returns-in-Help-clause-written
 returns-in-Help-clause-written g c = λ octets before read was.
     let left_now = g.I.Source.left c.args.input.now in
     let now = g.O.Sink.written c.print_text.new.output in
-    written c.args.command (Help c.in-Help.topic) c.in-Help.is octets before left_now now c.print_text.result c.print_text.result refl
-    (text_writes (Help c.in-Help.topic) tt octets before (text_about c.in-Help.topic) left_now now c.print_text.result c.print_text.ensures.ends refl
-    (subst (λ (t : List ℕ). OnOk c.print_text.result (now ≡ Some (before ++ t))) c.help_text.ensures (c.print_text.ensures.whole before was))
-    (subst (λ (t : List ℕ). OnErr c.print_text.result (WrotePart before t now)) c.help_text.ensures (c.print_text.ensures.cut before was)))
+    written c.args.command (Help c.in-Help.topic) c.in-Help.is octets before left_now now c.print_text.result
+    c.print_text.result refl
+    (text_writes (Help c.in-Help.topic) tt octets before (text_about c.in-Help.topic)
+    left_now now c.print_text.result c.print_text.ensures.ends refl
+    (subst (λ (t : List ℕ). OnOk c.print_text.result (now ≡ Some (before ++ t))) c.help_text.ensures
+    (c.print_text.ensures.whole before was))
+    (subst (λ (t : List ℕ). OnErr c.print_text.result (WrotePart before t now)) c.help_text.ensures
+    (c.print_text.ensures.cut before was)))
 
 pub returns-in-Help-clause-unwritten : goal.returns-in-Help-clause-unwritten
 returns-in-Help-clause-unwritten g c = λ last which. elim which [
@@ -282,22 +361,29 @@ returns-in-Help-clause-unwritten g c = λ last which. elim which [
 -- ---- version
 
 pub returns-in-Version-clause-end : goal.returns-in-Version-clause-end
-returns-in-Version-clause-end g c = λ octets read. on_ok c.print_text-in-Version.result (reads_back c.args.command Version c.in-Version.is _ [] refl)
+returns-in-Version-clause-end g c = λ octets read. on_ok c.print_text-in-Version.result
+    (reads_back c.args.command Version c.in-Version.is _ [] refl)
 
 pub returns-in-Version-clause-stops : goal.returns-in-Version-clause-stops
-returns-in-Version-clause-stops g c = λ octets read is. absurd (text_no_input c.print_text-in-Version.result c.print_text-in-Version.ensures.ends TooLong is)
+returns-in-Version-clause-stops g c = λ octets read is. absurd
+    (text_no_input c.print_text-in-Version.result c.print_text-in-Version.ensures.ends TooLong is)
 
 pub returns-in-Version-clause-heard_as_made : goal.returns-in-Version-clause-heard_as_made
-returns-in-Version-clause-heard_as_made g c = λ words same. let both : Version ≡ Loop words = sym c.in-Version.is ∙ same in cc both
+returns-in-Version-clause-heard_as_made g c = λ words same. let both : Version ≡ Loop words = sym c.in-Version.is
+    ∙ same in cc both
 
 pub returns-in-Version-clause-written : goal.returns-in-Version-clause-written
 returns-in-Version-clause-written g c = λ octets before read was.
     let left_now = g.I.Source.left c.args.input.now in
     let now = g.O.Sink.written c.print_text-in-Version.new.output in
-    written c.args.command Version c.in-Version.is octets before left_now now c.print_text-in-Version.result c.print_text-in-Version.result refl
-    (text_writes Version tt octets before version_text left_now now c.print_text-in-Version.result c.print_text-in-Version.ensures.ends refl
-    (subst (λ (t : List ℕ). OnOk c.print_text-in-Version.result (now ≡ Some (before ++ t))) c.version_line.ensures (c.print_text-in-Version.ensures.whole before was))
-    (subst (λ (t : List ℕ). OnErr c.print_text-in-Version.result (WrotePart before t now)) c.version_line.ensures (c.print_text-in-Version.ensures.cut before was)))
+    written c.args.command Version c.in-Version.is octets before left_now now c.print_text-in-Version.result
+    c.print_text-in-Version.result refl
+    (text_writes Version tt octets before version_text left_now now c.print_text-in-Version.result
+    c.print_text-in-Version.ensures.ends refl
+    (subst (λ (t : List ℕ). OnOk c.print_text-in-Version.result (now ≡ Some (before ++ t))) c.version_line.ensures
+    (c.print_text-in-Version.ensures.whole before was))
+    (subst (λ (t : List ℕ). OnErr c.print_text-in-Version.result (WrotePart before t now)) c.version_line.ensures
+    (c.print_text-in-Version.ensures.cut before was)))
 
 pub returns-in-Version-clause-unwritten : goal.returns-in-Version-clause-unwritten
 returns-in-Version-clause-unwritten g c = λ last which. elim which [
@@ -309,4 +395,5 @@ pub returns-in-Help-clause-sent : goal.returns-in-Help-clause-sent
 returns-in-Help-clause-sent g c = text_sent c.args.command c.print_text.result c.print_text.ensures.ends
 
 pub returns-in-Version-clause-sent : goal.returns-in-Version-clause-sent
-returns-in-Version-clause-sent g c = text_sent c.args.command c.print_text-in-Version.result c.print_text-in-Version.ensures.ends
+returns-in-Version-clause-sent g c = text_sent c.args.command c.print_text-in-Version.result
+    c.print_text-in-Version.ensures.ends

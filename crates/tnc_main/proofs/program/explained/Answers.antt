@@ -2,14 +2,17 @@ use Rattle.std.proofs.Common.{◌≡◌, ◌++◌, Some, IfErr, inl, inr, sym, s
 use Rattle.std.specs.Prelude.{Result}
 use Rattle.tnc_main.specs.declared.stop.Stop.{Stop}
 use Rattle.tnc_main.specs.Report.{line_of, stray_line}
-use Rattle.tnc_main.specs.declared.status.Status.TheVariants.{BadInput, WriteFault, Stray as HeardStray, NotQuiet as FoundNoQuiet, Spent as WasSpent}
+use Rattle.tnc_main.specs.declared.status.Status.TheVariants.{BadInput, WriteFault, Stray as HeardStray}
+use Rattle.tnc_main.specs.declared.status.Status.TheVariants.{NotQuiet as FoundNoQuiet, Spent as WasSpent}
 use Rattle.tnc_main.proofs.program.explained.Goals as goal
 
 pub returns-in-Ok-of_stray-clause-told : goal.returns-in-Ok-of_stray-clause-told
 returns-in-Ok-of_stray-clause-told g c = λ before was which.
-    let written : g.E.Sink.written c.told-in-Ok-of_stray.new.report ≡ Some (before ++ stray_line c.in-Err-Stray.octets) =
+    let written : g.E.Sink.written c.told-in-Ok-of_stray.new.report
+    ≡ Some (before ++ stray_line c.in-Err-Stray.octets) =
     elim (c.told-in-Ok-of_stray.ensures.line before was) [
-      | inl whole ↦ whole ∙ ap (λ line. Some (before ++ line)) (c.deref-in-Ok-of_stray.ensures ∙ c.in-Ok-of_stray.ensures ∙ ap stray_line c.as_slice.ensures.list)
+      | inl whole ↦ whole ∙ ap (λ line. Some (before ++ line)) (c.deref-in-Ok-of_stray.ensures
+          ∙ c.in-Ok-of_stray.ensures ∙ ap stray_line c.as_slice.ensures.list)
       | inr fault ↦
           elim which [
             | inl bad ↦ let both : BadInput ≡ WriteFault = sym bad ∙ fault in cc both
@@ -22,5 +25,6 @@ returns-in-Ok-of_stray-clause-told g c = λ before was which.
             ]
           ]
     ] in
-    subst (λ (end : Result (Unit {0}) Stop). IfErr end (λ stop. g.E.Sink.written c.told-in-Ok-of_stray.new.report ≡ Some (before ++ line_of stop))) (sym c.in-Err-Stray.is)
+    subst (λ (end : Result (Unit {0}) Stop). IfErr end (λ stop. g.E.Sink.written c.told-in-Ok-of_stray.new.report
+    ≡ Some (before ++ line_of stop))) (sym c.in-Err-Stray.is)
     (written ∙ ap (λ stop. Some (before ++ line_of stop)) (sym c.in-Err-Stray.field-0-is))

@@ -15,4 +15,5 @@ returns-clause-rate c =
     let fits_all : FitsSigned w32 (c.args.rate -ℤ c.rate_correction.result) = omega (arith, ints) in
     let value = simp to_z-of_z at c.clamp.ensures.value in
     let correction = simp to_z-of_z at c.rate_correction.ensures.correction in
-    to_z-of_z w32 c.clamp.result fits ∙ value ∙ ap (λ z. int_max (pos 124928) (int_min (c.args.rate -ℤ z) (pos 137216))) correction
+    to_z-of_z w32 c.clamp.result fits ∙ value ∙ ap (λ z. int_max (pos 124928) (int_min (c.args.rate -ℤ z) (pos 137216)))
+    correction

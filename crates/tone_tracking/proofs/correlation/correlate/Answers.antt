@@ -18,7 +18,10 @@ unfolding correlation weight wave_sample cycle_sample half_wave quarter
 returns-clause-sums c =
     let w = c.args.window.now in
     let one = kept _ c.sum_of_products.ensures.bound ∙ c.sum_of_products.ensures.sum ∙ sum-product_at Mark 8 w _ refl in
-    let two = turned_round _ c.sum_of_products-2.ensures.bound ∙ ap neg_ℤ (c.sum_of_products-2.ensures.sum ∙ sum-product_at Mark 0 w _ refl) in
-    let three = kept _ c.sum_of_products-3.ensures.bound ∙ c.sum_of_products-3.ensures.sum ∙ sum-product_at Space 8 w _ refl in
-    let four = turned_round _ c.sum_of_products-4.ensures.bound ∙ ap neg_ℤ (c.sum_of_products-4.ensures.sum ∙ sum-product_at Space 0 w _ refl) in
+    let two = turned_round _ c.sum_of_products-2.ensures.bound
+    ∙ ap neg_ℤ (c.sum_of_products-2.ensures.sum ∙ sum-product_at Mark 0 w _ refl) in
+    let three = kept _ c.sum_of_products-3.ensures.bound ∙ c.sum_of_products-3.ensures.sum
+    ∙ sum-product_at Space 8 w _ refl in
+    let four = turned_round _ c.sum_of_products-4.ensures.bound
+    ∙ ap neg_ℤ (c.sum_of_products-4.ensures.sum ∙ sum-product_at Space 0 w _ refl) in
     λ i. record { mark = record { a = one i; b = two i }; space = record { a = three i; b = four i } }

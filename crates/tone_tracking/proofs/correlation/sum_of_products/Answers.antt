@@ -1,4 +1,5 @@
-use Rattle.std.proofs.Common.{rules, ◌≡◌, ◌≤◌, ◌*◌, ◌<◌, ℤ, pos, ◌+ℤ◌, ◌*ℤ◌, unsigned_abs, get_or, length, FitsSigned, w32, to_z, of_z, refl, sym, ap, ◌∙◌, arith}
+use Rattle.std.proofs.Common.{rules, ◌≡◌, ◌≤◌, ◌*◌, ◌<◌, ℤ, pos, ◌+ℤ◌, ◌*ℤ◌, unsigned_abs, get_or, length, FitsSigned}
+use Rattle.std.proofs.Common.{w32, to_z, of_z, refl, sym, ap, ◌∙◌, arith}
 use Rattle.std.proofs.lemmas.Int.{ints, to_z-of_z}
 use Rattle.std.proofs.lemmas.List.Sums.{sum_by_more, sum_by_more_le}
 use Rattle.offset_slicers.specs.Decision.{sum_below, product_of}
@@ -33,7 +34,8 @@ overflow_add-sum c =
     let i = c.loop-i.i in
     let sample : FitsSigned w16 (get_or window i (pos 0)) = search rules in
     let weight : FitsSigned w16 (get_or weights i (pos 0)) = search rules in
-    let value : c.product-sum.result ≡ get_or window i (pos 0) *ℤ get_or weights i (pos 0) = product_is _ _ _ sample weight c.product-sum.ensures in
+    let value : c.product-sum.result ≡ get_or window i (pos 0) *ℤ get_or weights i (pos 0) =
+    product_is _ _ _ sample weight c.product-sum.ensures in
     let bound = product_bound _ _ _ sample value in
     let inside : i < length weights = search rules in
     omega (arith, ints, sum_by_more_le unsigned_abs weights i (pos 0) inside, bound)

@@ -13,5 +13,7 @@ returns-clause-sums c =
 pub returns-clause-bound : goal.returns-clause-bound
 returns-clause-bound c =
     let P = IsWithin 40000000 in
-    All-cons P c.turned.result (c.turned-2.result ∷ []) (turned_within 40000000 c.args.tone _ _ c.turned.ensures c.requires.mark)
-    (All-cons P c.turned-2.result [] (turned_within 40000000 c.args.tone _ _ c.turned-2.ensures c.requires.space) (All-nil P))
+    All-cons P c.turned.result (c.turned-2.result ∷ [])
+    (turned_within 40000000 c.args.tone _ _ c.turned.ensures c.requires.mark)
+    (All-cons P c.turned-2.result [] (turned_within 40000000 c.args.tone _ _ c.turned-2.ensures c.requires.space)
+    (All-nil P))

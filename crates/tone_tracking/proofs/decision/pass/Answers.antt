@@ -5,11 +5,15 @@ use Rattle.tone_tracking.proofs.decision.pass.Goals as goal
 
 pub turned_back-space-requires : goal.turned_back-space-requires
 turned_back-space-requires c =
-    within_more 190000002 1000000000 _ (sum_within 40000000 150000002 _ _ _ c.plus.ensures c.requires.now.space c.remains-remains.ensures.bound) (omega arith)
+    within_more 190000002 1000000000 _
+    (sum_within 40000000 150000002 _ _ _ c.plus.ensures c.requires.now.space c.remains-remains.ensures.bound)
+    (omega arith)
 
 pub returns-in-Mark-clause-bound : goal.returns-in-Mark-clause-bound
 returns-in-Mark-clause-bound c =
-    within_more 190000002 200000000 _ (sum_within 40000000 150000002 _ _ _ c.plus-mark.ensures c.requires.now.mark c.remains-remains.ensures.bound) (omega arith)
+    within_more 190000002 200000000 _
+    (sum_within 40000000 150000002 _ _ _ c.plus-mark.ensures c.requires.now.mark c.remains-remains.ensures.bound)
+    (omega arith)
 
 pub returns-in-Space-clause-bound : goal.returns-in-Space-clause-bound
 returns-in-Space-clause-bound c =

@@ -1,11 +1,13 @@
-use Rattle.std.proofs.Common.{◌≡◌, ◌+◌, ◌-◌, ◌<◌, ◌++◌, ◌∙◌, ℤ, pos, List, FitsSigned, get_or, length, take, drop, ap, sym, subst, arith, rules}
+use Rattle.std.proofs.Common.{◌≡◌, ◌+◌, ◌-◌, ◌<◌, ◌++◌, ◌∙◌, ℤ, pos, List, FitsSigned, get_or, length, take, drop, ap}
+use Rattle.std.proofs.Common.{sym, subst, arith, rules}
 use Rattle.std.proofs.lemmas.Result.{on_ok_weaker}
 use Rattle.std.proofs.lemmas.Int.{to_z-of_z}
 use mir.Syntax.{w16}
 use Rattle.tone_tracking.specs.Heard.{places_in}
 use Rattle.sensitive_receiver.specs.HeldLanes.{HeldBank, HeldLane, HasTaken, LanesHaveRead}
 use Rattle.sensitive_receiver.specs.Found.{AddsBetween}
-use Rattle.sensitive_receiver.proofs.BankLemmas.{bank_of, given_back, taken_few, adds_few, not_yet, already, taken_place, found_place}
+use Rattle.sensitive_receiver.proofs.BankLemmas.{bank_of, given_back, taken_few, adds_few, not_yet, already}
+use Rattle.sensitive_receiver.proofs.BankLemmas.{taken_place, found_place}
 use Rattle.sensitive_receiver.proofs.added_bank.AddedBank.take.Goals as goal
 
 pub returns-then-not-decided-clause-has_taken : goal.returns-then-not-decided-clause-has_taken

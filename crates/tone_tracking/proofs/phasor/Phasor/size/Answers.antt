@@ -3,8 +3,10 @@ use Rattle.std.proofs.lemmas.Int.{ints, to_z-of_z}
 use Rattle.tone_tracking.proofs.phasor.Phasor.size.Goals as goal
 
 -- a sum of three as it is passed and given back
-sum_is : (x y z : ℤ) → unsigned_abs x ≤ 1000000000000000000 → unsigned_abs y ≤ 1000000000000000000 → unsigned_abs z ≤ 1000000000000000000
-    → to_z w64 (of_z w64 (to_z w64 (of_z w64 (to_z w64 (of_z w64 x) +ℤ to_z w64 (of_z w64 y))) +ℤ to_z w64 (of_z w64 z))) ≡ (x +ℤ y) +ℤ z
+sum_is : (x y z : ℤ) → unsigned_abs x ≤ 1000000000000000000 → unsigned_abs y ≤ 1000000000000000000
+    → unsigned_abs z ≤ 1000000000000000000
+    → to_z w64 (of_z w64 (to_z w64 (of_z w64 (to_z w64 (of_z w64 x) +ℤ to_z w64 (of_z w64 y))) +ℤ to_z w64
+    (of_z w64 z))) ≡ (x +ℤ y) +ℤ z
 sum_is x y z a b c = omega (arith, ints)
 
 -- a product of parts as they are passed
@@ -29,5 +31,6 @@ returns c =
     let one = product_is a a c.product.result c.requires.first c.requires.first c.product.ensures.value in
     let two = product_is a b c.product-2.result c.requires.first c.requires.second c.product-2.ensures.value in
     let three = product_is b b c.product-3.result c.requires.second c.requires.second c.product-3.ensures.value in
-    sum_is c.product.result c.product-2.result c.product-3.result c.product.ensures.bound c.product-2.ensures.bound c.product-3.ensures.bound
+    sum_is c.product.result c.product-2.result c.product-3.result c.product.ensures.bound c.product-2.ensures.bound
+    c.product-3.ensures.bound
     ∙ (λ i. (one i +ℤ two i) +ℤ three i)

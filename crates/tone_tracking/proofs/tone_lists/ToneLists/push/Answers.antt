@@ -1,11 +1,13 @@
-use Rattle.std.proofs.Common.{◌≡◌, ◌+◌, ◌-◌, ◌%◌, ◌<◌, ◌≤◌, ℤ, pos, List, length, get_or, set, refl, sym, subst, ◌∙◌, get_or-set_same, arith, rules}
+use Rattle.std.proofs.Common.{◌≡◌, ◌+◌, ◌-◌, ◌%◌, ◌<◌, ◌≤◌, ℤ, pos, List, length, get_or, set, refl, sym, subst, ◌∙◌}
+use Rattle.std.proofs.Common.{get_or-set_same, arith, rules}
 use Rattle.std.proofs.lemmas.List.{length-set}
 use Rattle.std.proofs.lemmas.Int.{to_z-of_z}
 use mir.Syntax.{w16}
 use Rattle.tone_tracking.specs.declared.correlation.Correlations.{Correlations}
 use Rattle.tone_tracking.specs.Phasors.{none}
 use Rattle.tone_tracking.specs.HeldLists.{HeldLists, HasSamples, HasTaken}
-use Rattle.tone_tracking.proofs.ListsLemmas.{held, still_decided, samples_few, samples_more, kept_at, decided_more, all_within-set}
+use Rattle.tone_tracking.proofs.ListsLemmas.{held, still_decided, samples_few, samples_more, kept_at, decided_more}
+use Rattle.tone_tracking.proofs.ListsLemmas.{all_within-set}
 use Rattle.tone_tracking.proofs.tone_lists.ToneLists.push.Goals as goal
 
 pub returns-then-count-lt8-clause-has_taken : goal.returns-then-count-lt8-clause-has_taken
@@ -13,10 +15,12 @@ returns-then-count-lt8-clause-has_taken c =
     let s = c.self.inside in
     let moved = c.with_next-self-inside in
     let few = c.if-count-lt8.true in
-    let P : HeldLists → Type 0 = λ old. (x : List ℤ) → HasTaken old x → old.count < length x → c.args.sample ≡ get_or x old.count (pos 0)
+    let P : HeldLists → Type 0 = λ old. (x : List ℤ) → HasTaken old x → old.count < length x
+    → c.args.sample ≡ get_or x old.count (pos 0)
     → HasTaken (held (s.count + 1) moved.result s.recent s.near s.far) x in
     subst P c.self.view_is (λ x h room is. record {
-      samples = samples_few s.count s.window moved.result s.recent x c.args.sample s.near s.far h.samples room is moved.ensures.moved (moved.ensures.last ∙ to_z-of_z w16 c.args.sample c.ranges.sample) s.near s.far few;
+      samples = samples_few s.count s.window moved.result s.recent x c.args.sample s.near s.far h.samples room is
+          moved.ensures.moved (moved.ensures.last ∙ to_z-of_z w16 c.args.sample c.ranges.sample) s.near s.far few;
       near = still_decided s.near s.count (s.count + 1) x (omega arith) h.near;
       far = still_decided s.far s.count (s.count + 1) x (omega arith) h.far;
     })
@@ -28,10 +32,13 @@ returns-then-count-lt24-clause-has_taken c =
     let enough = c.if-count-lt8.false in
     let few = c.if-count-lt24.true in
     let size : length s.recent ≡ 32 = search rules in
-    let P : HeldLists → Type 0 = λ old. (x : List ℤ) → HasTaken old x → old.count < length x → c.args.sample ≡ get_or x old.count (pos 0)
-    → HasTaken (held (s.count + 1) moved.result (set s.recent ((s.count + 1 - 8) % 32) c.correlate-later.result) s.near s.far) x in
+    let P : HeldLists → Type 0 = λ old. (x : List ℤ) → HasTaken old x → old.count < length x
+    → c.args.sample ≡ get_or x old.count (pos 0)
+    → HasTaken (held (s.count + 1) moved.result (set s.recent ((s.count + 1 - 8) % 32) c.correlate-later.result)
+    s.near s.far) x in
     subst P c.self.view_is (λ x h room is. record {
-      samples = samples_more s.count s.window moved.result s.recent x c.args.sample s.near s.far h.samples room is moved.ensures.moved (moved.ensures.last ∙ to_z-of_z w16 c.args.sample c.ranges.sample) s.near s.far
+      samples = samples_more s.count s.window moved.result s.recent x c.args.sample s.near s.far h.samples room is
+          moved.ensures.moved (moved.ensures.last ∙ to_z-of_z w16 c.args.sample c.ranges.sample) s.near s.far
           c.correlate-later.result enough size c.correlate-later.ensures.sums;
       near = still_decided s.near s.count (s.count + 1) x (omega arith) h.near;
       far = still_decided s.far s.count (s.count + 1) x (omega arith) h.far;
@@ -46,11 +53,14 @@ returns-clause-has_taken c =
     let size : length s.recent ≡ 32 = search rules in
     let recent : List Correlations = set s.recent ((s.count + 1 - 8) % 32) c.correlate-later.result in
     let silence : Correlations = record { mark = none; space = none } in
-    let P : HeldLists → Type 0 = λ old. (x : List ℤ) → HasTaken old x → old.count < length x → c.args.sample ≡ get_or x old.count (pos 0)
+    let P : HeldLists → Type 0 = λ old. (x : List ℤ) → HasTaken old x → old.count < length x
+    → c.args.sample ≡ get_or x old.count (pos 0)
     → HasTaken (held (s.count + 1) moved.result recent c.decide_as.new.self c.decide_as-2.new.self) x in
     subst P c.self.view_is (λ x h room is.
     let samples : HasSamples (held (s.count + 1) moved.result recent c.decide_as.new.self c.decide_as-2.new.self) x
-    = samples_more s.count s.window moved.result s.recent x c.args.sample s.near s.far h.samples room is moved.ensures.moved (moved.ensures.last ∙ to_z-of_z w16 c.args.sample c.ranges.sample) c.decide_as.new.self c.decide_as-2.new.self
+    = samples_more s.count s.window moved.result s.recent x c.args.sample s.near s.far h.samples room is
+    moved.ensures.moved (moved.ensures.last ∙ to_z-of_z w16 c.args.sample c.ranges.sample)
+    c.decide_as.new.self c.decide_as-2.new.self
     c.correlate-later.result enough size c.correlate-later.ensures.sums in
     let all : HeldLists = held (s.count + 1) moved.result recent c.decide_as.new.self c.decide_as-2.new.self in
     let one = kept_at all x silence (s.count + 1 - 24) (s.count + 1 - 24) samples refl (omega arith) (omega arith) in
@@ -60,16 +70,23 @@ returns-clause-has_taken c =
     ∙ kept_at all x silence slot slot samples refl (omega arith) (omega arith) in
     record {
       samples = samples;
-      near = decided_more s.near c.decide_as.new.self s.count x _ _ _ many h.near one two three c.decide_as.ensures.place c.decide_as.ensures.stands_for;
-      far = decided_more s.far c.decide_as-2.new.self s.count x _ _ _ many h.far one two three c.decide_as-2.ensures.place c.decide_as-2.ensures.stands_for;
+      near = decided_more s.near c.decide_as.new.self s.count x _ _ _ many h.near one two three
+          c.decide_as.ensures.place c.decide_as.ensures.stands_for;
+      far = decided_more s.far c.decide_as-2.new.self s.count x _ _ _ many h.far one two three
+          c.decide_as-2.ensures.place c.decide_as-2.ensures.stands_for;
     })
 
 pub invariant_of-self-then-count-lt24 : goal.invariant_of-self-then-count-lt24
 invariant_of-self-then-count-lt24 c =
     let s = c.self.inside in
     let inv = c.self.invariant in
-    let few = c.if-count-lt24.true in
-    (all_within-set s.recent ((s.count + 1 - 8) % 32) c.correlate-later.result inv.0 c.correlate-later.ensures.bound, inv.1, inv.2, omega arith, omega arith)
+    let few = c.if-count-lt24.true in (
+      all_within-set s.recent ((s.count + 1 - 8) % 32) c.correlate-later.result inv.0 c.correlate-later.ensures.bound,
+      inv.1,
+      inv.2,
+      omega arith,
+      omega arith,
+    )
 
 pub invariant_of-self-2 : goal.invariant_of-self-2
 invariant_of-self-2 c =
@@ -77,14 +94,20 @@ invariant_of-self-2 c =
     let inv = c.self.invariant in
     let many : 24 ≤ s.count + 1 = c.if-count-lt24.false in
     let near = c.decide_as.ensures.place in
-    let far = c.decide_as-2.ensures.place in
-    (all_within-set s.recent ((s.count + 1 - 8) % 32) c.correlate-later.result inv.0 c.correlate-later.ensures.bound, c.decide_as.ensures.reach ∙ inv.1, c.decide_as-2.ensures.reach ∙ inv.2, omega arith, omega arith)
+    let far = c.decide_as-2.ensures.place in (
+      all_within-set s.recent ((s.count + 1 - 8) % 32) c.correlate-later.result inv.0 c.correlate-later.ensures.bound,
+      c.decide_as.ensures.reach ∙ inv.1,
+      c.decide_as-2.ensures.reach ∙ inv.2,
+      omega arith,
+      omega arith,
+    )
 
 pub decide_as-requires-clause-now : goal.decide_as-requires-clause-now
 decide_as-requires-clause-now c =
     let s = c.self.inside in
     let size : length s.recent ≡ 32 = search rules in
-    let all = all_within-set s.recent ((s.count + 1 - 8) % 32) c.correlate-later.result c.self.invariant.0 c.correlate-later.ensures.bound in
+    let all = all_within-set s.recent ((s.count + 1 - 8) % 32)
+    c.correlate-later.result c.self.invariant.0 c.correlate-later.ensures.bound in
     let same = length-set s.recent ((s.count + 1 - 8) % 32) c.correlate-later.result in
     all ((s.count + 1 - 24) % 32) _ (omega arith)
 
@@ -92,7 +115,8 @@ pub decide_as-requires-clause-next : goal.decide_as-requires-clause-next
 decide_as-requires-clause-next c =
     let s = c.self.inside in
     let size : length s.recent ≡ 32 = search rules in
-    let all = all_within-set s.recent ((s.count + 1 - 8) % 32) c.correlate-later.result c.self.invariant.0 c.correlate-later.ensures.bound in
+    let all = all_within-set s.recent ((s.count + 1 - 8) % 32)
+    c.correlate-later.result c.self.invariant.0 c.correlate-later.ensures.bound in
     let same = length-set s.recent ((s.count + 1 - 8) % 32) c.correlate-later.result in
     all ((s.count + 1 - 16) % 32) _ (omega arith)
 
@@ -100,7 +124,8 @@ pub decide_as-requires-2-clause-now : goal.decide_as-requires-2-clause-now
 decide_as-requires-2-clause-now c =
     let s = c.self.inside in
     let size : length s.recent ≡ 32 = search rules in
-    let all = all_within-set s.recent ((s.count + 1 - 8) % 32) c.correlate-later.result c.self.invariant.0 c.correlate-later.ensures.bound in
+    let all = all_within-set s.recent ((s.count + 1 - 8) % 32)
+    c.correlate-later.result c.self.invariant.0 c.correlate-later.ensures.bound in
     let same = length-set s.recent ((s.count + 1 - 8) % 32) c.correlate-later.result in
     all ((s.count + 1 - 24) % 32) _ (omega arith)
 
@@ -108,6 +133,7 @@ pub decide_as-requires-2-clause-next : goal.decide_as-requires-2-clause-next
 decide_as-requires-2-clause-next c =
     let s = c.self.inside in
     let size : length s.recent ≡ 32 = search rules in
-    let all = all_within-set s.recent ((s.count + 1 - 8) % 32) c.correlate-later.result c.self.invariant.0 c.correlate-later.ensures.bound in
+    let all = all_within-set s.recent ((s.count + 1 - 8) % 32)
+    c.correlate-later.result c.self.invariant.0 c.correlate-later.ensures.bound in
     let same = length-set s.recent ((s.count + 1 - 8) % 32) c.correlate-later.result in
     all ((s.count + 1 - 16) % 32) _ (omega arith)

@@ -9,14 +9,18 @@ pub returns-in-Near : goal.returns-in-Near
 returns-in-Near c =
     let near = c.self.inside.near in
     let reach = c.self.invariant.1 ∙ sym c.in-Near.is in
-    let P : HeldLists → Type 0 = λ held. (x : List ℤ) → HasTaken held x → c.tone_before.result ≡ tone_before (heard c.args.reach x) (places_in held.count) c.args.back in
+    let P : HeldLists → Type 0 = λ held. (x : List ℤ) → HasTaken held x
+    → c.tone_before.result ≡ tone_before (heard c.args.reach x) (places_in held.count) c.args.back in
     subst P c.self.view_is (λ x h.
-    c.tone_before.ensures (correlations x) h.near.stands_for ∙ (λ i. tone_before (tone_at (reach i) (correlations x)) (h.near.place i) c.args.back))
+    c.tone_before.ensures (correlations x) h.near.stands_for
+    ∙ (λ i. tone_before (tone_at (reach i) (correlations x)) (h.near.place i) c.args.back))
 
 pub returns-in-Far : goal.returns-in-Far
 returns-in-Far c =
     let far = c.self.inside.far in
     let reach = c.self.invariant.2 ∙ sym c.in-Far.is in
-    let P : HeldLists → Type 0 = λ held. (x : List ℤ) → HasTaken held x → c.tone_before-in-Far.result ≡ tone_before (heard c.args.reach x) (places_in held.count) c.args.back in
+    let P : HeldLists → Type 0 = λ held. (x : List ℤ) → HasTaken held x
+    → c.tone_before-in-Far.result ≡ tone_before (heard c.args.reach x) (places_in held.count) c.args.back in
     subst P c.self.view_is (λ x h.
-    c.tone_before-in-Far.ensures (correlations x) h.far.stands_for ∙ (λ i. tone_before (tone_at (reach i) (correlations x)) (h.far.place i) c.args.back))
+    c.tone_before-in-Far.ensures (correlations x) h.far.stands_for
+    ∙ (λ i. tone_before (tone_at (reach i) (correlations x)) (h.far.place i) c.args.back))

@@ -20,7 +20,8 @@ returns-clause-tone c =
     → c.args.next.now ≡ windows (old.place + 8) → c.args.later.now ≡ windows (old.place + 16)
     → c.decide-tone.result ≡ tone_at old.reach windows old.place in
     subst P c.self.view_is (λ windows h now next later.
-    tone_is_decided s.reach s.place s.pasts s.recent windows c.args.now.now c.args.next.now c.args.later.now c.decide-tone.result h now next later
+    tone_is_decided s.reach s.place s.pasts s.recent windows c.args.now.now c.args.next.now c.args.later.now
+    c.decide-tone.result h now next later
     (c.decide-tone.ensures
     ∙ ap (λ r. decided (get_or s.pasts (s.place % 8) none) c.args.now.now
     (open_of r c.args.next.now c.args.later.now)) own))
@@ -37,7 +38,8 @@ returns-clause-stands_for c =
     → StandsFor (held s.reach (s.place + 1) (set s.pasts (s.place % 8) c.pass.result)
     (set s.recent (s.place % 32) c.decide-tone.result)) windows in
     subst P c.self.view_is (λ windows h now next later.
-    let tone = tone_is_decided s.reach s.place s.pasts s.recent windows c.args.now.now c.args.next.now c.args.later.now c.decide-tone.result h now next later
+    let tone = tone_is_decided s.reach s.place s.pasts s.recent windows c.args.now.now c.args.next.now c.args.later.now
+    c.decide-tone.result h now next later
     (c.decide-tone.ensures
     ∙ ap (λ r. decided (get_or s.pasts (s.place % 8) none) c.args.now.now
     (open_of r c.args.next.now c.args.later.now)) own) in
