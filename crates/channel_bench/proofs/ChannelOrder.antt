@@ -24,7 +24,7 @@ use Rattle.tone_table.specs.declared.tone.Tone.TheVariants.{Mark}
 use Rattle.nrzi_bits.specs.Line.{line}
 use Rattle.nrzi_bits.proofs.LineLemmas.{length-line_from}
 use Rattle.channel_access.proofs.SendingLemmas.{length-wave_from}
-use Rattle.channel_access.proofs.AirLemmas.{samples_of-is}
+use Rattle.channel_access.proofs.AirLemmas.{samples_on_air-is}
 use Rattle.channel_access.proofs.WholeLemmas.{decided_adds}
 use Rattle.channel_access.proofs.StageLemmas.{flag_end-last, frames_end-next}
 
