@@ -1,6 +1,6 @@
 // Streams and messages from outside.
 
-use super::{AgwFault, AgwIn, AgwMessage, call_text, write_agw};
+use super::{AgwFault, AgwIn, AgwMessage, call_text, read_messages, write_agw};
 use ax25_address::Call;
 use std::alloc::{AllocError, Global};
 use std::test::Fail;
@@ -71,6 +71,25 @@ fn a_stream_is_cut_into_messages(rt: HostRuntime) -> Result<(), Fail> {
         (74, 0, b'R', 0)
     );
     assert!(rt; message.body.is_empty());
+    Ok(())
+}
+
+// A stream of two messages in two pieces, cut in each of these places.
+#[test]
+fn messages_end_in_either_piece(rt: HostRuntime) -> Result<(), Fail> {
+    let alloc = rt.alloc();
+    let mut stream = DATA.to_vec(alloc)?;
+    stream.extend_from_slice(DATA)?;
+    for (cut, first, second) in [(0, 0, 2), (38, 0, 2), (39, 1, 1), (77, 1, 1), (78, 2, 0)] {
+        let mut reader = AgwIn::new(alloc);
+        let (front, rest) = stream.split_at(cut);
+        let front = read_messages(alloc, &mut reader, front)?;
+        let rest = read_messages(alloc, &mut reader, rest)?;
+        assert_eq!(rt; (front.len(), rest.len()), (first, second), "cut at {cut}");
+        for message in front.iter().chain(rest.iter()) {
+            assert_eq!(rt; message.body.as_slice(), b"hi\r".as_slice());
+        }
+    }
     Ok(())
 }
 
