@@ -1,20 +1,19 @@
 -- The merged candidates of samples, and of these with more samples.
-use Rattle.std.proofs.Common.{◌≡◌, ℕ, ◌+◌, ◌/◌, ◌<◌, ◌≤◌, ℤ, List, [], ◌∷◌, ◌++◌, true, false, length, ap, sym, ◌∙◌}
-use Rattle.std.proofs.Common.{arith, subst, cond, refl, length-append, get_or, zero, suc, ◌&&◌, append_assoc, Bool}
+use Rattle.std.proofs.Common.{◌≡◌, ℕ, ◌+◌, ◌/◌, ◌<◌, ◌≤◌, ℤ, List, [], ◌∷◌, ◌++◌, length, ap, sym, ◌∙◌}
+use Rattle.std.proofs.Common.{arith, cond, refl, length-append, get_or, ◌&&◌, Bool}
 use Rattle.std.specs.Prelude.{nat_lt, nat_le}
-use Rattle.std.specs.List.{All, Contains, filter}
+use Rattle.std.specs.List.{All, filter}
 use Rattle.std.specs.List.Sorted.{IsNonDecreasingBy}
 use Rattle.std.proofs.Math.Bool.{and-false}
 use Rattle.std.proofs.lemmas.Bool.{ltb-true, lt-ltb, le-ltb}
-use Rattle.std.proofs.lemmas.List.{append-nil, append_cancel_left}
+use Rattle.std.proofs.lemmas.List.{append-nil}
 use Rattle.std.proofs.lemmas.List.Elements.{All-weaker, All-head, All-tail, All-filter, filter-append, filter_passes}
-use Rattle.std.proofs.lemmas.List.Elements.{Contains-append_right}
 use Rattle.std.proofs.lemmas.List.Kept.{AllPairs-filter}
 use Rattle.frame_merge.specs.declared.candidate.Candidate.{Candidate}
 use Rattle.frame_merge.specs.Order.{standing, IsInOrder}
 use Rattle.frame_merge.specs.Merged.{merged, merged_after, below, between}
 use Rattle.frame_merge.proofs.Ordering.{rising_ends}
-use Rattle.frame_merge.proofs.Merging.{merged_after-append, merged-rising, below_between, between_all, All-merged}
+use Rattle.frame_merge.proofs.Merging.{merged_after-append, merged-rising, between_all, All-merged}
 use Rattle.frame_merge.proofs.Taking.{below_all}
 use Rattle.slicer_bank.proofs.MergingLemmas.{rising_strictly}
 use Rattle.slicer_bank.proofs.MergedLemmas.{below_more, next_is, contains_passing, between_between}
