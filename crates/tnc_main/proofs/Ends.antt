@@ -21,7 +21,7 @@ use Rattle.tnc_words.specs.declared.command.Command.TheVariants.{Loop, Bench}
 use Rattle.tnc_words.specs.declared.command.BenchOptions.{BenchOptions}
 use Rattle.tnc_words.specs.declared.command.LoopWords.{LoopWords}
 use Rattle.tnc_main.specs.declared.stop.Stop.{Stop}
-use Rattle.tnc_main.specs.declared.stop.Stop.TheVariants.{Input, Read, Stray, Write}
+use Rattle.tnc_main.specs.declared.stop.Stop.TheVariants.{Input, Read, Write}
 use Rattle.tnc_main.specs.Stops.{IsStopOfRun, end_of, end_of_bench, end_of_loop}
 
 module _ (r : Result (Unit {0}) Stop) (end : Result (Unit {0}) Fault) (is : r ≡ end_of end) where

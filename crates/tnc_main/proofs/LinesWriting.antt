@@ -14,7 +14,7 @@ use Rattle.tnc_encode.proofs.EndedLemmas.{encoded_none}
 use Rattle.tnc_show.specs.Shown.{IsShownOfMany, IsShownPart, IsShownSoFar}
 use Rattle.tnc_show.proofs.EndedLemmas.{shown_none}
 use Rattle.tnc_main.specs.declared.status.Status.TheVariants.{BadInput, Memory as NoMemory, ReadFault, WriteFault}
-use Rattle.tnc_main.specs.Parts.{HasAtMemory, MakesPart, SettledByMost}
+use Rattle.tnc_main.specs.Parts.{HasAtMemory, MakesPart}
 use Rattle.tnc_main.proofs.Writing.{Written, part_made}
 
 -- ---- show

@@ -1,5 +1,5 @@
 -- What the status of a live station says of the counts of faults, and that only few statuses are its own.
-use Rattle.std.proofs.Common.{◌≡◌, ℕ, ◌+◌, ◌≤◌, List, ◌++◌, length, length-append, Option, Some, inl, inr, refl, sym}
+use Rattle.std.proofs.Common.{◌≡◌, ℕ, ◌≤◌, List, length, length-append, Some, inl, inr, refl, sym}
 use Rattle.std.proofs.Common.{subst, ap, ◌∙◌, arith}
 use Rattle.std.specs.Prelude.{◌⊎◌}
 use Rattle.sample_ring.specs.declared.got.Got.{Got}
@@ -22,7 +22,7 @@ use Rattle.tnc_main.specs.declared.status.Status.TheVariants.{Done as WellDone, 
 use Rattle.tnc_main.specs.declared.status.Status.TheVariants.{ReadFault as InputFailed, WriteFault as OutputFailed}
 use Rattle.tnc_main.specs.declared.status.Status.TheVariants.{Stray as HeardStray, NotQuiet as FoundNoQuiet}
 use Rattle.tnc_main.specs.declared.status.Status.TheVariants.{Spent as WasSpent, NoPort as PortsFailed}
-use Rattle.tnc_main.specs.Serving.{HasLineMore, IsToldAs, LacksLine, last_line, status_of_end}
+use Rattle.tnc_main.specs.Serving.{IsToldAs, LacksLine, last_line, status_of_end}
 
 -- ---- when serving has ended
 

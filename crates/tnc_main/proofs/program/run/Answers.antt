@@ -2,7 +2,7 @@ use Rattle.std.proofs.Common.{rules, ◌≡◌, [], ◌++◌, Some, None, Err, I
 use Rattle.std.proofs.Common.{refl, sym, subst, ap, ◌∙◌, arith, true≢false}
 use Rattle.std.specs.Prelude.{is_some}
 use Rattle.tnc_words.specs.declared.command.Command.TheVariants.{Bench, Decode, Loop, Serve}
-use Rattle.tnc_words.specs.Commands.{Asks, IsServe}
+use Rattle.tnc_words.specs.Commands.{IsServe}
 use Rattle.tnc_words.proofs.OneCommand.{one_command}
 use Rattle.tnc_forms.specs.declared.fault.InputFault.TheVariants.{TooLong}
 use Rattle.tnc_forms.proofs.Ends.{at_ok}
@@ -22,10 +22,9 @@ use Rattle.tnc_main.proofs.TextLemmas.{long_fault, near_text}
 use Rattle.tnc_main.proofs.Writing.{told_writes}
 use Rattle.tnc_main.proofs.DecodeWriting.{unread}
 use Rattle.tnc_main.proofs.Telling.{caused, ends_well, leaves, tells}
-use Rattle.tnc_main.proofs.LiveRuns.{complete as complete_live, faultless as faultless_live, no_bad_words, no_job}
-use Rattle.tnc_main.proofs.LiveRuns.{no_port as no_port_live, no_spent, no_stray, no_unquiet, not_live}
-use Rattle.tnc_main.proofs.LiveRuns.{read_fault as read_fault_live, served as served_live}
-use Rattle.tnc_main.proofs.LiveRuns.{write_fault as write_fault_live}
+use Rattle.tnc_main.proofs.LiveRuns.{complete as complete_live, no_job}
+use Rattle.tnc_main.proofs.LiveRuns.{not_live}
+use Rattle.tnc_main.proofs.LiveRuns.{served as served_live}
 use Rattle.tnc_main.proofs.program.run.Goals as goal
 
 -- ---- a command
