@@ -200,6 +200,11 @@ def of_unit_power(samples):
     return [sample / power for sample in samples]
 
 
+def short_frame(number):
+    """A frame of 21 to 100 octets, 16 of which are its path, its control octet and its PID."""
+    return frames(1, 1000 + number, random.Random(number).randrange(5, 85))[0]
+
+
 # More rows, without bounds: noise by half decibels, clocks that are far off, and what an FM receiver makes of a signal. The
 # noise of its discriminator rises with the frequency; its de-emphasis takes 6 dB an octave from both (here above 212 Hz).
 def more_rows(count):
@@ -207,6 +212,10 @@ def more_rows(count):
     clean = sound(mixed, 11)
     for half in range(14, -3, -1):
         yield f"noise, {half / 2:g} dB", 0, count, mixed, noisy(clean, half / 2), []
+    short = [short_frame(number) for number in range(count)]
+    for ratio in (3, 2, 1.5, 1, 0.75, 0.5, 0):
+        made = noisy(sound(short, 11), ratio)
+        yield f"21 to 100 octets, noise, {ratio:g} dB", 0, count, short, made, []
     short = frames(count, 2, 20)
     for clock in (1000, 2000, 3000, 5000, 10000, 20000, 40000):
         for sign in (-1, 1):
@@ -287,7 +296,7 @@ def heard_by_atest_repairing(tnc, samples, room):
 SOUNDMODEM = """<?xml version="1.0"?>
 <modem><configuration name="file">
 <chaccess txdelay="150" slottime="100" ppersist="40" fulldup="0" txtail="10"/>
-<audio type="file" file="{sound}" repeat="0"/><ptt file="none"/>
+<audio type="file" file="{sound}" repeat="1"/><ptt file="none"/>
 <channel name="0">
 <mod mode="afsk" bps="1200" f0="1200" f1="2200" diffenc="1"/>
 <demod mode="afsk" bps="1200" f0="1200" f1="2200" diffdec="1"/>
@@ -297,7 +306,8 @@ SOUNDMODEM = """<?xml version="1.0"?>
 
 
 def heard_by_soundmodem(_, samples, room):
-    """The data frames that soundmodem gives a KISS host, until it has been silent for two seconds."""
+    """The data frames that soundmodem gives a KISS host, each once. It reads the sound again and again as fast as it can, and
+    drops what the host does not take at once, so the host listens until nothing new has come for three seconds."""
     resampled(samples, RATE, "wav", f"{room}/9600.wav")
     port = f"{room}/kiss"
     with open(f"{room}/soundmodem.conf", "w") as made:
@@ -314,17 +324,19 @@ def heard_by_soundmodem(_, samples, room):
             time.sleep(0.01)
         host = os.open(port, os.O_RDWR | os.O_NOCTTY | os.O_NONBLOCK)
         tty.setraw(host)
-        stream, quiet = b"", time.monotonic() + 2
+        found, part, quiet = set(), b"", time.monotonic() + 3
         while time.monotonic() < quiet:
-            piece = os.read(host, 65536) if select.select([host], [], [], 0.1)[0] else b""
-            if piece:
-                stream, quiet = stream + piece, time.monotonic() + 2
+            part += os.read(host, 65536) if select.select([host], [], [], 0.1)[0] else b""
+            *whole, part = part.split(b"\xc0")
+            whole = [it.replace(b"\xdb\xdc", b"\xc0").replace(b"\xdb\xdd", b"\xdb") for it in whole]
+            new = {it[1:].hex() for it in whole if it[:1] == b"\0"} - found
+            if new:
+                found, quiet = found | new, time.monotonic() + 3
         os.close(host)
     finally:
         program.kill()
         program.wait()
-    pieces = [it.replace(b"\xdb\xdc", b"\xc0").replace(b"\xdb\xdd", b"\xdb") for it in stream.split(b"\xc0")]
-    return [it[1:].hex() for it in pieces if it[:1] == b"\0"]
+    return sorted(found)
 
 
 def heard_by_multimon(_, samples, room):
