@@ -1,5 +1,4 @@
--- What an access stands for: the channel of the definitions, if the transmission under way is known from its first
--- bit.
+-- What an access stands for: the channel of the definitions, if the transmission under way is known from its first bit.
 -- Public clauses cite `StandsFor` and its field `waiting` alone.
 use Rattle.std.specs.Prelude.{◌≡◌, ℕ, zero, suc, ◌-◌, ◌*◌, ◌≤◌, Bool, true, false, List, [], ◌∷◌, ◌++◌, length, drop}
 use Rattle.std.specs.Prelude.{nat_le, Option, Some, None, if◌then◌else◌}

@@ -1,5 +1,6 @@
 //! A frame bit by bit, as it is sent (AX.25 2.2 sections 3.6 to 3.8).
 ghost use Rattle.std.specs.Prelude.{◌≡◌, ◌+◌, ◌*◌, ◌<◌, ◌≤◌, false, length, slice_index, slice_index_or};
+ghost use Rattle.hdlc_framer.specs.FrameLength.{most_frame_length};
 ghost use Rattle.channel_access.specs.Held.{checked, bits_in, bit_count, frame_start, next_in_frame, frame_over};
 
 use hdlc_framer::fcs;
@@ -32,7 +33,7 @@ impl FrameBits {
 
     /// The next bit and where the sender stands after it. None if no bit is left.
     pub(crate) fn next(self, octets: &[u8]) -> Option<(bool, FrameBits)>
-        requires { length octets.now ≤ 1024 }
+        requires { length octets.now ≤ most_frame_length }
         ensures { result ≡ next_in_frame self octets.now }
     {
         if self.ones >= ONES {
@@ -55,7 +56,7 @@ impl FrameBits {
 
     /// Whether no bit is left.
     pub(crate) fn is_over(self, octets: &[u8]) -> bool
-        requires { length octets.now ≤ 1024 }
+        requires { length octets.now ≤ most_frame_length }
         ensures { result ≡ frame_over self octets.now }
     {
         self.ones < ONES && self.place >= bit_count(octets)
@@ -64,7 +65,7 @@ impl FrameBits {
 
 /// The bits of the octets and of their check sequence, without inserted zeros.
 fn bit_count(octets: &[u8]) -> u16
-    requires { length octets.now ≤ 1024 }
+    requires { length octets.now ≤ most_frame_length }
     ensures count { result ≡ bit_count octets.now }
     ensures most { result ≤ 8208 }
 {
