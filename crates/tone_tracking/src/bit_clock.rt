@@ -121,8 +121,8 @@ fn rate_correction(pull: Pull, phase: i32) -> i32
     ensures bound { (negsuc 1048576 ≤ℤ result) × (result ≤ℤ pos 1048576) }
 {
     match pull {
-        Pull::Slow => phase.div_euclid(16384),
-        Pull::Fast => phase.div_euclid(1024),
+        Pull::Slow => phase >> 14,
+        Pull::Fast => phase >> 10,
     }
 }
 

@@ -43,12 +43,12 @@ pub fn correlate(window: &[i16; 8]) -> Correlations
 {
     Correlations {
         mark: Phasor {
-            a: sum_of_products(window, &MARK_ON),
-            b: -sum_of_products(window, &MARK),
+            a: i64::from(sum_of_products(window, &MARK_ON)),
+            b: -i64::from(sum_of_products(window, &MARK)),
         },
         space: Phasor {
-            a: sum_of_products(window, &SPACE_ON),
-            b: -sum_of_products(window, &SPACE),
+            a: i64::from(sum_of_products(window, &SPACE_ON)),
+            b: -i64::from(sum_of_products(window, &SPACE)),
         },
     }
 }

@@ -9,9 +9,9 @@ use tone_table::Tone;
 #[derive(Clone, Copy, PartialEq, Eq, Debug)]
 pub struct Phasor {
     /// The part along the whole numbers.
-    pub a: i32,
+    pub a: i64,
     /// The part along a sixth of a turn.
-    pub b: i32,
+    pub b: i64,
 }
 
 impl Phasor {
@@ -79,11 +79,11 @@ impl Phasor {
 }
 
 /// The product of two parts.
-fn product(part: i32, other: i32) -> i64
+fn product(part: i64, other: i64) -> i64
     requires part { unsigned_abs part ≤ 1000000000 }
     requires other { unsigned_abs other ≤ 1000000000 }
     ensures value { result ≡ part *ℤ other }
     ensures bound { unsigned_abs result ≤ 1000000000000000000 }
 {
-    i64::from(part) * i64::from(other)
+    part * other
 }

@@ -1,27 +1,59 @@
-use Rattle.std.proofs.Common.{◌≡◌, ◌-ℤ◌, ℤ, pos, neg_ℤ, to_z, of_z, w32, ◌≤◌, unsigned_abs, refl, ap, ◌∙◌, arith}
-use Rattle.std.proofs.lemmas.Int.{ints}
+use Rattle.std.proofs.Common.{◌≡◌, ◌-ℤ◌, ℤ, pos, neg_ℤ, to_z, of_z, w32, w64, FitsSigned, ◌≤◌, unsigned_abs, refl}
+use Rattle.std.proofs.Common.{ap, ◌∙◌, arith}
+use Rattle.std.proofs.lemmas.Int.{ints, to_z-of_z}
 use Rattle.tone_table.specs.declared.tone.Tone.TheVariants.{Mark, Space}
 use Rattle.tone_table.specs.Sine.{quarter, half_wave, cycle_sample, wave_sample}
 use Rattle.tone_tracking.specs.Correlation.{weight, correlation}
+use Rattle.tone_tracking.specs.Phasors.{IsWithin}
 use Rattle.tone_tracking.proofs.CorrelationLemmas.{sum-product_at}
 use Rattle.tone_tracking.proofs.correlation.correlate.Goals as goal
 
--- a sum turned round, as it is given back
-turned_round : (z : ℤ) → unsigned_abs z ≤ 19660800 → to_z w32 (of_z w32 (pos 0 -ℤ to_z w32 (of_z w32 z))) ≡ neg_ℤ z
-turned_round z bound = omega (arith, ints)
+-- a sum as it is widened and given back
+kept : (z wide : ℤ) → unsigned_abs z ≤ 19660800 → wide ≡ to_z w32 (of_z w32 z) → to_z w64 (of_z w64 wide) ≡ z
+kept z wide bound is =
+    let fits : FitsSigned w32 z = omega (arith, ints) in
+    let same : wide ≡ z = simp to_z-of_z at is in
+    omega (arith, ints)
 
-kept : (z : ℤ) → unsigned_abs z ≤ 19660800 → to_z w32 (of_z w32 z) ≡ z
-kept z bound = omega (arith, ints)
+-- and turned round
+turned_round : (z wide : ℤ) → unsigned_abs z ≤ 19660800 → wide ≡ to_z w32 (of_z w32 z)
+    → to_z w64 (of_z w64 (pos 0 -ℤ to_z w64 (of_z w64 wide))) ≡ neg_ℤ z
+turned_round z wide bound is =
+    let fits : FitsSigned w32 z = omega (arith, ints) in
+    let same : wide ≡ z = simp to_z-of_z at is in
+    omega (arith, ints)
 
 pub returns-clause-sums : goal.returns-clause-sums
 unfolding correlation weight wave_sample cycle_sample half_wave quarter
 returns-clause-sums c =
     let w = c.args.window.now in
-    let one = kept _ c.sum_of_products.ensures.bound ∙ c.sum_of_products.ensures.sum ∙ sum-product_at Mark 8 w _ refl in
-    let two = turned_round _ c.sum_of_products-2.ensures.bound
+    let one = kept _ _ c.sum_of_products.ensures.bound c.from.ensures ∙ c.sum_of_products.ensures.sum
+    ∙ sum-product_at Mark 8 w _ refl in
+    let two = turned_round _ _ c.sum_of_products-2.ensures.bound c.from-2.ensures
     ∙ ap neg_ℤ (c.sum_of_products-2.ensures.sum ∙ sum-product_at Mark 0 w _ refl) in
-    let three = kept _ c.sum_of_products-3.ensures.bound ∙ c.sum_of_products-3.ensures.sum
+    let three = kept _ _ c.sum_of_products-3.ensures.bound c.from-3.ensures ∙ c.sum_of_products-3.ensures.sum
     ∙ sum-product_at Space 8 w _ refl in
-    let four = turned_round _ c.sum_of_products-4.ensures.bound
+    let four = turned_round _ _ c.sum_of_products-4.ensures.bound c.from-4.ensures
     ∙ ap neg_ℤ (c.sum_of_products-4.ensures.sum ∙ sum-product_at Space 0 w _ refl) in
     λ i. record { mark = record { a = one i; b = two i }; space = record { a = three i; b = four i } }
+
+-- a sum of products and another turned round
+within_sums : (x y first second : ℤ) → unsigned_abs x ≤ 19660800 → unsigned_abs y ≤ 19660800 → first ≡ x
+    → second ≡ neg_ℤ y → IsWithin 40000000 (record { a = first; b = second })
+within_sums x y first second small large is turned =
+    record { first = omega (arith, ints); second = omega (arith, ints); both = omega (arith, ints) }
+
+pub returns-clause-bound : goal.returns-clause-bound
+returns-clause-bound c =
+    let x = c.sum_of_products.result in
+    let y = c.sum_of_products-2.result in
+    let z = c.sum_of_products-3.result in
+    let u = c.sum_of_products-4.result in
+    let one = c.sum_of_products.ensures.bound in
+    let two = c.sum_of_products-2.ensures.bound in
+    let three = c.sum_of_products-3.ensures.bound in
+    let four = c.sum_of_products-4.ensures.bound in
+    record {
+      mark = within_sums x y _ _ one two (kept x _ one c.from.ensures) (turned_round y _ two c.from-2.ensures);
+      space = within_sums z u _ _ three four (kept z _ three c.from-3.ensures) (turned_round u _ four c.from-4.ensures);
+    }

@@ -1,4 +1,4 @@
-use Rattle.std.proofs.Common.{◌≡◌, ◌≤◌, ℤ, ◌*ℤ◌, ◌+ℤ◌, FitsSigned, to_z, of_z, w32, w64, unsigned_abs, ◌∙◌, arith}
+use Rattle.std.proofs.Common.{◌≡◌, ◌≤◌, ℤ, ◌*ℤ◌, ◌+ℤ◌, FitsSigned, to_z, of_z, w64, unsigned_abs, ◌∙◌, arith}
 use Rattle.std.proofs.lemmas.Int.{ints, to_z-of_z}
 use Rattle.tone_tracking.proofs.phasor.Phasor.size.Goals as goal
 
@@ -11,10 +11,10 @@ sum_is x y z a b c = omega (arith, ints)
 
 -- a product of parts as they are passed
 product_is : (x y z : ℤ) → unsigned_abs x ≤ 1000000000 → unsigned_abs y ≤ 1000000000
-    → z ≡ to_z w32 (of_z w32 x) *ℤ to_z w32 (of_z w32 y) → z ≡ x *ℤ y
+    → z ≡ to_z w64 (of_z w64 x) *ℤ to_z w64 (of_z w64 y) → z ≡ x *ℤ y
 product_is x y z a b is =
-    let fits_x : FitsSigned w32 x = omega (arith, ints) in
-    let fits_y : FitsSigned w32 y = omega (arith, ints) in
+    let fits_x : FitsSigned w64 x = omega (arith, ints) in
+    let fits_y : FitsSigned w64 y = omega (arith, ints) in
     simp to_z-of_z at is
 
 pub overflow_add-result-2 : goal.overflow_add-result-2
