@@ -5,7 +5,6 @@
 //! louder.
 
 ghost use Rattle.std.specs.Prelude.{◌≡◌, [], ◌∷◌, int_le, if◌then◌else◌};
-ghost use Rattle.std.specs.List.{All};
 ghost use Rattle.tone_table.specs.declared.tone.Tone.TheVariants.{Mark, Space};
 ghost use Rattle.tone_tracking.specs.Correlation.{AreWithin};
 ghost use Rattle.tone_tracking.specs.Heard.{ahead, decided, kept, largest, open_of, passed};
@@ -43,8 +42,8 @@ fn decide_near(past: Phasor, now: &Correlations, next: &Correlations) -> Tone
     requires next { AreWithin next.now }
     ensures { result ≡ decided past now.now (next.now ∷ []) }
 {
-    let mark = loudest(past.plus(now.mark), &ahead_one(Tone::Mark, next));
-    let space = loudest(past.plus(now.space), &ahead_one(Tone::Space, next));
+    let mark = loudest_near(past.plus(now.mark), next);
+    let space = loudest_near(past.plus(now.space).turned_back(Tone::Space), next);
     louder(mark, space)
 }
 
@@ -56,48 +55,32 @@ fn decide_far(past: Phasor, now: &Correlations, next: &Correlations, later: &Cor
     requires later { AreWithin later.now }
     ensures { result ≡ decided past now.now (next.now ∷ later.now ∷ []) }
 {
-    let mark = loudest(past.plus(now.mark), &ahead_two(Tone::Mark, next, later));
-    let space = loudest(past.plus(now.space), &ahead_two(Tone::Space, next, later));
+    let mark = loudest_far(past.plus(now.mark), next, later);
+    let space = loudest_far(past.plus(now.space).turned_back(Tone::Space), next, later);
     louder(mark, space)
 }
 
-/// What the next window can add.
-fn ahead_one(tone: Tone, next: &Correlations) -> [Phasor; 2]
-    requires { AreWithin next.now }
-    ensures sums { result ≡ ahead tone (next.now ∷ []) }
-    ensures bound { All (IsWithin 40000000) result }
+/// The largest size of a phasor, as it stands in phase at the next window, with that window as either tone.
+fn loudest_near(from: Phasor, next: &Correlations) -> i64
+    requires from { IsWithin 400000000 from }
+    requires next { AreWithin next.now }
+    ensures { result ≡ largest from (ahead Mark (next.now ∷ [])) }
 {
-    [next.mark.turned(tone), next.space.turned(tone)]
+    let mark = from.plus(next.mark).size();
+    let space = from.plus(next.space).size();
+    mark.max(space)
 }
 
-/// What the next two windows can add.
-fn ahead_two(tone: Tone, next: &Correlations, later: &Correlations) -> [Phasor; 4]
+/// The same with the next two windows. A turn changes no size, so what was summed is turned, and not what is added.
+fn loudest_far(from: Phasor, next: &Correlations, later: &Correlations) -> i64
+    requires from { IsWithin 300000000 from }
     requires next { AreWithin next.now }
     requires later { AreWithin later.now }
-    ensures sums { result ≡ ahead tone (next.now ∷ later.now ∷ []) }
-    ensures bound { All (IsWithin 80000000) result }
+    ensures { result ≡ largest from (ahead Mark (next.now ∷ later.now ∷ [])) }
 {
-    let [mark_mark, mark_space] = ahead_one(Tone::Mark, later);
-    let [space_mark, space_space] = ahead_one(Tone::Space, later);
-    [
-        next.mark.plus(mark_mark).turned(tone),
-        next.mark.plus(mark_space).turned(tone),
-        next.space.plus(space_mark).turned(tone),
-        next.space.plus(space_space).turned(tone),
-    ]
-}
-
-/// The largest size of a phasor and one of the sums.
-fn loudest(from: Phasor, sums: &[Phasor]) -> i64
-    requires from { IsWithin 400000000 from }
-    requires sums { All (IsWithin 100000000) sums.now }
-    ensures { result ≡ largest from sums.now }
-{
-    let mut most = 0;
-    for sum in sums {
-        most = from.plus(*sum).size().max(most);
-    }
-    most
+    let mark = loudest_near(from.plus(next.mark), later);
+    let space = loudest_near(from.plus(next.space).turned_back(Tone::Space), later);
+    mark.max(space)
 }
 
 /// The louder tone, and mark of two that are as loud.

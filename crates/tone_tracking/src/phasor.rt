@@ -1,7 +1,7 @@
 //! Amplitude and phase in whole numbers.
 
 ghost use Rattle.std.specs.Prelude.{◌≡◌, ◌≤◌, ◌*ℤ◌, unsigned_abs};
-ghost use Rattle.tone_tracking.specs.Phasors.{IsWithin, plus, turn, turn_back, size, three_quarters};
+ghost use Rattle.tone_tracking.specs.Phasors.{IsWithin, plus, turn_back, size, three_quarters};
 
 use tone_table::Tone;
 
@@ -30,21 +30,7 @@ impl Phasor {
         }
     }
 
-    /// The phasor as it stands one window of a tone earlier: space is a sixth of a turn short of two cycles.
-    pub(crate) fn turned(self, tone: Tone) -> Phasor
-        requires { IsWithin 1000000000 self }
-        ensures { result ≡ turn tone self }
-    {
-        match tone {
-            Tone::Mark => self,
-            Tone::Space => Phasor {
-                a: -self.b,
-                b: self.a + self.b,
-            },
-        }
-    }
-
-    /// The phasor as it stands one window of a tone later.
+    /// The phasor as it stands one window of a tone later: space is a sixth of a turn short of two cycles.
     pub(crate) fn turned_back(self, tone: Tone) -> Phasor
         requires { IsWithin 1000000000 self }
         ensures { result ≡ turn_back tone self }
