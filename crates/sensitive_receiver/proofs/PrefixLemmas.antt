@@ -119,8 +119,8 @@ taken-append held x y h =
     record {
       samples = record {
         within = omega arith;
-        window = λ i small enough. h.samples.window i small enough
-            ∙ sym (get_or_append_left x y (pos 0) (held.count + i - 8) (omega arith));
+        once = λ n before late. h.samples.once n before late ∙ sym (get_or_append_left x y (pos 0) n (omega arith));
+        again = λ n before late. h.samples.again n before late ∙ sym (get_or_append_left x y (pos 0) n (omega arith));
         recent = λ place d there late. h.samples.recent place d there late
             ∙ correlations-append x y place (omega arith);
       };

@@ -2,7 +2,7 @@
 use Rattle.std.proofs.Common.{◌≡◌, ◌≢◌, ℕ, ◌+◌, ◌-◌, ◌%◌, ◌<◌, ◌≤◌, ℤ, pos, List, length, get_or, set, replicate, sym}
 use Rattle.std.proofs.Common.{ap, subst, ◌∙◌, arith, inl, inr, get_or-set_same, get_or-set_other}
 use Rattle.std.specs.List.{All}
-use Rattle.std.proofs.lemmas.Bool.{cases_eq}
+use Rattle.std.proofs.lemmas.Bool.{cases_eq, cases_lt}
 use Rattle.std.proofs.lemmas.List.{length-set, get_or-replicate}
 use Rattle.tone_tracking.specs.declared.correlation.Correlations.{Correlations}
 use Rattle.tone_tracking.specs.Correlation.{AreWithin, correlations}
@@ -14,52 +14,100 @@ use Rattle.tone_tracking.proofs.CorrelationLemmas.{correlations-agree}
 use Rattle.tone_tracking.proofs.PhasorLemmas.{within_none as phasor_within_none}
 
 abbrev pub held : ℕ → List ℤ → List Correlations → HeldTracker → HeldTracker → HeldLists
-held count window recent near far = record { count = count; window = window; recent = recent; near = near; far = far }
+held count samples recent near far = record {
+  count = count;
+  samples = samples;
+  recent = recent;
+  near = near;
+  far = far;
+}
 
 -- a tracker that decides no place with a sample more
 pub still_decided : (tracker : HeldTracker) (count more : ℕ) (x : List ℤ) → places_in more ≡ places_in count
     → HasDecided tracker count x → HasDecided tracker more x
 still_decided tracker count more x same h = record { place = h.place ∙ sym same; stands_for = h.stands_for }
 
-module _ (count : ℕ) (window moved : List ℤ) (recent : List Correlations) (x : List ℤ) (sample : ℤ)
+-- samples with one more, written where its number is modulo 8 and again eight on
+abbrev pub with_next : ℕ → List ℤ → ℤ → List ℤ
+with_next count samples sample = set (set samples (count % 8) sample) (count % 8 + 8) sample
+
+module _ (count : ℕ) (samples : List ℤ) (recent : List Correlations) (x : List ℤ) (sample : ℤ)
     (was : HeldTracker) (other : HeldTracker)
-    (h : HasSamples (held count window recent was other) x) (room : count < length x)
-    (is : sample ≡ get_or x count (pos 0))
-    (moves : (i : ℕ) → i < 7 → get_or moved i (pos 0) ≡ get_or window (i + 1) (pos 0))
-    (last : get_or moved 7 (pos 0) ≡ sample) where
-  -- the window is that of the samples
-  pub window_next : (i : ℕ) → i < 8 → 8 ≤ (count + 1) + i → get_or moved i (pos 0)
-      ≡ get_or x ((count + 1) + i - 8) (pos 0)
-  window_next i small enough = elim (cases_eq i 7) [
-    | inl e ↦ (let at : count ≡ (count + 1) + i - 8 = omega arith in
-        ap (λ k. get_or moved k (pos 0)) e ∙ last ∙ is ∙ ap (λ k. get_or x k (pos 0)) at)
-    | inr ne ↦ (let at : count + (i + 1) - 8 ≡ (count + 1) + i - 8 = omega arith in
-        moves i (omega arith) ∙ h.window (i + 1) (omega arith) (omega arith) ∙ ap (λ k. get_or x k (pos 0)) at)
+    (h : HasSamples (held count samples recent was other) x) (room : count < length x)
+    (is : sample ≡ get_or x count (pos 0)) (wide : length samples ≡ 16) where
+  abbrev first : List ℤ
+  first = set samples (count % 8) sample
+
+  abbrev next : List ℤ
+  next = with_next count samples sample
+
+  once_next : (n : ℕ) → n < count + 1 → count + 1 ≤ n + 8 → get_or next (n % 8) (pos 0) ≡ get_or x n (pos 0)
+  once_next n before late = elim (cases_eq n count) [
+    | inl e ↦ (let slot : n % 8 ≡ count % 8 = ap (λ k. k % 8) e in
+        let apart : count % 8 ≢ count % 8 + 8 = omega arith in
+        ap (λ k. get_or next k (pos 0)) slot
+        ∙ get_or-set_other first (count % 8 + 8) (count % 8) sample (pos 0) apart
+        ∙ get_or-set_same samples (count % 8) sample (pos 0) (omega arith)
+        ∙ is ∙ ap (λ k. get_or x k (pos 0)) (sym e))
+    | inr ne ↦ (let apart : n % 8 ≢ count % 8 + 8 = omega arith in
+        let other_slot : n % 8 ≢ count % 8 = omega arith in
+        get_or-set_other first (count % 8 + 8) (n % 8) sample (pos 0) apart
+        ∙ get_or-set_other samples (count % 8) (n % 8) sample (pos 0) other_slot
+        ∙ h.once n (omega arith) (omega arith))
+  ]
+
+  again_next : (n : ℕ) → n < count + 1 → count + 1 ≤ n + 8 → get_or next (n % 8 + 8) (pos 0) ≡ get_or x n (pos 0)
+  again_next n before late = elim (cases_eq n count) [
+    | inl e ↦ (let slot : n % 8 + 8 ≡ count % 8 + 8 = ap (λ k. k % 8 + 8) e in
+        let size = length-set samples (count % 8) sample in
+        ap (λ k. get_or next k (pos 0)) slot
+        ∙ get_or-set_same first (count % 8 + 8) sample (pos 0) (omega arith)
+        ∙ is ∙ ap (λ k. get_or x k (pos 0)) (sym e))
+    | inr ne ↦ (let apart : n % 8 + 8 ≢ count % 8 + 8 = omega arith in
+        let other_slot : n % 8 + 8 ≢ count % 8 = omega arith in
+        get_or-set_other first (count % 8 + 8) (n % 8 + 8) sample (pos 0) apart
+        ∙ get_or-set_other samples (count % 8) (n % 8 + 8) sample (pos 0) other_slot
+        ∙ h.again n (omega arith) (omega arith))
+  ]
+
+  -- the eight after the slot of the next sample are the last eight
+  pub last_eight : (i : ℕ) → i < 8 → 8 ≤ count + 1
+      → get_or next ((count % 8 + 1) + i) (pos 0) ≡ get_or x ((count + 1 - 8) + i) (pos 0)
+  last_eight i small enough = elim (cases_lt ((count % 8 + 1) + i) 8) [
+    | inl low ↦ (let at : (count % 8 + 1) + i ≡ ((count + 1 - 8) + i) % 8 = omega arith in
+        ap (λ k. get_or next k (pos 0)) at ∙ once_next ((count + 1 - 8) + i) (omega arith) (omega arith))
+    | inr high ↦ (let at : (count % 8 + 1) + i ≡ ((count + 1 - 8) + i) % 8 + 8 = omega arith in
+        ap (λ k. get_or next k (pos 0)) at ∙ again_next ((count + 1 - 8) + i) (omega arith) (omega arith))
   ]
 
   -- before the eighth sample there are no correlations
-  pub samples_few : (near far : HeldTracker) → count + 1 < 8 → HasSamples (held (count + 1) moved recent near far) x
+  pub samples_few : (near far : HeldTracker) → count + 1 < 8 → HasSamples (held (count + 1) next recent near far) x
   samples_few near far few = record {
     within = omega arith;
-    window = window_next;
+    once = once_next;
+    again = again_next;
     recent = λ place d inside _. absurd (omega arith);
   }
 
   -- and then one more
-  pub samples_more : (near far : HeldTracker) (c : Correlations) → 8 ≤ count + 1 → length recent ≡ 32
-      → c ≡ correlations moved 0
-      → HasSamples (held (count + 1) moved (set recent ((count + 1 - 8) % 32) c) near far) x
-  samples_more near far c enough size c_is = record {
+  pub samples_more : (near far : HeldTracker) (window : List ℤ) (c : Correlations) → 8 ≤ count + 1
+      → length recent ≡ 32
+      → ((i : ℕ) → i < 8 → get_or window i (pos 0) ≡ get_or next ((count % 8 + 1) + i) (pos 0))
+      → c ≡ correlations window 0
+      → HasSamples (held (count + 1) next (set recent ((count + 1 - 8) % 32) c) near far) x
+  samples_more near far window c enough size from c_is = record {
     within = omega arith;
-    window = window_next;
+    once = once_next;
+    again = again_next;
     recent = λ place d inside late. elim (cases_eq place (count + 1 - 8)) [
       | inl e ↦ (let slot : place % 32 ≡ (count + 1 - 8) % 32 = ap (λ k. k % 32) e in
           ap (λ k. get_or (set recent ((count + 1 - 8) % 32) c) k d) slot
           ∙ get_or-set_same recent ((count + 1 - 8) % 32) c d (omega arith)
-          ∙ c_is ∙ correlations-agree moved x 0 place (λ i small.
+          ∙ c_is ∙ correlations-agree window x 0 place (λ i small.
           let none : 0 + i ≡ i = omega arith in
-          let at : (count + 1) + i - 8 ≡ place + i = omega arith in
-          ap (λ k. get_or moved k (pos 0)) none ∙ window_next i small (omega arith) ∙ ap (λ k. get_or x k (pos 0)) at))
+          let at : (count + 1 - 8) + i ≡ place + i = omega arith in
+          ap (λ k. get_or window k (pos 0)) none ∙ from i small ∙ last_eight i small enough
+          ∙ ap (λ k. get_or x k (pos 0)) at))
       | inr ne ↦ (let apart : place % 32 ≢ (count + 1 - 8) % 32 = omega arith in
           get_or-set_other recent ((count + 1 - 8) % 32) (place % 32) c d apart
           ∙ h.recent place d (omega arith) (omega arith))
@@ -104,14 +152,15 @@ all_within-set recent at c all one k d inside = elim (cases_eq k at) [
 ]
 
 -- no samples are taken
-pub taken_none : (x : List ℤ) (window : List ℤ) (recent : List Correlations) (near far : HeldTracker) → near.place ≡ 0
+pub taken_none : (x : List ℤ) (samples : List ℤ) (recent : List Correlations) (near far : HeldTracker) → near.place ≡ 0
     → far.place ≡ 0
     → TrackerStandsFor near (correlations x) → TrackerStandsFor far (correlations x)
-    → HasTaken (held 0 window recent near far) x
-taken_none x window recent near far near_place far_place near_stands far_stands = record {
+    → HasTaken (held 0 samples recent near far) x
+taken_none x samples recent near far near_place far_place near_stands far_stands = record {
   samples = record {
     within = omega arith;
-    window = λ i small enough. absurd (omega arith);
+    once = λ n before late. absurd (omega arith);
+    again = λ n before late. absurd (omega arith);
     recent = λ place d inside late. absurd (omega arith);
   };
   near = record { place = near_place; stands_for = near_stands };

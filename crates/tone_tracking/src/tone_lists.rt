@@ -11,12 +11,13 @@ use crate::tone_tracker::ToneTracker;
 use std::marker::Model;
 use tone_table::Tone;
 
-/// Takes samples one by one, and decides the tone at each place in both lists as soon as the 24 samples from there on have
-/// come. It keeps the last eight samples, the correlations at the last places, and two trackers.
+/// Takes samples one by one, and decides the tone at each place in both lists as soon as the 24 samples from there on
+/// have come. It keeps the last eight samples, the correlations at the last places, and two trackers. It writes each sample
+/// twice, so that the last eight always stand in a row and no sample is moved.
 #[derive(Debug, Drop)]
 pub struct ToneLists {
     count: u64,
-    window: [i16; 8],
+    samples: [i16; 16],
     recent: [Correlations; 32],
     near: ToneTracker,
     far: ToneTracker,
@@ -32,7 +33,7 @@ impl Model for ToneLists {
 
     ghost Value = { HeldLists };
 
-    ghost view = { λ s. record { count = s.count; window = s.window; recent = s.recent; near = s.near; far = s.far } };
+    ghost view = { λ s. record { count = s.count; samples = s.samples; recent = s.recent; near = s.near; far = s.far } };
 
     ghost invariant = { λ s. All AreWithin s.recent × (s.near.reach ≡ Near) × (s.far.reach ≡ Far) × (s.near.place ≡ places_in s.count) × (s.far.place ≡ places_in s.count) };
 }
@@ -45,7 +46,7 @@ impl ToneLists {
     {
         ToneLists {
             count: 0,
-            window: [0; 8],
+            samples: [0; 16],
             recent: [Correlations::NONE; 32],
             near: ToneTracker::new(Reach::Near),
             far: ToneTracker::new(Reach::Far),
@@ -60,13 +61,15 @@ impl ToneLists {
         ensures decided { IsTrue result ↔ (23 ≤ self.old.count) }
         ensures count { self.new.count ≡ self.old.count + 1 }
     {
+        let slot = (self.count % 8) as usize;
+        self.samples[slot] = sample;
+        self.samples[slot + 8] = sample;
         let count = self.count + 1;
-        self.window = with_next(&self.window, sample);
         self.count = count;
         if count < 8 {
             return false;
         }
-        let later = correlate(&self.window);
+        let later = correlate(eight_from(&self.samples, slot + 1));
         self.recent[((count - 8) % 32) as usize] = later;
         if count < 24 {
             return false;
@@ -91,11 +94,10 @@ impl ToneLists {
     }
 }
 
-/// The window one sample later.
-fn with_next(window: &[i16; 8], sample: i16) -> [i16; 8]
-    ensures moved { (i : ℕ) → i < 7 → slice_index_or result i (pos 0) ≡ slice_index_or window.now (i + 1) (pos 0) }
-    ensures last { slice_index_or result 7 (pos 0) ≡ sample }
+/// Eight samples in a row, from one of them on.
+fn eight_from(samples: &[i16; 16], first: usize) -> &[i16; 8]
+    requires { first ≤ 8 }
+    ensures { (i : ℕ) → i < 8 → slice_index_or result.now i (pos 0) ≡ slice_index_or samples.now (first + i) (pos 0) }
 {
-    let [_, a, b, c, d, e, f, g] = *window;
-    [a, b, c, d, e, f, g, sample]
+    samples[first..].first_chunk().unwrap()
 }

@@ -1,26 +1,29 @@
 use Rattle.std.proofs.Common.{◌≡◌, ◌+◌, ◌-◌, ◌%◌, ◌<◌, ◌≤◌, ℤ, pos, List, length, get_or, set, refl, sym, subst, ◌∙◌}
-use Rattle.std.proofs.Common.{get_or-set_same, arith, rules}
+use Rattle.std.proofs.Common.{get_or-set_same, to_z, of_z, arith, rules}
 use Rattle.std.proofs.lemmas.List.{length-set}
 use Rattle.std.proofs.lemmas.Int.{to_z-of_z}
 use mir.Syntax.{w16}
 use Rattle.tone_tracking.specs.declared.correlation.Correlations.{Correlations}
 use Rattle.tone_tracking.specs.Phasors.{none}
 use Rattle.tone_tracking.specs.HeldLists.{HeldLists, HasSamples, HasTaken}
-use Rattle.tone_tracking.proofs.ListsLemmas.{held, still_decided, samples_few, samples_more, kept_at, decided_more}
-use Rattle.tone_tracking.proofs.ListsLemmas.{all_within-set}
+use Rattle.tone_tracking.proofs.ListsLemmas.{held, with_next, still_decided, samples_few, samples_more, kept_at}
+use Rattle.tone_tracking.proofs.ListsLemmas.{decided_more, all_within-set}
 use Rattle.tone_tracking.proofs.tone_lists.ToneLists.push.Goals as goal
 
 pub returns-then-count-lt8-clause-has_taken : goal.returns-then-count-lt8-clause-has_taken
 returns-then-count-lt8-clause-has_taken c =
     let s = c.self.inside in
-    let moved = c.with_next-self-inside in
+    let wide : length s.samples ≡ 16 = search rules in
+    let given : ℤ = to_z w16 (of_z w16 c.args.sample) in
+    let same : given ≡ c.args.sample = to_z-of_z w16 c.args.sample c.ranges.sample in
+    let kept : List ℤ = with_next s.count s.samples given in
     let few = c.if-count-lt8.true in
     let P : HeldLists → Type 0 = λ old. (x : List ℤ) → HasTaken old x → old.count < length x
     → c.args.sample ≡ get_or x old.count (pos 0)
-    → HasTaken (held (s.count + 1) moved.result s.recent s.near s.far) x in
+    → HasTaken (held (s.count + 1) kept s.recent s.near s.far) x in
     subst P c.self.view_is (λ x h room is. record {
-      samples = samples_few s.count s.window moved.result s.recent x c.args.sample s.near s.far h.samples room is
-          moved.ensures.moved (moved.ensures.last ∙ to_z-of_z w16 c.args.sample c.ranges.sample) s.near s.far few;
+      samples = samples_few s.count s.samples s.recent x given s.near s.far h.samples room (same ∙ is) wide s.near
+          s.far few;
       near = still_decided s.near s.count (s.count + 1) x (omega arith) h.near;
       far = still_decided s.far s.count (s.count + 1) x (omega arith) h.far;
     })
@@ -28,18 +31,21 @@ returns-then-count-lt8-clause-has_taken c =
 pub returns-then-count-lt24-clause-has_taken : goal.returns-then-count-lt24-clause-has_taken
 returns-then-count-lt24-clause-has_taken c =
     let s = c.self.inside in
-    let moved = c.with_next-self-inside in
+    let wide : length s.samples ≡ 16 = search rules in
+    let given : ℤ = to_z w16 (of_z w16 c.args.sample) in
+    let same : given ≡ c.args.sample = to_z-of_z w16 c.args.sample c.ranges.sample in
+    let kept : List ℤ = with_next s.count s.samples given in
     let enough = c.if-count-lt8.false in
     let few = c.if-count-lt24.true in
     let size : length s.recent ≡ 32 = search rules in
     let P : HeldLists → Type 0 = λ old. (x : List ℤ) → HasTaken old x → old.count < length x
     → c.args.sample ≡ get_or x old.count (pos 0)
-    → HasTaken (held (s.count + 1) moved.result (set s.recent ((s.count + 1 - 8) % 32) c.correlate-later.result)
+    → HasTaken (held (s.count + 1) kept (set s.recent ((s.count + 1 - 8) % 32) c.correlate-later.result)
     s.near s.far) x in
     subst P c.self.view_is (λ x h room is. record {
-      samples = samples_more s.count s.window moved.result s.recent x c.args.sample s.near s.far h.samples room is
-          moved.ensures.moved (moved.ensures.last ∙ to_z-of_z w16 c.args.sample c.ranges.sample) s.near s.far
-          c.correlate-later.result enough size c.correlate-later.ensures.sums;
+      samples = samples_more s.count s.samples s.recent x given s.near s.far h.samples room (same ∙ is) wide s.near
+          s.far c.eight_from.result.now c.correlate-later.result enough size c.eight_from.ensures
+          c.correlate-later.ensures.sums;
       near = still_decided s.near s.count (s.count + 1) x (omega arith) h.near;
       far = still_decided s.far s.count (s.count + 1) x (omega arith) h.far;
     })
@@ -47,7 +53,10 @@ returns-then-count-lt24-clause-has_taken c =
 pub returns-clause-has_taken : goal.returns-clause-has_taken
 returns-clause-has_taken c =
     let s = c.self.inside in
-    let moved = c.with_next-self-inside in
+    let wide : length s.samples ≡ 16 = search rules in
+    let given : ℤ = to_z w16 (of_z w16 c.args.sample) in
+    let same : given ≡ c.args.sample = to_z-of_z w16 c.args.sample c.ranges.sample in
+    let kept : List ℤ = with_next s.count s.samples given in
     let enough : 8 ≤ s.count + 1 = c.if-count-lt8.false in
     let many : 24 ≤ s.count + 1 = c.if-count-lt24.false in
     let size : length s.recent ≡ 32 = search rules in
@@ -55,14 +64,13 @@ returns-clause-has_taken c =
     let silence : Correlations = record { mark = none; space = none } in
     let P : HeldLists → Type 0 = λ old. (x : List ℤ) → HasTaken old x → old.count < length x
     → c.args.sample ≡ get_or x old.count (pos 0)
-    → HasTaken (held (s.count + 1) moved.result recent c.decide_as.new.self c.decide_as-2.new.self) x in
+    → HasTaken (held (s.count + 1) kept recent c.decide_as.new.self c.decide_as-2.new.self) x in
     subst P c.self.view_is (λ x h room is.
-    let samples : HasSamples (held (s.count + 1) moved.result recent c.decide_as.new.self c.decide_as-2.new.self) x
-    = samples_more s.count s.window moved.result s.recent x c.args.sample s.near s.far h.samples room is
-    moved.ensures.moved (moved.ensures.last ∙ to_z-of_z w16 c.args.sample c.ranges.sample)
-    c.decide_as.new.self c.decide_as-2.new.self
-    c.correlate-later.result enough size c.correlate-later.ensures.sums in
-    let all : HeldLists = held (s.count + 1) moved.result recent c.decide_as.new.self c.decide_as-2.new.self in
+    let samples : HasSamples (held (s.count + 1) kept recent c.decide_as.new.self c.decide_as-2.new.self) x
+    = samples_more s.count s.samples s.recent x given s.near s.far h.samples room (same ∙ is) wide
+    c.decide_as.new.self c.decide_as-2.new.self c.eight_from.result.now c.correlate-later.result enough size
+    c.eight_from.ensures c.correlate-later.ensures.sums in
+    let all : HeldLists = held (s.count + 1) kept recent c.decide_as.new.self c.decide_as-2.new.self in
     let one = kept_at all x silence (s.count + 1 - 24) (s.count + 1 - 24) samples refl (omega arith) (omega arith) in
     let two = kept_at all x silence (s.count + 1 - 16) (s.count + 1 - 16) samples refl (omega arith) (omega arith) in
     let slot = s.count + 1 - 8 in
