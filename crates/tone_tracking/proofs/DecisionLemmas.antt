@@ -39,7 +39,8 @@ largest-one from next =
     ∙ ap (λ z. int_max z (size (plus from next.space))) (max_none _ (size_least (plus from next.mark)))
 
 -- a sum in phase with two windows, the first of them of one tone
-through_mark : (from first second : Phasor) → size (plus from (plus first second)) ≡ size (plus (plus from first) second)
+through_mark : (from first second : Phasor)
+    → size (plus from (plus first second)) ≡ size (plus (plus from first) second)
 through_mark from first second = ap size (sym (plus-assoc from first second))
 
 through_space : (from first second : Phasor)
@@ -56,7 +57,8 @@ largest-two from next later =
     let space = plus later.space none in
     let back = turn_back Space (plus from next.space) in
     (λ i. int_max (int_max (int_max (int_max (pos 0) (through_mark from next.mark mark i))
-    (through_mark from next.mark space i)) (through_space from next.space mark i)) (through_space from next.space space i))
+    (through_mark from next.mark space i)) (through_space from next.space mark i))
+    (through_space from next.space space i))
     ∙ max_two _ (size (plus back mark)) (size (plus back space)) (size_least (plus back mark))
 
 -- with the past turned in the place of what is added

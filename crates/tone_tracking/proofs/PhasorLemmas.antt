@@ -123,6 +123,6 @@ size-turn_back p =
 -- so a turn of what is added does what a turn back of the rest does
 pub size-turn : (p q : Phasor) → size (plus p (turn Space q)) ≡ size (plus (turn_back Space p) q)
 size-turn p q =
-    let turned : turn_back Space (plus p (turn Space q)) ≡ plus (turn_back Space p) q = phasor_is _ _ (omega (arith, ints))
-    (omega (arith, ints)) in
+    let turned : turn_back Space (plus p (turn Space q)) ≡ plus (turn_back Space p) q
+    = phasor_is _ _ (omega (arith, ints)) (omega (arith, ints)) in
     sym (size-turn_back (plus p (turn Space q))) ∙ ap size turned

@@ -12,8 +12,8 @@ use std::marker::Model;
 use tone_table::Tone;
 
 /// Takes samples one by one, and decides the tone at each place in both lists as soon as the 24 samples from there on
-/// have come. It keeps the last eight samples, the correlations at the last places, and two trackers. It writes each sample
-/// twice, so that the last eight always stand in a row and no sample is moved.
+/// have come. It keeps the last eight samples, the correlations at the last places, and two trackers. It writes each
+/// sample twice, so that the last eight always stand in a row and no sample is moved.
 #[derive(Debug, Drop)]
 pub struct ToneLists {
     count: u64,

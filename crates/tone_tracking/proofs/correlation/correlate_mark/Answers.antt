@@ -1,5 +1,5 @@
-use Rattle.std.proofs.Common.{◌≡◌, ℕ, ◌≤◌, ℤ, pos, negsuc, ◌+ℤ◌, ◌-ℤ◌, ◌*ℤ◌, neg_ℤ, List, [], ◌∷◌, get_or, to_z, of_z, w32}
-use Rattle.std.proofs.Common.{w64, FitsSigned, unsigned_abs, refl, ap, ◌∙◌, arith}
+use Rattle.std.proofs.Common.{◌≡◌, ℕ, ◌≤◌, ℤ, pos, negsuc, ◌+ℤ◌, ◌-ℤ◌, ◌*ℤ◌, neg_ℤ, List, [], ◌∷◌, get_or, to_z}
+use Rattle.std.proofs.Common.{of_z, w32, w64, FitsSigned, unsigned_abs, refl, ap, ◌∙◌, arith}
 use Rattle.std.proofs.lemmas.Int.{ints, to_z-of_z}
 use Rattle.tone_table.specs.declared.tone.Tone.TheVariants.{Mark}
 use Rattle.tone_table.specs.Sine.{quarter, half_wave, cycle_sample, wave_sample}
@@ -59,7 +59,8 @@ module _ (p q r s : ℤ) (p_most : unsigned_abs p ≤ 65535) (q_most : unsigned_
   on_three_fits x y first second = omega (arith, ints)
 
   on_three : to_z w32 (of_z w32 (to_z w32 (of_z w32 (to_z w32 (of_z w32 (pos 87 *ℤ to_z w32 (of_z w32 p)))
-      +ℤ to_z w32 (of_z w32 (pos 97 *ℤ to_z w32 (of_z w32 q))))) +ℤ to_z w32 (of_z w32 (pos 50 *ℤ to_z w32 (of_z w32 r)))))
+      +ℤ to_z w32 (of_z w32 (pos 97 *ℤ to_z w32 (of_z w32 q)))))
+      +ℤ to_z w32 (of_z w32 (pos 50 *ℤ to_z w32 (of_z w32 r)))))
       ≡ (pos 87 *ℤ p +ℤ pos 97 *ℤ q) +ℤ pos 50 *ℤ r
   on_three = added _ _ (pos 87 *ℤ p +ℤ pos 97 *ℤ q) (pos 50 *ℤ r) on_two fifty (omega (arith, ints))
 
@@ -70,7 +71,8 @@ module _ (p q r s : ℤ) (p_most : unsigned_abs p ≤ 65535) (q_most : unsigned_
   at_fits x y first second = omega (arith, ints)
 
   at_three : to_z w32 (of_z w32 (to_z w32 (of_z w32 (to_z w32 (of_z w32 (pos 71 *ℤ to_z w32 (of_z w32 q)))
-      +ℤ to_z w32 (of_z w32 (pos 100 *ℤ to_z w32 (of_z w32 r))))) +ℤ to_z w32 (of_z w32 (pos 71 *ℤ to_z w32 (of_z w32 s)))))
+      +ℤ to_z w32 (of_z w32 (pos 100 *ℤ to_z w32 (of_z w32 r)))))
+      +ℤ to_z w32 (of_z w32 (pos 71 *ℤ to_z w32 (of_z w32 s)))))
       ≡ at
   at_three = added _ _ (pos 71 *ℤ q +ℤ pos 100 *ℤ r) (pos 71 *ℤ s) at_two seventy_one (omega (arith, ints))
 

@@ -1,5 +1,5 @@
-use Rattle.std.proofs.Common.{◌≡◌, ◌≤◌, ◌-ℤ◌, ℤ, pos, neg_ℤ, to_z, of_z, w32, w64, FitsSigned, unsigned_abs, refl, ap, ◌∙◌}
-use Rattle.std.proofs.Common.{arith}
+use Rattle.std.proofs.Common.{◌≡◌, ◌≤◌, ◌-ℤ◌, ℤ, pos, neg_ℤ, to_z, of_z, w32, w64, FitsSigned, unsigned_abs, refl, ap}
+use Rattle.std.proofs.Common.{◌∙◌, arith}
 use Rattle.std.proofs.lemmas.Int.{ints, to_z-of_z}
 use Rattle.tone_table.specs.declared.tone.Tone.TheVariants.{Space}
 use Rattle.tone_table.specs.Sine.{quarter, half_wave, cycle_sample, wave_sample}
