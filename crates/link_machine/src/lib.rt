@@ -57,7 +57,7 @@ mod acts;
 mod control;
 mod fault;
 mod flushing;
-mod hearing;
+mod hearing_down;
 mod hearing_up;
 mod link;
 mod machine;
