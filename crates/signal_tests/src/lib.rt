@@ -1,0 +1,12 @@
+//! Tests of the crates between samples and frames. They have a crate of their own, since a crate with tests is proved
+//! twice.
+//!
+//! Expected values come from outside the tested crates: the samples of a sine, correlations and decisions that a second
+//! program computed, check values of the frame check sequence of ISO/IEC 3309, and events that a slow program finds by
+//! the definitions on whole lists of bits. Cases of the merger and of the ring are worked by hand.
+#![tactic(auto)]
+
+#[cfg(test)]
+mod assertions;
+#[cfg(test)]
+mod tone_table;
