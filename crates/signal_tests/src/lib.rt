@@ -9,4 +9,8 @@
 #[cfg(test)]
 mod assertions;
 #[cfg(test)]
+mod letters;
+#[cfg(test)]
+mod nrzi_bits;
+#[cfg(test)]
 mod tone_table;
