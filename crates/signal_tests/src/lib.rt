@@ -9,8 +9,12 @@
 #[cfg(test)]
 mod assertions;
 #[cfg(test)]
+mod hdlc_framer;
+#[cfg(test)]
 mod letters;
 #[cfg(test)]
 mod nrzi_bits;
+#[cfg(test)]
+mod shortest_frame;
 #[cfg(test)]
 mod tone_table;
