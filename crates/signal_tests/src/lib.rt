@@ -7,6 +7,8 @@
 #![tactic(auto)]
 
 #[cfg(test)]
+mod afsk_modulator;
+#[cfg(test)]
 mod assertions;
 #[cfg(test)]
 mod hdlc_framer;
