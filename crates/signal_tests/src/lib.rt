@@ -17,6 +17,8 @@ mod letters;
 #[cfg(test)]
 mod nrzi_bits;
 #[cfg(test)]
+mod offset_slicers;
+#[cfg(test)]
 mod shortest_frame;
 #[cfg(test)]
 mod tone_table;

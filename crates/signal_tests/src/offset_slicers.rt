@@ -1,4 +1,6 @@
-use super::*;
+//! Windows whose correlations, energies and tones a second program computed, and where slicers end windows.
+use crate::assertions::assert_equal;
+use offset_slicers::{Slicer, correlate, decide, energies, near_windows, pure_windows};
 use tone_table::Tone;
 
 /// A space from phase 0, which ends at phase 40.
@@ -41,10 +43,9 @@ fn correlations_energies_and_tones_of_known_windows(rt: HostRuntime) {
     ];
     pure_windows();
     near_windows();
-    for (window, sums, want, tone) in windows {
-        assert_eq!(rt; correlate(&window), sums);
-        assert_eq!(rt; energies(&window), want);
-        assert_eq!(rt; decide(&window), tone);
+    for (window, sums, both, tone) in windows {
+        let got = (correlate(&window), energies(&window), decide(&window));
+        assert_equal(&rt, &got, &(sums, both, tone));
     }
 }
 
@@ -61,16 +62,17 @@ fn each_offset_gives_one_bit_at_the_end_of_each_of_its_windows(rt: HostRuntime) 
         let mut slicer = Slicer::new(offset);
         for _ in 0..offset {
             assert!(rt; slicer.position() < 1000);
-            assert_eq!(rt; slicer.push(0), None);
+            assert_equal(&rt, &slicer.push(0), &None);
         }
         for (window, bit) in windows {
             for (place, sample) in window.into_iter().enumerate() {
                 assert!(rt; slicer.position() < 1000);
-                let want = if place == 7 { Some(bit) } else { None };
-                assert_eq!(rt; slicer.push(sample), want, "offset {offset}, place {place}");
+                let wanted = if place == 7 { Some(bit) } else { None };
+                let got = slicer.push(sample);
+                assert_equal(&rt, &(offset, place, got), &(offset, place, wanted));
             }
         }
-        assert_eq!(rt; slicer.position(), u64::from(offset) + 40);
+        assert_equal(&rt, &slicer.position(), &(u64::from(offset) + 40));
     }
 }
 
@@ -83,8 +85,8 @@ fn hears_windows_behind(slicer: &mut Slicer, silent: u64) -> bool {
     }
     for (window, bit) in [(SPACE, false), (SPACE_ON, true), (MARK_ON, false)] {
         for (place, sample) in window.into_iter().enumerate() {
-            let want = if place == 7 { Some(bit) } else { None };
-            if slicer.position() >= 1000 || slicer.push(sample) != want {
+            let wanted = if place == 7 { Some(bit) } else { None };
+            if slicer.position() >= 1000 || slicer.push(sample) != wanted {
                 return false;
             }
         }
@@ -112,10 +114,8 @@ fn after_a_skip_the_first_window_of_the_offset_is_heard_from_mark(rt: HostRuntim
         }
         assert!(rt; slicer.position() <= to && to <= 1000);
         slicer.skip(to);
-        assert_eq!(rt; slicer.position(), to);
-        assert!(rt;
-            hears_windows_behind(&mut slicer, silent),
-            "offset {offset}, to {to}"
-        );
+        let position = slicer.position();
+        let heard = hears_windows_behind(&mut slicer, silent);
+        assert_equal(&rt, &(offset, position, heard), &(offset, to, true));
     }
 }
