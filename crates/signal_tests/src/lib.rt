@@ -22,3 +22,5 @@ mod offset_slicers;
 mod shortest_frame;
 #[cfg(test)]
 mod tone_table;
+#[cfg(test)]
+mod tone_tracking;
