@@ -11,6 +11,8 @@ mod afsk_modulator;
 #[cfg(test)]
 mod assertions;
 #[cfg(test)]
+mod frame_merge;
+#[cfg(test)]
 mod hdlc_framer;
 #[cfg(test)]
 mod letters;
