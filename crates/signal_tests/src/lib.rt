@@ -21,6 +21,8 @@ mod nrzi_bits;
 #[cfg(test)]
 mod offset_slicers;
 #[cfg(test)]
+mod sample_ring;
+#[cfg(test)]
 mod shortest_frame;
 #[cfg(test)]
 mod tone_table;

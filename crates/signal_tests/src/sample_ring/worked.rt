@@ -1,0 +1,96 @@
+//! A worked ring of 8 cells, and the refusals.
+ghost use Rattle.std.specs.Prelude.{◌≡◌, IfOk};
+ghost use Rattle.sample_ring.specs.Ends.{ring_id, writer_ring, reader_ring};
+
+use super::published::{publish_to, sample_at};
+use crate::assertions::assert_equal;
+use sample_ring::{Got, Note, Reader, Ring, RingFault, Writer, WriterDone};
+use std::alloc::Global;
+use std::test::Fail;
+
+fn item(at: u64) -> Got {
+    Got::Item {
+        at,
+        sample: sample_at(at),
+    }
+}
+
+fn with_one_reader(alloc: Global, len: u32) -> Result<(Ring, Writer, Reader), RingFault>
+    ensures { IfOk result (λ made. (writer_ring made.1 ≡ ring_id made.0) × (reader_ring made.2 ≡ ring_id made.0)) }
+{
+    let (ring, writer, mut readers) = Ring::new(alloc, len, 1)?;
+    let Some(reader) = readers.pop() else {
+        return Err(RingFault::Memory);
+    };
+    Ok((ring, writer, reader))
+}
+
+/// Whether the next reads give the items from one position to below another.
+fn reads_items(ring: &Ring, reader: &mut Reader, from: u64, to: u64) -> bool
+    requires { reader_ring reader.old ≡ ring_id ring.now }
+    ensures { reader_ring reader.new ≡ reader_ring reader.old }
+{
+    for at in from..to {
+        if reader.read(ring) != item(at) {
+            return false;
+        }
+    }
+    true
+}
+
+fn crosses_threads<T: Send>() {}
+
+fn is_shared<T: Sync>() {}
+
+#[test]
+fn the_ring_is_shared_and_each_end_crosses_threads() {
+    is_shared::<Ring>();
+    crosses_threads::<Ring>();
+    crosses_threads::<Writer>();
+    crosses_threads::<WriterDone>();
+    crosses_threads::<Reader>();
+    crosses_threads::<Note>();
+}
+
+#[test]
+fn a_ring_of_eight_cells_gives_items_gaps_and_the_end(rt: HostRuntime) -> Result<(), Fail> {
+    let (ring, mut writer, mut reader) = with_one_reader(rt.alloc(), 8)?;
+    assert_equal(&rt, &reader.read(&ring), &Got::Empty { at: 0 });
+    assert!(rt; publish_to(&ring, &mut writer, 3).is_ok());
+    assert!(rt; reads_items(&ring, &mut reader, 0, 3));
+    assert_equal(&rt, &reader.read(&ring), &Got::Empty { at: 3 });
+    assert!(rt; publish_to(&ring, &mut writer, 20).is_ok());
+    assert_equal(&rt, &reader.read(&ring), &Got::Gap { from: 3, to: 12 });
+    let note = writer.note(&ring);
+    assert!(rt; note.count() == 20 && writer.published() == 20);
+    reader.learn(&ring, note);
+    assert_equal(&rt, &reader.at(), &12);
+    assert!(rt; reads_items(&ring, &mut reader, 12, 20));
+    assert_equal(&rt, &reader.read(&ring), &Got::Empty { at: 20 });
+    let done = writer.end(&ring);
+    assert_equal(&rt, &reader.read(&ring), &Got::End { total: 20 });
+    assert_equal(&rt, &reader.read(&ring), &Got::End { total: 20 });
+    let mut readers = Vec::new(rt.alloc());
+    readers.push(reader)?;
+    assert_equal(&rt, &ring.close(done, readers).total(), &20);
+    Ok(())
+}
+
+#[test]
+fn lengths_and_numbers_of_readers_have_bounds(rt: HostRuntime) -> Result<(), Fail> {
+    let cases = [
+        (0, 1, "a ring of 0 cells"),
+        (1_048_577, 1, "a ring of 1048577 cells"),
+        (0, 65, "a ring of 0 cells"),
+        (8, 0, "a ring of 0 readers"),
+        (8, 65, "a ring of 65 readers"),
+    ];
+    for (len, readers, text) in cases {
+        let Err(fault) = Ring::new(rt.alloc(), len, readers) else {
+            panic!(rt; "a ring was made, not: {text}")
+        };
+        assert_equal(&rt, &format!(in rt.alloc(); "{fault}")?.as_str(), &text);
+    }
+    assert!(rt; Ring::new(rt.alloc(), 1_048_576, 64).is_ok());
+    Ok(())
+}
