@@ -54,7 +54,11 @@ fn tones_and_readings_in_noise_are_those_of_a_second_program(rt: HostRuntime) {
             let readings = (mark(slow.step(near)), mark(fast.step(near)));
             let wanted_tones = (NEAR[place], FAR[place]);
             let wanted_readings = (SLOW[place], FAST[place]);
-            assert_equal(&rt, &(place, tones, readings), &(place, wanted_tones, wanted_readings));
+            assert_equal(
+                &rt,
+                &(place, tones, readings),
+                &(place, wanted_tones, wanted_readings),
+            );
         }
     }
 }
