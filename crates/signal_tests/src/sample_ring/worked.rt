@@ -19,9 +19,7 @@ fn with_one_reader(alloc: Global, len: u32) -> Result<(Ring, Writer, Reader), Ri
     ensures { IfOk result (λ made. (writer_ring made.1 ≡ ring_id made.0) × (reader_ring made.2 ≡ ring_id made.0)) }
 {
     let (ring, writer, mut readers) = Ring::new(alloc, len, 1)?;
-    let Some(reader) = readers.pop() else {
-        return Err(RingFault::Memory);
-    };
+    let reader = readers.pop().ok_or(RingFault::Memory)?;
     Ok((ring, writer, reader))
 }
 
@@ -53,7 +51,7 @@ fn the_ring_is_shared_and_each_end_crosses_threads() {
 }
 
 #[test]
-fn a_ring_of_eight_cells_gives_items_gaps_and_the_end(rt: HostRuntime) -> Result<(), Fail> {
+fn a_ring_of_eight_cells_gives_items_and_gaps(rt: HostRuntime) -> Result<(), Fail> {
     let (ring, mut writer, mut reader) = with_one_reader(rt.alloc(), 8)?;
     assert_equal(&rt, &reader.read(&ring), &Got::Empty { at: 0 });
     assert!(rt; publish_to(&ring, &mut writer, 3).is_ok());
@@ -61,12 +59,31 @@ fn a_ring_of_eight_cells_gives_items_gaps_and_the_end(rt: HostRuntime) -> Result
     assert_equal(&rt, &reader.read(&ring), &Got::Empty { at: 3 });
     assert!(rt; publish_to(&ring, &mut writer, 20).is_ok());
     assert_equal(&rt, &reader.read(&ring), &Got::Gap { from: 3, to: 12 });
-    let note = writer.note(&ring);
-    assert!(rt; note.count() == 20 && writer.published() == 20);
-    reader.learn(&ring, note);
-    assert_equal(&rt, &reader.at(), &12);
     assert!(rt; reads_items(&ring, &mut reader, 12, 20));
     assert_equal(&rt, &reader.read(&ring), &Got::Empty { at: 20 });
+    Ok(())
+}
+
+// The first cell has the sample of position 16 then, so a ring of 8 cells has nothing below position 9.
+#[test]
+fn a_note_moves_no_reader(rt: HostRuntime) -> Result<(), Fail> {
+    let (ring, mut writer, mut reader) = with_one_reader(rt.alloc(), 8)?;
+    assert!(rt; publish_to(&ring, &mut writer, 20).is_ok());
+    assert_equal(&rt, &reader.read(&ring), &Got::Gap { from: 0, to: 9 });
+    let note = writer.note(&ring);
+    assert_equal(&rt, &(note.count(), writer.published()), &(20, 20));
+    reader.learn(&ring, note);
+    assert_equal(&rt, &reader.at(), &9);
+    assert!(rt; reads_items(&ring, &mut reader, 9, 20));
+    assert_equal(&rt, &reader.read(&ring), &Got::Empty { at: 20 });
+    Ok(())
+}
+
+#[test]
+fn a_ring_that_has_ended_tells_the_total(rt: HostRuntime) -> Result<(), Fail> {
+    let (ring, mut writer, mut reader) = with_one_reader(rt.alloc(), 32)?;
+    assert!(rt; publish_to(&ring, &mut writer, 20).is_ok());
+    assert!(rt; reads_items(&ring, &mut reader, 0, 20));
     let done = writer.end(&ring);
     assert_equal(&rt, &reader.read(&ring), &Got::End { total: 20 });
     assert_equal(&rt, &reader.read(&ring), &Got::End { total: 20 });
@@ -74,6 +91,14 @@ fn a_ring_of_eight_cells_gives_items_gaps_and_the_end(rt: HostRuntime) -> Result
     readers.push(reader)?;
     assert_equal(&rt, &ring.close(done, readers).total(), &20);
     Ok(())
+}
+
+/// Why no ring is made, or nothing if one is.
+fn refusal(alloc: Global, len: u32, readers: u8) -> Result<String, Fail> {
+    match Ring::new(alloc, len, readers).err() {
+        None => Ok(String::new(alloc)),
+        Some(fault) => Ok(format!(in alloc; "{fault}")?),
+    }
 }
 
 #[test]
@@ -84,13 +109,11 @@ fn lengths_and_numbers_of_readers_have_bounds(rt: HostRuntime) -> Result<(), Fai
         (0, 65, "a ring of 0 cells"),
         (8, 0, "a ring of 0 readers"),
         (8, 65, "a ring of 65 readers"),
+        (1_048_576, 64, ""),
     ];
-    for (len, readers, text) in cases {
-        let Err(fault) = Ring::new(rt.alloc(), len, readers) else {
-            panic!(rt; "a ring was made, not: {text}")
-        };
-        assert_equal(&rt, &format!(in rt.alloc(); "{fault}")?.as_str(), &text);
+    for (len, readers, wanted) in cases {
+        let text = refusal(rt.alloc(), len, readers)?;
+        assert_equal(&rt, &(len, readers, text.as_str()), &(len, readers, wanted));
     }
-    assert!(rt; Ring::new(rt.alloc(), 1_048_576, 64).is_ok());
     Ok(())
 }
