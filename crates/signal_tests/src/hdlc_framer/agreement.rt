@@ -1,6 +1,6 @@
 //! Each bit ends what the slow program finds.
 use super::definition::event_at_end;
-use super::line::{frame_of, sent};
+use super::line::{frame_of, next_word, sent};
 use crate::assertions::assert_equal;
 use crate::shortest_frame::SHORTEST;
 use hdlc_framer::Deframer;
@@ -59,8 +59,8 @@ fn random_bits(alloc: Global, seed: u32) -> Result<Vec<bool>, AllocError> {
     let mut bits = Vec::new(alloc);
     let mut word = seed;
     for _ in 0..120 {
-        word = word.wrapping_mul(1_664_525).wrapping_add(1_013_904_223);
-        bits.push(word >> 28 > 2)?;
+        word = next_word(word);
+        bits.push(word >= 0x3000_0000)?;
     }
     bits.extend_from_slice(sent(alloc, &[SHORTEST], 1, 1)?.as_slice())?;
     Ok(bits)

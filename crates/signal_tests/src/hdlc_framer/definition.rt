@@ -40,34 +40,37 @@ fn unstuffed(alloc: Global, sent: &[bool]) -> Result<Vec<bool>, AllocError> {
     let mut bits = Vec::new(alloc);
     let mut ones = 0;
     for bit in sent {
-        if ones == 5 {
-            ones = 0;
-        } else {
+        if ones != 5 {
             bits.push(*bit)?;
-            ones = if *bit && ones < 5 { ones + 1 } else { 0 };
         }
+        ones = if *bit && ones < 5 { ones + 1 } else { 0 };
     }
     Ok(bits)
 }
 
+/// Makes a 1 of a 0 at this place, and a 0 of a 1.
+pub(super) fn flip(bits: &mut Vec<bool>, at: usize) {
+    if let Some(bit) = bits.get_mut(at) {
+        *bit = !*bit;
+    }
+}
+
 /// The sixteen bits of the check sequence of bits, by long division by x^16 + x^12 + x^5 + 1.
 fn check_bits(alloc: Global, bits: &[bool]) -> Result<Vec<bool>, AllocError> {
-    let mut p = Vec::from_slice(alloc, bits)?;
-    p.extend_from_slice(&[false; 16])?;
-    for coefficient in p.iter_mut().take(16) {
-        *coefficient = !*coefficient;
+    let mut coefficients = Vec::from_slice(alloc, bits)?;
+    coefficients.extend_from_slice(&[false; 16])?;
+    for at in 0..16 {
+        flip(&mut coefficients, at);
     }
-    for i in 0..bits.len() {
-        if p.get(i) == Some(&true) {
+    for at in 0..bits.len() {
+        if coefficients.get(at) == Some(&true) {
             for power in [0, 4, 11, 16] {
-                if let Some(coefficient) = p.get_mut(i + power) {
-                    *coefficient = !*coefficient;
-                }
+                flip(&mut coefficients, at + power);
             }
         }
     }
     let mut check = Vec::new(alloc);
-    for coefficient in p.iter().skip(bits.len()) {
+    for coefficient in coefficients.iter().skip(bits.len()) {
         check.push(!*coefficient)?;
     }
     Ok(check)

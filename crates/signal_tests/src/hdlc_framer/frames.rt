@@ -1,9 +1,11 @@
 //! Check sequences, and frames that are sent and found.
+use super::definition::flip;
 use super::line::{frame_of, sent};
 use crate::assertions::assert_equal;
 use crate::shortest_frame::SHORTEST;
 use hdlc_framer::{Deframer, Event, fcs, stuff};
-use std::alloc::{AllocError, Global};
+use std::alloc::Global;
+use std::process::Abort;
 use std::test::Fail;
 use tnc_base::Octets;
 
@@ -42,81 +44,73 @@ fn shortest_frame(rt: HostRuntime) -> Result<(), Fail> {
     Ok(())
 }
 
-/// The octets of all frames that a new deframer finds, each followed by 256.
-fn found(alloc: Global, bits: &[bool]) -> Result<Vec<u16>, AllocError> {
+/// How many frames a new deframer finds, and how many of them are this one.
+fn found(bits: &[bool], frame: &[u8]) -> (u8, u8) {
     let mut deframer = Deframer::new();
-    let mut octets = Vec::new(alloc);
+    let mut all = 0_u8;
+    let mut alike = 0_u8;
     for bit in bits {
         if deframer.push(*bit) == Event::Frame {
-            for octet in deframer.octets() {
-                octets.push(u16::from(*octet))?;
+            all = all.saturating_add(1);
+            if deframer.octets() == frame {
+                alike = alike.saturating_add(1);
             }
-            octets.push(256)?;
         }
     }
-    Ok(octets)
-}
-
-/// The frame's octets, 256, and both again; nothing if it is not to be heard.
-fn twice(alloc: Global, frame: &[u8], heard: bool) -> Result<Vec<u16>, AllocError> {
-    let mut wanted = Vec::new(alloc);
-    if heard {
-        for _ in 0..2 {
-            for octet in frame {
-                wanted.push(u16::from(*octet))?;
-            }
-            wanted.push(256)?;
-        }
-    }
-    Ok(wanted)
+    (all, alike)
 }
 
 #[test]
-fn lengths(rt: HostRuntime) -> Result<(), Fail> {
-    for (len, heard) in [
-        (14, false),
-        (15, true),
-        (300, true),
-        (1024, true),
-        (1025, false),
-    ] {
+fn a_frame_of_15_to_1024_octets_is_found(rt: HostRuntime) -> Result<(), Fail> {
+    for (len, times) in [(14, 0), (15, 2), (300, 2), (1024, 2), (1025, 0)] {
         let frame = frame_of(rt.alloc(), len, 7)?;
         let bits = sent(rt.alloc(), &[frame.as_slice(), frame.as_slice()], 1, 1)?;
-        let got = found(rt.alloc(), bits.as_slice())?;
-        let wanted = twice(rt.alloc(), frame.as_slice(), heard)?;
-        assert_equal(&rt, &(len, got), &(len, wanted));
+        let got = found(bits.as_slice(), frame.as_slice());
+        assert_equal(&rt, &(len, got), &(len, (times, times)));
     }
     Ok(())
 }
 
 #[test]
 fn one_bit_changed(rt: HostRuntime) -> Result<(), Fail> {
-    let good = sent(rt.alloc(), &[SHORTEST], 1, 1)?;
-    let whole = found(rt.alloc(), good.as_slice())?;
-    assert_equal(&rt, &whole.len(), &16);
-    for at in 0..good.len() {
-        let mut bits = Vec::from_slice(rt.alloc(), good.as_slice())?;
-        bits[at] = !bits[at];
-        let got = found(rt.alloc(), bits.as_slice())?;
-        assert!(rt; got.as_slice() != whole.as_slice(), "bit {at}");
+    let mut bits = sent(rt.alloc(), &[SHORTEST], 1, 1)?;
+    assert_equal(&rt, &found(bits.as_slice(), SHORTEST), &(1, 1));
+    for at in 0..bits.len() {
+        flip(&mut bits, at);
+        assert!(rt; found(bits.as_slice(), SHORTEST) != (1, 1), "bit {at}");
+        flip(&mut bits, at);
     }
     Ok(())
 }
 
+/// Frames are sent as in `sent`.
+fn compare<R: Abort>(
+    rt: &R,
+    alloc: Global,
+    frames: &[&[u8]],
+    opening: u8,
+    closing: u8,
+) -> Result<(), Fail> {
+    let mut octets = Vec::new(alloc);
+    for frame in frames {
+        octets.push(Octets::from_slice(alloc, frame)?)?;
+    }
+    let got = stuff(alloc, octets.as_slice(), opening.into(), closing.into())?;
+    assert_equal(rt, &got, &sent(alloc, frames, opening, closing)?);
+    Ok(())
+}
+
 #[test]
-fn transmissions(rt: HostRuntime) -> Result<(), Fail> {
+fn transmissions_of_one_frame_and_of_three(rt: HostRuntime) -> Result<(), Fail> {
     let longer = frame_of(rt.alloc(), 99, 4)?;
-    let mut frames = Vec::new(rt.alloc());
-    let flags = stuff(rt.alloc(), frames.as_slice(), 3, 2)?;
-    assert_equal(&rt, &flags.len(), &40);
-    frames.push(Octets::from_slice(rt.alloc(), SHORTEST)?)?;
-    let one = stuff(rt.alloc(), frames.as_slice(), 2, 1)?;
-    assert_equal(&rt, &one.len(), &162);
-    assert_equal(&rt, &one, &sent(rt.alloc(), &[SHORTEST], 2, 1)?);
-    frames.push(Octets::from_slice(rt.alloc(), longer.as_slice())?)?;
-    frames.push(Octets::from_slice(rt.alloc(), SHORTEST)?)?;
-    let all = stuff(rt.alloc(), frames.as_slice(), 1, 4)?;
-    let wanted = sent(rt.alloc(), &[SHORTEST, longer.as_slice(), SHORTEST], 1, 4)?;
-    assert_equal(&rt, &all, &wanted);
+    compare(&rt, rt.alloc(), &[SHORTEST], 2, 1)?;
+    let three = [SHORTEST, longer.as_slice(), SHORTEST];
+    compare(&rt, rt.alloc(), &three, 1, 4)
+}
+
+#[test]
+fn a_transmission_of_no_frame_is_flags(rt: HostRuntime) -> Result<(), Fail> {
+    let bits = stuff(rt.alloc(), &[], 3, 2)?;
+    assert_equal(&rt, &bits.len(), &40);
     Ok(())
 }

@@ -8,10 +8,8 @@ pub(super) const FLAG: [bool; 8] = [false, true, true, true, true, true, true, f
 fn bits_of(alloc: Global, octets: &[u8]) -> Result<Vec<bool>, AllocError> {
     let mut bits = Vec::new(alloc);
     for octet in octets {
-        let mut left = *octet;
-        for _ in 0..8 {
-            bits.push(left % 2 == 1)?;
-            left /= 2;
+        for place in [1, 2, 4, 8, 16, 32, 64, 128] {
+            bits.push(*octet & place != 0)?;
         }
     }
     Ok(bits)
@@ -56,17 +54,19 @@ pub(super) fn sent(
     Ok(bits)
 }
 
+/// The next of a row of random words.
+pub(super) fn next_word(word: u32) -> u32 {
+    word.wrapping_mul(1_664_525).wrapping_add(1_013_904_223)
+}
+
 /// A frame of so many octets, with runs of 1s and of 0s.
 pub(super) fn frame_of(alloc: Global, len: u16, seed: u32) -> Result<Vec<u8>, AllocError> {
     let mut octets = Vec::new(alloc);
     let mut word = seed;
     for _ in 0..len {
-        word = word.wrapping_mul(1_664_525).wrapping_add(1_013_904_223);
-        octets.push(if word >> 30 == 0 {
-            0xff
-        } else {
-            (word >> 24) as u8
-        })?;
+        word = next_word(word);
+        let [highest, ..] = word.to_be_bytes();
+        octets.push(if highest < 64 { 0xff } else { highest })?;
     }
     Ok(octets)
 }
