@@ -1,6 +1,7 @@
 //! Windows whose correlations, energies and tones a second program computed, and where slicers end windows.
 use crate::assertions::assert_equal;
 use offset_slicers::{Slicer, correlate, decide, energies, near_windows, pure_windows};
+use std::process::Abort;
 use tone_table::Tone;
 
 /// A space from phase 0, which ends at phase 40.
@@ -49,73 +50,66 @@ fn correlations_energies_and_tones_of_known_windows(rt: HostRuntime) {
     }
 }
 
-#[test]
-fn each_offset_gives_one_bit_at_the_end_of_each_of_its_windows(rt: HostRuntime) {
-    let windows = [
-        (SPACE, false),
-        (SPACE_ON, true),
-        (MARK_ON, false),
-        ([0; 8], true),
-        ([0; 8], true),
-    ];
-    for offset in 0..8 {
-        let mut slicer = Slicer::new(offset);
-        for _ in 0..offset {
-            assert!(rt; slicer.position() < 1000);
-            assert_equal(&rt, &slicer.push(0), &None);
-        }
-        for (window, bit) in windows {
-            for (place, sample) in window.into_iter().enumerate() {
-                assert!(rt; slicer.position() < 1000);
-                let wanted = if place == 7 { Some(bit) } else { None };
-                let got = slicer.push(sample);
-                assert_equal(&rt, &(offset, place, got), &(offset, place, wanted));
-            }
-        }
-        assert_equal(&rt, &slicer.position(), &(u64::from(offset) + 40));
+/// Pushes so many samples of silence, at none of which a window ends.
+fn push_silence<R: Abort>(rt: &R, slicer: &mut Slicer, count: u64) {
+    for _ in 0..count {
+        assert!(*rt; slicer.position() < 1000);
+        assert_equal(rt, &slicer.push(0), &None);
     }
 }
 
-/// The bits of known windows that follow so many samples after a skip.
-fn hears_windows_behind(slicer: &mut Slicer, silent: u64) -> bool {
-    for _ in 0..silent {
-        if slicer.position() >= 1000 || slicer.push(0).is_some() {
-            return false;
-        }
+/// Pushes a window of its offset, at the end of which alone there is this bit.
+fn push_window<R: Abort>(rt: &R, slicer: &mut Slicer, window: &[i16; 8], bit: bool) {
+    for (place, sample) in window.iter().enumerate() {
+        assert!(*rt; slicer.position() < 1000);
+        let got = slicer.push(*sample);
+        let wanted = if place == 7 { Some(bit) } else { None };
+        assert_equal(rt, &(place, got), &(place, wanted));
     }
-    for (window, bit) in [(SPACE, false), (SPACE_ON, true), (MARK_ON, false)] {
-        for (place, sample) in window.into_iter().enumerate() {
-            let wanted = if place == 7 { Some(bit) } else { None };
-            if slicer.position() >= 1000 || slicer.push(sample) != wanted {
-                return false;
-            }
-        }
+}
+
+/// Pushes three windows of its offset on a line that stands at mark.
+fn push_three<R: Abort>(rt: &R, slicer: &mut Slicer) {
+    push_window(rt, slicer, &SPACE, false);
+    push_window(rt, slicer, &SPACE_ON, true);
+    push_window(rt, slicer, &MARK_ON, false);
+}
+
+#[test]
+fn each_offset_gives_one_bit_at_the_end_of_each_of_its_windows(rt: HostRuntime) {
+    for offset in 0..8 {
+        let mut slicer = Slicer::new(offset);
+        push_silence(&rt, &mut slicer, offset.into());
+        push_three(&rt, &mut slicer);
+        push_window(&rt, &mut slicer, &[0; 8], true);
+        push_window(&rt, &mut slicer, &[0; 8], true);
+        let position = u64::from(offset) + 40;
+        assert_equal(&rt, &(offset, slicer.position()), &(offset, position));
     }
-    true
+}
+
+/// Pushes so many samples before a skip, and known windows after it.
+fn skip<R: Abort>(rt: &R, offset: u8, before: u64, to: u64, silent: u64) {
+    assert!(*rt; offset < 8);
+    let mut slicer = Slicer::new(offset);
+    for _ in 0..before {
+        assert!(*rt; slicer.position() < 1000);
+        slicer.push(-32768);
+    }
+    assert!(*rt; slicer.position() <= to && to <= 1000);
+    slicer.skip(to);
+    assert_equal(rt, &slicer.position(), &to);
+    push_silence(rt, &mut slicer, silent);
+    push_three(rt, &mut slicer);
 }
 
 #[test]
 fn after_a_skip_the_first_window_of_the_offset_is_heard_from_mark(rt: HostRuntime) {
     // The offset, the samples before the skip, where it goes, and the samples before the next window there.
-    let table = [
-        (0, 0, 0, 0),
-        (0, 0, 1, 7),
-        (3, 20, 20, 7),
-        (3, 20, 27, 0),
-        (7, 25, 40, 7),
-        (5, 8, 98, 3),
-    ];
-    for (offset, before, to, silent) in table {
-        assert!(rt; offset < 8);
-        let mut slicer = Slicer::new(offset);
-        for _ in 0..before {
-            assert!(rt; slicer.position() < 1000);
-            slicer.push(-32768);
-        }
-        assert!(rt; slicer.position() <= to && to <= 1000);
-        slicer.skip(to);
-        let position = slicer.position();
-        let heard = hears_windows_behind(&mut slicer, silent);
-        assert_equal(&rt, &(offset, position, heard), &(offset, to, true));
-    }
+    skip(&rt, 0, 0, 0, 0);
+    skip(&rt, 0, 0, 1, 7);
+    skip(&rt, 3, 20, 20, 7);
+    skip(&rt, 3, 20, 27, 0);
+    skip(&rt, 7, 25, 40, 7);
+    skip(&rt, 5, 8, 98, 3);
 }
