@@ -6,6 +6,7 @@ use super::published::{publish_to, sample_at};
 use crate::assertions::assert_equal;
 use sample_ring::{Got, Note, Reader, Ring, RingFault, Writer, WriterDone};
 use std::alloc::Global;
+use std::process::Abort;
 use std::test::Fail;
 
 fn item(at: u64) -> Got {
@@ -50,40 +51,44 @@ fn the_ring_is_shared_and_each_end_crosses_threads() {
     crosses_threads::<Note>();
 }
 
+/// A ring of 8 cells with 20 samples, and a reader that has read the first three and the gap after them.
+fn read_to_gap<R: Abort>(rt: &R, alloc: Global) -> Result<(Ring, Writer, Reader), RingFault>
+    ensures { IfOk result (λ made. (writer_ring made.1 ≡ ring_id made.0) × (reader_ring made.2 ≡ ring_id made.0)) }
+{
+    let (ring, mut writer, mut reader) = with_one_reader(alloc, 8)?;
+    assert_equal(rt, &reader.read(&ring), &Got::Empty { at: 0 });
+    assert!(*rt; publish_to(&ring, &mut writer, 3).is_ok());
+    assert!(*rt; reads_items(&ring, &mut reader, 0, 3));
+    assert_equal(rt, &reader.read(&ring), &Got::Empty { at: 3 });
+    assert!(*rt; publish_to(&ring, &mut writer, 20).is_ok());
+    assert_equal(rt, &reader.read(&ring), &Got::Gap { from: 3, to: 12 });
+    Ok((ring, writer, reader))
+}
+
 #[test]
-fn a_ring_of_eight_cells_gives_items_and_gaps(rt: HostRuntime) -> Result<(), Fail> {
-    let (ring, mut writer, mut reader) = with_one_reader(rt.alloc(), 8)?;
-    assert_equal(&rt, &reader.read(&ring), &Got::Empty { at: 0 });
-    assert!(rt; publish_to(&ring, &mut writer, 3).is_ok());
-    assert!(rt; reads_items(&ring, &mut reader, 0, 3));
-    assert_equal(&rt, &reader.read(&ring), &Got::Empty { at: 3 });
-    assert!(rt; publish_to(&ring, &mut writer, 20).is_ok());
-    assert_equal(&rt, &reader.read(&ring), &Got::Gap { from: 3, to: 12 });
+fn a_ring_of_eight_cells_gives_items_after_a_gap(rt: HostRuntime) -> Result<(), Fail> {
+    let (ring, _writer, mut reader) = read_to_gap(&rt, rt.alloc())?;
     assert!(rt; reads_items(&ring, &mut reader, 12, 20));
     assert_equal(&rt, &reader.read(&ring), &Got::Empty { at: 20 });
     Ok(())
 }
 
-// The first cell has the sample of position 16 then, so a ring of 8 cells has nothing below position 9.
 #[test]
 fn a_note_moves_no_reader(rt: HostRuntime) -> Result<(), Fail> {
-    let (ring, mut writer, mut reader) = with_one_reader(rt.alloc(), 8)?;
-    assert!(rt; publish_to(&ring, &mut writer, 20).is_ok());
-    assert_equal(&rt, &reader.read(&ring), &Got::Gap { from: 0, to: 9 });
+    let (ring, mut writer, mut reader) = read_to_gap(&rt, rt.alloc())?;
     let note = writer.note(&ring);
     assert_equal(&rt, &(note.count(), writer.published()), &(20, 20));
     reader.learn(&ring, note);
-    assert_equal(&rt, &reader.at(), &9);
-    assert!(rt; reads_items(&ring, &mut reader, 9, 20));
+    assert_equal(&rt, &reader.at(), &12);
+    assert!(rt; reads_items(&ring, &mut reader, 12, 20));
     assert_equal(&rt, &reader.read(&ring), &Got::Empty { at: 20 });
     Ok(())
 }
 
 #[test]
 fn a_ring_that_has_ended_tells_the_total(rt: HostRuntime) -> Result<(), Fail> {
-    let (ring, mut writer, mut reader) = with_one_reader(rt.alloc(), 32)?;
-    assert!(rt; publish_to(&ring, &mut writer, 20).is_ok());
-    assert!(rt; reads_items(&ring, &mut reader, 0, 20));
+    let (ring, writer, mut reader) = read_to_gap(&rt, rt.alloc())?;
+    assert!(rt; reads_items(&ring, &mut reader, 12, 20));
     let done = writer.end(&ring);
     assert_equal(&rt, &reader.read(&ring), &Got::End { total: 20 });
     assert_equal(&rt, &reader.read(&ring), &Got::End { total: 20 });
