@@ -83,7 +83,7 @@ fn one_bit_changed(rt: HostRuntime) -> Result<(), Fail> {
     Ok(())
 }
 
-/// Frames are sent as in `sent`.
+/// `stuff` gives the bits that `sent` gives.
 fn compare<R: Abort>(
     rt: &R,
     alloc: Global,

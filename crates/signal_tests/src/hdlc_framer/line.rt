@@ -54,7 +54,7 @@ pub(super) fn sent(
     Ok(bits)
 }
 
-/// The next of a row of random words.
+/// The random word after another.
 pub(super) fn next_word(word: u32) -> u32 {
     word.wrapping_mul(1_664_525).wrapping_add(1_013_904_223)
 }
