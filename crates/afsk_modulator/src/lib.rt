@@ -13,6 +13,3 @@ mod sending;
 pub use fault::ModFault;
 pub use modulator::Modulator;
 pub use sending::{first_bad_length, transmission, transmission_at};
-
-#[cfg(test)]
-mod tests;

@@ -21,6 +21,3 @@ pub use event::Event;
 pub use frame_length::{LEAST_FRAME_LENGTH, MOST_FRAME_LENGTH, has_frame_length};
 pub use laws::{one_event_comes, one_flag_makes_busy, one_frame_ends, remainder_is_of_division};
 pub use stuffing::stuff;
-
-#[cfg(test)]
-mod tests;

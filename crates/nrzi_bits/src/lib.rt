@@ -11,6 +11,3 @@ mod send;
 pub use laws::each_undoes_the_other;
 pub use receive::NrziIn;
 pub use send::NrziOut;
-
-#[cfg(test)]
-mod tests;

@@ -14,6 +14,3 @@ pub use correlators::correlate;
 pub use decision::{decide, energies};
 pub use laws::{near_windows, pure_windows};
 pub use slicer::Slicer;
-
-#[cfg(test)]
-mod tests;

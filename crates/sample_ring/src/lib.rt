@@ -30,8 +30,6 @@ mod note;
 mod reader;
 mod ring;
 mod rule;
-#[cfg(test)]
-mod tests;
 mod view;
 mod writer;
 

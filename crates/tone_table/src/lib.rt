@@ -10,6 +10,3 @@ mod tone;
 
 pub use phase::{advance, sine};
 pub use tone::{Tone, step};
-
-#[cfg(test)]
-mod tests;

@@ -22,6 +22,3 @@ pub use phasor::Phasor;
 pub use reach::Reach;
 pub use tone_lists::ToneLists;
 pub use tone_tracker::ToneTracker;
-
-#[cfg(test)]
-mod tests;

@@ -1,7 +1,8 @@
 //! Tones and readings of a transmission in strong noise, as a second program computed them from the definition.
 
-use super::*;
-use tone_table::Tone;
+use crate::assertions::assert_equal;
+use crate::letters::letter;
+use tone_tracking::{BitClock, Pull, Reach, ToneLists};
 
 /// The first fourteen bits of a transmission, and noise as loud as it.
 const SAMPLES: [i16; 112] = [
@@ -32,13 +33,6 @@ const SLOW: &[u8; 89] =
 const FAST: &[u8; 89] =
     b"....1.......1.......1.......1.........1.......1.......1......1......1.......1.......1....";
 
-fn letter(tone: Tone) -> u8 {
-    match tone {
-        Tone::Mark => b'M',
-        Tone::Space => b'S',
-    }
-}
-
 fn mark(read: bool) -> u8 {
     if read { b'1' } else { b'.' }
 }
@@ -50,16 +44,21 @@ fn tones_and_readings_in_noise_are_those_of_a_second_program(rt: HostRuntime) {
     let mut fast = BitClock::new(Pull::Fast);
     for (index, sample) in SAMPLES.iter().enumerate() {
         let decided = lists.push(*sample);
-        assert_eq!(rt; decided, index >= 23);
+        assert_equal(&rt, &(index, decided), &(index, index >= 23));
         if index >= 23 {
             let place = index - 23;
             assert!(rt; place < 89);
             let near = lists.tone_before(Reach::Near, 0);
-            assert_eq!(rt; letter(near), NEAR[place], "near, {place}");
             let far = lists.tone_before(Reach::Far, 0);
-            assert_eq!(rt; letter(far), FAR[place], "far, {place}");
-            assert_eq!(rt; mark(slow.step(near)), SLOW[place], "slow, {place}");
-            assert_eq!(rt; mark(fast.step(near)), FAST[place], "fast, {place}");
+            let tones = (letter(near), letter(far));
+            let readings = (mark(slow.step(near)), mark(fast.step(near)));
+            let wanted_tones = (NEAR[place], FAR[place]);
+            let wanted_readings = (SLOW[place], FAST[place]);
+            assert_equal(
+                &rt,
+                &(place, tones, readings),
+                &(place, wanted_tones, wanted_readings),
+            );
         }
     }
 }

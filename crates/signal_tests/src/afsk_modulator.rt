@@ -1,15 +1,13 @@
-use super::{ModFault, Modulator, transmission, transmission_at};
+//! Worked windows and transmissions, and the rules that a transmission must keep.
+use crate::assertions::assert_equal;
+use crate::shortest_frame::SHORTEST;
+use afsk_modulator::{ModFault, Modulator, transmission, transmission_at};
 use std::alloc::Global;
 use std::test::Fail;
 use tnc_base::Octets;
 use tone_table::Tone;
 
-// SABM with P from N7LEM to NJ7P, the shortest frame.
-const SHORTEST: [u8; 15] = [
-    0x9c, 0x94, 0x6e, 0xa0, 0x40, 0x40, 0xe0, 0x9c, 0x6e, 0x98, 0x8a, 0x9a, 0x40, 0x61, 0x3f,
-];
-
-// Frames of these lengths, of the shortest frame's octets and then zeros.
+/// Frames of these lengths, of the shortest frame's octets and then zeros.
 fn frames(alloc: Global, lengths: &[usize]) -> Result<Vec<Octets>, Fail> {
     let mut frames = Vec::new(alloc);
     for length in lengths {
@@ -38,23 +36,23 @@ fn windows_follow_each_other_at_the_phase(rt: HostRuntime) {
         ),
     ];
     for (tone, window) in windows {
-        assert_eq!(rt; modulator.next(tone), window);
+        assert_equal(&rt, &modulator.next(tone), &window);
     }
 }
 
 #[test]
 fn the_shortest_frame_is_sent_as_bell_202_does(rt: HostRuntime) -> Result<(), Fail> {
-    let alloc = rt.alloc();
-    let samples = transmission(alloc, &frames(alloc, &[15])?, 2, 1)?;
-    assert_eq!(rt; samples.len(), 1296);
+    let samples = transmission(rt.alloc(), &frames(rt.alloc(), &[15])?, 2, 1)?;
+    assert_equal(&rt, &samples.len(), &1296);
     let begins = [0, 9914, 2588, -9239, -5000, 7934, 7071, -6088, -8660, 3827];
     assert!(rt; samples.starts_with(&begins));
     Ok(())
 }
 
-// The first flag begins with a space.
+/// The first flag begins with a space.
 #[test]
 fn a_level_rounds_towards_zero_and_a_phase_shifts(rt: HostRuntime) -> Result<(), Fail> {
+    let frames = frames(rt.alloc(), &[15])?;
     let table = [
         (0, 10, [0, 9, 2, -9, -5, 7, 7, -6]),
         (
@@ -69,16 +67,22 @@ fn a_level_rounds_towards_zero_and_a_phase_shifts(rt: HostRuntime) -> Result<(),
         ),
     ];
     for (phase, level, first) in table {
-        let samples = transmission_at(rt.alloc(), phase, level, &frames(rt.alloc(), &[15])?, 2, 1)?;
+        let samples = transmission_at(rt.alloc(), phase, level, &frames, 2, 1)?;
         assert!(rt; samples.starts_with(&first), "phase {phase}, level {level}");
-        assert_eq!(rt; samples.len(), 1296);
+        assert_equal(&rt, &samples.len(), &1296);
     }
-    let few = transmission_at(rt.alloc(), 8, 20000, &frames(rt.alloc(), &[15])?, 1, 1).err();
-    assert_eq!(rt; few, Some(ModFault::FewFlags));
     Ok(())
 }
 
-// Eight samples a bit: a frame of 138 bits with its flags, two with one flag between them, and none.
+#[test]
+fn a_transmission_at_a_level_needs_two_flags(rt: HostRuntime) -> Result<(), Fail> {
+    let frames = frames(rt.alloc(), &[15])?;
+    let fault = transmission_at(rt.alloc(), 8, 20000, &frames, 1, 1).err();
+    assert_equal(&rt, &fault, &Some(ModFault::FewFlags));
+    Ok(())
+}
+
+/// Eight samples a bit: a frame of 138 bits with its flags, two with one flag between them, and none.
 #[test]
 fn a_transmission_has_eight_samples_a_bit(rt: HostRuntime) -> Result<(), Fail> {
     let table: [(&[usize], u16, u16, usize); 4] = [
@@ -89,7 +93,7 @@ fn a_transmission_has_eight_samples_a_bit(rt: HostRuntime) -> Result<(), Fail> {
     ];
     for (lengths, opening, closing, bits) in table {
         let samples = transmission(rt.alloc(), &frames(rt.alloc(), lengths)?, opening, closing)?;
-        assert_eq!(rt; samples.len(), 8 * bits, "of {lengths:?}");
+        assert_equal(&rt, &(lengths, samples.len()), &(lengths, 8 * bits));
     }
     Ok(())
 }
@@ -115,7 +119,8 @@ fn the_first_rule_that_is_broken_is_told(rt: HostRuntime) -> Result<(), Fail> {
     for (lengths, opening, closing, fault) in table {
         let frames = frames(rt.alloc(), lengths)?;
         let got = transmission(rt.alloc(), &frames, opening, closing).err();
-        assert_eq!(rt; got, fault, "of {lengths:?} with {opening} and {closing}");
+        let case = (lengths, opening, closing);
+        assert_equal(&rt, &(case, got), &(case, fault));
     }
     Ok(())
 }

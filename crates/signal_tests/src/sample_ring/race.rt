@@ -1,34 +1,13 @@
-//! A worked ring of 8 cells, the refusals, and a race of two threads.
+//! A race of two threads: one publishes, and the other reads by two readers.
 ghost use Rattle.std.specs.Prelude.{◌≡◌, ◌<◌, IfOk};
 ghost use Rattle.sample_ring.specs.Ends.{ring_id, writer_ring, reader_ring, done_ring};
 
-use crate::cell::{lap_in, sample_in, word_at};
-use crate::{Got, Reader, Ring, RingEnd, RingFault, Writer, WriterDone};
+use super::published::{publish_to, sample_at};
+use crate::assertions::assert_equal;
+use sample_ring::{Got, Reader, Ring, RingEnd, RingFault, Writer, WriterDone};
 use std::alloc::{AllocError, Global};
 use std::test::Fail;
 use std::thread::{Threads, join, yield_now};
-
-/// The sample that these tests publish at a position. Positions of one cell have different samples.
-fn sample_at(position: u64) -> i16 {
-    ((position.wrapping_mul(40503) % 65536) as u16).cast_signed()
-}
-
-fn item(at: u64) -> Got {
-    Got::Item {
-        at,
-        sample: sample_at(at),
-    }
-}
-
-fn with_one_reader(alloc: Global, len: u32) -> Result<(Ring, Writer, Reader), RingFault>
-    ensures { IfOk result (λ made. (writer_ring made.1 ≡ ring_id made.0) × (reader_ring made.2 ≡ ring_id made.0)) }
-{
-    let (ring, writer, mut readers) = Ring::new(alloc, len, 1)?;
-    let Some(reader) = readers.pop() else {
-        return Err(RingFault::Memory);
-    };
-    Ok((ring, writer, reader))
-}
 
 fn with_two_readers(alloc: Global, len: u32) -> Result<(Ring, Writer, Reader, Reader), RingFault>
     ensures { IfOk result (λ made. (writer_ring made.1 ≡ ring_id made.0) × (reader_ring made.2 ≡ ring_id made.0) × (reader_ring made.3 ≡ ring_id made.0)) }
@@ -41,90 +20,6 @@ fn with_two_readers(alloc: Global, len: u32) -> Result<(Ring, Writer, Reader, Re
         return Err(RingFault::Memory);
     };
     Ok((ring, writer, first, second))
-}
-
-/// Publishes up to a position.
-fn publish_to(ring: &Ring, writer: &mut Writer, to: u64) -> Result<(), RingEnd>
-    requires { writer_ring writer.old ≡ ring_id ring.now }
-    ensures { writer_ring writer.new ≡ writer_ring writer.old }
-{
-    for position in writer.published()..to {
-        writer.publish(ring, sample_at(position))?;
-    }
-    Ok(())
-}
-
-/// Whether the next reads give the items from one position to below another.
-fn reads_items(ring: &Ring, reader: &mut Reader, from: u64, to: u64) -> bool
-    requires { reader_ring reader.old ≡ ring_id ring.now }
-    ensures { reader_ring reader.new ≡ reader_ring reader.old }
-{
-    for at in from..to {
-        if reader.read(ring) != item(at) {
-            return false;
-        }
-    }
-    true
-}
-
-fn may_cross_threads<T: Send>(_end: &T) {}
-
-fn may_be_shared<T: Sync>(_ring: &T) {}
-
-#[test]
-fn a_ring_of_eight_cells_gives_items_gaps_and_the_end(rt: HostRuntime) -> Result<(), Fail> {
-    let (ring, mut writer, mut reader) = with_one_reader(rt.alloc(), 8)?;
-    assert_eq!(rt; reader.read(&ring), Got::Empty { at: 0 });
-    assert!(rt; publish_to(&ring, &mut writer, 3).is_ok());
-    assert!(rt; reads_items(&ring, &mut reader, 0, 3));
-    assert_eq!(rt; reader.read(&ring), Got::Empty { at: 3 });
-    assert!(rt; publish_to(&ring, &mut writer, 20).is_ok());
-    assert_eq!(rt; reader.read(&ring), Got::Gap { from: 3, to: 12 });
-    let note = writer.note(&ring);
-    assert!(rt; note.count() == 20 && writer.published() == 20);
-    may_cross_threads(&note);
-    reader.learn(&ring, note);
-    assert_eq!(rt; reader.at(), 12);
-    assert!(rt; reads_items(&ring, &mut reader, 12, 20));
-    assert_eq!(rt; reader.read(&ring), Got::Empty { at: 20 });
-    may_cross_threads(&writer);
-    let done = writer.end(&ring);
-    may_cross_threads(&done);
-    may_cross_threads(&reader);
-    may_cross_threads(&ring);
-    may_be_shared(&ring);
-    assert_eq!(rt; reader.read(&ring), Got::End { total: 20 });
-    assert_eq!(rt; reader.read(&ring), Got::End { total: 20 });
-    let mut readers = Vec::new(rt.alloc());
-    readers.push(reader)?;
-    assert_eq!(rt; ring.close(done, readers).total(), 20);
-    Ok(())
-}
-
-#[test]
-fn a_word_has_the_lap_above_the_sample(rt: HostRuntime) {
-    assert_eq!(rt; word_at(19, -1), 1376255);
-    assert_eq!(rt; word_at(0, -32768), 98304);
-    assert!(rt; lap_in(1376255) == 20 && sample_in(1376255) == -1);
-}
-
-#[test]
-fn lengths_and_numbers_of_readers_have_bounds(rt: HostRuntime) -> Result<(), Fail> {
-    let cases = [
-        (0, 1, "a ring of 0 cells"),
-        (1_048_577, 1, "a ring of 1048577 cells"),
-        (0, 65, "a ring of 0 cells"),
-        (8, 0, "a ring of 0 readers"),
-        (8, 65, "a ring of 65 readers"),
-    ];
-    for (len, readers, text) in cases {
-        let Err(fault) = Ring::new(rt.alloc(), len, readers) else {
-            panic!(rt; "a ring was made, not: {text}")
-        };
-        assert_eq!(rt; format!(in rt.alloc(); "{fault}")?.as_str(), text);
-    }
-    assert!(rt; Ring::new(rt.alloc(), 1_048_576, 64).is_ok());
-    Ok(())
 }
 
 /// A reader, and what it was answered but for `Empty`.
@@ -256,7 +151,7 @@ fn two_threads_agree_on_each_sample_and_gap(rt: HostRuntime) -> Result<(), Fail>
     let Some((first, second, total)) = race(&rt, rt.alloc())? else {
         panic!(rt; "want of memory")
     };
-    assert_eq!(rt; total, TOTAL);
+    assert_equal(&rt, &total, &TOTAL);
     assert!(rt;
         is_published_list(first.as_slice(), 64, TOTAL),
         "first reader"

@@ -1,4 +1,6 @@
-use super::*;
+//! Windows of the two tones, against the samples of a sine.
+use crate::assertions::assert_equal;
+use tone_table::{Tone, advance, sine, step};
 
 #[test]
 fn a_space_and_a_mark_from_phase_zero_are_the_known_windows(rt: HostRuntime) {
@@ -26,12 +28,15 @@ fn a_space_and_a_mark_from_phase_zero_are_the_known_windows(rt: HostRuntime) {
         ),
     ];
     for (start, tone, want_step, want_next, want) in windows {
-        assert_eq!(rt; step(tone), want_step);
-        assert_eq!(rt; advance(start, tone), want_next);
+        assert_equal(
+            &rt,
+            &(step(tone), advance(start, tone)),
+            &(want_step, want_next),
+        );
         let mut phase = start;
         for sample in want {
             assert!(rt; phase < 48);
-            assert_eq!(rt; sine(phase), sample, "at {phase}");
+            assert_equal(&rt, &(phase, sine(phase)), &(phase, sample));
             phase = (phase + step(tone)) % 48;
         }
     }
