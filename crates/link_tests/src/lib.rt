@@ -7,3 +7,5 @@
 mod address;
 #[cfg(test)]
 mod assertions;
+#[cfg(test)]
+mod frames;
