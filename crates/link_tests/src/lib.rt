@@ -9,3 +9,5 @@ mod address;
 mod assertions;
 #[cfg(test)]
 mod frames;
+#[cfg(test)]
+mod monitor;
