@@ -11,3 +11,5 @@ mod assertions;
 mod frames;
 #[cfg(test)]
 mod monitor;
+#[cfg(test)]
+mod repeater;
