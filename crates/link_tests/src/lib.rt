@@ -10,6 +10,12 @@ mod assertions;
 #[cfg(test)]
 mod frames;
 #[cfg(test)]
+mod incoming;
+#[cfg(test)]
 mod monitor;
+#[cfg(test)]
+mod outgoing;
+#[cfg(test)]
+mod packets;
 #[cfg(test)]
 mod repeater;
