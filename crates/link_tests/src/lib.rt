@@ -12,6 +12,8 @@ mod frames;
 #[cfg(test)]
 mod incoming;
 #[cfg(test)]
+mod machine;
+#[cfg(test)]
 mod monitor;
 #[cfg(test)]
 mod outgoing;
@@ -19,3 +21,5 @@ mod outgoing;
 mod packets;
 #[cfg(test)]
 mod repeater;
+#[cfg(test)]
+mod script;
