@@ -23,3 +23,5 @@ mod packets;
 mod repeater;
 #[cfg(test)]
 mod script;
+#[cfg(test)]
+mod world;
