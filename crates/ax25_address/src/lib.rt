@@ -9,8 +9,6 @@ mod fault;
 mod field;
 mod path;
 mod spelling;
-#[cfg(test)]
-mod tests;
 
 pub use call::{Call, CallFault};
 pub use fault::AddrFault;

@@ -9,8 +9,6 @@ mod fault;
 mod frame;
 mod names;
 mod reading;
-#[cfg(test)]
-mod tests;
 mod text;
 mod writing;
 

@@ -7,8 +7,6 @@
 mod clock;
 mod description;
 mod letter;
-#[cfg(test)]
-mod tests;
 mod text;
 
 pub use letter::monitor_letter;

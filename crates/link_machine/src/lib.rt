@@ -68,8 +68,6 @@ mod room;
 mod sending;
 mod setting_up;
 mod state;
-#[cfg(test)]
-mod tests;
 mod ticks;
 
 pub use acts::{Acts, SentFrame, Told, Why};

@@ -14,9 +14,6 @@ use selective_reject::{BadWindow, check_window};
 use std::alloc::Global;
 use std::marker::Model;
 
-#[cfg(test)]
-mod tests;
-
 /// Two links, whose ends are called A and B, and the frames in flight towards each.
 #[derive(Drop)]
 pub struct World {

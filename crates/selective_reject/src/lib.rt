@@ -17,6 +17,3 @@ pub use laws::numbers_on_the_air;
 pub use outgoing::{BadNr, OutStore};
 pub use packet::Packet;
 pub use window::{BadWindow, Mode, check_window};
-
-#[cfg(test)]
-mod tests;

@@ -1,7 +1,8 @@
 //! Frames against octets and lines from outside.
-use super::*;
-use arrayvec::ArrayVec;
-use ax25_address::{AddrFault, Call, Path, Role};
+use crate::assertions::assert_equal;
+use ax25_frames::{
+    Frame, FrameFault, Kind, Modulus, is_command, read_frame, text_of, text_of_fault, write_frame,
+};
 use std::alloc::Global;
 use std::test::Fail;
 use tnc_base::Octets;
@@ -40,11 +41,9 @@ fn lines_of_frames(rt: HostRuntime) -> Result<(), Fail> {
         ("13ccff", "UI cmd f=1 pid=cc len=1 ff"),
     ] {
         let digits = format!(in alloc; "{ADDRESS}{body}")?;
-        let expected = format!(in alloc; "N7LEM>NJ7P {line}")?;
-        assert_eq!(rt;
-            shown(alloc, digits.as_str(), Modulus::Eight)?.as_str(),
-            expected.as_str()
-        );
+        let wanted = format!(in alloc; "N7LEM>NJ7P {line}")?;
+        let text = shown(alloc, digits.as_str(), Modulus::Eight)?;
+        assert_equal(&rt, &text, &wanted);
     }
     Ok(())
 }
@@ -67,10 +66,8 @@ fn lines_of_extended_frames(rt: HostRuntime) -> Result<(), Fail> {
         ("010000", "! stray info at 16"),
     ] {
         let digits = format!(in alloc; "{ADDRESS}{body}")?;
-        assert_eq!(rt;
-            shown(alloc, digits.as_str(), Modulus::OneTwentyEight)?.as_str(),
-            line
-        );
+        let text = shown(alloc, digits.as_str(), Modulus::OneTwentyEight)?;
+        assert_equal(&rt, &(body, text.as_str()), &(body, line));
     }
     Ok(())
 }
@@ -90,17 +87,21 @@ fn lines_of_faults(rt: HostRuntime) -> Result<(), Fail> {
         ("9c946ea04040e09c6e988a9a40613f00", "! stray info at 15"),
         ("9c946ea04040e09c6e988a9a4061010203", "! stray info at 15"),
     ] {
-        assert_eq!(rt; shown(alloc, digits, Modulus::Eight)?.as_str(), line);
+        let text = shown(alloc, digits, Modulus::Eight)?;
+        assert_equal(&rt, &(digits, text.as_str()), &(digits, line));
     }
-    let path = "82404040404060";
-    let mut tenth = String::new(alloc);
+    Ok(())
+}
+
+#[test]
+fn eleven_addresses_without_an_end(rt: HostRuntime) -> Result<(), Fail> {
+    let alloc = rt.alloc();
+    let mut digits = String::new(alloc);
     for _ in 0..11 {
-        tenth.push_str(path)?;
+        digits.push_str("82404040404060")?;
     }
-    assert_eq!(rt;
-        shown(alloc, tenth.as_str(), Modulus::Eight)?.as_str(),
-        "! no end"
-    );
+    let text = shown(alloc, digits.as_str(), Modulus::Eight)?;
+    assert_equal(&rt, &text.as_str(), &"! no end");
     Ok(())
 }
 
@@ -117,11 +118,20 @@ fn information_of_256_octets_at_most(rt: HostRuntime) -> Result<(), Fail> {
     Ok(())
 }
 
-/// Frames on the air, of the recordings of Dire Wolf and minimodem, and their lines.
+/// The octets of a UI frame, written; none of another frame.
+fn written(alloc: Global, frame: &Frame) -> Result<Octets, Fail> {
+    match &frame.kind {
+        Kind::Ui { octets, .. } if octets.len() <= 937 => {
+            Ok(write_frame(alloc, frame, Modulus::Eight)?)
+        }
+        _ => Ok(Octets::from_slice(alloc, &[])?),
+    }
+}
+
+/// Frames on the air, of the recordings of Dire Wolf and minimodem, and their lines. They are written again as they came.
 #[test]
 fn frames_of_recordings(rt: HostRuntime) -> Result<(), Fail> {
     let alloc = rt.alloc();
-    let mut written = 0u8;
     for (digits, line) in [
         (
             "ae84649ea6b4fe98aa72b4b4b4e29c648e9040406103f030303037207365636f6e642e0a",
@@ -140,30 +150,15 @@ fn frames_of_recordings(rt: HostRuntime) -> Result<(), Fail> {
             "DL1XYZ-7>N7LEM UI cmd f=0 pid=f0 len=5 303030322e",
         ),
     ] {
-        assert_eq!(rt; shown(alloc, digits, Modulus::Eight)?.as_str(), line);
         let octets = hex::decode(alloc, digits)?;
-        let Frame { path, kind } = read_frame(alloc, &octets, Modulus::Eight)?;
-        if let Kind::Ui {
-            flag,
-            pid,
-            octets: information,
-        } = kind
-        {
-            assert!(rt; information.len() <= 937);
-            let kind = Kind::Ui {
-                flag,
-                pid,
-                octets: information,
-            };
-            let frame = Frame { path, kind };
-            assert!(rt; is_command(&frame));
-            assert_eq!(rt;
-                write_frame(alloc, &frame, Modulus::Eight)?.as_slice(),
-                octets.as_slice()
-            );
-            written = written.saturating_add(1);
-        }
+        let frame = read_frame(alloc, &octets, Modulus::Eight)?;
+        let text = text_of(alloc, &frame)?;
+        let again = written(alloc, &frame)?;
+        assert_equal(
+            &rt,
+            &(text.as_str(), is_command(&frame), again.as_slice()),
+            &(line, true, octets.as_slice()),
+        );
     }
-    assert_eq!(rt; written, 4);
     Ok(())
 }

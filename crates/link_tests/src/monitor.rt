@@ -1,9 +1,10 @@
-//! Texts as other programs write them.
-use super::*;
+//! Texts of frames as other programs write them.
+use crate::assertions::assert_equal;
 use ax25_frames::{Modulus, read_frame};
+use frame_monitor::{monitor_letter, monitor_text};
 use std::test::Fail;
 
-// Each row: the octets of a frame, the ticks before it, the letter, and the text but for what ends it.
+// Each row: the octets of a frame, the ticks before it, the letter, and the text.
 #[test]
 fn texts_of_frames(rt: HostRuntime) -> Result<(), Fail> {
     let alloc = rt.alloc();
@@ -48,9 +49,13 @@ fn texts_of_frames(rt: HostRuntime) -> Result<(), Fail> {
         let octets = hex::decode(alloc, octets)?;
         let frame = read_frame(alloc, &octets, Modulus::Eight)?;
         let text = monitor_text(alloc, &frame, ticks)?;
-        assert_eq!(rt; text.as_slice(), want.as_bytes());
-        assert_eq!(rt; monitor_letter(&frame.kind, false), letter);
-        assert_eq!(rt; monitor_letter(&frame.kind, true), b'T');
+        let heard = monitor_letter(&frame.kind, false);
+        let sent = monitor_letter(&frame.kind, true);
+        assert_equal(
+            &rt,
+            &(text.as_slice(), heard, sent),
+            &(want.as_bytes(), letter, b'T'),
+        );
     }
     Ok(())
 }
@@ -59,14 +64,13 @@ fn texts_of_frames(rt: HostRuntime) -> Result<(), Fail> {
 #[test]
 fn the_last_repeater_has_the_star(rt: HostRuntime) -> Result<(), Fail> {
     let alloc = rt.alloc();
-    for (flags, want) in [
-        (["60", "60", "61"], "A,A,A"),
-        (["e0", "60", "61"], "A*,A,A"),
-        (["e0", "e0", "61"], "A,A*,A"),
-        (["60", "60", "e1"], "A,A,A*"),
-        (["e0", "e0", "e1"], "A,A,A*"),
+    for (one, two, three, want) in [
+        ("60", "60", "61", "A,A,A"),
+        ("e0", "60", "61", "A*,A,A"),
+        ("e0", "e0", "61", "A,A*,A"),
+        ("60", "60", "e1", "A,A,A*"),
+        ("e0", "e0", "e1", "A,A,A*"),
     ] {
-        let [one, two, three] = flags;
         let digits = format!(in alloc;
             "9c946ea04040e09c6e988a9a4060824040404040{one}824040404040{two}824040404040{three}03f0"
         )?;
@@ -75,7 +79,7 @@ fn the_last_repeater_has_the_star(rt: HostRuntime) -> Result<(), Fail> {
         let want = format!(in alloc;
             " 1:Fm N7LEM To NJ7P Via {want} <UI pid=F0 Len=0 P=0 >[00:00:00]\r\0"
         )?;
-        assert_eq!(rt; text.as_slice(), want.as_bytes());
+        assert_equal(&rt, &text.as_slice(), &want.as_bytes());
     }
     Ok(())
 }
