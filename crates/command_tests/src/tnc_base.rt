@@ -1,9 +1,11 @@
-use crate::{
-    Failed, MemSink, MemSource, Octets, OutOfMemory, RealSink, RealSource, Sink, Source, fnv,
-};
+//! Octet lists, the hash, and streams in memory and of std.
+use crate::assertions::assert_equal;
 use std::alloc::Global;
 use std::io::{self, ErrorKind, Read};
 use std::test::Fail;
+use tnc_base::{
+    Failed, MemSink, MemSource, Octets, OutOfMemory, RealSink, RealSource, Sink, Source, fnv,
+};
 
 /// A reader of std that refuses.
 #[derive(Drop)]
@@ -50,10 +52,10 @@ fn writes<K: Sink>(
 fn a_list_keeps_its_octets(rt: HostRuntime) -> Result<(), Fail> {
     let list = Octets::from_slice(rt.alloc(), b"N7LEM")?;
     let none = Octets::from_slice(rt.alloc(), b"")?;
-    assert_eq!(rt; list.as_slice(), b"N7LEM".as_slice());
-    assert_eq!(rt; list.clone()?.as_slice(), b"N7LEM".as_slice());
-    assert_eq!(rt; (list.len(), list.is_empty()), (5, false));
-    assert_eq!(rt; (none.len(), none.is_empty()), (0, true));
+    assert_equal(&rt, &list.as_slice(), &b"N7LEM".as_slice());
+    assert_equal(&rt, &list.clone()?.as_slice(), &b"N7LEM".as_slice());
+    assert_equal(&rt, &(list.len(), list.is_empty()), &(5, false));
+    assert_equal(&rt, &(none.len(), none.is_empty()), &(0, true));
     Ok(())
 }
 
@@ -67,7 +69,7 @@ fn the_hash_is_fnv_1a(rt: HostRuntime) {
         (b"foobar", 0x8594_4171_f739_67e8),
     ];
     for (octets, hash) in table {
-        assert_eq!(rt; fnv(octets), hash, "of {octets:?}");
+        assert_equal(&rt, &(octets, fnv(octets)), &(octets, hash));
     }
 }
 
@@ -87,11 +89,11 @@ fn a_source_in_memory_gives_pieces_and_fails_in_mid_stream(rt: HostRuntime) -> R
         assert!(rt; piece > 0);
         let mut source = MemSource::new(b"12345".to_vec(alloc)?, piece, failing.to_vec(alloc)?);
         let (answers, octets) = six_reads(alloc, &mut source)?;
-        assert_eq!(rt; answers.as_slice(), want.as_slice(), "in pieces of {piece}");
-        assert_eq!(rt;
-            octets.as_slice(),
-            b"12345".as_slice(),
-            "in pieces of {piece}"
+        assert_equal(&rt, &(piece, answers.as_slice()), &(piece, want.as_slice()));
+        assert_equal(
+            &rt,
+            &(piece, octets.as_slice()),
+            &(piece, b"12345".as_slice()),
         );
     }
     Ok(())
@@ -102,23 +104,29 @@ fn a_sink_in_memory_fails_in_mid_stream_and_past_its_room(rt: HostRuntime) -> Re
     let alloc = rt.alloc();
     let mut sink = MemSink::new(alloc, 5, [1].to_vec(alloc)?)?;
     let answers = writes(alloc, &mut sink, &[b"12", b"34", b"56", b"78", b"", b"9"])?;
-    assert_eq!(rt;
-        answers.as_slice(),
-        [true, false, true, false, true, true].as_slice()
+    assert_equal(
+        &rt,
+        &answers.as_slice(),
+        &[true, false, true, false, true, true].as_slice(),
     );
-    assert_eq!(rt; sink.written(), b"12569".as_slice());
+    assert_equal(&rt, &sink.written(), &b"12569".as_slice());
     Ok(())
 }
 
 #[test]
 fn a_reader_of_std_is_a_source(rt: HostRuntime) -> Result<(), Fail> {
     let (answers, octets) = six_reads(rt.alloc(), &mut RealSource::new(b"12345".as_slice()))?;
-    assert_eq!(rt;
-        answers.as_slice(),
-        [Some(4), Some(1), Some(0), Some(0), Some(0), Some(0)].as_slice()
+    assert_equal(
+        &rt,
+        &answers.as_slice(),
+        &[Some(4), Some(1), Some(0), Some(0), Some(0), Some(0)].as_slice(),
     );
-    assert_eq!(rt; octets.as_slice(), b"12345".as_slice());
-    assert_eq!(rt; RealSource::new(Refusing).read(&mut [0; 4]), Err(Failed));
+    assert_equal(&rt, &octets.as_slice(), &b"12345".as_slice());
+    assert_equal(
+        &rt,
+        &RealSource::new(Refusing).read(&mut [0; 4]),
+        &Err(Failed),
+    );
     Ok(())
 }
 
@@ -130,8 +138,8 @@ fn a_writer_of_std_is_a_sink(rt: HostRuntime) -> Result<(), Fail> {
         &mut RealSink::new(&mut octets),
         &[b"12", b"", b"345"],
     )?;
-    assert_eq!(rt; answers.as_slice(), [true, true, true].as_slice());
-    assert_eq!(rt; octets.as_slice(), b"12345".as_slice());
+    assert_equal(&rt, &answers.as_slice(), &[true, true, true].as_slice());
+    assert_equal(&rt, &octets.as_slice(), &b"12345".as_slice());
     // A slice takes what fits, and then nothing of a nonempty piece.
     let mut room = [0; 3];
     let answers = writes(
@@ -139,6 +147,6 @@ fn a_writer_of_std_is_a_sink(rt: HostRuntime) -> Result<(), Fail> {
         &mut RealSink::new(room.as_mut_slice()),
         &[b"12", b"34", b"5"],
     )?;
-    assert_eq!(rt; answers.as_slice(), [true, false, false].as_slice());
+    assert_equal(&rt, &answers.as_slice(), &[true, false, false].as_slice());
     Ok(())
 }
