@@ -9,3 +9,5 @@
 mod assertions;
 #[cfg(test)]
 mod tnc_base;
+#[cfg(test)]
+mod wav_file;
