@@ -10,4 +10,6 @@ mod assertions;
 #[cfg(test)]
 mod tnc_base;
 #[cfg(test)]
+mod tnc_words;
+#[cfg(test)]
 mod wav_file;
