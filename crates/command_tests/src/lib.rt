@@ -12,6 +12,8 @@ mod tnc_base;
 #[cfg(test)]
 mod tnc_decode;
 #[cfg(test)]
+mod tnc_encode;
+#[cfg(test)]
 mod tnc_forms;
 #[cfg(test)]
 mod tnc_words;
