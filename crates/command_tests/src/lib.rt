@@ -16,6 +16,8 @@ mod tnc_encode;
 #[cfg(test)]
 mod tnc_forms;
 #[cfg(test)]
+mod tnc_loop;
+#[cfg(test)]
 mod tnc_show;
 #[cfg(test)]
 mod tnc_words;
