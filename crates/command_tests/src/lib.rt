@@ -10,6 +10,8 @@ mod assertions;
 #[cfg(test)]
 mod tnc_base;
 #[cfg(test)]
+mod tnc_bench;
+#[cfg(test)]
 mod tnc_decode;
 #[cfg(test)]
 mod tnc_encode;
