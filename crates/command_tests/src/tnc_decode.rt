@@ -2,7 +2,9 @@
 
 use crate::assertions::assert_equal;
 use std::alloc::{AllocError, Global};
+use std::process::Abort;
 use std::test::Fail;
+use std::thread::Threads;
 use tnc_base::{MemSink, MemSource};
 use tnc_decode::decode;
 use tnc_forms::{Fault, InputFault};
@@ -92,15 +94,15 @@ fn record_tone(
 
 /// What is written of an input that comes in pieces of so many octets, and how the command ends, if the source fails the
 /// reads of these numbers.
-fn decoded(
-    rt: &HostRuntime,
+fn decoded<R: Abort + Threads + Sync>(
+    rt: &R,
+    alloc: Global,
     words: DecodeWords,
     octets: Vec<u8>,
     piece: usize,
     reads: &[u64],
 ) -> Result<(Vec<u8>, Result<(), Fault>), Fail> {
-    let alloc = rt.alloc();
-    assert!(*rt; piece > 0);
+    assert!(rt; piece > 0);
     let mut input = MemSource::new(octets, piece, reads.to_vec(alloc)?);
     let mut output = MemSink::new(alloc, 1000, Vec::new(alloc))?;
     let end = decode(rt, alloc, words, &mut input, &mut output);
@@ -113,7 +115,7 @@ fn a_recording_gives_one_line_however_its_source_cuts_it(rt: HostRuntime) -> Res
         let mut octets = recording(rt.alloc())?;
         octets.push(0)?;
         let words = DecodeWords { threads, ..WORDS };
-        let (written, end) = decoded(&rt, words, octets, piece, &[])?;
+        let (written, end) = decoded(&rt, rt.alloc(), words, octets, piece, &[])?;
         assert_equal(
             &rt,
             &(piece, written.as_slice(), end),
@@ -126,7 +128,7 @@ fn a_recording_gives_one_line_however_its_source_cuts_it(rt: HostRuntime) -> Res
 // The frame ends at sample 1294 of 1296.
 #[test]
 fn a_frame_is_written_before_the_input_fails(rt: HostRuntime) -> Result<(), Fail> {
-    let (written, end) = decoded(&rt, WORDS, recording(rt.alloc())?, 4095, &[2])?;
+    let (written, end) = decoded(&rt, rt.alloc(), WORDS, recording(rt.alloc())?, 4095, &[2])?;
     assert_equal(&rt, &(written.as_slice(), end), &(LINE, Err(Fault::Read)));
     Ok(())
 }
@@ -155,7 +157,7 @@ fn samples_at_48000_a_second_give_the_same_line(rt: HostRuntime) -> Result<(), F
     for (words, front) in table {
         let mut octets = front.to_vec(rt.alloc())?;
         record(&mut octets, 5)?;
-        let (written, end) = decoded(&rt, words, octets, 4095, &[])?;
+        let (written, end) = decoded(&rt, rt.alloc(), words, octets, 4095, &[])?;
         assert_equal(
             &rt,
             &(words, written.as_slice(), end),
@@ -180,7 +182,14 @@ fn all_lanes_hear_a_slow_sender_too(rt: HostRuntime) -> Result<(), Fail> {
         (&slow, WORDS, b""),
     ];
     for (octets, words, want) in table {
-        let (written, end) = decoded(&rt, words, octets.to_vec(rt.alloc())?, 4095, &[])?;
+        let (written, end) = decoded(
+            &rt,
+            rt.alloc(),
+            words,
+            octets.to_vec(rt.alloc())?,
+            4095,
+            &[],
+        )?;
         assert_equal(
             &rt,
             &(words, written.as_slice(), end),
@@ -197,7 +206,14 @@ fn all_lanes_take_no_file_of_48000_a_second(rt: HostRuntime) -> Result<(), Fail>
         audio: AudioForm::Wav,
         ..SENSITIVE
     };
-    let (_, end) = decoded(&rt, words, WIDE_HEAD.to_vec(rt.alloc())?, 4095, &[])?;
+    let (_, end) = decoded(
+        &rt,
+        rt.alloc(),
+        words,
+        WIDE_HEAD.to_vec(rt.alloc())?,
+        4095,
+        &[],
+    )?;
     assert!(rt; matches!(end, Err(Fault::Input(InputFault::Wav(_)))));
     Ok(())
 }

@@ -2,7 +2,9 @@
 use crate::assertions::assert_equal;
 use clean_signal::{TrueEnd, is_sent};
 use frame_merge::Candidate;
+use std::alloc::Global;
 use std::test::Fail;
+use std::thread::Threads;
 use tnc_base::{MemSink, Octets};
 use tnc_loop::{LoopFault, loop_back};
 use tnc_words::LoopWords;
@@ -16,12 +18,12 @@ const WORDS: LoopWords = LoopWords {
 };
 
 /// What is written, and how the command ends, if the sink fails the writes of these numbers.
-fn looped(
-    rt: &HostRuntime,
+fn looped<R: Threads + Sync>(
+    rt: &R,
+    alloc: Global,
     words: LoopWords,
     writes: &[u64],
 ) -> Result<(Vec<u8>, Result<(), LoopFault>), Fail> {
-    let alloc = rt.alloc();
     let mut output = MemSink::new(alloc, 1000, writes.to_vec(alloc)?)?;
     let end = loop_back(rt, alloc, words, &mut output);
     Ok((output.written().to_vec(alloc)?, end))
@@ -46,7 +48,7 @@ fn the_frames_of_seed_seven_are_heard(rt: HostRuntime) -> Result<(), Fail> {
         (none, false, no_summary),
     ] {
         let words = LoopWords { threads, ..words };
-        let (written, end) = looped(&rt, words, &[])?;
+        let (written, end) = looped(&rt, rt.alloc(), words, &[])?;
         assert_equal(
             &rt,
             &(words, written.as_slice(), end.is_ok()),
@@ -58,7 +60,7 @@ fn the_frames_of_seed_seven_are_heard(rt: HostRuntime) -> Result<(), Fail> {
 
 #[test]
 fn an_output_that_fails_is_told(rt: HostRuntime) -> Result<(), Fail> {
-    let (written, end) = looped(&rt, LoopWords { frames: 1, ..WORDS }, &[0])?;
+    let (written, end) = looped(&rt, rt.alloc(), LoopWords { frames: 1, ..WORDS }, &[0])?;
     assert!(rt; written.is_empty() && matches!(end, Err(LoopFault::Write)));
     Ok(())
 }

@@ -1,7 +1,12 @@
 //! Runs over memory, by their statuses, what they write, and their reports.
 use crate::assertions::assert_equal;
 use crate::program::run;
+use std::alloc::Global;
+use std::net::Net;
+use std::process::Abort;
+use std::sync::Wait;
 use std::test::Fail;
+use std::thread::Threads;
 use tnc_base::{MemSink, MemSource};
 use tnc_ports::MemLive;
 
@@ -31,13 +36,13 @@ struct Outcome {
 
 /// A run over memory whose input comes in pieces of seven octets, and to whose ports no host connects. The numbers are
 /// those of the read, the write, the report and the call of the ports that fail.
-fn run_live(
-    rt: &HostRuntime,
+fn run_live<R: Threads + Wait + Net + Sync>(
+    rt: &R,
+    alloc: Global,
     words: &str,
     input: &[u8],
     [read, write, told, call]: [u64; 4],
 ) -> Result<Outcome, Fail> {
-    let alloc = rt.alloc();
     let mut given = Vec::new(alloc);
     for word in words.split_whitespace() {
         given.push(String::from_str(alloc, word)?)?;
@@ -64,23 +69,29 @@ fn run_live(
 }
 
 /// A run over memory without ports. The numbers are those of the read, the write and the report that fail.
-fn run_failing(
-    rt: &HostRuntime,
+fn run_failing<R: Threads + Wait + Net + Sync>(
+    rt: &R,
+    alloc: Global,
     words: &str,
     input: &[u8],
     [read, write, told]: [u64; 3],
 ) -> Result<Outcome, Fail> {
-    run_live(rt, words, input, [read, write, told, NEVER])
+    run_live(rt, alloc, words, input, [read, write, told, NEVER])
 }
 
 /// A run over memory in which nothing fails.
-fn run_over(rt: &HostRuntime, words: &str, input: &[u8]) -> Result<Outcome, Fail> {
-    run_failing(rt, words, input, [NEVER; 3])
+fn run_over<R: Threads + Wait + Net + Sync>(
+    rt: &R,
+    alloc: Global,
+    words: &str,
+    input: &[u8],
+) -> Result<Outcome, Fail> {
+    run_failing(rt, alloc, words, input, [NEVER; 3])
 }
 
 /// Ends the test unless a run of these words came to this status after so many octets, with this report.
-fn assert_ended(
-    rt: &HostRuntime,
+fn assert_ended<R: Abort>(
+    rt: &R,
     words: &str,
     got: &Outcome,
     (status, octets, report): (u8, usize, &str),
@@ -113,7 +124,7 @@ fn each_status_has_its_cause_and_its_line(rt: HostRuntime) -> Result<(), Fail> {
         ("show", SHORTEST, [NEVER, 0, NEVER], (5, 0, "")),
         ("encode", "9c9", [NEVER, NEVER, 0], (5, 0, "")),
     ] {
-        let got = run_failing(&rt, words, input.as_bytes(), failing)?;
+        let got = run_failing(&rt, rt.alloc(), words, input.as_bytes(), failing)?;
         assert_ended(&rt, words, &got, end);
     }
     Ok(())
@@ -131,7 +142,7 @@ fn other_commands_have_their_statuses_too(rt: HostRuntime) -> Result<(), Fail> {
         (BENCH, "x", [0, NEVER, 0], (0, 128, "")),
         (BENCH, "x", [0, 0, NEVER], (5, 0, "")),
     ] {
-        let got = run_failing(&rt, words, input.as_bytes(), failing)?;
+        let got = run_failing(&rt, rt.alloc(), words, input.as_bytes(), failing)?;
         assert_ended(&rt, words, &got, end);
     }
     Ok(())
@@ -139,7 +150,7 @@ fn other_commands_have_their_statuses_too(rt: HostRuntime) -> Result<(), Fail> {
 
 #[test]
 fn a_loop_tells_what_it_heard(rt: HostRuntime) -> Result<(), Fail> {
-    let got = run_over(&rt, "loop --seed 7 --frames=0", b"")?;
+    let got = run_over(&rt, rt.alloc(), "loop --seed 7 --frames=0", b"")?;
     let summary = b"frames 0\nheard 0\nstray 0\nhash cbf29ce484222325\n".as_slice();
     assert_equal(&rt, &got.output.as_slice(), &summary);
     Ok(())
@@ -147,7 +158,7 @@ fn a_loop_tells_what_it_heard(rt: HostRuntime) -> Result<(), Fail> {
 
 #[test]
 fn help_tells_of_a_command(rt: HostRuntime) -> Result<(), Fail> {
-    let got = run_over(&rt, "show --help", b"")?;
+    let got = run_over(&rt, rt.alloc(), "show --help", b"")?;
     assert!(rt; got.output.starts_with(b"Usage: tnc show [--modulo n]\n"));
     Ok(())
 }

@@ -15,11 +15,11 @@ const SHORT_FLAGS: &str = "encode --opening 2 --closing=1";
 #[test]
 fn the_shortest_frame_is_the_known_wave(rt: HostRuntime) -> Result<(), Fail> {
     let begins = b"\x00\x00\xba\x26\x1c\x0a\xe9\xdb\x78\xec\xfe\x1e\x9f\x1b\x38\xe8";
-    let got = run_over(&rt, SHORT_FLAGS, SHORTEST.as_bytes())?;
+    let got = run_over(&rt, rt.alloc(), SHORT_FLAGS, SHORTEST.as_bytes())?;
     assert_ended(&rt, SHORT_FLAGS, &got, (0, 2592, ""));
     assert!(rt; got.output.starts_with(begins));
     let words = "encode --silence=5 --opening 2 --closing=1";
-    let later = run_over(&rt, words, SHORTEST.as_bytes())?;
+    let later = run_over(&rt, rt.alloc(), words, SHORTEST.as_bytes())?;
     assert_ended(&rt, words, &later, (0, 2602, ""));
     assert!(rt; later.output.starts_with(&[0; 10]) && later.output.ends_with(&got.output));
     Ok(())
@@ -41,9 +41,9 @@ fn what_is_sent_is_heard(rt: HostRuntime) -> Result<(), Fail> {
         ("encode --wav", "decode --wav", TWICE, 24_172),
         ("encode --wav", "decode --wav", "", 44),
     ] {
-        let sent = run_over(&rt, words, lines.as_bytes())?;
+        let sent = run_over(&rt, rt.alloc(), words, lines.as_bytes())?;
         assert_ended(&rt, words, &sent, (0, octets, ""));
-        let heard = run_over(&rt, back, &sent.output)?;
+        let heard = run_over(&rt, rt.alloc(), back, &sent.output)?;
         assert_equal(
             &rt,
             &(words, heard.output.as_slice()),
@@ -56,9 +56,9 @@ fn what_is_sent_is_heard(rt: HostRuntime) -> Result<(), Fail> {
 // Each row: the read that fails, and the frames that had ended before it. The first ends within 1296 samples.
 #[test]
 fn a_failed_read_keeps_the_frames_before_it(rt: HostRuntime) -> Result<(), Fail> {
-    let sent = run_over(&rt, SHORT_FLAGS, TWICE.as_bytes())?.output;
+    let sent = run_over(&rt, rt.alloc(), SHORT_FLAGS, TWICE.as_bytes())?.output;
     for (read, lines) in [(0, ""), (300, ""), (500, ONCE)] {
-        let got = run_failing(&rt, "decode", &sent, [read, NEVER, NEVER])?;
+        let got = run_failing(&rt, rt.alloc(), "decode", &sent, [read, NEVER, NEVER])?;
         assert_equal(
             &rt,
             &(read, got.status, got.output.as_slice()),
@@ -71,17 +71,17 @@ fn a_failed_read_keeps_the_frames_before_it(rt: HostRuntime) -> Result<(), Fail>
 #[test]
 fn kiss_frames_come_and_go(rt: HostRuntime) -> Result<(), Fail> {
     let lines = b"9c946ea04040e09c6e988a9a40613f\n9c946ea04040e09c6e988a9a40613fc0db\n";
-    let sent = run_over(&rt, "encode", lines)?.output;
-    let kiss = run_over(&rt, "decode --kiss", &sent)?.output;
+    let sent = run_over(&rt, rt.alloc(), "encode", lines)?.output;
+    let kiss = run_over(&rt, rt.alloc(), "decode --kiss", &sent)?.output;
     assert!(rt;
         kiss.starts_with(b"\xc0\x00\x9c\x94") && kiss.ends_with(b"\x3f\xdb\xdc\xdb\xdd\xc0")
     );
     // Frames of other ports, and what is no frame, are not sent.
     let mut stream = kiss;
     stream.extend_from_slice(b"\x10\xc0\x00\x41\xc0\x01\x32\xc0")?;
-    let again = run_over(&rt, "encode --kiss", &stream)?;
+    let again = run_over(&rt, rt.alloc(), "encode --kiss", &stream)?;
     assert_equal(&rt, &again.output.as_slice(), &sent.as_slice());
-    let nothing = run_over(&rt, "encode --kiss", b"\xc0\x00\x41")?;
+    let nothing = run_over(&rt, rt.alloc(), "encode --kiss", b"\xc0\x00\x41")?;
     assert_ended(&rt, "encode --kiss", &nothing, (0, 0, ""));
     Ok(())
 }
@@ -91,7 +91,7 @@ fn kiss_frames_come_and_go(rt: HostRuntime) -> Result<(), Fail> {
 #[test]
 fn a_wav_file_is_heard_up_to_its_fault(rt: HostRuntime) -> Result<(), Fail> {
     let encode = "encode --wav --opening 2 --closing=1";
-    let whole = run_over(&rt, encode, SHORTEST.as_bytes())?.output;
+    let whole = run_over(&rt, rt.alloc(), encode, SHORTEST.as_bytes())?.output;
     let table: [(usize, usize, &[u8], &str, u8, &str); 10] = [
         (2636, 0, b"", ONCE, 0, ""),
         (2635, 0, b"", ONCE, 2, "tnc: bad input: truncated at 2635\n"),
@@ -123,7 +123,7 @@ fn a_wav_file_is_heard_up_to_its_fault(rt: HostRuntime) -> Result<(), Fail> {
         let mut file = whole.to_vec(rt.alloc())?;
         file.truncate(length);
         change(&mut file, place, octets);
-        let got = run_over(&rt, "decode --wav", &file)?;
+        let got = run_over(&rt, rt.alloc(), "decode --wav", &file)?;
         assert_ended(&rt, report, &got, (status, lines.len(), report));
         assert_equal(
             &rt,
@@ -143,14 +143,14 @@ fn change(file: &mut [u8], place: usize, octets: &[u8]) {
 
 #[test]
 fn what_is_cut_off_or_no_signal_gives_no_line(rt: HostRuntime) -> Result<(), Fail> {
-    let mut cut = run_over(&rt, SHORT_FLAGS, SHORTEST.as_bytes())?.output;
+    let mut cut = run_over(&rt, rt.alloc(), SHORT_FLAGS, SHORTEST.as_bytes())?.output;
     cut.truncate(2560);
     let mut loud = Vec::new(rt.alloc());
     for _ in 0..64 {
         loud.extend_from_slice(&i16::MIN.to_le_bytes())?;
     }
     for input in [&cut, &loud] {
-        let got = run_over(&rt, "decode", input)?;
+        let got = run_over(&rt, rt.alloc(), "decode", input)?;
         assert_ended(&rt, "decode", &got, (0, 0, ""));
     }
     Ok(())

@@ -1,7 +1,11 @@
 //! Streams that fail: what had ended before stands written.
 use super::{NEVER, Outcome, assert_ended, run_failing, run_over};
 use crate::assertions::assert_equal;
+use std::alloc::Global;
+use std::net::Net;
+use std::sync::Wait;
 use std::test::Fail;
+use std::thread::Threads;
 
 /// How many frames an input has.
 const FRAMES: u64 = 3;
@@ -23,10 +27,15 @@ impl Trial<'_> {
 
     /// The first read whose failing does not end it with status 4, after the frames that ended before. A read gives seven
     /// octets.
-    fn wrong_read(&self, rt: &HostRuntime, input: &[u8]) -> Result<Option<u64>, Fail> {
-        let whole = run_over(rt, self.words, input)?.output;
+    fn wrong_read<R: Threads + Wait + Net + Sync>(
+        &self,
+        rt: &R,
+        alloc: Global,
+        input: &[u8],
+    ) -> Result<Option<u64>, Fail> {
+        let whole = run_over(rt, alloc, self.words, input)?.output;
         for read in 0..input.len() as u64 / 7 {
-            let got = run_failing(rt, self.words, input, [read, NEVER, NEVER])?;
+            let got = run_failing(rt, alloc, self.words, input, [read, NEVER, NEVER])?;
             let ended = read.saturating_mul(7).checked_div(self.item).unwrap_or(0);
             if !self.ended_after(&got, 4, ended) || !whole.starts_with(&got.output) {
                 return Ok(Some(read));
@@ -36,9 +45,14 @@ impl Trial<'_> {
     }
 
     /// The first write whose failing does not end it with status 5, after the frames before. A frame is one write.
-    fn wrong_write(&self, rt: &HostRuntime, input: &[u8]) -> Result<Option<u64>, Fail> {
+    fn wrong_write<R: Threads + Wait + Net + Sync>(
+        &self,
+        rt: &R,
+        alloc: Global,
+        input: &[u8],
+    ) -> Result<Option<u64>, Fail> {
         for write in 0..=FRAMES {
-            let got = run_failing(rt, self.words, input, [NEVER, write, NEVER])?;
+            let got = run_failing(rt, alloc, self.words, input, [NEVER, write, NEVER])?;
             let status = if write < FRAMES { 5 } else { 0 };
             if !self.ended_after(&got, status, write) {
                 return Ok(Some(write));
@@ -68,7 +82,11 @@ fn reads_of_lines_fail(rt: HostRuntime) -> Result<(), Fail> {
     ] {
         let item = 31;
         let trial = Trial { words, item, made };
-        assert_equal(&rt, &(words, trial.wrong_read(&rt, LINES)?), &(words, None));
+        assert_equal(
+            &rt,
+            &(words, trial.wrong_read(&rt, rt.alloc(), LINES)?),
+            &(words, None),
+        );
     }
     Ok(())
 }
@@ -84,7 +102,7 @@ fn writes_of_lines_fail(rt: HostRuntime) -> Result<(), Fail> {
         let trial = Trial { words, item, made };
         assert_equal(
             &rt,
-            &(words, trial.wrong_write(&rt, LINES)?),
+            &(words, trial.wrong_write(&rt, rt.alloc(), LINES)?),
             &(words, None),
         );
     }
@@ -102,8 +120,8 @@ fn reads_and_writes_of_kiss_frames_fail(rt: HostRuntime) -> Result<(), Fail> {
         item: 18,
         made: 2592,
     };
-    assert_equal(&rt, &trial.wrong_read(&rt, &input)?, &None);
-    assert_equal(&rt, &trial.wrong_write(&rt, &input)?, &None);
+    assert_equal(&rt, &trial.wrong_read(&rt, rt.alloc(), &input)?, &None);
+    assert_equal(&rt, &trial.wrong_write(&rt, rt.alloc(), &input)?, &None);
     Ok(())
 }
 
@@ -111,7 +129,7 @@ fn reads_and_writes_of_kiss_frames_fail(rt: HostRuntime) -> Result<(), Fail> {
 // So short a sound is one write.
 #[test]
 fn reads_and_writes_of_sound_fail(rt: HostRuntime) -> Result<(), Fail> {
-    let sent = run_over(&rt, "encode --opening=2 --closing=1", LINES)?.output;
+    let sent = run_over(&rt, rt.alloc(), "encode --opening=2 --closing=1", LINES)?.output;
     for (words, read, frames, made) in [
         ("decode --kiss", 0, 0, 18),
         ("decode --kiss", 300, 0, 18),
@@ -124,9 +142,9 @@ fn reads_and_writes_of_sound_fail(rt: HostRuntime) -> Result<(), Fail> {
             item: 2592,
             made,
         };
-        let got = run_failing(&rt, words, &sent, [read, NEVER, NEVER])?;
+        let got = run_failing(&rt, rt.alloc(), words, &sent, [read, NEVER, NEVER])?;
         assert!(rt; trial.ended_after(&got, 4, frames), "of {words} at {read}");
-        let unwritten = run_failing(&rt, words, &sent, [NEVER, 0, NEVER])?;
+        let unwritten = run_failing(&rt, rt.alloc(), words, &sent, [NEVER, 0, NEVER])?;
         assert!(rt; trial.ended_after(&unwritten, 5, 0), "of {words}");
     }
     Ok(())
@@ -143,7 +161,7 @@ fn reports_fail(rt: HostRuntime) -> Result<(), Fail> {
         ("decode --wav", "RIFF", 0),
         ("help serv", "", 0),
     ] {
-        let got = run_failing(&rt, words, input.as_bytes(), [NEVER, NEVER, 0])?;
+        let got = run_failing(&rt, rt.alloc(), words, input.as_bytes(), [NEVER, NEVER, 0])?;
         assert_ended(&rt, words, &got, (5, octets, ""));
     }
     Ok(())

@@ -49,10 +49,10 @@ fn lines_are_read_or_refused_at_their_place(rt: HostRuntime) -> Result<(), Fail>
         ("\r\nzz", 0, 2, "tnc: bad input: bad digit at 2\n"),
         ("00\n", 0, 2, "tnc: bad input: short line at 0\n"),
     ] {
-        let got = run_over(&rt, "encode", lines.as_bytes())?;
+        let got = run_over(&rt, rt.alloc(), "encode", lines.as_bytes())?;
         assert_ended(&rt, lines, &got, (status, octets, report));
         // No WAV file is written for an input with a bad line.
-        let wav = run_over(&rt, "encode --wav", lines.as_bytes())?;
+        let wav = run_over(&rt, rt.alloc(), "encode --wav", lines.as_bytes())?;
         let size = if status == 0 {
             octets.saturating_add(44)
         } else {
@@ -69,10 +69,10 @@ fn a_line_has_at_most_2048_octets(rt: HostRuntime) -> Result<(), Fail> {
     let mut longest = Vec::new(rt.alloc());
     longest.resize(2048, b'f')?;
     longest.extend_from_slice(b"\r\n")?;
-    let good = run_over(&rt, words, &longest)?;
+    let good = run_over(&rt, rt.alloc(), words, &longest)?;
     assert_ended(&rt, words, &good, (0, good.output.len(), ""));
     longest.resize(2048 + 4097, b'z')?;
-    let got = run_over(&rt, words, &longest)?;
+    let got = run_over(&rt, rt.alloc(), words, &longest)?;
     let report = "tnc: bad input: long line at 2050\n";
     assert_ended(&rt, words, &got, (2, good.output.len(), report));
     assert_equal(&rt, &got.output.as_slice(), &good.output.as_slice());
@@ -96,7 +96,7 @@ fn frames_are_shown_in_the_modulus_that_is_asked_for(rt: HostRuntime) -> Result<
             "tnc: bad input: bad digit at 4\n",
         ),
     ] {
-        let got = run_over(&rt, words, input.as_bytes())?;
+        let got = run_over(&rt, rt.alloc(), words, input.as_bytes())?;
         assert_ended(&rt, words, &got, (status, output.len(), report));
         assert_equal(
             &rt,

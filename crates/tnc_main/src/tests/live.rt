@@ -22,7 +22,7 @@ fn a_station_without_hosts_sends_silence(rt: HostRuntime) -> Result<(), Fail> {
     ] {
         let mut silence = Vec::new(rt.alloc());
         silence.resize(2 * samples, 0)?;
-        let got = run_live(&rt, words, &silence, failing)?;
+        let got = run_live(&rt, rt.alloc(), words, &silence, failing)?;
         assert_ended(&rt, words, &got, end);
         assert_equal(&rt, &(failing, got.listens), &(failing, listens));
         assert!(rt; got.output.iter().all(|octet| *octet == 0));
@@ -33,7 +33,7 @@ fn a_station_without_hosts_sends_silence(rt: HostRuntime) -> Result<(), Fail> {
 #[test]
 fn other_words_open_no_port(rt: HostRuntime) -> Result<(), Fail> {
     for words in ["decode", "serve", "serve --kiss=8001 --agw=0"] {
-        let got = run_live(&rt, words, b"", [NEVER; 4])?;
+        let got = run_live(&rt, rt.alloc(), words, b"", [NEVER; 4])?;
         assert_equal(&rt, &(words, got.listens), &(words, 0));
     }
     Ok(())
