@@ -118,8 +118,8 @@ fn a_recording_gives_one_line_however_its_source_cuts_it(rt: HostRuntime) -> Res
         let (written, end) = decoded(&rt, rt.alloc(), words, octets, piece, &[])?;
         assert_equal(
             &rt,
-            &(piece, written.as_slice(), end),
-            &(piece, LINE, Ok(())),
+            &(piece, threads, written.as_slice(), end),
+            &(piece, threads, LINE, Ok(())),
         );
     }
     Ok(())
