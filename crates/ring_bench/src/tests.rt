@@ -1,4 +1,5 @@
 //! How costs are printed, and how many calls are counted.
+use crate::assertions::assert_equal;
 use crate::in_turns::in_turns;
 use crate::on_threads::on_threads;
 use crate::rates::{Rates, Spent};
@@ -17,13 +18,15 @@ fn costs_have_one_decimal(rt: HostRuntime) -> Result<(), Fail> {
             calls: 13,
         },
     };
-    assert_eq!(rt;
-        format!(in rt.alloc(); "{rates}")?.as_str(),
-        "3.1 ns a publish, 76.9 ns a read"
+    assert_equal(
+        &rt,
+        &format!(in rt.alloc(); "{rates}")?.as_str(),
+        &"3.1 ns a publish, 76.9 ns a read",
     );
-    assert_eq!(rt;
-        format!(in rt.alloc(); "{}", Spent::nothing())?.as_str(),
-        "0.0 ns"
+    assert_equal(
+        &rt,
+        &format!(in rt.alloc(); "{}", Spent::nothing())?.as_str(),
+        &"0.0 ns",
     );
     Ok(())
 }
@@ -34,8 +37,11 @@ fn each_reader_reads_each_sample_in_turn(rt: HostRuntime) {
         let Ok(rates) = in_turns(&rt, rt.alloc(), readers, samples) else {
             panic!(rt; "{readers} readers of {samples} samples")
         };
-        assert_eq!(rt; rates.publishes.calls, u64::from(samples));
-        assert_eq!(rt; rates.reads.calls, reads);
+        assert_equal(
+            &rt,
+            &(readers, rates.publishes.calls, rates.reads.calls),
+            &(readers, u64::from(samples), reads),
+        );
     }
 }
 
@@ -45,7 +51,7 @@ fn readers_on_threads_read_to_the_end(rt: HostRuntime) {
         let Ok(rates) = on_threads(&rt, rt.alloc(), readers, 10_000) else {
             panic!(rt; "{readers} readers")
         };
-        assert_eq!(rt; rates.publishes.calls, 10_000u64);
+        assert_equal(&rt, &(readers, rates.publishes.calls), &(readers, 10_000));
         assert!(rt; rates.reads.calls > 10_000 * u64::from(readers));
     }
 }

@@ -16,6 +16,3 @@ pub use in_memory::{MemSink, MemSource};
 pub use octet_list::Octets;
 pub use over_std::{RealSink, RealSource};
 pub use stream::{Sink, Source};
-
-#[cfg(test)]
-mod tests;

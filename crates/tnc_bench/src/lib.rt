@@ -12,6 +12,3 @@ mod words;
 pub use command::bench;
 pub use fault::CommandFault;
 pub use words::bench_words;
-
-#[cfg(test)]
-mod tests;

@@ -12,6 +12,3 @@ mod receiver;
 
 pub use decoding::decode;
 pub use printing::print;
-
-#[cfg(test)]
-mod tests;

@@ -11,6 +11,3 @@ mod pieces;
 mod sending;
 
 pub use encoding::encode;
-
-#[cfg(test)]
-mod tests;

@@ -21,6 +21,3 @@ pub use hex_print::print_hex_line;
 pub use line_fault::{LineFault, LineFlaw};
 pub use pcm::write_pcm;
 pub use reading::{PIECE, read_all, read_piece};
-
-#[cfg(test)]
-mod tests;

@@ -18,6 +18,3 @@ mod telling;
 pub use command::loop_back;
 pub use fault::LoopFault;
 pub use laws::{good_transmissions, heard_is_near, one_summary};
-
-#[cfg(test)]
-mod tests;

@@ -7,8 +7,6 @@
 mod laws;
 mod lines;
 mod showing;
-#[cfg(test)]
-mod tests;
 
 pub use laws::one_text;
 pub use showing::show;

@@ -33,6 +33,3 @@ pub use laws::one_command;
 pub use reading::read_words;
 pub use texts::{help_text, version_line};
 pub use topic::Topic;
-
-#[cfg(test)]
-mod tests;

@@ -15,6 +15,3 @@ mod reader;
 pub use fault::{TooLong, WavFault};
 pub use head::wav_head;
 pub use reader::WavIn;
-
-#[cfg(test)]
-mod tests;

@@ -1,6 +1,6 @@
 //! Streams that fail: what had ended before stands written.
-
-use super::{Outcome, SHORTEST, run_failing, run_over};
+use super::{NEVER, Outcome, assert_ended, run_failing, run_over};
+use crate::assertions::assert_equal;
 use std::alloc::Global;
 use std::net::Net;
 use std::sync::Wait;
@@ -13,7 +13,7 @@ const FRAMES: u64 = 3;
 /// A command, how many octets a frame of its input has, and how many it writes of each.
 #[derive(Drop)]
 struct Trial<'a> {
-    words: &'a [&'a str],
+    words: &'a str,
     item: u64,
     made: u64,
 }
@@ -35,7 +35,7 @@ impl Trial<'_> {
     ) -> Result<Option<u64>, Fail> {
         let whole = run_over(rt, alloc, self.words, input)?.output;
         for read in 0..input.len() as u64 / 7 {
-            let got = run_failing(rt, alloc, self.words, input, [&[read], &[], &[]])?;
+            let got = run_failing(rt, alloc, self.words, input, [read, NEVER, NEVER])?;
             let ended = read.saturating_mul(7).checked_div(self.item).unwrap_or(0);
             if !self.ended_after(&got, 4, ended) || !whole.starts_with(&got.output) {
                 return Ok(Some(read));
@@ -52,7 +52,7 @@ impl Trial<'_> {
         input: &[u8],
     ) -> Result<Option<u64>, Fail> {
         for write in 0..=FRAMES {
-            let got = run_failing(rt, alloc, self.words, input, [&[], &[write], &[]])?;
+            let got = run_failing(rt, alloc, self.words, input, [NEVER, write, NEVER])?;
             let status = if write < FRAMES { 5 } else { 0 };
             if !self.ended_after(&got, status, write) {
                 return Ok(Some(write));
@@ -63,9 +63,8 @@ impl Trial<'_> {
 }
 
 /// Lines of the shortest frame.
-fn lines(alloc: Global) -> Result<String, Fail> {
-    Ok(format!(in alloc; "{SHORTEST}\n{SHORTEST}\n{SHORTEST}\n")?)
-}
+const LINES: &[u8] =
+    b"9c946ea04040e09c6e988a9a40613f\n9c946ea04040e09c6e988a9a40613f\n9c946ea04040e09c6e988a9a40613f\n";
 
 /// The shortest frame as a KISS frame.
 const ITEM: &[u8] = b"\xc0\0\x9c\x94\x6e\xa0\x40\x40\xe0\x9c\x6e\x98\x8a\x9a\x40\x61\x3f\xc0";
@@ -73,57 +72,56 @@ const ITEM: &[u8] = b"\xc0\0\x9c\x94\x6e\xa0\x40\x40\xe0\x9c\x6e\x98\x8a\x9a\x40
 // Each row: the words, and how many octets are written of a line. With --join or --wav nothing is written before the end.
 #[test]
 fn reads_of_lines_fail(rt: HostRuntime) -> Result<(), Fail> {
-    let alloc = rt.alloc();
-    let input = lines(alloc)?;
-    let table: [(&[&str], u64); 6] = [
-        (&["encode", "--opening=2", "--closing=1"], 2592),
-        (&["encode", "--hf", "--opening=2", "--closing=1"], 10_368),
-        (&["encode", "--join"], 0),
-        (&["encode", "--wav"], 0),
-        (&["show"], 24),
-        (&["show", "--modulo=128"], 24),
-    ];
-    for (words, made) in table {
+    for (words, made) in [
+        ("encode --opening=2 --closing=1", 2592),
+        ("encode --hf --opening=2 --closing=1", 10_368),
+        ("encode --join", 0),
+        ("encode --wav", 0),
+        ("show", 24),
+        ("show --modulo=128", 24),
+    ] {
         let item = 31;
         let trial = Trial { words, item, made };
-        let wrong = trial.wrong_read(&rt, alloc, input.as_bytes())?;
-        assert_eq!(rt; wrong, None, "of {words:?}");
+        assert_equal(
+            &rt,
+            &(words, trial.wrong_read(&rt, rt.alloc(), LINES)?),
+            &(words, None),
+        );
     }
     Ok(())
 }
 
 #[test]
 fn writes_of_lines_fail(rt: HostRuntime) -> Result<(), Fail> {
-    let alloc = rt.alloc();
-    let input = lines(alloc)?;
-    let table: [(&[&str], u64); 3] = [
-        (&["encode", "--opening=2", "--closing=1"], 2592),
-        (&["encode", "--hf", "--opening=2", "--closing=1"], 10_368),
-        (&["show"], 24),
-    ];
-    for (words, made) in table {
+    for (words, made) in [
+        ("encode --opening=2 --closing=1", 2592),
+        ("encode --hf --opening=2 --closing=1", 10_368),
+        ("show", 24),
+    ] {
         let item = 31;
         let trial = Trial { words, item, made };
-        let wrong = trial.wrong_write(&rt, alloc, input.as_bytes())?;
-        assert_eq!(rt; wrong, None, "of {words:?}");
+        assert_equal(
+            &rt,
+            &(words, trial.wrong_write(&rt, rt.alloc(), LINES)?),
+            &(words, None),
+        );
     }
     Ok(())
 }
 
 #[test]
 fn reads_and_writes_of_kiss_frames_fail(rt: HostRuntime) -> Result<(), Fail> {
-    let alloc = rt.alloc();
-    let mut input = Vec::new(alloc);
+    let mut input = Vec::new(rt.alloc());
     for _ in 0..FRAMES {
         input.extend_from_slice(ITEM)?;
     }
     let trial = Trial {
-        words: &["encode", "--kiss", "--opening=2", "--closing=1"],
+        words: "encode --kiss --opening=2 --closing=1",
         item: 18,
         made: 2592,
     };
-    assert_eq!(rt; trial.wrong_read(&rt, alloc, &input)?, None);
-    assert_eq!(rt; trial.wrong_write(&rt, alloc, &input)?, None);
+    assert_equal(&rt, &trial.wrong_read(&rt, rt.alloc(), &input)?, &None);
+    assert_equal(&rt, &trial.wrong_write(&rt, rt.alloc(), &input)?, &None);
     Ok(())
 }
 
@@ -131,29 +129,23 @@ fn reads_and_writes_of_kiss_frames_fail(rt: HostRuntime) -> Result<(), Fail> {
 // So short a sound is one write.
 #[test]
 fn reads_and_writes_of_sound_fail(rt: HostRuntime) -> Result<(), Fail> {
-    let alloc = rt.alloc();
-    let words = ["encode", "--opening=2", "--closing=1"];
-    let sent = run_over(&rt, alloc, &words, lines(alloc)?.as_bytes())?.output;
-    let table: [(&[&str], u64, u64, u64); 5] = [
-        (&["decode", "--kiss"], 0, 0, 18),
-        (&["decode", "--kiss"], 300, 0, 18),
-        (&["decode", "--kiss"], 500, 1, 18),
-        (&["decode", "--threads"], 500, 1, 31),
-        (&["decode", "--rate=9600"], 900, 2, 31),
-    ];
-    for (words, read, frames, made) in table {
+    let sent = run_over(&rt, rt.alloc(), "encode --opening=2 --closing=1", LINES)?.output;
+    for (words, read, frames, made) in [
+        ("decode --kiss", 0, 0, 18),
+        ("decode --kiss", 300, 0, 18),
+        ("decode --kiss", 500, 1, 18),
+        ("decode --threads", 500, 1, 31),
+        ("decode --rate=9600", 900, 2, 31),
+    ] {
         let trial = Trial {
             words,
             item: 2592,
             made,
         };
-        let got = run_failing(&rt, alloc, words, &sent, [&[read], &[], &[]])?;
-        assert!(rt;
-            trial.ended_after(&got, 4, frames),
-            "of {words:?} at {read}"
-        );
-        let unwritten = run_failing(&rt, alloc, words, &sent, [&[], &[0], &[]])?;
-        assert!(rt; trial.ended_after(&unwritten, 5, 0), "of {words:?}");
+        let got = run_failing(&rt, rt.alloc(), words, &sent, [read, NEVER, NEVER])?;
+        assert!(rt; trial.ended_after(&got, 4, frames), "of {words} at {read}");
+        let unwritten = run_failing(&rt, rt.alloc(), words, &sent, [NEVER, 0, NEVER])?;
+        assert!(rt; trial.ended_after(&unwritten, 5, 0), "of {words}");
     }
     Ok(())
 }
@@ -161,18 +153,16 @@ fn reads_and_writes_of_sound_fail(rt: HostRuntime) -> Result<(), Fail> {
 // Each row: the words, the input, and how many octets are written before the report that can't be.
 #[test]
 fn reports_fail(rt: HostRuntime) -> Result<(), Fail> {
-    let alloc = rt.alloc();
-    let bad = format!(in alloc; "{SHORTEST}\nzz\n{SHORTEST}\n")?;
-    let table: [(&[&str], &str, usize); 5] = [
-        (&["encode", "--opening=2", "--closing=1"], &bad, 2592),
-        (&["encode", "--wav"], &bad, 0),
-        (&["show"], &bad, 24),
-        (&["decode", "--wav"], "RIFF", 0),
-        (&["help", "serv"], "", 0),
-    ];
-    for (words, input, octets) in table {
-        let got = run_failing(&rt, alloc, words, input.as_bytes(), [&[], &[], &[0]])?;
-        assert_eq!(rt; (got.status, got.output.len()), (5, octets), "of {words:?}");
+    let bad = "9c946ea04040e09c6e988a9a40613f\nzz\n9c946ea04040e09c6e988a9a40613f\n";
+    for (words, input, octets) in [
+        ("encode --opening=2 --closing=1", bad, 2592),
+        ("encode --wav", bad, 0),
+        ("show", bad, 24),
+        ("decode --wav", "RIFF", 0),
+        ("help serv", "", 0),
+    ] {
+        let got = run_failing(&rt, rt.alloc(), words, input.as_bytes(), [NEVER, NEVER, 0])?;
+        assert_ended(&rt, words, &got, (5, octets, ""));
     }
     Ok(())
 }

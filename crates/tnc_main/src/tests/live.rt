@@ -1,50 +1,40 @@
 //! A live station to whose ports no host connects.
-
-use super::run_live;
+use super::{NEVER, assert_ended, run_live};
+use crate::assertions::assert_equal;
 use std::test::Fail;
 
-// Each row: how many samples of silence come, what fails, the status, how many come out, how often the ports are opened,
-// and the report. A tick is 96 samples, and only whole ticks are sent.
+// Each row: how many samples of silence come, what fails, the status, how many octets come out, the report, and how often
+// the ports are opened. A tick is 96 samples, and only whole ticks are sent.
 #[test]
 fn a_station_without_hosts_sends_silence(rt: HostRuntime) -> Result<(), Fail> {
-    let words = ["serve", "--kiss", "8001", "--agw=8000"];
-    let table: [(usize, [&[u64]; 4], u8, usize, usize, &str); 10] = [
-        (960, [&[], &[], &[], &[]], 0, 960, 1, ""),
-        (1000, [&[], &[], &[], &[]], 0, 960, 1, ""),
-        (0, [&[], &[], &[], &[]], 0, 0, 1, ""),
-        (960, [&[0], &[], &[], &[]], 4, 0, 1, ""),
-        (960, [&[100], &[], &[], &[]], 4, 288, 1, ""),
-        (960, [&[], &[0], &[], &[]], 5, 0, 1, ""),
-        (960, [&[], &[3], &[], &[]], 5, 288, 1, ""),
-        (960, [&[], &[], &[], &[1]], 0, 960, 1, ""),
-        (960, [&[], &[], &[], &[0]], 10, 0, 0, "tnc: no port\n"),
-        (960, [&[], &[], &[0], &[0]], 5, 0, 0, ""),
-    ];
-    for (samples, failing, status, sent, listens, report) in table {
+    let words = "serve --kiss 8001 --agw=8000";
+    for (samples, failing, end, listens) in [
+        (960, [NEVER; 4], (0, 1920, ""), 1),
+        (1000, [NEVER; 4], (0, 1920, ""), 1),
+        (0, [NEVER; 4], (0, 0, ""), 1),
+        (960, [0, NEVER, NEVER, NEVER], (4, 0, ""), 1),
+        (960, [100, NEVER, NEVER, NEVER], (4, 576, ""), 1),
+        (960, [NEVER, 0, NEVER, NEVER], (5, 0, ""), 1),
+        (960, [NEVER, 3, NEVER, NEVER], (5, 576, ""), 1),
+        (960, [NEVER, NEVER, NEVER, 1], (0, 1920, ""), 1),
+        (960, [NEVER, NEVER, NEVER, 0], (10, 0, "tnc: no port\n"), 0),
+        (960, [NEVER, NEVER, 0, 0], (5, 0, ""), 0),
+    ] {
         let mut silence = Vec::new(rt.alloc());
         silence.resize(2 * samples, 0)?;
-        let got = run_live(&rt, rt.alloc(), &words, &silence, failing)?;
-        assert_eq!(rt;
-            (got.status, got.output.len(), got.listens),
-            (status, sent.saturating_mul(2), listens),
-            "of {samples}, {failing:?}"
-        );
+        let got = run_live(&rt, rt.alloc(), words, &silence, failing)?;
+        assert_ended(&rt, words, &got, end);
+        assert_equal(&rt, &(failing, got.listens), &(failing, listens));
         assert!(rt; got.output.iter().all(|octet| *octet == 0));
-        assert_eq!(rt; got.report.as_slice(), report.as_bytes());
     }
     Ok(())
 }
 
 #[test]
 fn other_words_open_no_port(rt: HostRuntime) -> Result<(), Fail> {
-    let table: [&[&str]; 3] = [
-        &["decode"],
-        &["serve"],
-        &["serve", "--kiss=8001", "--agw=0"],
-    ];
-    for words in table {
-        let got = run_live(&rt, rt.alloc(), words, b"", [&[], &[], &[], &[]])?;
-        assert_eq!(rt; got.listens, 0, "of {words:?}");
+    for words in ["decode", "serve", "serve --kiss=8001 --agw=0"] {
+        let got = run_live(&rt, rt.alloc(), words, b"", [NEVER; 4])?;
+        assert_equal(&rt, &(words, got.listens), &(words, 0));
     }
     Ok(())
 }

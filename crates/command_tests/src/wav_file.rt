@@ -1,26 +1,19 @@
-// Files and heads from outside.
-
-use super::{TooLong, WavFault, WavIn, wav_head};
+//! Files and heads from outside.
+use crate::assertions::assert_equal;
 use std::alloc::{AllocError, Global};
 use std::test::Fail;
+use wav_file::{TooLong, WavFault, WavIn, wav_head};
 
 // What Python's module `wave` and sox write for one channel, two octets a sample, 9600 samples a second and the samples
 // below.
-const WRITTEN: [u8; 58] = [
-    0x52, 0x49, 0x46, 0x46, 0x32, 0x00, 0x00, 0x00, 0x57, 0x41, 0x56, 0x45, 0x66, 0x6d, 0x74, 0x20,
-    0x10, 0x00, 0x00, 0x00, 0x01, 0x00, 0x01, 0x00, 0x80, 0x25, 0x00, 0x00, 0x00, 0x4b, 0x00, 0x00,
-    0x02, 0x00, 0x10, 0x00, 0x64, 0x61, 0x74, 0x61, 0x0e, 0x00, 0x00, 0x00, 0x00, 0x00, 0xba, 0x26,
-    0x1c, 0x0a, 0xe9, 0xdb, 0x00, 0x80, 0xff, 0x7f, 0xff, 0xff,
-];
+const WRITTEN: [u8; 58] =
+    *b"RIFF\x32\0\0\0WAVEfmt \x10\0\0\0\x01\0\x01\0\x80\x25\0\0\0\x4b\0\0\x02\0\x10\0data\x0e\0\0\0\0\0\xba\x26\x1c\x0a\xe9\xdb\0\x80\xff\x7f\xff\xff";
 
 const SAMPLES: [i16; 7] = [0, 9914, 2588, -9239, -32768, 32767, -1];
 
 // The head of 1296 samples.
-const HEAD: [u8; 44] = [
-    0x52, 0x49, 0x46, 0x46, 0x44, 0x0a, 0x00, 0x00, 0x57, 0x41, 0x56, 0x45, 0x66, 0x6d, 0x74, 0x20,
-    0x10, 0x00, 0x00, 0x00, 0x01, 0x00, 0x01, 0x00, 0x80, 0x25, 0x00, 0x00, 0x00, 0x4b, 0x00, 0x00,
-    0x02, 0x00, 0x10, 0x00, 0x64, 0x61, 0x74, 0x61, 0x20, 0x0a, 0x00, 0x00,
-];
+const HEAD: [u8; 44] =
+    *b"RIFF\x44\x0a\0\0WAVEfmt \x10\0\0\0\x01\0\x01\0\x80\x25\0\0\0\x4b\0\0\x02\0\x10\0data\x20\x0a\0\0";
 
 // RIFF, a size and WAVE.
 const FRONT: &[u8] = b"RIFF\xff\xff\xff\xffWAVE";
@@ -72,13 +65,13 @@ fn joined(alloc: Global, parts: &[&[u8]]) -> Result<Vec<u8>, AllocError> {
 
 #[test]
 fn a_head_counts_its_samples(rt: HostRuntime) {
-    assert_eq!(rt; wav_head(1296), Ok(HEAD));
+    assert_equal(&rt, &wav_head(1296), &Ok(HEAD));
     let most = wav_head(2_147_483_629)
         .ok()
         .map(|head| (head[4], head[7], head[40], head[43]));
-    assert_eq!(rt; most, Some((0xfe, 0xff, 0xda, 0xff)));
+    assert_equal(&rt, &most, &Some((0xfe, 0xff, 0xda, 0xff)));
     for count in [2_147_483_630, u64::MAX] {
-        assert_eq!(rt; wav_head(count), Err(TooLong { count }));
+        assert_equal(&rt, &wav_head(count), &Err(TooLong { count }));
     }
 }
 
@@ -90,8 +83,8 @@ fn a_file_of_another_program_is_read(rt: HostRuntime) -> Result<(), Fail> {
     piped[40..44].copy_from_slice(b"\0\xf0\xff\x7f");
     for octets in [WRITTEN, piped] {
         let found = read_all(rt.alloc(), &octets)?;
-        assert_eq!(rt; found.samples.as_slice(), SAMPLES.as_slice());
-        assert_eq!(rt; (found.shown, found.end), (None, Ok(())));
+        assert_equal(&rt, &found.samples.as_slice(), &SAMPLES.as_slice());
+        assert_equal(&rt, &(found.shown, found.end), &(None, Ok(())));
     }
     Ok(())
 }
@@ -101,16 +94,11 @@ fn a_file_cut_anywhere_is_truncated_there(rt: HostRuntime) -> Result<(), Fail> {
     for length in 0..WRITTEN.len() {
         let found = read_all(rt.alloc(), &WRITTEN[..length])?;
         let at = length as u64;
-        assert_eq!(rt; found.shown, None, "cut at {length}");
-        assert_eq!(rt;
-            found.end,
-            Err(WavFault::Truncated { at }),
-            "cut at {length}"
-        );
-        assert_eq!(rt;
-            found.samples.len(),
-            length.saturating_sub(44) / 2,
-            "cut at {length}"
+        let samples = length.saturating_sub(44) / 2;
+        assert_equal(
+            &rt,
+            &(length, found.shown, found.samples.len(), found.end),
+            &(length, None, samples, Err(WavFault::Truncated { at })),
         );
     }
     Ok(())
@@ -142,22 +130,28 @@ fn a_fault_comes_at_the_octet_that_shows_it(rt: HostRuntime) -> Result<(), Fail>
         assert!(rt; place < file.len());
         file[place] = octet;
         let found = read_all(rt.alloc(), &file)?;
-        let at = found.shown.map(|(at, _)| at as u64);
-        let fault = found.shown.map(|(_, fault)| fault);
-        assert_eq!(rt; fault, want, "octet {octet} at {place}");
-        assert_eq!(rt; at, want.map(place_of), "octet {octet} at {place}");
-        // Every octet after it is answered by the same fault.
-        let after = found
-            .shown
-            .map_or(0, |(at, _)| file.len().saturating_sub(at));
-        assert_eq!(rt; found.faults, after, "octet {octet} at {place}");
-        assert_eq!(rt;
-            found.end,
-            want.map_or(Ok(()), Err),
-            "octet {octet} at {place}"
+        let got = (found.shown, found.faults, found.end);
+        assert_equal(
+            &rt,
+            &(place, octet, got),
+            &(place, octet, faulty(want, file.len())),
         );
     }
     Ok(())
+}
+
+// What a reader answers to a file of so many octets that shows this fault: the fault with its place, how many octets it
+// answers, which are all from there on, and the end.
+type Refused = (Option<(usize, WavFault)>, usize, Result<(), WavFault>);
+
+fn faulty(fault: Option<WavFault>, length: usize) -> Refused {
+    match fault {
+        Some(fault) => {
+            let at = place_of(fault) as usize;
+            (Some((at, fault)), length.saturating_sub(at), Err(fault))
+        }
+        None => (None, 0, Ok(())),
+    }
 }
 
 fn place_of(fault: WavFault) -> u64 {
@@ -183,9 +177,9 @@ fn a_rate_of_44100_is_named(rt: HostRuntime) {
     };
     for (place, octet) in file.iter().enumerate() {
         let want = if place < 27 { Ok(None) } else { Err(fault) };
-        assert_eq!(rt; reader.push(*octet), want, "at {place}");
+        assert_equal(&rt, &(place, reader.push(*octet)), &(place, want));
     }
-    assert_eq!(rt; reader.finish(), Err(fault));
+    assert_equal(&rt, &reader.finish(), &Err(fault));
 }
 
 #[test]
@@ -223,8 +217,11 @@ fn chunks_in_any_order_are_read(rt: HostRuntime) -> Result<(), Fail> {
     ];
     for (number, (parts, samples, end)) in table.into_iter().enumerate() {
         let found = read_all(alloc, &joined(alloc, parts)?)?;
-        assert_eq!(rt; found.samples.as_slice(), samples, "file {number}");
-        assert_eq!(rt; found.end, end, "file {number}");
+        assert_equal(
+            &rt,
+            &(number, found.samples.as_slice(), found.end),
+            &(number, samples, end),
+        );
     }
     Ok(())
 }
@@ -237,9 +234,9 @@ fn the_rate_is_told_once_the_format_was_read(rt: HostRuntime) {
         let mut reader = WavIn::any_rate();
         for (place, octet) in octets.iter().enumerate() {
             let want = if place < 36 { None } else { Some(rate) };
-            assert_eq!(rt; reader.rate(), want, "before the octet at {place}");
+            assert_equal(&rt, &(place, reader.rate()), &(place, want));
             assert!(rt; reader.push(*octet).is_ok());
         }
-        assert_eq!(rt; reader.finish(), Ok(()));
+        assert_equal(&rt, &reader.finish(), &Ok(()));
     }
 }

@@ -1,7 +1,7 @@
 //! What words ask for, and which words are refused.
-use super::{Command, WordsFault, read_words};
 use std::alloc::Global;
 use std::test::Fail;
+use tnc_words::{Command, WordsFault, read_words};
 
 mod batch;
 mod bench;

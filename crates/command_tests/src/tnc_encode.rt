@@ -1,10 +1,11 @@
 //! Frames in several forms and the samples that come of them. Counts of octets and hashes were computed apart from the program.
 
-use super::encode;
+use crate::assertions::assert_equal;
 use std::alloc::Global;
 use std::process::Abort;
 use std::test::Fail;
 use tnc_base::{MemSink, MemSource, fnv};
+use tnc_encode::encode;
 use tnc_forms::{Fault, InputFault, LineFault, LineFlaw};
 use tnc_words::{AudioForm, EncodeWords, FrameForm, Modem};
 
@@ -38,10 +39,8 @@ fn encoded(
     reads: &[u64],
     writes: &[u64],
 ) -> Result<(Vec<u8>, Result<(), Fault>), Fail> {
-    assert!(rt; words.opening >= 2);
-    assert!(rt; words.closing >= 1);
-    assert!(rt; words.level >= 10);
-    assert!(rt; words.level <= 32767);
+    assert!(rt; words.opening >= 2 && words.closing >= 1);
+    assert!(rt; words.level >= 10 && words.level <= 32767);
     let mut source = MemSource::new(input.to_vec(alloc)?, 31, reads.to_vec(alloc)?);
     let mut sink = MemSink::new(alloc, 8192, writes.to_vec(alloc)?)?;
     let end = encode(alloc, words, &mut source, &mut sink);
@@ -80,9 +79,11 @@ fn frames_and_their_samples(rt: HostRuntime) -> Result<(), Fail> {
         (WORDS, b"", 0, 0xcbf2_9ce4_8422_2325),
     ] {
         let (written, end) = encoded(&rt, rt.alloc(), words, input, &[], &[])?;
-        assert_eq!(rt; end, Ok(()));
-        assert_eq!(rt; written.len(), count);
-        assert_eq!(rt; fnv(&written), hash);
+        assert_equal(
+            &rt,
+            &(words, written.len(), fnv(&written), end),
+            &(words, count, hash, Ok(())),
+        );
     }
     Ok(())
 }
@@ -107,8 +108,11 @@ fn what_had_ended_stands_written(rt: HostRuntime) -> Result<(), Fail> {
         ),
     ] {
         let (written, end) = encoded(&rt, rt.alloc(), WORDS, input, reads, writes)?;
-        assert_eq!(rt; end, Err(fault));
-        assert_eq!(rt; written.len(), count);
+        assert_equal(
+            &rt,
+            &(fault, written.len(), end),
+            &(fault, count, Err(fault)),
+        );
     }
     Ok(())
 }

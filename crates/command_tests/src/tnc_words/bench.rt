@@ -1,7 +1,8 @@
 //! `bench`.
 use super::{asked, taken};
-use crate::{BenchOptions, Command};
+use crate::assertions::assert_equal;
 use std::test::Fail;
+use tnc_words::{BenchOptions, Command};
 
 /// Words that are refused, a line each.
 const REFUSED: &str = "\
@@ -33,14 +34,16 @@ fn bench_is_asked_for_with_a_seed(rt: HostRuntime) -> Result<(), Fail> {
     };
     let of_most =
         "--wide --noise 2000 --loss=90 --full --octets 100000 --seed 18446744073709551615 --";
-    assert_eq!(rt;
-        asked(rt.alloc(), "bench", "--seed 7")?,
-        Ok(Command::Bench(least))
+    assert_equal(
+        &rt,
+        &asked(rt.alloc(), "bench", "--seed 7")?,
+        &Ok(Command::Bench(least)),
     );
-    assert_eq!(rt;
-        asked(rt.alloc(), "bench", of_most)?,
-        Ok(Command::Bench(most))
+    assert_equal(
+        &rt,
+        &asked(rt.alloc(), "bench", of_most)?,
+        &Ok(Command::Bench(most)),
     );
-    assert_eq!(rt; taken(rt.alloc(), "bench", REFUSED)?.as_str(), "");
+    assert_equal(&rt, &taken(rt.alloc(), "bench", REFUSED)?.as_str(), &"");
     Ok(())
 }

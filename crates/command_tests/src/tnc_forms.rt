@@ -1,11 +1,12 @@
 //! Lines of hexadecimal digits read whole and in pieces, what is printed, and inputs that are read.
 
-use super::{
+use crate::assertions::assert_equal;
+use std::test::Fail;
+use tnc_base::MemSource;
+use tnc_forms::{
     Fault, HexIn, InputFault, LineFault, LineFlaw, PIECE, print_hex_line, read_all,
     read_hex_frames, read_piece, write_pcm,
 };
-use std::test::Fail;
-use tnc_base::MemSource;
 
 /// A bad line at a place.
 fn bad(flaw: LineFlaw, place: usize) -> InputFault {
@@ -26,8 +27,11 @@ fn inputs_and_their_first_bad_line(rt: HostRuntime) -> Result<(), Fail> {
         ("00ff\n00ff\r", 1, Some(bad(LineFlaw::OddLine, 5))),
     ] {
         let read = read_hex_frames(rt.alloc(), 2, input.as_bytes())?;
-        assert_eq!(rt; read.frames.len(), frames);
-        assert_eq!(rt; read.fault, fault);
+        assert_equal(
+            &rt,
+            &(input, read.frames.len(), read.fault),
+            &(input, frames, fault),
+        );
     }
     Ok(())
 }
@@ -36,13 +40,13 @@ fn inputs_and_their_first_bad_line(rt: HostRuntime) -> Result<(), Fail> {
 fn a_line_in_pieces(rt: HostRuntime) -> Result<(), Fail> {
     let mut reader = HexIn::new(rt.alloc(), 2);
     let (count, frame) = reader.take(b"1A2")?;
-    assert_eq!(rt; count, 3);
+    assert_equal(&rt, &count, &3);
     assert!(rt; frame.is_none());
     let (count, frame) = reader.take(b"b\r\n00f")?;
-    assert_eq!(rt; count, 3);
+    assert_equal(&rt, &count, &3);
     assert!(rt; frame.is_some_and(|octets| octets.as_slice() == [0x1a, 0x2b].as_slice()));
     let (count, frame) = reader.take(b"00f")?;
-    assert_eq!(rt; count, 3);
+    assert_equal(&rt, &count, &3);
     assert!(rt; frame.is_none());
     assert!(rt;
         matches!(reader.finish(), Err(Fault::Input(fault)) if fault == bad(LineFlaw::OddLine, 6))
@@ -65,10 +69,10 @@ fn an_input_is_read_to_its_end_or_to_a_fault(rt: HostRuntime) -> Result<(), Fail
     let octets = vec![in alloc; 7; 3 * PIECE + 1]?;
     let mut input = MemSource::new(octets, 1000, Vec::new(alloc));
     let all = read_all(alloc, &mut input)?;
-    assert_eq!(rt; all.len(), 3 * PIECE + 1);
+    assert_equal(&rt, &all.len(), &(3 * PIECE + 1));
     let mut input = MemSource::new(all, 1000, vec![in alloc; 2; 1]?);
     let mut buffer = [0; 100];
-    assert_eq!(rt; read_piece(&mut input, 0, &mut buffer), Ok(100));
-    assert_eq!(rt; read_all(alloc, &mut input), Err(Fault::Read));
+    assert_equal(&rt, &read_piece(&mut input, 0, &mut buffer), &Ok(100));
+    assert_equal(&rt, &read_all(alloc, &mut input), &Err(Fault::Read));
     Ok(())
 }

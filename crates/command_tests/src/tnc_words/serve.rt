@@ -1,10 +1,11 @@
 //! `serve`.
 use super::asked;
-use crate::{Command, ServeOptions};
+use crate::assertions::assert_equal;
 use ax25_address::Call;
 use link_machine::Params;
 use selective_reject::Mode;
 use std::test::Fail;
+use tnc_words::{Command, ServeOptions};
 
 /// The words that `serve` needs.
 const LEAST: &str = "serve --kiss 8001 --agw=8000";
@@ -78,10 +79,10 @@ fn serve_takes_what_links_are_made_with(rt: HostRuntime) -> Result<(), Fail> {
     ];
     for (line, params) in table {
         let want = ServeOptions { params, ..SERVE };
-        assert_eq!(rt;
-            asked(rt.alloc(), LEAST, line)?,
-            Ok(Command::Serve(want)),
-            "of {line}"
+        assert_equal(
+            &rt,
+            &(line, asked(rt.alloc(), LEAST, line)?),
+            &(line, Ok(Command::Serve(want))),
         );
     }
     Ok(())
@@ -128,10 +129,10 @@ fn serve_takes_what_its_station_does(rt: HostRuntime) -> Result<(), Fail> {
         ),
     ];
     for (line, want) in table {
-        assert_eq!(rt;
-            asked(rt.alloc(), LEAST, line)?,
-            Ok(Command::Serve(want)),
-            "of {line}"
+        assert_equal(
+            &rt,
+            &(line, asked(rt.alloc(), LEAST, line)?),
+            &(line, Ok(Command::Serve(want))),
         );
     }
     Ok(())

@@ -1,7 +1,8 @@
 //! `help` and `version`.
 use super::asked;
-use crate::{Command, Topic, help_text, version_line};
+use crate::assertions::assert_equal;
 use std::test::Fail;
+use tnc_words::{Command, Topic, help_text, version_line};
 
 #[test]
 fn help_is_asked_for_alone(rt: HostRuntime) -> Result<(), Fail> {
@@ -23,10 +24,10 @@ fn help_is_asked_for_alone(rt: HostRuntime) -> Result<(), Fail> {
         ("serve --help", Topic::Serve),
     ];
     for (line, topic) in table {
-        assert_eq!(rt;
-            asked(rt.alloc(), "", line)?,
-            Ok(Command::Help(topic)),
-            "of {line}"
+        assert_equal(
+            &rt,
+            &(line, asked(rt.alloc(), "", line)?),
+            &(line, Ok(Command::Help(topic))),
         );
     }
     Ok(())
@@ -34,8 +35,16 @@ fn help_is_asked_for_alone(rt: HostRuntime) -> Result<(), Fail> {
 
 #[test]
 fn the_version_is_asked_for_alone(rt: HostRuntime) -> Result<(), Fail> {
-    assert_eq!(rt; asked(rt.alloc(), "", "version")?, Ok(Command::Version));
-    assert_eq!(rt; asked(rt.alloc(), "", "--version")?, Ok(Command::Version));
+    assert_equal(
+        &rt,
+        &asked(rt.alloc(), "", "version")?,
+        &Ok(Command::Version),
+    );
+    assert_equal(
+        &rt,
+        &asked(rt.alloc(), "", "--version")?,
+        &Ok(Command::Version),
+    );
     assert!(rt; version_line().starts_with("tnc "));
     Ok(())
 }

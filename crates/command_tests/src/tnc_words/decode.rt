@@ -1,7 +1,8 @@
 //! `decode`.
 use super::asked;
-use crate::{AudioForm, Command, DecodeWords, FrameForm, Receiving, SampleRate};
+use crate::assertions::assert_equal;
 use std::test::Fail;
+use tnc_words::{AudioForm, Command, DecodeWords, FrameForm, Receiving, SampleRate};
 
 /// What `decode` asks for alone.
 const DECODE: DecodeWords = DecodeWords {
@@ -60,10 +61,10 @@ fn decode_takes_its_forms_and_threads(rt: HostRuntime) -> Result<(), Fail> {
         ),
     ];
     for (line, want) in table {
-        assert_eq!(rt;
-            asked(rt.alloc(), "decode", line)?,
-            Ok(Command::Decode(want)),
-            "of {line}"
+        assert_equal(
+            &rt,
+            &(line, asked(rt.alloc(), "decode", line)?),
+            &(line, Ok(Command::Decode(want))),
         );
     }
     Ok(())
@@ -88,10 +89,10 @@ fn decode_takes_what_hears_and_its_rate(rt: HostRuntime) -> Result<(), Fail> {
         ),
     ];
     for (line, want) in table {
-        assert_eq!(rt;
-            asked(rt.alloc(), "decode", line)?,
-            Ok(Command::Decode(want)),
-            "of {line}"
+        assert_equal(
+            &rt,
+            &(line, asked(rt.alloc(), "decode", line)?),
+            &(line, Ok(Command::Decode(want))),
         );
     }
     Ok(())

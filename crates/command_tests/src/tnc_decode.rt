@@ -1,9 +1,12 @@
 //! The shortest transmission as raw PCM, from sources that cut it in several ways and from a slow sender.
 
-use crate::decode;
+use crate::assertions::assert_equal;
 use std::alloc::{AllocError, Global};
+use std::process::Abort;
 use std::test::Fail;
+use std::thread::Threads;
 use tnc_base::{MemSink, MemSource};
+use tnc_decode::decode;
 use tnc_forms::{Fault, InputFault};
 use tnc_words::{AudioForm, DecodeWords, FrameForm, Receiving, SampleRate};
 
@@ -20,7 +23,7 @@ const SINE: [i16; 48] = [
 ];
 
 /// The line of its frame.
-const LINE: &[u8; 31] = b"9c946ea04040e09c6e988a9a40613f\n";
+const LINE: &[u8] = b"9c946ea04040e09c6e988a9a40613f\n";
 
 const WORDS: DecodeWords = DecodeWords {
     audio: AudioForm::Raw,
@@ -38,8 +41,8 @@ const SENSITIVE: DecodeWords = DecodeWords {
 };
 
 /// The head of a WAV file of 12,960 octets at 48,000 samples a second.
-const WIDE_HEAD: [u8; 44] =
-    *b"RIFF\xc4\x32\0\0WAVEfmt \x10\0\0\0\x01\0\x01\0\x80\xbb\0\0\0\x77\x01\0\x02\0\x10\0data\xa0\x32\0\0";
+const WIDE_HEAD: &[u8] =
+    b"RIFF\xc4\x32\0\0WAVEfmt \x10\0\0\0\x01\0\x01\0\x80\xbb\0\0\0\x77\x01\0\x02\0\x10\0data\xa0\x32\0\0";
 
 /// The octets of the samples, eight samples a tone: mark is 6 steps a sample, space 11.
 fn recording(alloc: Global) -> Result<Vec<u8>, AllocError> {
@@ -89,17 +92,35 @@ fn record_tone(
     Ok(phase)
 }
 
+/// What is written of an input that comes in pieces of so many octets, and how the command ends, if the source fails the
+/// reads of these numbers.
+fn decoded<R: Abort + Threads + Sync>(
+    rt: &R,
+    alloc: Global,
+    words: DecodeWords,
+    octets: Vec<u8>,
+    piece: usize,
+    reads: &[u64],
+) -> Result<(Vec<u8>, Result<(), Fault>), Fail> {
+    assert!(rt; piece > 0);
+    let mut input = MemSource::new(octets, piece, reads.to_vec(alloc)?);
+    let mut output = MemSink::new(alloc, 1000, Vec::new(alloc))?;
+    let end = decode(rt, alloc, words, &mut input, &mut output);
+    Ok((output.written().to_vec(alloc)?, end))
+}
+
 #[test]
 fn a_recording_gives_one_line_however_its_source_cuts_it(rt: HostRuntime) -> Result<(), Fail> {
     for (piece, threads) in [(1, false), (3, false), (4095, false), (4095, true)] {
         let mut octets = recording(rt.alloc())?;
         octets.push(0)?;
-        let mut input = MemSource::new(octets, piece, Vec::new(rt.alloc()));
-        let mut output = MemSink::new(rt.alloc(), 1000, Vec::new(rt.alloc()))?;
         let words = DecodeWords { threads, ..WORDS };
-        let end = decode(&rt, rt.alloc(), words, &mut input, &mut output);
-        assert!(rt; end.is_ok());
-        assert!(rt; output.written() == LINE.as_slice(), "in pieces of {piece}");
+        let (written, end) = decoded(&rt, rt.alloc(), words, octets, piece, &[])?;
+        assert_equal(
+            &rt,
+            &(piece, threads, written.as_slice(), end),
+            &(piece, threads, LINE, Ok(())),
+        );
     }
     Ok(())
 }
@@ -107,12 +128,8 @@ fn a_recording_gives_one_line_however_its_source_cuts_it(rt: HostRuntime) -> Res
 // The frame ends at sample 1294 of 1296.
 #[test]
 fn a_frame_is_written_before_the_input_fails(rt: HostRuntime) -> Result<(), Fail> {
-    let octets = recording(rt.alloc())?;
-    let mut input = MemSource::new(octets, 4095, vec![in rt.alloc(); 2; 1]?);
-    let mut output = MemSink::new(rt.alloc(), 1000, Vec::new(rt.alloc()))?;
-    let end = decode(&rt, rt.alloc(), WORDS, &mut input, &mut output);
-    assert!(rt; matches!(end, Err(Fault::Read)));
-    assert!(rt; output.written() == LINE.as_slice());
+    let (written, end) = decoded(&rt, rt.alloc(), WORDS, recording(rt.alloc())?, 4095, &[2])?;
+    assert_equal(&rt, &(written.as_slice(), end), &(LINE, Err(Fault::Read)));
     Ok(())
 }
 
@@ -124,26 +141,27 @@ fn samples_at_48000_a_second_give_the_same_line(rt: HostRuntime) -> Result<(), F
         },
         ..WORDS
     };
+    let on_threads = DecodeWords {
+        threads: true,
+        ..raw
+    };
     let wav = DecodeWords {
         audio: AudioForm::Wav,
         ..WORDS
     };
-    for (words, front, threads) in [
-        (raw, [].as_slice(), false),
-        (raw, [0; 6].as_slice(), true),
-        (wav, WIDE_HEAD.as_slice(), false),
-    ] {
+    let table: [(DecodeWords, &[u8]); 3] = [
+        (raw, b""),
+        (on_threads, b"\0\0\0\0\0\0"),
+        (wav, WIDE_HEAD),
+    ];
+    for (words, front) in table {
         let mut octets = front.to_vec(rt.alloc())?;
         record(&mut octets, 5)?;
-        let mut input = MemSource::new(octets, 4095, Vec::new(rt.alloc()));
-        let mut output = MemSink::new(rt.alloc(), 1000, Vec::new(rt.alloc()))?;
-        let words = DecodeWords { threads, ..words };
-        let end = decode(&rt, rt.alloc(), words, &mut input, &mut output);
-        assert!(rt; end.is_ok());
-        assert!(rt;
-            output.written() == LINE.as_slice(),
-            "after {} octets",
-            front.len()
+        let (written, end) = decoded(&rt, rt.alloc(), words, octets, 4095, &[])?;
+        assert_equal(
+            &rt,
+            &(words, written.as_slice(), end),
+            &(words, LINE, Ok(())),
         );
     }
     Ok(())
@@ -157,18 +175,26 @@ fn all_lanes_hear_a_slow_sender_too(rt: HostRuntime) -> Result<(), Fail> {
         threads: true,
         ..SENSITIVE
     };
-    for (octets, words, want) in [
-        (exact.as_slice(), SENSITIVE, LINE.as_slice()),
-        (slow.as_slice(), SENSITIVE, LINE.as_slice()),
-        (slow.as_slice(), on_threads, LINE.as_slice()),
-        (slow.as_slice(), WORDS, [].as_slice()),
-    ] {
-        let octets = octets.to_vec(rt.alloc())?;
-        let mut input = MemSource::new(octets, 4095, Vec::new(rt.alloc()));
-        let mut output = MemSink::new(rt.alloc(), 1000, Vec::new(rt.alloc()))?;
-        let end = decode(&rt, rt.alloc(), words, &mut input, &mut output);
-        assert!(rt; end.is_ok());
-        assert!(rt; output.written() == want, "of {words:?}");
+    let table: [(&[u8], DecodeWords, &[u8]); 4] = [
+        (&exact, SENSITIVE, LINE),
+        (&slow, SENSITIVE, LINE),
+        (&slow, on_threads, LINE),
+        (&slow, WORDS, b""),
+    ];
+    for (octets, words, want) in table {
+        let (written, end) = decoded(
+            &rt,
+            rt.alloc(),
+            words,
+            octets.to_vec(rt.alloc())?,
+            4095,
+            &[],
+        )?;
+        assert_equal(
+            &rt,
+            &(words, written.as_slice(), end),
+            &(words, want, Ok(())),
+        );
     }
     Ok(())
 }
@@ -176,14 +202,18 @@ fn all_lanes_hear_a_slow_sender_too(rt: HostRuntime) -> Result<(), Fail> {
 // The rate ends at the 28th octet of a WAV file.
 #[test]
 fn all_lanes_take_no_file_of_48000_a_second(rt: HostRuntime) -> Result<(), Fail> {
-    let octets = WIDE_HEAD.to_vec(rt.alloc())?;
-    let mut input = MemSource::new(octets, 4095, Vec::new(rt.alloc()));
-    let mut output = MemSink::new(rt.alloc(), 1000, Vec::new(rt.alloc()))?;
     let words = DecodeWords {
         audio: AudioForm::Wav,
         ..SENSITIVE
     };
-    let end = decode(&rt, rt.alloc(), words, &mut input, &mut output);
+    let (_, end) = decoded(
+        &rt,
+        rt.alloc(),
+        words,
+        WIDE_HEAD.to_vec(rt.alloc())?,
+        4095,
+        &[],
+    )?;
     assert!(rt; matches!(end, Err(Fault::Input(InputFault::Wav(_)))));
     Ok(())
 }

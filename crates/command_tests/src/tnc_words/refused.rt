@@ -1,7 +1,8 @@
 //! Words that are refused.
 use super::taken;
-use crate::{WordsFault, read_words};
+use crate::assertions::assert_equal;
 use std::test::Fail;
+use tnc_words::{WordsFault, read_words};
 
 /// What stands after `decode`.
 const DECODE: &str = "\
@@ -177,7 +178,7 @@ fn other_words_are_refused(rt: HostRuntime) -> Result<(), Fail> {
         ("", OTHERS),
     ] {
         let taken = taken(rt.alloc(), front, lines)?;
-        assert_eq!(rt; taken.as_str(), "", "after {front}");
+        assert_equal(&rt, &(front, taken.as_str()), &(front, ""));
     }
     Ok(())
 }

@@ -1,10 +1,11 @@
 //! Inputs and their lines.
-use super::{one_text, show};
+use crate::assertions::assert_equal;
 use ax25_frames::Modulus;
 use std::alloc::Global;
 use std::test::Fail;
 use tnc_base::{MemSink, MemSource};
 use tnc_forms::{Fault, InputFault, LineFault, LineFlaw};
+use tnc_show::{one_text, show};
 use tnc_words::ShowWords;
 
 /// What is written of an input that comes in pieces of 31 octets, and how the command ends, if the source fails the
@@ -90,8 +91,11 @@ fn inputs_and_their_lines(rt: HostRuntime) -> Result<(), Fail> {
     ];
     for (input, text, end) in table {
         let (written, ended) = shown(alloc, Modulus::Eight, input.as_bytes(), &[], &[])?;
-        assert_eq!(rt; written.as_slice(), text.as_bytes());
-        assert_eq!(rt; ended, end);
+        assert_equal(
+            &rt,
+            &(input, written.as_slice(), ended),
+            &(input, text.as_bytes(), end),
+        );
     }
     one_text();
     Ok(())
@@ -109,8 +113,11 @@ fn control_fields_of_two_octets(rt: HostRuntime) -> Result<(), Fail> {
         ("9c946ea04040e09c6e988a9a406111\n", "! unknown control 11\n"),
     ] {
         let (written, ended) = shown(alloc, Modulus::OneTwentyEight, input.as_bytes(), &[], &[])?;
-        assert_eq!(rt; written.as_slice(), text.as_bytes());
-        assert_eq!(rt; ended, Ok(()));
+        assert_equal(
+            &rt,
+            &(input, written.as_slice(), ended),
+            &(input, text.as_bytes(), Ok(())),
+        );
     }
     Ok(())
 }
@@ -142,8 +149,11 @@ fn long_lines(rt: HostRuntime) -> Result<(), Fail> {
             input.push_str(digits)?;
         }
         let (written, ended) = shown(alloc, Modulus::Eight, input.as_bytes(), &[], &[])?;
-        assert_eq!(rt; written.as_slice(), text.as_bytes());
-        assert_eq!(rt; ended, end);
+        assert_equal(
+            &rt,
+            &(count, written.as_slice(), ended),
+            &(count, text.as_bytes(), end),
+        );
     }
     Ok(())
 }
@@ -186,8 +196,11 @@ fn a_failed_read_keeps_the_lines_before_it(rt: HostRuntime) -> Result<(), Fail> 
         let octets = read * 31;
         let (input, text) = many_lines(alloc, 30, octets)?;
         let (written, ended) = shown(alloc, Modulus::Eight, input.as_bytes(), &[read as u64], &[])?;
-        assert_eq!(rt; written.as_slice(), text.as_bytes(), "at {read}");
-        assert_eq!(rt; ended, Err(Fault::Read), "at {read}");
+        assert_equal(
+            &rt,
+            &(read, written.as_slice(), ended),
+            &(read, text.as_bytes(), Err(Fault::Read)),
+        );
     }
     Ok(())
 }
@@ -206,8 +219,11 @@ fn a_failed_write_keeps_the_lines_before_it(rt: HostRuntime) -> Result<(), Fail>
             &[],
             &[write as u64],
         )?;
-        assert_eq!(rt; written.as_slice(), text.as_bytes(), "at {write}");
-        assert_eq!(rt; ended, Err(Fault::Write), "at {write}");
+        assert_equal(
+            &rt,
+            &(write, written.as_slice(), ended),
+            &(write, text.as_bytes(), Err(Fault::Write)),
+        );
     }
     Ok(())
 }
@@ -217,11 +233,13 @@ fn a_failed_write_keeps_the_lines_before_it(rt: HostRuntime) -> Result<(), Fail>
 fn no_line_no_write(rt: HostRuntime) -> Result<(), Fail> {
     for input in ["", "\n\r\n\n"] {
         let (written, ended) = shown(rt.alloc(), Modulus::Eight, input.as_bytes(), &[], &[0])?;
-        assert_eq!(rt; written.len(), 0);
-        assert_eq!(rt; ended, Ok(()));
+        assert_equal(&rt, &(input, written.len(), ended), &(input, 0, Ok(())));
     }
     Ok(())
 }
+
+/// What is shown of the octet 00.
+const FIRST: &[u8] = b"! bad character at 0\n";
 
 // A bad line ends the reading: a later read is not made, and so does not fail.
 #[test]
@@ -233,11 +251,17 @@ fn nothing_is_read_after_a_bad_line(rt: HostRuntime) -> Result<(), Fail> {
     }
     // The 67th read brings the octet at 2052, which is the 2050th of the line.
     let (written, ended) = shown(alloc, Modulus::Eight, long.as_bytes(), &[67], &[])?;
-    assert_eq!(rt; written.as_slice(), b"! bad character at 0\n".as_slice());
-    assert_eq!(rt; ended, bad(LineFlaw::LongLine, 3));
+    assert_equal(
+        &rt,
+        &(written.as_slice(), ended),
+        &(FIRST, bad(LineFlaw::LongLine, 3)),
+    );
     let input = "00\nzz\n00\n00\n00\n00\n00\n00\n00\n00\n00\n00\n";
     let (written, ended) = shown(alloc, Modulus::Eight, input.as_bytes(), &[1], &[])?;
-    assert_eq!(rt; written.as_slice(), b"! bad character at 0\n".as_slice());
-    assert_eq!(rt; ended, bad(LineFlaw::BadDigit, 3));
+    assert_equal(
+        &rt,
+        &(written.as_slice(), ended),
+        &(FIRST, bad(LineFlaw::BadDigit, 3)),
+    );
     Ok(())
 }

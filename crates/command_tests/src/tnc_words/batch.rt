@@ -1,8 +1,11 @@
 //! `encode`, `show` and `loop`.
 use super::asked;
-use crate::{AudioForm, Command, EncodeWords, FrameForm, LoopWords, Modem, ShowWords, one_command};
+use crate::assertions::assert_equal;
 use ax25_frames::Modulus;
 use std::test::Fail;
+use tnc_words::{
+    AudioForm, Command, EncodeWords, FrameForm, LoopWords, Modem, ShowWords, one_command,
+};
 
 /// What `encode` asks for alone.
 const ENCODE: EncodeWords = EncodeWords {
@@ -53,10 +56,10 @@ fn encode_takes_its_forms_and_flags(rt: HostRuntime) -> Result<(), Fail> {
         ),
     ];
     for (line, want) in table {
-        assert_eq!(rt;
-            asked(rt.alloc(), "encode", line)?,
-            Ok(Command::Encode(want)),
-            "of {line}"
+        assert_equal(
+            &rt,
+            &(line, asked(rt.alloc(), "encode", line)?),
+            &(line, Ok(Command::Encode(want))),
         );
     }
     Ok(())
@@ -94,10 +97,10 @@ fn encode_takes_its_numbers(rt: HostRuntime) -> Result<(), Fail> {
         ("--level=32767", numbers(75, 2, 0, 32_767)),
     ];
     for (line, want) in table {
-        assert_eq!(rt;
-            asked(rt.alloc(), "encode", line)?,
-            Ok(Command::Encode(want)),
-            "of {line}"
+        assert_equal(
+            &rt,
+            &(line, asked(rt.alloc(), "encode", line)?),
+            &(line, Ok(Command::Encode(want))),
         );
     }
     Ok(())
@@ -115,7 +118,11 @@ fn show_takes_a_modulus(rt: HostRuntime) -> Result<(), Fail> {
     one_command();
     for (line, modulus) in table {
         let want = Command::Show(ShowWords { modulus });
-        assert_eq!(rt; asked(rt.alloc(), "show", line)?, Ok(want), "of {line}");
+        assert_equal(
+            &rt,
+            &(line, asked(rt.alloc(), "show", line)?),
+            &(line, Ok(want)),
+        );
     }
     Ok(())
 }
@@ -156,10 +163,10 @@ fn loop_takes_its_numbers_and_flags(rt: HostRuntime) -> Result<(), Fail> {
         ),
     ];
     for (line, want) in table {
-        assert_eq!(rt;
-            asked(rt.alloc(), "loop", line)?,
-            Ok(Command::Loop(want)),
-            "of {line}"
+        assert_equal(
+            &rt,
+            &(line, asked(rt.alloc(), "loop", line)?),
+            &(line, Ok(Command::Loop(want))),
         );
     }
     Ok(())
