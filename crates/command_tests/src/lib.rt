@@ -3,25 +3,27 @@
 //! Wanted values come from outside: files as Python's `wave` and sox write them, the hashes that the authors of FNV-1a
 //! publish, signals whose sizes and hashes were computed apart from the program, and frames and lines written by hand from
 //! AX.25 2.2. The tests of whole runs are those of `tnc_main`.
+//!
+//! `base` tests `tnc_base`, `wav` tests `wav_file`, `loop_back` tests `tnc_loop`, and `words`, for one, tests `tnc_words`.
 #![tactic(auto)]
 
 #[cfg(test)]
 mod assertions;
 #[cfg(test)]
-mod tnc_base;
+mod base;
 #[cfg(test)]
-mod tnc_bench;
+mod bench;
 #[cfg(test)]
-mod tnc_decode;
+mod decode;
 #[cfg(test)]
-mod tnc_encode;
+mod encode;
 #[cfg(test)]
-mod tnc_forms;
+mod forms;
 #[cfg(test)]
-mod tnc_loop;
+mod loop_back;
 #[cfg(test)]
-mod tnc_show;
+mod show;
 #[cfg(test)]
-mod tnc_words;
+mod wav;
 #[cfg(test)]
-mod wav_file;
+mod words;

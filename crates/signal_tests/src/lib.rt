@@ -4,27 +4,30 @@
 //! Expected values come from outside the tested crates: the samples of a sine, correlations and decisions that a second
 //! program computed, check values of the frame check sequence of ISO/IEC 3309, and events that a slow program finds by
 //! the definitions on whole lists of bits. Cases of the merger and of the ring are worked by hand.
+//!
+//! `tones` tests `tone_table`, `bits` `nrzi_bits`, `framer` `hdlc_framer`, `modulator` `afsk_modulator`, `slicers`
+//! `offset_slicers`, `tracking` `tone_tracking`, `merger` `frame_merge` and `ring` `sample_ring`.
 #![tactic(auto)]
 
 #[cfg(test)]
-mod afsk_modulator;
-#[cfg(test)]
 mod assertions;
 #[cfg(test)]
-mod frame_merge;
+mod bits;
 #[cfg(test)]
-mod hdlc_framer;
+mod framer;
 #[cfg(test)]
 mod letters;
 #[cfg(test)]
-mod nrzi_bits;
+mod merger;
 #[cfg(test)]
-mod offset_slicers;
+mod modulator;
 #[cfg(test)]
-mod sample_ring;
+mod ring;
 #[cfg(test)]
 mod shortest_frame;
 #[cfg(test)]
-mod tone_table;
+mod slicers;
 #[cfg(test)]
-mod tone_tracking;
+mod tones;
+#[cfg(test)]
+mod tracking;
