@@ -1,11 +1,12 @@
-// Streams and items from outside.
+//! KISS: streams and items from outside.
 
-use super::{KissIn, KissItem, write_kiss};
+use crate::assertions::assert_equal;
+use kiss_port::{KissIn, KissItem, write_kiss};
 use std::alloc::Global;
 use std::test::Fail;
 use tnc_base::OutOfMemory;
 
-// An item as plain values: its name, the port, the command, and the value or the octets.
+/// An item as plain values: its name, the port, the command, and the value or the octets.
 type Plain<'a> = (&'static str, u8, u8, &'a [u8]);
 
 fn is_item(item: &KissItem, want: Plain) -> bool {
@@ -33,7 +34,20 @@ fn is_item(item: &KissItem, want: Plain) -> bool {
     }
 }
 
-// The items of a stream, each with the place of its last octet.
+/// These items, each with the place of its last octet, and no others.
+fn are_items(items: &[(usize, KissItem)], wants: &[(usize, Plain)]) -> bool {
+    if items.len() != wants.len() {
+        return false;
+    }
+    for ((place, item), (end, want)) in items.iter().zip(wants) {
+        if *place != *end || !is_item(item, *want) {
+            return false;
+        }
+    }
+    true
+}
+
+/// The items of a stream, each with the place of its last octet.
 fn items_of(alloc: Global, stream: &[u8]) -> Result<Vec<(usize, KissItem)>, OutOfMemory> {
     let mut reader = KissIn::new(alloc);
     let mut items = Vec::new(alloc);
@@ -77,14 +91,12 @@ fn a_piece_says_one_item(rt: HostRuntime) -> Result<(), Fail> {
     ];
     for (number, (stream, want)) in table.into_iter().enumerate() {
         let items = items_of(rt.alloc(), stream)?;
-        assert_eq!(rt; items.len(), 1, "stream {number}");
-        let (place, item) = &items[0];
-        assert_eq!(rt;
-            Some(*place),
-            stream.len().checked_sub(1),
-            "stream {number}"
+        let end = stream.len().saturating_sub(1);
+        assert_equal(
+            &rt,
+            &(number, are_items(&items, &[(end, want)])),
+            &(number, true),
         );
-        assert!(rt; is_item(item, want), "stream {number}");
     }
     Ok(())
 }
@@ -98,7 +110,8 @@ fn nothing_between_two_ends_says_nothing(rt: HostRuntime) -> Result<(), Fail> {
         b"\xdb\x41\xc0",
         b"\xc0\x00\x05",
     ] {
-        assert!(rt; items_of(rt.alloc(), stream)?.is_empty(), "{stream:?}");
+        let items = items_of(rt.alloc(), stream)?;
+        assert_equal(&rt, &(stream, items.len()), &(stream, 0));
     }
     Ok(())
 }
@@ -115,11 +128,7 @@ fn a_stream_goes_on_behind_an_item(rt: HostRuntime) -> Result<(), Fail> {
         (8, ("return", 0, 0, b"")),
         (11, ("frame", 0, 0, b"\x03")),
     ];
-    assert_eq!(rt; items.len(), 4);
-    for ((place, item), (end, want)) in items.iter().zip(wants) {
-        assert_eq!(rt; *place, end);
-        assert!(rt; is_item(item, want), "at {end}");
-    }
+    assert!(rt; are_items(&items, &wants));
     Ok(())
 }
 
@@ -143,13 +152,10 @@ fn more_than_1024_octets_are_too_long(rt: HostRuntime) -> Result<(), Fail> {
         }
         stream.push(0xc0)?;
         stream.extend_from_slice(b"\x00\x05\xc0")?;
+        let end = if longer { 1026 } else { 1025 };
+        let wants = [(end, want), (end + 3, ("frame", 0, 0, b"\x05".as_slice()))];
         let items = items_of(alloc, &stream)?;
-        assert_eq!(rt; items.len(), 2, "type {kind}");
-        assert!(rt; is_item(&items[0].1, want), "type {kind}");
-        assert!(rt;
-            is_item(&items[1].1, ("frame", 0, 0, b"\x05")),
-            "type {kind}"
-        );
+        assert_equal(&rt, &(kind, are_items(&items, &wants)), &(kind, true));
     }
     Ok(())
 }
@@ -165,7 +171,7 @@ fn what_is_written_has_its_escapes(rt: HostRuntime) -> Result<(), Fail> {
     for (port, command, octets, want) in table {
         assert!(rt; port < 16 && command < 16);
         let stream = write_kiss(rt.alloc(), port, command, octets)?;
-        assert_eq!(rt; stream.as_slice(), want, "{octets:?} to {port}");
+        assert_equal(&rt, &(port, stream.as_slice()), &(port, want));
     }
     Ok(())
 }
