@@ -6,6 +6,8 @@
 #![tactic(auto)]
 
 #[cfg(test)]
+mod agwpe;
+#[cfg(test)]
 mod assertions;
 #[cfg(test)]
 mod kiss;

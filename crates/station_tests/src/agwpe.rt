@@ -1,12 +1,13 @@
-// Streams and messages from outside.
+//! AGWPE: streams and messages from outside.
 
-use super::{AgwFault, AgwIn, AgwMessage, call_text, read_messages, write_agw};
+use crate::assertions::assert_equal;
+use agwpe_port::{AgwFault, AgwIn, AgwMessage, call_text, read_messages, write_agw};
 use ax25_address::Call;
 use std::alloc::{AllocError, Global};
 use std::test::Fail;
 use tnc_base::Octets;
 
-// A header of kind R, with the four octets of its length.
+/// A header of kind R, with the four octets of its length.
 fn header(alloc: Global, length: &[u8]) -> Result<Vec<u8>, AllocError> {
     let mut octets = Vec::new(alloc);
     octets.extend_from_slice(b"\0\0\0\0R\0\0\0")?;
@@ -16,7 +17,7 @@ fn header(alloc: Global, length: &[u8]) -> Result<Vec<u8>, AllocError> {
     Ok(octets)
 }
 
-// The messages of a stream, each with the place of its last octet, up to the first fault, with its place.
+/// The messages of a stream, each with the place of its last octet, up to the first fault, with its place.
 #[derive(Drop)]
 struct Found {
     messages: Vec<(usize, AgwMessage)>,
@@ -42,8 +43,14 @@ fn found_in(alloc: Global, stream: &[u8]) -> Result<Found, AllocError> {
     })
 }
 
-// A message of kind D from N7LEM to NJ7P-2, with its header as it is written.
+/// A message of kind D from N7LEM to NJ7P-2, with its header as it is written.
 const DATA: &[u8] = b"\x01\0\0\0D\0\xf0\0N7LEM\0\0\0\0\0NJ7P-2\0\0\0\0\x03\0\0\0\0\0\0\0hi\r";
+
+/// A message as plain values: its port, kind and PID, its call fields, and its body.
+fn plain(message: &AgwMessage) -> ((u8, u8, u8), [u8; 10], [u8; 10], &[u8]) {
+    let head = (message.port, message.kind, message.pid);
+    (head, message.from, message.to, message.body.as_slice())
+}
 
 #[test]
 fn a_stream_is_cut_into_messages(rt: HostRuntime) -> Result<(), Fail> {
@@ -53,25 +60,32 @@ fn a_stream_is_cut_into_messages(rt: HostRuntime) -> Result<(), Fail> {
     stream.extend_from_slice(DATA)?;
     stream.extend_from_slice(b"\0\0\0\0R")?;
     let found = found_in(alloc, &stream)?;
-    assert_eq!(rt; found.fault, None);
-    assert_eq!(rt; found.messages.len(), 3);
-    for (number, end) in [(0, 38), (2, 113)] {
-        let (place, message) = &found.messages[number];
-        assert_eq!(rt; *place, end);
-        assert_eq!(rt; (message.port, message.kind, message.pid), (1, b'D', 0xf0));
-        assert_eq!(rt;
-            (message.from, message.to),
-            (*b"N7LEM\0\0\0\0\0", *b"NJ7P-2\0\0\0\0")
-        );
-        assert_eq!(rt; message.body.as_slice(), b"hi\r".as_slice());
-    }
-    let (place, message) = &found.messages[1];
-    assert_eq!(rt;
-        (*place, message.port, message.kind, message.pid),
-        (74, 0, b'R', 0)
+    assert_equal(&rt, &(found.messages.len(), found.fault), &(3, None));
+    let data = (
+        (1, b'D', 0xf0),
+        *b"N7LEM\0\0\0\0\0",
+        *b"NJ7P-2\0\0\0\0",
+        b"hi\r".as_slice(),
     );
-    assert!(rt; message.body.is_empty());
+    let request = ((0, b'R', 0), [0; 10], [0; 10], b"".as_slice());
+    let wants = [(38, data), (74, request), (113, data)];
+    for ((place, message), want) in found.messages.iter().zip(wants) {
+        assert_equal(&rt, &(*place, plain(message)), &want);
+    }
     Ok(())
+}
+
+/// How many messages end in each of the two pieces into which a stream is cut, if all of them say hi.
+fn counts(alloc: Global, (front, rest): (&[u8], &[u8])) -> Result<Option<(usize, usize)>, Fail> {
+    let mut reader = AgwIn::new(alloc);
+    let front = read_messages(alloc, &mut reader, front)?;
+    let rest = read_messages(alloc, &mut reader, rest)?;
+    for message in front.iter().chain(rest.iter()) {
+        if message.body.as_slice() != b"hi\r".as_slice() {
+            return Ok(None);
+        }
+    }
+    Ok(Some((front.len(), rest.len())))
 }
 
 // A stream of two messages in two pieces, cut in each of these places.
@@ -80,15 +94,10 @@ fn messages_end_in_either_piece(rt: HostRuntime) -> Result<(), Fail> {
     let alloc = rt.alloc();
     let mut stream = DATA.to_vec(alloc)?;
     stream.extend_from_slice(DATA)?;
+    assert!(rt; stream.len() == 78);
     for (cut, first, second) in [(0, 0, 2), (38, 0, 2), (39, 1, 1), (77, 1, 1), (78, 2, 0)] {
-        let mut reader = AgwIn::new(alloc);
-        let (front, rest) = stream.split_at(cut);
-        let front = read_messages(alloc, &mut reader, front)?;
-        let rest = read_messages(alloc, &mut reader, rest)?;
-        assert_eq!(rt; (front.len(), rest.len()), (first, second), "cut at {cut}");
-        for message in front.iter().chain(rest.iter()) {
-            assert_eq!(rt; message.body.as_slice(), b"hi\r".as_slice());
-        }
+        let got = counts(alloc, stream.split_at(cut))?;
+        assert_equal(&rt, &(cut, got), &(cut, Some((first, second))));
     }
     Ok(())
 }
@@ -107,7 +116,7 @@ fn a_length_over_4096_ends_the_messages(rt: HostRuntime) -> Result<(), Fail> {
     for (length, want) in table {
         let fault = found_in(alloc, &header(alloc, length)?)?.fault;
         let wanted = want.map(|len| (35, AgwFault::BadLength { len }));
-        assert_eq!(rt; fault, wanted, "length {length:?}");
+        assert_equal(&rt, &(length, fault), &(length, wanted));
     }
     Ok(())
 }
@@ -127,7 +136,7 @@ fn a_stream_that_failed_stays_so(rt: HostRuntime) -> Result<(), Fail> {
         }
         for octet in DATA {
             let answer = reader.push(*octet).err();
-            assert_eq!(rt; answer, Some(AgwFault::Failed { len }));
+            assert_equal(&rt, &answer, &Some(AgwFault::Failed { len }));
         }
     }
     Ok(())
@@ -140,12 +149,16 @@ fn the_longest_body_is_read(rt: HostRuntime) -> Result<(), Fail> {
     stream.extend_from_slice([0x55; 4096].as_slice())?;
     stream.extend_from_slice(DATA)?;
     let found = found_in(alloc, &stream)?;
-    assert_eq!(rt; found.messages.len(), 2);
-    assert_eq!(rt; found.messages[0].0, 4131);
-    assert_eq!(rt;
-        found.messages[0].1.body.as_slice(),
-        [0x55; 4096].as_slice()
-    );
+    let mut lens = Vec::new(alloc);
+    for (place, message) in &found.messages {
+        lens.push((*place, message.body.len()))?;
+    }
+    assert_equal(&rt, &lens.as_slice(), &[(4131, 4096), (4170, 3)].as_slice());
+    let body = found
+        .messages
+        .first()
+        .map(|(_, message)| message.body.as_slice());
+    assert_equal(&rt, &body, &Some([0x55; 4096].as_slice()));
     Ok(())
 }
 
@@ -161,7 +174,7 @@ fn a_message_is_written_with_zeros_where_it_is_reserved(rt: HostRuntime) -> Resu
         body: Octets::from_slice(alloc, b"hi\r")?,
     };
     assert!(rt; message.body.len() <= 4096);
-    assert_eq!(rt; write_agw(alloc, &message)?.as_slice(), DATA);
+    assert_equal(&rt, &write_agw(alloc, &message)?.as_slice(), &DATA);
     Ok(())
 }
 
@@ -174,7 +187,11 @@ fn a_call_is_filled_up_with_nuls(rt: HostRuntime) -> Result<(), Fail> {
         ("A", 0, *b"A\0\0\0\0\0\0\0\0\0"),
     ];
     for (name, ssid, want) in table {
-        assert_eq!(rt; call_text(&Call::new(name, ssid)?), want, "{name}-{ssid}");
+        assert_equal(
+            &rt,
+            &(name, call_text(&Call::new(name, ssid)?)),
+            &(name, want),
+        );
     }
     Ok(())
 }
