@@ -1,18 +1,18 @@
+//! Access to the channel: when transmissions begin, and what they are.
 ghost use Rattle.std.specs.Prelude.{IfOk};
 ghost use Rattle.hdlc_framer.specs.FrameLength.{HasFrameLength};
 
-use super::{
+use crate::assertions::assert_equal;
+use afsk_modulator::transmission;
+use channel_access::{
     Access, Param, a_tick_is_a_part_of_the_whole, decisions_add_bits, the_end_is_a_transmission,
 };
-use afsk_modulator::transmission;
 use std::alloc::Global;
 use std::test::Fail;
 use tnc_base::Octets;
 
-// SABM with P from N7LEM to NJ7P, the shortest frame. It is sent as 138 bits.
-const SHORTEST: [u8; 15] = [
-    0x9c, 0x94, 0x6e, 0xa0, 0x40, 0x40, 0xe0, 0x9c, 0x6e, 0x98, 0x8a, 0x9a, 0x40, 0x61, 0x3f,
-];
+/// SABM with P from N7LEM to NJ7P, the shortest frame. It is sent as 138 bits.
+const SHORTEST: &[u8; 15] = b"\x9c\x94\x6e\xa0\x40\x40\xe0\x9c\x6e\x98\x8a\x9a\x40\x61\x3f";
 
 fn shortest(alloc: Global) -> Result<Octets, Fail>
     ensures { IfOk result HasFrameLength }
@@ -20,7 +20,7 @@ fn shortest(alloc: Global) -> Result<Octets, Fail>
     Ok(Octets::from_slice(alloc, SHORTEST.as_slice())?)
 }
 
-// An access in which so many frames wait, each of the link of its number.
+/// An access in which so many frames wait, each of the link of its number.
 fn access(alloc: Global, seed: u64, frames: u32) -> Result<Access, Fail> {
     let mut access = Access::new(alloc, seed)?;
     for link in 0..frames {
@@ -29,7 +29,7 @@ fn access(alloc: Global, seed: u64, frames: u32) -> Result<Access, Fail> {
     Ok(access)
 }
 
-// With two flags before and one after, at once.
+/// With two flags before and one after, at once.
 fn quick_access(alloc: Global, frames: u32) -> Result<Access, Fail> {
     let mut access = access(alloc, 1, frames)?;
     for param in [Param::TxDelay(0), Param::TxTail(0), Param::FullDuplex(true)] {
@@ -48,18 +48,18 @@ fn the_shortest_frame_is_one_transmission(rt: HostRuntime) -> Result<(), Fail> {
     let mut samples = Vec::new(alloc);
     for tick in 1..66_u32 {
         let air = access.tick(true);
-        assert_eq!(rt; air.began, tick == 1);
         let after = air.sent.map(|sent| sent.after);
-        assert_eq!(rt; after, if tick == 63 { Some(16) } else { None });
-        assert_eq!(rt; access.waiting(0), tick < 63);
+        let got = (tick, air.began, after, access.waiting(0));
+        let last = if tick == 63 { Some(16) } else { None };
+        assert_equal(&rt, &got, &(tick, tick == 1, last, tick < 63));
         samples.extend_from_slice(air.samples.as_slice())?;
     }
     let mut frames = Vec::new(alloc);
     frames.push(shortest(alloc)?)?;
     let mut expected = transmission(alloc, &frames, 75, 3)?;
-    assert_eq!(rt; expected.len(), 8 * 762);
+    assert_equal(&rt, &expected.len(), &(8 * 762));
     expected.resize(65 * 96, 0)?;
-    assert_eq!(rt; samples, expected);
+    assert_equal(&rt, &samples, &expected);
     Ok(())
 }
 
@@ -67,8 +67,8 @@ fn the_shortest_frame_is_one_transmission(rt: HostRuntime) -> Result<(), Fail> {
 fn the_257th_frame_is_handed_back(rt: HostRuntime) -> Result<(), Fail> {
     let mut access = access(rt.alloc(), 1, 256)?;
     let back = access.queue(None, shortest(rt.alloc())?).err();
-    assert_eq!(rt; back.map(|octets| octets.len()), Some(15));
-    assert_eq!(rt; access.len(), 256);
+    let len = back.map(|octets| octets.len());
+    assert_equal(&rt, &(len, access.len()), &(Some(15), 256));
     Ok(())
 }
 
@@ -92,8 +92,8 @@ fn a_draw_begins_in_a_free_slot(rt: HostRuntime) -> Result<(), Fail> {
         access.set(Param::Persist(persist));
         access.set(Param::SlotTime(slot_time));
         for tick in 1..begins + 3 {
-            let air = access.tick(tick == busy);
-            assert_eq!(rt; air.began, tick == begins, "seed {seed}, tick {tick}");
+            let began = access.tick(tick == busy).began;
+            assert_equal(&rt, &(seed, tick, began), &(seed, tick, tick == begins));
         }
     }
     Ok(())
@@ -114,11 +114,10 @@ fn nothing_begins_without_a_frame(rt: HostRuntime) -> Result<(), Fail> {
 fn eight_frames_are_one_transmission(rt: HostRuntime) -> Result<(), Fail> {
     let mut access = quick_access(rt.alloc(), 9)?;
     for tick in 1..101_u32 {
-        let air = access.tick(true);
-        assert_eq!(rt; air.began, tick == 1 || tick == 100, "tick {tick}");
+        let began = access.tick(true).began;
+        assert_equal(&rt, &(tick, began), &(tick, tick == 1 || tick == 100));
     }
-    assert_eq!(rt; access.len(), 1);
-    assert!(rt; access.waiting(8));
+    assert_equal(&rt, &(access.len(), access.waiting(8)), &(1, true));
     Ok(())
 }
 
@@ -130,20 +129,19 @@ fn a_frame_joins_before_the_end_of_the_one_before(rt: HostRuntime) -> Result<(),
     for (comes, transmissions, last, after) in table {
         let mut access = quick_access(rt.alloc(), 1)?;
         let mut began = 0_u32;
+        let mut sent = None;
         for tick in 1..last + 1 {
             let air = access.tick(true);
             if air.began {
                 began = began.saturating_add(1);
             }
+            sent = air.sent.map(|sent| sent.after);
             if tick == comes {
                 let _ = access.queue(None, shortest(rt.alloc())?);
             }
-            if tick == last {
-                assert_eq!(rt; air.sent.map(|sent| sent.after), Some(after));
-            }
         }
-        assert_eq!(rt; began, transmissions);
-        assert_eq!(rt; access.len(), 0);
+        let got = (comes, began, sent, access.len());
+        assert_equal(&rt, &got, &(comes, transmissions, Some(after), 0));
     }
     Ok(())
 }
