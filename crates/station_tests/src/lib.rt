@@ -13,3 +13,7 @@ mod agwpe;
 mod assertions;
 #[cfg(test)]
 mod kiss;
+#[cfg(test)]
+mod messages;
+#[cfg(test)]
+mod stations;
