@@ -12,6 +12,8 @@ mod agwpe;
 #[cfg(test)]
 mod assertions;
 #[cfg(test)]
+mod bench_runs;
+#[cfg(test)]
 mod kiss;
 #[cfg(test)]
 mod messages;

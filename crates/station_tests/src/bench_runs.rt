@@ -1,8 +1,9 @@
-//! Worked runs.
+//! The bench of two stations: worked runs.
 ghost use Rattle.std.specs.Prelude.{◌≤◌};
 ghost use Rattle.channel_bench.specs.Words.{AreInRange};
 
-use crate::{BenchReport, BenchWords, bench};
+use crate::assertions::assert_equal;
+use channel_bench::{BenchReport, BenchWords, bench};
 use std::test::Fail;
 
 fn words(seed: u64, octets: u32) -> BenchWords
@@ -40,7 +41,7 @@ fn is_exchanged(report: &BenchReport, octets: usize) -> bool {
 #[test]
 fn a_link_without_data_takes_252_ticks(rt: HostRuntime) -> Result<(), Fail> {
     let report = bench(rt.alloc(), words(7, 0))?;
-    assert_eq!(rt; counts(&report), (252, 4, 0));
+    assert_equal(&rt, &counts(&report), &(252, 4, 0));
     assert!(rt; is_exchanged(&report, 0));
     Ok(())
 }
@@ -52,14 +53,14 @@ fn so_does_a_link_modulo_128(rt: HostRuntime) -> Result<(), Fail> {
         ..words(7, 0)
     };
     let report = bench(rt.alloc(), wide)?;
-    assert_eq!(rt; counts(&report), (252, 4, 0));
+    assert_equal(&rt, &counts(&report), &(252, 4, 0));
     Ok(())
 }
 
 #[test]
 fn texts_of_5000_octets_take_4278_ticks(rt: HostRuntime) -> Result<(), Fail> {
     let report = bench(rt.alloc(), words(85, 5000))?;
-    assert_eq!(rt; report.ticks, 4278);
+    assert_equal(&rt, &report.ticks, &4278);
     assert!(rt; is_exchanged(&report, 5000));
     Ok(())
 }
