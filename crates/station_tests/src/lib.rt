@@ -16,6 +16,8 @@ mod bench_runs;
 #[cfg(test)]
 mod kiss;
 #[cfg(test)]
+mod live;
+#[cfg(test)]
 mod messages;
 #[cfg(test)]
 mod stations;

@@ -1,10 +1,11 @@
 //! Sockets on loopback.
 
-use crate::tests::script::names;
-use crate::{Ports, RealPorts};
+use super::script::names;
+use crate::assertions::assert_equal;
 use std::io::{Read, Write};
 use std::net::{Ipv4Addr, SocketAddr, TcpListener, TcpStream};
 use std::test::Fail;
+use tnc_ports::{Ports, RealPorts};
 
 /// A port that nobody listens on.
 fn free_port(rt: &HostRuntime) -> Result<u16, Fail> {
@@ -54,10 +55,10 @@ fn no_host_connects_before_they_listen(rt: HostRuntime) {
 fn hosts_connect_on_loopback(rt: HostRuntime) -> Result<(), Fail> {
     let (mut ports, to) = opened(&rt)?;
     let host = connected(&rt, to)?;
-    assert_eq!(rt; polled(&rt, &mut ports, &[1])?.as_str(), "J1 ");
-    assert_eq!(rt; polled(&rt, &mut ports, &[])?.as_str(), "B1 ");
-    assert_eq!(rt; ports.send(&rt, 1, b"67"), Ok(2));
-    assert_eq!(rt; answer(host)?, *b"67");
+    assert_equal(&rt, &polled(&rt, &mut ports, &[1])?.as_str(), &"J1 ");
+    assert_equal(&rt, &polled(&rt, &mut ports, &[])?.as_str(), &"B1 ");
+    assert_equal(&rt, &ports.send(&rt, 1, b"67"), &Ok(2));
+    assert_equal(&rt, &answer(host)?, b"67");
     ports.shut(1);
     assert!(rt; ports.send(&rt, 1, b"8").is_err());
     Ok(())

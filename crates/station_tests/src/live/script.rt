@@ -1,19 +1,20 @@
 //! A script of events, and how sockets in memory give it.
 
-use crate::{MemLive, MemPorts, Ports};
+use crate::assertions::assert_equal;
 use station::{HostEvent, PortKind};
 use std::alloc::Global;
 use std::marker::Model;
 use std::net::Net;
 use std::test::Fail;
 use tnc_base::{Octets, OutOfMemory};
+use tnc_ports::{MemLive, MemPorts, Ports};
 
 /// The most octets of an event.
 const MOST: usize = 4096;
 
 /// A script that grows event by event.
 #[derive(Drop)]
-pub(crate) struct Script {
+pub(super) struct Script {
     alloc: Global,
     events: Vec<(u64, HostEvent)>,
 }
@@ -31,7 +32,7 @@ impl Model for Script {
 }
 
 impl Script {
-    pub(crate) fn new(alloc: Global) -> Script {
+    pub(super) fn new(alloc: Global) -> Script {
         Script {
             alloc,
             events: Vec::new(alloc),
@@ -39,13 +40,13 @@ impl Script {
     }
 
     /// At the poll of a number a host connects.
-    pub(crate) fn joins(&mut self, poll: u64, id: u32, kind: PortKind) -> Result<(), OutOfMemory> {
+    pub(super) fn joins(&mut self, poll: u64, id: u32, kind: PortKind) -> Result<(), OutOfMemory> {
         self.events.push((poll, HostEvent::Joined { id, kind }))?;
         Ok(())
     }
 
     /// A host brings 1 to 4096 octets.
-    pub(crate) fn brings(&mut self, poll: u64, id: u32, octets: &[u8]) -> Result<(), OutOfMemory> {
+    pub(super) fn brings(&mut self, poll: u64, id: u32, octets: &[u8]) -> Result<(), OutOfMemory> {
         if octets.is_empty() || octets.len() > MOST {
             return Err(OutOfMemory);
         }
@@ -55,19 +56,19 @@ impl Script {
     }
 
     /// A host goes.
-    pub(crate) fn leaves(&mut self, poll: u64, id: u32) -> Result<(), OutOfMemory> {
+    pub(super) fn leaves(&mut self, poll: u64, id: u32) -> Result<(), OutOfMemory> {
         self.events.push((poll, HostEvent::Left { id }))?;
         Ok(())
     }
 
     /// Sockets that give the script, and fail at the calls of these numbers.
-    pub(crate) fn failing(self, calls: &[u64]) -> Result<MemLive, OutOfMemory> {
+    pub(super) fn failing(self, calls: &[u64]) -> Result<MemLive, OutOfMemory> {
         let failing = calls.to_vec(self.alloc)?;
         Ok(MemLive::new(self.alloc, self.events, failing))
     }
 
     /// Sockets that give the script, and take so many octets a send.
-    pub(crate) fn taking(self, takes: u32) -> MemLive {
+    pub(super) fn taking(self, takes: u32) -> MemLive {
         MemLive::taking(self.alloc, self.events, Vec::new(self.alloc), takes)
     }
 }
@@ -86,7 +87,7 @@ fn polled<R: Net>(
 }
 
 /// Each event as a letter and an id.
-pub(crate) fn names(alloc: Global, events: &[HostEvent]) -> Result<String, OutOfMemory> {
+pub(super) fn names(alloc: Global, events: &[HostEvent]) -> Result<String, OutOfMemory> {
     let mut text = String::new(alloc);
     for event in events {
         match event {
@@ -99,7 +100,7 @@ pub(crate) fn names(alloc: Global, events: &[HostEvent]) -> Result<String, OutOf
 }
 
 /// Which connections came, and which of them were shut.
-pub(crate) fn came(alloc: Global, ports: &MemPorts) -> Result<String, OutOfMemory> {
+pub(super) fn came(alloc: Global, ports: &MemPorts) -> Result<String, OutOfMemory> {
     let mut text = String::new(alloc);
     for one in ports.came() {
         let state = if one.shut { "shut" } else { "open" };
@@ -134,11 +135,11 @@ fn is_given_poll_by_poll(rt: HostRuntime) -> Result<(), Fail> {
     ];
     for (paused, want) in table {
         let events = polled(&rt, alloc, &mut ports, paused)?;
-        assert_eq!(rt; events.as_str(), want);
+        assert_equal(&rt, &events.as_str(), &want);
     }
-    assert_eq!(rt; ports.polls().len(), 5);
+    assert_equal(&rt, &ports.polls().len(), &5);
     ports.shut(1);
     ports.shut(3);
-    assert_eq!(rt; came(alloc, &ports)?.as_str(), "1:shut 2:open ");
+    assert_equal(&rt, &came(alloc, &ports)?.as_str(), &"1:shut 2:open ");
     Ok(())
 }

@@ -1,11 +1,12 @@
 //! What waits for a connection is offered piece by piece.
 
-use crate::tests::script::Script;
-use crate::{MemPorts, Outgoing, offer};
+use super::script::Script;
+use crate::assertions::assert_equal;
 use std::alloc::Global;
 use std::net::Net;
 use std::test::Fail;
 use tnc_base::OutOfMemory;
+use tnc_ports::{MemPorts, Outgoing, offer};
 
 /// Pieces that wait.
 fn waiting_of(alloc: Global, pieces: &[&[u8]]) -> Result<Outgoing, Fail> {
@@ -47,11 +48,9 @@ fn pieces_are_offered_one_by_one(rt: HostRuntime) -> Result<(), Fail> {
     let alloc = rt.alloc();
     let mut ports = Script::new(alloc).taking(3).ports;
     let mut waiting = waiting_of(alloc, &[b"12345", b"", b"67", &[0; 4096]])?;
-    assert_eq!(rt; offers(&rt, alloc, &mut ports, &mut waiting, 4), 0);
-    assert_eq!(rt;
-        sends(alloc, &ports)?.as_str(),
-        "7:5:3 7:2:2 7:2:2 7:4096:3 "
-    );
+    assert_equal(&rt, &offers(&rt, alloc, &mut ports, &mut waiting, 4), &0);
+    let want = "7:5:3 7:2:2 7:2:2 7:4096:3 ";
+    assert_equal(&rt, &sends(alloc, &ports)?.as_str(), &want);
     Ok(())
 }
 
@@ -60,8 +59,8 @@ fn a_failed_offer_takes_nothing(rt: HostRuntime) -> Result<(), Fail> {
     let alloc = rt.alloc();
     let mut ports = Script::new(alloc).failing(&[0])?.ports;
     let mut waiting = waiting_of(alloc, &[b"12345"])?;
-    assert_eq!(rt; offers(&rt, alloc, &mut ports, &mut waiting, 2), 1);
-    assert_eq!(rt; sends(alloc, &ports)?.as_str(), "7:5:5 ");
+    assert_equal(&rt, &offers(&rt, alloc, &mut ports, &mut waiting, 2), &1);
+    assert_equal(&rt, &sends(alloc, &ports)?.as_str(), &"7:5:5 ");
     assert!(rt; waiting.is_empty());
     Ok(())
 }
@@ -81,8 +80,7 @@ fn appended(waiting: &mut Outgoing, count: usize) -> usize {
 #[test]
 fn a_piece_that_does_not_fit_is_refused_whole(rt: HostRuntime) -> Result<(), Fail> {
     let mut waiting = Outgoing::new(rt.alloc())?;
-    assert_eq!(rt; appended(&mut waiting, 5958), 5957);
-    assert!(rt; waiting.append(&[0; 36]).is_ok());
-    assert!(rt; waiting.append(&[0; 1]).is_err());
+    assert_equal(&rt, &appended(&mut waiting, 5958), &5957);
+    assert!(rt; waiting.append(&[0; 36]).is_ok() && waiting.append(&[0; 1]).is_err());
     Ok(())
 }

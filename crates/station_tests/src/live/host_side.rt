@@ -1,14 +1,15 @@
 //! The hosts' side of a station, turn by turn.
 ghost use Rattle.hdlc_framer.specs.FrameLength.{HasFrameLength};
 
-use crate::tests::script::{Script, came};
-use crate::{HostSide, MemLive, MemPorts, ReportLine};
+use super::script::{Script, came};
+use crate::assertions::assert_equal;
 use link_machine::Params;
 use station::{Config, PortKind};
 use std::alloc::Global;
 use std::net::Net;
 use std::test::Fail;
 use tnc_base::OutOfMemory;
+use tnc_ports::{HostSide, MemLive, MemPorts, ReportLine};
 
 /// A UI frame from N7LEM to NJ7P. As a KISS frame it has 19 octets.
 const FRAME: &[u8] = b"\x9c\x94\x6e\xa0\x40\x40\xe0\x9c\x6e\x98\x8a\x9a\x40\x61\x03\xf0";
@@ -97,8 +98,8 @@ fn a_turn_offers_each_host_one_piece(rt: HostRuntime) -> Result<(), Fail> {
     let alloc = rt.alloc();
     let mut desk = Desk::new(alloc, two_hosts(alloc)?.failing(&[])?)?;
     desk.turns(&rt, &[0, 2])?;
-    assert_eq!(rt; desk.sends()?.as_str(), "2:5:19 2:2:19 ");
-    assert_eq!(rt; desk.polls()?.as_str(), "10:0 10:0 ");
+    assert_equal(&rt, &desk.sends()?.as_str(), &"2:5:19 2:2:19 ");
+    assert_equal(&rt, &desk.polls()?.as_str(), &"10:0 10:0 ");
     Ok(())
 }
 
@@ -108,10 +109,14 @@ fn a_host_whose_send_fails_is_shut(rt: HostRuntime) -> Result<(), Fail> {
     let alloc = rt.alloc();
     let mut desk = Desk::new(alloc, two_hosts(alloc)?.failing(&[4, 5])?)?;
     desk.turns(&rt, &[0, 2, 0, 1])?;
-    assert_eq!(rt; desk.closed()?.as_str(), "5 ");
-    assert_eq!(rt; desk.closed()?.as_str(), "");
-    assert_eq!(rt; desk.sends()?.as_str(), "2:5:19 2:2:19 3:2:19 ");
-    assert_eq!(rt; came(alloc, &desk.ports)?.as_str(), "5:shut 2:open 5:shut ");
+    assert_equal(&rt, &desk.closed()?.as_str(), &"5 ");
+    assert_equal(&rt, &desk.closed()?.as_str(), &"");
+    assert_equal(&rt, &desk.sends()?.as_str(), &"2:5:19 2:2:19 3:2:19 ");
+    assert_equal(
+        &rt,
+        &came(alloc, &desk.ports)?.as_str(),
+        &"5:shut 2:open 5:shut ",
+    );
     Ok(())
 }
 
@@ -121,10 +126,10 @@ fn a_host_that_takes_nothing_is_shut_when_its_buffer_is_full(rt: HostRuntime) ->
     let alloc = rt.alloc();
     let mut desk = Desk::new(alloc, two_hosts(alloc)?.taking(0))?;
     desk.turns(&rt, &[0, 13_797])?;
-    assert_eq!(rt; desk.sends()?.as_str(), "2:5:19 2:2:19 ");
-    assert_eq!(rt; desk.closed()?.as_str(), "");
+    assert_equal(&rt, &desk.sends()?.as_str(), &"2:5:19 2:2:19 ");
+    assert_equal(&rt, &desk.closed()?.as_str(), &"");
     desk.hear(1)?;
-    assert_eq!(rt; desk.closed()?.as_str(), "5 2 ");
+    assert_equal(&rt, &desk.closed()?.as_str(), &"5 2 ");
     Ok(())
 }
 
@@ -142,6 +147,6 @@ fn a_line_is_noted(rt: HostRuntime) -> Result<(), Fail> {
     let alloc = rt.alloc();
     let mut desk = Desk::new(alloc, Script::new(alloc).taking(0))?;
     desk.side.note(ReportLine::ClosedLine { id: 9 })?;
-    assert_eq!(rt; desk.closed()?.as_str(), "9 ");
+    assert_equal(&rt, &desk.closed()?.as_str(), &"9 ");
     Ok(())
 }

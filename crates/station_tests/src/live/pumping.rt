@@ -2,11 +2,12 @@
 ghost use Rattle.std.specs.Prelude.{◌≡◌, [], IfOk};
 ghost use Rattle.sample_ring.specs.Ends.{ring_id, writer_ring, reader_ring, published_by};
 
-use crate::{PumpEnd, pump};
+use crate::assertions::assert_equal;
 use sample_ring::{Got, Reader, Ring, RingFault, Writer};
 use std::alloc::Global;
 use std::test::Fail;
 use tnc_base::MemSource;
+use tnc_ports::{PumpEnd, pump};
 
 /// Five octets, which are two samples and half of a third one.
 const INPUT: [u8; 5] = [1, 0, 2, 128, 5];
@@ -64,9 +65,8 @@ fn the_pump_publishes_whole_samples(rt: HostRuntime) -> Result<(), Fail> {
         (3, &[1], PumpEnd::ReadFault, &[1]),
     ];
     for (piece, failing, want, samples) in table {
-        let (end, is_given) = pumped(rt.alloc(), piece, failing, samples)?;
-        assert_eq!(rt; end, want, "in pieces of {piece}");
-        assert!(rt; is_given, "in pieces of {piece}");
+        let got = pumped(rt.alloc(), piece, failing, samples)?;
+        assert_equal(&rt, &(piece, got), &(piece, (want, true)));
     }
     Ok(())
 }
