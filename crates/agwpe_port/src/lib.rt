@@ -17,6 +17,3 @@ pub use message::AgwMessage;
 pub use messages::read_messages;
 pub use reader::AgwIn;
 pub use writer::write_agw;
-
-#[cfg(test)]
-mod tests;

@@ -17,6 +17,3 @@ pub use access::Access;
 pub use air_tick::{AirTick, Sent};
 pub use laws::{a_tick_is_a_part_of_the_whole, decisions_add_bits, the_end_is_a_transmission};
 pub use parameters::{Param, Parameters};
-
-#[cfg(test)]
-mod tests;

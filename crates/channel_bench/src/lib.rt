@@ -29,6 +29,3 @@ pub use laws::{
 };
 pub use report::{BenchFault, BenchReport, SetUp};
 pub use words::BenchWords;
-
-#[cfg(test)]
-mod tests;

@@ -12,6 +12,3 @@ mod writer;
 pub use item::KissItem;
 pub use reader::KissIn;
 pub use writer::write_kiss;
-
-#[cfg(test)]
-mod tests;

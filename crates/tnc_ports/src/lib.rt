@@ -62,6 +62,3 @@ pub use serve_words::ServeWords;
 pub use serving::{ServeEnd, serve};
 pub use spawner::{Order, Spawner};
 pub use untaken::Untaken;
-
-#[cfg(test)]
-mod tests;

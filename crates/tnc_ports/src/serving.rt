@@ -259,6 +259,3 @@ fn end_of(end: LoopEnd, pump: PumpEnd) -> ServeEnd
         (LoopEnd::Done, PumpEnd::NotBegun) => ServeEnd::Memory,
     }
 }
-
-#[cfg(test)]
-mod tests;

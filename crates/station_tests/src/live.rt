@@ -1,0 +1,11 @@
+//! The live side, part by part and as a whole, over sockets in memory and on loopback.
+
+mod held_input;
+mod host_side;
+mod offering;
+mod outcome;
+mod pumping;
+mod real_ports;
+mod script;
+mod serving;
+mod spawner;

@@ -1,0 +1,240 @@
+//! Calls of hosts, the data that they give to links, and disconnects.
+
+use super::desk::Desk;
+use crate::assertions::assert_equal;
+use crate::messages::field;
+use link_machine::Params;
+use station::Piece;
+use std::alloc::Global;
+use std::test::Fail;
+use tnc_base::Octets;
+
+/// SABM with P from N7LEM to NJ7P.
+const SABM: &[u8] = b"\x9c\x94\x6e\xa0\x40\x40\xe0\x9c\x6e\x98\x8a\x9a\x40\x61\x3f";
+
+/// The same by way of WIDE1-1.
+const SABM_VIA: &[u8] =
+    b"\x9c\x94\x6e\xa0\x40\x40\xe0\x9c\x6e\x98\x8a\x9a\x40\x60\xae\x92\x88\x8a\x62\x40\x63\x3f";
+
+/// UA with F from NJ7P to N7LEM.
+const UA: &[u8] = b"\x9c\x6e\x98\x8a\x9a\x40\x60\x9c\x94\x6e\xa0\x40\x40\xe1\x73";
+
+/// DISC with P from N7LEM to NJ7P.
+const DISC: &[u8] = b"\x9c\x94\x6e\xa0\x40\x40\xe0\x9c\x6e\x98\x8a\x9a\x40\x61\x53";
+
+/// Connection 1 has registered N7LEM, and connection 2 AAAA.
+fn registered(alloc: Global) -> Result<Desk, Fail> {
+    let mut desk = Desk::new(alloc, Params::default())?;
+    desk.ask(1, b'X', ["N7LEM", ""], b"")?;
+    desk.ask(2, b'X', ["AAAA", ""], b"")?;
+    desk.look();
+    Ok(desk)
+}
+
+/// Connection 1 has called NJ7P so, and is answered.
+fn connected(alloc: Global, kind: (u8, u8)) -> Result<Desk, Fail> {
+    let mut desk = registered(alloc)?;
+    desk.ask_with_pid(1, kind, ENDS, b"")?;
+    only_frame(&mut desk)?;
+    desk.hear(UA)?;
+    if !desk.look().queued.is_empty() {
+        return Err(Fail::new("the answer is answered"));
+    }
+    Ok(desk)
+}
+
+/// The one frame of a link since the last look, in which nothing was told to a host.
+fn only_frame(desk: &mut Desk) -> Result<Octets, Fail> {
+    let mut out = desk.look();
+    if out.queued.len() != 1 || !out.pieces.is_empty() {
+        return Err(Fail::new("not one frame alone"));
+    }
+    out.queued.pop().ok_or_else(|| Fail::new("no frame"))
+}
+
+/// The one piece for a host since the last look, in which no frame of a link was queued.
+fn only_piece(desk: &mut Desk) -> Result<Piece, Fail> {
+    let mut out = desk.look();
+    if out.pieces.len() != 1 || !out.queued.is_empty() {
+        return Err(Fail::new("not one piece alone"));
+    }
+    out.pieces.pop().ok_or_else(|| Fail::new("no piece"))
+}
+
+/// The octets of d from one call to another, with the text of the first.
+fn refusal(alloc: Global, from: &str, to: &str, text: &str) -> Result<Vec<u8>, Fail> {
+    let mut octets = Vec::new(alloc);
+    octets.extend_from_slice(b"\0\0\0\0d\0\0\0")?;
+    octets.extend_from_slice(&field(from))?;
+    octets.extend_from_slice(&field(to))?;
+    octets.push(u8::try_from(text.len()).unwrap_or(0).saturating_add(31))?;
+    octets.extend_from_slice(b"\0\0\0\0\0\0\0")?;
+    octets.extend_from_slice(b"*** DISCONNECTED From Station ")?;
+    octets.extend_from_slice(text.as_bytes())?;
+    octets.push(b'\r')?;
+    Ok(octets)
+}
+
+const CALL: (u8, u8) = (b'C', 0);
+
+const VIA: (u8, u8) = (b'v', 0);
+
+const DATA: (u8, u8) = (b'D', 0);
+
+const END: (u8, u8) = (b'd', 0);
+
+const ENDS: [&str; 2] = ["N7LEM", "NJ7P"];
+
+#[test]
+fn a_call_is_a_sabm(rt: HostRuntime) -> Result<(), Fail> {
+    let table: [((u8, u8), &[u8], &[u8]); 4] = [
+        (CALL, b"", SABM),
+        ((b'c', 0xcf), b"", SABM),
+        (VIA, b"\x01WIDE1-1\0\0\0", SABM_VIA),
+        (VIA, b"\x00behind", SABM),
+    ];
+    for (kind, body, want) in table {
+        let mut desk = registered(rt.alloc())?;
+        desk.ask_with_pid(1, kind, ENDS, body)?;
+        let frame = only_frame(&mut desk)?;
+        assert_equal(&rt, &(kind, frame.as_slice()), &(kind, want));
+    }
+    Ok(())
+}
+
+// Each row: who asks, the fields, the body, and the fields and the text of the answer.
+#[test]
+fn a_call_that_is_not_made_is_answered(rt: HostRuntime) -> Result<(), Fail> {
+    let alloc = rt.alloc();
+    let nine = [9_u8; 91];
+    let table: [(u32, (u8, u8), [&str; 2], &[u8], [&str; 3]); 12] = [
+        (1, CALL, ["", "NJ7P"], b"", ["NJ7P", "", "NJ7P"]),
+        (1, CALL, ["N7LEM", "a b"], b"", ["a b", "N7LEM", "a b"]),
+        (1, CALL, ["N7LEM", ""], b"", ["", "N7LEM", ""]),
+        (
+            1,
+            CALL,
+            ["N7LEM", "ABCDEFGHIJ"],
+            b"",
+            ["ABCDEFGHIJ", "N7LEM", "ABCDEFGHIJ"],
+        ),
+        (1, CALL, ["BBBB", "NJ7P"], b"", ["NJ7P", "BBBB", "NJ7P"]),
+        (
+            2,
+            CALL,
+            ["n7lem", "nj7p-15"],
+            b"",
+            ["NJ7P-15", "N7LEM", "NJ7P-15"],
+        ),
+        (
+            1,
+            (b'c', 7),
+            ["AAAA", "NJ7P"],
+            b"",
+            ["NJ7P", "AAAA", "NJ7P"],
+        ),
+        (1, VIA, ENDS, b"", ["NJ7P", "N7LEM", "NJ7P"]),
+        (1, VIA, ENDS, &nine, ["NJ7P", "N7LEM", "NJ7P"]),
+        (
+            1,
+            VIA,
+            ENDS,
+            b"\x02WIDE1-1\0\0\0WIDE2-1\0\0",
+            ["NJ7P", "N7LEM", "NJ7P"],
+        ),
+        (
+            1,
+            VIA,
+            ENDS,
+            b"\x01WIDE 1\0\0\0\0",
+            ["NJ7P", "N7LEM", "NJ7P"],
+        ),
+        (1, CALL, ["N7LEM", "BBBB"], b"", ["BBBB", "N7LEM", "BBBB"]),
+    ];
+    for (id, kind, ends, body, [from, to, text]) in table {
+        let mut desk = registered(alloc)?;
+        desk.ask_with_pid(1, CALL, ["N7LEM", "BBBB"], b"")?;
+        only_frame(&mut desk)?;
+        desk.ask_with_pid(id, kind, ends, body)?;
+        let piece = only_piece(&mut desk)?;
+        let want = refusal(alloc, from, to, text)?;
+        assert_equal(
+            &rt,
+            &(piece.id, piece.octets.as_slice()),
+            &(id, want.as_slice()),
+        );
+    }
+    Ok(())
+}
+
+#[test]
+fn a_65th_link_is_not_made(rt: HostRuntime) -> Result<(), Fail> {
+    let alloc = rt.alloc();
+    let mut desk = registered(alloc)?;
+    for number in 0..65_u32 {
+        let to = format!(in alloc; "X{number}")?;
+        desk.ask_with_pid(1, CALL, ["N7LEM", &to], b"")?;
+        let got = (desk.out.pieces.len(), desk.out.queued.len());
+        let refused = usize::from(number == 64);
+        assert_equal(&rt, &got, &(refused, (number as usize + 1).min(64)));
+    }
+    Ok(())
+}
+
+// Each row: what is given, and how long the frames are.
+#[test]
+fn data_goes_in_packets_of_256_octets(rt: HostRuntime) -> Result<(), Fail> {
+    let octets = [65_u8; 600];
+    let table: [(&[u8], &[usize]); 5] = [
+        (b"", &[]),
+        (b"A", &[17]),
+        (&octets[..256], &[272]),
+        (&octets[..257], &[272, 17]),
+        (&octets, &[272, 272, 104]),
+    ];
+    for (body, want) in table {
+        let mut desk = connected(rt.alloc(), CALL)?;
+        desk.ask_with_pid(1, DATA, ENDS, body)?;
+        assert_equal(&rt, &desk.lens()?.as_slice(), &want);
+    }
+    Ok(())
+}
+
+// Each row: the kind and the PID of the call, the PID of the data, and that of the frame.
+#[test]
+fn data_without_a_pid_has_that_of_the_call(rt: HostRuntime) -> Result<(), Fail> {
+    let table: [((u8, u8), u8, u8); 5] = [
+        (CALL, 0, 0xf0),
+        ((b'C', 0xcf), 0, 0xf0),
+        ((b'c', 0xcf), 0, 0xcf),
+        ((b'c', 0xcf), 0xbb, 0xbb),
+        ((b'c', 0), 0, 0xf0),
+    ];
+    for (kind, pid, want) in table {
+        let mut desk = connected(rt.alloc(), kind)?;
+        desk.ask_with_pid(1, (b'D', pid), ENDS, b"A")?;
+        let frame = only_frame(&mut desk)?;
+        let got = (kind, pid, frame.as_slice().get(15).copied());
+        assert_equal(&rt, &got, &(kind, pid, Some(want)));
+    }
+    Ok(())
+}
+
+#[test]
+fn only_the_owner_gives_and_disconnects(rt: HostRuntime) -> Result<(), Fail> {
+    let mut desk = connected(rt.alloc(), CALL)?;
+    for (id, ends) in [
+        (2, ENDS),
+        (1, ["NJ7P", "N7LEM"]),
+        (1, ["N7LEM", "BBBB"]),
+        (1, ["", "NJ7P"]),
+    ] {
+        desk.ask_with_pid(id, DATA, ends, b"A")?;
+        desk.ask_with_pid(id, END, ends, b"")?;
+        let got = (desk.out.queued.len(), desk.out.pieces.len());
+        assert_equal(&rt, &(id, got), &(id, (0, 0)));
+    }
+    desk.ask_with_pid(1, END, ENDS, b"")?;
+    assert_equal(&rt, &only_frame(&mut desk)?.as_slice(), &DISC);
+    Ok(())
+}
