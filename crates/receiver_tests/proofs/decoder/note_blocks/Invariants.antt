@@ -1,10 +1,10 @@
-use Rattle.std.proofs.Common.{◌≡◌, ◌+◌, false, length}
-use Rattle.slicer_bank.proofs.thread_tests.given.Given as goal
+use Rattle.std.proofs.Common.{◌≡◌, ◌+◌, ◌<◌, ◌^◌, false, length}
+use Rattle.receiver_tests.proofs.decoder.note_blocks.Given as goal
 
 abbrev pub invariant-loop-rest : goal.invariant-loop-rest
 invariant-loop-rest g l = record {
   unfinished : l.decoder.finished ≡ false;
-  position : l.decoder.position + length l.rest ≡ length l.samples;
+  room : l.decoder.position + length l.rest < 2 ^ 48;
 }
 
 abbrev pub decreases-loop-rest : goal.decreases-loop-rest

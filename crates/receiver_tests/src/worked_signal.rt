@@ -1,8 +1,15 @@
-//! The samples of the shortest transmission, for tests.
+//! The shortest frame, and the samples of its transmission.
+
+ghost use Rattle.std.specs.Prelude.{◌≡◌, IfOk, length as count};
 
 use std::alloc::{AllocError, Global};
+use std::process::Abort;
 
-/// The tones of a SABM from N7LEM to NJ7P between two flags and one, 162 bits in all, M for mark and S for space.
+/// SABM with P from N7LEM to NJ7P, the shortest frame.
+pub(crate) const SHORTEST: [u8; 15] =
+    *b"\x9c\x94\x6e\xa0\x40\x40\xe0\x9c\x6e\x98\x8a\x9a\x40\x61\x3f";
+
+/// The tones of the shortest frame between two flags and one, 162 bits in all, M for mark and S for space.
 const TONES: &[u8; 162] =
     b"SSSSSSSMSSSSSSSMSMMMMSMMSMMSSMSSMMMMSSSMSMSMSSMMSMSMSMMSMSMSMSSMSMSMSSSSMSSSSMSSMMMMSSSMSMSSSMSSMMSSMSMMSSMMMSMMSMSMSMMSSMSMSSSMMMMMMSSMSMMMSSMSSSMSSSSSSMSSSSSSSM";
 
@@ -15,7 +22,9 @@ const SINE: [i16; 48] = [
 ];
 
 /// Eight samples a tone: mark is 6 steps a sample, space 11.
-pub(crate) fn transmission(alloc: Global) -> Result<Vec<i16>, AllocError> {
+pub(crate) fn transmission<R: Abort>(rt: &R, alloc: Global) -> Result<Vec<i16>, AllocError>
+    ensures { IfOk result (λ samples. count samples.items ≡ 1296) }
+{
     let mut samples = Vec::new(alloc);
     let mut phase = 0usize;
     for tone in TONES {
@@ -25,5 +34,15 @@ pub(crate) fn transmission(alloc: Global) -> Result<Vec<i16>, AllocError> {
             phase = (phase % 48 + step) % 48;
         }
     }
+    assert!(*rt; samples.len() == 1296);
     Ok(samples)
+}
+
+/// Repeats each sample five times, for a receiver of 48,000 a second. So many zeros stand before them.
+pub(crate) fn wide(alloc: Global, samples: &[i16], zeros: usize) -> Result<Vec<i16>, AllocError> {
+    let mut wide = vec![in alloc; 0; zeros]?;
+    for sample in samples {
+        wide.extend_from_slice(&[*sample; 5])?;
+    }
+    Ok(wide)
 }

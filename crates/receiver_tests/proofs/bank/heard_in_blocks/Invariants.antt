@@ -1,5 +1,5 @@
 use Rattle.std.proofs.Common.{◌≡◌, ◌+◌, length}
-use Rattle.slicer_bank.proofs.thread_tests.heard.Given as goal
+use Rattle.receiver_tests.proofs.bank.heard_in_blocks.Given as goal
 
 abbrev pub invariant-loop-rest : goal.invariant-loop-rest
 invariant-loop-rest g l = l.bank.position + length l.rest ≡ length l.samples

@@ -1,34 +1,36 @@
-//! A gate at which lanes 0 and 7 meet.
+//! A gate at which lane 0 and another lane meet.
 
-use crate::gate::Gate;
+use slicer_bank::Gate;
 use std::sync::atomic::{AtomicU64, Ordering};
 use std::thread;
 
 /// How often a held lane looks for the other before it goes on.
 const LIMIT: u64 = 1_000_000;
 
-/// Holds lanes 0 and 7 each until the other has begun as often, and counts how often one gave up.
+/// Holds lane 0 and another lane each until the other has begun as often, and counts how often one gave up.
 #[derive(Drop)]
 pub(crate) struct Meeting {
+    other_lane: u8,
     first: AtomicU64,
-    last: AtomicU64,
+    other: AtomicU64,
     given_up: AtomicU64,
 }
 
 impl Meeting {
-    pub(crate) fn new() -> Meeting {
+    pub(crate) fn with_lane(other_lane: u8) -> Meeting {
         Meeting {
+            other_lane,
             first: AtomicU64::new(0),
-            last: AtomicU64::new(0),
+            other: AtomicU64::new(0),
             given_up: AtomicU64::new(0),
         }
     }
 
-    /// How often lane 0 has begun, how often lane 7 has, and how often one of them gave up.
+    /// How often lane 0 has begun, how often the other has, and how often one of them gave up.
     pub(crate) fn counts(&self) -> [u64; 3] {
         [
             self.first.load(Ordering::SeqCst),
-            self.last.load(Ordering::SeqCst),
+            self.other.load(Ordering::SeqCst),
             self.given_up.load(Ordering::SeqCst),
         ]
     }
@@ -47,10 +49,10 @@ impl Meeting {
 
 impl Gate for Meeting {
     fn begun(&self, lane: u8) {
-        match lane {
-            0 => self.hold(&self.first, &self.last),
-            7 => self.hold(&self.last, &self.first),
-            _ => {}
+        if lane == 0 {
+            self.hold(&self.first, &self.other);
+        } else if lane == self.other_lane {
+            self.hold(&self.other, &self.first);
         }
     }
 }
