@@ -21,4 +21,6 @@ mod publishing;
 #[cfg(test)]
 mod ring_bank;
 #[cfg(test)]
+mod true_end;
+#[cfg(test)]
 mod worked_signal;

@@ -1,17 +1,16 @@
-use super::{TrueEnd, is_sent};
+//! A clean signal, in which no candidate is stray, and how far from its true end a frame is heard.
+
+use crate::assertions::assert_equal;
+use crate::worked_signal::{SHORTEST, transmission as worked};
 use afsk_modulator::transmission;
+use clean_signal::{TrueEnd, is_sent};
 use frame_merge::Candidate;
 use slicer_bank::Bank;
 use std::alloc::Global;
 use std::test::Fail;
 use tnc_base::{Octets, OutOfMemory};
 
-// SABM with P from N7LEM to NJ7P, the shortest frame.
-const SHORTEST: [u8; 15] = [
-    0x9c, 0x94, 0x6e, 0xa0, 0x40, 0x40, 0xe0, 0x9c, 0x6e, 0x98, 0x8a, 0x9a, 0x40, 0x61, 0x3f,
-];
-
-// True if what is heard with these octets at `end` is one of the frames that end at `ends`.
+/// True if what is heard with these octets at `end` is one of the frames that end at `ends`.
 fn hears(alloc: Global, octets: &[u8], end: u64, ends: &[u64]) -> Result<bool, OutOfMemory> {
     let mut sent = Vec::new(alloc);
     for end in ends {
@@ -34,15 +33,13 @@ fn the_shortest_frame_is_heard_and_nothing_is_stray(rt: HostRuntime) -> Result<(
     let alloc = rt.alloc();
     let octets = Octets::from_slice(alloc, &SHORTEST)?;
     let samples = transmission(alloc, std::slice::from_ref(&octets), 2, 1)?;
-    assert_eq!(rt; samples.len(), 1296);
-    let heard = Bank::new(alloc)?.feed(&samples)?;
-    let sent = [TrueEnd { end: 1296, octets }];
-    assert!(rt;
-        heard
-            .first()
-            .is_some_and(|first| (first.end, first.offset) == (1294, 6))
-    );
-    assert!(rt; heard.iter().all(|item| is_sent(&sent, item)));
+    let worked = worked(&rt, alloc)?;
+    assert_equal(&rt, &samples.as_slice(), &worked.as_slice());
+    let heard = Bank::new(alloc)?.feed(&worked)?;
+    assert_equal(&rt, &heard.len(), &3);
+    let sent = TrueEnd { end: 1296, octets };
+    let sent = std::slice::from_ref(&sent);
+    assert!(rt; heard.iter().all(|item| is_sent(sent, item)));
     Ok(())
 }
 
@@ -62,11 +59,8 @@ fn a_frame_is_heard_less_than_one_bit_from_its_true_end(rt: HostRuntime) -> Resu
         (&[u64::MAX], u64::MAX - 8, false),
     ];
     for (ends, end, is) in table {
-        assert_eq!(rt;
-            hears(rt.alloc(), &SHORTEST, end, ends)?,
-            is,
-            "{end} of {ends:?}"
-        );
+        let hears = hears(rt.alloc(), &SHORTEST, end, ends)?;
+        assert_equal(&rt, &(ends, end, hears), &(ends, end, is));
     }
     Ok(())
 }
