@@ -23,4 +23,6 @@ mod ring_bank;
 #[cfg(test)]
 mod true_end;
 #[cfg(test)]
+mod wide_bank;
+#[cfg(test)]
 mod worked_signal;
