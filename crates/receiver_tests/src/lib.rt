@@ -13,6 +13,8 @@ mod bank;
 #[cfg(test)]
 mod decoder;
 #[cfg(test)]
+mod hf_decoder;
+#[cfg(test)]
 mod meeting;
 #[cfg(test)]
 mod places;
