@@ -15,6 +15,8 @@ mod decoder;
 #[cfg(test)]
 mod hf_decoder;
 #[cfg(test)]
+mod hf_sent;
+#[cfg(test)]
 mod meeting;
 #[cfg(test)]
 mod places;
