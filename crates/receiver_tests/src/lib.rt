@@ -19,11 +19,15 @@ mod hf_sent;
 #[cfg(test)]
 mod meeting;
 #[cfg(test)]
+mod noisy_signal;
+#[cfg(test)]
 mod places;
 #[cfg(test)]
 mod publishing;
 #[cfg(test)]
 mod ring_bank;
+#[cfg(test)]
+mod sensitive_decoder;
 #[cfg(test)]
 mod true_end;
 #[cfg(test)]
