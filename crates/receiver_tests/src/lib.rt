@@ -25,6 +25,8 @@ mod places;
 #[cfg(test)]
 mod publishing;
 #[cfg(test)]
+mod receiver;
+#[cfg(test)]
 mod ring_bank;
 #[cfg(test)]
 mod sensitive_decoder;
