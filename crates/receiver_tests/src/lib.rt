@@ -17,6 +17,8 @@ mod hf_decoder;
 #[cfg(test)]
 mod hf_sent;
 #[cfg(test)]
+mod laws;
+#[cfg(test)]
 mod meeting;
 #[cfg(test)]
 mod noisy_signal;
