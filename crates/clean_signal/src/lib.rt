@@ -14,6 +14,3 @@ pub use laws::{
     sent_is_near,
 };
 pub use true_end::{TrueEnd, is_sent};
-
-#[cfg(test)]
-mod tests;

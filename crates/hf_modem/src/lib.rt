@@ -25,6 +25,3 @@ pub use laws::{
 };
 pub use sending::hf_transmission;
 pub use slicer::HfSlicer;
-
-#[cfg(test)]
-mod tests;

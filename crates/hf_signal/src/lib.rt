@@ -15,6 +15,3 @@ pub use laws::{
     hf_sent_is_near,
 };
 pub use sent::hf_is_sent;
-
-#[cfg(test)]
-mod tests;

@@ -20,6 +20,3 @@ mod turn;
 pub use heard::Heard;
 pub use laws::eight_lanes_alone;
 pub use receiver::{RingReceiver, readers_wanted};
-
-#[cfg(test)]
-mod tests;

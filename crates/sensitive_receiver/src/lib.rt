@@ -28,6 +28,3 @@ pub use laws::{
 };
 pub use merging::put_all;
 pub use readings::LANES;
-
-#[cfg(test)]
-mod tests;

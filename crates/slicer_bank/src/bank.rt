@@ -157,6 +157,3 @@ impl Bank {
         heard
     }
 }
-
-#[cfg(test)]
-mod tests;

@@ -165,6 +165,3 @@ impl Decoder {
         self.merger.held()
     }
 }
-
-#[cfg(test)]
-mod tests;

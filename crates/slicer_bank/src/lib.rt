@@ -36,10 +36,3 @@ pub use merging::merge;
 pub use ring_bank::RingBank;
 pub use ring_merging::{merge_advance, nothing_is_merged};
 pub use tone_lane::{ToneLane, new_tone_lanes};
-
-#[cfg(test)]
-mod meeting;
-#[cfg(test)]
-mod thread_tests;
-#[cfg(test)]
-mod worked_signal;

@@ -140,6 +140,3 @@ impl RingBank {
         room
     }
 }
-
-#[cfg(test)]
-mod tests;

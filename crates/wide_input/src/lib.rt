@@ -17,8 +17,3 @@ pub use laws::{
 };
 pub use sent::is_sent_wide;
 pub use wide_bank::WideBank;
-
-#[cfg(test)]
-mod tests;
-#[cfg(test)]
-mod worked_signal;
