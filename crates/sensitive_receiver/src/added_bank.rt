@@ -6,11 +6,10 @@ ghost use Rattle.tone_tracking.specs.Heard.{places_in};
 ghost use Rattle.sensitive_receiver.specs.Found.{AddsBetween, AreAddedBetween, HasRoom};
 ghost use Rattle.sensitive_receiver.specs.HeldLanes.{HasTaken, LanesHaveRead, StandsFor};
 
-use crate::added_lane::AddedLane;
 use crate::hearing::hear_place;
 use crate::readings::{FIRST, LANES, Readings};
 use frame_merge::Candidate;
-use slicer_bank::new_tone_lanes;
+use slicer_bank::{ToneLane, new_tone_lanes};
 use std::alloc::Global;
 use std::marker::Model;
 use tnc_base::OutOfMemory;
@@ -26,7 +25,7 @@ pub struct AddedBank {
     slow_near: BitClock,
     slow_far: BitClock,
     fast_near: BitClock,
-    lanes: Vec<AddedLane>,
+    lanes: Vec<ToneLane>,
 }
 
 impl Model for AddedBank {

@@ -1,13 +1,9 @@
-//! One of the added lanes, and whether what it hears is reported.
+//! Whether what an added lane hears is reported.
 
 ghost use Rattle.std.specs.Prelude.{◌≡◌, true};
 ghost use Rattle.sensitive_receiver.specs.AddedCandidates.{HasPath};
 
 use ax25_address::read_path;
-use slicer_bank::ToneLane;
-
-/// A lane that takes the tones of the places that it reads.
-pub(crate) type AddedLane = ToneLane;
 
 /// Whether octets begin with a path.
 pub(crate) fn has_path(octets: &[u8]) -> bool

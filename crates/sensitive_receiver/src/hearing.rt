@@ -13,9 +13,10 @@ ghost use Rattle.sensitive_receiver.specs.HeldLanes.{HoldsFrameOf, IsLastPlace};
 ghost use Rattle.sensitive_receiver.specs.HeldLanes.{LaneStandsFor, LanesAreAt, LanesHaveRead};
 ghost use Rattle.sensitive_receiver.specs.Lanes.{is_read_by, lane_bits, lane_tones};
 
-use crate::added_lane::{AddedLane, has_path};
+use crate::added_lane::has_path;
 use crate::readings::{FIRST, Readings, delay_of, list_of};
 use frame_merge::Candidate;
+use slicer_bank::ToneLane;
 use std::alloc::Global;
 use tnc_base::{Octets, OutOfMemory};
 use tone_table::Tone;
@@ -25,7 +26,7 @@ use tone_tracking::ToneLists;
 pub(crate) fn hear_place(
     alloc: Global,
     lists: &ToneLists,
-    lanes: &mut [AddedLane],
+    lanes: &mut [ToneLane],
     readings: &Readings,
     found: &mut Vec<Candidate>,
 ) -> Result<(), OutOfMemory>
@@ -51,7 +52,7 @@ pub(crate) fn hear_place(
 fn hear_fixed(
     alloc: Global,
     lists: &ToneLists,
-    lanes: &mut [AddedLane],
+    lanes: &mut [ToneLane],
     readings: &Readings,
     found: &mut Vec<Candidate>,
 ) -> Result<(), OutOfMemory>
@@ -76,7 +77,7 @@ fn hear_fixed(
 fn hear_clocked(
     alloc: Global,
     lists: &ToneLists,
-    lanes: &mut [AddedLane],
+    lanes: &mut [ToneLane],
     first: u8,
     end: u8,
     readings: &Readings,
@@ -106,7 +107,7 @@ fn hear_clocked(
 fn hear_each(
     alloc: Global,
     lists: &ToneLists,
-    lanes: &mut [AddedLane],
+    lanes: &mut [ToneLane],
     first: u8,
     end: u8,
     readings: &Readings,
@@ -136,7 +137,7 @@ fn hear_each(
 fn hear(
     alloc: Global,
     lists: &ToneLists,
-    lane: &mut AddedLane,
+    lane: &mut ToneLane,
     number: u8,
     readings: &Readings,
     found: &mut Vec<Candidate>,
@@ -166,7 +167,7 @@ fn hear(
 fn add_frame(
     alloc: Global,
     lists: &ToneLists,
-    lane: &AddedLane,
+    lane: &ToneLane,
     number: u8,
     readings: &Readings,
     found: &mut Vec<Candidate>,
