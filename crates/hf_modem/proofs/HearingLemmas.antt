@@ -100,11 +100,9 @@ module _ (x y : List ℤ) (old new : HeldBank) (was heard marked now : HeldMerge
       )
 
 -- the end of the samples
-pub gives_rest : (x : List ℤ) (bank : HeldBank) (was marked : HeldMerger) (rest : List Candidate) → HaveTaken bank was x
-    → ((puts given : List Candidate) → MergerStandsFor was puts given → MergerStandsFor marked puts given)
-    → ((puts given : List Candidate) → MergerStandsFor marked puts given → given ++ rest ≡ merged (in_order puts))
+pub gives_rest : (x : List ℤ) (bank : HeldBank) (was : HeldMerger) (rest : List Candidate) → HaveTaken bank was x
+    → ((puts given : List Candidate) → MergerStandsFor was puts given → given ++ rest ≡ merged (in_order puts))
     → AreMergedBetween (length x / 4) (length x / 4 + 1) x rest
-gives_rest x bank was marked rest h puts last =
-    let given : List Candidate = below (length x / 4) (merged h.candidates) in
-    end_gives x h.candidates rest h.are (last h.candidates given (puts h.candidates given h.so_far)
+gives_rest x bank was rest h last =
+    end_gives x h.candidates rest h.are (last h.candidates (below (length x / 4) (merged h.candidates)) h.so_far
     ∙ ap merged (in_order-strictly h.candidates h.are.order))

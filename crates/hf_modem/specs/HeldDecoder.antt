@@ -3,6 +3,7 @@ use Rattle.std.specs.Prelude.{◌≡◌, ℕ, ◌-◌, ◌/◌, ◌^◌, ◌<◌
 use Rattle.frame_merge.specs.declared.candidate.Candidate.{Candidate}
 use Rattle.frame_merge.specs.Held.{Held as HeldMerger, StandsFor as MergerStandsFor}
 use Rattle.frame_merge.specs.Merged.{merged, below}
+use Rattle.slicer_bank.specs.declared.progress.Progress.{Progress}
 use Rattle.hf_modem.specs.Candidates.{AreCandidates}
 use Rattle.hf_modem.specs.Held.{HeldBank, BankStandsFor}
 
@@ -12,6 +13,10 @@ pub record HeldDecoder : Type 0 where
   pub position : ℕ
   pub finished : Bool
   pub spent : Bool
+
+-- how far it has come
+abbrev pub progress : HeldDecoder → Progress
+progress held = record { position = held.position; finished = held.finished; spent = held.spent }
 
 -- what may be put into a merger of 32 lanes
 pub record CanBePut (item : Candidate) : Type 0 where

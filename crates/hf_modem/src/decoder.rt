@@ -1,12 +1,14 @@
 //! The decoder: samples in blocks in, each frame that is heard in them once and in order out.
 
-ghost use Rattle.std.specs.Prelude.{◌≡◌, ◌+◌, ◌/◌, ◌<◌, ◌≤◌, ◌^◌, ℤ, List, [], ◌++◌, length, replicate, true, false, IfOk, OnOk, OnErr, IsErr};
-ghost use Rattle.hf_modem.specs.HeldDecoder.{StandsFor};
+ghost use Rattle.std.specs.Prelude.{◌≡◌, ◌+◌, ◌/◌, ◌<◌, ◌≤◌, ◌^◌, ℤ, List, [], ◌++◌, length, replicate, false, IfOk};
+ghost use Rattle.slicer_bank.specs.Progress.{Finishes, TakesBlock};
+ghost use Rattle.hf_modem.specs.HeldDecoder.{StandsFor, progress};
 ghost use Rattle.hf_modem.specs.MergedItems.{AreMergedBetween};
 
 use crate::bank::Bank;
 use crate::block_hearing::{OFFSETS, hear_block};
 use frame_merge::{Candidate, Merger};
+use slicer_bank::Progress;
 use std::alloc::Global;
 use std::marker::Model;
 use tnc_base::OutOfMemory;
@@ -19,9 +21,7 @@ pub struct HfDecoder {
     alloc: Global,
     bank: Bank,
     merger: Merger,
-    position: u64,
-    finished: bool,
-    spent: bool,
+    progress: Progress,
 }
 
 impl Model for HfDecoder {
@@ -30,9 +30,10 @@ impl Model for HfDecoder {
 
     ghost Value = { HeldDecoder };
 
-    ghost view = { λ s. record { bank = s.bank; merger = s.merger; position = s.position; finished = s.finished; spent = s.spent } };
+    ghost view = { λ s. record { bank = s.bank; merger = s.merger; position = s.progress.position; finished = s.progress.finished; spent = s.progress.spent } };
 
-    ghost invariant = { λ s. s.spent ≡ false → s.finished ≡ false → (s.bank.position ≡ s.position) × (s.merger.marks ≡ replicate 32 (s.position / 4)) };
+    ghost invariant = { λ s. s.progress.spent ≡ false → s.progress.finished ≡ false
+        → (s.bank.position ≡ s.progress.position) × (s.merger.marks ≡ replicate 32 (s.progress.position / 4)) };
 }
 
 impl HfDecoder {
@@ -46,9 +47,7 @@ impl HfDecoder {
             alloc,
             bank: Bank::new(alloc)?,
             merger: Merger::new(alloc, OFFSETS)?,
-            position: 0,
-            finished: false,
-            spent: false,
+            progress: Progress::new(),
         })
     }
 
@@ -58,22 +57,13 @@ impl HfDecoder {
         requires few { length block.now ≤ 2048 }
         requires room { self.old.position + length block.now < 2 ^ 48 }
         requires unfinished { self.old.finished ≡ false }
-        ensures given { IfOk result (λ items. (x : List ℤ) → StandsFor self.old x
-            → StandsFor self.new (x ++ block.now)
+        ensures given { IfOk result (λ items. (x : List ℤ) → StandsFor self.old x → StandsFor self.new (x ++ block.now)
             × AreMergedBetween (length x / 4) (length (x ++ block.now) / 4) (x ++ block.now) items.items) }
-        ensures position { OnOk result (self.new.position ≡ self.old.position + length block.now) }
-        ensures stays { OnErr result (self.new.position ≡ self.old.position) }
-        ensures unfinished { self.new.finished ≡ false }
-        ensures fails { self.old.spent ≡ true → IsErr result }
-        ensures spent { OnErr result (self.new.spent ≡ true) }
+        ensures progress { TakesBlock (progress self.old) (progress self.new) (length block.now) result }
     {
-        if self.spent {
-            return Err(OutOfMemory);
-        }
-        self.spent = true;
+        self.progress.begin()?;
         let items = hear_block(&mut self.bank, &mut self.merger, block)?;
-        self.position += block.len() as u64;
-        self.spent = false;
+        self.progress.take(block.len());
         Ok(items)
     }
 
@@ -81,25 +71,8 @@ impl HfDecoder {
     pub fn finish(&mut self) -> Result<Vec<Candidate>, OutOfMemory>
         ensures rest { IfOk result (λ items. (x : List ℤ) → length x < 2 ^ 48 → StandsFor self.old x
             → AreMergedBetween (length x / 4) (length x / 4 + 1) x items.items) }
-        ensures again { IfOk result (λ items. self.old.finished ≡ true → items.items ≡ []) }
-        ensures finished { OnOk result (self.new.finished ≡ true) }
-        ensures fails { self.old.spent ≡ true → IsErr result }
-        ensures spent { OnErr result (self.new.spent ≡ true) }
+        ensures progress { Finishes (progress self.old) (progress self.new) result }
     {
-        if self.spent {
-            return Err(OutOfMemory);
-        }
-        if self.finished {
-            return Ok(Vec::new(self.alloc));
-        }
-        self.finished = true;
-        self.merger.finish();
-        match self.merger.take_ready() {
-            Ok(items) => Ok(items),
-            Err(refusal) => {
-                self.spent = true;
-                Err(refusal)
-            }
-        }
+        self.progress.finish(self.alloc, &mut self.merger)
     }
 }

@@ -119,22 +119,21 @@ module _ (x y : List ℤ) (old new : HeldBank) (before after : HeldAdded) (was m
 
 -- ---- the end of the samples
 
-module _ (x : List ℤ) (bank : HeldBank) (added : HeldAdded) (was marked now : HeldMerger) (rest : List Candidate)
-    (room : length x < 2 ^ 48)
-    (h : HaveTaken bank added was x)
-    (puts : (p given : List Candidate) → MergerStandsFor was p given → MergerStandsFor marked p given) where
-  pub gives_rest : ((p given : List Candidate) → MergerStandsFor marked p given → given ++ rest ≡ merged (in_order p))
-      → AreMergedBetween (settled (length x)) (length x + 1) x rest
-  gives_rest last =
-      let given : List Candidate = below (settled (length x)) (merged h.candidates) in
-      end_gives x h.candidates rest h.are (last h.puts given (puts h.puts given h.so_far) ∙ ap merged h.order)
+module _ (x : List ℤ) (bank : HeldBank) (added : HeldAdded) (was : HeldMerger) (room : length x < 2 ^ 48)
+    (h : HaveTaken bank added was x) where
+  given_so_far : List Candidate
+  given_so_far = below (settled (length x)) (merged h.candidates)
 
-  pub keeps_nothing : least marked.marks ≡ 2 ^ 64 - 1
-      → ((p given : List Candidate) → MergerStandsFor marked p given → now.items ≡ not_below (least marked.marks - 15)
-      (in_order p))
-      → now.items ≡ []
-  keeps_nothing far keeps =
-      let given : List Candidate = below (settled (length x)) (merged h.candidates) in
-      keeps h.puts given (puts h.puts given h.so_far)
-      ∙ ap (not_below (least marked.marks - 15)) h.order
-      ∙ nothing_kept (least marked.marks - 15) x h.candidates (omega arith) h.are
+  pub gives_rest : (rest : List Candidate)
+      → ((p given : List Candidate) → MergerStandsFor was p given → given ++ rest ≡ merged (in_order p))
+      → AreMergedBetween (settled (length x)) (length x + 1) x rest
+  unfolding given_so_far
+  gives_rest rest last = end_gives x h.candidates rest h.are (last h.puts given_so_far h.so_far ∙ ap merged h.order)
+
+  pub keeps_nothing : (items : List Candidate)
+      → ((p given : List Candidate) → MergerStandsFor was p given → items ≡ not_below (2 ^ 64 - 16) (in_order p))
+      → items ≡ []
+  unfolding given_so_far
+  keeps_nothing items keeps =
+      keeps h.puts given_so_far h.so_far ∙ ap (not_below (2 ^ 64 - 16)) h.order
+      ∙ nothing_kept (2 ^ 64 - 16) x h.candidates (omega arith) h.are

@@ -4,6 +4,7 @@ use Rattle.frame_merge.specs.declared.candidate.Candidate.{Candidate}
 use Rattle.frame_merge.specs.Held.{Held as HeldMerger, StandsFor as MergerStandsFor}
 use Rattle.frame_merge.specs.Merged.{merged, below, not_below}
 use Rattle.frame_merge.specs.Order.{in_order}
+use Rattle.slicer_bank.specs.declared.progress.Progress.{Progress}
 use Rattle.slicer_bank.specs.Held.{HeldBank, StandsFor as BankStandsFor}
 use Rattle.sensitive_receiver.specs.Candidates.{AreHeard}
 use Rattle.sensitive_receiver.specs.HeldLanes.{HeldBank as HeldAdded, StandsFor as AddedStandsFor}
@@ -16,6 +17,10 @@ pub record HeldDecoder : Type 0 where
   pub position : ℕ
   pub finished : Bool
   pub spent : Bool
+
+-- how far it has come
+abbrev pub progress : HeldDecoder → Progress
+progress held = record { position = held.position; finished = held.finished; spent = held.spent }
 
 -- Both banks have taken these samples, and the merger all that they heard, in whatever order. It has given what is
 -- settled, and keeps what a candidate to come can repeat.

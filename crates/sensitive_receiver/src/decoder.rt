@@ -1,18 +1,19 @@
 //! The decoder: samples in blocks in, each frame that some of the 23 lanes hears in them once and in order out.
 
-ghost use Rattle.std.specs.Prelude.{◌≡◌, ◌+◌, ◌<◌, ◌≤◌, ◌^◌, ℤ, List, [], ◌++◌, length, replicate, true, false, IfOk, OnOk, OnErr, IsErr};
+ghost use Rattle.std.specs.Prelude.{◌≡◌, ◌+◌, ◌<◌, ◌≤◌, ◌^◌, ℤ, List, [], ◌++◌, length, replicate, true, false, IfOk, OnOk, OnErr};
 ghost use Rattle.std.specs.List.{All};
 ghost use Rattle.slicer_bank.specs.Candidates.{AreCandidatesBehind};
 ghost use Rattle.slicer_bank.specs.Held.{HeldBank, StandsFor as BankStandsFor};
 ghost use Rattle.slicer_bank.specs.Merging.{CanBePut as CanBePutOfEight};
-ghost use Rattle.sensitive_receiver.specs.HeldDecoder.{HaveTaken, StandsFor};
+ghost use Rattle.slicer_bank.specs.Progress.{Finishes, TakesBlock};
+ghost use Rattle.sensitive_receiver.specs.HeldDecoder.{HaveTaken, StandsFor, progress};
 ghost use Rattle.sensitive_receiver.specs.MergedItems.{AreMergedBetween, settled};
 
 use crate::added_bank::AddedBank;
 use crate::merging::merge_block;
 use crate::readings::LANES;
 use frame_merge::{Candidate, Merger};
-use slicer_bank::{Bank, Gate};
+use slicer_bank::{Bank, Gate, Progress};
 use std::alloc::Global;
 use std::marker::Model;
 use std::thread::Threads;
@@ -27,9 +28,7 @@ pub struct SensitiveDecoder {
     bank: Bank,
     added: AddedBank,
     merger: Merger,
-    position: u64,
-    finished: bool,
-    spent: bool,
+    progress: Progress,
 }
 
 impl Model for SensitiveDecoder {
@@ -43,13 +42,13 @@ impl Model for SensitiveDecoder {
       bank = s.bank;
       added = s.added;
       merger = s.merger;
-      position = s.position;
-      finished = s.finished;
-      spent = s.spent;
+      position = s.progress.position;
+      finished = s.progress.finished;
+      spent = s.progress.spent;
     } };
 
-    ghost invariant = { λ s. s.spent ≡ false → s.finished ≡ false → (s.bank.position ≡ s.position)
-        × (s.added.position ≡ s.position) × (s.merger.marks ≡ replicate 23 (settled s.position)) };
+    ghost invariant = { λ s. s.progress.spent ≡ false → s.progress.finished ≡ false → (s.bank.position ≡ s.progress.position)
+        × (s.added.position ≡ s.progress.position) × (s.merger.marks ≡ replicate 23 (settled s.progress.position)) };
 }
 
 impl SensitiveDecoder {
@@ -64,9 +63,7 @@ impl SensitiveDecoder {
             bank: Bank::new(alloc)?,
             added: AddedBank::new(alloc)?,
             merger: Merger::new(alloc, LANES)?,
-            position: 0,
-            finished: false,
-            spent: false,
+            progress: Progress::new(),
         })
     }
 
@@ -76,19 +73,11 @@ impl SensitiveDecoder {
         requires few { length block.now ≤ 2048 }
         requires room { self.old.position + length block.now < 2 ^ 48 }
         requires unfinished { self.old.finished ≡ false }
-        ensures given { IfOk result (λ items. (x : List ℤ) → StandsFor self.old x
-            → StandsFor self.new (x ++ block.now)
+        ensures given { IfOk result (λ items. (x : List ℤ) → StandsFor self.old x → StandsFor self.new (x ++ block.now)
             × AreMergedBetween (settled (length x)) (settled (length (x ++ block.now))) (x ++ block.now) items.items) }
-        ensures position { OnOk result (self.new.position ≡ self.old.position + length block.now) }
-        ensures stays { OnErr result (self.new.position ≡ self.old.position) }
-        ensures unfinished { self.new.finished ≡ false }
-        ensures fails { self.old.spent ≡ true → IsErr result }
-        ensures spent { OnErr result (self.new.spent ≡ true) }
+        ensures progress { TakesBlock (progress self.old) (progress self.new) (length block.now) result }
     {
-        if self.spent {
-            return Err(OutOfMemory);
-        }
-        self.spent = true;
+        self.progress.begin()?;
         let found = self.bank.feed(block)?;
         self.settle(found, block)
     }
@@ -104,19 +93,11 @@ impl SensitiveDecoder {
         requires few { length block.now ≤ 2048 }
         requires room { self.old.position + length block.now < 2 ^ 48 }
         requires unfinished { self.old.finished ≡ false }
-        ensures given { IfOk result (λ items. (x : List ℤ) → StandsFor self.old x
-            → StandsFor self.new (x ++ block.now)
+        ensures given { IfOk result (λ items. (x : List ℤ) → StandsFor self.old x → StandsFor self.new (x ++ block.now)
             × AreMergedBetween (settled (length x)) (settled (length (x ++ block.now))) (x ++ block.now) items.items) }
-        ensures position { OnOk result (self.new.position ≡ self.old.position + length block.now) }
-        ensures stays { OnErr result (self.new.position ≡ self.old.position) }
-        ensures unfinished { self.new.finished ≡ false }
-        ensures fails { self.old.spent ≡ true → IsErr result }
-        ensures spent { OnErr result (self.new.spent ≡ true) }
+        ensures progress { TakesBlock (progress self.old) (progress self.new) (length block.now) result }
     {
-        if self.spent {
-            return Err(OutOfMemory);
-        }
-        self.spent = true;
+        self.progress.begin()?;
         let found = self.bank.feed_threads(rt, block, gate)?;
         self.settle(found, block)
     }
@@ -147,9 +128,14 @@ impl SensitiveDecoder {
         ensures spent { OnErr result (self.new.spent ≡ true) }
     {
         let added = self.added.feed(block)?;
-        let items = merge_block(&mut self.merger, self.position, block.len(), found, added)?;
-        self.position += block.len() as u64;
-        self.spent = false;
+        let items = merge_block(
+            &mut self.merger,
+            self.progress.position,
+            block.len(),
+            found,
+            added,
+        )?;
+        self.progress.take(block.len());
         Ok(items)
     }
 
@@ -157,28 +143,11 @@ impl SensitiveDecoder {
     pub fn finish(&mut self) -> Result<Vec<Candidate>, OutOfMemory>
         ensures rest { IfOk result (λ items. (x : List ℤ) → length x < 2 ^ 48 → StandsFor self.old x
             → AreMergedBetween (settled (length x)) (length x + 1) x items.items) }
-        ensures again { IfOk result (λ items. self.old.finished ≡ true → items.items ≡ []) }
-        ensures finished { OnOk result (self.new.finished ≡ true) }
         ensures nothing_held { OnOk result ((x : List ℤ) → length x < 2 ^ 48 → StandsFor self.old x
             → length self.new.merger.items ≡ 0) }
-        ensures fails { self.old.spent ≡ true → IsErr result }
-        ensures spent { OnErr result (self.new.spent ≡ true) }
+        ensures progress { Finishes (progress self.old) (progress self.new) result }
     {
-        if self.spent {
-            return Err(OutOfMemory);
-        }
-        if self.finished {
-            return Ok(Vec::new(self.alloc));
-        }
-        self.finished = true;
-        self.merger.finish();
-        match self.merger.take_ready() {
-            Ok(items) => Ok(items),
-            Err(refusal) => {
-                self.spent = true;
-                Err(refusal)
-            }
-        }
+        self.progress.finish(self.alloc, &mut self.merger)
     }
 
     /// How many candidates it keeps: at most one of each lane.

@@ -63,24 +63,19 @@ module _ (x y : List ℤ) (old new : HeldBank) (was marked now : HeldMerger) (fo
       )
 
 -- the end of the samples
-module _ (x : List ℤ) (bank : HeldBank) (was marked now : HeldMerger) (rest : List Candidate)
-    (room : length x < 2 ^ 48)
-    (h : HaveTaken bank was x)
-    (puts : (puts given : List Candidate) → MergerStandsFor was puts given → MergerStandsFor marked puts given) where
-  pub gives_rest : ((puts given : List Candidate) → MergerStandsFor marked puts given
-      → given ++ rest ≡ merged (in_order puts))
+module _ (x : List ℤ) (bank : HeldBank) (was : HeldMerger) (room : length x < 2 ^ 48) (h : HaveTaken bank was x) where
+  pub gives_rest : (rest : List Candidate)
+      → ((puts given : List Candidate) → MergerStandsFor was puts given → given ++ rest ≡ merged (in_order puts))
       → AreMergedBetween (length x) (length x + 1) x rest
-  gives_rest last =
-      let given : List Candidate = below (length x) (merged h.candidates) in
-      end_gives x h.candidates rest h.are (last h.candidates given (puts h.candidates given h.so_far)
+  gives_rest rest last =
+      end_gives x h.candidates rest h.are (last h.candidates (below (length x) (merged h.candidates)) h.so_far
       ∙ ap merged (in_order-strictly h.candidates h.are.order))
 
-  pub keeps_nothing : least marked.marks ≡ 2 ^ 64 - 1
-      → ((puts given : List Candidate) → MergerStandsFor marked puts given
-      → now.items ≡ not_below (least marked.marks - 15) (in_order puts))
-      → now.items ≡ []
-  keeps_nothing far keeps =
-      let given : List Candidate = below (length x) (merged h.candidates) in
-      keeps h.candidates given (puts h.candidates given h.so_far)
-      ∙ ap (not_below (least marked.marks - 15)) (in_order-strictly h.candidates h.are.order)
-      ∙ nothing_kept (least marked.marks - 15) x h.candidates (omega arith) h.are
+  pub keeps_nothing : (items : List Candidate)
+      → ((puts given : List Candidate) → MergerStandsFor was puts given
+      → items ≡ not_below (2 ^ 64 - 16) (in_order puts))
+      → items ≡ []
+  keeps_nothing items keeps =
+      keeps h.candidates (below (length x) (merged h.candidates)) h.so_far
+      ∙ ap (not_below (2 ^ 64 - 16)) (in_order-strictly h.candidates h.are.order)
+      ∙ nothing_kept (2 ^ 64 - 16) x h.candidates (omega arith) h.are

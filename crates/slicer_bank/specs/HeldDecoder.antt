@@ -3,6 +3,7 @@ use Rattle.std.specs.Prelude.{◌≡◌, ℕ, ◌-◌, ℤ, List, length, Bool, 
 use Rattle.frame_merge.specs.declared.candidate.Candidate.{Candidate}
 use Rattle.frame_merge.specs.Held.{Held as HeldMerger, StandsFor as MergerStandsFor}
 use Rattle.frame_merge.specs.Merged.{merged, below, not_below}
+use Rattle.slicer_bank.specs.declared.progress.Progress.{Progress}
 use Rattle.slicer_bank.specs.Candidates.{AreCandidates}
 use Rattle.slicer_bank.specs.Held.{HeldBank, StandsFor as BankStandsFor}
 
@@ -12,6 +13,10 @@ pub record HeldDecoder : Type 0 where
   pub position : ℕ
   pub finished : Bool
   pub spent : Bool
+
+-- how far it has come
+abbrev pub progress : HeldDecoder → Progress
+progress held = record { position = held.position; finished = held.finished; spent = held.spent }
 
 -- the bank has taken these samples, and the merger their candidates, of which it has given those that end below their
 -- number

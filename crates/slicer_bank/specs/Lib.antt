@@ -5,6 +5,7 @@ pub mod Busy
 pub mod Merging
 pub mod Heard
 pub mod MergedItems
+pub mod Progress
 pub mod HeldDecoder
 pub mod Stretches
 pub mod HeardOnRing

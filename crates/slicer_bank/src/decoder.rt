@@ -1,16 +1,18 @@
 //! The decoder: samples in blocks in, each frame that is heard in them once and in order out.
 
-ghost use Rattle.std.specs.Prelude.{◌≡◌, ◌+◌, ◌<◌, ◌≤◌, ◌^◌, ℤ, List, [], ◌++◌, length, replicate, true, false, IfOk, OnOk, OnErr, IsErr};
+ghost use Rattle.std.specs.Prelude.{◌≡◌, ◌+◌, ◌<◌, ◌≤◌, ◌^◌, ℤ, List, [], ◌++◌, length, replicate, true, false, IfOk, OnOk, OnErr};
 ghost use Rattle.std.specs.List.{All};
 ghost use Rattle.slicer_bank.specs.Candidates.{AreCandidatesBehind};
 ghost use Rattle.slicer_bank.specs.Held.{HeldBank, StandsFor as BankStandsFor};
-ghost use Rattle.slicer_bank.specs.HeldDecoder.{HaveTaken, StandsFor};
+ghost use Rattle.slicer_bank.specs.HeldDecoder.{HaveTaken, StandsFor, progress};
 ghost use Rattle.slicer_bank.specs.Merging.{CanBePut};
 ghost use Rattle.slicer_bank.specs.MergedItems.{AreMergedBetween};
+ghost use Rattle.slicer_bank.specs.Progress.{Finishes, TakesBlock};
 
 use crate::bank::Bank;
 use crate::gate::Gate;
 use crate::merging::{OFFSETS, merge_block};
+use crate::progress::Progress;
 use frame_merge::{Candidate, Merger};
 use std::alloc::Global;
 use std::marker::Model;
@@ -24,9 +26,7 @@ pub struct Decoder {
     alloc: Global,
     bank: Bank,
     merger: Merger,
-    position: u64,
-    finished: bool,
-    spent: bool,
+    progress: Progress,
 }
 
 impl Model for Decoder {
@@ -35,9 +35,10 @@ impl Model for Decoder {
 
     ghost Value = { HeldDecoder };
 
-    ghost view = { λ s. record { bank = s.bank; merger = s.merger; position = s.position; finished = s.finished; spent = s.spent } };
+    ghost view = { λ s. record { bank = s.bank; merger = s.merger; position = s.progress.position; finished = s.progress.finished; spent = s.progress.spent } };
 
-    ghost invariant = { λ s. s.spent ≡ false → s.finished ≡ false → (s.bank.position ≡ s.position) × (s.merger.marks ≡ replicate 8 s.position) };
+    ghost invariant = { λ s. s.progress.spent ≡ false → s.progress.finished ≡ false
+        → (s.bank.position ≡ s.progress.position) × (s.merger.marks ≡ replicate 8 s.progress.position) };
 }
 
 impl Decoder {
@@ -51,9 +52,7 @@ impl Decoder {
             alloc,
             bank: Bank::new(alloc)?,
             merger: Merger::new(alloc, OFFSETS)?,
-            position: 0,
-            finished: false,
-            spent: false,
+            progress: Progress::new(),
         })
     }
 
@@ -62,19 +61,11 @@ impl Decoder {
         requires few { length block.now ≤ 2048 }
         requires room { self.old.position + length block.now < 2 ^ 48 }
         requires unfinished { self.old.finished ≡ false }
-        ensures given { IfOk result (λ items. (x : List ℤ) → StandsFor self.old x
-            → StandsFor self.new (x ++ block.now)
+        ensures given { IfOk result (λ items. (x : List ℤ) → StandsFor self.old x → StandsFor self.new (x ++ block.now)
             × AreMergedBetween (length x) (length (x ++ block.now)) (x ++ block.now) items.items) }
-        ensures position { OnOk result (self.new.position ≡ self.old.position + length block.now) }
-        ensures stays { OnErr result (self.new.position ≡ self.old.position) }
-        ensures unfinished { self.new.finished ≡ false }
-        ensures fails { self.old.spent ≡ true → IsErr result }
-        ensures spent { OnErr result (self.new.spent ≡ true) }
+        ensures progress { TakesBlock (progress self.old) (progress self.new) (length block.now) result }
     {
-        if self.spent {
-            return Err(OutOfMemory);
-        }
-        self.spent = true;
+        self.progress.begin()?;
         let found = self.bank.feed(block)?;
         self.settle(found, block.len())
     }
@@ -89,19 +80,11 @@ impl Decoder {
         requires few { length block.now ≤ 2048 }
         requires room { self.old.position + length block.now < 2 ^ 48 }
         requires unfinished { self.old.finished ≡ false }
-        ensures given { IfOk result (λ items. (x : List ℤ) → StandsFor self.old x
-            → StandsFor self.new (x ++ block.now)
+        ensures given { IfOk result (λ items. (x : List ℤ) → StandsFor self.old x → StandsFor self.new (x ++ block.now)
             × AreMergedBetween (length x) (length (x ++ block.now)) (x ++ block.now) items.items) }
-        ensures position { OnOk result (self.new.position ≡ self.old.position + length block.now) }
-        ensures stays { OnErr result (self.new.position ≡ self.old.position) }
-        ensures unfinished { self.new.finished ≡ false }
-        ensures fails { self.old.spent ≡ true → IsErr result }
-        ensures spent { OnErr result (self.new.spent ≡ true) }
+        ensures progress { TakesBlock (progress self.old) (progress self.new) (length block.now) result }
     {
-        if self.spent {
-            return Err(OutOfMemory);
-        }
-        self.spent = true;
+        self.progress.begin()?;
         let found = self.bank.feed_threads(rt, block, gate)?;
         self.settle(found, block.len())
     }
@@ -124,9 +107,8 @@ impl Decoder {
         ensures finished { self.new.finished ≡ self.old.finished }
         ensures spent { OnErr result (self.new.spent ≡ true) }
     {
-        let items = merge_block(&mut self.merger, self.position, count, found)?;
-        self.position += count as u64;
-        self.spent = false;
+        let items = merge_block(&mut self.merger, self.progress.position, count, found)?;
+        self.progress.take(count);
         Ok(items)
     }
 
@@ -134,27 +116,10 @@ impl Decoder {
     pub fn finish(&mut self) -> Result<Vec<Candidate>, OutOfMemory>
         ensures rest { IfOk result (λ items. (x : List ℤ) → length x < 2 ^ 48 → StandsFor self.old x
             → AreMergedBetween (length x) (length x + 1) x items.items) }
-        ensures again { IfOk result (λ items. self.old.finished ≡ true → items.items ≡ []) }
-        ensures finished { OnOk result (self.new.finished ≡ true) }
         ensures nothing_held { OnOk result ((x : List ℤ) → length x < 2 ^ 48 → StandsFor self.old x → length self.new.merger.items ≡ 0) }
-        ensures fails { self.old.spent ≡ true → IsErr result }
-        ensures spent { OnErr result (self.new.spent ≡ true) }
+        ensures progress { Finishes (progress self.old) (progress self.new) result }
     {
-        if self.spent {
-            return Err(OutOfMemory);
-        }
-        if self.finished {
-            return Ok(Vec::new(self.alloc));
-        }
-        self.finished = true;
-        self.merger.finish();
-        match self.merger.take_ready() {
-            Ok(items) => Ok(items),
-            Err(refusal) => {
-                self.spent = true;
-                Err(refusal)
-            }
-        }
+        self.progress.finish(self.alloc, &mut self.merger)
     }
 
     /// How many candidates it keeps: at most one of each lane.

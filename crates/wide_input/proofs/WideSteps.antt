@@ -1,5 +1,5 @@
 -- A wide bank with a block more, and at its end.
-use Rattle.std.proofs.Common.{◌≡◌, ℕ, zero, suc, ◌+◌, ◌-◌, ◌/◌, ◌^◌, ◌<◌, ◌≤◌, ℤ, Some, List, [], ◌∷◌, ◌++◌, length}
+use Rattle.std.proofs.Common.{◌≡◌, ℕ, ◌+◌, ◌/◌, ◌^◌, ◌<◌, ◌≤◌, ℤ, List, [], ◌++◌, length}
 use Rattle.std.proofs.Common.{get_or, map, replicate, refl, ap, sym, subst, ◌∙◌, arith, zero-add, length-append}
 use Rattle.std.specs.Prelude.{fold}
 use Rattle.std.specs.List.{All}
@@ -165,15 +165,13 @@ module _ (x y : List ℤ) (before mid : List HeldStream) (was : HeldMerger) (siz
 
 -- ---- the end
 
-pub gives_rest : (x : List ℤ) (streams : List HeldStream) (was marked : HeldMerger) (ready : List Candidate)
+pub gives_rest : (x : List ℤ) (streams : List HeldStream) (was : HeldMerger) (ready : List Candidate)
     → HaveTaken streams was x
-    → ((puts given : List Candidate) → MergerStandsFor was puts given → MergerStandsFor marked puts given)
-    → ((puts given : List Candidate) → MergerStandsFor marked puts given → given ++ ready ≡ merged (in_order puts))
+    → ((puts given : List Candidate) → MergerStandsFor was puts given → given ++ ready ≡ merged (in_order puts))
     → AreWideRest (least_count x) x ready
-gives_rest x streams was marked ready h marks takes =
+gives_rest x streams was ready h last =
     let zs : List Candidate = merged h.candidates in
-    let total : below (least_count x) zs ++ ready ≡ zs =
-    takes h.puts (below (least_count x) zs) (marks h.puts (below (least_count x) zs) h.so_far)
+    let total : below (least_count x) zs ++ ready ≡ zs = last h.puts (below (least_count x) zs) h.so_far
     ∙ ap merged h.order in
     record {
       candidates = h.candidates;

@@ -6,6 +6,7 @@ use Rattle.frame_merge.specs.declared.candidate.Candidate.{Candidate}
 use Rattle.frame_merge.specs.Held.{Held as HeldMerger, StandsFor as MergerStandsFor}
 use Rattle.frame_merge.specs.Merged.{merged, below}
 use Rattle.frame_merge.specs.Order.{in_order}
+use Rattle.slicer_bank.specs.declared.progress.Progress.{Progress}
 use Rattle.slicer_bank.specs.Candidates.{AreCandidatesBehind}
 use Rattle.slicer_bank.specs.Held.{HeldBank, StandsFor as BankStandsFor}
 use Rattle.slicer_bank.specs.Merging.{CanBePut}
@@ -73,6 +74,10 @@ pub record HeldWide : Type 0 where
   pub position : ℕ
   pub finished : Bool
   pub spent : Bool
+
+-- how far it has come
+abbrev pub progress : HeldWide → Progress
+progress held = record { position = held.position; finished = held.finished; spent = held.spent }
 
 -- the streams have taken these samples, and the merger all that they heard, of which it has given what ends below the
 -- least count

@@ -1,15 +1,16 @@
 //! The wide bank: samples at 48,000 a second in blocks in, each frame that is heard in them once and in order out.
 
-ghost use Rattle.std.specs.Prelude.{◌≡◌, ◌+◌, ◌<◌, ◌≤◌, ◌^◌, ◌/◌, ℕ, ℤ, List, [], ◌++◌, length, replicate, true, false, IfOk, OnOk, OnErr, IsErr, slice_index_or};
+ghost use Rattle.std.specs.Prelude.{◌≡◌, ◌+◌, ◌<◌, ◌≤◌, ◌^◌, ◌/◌, ℕ, ℤ, List, [], ◌++◌, length, replicate, true, false, IfOk, OnOk, OnErr, slice_index_or};
 ghost use Rattle.std.specs.List.{All};
+ghost use Rattle.slicer_bank.specs.Progress.{Finishes, TakesBlock};
 ghost use Rattle.wide_input.specs.Streams.{least_count};
 ghost use Rattle.wide_input.specs.MergedItems.{AreWideMergedBetween, AreWideRest};
-ghost use Rattle.wide_input.specs.Held.{HeldStream, HearsBlock, KeepsFit, HaveTaken, StandsFor};
+ghost use Rattle.wide_input.specs.Held.{HeldStream, HearsBlock, KeepsFit, HaveTaken, StandsFor, progress};
 
 use crate::stream::{STREAMS, Stream};
 use crate::streams::{LANES, hear_in_turn, hear_on_threads, merge_found, new_streams};
 use frame_merge::{Candidate, Merger};
-use slicer_bank::Gate;
+use slicer_bank::{Gate, Progress};
 use std::alloc::Global;
 use std::marker::Model;
 use std::thread::Threads;
@@ -26,9 +27,7 @@ pub struct WideBank {
     alloc: Global,
     streams: Vec<Stream>,
     merger: Merger,
-    position: u64,
-    finished: bool,
-    spent: bool,
+    progress: Progress,
 }
 
 impl Model for WideBank {
@@ -37,11 +36,12 @@ impl Model for WideBank {
 
     ghost Value = { HeldWide };
 
-    ghost view = { λ s. record { streams = s.streams.items; merger = s.merger; position = s.position; finished = s.finished; spent = s.spent } };
+    ghost view = { λ s. record { streams = s.streams.items; merger = s.merger; position = s.progress.position; finished = s.progress.finished; spent = s.progress.spent } };
 
     ghost invariant = { λ s. (length s.streams.items ≡ 5)
-        × (s.spent ≡ false → s.finished ≡ false
-        → All (λ held. held.bank.position ≤ s.position) s.streams.items × (s.merger.marks ≡ replicate 40 (s.position / 5))) };
+        × (s.progress.spent ≡ false → s.progress.finished ≡ false
+        → All (λ held. held.bank.position ≤ s.progress.position) s.streams.items
+        × (s.merger.marks ≡ replicate 40 (s.progress.position / 5))) };
 }
 
 impl WideBank {
@@ -55,9 +55,7 @@ impl WideBank {
             alloc,
             streams: new_streams(alloc)?,
             merger: Merger::new(alloc, LANES)?,
-            position: 0,
-            finished: false,
-            spent: false,
+            progress: Progress::new(),
         })
     }
 
@@ -67,20 +65,12 @@ impl WideBank {
         requires few { length block.now ≤ 2048 }
         requires room { self.old.position + length block.now < 2 ^ 48 }
         requires unfinished { self.old.finished ≡ false }
-        ensures given { IfOk result (λ items. (x : List ℤ) → StandsFor self.old x
-            → StandsFor self.new (x ++ block.now)
+        ensures given { IfOk result (λ items. (x : List ℤ) → StandsFor self.old x → StandsFor self.new (x ++ block.now)
             × AreWideMergedBetween (least_count x) (least_count (x ++ block.now)) (x ++ block.now) items.items) }
-        ensures position { OnOk result (self.new.position ≡ self.old.position + length block.now) }
-        ensures stays { OnErr result (self.new.position ≡ self.old.position) }
-        ensures unfinished { self.new.finished ≡ false }
-        ensures fails { self.old.spent ≡ true → IsErr result }
-        ensures spent { OnErr result (self.new.spent ≡ true) }
+        ensures progress { TakesBlock (progress self.old) (progress self.new) (length block.now) result }
     {
-        if self.spent {
-            return Err(OutOfMemory);
-        }
-        self.spent = true;
-        hear_in_turn(&mut self.streams, self.position, block);
+        self.progress.begin()?;
+        hear_in_turn(&mut self.streams, self.progress.position, block);
         self.settle(block.len())
     }
 
@@ -95,20 +85,12 @@ impl WideBank {
         requires few { length block.now ≤ 2048 }
         requires room { self.old.position + length block.now < 2 ^ 48 }
         requires unfinished { self.old.finished ≡ false }
-        ensures given { IfOk result (λ items. (x : List ℤ) → StandsFor self.old x
-            → StandsFor self.new (x ++ block.now)
+        ensures given { IfOk result (λ items. (x : List ℤ) → StandsFor self.old x → StandsFor self.new (x ++ block.now)
             × AreWideMergedBetween (least_count x) (least_count (x ++ block.now)) (x ++ block.now) items.items) }
-        ensures position { OnOk result (self.new.position ≡ self.old.position + length block.now) }
-        ensures stays { OnErr result (self.new.position ≡ self.old.position) }
-        ensures unfinished { self.new.finished ≡ false }
-        ensures fails { self.old.spent ≡ true → IsErr result }
-        ensures spent { OnErr result (self.new.spent ≡ true) }
+        ensures progress { TakesBlock (progress self.old) (progress self.new) (length block.now) result }
     {
-        if self.spent {
-            return Err(OutOfMemory);
-        }
-        self.spent = true;
-        hear_on_threads(rt, &mut self.streams, self.position, block, gate);
+        self.progress.begin()?;
+        hear_on_threads(rt, &mut self.streams, self.progress.position, block, gate);
         self.settle(block.len())
     }
 
@@ -131,35 +113,17 @@ impl WideBank {
         ensures finished { self.new.finished ≡ self.old.finished }
         ensures spent { OnErr result (self.new.spent ≡ true) }
     {
-        let position = self.position + count as u64;
+        let position = self.progress.position + count as u64;
         let items = merge_found(&mut self.streams, &mut self.merger, position)?;
-        self.position = position;
-        self.spent = false;
+        self.progress.take(count);
         Ok(items)
     }
 
     /// Gives the rest of the items: the samples have ended.
     pub fn finish(&mut self) -> Result<Vec<Candidate>, OutOfMemory>
         ensures rest { IfOk result (λ items. (x : List ℤ) → StandsFor self.old x → AreWideRest (least_count x) x items.items) }
-        ensures again { IfOk result (λ items. self.old.finished ≡ true → items.items ≡ []) }
-        ensures finished { OnOk result (self.new.finished ≡ true) }
-        ensures fails { self.old.spent ≡ true → IsErr result }
-        ensures spent { OnErr result (self.new.spent ≡ true) }
+        ensures progress { Finishes (progress self.old) (progress self.new) result }
     {
-        if self.spent {
-            return Err(OutOfMemory);
-        }
-        if self.finished {
-            return Ok(Vec::new(self.alloc));
-        }
-        self.finished = true;
-        self.merger.finish();
-        match self.merger.take_ready() {
-            Ok(items) => Ok(items),
-            Err(refusal) => {
-                self.spent = true;
-                Err(refusal)
-            }
-        }
+        self.progress.finish(self.alloc, &mut self.merger)
     }
 }

@@ -1,13 +1,30 @@
-use Rattle.std.proofs.Common.{◌+◌, ◌/◌, ◌<◌, ◌^◌, ℤ, List, length, subst}
+use Rattle.std.proofs.Common.{◌≡◌, ◌+◌, ◌/◌, ◌<◌, ◌^◌, ◌++◌, ℤ, List, length, subst, false}
+use Rattle.std.specs.Prelude.{IfOk}
+use Rattle.std.proofs.lemmas.Result.{IfOk-weaker}
+use Rattle.frame_merge.specs.declared.candidate.Candidate.{Candidate}
+use Rattle.frame_merge.specs.Held.{StandsFor as MergerStandsFor}
+use Rattle.frame_merge.specs.Merged.{merged}
+use Rattle.frame_merge.specs.Order.{in_order}
 use Rattle.hf_modem.specs.HeldDecoder.{HeldDecoder, StandsFor}
 use Rattle.hf_modem.specs.MergedItems.{AreMergedBetween}
 use Rattle.hf_modem.proofs.HearingLemmas.{gives_rest}
 use Rattle.hf_modem.proofs.decoder.HfDecoder.finish.Goals as goal
 
-pub returns-in-Ok-clause-rest : goal.returns-in-Ok-clause-rest
-returns-in-Ok-clause-rest c =
-    let P : HeldDecoder → Type 0 = λ old. (x : List ℤ) → length x < 2 ^ 48 → StandsFor old x
-    → AreMergedBetween (length x / 4) (length x / 4 + 1) x c.in-Ok.items.items in
-    subst P c.self.view_is (λ x room h.
-    gives_rest x c.self.inside.bank c.self.inside.merger c.finish.new.self c.in-Ok.items.items h.taken
-    c.finish.ensures.stands_for (c.in-Ok.ensures.last c.finish.ensures.least))
+pub returns-clause-rest : goal.returns-clause-rest
+returns-clause-rest c =
+    let was = c.self.inside in
+    let P : HeldDecoder → Type 0 = λ old. IfOk c.finish.result (λ items. (x : List ℤ) → length x < 2 ^ 48 → StandsFor old x
+    → AreMergedBetween (length x / 4) (length x / 4 + 1) x items.items) in
+    subst P c.self.view_is (IfOk-weaker c.finish.result
+    (λ items. was.progress.finished ≡ false → (puts given : List Candidate) → MergerStandsFor was.merger puts given
+    → given ++ items.items ≡ merged (in_order puts))
+    (λ items. (x : List ℤ) → length x < 2 ^ 48 → StandsFor (record {
+      bank = was.bank;
+      merger = was.merger;
+      position = was.progress.position;
+      finished = was.progress.finished;
+      spent = was.progress.spent;
+    }) x
+    → AreMergedBetween (length x / 4) (length x / 4 + 1) x items.items)
+    (λ items last x room h. gives_rest x was.bank was.merger items.items h.taken (last h.finished))
+    c.finish.ensures.rest)

@@ -1,4 +1,4 @@
-use Rattle.std.proofs.Common.{◌≡◌, ℤ, List, ◌++◌, sym, subst, length, false}
+use Rattle.std.proofs.Common.{◌≡◌, ◌∙◌, ℤ, List, ◌++◌, sym, subst, length, false}
 use Rattle.std.specs.Prelude.{IfOk}
 use Rattle.std.proofs.lemmas.Result.{IfOk-weaker}
 use Rattle.slicer_bank.specs.Candidates.{AreCandidatesBehind}
@@ -14,15 +14,15 @@ returns-clause-given c =
       bank = c.self.inside.bank;
       added = c.self.inside.added;
       merger = c.self.inside.merger;
-      position = c.self.inside.position;
-      finished = c.self.inside.finished;
-      spent = c.self.inside.spent;
+      position = c.self.inside.progress.position;
+      finished = c.self.inside.progress.finished;
+      spent = c.self.inside.progress.spent;
     } in
     let P : HeldDecoder → Type 0 = λ old. IfOk c.settle.result (λ items. (x : List ℤ) → StandsFor old x
     → StandsFor c.settle.new.self (x ++ block) × AreMergedBetween (settled (length x)) (settled (length (x ++ block)))
     (x ++ block) items.items) in
     subst P c.self.view_is (IfOk-weaker c.settle.result
-    (λ items. (before : HeldBank) (x : List ℤ) → c.self.inside.finished ≡ false → length x ≡ c.self.inside.position
+    (λ items. (before : HeldBank) (x : List ℤ) → c.begin.new.self.finished ≡ false → length x ≡ c.begin.new.self.position
     → (BankStandsFor before x → BankStandsFor c.feed.new.self (x ++ block) × AreCandidatesBehind (length x)
     (x ++ block) c.in_ok-found.found.items)
     → HaveTaken before c.self.inside.added c.self.inside.merger x
@@ -31,5 +31,6 @@ returns-clause-given c =
     (λ items. (x : List ℤ) → StandsFor was x
     → StandsFor c.settle.new.self (x ++ block) × AreMergedBetween (settled (length x)) (settled (length (x ++ block)))
     (x ++ block) items.items)
-    (λ items given x h. given c.self.inside.bank x h.finished (sym h.count) (c.in_ok-found.ensures.found x) h.taken)
+    (λ items given x h. given c.self.inside.bank x (c.begin.ensures.finished ∙ h.finished)
+    (sym (c.begin.ensures.position ∙ h.count)) (c.in_ok-found.ensures.found x) h.taken)
     c.settle.ensures.given)

@@ -12,9 +12,9 @@ returns-clause-given c =
       bank = c.self.inside.bank;
       added = c.feed.new.self;
       merger = c.merge_block.new.merger;
-      position = c.self.inside.position + length block;
-      finished = c.self.inside.finished;
-      spent = false;
+      position = c.take.new.self.position;
+      finished = c.take.new.self.finished;
+      spent = c.take.new.self.spent;
     } in
     let P : HeldDecoder → Type 0 = λ old. (before : HeldBank) (x : List ℤ) → old.finished ≡ false
     → length x ≡ old.position
@@ -27,9 +27,9 @@ returns-clause-given c =
     let taken = c.in_ok-items.ensures.given before c.self.inside.bank c.self.inside.added c.feed.new.self x block size
     refl heard (c.in_ok-added.ensures.found x) h in (
       record {
-        spent = refl;
-        finished = unfinished;
-        count = sym (length-append x block ∙ ap (λ n. n + length block) size);
+        spent = c.take.ensures.spent;
+        finished = c.take.ensures.finished ∙ unfinished;
+        count = c.take.ensures.position ∙ sym (length-append x block ∙ ap (λ n. n + length block) size);
         taken = taken.0;
       },
       taken.1,

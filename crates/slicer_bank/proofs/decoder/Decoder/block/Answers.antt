@@ -1,4 +1,4 @@
-use Rattle.std.proofs.Common.{◌≡◌, ℤ, List, ◌++◌, sym, subst, refl, length, false}
+use Rattle.std.proofs.Common.{◌≡◌, ◌∙◌, ℤ, List, ◌++◌, sym, subst, refl, length, false}
 use Rattle.std.specs.Prelude.{IfOk}
 use Rattle.std.proofs.lemmas.Result.{IfOk-weaker}
 use Rattle.slicer_bank.specs.Candidates.{AreCandidatesBehind}
@@ -13,8 +13,8 @@ returns-clause-given c =
     → StandsFor c.settle.new.self (x ++ c.args.block.now)
     × AreMergedBetween (length x) (length (x ++ c.args.block.now)) (x ++ c.args.block.now) items.items) in
     subst P c.self.view_is (IfOk-weaker c.settle.result
-    (λ items. (before : HeldBank) (x y : List ℤ) → c.self.inside.finished ≡ false → length x ≡ c.self.inside.position
-    → length y ≡ length c.args.block.now
+    (λ items. (before : HeldBank) (x y : List ℤ) → c.begin.new.self.finished ≡ false
+    → length x ≡ c.begin.new.self.position → length y ≡ length c.args.block.now
     → (BankStandsFor before x → BankStandsFor c.feed.new.self (x ++ y)
     × AreCandidatesBehind (length x) (x ++ y) c.in_ok-found.found.items)
     → HaveTaken before c.self.inside.merger x
@@ -22,12 +22,12 @@ returns-clause-given c =
     (λ items. (x : List ℤ) → StandsFor (record {
       bank = c.self.inside.bank;
       merger = c.self.inside.merger;
-      position = c.self.inside.position;
-      finished = c.self.inside.finished;
-      spent = c.self.inside.spent;
+      position = c.self.inside.progress.position;
+      finished = c.self.inside.progress.finished;
+      spent = c.self.inside.progress.spent;
     }) x
     → StandsFor c.settle.new.self (x ++ c.args.block.now)
     × AreMergedBetween (length x) (length (x ++ c.args.block.now)) (x ++ c.args.block.now) items.items)
-    (λ items given x h. given c.self.inside.bank x c.args.block.now h.finished (sym h.count) refl
-    (c.in_ok-found.ensures.found x) h.taken)
+    (λ items given x h. given c.self.inside.bank x c.args.block.now (c.begin.ensures.finished ∙ h.finished)
+    (sym (c.begin.ensures.position ∙ h.count)) refl (c.in_ok-found.ensures.found x) h.taken)
     c.settle.ensures.given)

@@ -1,21 +1,40 @@
-use Rattle.std.proofs.Common.{◌≡◌, ◌+◌, ◌<◌, ◌^◌, ℤ, List, ap, length, subst}
+use Rattle.std.proofs.Common.{◌≡◌, ◌+◌, ◌<◌, ◌^◌, ◌++◌, ℤ, List, ap, length, subst, false}
+use Rattle.std.specs.Prelude.{IfOk, OnOk}
+use Rattle.std.proofs.lemmas.Result.{IfOk-weaker, on_ok_weaker}
+use Rattle.frame_merge.specs.declared.candidate.Candidate.{Candidate}
+use Rattle.frame_merge.specs.Held.{StandsFor as MergerStandsFor}
+use Rattle.frame_merge.specs.Merged.{merged}
+use Rattle.frame_merge.specs.Order.{in_order}
 use Rattle.slicer_bank.specs.HeldDecoder.{HeldDecoder, StandsFor}
 use Rattle.slicer_bank.specs.MergedItems.{AreMergedBetween}
 use Rattle.slicer_bank.proofs.DecoderLemmas.{gives_rest, keeps_nothing}
 use Rattle.slicer_bank.proofs.decoder.Decoder.finish.Goals as goal
 
-pub returns-in-Ok-clause-rest : goal.returns-in-Ok-clause-rest
-returns-in-Ok-clause-rest c =
-    let P : HeldDecoder → Type 0 = λ old. (x : List ℤ) → length x < 2 ^ 48 → StandsFor old x
-    → AreMergedBetween (length x) (length x + 1) x c.in-Ok.items.items in
-    subst P c.self.view_is (λ x room h.
-    gives_rest x c.self.inside.bank c.self.inside.merger c.finish.new.self c.take_ready.new.self c.in-Ok.items.items
-    room h.taken c.finish.ensures.stands_for (c.in-Ok.ensures.last c.finish.ensures.least))
+pub returns-clause-rest : goal.returns-clause-rest
+returns-clause-rest c =
+    let was = c.self.inside in
+    let P : HeldDecoder → Type 0 = λ old. IfOk c.finish.result (λ items. (x : List ℤ) → length x < 2 ^ 48
+    → StandsFor old x → AreMergedBetween (length x) (length x + 1) x items.items) in
+    subst P c.self.view_is (IfOk-weaker c.finish.result
+    (λ items. was.progress.finished ≡ false → (puts given : List Candidate) → MergerStandsFor was.merger puts given
+    → given ++ items.items ≡ merged (in_order puts))
+    (λ items. (x : List ℤ) → length x < 2 ^ 48 → StandsFor (record {
+      bank = was.bank;
+      merger = was.merger;
+      position = was.progress.position;
+      finished = was.progress.finished;
+      spent = was.progress.spent;
+    }) x
+    → AreMergedBetween (length x) (length x + 1) x items.items)
+    (λ items last x room h. gives_rest x was.bank was.merger room h.taken items.items (last h.finished))
+    c.finish.ensures.rest)
 
-pub returns-in-Ok-clause-nothing_held : goal.returns-in-Ok-clause-nothing_held
-returns-in-Ok-clause-nothing_held c =
-    let P : HeldDecoder → Type 0 = λ old. (x : List ℤ) → length x < 2 ^ 48 → StandsFor old x
-    → length c.take_ready.new.self.items ≡ 0 in
-    subst P c.self.view_is (λ x room h.
-    ap length (keeps_nothing x c.self.inside.bank c.self.inside.merger c.finish.new.self c.take_ready.new.self
-    c.in-Ok.items.items room h.taken c.finish.ensures.stands_for c.finish.ensures.least c.in-Ok.ensures.kept))
+pub returns-clause-nothing_held : goal.returns-clause-nothing_held
+returns-clause-nothing_held c =
+    let was = c.self.inside in
+    let P : HeldDecoder → Type 0 = λ old. OnOk c.finish.result ((x : List ℤ) → length x < 2 ^ 48 → StandsFor old x
+    → length c.finish.new.merger.items ≡ 0) in
+    subst P c.self.view_is (on_ok_weaker c.finish.result
+    (λ kept x room h. ap length (keeps_nothing x was.bank was.merger room h.taken c.finish.new.merger.items
+    (kept h.finished)))
+    c.finish.ensures.kept)

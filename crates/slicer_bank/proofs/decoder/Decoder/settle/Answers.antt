@@ -1,4 +1,4 @@
-use Rattle.std.proofs.Common.{◌≡◌, ◌+◌, ◌∙◌, ap, sym, subst, refl, length, length-append, ◌++◌, ℤ, List, false}
+use Rattle.std.proofs.Common.{◌≡◌, ◌+◌, ◌∙◌, ap, sym, subst, length, length-append, ◌++◌, ℤ, List, false}
 use Rattle.slicer_bank.specs.Candidates.{AreCandidatesBehind}
 use Rattle.slicer_bank.specs.Held.{HeldBank, StandsFor as BankStandsFor}
 use Rattle.slicer_bank.specs.HeldDecoder.{HeldDecoder, HaveTaken, StandsFor}
@@ -10,9 +10,9 @@ returns-clause-given c =
     let now : HeldDecoder = record {
       bank = c.self.inside.bank;
       merger = c.merge_block.new.merger;
-      position = c.self.inside.position + c.args.count;
-      finished = c.self.inside.finished;
-      spent = false;
+      position = c.take.new.self.position;
+      finished = c.take.new.self.finished;
+      spent = c.take.new.self.spent;
     } in
     let P : HeldDecoder → Type 0 = λ old. (before : HeldBank) (x y : List ℤ) → old.finished ≡ false
     → length x ≡ old.position → length y ≡ c.args.count
@@ -23,9 +23,10 @@ returns-clause-given c =
     subst P c.self.view_is (λ before x y unfinished size more heard h.
     let taken = c.in_ok-items.ensures.given before c.self.inside.bank x y size more heard h in (
       record {
-        spent = refl;
-        finished = unfinished;
-        count = sym (length-append x y ∙ ap (λ n. n + length y) size ∙ ap (λ n. c.self.inside.position + n) more);
+        spent = c.take.ensures.spent;
+        finished = c.take.ensures.finished ∙ unfinished;
+        count = c.take.ensures.position
+            ∙ sym (length-append x y ∙ ap (λ n. n + length y) size ∙ ap (λ n. c.self.inside.progress.position + n) more);
         taken = taken.0;
       },
       taken.1,

@@ -25,16 +25,16 @@ returns-clause-given c =
     = record {
       streams = old;
       merger = c.self.inside.merger;
-      position = c.self.inside.position;
-      finished = c.self.inside.finished;
-      spent = c.self.inside.spent;
+      position = c.self.inside.progress.position;
+      finished = c.self.inside.progress.finished;
+      spent = c.self.inside.progress.spent;
     } in
     let P : HeldWide → Type 0 = λ held. IfOk c.settle.result (λ items. (x : List ℤ) → StandsFor held x
     → StandsFor c.settle.new.self (x ++ block) × AreWideMergedBetween (least_count x) (least_count (x ++ block))
     (x ++ block) items.items) in
     subst P c.self.view_is (IfOk-weaker c.settle.result
-    (λ items. (before : List HeldStream) (x y : List ℤ) → c.self.inside.finished ≡ false
-    → length x ≡ c.self.inside.position → length y ≡ length block
+    (λ items. (before : List HeldStream) (x y : List ℤ) → c.begin.new.self.finished ≡ false
+    → length x ≡ c.begin.new.self.position → length y ≡ length block
     → ((number : ℕ) (d : HeldStream) → number < 5 → HearsBlock y (get_or before number d) (get_or lent number d))
     → HaveTaken before c.self.inside.merger x
     → StandsFor c.settle.new.self (x ++ y) × AreWideMergedBetween (least_count x) (least_count (x ++ y)) (x ++ y)
@@ -42,5 +42,6 @@ returns-clause-given c =
     (λ items. (x : List ℤ) → StandsFor was x
     → StandsFor c.settle.new.self (x ++ block) × AreWideMergedBetween (least_count x) (least_count (x ++ block))
     (x ++ block) items.items)
-    (λ items given x h. given old x block h.finished (sym h.count) refl each h.taken)
+    (λ items given x h. given old x block (c.begin.ensures.finished ∙ h.finished)
+    (sym (c.begin.ensures.position ∙ h.count)) refl each h.taken)
     c.settle.ensures.given)

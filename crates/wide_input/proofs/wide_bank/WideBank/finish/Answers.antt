@@ -1,14 +1,31 @@
-use Rattle.std.proofs.Common.{ℤ, List, subst}
+use Rattle.std.proofs.Common.{◌≡◌, ◌++◌, ℤ, List, subst, false}
+use Rattle.std.specs.Prelude.{IfOk}
+use Rattle.std.proofs.lemmas.Result.{IfOk-weaker}
+use Rattle.frame_merge.specs.declared.candidate.Candidate.{Candidate}
+use Rattle.frame_merge.specs.Held.{StandsFor as MergerStandsFor}
+use Rattle.frame_merge.specs.Merged.{merged}
+use Rattle.frame_merge.specs.Order.{in_order}
 use Rattle.wide_input.specs.Streams.{least_count}
 use Rattle.wide_input.specs.MergedItems.{AreWideRest}
 use Rattle.wide_input.specs.Held.{HeldWide, StandsFor}
 use Rattle.wide_input.proofs.WideSteps.{gives_rest}
 use Rattle.wide_input.proofs.wide_bank.WideBank.finish.Goals as goal
 
-pub returns-in-Ok-clause-rest : goal.returns-in-Ok-clause-rest
-returns-in-Ok-clause-rest c =
-    let P : HeldWide → Type 0 = λ old. (x : List ℤ) → StandsFor old x
-    → AreWideRest (least_count x) x c.in-Ok.items.items in
-    subst P c.self.view_is (λ x h.
-    gives_rest x c.self.inside.streams.items c.self.inside.merger c.finish.new.self c.in-Ok.items.items h.taken
-    c.finish.ensures.stands_for (c.in-Ok.ensures.last c.finish.ensures.least))
+pub returns-clause-rest : goal.returns-clause-rest
+returns-clause-rest c =
+    let was = c.self.inside in
+    let P : HeldWide → Type 0 = λ old. IfOk c.finish.result (λ items. (x : List ℤ) → StandsFor old x
+    → AreWideRest (least_count x) x items.items) in
+    subst P c.self.view_is (IfOk-weaker c.finish.result
+    (λ items. was.progress.finished ≡ false → (puts given : List Candidate) → MergerStandsFor was.merger puts given
+    → given ++ items.items ≡ merged (in_order puts))
+    (λ items. (x : List ℤ) → StandsFor (record {
+      streams = was.streams.items;
+      merger = was.merger;
+      position = was.progress.position;
+      finished = was.progress.finished;
+      spent = was.progress.spent;
+    }) x
+    → AreWideRest (least_count x) x items.items)
+    (λ items last x h. gives_rest x was.streams.items was.merger items.items h.taken (last h.finished))
+    c.finish.ensures.rest)

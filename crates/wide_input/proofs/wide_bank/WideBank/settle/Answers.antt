@@ -1,4 +1,4 @@
-use Rattle.std.proofs.Common.{◌≡◌, ◌+◌, ◌/◌, ◌≤◌, ◌<◌, ◌++◌, ◌∙◌, ℕ, ℤ, List, ap, sym, subst, refl, length}
+use Rattle.std.proofs.Common.{◌≡◌, ◌+◌, ◌/◌, ◌≤◌, ◌<◌, ◌++◌, ◌∙◌, ℕ, ℤ, List, ap, sym, subst, length}
 use Rattle.std.proofs.Common.{length-append, get_or, take, drop, replicate, false, arith}
 use Rattle.std.specs.List.{All}
 use Rattle.wide_input.specs.Streams.{least_count}
@@ -11,25 +11,27 @@ pub merge_found-requires-clause-marks : goal.merge_found-requires-clause-marks
 merge_found-requires-clause-marks c =
     let marks = subst (λ (h : HeldWide). h.merger.marks ≡ replicate 40 (h.position / 5)) (sym c.self.view_is)
     c.requires.marks in
-    all_marks 40 (c.self.inside.position / 5) ((c.self.inside.position + c.args.count) / 5) c.self.inside.merger.marks
+    all_marks 40 (c.self.inside.progress.position / 5) ((c.self.inside.progress.position + c.args.count) / 5) c.self.inside.merger.marks
     (omega arith) marks
 
 pub invariant_of-self-2 : goal.invariant_of-self-2
 invariant_of-self-2 c =
     let new : List HeldStream = c.merge_found.new.streams in
     let full : c.self.inside.streams.len ≡ length new = sym (c.merge_found.auto.streams ∙ c.deref_mut.ensures.len) in
-    let back : take c.self.inside.streams.len (new ++ drop (length new) c.self.inside.streams.items) ≡ new
-    = given_back c.self.inside.streams.len new c.self.inside.streams.items full in
-    let most : ℕ = c.self.inside.position + c.args.count in
+    let lent : List HeldStream = take c.self.inside.streams.len (new ++ drop (length new) c.self.inside.streams.items)
+    in
+    let back : lent ≡ new = given_back c.self.inside.streams.len new c.self.inside.streams.items full in
+    let most : ℕ = c.self.inside.progress.position + c.args.count in
     let P : HeldStream → Type 0 = λ held. held.bank.position ≤ most in
     let before : All P c.self.inside.streams.items
     = subst (λ (h : HeldWide). All (λ (held : HeldStream). held.bank.position ≤ h.position + c.args.count) h.streams)
     (sym c.self.view_is) c.requires.positions in (
       ap length back ∙ c.merge_found.ensures.streams,
       λ unspent unfinished. (
-        subst (All P) (sym back) (c.in_ok-items.ensures.positions most
-            (subst (All P) (sym c.deref_mut.ensures.value) before)),
-        c.in_ok-items.ensures.marks,
+        subst (λ (n : ℕ). All (λ (held : HeldStream). held.bank.position ≤ n) lent) (sym c.take.ensures.position)
+            (subst (All P) (sym back) (c.in_ok-items.ensures.positions most
+            (subst (All P) (sym c.deref_mut.ensures.value) before))),
+        c.in_ok-items.ensures.marks ∙ ap (λ n. replicate 40 (n / 5)) (sym c.take.ensures.position),
       ),
     )
 
@@ -44,9 +46,9 @@ returns-clause-given c =
     = record {
       streams = lent;
       merger = c.merge_found.new.merger;
-      position = c.self.inside.position + c.args.count;
-      finished = c.self.inside.finished;
-      spent = false;
+      position = c.take.new.self.position;
+      finished = c.take.new.self.finished;
+      spent = c.take.new.self.spent;
     } in
     let P : HeldWide → Type 0 = λ old. (before : List HeldStream) (x y : List ℤ) → old.finished ≡ false
     → length x ≡ old.position → length y ≡ c.args.count
@@ -55,15 +57,15 @@ returns-clause-given c =
     → StandsFor now (x ++ y) × AreWideMergedBetween (least_count x) (least_count (x ++ y)) (x ++ y)
     c.in_ok-items.items.items in
     subst P c.self.view_is (λ before x y unfinished size more heard h.
-    let whole : length (x ++ y) ≡ c.self.inside.position + c.args.count
-    = length-append x y ∙ ap (λ n. n + length y) size ∙ ap (λ n. c.self.inside.position + n) more in
+    let whole : length (x ++ y) ≡ c.self.inside.progress.position + c.args.count
+    = length-append x y ∙ ap (λ n. n + length y) size ∙ ap (λ n. c.self.inside.progress.position + n) more in
     let taken = c.in_ok-items.ensures.given before x y whole
     (λ number d small. subst (λ (s : List HeldStream). HearsBlock y (get_or before number d) (get_or s number d))
     (sym c.deref_mut.ensures.value) (heard number d small)) h in (
       record {
-        spent = refl;
-        finished = unfinished;
-        count = sym whole;
+        spent = c.take.ensures.spent;
+        finished = c.take.ensures.finished ∙ unfinished;
+        count = c.take.ensures.position ∙ sym whole;
         taken = subst (λ (s : List HeldStream). HaveTaken s c.merge_found.new.merger (x ++ y)) (sym back) taken.0;
       },
       taken.1,
