@@ -17,6 +17,7 @@ pub mod ServedHosts
 pub mod Sampled
 pub mod ReportedGaps
 pub mod SampledRun
+pub mod FreshReceiver
 pub mod SampledWrites
 pub mod SampledHeld
 pub mod ServeRun

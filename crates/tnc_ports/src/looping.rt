@@ -1,9 +1,9 @@
 //! The turns of a live station, from the first to the last.
-ghost use Rattle.std.specs.Prelude.{◌≡◌, ℕ, All, replicate, []};
+ghost use Rattle.std.specs.Prelude.{◌≡◌, ℕ, All};
 ghost use Rattle.link_machine.specs.Params.{IsRefusedWindow};
 ghost use Rattle.sample_ring.specs.Ends.{ring_id, ring_len, reader_ring};
-ghost use Rattle.ring_receiver.specs.HeldReceiver.{readers_in, answers_in, Hears};
-ghost use Rattle.ring_receiver.specs.Readers.{readers_wanted};
+ghost use Rattle.ring_receiver.specs.HeldReceiver.{readers_in, answers_in};
+ghost use Rattle.tnc_ports.specs.FreshReceiver.{IsFresh};
 ghost use Rattle.tnc_ports.specs.SampledRun.{IsLooped, outside_by};
 
 use crate::host_side::HostSide;
@@ -42,11 +42,7 @@ pub fn station_loop<R: Threads + Wait + Net + Sync, O: Sink, E: Sink, N: Ports>(
     ports: &mut N,
 ) -> LoopEnd
     requires window { (window : ℕ) → ¬ IsRefusedWindow words.now.config.params window }
-    requires readers { All (λ reader. reader_ring reader ≡ ring_id ring.now) (readers_in receiver.old) }
-    requires new { answers_in (ring_len ring.now) receiver.old ≡ replicate (readers_wanted words.now.sensitive) [] }
-    requires hears { Hears (ring_len ring.now) receiver.old }
-    requires flags { receiver.old.flags ≡ words.now.dcd }
-    requires sensitive { receiver.old.sensitive ≡ words.now.sensitive }
+    requires fresh { IsFresh words.now ring.now receiver.old }
     ensures readers { All (λ reader. reader_ring reader ≡ ring_id ring.now) (readers_in receiver.new) }
     ensures looped { IsLooped words.now result (answers_in (ring_len ring.now) receiver.new)
         (outside_by N.listens N.polls N.sends N.sent N.is_shut N.faults O.written O.faults E.written E.faults ports.old output.old report.old)

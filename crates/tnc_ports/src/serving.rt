@@ -1,10 +1,10 @@
 //! A live station from its first poll to the end of its input.
-ghost use Rattle.std.specs.Prelude.{◌≡◌, ℕ, List, ◌≤◌, Some, All, replicate, []};
+ghost use Rattle.std.specs.Prelude.{◌≡◌, ℕ, List, ◌≤◌, Some, All};
 ghost use Rattle.std.specs.Thread.{IsSync};
 ghost use Rattle.link_machine.specs.Params.{IsRefusedWindow};
 ghost use Rattle.sample_ring.specs.Ends.{ring_id, ring_len, reader_ring, writer_ring, done_ring, published_by, all_published};
-ghost use Rattle.ring_receiver.specs.HeldReceiver.{readers_in, answers_in, Hears};
-ghost use Rattle.ring_receiver.specs.Readers.{readers_wanted};
+ghost use Rattle.ring_receiver.specs.HeldReceiver.{readers_in, answers_in};
+ghost use Rattle.tnc_ports.specs.FreshReceiver.{IsFresh};
 ghost use Rattle.tnc_ports.specs.Pumped.{IsPumped};
 ghost use Rattle.tnc_ports.specs.SampledPump.{IsWriting, HasPumped, IsClosed};
 ghost use Rattle.tnc_ports.specs.SampledRun.{IsLooped, outside_by};
@@ -136,11 +136,7 @@ fn run_beside<
 )
     requires window { (window : ℕ) → ¬ IsRefusedWindow words.now.config.params window }
     requires writing { IsWriting ring.now pumping.old }
-    requires readers { All (λ reader. reader_ring reader ≡ ring_id ring.now) (readers_in receiver.old) }
-    requires new { answers_in (ring_len ring.now) receiver.old ≡ replicate (readers_wanted words.now.sensitive) [] }
-    requires hears { Hears (ring_len ring.now) receiver.old }
-    requires flags { receiver.old.flags ≡ words.now.dcd }
-    requires sensitive { receiver.old.sensitive ≡ words.now.sensitive }
+    requires fresh { IsFresh words.now ring.now receiver.old }
     ensures pumped { HasPumped ring.now pumping.new (input_by I.left I.faults input.old) (input_by I.left I.faults input.new) }
     ensures readers { All (λ reader. reader_ring reader ≡ ring_id ring.now) (readers_in receiver.new) }
     ensures looped { IsLooped words.now end.new (answers_in (ring_len ring.now) receiver.new)
@@ -153,18 +149,14 @@ fn run_beside<
         &mut ||
             requires { IsSync R.row
                 × ((window : ℕ) → ¬ IsRefusedWindow words.now.config.params window)
-                × All (λ reader. reader_ring reader ≡ ring_id ring.now) (readers_in receiver.now)
-                × (answers_in (ring_len ring.now) receiver.now ≡ replicate (readers_wanted words.now.sensitive) [])
-                × Hears (ring_len ring.now) receiver.now
-                × (receiver.now.flags ≡ words.now.dcd)
-                × (receiver.now.sensitive ≡ words.now.sensitive) }
+                × IsFresh words.now ring.now receiver.now }
             ensures { All (λ reader. reader_ring reader ≡ ring_id ring.entry.now) (readers_in receiver.exit.now)
                 × IsLooped words.entry.now end.exit.now (answers_in (ring_len ring.entry.now) receiver.exit.now)
                 (outside_by N.listens N.polls N.sends N.sent N.is_shut N.faults O.written O.faults E.written E.faults ports.entry.now output.entry.now report.entry.now)
                 (outside_by N.listens N.polls N.sends N.sent N.is_shut N.faults O.written O.faults E.written E.faults ports.exit.now output.exit.now report.exit.now) }
         {
             *end = turns(
-                rt, alloc, words, ring, start, receiver, output, report, ports,
+                rt, alloc, words, ring, receiver, output, report, ports, start,
             )
         },
     );
@@ -176,18 +168,14 @@ fn turns<R: Threads + Wait + Net + Sync, O: Sink, E: Sink, N: Ports>(
     alloc: Global,
     words: &ServeWords,
     ring: &Ring,
-    start: &Start,
     receiver: &mut RingReceiver,
     output: &mut O,
     report: &mut E,
     ports: &mut N,
+    start: &Start,
 ) -> LoopEnd
     requires window { (window : ℕ) → ¬ IsRefusedWindow words.now.config.params window }
-    requires readers { All (λ reader. reader_ring reader ≡ ring_id ring.now) (readers_in receiver.old) }
-    requires new { answers_in (ring_len ring.now) receiver.old ≡ replicate (readers_wanted words.now.sensitive) [] }
-    requires hears { Hears (ring_len ring.now) receiver.old }
-    requires flags { receiver.old.flags ≡ words.now.dcd }
-    requires sensitive { receiver.old.sensitive ≡ words.now.sensitive }
+    requires fresh { IsFresh words.now ring.now receiver.old }
     ensures readers { All (λ reader. reader_ring reader ≡ ring_id ring.now) (readers_in receiver.new) }
     ensures looped { IsLooped words.now result (answers_in (ring_len ring.now) receiver.new)
         (outside_by N.listens N.polls N.sends N.sent N.is_shut N.faults O.written O.faults E.written E.faults ports.old output.old report.old)

@@ -5,16 +5,16 @@ use Rattle.tnc_ports.proofs.LiveServe.{first_stands, nothing_looped}
 use Rattle.tnc_ports.proofs.looping.station_loop.Goals as goal
 
 pub returns-in_default-clause-looped : goal.returns-in_default-clause-looped
-returns-in_default-clause-looped g c = nothing_looped c.args.words.now _ _ c.requires.new
+returns-in_default-clause-looped g c = nothing_looped c.args.words.now _ _ c.requires.fresh.new
 
 pub turns-init : goal.turns-init
 turns-init g c = (
   runs_first c.args.words.now _ (ring_len c.args.ring.now) c.args.receiver.now _
       (first_stands c.args.words.now _ (ring_len c.args.ring.now) c.args.receiver.now c.in-Ok.ensures.stands_for
-      refl refl c.requires.sensitive c.requires.new c.requires.hears)
+      refl refl c.requires.fresh.sensitive c.requires.fresh.new c.requires.fresh.hears)
       refl refl,
-  c.requires.readers,
-  c.requires.flags,
+  c.requires.fresh.readers,
+  c.requires.fresh.flags,
 )
 
 pub turns-preserved : goal.turns-preserved

@@ -1,5 +1,7 @@
-use Rattle.std.proofs.Common.{refl}
-use Rattle.sample_ring.specs.Ends.{ring_len}
+use Rattle.std.proofs.Common.{◌≡◌, refl}
+use Rattle.std.proofs.lemmas.List.Elements.{All-same, All-weaker}
+use Rattle.sample_ring.specs.Ends.{IsNew, ring_id, ring_len, reader_ring}
+use Rattle.ring_receiver.specs.HeldReceiver.{readers_in}
 use Rattle.tnc_ports.proofs.LiveServe.{has_opened, no_ring, all_served}
 use Rattle.tnc_ports.proofs.serving.serve.Goals as goal
 
@@ -35,8 +37,18 @@ returns-in_default-new g c =
       report_faults = refl;
     }))
 
-pub run_beside-requires-clause-hears : goal.run_beside-requires-clause-hears
-run_beside-requires-clause-hears g c = λ κs within. c.in-Ok-new.ensures.hears (ring_len c.in-Ok.ring)
+pub run_beside-requires-clause-fresh : goal.run_beside-requires-clause-fresh
+run_beside-requires-clause-fresh g c = λ κs within. record {
+  readers = All-same (λ reader. reader_ring reader ≡ ring_id c.in-Ok.ring) (readers_in c.in-Ok-new.receiver)
+      c.in-Ok.readers.items c.in-Ok-new.ensures.readers
+      (All-weaker (λ reader. (reader_ring reader ≡ ring_id c.in-Ok.ring) × IsNew reader)
+      (λ reader. reader_ring reader ≡ ring_id c.in-Ok.ring) (λ reader both. both.0) c.in-Ok.readers.items
+      c.in-Ok.ensures.readers.1);
+  new = c.in-Ok-new.ensures.nothing (ring_len c.in-Ok.ring);
+  hears = c.in-Ok-new.ensures.hears (ring_len c.in-Ok.ring);
+  flags = c.in-Ok-new.ensures.flags;
+  sensitive = c.in-Ok-new.ensures.sensitive;
+}
 
 pub returns : goal.returns
 returns g c =
