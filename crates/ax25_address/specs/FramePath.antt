@@ -1,7 +1,6 @@
 -- A path in octets, after AX.25 2.2 section 3.12: destination, source and, as this project has it, up to eight
--- repeaters.
--- The end bit stands on the last field alone, the C bits of the first two tell the role, and each H bit whether that
--- repeater has repeated the frame.
+-- repeaters. The end bit stands on the last field alone, the C bits of the first two tell the role, and each H bit
+-- whether that repeater has repeated the frame.
 use Rattle.std.specs.Prelude.{◌≡◌, ℕ, ◌+◌, ◌*◌, ◌<◌, ◌≤◌, ◌==◌, Bool, true, false, List, length, map, reverse, take}
 use Rattle.std.specs.Prelude.{drop, slice_index_or}
 use Rattle.ax25_address.specs.Callsign.{Callsign}

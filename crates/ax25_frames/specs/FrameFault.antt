@@ -1,6 +1,5 @@
 -- Why octets are no frame, after AX.25 2.2 sections 3.1 and 4.2: the first fault in the order of address, control
--- field,
--- PID and what follows. Places are counted from 0.
+-- field, PID and what follows. Places are counted from 0.
 use Rattle.std.specs.Prelude.{◌≡◌, ℕ, ◌+◌, ◌<◌, Bool, List, ◌∷◌, ◌++◌, length, drop}
 use Rattle.ax25_address.specs.FramePath.{BeginsWithPath}
 use Rattle.ax25_address.specs.PathFault.{ShowsFault}

@@ -1,6 +1,5 @@
 -- A frame as one line of text: `SOURCE>DEST,REPEATER*` and what the frame says. An asterisk stands after a repeater
--- that
--- has repeated the frame, and information is in hexadecimal.
+-- that has repeated the frame, and information is in hexadecimal.
 use Rattle.std.specs.Prelude.{ℕ, ◌==◌, Bool, true, false, if◌then◌else◌, List, [], ◌∷◌, ◌++◌, length, flat_map, codes}
 use Rattle.std.specs.Prelude.{decimal}
 use Rattle.hex.specs.Hex.{encode_lower}

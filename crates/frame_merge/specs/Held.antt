@@ -16,8 +16,7 @@ abbrev pub least : List ℕ → ℕ
 least marks = fold min (2 ^ 64 - 1) marks
 
 -- The merger took `puts`, in that order, and has given `given`. It keeps those that a candidate to come can repeat: all
--- but
--- those that end more than 15 samples before the position below which all has been given.
+-- but those that end more than 15 samples before the position below which all has been given.
 pub record StandsFor (held : Held) (puts given : List Candidate) : Type 0 where
   pub items : held.items ≡ not_below (held.given_below - 15) (in_order puts)
   pub order : IsInOrder (in_order puts)

@@ -1,6 +1,5 @@
 -- When a receiver hears a carrier, by the bits alone (AX.25 2.2 sections 3.1, 3.9 and 6.4.2 leave it to the modem):
--- flags
--- show that another station sends, and an abort or a long stretch without a flag that it sends no more.
+-- flags show that another station sends, and an abort or a long stretch without a flag that it sends no more.
 use Rattle.std.specs.Prelude.{ℕ, zero, suc, ◌+◌, ◌-◌, ◌<◌, ◌≤◌, ◌⊎◌, ⊤, Bool, List, length, take}
 use Rattle.hdlc_framer.specs.Frames.{EndsFlag, EndsAbort}
 

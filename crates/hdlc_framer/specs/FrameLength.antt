@@ -1,6 +1,5 @@
 -- How long a frame may be, without its check sequence: two addresses and a control octet at the least (AX.25 2.2
--- section
--- 3), 1024 octets at the most.
+-- section 3), 1024 octets at the most.
 use Rattle.std.specs.Prelude.{ℕ, ◌<◌, ◌≤◌, ◌⊎◌, nat_le, Bool, ◌&&◌, List, length}
 
 abbrev pub least_frame_length : ℕ

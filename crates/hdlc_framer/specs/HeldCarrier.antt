@@ -7,8 +7,7 @@ use Rattle.hdlc_framer.specs.Frames.{EndsFlag}
 use Rattle.hdlc_framer.specs.Carrier.{EndsFlags, HoldsCarrier}
 
 -- how many flags in a row it asks for, how many ended with the last flag (no more than it asks for), the bits since
--- that
--- flag (10,000 stands for more, and for no flag at all), and whether a carrier is held
+-- that flag (10,000 stands for more, and for no flag at all), and whether a carrier is held
 pub record HeldCarrier : Type 0 where
   pub flags : ℕ
   pub in_a_row : ℕ

@@ -2,6 +2,8 @@ pub mod Examples
 pub mod Showing
 pub mod PacketLemmas
 pub mod Events
+pub mod KeptByActs
+pub mod Answered
 pub mod Writable
 pub mod RunLemmas
 pub mod ReceiveLemmas

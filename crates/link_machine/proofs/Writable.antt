@@ -62,7 +62,8 @@ use Rattle.link_machine.specs.declared.machine.Machine.{Machine as Held}
 use Rattle.link_machine.specs.Done.{Done}
 use Rattle.link_machine.specs.StandsFor.{StandsFor}
 use Rattle.link_machine.specs.Held.{IsShort, IsKept, IsWhole, Made, Makes}
-use Rattle.link_machine.proofs.Events.{itself, holds_itself, whole_of, answers_right, answers_all, whole_behind}
+use Rattle.link_machine.proofs.Events.{itself, holds_itself, whole_of}
+use Rattle.link_machine.proofs.Answered.{answers_right, answers_all, whole_behind}
 use Rattle.tnc_base.specs.declared.fault.OutOfMemory.{OutOfMemory}
 use Rattle.std.specs.Prelude.{Result, IfOk, OnOk}
 use Rattle.std.proofs.Common.{Ok, Err}

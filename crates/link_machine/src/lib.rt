@@ -41,8 +41,8 @@
 //! - An S frame whose C bits are equal, as the older version has them, is a response (section 6.1.2).
 //! - A UA or DM ends a call or a release only with F = 1; a DM ends a link that is up with any F (section 6.3).
 //! - At the last retry a link that is up sends DM with F = 0 and ends (section 6.7.2). There are ten retries.
-//! - FRMR is never sent. A frame with an invalid N(R), and an FRMR heard, end the set-up, and this side calls anew (section
-//!   6.5).
+//! - FRMR is never sent. A frame with an invalid N(R), or an FRMR, ends the set-up, and this side calls anew
+//!   (section 6.5).
 //! - RNR is never sent.
 //! - Every link answers SABM and SABME, and takes the modulus of the one that it hears; `wide` says how it calls itself.
 //!   FRMR in reply to SABME brings SABM, with all retries anew (section 6.3.1).
@@ -57,7 +57,7 @@ mod acts;
 mod control;
 mod fault;
 mod flushing;
-mod hearing;
+mod hearing_down;
 mod hearing_up;
 mod link;
 mod machine;

@@ -1,6 +1,5 @@
 -- Bits of samples at 9600 samples a second and 1200 bits a second (Bell 202): a bit is a window of eight samples, and
--- an
--- offset below eight says where the first window begins. Tones give bits by the rule of inverted NRZ.
+-- an offset below eight says where the first window begins. Tones give bits by the rule of inverted NRZ.
 use Rattle.std.specs.Prelude.{◌≡◌, ℕ, ◌+◌, ◌-◌, ◌*◌, ◌/◌, ℤ, List, Bool, length, map, take, drop}
 use Rattle.std.specs.List.{range_with_len}
 use Rattle.tone_table.specs.declared.tone.Tone.{Tone}

@@ -9,8 +9,7 @@ use Rattle.sample_ring.specs.Cells.{lap_of, TellsCell, TellsEnd}
 use Rattle.sample_ring.specs.Record.{StandsIn}
 
 -- What a seat knows is so: its count is published, its record and the records that it keeps stand in the published
--- list,
--- and a read between its loads found nothing at its position. The writer alone knows the list.
+-- list, and a read between its loads found nothing at its position. The writer alone knows the list.
 pub record IsSo (len : ℕ) (published : List ℤ) (ended : Bool) (writer id : ℕ) (v : View) : Type 0 where
   pub same_len : v.lives ≡ true → v.len ≡ len
   pub known : v.known ≤ length published

@@ -4,7 +4,8 @@ use Rattle.link_machine.specs.declared.machine.Machine.{Machine as Held}
 use Rattle.link_machine.specs.Requests.{connect, has_link}
 use Rattle.link_machine.specs.Event.Event.{Connect}
 use Rattle.link_machine.specs.StandsFor.{StandsFor}
-use Rattle.link_machine.proofs.Events.{answers_right, free_connect, holds_of, itself, holds_itself}
+use Rattle.link_machine.proofs.Events.{itself, holds_itself}
+use Rattle.link_machine.proofs.Answered.{answers_right, free_connect, holds_of}
 use Rattle.link_machine.proofs.Writable.{kept_behind, kept_by}
 use Rattle.link_machine.proofs.link.Link.connect.Goals as goal
 

@@ -4,7 +4,8 @@ use Rattle.link_machine.specs.Turn.{setting}
 use Rattle.link_machine.specs.Requests.{quitting, is_closed}
 use Rattle.link_machine.specs.Event.Event.{Disconnect}
 use Rattle.link_machine.specs.StandsFor.{StandsFor}
-use Rattle.link_machine.proofs.Events.{answers_right, free_disconnect, holds_of, itself, holds_itself}
+use Rattle.link_machine.proofs.Events.{itself, holds_itself}
+use Rattle.link_machine.proofs.Answered.{answers_right, free_disconnect, holds_of}
 use Rattle.link_machine.proofs.Writable.{kept_behind, kept_by}
 use Rattle.link_machine.proofs.link.Link.disconnect.Goals as goal
 

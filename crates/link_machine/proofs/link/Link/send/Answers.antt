@@ -4,7 +4,8 @@ use Rattle.link_machine.specs.Turn.{changing}
 use Rattle.link_machine.specs.Requests.{joined, is_closed}
 use Rattle.link_machine.specs.Event.Event.{Send}
 use Rattle.link_machine.specs.StandsFor.{StandsFor}
-use Rattle.link_machine.proofs.Events.{answers_right, free_send, holds_of, itself, holds_itself}
+use Rattle.link_machine.proofs.Events.{itself, holds_itself}
+use Rattle.link_machine.proofs.Answered.{answers_right, free_send, holds_of}
 use Rattle.link_machine.proofs.Writable.{kept_behind, kept_by}
 use Rattle.link_machine.proofs.link.Link.send.Goals as goal
 

@@ -9,7 +9,7 @@ use Rattle.link_machine.specs.Step.{settled}
 use Rattle.link_machine.proofs.Events.{itself, holds_itself, shows_begin, made, valid_number, copies_right}
 use Rattle.link_machine.proofs.Events.{makes_numbered, makes_reset}
 use Rattle.link_machine.specs.Held.{Makes, hear_numbered}
-use Rattle.link_machine.proofs.Events.{info_keeps}
+use Rattle.link_machine.proofs.KeptByActs.{info_keeps}
 use Rattle.selective_reject.specs.Outgoing.{acknowledgement, acknowledged as without_acked}
 use Rattle.link_machine.specs.Done.{Done}
 use Rattle.tnc_base.specs.declared.fault.OutOfMemory.{OutOfMemory}

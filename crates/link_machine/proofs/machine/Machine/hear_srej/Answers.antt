@@ -9,7 +9,8 @@ use Rattle.link_machine.specs.Step.{settled}
 use Rattle.link_machine.proofs.Events.{itself, holds_itself, shows_begin, made, valid_number, copies_right}
 use Rattle.link_machine.specs.Held.{outgoing_behind}
 use Rattle.std.specs.Prelude.{◌&&◌}
-use Rattle.link_machine.proofs.Events.{supervised_srej, send_again_keeps, srej_poll, srej_incoming}
+use Rattle.link_machine.proofs.Events.{supervised_srej}
+use Rattle.link_machine.proofs.KeptByActs.{send_again_keeps, srej_poll, srej_incoming}
 use Rattle.link_machine.proofs.machine.Machine.hear_srej.Goals as goal
 
 pub settle-requires-clause-formed : goal.settle-requires-clause-formed

@@ -6,7 +6,7 @@ use Rattle.link_machine.specs.Held.{Shows}
 use Rattle.link_machine.proofs.Showing.{shows_control}
 use Rattle.std.specs.Option.{option_to_list}
 use Rattle.std.proofs.lemmas.Bool.{cond-false}
-use Rattle.link_machine.proofs.Events.{sent_one, not_sent}
+use Rattle.link_machine.proofs.KeptByActs.{sent_one, not_sent}
 use Rattle.link_machine.proofs.machine.Machine.send_again.Goals as goal
 
 pub returns-in-Some-clause-shows : goal.returns-in-Some-clause-shows

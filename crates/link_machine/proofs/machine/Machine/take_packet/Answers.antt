@@ -7,8 +7,8 @@ use Rattle.link_machine.specs.Requests.{joined}
 use Rattle.link_machine.specs.Step.{settled}
 use Rattle.link_machine.proofs.Showing.{shows_changing, holds_outgoing}
 use Rattle.link_machine.proofs.Events.{shows_begin, made}
-use Rattle.link_machine.proofs.Events.{same_pushed}
-use Rattle.link_machine.proofs.Events.{on_ok}
+use Rattle.link_machine.proofs.KeptByActs.{same_pushed}
+use Rattle.link_machine.proofs.Answered.{on_ok}
 use Rattle.std.specs.Prelude.{IsErr}
 use Rattle.link_machine.proofs.machine.Machine.take_packet.Goals as goal
 

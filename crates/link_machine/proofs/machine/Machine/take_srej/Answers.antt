@@ -7,7 +7,7 @@ use Rattle.link_machine.specs.Acts.{sent_packet}
 use Rattle.link_machine.specs.Frames.{with_busy, acknowledged_by_srej}
 use Rattle.link_machine.specs.Held.{Shows}
 use Rattle.link_machine.proofs.Showing.{shows_control, shows_changing}
-use Rattle.link_machine.proofs.Events.{srej_path, srej_incoming, srej_va, named_as_sent, asked_right}
+use Rattle.link_machine.proofs.KeptByActs.{srej_path, srej_incoming, srej_va, named_as_sent, asked_right}
 use Rattle.selective_reject.proofs.OutgoingRounds.{same_sent_packet}
 use Rattle.std.specs.Option.{option_to_list}
 use Rattle.link_machine.proofs.machine.Machine.take_srej.Goals as goal

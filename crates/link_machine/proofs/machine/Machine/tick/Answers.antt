@@ -5,7 +5,7 @@ use Rattle.link_machine.specs.Acts.{in_window}
 use Rattle.link_machine.specs.Ticks.{tick}
 use Rattle.link_machine.specs.Step.{settled}
 use Rattle.link_machine.proofs.Events.{itself, holds_itself, shows_begin, made, is_up, copies_right_now}
-use Rattle.link_machine.proofs.Events.{tick_keeps}
+use Rattle.link_machine.proofs.KeptByActs.{tick_keeps}
 use Rattle.link_machine.proofs.machine.Machine.tick.Goals as goal
 
 pub settle-requires-clause-formed : goal.settle-requires-clause-formed

@@ -1,4 +1,4 @@
-//! The frames that a link hears where it is not up.
+//! The frames that a link hears while it is not up.
 ghost use Rattle.std.specs.Prelude.{◌≡◌, ℕ, ◌+◌, ◌≤◌, ◌<◌, Bool};
 ghost use Rattle.ax25_frames.specs.ControlField.{IsNumbered};
 ghost use Rattle.ax25_frames.specs.FrameOctets.{control_of};

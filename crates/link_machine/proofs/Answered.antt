@@ -1,0 +1,95 @@
+-- What a call answers for an event that is not refused.
+use Rattle.std.proofs.Common.{◌≡◌, ◌-◌, ◌<◌, ◌≤◌, false, if◌then◌else◌, List}
+use Rattle.std.proofs.Common.{length, Ok, Err, Result, refl, sym, ◌∙◌, ap, subst}
+use Rattle.selective_reject.specs.declared.packet.Packet.{Packet}
+use Rattle.link_machine.specs.declared.machine.Machine.{Machine as Held}
+use Rattle.link_machine.specs.Done.{Done}
+use Rattle.link_machine.specs.Machine.{Machine}
+use Rattle.link_machine.specs.Sent.{sent_frames}
+use Rattle.link_machine.specs.Turn.{Turn, Act, begin}
+use Rattle.tnc_base.specs.declared.fault.OutOfMemory.{OutOfMemory}
+use Rattle.std.proofs.Common.{nat_lt, None}
+use Rattle.std.proofs.lemmas.Bool.{le-ltb, lt-leb}
+use Rattle.std.specs.Prelude.{not}
+use Rattle.std.specs.Prelude.{IsErr, OnOk}
+use Rattle.std.specs.Prelude.{Option}
+use Rattle.std.proofs.lemmas.Bool.{cond-false}
+use Rattle.link_machine.specs.Step.{settled, step, row, refusal_of, done_of}
+use Rattle.link_machine.specs.Event.{Event}
+use Rattle.link_machine.specs.Event.Event.{Connect, Send, Disconnect}
+use Rattle.link_machine.specs.Requests.{has_link, is_closed}
+use Rattle.link_machine.specs.declared.fault.LinkFault.{LinkFault}
+use Rattle.link_machine.specs.declared.fault.LinkFault.TheVariants.{WrongState, Full, TooLong}
+use Rattle.std.specs.Prelude.{IfOk, nat_le}
+use Rattle.link_machine.specs.StandsFor.{StandsFor}
+use Rattle.link_machine.specs.declared.acts.Told.{Told}
+use Rattle.link_machine.specs.declared.acts.SentFrame.{SentFrame}
+use Rattle.std.specs.Prelude.{is_some}
+use Rattle.std.proofs.Common.{Some}
+use Rattle.link_machine.specs.Held.{IsWhole, Holds, Made, Makes}
+use Rattle.link_machine.proofs.Events.{holds_itself, itself, whole_of}
+
+-- what holds if a call did not fail
+pub on_ok : {A E : Type 0} (r : Result A E) (P : Type 0) → (IsErr r → ⊥) → OnOk r P → P
+on_ok (Ok x) P h p = p
+on_ok (Err e) P h p = absurd (h refl)
+
+-- an event that is not refused
+pub stepped : (m : Machine) (event : Event) → is_some (refusal_of m event) ≡ false
+    → step m event ≡ settled (row event (begin m))
+unfolding step
+stepped m event e = cond-false _ _ _ e
+
+done_as : (held : Held) (t : Turn) (done : Done) → Made t held done → done ≡ done_of t
+done_as held t done h =
+    let D : List SentFrame → List Told → Done = λ fs ts. record { frames = fs; told = ts } in
+    ap (λ fs. D fs done.told) h.frames ∙ ap (λ ts. D (sent_frames t.now.path t.sent) ts) h.told
+
+pub answers_right :
+    (behind : Held) (m : Machine) (event : Event) (done : Done) → is_some (refusal_of m event) ≡ false
+    → Made (settled (row event (begin m))) behind done
+    → (done ≡ done_of (step m event)) × StandsFor behind (step m event).now
+answers_right behind m event done free h =
+    let e = sym (stepped m event free) in
+    let P : Turn → Type 0 = λ t. (done ≡ done_of t) × StandsFor behind t.now in
+    subst P e (done_as behind (settled (row event (begin m))) done h, h.holds.stands)
+
+pub holds_of : (held : Held) (m : Machine) → IsWhole held → StandsFor held m → Holds held m
+holds_of held m whole h = record { stands = h; formed = whole.link; next = whole.next }
+
+pub whole_behind : (act : Act) (before behind : Held) (result : Result Done OutOfMemory)
+    → Makes act before behind result → IsWhole before → IsWhole behind
+whole_behind act before behind (Ok done) makes whole =
+    whole_of behind _ (makes (itself before) (holds_itself before whole)).holds
+whole_behind act before behind (Err fault) makes whole = let P : Held
+    → Type 0 = λ x. IsWhole x in subst P (sym makes) whole
+
+-- what a call answers, if its event is never refused
+pub answers_all :
+    (before behind : Held) (event : Event) (result : Result Done OutOfMemory)
+    → ((m : Machine) → is_some (refusal_of m event) ≡ false) → IsWhole before
+    → Makes (row event) before behind result → (m : Machine) → StandsFor before m
+    → IfOk result (λ acts. acts ≡ done_of (step m event)) × OnOk result (StandsFor behind (step m event).now)
+answers_all before behind event (Ok done) free whole makes m h =
+    answers_right behind m event done (free m) (makes m (holds_of before m whole h))
+answers_all before behind event (Err fault) free whole makes m h = (tt, tt)
+
+-- requests that are not refused
+pub free_connect : (m : Machine) → has_link m.control.state ≡ false → is_some (refusal_of m Connect) ≡ false
+free_connect m e = ap (λ b. is_some (if b then Some (WrongState m.control.state m.control.quit) else None)) e
+
+pub free_disconnect : (m : Machine) → is_closed m.control ≡ false → is_some (refusal_of m Disconnect) ≡ false
+free_disconnect m e = ap (λ b. is_some (if b then Some (WrongState m.control.state m.control.quit) else None)) e
+
+pub free_send :
+    (m : Machine) (packet : Packet) → is_closed m.control ≡ false → length m.outgoing.packets < 1024
+    → length packet.octets ≤ 256
+    → is_some (refusal_of m (Send packet)) ≡ false
+free_send m packet e room short =
+    let wrong : Option LinkFault = Some (WrongState m.control.state m.control.quit) in
+    let long : Option LinkFault = Some (TooLong (length packet.octets)) in
+    ap (λ b. is_some (if b then wrong else if nat_le 1024 (length m.outgoing.packets) then Some Full
+    else if nat_lt 256 (length packet.octets) then long else None)) e
+    ∙ ap (λ b. is_some (if b then Some Full else if nat_lt 256 (length packet.octets) then long else None))
+    (lt-leb 1024 (length m.outgoing.packets) room)
+    ∙ ap (λ b. is_some (if b then long else None)) (le-ltb 256 (length packet.octets) short)
