@@ -1,4 +1,4 @@
-use Rattle.std.proofs.Common.{◌≡◌, ℕ, ◌+◌, ◌⊎◌, List, length, false, sym, ◌∙◌, ap, subst, inl, inr, Some, None}
+use Rattle.std.proofs.Common.{◌≡◌, ℕ, ◌+◌, ◌⊎◌, length, sym, ◌∙◌, ap, subst, inl, inr, Some, None}
 use Rattle.std.proofs.Common.{Result, Ok, Err}
 use Rattle.std.specs.Prelude.{IfOk, IfErr, OnOk, OnErr, min}
 use Rattle.std.proofs.lemmas.List.{length-map}
@@ -9,7 +9,6 @@ use Rattle.link_world.specs.declared.end.End.TheVariants.{A, B}
 use Rattle.link_world.specs.declared.event.Event.{Event}
 use Rattle.link_world.specs.declared.fault.WorldFault.{WorldFault}
 use Rattle.link_world.specs.declared.fault.WorldFault.TheVariants.{NothingThere, Link, NotQuiet, Memory}
-use Rattle.link_world.specs.declared.side.Side.{Side as HeldSide}
 use Rattle.link_world.specs.Faults.{cause, cause_in, is_there}
 use Rattle.link_world.specs.Held.{StandForBoth, IsKept, IsRefusalOf, side_at, stop_of}
 use Rattle.link_world.specs.StandsFor.{HeldWorld, StandsFor, IsAlike, in_flight}
