@@ -14,13 +14,15 @@ returns c =
     let most : c.from.result ≡ k = c.from.ensures ∙ c.window.ensures.value in
     elim c.if-len-from.branch [
       | then-len-from+in_ok-copy_of+in_ok-push_back w ↦
-          let room : length o.packets < k = let test : c.len.result < c.from.result = w.if-len-from.true in omega arith in
+          let test : c.len.result < c.from.result = w.if-len-from.true in
+          let room : length o.packets < k = omega arith in
           ap (λ v. v.items) w.packets-is ∙ w.in_ok-push_back.ensures.items
           ∙ ap (λ x. c.in_ok-packets.packets.items ++ x ∷ []) w.in_ok-copy_of.ensures
           ∙ ap (λ xs. xs ++ c.args.packet.now ∷ []) c.in_ok-packets.ensures
           ∙ sym (in_window_push k o c.args.packet.now within room)
       | else-len-from w ↦
-          let full : k ≤ length o.packets = let test : c.from.result ≤ c.len.result = w.if-len-from.false in omega arith in
+          let test : c.from.result ≤ c.len.result = w.if-len-from.false in
+          let full : k ≤ length o.packets = omega arith in
           ap (λ v. v.items) w.packets-is ∙ c.in_ok-packets.ensures
           ∙ sym (in_window_full k o c.args.packet.now within full)
     ]
