@@ -1,5 +1,5 @@
 -- A stretch with one more sample, as the slicer and the deframer of a lane tell it.
-use Rattle.std.proofs.Common.{◌≡◌, ℕ, ℤ, Bool, true, List, [], ◌∷◌, ◌++◌, Option, None, Some, subst, sym, ◌∙◌}
+use Rattle.std.proofs.Common.{◌≡◌, ℕ, ℤ, Bool, true, List, [], ◌∷◌, ◌++◌, Option, None, subst, sym, ◌∙◌}
 use Rattle.std.specs.Prelude.{◌↔◌, IsSome, option_to_list}
 use Rattle.std.proofs.lemmas.List.{append-nil}
 use denote.Enum.Bare.{sameb}
@@ -9,7 +9,7 @@ use Rattle.hdlc_framer.specs.declared.event.Event.TheVariants.{Frame}
 use Rattle.hdlc_framer.specs.Events.{EventAt}
 use Rattle.hdlc_framer.proofs.DeframerLemmas.{frame_by_test}
 use Rattle.offset_slicers.specs.Windows.{bits, EndsWindow}
-use Rattle.offset_slicers.specs.Held.{Held, offset_from, StandsFor as SlicerStandsFor}
+use Rattle.offset_slicers.specs.Held.{Held, offset_from}
 use Rattle.slicer_bank.specs.Stretches.{Stretch, with_sample, stretch_bits}
 use Rattle.slicer_bank.specs.StretchLanes.{EndsLast}
 

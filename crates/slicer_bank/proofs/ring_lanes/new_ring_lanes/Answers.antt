@@ -21,12 +21,11 @@ returns-clause-listen c = λ len lane d l. c.loop-offset.invariant.0.listen lane
     (let all = c.loop-offset-test.false in omega arith) len
 
 pub loop-offset-init : goal.loop-offset-init
-loop-offset-init c =
-    (
-      subst (λ (ls : List RingLane). HaveLanes c.args.readers.now.items c.args.readers.now.items ls c.args.flags 0)
-          (sym c.in_ok-lanes.ensures.items) (have_none c.args.readers.now.items c.args.flags),
-      refl,
-    )
+loop-offset-init c = (
+  subst (λ (ls : List RingLane). HaveLanes c.args.readers.now.items c.args.readers.now.items ls c.args.flags 0)
+      (sym c.in_ok-lanes.ensures.items) (have_none c.args.readers.now.items c.args.flags),
+  refl,
+)
 
 pub returns-in_err-push-clause-room : goal.returns-in_err-push-clause-room
 returns-in_err-push-clause-room c = c.remove.ensures.capacity ∙ c.loop-offset.invariant.1

@@ -166,8 +166,7 @@ invariant_of-self-in-Err g c =
     let new : List RingLane = c.make_turn.new.lanes in
     let back : take c.self.inside.lanes.len (new ++ drop (length new) c.self.inside.lanes.items) ≡ new =
     lent_back c.self.inside.lanes.len new c.self.inside.lanes.items
-    (sym (c.make_turn.auto.lanes ∙ c.deref_mut.ensures.len)) in
-    (
+    (sym (c.make_turn.auto.lanes ∙ c.deref_mut.ensures.len)) in (
       ap length back ∙ c.make_turn.ensures.lanes,
       c.self.invariant.1,
       c.self.invariant.2,

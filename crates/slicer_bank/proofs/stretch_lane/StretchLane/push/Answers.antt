@@ -1,4 +1,4 @@
-use Rattle.std.proofs.Common.{◌≡◌, ℕ, ℤ, Bool, None, Some, List, [], ◌∷◌, ◌++◌, ◌∙◌, refl, subst, sym, to_z, of_z}
+use Rattle.std.proofs.Common.{◌≡◌, ℤ, Bool, None, Some, List, [], ◌∷◌, ◌++◌, ◌∙◌, refl, subst, sym, to_z, of_z}
 use Rattle.std.proofs.lemmas.Bool.{false≢true}
 use Rattle.std.proofs.lemmas.Int.{to_z-of_z}
 use mir.Syntax.{w16}
