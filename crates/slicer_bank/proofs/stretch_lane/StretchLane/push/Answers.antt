@@ -21,7 +21,8 @@ returns-in_default-clause-stands_for c = λ s h.
       slicer = subst (λ (y : ℤ). SlicerStandsFor c.push.new.self s.begin (s.samples ++ y ∷ [])) stored
           (c.push.ensures.stands_for s.begin s.samples h.slicer);
       deframer = subst (DeframerStandsFor was.deframer)
-          (bits_stay was.offset was.slicer was.slices x z stored s (c.in_default.ensures.bits s.begin s.samples h.slicer))
+          (bits_stay was.offset was.slicer was.slices x z stored s
+          (c.in_default.ensures.bits s.begin s.samples h.slicer))
           h.deframer;
     }
 
@@ -35,8 +36,9 @@ pub returns-in_default-clause-frame : goal.returns-in_default-clause-frame
 returns-in_default-clause-frame c = λ s octets h ends.
     let x : ℤ = c.args.sample in
     let was = c.args.self.now in
-    absurd (false≢true ((window_more was.offset was.slicer was.slices x (to_z w16 (of_z w16 x)) (to_z-of_z w16 x c.ranges.sample) s
-    None (c.in_default.ensures.ends s.begin s.samples h.slicer)).1 ends.window))
+    let both = window_more was.offset was.slicer was.slices x (to_z w16 (of_z w16 x))
+    (to_z-of_z w16 x c.ranges.sample) s None (c.in_default.ensures.ends s.begin s.samples h.slicer) in
+    absurd (false≢true (both.1 ends.window))
 
 pub returns-clause-stands_for : goal.returns-clause-stands_for
 returns-clause-stands_for c = λ s h.
