@@ -73,13 +73,16 @@ pub returns-in_err-advance-clause-made : goal.returns-in_err-advance-clause-made
 returns-in_err-advance-clause-made g c = none_made _ c.from_residual.result _ c.from_residual.ensures.1
 
 pub returns-in_err-turn-clause-made : goal.returns-in_err-turn-clause-made
-returns-in_err-turn-clause-made g c = none_made _ c.from_residual-in_err-turn.result _ c.from_residual-in_err-turn.ensures.1
+returns-in_err-turn-clause-made g c =
+    none_made _ c.from_residual-in_err-turn.result _ c.from_residual-in_err-turn.ensures.1
 
 pub returns-in_err-append-clause-made : goal.returns-in_err-append-clause-made
-returns-in_err-append-clause-made g c = none_made _ c.from_residual-in_err-append.result _ c.from_residual-in_err-append.ensures.1
+returns-in_err-append-clause-made g c =
+    none_made _ c.from_residual-in_err-append.result _ c.from_residual-in_err-append.ensures.1
 
 pub returns-in_err-items-clause-made : goal.returns-in_err-items-clause-made
-returns-in_err-items-clause-made g c = none_made _ c.from_residual-in_err-items.result _ c.from_residual-in_err-items.ensures.1
+returns-in_err-items-clause-made g c =
+    none_made _ c.from_residual-in_err-items.result _ c.from_residual-in_err-items.ensures.1
 
 pub merge_all-requires-clause-lanes : goal.merge_all-requires-clause-lanes
 merge_all-requires-clause-lanes g c =

@@ -29,4 +29,5 @@ pub returns-in_err-advance-clause-made : goal.returns-in_err-advance-clause-made
 returns-in_err-advance-clause-made g c = none_made _ c.from_residual.result _ c.from_residual.ensures.1
 
 pub returns-in_err-items-clause-made : goal.returns-in_err-items-clause-made
-returns-in_err-items-clause-made g c = none_made _ c.from_residual-in_err-items.result _ c.from_residual-in_err-items.ensures.1
+returns-in_err-items-clause-made g c =
+    none_made _ c.from_residual-in_err-items.result _ c.from_residual-in_err-items.ensures.1
