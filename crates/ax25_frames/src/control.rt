@@ -1,6 +1,7 @@
 //! The control field of a frame.
 ghost use Rattle.std.specs.Prelude.{◌≡◌, ◌≢◌, ℕ, ◌+◌, ◌*◌, ◌/◌, ◌%◌, ◌^◌, ◌<◌, ◌≤◌, ◌⊎◌, [], ◌∷◌, ◌++◌, length, MatchOption, IfOk, IfErr, OnOk};
 ghost use Rattle.ax25_address.specs.AddressField.{bit};
+ghost use Rattle.ax25_frames.specs.declared.frame.Modulus.{Modulus as AnyModulus};
 ghost use Rattle.ax25_frames.specs.declared.frame.Modulus.TheVariants.{Eight, OneTwentyEight};
 ghost use Rattle.ax25_frames.specs.declared.control.Unnumbered.{Unnumbered};
 ghost use Rattle.ax25_frames.specs.ControlField.{control_octets, IsNumbered, supervisory_code, unnumbered_code};
@@ -48,11 +49,7 @@ pub(crate) fn read_control(
     };
     let first = *first;
     if first % 4 == 3 {
-        let (code, flag) = split_flag(first);
-        return match unnumbered_of(code) {
-            Some(which) => Ok((Control::Unnumbered { which, flag }, rest)),
-            None => Err(FrameFault::UnknownControl { octet: first }),
-        };
+        return read_unnumbered(first, rest);
     }
     match modulus {
         Modulus::Eight => Ok((numbered_by_8(first), rest)),
@@ -65,6 +62,20 @@ pub(crate) fn read_control(
                 None => Err(FrameFault::NoControl { at: start + 1 }),
             }
         }
+    }
+}
+
+/// The unnumbered frame of a control octet, and what stands after it.
+fn read_unnumbered(octet: u8, rest: &[u8]) -> Result<(Control, &[u8]), FrameFault>
+    requires { octet % 4 ≡ 3 }
+    ensures control { (modulus : AnyModulus)
+        → IfOk result (λ r. IsNumbered modulus r.0 × (octet ∷ rest.now ≡ control_octets modulus r.0 ++ r.1.now)) }
+    ensures fault { (modulus : AnyModulus) (start : ℕ) → IfErr result (BodyFault modulus (octet ∷ rest.now) start) }
+{
+    let (code, flag) = split_flag(octet);
+    match unnumbered_of(code) {
+        Some(which) => Ok((Control::Unnumbered { which, flag }, rest)),
+        None => Err(FrameFault::UnknownControl { octet }),
     }
 }
 

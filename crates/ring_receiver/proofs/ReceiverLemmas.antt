@@ -1,5 +1,6 @@
 -- What a turn makes of a receiver: with the eight lanes alone, and with the added ones.
-use Rattle.std.specs.Prelude.{Option, Some, None, min}
+use Rattle.std.specs.Prelude.{Some, None, min, Result, Ok, Err, IfOk}
+use Rattle.std.specs.Result.{IsErrAnd}
 use Rattle.std.proofs.Common.{◌≡◌, ℕ, ◌+◌, ◌-◌, ◌<◌, ◌≤◌, Bool, true, false, ◌&&◌, List, [], ◌∷◌, ◌++◌, length, map}
 use Rattle.std.proofs.Common.{replicate, get_or, refl, ap, sym, subst, ◌∙◌, arith, length-append, get_or-append-add}
 use Rattle.std.specs.List.{All}
@@ -15,7 +16,7 @@ use Rattle.sample_ring.specs.Record.{answer}
 use Rattle.frame_merge.specs.declared.candidate.Candidate.{Candidate}
 use Rattle.frame_merge.specs.Held.{Held as HeldMerger, least}
 use Rattle.slicer_bank.specs.declared.advance.LaneGap.{LaneGap}
-use Rattle.slicer_bank.specs.HeardOnRing.{AreHeardOnRing, AreMergedOnRing, AreRestOnRing, least_position, lane_of}
+use Rattle.slicer_bank.specs.HeardOnRing.{AreHeardOnRing, AreMergedOnRing, AreRestOnRing, least_position}
 use Rattle.slicer_bank.specs.RingLanes.{HeldRingBank, answers_of, Listens, readers_in as readers_of_bank}
 use Rattle.slicer_bank.specs.RingLanes.{records_in as records_of_bank, positions_in as positions_of_bank}
 use Rattle.slicer_bank.specs.RingLanes.{answers_in as answers_of_bank}
@@ -30,7 +31,7 @@ use Rattle.ring_receiver.specs.declared.heard.Heard.{Heard}
 use Rattle.ring_receiver.specs.AddedTurns.{MadeAddedTurn, AreAddedSince}
 use Rattle.ring_receiver.specs.AllMerging.{BringsByAll}
 use Rattle.ring_receiver.specs.HeardByAll.{AreHeardBy, AreMergedBy, AreRestBy, AreDueBy, settled_position}
-use Rattle.ring_receiver.specs.HeldReceiver.{Hears, HasMergedBy, AddedListens, readers_in, answers_in}
+use Rattle.ring_receiver.specs.HeldReceiver.{Hears, HasMergedBy, AddedListens}
 use Rattle.ring_receiver.specs.ReceiverTurns.{held_of, AreInStep, MakesTurn, ReadersStay}
 use Rattle.ring_receiver.specs.Turns.{IsTurnOf, AreGrownBy}
 use Rattle.ring_receiver.proofs.LengthLemmas.{due_lengths}
@@ -44,6 +45,12 @@ due_of : (sensitive ended : Bool) (before now : List (List Got)) (items : List C
     → AreDueBy sensitive ended before now items
 due_of sensitive false before now items merges rests = merges refl
 due_of sensitive true before now items merges rests = rests refl
+
+-- a turn that wanted memory brings nothing
+pub none_made : {T E : Type 0} (Q : E → Type 0) (result : Result T E) (P : T → Type 0) → IsErrAnd result Q
+    → IfOk result P
+none_made Q (Ok v) P e = absurd e
+none_made Q (Err e) P is = tt
 
 -- ---- the eight lanes alone
 

@@ -16,6 +16,7 @@ pub mod BankGatheringLemmas
 pub mod BusyLemmas
 pub mod FeedLemmas
 pub mod StretchLemmas
+pub mod SampleLemmas
 pub mod RingJobLemmas
 pub mod RingBusyLemmas
 pub mod OrderingLemmas

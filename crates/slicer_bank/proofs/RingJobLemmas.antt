@@ -253,6 +253,16 @@ last_meets answers (End total) e = (
 )
 
 -- the lane has met an answer after which it does not read on
+-- with one read more the record has more entries
+pub reads_grown : (len : ℕ) (before now after : RingLane) (count : ℕ) → ReadsOn len before now count
+    → (entry : Entry) × (reads_of after.reader ≡ reads_of now.reader ++ entry ∷ [])
+    → (entries : List Entry) × (reads_of after.reader ≡ reads_of before.reader ++ entries)
+reads_grown len before now after count r (entry, more) = (
+  r.on.entries ++ entry ∷ [],
+  more ∙ ap (λ (t : List Entry). t ++ entry ∷ []) r.on.read
+      ∙ append_assoc (reads_of before.reader) r.on.entries (entry ∷ []),
+)
+
 pub turn_over : (len : ℕ) (before now after : RingLane) (count : ℕ) (got : Got) → ReadsOn len before now count
     → count < most_reads → StaysLane now after
     → false ≡ reads_on got → TookAnswer len now after got → MadeTurn len before after

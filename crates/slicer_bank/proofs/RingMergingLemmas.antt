@@ -1,6 +1,6 @@
 -- What eight lanes that read a ring hear, merged turn by turn.
 use Rattle.std.proofs.Common.{◌≡◌, ℕ, ◌<◌, ◌≤◌, List, [], ◌∷◌, ◌++◌, refl, ap, sym, ◌∙◌, arith, subst, replicate}
-use Rattle.std.proofs.Common.{get_or, zero, suc, ◌-◌, ◌^◌, inl, inr, le_refl, ◌⊎◌, ⊎_elim, ◌≢◌, ◌+◌, ◌*◌, length}
+use Rattle.std.proofs.Common.{get_or, zero, suc, ◌-◌, ◌^◌, inl, inr, le_refl, ◌⊎◌, ⊎_elim, ◌≢◌, length}
 use Rattle.std.specs.Prelude.{fold, min}
 use Rattle.std.specs.List.{All, Contains}
 use Rattle.std.specs.List.Sorted.{IsNonDecreasingBy}

@@ -76,8 +76,8 @@ impl ToneLists {
         }
         let now = self.recent[((count - 24) % 32) as usize];
         let next = self.recent[((count - 16) % 32) as usize];
-        self.near.decide_as(Reach::Near, &now, &next, &later);
-        self.far.decide_as(Reach::Far, &now, &next, &later);
+        self.near.decide(Reach::Near, &now, &next, &later);
+        self.far.decide(Reach::Far, &now, &next, &later);
         true
     }
 

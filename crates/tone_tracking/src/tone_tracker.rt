@@ -51,25 +51,9 @@ impl ToneTracker {
     }
 
     /// Decides the window at the next place, by its correlations and those of the windows eight and sixteen samples later.
-    pub fn decide(&mut self, now: &Correlations, next: &Correlations, later: &Correlations) -> Tone
-        requires now { AreWithin now.now }
-        requires next { AreWithin next.now }
-        requires later { AreWithin later.now }
-        requires room { self.old.place < 2 ^ 48 }
-        ensures stands_for { (windows : ℕ → Correlations) → StandsFor self.old windows → now.now ≡ windows self.old.place
-            → next.now ≡ windows (self.old.place + 8) → later.now ≡ windows (self.old.place + 16) → StandsFor self.new windows }
-        ensures tone { (windows : ℕ → Correlations) → StandsFor self.old windows → now.now ≡ windows self.old.place
-            → next.now ≡ windows (self.old.place + 8) → later.now ≡ windows (self.old.place + 16)
-            → result ≡ tone_at self.old.reach windows self.old.place }
-        ensures reach { self.new.reach ≡ self.old.reach }
-        ensures place { self.new.place ≡ self.old.place + 1 }
-    {
-        self.decide_as(self.reach, now, next, later)
-    }
-
-    /// Does what [`ToneTracker::decide`] does, for a caller that knows how far the tracker reaches. A reach that is known
-    /// when the program is built makes the decision about a quarter faster.
-    pub(crate) fn decide_as(
+    /// The reach is the tracker's own: one that is known when the program is built makes the decision about a quarter
+    /// faster.
+    pub fn decide(
         &mut self,
         reach: Reach,
         now: &Correlations,

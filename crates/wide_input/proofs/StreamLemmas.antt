@@ -1,6 +1,6 @@
 -- The streams of samples that come in pieces, and how many samples they have.
 use Rattle.std.proofs.Common.{◌≡◌, ℕ, zero, suc, ◌+◌, ◌-◌, ◌*◌, ◌/◌, ◌<◌, ◌≤◌, ℤ, List, [], ◌∷◌, ◌++◌, length, get_or}
-use Rattle.std.proofs.Common.{take, append-nil, pos, Option, Result, Ok, Err, refl, ap, sym, subst, ◌∙◌, arith}
+use Rattle.std.proofs.Common.{◌^◌, take, append-nil, pos, Option, Result, Ok, Err, refl, ap, sym, subst, ◌∙◌, arith}
 use Rattle.std.specs.Prelude.{OnOk, OnErr}
 use Rattle.std.proofs.lemmas.List.{take_more}
 use Rattle.frame_merge.specs.declared.candidate.Candidate.{Candidate}
@@ -117,3 +117,12 @@ stream-place zero (sample ∷ x) (suc k) d l = stream-place 4 x k d (omega arith
     ∙ ap (λ n. get_or (sample ∷ x) n d) (let e : suc (5 * k + 4) ≡ 5 * suc k + 0 = omega arith in e)
 stream-place (suc skipped) (sample ∷ x) k d l = stream-place skipped x k d l
     ∙ ap (λ n. get_or (sample ∷ x) n d) (let e : suc (5 * k + skipped) ≡ 5 * k + suc skipped = omega arith in e)
+
+-- a part of a block has room where the block has it, and ends where the block ends at most
+pub part_fits : (inside outside part whole : ℕ) → inside ≡ outside → part ≤ whole → outside + whole < 2 ^ 48
+    → inside + part < 2 ^ 48
+part_fits inside outside part whole same few room = omega arith
+
+pub part_ends : (inside outside now part whole : ℕ) → inside ≡ outside → part ≤ whole → now ≤ inside + part
+    → now ≤ outside + whole
+part_ends inside outside now part whole same few past = omega arith

@@ -1,8 +1,10 @@
-use Rattle.std.proofs.Common.{◌≡◌, Bool, List, drop, sym, subst, ap, ◌∙◌, inl, inr, refl, rules, tests, Some, None}
+use Rattle.std.proofs.Common.{◌≡◌, Bool, List, drop, sym, subst, ap, ◌∙◌, inl, inr, refl, Some, None}
 use Rattle.std.specs.Prelude.{All}
 use Rattle.std.proofs.lemmas.List.Elements.{All-drop}
 use Rattle.ax25_frames.specs.declared.frame.Modulus.{Modulus}
 use Rattle.link_machine.specs.declared.acts.Told.{Told}
+use Rattle.std.specs.Prelude.{IfErr}
+use Rattle.std.proofs.lemmas.Result.{err_from_is_err_and}
 use Rattle.link_machine.specs.declared.machine.Machine.{Machine as HeldLink}
 use Rattle.link_machine.specs.Event.Event.{Hear as LinkHear}
 use Rattle.link_world.specs.declared.event.Event.TheVariants.{Hear}
@@ -62,7 +64,9 @@ returns-in_err-told-clause-refused c = λ w end both.
       | inr stayed ↦ inr (heard_noisy end c.args.number w c.args.near.now near c.args.far.now heard frame
           c.in_ok-acts.acts c.in_err-told.field-0.0 both steps front stayed)
     ] in
-    search (rules, tests)
+    let is = err_from_is_err_and c.from_residual-in_err-told.result c.from_residual-in_err-told.ensures.1 in
+    let told = subst (λ f. IsRefusal (Hear end) c.args.number w f) (sym is.2) cause in
+    subst (λ r. IfErr r (IsRefusal (Hear end) c.args.number w)) (sym is.1) told
 
 pub returns-clause-step : goal.returns-clause-step
 returns-clause-step c = λ w end both.

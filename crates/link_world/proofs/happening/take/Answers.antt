@@ -1,4 +1,6 @@
 use Rattle.std.proofs.Common.{◌≡◌, false, sym, subst, inl, inr, refl, rules, tests}
+use Rattle.std.specs.Prelude.{IfErr}
+use Rattle.std.proofs.lemmas.Result.{err_from_is_err_and}
 use Rattle.link_machine.specs.declared.machine.Machine.{Machine as HeldLink}
 use Rattle.link_machine.specs.StandsFor.{StandsFor as LinkStandsFor}
 use Rattle.link_machine.specs.Step.{refusal_of}
@@ -35,7 +37,9 @@ returns-in_err-told-clause-refused c = λ w end both.
       | inr stayed ↦ inr (asked_noisy c.args.request end c.args.number w c.args.near.now near c.args.far.now
           c.in_ok-acts.acts c.in_err-told.field-0.0 both steps free stayed)
     ] in
-    search (rules, tests)
+    let is = err_from_is_err_and c.from_residual-in_err-told.result c.from_residual-in_err-told.ensures.1 in
+    let told = subst (λ f. IsRefusal (event_of c.args.request end) c.args.number w f) (sym is.2) cause in
+    subst (λ r. IfErr r (IsRefusal (event_of c.args.request end) c.args.number w)) (sym is.1) told
 
 pub returns-clause-step : goal.returns-clause-step
 returns-clause-step c = λ w end both.

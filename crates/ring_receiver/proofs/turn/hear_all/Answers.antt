@@ -1,8 +1,11 @@
-use Rattle.std.proofs.Common.{◌≡◌, ◌≤◌, Bool, ◌&&◌, [], sym, ap, subst, ◌∙◌}
+use Rattle.std.proofs.Common.{◌≡◌, ◌≤◌, ℕ, List, Bool, ◌&&◌, [], sym, ap, subst, ◌∙◌}
 use Rattle.std.specs.Prelude.{min}
 use Rattle.std.proofs.lemmas.List.{append-nil}
 use Rattle.sample_ring.specs.Ends.{ring_id, ring_len, position_of, reads_of}
-use Rattle.ring_receiver.proofs.ReceiverLemmas.{all_stay, all_turn, goes_forward, marks_added}
+use Rattle.slicer_bank.specs.RingLanes.{positions_in as positions_of_bank}
+use Rattle.slicer_bank.specs.RingTurns.{AreForward}
+use Rattle.ring_receiver.proofs.ReceiverLemmas.{all_stay, all_turn, goes_forward, marks_added, marks_many, marks_eight}
+use Rattle.ring_receiver.proofs.ReceiverLemmas.{none_made}
 use Rattle.ring_receiver.proofs.turn.hear_all.Goals.{then-advance, else-advance}
 use Rattle.ring_receiver.proofs.turn.hear_all.Goals as goal
 
@@ -65,3 +68,35 @@ returns-clause-made g c =
     c.in_ok-turn.ensures.at over c.in_ok-append.ensures.items c.in_ok-items.ensures.heard c.in_ok-items.ensures.rest
     c.in_ok-items.ensures.marks
     (c.min-least.ensures ∙ ap (λ p. min p c.at-position.result) c.least_of.ensures)
+
+pub returns-in_err-advance-clause-made : goal.returns-in_err-advance-clause-made
+returns-in_err-advance-clause-made g c = none_made _ c.from_residual.result _ c.from_residual.ensures.1
+
+pub returns-in_err-turn-clause-made : goal.returns-in_err-turn-clause-made
+returns-in_err-turn-clause-made g c =
+    none_made _ c.from_residual-in_err-turn.result _ c.from_residual-in_err-turn.ensures.1
+
+pub returns-in_err-append-clause-made : goal.returns-in_err-append-clause-made
+returns-in_err-append-clause-made g c =
+    none_made _ c.from_residual-in_err-append.result _ c.from_residual-in_err-append.ensures.1
+
+pub returns-in_err-items-clause-made : goal.returns-in_err-items-clause-made
+returns-in_err-items-clause-made g c =
+    none_made _ c.from_residual-in_err-items.result _ c.from_residual-in_err-items.ensures.1
+
+pub merge_all-requires-clause-lanes : goal.merge_all-requires-clause-lanes
+merge_all-requires-clause-lanes g c =
+    marks_many c.args.bank.now c.args.added.now c.args.merger.now c.requires.eight c.requires.step
+
+pub merge_all-requires-clause-positions : goal.merge_all-requires-clause-positions
+merge_all-requires-clause-positions g c =
+    marks_eight c.args.bank.now c.args.added.now c.args.merger.now c.in_ok-advance.advance.positions c.requires.eight
+    c.requires.step
+    (subst (λ (p : List ℕ). AreForward (positions_of_bank c.args.bank.now) p) (sym c.in_ok-advance.ensures.positions)
+    c.in_ok-advance.ensures.forward)
+
+pub merge_all-requires-clause-eight : goal.merge_all-requires-clause-eight
+merge_all-requires-clause-eight g c = c.in_ok-advance.ensures.bounds
+
+pub merge_all-requires-clause-added : goal.merge_all-requires-clause-added
+merge_all-requires-clause-added g c = c.in_ok-turn.ensures.bounds

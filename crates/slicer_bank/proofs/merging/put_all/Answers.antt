@@ -1,4 +1,4 @@
-use Rattle.std.proofs.Common.{subst, ◌++◌}
+use Rattle.std.proofs.Common.{subst, ◌++◌, ◌∙◌}
 use Rattle.frame_merge.specs.Held.{StandsFor}
 use Rattle.slicer_bank.proofs.MergingLemmas.{has_put_more, has_put_all}
 use Rattle.slicer_bank.proofs.merging.put_all.Goals as goal
@@ -17,3 +17,9 @@ returns-clause-stands_for c = λ puts given h.
     c.loop-item.item-iterator.rest.items c.loop-item.item-iterator.rest.len c.loop-item.invariant
     c.in-None.ensures.steps.0)
     (c.loop-item.invariant.stands_for puts given h)
+
+pub returns-in_default-clause-marks : goal.returns-in_default-clause-marks
+returns-in_default-clause-marks c = c.put.ensures.marks ∙ c.loop-item.invariant.marks
+
+pub returns-clause-marks : goal.returns-clause-marks
+returns-clause-marks c = c.loop-item.invariant.marks

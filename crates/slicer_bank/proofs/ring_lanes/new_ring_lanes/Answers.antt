@@ -1,5 +1,7 @@
-use Rattle.std.proofs.Common.{◌<◌, ◌∙◌, arith, length}
-use Rattle.slicer_bank.proofs.ReaderLemmas.{have_more}
+use Rattle.std.proofs.Common.{◌<◌, List, ◌∙◌, refl, sym, subst, arith, length}
+use Rattle.std.proofs.lemmas.List.{take_all, drop_all}
+use Rattle.slicer_bank.specs.declared.ring_lane.RingLane.{RingLane}
+use Rattle.slicer_bank.proofs.ReaderLemmas.{HaveLanes, have_none, have_more}
 use Rattle.slicer_bank.proofs.ring_lanes.new_ring_lanes.Goals as goal
 
 pub loop-offset-preserved : goal.loop-offset-preserved
@@ -17,3 +19,31 @@ loop-offset-preserved c =
 pub returns-clause-listen : goal.returns-clause-listen
 returns-clause-listen c = λ len lane d l. c.loop-offset.invariant.0.listen lane d
     (let all = c.loop-offset-test.false in omega arith) len
+
+pub loop-offset-init : goal.loop-offset-init
+loop-offset-init c = (
+  subst (λ (ls : List RingLane). HaveLanes c.args.readers.now.items c.args.readers.now.items ls c.args.flags 0)
+      (sym c.in_ok-lanes.ensures.items) (have_none c.args.readers.now.items c.args.flags),
+  refl,
+)
+
+pub returns-in_err-push-clause-room : goal.returns-in_err-push-clause-room
+returns-in_err-push-clause-room c = c.remove.ensures.capacity ∙ c.loop-offset.invariant.1
+
+pub returns-clause-room : goal.returns-clause-room
+returns-clause-room c = c.loop-offset.invariant.1
+
+pub returns-clause-empty : goal.returns-clause-empty
+returns-clause-empty c =
+    let at_least = c.loop-offset-test.false in
+    let eight = c.requires.eight in
+    c.loop-offset.invariant.0.rest ∙ drop_all c.loop-offset.offset c.args.readers.now.items (omega arith)
+
+pub returns-clause-readers : goal.returns-clause-readers
+returns-clause-readers c =
+    let at_least = c.loop-offset-test.false in
+    let eight = c.requires.eight in
+    c.loop-offset.invariant.0.readers ∙ take_all c.loop-offset.offset c.args.readers.now.items (omega arith)
+
+pub returns-clause-taken : goal.returns-clause-taken
+returns-clause-taken c = c.loop-offset.invariant.0.taken

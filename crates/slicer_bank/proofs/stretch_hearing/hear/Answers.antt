@@ -1,14 +1,38 @@
-use Rattle.std.proofs.Common.{◌≡◌, ℕ, ℤ, List, [], ◌∷◌, ◌++◌, ◌∙◌, sym, subst, ap, arith, true, to_z, of_z}
+use Rattle.std.proofs.Common.{◌≡◌, FitsSigned, ℕ, ℤ, List, [], ◌∷◌, ◌++◌, ◌∙◌, sym, subst, ap, arith, true, to_z, of_z}
 use Rattle.std.proofs.lemmas.Bool.{true≢false}
 use Rattle.std.proofs.lemmas.Int.{to_z-of_z}
 use Rattle.std.proofs.lemmas.List.{append-nil}
 use Rattle.std.proofs.lemmas.List.Elements.{All-nil, All-cons}
 use mir.Syntax.{w16}
 use Rattle.hdlc_framer.specs.Held.{HoldsFrame}
+use Rattle.slicer_bank.specs.declared.stretch_lane.StretchLane.{StretchLane}
 use Rattle.slicer_bank.specs.Heard.{candidate_at}
 use Rattle.slicer_bank.specs.Stretches.{Stretch, with_sample}
 use Rattle.slicer_bank.specs.StretchLanes.{StretchStandsFor, EndsLast}
 use Rattle.slicer_bank.proofs.stretch_hearing.hear.Goals as goal
+
+-- the lane has heard the sample as it was passed
+stands : (was now : StretchLane) (sample : ℤ) → FitsSigned w16 sample
+    → ((s : Stretch) → StretchStandsFor was s → StretchStandsFor now (with_sample s (to_z w16 (of_z w16 sample))))
+    → (s : Stretch) → StretchStandsFor was s → StretchStandsFor now (with_sample s sample)
+stands was now sample fits heard = subst (λ (z : ℤ). (s : Stretch) → StretchStandsFor was s
+    → StretchStandsFor now (with_sample s z)) (to_z-of_z w16 sample fits) heard
+
+pub returns-then-not-push-clause-stands_for : goal.returns-then-not-push-clause-stands_for
+returns-then-not-push-clause-stands_for c =
+    stands c.args.lane.now c.push.new.self c.args.sample c.ranges.sample c.push.ensures.stands_for
+
+pub returns-in_err-octets-clause-stands_for : goal.returns-in_err-octets-clause-stands_for
+returns-in_err-octets-clause-stands_for c =
+    stands c.args.lane.now c.push.new.self c.args.sample c.ranges.sample c.push.ensures.stands_for
+
+pub returns-in_err-push-clause-stands_for : goal.returns-in_err-push-clause-stands_for
+returns-in_err-push-clause-stands_for c =
+    stands c.args.lane.now c.push.new.self c.args.sample c.ranges.sample c.push.ensures.stands_for
+
+pub returns-clause-stands_for : goal.returns-clause-stands_for
+returns-clause-stands_for c =
+    stands c.args.lane.now c.push.new.self c.args.sample c.ranges.sample c.push.ensures.stands_for
 
 pub returns-then-not-push-clause-found : goal.returns-then-not-push-clause-found
 returns-then-not-push-clause-found c =

@@ -1,5 +1,9 @@
 use Rattle.std.proofs.Common.{◌≡◌, ◌∙◌, ℕ, ◌+◌, ℤ, get_or, List, [], ◌∷◌, ◌++◌, FitsSigned, to_z, of_z, sym, ap, subst}
+use Rattle.std.proofs.Common.{◌%◌, ◌<◌, arith}
+use Rattle.std.specs.Prelude.{Result, Ok, Err, IfOk}
+use Rattle.std.specs.Result.{IsErrAnd}
 use Rattle.std.proofs.lemmas.Int.{to_z-of_z}
+use Rattle.std.proofs.lemmas.List.{length-set}
 use mir.Syntax.{w16}
 use Rattle.hf_modem.specs.Decision.{tone_of}
 use Rattle.slicer_bank.specs.ToneLanes.{HeldToneLane, ToneLaneStandsFor}
@@ -14,6 +18,14 @@ passed : (recent now : List ℤ) (sample : ℤ) → FitsSigned w16 sample
     → ((x : List ℤ) → recent ≡ last_window x → now ≡ last_window (x ++ to_z w16 (of_z w16 sample) ∷ []))
     → (x : List ℤ) → recent ≡ last_window x → now ≡ last_window (x ++ sample ∷ [])
 passed recent now sample fits push x is = push x is ∙ ap (λ z. last_window (x ++ z ∷ [])) (to_z-of_z w16 sample fits)
+
+-- want of memory gives nothing
+nothing : {T E : Type 0} (Q : E → Type 0) (result : Result T E) (P : T → Type 0) → IsErrAnd result Q → IfOk result P
+nothing Q (Ok v) P e = absurd e
+nothing Q (Err e) P is = tt
+
+within : (n : ℕ) → n % 32 < 32
+within n = omega arith
 
 pub returns-then-self-lt-WINDOW-clause-heard : goal.returns-then-self-lt-WINDOW-clause-heard
 returns-then-self-lt-WINDOW-clause-heard c = λ x h.
@@ -37,3 +49,31 @@ returns-clause-heard c = λ x h.
     (λ tones stands. subst (λ (o : ℕ). IsHeard o (s.position + 1) (bits_of (tones ++ c.hf_decide-tone.result ∷ []))
     c.in_ok-heard.heard) (sym c.from.ensures)
     (c.in_ok-heard.ensures.heard tones (subst (λ l. ToneLaneStandsFor l tones) (sym there) stands)))
+
+pub returns-then-self-lt-WINDOW-clause-position : goal.returns-then-self-lt-WINDOW-clause-position
+returns-then-self-lt-WINDOW-clause-position c = ap (λ (held : HeldBank). held.position + 1) c.self.view_is
+
+pub returns-in_err-heard-clause-position : goal.returns-in_err-heard-clause-position
+returns-in_err-heard-clause-position c = ap (λ (held : HeldBank). held.position + 1) c.self.view_is
+
+pub returns-clause-position : goal.returns-clause-position
+returns-clause-position c = ap (λ (held : HeldBank). held.position + 1) c.self.view_is
+
+pub returns-in_err-heard-clause-heard : goal.returns-in_err-heard-clause-heard
+returns-in_err-heard-clause-heard c = nothing _ c.from_residual.result _ c.from_residual.ensures.1
+
+pub returns-in_err-heard-clause-bounds : goal.returns-in_err-heard-clause-bounds
+returns-in_err-heard-clause-bounds c = nothing _ c.from_residual.result _ c.from_residual.ensures.1
+
+pub returns-clause-bounds : goal.returns-clause-bounds
+returns-clause-bounds c = c.in_ok-heard.ensures.bounds
+
+pub hear-requires : goal.hear-requires
+hear-requires c = within (c.self.inside.position + 1)
+
+pub invariant_of-self : goal.invariant_of-self
+invariant_of-self c = c.self.invariant
+
+pub invariant_of-self-2 : goal.invariant_of-self-2
+invariant_of-self-2 c =
+    length-set c.self.inside.lanes.items c.from.result c.hear.new.lane ∙ c.self.invariant

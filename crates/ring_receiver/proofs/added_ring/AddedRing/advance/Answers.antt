@@ -1,8 +1,8 @@
-use Rattle.std.proofs.Common.{refl, sym, ap, ◌∙◌, inl, inr}
+use Rattle.std.proofs.Common.{refl, sym, ap, ◌∙◌, inl, inr, arith}
 use Rattle.sample_ring.specs.Ends.{ring_len}
 use Rattle.slicer_bank.specs.RingJobs.{is_end}
 use Rattle.slicer_bank.specs.RingTurns.{reads_on}
-use Rattle.ring_receiver.proofs.AddedTurnLemmas.{reads_none, reads_more, turn_over}
+use Rattle.ring_receiver.proofs.AddedTurnLemmas.{reads_none, reads_more, turn_over, turn_full, grown_more}
 use Rattle.ring_receiver.proofs.added_ring.AddedRing.advance.Goals as goal
 
 pub loop-init : goal.loop-init
@@ -27,3 +27,61 @@ returns-in-End-clause-made c =
     turn_over (ring_len c.args.ring.now) c.args.self.now c.loop.self c.take.new.self c.loop.turn _
     c.loop.counter c.in_ok-take.field-0 c.loop.invariant c.loop-test.true (ap reads_on c.in-End.is)
     (sym (ap is_end c.in-End.is)) c.in_ok-take.ensures.took
+
+pub returns-in_err-take-clause-ring : goal.returns-in_err-take-clause-ring
+returns-in_err-take-clause-ring c = c.take.ensures.ring ∙ c.loop.invariant.ring
+
+pub returns-in_err-take-clause-grown : goal.returns-in_err-take-clause-grown
+returns-in_err-take-clause-grown c =
+    let grown = c.take.ensures.grown in
+    grown_more (ring_len c.args.ring.now) c.args.self.now c.loop.self c.take.new.self c.loop.turn c.loop.counter grown.0
+    c.loop.invariant grown.1
+
+pub returns-in-Empty-clause-ring : goal.returns-in-Empty-clause-ring
+returns-in-Empty-clause-ring c = c.take.ensures.ring ∙ c.loop.invariant.ring
+
+pub returns-in-Empty-clause-grown : goal.returns-in-Empty-clause-grown
+returns-in-Empty-clause-grown c =
+    let grown = c.take.ensures.grown in
+    grown_more (ring_len c.args.ring.now) c.args.self.now c.loop.self c.take.new.self c.loop.turn c.loop.counter grown.0
+    c.loop.invariant grown.1
+
+pub returns-in-End-clause-ring : goal.returns-in-End-clause-ring
+returns-in-End-clause-ring c = c.take.ensures.ring ∙ c.loop.invariant.ring
+
+pub returns-in-End-clause-grown : goal.returns-in-End-clause-grown
+returns-in-End-clause-grown c =
+    let grown = c.take.ensures.grown in
+    grown_more (ring_len c.args.ring.now) c.args.self.now c.loop.self c.take.new.self c.loop.turn c.loop.counter grown.0
+    c.loop.invariant grown.1
+
+pub returns-in-Empty-clause-at : goal.returns-in-Empty-clause-at
+returns-in-Empty-clause-at c = c.in_ok-take.ensures.at
+
+pub returns-in-Empty-clause-bounds : goal.returns-in-Empty-clause-bounds
+returns-in-Empty-clause-bounds c = c.in_ok-take.ensures.bounds c.loop.invariant.bounds
+
+pub returns-in-End-clause-at : goal.returns-in-End-clause-at
+returns-in-End-clause-at c = c.in_ok-take.ensures.at
+
+pub returns-in-End-clause-bounds : goal.returns-in-End-clause-bounds
+returns-in-End-clause-bounds c = c.in_ok-take.ensures.bounds c.loop.invariant.bounds
+
+pub returns-clause-ring : goal.returns-clause-ring
+returns-clause-ring c = c.loop.invariant.ring
+
+pub returns-clause-grown : goal.returns-clause-grown
+returns-clause-grown c = (c.loop.invariant.on.entries, c.loop.invariant.on.read)
+
+pub returns-clause-made : goal.returns-clause-made
+returns-clause-made c =
+    let at_least = c.loop-test.false in
+    let at_most = c.loop.auto.counter-end in
+    turn_full (ring_len c.args.ring.now) c.args.self.now c.loop.self c.loop.turn c.loop.counter c.loop.invariant
+    (omega arith)
+
+pub returns-clause-at : goal.returns-clause-at
+returns-clause-at c = c.loop.invariant.at
+
+pub returns-clause-bounds : goal.returns-clause-bounds
+returns-clause-bounds c = c.loop.invariant.bounds

@@ -1,5 +1,5 @@
-use Rattle.std.proofs.Common.{◌≡◌, ◌+◌, ◌-◌, ◌<◌, ◌++◌, ◌∙◌, ℤ, pos, List, FitsSigned, get_or, length, take, drop, ap}
-use Rattle.std.proofs.Common.{sym, subst, arith, rules}
+use Rattle.std.proofs.Common.{◌≡◌, ◌+◌, ◌-◌, ◌<◌, ◌++◌, ◌∙◌, ℤ, pos, List, get_or, length, take, drop, ap}
+use Rattle.std.proofs.Common.{sym, subst}
 use Rattle.std.proofs.lemmas.Result.{on_ok_weaker}
 use Rattle.std.proofs.lemmas.Int.{to_z-of_z}
 use mir.Syntax.{w16}
@@ -13,7 +13,6 @@ use Rattle.sensitive_receiver.proofs.added_bank.AddedBank.take.Goals as goal
 pub returns-then-not-decided-clause-has_taken : goal.returns-then-not-decided-clause-has_taken
 returns-then-not-decided-clause-has_taken c =
     let s = c.self.inside in
-    let fits : FitsSigned w16 c.args.sample = search rules in
     let lists = c.push-decided.new.self in
     let few = not_yet c.push-decided.result s.lists.count s.position c.push-decided.ensures.decided
     c.if-not-decided.true c.self.invariant.1 in
@@ -22,8 +21,8 @@ returns-then-not-decided-clause-has_taken c =
     → HasTaken (bank_of (s.position + 1) lists s.slow_near s.slow_far s.fast_near s.lanes.items) x in
     subst P c.self.view_is (λ x h inside is.
     let count = c.self.invariant.1 in
-    let taken = c.push-decided.ensures.has_taken x h.lists (omega arith)
-    (to_z-of_z w16 c.args.sample fits ∙ is ∙ ap (λ n. get_or x n (pos 0)) (sym count)) in
+    let taken = c.push-decided.ensures.has_taken x h.lists (subst (λ n. n < length x) (sym count) inside)
+    (to_z-of_z w16 c.args.sample c.ranges.sample ∙ is ∙ ap (λ n. get_or x n (pos 0)) (sym count)) in
     taken_few s.position s.lists lists s.slow_near s.slow_far s.fast_near s.lanes.items x few taken
     (c.push-decided.ensures.count ∙ ap (λ n. n + 1) count) h)
 
@@ -41,7 +40,6 @@ returns-then-not-decided-clause-found c =
 pub returns-clause-has_taken : goal.returns-clause-has_taken
 returns-clause-has_taken c =
     let s = c.self.inside in
-    let fits : FitsSigned w16 c.args.sample = search rules in
     let lists = c.push-decided.new.self in
     let enough = already c.push-decided.result s.lists.count s.position c.push-decided.ensures.decided
     c.if-not-decided.false c.self.invariant.1 in
@@ -54,8 +52,8 @@ returns-clause-has_taken c =
     → HasTaken (bank_of (s.position + 1) lists c.step.new.self c.step-2.new.self c.step-3.new.self lent) x in
     on_ok_weaker c.hear_place.result (λ read. subst P c.self.view_is (λ x h inside is.
     let count = c.self.invariant.1 in
-    let taken = c.push-decided.ensures.has_taken x h.lists (omega arith)
-    (to_z-of_z w16 c.args.sample fits ∙ is ∙ ap (λ n. get_or x n (pos 0)) (sym count)) in
+    let taken = c.push-decided.ensures.has_taken x h.lists (subst (λ n. n < length x) (sym count) inside)
+    (to_z-of_z w16 c.args.sample c.ranges.sample ∙ is ∙ ap (λ n. get_or x n (pos 0)) (sym count)) in
     subst (λ ls. HasTaken (bank_of (s.position + 1) lists c.step.new.self c.step-2.new.self c.step-3.new.self ls) x)
     (sym back)
     (taken_place s.position s.lists lists s.slow_near s.slow_far s.fast_near c.step.new.self c.step-2.new.self
@@ -73,7 +71,6 @@ returns-clause-has_taken c =
 pub returns-clause-found : goal.returns-clause-found
 returns-clause-found c =
     let s = c.self.inside in
-    let fits : FitsSigned w16 c.args.sample = search rules in
     let lists = c.push-decided.new.self in
     let enough = already c.push-decided.result s.lists.count s.position c.push-decided.ensures.decided
     c.if-not-decided.false c.self.invariant.1 in
@@ -84,8 +81,8 @@ returns-clause-found c =
     (places_in (old.position + 1)) x c.args.found.now.items c.hear_place.new.found.items in
     on_ok_weaker c.hear_place.result (λ adds. subst P c.self.view_is (λ x h inside is.
     let count = c.self.invariant.1 in
-    let taken = c.push-decided.ensures.has_taken x h.lists (omega arith)
-    (to_z-of_z w16 c.args.sample fits ∙ is ∙ ap (λ n. get_or x n (pos 0)) (sym count)) in
+    let taken = c.push-decided.ensures.has_taken x h.lists (subst (λ n. n < length x) (sym count) inside)
+    (to_z-of_z w16 c.args.sample c.ranges.sample ∙ is ∙ ap (λ n. get_or x n (pos 0)) (sym count)) in
     found_place s.position s.lists lists s.slow_near s.slow_far s.fast_near c.step.new.self c.step-2.new.self
     c.step-3.new.self s.lanes.items new
     c.tone_before-near.result c.tone_before-far.result c.step.result c.step-2.result c.step-3.result x enough taken

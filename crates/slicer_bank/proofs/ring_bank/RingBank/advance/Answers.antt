@@ -1,11 +1,13 @@
-use Rattle.std.proofs.Common.{◌≡◌, List, ◌++◌, ap, sym, ◌∙◌, subst, length, take, drop, map, arith}
+use Rattle.std.proofs.Common.{◌≡◌, true, List, [], ◌++◌, refl, ap, sym, ◌∙◌, subst, length, take, drop, map, arith}
 use Rattle.std.specs.List.{All}
-use Rattle.std.proofs.lemmas.List.{length-map}
+use Rattle.std.proofs.lemmas.Bool.{true≢false}
+use Rattle.std.proofs.lemmas.List.{length-map, append-nil}
 use Rattle.sample_ring.specs.Ends.{ring_id, ring_len, reader_ring, record_of, position_of}
+use Rattle.slicer_bank.specs.declared.advance.LaneGap.{LaneGap}
 use Rattle.slicer_bank.specs.declared.ring_lane.RingLane.{RingLane}
 use Rattle.slicer_bank.specs.RingJobs.{AreInPlace, IsTaken, LanesAreReady}
 use Rattle.slicer_bank.specs.RingLanes.{HeldRingBank, readers_of, answers_by, Listens, LanesListen}
-use Rattle.slicer_bank.specs.RingTurns.{AreGrown, BringsOnRing, AreForward}
+use Rattle.slicer_bank.specs.RingTurns.{AreGrown, IsTurn, BringsOnRing, AreForward, ArePast}
 use Rattle.slicer_bank.proofs.TurnLemmas.{are_ready, rings_stay, lent_back}
 use Rattle.slicer_bank.proofs.ring_bank.RingBank.advance.Goals as goal
 
@@ -142,3 +144,81 @@ returns-in-Err-clause-eight g c =
     (sym (c.make_turn.auto.lanes ∙ c.deref_mut.ensures.len)) in
     subst (λ (ls : List RingLane). length (readers_of ls) ≡ 8) (sym back)
     (length-map new (λ lane. lane.reader) ∙ c.make_turn.ensures.lanes)
+
+pub returns-then-self-clause-ring : goal.returns-then-self-clause-ring
+returns-then-self-clause-ring g c = c.requires
+
+pub returns-then-self-clause-grown : goal.returns-then-self-clause-grown
+returns-then-self-clause-grown g c = λ lane d l. ([], sym (append-nil _))
+
+pub returns-then-self-clause-flags : goal.returns-then-self-clause-flags
+returns-then-self-clause-flags g c = refl
+
+pub returns-then-self-clause-fails : goal.returns-then-self-clause-fails
+returns-then-self-clause-fails g c = λ e. refl
+
+pub returns-then-self-clause-spent : goal.returns-then-self-clause-spent
+returns-then-self-clause-spent g c =
+    subst (λ (v : HeldRingBank). v.spent ≡ true) c.self.view_is c.if-self.true
+
+pub invariant_of-self-in-Err : goal.invariant_of-self-in-Err
+invariant_of-self-in-Err g c =
+    let new : List RingLane = c.make_turn.new.lanes in
+    let back : take c.self.inside.lanes.len (new ++ drop (length new) c.self.inside.lanes.items) ≡ new =
+    lent_back c.self.inside.lanes.len new c.self.inside.lanes.items
+    (sym (c.make_turn.auto.lanes ∙ c.deref_mut.ensures.len)) in (
+      ap length back ∙ c.make_turn.ensures.lanes,
+      c.self.invariant.1,
+      c.self.invariant.2,
+      subst AreInPlace (sym back) (λ k d l. (c.make_turn.ensures.stay k d l).1),
+      λ e. absurd (true≢false e),
+    )
+
+pub returns-in-Ok-clause-turn : goal.returns-in-Ok-clause-turn
+returns-in-Ok-clause-turn g c =
+    let len = ring_len c.args.ring.now in
+    let new : List RingLane = c.make_turn.new.lanes in
+    let back : take c.self.inside.lanes.len (new ++ drop (length new) c.self.inside.lanes.items) ≡ new =
+    lent_back c.self.inside.lanes.len new c.self.inside.lanes.items
+    (sym (c.make_turn.auto.lanes ∙ c.deref_mut.ensures.len)) in
+    let same : c.deref_mut.result.now ≡ c.args.self.now.lanes = c.deref_mut.ensures.value
+    ∙ ap (λ (v : HeldRingBank). v.lanes) c.self.view_is in
+    let gaps : List LaneGap = c.in-Ok.advance.gaps.items in
+    subst (λ (ls : List RingLane). IsTurn (answers_by len c.args.self.now.lanes) (answers_by len ls) gaps
+    c.in-Ok.advance.ended) (sym back)
+    (subst (λ (ls : List RingLane). IsTurn (answers_by len ls) (answers_by len new) gaps c.in-Ok.advance.ended) same
+    c.in-Ok.ensures.turn)
+
+pub returns-in-Ok-clause-positions : goal.returns-in-Ok-clause-positions
+returns-in-Ok-clause-positions g c =
+    let new : List RingLane = c.make_turn.new.lanes in
+    let back : take c.self.inside.lanes.len (new ++ drop (length new) c.self.inside.lanes.items) ≡ new =
+    lent_back c.self.inside.lanes.len new c.self.inside.lanes.items
+    (sym (c.make_turn.auto.lanes ∙ c.deref_mut.ensures.len)) in
+    subst (λ (ls : List RingLane). c.in-Ok.advance.positions ≡ map position_of (readers_of ls)) (sym back)
+    c.in-Ok.ensures.positions
+
+pub returns-in-Ok-clause-bounds : goal.returns-in-Ok-clause-bounds
+returns-in-Ok-clause-bounds g c = c.in-Ok.ensures.bounds
+
+pub returns-in-Ok-clause-past : goal.returns-in-Ok-clause-past
+returns-in-Ok-clause-past g c =
+    let same : c.deref_mut.result.now ≡ c.args.self.now.lanes = c.deref_mut.ensures.value
+    ∙ ap (λ (v : HeldRingBank). v.lanes) c.self.view_is in
+    subst (λ (ls : List RingLane). ArePast (map position_of (readers_of ls)) c.in-Ok.advance.candidates.items) same
+    c.in-Ok.ensures.past
+
+pub returns-in-Ok-clause-flags : goal.returns-in-Ok-clause-flags
+returns-in-Ok-clause-flags g c = ap (λ (v : HeldRingBank). v.flags) c.self.view_is
+
+pub returns-in-Ok-clause-fails : goal.returns-in-Ok-clause-fails
+returns-in-Ok-clause-fails g c = λ e. sym c.if-self.false ∙ ap (λ (v : HeldRingBank). v.spent) c.self.view_is ∙ e
+
+pub returns-in-Err-clause-flags : goal.returns-in-Err-clause-flags
+returns-in-Err-clause-flags g c = ap (λ (v : HeldRingBank). v.flags) c.self.view_is
+
+pub returns-in-Err-clause-fails : goal.returns-in-Err-clause-fails
+returns-in-Err-clause-fails g c = λ e. refl
+
+pub returns-in-Err-clause-spent : goal.returns-in-Err-clause-spent
+returns-in-Err-clause-spent g c = refl

@@ -42,3 +42,33 @@ returns-in_ok-hear-in-Item-clause-took c =
         whole = heard.whole;
       },
     )
+
+pub returns-in-Empty-clause-grown : goal.returns-in-Empty-clause-grown
+returns-in-Empty-clause-grown c =
+    let read = c.in-Empty.ensures.read in
+    (read.0, read.3)
+
+pub returns-in-End-clause-grown : goal.returns-in-End-clause-grown
+returns-in-End-clause-grown c =
+    let read = c.in-End.ensures.read in
+    (read.0, read.3)
+
+pub returns-in_ok-push-in-Gap-clause-grown : goal.returns-in_ok-push-in-Gap-clause-grown
+returns-in_ok-push-in-Gap-clause-grown c =
+    let read = c.in-Gap.ensures.read in
+    (read.0, read.3)
+
+pub returns-in_err-push-in-Gap-clause-grown : goal.returns-in_err-push-in-Gap-clause-grown
+returns-in_err-push-in-Gap-clause-grown c =
+    let read = c.in-Gap.ensures.read in
+    (read.0, read.3)
+
+pub returns-in_ok-hear-in-Item-clause-grown : goal.returns-in_ok-hear-in-Item-clause-grown
+returns-in_ok-hear-in-Item-clause-grown c =
+    let read = c.in-Item.ensures.read in
+    (read.0, read.3)
+
+pub returns-in_err-hear-in-Item-clause-grown : goal.returns-in_err-hear-in-Item-clause-grown
+returns-in_err-hear-in-Item-clause-grown c =
+    let read = c.in-Item.ensures.read in
+    (read.0, read.3)

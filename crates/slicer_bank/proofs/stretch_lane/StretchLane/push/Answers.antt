@@ -1,26 +1,89 @@
-use Rattle.std.proofs.Common.{◌≡◌, ℕ, ℤ, Bool, List, [], ◌∷◌, ◌++◌, ◌∙◌, subst, to_z, of_z}
+use Rattle.std.proofs.Common.{◌≡◌, ℤ, Bool, None, Some, List, [], ◌∷◌, ◌++◌, ◌∙◌, refl, subst, sym, to_z, of_z}
+use Rattle.std.proofs.lemmas.Bool.{false≢true}
 use Rattle.std.proofs.lemmas.Int.{to_z-of_z}
 use mir.Syntax.{w16}
 use Rattle.hdlc_framer.specs.Frames.{EndsFrame}
-use Rattle.offset_slicers.specs.Windows.{bits}
-use Rattle.offset_slicers.specs.Held.{offset_from}
+use Rattle.hdlc_framer.specs.Held.{StandsFor as DeframerStandsFor}
+use Rattle.hdlc_framer.proofs.DeframerLemmas.{frame_by_test}
+use Rattle.offset_slicers.specs.Held.{StandsFor as SlicerStandsFor}
 use Rattle.slicer_bank.specs.Stretches.{stretch_bits}
 use Rattle.slicer_bank.proofs.LaneLemmas.{test_of_frame}
+use Rattle.slicer_bank.proofs.SampleLemmas.{bits_more, bits_stay, window_more, ends_last}
 use Rattle.slicer_bank.proofs.stretch_lane.StretchLane.push.Goals as goal
+
+pub returns-in_default-clause-stands_for : goal.returns-in_default-clause-stands_for
+returns-in_default-clause-stands_for c = λ s h.
+    let x : ℤ = c.args.sample in
+    let z : ℤ = to_z w16 (of_z w16 x) in
+    let stored : z ≡ x = to_z-of_z w16 x c.ranges.sample in
+    let was = c.args.self.now in
+    record {
+      slicer = subst (λ (y : ℤ). SlicerStandsFor c.push.new.self s.begin (s.samples ++ y ∷ [])) stored
+          (c.push.ensures.stands_for s.begin s.samples h.slicer);
+      deframer = subst (DeframerStandsFor was.deframer)
+          (bits_stay was.offset was.slicer was.slices x z stored s
+          (c.in_default.ensures.bits s.begin s.samples h.slicer))
+          h.deframer;
+    }
+
+pub returns-in_default-clause-holds : goal.returns-in_default-clause-holds
+returns-in_default-clause-holds c = λ e. absurd (false≢true e)
+
+pub returns-in_default-clause-heard : goal.returns-in_default-clause-heard
+returns-in_default-clause-heard c = λ s h e. absurd (false≢true e)
+
+pub returns-in_default-clause-frame : goal.returns-in_default-clause-frame
+returns-in_default-clause-frame c = λ s octets h ends.
+    let x : ℤ = c.args.sample in
+    let was = c.args.self.now in
+    let both = window_more was.offset was.slicer was.slices x (to_z w16 (of_z w16 x))
+    (to_z-of_z w16 x c.ranges.sample) s None (c.in_default.ensures.ends s.begin s.samples h.slicer) in
+    absurd (false≢true (both.1 ends.window))
+
+pub returns-clause-stands_for : goal.returns-clause-stands_for
+returns-clause-stands_for c = λ s h.
+    let x : ℤ = c.args.sample in
+    let z : ℤ = to_z w16 (of_z w16 x) in
+    let stored : z ≡ x = to_z-of_z w16 x c.ranges.sample in
+    let was = c.args.self.now in
+    record {
+      slicer = subst (λ (y : ℤ). SlicerStandsFor c.push.new.self s.begin (s.samples ++ y ∷ [])) stored
+          (c.push.ensures.stands_for s.begin s.samples h.slicer);
+      deframer = subst (DeframerStandsFor c.push-2.new.self)
+          (sym (bits_more was.offset was.slicer was.slices x z stored s (Some c.in-Some.bit)
+          (c.in-Some.ensures.bits s.begin s.samples h.slicer)))
+          (c.push-2.ensures.stands_for (stretch_bits was.offset s) h.deframer);
+    }
+
+pub returns-clause-holds : goal.returns-clause-holds
+returns-clause-holds c = λ e.
+    c.push-2.ensures.holds (sym (frame_by_test c.push-2.result (sym c.eq.ensures ∙ e)))
+
+pub returns-clause-heard : goal.returns-clause-heard
+returns-clause-heard c = λ s h e.
+    let x : ℤ = c.args.sample in
+    let z : ℤ = to_z w16 (of_z w16 x) in
+    let stored : z ≡ x = to_z-of_z w16 x c.ranges.sample in
+    let was = c.args.self.now in
+    let bit : Bool = c.in-Some.bit in
+    ends_last was.offset s x bit c.push-2.result
+    (bits_more was.offset was.slicer was.slices x z stored s (Some bit)
+    (c.in-Some.ensures.bits s.begin s.samples h.slicer))
+    ((window_more was.offset was.slicer was.slices x z stored s (Some bit)
+    (c.in-Some.ensures.ends s.begin s.samples h.slicer)).0 refl)
+    (c.push-2.ensures.event (stretch_bits was.offset s) h.deframer)
+    (sym c.eq.ensures ∙ e)
 
 pub returns-clause-frame : goal.returns-clause-frame
 returns-clause-frame c = λ s octets h ends.
-    let stored : to_z w16 (of_z w16 c.args.sample) ≡ c.args.sample = to_z-of_z w16 c.args.sample c.ranges.sample in
-    let was : List Bool = stretch_bits c.args.self.now.offset s in
-    let more : bits (offset_from c.args.self.now.offset s.begin) (s.samples ++ c.args.sample ∷ [])
-    ≡ was ++ c.in-Some.bit ∷ []
-    = subst (λ (z : ℤ). bits (offset_from c.args.self.now.offset s.begin) (s.samples ++ z ∷ [])
-    ≡ was ++ c.in-Some.bit ∷ []) stored
-    (subst (λ (o : ℕ). bits (offset_from o s.begin) (s.samples ++ to_z w16 (of_z w16 c.args.sample) ∷ [])
-    ≡ bits (offset_from o s.begin) s.samples ++ c.in-Some.bit ∷ []) c.args.self.now.slices
-    (c.in-Some.ensures.bits s.begin s.samples h.slicer)) in
-    let last : EndsFrame (was ++ c.in-Some.bit ∷ []) octets = subst (λ b. EndsFrame b octets) more ends.frame in
-    let told = c.push-2.ensures.event was h.deframer in (
-      c.eq.ensures ∙ test_of_frame was c.in-Some.bit c.push-2.result octets told last,
-      c.push-2.ensures.frame was octets h.deframer last,
+    let x : ℤ = c.args.sample in
+    let was = c.args.self.now in
+    let bit : Bool = c.in-Some.bit in
+    let b : List Bool = stretch_bits was.offset s in
+    let last : EndsFrame (b ++ bit ∷ []) octets
+    = subst (λ (b : List Bool). EndsFrame b octets)
+    (bits_more was.offset was.slicer was.slices x (to_z w16 (of_z w16 x)) (to_z-of_z w16 x c.ranges.sample) s (Some bit)
+    (c.in-Some.ensures.bits s.begin s.samples h.slicer)) ends.frame in (
+      c.eq.ensures ∙ test_of_frame b bit c.push-2.result octets (c.push-2.ensures.event b h.deframer) last,
+      c.push-2.ensures.frame b octets h.deframer last,
     )

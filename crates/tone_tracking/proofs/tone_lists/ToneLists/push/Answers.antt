@@ -64,13 +64,13 @@ returns-clause-has_taken c =
     let silence : Correlations = record { mark = none; space = none } in
     let P : HeldLists → Type 0 = λ old. (x : List ℤ) → HasTaken old x → old.count < length x
     → c.args.sample ≡ get_or x old.count (pos 0)
-    → HasTaken (held (s.count + 1) kept recent c.decide_as.new.self c.decide_as-2.new.self) x in
+    → HasTaken (held (s.count + 1) kept recent c.decide.new.self c.decide-2.new.self) x in
     subst P c.self.view_is (λ x h room is.
-    let samples : HasSamples (held (s.count + 1) kept recent c.decide_as.new.self c.decide_as-2.new.self) x
+    let samples : HasSamples (held (s.count + 1) kept recent c.decide.new.self c.decide-2.new.self) x
     = samples_more s.count s.samples s.recent x given s.near s.far h.samples room (same ∙ is) wide
-    c.decide_as.new.self c.decide_as-2.new.self c.eight_from.result.now c.correlate-later.result enough size
+    c.decide.new.self c.decide-2.new.self c.eight_from.result.now c.correlate-later.result enough size
     c.eight_from.ensures c.correlate-later.ensures.sums in
-    let all : HeldLists = held (s.count + 1) kept recent c.decide_as.new.self c.decide_as-2.new.self in
+    let all : HeldLists = held (s.count + 1) kept recent c.decide.new.self c.decide-2.new.self in
     let one = kept_at all x silence (s.count + 1 - 24) (s.count + 1 - 24) samples refl (omega arith) (omega arith) in
     let two = kept_at all x silence (s.count + 1 - 16) (s.count + 1 - 16) samples refl (omega arith) (omega arith) in
     let slot = s.count + 1 - 8 in
@@ -78,10 +78,10 @@ returns-clause-has_taken c =
     ∙ kept_at all x silence slot slot samples refl (omega arith) (omega arith) in
     record {
       samples = samples;
-      near = decided_more s.near c.decide_as.new.self s.count x _ _ _ many h.near one two three
-          c.decide_as.ensures.place c.decide_as.ensures.stands_for;
-      far = decided_more s.far c.decide_as-2.new.self s.count x _ _ _ many h.far one two three
-          c.decide_as-2.ensures.place c.decide_as-2.ensures.stands_for;
+      near = decided_more s.near c.decide.new.self s.count x _ _ _ many h.near one two three
+          c.decide.ensures.place c.decide.ensures.stands_for;
+      far = decided_more s.far c.decide-2.new.self s.count x _ _ _ many h.far one two three
+          c.decide-2.ensures.place c.decide-2.ensures.stands_for;
     })
 
 pub invariant_of-self-then-count-lt24 : goal.invariant_of-self-then-count-lt24
@@ -101,17 +101,17 @@ invariant_of-self-2 c =
     let s = c.self.inside in
     let inv = c.self.invariant in
     let many : 24 ≤ s.count + 1 = c.if-count-lt24.false in
-    let near = c.decide_as.ensures.place in
-    let far = c.decide_as-2.ensures.place in (
+    let near = c.decide.ensures.place in
+    let far = c.decide-2.ensures.place in (
       all_within-set s.recent ((s.count + 1 - 8) % 32) c.correlate-later.result inv.0 c.correlate-later.ensures.bound,
-      c.decide_as.ensures.reach ∙ inv.1,
-      c.decide_as-2.ensures.reach ∙ inv.2,
+      c.decide.ensures.reach ∙ inv.1,
+      c.decide-2.ensures.reach ∙ inv.2,
       omega arith,
       omega arith,
     )
 
-pub decide_as-requires-clause-now : goal.decide_as-requires-clause-now
-decide_as-requires-clause-now c =
+pub decide-requires-clause-now : goal.decide-requires-clause-now
+decide-requires-clause-now c =
     let s = c.self.inside in
     let size : length s.recent ≡ 32 = search rules in
     let all = all_within-set s.recent ((s.count + 1 - 8) % 32)
@@ -119,8 +119,8 @@ decide_as-requires-clause-now c =
     let same = length-set s.recent ((s.count + 1 - 8) % 32) c.correlate-later.result in
     all ((s.count + 1 - 24) % 32) _ (omega arith)
 
-pub decide_as-requires-clause-next : goal.decide_as-requires-clause-next
-decide_as-requires-clause-next c =
+pub decide-requires-clause-next : goal.decide-requires-clause-next
+decide-requires-clause-next c =
     let s = c.self.inside in
     let size : length s.recent ≡ 32 = search rules in
     let all = all_within-set s.recent ((s.count + 1 - 8) % 32)
@@ -128,8 +128,8 @@ decide_as-requires-clause-next c =
     let same = length-set s.recent ((s.count + 1 - 8) % 32) c.correlate-later.result in
     all ((s.count + 1 - 16) % 32) _ (omega arith)
 
-pub decide_as-requires-2-clause-now : goal.decide_as-requires-2-clause-now
-decide_as-requires-2-clause-now c =
+pub decide-requires-2-clause-now : goal.decide-requires-2-clause-now
+decide-requires-2-clause-now c =
     let s = c.self.inside in
     let size : length s.recent ≡ 32 = search rules in
     let all = all_within-set s.recent ((s.count + 1 - 8) % 32)
@@ -137,8 +137,8 @@ decide_as-requires-2-clause-now c =
     let same = length-set s.recent ((s.count + 1 - 8) % 32) c.correlate-later.result in
     all ((s.count + 1 - 24) % 32) _ (omega arith)
 
-pub decide_as-requires-2-clause-next : goal.decide_as-requires-2-clause-next
-decide_as-requires-2-clause-next c =
+pub decide-requires-2-clause-next : goal.decide-requires-2-clause-next
+decide-requires-2-clause-next c =
     let s = c.self.inside in
     let size : length s.recent ≡ 32 = search rules in
     let all = all_within-set s.recent ((s.count + 1 - 8) % 32)

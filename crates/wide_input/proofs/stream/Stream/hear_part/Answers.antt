@@ -1,24 +1,22 @@
-use Rattle.std.proofs.Common.{◌≡◌, ◌+◌, ◌≤◌, ◌++◌, ◌∙◌, ℕ, ℤ, List, ap, subst, length, arith}
+use Rattle.std.proofs.Common.{◌≡◌, ◌+◌, ◌≤◌, ◌++◌, ◌∙◌, ℕ, ℤ, List, ap, sym, subst, length}
 use Rattle.std.specs.Prelude.{IfOk, option_map}
 use Rattle.std.proofs.lemmas.Result.{IfOk-weaker}
 use Rattle.slicer_bank.specs.Candidates.{AreCandidatesBehind}
 use Rattle.slicer_bank.specs.Held.{StandsFor as BankStandsFor}
 use Rattle.wide_input.specs.Streams.{stream}
 use Rattle.wide_input.specs.Held.{HeldStream, StreamStandsFor}
-use Rattle.wide_input.proofs.StreamLemmas.{heard_part, position_past, stream-few}
+use Rattle.wide_input.proofs.StreamLemmas.{heard_part, position_past, stream-few, part_fits, part_ends}
 use Rattle.wide_input.proofs.stream.Stream.hear_part.Goals as goal
 
 pub feed-requires : goal.feed-requires
 feed-requires c =
-    let at : c.self.inside.bank.position ≡ c.args.self.now.bank.position =
-    ap (λ (h : HeldStream). h.bank.position) c.self.view_is in
     let part : c.deref.result.now ≡ stream c.self.inside.skipped c.args.block.now
     = c.deref.ensures.value ∙ c.in_ok-self-inside.ensures.part
     ∙ ap (λ t. t ++ stream c.self.inside.skipped c.args.block.now) c.clear.ensures.items in
-    let few : length c.deref.result.now ≤ length c.args.block.now =
-    omega (arith, ap length part, stream-few c.self.inside.skipped c.args.block.now) in
-    let room = c.requires.room in
-    omega arith
+    let few : length c.deref.result.now ≤ length c.args.block.now
+    = subst (λ t. length t ≤ length c.args.block.now) (sym part) (stream-few c.self.inside.skipped c.args.block.now) in
+    part_fits c.self.inside.bank.position c.args.self.now.bank.position (length c.deref.result.now)
+    (length c.args.block.now) (ap (λ (h : HeldStream). h.bank.position) c.self.view_is) few c.requires.room
 
 pub returns-clause-heard : goal.returns-clause-heard
 returns-clause-heard c =
@@ -53,14 +51,14 @@ returns-clause-heard c =
 
 pub returns-clause-position : goal.returns-clause-position
 returns-clause-position c =
-    let at : c.self.inside.bank.position ≡ c.args.self.now.bank.position =
-    ap (λ (h : HeldStream). h.bank.position) c.self.view_is in
     let part : c.deref.result.now ≡ stream c.self.inside.skipped c.args.block.now
     = c.deref.ensures.value ∙ c.in_ok-self-inside.ensures.part
     ∙ ap (λ t. t ++ stream c.self.inside.skipped c.args.block.now) c.clear.ensures.items in
-    let few : length c.deref.result.now ≤ length c.args.block.now =
-    omega (arith, ap length part, stream-few c.self.inside.skipped c.args.block.now) in
+    let few : length c.deref.result.now ≤ length c.args.block.now
+    = subst (λ t. length t ≤ length c.args.block.now) (sym part) (stream-few c.self.inside.skipped c.args.block.now) in
     let past : c.feed.new.self.position ≤ c.self.inside.bank.position + length c.deref.result.now
     = position_past c.feed.result c.self.inside.bank.position c.feed.new.self.position (length c.deref.result.now)
     c.feed.ensures.position c.feed.ensures.stays in
-    omega arith
+    part_ends c.self.inside.bank.position c.args.self.now.bank.position c.feed.new.self.position
+    (length c.deref.result.now) (length c.args.block.now) (ap (λ (h : HeldStream). h.bank.position) c.self.view_is) few
+    past

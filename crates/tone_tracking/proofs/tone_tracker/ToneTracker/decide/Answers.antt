@@ -4,7 +4,7 @@ use Rattle.tone_tracking.specs.Phasors.{none}
 use Rattle.tone_tracking.specs.Heard.{decided, open_of, passed, past_at, tone_at}
 use Rattle.tone_tracking.specs.HeldTracker.{HeldTracker, StandsFor}
 use Rattle.tone_tracking.proofs.TrackerLemmas.{held, past_at-next, stands_next, tone_is_decided, past_here}
-use Rattle.tone_tracking.proofs.tone_tracker.ToneTracker.decide_as.Goals as goal
+use Rattle.tone_tracking.proofs.tone_tracker.ToneTracker.decide.Goals as goal
 
 pub decide-tone-requires-clause-past : goal.decide-tone-requires-clause-past
 decide-tone-requires-clause-past c =
