@@ -87,10 +87,7 @@ impl BitClock {
 fn has_changed(before: Tone, tone: Tone) -> bool
     ensures { result ≡ changes before tone }
 {
-    match (before, tone) {
-        (Tone::Mark, Tone::Mark) | (Tone::Space, Tone::Space) => false,
-        (Tone::Mark, Tone::Space) | (Tone::Space, Tone::Mark) => true,
-    }
+    before != tone
 }
 
 /// A phase that has passed the middle of a bit is in the next one.
@@ -134,8 +131,8 @@ fn phase_pulled(pull: Pull, phase: i32) -> i32
     ensures most { result <ℤ pos 524288 }
 {
     let correction = match pull {
-        Pull::Slow => (3 * phase).div_euclid(32),
-        Pull::Fast => (3 * phase).div_euclid(8),
+        Pull::Slow => (3 * phase) >> 5,
+        Pull::Fast => (3 * phase) >> 3,
     };
     phase - correction
 }
