@@ -1,6 +1,7 @@
 pub mod DecisionLemmas
 pub mod PureWindows
 pub mod IntegerLemmas
+pub mod NearEnergies
 pub mod NearWindows
 pub mod WindowLemmas
 pub mod SlicerLemmas

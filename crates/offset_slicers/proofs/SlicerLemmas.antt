@@ -11,7 +11,7 @@ use Rattle.nrzi_bits.specs.Line.{bits_of, last_tone}
 use Rattle.nrzi_bits.proofs.LineLemmas.{last_tone-push}
 use Rattle.offset_slicers.specs.Decision.{tone_of}
 use Rattle.offset_slicers.specs.Windows.{windows_in, window_at, tones_at, bits, EndsWindow}
-use Rattle.offset_slicers.specs.Held.{Held, held_of, part_behind, offset_from, StandsFor}
+use Rattle.offset_slicers.specs.Held.{held_of, part_behind, offset_from, StandsFor}
 use Rattle.offset_slicers.proofs.WindowLemmas.{length-tones_at, tones_at-append}
 
 -- a sample that ends no window adds no tone
