@@ -1,6 +1,6 @@
 -- What one sample more changes: the window that ends with it, and the tones and bits of an offset.
 use Rattle.std.proofs.Common.{◌≡◌, ◌↔◌, ◌⊎◌, inl, inr, ℕ, ◌+◌, ◌-◌, ◌*◌, ◌/◌, ◌%◌, ◌<◌, ◌≤◌, ℤ, pos, List, [], ◌∷◌}
-use Rattle.std.proofs.Common.{◌++◌, Bool, true, length, map, take, drop, set, nat_eq, ap, sym, ◌∙◌, arith}
+use Rattle.std.proofs.Common.{◌++◌, Bool, true, length, take, drop, set, nat_eq, ap, sym, ◌∙◌, arith}
 use Rattle.std.proofs.Common.{length-append, length-drop, append_assoc}
 use Rattle.std.specs.List.{copy_within}
 use Rattle.std.proofs.Math.Seq.{drop-append-add}
@@ -8,14 +8,12 @@ use Rattle.std.proofs.lemmas.Bool.{cases_eq, eq-eqb, eqb-true}
 use Rattle.std.proofs.lemmas.List.{drop-append-le, drop-drop, take_all, take_more_set, length-set, length_push}
 use Rattle.std.proofs.lemmas.List.{length-replicate, append-nil}
 use Rattle.std.proofs.lemmas.List.Edits.{take-paste}
-use Rattle.std.proofs.lemmas.List.FromFn.{take-map-range_with_len, map-range_with_len_more}
-use Rattle.std.specs.List.{range_with_len}
 use Rattle.tone_table.specs.declared.tone.Tone.{Tone}
 use Rattle.nrzi_bits.specs.Line.{bits_of}
 use Rattle.hf_modem.specs.Decision.{tone_of}
 use Rattle.hf_modem.specs.Windows.{windows_in, window_at, tones_at, bits}
 use Rattle.hf_modem.specs.Held.{silence, last_window}
-use Rattle.hf_modem.proofs.WindowLemmas.{length-tones_at, tones_at-append}
+use Rattle.offset_slicers.proofs.TonesOfWindows.{tones_of-push_none, tones_of-push_one}
 
 -- ---- the last 32 samples
 
@@ -58,36 +56,6 @@ shifted window moved sample whole same is =
     ∙ ap (λ w. w ++ sample ∷ []) (take-paste window 0 (drop 1 window) 31 (omega arith) (omega arith))
     ∙ ap (λ w. w ++ sample ∷ []) (take_all 31 (drop 1 window) (omega arith))
 
--- ---- tones
-
--- a sample that ends no window adds no tone
-pub tones_at-push_none : (offset : ℕ) (x : List ℤ) (sample : ℤ)
-    → windows_in offset (length x + 1) ≡ windows_in offset (length x)
-    → tones_at offset (x ++ sample ∷ []) ≡ tones_at offset x
-tones_at-push_none offset x sample none =
-    let count : length (tones_at offset (x ++ sample ∷ [])) ≡ windows_in offset (length x)
-    = length-tones_at offset (x ++ sample ∷ []) ∙ ap (windows_in offset) (length_push x sample) ∙ none in
-    sym (tones_at-append offset x (sample ∷ []) ∙ take_all (windows_in offset (length x))
-    (tones_at offset (x ++ sample ∷ [])) (omega arith))
-
--- a sample that ends a window adds the tone of that window
-pub tones_at-push_one : (offset : ℕ) (x : List ℤ) (sample : ℤ)
-    → windows_in offset (length x + 1) ≡ windows_in offset (length x) + 1
-    → tones_at offset (x ++ sample ∷ [])
-    ≡ tones_at offset x ++ tone_of (window_at offset (x ++ sample ∷ []) (windows_in offset (length x))) ∷ []
-unfolding tones_at
-tones_at-push_one offset x sample one =
-    let all : List ℤ = x ++ sample ∷ [] in
-    let n : ℕ = windows_in offset (length x) in
-    let tone : ℕ → Tone = λ k. tone_of (window_at offset all k) in
-    let count : windows_in offset (length all) ≡ n + 1 = ap (windows_in offset) (length_push x sample) ∙ one in
-    let fits : n ≤ windows_in offset (length all) = omega arith in
-    ap (λ m. map tone (range_with_len 0 m)) count
-    ∙ map-range_with_len_more tone 0 n n (omega arith)
-    ∙ ap (λ tones. tones ++ tone n ∷ [])
-    (sym (take-map-range_with_len tone 0 (windows_in offset (length all)) n fits)
-    ∙ sym (tones_at-append offset x (sample ∷ [])))
-
 -- ---- where a window of an offset ends
 
 -- no window ends, or one does and the windows are one more
@@ -118,19 +86,21 @@ window_last offset k x ends =
 -- the tones with the last sample of a window
 pub tones_at-last : (offset k : ℕ) (x : List ℤ) (sample : ℤ) → length x + 1 ≡ offset + 32 * (k + 1)
     → tones_at offset (x ++ sample ∷ []) ≡ tones_at offset x ++ tone_of (last_window (x ++ sample ∷ [])) ∷ []
+unfolding tones_at window_at
 tones_at-last offset k x sample ends =
     let all : List ℤ = x ++ sample ∷ [] in
     let size : length all ≡ length x + 1 = length_push x sample in
     let count : windows_in offset (length x) ≡ k = omega arith in
-    tones_at-push_one offset x sample (omega arith)
+    tones_of-push_one 32 (omega arith) tone_of offset x sample (omega arith)
     ∙ ap (λ n. tones_at offset x ++ tone_of (window_at offset all n) ∷ []) count
     ∙ ap (λ w. tones_at offset x ++ tone_of w ∷ []) (window_last offset k all (omega arith))
 
 -- the tones with a sample that ends no window
 pub tones_at-none : (offset : ℕ) (x : List ℤ) (sample : ℤ) → (((k : ℕ) × (length x + 1 ≡ offset + 32 * (k + 1))) → ⊥)
     → tones_at offset (x ++ sample ∷ []) ≡ tones_at offset x
+unfolding tones_at window_at
 tones_at-none offset x sample none = elim (same_or_ends offset (length x)) [
-  | inl same ↦ tones_at-push_none offset x sample same
+  | inl same ↦ tones_of-push_none 32 (omega arith) tone_of offset x sample same
   | inr ends ↦ absurd (none ends)
 ]
 

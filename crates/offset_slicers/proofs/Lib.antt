@@ -3,6 +3,7 @@ pub mod PureWindows
 pub mod IntegerLemmas
 pub mod NearEnergies
 pub mod NearWindows
+pub mod TonesOfWindows
 pub mod WindowLemmas
 pub mod SlicerLemmas
 pub mod WaveLemmas

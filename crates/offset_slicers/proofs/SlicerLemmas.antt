@@ -3,7 +3,6 @@ use Rattle.std.proofs.Common.{◌≡◌, ℕ, ◌+◌, ◌-◌, ◌*◌, ◌/◌
 use Rattle.std.proofs.Common.{take, drop, set, refl, ap, subst, sym, ◌∙◌, arith, length-drop}
 use Rattle.std.proofs.lemmas.List.{drop-append-le, take_all, drop_all, take_more_set, length-set, length_push}
 use Rattle.std.proofs.lemmas.List.{append-nil}
-use Rattle.std.proofs.lemmas.List.FromFn.{take-map-range_with_len, map-range_with_len_more}
 use Rattle.std.specs.List.{range_with_len}
 use Rattle.tone_table.specs.declared.tone.Tone.{Tone}
 use Rattle.tone_table.specs.declared.tone.Tone.TheVariants.{Mark}
@@ -12,35 +11,22 @@ use Rattle.nrzi_bits.proofs.LineLemmas.{last_tone-push}
 use Rattle.offset_slicers.specs.Decision.{tone_of}
 use Rattle.offset_slicers.specs.Windows.{windows_in, window_at, tones_at, bits, EndsWindow}
 use Rattle.offset_slicers.specs.Held.{held_of, part_behind, offset_from, StandsFor}
-use Rattle.offset_slicers.proofs.WindowLemmas.{length-tones_at, tones_at-append}
+use Rattle.offset_slicers.proofs.TonesOfWindows.{tones_of-push_none, tones_of-push_one}
 
 -- a sample that ends no window adds no tone
 pub tones_at-push_none : (offset : ℕ) (x : List ℤ) (sample : ℤ)
     → windows_in offset (length x + 1) ≡ windows_in offset (length x)
     → tones_at offset (x ++ sample ∷ []) ≡ tones_at offset x
-tones_at-push_none offset x sample none =
-    let count : length (tones_at offset (x ++ sample ∷ [])) ≡ windows_in offset (length x)
-    = length-tones_at offset (x ++ sample ∷ []) ∙ ap (windows_in offset) (length_push x sample) ∙ none in
-    sym (tones_at-append offset x (sample ∷ []) ∙ take_all (windows_in offset (length x))
-    (tones_at offset (x ++ sample ∷ [])) (omega arith))
+unfolding tones_at window_at
+tones_at-push_none = tones_of-push_none 8 (omega arith) tone_of
 
 -- a sample that ends a window adds the tone of that window
 pub tones_at-push_one : (offset : ℕ) (x : List ℤ) (sample : ℤ)
     → windows_in offset (length x + 1) ≡ windows_in offset (length x) + 1
     → tones_at offset (x ++ sample ∷ [])
     ≡ tones_at offset x ++ tone_of (window_at offset (x ++ sample ∷ []) (windows_in offset (length x))) ∷ []
-unfolding tones_at
-tones_at-push_one offset x sample one =
-    let all : List ℤ = x ++ sample ∷ [] in
-    let n : ℕ = windows_in offset (length x) in
-    let tone : ℕ → Tone = λ k. tone_of (window_at offset all k) in
-    let count : windows_in offset (length all) ≡ n + 1 = ap (windows_in offset) (length_push x sample) ∙ one in
-    let fits : n ≤ windows_in offset (length all) = omega arith in
-    ap (λ m. map tone (range_with_len 0 m)) count
-    ∙ map-range_with_len_more tone 0 n n (omega arith)
-    ∙ ap (λ tones. tones ++ tone n ∷ [])
-    (sym (take-map-range_with_len tone 0 (windows_in offset (length all)) n fits)
-    ∙ sym (tones_at-append offset x (sample ∷ [])))
+unfolding tones_at window_at
+tones_at-push_one = tones_of-push_one 8 (omega arith) tone_of
 
 -- the window that a sample ends
 pub window_at-push : (offset : ℕ) (x : List ℤ) (sample : ℤ) (window : List ℤ) → offset ≤ length x
