@@ -23,7 +23,8 @@ use Rattle.clean_signal.specs.NearSignal.{Received, IsReceived, IsNearAll, trans
 use Rattle.clean_signal.specs.MergedFrames.{MergesTo}
 use Rattle.clean_signal.proofs.Clusters.{Cluster, IsIn, AreApart, IsInOne, HasOne, Rising, Known, merge_keeps}
 use Rattle.clean_signal.proofs.CarriedFrames.{IsFound, all_found}
-use Rattle.clean_signal.proofs.EndLemmas.{Spaced, spaced, octets-true_ends_from}
+use Rattle.clean_signal.proofs.EndsBySize.{Spaced}
+use Rattle.clean_signal.proofs.EndLemmas.{spaced, octets-true_ends_from}
 use Rattle.clean_signal.proofs.NearLemmas.{near_carries, signal_at-carries, signal_at-full}
 
 -- the candidates of a frame that was sent
@@ -31,7 +32,7 @@ abbrev pub cluster_of : TrueEnd → Cluster
 cluster_of e = record { low = e.end - 7; high = e.end + 7; octets = e.octets }
 
 -- clusters of frames that were sent are apart
-pub apart : (ends : List TrueEnd) (place : ℕ) → Spaced place ends → AreApart (place + 7) (map cluster_of ends)
+pub apart : (ends : List TrueEnd) (place : ℕ) → Spaced 8 place ends → AreApart (place + 7) (map cluster_of ends)
 apart [] place spaces = tt
 apart (e ∷ ends) place spaces =
     let far = spaces.0 in

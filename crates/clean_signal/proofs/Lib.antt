@@ -1,5 +1,8 @@
 pub mod Examples
 pub mod Clusters
+pub mod FrameBits
+pub mod EndsBySize
+pub mod FoundFrames
 pub mod CarriedFrames
 pub mod WaveLemmas
 pub mod NearLemmas

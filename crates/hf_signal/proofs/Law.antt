@@ -1,15 +1,14 @@
 -- The law of signals near a clean one: from the candidates of the samples to clusters of them, and from there to the
 -- frames.
-use Rattle.std.proofs.Common.{◌≡◌, ℕ, zero, suc, ◌+◌, ◌-◌, ◌/◌, ◌<◌, ℤ, true, List, [], ◌∷◌, get_or, map, refl, ap, sym}
+use Rattle.std.proofs.Common.{◌≡◌, ℕ, zero, suc, ◌+◌, ◌-◌, ◌/◌, ◌<◌, ℤ, true, List, [], ◌∷◌, get_or, map, refl, ap}
 use Rattle.std.proofs.Common.{subst, ◌∙◌, arith, inl, inr}
 use Rattle.std.specs.Prelude.{nat_lt, ◌&&◌}
-use Rattle.std.specs.List.{All, AllPairs, AllByRecursion, Contains}
+use Rattle.std.specs.List.{All, AllByRecursion}
 use Rattle.std.specs.Str.{bytes_eq}
 use Rattle.std.proofs.lemmas.Bool.{or_cases, and_parts, ltb-true}
-use Rattle.std.proofs.lemmas.List.Elements.{recursion_from_All, All-head, All-tail}
+use Rattle.std.proofs.lemmas.List.Elements.{recursion_from_All}
 use Rattle.std.proofs.lemmas.Slice.Eq.{bytes_eq-Decides}
 use Rattle.frame_merge.specs.declared.candidate.Candidate.{Candidate}
-use Rattle.frame_merge.specs.Order.{standing}
 use Rattle.hf_modem.specs.Candidates.{AreCandidates, candidate_at, end_sample}
 use Rattle.hf_modem.proofs.CandidateLemmas.{end_sample-is}
 use Rattle.afsk_modulator.specs.Modulation.{IsLevel}
@@ -24,16 +23,18 @@ use Rattle.clean_signal.proofs.NearLemmas.{transmissions_of-sent_at}
 use Rattle.hf_modem.specs.Signal.{hf_signal}
 use Rattle.hf_signal.specs.NearSignal.{IsReceived, IsNearAll}
 use Rattle.hf_signal.specs.MergedFrames.{MergesTo}
-use Rattle.clean_signal.proofs.Clusters.{Cluster, IsIn, AreApart, IsInOne, HasOne, Rising, Known, merge_keeps}
+use Rattle.clean_signal.proofs.Clusters.{Cluster, IsIn, AreApart, IsInOne, HasOne, merge_keeps}
 use Rattle.hf_signal.proofs.CarriedFrames.{IsFound, all_found}
-use Rattle.hf_signal.proofs.EndLemmas.{Spaced, spaced, octets-true_ends_from}
+use Rattle.clean_signal.proofs.EndsBySize.{Spaced}
+use Rattle.clean_signal.proofs.Law.{all_known, has_one, rising}
+use Rattle.hf_signal.proofs.EndLemmas.{spaced, octets-true_ends_from}
 use Rattle.hf_signal.proofs.NearLemmas.{near_carries, signal_near, sent_at-good}
 
 -- the candidates of a frame that was sent
 abbrev cluster_of : TrueEnd → Cluster
 cluster_of e = record { low = (e.end - 29) / 4; high = (e.end + 29) / 4; octets = e.octets }
 
-apart : (ends : List TrueEnd) (place : ℕ) → Spaced place ends → AreApart ((place + 29) / 4) (map cluster_of ends)
+apart : (ends : List TrueEnd) (place : ℕ) → Spaced 32 place ends → AreApart ((place + 29) / 4) (map cluster_of ends)
 apart [] place spaces = tt
 apart (e ∷ ends) place spaces =
     let far = spaces.0 in
@@ -56,20 +57,7 @@ in_one item (e ∷ ends) is =
     elim (or_cases (is_of item e) (is_sent ends item) is)
     [ inl here ↦ inl (is_in item e here) | inr later ↦ inr (in_one item ends later) ]
 
-all_known : (items : List Candidate) (place : ℕ) (cs : List Cluster) → All (λ item. IsInOne cs item) items
-    → Known [] place cs items
-all_known [] place cs all = tt
-all_known (item ∷ items) place cs all = (
-  inr (All-head (λ i. IsInOne cs i) item items all),
-  all_known items place cs (All-tail (λ i. IsInOne cs i) item items all),
-)
-
 -- ---- each cluster has a candidate
-
-has_one : (items : List Candidate) (c : Cluster) (item : Candidate) → IsIn c item → Contains items item → HasOne items c
-has_one [] c item is (k, within, there) = absurd (omega arith)
-has_one (first ∷ items) c item is (zero, within, there) = inl (subst (IsIn c) (sym there) is)
-has_one (first ∷ items) c item is (suc k, within, there) = inr (has_one items c item is (k, omega arith, there))
 
 all_have_one : (x : List ℤ) (items : List Candidate) (ends : List TrueEnd) → AreCandidates x items
     → AllByRecursion (IsFound x) ends
@@ -82,24 +70,6 @@ all_have_one x items (e ∷ ends) are ((offset, is), others) =
           (are.whole item is positive),
       all_have_one x items ends are others,
     )
-
--- ---- candidates in order rise
-
-rising_after : (item : Candidate) (items : List Candidate) → AllPairs (λ a b. standing a < standing b) (item ∷ items)
-    → All (λ a. a.offset < 32) (item ∷ items) → Rising item.end items
-rising_after item [] order small = tt
-rising_after item (next ∷ items) order small =
-    let less = order 0 1 item (omega arith) (omega arith) in
-    let low = small 1 item (omega arith) in (
-      omega arith,
-      rising_after next items (λ i j d ij jl. order (suc i) (suc j) d (omega arith) (omega arith))
-          (All-tail (λ a. a.offset < 32) item (next ∷ items) small),
-    )
-
-rising : (items : List Candidate) → AllPairs (λ a b. standing a < standing b) items → All (λ a. a.offset < 32) items
-    → Rising 0 items
-rising [] order small = tt
-rising (item ∷ items) order small = (omega arith, rising_after item items order small)
 
 -- ---- the law
 
@@ -121,7 +91,7 @@ carried_law sent x good carries no_stray items are =
     let cs : List Cluster = map cluster_of (true_ends sent) in
     let known : All (λ item. IsInOne cs item) items = λ k d l. in_one (get_or items k d) (true_ends sent)
     (no_stray (get_or items k d) (are.each k d l).0) in
-    let small : All (λ item. item.offset < 32) items = λ k d l. (are.each k d l).0.offset in
+    let small : All (λ item. item.offset < 256) items = λ k d l. let lane = (are.each k d l).0.offset in omega arith in
     merge_keeps items [] 7 0 cs tt (rising items are.order small) (all_known items 7 cs known)
     (apart (true_ends sent) 0 (spaced sent 0 0 (omega arith) fits))
     (all_have_one x items (true_ends sent) are (all_found sent [] x 0 fits carries refl))

@@ -177,7 +177,8 @@ module _ (by : Correlators) (level : ℕ) (ws xs : List ℤ) (whole : length ws 
   correlation_near tone shift few =
       let weight : ℕ → ℤ = weight_of by tone shift in
       let sums = sums-distance level ws xs weight by.size (λ i below. near.close i (omega arith)) in
-      let same : 1000 * level * sizes_below weight by.size ≡ level * (1000 * sizes_below weight by.size) = grind arith in
+      let sizes : ℕ = sizes_below weight by.size in
+      let same : 1000 * level * sizes ≡ level * (1000 * sizes) = grind arith in
       let most = mul-le-mul_left level (leb-true _ _ few) in
       omega (arith, sums, same, most)
 

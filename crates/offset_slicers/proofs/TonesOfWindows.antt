@@ -74,7 +74,8 @@ module _ (size : ℕ) (some : 0 < size) (tone_of : List ℤ → Tone) where
 
   -- the tones of the first samples are the first of the tones
   pub tones_of-append : (offset : ℕ) (x y : List ℤ)
-      → tones_of size tone_of offset x ≡ take (windows_of size offset (length x)) (tones_of size tone_of offset (x ++ y))
+      → tones_of size tone_of offset x
+      ≡ take (windows_of size offset (length x)) (tones_of size tone_of offset (x ++ y))
   tones_of-append offset x y =
       let n : ℕ = windows_of size offset (length x) in
       let tone : ℕ → Tone = λ k. tone_of (window_of size offset x k) in

@@ -14,7 +14,7 @@ use Rattle.hdlc_framer.proofs.FrameEnds.{length-with_fcs}
 use Rattle.hdlc_framer.proofs.StuffingLemmas.{stuffed_is}
 use Rattle.afsk_modulator.specs.Signal.{Transmission, samples_of, signal}
 use Rattle.clean_signal.specs.GoodTransmission.{sample_count}
-use Rattle.clean_signal.proofs.CarriedFrames.{length-flags}
+use Rattle.clean_signal.proofs.FrameBits.{length-flags}
 use Rattle.clean_signal.proofs.WaveLemmas.{length-samples_of}
 use Rattle.tnc_words.specs.declared.command.LoopWords.{LoopWords}
 use Rattle.tnc_loop.specs.Words.{loop_generator, word_at}
