@@ -1,4 +1,3 @@
-pub mod DecisionLemmas
 pub mod WindowLemmas
 pub mod LastWindow
 pub mod WaveLemmas

@@ -1,14 +1,13 @@
 -- Sums of products, and how large a correlation can be.
 use Rattle.std.proofs.Common.{◌≡◌, ℕ, zero, suc, ◌+◌, ◌*◌, ◌<◌, ◌≤◌, ℤ, pos, ◌+ℤ◌, ◌*ℤ◌, List, map, get_or}
-use Rattle.std.proofs.Common.{unsigned_abs, refl, ap, ◌∙◌, add-one, arith}
-use Rattle.std.proofs.lemmas.Int.{unsigned_abs-mul}
+use Rattle.std.proofs.Common.{unsigned_abs, FitsSigned, to_z, of_z, refl, ap, ◌∙◌, add-one, arith}
+use Rattle.std.proofs.lemmas.Int.{ints, to_z-of_z, unsigned_abs-mul}
+use mir.Syntax.{Width, w16}
 use Rattle.std.proofs.Math.Nat.{mul-le-mul_right}
 use Rattle.std.proofs.lemmas.List.FromFn.{get_or-map-range_with_len}
 use Rattle.std.specs.List.{range_with_len}
-use Rattle.tone_table.specs.declared.tone.Tone.{Tone}
 use Rattle.tone_table.specs.Sine.{wave_sample}
-use Rattle.tone_table.specs.Tones.{phase_step}
-use Rattle.offset_slicers.specs.Decision.{sum_below, product_of, product_at}
+use Rattle.offset_slicers.specs.Decision.{sum_below, product_of}
 
 -- sums of numbers that agree are equal
 pub sum_below-agree : (f g : ℕ → ℤ) (n : ℕ) → ((i : ℕ) → i < n → f i ≡ g i) → sum_below f n ≡ sum_below g n
@@ -31,12 +30,30 @@ unsigned_abs-product sample weight fits =
     mul-le-mul_right (unsigned_abs weight) fits in
     omega (arith, unsigned_abs-mul sample weight)
 
--- a table that holds a tone's wave, some steps on
-pub sum_below-product_at : (tone : Tone) (shift : ℕ) (window weights : List ℤ)
-    → weights ≡ map (λ i. wave_sample (i * phase_step tone + shift)) (range_with_len 0 8)
-    → sum_below (product_of window weights) 8 ≡ sum_below (product_at tone shift window) 8
-sum_below-product_at tone shift window weights table =
-    sum_below-agree (product_of window weights) (product_at tone shift window) 8
+-- the product of a sample and a weight as it is passed and given back
+pub product_is : (sample weight product : ℤ) → FitsSigned w16 sample → FitsSigned w16 weight
+    → product ≡ to_z w16 (of_z w16 sample) *ℤ to_z w16 (of_z w16 weight) → product ≡ sample *ℤ weight
+product_is sample weight product sample_fits weight_fits is = simp to_z-of_z at is
+
+pub product_bound : (sample weight product : ℤ) → FitsSigned w16 sample → product ≡ sample *ℤ weight
+    → unsigned_abs product ≤ 32768 * unsigned_abs weight
+product_bound sample weight product fits is =
+    let small : unsigned_abs sample ≤ 32768 = omega (arith, ints) in
+    rw is (unsigned_abs-product sample weight small)
+
+-- a sum with one number more, if it fits
+pub sum_is : (w : Width) (sum more : ℤ) → FitsSigned w more → FitsSigned w (sum +ℤ more)
+    → to_z w (of_z w (sum +ℤ to_z w (of_z w more))) ≡ sum +ℤ more
+sum_is w sum more more_fits fits =
+    ap (λ z. to_z w (of_z w (sum +ℤ z))) (to_z-of_z w more more_fits) ∙ to_z-of_z w (sum +ℤ more) fits
+
+-- a table that holds so many samples of a wave, from a phase on
+pub sum_below-wave : (size step shift : ℕ) (window weights : List ℤ)
+    → weights ≡ map (λ i. wave_sample (i * step + shift)) (range_with_len 0 size)
+    → sum_below (product_of window weights) size
+    ≡ sum_below (λ i. get_or window i (pos 0) *ℤ wave_sample (i * step + shift)) size
+sum_below-wave size step shift window weights table =
+    sum_below-agree (product_of window weights) (λ i. get_or window i (pos 0) *ℤ wave_sample (i * step + shift)) size
     (λ i below. ap (λ w. get_or window i (pos 0) *ℤ w)
     (ap (λ ws. get_or ws i (pos 0)) table
-    ∙ get_or-map-range_with_len (λ k. wave_sample (k * phase_step tone + shift)) 0 8 i i (pos 0) below (omega arith)))
+    ∙ get_or-map-range_with_len (λ k. wave_sample (k * step + shift)) 0 size i i (pos 0) below (omega arith)))

@@ -2,8 +2,9 @@ use Rattle.std.proofs.Common.{rules, FitsSigned, w64, refl, ◌∙◌}
 use Rattle.std.proofs.lemmas.Int.{to_z-of_z}
 use Rattle.tone_table.specs.declared.tone.Tone.TheVariants.{Mark, Space}
 use Rattle.tone_table.specs.Sine.{quarter, half_wave, cycle_sample, wave_sample}
+use Rattle.hf_modem.specs.Tones.{phase_step}
 use Rattle.hf_modem.specs.Decision.{sine_sum, cosine_sum}
-use Rattle.hf_modem.proofs.DecisionLemmas.{sum_below-product_at}
+use Rattle.offset_slicers.proofs.DecisionLemmas.{sum_below-wave}
 use Rattle.hf_modem.proofs.correlators.correlate.Goals as goal
 
 pub returns-clause-sums : goal.returns-clause-sums
@@ -14,8 +15,12 @@ returns-clause-sums c =
     let b : FitsSigned w64 c.sum_of_products-2.result = search rules in
     let d : FitsSigned w64 c.sum_of_products-3.result = search rules in
     let e : FitsSigned w64 c.sum_of_products-4.result = search rules in
-    let mark_sine = to_z-of_z w64 _ a ∙ c.sum_of_products.ensures.sum ∙ sum_below-product_at Mark 0 w _ refl in
-    let mark_cosine = to_z-of_z w64 _ b ∙ c.sum_of_products-2.ensures.sum ∙ sum_below-product_at Mark 12 w _ refl in
-    let space_sine = to_z-of_z w64 _ d ∙ c.sum_of_products-3.ensures.sum ∙ sum_below-product_at Space 0 w _ refl in
-    let space_cosine = to_z-of_z w64 _ e ∙ c.sum_of_products-4.ensures.sum ∙ sum_below-product_at Space 12 w _ refl in
+    let mark_sine = to_z-of_z w64 _ a ∙ c.sum_of_products.ensures.sum
+    ∙ sum_below-wave 32 (phase_step Mark) 0 w _ refl in
+    let mark_cosine = to_z-of_z w64 _ b ∙ c.sum_of_products-2.ensures.sum
+    ∙ sum_below-wave 32 (phase_step Mark) 12 w _ refl in
+    let space_sine = to_z-of_z w64 _ d ∙ c.sum_of_products-3.ensures.sum
+    ∙ sum_below-wave 32 (phase_step Space) 0 w _ refl in
+    let space_cosine = to_z-of_z w64 _ e ∙ c.sum_of_products-4.ensures.sum
+    ∙ sum_below-wave 32 (phase_step Space) 12 w _ refl in
     cc (mark_sine, mark_cosine, space_sine, space_cosine)
