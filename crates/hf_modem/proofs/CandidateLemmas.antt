@@ -1,10 +1,11 @@
 -- The candidates of samples, with one sample more.
 use Rattle.std.proofs.Common.{◌≡◌, ℕ, ◌+◌, ◌*◌, ◌/◌, ◌%◌, ◌<◌, ◌≤◌, ℤ, List, [], ◌++◌, length, get_or, take, ap, sym}
-use Rattle.std.proofs.Common.{◌∙◌, arith, subst, length-append, inl, inr}
+use Rattle.std.proofs.Common.{◌∙◌, arith, subst, inl, inr}
 use Rattle.std.proofs.lemmas.Bool.{cases_lt}
-use Rattle.std.proofs.lemmas.List.{take-take, take_all}
+use Rattle.std.proofs.lemmas.List.{take_all}
 use Rattle.std.proofs.lemmas.List.Elements.{All-append, All-nil, Contains-append_left, Contains-append_right}
 use Rattle.hf_modem.specs.Windows.{bits, windows_in}
+use Rattle.offset_slicers.proofs.TonesOfWindows.{first_of}
 use Rattle.hf_modem.proofs.WindowLemmas.{length-bits, bits-append}
 use Rattle.hdlc_framer.specs.Frames.{EndsFrame}
 use Rattle.frame_merge.specs.declared.candidate.Candidate.{Candidate}
@@ -52,24 +53,24 @@ standing-rises x item later h k less =
 
 -- the bits that the first samples give
 first_bits : (offset : ℕ) (x y : List ℤ) (index : ℕ) → index < length (bits offset x)
-    → take (index + 1) (bits offset (x ++ y)) ≡ take (index + 1) (bits offset x)
-first_bits offset x y index l =
-    let n = length-bits offset x in
-    sym (ap (take (index + 1)) (bits-append offset x y)
-    ∙ take-take (index + 1) (windows_in offset (length x)) (bits offset (x ++ y)) (omega arith))
+    → (index < length (bits offset (x ++ y)))
+    × (take (index + 1) (bits offset (x ++ y)) ≡ take (index + 1) (bits offset x))
+first_bits offset x y index =
+    first_of (bits offset x) (bits offset (x ++ y)) (windows_in offset (length x)) index (bits-append offset x y)
 
 -- a candidate of the first samples is one of them all
 pub candidate_more : (x y : List ℤ) (item : Candidate) → IsCandidate x item → IsCandidate (x ++ y) item
-candidate_more x y item h = record {
-  offset = h.offset;
-  index = h.index;
-  ends = record {
-    within = (let n = length-bits item.offset x in let m = length-bits item.offset (x ++ y) in let len =
-        length-append x y in let w = h.ends.within in omega arith);
-    end_of = h.ends.end_of;
-    frame = subst (λ b. EndsFrame b item.octets) (sym (first_bits item.offset x y h.index h.ends.within)) h.ends.frame;
-  };
-}
+candidate_more x y item h =
+    let first = first_bits item.offset x y h.index h.ends.within in
+    record {
+      offset = h.offset;
+      index = h.index;
+      ends = record {
+        within = first.0;
+        end_of = h.ends.end_of;
+        frame = subst (λ b. EndsFrame b item.octets) (sym first.1) h.ends.frame;
+      };
+    }
 
 -- a candidate that ends within the first samples is one of them
 pub candidate_less : (x y : List ℤ) (item : Candidate) → IsCandidate (x ++ y) item → end_sample item ≤ length x
@@ -84,8 +85,7 @@ candidate_less x y item h e =
       ends = record {
         within = within;
         end_of = h.ends.end_of;
-        frame =
-            subst (λ b. EndsFrame b item.octets) (first_bits item.offset x y h.index within) h.ends.frame;
+        frame = subst (λ b. EndsFrame b item.octets) (first_bits item.offset x y h.index within).1 h.ends.frame;
       };
     }
 

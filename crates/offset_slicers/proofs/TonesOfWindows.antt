@@ -1,10 +1,11 @@
 -- The tones of samples that are put together and cut, whatever the size of a window and the decision of its tone.
 use Rattle.std.proofs.Common.{◌≡◌, ℕ, zero, suc, ◌+◌, ◌-◌, ◌*◌, ◌/◌, ◌<◌, ◌≤◌, ℤ, List, [], ◌∷◌, ◌++◌, length, map}
-use Rattle.std.proofs.Common.{take, drop, refl, ap, sym, ◌∙◌, arith, length-append, length-drop}
+use Rattle.std.proofs.Common.{take, drop, min, refl, ap, sym, ◌∙◌, arith, length-append, length-drop}
 use Rattle.std.proofs.Math.Nat.{mul-add, mul-le-mul_left, mul-div-le, div-mul-le_self, mul-div_cancel_left, mul-add-div}
 use Rattle.std.proofs.Math.Seq.{drop-append-add}
 use Rattle.std.proofs.lemmas.Nat.{le-div}
 use Rattle.std.proofs.lemmas.List.{take-append-le, drop-append-le, append-nil, append_assoc, take_all, length_push}
+use Rattle.std.proofs.lemmas.List.{length-take, take-take}
 use Rattle.std.proofs.lemmas.List.FromFn.{length-map-range_with_len, get_or-map-range_with_len, take-map-range_with_len}
 use Rattle.std.proofs.lemmas.List.FromFn.{map-range_with_len_more, fill_by_all}
 use Rattle.std.specs.List.{range_with_len}
@@ -32,6 +33,13 @@ map_split f q (suc n) =
 map-agree : {X : Type 0} (f g : ℕ → X) (ks : List ℕ) → ((k : ℕ) → f k ≡ g k) → map f ks ≡ map g ks
 map-agree f g [] agree = refl
 map-agree f g (k ∷ ks) agree = ap (λ y. y ∷ map f ks) (agree k) ∙ ap (λ ys. g k ∷ ys) (map-agree f g ks agree)
+
+-- the first of a list's items, if it is the beginning of another
+pub first_of : {A : Type 0} (xs ys : List A) (n index : ℕ) → xs ≡ take n ys → index < length xs
+    → (index < length ys) × (take (index + 1) ys ≡ take (index + 1) xs)
+first_of xs ys n index is below =
+    let size : length xs ≡ min n (length ys) = ap length is ∙ length-take n ys in
+    (omega arith, sym (ap (take (index + 1)) is ∙ take-take (index + 1) n ys (omega arith)))
 
 -- ---- windows and tones
 
