@@ -1,12 +1,9 @@
 -- Each frame of carried transmissions is a candidate, exactly at its true end: the slicer whose windows are those of
 -- the transmission hears it.
-use Rattle.std.proofs.Common.{◌≡◌, ℕ, ◌+◌, ◌*◌, ◌/◌, ◌%◌, ℤ, Bool, false, List, ◌∷◌, ◌++◌, length, ap, subst, ◌∙◌}
+use Rattle.std.proofs.Common.{◌≡◌, ℕ, ◌+◌, ◌*◌, ◌/◌, ◌%◌, ℤ, Bool, List, ◌++◌, length, subst, ◌∙◌}
 use Rattle.std.proofs.Common.{arith, append_assoc}
 use Rattle.std.specs.List.{AllByRecursion}
-use Rattle.tone_table.specs.declared.tone.Tone.{Tone}
-use Rattle.tone_table.specs.declared.tone.Tone.TheVariants.{Mark}
-use Rattle.nrzi_bits.specs.Line.{sent_tone, line, same_tone, bits_from, last_tone}
-use Rattle.nrzi_bits.proofs.LineLemmas.{bits_from-line_from}
+use Rattle.nrzi_bits.specs.Line.{line, last_tone}
 use Rattle.hdlc_framer.specs.Stuffing.{flag}
 use Rattle.hdlc_framer.specs.Frames.{IsFrame}
 use Rattle.frame_merge.specs.declared.candidate.Candidate.{Candidate}
@@ -27,17 +24,6 @@ use Rattle.clean_signal.proofs.FoundFrames.{all_found_by}
 abbrev pub IsFound : List ℤ → TrueEnd → Type 0
 IsFound x sent = (offset : ℕ) × IsCandidate x (candidate_at sent.end offset sent.octets)
 
--- after whole windows of anything, all carried bits but the first are heard
-bits_carried : (offset q : ℕ) (p part : List ℤ) (bit : Bool) (sent : List Bool) → length p ≡ offset + 8 * q
-    → Carries (line (bit ∷ sent)) part
-    → bits offset (p ++ part) ≡ bits offset p ++ same_tone (last_tone (tones_at offset p)) (sent_tone Mark bit) ∷ sent
-bits_carried offset q p part bit sent whole carries =
-    let before : Tone = last_tone (tones_at offset p) in
-    bits-aligned offset q p part whole
-    ∙ ap (λ tones. bits offset p ++ bits_from before tones) carries.decided
-    ∙ ap (λ bs. bits offset p ++ same_tone before (sent_tone Mark bit) ∷ bs)
-    (bits_from-line_from (sent_tone Mark bit) sent)
-
 -- where windows carry a frame and the flags before and after it, the frame is a candidate
 frame_found : (p part rest : List ℤ) (octets : List ℕ) (mid post : List Bool) → IsFrame octets
     → Carries (line (flag ++ (upto mid octets ++ post))) part
@@ -48,9 +34,8 @@ frame_found p part rest octets mid post fits carries =
     let q : ℕ = length p / 8 in
     let item : Candidate = candidate_at (length p + 8 * length (flag ++ upto mid octets)) offset octets in
     let index : ℕ = length (bits offset p) + length (flag_tail ++ upto mid octets) in
-    let ends = frame_ends (bits offset (p ++ part)) (bits offset p)
-    (same_tone (last_tone (tones_at offset p)) (sent_tone Mark false)) mid post octets fits
-    (bits_carried offset q p part false ((flag_tail ++ upto mid octets) ++ post) (omega arith) carries) in
+    let ends = frame_ends (bits offset (p ++ part)) (bits offset p) (last_tone (tones_at offset p)) (tones_at 0 part)
+    mid post octets fits (bits-aligned offset q p part (omega arith)) carries.decided in
     let count : length (bits offset p) ≡ q = length-bits offset p ∙ omega arith in
     let end : length p + 8 * length (flag ++ upto mid octets) ≡ offset + 8 * (index + 1) = omega arith in
     let heard : IsCandidate (p ++ part) item = record {

@@ -2,6 +2,10 @@
 use Rattle.std.proofs.Common.{◌≡◌, ℕ, zero, suc, ◌+◌, ◌*◌, ◌<◌, ◌≤◌, Bool, true, false, List, [], ◌∷◌, ◌++◌, length}
 use Rattle.std.proofs.Common.{take, refl, ap, sym, subst, ◌∙◌, arith, length-append, append_assoc, add-one}
 use Rattle.std.proofs.lemmas.List.{take_at}
+use Rattle.tone_table.specs.declared.tone.Tone.{Tone}
+use Rattle.tone_table.specs.declared.tone.Tone.TheVariants.{Mark}
+use Rattle.nrzi_bits.specs.Line.{sent_tone, line, same_tone, bits_from}
+use Rattle.nrzi_bits.proofs.LineLemmas.{bits_from-line_from}
 use Rattle.hdlc_framer.specs.BitOrder.{sent_bits}
 use Rattle.hdlc_framer.specs.Body.{flags, joined, body}
 use Rattle.hdlc_framer.specs.Counted.{stuffed_from}
@@ -22,15 +26,20 @@ upto mid octets = mid ++ (flag ++ (frame_bits octets ++ flag))
 abbrev pub flag_tail : List Bool
 flag_tail = true ∷ true ∷ true ∷ true ∷ true ∷ true ∷ false ∷ []
 
--- if bits heard go on, after some, with those up to the flag after a frame, the frame ends there
-pub frame_ends : (heard before : List Bool) (c : Bool) (mid post : List Bool) (octets : List ℕ) → IsFrame octets
-    → heard ≡ before ++ c ∷ ((flag_tail ++ upto mid octets) ++ post)
+-- If the bits heard after some are those of tones that carry a frame and the flags before and after it, the frame ends
+-- there. The first bit of the first flag, which the tone before it decides, may be lost.
+pub frame_ends : (heard before : List Bool) (last : Tone) (tones : List Tone) (mid post : List Bool) (octets : List ℕ)
+    → IsFrame octets → heard ≡ before ++ bits_from last tones → tones ≡ line (flag ++ (upto mid octets ++ post))
     → (length before + length (flag_tail ++ upto mid octets) < length heard)
     × EndsFrame (take ((length before + length (flag_tail ++ upto mid octets)) + 1) heard) octets
-frame_ends heard before c mid post octets fits is =
+frame_ends heard before last tones mid post octets fits is carried =
+    let c : Bool = same_tone last (sent_tone Mark false) in
     let tail : List Bool = flag_tail ++ upto mid octets in
+    let sent : heard ≡ before ++ c ∷ (tail ++ post) = is
+    ∙ ap (λ ts. before ++ bits_from last ts) carried
+    ∙ ap (λ bs. before ++ c ∷ bs) (bits_from-line_from (sent_tone Mark false) (tail ++ post)) in
     let front : List Bool = before ++ c ∷ tail in
-    let parts : heard ≡ front ++ post = is ∙ sym (append_assoc before (c ∷ tail) post) in
+    let parts : heard ≡ front ++ post = sent ∙ sym (append_assoc before (c ∷ tail) post) in
     let size : length front ≡ (length before + length tail) + 1 = omega (arith, length-append before (c ∷ tail)) in
     let all : length heard ≡ length front + length post = ap length parts ∙ length-append front post in
     let cut : take ((length before + length tail) + 1) heard ≡ front

@@ -1,12 +1,13 @@
 -- The law of signals near a clean one: from the candidates of the samples to clusters of them, and from there to the
 -- frames.
-use Rattle.std.proofs.Common.{◌≡◌, ℕ, zero, suc, ◌+◌, ◌-◌, ◌/◌, ◌<◌, ℤ, true, List, [], ◌∷◌, get_or, map, refl, ap}
+use Rattle.std.proofs.Common.{◌≡◌, ℕ, zero, suc, ◌+◌, ◌-◌, ◌/◌, ◌<◌, ℤ, true, List, [], ◌∷◌, get_or, map, refl}
 use Rattle.std.proofs.Common.{subst, ◌∙◌, arith, inl, inr}
 use Rattle.std.specs.Prelude.{nat_lt, ◌&&◌}
 use Rattle.std.specs.List.{All, AllByRecursion}
 use Rattle.std.specs.Str.{bytes_eq}
 use Rattle.std.proofs.lemmas.Bool.{or_cases, and_parts, ltb-true}
 use Rattle.std.proofs.lemmas.List.Elements.{recursion_from_All}
+use Rattle.std.proofs.lemmas.Simd.{map-map}
 use Rattle.std.proofs.lemmas.Slice.Eq.{bytes_eq-Decides}
 use Rattle.frame_merge.specs.declared.candidate.Candidate.{Candidate}
 use Rattle.hf_modem.specs.Candidates.{AreCandidates, candidate_at, end_sample}
@@ -73,10 +74,6 @@ all_have_one x items (e ∷ ends) are ((offset, is), others) =
 
 -- ---- the law
 
-octets-clusters : (ends : List TrueEnd) → map (λ c. c.octets) (map cluster_of ends) ≡ map (λ e. e.octets) ends
-octets-clusters [] = refl
-octets-clusters (e ∷ ends) = ap (λ os. e.octets ∷ os) (octets-clusters ends)
-
 pub all_transmissions : (received : List Received) → AllByRecursion IsReceived received
     → All IsTransmission (transmissions_of received)
 all_transmissions [] good k d l = absurd (omega arith)
@@ -95,7 +92,7 @@ carried_law sent x good carries no_stray items are =
     merge_keeps items [] 7 0 cs tt (rising items are.order small) (all_known items 7 cs known)
     (apart (true_ends sent) 0 (spaced sent 0 0 (omega arith) fits))
     (all_have_one x items (true_ends sent) are (all_found sent [] x 0 fits carries refl))
-    ∙ octets-clusters (true_ends sent) ∙ octets-true_ends_from sent 0
+    ∙ map-map (λ c. c.octets) cluster_of (true_ends sent) ∙ octets-true_ends_from sent 0
 
 -- so do samples near them
 pub near_law : (received : List Received) (x : List ℤ) → All IsReceived received → IsNearAll received x
