@@ -11,13 +11,15 @@ pub loop-i-init : goal.loop-i-init
 unfolding sum_below
 loop-i-init c = record { so_far = refl; bound = omega arith }
 
--- a product as it is widened
-wide_is : (sample weight product wide : ℤ) → FitsSigned w16 sample → FitsSigned w16 weight → product ≡ sample *ℤ weight
+-- a product as it is given back and then widened
+wide_is : (sample weight product wide : ℤ) → FitsSigned w16 sample → FitsSigned w16 weight
+    → product ≡ to_z w16 (of_z w16 sample) *ℤ to_z w16 (of_z w16 weight)
     → wide ≡ to_z w32 (of_z w32 product) → wide ≡ sample *ℤ weight
 wide_is sample weight product wide sample_fits weight_fits value is =
     let fits : FitsSigned w32 (sample *ℤ weight) = fits_signed_mul w32 sample weight 32768 32768 (omega (arith, ints))
     (omega (arith, ints)) (omega arith) in
-    is ∙ ap (λ z. to_z w32 (of_z w32 z)) value ∙ to_z-of_z w32 (sample *ℤ weight) fits
+    is ∙ ap (λ z. to_z w32 (of_z w32 z)) (product_is sample weight product sample_fits weight_fits value)
+    ∙ to_z-of_z w32 (sample *ℤ weight) fits
 
 pub overflow_add-sum : goal.overflow_add-sum
 overflow_add-sum c =
@@ -26,10 +28,8 @@ overflow_add-sum c =
     let i = c.loop-i.i in
     let sample : FitsSigned w16 (get_or window i (pos 0)) = search rules in
     let weight : FitsSigned w16 (get_or weights i (pos 0)) = search rules in
-    let value : c.product.result ≡ get_or window i (pos 0) *ℤ get_or weights i (pos 0) =
-    product_is _ _ _ sample weight c.product.ensures in
     let wide : c.from-sum.result ≡ get_or window i (pos 0) *ℤ get_or weights i (pos 0) =
-    wide_is _ _ _ _ sample weight value c.from-sum.ensures in
+    wide_is _ _ _ _ sample weight c.product.ensures c.from-sum.ensures in
     let bound = product_bound _ _ _ sample wide in
     let inside : i < length weights = search rules in
     omega (arith, ints, sum_by_more_le unsigned_abs weights i (pos 0) inside, bound)
@@ -41,10 +41,8 @@ loop-i-preserved c =
     let i = c.loop-i.i in
     let sample : FitsSigned w16 (get_or window i (pos 0)) = search rules in
     let weight : FitsSigned w16 (get_or weights i (pos 0)) = search rules in
-    let value : c.product.result ≡ get_or window i (pos 0) *ℤ get_or weights i (pos 0) =
-    product_is _ _ _ sample weight c.product.ensures in
     let wide : c.from-sum.result ≡ get_or window i (pos 0) *ℤ get_or weights i (pos 0) =
-    wide_is _ _ _ _ sample weight value c.from-sum.ensures in
+    wide_is _ _ _ _ sample weight c.product.ensures c.from-sum.ensures in
     let bound = product_bound _ _ _ sample wide in
     let inside : i < length weights = search rules in
     let so_far : to_z w64 c.loop-i.sum-bits ≡ sum_below (product_of window weights) i = c.loop-i.invariant.so_far in
