@@ -1,5 +1,5 @@
 use Rattle.sensitive_receiver.proofs.VisitedLanes.{Visited}
-use Rattle.sensitive_receiver.proofs.hearing.hear_each.Given as goal
+use Rattle.sensitive_receiver.proofs.hearing.hear_clocked.Given as goal
 
 abbrev pub invariant-loop-index : goal.invariant-loop-index
 invariant-loop-index l
