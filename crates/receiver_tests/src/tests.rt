@@ -1,0 +1,16 @@
+mod assertions;
+mod bank;
+mod decoder;
+mod hf_decoder;
+mod hf_sent;
+mod laws;
+mod meeting;
+mod noisy_signal;
+mod places;
+mod publishing;
+mod receiver;
+mod ring_bank;
+mod sensitive_decoder;
+mod true_end;
+mod wide_bank;
+mod worked_signal;
