@@ -27,7 +27,8 @@ loop-index-init c = visited_none c.args.lists.now c.args.readings.now c.args.lan
 
 pub hear-requires-clause-reads : goal.hear-requires-clause-reads
 hear-requires-clause-reads c =
-    c.requires.clock c.loop-index.index c.loop-index.invariant.least c.loop-index-test.true
+    let test = c.loop-index-test.true in
+    c.requires.clock c.loop-index.index c.loop-index.invariant.least (omega arith)
     ∙ sym c.are_for.ensures ∙ c.if-not-are_for.false
 
 pub loop-index-preserved : goal.loop-index-preserved
