@@ -1,5 +1,7 @@
 mod assertions;
 mod bank;
+mod block_decoder;
+mod blocks;
 mod decoder;
 mod hf_decoder;
 mod hf_sent;

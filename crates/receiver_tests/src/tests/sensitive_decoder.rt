@@ -3,6 +3,7 @@
 ghost use Rattle.std.specs.Prelude.{◌≡◌, ◌+◌, ◌<◌, ◌≤◌, ◌^◌, length as count, false, OnOk};
 
 use crate::tests::assertions::assert_equal;
+use crate::tests::blocks::items_in_blocks;
 use crate::tests::noisy_signal::{SILENCE, in_noise, slow};
 use crate::tests::places::note;
 use crate::tests::worked_signal::transmission;
@@ -56,48 +57,8 @@ fn frames_that_the_eight_lanes_miss_are_heard(rt: HostRuntime) -> Result<(), Fai
     Ok(())
 }
 
-/// Notes the items that a decoder gives of samples in blocks of one length, before it is finished.
-fn note_blocks<R: Abort>(
-    rt: &R,
-    decoder: &mut SensitiveDecoder,
-    places: &mut Vec<(u64, u8)>,
-    samples: &[i16],
-    length: usize,
-) -> Result<(), OutOfMemory>
-    requires some { 0 < length }
-    requires most { length ≤ 2048 }
-    requires room { decoder.old.position + count samples.now < 2 ^ 48 }
-    requires unfinished { decoder.old.finished ≡ false }
-{
-    let mut rest = samples;
-    while !rest.is_empty() {
-        let (block, after) = rest.split_at(length.min(rest.len()));
-        note(rt, places, decoder.block(block)?)?;
-        rest = after;
-    }
-    Ok(())
-}
-
-/// The items of samples in blocks of one length.
-fn items_in_blocks<R: Abort>(
-    rt: &R,
-    alloc: Global,
-    samples: &[i16],
-    length: usize,
-) -> Result<Vec<(u64, u8)>, OutOfMemory>
-    requires some { 0 < length }
-    requires most { length ≤ 2048 }
-    requires few { count samples.now < 2 ^ 32 }
-{
-    let mut decoder = SensitiveDecoder::new(alloc)?;
-    let mut places = Vec::new(alloc);
-    note_blocks(rt, &mut decoder, &mut places, samples, length)?;
-    note(rt, &mut places, decoder.finish()?)?;
-    Ok(places)
-}
-
 /// Ends the test unless blocks of any length give one item.
-fn assert_one_item<R: Abort>(
+fn assert_one_item<R: Abort + Threads + Sync>(
     rt: &R,
     alloc: Global,
     samples: &[i16],
@@ -106,7 +67,7 @@ fn assert_one_item<R: Abort>(
     requires { count samples.now < 2 ^ 32 }
 {
     for length in [1, 7, 23, 24, 25, 96, 2048] {
-        let items = items_in_blocks(rt, alloc, samples, length)?;
+        let items = items_in_blocks::<SensitiveDecoder, _>(rt, alloc, samples, length, None)?;
         assert_equal(
             rt,
             &(length, items.as_slice()),

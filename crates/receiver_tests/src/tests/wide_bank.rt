@@ -1,81 +1,14 @@
 //! The worked transmission at 48,000 samples a second, on one thread and on two.
 
-ghost use Rattle.std.specs.Prelude.{◌≡◌, ◌+◌, ◌<◌, ◌≤◌, ◌^◌, length as count, false, OnOk};
-
 use crate::tests::assertions::assert_equal;
+use crate::tests::blocks::items_in_blocks;
 use crate::tests::meeting::Meeting;
-use crate::tests::places::note;
 use crate::tests::worked_signal::{transmission, wide};
 use clean_signal::TrueEnd;
 use frame_merge::Candidate;
-use std::alloc::Global;
-use std::process::Abort;
 use std::test::Fail;
-use std::thread::Threads;
-use tnc_base::{Octets, OutOfMemory};
+use tnc_base::Octets;
 use wide_input::{WideBank, is_sent_wide};
-
-/// The items that a block settles, on two threads if there is a gate.
-fn items_of_block<R: Threads + Sync>(
-    rt: &R,
-    bank: &mut WideBank,
-    block: &[i16],
-    gate: Option<&Meeting>,
-) -> Result<Vec<Candidate>, OutOfMemory>
-    requires few { count block.now ≤ 2048 }
-    requires room { bank.old.position + count block.now < 2 ^ 48 }
-    requires unfinished { bank.old.finished ≡ false }
-    ensures position { OnOk result (bank.new.position ≡ bank.old.position + count block.now) }
-    ensures unfinished { bank.new.finished ≡ false }
-{
-    match gate {
-        Some(gate) => bank.block_threads(rt, block, gate),
-        None => bank.block(block),
-    }
-}
-
-/// Notes the items that a decoder gives of samples in blocks of one length, before it is finished.
-fn note_blocks<R: Abort + Threads + Sync>(
-    rt: &R,
-    bank: &mut WideBank,
-    places: &mut Vec<(u64, u8)>,
-    samples: &[i16],
-    length: usize,
-    gate: Option<&Meeting>,
-) -> Result<(), OutOfMemory>
-    requires some { 0 < length }
-    requires most { length ≤ 2048 }
-    requires room { bank.old.position + count samples.now < 2 ^ 48 }
-    requires unfinished { bank.old.finished ≡ false }
-{
-    let mut rest = samples;
-    while !rest.is_empty() {
-        let (block, after) = rest.split_at(length.min(rest.len()));
-        let items = items_of_block(rt, bank, block, gate)?;
-        note(rt, places, items)?;
-        rest = after;
-    }
-    Ok(())
-}
-
-/// The items of samples in blocks of one length, on two threads if there is a gate.
-fn items_in_blocks<R: Abort + Threads + Sync>(
-    rt: &R,
-    alloc: Global,
-    samples: &[i16],
-    length: usize,
-    gate: Option<&Meeting>,
-) -> Result<Vec<(u64, u8)>, OutOfMemory>
-    requires some { 0 < length }
-    requires most { length ≤ 2048 }
-    requires few { count samples.now < 2 ^ 32 }
-{
-    let mut bank = WideBank::new(alloc)?;
-    let mut places = Vec::new(alloc);
-    note_blocks(rt, &mut bank, &mut places, samples, length, gate)?;
-    note(rt, &mut places, bank.finish()?)?;
-    Ok(places)
-}
 
 // After three zeros the streams 3 and 4 have the transmission from their first sample on, and stream 3 is the lower one.
 #[test]
@@ -84,7 +17,7 @@ fn a_transmission_of_repeated_samples_gives_one_item(rt: HostRuntime) -> Result<
     for (zeros, length, lane) in [(0, 2048, 6), (0, 333, 6), (3, 2048, 30), (3, 1, 30)] {
         let samples = wide(rt.alloc(), &sent, zeros)?;
         assert!(rt; samples.len() < 7000);
-        let items = items_in_blocks(&rt, rt.alloc(), &samples, length, None)?;
+        let items = items_in_blocks::<WideBank, _>(&rt, rt.alloc(), &samples, length, None)?;
         assert_equal(
             &rt,
             &(zeros, length, items.as_slice()),
@@ -101,10 +34,10 @@ fn lanes_of_two_streams_meet_on_two_threads(rt: HostRuntime) -> Result<(), Fail>
     assert!(rt; samples.len() == 6480);
     let meeting = Meeting::with_lane(39);
     let (first, _) = samples.split_at(2000);
-    let items = items_in_blocks(&rt, rt.alloc(), first, 2000, Some(&meeting))?;
+    let items = items_in_blocks::<WideBank, _>(&rt, rt.alloc(), first, 2000, Some(&meeting))?;
     assert_equal(&rt, &items.len(), &0);
     assert_equal(&rt, &meeting.counts(), &[1, 1, 0]);
-    let items = items_in_blocks(&rt, rt.alloc(), &samples, 2048, Some(&meeting))?;
+    let items = items_in_blocks::<WideBank, _>(&rt, rt.alloc(), &samples, 2048, Some(&meeting))?;
     assert_equal(&rt, &items.as_slice(), &[(1294, 6)].as_slice());
     Ok(())
 }
