@@ -8,22 +8,4 @@
 #![tactic(auto)]
 
 #[cfg(test)]
-mod assertions;
-#[cfg(test)]
-mod base;
-#[cfg(test)]
-mod bench;
-#[cfg(test)]
-mod decode;
-#[cfg(test)]
-mod encode;
-#[cfg(test)]
-mod forms;
-#[cfg(test)]
-mod loop_back;
-#[cfg(test)]
-mod show;
-#[cfg(test)]
-mod wav;
-#[cfg(test)]
-mod words;
+mod tests;

@@ -5,24 +5,4 @@
 #![tactic(auto)]
 
 #[cfg(test)]
-mod address;
-#[cfg(test)]
-mod assertions;
-#[cfg(test)]
-mod frames;
-#[cfg(test)]
-mod incoming;
-#[cfg(test)]
-mod machine;
-#[cfg(test)]
-mod monitor;
-#[cfg(test)]
-mod outgoing;
-#[cfg(test)]
-mod packets;
-#[cfg(test)]
-mod repeater;
-#[cfg(test)]
-mod script;
-#[cfg(test)]
-mod world;
+mod tests;

@@ -7,34 +7,4 @@
 #![tactic(auto)]
 
 #[cfg(test)]
-mod assertions;
-#[cfg(test)]
-mod bank;
-#[cfg(test)]
-mod decoder;
-#[cfg(test)]
-mod hf_decoder;
-#[cfg(test)]
-mod hf_sent;
-#[cfg(test)]
-mod laws;
-#[cfg(test)]
-mod meeting;
-#[cfg(test)]
-mod noisy_signal;
-#[cfg(test)]
-mod places;
-#[cfg(test)]
-mod publishing;
-#[cfg(test)]
-mod receiver;
-#[cfg(test)]
-mod ring_bank;
-#[cfg(test)]
-mod sensitive_decoder;
-#[cfg(test)]
-mod true_end;
-#[cfg(test)]
-mod wide_bank;
-#[cfg(test)]
-mod worked_signal;
+mod tests;

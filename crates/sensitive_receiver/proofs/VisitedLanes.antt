@@ -5,8 +5,9 @@ use Rattle.std.proofs.lemmas.List.{length-set}
 use Rattle.frame_merge.specs.declared.candidate.Candidate.{Candidate}
 use Rattle.tone_tracking.specs.HeldLists.{HeldLists}
 use Rattle.sensitive_receiver.specs.declared.readings.Readings.{Readings}
-use Rattle.sensitive_receiver.specs.Found.{AddsAmong, AddsAt, HasRoom}
-use Rattle.sensitive_receiver.specs.HeldLanes.{HeldLane, LaneStandsFor, LanesAreAt, LanesHaveRead, IsLastPlace}
+use Rattle.sensitive_receiver.specs.Found.{AddsAt, HasRoom}
+use Rattle.sensitive_receiver.specs.Hearing.{LanesHear}
+use Rattle.sensitive_receiver.specs.HeldLanes.{HeldLane, LaneStandsFor, LanesHaveRead, IsLastPlace}
 use Rattle.sensitive_receiver.specs.Lanes.{lane_tones}
 use Rattle.sensitive_receiver.proofs.PlaceLanes.{adds_next_among, adds_nobody, lane_before, lane_read}
 
@@ -31,10 +32,7 @@ pub record Visited (lists : HeldLists) (readings : Readings) (old now : List Hel
     (first n : ℕ) : Type 0 where
   pub least : first ≤ n
   pub size : length now ≡ 15
-  pub read : (x : List ℤ) → IsLastPlace lists readings x → LanesAreAt first old readings.place x
-      → LanesAreAt n now readings.place x
-  pub found : (x : List ℤ) → IsLastPlace lists readings x → LanesAreAt first old readings.place x
-      → AddsAmong readings.place first n x before after
+  pub hear : LanesHear first n lists readings old now before after
   pub bounds : All HasRoom before → All HasRoom after
 
 pub visited_none : (lists : HeldLists) (readings : Readings) (lanes : List HeldLane) (found : List Candidate)
@@ -44,8 +42,10 @@ pub visited_none : (lists : HeldLists) (readings : Readings) (lanes : List HeldL
 visited_none lists readings lanes found first size = record {
   least = omega arith;
   size = size;
-  read = λ x last h. h;
-  found = λ x last h. adds_nobody readings.place first x found;
+  hear = record {
+    read = λ x last h. h;
+    found = λ x last h. adds_nobody readings.place first x found;
+  };
   bounds = λ h. h;
 }
 
@@ -65,9 +65,12 @@ module _ (lists : HeldLists) (readings : Readings) (old now : List HeldLane) (be
       record {
         least = omega arith;
         size = length-set now n lane ∙ h.size;
-        read = λ x last start. lane_read readings.place n now was lane x h.size l (reads x last) (h.read x last start);
-        found = λ x last start. adds_next_among readings.place first n x before found after h.least
-            (h.found x last start)
-            (adds x last (lane_before readings.place n now was x l (h.read x last start)));
+        hear = record {
+          read = λ x last start. lane_read readings.place n now was lane x h.size l (reads x last)
+              (h.hear.read x last start);
+          found = λ x last start. adds_next_among readings.place first n x before found after h.least
+              (h.hear.found x last start)
+              (adds x last (lane_before readings.place n now was x l (h.hear.read x last start)));
+        };
         bounds = λ all. bound (h.bounds all);
       }

@@ -8,9 +8,10 @@ ghost use Rattle.tone_tracking.specs.Clock.{changes};
 ghost use Rattle.tone_tracking.specs.Heard.{places_in};
 ghost use Rattle.tone_tracking.specs.HeldLists.{HasTaken as ListsHaveTaken};
 ghost use Rattle.sensitive_receiver.specs.AddedCandidates.{is_in_time};
-ghost use Rattle.sensitive_receiver.specs.Found.{AddsAmong, AddsAt, AddsBelow, HasRoom};
+ghost use Rattle.sensitive_receiver.specs.Found.{AddsAt, AddsBelow, HasRoom};
 ghost use Rattle.sensitive_receiver.specs.HeldLanes.{HoldsFrameOf, IsLastPlace};
-ghost use Rattle.sensitive_receiver.specs.HeldLanes.{LaneStandsFor, LanesAreAt, LanesHaveRead};
+ghost use Rattle.sensitive_receiver.specs.HeldLanes.{LaneStandsFor, LanesHaveRead};
+ghost use Rattle.sensitive_receiver.specs.Hearing.{LanesHear};
 ghost use Rattle.sensitive_receiver.specs.Lanes.{is_read_by, lane_bits, lane_tones};
 
 use crate::added_lane::has_path;
@@ -60,11 +61,8 @@ fn hear_fixed(
     requires room { lists.now.count < 2 ^ 49 }
     requires place { readings.now.place < 2 ^ 48 }
     ensures lanes { length lanes.new ≡ 15 }
-    ensures read { OnOk result ((x : List ℤ) → IsLastPlace lists.now readings.now x
-        → LanesAreAt 0 lanes.old readings.now.place x → LanesAreAt 8 lanes.new readings.now.place x) }
-    ensures found { OnOk result ((x : List ℤ) → IsLastPlace lists.now readings.now x
-        → LanesAreAt 0 lanes.old readings.now.place x
-        → AddsAmong readings.now.place 0 8 x found.old.items found.new.items) }
+    ensures hear { OnOk result (LanesHear 0 8 lists.now readings.now
+        lanes.old lanes.new found.old.items found.new.items) }
     ensures bounds { OnOk result (All HasRoom found.old.items → All HasRoom found.new.items) }
 {
     let index = (readings.place % 8) as u8;
@@ -90,42 +88,13 @@ fn hear_clocked(
     requires room { lists.now.count < 2 ^ 49 }
     requires place { readings.now.place < 2 ^ 48 }
     ensures lanes { length lanes.new ≡ 15 }
-    ensures read { OnOk result ((x : List ℤ) → IsLastPlace lists.now readings.now x
-        → LanesAreAt first lanes.old readings.now.place x → LanesAreAt end lanes.new readings.now.place x) }
-    ensures found { OnOk result ((x : List ℤ) → IsLastPlace lists.now readings.now x
-        → LanesAreAt first lanes.old readings.now.place x
-        → AddsAmong readings.now.place first end x found.old.items found.new.items) }
+    ensures hear { OnOk result (LanesHear first end lists.now readings.now
+        lanes.old lanes.new found.old.items found.new.items) }
     ensures bounds { OnOk result (All HasRoom found.old.items → All HasRoom found.new.items) }
 {
     if !readings.are_for(FIRST + first) {
         return Ok(());
     }
-    hear_each(alloc, lists, lanes, first, end, readings, found)
-}
-
-/// Has the lanes from one to below another, counted from lane 8 on, read their bits.
-fn hear_each(
-    alloc: Global,
-    lists: &ToneLists,
-    lanes: &mut [ToneLane],
-    first: u8,
-    end: u8,
-    readings: &Readings,
-    found: &mut Vec<Candidate>,
-) -> Result<(), OutOfMemory>
-    requires lanes { length lanes.old ≡ 15 }
-    requires range { (first < end) × (end ≤ 15) }
-    requires reads { (k : ℕ) → first ≤ k → k < end → is_read_by (8 + k) readings.now ≡ true }
-    requires room { lists.now.count < 2 ^ 49 }
-    requires place { readings.now.place < 2 ^ 48 }
-    ensures lanes { length lanes.new ≡ 15 }
-    ensures read { OnOk result ((x : List ℤ) → IsLastPlace lists.now readings.now x
-        → LanesAreAt first lanes.old readings.now.place x → LanesAreAt end lanes.new readings.now.place x) }
-    ensures found { OnOk result ((x : List ℤ) → IsLastPlace lists.now readings.now x
-        → LanesAreAt first lanes.old readings.now.place x
-        → AddsAmong readings.now.place first end x found.old.items found.new.items) }
-    ensures bounds { OnOk result (All HasRoom found.old.items → All HasRoom found.new.items) }
-{
     for index in first..end {
         let lane = &mut lanes[usize::from(index)];
         hear(alloc, lists, lane, FIRST + index, readings, found)?;

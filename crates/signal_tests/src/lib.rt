@@ -10,24 +10,4 @@
 #![tactic(auto)]
 
 #[cfg(test)]
-mod assertions;
-#[cfg(test)]
-mod bits;
-#[cfg(test)]
-mod framer;
-#[cfg(test)]
-mod letters;
-#[cfg(test)]
-mod merger;
-#[cfg(test)]
-mod modulator;
-#[cfg(test)]
-mod ring;
-#[cfg(test)]
-mod shortest_frame;
-#[cfg(test)]
-mod slicers;
-#[cfg(test)]
-mod tones;
-#[cfg(test)]
-mod tracking;
+mod tests;

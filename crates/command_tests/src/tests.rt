@@ -1,0 +1,10 @@
+mod assertions;
+mod base;
+mod bench;
+mod decode;
+mod encode;
+mod forms;
+mod loop_back;
+mod show;
+mod wav;
+mod words;

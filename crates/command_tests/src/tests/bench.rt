@@ -1,0 +1,47 @@
+//! The command `bench`. The hashes of texts were computed apart from the program, from words of PCG XSH RR 64/32 and by
+//! FNV-1a.
+use crate::tests::assertions::assert_equal;
+use std::test::Fail;
+use tnc_base::MemSink;
+use tnc_bench::bench;
+use tnc_words::BenchOptions;
+
+/// No octets, and no losses.
+const OPTIONS: BenchOptions = BenchOptions {
+    seed: 7,
+    octets: 0,
+    loss: 0,
+    noise: 0,
+    full: true,
+    wide: false,
+};
+
+// Both stations only call each other and end the link.
+#[test]
+fn a_run_of_no_octets_is_told(rt: HostRuntime) -> Result<(), Fail> {
+    let mut output = MemSink::new(rt.alloc(), 1000, Vec::new(rt.alloc()))?;
+    assert!(rt; bench(rt.alloc(), OPTIONS, &mut output).is_ok());
+    let want = b"ticks 252\n\
+        sent 4 lost 0\n\
+        A 1 given 0 cbf29ce484222325 got 0 cbf29ce484222325\n\
+        B 1 given 0 cbf29ce484222325 got 0 cbf29ce484222325\n";
+    assert_equal(&rt, &output.written(), &want.as_slice());
+    Ok(())
+}
+
+#[test]
+fn a_run_with_losses_is_told(rt: HostRuntime) -> Result<(), Fail> {
+    let options = BenchOptions {
+        octets: 6,
+        loss: 20,
+        ..OPTIONS
+    };
+    let mut output = MemSink::new(rt.alloc(), 1000, Vec::new(rt.alloc()))?;
+    assert!(rt; bench(rt.alloc(), options, &mut output).is_ok());
+    let want = b"ticks 2424\n\
+        sent 16 lost 6\n\
+        A 1 given 6 5fa5b78966bba91a got 6 ce0f0eec67d63017\n\
+        B 1 given 6 ce0f0eec67d63017 got 6 5fa5b78966bba91a\n";
+    assert_equal(&rt, &output.written(), &want.as_slice());
+    Ok(())
+}

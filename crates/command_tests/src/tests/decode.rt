@@ -1,0 +1,219 @@
+//! The shortest transmission as raw PCM, from sources that cut it in several ways and from a slow sender.
+
+use crate::tests::assertions::assert_equal;
+use std::alloc::{AllocError, Global};
+use std::process::Abort;
+use std::test::Fail;
+use std::thread::Threads;
+use tnc_base::{MemSink, MemSource};
+use tnc_decode::decode;
+use tnc_forms::{Fault, InputFault};
+use tnc_words::{AudioForm, DecodeWords, FrameForm, Receiving, SampleRate};
+
+/// The tones of a SABM from N7LEM to NJ7P between two flags and one, 162 bits in all, M for mark and S for space.
+const TONES: &[u8; 162] =
+    b"SSSSSSSMSSSSSSSMSMMMMSMMSMMSSMSSMMMMSSSMSMSMSSMMSMSMSMMSMSMSMSSMSMSMSSSSMSSSSMSSMMMMSSSMSMSSSMSSMMSSMSMMSSMMMSMMSMSMSMMSSMSMSSSMMMMMMSSMSMMMSSMSSSMSSSSSSMSSSSSSSM";
+
+/// A cycle of a sine wave of amplitude 10000 in 48 steps.
+const SINE: [i16; 48] = [
+    0, 1305, 2588, 3827, 5000, 6088, 7071, 7934, 8660, 9239, 9659, 9914, 10000, 9914, 9659, 9239,
+    8660, 7934, 7071, 6088, 5000, 3827, 2588, 1305, 0, -1305, -2588, -3827, -5000, -6088, -7071,
+    -7934, -8660, -9239, -9659, -9914, -10000, -9914, -9659, -9239, -8660, -7934, -7071, -6088,
+    -5000, -3827, -2588, -1305,
+];
+
+/// The line of its frame.
+const LINE: &[u8] = b"9c946ea04040e09c6e988a9a40613f\n";
+
+const WORDS: DecodeWords = DecodeWords {
+    audio: AudioForm::Raw,
+    frames: FrameForm::Hex,
+    threads: false,
+    receiving: Receiving::Standard {
+        rate: SampleRate::Narrow,
+    },
+};
+
+/// By all 23 lanes.
+const SENSITIVE: DecodeWords = DecodeWords {
+    receiving: Receiving::Sensitive,
+    ..WORDS
+};
+
+/// The head of a WAV file of 12,960 octets at 48,000 samples a second.
+const WIDE_HEAD: &[u8] =
+    b"RIFF\xc4\x32\0\0WAVEfmt \x10\0\0\0\x01\0\x01\0\x80\xbb\0\0\0\x77\x01\0\x02\0\x10\0data\xa0\x32\0\0";
+
+/// The octets of the samples, eight samples a tone: mark is 6 steps a sample, space 11.
+fn recording(alloc: Global) -> Result<Vec<u8>, AllocError> {
+    let mut octets = Vec::new(alloc);
+    record(&mut octets, 1)?;
+    Ok(octets)
+}
+
+/// Appends the octets of the samples, each of them so many times.
+fn record(octets: &mut Vec<u8>, times: usize) -> Result<(), AllocError> {
+    let mut phase = 0usize;
+    for tone in TONES {
+        phase = record_tone(octets, phase, *tone, 8, times)?;
+    }
+    Ok(())
+}
+
+/// The octets of the samples of a sender whose clock is slow by one part in eighty: each tenth tone has nine samples.
+/// Two bits of silence follow, since an added lane decides a bit together with the two after it.
+fn slow_recording(alloc: Global) -> Result<Vec<u8>, AllocError> {
+    let mut octets = Vec::new(alloc);
+    let mut phase = 0usize;
+    for (index, tone) in TONES.iter().enumerate() {
+        let samples = if index % 10 == 9 { 9 } else { 8 };
+        phase = record_tone(&mut octets, phase, *tone, samples, 1)?;
+    }
+    octets.extend_from_slice(&[0; 32])?;
+    Ok(octets)
+}
+
+/// Appends so many samples of a tone from a phase on, each of them so many times, and gives the phase after them.
+fn record_tone(
+    octets: &mut Vec<u8>,
+    start: usize,
+    tone: u8,
+    samples: usize,
+    times: usize,
+) -> Result<usize, AllocError> {
+    let step = if tone == b'M' { 6 } else { 11 };
+    let mut phase = start;
+    for _ in 0..samples {
+        for _ in 0..times {
+            octets.extend_from_slice(&SINE[phase % 48].to_le_bytes())?;
+        }
+        phase = (phase % 48 + step) % 48;
+    }
+    Ok(phase)
+}
+
+/// What is written of an input that comes in pieces of so many octets, and how the command ends, if the source fails the
+/// reads of these numbers.
+fn decoded<R: Abort + Threads + Sync>(
+    rt: &R,
+    alloc: Global,
+    words: DecodeWords,
+    octets: Vec<u8>,
+    piece: usize,
+    reads: &[u64],
+) -> Result<(Vec<u8>, Result<(), Fault>), Fail> {
+    assert!(rt; piece > 0);
+    let mut input = MemSource::new(octets, piece, reads.to_vec(alloc)?);
+    let mut output = MemSink::new(alloc, 1000, Vec::new(alloc))?;
+    let end = decode(rt, alloc, words, &mut input, &mut output);
+    Ok((output.written().to_vec(alloc)?, end))
+}
+
+#[test]
+fn a_recording_gives_one_line_however_its_source_cuts_it(rt: HostRuntime) -> Result<(), Fail> {
+    for (piece, threads) in [(1, false), (3, false), (4095, false), (4095, true)] {
+        let mut octets = recording(rt.alloc())?;
+        octets.push(0)?;
+        let words = DecodeWords { threads, ..WORDS };
+        let (written, end) = decoded(&rt, rt.alloc(), words, octets, piece, &[])?;
+        assert_equal(
+            &rt,
+            &(piece, threads, written.as_slice(), end),
+            &(piece, threads, LINE, Ok(())),
+        );
+    }
+    Ok(())
+}
+
+// The frame ends at sample 1294 of 1296.
+#[test]
+fn a_frame_is_written_before_the_input_fails(rt: HostRuntime) -> Result<(), Fail> {
+    let (written, end) = decoded(&rt, rt.alloc(), WORDS, recording(rt.alloc())?, 4095, &[2])?;
+    assert_equal(&rt, &(written.as_slice(), end), &(LINE, Err(Fault::Read)));
+    Ok(())
+}
+
+#[test]
+fn samples_at_48000_a_second_give_the_same_line(rt: HostRuntime) -> Result<(), Fail> {
+    let raw = DecodeWords {
+        receiving: Receiving::Standard {
+            rate: SampleRate::Wide,
+        },
+        ..WORDS
+    };
+    let on_threads = DecodeWords {
+        threads: true,
+        ..raw
+    };
+    let wav = DecodeWords {
+        audio: AudioForm::Wav,
+        ..WORDS
+    };
+    let table: [(DecodeWords, &[u8]); 3] = [
+        (raw, b""),
+        (on_threads, b"\0\0\0\0\0\0"),
+        (wav, WIDE_HEAD),
+    ];
+    for (words, front) in table {
+        let mut octets = front.to_vec(rt.alloc())?;
+        record(&mut octets, 5)?;
+        let (written, end) = decoded(&rt, rt.alloc(), words, octets, 4095, &[])?;
+        assert_equal(
+            &rt,
+            &(words, written.as_slice(), end),
+            &(words, LINE, Ok(())),
+        );
+    }
+    Ok(())
+}
+
+#[test]
+fn all_lanes_hear_a_slow_sender_too(rt: HostRuntime) -> Result<(), Fail> {
+    let exact = recording(rt.alloc())?;
+    let slow = slow_recording(rt.alloc())?;
+    let on_threads = DecodeWords {
+        threads: true,
+        ..SENSITIVE
+    };
+    let table: [(&[u8], DecodeWords, &[u8]); 4] = [
+        (&exact, SENSITIVE, LINE),
+        (&slow, SENSITIVE, LINE),
+        (&slow, on_threads, LINE),
+        (&slow, WORDS, b""),
+    ];
+    for (octets, words, want) in table {
+        let (written, end) = decoded(
+            &rt,
+            rt.alloc(),
+            words,
+            octets.to_vec(rt.alloc())?,
+            4095,
+            &[],
+        )?;
+        assert_equal(
+            &rt,
+            &(words, written.as_slice(), end),
+            &(words, want, Ok(())),
+        );
+    }
+    Ok(())
+}
+
+// The rate ends at the 28th octet of a WAV file.
+#[test]
+fn all_lanes_take_no_file_of_48000_a_second(rt: HostRuntime) -> Result<(), Fail> {
+    let words = DecodeWords {
+        audio: AudioForm::Wav,
+        ..SENSITIVE
+    };
+    let (_, end) = decoded(
+        &rt,
+        rt.alloc(),
+        words,
+        WIDE_HEAD.to_vec(rt.alloc())?,
+        4095,
+        &[],
+    )?;
+    assert!(rt; matches!(end, Err(Fault::Input(InputFault::Wav(_)))));
+    Ok(())
+}

@@ -1,0 +1,242 @@
+//! Files and heads from outside.
+use crate::tests::assertions::assert_equal;
+use std::alloc::{AllocError, Global};
+use std::test::Fail;
+use wav_file::{TooLong, WavFault, WavIn, wav_head};
+
+// What Python's module `wave` and sox write for one channel, two octets a sample, 9600 samples a second and the samples
+// below.
+const WRITTEN: [u8; 58] =
+    *b"RIFF\x32\0\0\0WAVEfmt \x10\0\0\0\x01\0\x01\0\x80\x25\0\0\0\x4b\0\0\x02\0\x10\0data\x0e\0\0\0\0\0\xba\x26\x1c\x0a\xe9\xdb\0\x80\xff\x7f\xff\xff";
+
+const SAMPLES: [i16; 7] = [0, 9914, 2588, -9239, -32768, 32767, -1];
+
+// The head of 1296 samples.
+const HEAD: [u8; 44] =
+    *b"RIFF\x44\x0a\0\0WAVEfmt \x10\0\0\0\x01\0\x01\0\x80\x25\0\0\0\x4b\0\0\x02\0\x10\0data\x20\x0a\0\0";
+
+// RIFF, a size and WAVE.
+const FRONT: &[u8] = b"RIFF\xff\xff\xff\xffWAVE";
+
+// A format that is read.
+const FORMAT: &[u8] = b"fmt \x10\0\0\0\x01\0\x01\0\x80\x25\0\0\0\0\0\0\x02\0\x10\0";
+
+// What a reader made of octets: the samples, the first fault with the place of the octet that brought it, how many octets
+// were answered by that fault, and what it thinks of a file that ends there.
+#[derive(Drop)]
+struct Read {
+    samples: Vec<i16>,
+    shown: Option<(usize, WavFault)>,
+    faults: usize,
+    end: Result<(), WavFault>,
+}
+
+fn read_all(alloc: Global, octets: &[u8]) -> Result<Read, AllocError> {
+    let mut reader = WavIn::new();
+    let mut samples = Vec::new(alloc);
+    let mut shown = None;
+    let mut faults: usize = 0;
+    for (place, octet) in octets.iter().enumerate() {
+        match reader.push(*octet) {
+            Ok(Some(sample)) => samples.push(sample)?,
+            Ok(None) => {}
+            Err(fault) => {
+                let (first, shows) = shown.unwrap_or((place, fault));
+                shown = Some((first, shows));
+                faults = faults.saturating_add(usize::from(fault == shows));
+            }
+        }
+    }
+    Ok(Read {
+        samples,
+        shown,
+        faults,
+        end: reader.finish(),
+    })
+}
+
+fn joined(alloc: Global, parts: &[&[u8]]) -> Result<Vec<u8>, AllocError> {
+    let mut octets = Vec::new(alloc);
+    for part in parts {
+        octets.extend_from_slice(part)?;
+    }
+    Ok(octets)
+}
+
+#[test]
+fn a_head_counts_its_samples(rt: HostRuntime) {
+    assert_equal(&rt, &wav_head(1296), &Ok(HEAD));
+    let most = wav_head(2_147_483_629)
+        .ok()
+        .map(|head| (head[4], head[7], head[40], head[43]));
+    assert_equal(&rt, &most, &Some((0xfe, 0xff, 0xda, 0xff)));
+    for count in [2_147_483_630, u64::MAX] {
+        assert_equal(&rt, &wav_head(count), &Err(TooLong { count }));
+    }
+}
+
+#[test]
+fn a_file_of_another_program_is_read(rt: HostRuntime) -> Result<(), Fail> {
+    // Into a pipe sox writes sizes that stand for no end.
+    let mut piped = WRITTEN;
+    piped[4..8].copy_from_slice(b"\x24\xf0\xff\x7f");
+    piped[40..44].copy_from_slice(b"\0\xf0\xff\x7f");
+    for octets in [WRITTEN, piped] {
+        let found = read_all(rt.alloc(), &octets)?;
+        assert_equal(&rt, &found.samples.as_slice(), &SAMPLES.as_slice());
+        assert_equal(&rt, &(found.shown, found.end), &(None, Ok(())));
+    }
+    Ok(())
+}
+
+#[test]
+fn a_file_cut_anywhere_is_truncated_there(rt: HostRuntime) -> Result<(), Fail> {
+    for length in 0..WRITTEN.len() {
+        let found = read_all(rt.alloc(), &WRITTEN[..length])?;
+        let at = length as u64;
+        let samples = length.saturating_sub(44) / 2;
+        assert_equal(
+            &rt,
+            &(length, found.shown, found.samples.len(), found.end),
+            &(length, None, samples, Err(WavFault::Truncated { at })),
+        );
+    }
+    Ok(())
+}
+
+#[test]
+fn a_fault_comes_at_the_octet_that_shows_it(rt: HostRuntime) -> Result<(), Fail> {
+    let bad = |at: u64, field: u8, value: u32| WavFault::BadFormat { at, field, value };
+    let table: [(usize, u8, Option<WavFault>); 16] = [
+        (3, 0x58, Some(WavFault::NotRiff { at: 3 })),
+        (0, 0x72, Some(WavFault::NotRiff { at: 0 })),
+        (6, 0x58, None),
+        (11, 0x58, Some(WavFault::NotWave { at: 11 })),
+        (8, 0x77, Some(WavFault::NotWave { at: 8 })),
+        (16, 0x0e, Some(WavFault::NoFormat { at: 19 })),
+        (20, 0x03, Some(bad(21, 1, 3))),
+        (21, 0x01, Some(bad(21, 1, 257))),
+        (22, 0x02, Some(bad(23, 2, 2))),
+        (24, 0x81, Some(bad(27, 3, 9601))),
+        (27, 0x01, Some(bad(27, 3, 0x0100_2580))),
+        (28, 0x01, None),
+        (31, 0x01, None),
+        (32, 0x04, Some(bad(33, 5, 4))),
+        (34, 0x18, Some(bad(35, 6, 24))),
+        (35, 0x01, Some(bad(35, 6, 272))),
+    ];
+    for (place, octet, want) in table {
+        let mut file = WRITTEN;
+        assert!(rt; place < file.len());
+        file[place] = octet;
+        let found = read_all(rt.alloc(), &file)?;
+        let got = (found.shown, found.faults, found.end);
+        assert_equal(
+            &rt,
+            &(place, octet, got),
+            &(place, octet, faulty(want, file.len())),
+        );
+    }
+    Ok(())
+}
+
+// What a reader answers to a file of so many octets that shows this fault: the fault with its place, how many octets it
+// answers, which are all from there on, and the end.
+type Refused = (Option<(usize, WavFault)>, usize, Result<(), WavFault>);
+
+fn faulty(fault: Option<WavFault>, length: usize) -> Refused {
+    match fault {
+        Some(fault) => {
+            let at = place_of(fault) as usize;
+            (Some((at, fault)), length.saturating_sub(at), Err(fault))
+        }
+        None => (None, 0, Ok(())),
+    }
+}
+
+fn place_of(fault: WavFault) -> u64 {
+    match fault {
+        WavFault::NotRiff { at } => at,
+        WavFault::NotWave { at } => at,
+        WavFault::NoFormat { at } => at,
+        WavFault::BadFormat { at, .. } => at,
+        WavFault::Truncated { at } => at,
+    }
+}
+
+#[test]
+fn a_rate_of_44100_is_named(rt: HostRuntime) {
+    let mut file = HEAD;
+    file[24] = 0x44;
+    file[25] = 0xac;
+    let mut reader = WavIn::new();
+    let fault = WavFault::BadFormat {
+        at: 27,
+        field: 3,
+        value: 44100,
+    };
+    for (place, octet) in file.iter().enumerate() {
+        let want = if place < 27 { Ok(None) } else { Err(fault) };
+        assert_equal(&rt, &(place, reader.push(*octet)), &(place, want));
+    }
+    assert_equal(&rt, &reader.finish(), &Err(fault));
+}
+
+#[test]
+fn chunks_in_any_order_are_read(rt: HostRuntime) -> Result<(), Fail> {
+    let alloc = rt.alloc();
+    let wide = b"fmt \x12\0\0\0\x01\0\x01\0\x80\x25\0\0\0\0\0\0\x02\0\x10\0\x07\x07".as_slice();
+    let other_format = b"fmt \x10\0\0\0\x03\0\x02\0\x44\xac\0\0\0\0\0\0\x08\0\x20\0".as_slice();
+    let list = b"LIST\x03\0\0\0abc\0".as_slice();
+    let data = b"data\x05\0\0\0\x01\0\x02\0\x03\0".as_slice();
+    let endless = b"data\0\xf0\xff\x7f\x01\0\x02\0\x03".as_slice();
+    let none = b"data\0\0\0\0".as_slice();
+    let two = [1, 2].as_slice();
+    let cut = |at: u64| Err(WavFault::Truncated { at });
+    let early = WavFault::NoFormat { at: 19 };
+    let table: [(&[&[u8]], &[i16], Result<(), WavFault>); 11] = [
+        (&[FRONT, FORMAT, data], two, Ok(())),
+        (&[FRONT, list, FORMAT, list, data, list, data], two, Ok(())),
+        (&[FRONT, wide, data], two, Ok(())),
+        (&[FRONT, FORMAT, other_format, data, b"x"], two, Ok(())),
+        (&[FRONT, FORMAT, endless], two, Ok(())),
+        (
+            &[FRONT, FORMAT, endless, b"\0data"],
+            &[1, 2, 3, 24932, 24948],
+            Ok(()),
+        ),
+        (&[FRONT, FORMAT, none], &[], Ok(())),
+        (&[FRONT, FORMAT, none, data], &[], Ok(())),
+        (&[FRONT, FORMAT, list], &[], cut(48)),
+        (&[FRONT, b"data\x08\0\0\0", FORMAT, data], &[], Err(early)),
+        (
+            &[FRONT, FORMAT, b"data\x06\0\0\0\x01\0\x02\0\x03"],
+            two,
+            cut(49),
+        ),
+    ];
+    for (number, (parts, samples, end)) in table.into_iter().enumerate() {
+        let found = read_all(alloc, &joined(alloc, parts)?)?;
+        assert_equal(
+            &rt,
+            &(number, found.samples.as_slice(), found.end),
+            &(number, samples, end),
+        );
+    }
+    Ok(())
+}
+
+#[test]
+fn the_rate_is_told_once_the_format_was_read(rt: HostRuntime) {
+    let mut wide = WRITTEN;
+    wide[24..28].copy_from_slice(b"\x80\xbb\0\0");
+    for (octets, rate) in [(WRITTEN, 9600), (wide, 48_000)] {
+        let mut reader = WavIn::any_rate();
+        for (place, octet) in octets.iter().enumerate() {
+            let want = if place < 36 { None } else { Some(rate) };
+            assert_equal(&rt, &(place, reader.rate()), &(place, want));
+            assert!(rt; reader.push(*octet).is_ok());
+        }
+        assert_equal(&rt, &reader.finish(), &Ok(()));
+    }
+}

@@ -1,0 +1,99 @@
+//! `decode`.
+use super::asked;
+use crate::tests::assertions::assert_equal;
+use std::test::Fail;
+use tnc_words::{AudioForm, Command, DecodeWords, FrameForm, Receiving, SampleRate};
+
+/// What `decode` asks for alone.
+const DECODE: DecodeWords = DecodeWords {
+    audio: AudioForm::Raw,
+    frames: FrameForm::Hex,
+    threads: false,
+    receiving: Receiving::Standard {
+        rate: SampleRate::Narrow,
+    },
+};
+
+/// At 48,000 samples a second, or what a WAV file tells.
+const WIDE: DecodeWords = DecodeWords {
+    receiving: Receiving::Standard {
+        rate: SampleRate::Wide,
+    },
+    ..DECODE
+};
+
+const SHORT_WAVE: DecodeWords = DecodeWords {
+    receiving: Receiving::ShortWave,
+    ..DECODE
+};
+
+const SENSITIVE: DecodeWords = DecodeWords {
+    receiving: Receiving::Sensitive,
+    ..DECODE
+};
+
+const KISS: FrameForm = FrameForm::Kiss;
+
+const WAV: AudioForm = AudioForm::Wav;
+
+#[test]
+fn decode_takes_its_forms_and_threads(rt: HostRuntime) -> Result<(), Fail> {
+    let kiss = DecodeWords {
+        frames: KISS,
+        ..DECODE
+    };
+    let wav = DecodeWords {
+        audio: WAV,
+        ..DECODE
+    };
+    let table = [
+        ("", DECODE),
+        ("--", DECODE),
+        ("--wav", wav),
+        ("--kiss", kiss),
+        ("--kiss --wav", DecodeWords { audio: WAV, ..kiss }),
+        (
+            "--threads --wav",
+            DecodeWords {
+                threads: true,
+                ..wav
+            },
+        ),
+    ];
+    for (line, want) in table {
+        assert_equal(
+            &rt,
+            &(line, asked(rt.alloc(), "decode", line)?),
+            &(line, Ok(Command::Decode(want))),
+        );
+    }
+    Ok(())
+}
+
+#[test]
+fn decode_takes_what_hears_and_its_rate(rt: HostRuntime) -> Result<(), Fail> {
+    let table = [
+        ("--rate=9600", DECODE),
+        ("--rate 48000", WIDE),
+        ("--wav --rate=048000", DecodeWords { audio: WAV, ..WIDE }),
+        ("--hf --rate 9600", SHORT_WAVE),
+        ("--sensitive", SENSITIVE),
+        (
+            "--threads --sensitive --rate=9600 --kiss --wav",
+            DecodeWords {
+                audio: WAV,
+                frames: KISS,
+                threads: true,
+                ..SENSITIVE
+            },
+        ),
+    ];
+    for (line, want) in table {
+        assert_equal(
+            &rt,
+            &(line, asked(rt.alloc(), "decode", line)?),
+            &(line, Ok(Command::Decode(want))),
+        );
+    }
+    Ok(())
+}

@@ -1,0 +1,205 @@
+//! Words that are refused.
+use super::taken;
+use crate::tests::assertions::assert_equal;
+use std::test::Fail;
+use tnc_words::{WordsFault, read_words};
+
+/// What stands after `decode`.
+const DECODE: &str = "\
+x
+--join
+--wav --wav
+--kiss --kiss
+--wav=true
+--wa
+--wav --help
+--version
+--level 10
+--hf --threads
+--hf --rate 48000
+--sensitive --hf
+--sensitive --rate 48000
+--sensitive --sensitive
+--sensitive=true
+--rate 44100
+--wav --rate 44100
+--rate
+--rate 9600 --rate 9600
+--threads --threads
+--threads=2
+";
+
+/// What stands after `encode`.
+const ENCODE: &str = "\
+x
+-h
+--help --wav
+--version
+--joi
+--Join
+--join=true
+--join --join
+--modulo 8
+--opening
+--opening=
+--opening 1
+--opening 10001
+--opening -1
+--opening=-1
+--opening 1x
+--opening +5
+--opening 5 --opening 5
+--opening 18446744073709551618
+--closing 0
+--closing 10001
+--silence 1000001
+--silence 4294967296
+--level
+--level 9
+--level 32768
+--level 65546
+--level -10
+--level 10 --level 10
+--rate 48000
+--rough
+--threads
+--sensitive
+";
+
+/// What stands after `show`.
+const SHOW: &str = "\
+x
+--wav
+--modulo
+--modulo=
+--modulo 7
+--modulo 9
+--modulo 16
+--modulo 127
+--modulo 129
+--modulo 8x
+--modulo +8
+--modulo 8 --modulo 8
+";
+
+/// What stands after `loop`.
+const LOOP: &str = "\
+--seed 7
+--frames 1
+7 1
+--seed --frames 1
+--seed 7 --frames
+--seed= --frames=1
+--seed 7 --frames 1001
+--seed 18446744073709551616 --frames 1
+--seed -1 --frames 1
+--seed=-1 --frames=1
+--seed +1 --frames 1
+--seed 0x7 --frames 1
+--seed 7 --seed 7 --frames 1
+--seed 7 --frames 1 --join
+--rough
+--seed 7 --frames 1 --rough=true
+--seed 7 --frames 1 --rough --rough
+--seed 7 --frames 1 --level 10
+--seed 7 --frames 1 --threads=2
+";
+
+/// What stands after `serve`.
+const SERVE: &str = "\
+--kiss 8001
+--agw 8000
+--kiss 0 --agw 8000
+--kiss 8001 --agw 65536
+--kiss 65536 --agw 1
+8001 8000
+";
+
+/// What stands after the ports of `serve`.
+const STATION: &str = "\
+x
+--kiss 8002
+--help
+--seed 18446744073709551616
+--seed +1
+--mode
+--mode REJ
+--mode=
+--window 0
+--window 8
+--window 256
+--window 260
+--window 5 --mode srej
+--wide=true
+--wide-window 0
+--wide-window 128
+--wide-window 65 --mode srej
+--wide 8
+--digi N7LEM-16
+--digi TOOLONG
+--digi N7/LEM
+--dcd 0
+--dcd 9
+--dcd x
+--monitor=1
+--threads
+--sensitive=true
+--sensitive --sensitive
+";
+
+/// Whole lines.
+const OTHERS: &str = "\
+decod
+Decode
+decodee
+--join encode
+bench
+help version
+--help loop
+-h serve
+loop
+serve
+help help
+help decode encode
+help Decode
+version help
+-v
+";
+
+#[test]
+fn other_words_are_refused(rt: HostRuntime) -> Result<(), Fail> {
+    for (front, lines) in [
+        ("decode", DECODE),
+        ("encode", ENCODE),
+        ("show", SHOW),
+        ("loop", LOOP),
+        ("serve", SERVE),
+        ("serve --kiss 8001 --agw=8000", STATION),
+        ("", OTHERS),
+    ] {
+        let taken = taken(rt.alloc(), front, lines)?;
+        assert_equal(&rt, &(front, taken.as_str()), &(front, ""));
+    }
+    Ok(())
+}
+
+// Words that a line cannot have.
+#[test]
+fn no_words_and_words_with_spaces_are_refused(rt: HostRuntime) -> Result<(), Fail> {
+    let table: [&[&str]; 5] = [
+        &[],
+        &[""],
+        &["encode", "--opening", " 5"],
+        &["serve", "--kiss=1", "--agw=2", "--mode", "srej "],
+        &["serve", "--kiss=1", "--agw=2", "--digi", ""],
+    ];
+    for words in table {
+        let mut given = Vec::new(rt.alloc());
+        for word in words {
+            given.push(String::from_str(rt.alloc(), word)?)?;
+        }
+        let end = read_words(rt.alloc(), &given);
+        assert!(rt; matches!(end, Err(WordsFault::Refused)), "of {words:?}");
+    }
+    Ok(())
+}

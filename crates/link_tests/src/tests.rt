@@ -1,0 +1,11 @@
+mod address;
+mod assertions;
+mod frames;
+mod incoming;
+mod machine;
+mod monitor;
+mod outgoing;
+mod packets;
+mod repeater;
+mod script;
+mod world;

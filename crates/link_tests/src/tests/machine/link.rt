@@ -1,0 +1,140 @@
+//! A link to which words happen.
+use super::kinds::kind_of;
+use crate::tests::packets::packet;
+use crate::tests::script::{Subject, assert_line, last_of, octet, parts, push_told};
+use arrayvec::ArrayVec;
+use ax25_address::{Call, Path, Role, reversed};
+use ax25_frames::{Frame, Modulus, text_of};
+use link_machine::{Acts, Link, Params};
+use selective_reject::Mode;
+use std::alloc::Global;
+use std::process::Abort;
+use std::test::Fail;
+
+pub(super) fn path(dest: &str, source: &str) -> Result<Path, Fail> {
+    Ok(Path {
+        dest: Call::parse(dest)?,
+        source: Call::parse(source)?,
+        repeaters: ArrayVec::new(),
+        role: Role::Command,
+    })
+}
+
+/// Parameters of a link that calls modulo 128.
+pub(super) fn wide() -> Params {
+    Params {
+        wide: true,
+        ..Params::default()
+    }
+}
+
+pub(super) fn srej() -> Params {
+    Params {
+        mode: Mode::Srej,
+        ..Params::default()
+    }
+}
+
+/// An idle link of A with B.
+pub(super) fn idle(alloc: Global, params: Params) -> Result<Link, Fail> {
+    Ok(Link::new(alloc, params, path("B", "A")?)?)
+}
+
+/// Asserts each line of a new link to which `before` happened.
+pub(super) fn assert_rows<R: Abort>(
+    rt: &R,
+    alloc: Global,
+    params: Params,
+    before: &str,
+    lines: &str,
+) -> Result<(), Fail> {
+    for line in lines.lines() {
+        let mut link = idle(alloc, params)?;
+        last_of(alloc, &mut link, before)?;
+        assert_line(rt, alloc, &mut link, line)?;
+    }
+    Ok(())
+}
+
+impl Subject for Link {
+    fn happen(&mut self, alloc: Global, word: &str, text: &mut String) -> Result<(), Fail> {
+        let (name, first, _, _) = parts(word);
+        match name {
+            "connect" => note(alloc, self.connect()?, text),
+            "send" => send(alloc, self, octet(first), text),
+            "sends" => send_all(alloc, self, first, text),
+            "disconnect" => note(alloc, self.disconnect()?, text),
+            "ticks" => tick(alloc, self, first, false, text),
+            "waits" => tick(alloc, self, first, true, text),
+            "hears" => hear_all(alloc, self, first, text),
+            "look" => look(alloc, self, text),
+            _ => hear(alloc, self, word, text),
+        }
+    }
+}
+
+fn send(alloc: Global, link: &mut Link, name: u8, text: &mut String) -> Result<(), Fail> {
+    note(alloc, link.send(packet(alloc, &[name])?)?, text)
+}
+
+fn send_all(alloc: Global, link: &mut Link, count: u16, text: &mut String) -> Result<(), Fail> {
+    for number in 0..count {
+        send(alloc, link, octet(number), text)?;
+    }
+    Ok(())
+}
+
+fn tick(
+    alloc: Global,
+    link: &mut Link,
+    count: u16,
+    waiting: bool,
+    text: &mut String,
+) -> Result<(), Fail> {
+    for _ in 0..count {
+        note(alloc, link.tick(waiting)?, text)?;
+    }
+    Ok(())
+}
+
+fn look(alloc: Global, link: &Link, text: &mut String) -> Result<(), Fail> {
+    let state = link.state();
+    let modulus = link.modulus();
+    text.push_str(format!(in alloc; "{state:?} {modulus:?}")?.as_str())?;
+    Ok(())
+}
+
+fn hear_all(alloc: Global, link: &mut Link, count: u16, text: &mut String) -> Result<(), Fail> {
+    for number in 0..count {
+        let word = format!(in alloc; "I/{number}/0/0")?;
+        hear(alloc, link, word.as_str(), text)?;
+    }
+    Ok(())
+}
+
+fn hear(alloc: Global, link: &mut Link, word: &str, text: &mut String) -> Result<(), Fail> {
+    let (name, _, _, _) = parts(word);
+    let role = if name.ends_with('c') {
+        Role::Command
+    } else {
+        Role::Response
+    };
+    let kind = kind_of(alloc, word, link.modulus())?;
+    let frame = Frame {
+        path: reversed(&path("B", "A")?, role),
+        kind,
+    };
+    note(alloc, link.frame(&frame)?, text)
+}
+
+/// Appends what the link does: the lines of frames, and what is told, each with a comma.
+fn note(alloc: Global, acts: Acts, text: &mut String) -> Result<(), Fail> {
+    for sent in &acts.frames {
+        text.push_str(text_of(alloc, &sent.frame)?.as_str())?;
+        text.push_str(match sent.modulus {
+            Modulus::Eight => ",",
+            Modulus::OneTwentyEight => "/128,",
+        })?;
+    }
+    push_told(alloc, &acts.told, text)
+}

@@ -1,0 +1,75 @@
+//! What a link refuses.
+use super::link::{idle, path};
+use crate::tests::assertions::assert_equal;
+use crate::tests::packets::packet;
+use link_machine::{Link, LinkFault, LinkState, NewFault, Params};
+use selective_reject::Mode;
+use std::test::Fail;
+
+/// Why a request is refused in a state; `quit` says that a disconnect was asked for before.
+fn wrong(state: LinkState, quit: bool) -> Option<LinkFault> {
+    Some(LinkFault::WrongState { state, quit })
+}
+
+#[test]
+fn requests_are_refused_in_a_state(rt: HostRuntime) -> Result<(), Fail> {
+    let alloc = rt.alloc();
+    let mut link = idle(alloc, Params::default())?;
+    let early = link.send(packet(alloc, b"x")?).err();
+    assert_equal(&rt, &early, &wrong(LinkState::Idle, false));
+    link.connect()?;
+    let again = link.connect().err();
+    assert_equal(&rt, &again, &wrong(LinkState::Calling, false));
+    link.disconnect()?;
+    let twice = link.disconnect().err();
+    assert_equal(&rt, &twice, &wrong(LinkState::Calling, true));
+    Ok(())
+}
+
+#[test]
+fn packets_are_refused(rt: HostRuntime) -> Result<(), Fail> {
+    let alloc = rt.alloc();
+    let mut link = idle(alloc, Params::default())?;
+    link.connect()?;
+    let long = link.send(packet(alloc, &[0x41; 257])?).err();
+    assert_equal(&rt, &long, &Some(LinkFault::TooLong { len: 257 }));
+    link.send(packet(alloc, &[0x41; 256])?)?;
+    assert_equal(&rt, &link.state(), &LinkState::Calling);
+    for _ in 1..1024 {
+        link.send(packet(alloc, b"x")?)?;
+    }
+    assert_equal(&rt, &link.pending(), &1024);
+    let full = link.send(packet(alloc, b"x")?).err();
+    assert_equal(&rt, &full, &Some(LinkFault::Full));
+    Ok(())
+}
+
+#[test]
+fn windows_are_refused(rt: HostRuntime) -> Result<(), Fail> {
+    let table = [
+        (Mode::Rej, 0, 32, 0),
+        (Mode::Rej, 7, 127, 255),
+        (Mode::Rej, 8, 0, 8),
+        (Mode::Rej, 7, 128, 128),
+        (Mode::Rej, 7, 0, 0),
+        (Mode::Srej, 4, 64, 255),
+        (Mode::Srej, 5, 65, 5),
+        (Mode::Srej, 4, 65, 65),
+    ];
+    for (mode, window, wide_window, refused) in table {
+        let params = Params {
+            mode,
+            window,
+            wide: false,
+            wide_window,
+        };
+        // No window is 255.
+        let found = match Link::new(rt.alloc(), params, path("B", "A")?) {
+            Ok(_) => 255,
+            Err(NewFault::BadWindow { window }) => window,
+            Err(NewFault::Memory) => 254,
+        };
+        assert_equal(&rt, &found, &refused);
+    }
+    Ok(())
+}

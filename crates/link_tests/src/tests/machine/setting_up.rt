@@ -1,0 +1,130 @@
+//! How links are set up and released.
+use super::link::{assert_rows, path, wide};
+use crate::tests::assertions::assert_equal;
+use ax25_frames::{Kind, write_frame};
+use link_machine::{Link, Params, SentFrame};
+use std::alloc::Global;
+use std::test::Fail;
+use tnc_base::Octets;
+
+const IDLE: &str = "connect | A>B SABM cmd f=1,
+SABM/0 | A>B UA rsp f=0,opened,
+SABME/1 | A>B UA rsp f=1/128,opened,
+DISC/0 | A>B DM rsp f=0,
+I/0/0/1 | A>B DM rsp f=1,
+RRc/0/1 | A>B DM rsp f=1,
+RR/0/1 |
+UA/1 |
+FRMR |
+UI |
+ticks/4000 |
+look | Idle Eight";
+
+#[test]
+fn rows_where_there_is_no_link(rt: HostRuntime) -> Result<(), Fail> {
+    assert_rows(&rt, rt.alloc(), Params::default(), "", IDLE)
+}
+
+const CALLING: &str = "send/1 |
+disconnect |
+UA/1 | opened by us,
+UA/0 |
+send/7 UA/1 | A>B I cmd ns=0 nr=0 p=0 pid=f0 len=1 07,opened by us,
+disconnect UA/1 | A>B DISC cmd f=1,opened by us,
+DM/1 | ended Refused,
+DM/0 |
+SABM/1 | A>B UA rsp f=1,
+SABME/1 | A>B DM rsp f=1,
+DISC/0 | A>B DM rsp f=0,
+FRMR |
+I/0/0/1 |
+ticks/300 | A>B SABM cmd f=1,
+waits/400 |
+ticks/3000 ticks/300 | ended Failed,";
+
+#[test]
+fn rows_of_a_call(rt: HostRuntime) -> Result<(), Fail> {
+    assert_rows(&rt, rt.alloc(), Params::default(), "connect", CALLING)
+}
+
+const CALLING_WIDE: &str = "look | Calling OneTwentyEight
+UA/1 look | Up OneTwentyEight
+send/7 UA/1 | A>B I cmd ns=0 nr=0 p=0 pid=f0 len=1 07/128,opened by us,
+DM/1 | ended Refused,
+DM/1 look | Idle Eight
+SABM/1 |
+SABME/1 | A>B UA rsp f=1/128,
+SABME/1 look | Calling OneTwentyEight
+DISC/0 | A>B DM rsp f=0/128,
+FRMR | A>B SABM cmd f=1,
+FRMR FRMR |
+FRMR UA/1 | opened by us,
+FRMR UA/1 look | Up Eight
+send/7 FRMR UA/1 | A>B I cmd ns=0 nr=0 p=0 pid=f0 len=1 07,opened by us,
+XID |
+I/0/0/1 |
+ticks/300 | A>B SABME cmd f=1/128,
+ticks/3000 ticks/300 | ended Failed,
+ticks/3000 FRMR ticks/299 |
+ticks/3000 FRMR ticks/3000 ticks/300 | ended Failed,";
+
+#[test]
+fn rows_of_a_wide_call(rt: HostRuntime) -> Result<(), Fail> {
+    assert_rows(
+        &rt,
+        rt.alloc(),
+        wide(),
+        "",
+        "connect | A>B SABME cmd f=1/128,",
+    )?;
+    assert_rows(&rt, rt.alloc(), wide(), "connect", CALLING_WIDE)
+}
+
+const RELEASING: &str = "UA/1 | ended Asked,
+DM/1 | ended Asked,
+UA/0 |
+DM/0 |
+SABM/1 | A>B DM rsp f=1,
+SABME/0 | A>B DM rsp f=0,
+DISC/1 | A>B UA rsp f=1,
+I/0/0/1 | A>B DM rsp f=1,
+I/0/0/0 |
+RRc/0/1 | A>B DM rsp f=1,
+RR/0/1 |
+ticks/300 | A>B DISC cmd f=1,
+ticks/3000 ticks/300 | ended Failed,";
+
+#[test]
+fn rows_of_a_release(rt: HostRuntime) -> Result<(), Fail> {
+    assert_rows(
+        &rt,
+        rt.alloc(),
+        Params::default(),
+        "connect UA/1 disconnect",
+        RELEASING,
+    )
+}
+
+/// The octets of a set-up frame; none of another frame.
+fn octets_of(alloc: Global, sent: &SentFrame) -> Result<Octets, Fail> {
+    match sent.frame.kind {
+        Kind::Setup { .. } => Ok(write_frame(alloc, &sent.frame, sent.modulus)?),
+        _ => Ok(Octets::from_slice(alloc, &[])?),
+    }
+}
+
+#[test]
+fn a_wide_call_in_octets(rt: HostRuntime) -> Result<(), Fail> {
+    let mut link = Link::new(rt.alloc(), wide(), path("NJ7P", "N7LEM")?)?;
+    let acts = link.connect()?;
+    assert_equal(&rt, &acts.frames.len(), &1);
+    for sent in &acts.frames {
+        let octets = octets_of(rt.alloc(), sent)?;
+        assert_equal(
+            &rt,
+            &octets.as_slice(),
+            &b"\x9c\x94\x6e\xa0\x40\x40\xe0\x9c\x6e\x98\x8a\x9a\x40\x61\x7f".as_slice(),
+        );
+    }
+    Ok(())
+}

@@ -1,0 +1,121 @@
+//! Worked cases of what a sender keeps, by the numbers of AX.25 2.2.
+use crate::tests::assertions::assert_equal;
+use crate::tests::packets::{is_named, packet};
+use selective_reject::{BadNr, InStore, Mode, OutStore, Took};
+use std::alloc::Global;
+use std::process::Abort;
+use std::test::Fail;
+
+/// A sender's store with packets that are named by their places, none of them sent.
+fn store_of<R: Abort>(rt: &R, alloc: Global, count: u8) -> Result<OutStore, Fail> {
+    let mut store = OutStore::new(alloc)?;
+    for name in 0..count {
+        let back = store.push(packet(alloc, &[name])?);
+        assert!(*rt; back.is_ok());
+    }
+    Ok(store)
+}
+
+/// Sends packets modulo 8 in a window of 7, whose numbers are these, and no more.
+fn send_all<R: Abort>(rt: &R, store: &mut OutStore, numbers: &[u8]) {
+    for number in numbers {
+        assert_equal(rt, &store.next(8, 7), &Some(*number));
+    }
+    assert_equal(rt, &store.next(8, 7), &None);
+}
+
+/// A store with the packets 3 to 9, after 0 to 6 were sent and 0 to 2 acknowledged.
+fn acknowledged<R: Abort>(rt: &R, alloc: Global) -> Result<OutStore, Fail> {
+    let mut store = store_of(rt, alloc, 10)?;
+    send_all(rt, &mut store, &[0, 1, 2, 3, 4, 5, 6]);
+    assert_equal(rt, &store.acknowledge(8, 3), &Ok(3));
+    Ok(store)
+}
+
+#[test]
+fn the_window_is_sent(rt: HostRuntime) -> Result<(), Fail> {
+    let mut none = OutStore::new(rt.alloc())?;
+    send_all(&rt, &mut none, &[]);
+    let mut store = store_of(&rt, rt.alloc(), 10)?;
+    send_all(&rt, &mut store, &[0, 1, 2, 3, 4, 5, 6]);
+    assert!(rt; store.is_waiting());
+    Ok(())
+}
+
+#[test]
+fn what_is_acknowledged_goes(rt: HostRuntime) -> Result<(), Fail> {
+    let mut store = acknowledged(&rt, rt.alloc())?;
+    let below = store.acknowledge(8, 2);
+    assert_equal(&rt, &below, &Err(BadNr { va: 3, top: 7 }));
+    assert!(rt;
+        store.one(8, 2).is_none() && store.one(8, 7).is_none() && is_named(store.one(8, 6), 6)
+    );
+    Ok(())
+}
+
+#[test]
+fn what_is_not_acknowledged_is_sent_again(rt: HostRuntime) -> Result<(), Fail> {
+    let mut store = acknowledged(&rt, rt.alloc())?;
+    store.go_back();
+    send_all(&rt, &mut store, &[3, 4, 5, 6, 7, 0, 1]);
+    store.go_back();
+    // All was sent, so it is acknowledged although V(S) stands below.
+    assert_equal(&rt, &store.acknowledge(8, 2), &Ok(7));
+    assert_equal(&rt, &(store.len(), store.is_waiting()), &(0, false));
+    assert_equal(&rt, &store.acknowledge(8, 2), &Ok(0));
+    let above = store.acknowledge(8, 3);
+    assert_equal(&rt, &above, &Err(BadNr { va: 2, top: 2 }));
+    Ok(())
+}
+
+#[test]
+fn a_store_is_read_and_counted_from_0_again(rt: HostRuntime) -> Result<(), Fail> {
+    let mut store = store_of(&rt, rt.alloc(), 3)?;
+    assert_equal(&rt, &(store.next(8, 2), store.sent()), &(Some(0), 1));
+    assert_equal(&rt, &store.acknowledgement(8, 1), &Ok(1));
+    let beyond = store.acknowledgement(8, 2);
+    assert_equal(&rt, &beyond, &Err(BadNr { va: 0, top: 1 }));
+    assert!(rt; is_named(store.packet(2), 2));
+    store.restart();
+    assert_equal(&rt, &(store.sent(), store.len()), &(0, 3));
+    Ok(())
+}
+
+#[test]
+fn a_store_is_full_at_1024_packets(rt: HostRuntime) -> Result<(), Fail> {
+    let mut store = OutStore::new(rt.alloc())?;
+    for _ in 0..1024 {
+        let back = store.push(packet(rt.alloc(), &[1])?);
+        assert!(rt; back.is_ok());
+    }
+    let back = store.push(packet(rt.alloc(), &[2])?);
+    assert!(rt; matches!(&back, Err(packet) if is_named(Some(packet), 2)));
+    assert_equal(&rt, &store.len(), &1024);
+    store.clear();
+    assert!(rt; store.is_empty());
+    let again = store.push(packet(rt.alloc(), &[3])?);
+    assert!(rt; again.is_ok());
+    Ok(())
+}
+
+#[test]
+fn numbers_wrap_round_the_modulus(rt: HostRuntime) -> Result<(), Fail> {
+    let alloc = rt.alloc();
+    let mut sender = OutStore::new(alloc)?;
+    for (modulus, window) in [(8, 4), (128, 64)] {
+        assert!(rt; (modulus == 8 && window == 4) || (modulus == 128 && window == 64));
+        let mut receiver = InStore::new(alloc, modulus, window, Mode::Srej)?;
+        for name in 0..=255 {
+            let number = name % modulus;
+            let back = sender.push(packet(alloc, &[name])?);
+            assert!(rt; back.is_ok() && sender.next(modulus, window) == Some(number));
+            assert!(rt; is_named(sender.one(modulus, number), name) && receiver.vr() == number);
+            let took = receiver.accept(number, packet(alloc, &[name])?);
+            assert!(rt; took == Took::Next && is_named(receiver.take().as_ref(), name));
+            let count = sender.acknowledge(modulus, (number + 1) % modulus);
+            assert_equal(&rt, &count, &Ok(1));
+        }
+        sender.clear();
+    }
+    Ok(())
+}

@@ -1,0 +1,11 @@
+mod assertions;
+mod bits;
+mod framer;
+mod letters;
+mod merger;
+mod modulator;
+mod ring;
+mod shortest_frame;
+mod slicers;
+mod tones;
+mod tracking;
