@@ -4,3 +4,4 @@ pub mod CorrelationLemmas
 pub mod DecisionLemmas
 pub mod TrackerLemmas
 pub mod ListsLemmas
+pub mod LaneLemmas

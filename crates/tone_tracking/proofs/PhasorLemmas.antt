@@ -78,7 +78,7 @@ plus-assoc p q r = phasor_is (plus (plus p q) r) (plus p (plus q r)) (omega (ari
 -- ---- sizes
 
 -- a size by the sum of both parts
-size-sum : (p : Phasor) → size p +ℤ p.a *ℤ p.b ≡ (p.a +ℤ p.b) *ℤ (p.a +ℤ p.b)
+pub size-sum : (p : Phasor) → size p +ℤ p.a *ℤ p.b ≡ (p.a +ℤ p.b) *ℤ (p.a +ℤ p.b)
 size-sum p =
     omega (
       arith,

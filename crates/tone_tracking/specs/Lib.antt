@@ -4,3 +4,4 @@ pub mod Heard
 pub mod Clock
 pub mod HeldTracker
 pub mod HeldLists
+pub mod PairSums

@@ -1,18 +1,27 @@
 //! The correlations of a window with the two tones, as phasors.
+//!
+//! Four sums of eight products each are made side by side, by vectors: products are added in pairs, and what is left in
+//! pairs again, until each lane of one vector holds a sum.
 
-ghost use Rattle.std.specs.Prelude.{◌≡◌, ◌+◌, ◌<◌, ◌≤◌, ◌*◌, pos, ◌-ℤ◌, ◌*ℤ◌, slice_index_or, sum_by, unsigned_abs};
-ghost use Rattle.offset_slicers.specs.Decision.{sum_below, product_of};
-ghost use Rattle.tone_table.specs.declared.tone.Tone.TheVariants.{Mark, Space};
-ghost use Rattle.tone_tracking.specs.Correlation.{AreWithin, correlation, correlations};
-ghost use Rattle.tone_tracking.specs.Phasors.{IsWithin};
+ghost use Rattle.std.specs.Prelude.{◌≡◌, ◌≤◌, sum_by, unsigned_abs, length};
+ghost use Rattle.std.specs.List.{All};
+ghost use Rattle.tone_tracking.specs.Correlation.{AreWithin, correlations};
+ghost use Rattle.tone_tracking.specs.PairSums.{AreSmall, in_pairs, pairs_of_products};
 
 use crate::phasor::Phasor;
+use std::simd::prelude::*;
+
+/// The weights of mark a sixth of a turn on.
+static MARK_ON: [i32; 8] = [87, 97, 50, -26, -87, -97, -50, 26];
+
+/// The weights of mark.
+static MARK: [i32; 8] = [0, 71, 100, 71, 0, -71, -100, -71];
 
 /// The weights of space a sixth of a turn on.
-static SPACE_ON: [i16; 8] = [87, 61, -71, -79, 50, 92, -26, -99];
+static SPACE_ON: [i32; 8] = [87, 61, -71, -79, 50, 92, -26, -99];
 
 /// The weights of space.
-static SPACE: [i16; 8] = [0, 99, 26, -92, -50, 79, 71, -61];
+static SPACE: [i32; 8] = [0, 99, 26, -92, -50, 79, 71, -61];
 
 /// The correlations of a window with mark and with space.
 #[derive(Clone, Copy, PartialEq, Eq, Debug)]
@@ -36,64 +45,71 @@ pub fn correlate(window: &[i16; 8]) -> Correlations
     ensures sums { result ≡ correlations window.now 0 }
     ensures bound { AreWithin result }
 {
+    let samples = widened(window);
+    let mark = half_sums(samples, &MARK_ON, &MARK);
+    let space = half_sums(samples, &SPACE_ON, &SPACE);
+    let sums = in_pairs(mark, space).to_array();
     Correlations {
-        mark: correlate_mark(window),
-        space: correlate_space(window),
+        mark: Phasor {
+            a: i64::from(sums[0]),
+            b: i64::from(-sums[1]),
+        },
+        space: Phasor {
+            a: i64::from(sums[2]),
+            b: i64::from(-sums[3]),
+        },
     }
 }
 
-/// The correlation with mark. Half a cycle of mark takes four samples, so its weights turn round there, and differences
-/// of samples four places apart are weighted.
-fn correlate_mark(window: &[i16; 8]) -> Phasor
-    ensures sum { result ≡ correlation Mark window.now 0 }
-    ensures bound { IsWithin 40000000 result }
+/// The samples of a window, a lane each.
+fn widened(window: &[i16; 8]) -> i32x8
+    ensures lanes { result ≡ window.now }
+    ensures length { length result ≡ 8 }
+    ensures bound { All (λ sample. unsigned_abs sample ≤ 32768) result }
 {
-    let first = difference(window, 0);
-    let second = difference(window, 1);
-    let third = difference(window, 2);
-    let fourth = difference(window, 3);
-    Phasor {
-        a: i64::from(87 * first + 97 * second + 50 * third - 26 * fourth),
-        b: i64::from(-(71 * second + 100 * third + 71 * fourth)),
-    }
-}
-
-/// A sample of a window, less the one four places on.
-fn difference(window: &[i16; 8], place: usize) -> i32
-    requires { place < 4 }
-    ensures value { result ≡ slice_index_or window.now place (pos 0) -ℤ slice_index_or window.now (place + 4) (pos 0) }
-    ensures bound { unsigned_abs result ≤ 65535 }
-{
-    i32::from(window[place]) - i32::from(window[place + 4])
-}
-
-/// The correlation with space.
-fn correlate_space(window: &[i16; 8]) -> Phasor
-    ensures sum { result ≡ correlation Space window.now 0 }
-    ensures bound { IsWithin 40000000 result }
-{
-    Phasor {
-        a: i64::from(sum_of_products(window, &SPACE_ON)),
-        b: i64::from(-sum_of_products(window, &SPACE)),
-    }
-}
-
-/// The sum of the products of samples and weights, place by place.
-fn sum_of_products(window: &[i16; 8], weights: &[i16; 8]) -> i32
-    requires { sum_by unsigned_abs weights.now ≤ 600 }
-    ensures sum { result ≡ sum_below (product_of window.now weights.now) 8 }
-    ensures bound { unsigned_abs result ≤ 19660800 }
-{
-    let mut sum = 0;
+    let mut samples = [0; 8];
     for i in 0..8 {
-        sum += product(window[i], weights[i]);
+        samples[i] = i32::from(window[i]);
     }
-    sum
+    i32x8::from_array(samples)
 }
 
-/// The product of a sample and a weight.
-fn product(sample: i16, weight: i16) -> i32
-    ensures { result ≡ sample *ℤ weight }
+/// The sums of the products of samples and a tone's weights, a sixth of a turn on and as they are, each as two lanes.
+fn half_sums(samples: i32x8, on: &[i32; 8], at: &[i32; 8]) -> i32x4
+    requires length { length samples ≡ 8 }
+    requires samples { All (λ sample. unsigned_abs sample ≤ 32768) samples }
+    requires on { sum_by unsigned_abs on.now ≤ 600 }
+    requires at { sum_by unsigned_abs at.now ≤ 600 }
+    ensures sums { result ≡ in_pairs (pairs_of_products samples on.now) (pairs_of_products samples at.now) }
+    ensures bound { AreSmall 80000000 result }
 {
-    i32::from(sample) * i32::from(weight)
+    in_pairs(
+        pairs_of_products(samples, on),
+        pairs_of_products(samples, at),
+    )
+}
+
+/// The products of samples and weights, place by place, each added to the one next to it.
+fn pairs_of_products(samples: i32x8, weights: &[i32; 8]) -> i32x4
+    requires length { length samples ≡ 8 }
+    requires samples { All (λ sample. unsigned_abs sample ≤ 32768) samples }
+    requires weights { sum_by unsigned_abs weights.now ≤ 600 }
+    ensures pairs { result ≡ pairs_of_products samples weights.now }
+    ensures bound { AreSmall 40000000 result }
+{
+    let products = samples.strict_mul(i32x8::from_array(*weights));
+    products
+        .swizzle([0, 2, 4, 6])
+        .strict_add(products.swizzle([1, 3, 5, 7]))
+}
+
+/// The lanes of two vectors, each added to the one next to it.
+fn in_pairs(first: i32x4, second: i32x4) -> i32x4
+    requires first { AreSmall 80000000 first }
+    requires second { AreSmall 80000000 second }
+    ensures { result ≡ in_pairs first second }
+{
+    first
+        .shuffle(second, [0, 2, 4, 6])
+        .strict_add(first.shuffle(second, [1, 3, 5, 7]))
 }

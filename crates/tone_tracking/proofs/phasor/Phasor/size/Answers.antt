@@ -1,36 +1,47 @@
-use Rattle.std.proofs.Common.{◌≡◌, ◌≤◌, ℤ, ◌*ℤ◌, ◌+ℤ◌, FitsSigned, to_z, of_z, w64, unsigned_abs, ◌∙◌, arith}
+use Rattle.std.proofs.Common.{◌≡◌, ◌≤◌, ℤ, ◌*ℤ◌, ◌+ℤ◌, ◌-ℤ◌, FitsSigned, to_z, of_z, w64, unsigned_abs, ap, sym, subst, ◌∙◌, arith}
 use Rattle.std.proofs.lemmas.Int.{ints, to_z-of_z}
+use Rattle.tone_tracking.specs.declared.phasor.Phasor.{Phasor}
+use Rattle.tone_tracking.specs.Phasors.{IsWithin, size}
+use Rattle.tone_tracking.proofs.PhasorLemmas.{size-sum}
 use Rattle.tone_tracking.proofs.phasor.Phasor.size.Goals as goal
 
--- a sum of three as it is passed and given back
-sum_is : (x y z : ℤ) → unsigned_abs x ≤ 1000000000000000000 → unsigned_abs y ≤ 1000000000000000000
-    → unsigned_abs z ≤ 1000000000000000000
-    → to_z w64 (of_z w64 (to_z w64 (of_z w64 (to_z w64 (of_z w64 x) +ℤ to_z w64 (of_z w64 y))) +ℤ to_z w64
-    (of_z w64 z))) ≡ (x +ℤ y) +ℤ z
-sum_is x y z a b c = omega (arith, ints)
+-- a part as it is passed
+part_is : (x : ℤ) → unsigned_abs x ≤ 1000000000 → to_z w64 (of_z w64 x) ≡ x
+part_is x small =
+    let fits : FitsSigned w64 x = omega (arith, ints) in
+    to_z-of_z w64 x fits
 
--- a product of parts as they are passed
-product_is : (x y z : ℤ) → unsigned_abs x ≤ 1000000000 → unsigned_abs y ≤ 1000000000
-    → z ≡ to_z w64 (of_z w64 x) *ℤ to_z w64 (of_z w64 y) → z ≡ x *ℤ y
-product_is x y z a b is =
-    let fits_x : FitsSigned w64 x = omega (arith, ints) in
-    let fits_y : FitsSigned w64 y = omega (arith, ints) in
-    simp to_z-of_z at is
+-- both parts added, as they are passed
+both_is : (p : Phasor) → IsWithin 1000000000 p
+    → to_z w64 (of_z w64 (to_z w64 (of_z w64 p.a) +ℤ to_z w64 (of_z w64 p.b))) ≡ p.a +ℤ p.b
+both_is p within =
+    ap (λ z. to_z w64 (of_z w64 z))
+    (let a = part_is p.a within.first in let b = part_is p.b within.second in λ i. a i +ℤ b i)
+    ∙ part_is (p.a +ℤ p.b) within.both
 
-pub overflow_add-result-2 : goal.overflow_add-result-2
-overflow_add-result-2 c =
-    let x = c.product.ensures.bound in
-    let y = c.product-2.ensures.bound in
-    let z = c.product-3.ensures.bound in
-    omega (arith, ints)
+-- a difference as it is given back
+difference_is : (x y : ℤ) → unsigned_abs x ≤ 1000000000000000000 → unsigned_abs y ≤ 1000000000000000000
+    → to_z w64 (of_z w64 (to_z w64 (of_z w64 x) -ℤ to_z w64 (of_z w64 y))) ≡ x -ℤ y
+difference_is x y a b = omega (arith, ints)
+
+less : (x y z : ℤ) → z +ℤ y ≡ x → x -ℤ y ≡ z
+less x y z is = omega (arith, ints)
+
+pub product-requires-clause-part : goal.product-requires-clause-part
+product-requires-clause-part c =
+    subst (λ z. unsigned_abs z ≤ 1000000000) (sym (both_is c.args.self c.requires)) c.requires.both
+
+pub product-requires-clause-other : goal.product-requires-clause-other
+product-requires-clause-other c =
+    subst (λ z. unsigned_abs z ≤ 1000000000) (sym (both_is c.args.self c.requires)) c.requires.both
 
 pub returns : goal.returns
 returns c =
-    let a = c.args.self.a in
-    let b = c.args.self.b in
-    let one = product_is a a c.product.result c.requires.first c.requires.first c.product.ensures.value in
-    let two = product_is a b c.product-2.result c.requires.first c.requires.second c.product-2.ensures.value in
-    let three = product_is b b c.product-3.result c.requires.second c.requires.second c.product-3.ensures.value in
-    sum_is c.product.result c.product-2.result c.product-3.result c.product.ensures.bound c.product-2.ensures.bound
-    c.product-3.ensures.bound
-    ∙ (λ i. (one i +ℤ two i) +ℤ three i)
+    let p = c.args.self in
+    let both = both_is p c.requires in
+    let a = part_is p.a c.requires.first in
+    let b = part_is p.b c.requires.second in
+    let square : c.product.result ≡ (p.a +ℤ p.b) *ℤ (p.a +ℤ p.b) = c.product.ensures.value ∙ (λ i. both i *ℤ both i) in
+    let mixed : c.product-2.result ≡ p.a *ℤ p.b = c.product-2.ensures.value ∙ (λ i. a i *ℤ b i) in
+    difference_is c.product.result c.product-2.result c.product.ensures.bound c.product-2.ensures.bound
+    ∙ (λ i. square i -ℤ mixed i) ∙ less ((p.a +ℤ p.b) *ℤ (p.a +ℤ p.b)) (p.a *ℤ p.b) (size p) (size-sum p)
