@@ -1,5 +1,5 @@
 -- What a call answers for an event that is not refused.
-use Rattle.std.proofs.Common.{◌≡◌, ◌-◌, ◌<◌, ◌≤◌, false, if◌then◌else◌, List}
+use Rattle.std.proofs.Common.{◌≡◌, ◌<◌, ◌≤◌, false, if◌then◌else◌, List}
 use Rattle.std.proofs.Common.{length, Ok, Err, Result, refl, sym, ◌∙◌, ap, subst}
 use Rattle.selective_reject.specs.declared.packet.Packet.{Packet}
 use Rattle.link_machine.specs.declared.machine.Machine.{Machine as Held}
@@ -10,7 +10,6 @@ use Rattle.link_machine.specs.Turn.{Turn, Act, begin}
 use Rattle.tnc_base.specs.declared.fault.OutOfMemory.{OutOfMemory}
 use Rattle.std.proofs.Common.{nat_lt, None}
 use Rattle.std.proofs.lemmas.Bool.{le-ltb, lt-leb}
-use Rattle.std.specs.Prelude.{not}
 use Rattle.std.specs.Prelude.{IsErr, OnOk}
 use Rattle.std.specs.Prelude.{Option}
 use Rattle.std.proofs.lemmas.Bool.{cond-false}

@@ -14,10 +14,10 @@ use Rattle.selective_reject.specs.declared.window.Mode.TheVariants.{Rej as RejMo
 use Rattle.selective_reject.specs.Numbers.{ahead}
 use Rattle.selective_reject.specs.Places.{missing, asked}
 use Rattle.link_machine.specs.declared.acts.Told.TheVariants.{Opened, Given, Ended}
-use Rattle.link_machine.specs.declared.acts.Why.TheVariants.{Asked, Failed, Peer, Reset, Refused}
+use Rattle.link_machine.specs.declared.acts.Why.TheVariants.{Asked, Failed}
 use Rattle.link_machine.specs.declared.params.Params.{Params}
 use Rattle.link_machine.specs.Machine.{new_machine}
-use Rattle.link_machine.specs.Sent.{Sent, SentIn, sent_in, all_sent_in}
+use Rattle.link_machine.specs.Sent.{Sent, SentIn, all_sent_in}
 use Rattle.link_machine.specs.Sent.Sent.{InfoSent, SuperSent, SetupSent}
 use Rattle.link_machine.specs.Turn.{Turn, begin}
 use Rattle.link_machine.specs.Event.{Event}

@@ -10,7 +10,7 @@ use Rattle.selective_reject.specs.Outgoing.{acknowledged as without_acknowledged
 use Rattle.link_machine.specs.declared.control.Control.{Control}
 use Rattle.link_machine.specs.declared.state.LinkState.{LinkState}
 use Rattle.link_machine.specs.declared.state.LinkState.TheVariants.{Idle, Calling, Up, Releasing}
-use Rattle.link_machine.specs.Machine.{Machine, named, ahead_of_vr}
+use Rattle.link_machine.specs.Machine.{Machine, ahead_of_vr}
 use Rattle.link_machine.specs.Sent.{all_sent_in, infos_from}
 use Rattle.link_machine.specs.Sent.Sent.{InfoSent}
 use Rattle.link_machine.specs.Turn.{Turn, setting, sending, in_order}
@@ -20,7 +20,6 @@ use Rattle.link_machine.specs.Frames.{acknowledged_by_srej, hear_info_by_rej, ta
 use Rattle.link_machine.specs.Frames.{hear_info_by_srej, hear_info_by}
 use Rattle.std.proofs.Common.{◌==◌, nat_lt, inr, None}
 use Rattle.std.proofs.lemmas.Bool.{ltb-true}
-use Rattle.std.specs.Prelude.{not}
 use Rattle.std.proofs.lemmas.Option.{slice_get_cases}
 use Rattle.std.specs.Prelude.{◌⊎◌, get_or}
 use Rattle.std.specs.List.{slice_get}

@@ -18,7 +18,7 @@ use Rattle.link_machine.specs.Held.{outgoing_behind}
 use Rattle.std.specs.Prelude.{Option}
 use Rattle.selective_reject.specs.declared.packet.Packet.{Packet}
 use Rattle.selective_reject.specs.Outgoing.{Outgoing, StandsForOutgoing, IsOutgoing, may_send, after_next}
-use Rattle.link_machine.specs.Sent.{Sent, SentIn, sent_in, all_sent_in, infos_from}
+use Rattle.link_machine.specs.Sent.{SentIn, sent_in, all_sent_in, infos_from}
 use Rattle.link_machine.specs.Sent.Sent.{InfoSent}
 use Rattle.link_machine.specs.Turn.{Turn}
 use Rattle.link_machine.specs.Acts.{in_window, sent_to}

@@ -1,6 +1,6 @@
 -- Every frame that a link sends can be written in its modulus: its numbers are below it, and its packet is short.
-use Rattle.std.proofs.Common.{◌≡◌, ℕ, ◌+◌, ◌-◌, ◌%◌, ◌<◌, ◌≤◌, ◌==◌, ◌&&◌, ◌||◌, not, Bool, true, false, if◌then◌else◌}
-use Rattle.std.proofs.Common.{List, [], ◌∷◌, ◌++◌, length, take, drop, map, min, None, Some, refl, sym, ◌∙◌, ap, subst}
+use Rattle.std.proofs.Common.{◌≡◌, ℕ, ◌+◌, ◌-◌, ◌<◌, ◌≤◌, ◌==◌, ◌&&◌, ◌||◌, not, Bool, true, false, if◌then◌else◌}
+use Rattle.std.proofs.Common.{List, [], ◌∷◌, ◌++◌, length, drop, map, min, None, Some, refl, sym, ap, subst}
 use Rattle.std.proofs.Common.{arith, nat_lt, nat_le, inl, inr}
 use Rattle.std.specs.Prelude.{All, Option, is_some, get_or, ◌⊎◌, ⊤}
 use Rattle.std.specs.List.{slice_get}
@@ -30,42 +30,40 @@ use Rattle.link_machine.specs.declared.acts.Why.{Why}
 use Rattle.link_machine.specs.declared.acts.Why.TheVariants.{Failed, Peer, Reset}
 use Rattle.link_machine.specs.declared.control.Control.{Control}
 use Rattle.link_machine.specs.declared.fault.LinkFault.{LinkFault}
-use Rattle.link_machine.specs.declared.fault.LinkFault.TheVariants.{WrongState, Full, TooLong}
+use Rattle.link_machine.specs.declared.fault.LinkFault.TheVariants.{Full, TooLong}
 use Rattle.link_machine.specs.declared.state.LinkState.{LinkState}
 use Rattle.link_machine.specs.declared.state.LinkState.TheVariants.{Idle, Calling, Up, Releasing}
 use Rattle.link_machine.specs.Machine.{Machine, fresh, emptied, in_modulus, narrowed, in_own_modulus, modulus_named}
 use Rattle.link_machine.specs.Machine.{in_state, is_wide, is_valid, named, ahead_of_vr}
-use Rattle.link_machine.specs.Sent.{Sent, SentIn, sent_in, all_sent_in, infos_from, frame_of, sent_frame, sent_frames}
+use Rattle.link_machine.specs.Sent.{Sent, SentIn, sent_in, all_sent_in, infos_from, frame_of, sent_frame}
 use Rattle.link_machine.specs.Sent.{IsWritable}
 use Rattle.link_machine.specs.Sent.Sent.{InfoSent, SuperSent, SetupSent}
-use Rattle.link_machine.specs.Turn.{Turn, Act, begin, changing, setting, sending, telling, nothing, in_order}
+use Rattle.link_machine.specs.Turn.{Turn, Act, begin, changing, setting, sending, telling}
 use Rattle.link_machine.specs.Acts.{acknowledged, nothing_due, report, respond_ready, answer_poll, gone_back}
-use Rattle.link_machine.specs.Acts.{behind_poll, recover, polling, poll, in_window, to_send, awaiting, send_packets}
+use Rattle.link_machine.specs.Acts.{behind_poll, recover, polling, poll, in_window, to_send, send_packets}
 use Rattle.link_machine.specs.Acts.{flush, releasing, release, close, settle, calling_frame, send_call, calling, call}
 use Rattle.link_machine.specs.Acts.{reset, owing, with_rej, reject, run_with, give, stored, srej_for, ask, watching}
 use Rattle.link_machine.specs.Acts.{sent_packet, send_again}
-use Rattle.link_machine.specs.Requests.{connect, joined, quitting, is_closed}
+use Rattle.link_machine.specs.Requests.{quitting, is_closed}
 use Rattle.link_machine.specs.Frames.{answer_ua, answer_dm, stopped_t1, end_call, stopped, leave, open_called}
 use Rattle.link_machine.specs.Frames.{open_answered, unretried_call, call_narrow, hear_idle, hear_calling_in}
-use Rattle.link_machine.specs.Frames.{hear_calling, hear_releasing, with_busy, hear_rr, hear_rnr, hear_rej}
+use Rattle.link_machine.specs.Frames.{hear_releasing, with_busy, hear_rr, hear_rnr, hear_rej}
 use Rattle.link_machine.specs.Frames.{acknowledged_by_srej, hear_srej, hear_supervisory, take_in_sequence}
-use Rattle.link_machine.specs.Frames.{refuse_out_of_sequence, hear_info_by_rej, take_selected, hear_info_by_srej}
+use Rattle.link_machine.specs.Frames.{hear_info_by_rej, take_selected}
 use Rattle.link_machine.specs.Frames.{hear_info_by, hear_info, open_again, end_by_disc, end_by_dm, hear_up, hear_in}
-use Rattle.link_machine.specs.Frames.{hear}
 use Rattle.link_machine.specs.Ticks.{runs_out, lowered, with_t1, with_t2, with_t3, t2_out, retried, is_spent}
-use Rattle.link_machine.specs.Ticks.{call_again, poll_again, release_again, t1_out, unretried, t3_out, tick_t2_of}
-use Rattle.link_machine.specs.Ticks.{tick_t2, tick_t3_of, tick_t3, tick_t1_of, tick_t1, tick_in, tick}
+use Rattle.link_machine.specs.Ticks.{t1_out, unretried, t3_out, tick_t2_of}
+use Rattle.link_machine.specs.Ticks.{tick_t2, tick_t3_of, tick_t1_of, tick_t1, tick_in}
 use Rattle.link_machine.specs.Event.{Event}
 use Rattle.link_machine.specs.Event.Event.{Connect, Send, Disconnect, Hear, Tick}
 use Rattle.link_machine.specs.Step.{refusal_of, row, settle_in, settled, step, done_of}
 use Rattle.link_machine.specs.declared.machine.Machine.{Machine as Held}
 use Rattle.link_machine.specs.Done.{Done}
-use Rattle.link_machine.specs.StandsFor.{StandsFor}
-use Rattle.link_machine.specs.Held.{IsShort, IsKept, IsWhole, Made, Makes}
+use Rattle.link_machine.specs.Held.{IsShort, IsKept, Made, Makes}
 use Rattle.link_machine.proofs.Events.{itself, holds_itself, whole_of}
-use Rattle.link_machine.proofs.Answered.{answers_right, answers_all, whole_behind}
+use Rattle.link_machine.proofs.Answered.{answers_right}
 use Rattle.tnc_base.specs.declared.fault.OutOfMemory.{OutOfMemory}
-use Rattle.std.specs.Prelude.{Result, IfOk, OnOk}
+use Rattle.std.specs.Prelude.{Result, IfOk}
 use Rattle.std.proofs.Common.{Ok, Err}
 
 -- a machine with a modulus of AX.25, whose packets are short

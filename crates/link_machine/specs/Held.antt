@@ -1,5 +1,5 @@
 -- What a link keeps in one event, act by act. No public clause speaks of this.
-use Rattle.std.specs.Prelude.{All, ◌≤◌, replicate, ◌<◌, Result, Ok, Err, ◌≡◌, ℕ, ◌+◌, Bool, false, ◌++◌, ◌∷◌, []}
+use Rattle.std.specs.Prelude.{All, ◌≤◌, replicate, Result, Ok, Err, ◌≡◌, ℕ, ◌+◌, Bool, false, ◌++◌, ◌∷◌, []}
 use Rattle.std.specs.Prelude.{length, if◌then◌else◌, List}
 use Rattle.link_machine.specs.Sent.Sent.{InfoSent}
 use Rattle.selective_reject.specs.Outgoing.{Outgoing, IsOutgoing, after_next, acknowledged, back}

@@ -1,7 +1,7 @@
 use Rattle.std.proofs.Common.{sym, ◌∙◌, ap, subst}
 use Rattle.link_machine.specs.declared.control.Control.{Control}
 use Rattle.link_machine.specs.declared.machine.Machine.{Machine as Held}
-use Rattle.link_machine.specs.Requests.{connect, has_link}
+use Rattle.link_machine.specs.Requests.{has_link}
 use Rattle.link_machine.specs.Event.Event.{Connect}
 use Rattle.link_machine.specs.StandsFor.{StandsFor}
 use Rattle.link_machine.proofs.Events.{itself, holds_itself}

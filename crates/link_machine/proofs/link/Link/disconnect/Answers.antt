@@ -1,7 +1,6 @@
 use Rattle.std.proofs.Common.{sym, ◌∙◌, ap, subst}
 use Rattle.link_machine.specs.declared.machine.Machine.{Machine as Held}
-use Rattle.link_machine.specs.Turn.{setting}
-use Rattle.link_machine.specs.Requests.{quitting, is_closed}
+use Rattle.link_machine.specs.Requests.{is_closed}
 use Rattle.link_machine.specs.Event.Event.{Disconnect}
 use Rattle.link_machine.specs.StandsFor.{StandsFor}
 use Rattle.link_machine.proofs.Events.{itself, holds_itself}

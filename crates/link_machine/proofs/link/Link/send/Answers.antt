@@ -1,7 +1,6 @@
 use Rattle.std.proofs.Common.{◌≡◌, length, sym, ◌∙◌, ap, subst, arith}
 use Rattle.link_machine.specs.declared.machine.Machine.{Machine as Held}
-use Rattle.link_machine.specs.Turn.{changing}
-use Rattle.link_machine.specs.Requests.{joined, is_closed}
+use Rattle.link_machine.specs.Requests.{is_closed}
 use Rattle.link_machine.specs.Event.Event.{Send}
 use Rattle.link_machine.specs.StandsFor.{StandsFor}
 use Rattle.link_machine.proofs.Events.{itself, holds_itself}

@@ -1,12 +1,10 @@
-use Rattle.std.proofs.Common.{◌≡◌, ◌+◌, ◌<◌, ◌≤◌, ◌==◌, nat_lt, sym, ◌∙◌, ap, subst, Ok, arith}
+use Rattle.std.proofs.Common.{◌≡◌, ◌+◌, ◌==◌, nat_lt, sym, ◌∙◌, ap, subst, Ok}
 use Rattle.std.specs.Prelude.{not}
 use Rattle.std.proofs.lemmas.Bool.{cond-true}
 use Rattle.selective_reject.specs.Outgoing.{Outgoing, StandsForOutgoing, acknowledgement, after_acknowledge}
 use Rattle.selective_reject.specs.Outgoing.{acknowledged as without_acknowledged}
-use Rattle.link_machine.specs.declared.control.Control.{Control}
 use Rattle.link_machine.specs.Machine.{named}
 use Rattle.link_machine.specs.Acts.{timed_by}
-use Rattle.link_machine.specs.Held.{Holds}
 use Rattle.link_machine.proofs.Showing.{holds_outgoing, holds_control}
 use Rattle.link_machine.proofs.Events.{valid_number, below_top, some_acknowledged, all_acknowledged}
 use Rattle.link_machine.proofs.machine.Machine.acknowledge.Goals as goal

@@ -1,4 +1,4 @@
-use Rattle.std.proofs.Common.{◌≡◌, ℕ, ◌+◌, ◌%◌, ◌≤◌, length, ◌++◌, map, refl, sym, ◌∙◌, ap, subst, arith}
+use Rattle.std.proofs.Common.{◌≡◌, ℕ, ◌+◌, ◌%◌, ◌≤◌, length, ◌++◌, map, sym, ◌∙◌, ap, subst, arith}
 use Rattle.selective_reject.specs.Incoming.{StandsForIncoming, numbers_to_ask, before_number}
 use Rattle.link_machine.specs.declared.machine.Machine.{Machine as Held}
 use Rattle.link_machine.specs.Machine.{ahead_of_vr}

@@ -1,4 +1,4 @@
-use Rattle.std.proofs.Common.{◌≡◌, ℕ, ◌+◌, ◌%◌, ◌≤◌, false, refl, sym, ◌∙◌, ap, subst, arith, inl}
+use Rattle.std.proofs.Common.{◌≡◌, ◌+◌, ◌%◌, ◌≤◌, false, refl, sym, ◌∙◌, ap, arith}
 use Rattle.selective_reject.specs.Numbers.{ahead}
 use Rattle.selective_reject.specs.Incoming.{Incoming}
 use Rattle.link_machine.specs.Machine.{named}
