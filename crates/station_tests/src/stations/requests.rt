@@ -1,7 +1,10 @@
 //! What hosts ask by octets.
-use super::desk::{Desk, message};
-use crate::PortKind;
+
+use super::desk::Desk;
+use crate::assertions::assert_equal;
+use crate::messages::message;
 use link_machine::Params;
+use station::PortKind;
 use std::alloc::Global;
 use std::test::Fail;
 
@@ -17,16 +20,6 @@ impl Desk {
         let want = message(self.alloc, kind, ends, body)?;
         let told = self.told()?;
         Ok(told.ends_with(&want))
-    }
-
-    /// How long the link frames since the last look are.
-    fn lens(&mut self) -> Result<Vec<usize>, Fail> {
-        let frames = self.look().queued;
-        let mut lens = Vec::new(self.alloc);
-        for frame in &frames {
-            lens.push(frame.len())?;
-        }
-        Ok(lens)
     }
 }
 
@@ -54,11 +47,11 @@ fn a_whole_call_in_one_piece(rt: HostRuntime) -> Result<(), Fail> {
     let alloc = rt.alloc();
     let mut desk = Desk::new(alloc, Params::default())?;
     desk.take(1, &whole_call(alloc)?)?;
-    assert_eq!(rt; desk.lens()?.as_slice(), [15].as_slice());
+    assert_equal(&rt, &desk.lens()?.as_slice(), &[15].as_slice());
     desk.hear(UA)?;
-    assert_eq!(rt; desk.lens()?.as_slice(), [272, 272, 104].as_slice());
+    assert_equal(&rt, &desk.lens()?.as_slice(), &[272, 272, 104].as_slice());
     desk.hear(RR)?;
-    assert_eq!(rt; desk.lens()?.as_slice(), [15].as_slice());
+    assert_equal(&rt, &desk.lens()?.as_slice(), &[15].as_slice());
     Ok(())
 }
 
@@ -86,8 +79,8 @@ fn a_whole_call_cut_at_every_octet(rt: HostRuntime) -> Result<(), Fail> {
         desk.take(1, &octets[..cut])?;
         desk.take(1, &octets[cut..])?;
         desk.hear(UA)?;
-        assert_eq!(rt; desk.out.queued.len(), 4);
-        assert_eq!(rt; desk.out.pieces.len(), 3);
+        assert_equal(&rt, &desk.out.queued.len(), &4);
+        assert_equal(&rt, &desk.out.pieces.len(), &3);
     }
     Ok(())
 }
@@ -105,7 +98,7 @@ fn tells_of_itself(rt: HostRuntime) -> Result<(), Fail> {
         let mut desk = Desk::new(rt.alloc(), Params::default())?;
         desk.ask(1, kind, ["", ""], b"")?;
         let want = message(rt.alloc(), kind, ["", ""], body)?;
-        assert_eq!(rt; desk.told()?.as_slice(), want.as_slice());
+        assert_equal(&rt, &desk.told()?.as_slice(), &want.as_slice());
     }
     Ok(())
 }
@@ -120,26 +113,28 @@ fn tells_what_kiss_has_set(rt: HostRuntime) -> Result<(), Fail> {
     desk.ask(1, b'g', ["", ""], b"")?;
     let body = b"\0\xff\x1e\x07\xff\x05\x04\0\x01\0\0\0";
     let want = message(rt.alloc(), b'g', ["", ""], body)?;
-    assert_eq!(rt; desk.told()?.as_slice(), want.as_slice());
+    assert_equal(&rt, &desk.told()?.as_slice(), &want.as_slice());
     Ok(())
 }
 
-// Each row: a kind, how long the body is, and how many frames wait then.
+// Each row: a kind, how long the body is, and how many octets are sent, which are none or those of one frame.
 #[test]
 fn sends_frames_that_fit(rt: HostRuntime) -> Result<(), Fail> {
     let alloc = rt.alloc();
     let table = [
         (b'K', 0, 0),
         (b'K', 15, 0),
-        (b'K', 16, 1),
-        (b'M', 937, 1),
+        (b'K', 16, 15),
+        (b'M', 937, 953),
         (b'M', 938, 0),
         (b'V', 92, 0),
     ];
     for (kind, len, want) in table {
         let mut desk = Desk::new(alloc, Params::default())?;
+        desk.send_at_once()?;
         desk.ask(1, kind, ["AAAA", "BBBB"], &filled(alloc, 9, len)?)?;
-        assert_eq!(rt; desk.parts.channel.len(), want);
+        let sent = desk.tick(700)?;
+        assert_equal(&rt, &(kind, len, sent.len()), &(kind, len, want));
     }
     Ok(())
 }
@@ -148,10 +143,11 @@ fn sends_frames_that_fit(rt: HostRuntime) -> Result<(), Fail> {
 fn sends_by_way_of_repeaters(rt: HostRuntime) -> Result<(), Fail> {
     let ends = ["AAAA", "BBBB"];
     let mut desk = Desk::new(rt.alloc(), Params::default())?;
+    desk.send_at_once()?;
     desk.ask(1, b'V', ends, b"\x01WIDE1-1\0\0\0A")?;
-    assert_eq!(rt; desk.parts.channel.len(), 1);
+    assert_equal(&rt, &desk.tick(40)?.len(), &24);
     desk.ask(1, b'V', ends, b"\x01WIDE1-16\0\0A")?;
-    assert_eq!(rt; desk.parts.channel.len(), 1);
+    assert_equal(&rt, &desk.tick(40)?.len(), &0);
     Ok(())
 }
 
@@ -175,7 +171,7 @@ fn a_call_is_registered_once(rt: HostRuntime) -> Result<(), Fail> {
         if kind == b'X' {
             want = message(rt.alloc(), kind, [call, ""], body)?;
         }
-        assert_eq!(rt; desk.told()?.as_slice(), want.as_slice());
+        assert_equal(&rt, &desk.told()?.as_slice(), &want.as_slice());
     }
     Ok(())
 }
@@ -186,8 +182,8 @@ fn a_65th_connection_is_closed(rt: HostRuntime) -> Result<(), Fail> {
     for id in 4..66 {
         desk.join(id, PortKind::Kiss)?;
     }
-    assert_eq!(rt; desk.out.closed.as_slice(), [65].as_slice());
-    assert_eq!(rt; desk.parts.connections.len(), 64);
+    assert_equal(&rt, &desk.out.closed.as_slice(), &[65].as_slice());
+    assert_equal(&rt, &desk.count(), &64);
     Ok(())
 }
 
@@ -197,8 +193,8 @@ fn too_long_a_body_closes(rt: HostRuntime) -> Result<(), Fail> {
     let mut octets = filled(rt.alloc(), 0, 28)?;
     octets.extend_from_slice(b"\x01\x10\0\0\0\0\0\0\0")?;
     desk.take(1, &octets)?;
-    assert_eq!(rt; desk.out.closed.as_slice(), [1].as_slice());
-    assert_eq!(rt; desk.parts.connections.len(), 2);
+    assert_equal(&rt, &desk.out.closed.as_slice(), &[1].as_slice());
+    assert_equal(&rt, &desk.count(), &2);
     Ok(())
 }
 
@@ -208,11 +204,11 @@ fn a_call_is_free_once_its_connection_left(rt: HostRuntime) -> Result<(), Fail> 
     let mut desk = Desk::new(alloc, Params::default())?;
     desk.ask(1, b'X', ["AAAA", ""], b"")?;
     desk.take(1, &filled(alloc, 0, 20)?)?;
-    desk.parts.leave(alloc, &mut desk.out, 1)?;
+    desk.leave(1)?;
     desk.told()?;
     desk.ask(2, b'X', ["AAAA", ""], b"")?;
     let want = message(alloc, b'X', ["AAAA", ""], b"\x01")?;
-    assert_eq!(rt; desk.told()?.as_slice(), want.as_slice());
+    assert_equal(&rt, &desk.told()?.as_slice(), &want.as_slice());
     Ok(())
 }
 
@@ -222,7 +218,7 @@ fn shows_raw_frames_until_asked_again(rt: HostRuntime) -> Result<(), Fail> {
     let mut desk = Desk::new(alloc, Params::default())?;
     for want in [1, 2, 1] {
         desk.hear(UA)?;
-        assert_eq!(rt; desk.out.pieces.len(), want);
+        assert_equal(&rt, &desk.out.pieces.len(), &want);
         desk.told()?;
         desk.ask(2, b'k', ["", ""], b"")?;
     }
@@ -244,7 +240,7 @@ fn counts_the_packets_of_two_calls(rt: HostRuntime) -> Result<(), Fail> {
     for (id, ends, count) in table {
         desk.ask(id, b'Y', ends, b"")?;
         let want = message(alloc, b'Y', ends, &[count, 0, 0, 0])?;
-        assert_eq!(rt; desk.told()?.as_slice(), want.as_slice());
+        assert_equal(&rt, &desk.told()?.as_slice(), &want.as_slice());
     }
     Ok(())
 }

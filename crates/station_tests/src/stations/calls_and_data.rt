@@ -1,11 +1,10 @@
 //! Calls of hosts, the data that they give to links, and disconnects.
-ghost use Rattle.hdlc_framer.specs.FrameLength.{HasFrameLength};
 
-use super::desk::field;
-use crate::{Config, HostOut, Parts, Registration, Station};
-use agwpe_port::AgwMessage;
-use ax25_address::Call;
+use super::desk::Desk;
+use crate::assertions::assert_equal;
+use crate::messages::field;
 use link_machine::Params;
+use station::Piece;
 use std::alloc::Global;
 use std::test::Fail;
 use tnc_base::Octets;
@@ -23,68 +22,43 @@ const UA: &[u8] = b"\x9c\x6e\x98\x8a\x9a\x40\x60\x9c\x94\x6e\xa0\x40\x40\xe1\x73
 /// DISC with P from N7LEM to NJ7P.
 const DISC: &[u8] = b"\x9c\x94\x6e\xa0\x40\x40\xe0\x9c\x6e\x98\x8a\x9a\x40\x61\x53";
 
-/// A station, and what it gave.
-#[derive(Drop)]
-struct Tried {
-    alloc: Global,
-    parts: Parts,
-    out: HostOut,
+/// Connection 1 has registered N7LEM, and connection 2 AAAA.
+fn registered(alloc: Global) -> Result<Desk, Fail> {
+    let mut desk = Desk::new(alloc, Params::default())?;
+    desk.ask(1, b'X', ["N7LEM", ""], b"")?;
+    desk.ask(2, b'X', ["AAAA", ""], b"")?;
+    desk.look();
+    Ok(desk)
 }
 
-impl Tried {
-    /// Connection 1 has registered N7LEM, and connection 2 AAAA.
-    fn new(alloc: Global, params: Params) -> Result<Tried, Fail> {
-        let mut parts = Parts::new(alloc, Config { params, digi: None }, 7)?;
-        for (text, id) in [("N7LEM", 1), ("AAAA", 2)] {
-            let call = Call::parse(text)?;
-            parts.registrations.push(Registration { call, id })?;
-        }
-        let out = HostOut::new(alloc);
-        Ok(Tried { alloc, parts, out })
+/// Connection 1 has called NJ7P so, and is answered.
+fn connected(alloc: Global, kind: (u8, u8)) -> Result<Desk, Fail> {
+    let mut desk = registered(alloc)?;
+    desk.ask_with_pid(1, kind, ENDS, b"")?;
+    only_frame(&mut desk)?;
+    desk.hear(UA)?;
+    if !desk.look().queued.is_empty() {
+        return Err(Fail::new("the answer is answered"));
     }
-
-    /// A request of a connection: a kind, a PID, two fields and a body.
-    fn ask(
-        &mut self,
-        id: u32,
-        (kind, pid): (u8, u8),
-        [from, to]: [&str; 2],
-        body: &[u8],
-    ) -> Result<(), Fail> {
-        let message = AgwMessage {
-            port: 0,
-            kind,
-            pid,
-            from: field(from),
-            to: field(to),
-            body: Octets::from_slice(self.alloc, body)?,
-        };
-        let out = &mut self.out;
-        match kind {
-            b'D' => self.parts.give(self.alloc, out, id, &message)?,
-            b'd' => self.parts.disconnect(self.alloc, out, id, &message)?,
-            _ => self.parts.call(self.alloc, out, id, &message)?,
-        }
-        Ok(())
-    }
-
-    /// The answer to the call.
-    fn answer(&mut self) -> Result<(), Fail> {
-        self.parts.hear(self.alloc, &mut self.out, ua())?;
-        Ok(())
-    }
-
-    /// The link frames since the last look.
-    fn frames(&mut self) -> Vec<Octets> {
-        let out = HostOut::new(self.alloc);
-        std::mem::replace(&mut self.out, out).queued
-    }
+    Ok(desk)
 }
 
-fn ua() -> &'static [u8]
-    ensures { HasFrameLength result.now }
-{
-    UA
+/// The one frame of a link since the last look, in which nothing was told to a host.
+fn only_frame(desk: &mut Desk) -> Result<Octets, Fail> {
+    let mut out = desk.look();
+    if out.queued.len() != 1 || !out.pieces.is_empty() {
+        return Err(Fail::new("not one frame alone"));
+    }
+    out.queued.pop().ok_or_else(|| Fail::new("no frame"))
+}
+
+/// The one piece for a host since the last look, in which no frame of a link was queued.
+fn only_piece(desk: &mut Desk) -> Result<Piece, Fail> {
+    let mut out = desk.look();
+    if out.pieces.len() != 1 || !out.queued.is_empty() {
+        return Err(Fail::new("not one piece alone"));
+    }
+    out.pieces.pop().ok_or_else(|| Fail::new("no piece"))
 }
 
 /// The octets of d from one call to another, with the text of the first.
@@ -120,14 +94,10 @@ fn a_call_is_a_sabm(rt: HostRuntime) -> Result<(), Fail> {
         (VIA, b"\x00behind", SABM),
     ];
     for (kind, body, want) in table {
-        let mut tried = Tried::new(rt.alloc(), Params::default())?;
-        tried.ask(1, kind, ENDS, body)?;
-        assert_eq!(rt; tried.out.pieces.len(), 0);
-        let frames = tried.frames();
-        assert_eq!(rt; frames.len(), 1);
-        for frame in &frames {
-            assert_eq!(rt; frame.as_slice(), want);
-        }
+        let mut desk = registered(rt.alloc())?;
+        desk.ask_with_pid(1, kind, ENDS, body)?;
+        let frame = only_frame(&mut desk)?;
+        assert_equal(&rt, &(kind, frame.as_slice()), &(kind, want));
     }
     Ok(())
 }
@@ -182,17 +152,17 @@ fn a_call_that_is_not_made_is_answered(rt: HostRuntime) -> Result<(), Fail> {
         (1, CALL, ["N7LEM", "BBBB"], b"", ["BBBB", "N7LEM", "BBBB"]),
     ];
     for (id, kind, ends, body, [from, to, text]) in table {
-        let mut tried = Tried::new(alloc, Params::default())?;
-        tried.ask(1, CALL, ["N7LEM", "BBBB"], b"")?;
-        assert_eq!(rt; tried.frames().len(), 1);
-        tried.ask(id, kind, ends, body)?;
-        assert_eq!(rt; tried.out.queued.len(), 0);
-        assert_eq!(rt; tried.out.pieces.len(), 1);
+        let mut desk = registered(alloc)?;
+        desk.ask_with_pid(1, CALL, ["N7LEM", "BBBB"], b"")?;
+        only_frame(&mut desk)?;
+        desk.ask_with_pid(id, kind, ends, body)?;
+        let piece = only_piece(&mut desk)?;
         let want = refusal(alloc, from, to, text)?;
-        for piece in &tried.out.pieces {
-            assert_eq!(rt; piece.id, id);
-            assert_eq!(rt; piece.octets.as_slice(), want.as_slice());
-        }
+        assert_equal(
+            &rt,
+            &(piece.id, piece.octets.as_slice()),
+            &(id, want.as_slice()),
+        );
     }
     Ok(())
 }
@@ -200,12 +170,13 @@ fn a_call_that_is_not_made_is_answered(rt: HostRuntime) -> Result<(), Fail> {
 #[test]
 fn a_65th_link_is_not_made(rt: HostRuntime) -> Result<(), Fail> {
     let alloc = rt.alloc();
-    let mut tried = Tried::new(alloc, Params::default())?;
+    let mut desk = registered(alloc)?;
     for number in 0..65_u32 {
         let to = format!(in alloc; "X{number}")?;
-        tried.ask(1, CALL, ["N7LEM", &to], b"")?;
-        assert_eq!(rt; tried.out.pieces.len(), usize::from(number == 64));
-        assert_eq!(rt; tried.out.queued.len(), (number as usize + 1).min(64));
+        desk.ask_with_pid(1, CALL, ["N7LEM", &to], b"")?;
+        let got = (desk.out.pieces.len(), desk.out.queued.len());
+        let refused = usize::from(number == 64);
+        assert_equal(&rt, &got, &(refused, (number as usize + 1).min(64)));
     }
     Ok(())
 }
@@ -222,16 +193,9 @@ fn data_goes_in_packets_of_256_octets(rt: HostRuntime) -> Result<(), Fail> {
         (&octets, &[272, 272, 104]),
     ];
     for (body, want) in table {
-        let mut tried = Tried::new(rt.alloc(), Params::default())?;
-        tried.ask(1, CALL, ENDS, b"")?;
-        tried.answer()?;
-        assert_eq!(rt; tried.frames().len(), 1);
-        tried.ask(1, DATA, ENDS, body)?;
-        let frames = tried.frames();
-        assert_eq!(rt; frames.len(), want.len());
-        for (frame, len) in frames.iter().zip(want) {
-            assert_eq!(rt; frame.len(), *len);
-        }
+        let mut desk = connected(rt.alloc(), CALL)?;
+        desk.ask_with_pid(1, DATA, ENDS, body)?;
+        assert_equal(&rt, &desk.lens()?.as_slice(), &want);
     }
     Ok(())
 }
@@ -247,42 +211,30 @@ fn data_without_a_pid_has_that_of_the_call(rt: HostRuntime) -> Result<(), Fail> 
         ((b'c', 0), 0, 0xf0),
     ];
     for (kind, pid, want) in table {
-        let mut tried = Tried::new(rt.alloc(), Params::default())?;
-        tried.ask(1, kind, ENDS, b"")?;
-        tried.answer()?;
-        assert_eq!(rt; tried.frames().len(), 1);
-        tried.ask(1, (b'D', pid), ENDS, b"A")?;
-        let frames = tried.frames();
-        assert_eq!(rt; frames.len(), 1);
-        for frame in &frames {
-            assert_eq!(rt; frame.as_slice().get(15).copied(), Some(want));
-        }
+        let mut desk = connected(rt.alloc(), kind)?;
+        desk.ask_with_pid(1, (b'D', pid), ENDS, b"A")?;
+        let frame = only_frame(&mut desk)?;
+        let got = (kind, pid, frame.as_slice().get(15).copied());
+        assert_equal(&rt, &got, &(kind, pid, Some(want)));
     }
     Ok(())
 }
 
 #[test]
 fn only_the_owner_gives_and_disconnects(rt: HostRuntime) -> Result<(), Fail> {
-    let mut tried = Tried::new(rt.alloc(), Params::default())?;
-    tried.ask(1, CALL, ENDS, b"")?;
-    tried.answer()?;
-    assert_eq!(rt; tried.frames().len(), 1);
+    let mut desk = connected(rt.alloc(), CALL)?;
     for (id, ends) in [
         (2, ENDS),
         (1, ["NJ7P", "N7LEM"]),
         (1, ["N7LEM", "BBBB"]),
         (1, ["", "NJ7P"]),
     ] {
-        tried.ask(id, DATA, ends, b"A")?;
-        tried.ask(id, END, ends, b"")?;
-        assert_eq!(rt; tried.out.queued.len(), 0);
-        assert_eq!(rt; tried.out.pieces.len(), 0);
+        desk.ask_with_pid(id, DATA, ends, b"A")?;
+        desk.ask_with_pid(id, END, ends, b"")?;
+        let got = (desk.out.queued.len(), desk.out.pieces.len());
+        assert_equal(&rt, &(id, got), &(id, (0, 0)));
     }
-    tried.ask(1, END, ENDS, b"")?;
-    let frames = tried.frames();
-    assert_eq!(rt; frames.len(), 1);
-    for frame in &frames {
-        assert_eq!(rt; frame.as_slice(), DISC);
-    }
+    desk.ask_with_pid(1, END, ENDS, b"")?;
+    assert_equal(&rt, &only_frame(&mut desk)?.as_slice(), &DISC);
     Ok(())
 }

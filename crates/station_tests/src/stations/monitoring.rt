@@ -1,5 +1,8 @@
 //! What hosts that monitor the channel are shown.
-use super::desk::{Desk, message};
+
+use super::desk::Desk;
+use crate::assertions::assert_equal;
+use crate::messages::message;
 use link_machine::Params;
 use std::test::Fail;
 
@@ -15,7 +18,7 @@ fn shows_what_is_heard_until_asked_again(rt: HostRuntime) -> Result<(), Fail> {
     desk.tick(100)?;
     for shown in [false, true, false] {
         desk.hear(UI)?;
-        assert_eq!(rt; desk.told()?.ends_with(&want), shown);
+        assert_equal(&rt, &desk.told()?.ends_with(&want), &shown);
         desk.ask(2, b'm', ["", ""], b"")?;
     }
     Ok(())
@@ -31,6 +34,6 @@ fn shows_what_is_sent(rt: HostRuntime) -> Result<(), Fail> {
     desk.ask(2, b'm', ["", ""], b"")?;
     desk.ask(1, b'M', ["AAAA", "BBBB"], b"hi")?;
     desk.tick(40)?;
-    assert_eq!(rt; desk.told()?.as_slice(), want.as_slice());
+    assert_equal(&rt, &desk.told()?.as_slice(), &want.as_slice());
     Ok(())
 }

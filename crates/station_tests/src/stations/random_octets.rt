@@ -2,7 +2,8 @@
 //! stations that are given the same octets in other pieces give the same.
 ghost use Rattle.std.specs.Prelude.{◌<◌};
 
-use super::desk::{Desk, message};
+use super::desk::Desk;
+use crate::messages::message;
 use link_machine::Params;
 use rand_core::utils::NextWord;
 use rand_pcg::Lcg64Xsh32;

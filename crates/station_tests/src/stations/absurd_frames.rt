@@ -1,6 +1,7 @@
 //! Frames that no station would send, and what a station makes of them.
 
 use super::desk::Desk;
+use crate::assertions::assert_equal;
 use ax25_address::Call;
 use link_machine::Params;
 use std::alloc::Global;
@@ -50,17 +51,6 @@ const UA_VIA: &[u8] =
     b"\x9c\x6e\x98\x8a\x9a@\x60\x9c\x94\x6e\xa0@@\xe0\x88\x92\x8e\x92@@\x60\x88\x92\x8e\x92@@\x61\x73";
 
 impl Desk {
-    /// The frames that the channel sends in some seconds, end to end.
-    fn sent(&mut self) -> Result<Vec<u8>, Fail> {
-        let mut octets = Vec::new(self.alloc);
-        for _ in 0..1000 {
-            if let Some(sent) = self.parts.channel.tick(false).sent {
-                octets.extend_from_slice(sent.octets.as_slice())?;
-            }
-        }
-        Ok(octets)
-    }
-
     /// The kinds of the messages to connection 1 since the last look.
     fn kinds(&mut self) -> Result<Vec<u8>, Fail> {
         let pieces = self.look().pieces;
@@ -72,15 +62,26 @@ impl Desk {
         }
         Ok(kinds)
     }
+
+    /// How many links NJ7P has to N7LEM and to itself. A call to either is refused if there is a link.
+    fn links(&mut self) -> Result<usize, Fail> {
+        self.ask(1, b'C', ["NJ7P", "N7LEM"], b"")?;
+        self.ask(1, b'C', ["NJ7P", "NJ7P"], b"")?;
+        Ok(self.kinds()?.len())
+    }
 }
+
+/// Longer than a frame with two repeaters is sent, and shorter than a link waits for an answer.
+const SENT: usize = 60;
 
 /// DIGI repeats, connection 1 has registered NJ7P, and this frame was heard, if it is one.
 fn behind(alloc: Global, frame: &[u8]) -> Result<Desk, Fail> {
-    let mut desk = Desk::new(alloc, Params::default())?;
-    desk.parts.digi = Some(Call::parse("DIGI")?);
+    let digi = Call::parse("DIGI")?;
+    let mut desk = Desk::with_digipeater(alloc, Params::default(), Some(digi))?;
+    desk.send_at_once()?;
     desk.ask(1, b'X', ["NJ7P", ""], b"")?;
     desk.hear(frame)?;
-    desk.sent()?;
+    desk.tick(SENT)?;
     desk.look();
     Ok(desk)
 }
@@ -89,7 +90,7 @@ fn behind(alloc: Global, frame: &[u8]) -> Result<Desk, Fail> {
 // number of links.
 #[test]
 fn absurd_frames(rt: HostRuntime) -> Result<(), Fail> {
-    let table: [(&[u8], &[u8], &[u8], &[u8], u32); 13] = [
+    let table: [(&[u8], &[u8], &[u8], &[u8], usize); 13] = [
         (b"", INFO, DM_BACK, b"", 0),
         (b"", UA, b"", b"", 0),
         (b"", DM, b"", b"", 0),
@@ -107,13 +108,24 @@ fn absurd_frames(rt: HostRuntime) -> Result<(), Fail> {
     for (before, heard, sent, told, links) in table {
         let mut desk = behind(rt.alloc(), before)?;
         desk.hear(heard)?;
-        assert_eq!(rt; desk.sent()?.as_slice(), sent);
-        assert_eq!(rt; desk.kinds()?.as_slice(), told);
-        assert_eq!(rt; desk.parts.links.len(), links);
+        assert_equal(&rt, &desk.tick(SENT)?.as_slice(), &sent);
+        assert_equal(&rt, &desk.kinds()?.as_slice(), &told);
+        assert_equal(&rt, &desk.links()?, &links);
     }
     Ok(())
 }
 
+/// UA with F to NJ7P from X and a number of at most five digits.
+fn ua_from(alloc: Global, number: u32) -> Result<Vec<u8>, Fail> {
+    let mut octets = b"\x9c\x94\x6e\xa0\x40\x40\x60".to_vec(alloc)?;
+    for octet in format!(in alloc; "X{number:<5}")?.as_bytes() {
+        octets.push(octet.wrapping_mul(2))?;
+    }
+    octets.extend_from_slice(b"\xe1\x73")?;
+    Ok(octets)
+}
+
+// The 64 calls are still there when they are answered.
 #[test]
 fn a_65th_link_is_not_made_for_a_frame(rt: HostRuntime) -> Result<(), Fail> {
     let alloc = rt.alloc();
@@ -122,9 +134,12 @@ fn a_65th_link_is_not_made_for_a_frame(rt: HostRuntime) -> Result<(), Fail> {
         let to = format!(in alloc; "X{number}")?;
         desk.ask(1, b'C', ["NJ7P", &to], b"")?;
     }
-    assert_eq!(rt; desk.look().queued.len(), 64);
+    assert_equal(&rt, &desk.look().queued.len(), &64);
     desk.hear(SABM)?;
-    assert_eq!(rt; desk.look().queued.len(), 0);
-    assert_eq!(rt; desk.parts.links.len(), 64);
+    assert_equal(&rt, &desk.look().queued.len(), &0);
+    for number in 0..64_u32 {
+        desk.hear(&ua_from(alloc, number)?)?;
+    }
+    assert_equal(&rt, &desk.kinds()?.as_slice(), &[b'C'; 64].as_slice());
     Ok(())
 }

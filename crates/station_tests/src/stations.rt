@@ -1,0 +1,63 @@
+//! The station: what a new one is, and the modulus of its links.
+
+use crate::assertions::assert_equal;
+use ax25_address::Call;
+use ax25_frames::Modulus;
+use desk::Desk;
+use link_machine::{NewFault, Params};
+use selective_reject::Mode;
+use station::{Config, Station};
+use std::test::Fail;
+
+mod absurd_frames;
+mod calls_and_data;
+mod desk;
+mod monitoring;
+mod random_octets;
+mod requests;
+
+#[test]
+fn takes_a_window_that_fits(rt: HostRuntime) -> Result<(), Fail> {
+    let params = Params {
+        mode: Mode::Srej,
+        ..Params::default()
+    };
+    let station = Station::new(rt.alloc(), Config { params, digi: None }, 7)?;
+    assert_equal(&rt, &(station.accepts(1), station.dropped()), &(true, 0));
+    Ok(())
+}
+
+#[test]
+fn refuses_a_window_of_5_with_srej(rt: HostRuntime) -> Result<(), Fail> {
+    let params = Params {
+        mode: Mode::Srej,
+        window: 5,
+        ..Params::default()
+    };
+    let refused = Station::new(rt.alloc(), Config { params, digi: None }, 7).err();
+    assert!(rt; refused == Some(NewFault::BadWindow { window: 5 }));
+    Ok(())
+}
+
+// The one link calls modulo 128. Each row: two calls, and the modulus in which a frame between them is read.
+#[test]
+fn a_frame_is_read_in_the_modulus_of_its_link(rt: HostRuntime) -> Result<(), Fail> {
+    let params = Params {
+        wide: true,
+        ..Params::default()
+    };
+    let mut desk = Desk::new(rt.alloc(), params)?;
+    desk.ask(1, b'X', ["N7LEM", ""], b"")?;
+    desk.ask(1, b'C', ["N7LEM", "NJ7P"], b"")?;
+    assert_equal(&rt, &desk.look().queued.len(), &1);
+    let table = [
+        ("N7LEM", "NJ7P", Modulus::OneTwentyEight),
+        ("NJ7P", "N7LEM", Modulus::OneTwentyEight),
+        ("N7LEM", "AAAA", Modulus::Eight),
+    ];
+    for (first, second, want) in table {
+        let modulus = desk.modulus(&Call::parse(first)?, &Call::parse(second)?);
+        assert!(rt; modulus == want);
+    }
+    Ok(())
+}
