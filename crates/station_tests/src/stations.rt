@@ -39,7 +39,14 @@ fn refuses_a_window_of_5_with_srej(rt: HostRuntime) -> Result<(), Fail> {
     Ok(())
 }
 
-// The one link calls modulo 128. Each row: two calls, and the modulus in which a frame between them is read.
+/// Each row: two calls, and the modulus in which a frame between them is read.
+const MODULI: &[(&str, &str, Modulus)] = &[
+    ("N7LEM", "NJ7P", Modulus::OneTwentyEight),
+    ("NJ7P", "N7LEM", Modulus::OneTwentyEight),
+    ("N7LEM", "AAAA", Modulus::Eight),
+];
+
+// The one link calls modulo 128.
 #[test]
 fn a_frame_is_read_in_the_modulus_of_its_link(rt: HostRuntime) -> Result<(), Fail> {
     let params = Params {
@@ -49,15 +56,10 @@ fn a_frame_is_read_in_the_modulus_of_its_link(rt: HostRuntime) -> Result<(), Fai
     let mut desk = Desk::new(rt.alloc(), params)?;
     desk.ask(1, b'X', ["N7LEM", ""], b"")?;
     desk.ask(1, b'C', ["N7LEM", "NJ7P"], b"")?;
-    assert_equal(&rt, &desk.look().queued.len(), &1);
-    let table = [
-        ("N7LEM", "NJ7P", Modulus::OneTwentyEight),
-        ("NJ7P", "N7LEM", Modulus::OneTwentyEight),
-        ("N7LEM", "AAAA", Modulus::Eight),
-    ];
-    for (first, second, want) in table {
+    assert_equal(&rt, &desk.frames(), &1);
+    for (first, second, want) in MODULI {
         let modulus = desk.modulus(&Call::parse(first)?, &Call::parse(second)?);
-        assert!(rt; modulus == want);
+        assert!(rt; modulus == *want);
     }
     Ok(())
 }

@@ -86,31 +86,32 @@ fn behind(alloc: Global, frame: &[u8]) -> Result<Desk, Fail> {
     Ok(desk)
 }
 
-// Each row: the frame before or nothing, the frame, what is sent for it, the kinds that the host is told, and the
-// number of links.
+/// Each row: the frame before or nothing, the frame, what is sent for it, the kinds that the host is told, and the
+/// number of links.
+const ABSURD: &[(&[u8], &[u8], &[u8], &[u8], usize)] = &[
+    (b"", INFO, DM_BACK, b"", 0),
+    (b"", UA, b"", b"", 0),
+    (b"", DM, b"", b"", 0),
+    (b"", FRMR, b"", b"", 0),
+    (SABM, INFO_3, SABM_BACK, b"d", 1),
+    (b"", SABM_SELF, UA_SELF, b"C", 1),
+    (SABM_SELF, UA_SELF, b"", b"", 1),
+    (b"", DISC_SELF, DM_SELF, b"", 0),
+    (b"", UA_SELF, b"", b"", 0),
+    (b"", VIA_0, VIA_1, b"", 0),
+    (b"", VIA_1, VIA_2, b"", 0),
+    (b"", VIA_2, UA_VIA, b"C", 1),
+    (SABM, VIA_0, VIA_1, b"", 1),
+];
+
 #[test]
 fn absurd_frames(rt: HostRuntime) -> Result<(), Fail> {
-    let table: [(&[u8], &[u8], &[u8], &[u8], usize); 13] = [
-        (b"", INFO, DM_BACK, b"", 0),
-        (b"", UA, b"", b"", 0),
-        (b"", DM, b"", b"", 0),
-        (b"", FRMR, b"", b"", 0),
-        (SABM, INFO_3, SABM_BACK, b"d", 1),
-        (b"", SABM_SELF, UA_SELF, b"C", 1),
-        (SABM_SELF, UA_SELF, b"", b"", 1),
-        (b"", DISC_SELF, DM_SELF, b"", 0),
-        (b"", UA_SELF, b"", b"", 0),
-        (b"", VIA_0, VIA_1, b"", 0),
-        (b"", VIA_1, VIA_2, b"", 0),
-        (b"", VIA_2, UA_VIA, b"C", 1),
-        (SABM, VIA_0, VIA_1, b"", 1),
-    ];
-    for (before, heard, sent, told, links) in table {
+    for (before, heard, sent, told, links) in ABSURD {
         let mut desk = behind(rt.alloc(), before)?;
         desk.hear(heard)?;
-        assert_equal(&rt, &desk.tick(SENT)?.as_slice(), &sent);
-        assert_equal(&rt, &desk.kinds()?.as_slice(), &told);
-        assert_equal(&rt, &desk.links()?, &links);
+        assert_equal(&rt, &desk.tick(SENT)?.as_slice(), sent);
+        assert_equal(&rt, &desk.kinds()?.as_slice(), told);
+        assert_equal(&rt, &desk.links()?, links);
     }
     Ok(())
 }
@@ -134,9 +135,9 @@ fn a_65th_link_is_not_made_for_a_frame(rt: HostRuntime) -> Result<(), Fail> {
         let to = format!(in alloc; "X{number}")?;
         desk.ask(1, b'C', ["NJ7P", &to], b"")?;
     }
-    assert_equal(&rt, &desk.look().queued.len(), &64);
+    assert_equal(&rt, &desk.frames(), &64);
     desk.hear(SABM)?;
-    assert_equal(&rt, &desk.look().queued.len(), &0);
+    assert_equal(&rt, &desk.frames(), &0);
     for number in 0..64_u32 {
         desk.hear(&ua_from(alloc, number)?)?;
     }

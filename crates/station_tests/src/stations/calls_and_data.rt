@@ -1,10 +1,10 @@
 //! Calls of hosts, the data that they give to links, and disconnects.
 
-use super::desk::Desk;
+use super::desk::{Desk, filled};
 use crate::assertions::assert_equal;
 use crate::messages::field;
 use link_machine::Params;
-use station::Piece;
+use station::{HostOut, Piece};
 use std::alloc::Global;
 use std::test::Fail;
 use tnc_base::Octets;
@@ -37,7 +37,7 @@ fn connected(alloc: Global, kind: (u8, u8)) -> Result<Desk, Fail> {
     desk.ask_with_pid(1, kind, ENDS, b"")?;
     only_frame(&mut desk)?;
     desk.hear(UA)?;
-    if !desk.look().queued.is_empty() {
+    if desk.frames() > 0 {
         return Err(Fail::new("the answer is answered"));
     }
     Ok(desk)
@@ -46,19 +46,26 @@ fn connected(alloc: Global, kind: (u8, u8)) -> Result<Desk, Fail> {
 /// The one frame of a link since the last look, in which nothing was told to a host.
 fn only_frame(desk: &mut Desk) -> Result<Octets, Fail> {
     let mut out = desk.look();
-    if out.queued.len() != 1 || !out.pieces.is_empty() {
-        return Err(Fail::new("not one frame alone"));
+    let last = out.queued.pop();
+    match last {
+        Some(frame) if is_nothing(&out) => Ok(frame),
+        _ => Err(Fail::new("not one frame alone")),
     }
-    out.queued.pop().ok_or_else(|| Fail::new("no frame"))
 }
 
 /// The one piece for a host since the last look, in which no frame of a link was queued.
 fn only_piece(desk: &mut Desk) -> Result<Piece, Fail> {
     let mut out = desk.look();
-    if out.pieces.len() != 1 || !out.queued.is_empty() {
-        return Err(Fail::new("not one piece alone"));
+    let last = out.pieces.pop();
+    match last {
+        Some(piece) if is_nothing(&out) => Ok(piece),
+        _ => Err(Fail::new("not one piece alone")),
     }
-    out.pieces.pop().ok_or_else(|| Fail::new("no piece"))
+}
+
+/// No piece for a host and no frame of a link.
+fn is_nothing(out: &HostOut) -> bool {
+    out.pieces.is_empty() && out.queued.is_empty()
 }
 
 /// The octets of d from one call to another, with the text of the first.
@@ -85,84 +92,75 @@ const END: (u8, u8) = (b'd', 0);
 
 const ENDS: [&str; 2] = ["N7LEM", "NJ7P"];
 
+/// Each row: how NJ7P is called, the body, and the frame.
+const CALLS: &[((u8, u8), &[u8], &[u8])] = &[
+    (CALL, b"", SABM),
+    ((b'c', 0xcf), b"", SABM),
+    (VIA, b"\x01WIDE1-1\0\0\0", SABM_VIA),
+    (VIA, b"\x00behind", SABM),
+];
+
 #[test]
 fn a_call_is_a_sabm(rt: HostRuntime) -> Result<(), Fail> {
-    let table: [((u8, u8), &[u8], &[u8]); 4] = [
-        (CALL, b"", SABM),
-        ((b'c', 0xcf), b"", SABM),
-        (VIA, b"\x01WIDE1-1\0\0\0", SABM_VIA),
-        (VIA, b"\x00behind", SABM),
-    ];
-    for (kind, body, want) in table {
+    for (kind, body, want) in CALLS {
         let mut desk = registered(rt.alloc())?;
-        desk.ask_with_pid(1, kind, ENDS, body)?;
+        desk.ask_with_pid(1, *kind, ENDS, body)?;
         let frame = only_frame(&mut desk)?;
-        assert_equal(&rt, &(kind, frame.as_slice()), &(kind, want));
+        assert_equal(&rt, &(*kind, frame.as_slice()), &(*kind, *want));
     }
     Ok(())
 }
 
-// Each row: who asks, the fields, the body, and the fields and the text of the answer.
+/// More than the octets of nine repeaters.
+const NINE: &[u8] = &[9; 91];
+
+/// Each row: who asks and how, the fields, the body, and the fields and the text of the answer.
+const REFUSED: &[(u32, (u8, u8), [&str; 2], &[u8], [&str; 3])] = &[
+    (1, CALL, ["", "NJ7P"], b"", ["NJ7P", "", "NJ7P"]),
+    (1, CALL, ["N7LEM", "a b"], b"", ["a b", "N7LEM", "a b"]),
+    (1, CALL, ["N7LEM", ""], b"", ["", "N7LEM", ""]),
+    (
+        1,
+        CALL,
+        ["N7LEM", "ABCDEFGHIJ"],
+        b"",
+        ["ABCDEFGHIJ", "N7LEM", "ABCDEFGHIJ"],
+    ),
+    (1, CALL, ["BBBB", "NJ7P"], b"", ["NJ7P", "BBBB", "NJ7P"]),
+    (
+        2,
+        CALL,
+        ["n7lem", "nj7p-15"],
+        b"",
+        ["NJ7P-15", "N7LEM", "NJ7P-15"],
+    ),
+    (
+        1,
+        (b'c', 7),
+        ["AAAA", "NJ7P"],
+        b"",
+        ["NJ7P", "AAAA", "NJ7P"],
+    ),
+    (1, VIA, ENDS, b"", BACK),
+    (1, VIA, ENDS, NINE, BACK),
+    (1, VIA, ENDS, b"\x02WIDE1-1\0\0\0WIDE2-1\0\0", BACK),
+    (1, VIA, ENDS, b"\x01WIDE 1\0\0\0\0", BACK),
+    (1, CALL, ["N7LEM", "BBBB"], b"", ["BBBB", "N7LEM", "BBBB"]),
+];
+
+const BACK: [&str; 3] = ["NJ7P", "N7LEM", "NJ7P"];
+
 #[test]
 fn a_call_that_is_not_made_is_answered(rt: HostRuntime) -> Result<(), Fail> {
-    let alloc = rt.alloc();
-    let nine = [9_u8; 91];
-    let table: [(u32, (u8, u8), [&str; 2], &[u8], [&str; 3]); 12] = [
-        (1, CALL, ["", "NJ7P"], b"", ["NJ7P", "", "NJ7P"]),
-        (1, CALL, ["N7LEM", "a b"], b"", ["a b", "N7LEM", "a b"]),
-        (1, CALL, ["N7LEM", ""], b"", ["", "N7LEM", ""]),
-        (
-            1,
-            CALL,
-            ["N7LEM", "ABCDEFGHIJ"],
-            b"",
-            ["ABCDEFGHIJ", "N7LEM", "ABCDEFGHIJ"],
-        ),
-        (1, CALL, ["BBBB", "NJ7P"], b"", ["NJ7P", "BBBB", "NJ7P"]),
-        (
-            2,
-            CALL,
-            ["n7lem", "nj7p-15"],
-            b"",
-            ["NJ7P-15", "N7LEM", "NJ7P-15"],
-        ),
-        (
-            1,
-            (b'c', 7),
-            ["AAAA", "NJ7P"],
-            b"",
-            ["NJ7P", "AAAA", "NJ7P"],
-        ),
-        (1, VIA, ENDS, b"", ["NJ7P", "N7LEM", "NJ7P"]),
-        (1, VIA, ENDS, &nine, ["NJ7P", "N7LEM", "NJ7P"]),
-        (
-            1,
-            VIA,
-            ENDS,
-            b"\x02WIDE1-1\0\0\0WIDE2-1\0\0",
-            ["NJ7P", "N7LEM", "NJ7P"],
-        ),
-        (
-            1,
-            VIA,
-            ENDS,
-            b"\x01WIDE 1\0\0\0\0",
-            ["NJ7P", "N7LEM", "NJ7P"],
-        ),
-        (1, CALL, ["N7LEM", "BBBB"], b"", ["BBBB", "N7LEM", "BBBB"]),
-    ];
-    for (id, kind, ends, body, [from, to, text]) in table {
-        let mut desk = registered(alloc)?;
+    for (id, kind, ends, body, [from, to, text]) in REFUSED {
+        let mut desk = registered(rt.alloc())?;
         desk.ask_with_pid(1, CALL, ["N7LEM", "BBBB"], b"")?;
         only_frame(&mut desk)?;
-        desk.ask_with_pid(id, kind, ends, body)?;
+        desk.ask_with_pid(*id, *kind, *ends, body)?;
         let piece = only_piece(&mut desk)?;
-        let want = refusal(alloc, from, to, text)?;
-        assert_equal(
-            &rt,
-            &(piece.id, piece.octets.as_slice()),
-            &(id, want.as_slice()),
-        );
+        let want = refusal(rt.alloc(), from, to, text)?;
+        let got = (piece.id, piece.octets.as_slice());
+        assert_equal(&rt, &got, &(*id, want.as_slice()));
     }
     Ok(())
 }
@@ -181,58 +179,65 @@ fn a_65th_link_is_not_made(rt: HostRuntime) -> Result<(), Fail> {
     Ok(())
 }
 
-// Each row: what is given, and how long the frames are.
+/// Each row: how many octets are given, and how long the frames are.
+const PACKETS: &[(usize, &[usize])] = &[
+    (0, &[]),
+    (1, &[17]),
+    (256, &[272]),
+    (257, &[272, 17]),
+    (600, &[272, 272, 104]),
+];
+
 #[test]
 fn data_goes_in_packets_of_256_octets(rt: HostRuntime) -> Result<(), Fail> {
-    let octets = [65_u8; 600];
-    let table: [(&[u8], &[usize]); 5] = [
-        (b"", &[]),
-        (b"A", &[17]),
-        (&octets[..256], &[272]),
-        (&octets[..257], &[272, 17]),
-        (&octets, &[272, 272, 104]),
-    ];
-    for (body, want) in table {
+    for (count, want) in PACKETS {
         let mut desk = connected(rt.alloc(), CALL)?;
-        desk.ask_with_pid(1, DATA, ENDS, body)?;
-        assert_equal(&rt, &desk.lens()?.as_slice(), &want);
+        desk.ask_with_pid(1, DATA, ENDS, &filled(rt.alloc(), 65, *count)?)?;
+        assert_equal(&rt, &desk.lens()?.as_slice(), want);
     }
     Ok(())
 }
 
-// Each row: the kind and the PID of the call, the PID of the data, and that of the frame.
+/// Each row: the kind and the PID of the call, the PID of the data, and that of the frame.
+const PIDS: &[((u8, u8), u8, u8)] = &[
+    (CALL, 0, 0xf0),
+    ((b'C', 0xcf), 0, 0xf0),
+    ((b'c', 0xcf), 0, 0xcf),
+    ((b'c', 0xcf), 0xbb, 0xbb),
+    ((b'c', 0), 0, 0xf0),
+];
+
 #[test]
 fn data_without_a_pid_has_that_of_the_call(rt: HostRuntime) -> Result<(), Fail> {
-    let table: [((u8, u8), u8, u8); 5] = [
-        (CALL, 0, 0xf0),
-        ((b'C', 0xcf), 0, 0xf0),
-        ((b'c', 0xcf), 0, 0xcf),
-        ((b'c', 0xcf), 0xbb, 0xbb),
-        ((b'c', 0), 0, 0xf0),
-    ];
-    for (kind, pid, want) in table {
-        let mut desk = connected(rt.alloc(), kind)?;
-        desk.ask_with_pid(1, (b'D', pid), ENDS, b"A")?;
+    for (kind, pid, want) in PIDS {
+        let mut desk = connected(rt.alloc(), *kind)?;
+        desk.ask_with_pid(1, (b'D', *pid), ENDS, b"A")?;
         let frame = only_frame(&mut desk)?;
-        let got = (kind, pid, frame.as_slice().get(15).copied());
-        assert_equal(&rt, &got, &(kind, pid, Some(want)));
+        let got = (*kind, *pid, frame.as_slice().get(15).copied());
+        assert_equal(&rt, &got, &(*kind, *pid, Some(*want)));
     }
     Ok(())
 }
+
+/// Each row: who gives and disconnects, and between which calls.
+const STRANGERS: &[(u32, [&str; 2])] = &[
+    (2, ENDS),
+    (1, ["NJ7P", "N7LEM"]),
+    (1, ["N7LEM", "BBBB"]),
+    (1, ["", "NJ7P"]),
+];
 
 #[test]
 fn only_the_owner_gives_and_disconnects(rt: HostRuntime) -> Result<(), Fail> {
     let mut desk = connected(rt.alloc(), CALL)?;
-    for (id, ends) in [
-        (2, ENDS),
-        (1, ["NJ7P", "N7LEM"]),
-        (1, ["N7LEM", "BBBB"]),
-        (1, ["", "NJ7P"]),
-    ] {
-        desk.ask_with_pid(id, DATA, ends, b"A")?;
-        desk.ask_with_pid(id, END, ends, b"")?;
-        let got = (desk.out.queued.len(), desk.out.pieces.len());
-        assert_equal(&rt, &(id, got), &(id, (0, 0)));
+    for (id, ends) in STRANGERS {
+        desk.ask_with_pid(*id, DATA, *ends, b"A")?;
+        desk.ask_with_pid(*id, END, *ends, b"")?;
+        assert_equal(
+            &rt,
+            &(*id, *ends, is_nothing(&desk.out)),
+            &(*id, *ends, true),
+        );
     }
     desk.ask_with_pid(1, END, ENDS, b"")?;
     assert_equal(&rt, &only_frame(&mut desk)?.as_slice(), &DISC);

@@ -3,13 +3,15 @@ ghost use Rattle.std.specs.Prelude.{◌≡◌, ◌≢◌, ◌==◌, not, filter,
 ghost use Rattle.std.specs.Bool.{IsFalse};
 ghost use Rattle.station.specs.Held.{ids_of, without_ids};
 
-use crate::messages::message_with_pid;
+use crate::assertions::assert_equal;
+use crate::messages::{message, message_with_pid};
 use ax25_address::Call;
 use ax25_frames::Modulus;
 use link_machine::Params;
 use station::{Config, HostEvent, HostOut, PortKind, Station};
 use std::alloc::{AllocError, Global};
 use std::mem;
+use std::process::Abort;
 use std::test::Fail;
 use tnc_base::Octets;
 
@@ -20,7 +22,7 @@ pub(super) struct Desk {
     station: Station,
     /// The connections that are there.
     there: Vec<u32>,
-    /// A call of the station failed, or has not ended.
+    /// A call of the station failed, or has not ended. Connections then give it nothing more.
     failed: bool,
     pub out: HostOut,
     ghost known: { IsFalse failed → ids_of station ≡ there.items },
@@ -180,6 +182,18 @@ impl Desk {
         Ok(octets)
     }
 
+    /// Whether the octets since the last look end with a message.
+    pub(super) fn tells(&mut self, kind: u8, ends: [&str; 2], body: &[u8]) -> Result<bool, Fail> {
+        let want = message(self.alloc, kind, ends, body)?;
+        let told = self.told()?;
+        Ok(told.ends_with(&want))
+    }
+
+    /// How many link frames were queued since the last look.
+    pub(super) fn frames(&mut self) -> usize {
+        self.look().queued.len()
+    }
+
     /// How long the link frames since the last look are.
     pub(super) fn lens(&mut self) -> Result<Vec<usize>, Fail> {
         let frames = self.look().queued;
@@ -189,6 +203,29 @@ impl Desk {
         }
         Ok(lens)
     }
+}
+
+/// Ends the test unless the octets since the last look are a message.
+pub(super) fn assert_told<R: Abort>(
+    rt: &R,
+    desk: &mut Desk,
+    kind: u8,
+    ends: [&str; 2],
+    body: &[u8],
+) -> Result<(), Fail> {
+    let want = message(desk.alloc, kind, ends, body)?;
+    let told = desk.told()?;
+    assert_equal(rt, &told.as_slice(), &want.as_slice());
+    Ok(())
+}
+
+/// So many times an octet.
+pub(super) fn filled(alloc: Global, octet: u8, len: usize) -> Result<Vec<u8>, Fail> {
+    let mut octets = Vec::new(alloc);
+    for _ in 0..len {
+        octets.push(octet)?;
+    }
+    Ok(octets)
 }
 
 fn nothing(alloc: Global) -> HostOut {

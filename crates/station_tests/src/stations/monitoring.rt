@@ -1,8 +1,7 @@
 //! What hosts that monitor the channel are shown.
 
-use super::desk::Desk;
+use super::desk::{Desk, assert_told};
 use crate::assertions::assert_equal;
-use crate::messages::message;
 use link_machine::Params;
 use std::test::Fail;
 
@@ -11,14 +10,12 @@ const UI: &[u8] = b"\x82\x82\x82\x82\x40\x40\xe0\x84\x84\x84\x84\x40\x40\x61\x03
 
 #[test]
 fn shows_what_is_heard_until_asked_again(rt: HostRuntime) -> Result<(), Fail> {
-    let alloc = rt.alloc();
     let text = b" 1:Fm BBBB To AAAA <UI pid=F0 Len=2 P=0 >[00:00:01]\rhi\r\0";
-    let want = message(alloc, b'U', ["BBBB", "AAAA"], text)?;
-    let mut desk = Desk::new(alloc, Params::default())?;
+    let mut desk = Desk::new(rt.alloc(), Params::default())?;
     desk.tick(100)?;
     for shown in [false, true, false] {
         desk.hear(UI)?;
-        assert_equal(&rt, &desk.told()?.ends_with(&want), &shown);
+        assert_equal(&rt, &desk.tells(b'U', ["BBBB", "AAAA"], text)?, &shown);
         desk.ask(2, b'm', ["", ""], b"")?;
     }
     Ok(())
@@ -26,14 +23,11 @@ fn shows_what_is_heard_until_asked_again(rt: HostRuntime) -> Result<(), Fail> {
 
 #[test]
 fn shows_what_is_sent(rt: HostRuntime) -> Result<(), Fail> {
-    let alloc = rt.alloc();
     let text = b" 1:Fm AAAA To BBBB <UI pid=F0 Len=2 P=0 >[00:00:00]\rhi\r\0";
-    let want = message(alloc, b'T', ["AAAA", "BBBB"], text)?;
-    let mut desk = Desk::new(alloc, Params::default())?;
+    let mut desk = Desk::new(rt.alloc(), Params::default())?;
     desk.take(3, b"\xc0\x01\0\xc0\x05\x01\xc0")?;
     desk.ask(2, b'm', ["", ""], b"")?;
     desk.ask(1, b'M', ["AAAA", "BBBB"], b"hi")?;
     desk.tick(40)?;
-    assert_equal(&rt, &desk.told()?.as_slice(), &want.as_slice());
-    Ok(())
+    assert_told(&rt, &mut desk, b'T', ["AAAA", "BBBB"], text)
 }

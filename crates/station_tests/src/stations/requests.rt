@@ -1,6 +1,6 @@
 //! What hosts ask by octets.
 
-use super::desk::Desk;
+use super::desk::{Desk, assert_told, filled};
 use crate::assertions::assert_equal;
 use crate::messages::message;
 use link_machine::Params;
@@ -13,24 +13,6 @@ const UA: &[u8] = b"\x82\x82\x82\x82\x40\x40\x60\x84\x84\x84\x84\x40\x40\xe1\x73
 
 /// RR from BBBB to AAAA, which acknowledges three frames.
 const RR: &[u8] = b"\x82\x82\x82\x82\x40\x40\x60\x84\x84\x84\x84\x40\x40\xe1\x61";
-
-impl Desk {
-    /// Whether the octets since the last look end with a message.
-    fn tells(&mut self, kind: u8, ends: [&str; 2], body: &[u8]) -> Result<bool, Fail> {
-        let want = message(self.alloc, kind, ends, body)?;
-        let told = self.told()?;
-        Ok(told.ends_with(&want))
-    }
-}
-
-/// So many times an octet.
-fn filled(alloc: Global, octet: u8, len: usize) -> Result<Vec<u8>, Fail> {
-    let mut octets = Vec::new(alloc);
-    for _ in 0..len {
-        octets.push(octet)?;
-    }
-    Ok(octets)
-}
 
 /// AAAA registers and calls BBBB, gives 600 octets, and ends the call.
 fn whole_call(alloc: Global) -> Result<Vec<u8>, Fail> {
@@ -85,56 +67,54 @@ fn a_whole_call_cut_at_every_octet(rt: HostRuntime) -> Result<(), Fail> {
     Ok(())
 }
 
-// Each row: a kind, and the body of its reply.
+/// Each row: a kind, and the body of its reply.
+const REPLIES: &[(u8, &[u8])] = &[
+    (b'R', b"\x01\0\0\0\0\0\0\0"),
+    (b'G', b"1;Port1 sound card;\0"),
+    (b'g', b"\0\xff\x32\x02\x3f\x0a\x04\0\x01\0\0\0"),
+    (b'y', b"\0\0\0\0"),
+];
+
 #[test]
 fn tells_of_itself(rt: HostRuntime) -> Result<(), Fail> {
-    let table: [(u8, &[u8]); 4] = [
-        (b'R', b"\x01\0\0\0\0\0\0\0"),
-        (b'G', b"1;Port1 sound card;\0"),
-        (b'g', b"\0\xff\x32\x02\x3f\x0a\x04\0\x01\0\0\0"),
-        (b'y', b"\0\0\0\0"),
-    ];
-    for (kind, body) in table {
+    for (kind, body) in REPLIES {
         let mut desk = Desk::new(rt.alloc(), Params::default())?;
-        desk.ask(1, kind, ["", ""], b"")?;
-        let want = message(rt.alloc(), kind, ["", ""], body)?;
-        assert_equal(&rt, &desk.told()?.as_slice(), &want.as_slice());
+        desk.ask(1, *kind, ["", ""], b"")?;
+        assert_told(&rt, &mut desk, *kind, ["", ""], body)?;
     }
     Ok(())
 }
 
+/// KISS sets TXDELAY, the persistence, the slot time and TXTAIL of port 0, and TXDELAY of port 1.
+const SETTINGS: &[u8] = b"\xc0\x01\x1e\xc0\x02\xff\xc0\x03\x05\xc0\x04\x07\xc0\x11\x63\xc0";
+
 #[test]
 fn tells_what_kiss_has_set(rt: HostRuntime) -> Result<(), Fail> {
     let mut desk = Desk::new(rt.alloc(), Params::default())?;
-    desk.take(
-        3,
-        b"\xc0\x01\x1e\xc0\x02\xff\xc0\x03\x05\xc0\x04\x07\xc0\x11\x63\xc0",
-    )?;
+    desk.take(3, SETTINGS)?;
     desk.ask(1, b'g', ["", ""], b"")?;
     let body = b"\0\xff\x1e\x07\xff\x05\x04\0\x01\0\0\0";
-    let want = message(rt.alloc(), b'g', ["", ""], body)?;
-    assert_equal(&rt, &desk.told()?.as_slice(), &want.as_slice());
-    Ok(())
+    assert_told(&rt, &mut desk, b'g', ["", ""], body)
 }
 
-// Each row: a kind, how long the body is, and how many octets are sent, which are none or those of one frame.
+/// Each row: a kind, how long the body is, and how many octets are sent, which are none or those of one frame.
+const SENT: &[(u8, usize, usize)] = &[
+    (b'K', 0, 0),
+    (b'K', 15, 0),
+    (b'K', 16, 15),
+    (b'M', 937, 953),
+    (b'M', 938, 0),
+    (b'V', 92, 0),
+];
+
 #[test]
 fn sends_frames_that_fit(rt: HostRuntime) -> Result<(), Fail> {
-    let alloc = rt.alloc();
-    let table = [
-        (b'K', 0, 0),
-        (b'K', 15, 0),
-        (b'K', 16, 15),
-        (b'M', 937, 953),
-        (b'M', 938, 0),
-        (b'V', 92, 0),
-    ];
-    for (kind, len, want) in table {
-        let mut desk = Desk::new(alloc, Params::default())?;
+    for (kind, len, want) in SENT {
+        let mut desk = Desk::new(rt.alloc(), Params::default())?;
         desk.send_at_once()?;
-        desk.ask(1, kind, ["AAAA", "BBBB"], &filled(alloc, 9, len)?)?;
+        desk.ask(1, *kind, ["AAAA", "BBBB"], &filled(rt.alloc(), 9, *len)?)?;
         let sent = desk.tick(700)?;
-        assert_equal(&rt, &(kind, len, sent.len()), &(kind, len, want));
+        assert_equal(&rt, &(*kind, *len, sent.len()), &(*kind, *len, *want));
     }
     Ok(())
 }
@@ -151,27 +131,27 @@ fn sends_by_way_of_repeaters(rt: HostRuntime) -> Result<(), Fail> {
     Ok(())
 }
 
-// Each row: who asks, a kind, a call, and the body of the reply.
+/// Each row: who asks, a kind, a call, and the body of the reply to X. Nothing answers x.
+const REGISTERED: &[(u32, u8, &str, &[u8])] = &[
+    (1, b'X', "AAAA", b"\x01"),
+    (1, b'X', "AAAA", b"\x01"),
+    (2, b'X', "AAAA", b"\0"),
+    (2, b'x', "AAAA", b""),
+    (2, b'X', "AAAA", b"\0"),
+    (1, b'x', "AAAA", b""),
+    (2, b'X', "AAAA", b"\x01"),
+    (1, b'X', "A-A", b"\0"),
+];
+
 #[test]
 fn a_call_is_registered_once(rt: HostRuntime) -> Result<(), Fail> {
-    let table: [(u32, u8, &str, &[u8]); 8] = [
-        (1, b'X', "AAAA", b"\x01"),
-        (1, b'X', "AAAA", b"\x01"),
-        (2, b'X', "AAAA", b"\0"),
-        (2, b'x', "AAAA", b""),
-        (2, b'X', "AAAA", b"\0"),
-        (1, b'x', "AAAA", b""),
-        (2, b'X', "AAAA", b"\x01"),
-        (1, b'X', "A-A", b"\0"),
-    ];
     let mut desk = Desk::new(rt.alloc(), Params::default())?;
-    for (id, kind, call, body) in table {
-        desk.ask(id, kind, [call, ""], b"")?;
-        let mut want = Vec::new(rt.alloc());
-        if kind == b'X' {
-            want = message(rt.alloc(), kind, [call, ""], body)?;
+    for (id, kind, call, body) in REGISTERED {
+        desk.ask(*id, *kind, [*call, ""], b"")?;
+        if *kind == b'X' {
+            assert_told(&rt, &mut desk, *kind, [*call, ""], body)?;
         }
-        assert_equal(&rt, &desk.told()?.as_slice(), &want.as_slice());
+        assert_equal(&rt, &desk.told()?.len(), &0);
     }
     Ok(())
 }
@@ -207,9 +187,7 @@ fn a_call_is_free_once_its_connection_left(rt: HostRuntime) -> Result<(), Fail> 
     desk.leave(1)?;
     desk.told()?;
     desk.ask(2, b'X', ["AAAA", ""], b"")?;
-    let want = message(alloc, b'X', ["AAAA", ""], b"\x01")?;
-    assert_equal(&rt, &desk.told()?.as_slice(), &want.as_slice());
-    Ok(())
+    assert_told(&rt, &mut desk, b'X', ["AAAA", ""], b"\x01")
 }
 
 #[test]
@@ -225,22 +203,22 @@ fn shows_raw_frames_until_asked_again(rt: HostRuntime) -> Result<(), Fail> {
     Ok(())
 }
 
-// Each row: who asks for the packets of which calls, and how many there are.
+/// Each row: who asks for the packets of which calls, and how many there are.
+const COUNTS: &[(u32, [&str; 2], u8)] = &[
+    (1, ["AAAA", "BBBB"], 3),
+    (2, ["AAAA", "BBBB"], 3),
+    (1, ["BBBB", "AAAA"], 0),
+];
+
 #[test]
 fn counts_the_packets_of_two_calls(rt: HostRuntime) -> Result<(), Fail> {
     let alloc = rt.alloc();
-    let table: [(u32, [&str; 2], u8); 3] = [
-        (1, ["AAAA", "BBBB"], 3),
-        (2, ["AAAA", "BBBB"], 3),
-        (1, ["BBBB", "AAAA"], 0),
-    ];
     let mut desk = Desk::new(alloc, Params::default())?;
     desk.take(1, &whole_call(alloc)?)?;
     desk.told()?;
-    for (id, ends, count) in table {
-        desk.ask(id, b'Y', ends, b"")?;
-        let want = message(alloc, b'Y', ends, &[count, 0, 0, 0])?;
-        assert_equal(&rt, &desk.told()?.as_slice(), &want.as_slice());
+    for (id, ends, count) in COUNTS {
+        desk.ask(*id, b'Y', *ends, b"")?;
+        assert_told(&rt, &mut desk, b'Y', *ends, &[*count, 0, 0, 0])?;
     }
     Ok(())
 }
