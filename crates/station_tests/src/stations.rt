@@ -7,6 +7,7 @@ use desk::Desk;
 use link_machine::{NewFault, Params};
 use selective_reject::Mode;
 use station::{Config, Station};
+use std::alloc::Global;
 use std::test::Fail;
 
 mod absurd_frames;
@@ -46,20 +47,32 @@ const MODULI: &[(&str, &str, Modulus)] = &[
     ("N7LEM", "AAAA", Modulus::Eight),
 ];
 
-// The one link calls modulo 128.
-#[test]
-fn a_frame_is_read_in_the_modulus_of_its_link(rt: HostRuntime) -> Result<(), Fail> {
+/// N7LEM calls NJ7P modulo 128.
+fn wide_call(alloc: Global) -> Result<Desk, Fail> {
     let params = Params {
         wide: true,
         ..Params::default()
     };
-    let mut desk = Desk::new(rt.alloc(), params)?;
-    desk.ask(1, b'X', ["N7LEM", ""], b"")?;
-    desk.ask(1, b'C', ["N7LEM", "NJ7P"], b"")?;
+    let mut desk = Desk::new(alloc, params)?;
+    desk.register(1, "N7LEM")?;
+    desk.call(1, "N7LEM", "NJ7P")?;
+    Ok(desk)
+}
+
+/// The modulus in which a frame between two calls is read.
+fn modulus(desk: &Desk, first: &str, second: &str) -> Result<Modulus, Fail> {
+    let first = Call::parse(first)?;
+    let second = Call::parse(second)?;
+    Ok(desk.modulus(&first, &second))
+}
+
+#[test]
+fn a_frame_is_read_in_the_modulus_of_its_link(rt: HostRuntime) -> Result<(), Fail> {
+    let mut desk = wide_call(rt.alloc())?;
     assert_equal(&rt, &desk.frames(), &1);
     for (first, second, want) in MODULI {
-        let modulus = desk.modulus(&Call::parse(first)?, &Call::parse(second)?);
-        assert!(rt; modulus == *want);
+        let got = modulus(&desk, first, second)?;
+        assert!(rt; got == *want);
     }
     Ok(())
 }

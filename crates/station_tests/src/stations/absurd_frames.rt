@@ -65,8 +65,8 @@ impl Desk {
 
     /// How many links NJ7P has to N7LEM and to itself. A call to either is refused if there is a link.
     fn links(&mut self) -> Result<usize, Fail> {
-        self.ask(1, b'C', ["NJ7P", "N7LEM"], b"")?;
-        self.ask(1, b'C', ["NJ7P", "NJ7P"], b"")?;
+        self.call(1, "NJ7P", "N7LEM")?;
+        self.call(1, "NJ7P", "NJ7P")?;
         Ok(self.kinds()?.len())
     }
 }
@@ -76,14 +76,28 @@ const SENT: usize = 60;
 
 /// DIGI repeats, connection 1 has registered NJ7P, and this frame was heard, if it is one.
 fn behind(alloc: Global, frame: &[u8]) -> Result<Desk, Fail> {
-    let digi = Call::parse("DIGI")?;
-    let mut desk = Desk::with_digipeater(alloc, Params::default(), Some(digi))?;
+    let digi = Some(Call::parse("DIGI")?);
+    let mut desk = Desk::with_digipeater(alloc, Params::default(), digi)?;
+    begin(&mut desk, frame)?;
+    Ok(desk)
+}
+
+fn begin(desk: &mut Desk, frame: &[u8]) -> Result<(), Fail> {
     desk.send_at_once()?;
-    desk.ask(1, b'X', ["NJ7P", ""], b"")?;
+    desk.register(1, "NJ7P")?;
     desk.hear(frame)?;
     desk.tick(SENT)?;
     desk.look();
-    Ok(desk)
+    Ok(())
+}
+
+/// What is sent for a frame behind another, the kinds that the host is told, and the number of links.
+fn outcome(alloc: Global, before: &[u8], heard: &[u8]) -> Result<(Vec<u8>, Vec<u8>, usize), Fail> {
+    let mut desk = behind(alloc, before)?;
+    desk.hear(heard)?;
+    let sent = desk.tick(SENT)?;
+    let told = desk.kinds()?;
+    Ok((sent, told, desk.links()?))
 }
 
 /// Each row: the frame before or nothing, the frame, what is sent for it, the kinds that the host is told, and the
@@ -107,11 +121,9 @@ const ABSURD: &[(&[u8], &[u8], &[u8], &[u8], usize)] = &[
 #[test]
 fn absurd_frames(rt: HostRuntime) -> Result<(), Fail> {
     for (before, heard, sent, told, links) in ABSURD {
-        let mut desk = behind(rt.alloc(), before)?;
-        desk.hear(heard)?;
-        assert_equal(&rt, &desk.tick(SENT)?.as_slice(), sent);
-        assert_equal(&rt, &desk.kinds()?.as_slice(), told);
-        assert_equal(&rt, &desk.links()?, links);
+        let got = outcome(rt.alloc(), before, heard)?;
+        let got = (got.0.as_slice(), got.1.as_slice(), got.2);
+        assert_equal(&rt, &got, &(*sent, *told, *links));
     }
     Ok(())
 }
@@ -126,21 +138,33 @@ fn ua_from(alloc: Global, number: u32) -> Result<Vec<u8>, Fail> {
     Ok(octets)
 }
 
+/// NJ7P calls 64 stations. Tells how many frames are queued.
+fn call_64(desk: &mut Desk) -> Result<usize, Fail> {
+    for number in 0..64_u32 {
+        let to = format!(in desk.alloc; "X{number}")?;
+        desk.call(1, "NJ7P", &to)?;
+    }
+    Ok(desk.frames())
+}
+
+/// Each of the 64 answers. Tells the kinds that the host is told.
+fn answer_64(desk: &mut Desk) -> Result<Vec<u8>, Fail> {
+    for number in 0..64_u32 {
+        let answer = ua_from(desk.alloc, number)?;
+        desk.hear(&answer)?;
+    }
+    desk.kinds()
+}
+
 // The 64 calls are still there when they are answered.
 #[test]
 fn a_65th_link_is_not_made_for_a_frame(rt: HostRuntime) -> Result<(), Fail> {
-    let alloc = rt.alloc();
-    let mut desk = behind(alloc, b"")?;
-    for number in 0..64_u32 {
-        let to = format!(in alloc; "X{number}")?;
-        desk.ask(1, b'C', ["NJ7P", &to], b"")?;
-    }
-    assert_equal(&rt, &desk.frames(), &64);
+    let mut desk = behind(rt.alloc(), b"")?;
+    let called = call_64(&mut desk)?;
     desk.hear(SABM)?;
-    assert_equal(&rt, &desk.frames(), &0);
-    for number in 0..64_u32 {
-        desk.hear(&ua_from(alloc, number)?)?;
-    }
-    assert_equal(&rt, &desk.kinds()?.as_slice(), &[b'C'; 64].as_slice());
+    let heard = desk.frames();
+    assert_equal(&rt, &(called, heard), &(64, 0));
+    let told = answer_64(&mut desk)?;
+    assert_equal(&rt, &told.as_slice(), &[b'C'; 64].as_slice());
     Ok(())
 }

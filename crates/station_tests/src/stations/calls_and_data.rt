@@ -25,8 +25,8 @@ const DISC: &[u8] = b"\x9c\x94\x6e\xa0\x40\x40\xe0\x9c\x6e\x98\x8a\x9a\x40\x61\x
 /// Connection 1 has registered N7LEM, and connection 2 AAAA.
 fn registered(alloc: Global) -> Result<Desk, Fail> {
     let mut desk = Desk::new(alloc, Params::default())?;
-    desk.ask(1, b'X', ["N7LEM", ""], b"")?;
-    desk.ask(2, b'X', ["AAAA", ""], b"")?;
+    desk.register(1, "N7LEM")?;
+    desk.register(2, "AAAA")?;
     desk.look();
     Ok(desk)
 }
@@ -100,12 +100,17 @@ const CALLS: &[((u8, u8), &[u8], &[u8])] = &[
     (VIA, b"\x00behind", SABM),
 ];
 
+/// The one frame of a call.
+fn frame_of(alloc: Global, kind: (u8, u8), body: &[u8]) -> Result<Octets, Fail> {
+    let mut desk = registered(alloc)?;
+    desk.ask_with_pid(1, kind, ENDS, body)?;
+    only_frame(&mut desk)
+}
+
 #[test]
 fn a_call_is_a_sabm(rt: HostRuntime) -> Result<(), Fail> {
     for (kind, body, want) in CALLS {
-        let mut desk = registered(rt.alloc())?;
-        desk.ask_with_pid(1, *kind, ENDS, body)?;
-        let frame = only_frame(&mut desk)?;
+        let frame = frame_of(rt.alloc(), *kind, body)?;
         assert_equal(&rt, &(*kind, frame.as_slice()), &(*kind, *want));
     }
     Ok(())
@@ -150,14 +155,25 @@ const REFUSED: &[(u32, (u8, u8), [&str; 2], &[u8], [&str; 3])] = &[
 
 const BACK: [&str; 3] = ["NJ7P", "N7LEM", "NJ7P"];
 
+/// N7LEM has called BBBB. The answer to a call then.
+fn answer(
+    alloc: Global,
+    id: u32,
+    kind: (u8, u8),
+    ends: [&str; 2],
+    body: &[u8],
+) -> Result<Piece, Fail> {
+    let mut desk = registered(alloc)?;
+    desk.call(1, "N7LEM", "BBBB")?;
+    only_frame(&mut desk)?;
+    desk.ask_with_pid(id, kind, ends, body)?;
+    only_piece(&mut desk)
+}
+
 #[test]
 fn a_call_that_is_not_made_is_answered(rt: HostRuntime) -> Result<(), Fail> {
     for (id, kind, ends, body, [from, to, text]) in REFUSED {
-        let mut desk = registered(rt.alloc())?;
-        desk.ask_with_pid(1, CALL, ["N7LEM", "BBBB"], b"")?;
-        only_frame(&mut desk)?;
-        desk.ask_with_pid(*id, *kind, *ends, body)?;
-        let piece = only_piece(&mut desk)?;
+        let piece = answer(rt.alloc(), *id, *kind, *ends, body)?;
         let want = refusal(rt.alloc(), from, to, text)?;
         let got = (piece.id, piece.octets.as_slice());
         assert_equal(&rt, &got, &(*id, want.as_slice()));
@@ -165,14 +181,18 @@ fn a_call_that_is_not_made_is_answered(rt: HostRuntime) -> Result<(), Fail> {
     Ok(())
 }
 
+/// N7LEM calls the station of a number. Tells how many pieces and link frames there are so far.
+fn call_numbered(desk: &mut Desk, number: u32) -> Result<(usize, usize), Fail> {
+    let to = format!(in desk.alloc; "X{number}")?;
+    desk.call(1, "N7LEM", &to)?;
+    Ok((desk.out.pieces.len(), desk.out.queued.len()))
+}
+
 #[test]
 fn a_65th_link_is_not_made(rt: HostRuntime) -> Result<(), Fail> {
-    let alloc = rt.alloc();
-    let mut desk = registered(alloc)?;
+    let mut desk = registered(rt.alloc())?;
     for number in 0..65_u32 {
-        let to = format!(in alloc; "X{number}")?;
-        desk.ask_with_pid(1, CALL, ["N7LEM", &to], b"")?;
-        let got = (desk.out.pieces.len(), desk.out.queued.len());
+        let got = call_numbered(&mut desk, number)?;
         let refused = usize::from(number == 64);
         assert_equal(&rt, &got, &(refused, (number as usize + 1).min(64)));
     }
@@ -188,12 +208,19 @@ const PACKETS: &[(usize, &[usize])] = &[
     (600, &[272, 272, 104]),
 ];
 
+/// How long the frames of so many octets are.
+fn lens_of(alloc: Global, count: usize) -> Result<Vec<usize>, Fail> {
+    let octets = filled(alloc, 65, count)?;
+    let mut desk = connected(alloc, CALL)?;
+    desk.ask_with_pid(1, DATA, ENDS, &octets)?;
+    desk.lens()
+}
+
 #[test]
 fn data_goes_in_packets_of_256_octets(rt: HostRuntime) -> Result<(), Fail> {
     for (count, want) in PACKETS {
-        let mut desk = connected(rt.alloc(), CALL)?;
-        desk.ask_with_pid(1, DATA, ENDS, &filled(rt.alloc(), 65, *count)?)?;
-        assert_equal(&rt, &desk.lens()?.as_slice(), want);
+        let lens = lens_of(rt.alloc(), *count)?;
+        assert_equal(&rt, &lens.as_slice(), want);
     }
     Ok(())
 }
@@ -207,14 +234,19 @@ const PIDS: &[((u8, u8), u8, u8)] = &[
     ((b'c', 0), 0, 0xf0),
 ];
 
+/// The PID of the frame of data with a PID, behind a call.
+fn pid_of(alloc: Global, call: (u8, u8), pid: u8) -> Result<Option<u8>, Fail> {
+    let mut desk = connected(alloc, call)?;
+    desk.ask_with_pid(1, (b'D', pid), ENDS, b"A")?;
+    let frame = only_frame(&mut desk)?;
+    Ok(frame.as_slice().get(15).copied())
+}
+
 #[test]
 fn data_without_a_pid_has_that_of_the_call(rt: HostRuntime) -> Result<(), Fail> {
-    for (kind, pid, want) in PIDS {
-        let mut desk = connected(rt.alloc(), *kind)?;
-        desk.ask_with_pid(1, (b'D', *pid), ENDS, b"A")?;
-        let frame = only_frame(&mut desk)?;
-        let got = (*kind, *pid, frame.as_slice().get(15).copied());
-        assert_equal(&rt, &got, &(*kind, *pid, Some(*want)));
+    for (call, pid, want) in PIDS {
+        let got = pid_of(rt.alloc(), *call, *pid)?;
+        assert_equal(&rt, &(*call, *pid, got), &(*call, *pid, Some(*want)));
     }
     Ok(())
 }
@@ -227,19 +259,22 @@ const STRANGERS: &[(u32, [&str; 2])] = &[
     (1, ["", "NJ7P"]),
 ];
 
+/// What a stranger gives and ends between two calls gives nothing.
+fn is_ignored(desk: &mut Desk, id: u32, ends: [&str; 2]) -> Result<bool, Fail> {
+    desk.ask_with_pid(id, DATA, ends, b"A")?;
+    desk.ask_with_pid(id, END, ends, b"")?;
+    Ok(is_nothing(&desk.out))
+}
+
 #[test]
 fn only_the_owner_gives_and_disconnects(rt: HostRuntime) -> Result<(), Fail> {
     let mut desk = connected(rt.alloc(), CALL)?;
     for (id, ends) in STRANGERS {
-        desk.ask_with_pid(*id, DATA, *ends, b"A")?;
-        desk.ask_with_pid(*id, END, *ends, b"")?;
-        assert_equal(
-            &rt,
-            &(*id, *ends, is_nothing(&desk.out)),
-            &(*id, *ends, true),
-        );
+        let ignored = is_ignored(&mut desk, *id, *ends)?;
+        assert_equal(&rt, &(*id, *ends, ignored), &(*id, *ends, true));
     }
     desk.ask_with_pid(1, END, ENDS, b"")?;
-    assert_equal(&rt, &only_frame(&mut desk)?.as_slice(), &DISC);
+    let frame = only_frame(&mut desk)?;
+    assert_equal(&rt, &frame.as_slice(), &DISC);
     Ok(())
 }

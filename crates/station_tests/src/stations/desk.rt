@@ -98,6 +98,16 @@ impl Desk {
         Ok(add(&mut self.out, out)?)
     }
 
+    /// A connection registers a call.
+    pub(super) fn register(&mut self, id: u32, call: &str) -> Result<(), Fail> {
+        self.ask(id, b'X', [call, ""], b"")
+    }
+
+    /// A connection calls from one call to another.
+    pub(super) fn call(&mut self, id: u32, from: &str, to: &str) -> Result<(), Fail> {
+        self.ask(id, b'C', [from, to], b"")
+    }
+
     /// A message of a connection.
     pub(super) fn ask(
         &mut self,
