@@ -85,6 +85,3 @@ pub use reading::Said;
 pub use registration::Registration;
 pub use routes::Route;
 pub use station::Station;
-
-#[cfg(test)]
-mod tests;

@@ -2,7 +2,9 @@
 //! stations that are given the same octets in other pieces give the same.
 ghost use Rattle.std.specs.Prelude.{◌<◌};
 
-use super::desk::{Desk, message};
+use super::desk::Desk;
+use crate::assertions::assert_equal;
+use crate::messages::message;
 use link_machine::Params;
 use rand_core::utils::NextWord;
 use rand_pcg::Lcg64Xsh32;
@@ -180,6 +182,12 @@ impl Twins {
         }
     }
 
+    /// Each connection that was closed joins again.
+    fn join_all(&mut self) -> Result<(), Fail> {
+        self.one.join_all()?;
+        self.other.join_all()
+    }
+
     /// Some ticks. Tells whether both stations have given and sent the same.
     fn agree(&mut self) -> Result<bool, Fail> {
         let count = below(&mut self.draws, 8);
@@ -191,16 +199,24 @@ impl Twins {
     }
 }
 
+/// The first of 60 steps after which the two stations have not given and sent the same.
+fn first_difference(alloc: Global, seed: u64) -> Result<Option<u32>, Fail> {
+    let mut twins = Twins::new(alloc, seed)?;
+    for step in 0..60_u32 {
+        twins.step(alloc)?;
+        if !twins.agree()? {
+            return Ok(Some(step));
+        }
+        twins.join_all()?;
+    }
+    Ok(None)
+}
+
 #[test]
 fn pieces_do_not_matter(rt: HostRuntime) -> Result<(), Fail> {
     for seed in 0..2_u64 {
-        let mut twins = Twins::new(rt.alloc(), seed)?;
-        for step in 0..60_u32 {
-            twins.step(rt.alloc())?;
-            assert!(rt; twins.agree()?, "seed {seed}, step {step}");
-            twins.one.join_all()?;
-            twins.other.join_all()?;
-        }
+        let difference = first_difference(rt.alloc(), seed)?;
+        assert_equal(&rt, &(seed, difference), &(seed, None));
     }
     Ok(())
 }
