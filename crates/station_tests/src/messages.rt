@@ -4,17 +4,12 @@ use std::alloc::Global;
 use std::test::Fail;
 
 /// The octets of a message.
-pub(crate) fn message(
-    alloc: Global,
-    kind: u8,
-    ends: [&str; 2],
-    body: &[u8],
-) -> Result<Vec<u8>, Fail> {
+pub fn message(alloc: Global, kind: u8, ends: [&str; 2], body: &[u8]) -> Result<Vec<u8>, Fail> {
     message_with_pid(alloc, (kind, 0), ends, body)
 }
 
 /// The octets of a message of a kind and a PID.
-pub(crate) fn message_with_pid(
+pub fn message_with_pid(
     alloc: Global,
     (kind, pid): (u8, u8),
     [from, to]: [&str; 2],
@@ -32,7 +27,7 @@ pub(crate) fn message_with_pid(
 }
 
 /// A call field.
-pub(crate) fn field(text: &str) -> [u8; 10] {
+pub fn field(text: &str) -> [u8; 10] {
     let mut field = [0; 10];
     for (place, octet) in text.as_bytes().iter().enumerate() {
         if place < 10 {

@@ -1,0 +1,2 @@
+mod bench_runs;
+mod live;

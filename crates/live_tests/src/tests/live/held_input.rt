@@ -1,0 +1,139 @@
+//! A live station over real threads, whose input waits until the sockets are polled.
+ghost use Rattle.std.specs.Prelude.{None};
+
+use super::outcome::words;
+use station::HostEvent;
+use station_tests::assert_equal;
+use std::alloc::Global;
+use std::net::Net;
+use std::sync::Wait;
+use std::sync::atomic::{AtomicU64, Ordering};
+use std::test::Fail;
+use std::thread;
+use std::thread::Threads;
+use tnc_base::{Failed, MemSink, OutOfMemory, Source};
+use tnc_ports::{Live, PollFault, Ports, RealSpawner, ServeEnd, serve};
+
+/// Sockets without hosts. They count their polls, for another thread to see, and after so many they want memory.
+#[derive(Drop)]
+struct CountingPorts<'a> {
+    alloc: Global,
+    polls: &'a AtomicU64,
+    most: u64,
+}
+
+impl Ports for CountingPorts<'_> {
+    ghost listens = { λ _. None };
+
+    ghost polls = { λ _. None };
+
+    ghost is_shut = { λ _ _. None };
+
+    ghost sent = { λ _ _. None };
+
+    ghost sends = { λ _. None };
+
+    ghost faults = { λ _. 0 };
+
+    fn listen<R: Net>(&mut self, _rt: &R, _kiss: u16, _agw: u16) -> Result<(), Failed> {
+        Ok(())
+    }
+
+    fn poll<R: Net>(
+        &mut self,
+        _rt: &R,
+        _wait_ms: u32,
+        _paused: &[u32],
+    ) -> Result<Vec<HostEvent>, PollFault> {
+        if self.polls.fetch_add(1, Ordering::SeqCst) >= self.most {
+            return Err(PollFault::Memory);
+        }
+        Ok(Vec::new(self.alloc))
+    }
+
+    fn send<R: Net>(&mut self, _rt: &R, _id: u32, octets: &[u8]) -> Result<usize, Failed> {
+        Ok(octets.len())
+    }
+
+    fn shut(&mut self, _id: u32) {}
+}
+
+/// How often a held read looks at the count of polls before it goes on.
+const LIMIT: u64 = 10_000_000;
+
+/// An input of one sample, whose end comes only after two polls. It gives up after a limit.
+#[derive(Drop)]
+struct HeldSource<'a> {
+    polls: &'a AtomicU64,
+    reads: u64,
+    gave_up: bool,
+}
+
+impl Source for HeldSource<'_> {
+    ghost left = { λ _. None };
+
+    ghost faults = { λ _. 0 };
+
+    fn read(&mut self, buffer: &mut [u8]) -> Result<usize, Failed> {
+        self.reads = self.reads.saturating_add(1);
+        if self.reads == 1 {
+            return Ok(buffer.len().min(2));
+        }
+        for _ in 0..LIMIT {
+            if self.polls.load(Ordering::SeqCst) >= 2 {
+                return Ok(0);
+            }
+            thread::yield_now();
+        }
+        self.gave_up = true;
+        Ok(0)
+    }
+}
+
+/// How a station ends whose sockets want memory after so many polls, and whether its input gave up waiting for polls.
+fn held<R: Threads + Wait + Net + Sync>(
+    rt: &R,
+    alloc: Global,
+    most: u64,
+) -> Result<(ServeEnd, bool), OutOfMemory> {
+    let polls = AtomicU64::new(0);
+    let mut source = HeldSource {
+        polls: &polls,
+        reads: 0,
+        gave_up: false,
+    };
+    let ports = CountingPorts {
+        alloc,
+        polls: &polls,
+        most,
+    };
+    let spawner = RealSpawner;
+    let mut live = Live { ports, spawner };
+    let mut output = MemSink::new(alloc, 1000, Vec::new(alloc))?;
+    let mut report = MemSink::new(alloc, 1000, Vec::new(alloc))?;
+    let words = words(false, false);
+    let end = serve(
+        rt,
+        alloc,
+        words,
+        &mut source,
+        &mut output,
+        &mut report,
+        &mut live,
+    );
+    Ok((end, source.gave_up))
+}
+
+#[test]
+fn the_ports_are_polled_while_the_input_is_held(rt: HostRuntime) -> Result<(), Fail> {
+    let got = held(&rt, rt.alloc(), u64::MAX)?;
+    assert_equal(&rt, &got, &(ServeEnd::Done, false));
+    Ok(())
+}
+
+#[test]
+fn want_of_memory_ends_it(rt: HostRuntime) -> Result<(), Fail> {
+    let (end, _) = held(&rt, rt.alloc(), 2)?;
+    assert_equal(&rt, &end, &ServeEnd::Memory);
+    Ok(())
+}

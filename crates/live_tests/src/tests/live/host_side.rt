@@ -1,0 +1,152 @@
+//! The hosts' side of a station, turn by turn.
+ghost use Rattle.hdlc_framer.specs.FrameLength.{HasFrameLength};
+
+use super::script::{Script, came};
+use link_machine::Params;
+use station::{Config, PortKind};
+use station_tests::assert_equal;
+use std::alloc::Global;
+use std::net::Net;
+use std::test::Fail;
+use tnc_base::OutOfMemory;
+use tnc_ports::{HostSide, MemLive, MemPorts, ReportLine};
+
+/// A UI frame from N7LEM to NJ7P. As a KISS frame it has 19 octets.
+const FRAME: &[u8] = b"\x9c\x94\x6e\xa0\x40\x40\xe0\x9c\x6e\x98\x8a\x9a\x40\x61\x03\xf0";
+
+fn frame() -> &'static [u8]
+    ensures { HasFrameLength result.now }
+{
+    FRAME
+}
+
+/// A station over sockets in memory.
+#[derive(Drop)]
+struct Desk {
+    alloc: Global,
+    side: HostSide,
+    ports: MemPorts,
+}
+
+impl Desk {
+    fn new(alloc: Global, live: MemLive) -> Result<Desk, Fail> {
+        let params = Params::default();
+        let side = HostSide::new(alloc, Config { params, digi: None }, 7)?;
+        let ports = live.ports;
+        Ok(Desk { alloc, side, ports })
+    }
+
+    /// The frame is heard so often.
+    fn hear(&mut self, times: u32) -> Result<(), OutOfMemory> {
+        for _ in 0..times {
+            self.side.hear(frame())?;
+        }
+        Ok(())
+    }
+
+    /// A turn for each of these numbers, before which the frame is heard so often.
+    fn turns<R: Net>(&mut self, rt: &R, frames: &[u32]) -> Result<(), OutOfMemory> {
+        for times in frames {
+            self.hear(*times)?;
+            self.side.part(rt, &mut self.ports)?;
+        }
+        Ok(())
+    }
+
+    /// The sends as text: after which poll, to which connection, and how many octets were offered.
+    fn sends(&self) -> Result<String, OutOfMemory> {
+        let mut text = String::new(self.alloc);
+        for send in self.ports.sends() {
+            write!(text, "{}:{}:{} ", send.polls, send.id, send.offered)?;
+        }
+        Ok(text)
+    }
+
+    /// The polls as text: how long each waits, and how many ids it pauses.
+    fn polls(&self) -> Result<String, OutOfMemory> {
+        let mut text = String::new(self.alloc);
+        for poll in self.ports.polls() {
+            write!(text, "{}:{} ", poll.wait_ms, poll.paused.len())?;
+        }
+        Ok(text)
+    }
+
+    /// The ids of the `closed` lines that were not taken yet.
+    fn closed(&mut self) -> Result<String, OutOfMemory> {
+        let mut text = String::new(self.alloc);
+        for line in &self.side.take_lines() {
+            if let ReportLine::ClosedLine { id } = line {
+                write!(text, "{id} ")?;
+            }
+        }
+        Ok(text)
+    }
+}
+
+/// Host 5 joins, and again later; host 2 joins, and goes at the fourth poll.
+fn two_hosts(alloc: Global) -> Result<Script, OutOfMemory> {
+    let mut script = Script::new(alloc);
+    script.joins(0, 5, PortKind::Kiss)?;
+    script.joins(0, 2, PortKind::Kiss)?;
+    script.joins(1, 5, PortKind::Kiss)?;
+    script.leaves(3, 2)?;
+    Ok(script)
+}
+
+#[test]
+fn a_turn_offers_each_host_one_piece(rt: HostRuntime) -> Result<(), Fail> {
+    let alloc = rt.alloc();
+    let mut desk = Desk::new(alloc, two_hosts(alloc)?.failing(&[])?)?;
+    desk.turns(&rt, &[0, 2])?;
+    assert_equal(&rt, &desk.sends()?.as_str(), &"2:5:19 2:2:19 ");
+    assert_equal(&rt, &desk.polls()?.as_str(), &"10:0 10:0 ");
+    Ok(())
+}
+
+// Calls 4 and 5 of the sockets fail: the third poll, and a send to host 5.
+#[test]
+fn a_host_whose_send_fails_is_shut(rt: HostRuntime) -> Result<(), Fail> {
+    let alloc = rt.alloc();
+    let mut desk = Desk::new(alloc, two_hosts(alloc)?.failing(&[4, 5])?)?;
+    desk.turns(&rt, &[0, 2, 0, 1])?;
+    assert_equal(&rt, &desk.closed()?.as_str(), &"5 ");
+    assert_equal(&rt, &desk.closed()?.as_str(), &"");
+    assert_equal(&rt, &desk.sends()?.as_str(), &"2:5:19 2:2:19 3:2:19 ");
+    assert_equal(
+        &rt,
+        &came(alloc, &desk.ports)?.as_str(),
+        &"5:shut 2:open 5:shut ",
+    );
+    Ok(())
+}
+
+// 262,144 is 19 times 13,797 and 1 more.
+#[test]
+fn a_host_that_takes_nothing_is_shut_when_its_buffer_is_full(rt: HostRuntime) -> Result<(), Fail> {
+    let alloc = rt.alloc();
+    let mut desk = Desk::new(alloc, two_hosts(alloc)?.taking(0))?;
+    desk.turns(&rt, &[0, 13_797])?;
+    assert_equal(&rt, &desk.sends()?.as_str(), &"2:5:19 2:2:19 ");
+    assert_equal(&rt, &desk.closed()?.as_str(), &"");
+    desk.hear(1)?;
+    assert_equal(&rt, &desk.closed()?.as_str(), &"5 2 ");
+    Ok(())
+}
+
+#[test]
+fn a_tick_without_frames_is_silent(rt: HostRuntime) -> Result<(), Fail> {
+    let alloc = rt.alloc();
+    let mut desk = Desk::new(alloc, Script::new(alloc).taking(0))?;
+    let air = desk.side.tick(false)?;
+    assert!(rt; air.samples == [0; 96] && !air.began);
+    Ok(())
+}
+
+#[test]
+fn a_line_is_noted(rt: HostRuntime) -> Result<(), Fail> {
+    let alloc = rt.alloc();
+    let mut desk = Desk::new(alloc, Script::new(alloc).taking(0))?;
+    desk.side.note(ReportLine::ClosedLine { id: 9 })?;
+    assert_equal(&rt, &desk.closed()?.as_str(), &"9 ");
+    Ok(())
+}

@@ -1,0 +1,65 @@
+//! Sockets on loopback.
+
+use super::script::names;
+use station_tests::assert_equal;
+use std::io::{Read, Write};
+use std::net::{Ipv4Addr, SocketAddr, TcpListener, TcpStream};
+use std::test::Fail;
+use tnc_ports::{Ports, RealPorts};
+
+/// A port that nobody listens on.
+fn free_port(rt: &HostRuntime) -> Result<u16, Fail> {
+    let listener = TcpListener::bind(rt, SocketAddr::from((Ipv4Addr::LOCALHOST, 0)))?;
+    Ok(listener.local_addr()?.port())
+}
+
+/// The events of the first poll that gives some, of so many.
+fn polled(rt: &HostRuntime, ports: &mut RealPorts, paused: &[u32]) -> Result<String, Fail> {
+    for _ in 0..200 {
+        let events = ports.poll(rt, 10, paused)?;
+        if !events.is_empty() {
+            return Ok(names(rt.alloc(), &events)?);
+        }
+    }
+    Ok(String::new(rt.alloc()))
+}
+
+/// Sockets that listen, and the address at which they do for AGWPE.
+fn opened(rt: &HostRuntime) -> Result<(RealPorts, SocketAddr), Fail> {
+    let mut ports = RealPorts::new(rt.alloc());
+    let (kiss, agw) = (free_port(rt)?, free_port(rt)?);
+    ports.listen(rt, kiss, agw)?;
+    Ok((ports, SocketAddr::from((Ipv4Addr::LOCALHOST, agw))))
+}
+
+/// A host that has brought some octets.
+fn connected(rt: &HostRuntime, to: SocketAddr) -> Result<TcpStream, Fail> {
+    let mut host = TcpStream::connect(rt, to)?;
+    host.write_all(b"12345")?;
+    Ok(host)
+}
+
+/// The next two octets for a host.
+fn answer(mut host: TcpStream) -> Result<[u8; 2], Fail> {
+    let mut answer = [0; 2];
+    host.read_exact(&mut answer)?;
+    Ok(answer)
+}
+
+#[test]
+fn no_host_connects_before_they_listen(rt: HostRuntime) {
+    assert!(rt; RealPorts::new(rt.alloc()).poll(&rt, 0, &[]).is_err());
+}
+
+#[test]
+fn hosts_connect_on_loopback(rt: HostRuntime) -> Result<(), Fail> {
+    let (mut ports, to) = opened(&rt)?;
+    let host = connected(&rt, to)?;
+    assert_equal(&rt, &polled(&rt, &mut ports, &[1])?.as_str(), &"J1 ");
+    assert_equal(&rt, &polled(&rt, &mut ports, &[])?.as_str(), &"B1 ");
+    assert_equal(&rt, &ports.send(&rt, 1, b"67"), &Ok(2));
+    assert_equal(&rt, &answer(host)?, b"67");
+    ports.shut(1);
+    assert!(rt; ports.send(&rt, 1, b"8").is_err());
+    Ok(())
+}

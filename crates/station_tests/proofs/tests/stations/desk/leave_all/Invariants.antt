@@ -1,0 +1,7 @@
+use Rattle.std.proofs.Common.{◌≡◌, drop}
+use Rattle.station.specs.Held.{without_ids}
+use Rattle.station_tests.proofs.tests.stations.desk.leave_all.Given as goal
+
+-- those so far have left
+abbrev pub invariant-loop-id : goal.invariant-loop-id
+invariant-loop-id l = without_ids (drop l.id-index l.closed) l.there.items ≡ without_ids l.closed l.fn.there.items

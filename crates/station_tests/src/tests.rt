@@ -1,0 +1,4 @@
+mod access;
+mod agwpe;
+mod kiss;
+mod stations;

@@ -1,0 +1,147 @@
+//! Access to the channel: when transmissions begin, and what they are.
+ghost use Rattle.std.specs.Prelude.{IfOk};
+ghost use Rattle.hdlc_framer.specs.FrameLength.{HasFrameLength};
+
+use crate::assert_equal;
+use afsk_modulator::transmission;
+use channel_access::{
+    Access, Param, a_tick_is_a_part_of_the_whole, decisions_add_bits, the_end_is_a_transmission,
+};
+use std::alloc::Global;
+use std::test::Fail;
+use tnc_base::Octets;
+
+/// SABM with P from N7LEM to NJ7P, the shortest frame. It is sent as 138 bits.
+const SHORTEST: &[u8; 15] = b"\x9c\x94\x6e\xa0\x40\x40\xe0\x9c\x6e\x98\x8a\x9a\x40\x61\x3f";
+
+fn shortest(alloc: Global) -> Result<Octets, Fail>
+    ensures { IfOk result HasFrameLength }
+{
+    Ok(Octets::from_slice(alloc, SHORTEST.as_slice())?)
+}
+
+/// An access in which so many frames wait, each of the link of its number.
+fn access(alloc: Global, seed: u64, frames: u32) -> Result<Access, Fail> {
+    let mut access = Access::new(alloc, seed)?;
+    for link in 0..frames {
+        let _ = access.queue(Some(link), shortest(alloc)?);
+    }
+    Ok(access)
+}
+
+/// With two flags before and one after, at once.
+fn quick_access(alloc: Global, frames: u32) -> Result<Access, Fail> {
+    let mut access = access(alloc, 1, frames)?;
+    for param in [Param::TxDelay(0), Param::TxTail(0), Param::FullDuplex(true)] {
+        access.set(param);
+    }
+    Ok(access)
+}
+
+// 78 flags and 138 bits are 762 bits, in 64 ticks of 12. The flag after the frame ends with bit 746, the second of
+// tick 63.
+#[test]
+fn the_shortest_frame_is_one_transmission(rt: HostRuntime) -> Result<(), Fail> {
+    let alloc = rt.alloc();
+    let mut access = access(alloc, 1, 1)?;
+    access.set(Param::FullDuplex(true));
+    let mut samples = Vec::new(alloc);
+    for tick in 1..66_u32 {
+        let air = access.tick(true);
+        let after = air.sent.map(|sent| sent.after);
+        let got = (tick, air.began, after, access.waiting(0));
+        let last = if tick == 63 { Some(16) } else { None };
+        assert_equal(&rt, &got, &(tick, tick == 1, last, tick < 63));
+        samples.extend_from_slice(air.samples.as_slice())?;
+    }
+    let mut frames = Vec::new(alloc);
+    frames.push(shortest(alloc)?)?;
+    let mut expected = transmission(alloc, &frames, 75, 3)?;
+    assert_equal(&rt, &expected.len(), &(8 * 762));
+    expected.resize(65 * 96, 0)?;
+    assert_equal(&rt, &samples, &expected);
+    Ok(())
+}
+
+#[test]
+fn the_257th_frame_is_handed_back(rt: HostRuntime) -> Result<(), Fail> {
+    let mut access = access(rt.alloc(), 1, 256)?;
+    let back = access.queue(None, shortest(rt.alloc())?).err();
+    let len = back.map(|octets| octets.len());
+    assert_equal(&rt, &(len, access.len()), &(Some(15), 256));
+    Ok(())
+}
+
+// The draws of seed 1 are 145, 116, 87, 211, 86, 121 and 38, of seed 2 102 and 40, of seed 8 56.
+#[test]
+fn a_draw_begins_in_a_free_slot(rt: HostRuntime) -> Result<(), Fail> {
+    // seed, persistence, slot time, the busy tick, and the tick that begins
+    let table: [(u64, u8, u8, u32, u32); 9] = [
+        (8, 63, 2, 0, 1),
+        (8, 56, 2, 0, 1),
+        (2, 63, 2, 0, 4),
+        (2, 102, 2, 0, 1),
+        (2, 101, 2, 0, 4),
+        (2, 63, 0, 0, 2),
+        (2, 63, 2, 2, 3),
+        (8, 63, 2, 1, 2),
+        (1, 63, 1, 0, 13),
+    ];
+    for (seed, persist, slot_time, busy, begins) in table {
+        let mut access = access(rt.alloc(), seed, 1)?;
+        access.set(Param::Persist(persist));
+        access.set(Param::SlotTime(slot_time));
+        for tick in 1..begins + 3 {
+            let began = access.tick(tick == busy).began;
+            assert_equal(&rt, &(seed, tick, began), &(seed, tick, tick == begins));
+        }
+    }
+    Ok(())
+}
+
+#[test]
+fn nothing_begins_without_a_frame(rt: HostRuntime) -> Result<(), Fail> {
+    let mut access = quick_access(rt.alloc(), 0)?;
+    assert!(rt; !access.tick(false).began);
+    decisions_add_bits();
+    the_end_is_a_transmission();
+    a_tick_is_a_part_of_the_whole();
+    Ok(())
+}
+
+// Eight frames, seven flags between them and three round them are 1184 bits, in 99 ticks.
+#[test]
+fn eight_frames_are_one_transmission(rt: HostRuntime) -> Result<(), Fail> {
+    let mut access = quick_access(rt.alloc(), 9)?;
+    for tick in 1..101_u32 {
+        let began = access.tick(true).began;
+        assert_equal(&rt, &(tick, began), &(tick, tick == 1 || tick == 100));
+    }
+    assert_equal(&rt, &(access.len(), access.waiting(8)), &(1, true));
+    Ok(())
+}
+
+// The last bit of the first frame is bit 154, in tick 13: what comes after that tick waits for the next transmission.
+#[test]
+fn a_frame_joins_before_the_end_of_the_one_before(rt: HostRuntime) -> Result<(), Fail> {
+    // the tick after which the second frame comes, how many transmissions begin, and when the second frame is sent
+    let table: [(u32, u32, u32, u8); 2] = [(12, 1, 26, 64), (13, 2, 28, 48)];
+    for (comes, transmissions, last, after) in table {
+        let mut access = quick_access(rt.alloc(), 1)?;
+        let mut began = 0_u32;
+        let mut sent = None;
+        for tick in 1..last + 1 {
+            let air = access.tick(true);
+            if air.began {
+                began = began.saturating_add(1);
+            }
+            sent = air.sent.map(|sent| sent.after);
+            if tick == comes {
+                let _ = access.queue(None, shortest(rt.alloc())?);
+            }
+        }
+        let got = (comes, began, sent, access.len());
+        assert_equal(&rt, &got, &(comes, transmissions, Some(after), 0));
+    }
+    Ok(())
+}

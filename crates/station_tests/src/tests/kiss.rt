@@ -1,0 +1,177 @@
+//! KISS: streams and items from outside.
+
+use crate::assert_equal;
+use kiss_port::{KissIn, KissItem, write_kiss};
+use std::alloc::Global;
+use std::test::Fail;
+use tnc_base::OutOfMemory;
+
+/// An item as plain values: its name, the port, the command, and the value or the octets.
+type Plain<'a> = (&'static str, u8, u8, &'a [u8]);
+
+fn is_item(item: &KissItem, want: Plain) -> bool {
+    let (name, port, command, octets) = want;
+    match item {
+        KissItem::Frame {
+            port: at,
+            octets: of,
+        } => { name == "frame" && *at == port && command == 0 && of.as_slice() == octets }
+        KissItem::Set {
+            port: at,
+            command: of,
+            value,
+        } => name == "set" && *at == port && *of == command && octets == [*value].as_slice(),
+        KissItem::Hardware {
+            port: at,
+            octets: of,
+        } => { name == "hardware" && *at == port && command == 6 && of.as_slice() == octets }
+        KissItem::Return => name == "return",
+        KissItem::TooLong { port: at } => name == "long" && *at == port,
+        KissItem::Other {
+            port: at,
+            command: of,
+        } => name == "other" && *at == port && *of == command,
+    }
+}
+
+/// These items, each with the place of its last octet, and no others.
+fn are_items(items: &[(usize, KissItem)], wants: &[(usize, Plain)]) -> bool {
+    if items.len() != wants.len() {
+        return false;
+    }
+    for ((place, item), (end, want)) in items.iter().zip(wants) {
+        if *place != *end || !is_item(item, *want) {
+            return false;
+        }
+    }
+    true
+}
+
+/// The items of a stream, each with the place of its last octet.
+fn items_of(alloc: Global, stream: &[u8]) -> Result<Vec<(usize, KissItem)>, OutOfMemory> {
+    let mut reader = KissIn::new(alloc);
+    let mut items = Vec::new(alloc);
+    for (place, octet) in stream.iter().enumerate() {
+        if let Some(item) = reader.push(*octet)? {
+            items.push((place, item))?;
+        }
+    }
+    Ok(items)
+}
+
+#[test]
+fn a_piece_says_one_item(rt: HostRuntime) -> Result<(), Fail> {
+    let table: [(&[u8], Plain); 20] = [
+        (
+            b"\xc0\x00\xdb\xdc\xdb\xdd\xc0",
+            ("frame", 0, 0, b"\xc0\xdb"),
+        ),
+        (
+            b"\xc0\x00\x01\xdb\x41\x02\xc0",
+            ("frame", 0, 0, b"\x01\x02"),
+        ),
+        (b"\xc0\x00\x05\xdb\xc0", ("frame", 0, 0, b"\x05")),
+        (b"\x00\x05\xc0", ("frame", 0, 0, b"\x05")),
+        (b"\xc0\x00\xc0", ("frame", 0, 0, b"")),
+        (b"\xc0\xc0\xc0\x20\x07\xc0", ("frame", 2, 0, b"\x07")),
+        (b"\xc0\xdb\xdc\xdb\xdb\xdc\xc0", ("frame", 12, 0, b"\xdc")),
+        (b"\xdb\xc0\x10\xdc\xdd\xc0", ("frame", 1, 0, b"\xdc\xdd")),
+        (b"\xc0\x01\x32\xc0", ("set", 0, 1, b"\x32")),
+        (b"\xc0\x35\x01\x02\x03\xc0", ("set", 3, 5, b"\x01")),
+        (b"\xc0\x03\xdb\xdd\xc0", ("set", 0, 3, b"\xdb")),
+        (b"\xc0\x03\xc0", ("other", 0, 3, b"")),
+        (b"\xc0\x16\x01\x02\xc0", ("hardware", 1, 6, b"\x01\x02")),
+        (b"\xc0\x06\xc0", ("hardware", 0, 6, b"")),
+        (b"\xc0\x07\x01\xc0", ("other", 0, 7, b"")),
+        (b"\xc0\xfe\x01\xc0", ("other", 15, 14, b"")),
+        (b"\xc0\x0f\x01\xc0", ("other", 0, 15, b"")),
+        (b"\xc0\xff\xc0", ("return", 0, 0, b"")),
+        (b"\xc0\xff\x01\x02\xc0", ("return", 0, 0, b"")),
+        (b"\xc0\xf0\x01\xc0", ("frame", 15, 0, b"\x01")),
+    ];
+    for (number, (stream, want)) in table.into_iter().enumerate() {
+        let items = items_of(rt.alloc(), stream)?;
+        let end = stream.len().saturating_sub(1);
+        assert_equal(
+            &rt,
+            &(number, are_items(&items, &[(end, want)])),
+            &(number, true),
+        );
+    }
+    Ok(())
+}
+
+#[test]
+fn nothing_between_two_ends_says_nothing(rt: HostRuntime) -> Result<(), Fail> {
+    for stream in [
+        b"\xc0\xc0".as_slice(),
+        b"",
+        b"\xc0\xdb\xc0",
+        b"\xdb\x41\xc0",
+        b"\xc0\x00\x05",
+    ] {
+        let items = items_of(rt.alloc(), stream)?;
+        assert_equal(&rt, &(stream, items.len()), &(stream, 0));
+    }
+    Ok(())
+}
+
+#[test]
+fn a_stream_goes_on_behind_an_item(rt: HostRuntime) -> Result<(), Fail> {
+    let items = items_of(
+        rt.alloc(),
+        b"\xc0\x00\x01\xc0\x01\x02\xc0\xff\xc0\x00\x03\xc0",
+    )?;
+    let wants: [(usize, Plain); 4] = [
+        (3, ("frame", 0, 0, b"\x01")),
+        (6, ("set", 0, 1, b"\x02")),
+        (8, ("return", 0, 0, b"")),
+        (11, ("frame", 0, 0, b"\x03")),
+    ];
+    assert!(rt; are_items(&items, &wants));
+    Ok(())
+}
+
+#[test]
+fn more_than_1024_octets_are_too_long(rt: HostRuntime) -> Result<(), Fail> {
+    let alloc = rt.alloc();
+    let most = [0x41; 1024];
+    let table: [(u8, bool, Plain); 6] = [
+        (0x00, false, ("frame", 0, 0, most.as_slice())),
+        (0x00, true, ("long", 0, 0, b"")),
+        (0x26, false, ("hardware", 2, 6, most.as_slice())),
+        (0x26, true, ("long", 2, 0, b"")),
+        (0xff, false, ("return", 0, 0, b"")),
+        (0xff, true, ("long", 15, 0, b"")),
+    ];
+    for (kind, longer, want) in table {
+        let mut stream = [kind].to_vec(alloc)?;
+        stream.extend_from_slice(most.as_slice())?;
+        if longer {
+            stream.push(0x41)?;
+        }
+        stream.push(0xc0)?;
+        stream.extend_from_slice(b"\x00\x05\xc0")?;
+        let end = if longer { 1026 } else { 1025 };
+        let wants = [(end, want), (end + 3, ("frame", 0, 0, b"\x05".as_slice()))];
+        let items = items_of(alloc, &stream)?;
+        assert_equal(&rt, &(kind, are_items(&items, &wants)), &(kind, true));
+    }
+    Ok(())
+}
+
+#[test]
+fn what_is_written_has_its_escapes(rt: HostRuntime) -> Result<(), Fail> {
+    let table: [(u8, u8, &[u8], &[u8]); 4] = [
+        (0, 0, b"\xc0\xdb", b"\xc0\x00\xdb\xdc\xdb\xdd\xc0"),
+        (0, 0, b"", b"\xc0\x00\xc0"),
+        (12, 0, b"\xdc", b"\xc0\xdb\xdc\xdc\xc0"),
+        (13, 11, b"\x01\xdd", b"\xc0\xdb\xdd\x01\xdd\xc0"),
+    ];
+    for (port, command, octets, want) in table {
+        assert!(rt; port < 16 && command < 16);
+        let stream = write_kiss(rt.alloc(), port, command, octets)?;
+        assert_equal(&rt, &(port, stream.as_slice()), &(port, want));
+    }
+    Ok(())
+}

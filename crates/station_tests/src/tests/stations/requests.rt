@@ -1,0 +1,295 @@
+//! What hosts ask by octets.
+
+use super::desk::{Desk, assert_told, filled};
+use crate::{assert_equal, message};
+use link_machine::Params;
+use station::PortKind;
+use std::alloc::Global;
+use std::test::Fail;
+
+/// UA with F from BBBB to AAAA.
+const UA: &[u8] = b"\x82\x82\x82\x82\x40\x40\x60\x84\x84\x84\x84\x40\x40\xe1\x73";
+
+/// RR from BBBB to AAAA, which acknowledges three frames.
+const RR: &[u8] = b"\x82\x82\x82\x82\x40\x40\x60\x84\x84\x84\x84\x40\x40\xe1\x61";
+
+const ENDS: [&str; 2] = ["AAAA", "BBBB"];
+
+const BACK: [&str; 2] = ["BBBB", "AAAA"];
+
+const NOBODY: [&str; 2] = ["", ""];
+
+/// Adds a message from AAAA to BBBB.
+fn add_message(alloc: Global, octets: &mut Vec<u8>, kind: u8, body: &[u8]) -> Result<(), Fail> {
+    let more = message(alloc, kind, ENDS, body)?;
+    octets.extend_from_slice(&more)?;
+    Ok(())
+}
+
+/// AAAA registers and calls BBBB, gives 600 octets, and ends the call.
+fn whole_call(alloc: Global) -> Result<Vec<u8>, Fail> {
+    let data = filled(alloc, 65, 600)?;
+    let mut octets = message(alloc, b'X', ["AAAA", ""], b"")?;
+    add_message(alloc, &mut octets, b'C', b"")?;
+    add_message(alloc, &mut octets, b'D', &data)?;
+    add_message(alloc, &mut octets, b'd', b"")?;
+    Ok(octets)
+}
+
+/// The whole call came in one piece.
+fn behind_a_whole_call(alloc: Global) -> Result<Desk, Fail> {
+    let octets = whole_call(alloc)?;
+    let mut desk = Desk::new(alloc, Params::default())?;
+    desk.take(1, &octets)?;
+    Ok(desk)
+}
+
+/// How long the link frames are that a heard frame brings.
+fn lens_after(desk: &mut Desk, frame: &[u8]) -> Result<Vec<usize>, Fail> {
+    desk.hear(frame)?;
+    desk.lens()
+}
+
+/// Each row: what is heard, first nothing, and how long the link frames then are.
+const LENS: &[(&[u8], &[usize])] = &[(b"", &[15]), (UA, &[272, 272, 104]), (RR, &[15])];
+
+#[test]
+fn a_whole_call_in_one_piece(rt: HostRuntime) -> Result<(), Fail> {
+    let mut desk = behind_a_whole_call(rt.alloc())?;
+    for (frame, want) in LENS {
+        let lens = lens_after(&mut desk, frame)?;
+        assert_equal(&rt, &lens.as_slice(), want);
+    }
+    Ok(())
+}
+
+/// Whether the host is told of a message last, after these frames.
+fn tells_after(
+    desk: &mut Desk,
+    frames: &[&[u8]],
+    told: (u8, [&str; 2], &[u8]),
+) -> Result<bool, Fail> {
+    for frame in frames {
+        desk.hear(frame)?;
+    }
+    let (kind, ends, body) = told;
+    desk.tells(kind, ends, body)
+}
+
+/// Each row: what is heard, first nothing, and the message that the host is told of last.
+const TOLD: &[(&[&[u8]], (u8, [&str; 2], &[u8]))] = &[
+    (&[], (b'X', ["AAAA", ""], b"\x01")),
+    (&[UA], (b'C', BACK, b"*** CONNECTED With Station BBBB\r")),
+    (
+        &[RR, UA],
+        (b'd', BACK, b"*** DISCONNECTED From Station BBBB\r"),
+    ),
+];
+
+#[test]
+fn tells_how_a_whole_call_goes(rt: HostRuntime) -> Result<(), Fail> {
+    let mut desk = behind_a_whole_call(rt.alloc())?;
+    for (frames, told) in TOLD {
+        let tells = tells_after(&mut desk, frames, *told)?;
+        assert_equal(&rt, &(told.0, tells), &(told.0, true));
+    }
+    Ok(())
+}
+
+/// How many link frames and pieces there are after two pieces of a whole call and its answer.
+fn counts(alloc: Global, (front, rest): (&[u8], &[u8])) -> Result<(usize, usize), Fail> {
+    let mut desk = Desk::new(alloc, Params::default())?;
+    desk.take(1, front)?;
+    desk.take(1, rest)?;
+    desk.hear(UA)?;
+    Ok((desk.out().queued.len(), desk.out().pieces.len()))
+}
+
+#[test]
+fn a_whole_call_cut_at_every_octet(rt: HostRuntime) -> Result<(), Fail> {
+    let octets = whole_call(rt.alloc())?;
+    for cut in 0..octets.len() {
+        let got = counts(rt.alloc(), octets.split_at(cut))?;
+        assert_equal(&rt, &(cut, got), &(cut, (4, 3)));
+    }
+    Ok(())
+}
+
+/// Each row: a kind, and the body of its reply.
+const REPLIES: &[(u8, &[u8])] = &[
+    (b'R', b"\x01\0\0\0\0\0\0\0"),
+    (b'G', b"1;Port1 sound card;\0"),
+    (b'g', b"\0\xff\x32\x02\x3f\x0a\x04\0\x01\0\0\0"),
+    (b'y', b"\0\0\0\0"),
+];
+
+#[test]
+fn tells_of_itself(rt: HostRuntime) -> Result<(), Fail> {
+    for (kind, body) in REPLIES {
+        let mut desk = Desk::new(rt.alloc(), Params::default())?;
+        desk.ask(1, *kind, NOBODY, b"")?;
+        assert_told(&rt, &mut desk, *kind, NOBODY, body)?;
+    }
+    Ok(())
+}
+
+/// KISS sets TXDELAY, the persistence, the slot time and TXTAIL of port 0, and TXDELAY of port 1.
+const SETTINGS: &[u8] = b"\xc0\x01\x1e\xc0\x02\xff\xc0\x03\x05\xc0\x04\x07\xc0\x11\x63\xc0";
+
+#[test]
+fn tells_what_kiss_has_set(rt: HostRuntime) -> Result<(), Fail> {
+    let mut desk = Desk::new(rt.alloc(), Params::default())?;
+    desk.take(3, SETTINGS)?;
+    desk.ask(1, b'g', NOBODY, b"")?;
+    let body = b"\0\xff\x1e\x07\xff\x05\x04\0\x01\0\0\0";
+    assert_told(&rt, &mut desk, b'g', NOBODY, body)
+}
+
+/// Each row: a kind, how long the body is, and how many octets are sent, which are none or those of one frame.
+const SENT: &[(u8, usize, usize)] = &[
+    (b'K', 0, 0),
+    (b'K', 15, 0),
+    (b'K', 16, 15),
+    (b'M', 937, 953),
+    (b'M', 938, 0),
+    (b'V', 92, 0),
+];
+
+/// How many octets are sent for a message with so long a body.
+fn len_sent(alloc: Global, kind: u8, len: usize) -> Result<usize, Fail> {
+    let body = filled(alloc, 9, len)?;
+    let mut desk = Desk::new(alloc, Params::default())?;
+    desk.send_at_once()?;
+    desk.ask(1, kind, ENDS, &body)?;
+    Ok(desk.tick(700)?.len())
+}
+
+#[test]
+fn sends_frames_that_fit(rt: HostRuntime) -> Result<(), Fail> {
+    for (kind, len, want) in SENT {
+        let got = len_sent(rt.alloc(), *kind, *len)?;
+        assert_equal(&rt, &(*kind, *len, got), &(*kind, *len, *want));
+    }
+    Ok(())
+}
+
+/// Each row: a body with repeaters before its octets, and how many octets are sent.
+const BY_WAY: &[(&[u8], usize)] = &[(b"\x01WIDE1-1\0\0\0A", 24), (b"\x01WIDE1-16\0\0A", 0)];
+
+/// How many octets are sent by way of repeaters.
+fn len_by_way(desk: &mut Desk, body: &[u8]) -> Result<usize, Fail> {
+    desk.ask(1, b'V', ENDS, body)?;
+    Ok(desk.tick(40)?.len())
+}
+
+#[test]
+fn sends_by_way_of_repeaters(rt: HostRuntime) -> Result<(), Fail> {
+    let mut desk = Desk::new(rt.alloc(), Params::default())?;
+    desk.send_at_once()?;
+    for (body, want) in BY_WAY {
+        assert_equal(&rt, &len_by_way(&mut desk, body)?, want);
+    }
+    Ok(())
+}
+
+/// Each row: who asks, a kind, a call, and the body of the reply to X. Nothing answers x.
+const REGISTERED: &[(u32, u8, &str, &[u8])] = &[
+    (1, b'X', "AAAA", b"\x01"),
+    (1, b'X', "AAAA", b"\x01"),
+    (2, b'X', "AAAA", b"\0"),
+    (2, b'x', "AAAA", b""),
+    (2, b'X', "AAAA", b"\0"),
+    (1, b'x', "AAAA", b""),
+    (2, b'X', "AAAA", b"\x01"),
+    (1, b'X', "A-A", b"\0"),
+];
+
+#[test]
+fn a_call_is_registered_once(rt: HostRuntime) -> Result<(), Fail> {
+    let mut desk = Desk::new(rt.alloc(), Params::default())?;
+    for (id, kind, call, body) in REGISTERED {
+        desk.ask(*id, *kind, [*call, ""], b"")?;
+        if *kind == b'X' {
+            assert_told(&rt, &mut desk, *kind, [*call, ""], body)?;
+        }
+        assert_equal(&rt, &desk.told()?.len(), &0);
+    }
+    Ok(())
+}
+
+#[test]
+fn a_65th_connection_is_closed(rt: HostRuntime) -> Result<(), Fail> {
+    let mut desk = Desk::new(rt.alloc(), Params::default())?;
+    for id in 4..66 {
+        desk.join(id, PortKind::Kiss)?;
+    }
+    let got = (desk.out().closed.as_slice(), desk.count());
+    assert_equal(&rt, &got, &([65].as_slice(), 64));
+    Ok(())
+}
+
+/// A header that tells a body of 4097 octets.
+fn too_long(alloc: Global) -> Result<Vec<u8>, Fail> {
+    let mut octets = filled(alloc, 0, 28)?;
+    octets.extend_from_slice(b"\x01\x10\0\0\0\0\0\0\0")?;
+    Ok(octets)
+}
+
+#[test]
+fn too_long_a_body_closes(rt: HostRuntime) -> Result<(), Fail> {
+    let octets = too_long(rt.alloc())?;
+    let mut desk = Desk::new(rt.alloc(), Params::default())?;
+    desk.take(1, &octets)?;
+    let got = (desk.out().closed.as_slice(), desk.count());
+    assert_equal(&rt, &got, &([1].as_slice(), 2));
+    Ok(())
+}
+
+/// Connection 1 registers AAAA, and leaves in the middle of a message.
+fn come_and_go(desk: &mut Desk) -> Result<(), Fail> {
+    desk.register(1, "AAAA")?;
+    let begun = filled(desk.alloc(), 0, 20)?;
+    desk.take(1, &begun)?;
+    desk.leave(1)?;
+    desk.told()?;
+    Ok(())
+}
+
+#[test]
+fn a_call_is_free_once_its_connection_left(rt: HostRuntime) -> Result<(), Fail> {
+    let mut desk = Desk::new(rt.alloc(), Params::default())?;
+    come_and_go(&mut desk)?;
+    desk.register(2, "AAAA")?;
+    assert_told(&rt, &mut desk, b'X', ["AAAA", ""], b"\x01")
+}
+
+/// To how many connections a heard frame is shown, before connection 2 asks for raw frames, or for no more of them.
+fn shown_before(desk: &mut Desk) -> Result<usize, Fail> {
+    desk.hear(UA)?;
+    let count = desk.look().pieces.len();
+    desk.ask(2, b'k', NOBODY, b"")?;
+    Ok(count)
+}
+
+#[test]
+fn shows_raw_frames_until_asked_again(rt: HostRuntime) -> Result<(), Fail> {
+    let mut desk = Desk::new(rt.alloc(), Params::default())?;
+    for want in [1, 2, 1] {
+        assert_equal(&rt, &shown_before(&mut desk)?, &want);
+    }
+    Ok(())
+}
+
+/// Each row: who asks for the packets of which calls, and how many there are.
+const COUNTS: &[(u32, [&str; 2], u8)] = &[(1, ENDS, 3), (2, ENDS, 3), (1, BACK, 0)];
+
+#[test]
+fn counts_the_packets_of_two_calls(rt: HostRuntime) -> Result<(), Fail> {
+    let mut desk = behind_a_whole_call(rt.alloc())?;
+    desk.told()?;
+    for (id, ends, count) in COUNTS {
+        desk.ask(*id, b'Y', *ends, b"")?;
+        assert_told(&rt, &mut desk, b'Y', *ends, &[*count, 0, 0, 0])?;
+    }
+    Ok(())
+}
