@@ -2,8 +2,8 @@
 ghost use Rattle.std.specs.Prelude.{◌≤◌};
 ghost use Rattle.channel_bench.specs.Words.{AreInRange};
 
+use crate::assertions::assert_equal;
 use channel_bench::{BenchReport, BenchWords, bench};
-use station_tests::assert_equal;
 use std::test::Fail;
 
 fn words(seed: u64, octets: u32) -> BenchWords

@@ -2,8 +2,8 @@
 ghost use Rattle.std.specs.Prelude.{None};
 
 use super::outcome::words;
+use crate::assertions::assert_equal;
 use station::HostEvent;
-use station_tests::assert_equal;
 use std::alloc::Global;
 use std::net::Net;
 use std::sync::Wait;

@@ -2,9 +2,9 @@
 ghost use Rattle.hdlc_framer.specs.FrameLength.{HasFrameLength};
 
 use super::script::{Script, came};
+use crate::assertions::assert_equal;
 use link_machine::Params;
 use station::{Config, PortKind};
-use station_tests::assert_equal;
 use std::alloc::Global;
 use std::net::Net;
 use std::test::Fail;

@@ -1,7 +1,7 @@
 //! What waits for a connection is offered piece by piece.
 
 use super::script::Script;
-use station_tests::assert_equal;
+use crate::assertions::assert_equal;
 use std::alloc::Global;
 use std::net::Net;
 use std::test::Fail;

@@ -2,8 +2,8 @@
 ghost use Rattle.std.specs.Prelude.{◌≡◌, [], IfOk};
 ghost use Rattle.sample_ring.specs.Ends.{ring_id, writer_ring, reader_ring, published_by};
 
+use crate::assertions::assert_equal;
 use sample_ring::{Got, Reader, Ring, RingFault, Writer};
-use station_tests::assert_equal;
 use std::alloc::Global;
 use std::test::Fail;
 use tnc_base::MemSource;

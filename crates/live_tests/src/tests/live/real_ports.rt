@@ -1,7 +1,7 @@
 //! Sockets on loopback.
 
 use super::script::names;
-use station_tests::assert_equal;
+use crate::assertions::assert_equal;
 use std::io::{Read, Write};
 use std::net::{Ipv4Addr, SocketAddr, TcpListener, TcpStream};
 use std::test::Fail;

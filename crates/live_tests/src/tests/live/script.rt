@@ -1,7 +1,7 @@
 //! A script of events, and how sockets in memory give it.
 
+use crate::assertions::assert_equal;
 use station::{HostEvent, PortKind};
-use station_tests::assert_equal;
 use std::alloc::Global;
 use std::marker::Model;
 use std::net::Net;

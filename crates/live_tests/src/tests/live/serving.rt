@@ -2,9 +2,10 @@
 
 use super::outcome::{Failing, NONE, served, served_by, silence};
 use super::script::Script;
+use crate::assertions::assert_equal;
 use afsk_modulator::transmission;
 use station::PortKind;
-use station_tests::{assert_equal, message};
+use station_tests::message;
 use std::alloc::Global;
 use std::test::Fail;
 use tnc_base::{Octets, OutOfMemory};

@@ -1,6 +1,6 @@
 //! Two jobs, beside each other or one after the other.
 
-use station_tests::assert_equal;
+use crate::assertions::assert_equal;
 use std::net::Net;
 use std::sync::Wait;
 use std::thread::Threads;
