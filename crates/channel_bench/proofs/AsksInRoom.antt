@@ -14,7 +14,7 @@ use Rattle.channel_bench.specs.BenchSteps.{IsStep, IsTicking, IsTold}
 use Rattle.channel_bench.specs.BenchTick.{ArePartsMade, IsAsked, IsCalled, IsGiven, IsListening, IsPart, IsTick, Part}
 use Rattle.channel_bench.specs.BenchTick.{beginning, each_tick, is_complete, parts_of, with_asking, with_calling}
 use Rattle.channel_bench.specs.BenchTick.Part.{AsksOrCalls, Closes, Gives, Listens, Sounds, Tells, Ticks}
-use Rattle.channel_bench.specs.InFlight.Moment.{Passes}
+use Rattle.station_laws.specs.InFlight.Moment.{Passes}
 use Rattle.channel_bench.specs.Sounding.{passed_below, sounding, ticked}
 use Rattle.channel_bench.proofs.BenchSees.{Holds, reprogrammed}
 use Rattle.channel_bench.proofs.CoreRun.{IsUsualPart, beginning_usual, input_of, tick_usual}
@@ -22,7 +22,7 @@ use Rattle.channel_bench.proofs.CoreRun.Usual.{connects, disconnects}
 use Rattle.channel_bench.proofs.FindingRoom.{TakesCall}
 use Rattle.channel_bench.proofs.FindsNear.{FindingAt, at_end_finds, given_finds, heard_finds, knows_near, new_keyed}
 use Rattle.channel_bench.proofs.FindsNear.{passed, step_near, ticking_finds, told_finds}
-use Rattle.channel_bench.proofs.RoomForAsks.{AsksFindRoom}
+use Rattle.station_laws.proofs.RoomForAsks.{AsksFindRoom}
 use Rattle.channel_bench.proofs.RunOfParts.{IsCalm, parted}
 use Rattle.channel_bench.proofs.RunSees.{AllLead, Behind, Phase, Stands, behind_ticks, first_parts, later_parts}
 use Rattle.channel_bench.proofs.RunSees.{new_stands}

@@ -20,9 +20,9 @@ use Rattle.link_machine.specs.Step.{refusal_of, row, settle_in, settled, step}
 use Rattle.link_machine.specs.Ticks.{is_spent, lowered, retried, runs_out, t1_out, t2_out, t3_out, tick_in, tick_t1}
 use Rattle.link_machine.specs.Ticks.{tick_t1_of, tick_t2, tick_t2_of, tick_t3_of, with_t1, with_t2, with_t3}
 use Rattle.link_machine.specs.Turn.{Turn, begin, in_order, sending, setting}
-use Rattle.channel_bench.specs.LinkSteps.{LinkStep}
-use Rattle.channel_bench.specs.MatchedLaw.{AsksInRoom, DropsNoAsk, FindsRoom}
-use Rattle.channel_bench.proofs.Acts.{asks_when_sent}
+use Rattle.station_laws.specs.LinkSteps.{LinkStep}
+use Rattle.station_laws.specs.MatchedLaw.{AsksInRoom, DropsNoAsk, FindsRoom}
+use Rattle.station_laws.proofs.Acts.{asks_when_sent}
 
 -- a link is not up
 abbrev pub IsDown : LinkState → Type 0

@@ -23,12 +23,12 @@ use Rattle.channel_bench.specs.BenchSteps.{with_matched, with_stray}
 use Rattle.channel_bench.specs.BenchTick.{AcceptsProgram, IsAsked, IsAskedOrCalled, IsCalled, IsGiven, IsGivenPiece}
 use Rattle.channel_bench.specs.BenchTick.{IsListening, is_complete, with_asking, with_calling, with_giving}
 use Rattle.channel_bench.specs.HostProgram.{ProgramState, has_all, has_all_in, next_piece}
-use Rattle.channel_bench.specs.InFlight.{AreMatched, BothWays, LinkFrame, Moment, after_moment, after_moments}
-use Rattle.channel_bench.specs.InFlight.{nothing_sent, sent_by, steps_in}
-use Rattle.channel_bench.specs.InFlight.Moment.{Passes, Steps}
-use Rattle.channel_bench.specs.JointRun.{Step, Stations, state_of, with_state}
-use Rattle.channel_bench.specs.LinkSteps.{LinkStep}
-use Rattle.channel_bench.specs.SetUpsSeen.{link_steps_at}
+use Rattle.station_laws.specs.InFlight.{AreMatched, BothWays, LinkFrame, Moment, after_moment, after_moments}
+use Rattle.station_laws.specs.InFlight.{nothing_sent, sent_by, steps_in}
+use Rattle.station_laws.specs.InFlight.Moment.{Passes, Steps}
+use Rattle.station_laws.specs.JointRun.{Step, Stations, state_of, with_state}
+use Rattle.station_laws.specs.LinkSteps.{LinkStep}
+use Rattle.station_laws.specs.SetUpsSeen.{link_steps_at}
 use Rattle.channel_bench.specs.Sounding.{passed_below, sounding, ticked}
 use Rattle.channel_bench.specs.Words.{text_at}
 use Rattle.channel_bench.proofs.CoreRun.{Occurs, Usual, heard_calm, input_of, piece_short}
@@ -41,13 +41,13 @@ use Rattle.channel_bench.proofs.HostStreams.{IsWhole, new_stream}
 use Rattle.channel_bench.proofs.OwnLinks.{IsOwnPlace, OwnsAll}
 use Rattle.channel_bench.proofs.ProgramSees.{GaveAll, GaveAllIn}
 use Rattle.channel_bench.proofs.ProgramsAsk.{AskLittle, asks_kept}
-use Rattle.channel_bench.proofs.RoomForAsks.{AsksFindRoom}
+use Rattle.station_laws.proofs.RoomForAsks.{AsksFindRoom}
 use Rattle.channel_bench.proofs.RunOfParts.{IsCalm}
 use Rattle.channel_bench.proofs.SideSees.{SideSees}
 use Rattle.channel_bench.proofs.Sounded.{heard_as, sounded}
 use Rattle.channel_bench.proofs.StepSees.{IsReady, SeesAt, queue_of}
 use Rattle.channel_bench.proofs.ThereStays.{HasProgram, is_there}
-use Rattle.channel_bench.proofs.Ways.{queued_passed}
+use Rattle.station_laws.proofs.Ways.{queued_passed}
 
 -- ---- what holds of a bench
 

@@ -28,10 +28,10 @@ use Rattle.channel_bench.specs.BenchTick.Part.{Tells, Gives, AsksOrCalls, Ticks,
 use Rattle.channel_bench.specs.HostProgram.{connect_octets, data_octets, disconnect_octets, full_duplex_octets}
 use Rattle.channel_bench.specs.HostProgram.{most_octets, next_piece, register_octets}
 use Rattle.channel_bench.specs.declared.report.SetUp.{SetUp}
-use Rattle.channel_bench.specs.InFlight.{Moment}
-use Rattle.channel_bench.specs.InFlight.Moment.{Passes}
-use Rattle.channel_bench.specs.JointRun.{Input, Stations, state_of, with_state}
-use Rattle.channel_bench.specs.JointRun.Input.{FromHost, OffAir, OfClock}
+use Rattle.station_laws.specs.InFlight.{Moment}
+use Rattle.station_laws.specs.InFlight.Moment.{Passes}
+use Rattle.station_laws.specs.JointRun.{Input, Stations, state_of, with_state}
+use Rattle.station_laws.specs.JointRun.Input.{FromHost, OffAir, OfClock}
 use Rattle.channel_bench.specs.Sounding.{passed_below, sounding, ticked}
 use Rattle.channel_bench.specs.Words.{text_at}
 use Rattle.channel_bench.proofs.RunOfParts.{IsCalm, KeptBy, KeptInTicks}

@@ -31,10 +31,10 @@ use Rattle.station.specs.Turn.{Turn, begin, changing, closing}
 use Rattle.channel_bench.specs.BenchSteps.{program_id}
 use Rattle.channel_bench.specs.BenchTick.{kiss_id}
 use Rattle.channel_bench.specs.HostProgram.{call_at, request, request_between}
-use Rattle.channel_bench.specs.JointRun.{IsTurn}
-use Rattle.channel_bench.specs.LinkSteps.{LinkStep, tick_steps, turn_steps}
-use Rattle.channel_bench.specs.MatchedLaw.{AsksInRoom}
-use Rattle.channel_bench.proofs.Acts.{asks_when_sent}
+use Rattle.station_laws.specs.JointRun.{IsTurn}
+use Rattle.station_laws.specs.LinkSteps.{LinkStep, tick_steps, turn_steps}
+use Rattle.station_laws.specs.MatchedLaw.{AsksInRoom}
+use Rattle.station_laws.proofs.Acts.{asks_when_sent}
 use Rattle.channel_bench.proofs.AsksLittle.{disconnect_silent, drops_none, if_down, send_silent, sends_none}
 use Rattle.channel_bench.proofs.CoreRun.{Occurs, Usual, input_of}
 use Rattle.channel_bench.proofs.CoreRun.Usual.{connects, disconnects, gives, hears, joins_kiss, joins_program}
@@ -46,7 +46,7 @@ use Rattle.channel_bench.proofs.HostsStay.IsSet.{full, unheard as alone}
 use Rattle.channel_bench.proofs.KeyedHearing.{Hearing, IsHearing, heard_hears}
 use Rattle.channel_bench.proofs.KeyedSteps.{Finds, call_finds, data_keyed, disconnect_keyed, registering_keyed}
 use Rattle.channel_bench.proofs.KeyedSteps.{ticks_find}
-use Rattle.channel_bench.proofs.LinkDid.{IsOfLink}
+use Rattle.station_laws.proofs.LinkDid.{IsOfLink}
 use Rattle.channel_bench.proofs.OneKey.{HasKey, IsKeyed, Keyed}
 use Rattle.channel_bench.proofs.OwnLinks.{Cause, IsBy, IsUnshown, OwnsAll, cause_of, chosen}
 use Rattle.channel_bench.proofs.OwnLinks.Cause.{disconnecting, nothing, sending}

@@ -17,10 +17,10 @@ use Rattle.channel_bench.specs.BenchSteps.{AreHeardAt, GoesOn, IsHeardAs, IsHear
 use Rattle.channel_bench.specs.BenchSteps.{match_of, program_id, with_matched, with_stray}
 use Rattle.channel_bench.specs.BenchTick.{IsGiven, IsGivenPiece, with_giving}
 use Rattle.channel_bench.specs.HostProgram.{connect_octets, next_piece}
-use Rattle.channel_bench.specs.InFlight.{Moment, nothing_sent}
-use Rattle.channel_bench.specs.InFlight.Moment.{Passes}
-use Rattle.channel_bench.specs.JointRun.{Stations, with_state}
-use Rattle.channel_bench.specs.JointRun.Input.{FromHost}
+use Rattle.station_laws.specs.InFlight.{Moment, nothing_sent}
+use Rattle.station_laws.specs.InFlight.Moment.{Passes}
+use Rattle.station_laws.specs.JointRun.{Stations, with_state}
+use Rattle.station_laws.specs.JointRun.Input.{FromHost}
 use Rattle.channel_bench.specs.Words.{text_at}
 use Rattle.channel_bench.proofs.BenchSees.{Holds, HoldsNear, Premises, item_holds, matched_front, near_there}
 use Rattle.channel_bench.proofs.CoreRun.{IsToldUsual, Occurs, Usual, heard_calm, input_of, piece_short, state_there}
@@ -30,7 +30,7 @@ use Rattle.channel_bench.proofs.CoreRun.Usual.{registers, sets_full, ticks}
 use Rattle.channel_bench.proofs.FindingRoom.{TakesCall}
 use Rattle.channel_bench.proofs.NotedRun.{steps_passed}
 use Rattle.channel_bench.proofs.OneKey.{IsKeyed}
-use Rattle.channel_bench.proofs.RoomForAsks.{AsksFindRoom}
+use Rattle.station_laws.proofs.RoomForAsks.{AsksFindRoom}
 use Rattle.channel_bench.proofs.RunOfParts.{IsCalm}
 use Rattle.channel_bench.proofs.StepFinds.{Finding, Knows, finding_step}
 

@@ -9,8 +9,8 @@ use Rattle.channel_bench.specs.declared.flight.Flags.{Flags}
 use Rattle.channel_bench.specs.declared.flight.OneWay.{OneWay as HeldOneWay}
 use Rattle.channel_bench.specs.BenchSteps.{count_of, first_unquiet}
 use Rattle.channel_bench.specs.HeldBench.{flags_of, StandsForWay}
-use Rattle.channel_bench.specs.InFlight.{LinkFrame, OneWay, BothWays, Moment, in_flight, is_quiet_at, queueing_at}
-use Rattle.channel_bench.specs.InFlight.{queueing_all, after_moment, after_moments}
+use Rattle.station_laws.specs.InFlight.{OneWay, BothWays, Moment, in_flight, is_quiet_at, queueing_at}
+use Rattle.station_laws.specs.InFlight.{queueing_all, after_moment, after_moments}
 
 list_any-map : {X Y : Type 0} (p : Y → Bool) (f : X → Y) (xs : List X)
     → list_any p (map f xs) ≡ list_any (λ x. p (f x)) xs
@@ -25,12 +25,6 @@ in_flight_any p held way h =
     ∙ ap (λ xs. list_any p (drop way.front xs)) h.queued
     ∙ ap (list_any p) (drop-map flags_of way.front way.queued)
     ∙ list_any-map p flags_of (drop way.front way.queued)
-
--- a frame more
-pub queued_more : (was now : List Flags) (way : OneWay) (frame : LinkFrame) → was ≡ map flags_of way.queued
-    → now ≡ was ++ flags_of frame ∷ [] → now ≡ map flags_of (way.queued ++ frame ∷ [])
-queued_more was now way frame h more =
-    more ∙ ap (λ xs. xs ++ flags_of frame ∷ []) h ∙ sym (map-append flags_of way.queued (frame ∷ []))
 
 -- ---- moments
 

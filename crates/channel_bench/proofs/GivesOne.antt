@@ -31,18 +31,18 @@ use Rattle.station.specs.State.{Accepts, HoldsFew, StationState, most_held}
 use Rattle.station.specs.Turn.{Turn, begin}
 use Rattle.channel_bench.specs.BenchSteps.{program_id}
 use Rattle.channel_bench.specs.HostProgram.{call_at, most_octets, request_between}
-use Rattle.channel_bench.specs.JointRun.{IsTurn}
-use Rattle.channel_bench.specs.LinkSteps.{Choice, LinkStep, data_steps, link_step, sends_at, steps_along, steps_for}
-use Rattle.channel_bench.specs.LinkSteps.{turn_steps}
-use Rattle.channel_bench.specs.StationsLaw.{first_chosen}
+use Rattle.station_laws.specs.JointRun.{IsTurn}
+use Rattle.station_laws.specs.LinkSteps.{Choice, LinkStep, data_steps, link_step, sends_at, steps_along, steps_for}
+use Rattle.station_laws.specs.LinkSteps.{turn_steps}
+use Rattle.station_laws.specs.StationsLaw.{first_chosen}
 use Rattle.channel_bench.proofs.CoreRun.{input_of}
 use Rattle.channel_bench.proofs.CoreRun.Usual.{gives}
 use Rattle.channel_bench.proofs.HostsStay.{HasHosts}
 use Rattle.channel_bench.proofs.OwnLinks.{IsOwn, IsOwnPlace, OwnsAll, chosen}
 use Rattle.channel_bench.proofs.OwnMessages.{called, said_go}
 use Rattle.channel_bench.proofs.ProgramsAsk.{between_written}
-use Rattle.channel_bench.proofs.Tables.{each_get, none_chosen, not_both}
-use Rattle.channel_bench.proofs.ValidCalls.{at_position, none_by_position}
+use Rattle.station_laws.proofs.Tables.{each_get, none_chosen, not_both}
+use Rattle.station_laws.proofs.ValidCalls.{at_position, none_by_position}
 
 -- ---- one packet
 

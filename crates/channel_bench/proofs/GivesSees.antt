@@ -23,24 +23,24 @@ use Rattle.channel_bench.specs.BenchState.{Near, SideState}
 use Rattle.channel_bench.specs.BenchSteps.{IsStep, program_id, there_after}
 use Rattle.channel_bench.specs.BenchTick.{AcceptsProgram, with_giving}
 use Rattle.channel_bench.specs.HostProgram.{giving, most_octets, next_piece, told_all}
-use Rattle.channel_bench.specs.InFlight.{Moment, hears_ask}
-use Rattle.channel_bench.specs.InFlight.Moment.{Steps}
-use Rattle.channel_bench.specs.JointRun.{Stations, state_of, with_state}
-use Rattle.channel_bench.specs.LinkSteps.{LinkStep, steps_of}
-use Rattle.channel_bench.specs.LinksTell.{AreToldInOne, RunsIn}
-use Rattle.channel_bench.specs.RunsTell.{runs_behind, told_in}
-use Rattle.channel_bench.specs.SetUpsSeen.{IsGivenWhileUp, seen_by_all}
-use Rattle.channel_bench.specs.StationsLaw.{IsMachineOf, first_chosen}
+use Rattle.station_laws.specs.InFlight.{Moment, hears_ask}
+use Rattle.station_laws.specs.InFlight.Moment.{Steps}
+use Rattle.station_laws.specs.JointRun.{Stations, state_of, with_state}
+use Rattle.station_laws.specs.LinkSteps.{LinkStep, steps_of}
+use Rattle.station_laws.specs.LinksTell.{AreToldInOne, RunsIn}
+use Rattle.station_laws.specs.RunsTell.{runs_behind, told_in}
+use Rattle.station_laws.specs.SetUpsSeen.{IsGivenWhileUp, seen_by_all}
+use Rattle.station_laws.specs.StationsLaw.{IsMachineOf, first_chosen}
 use Rattle.channel_bench.specs.Words.{text_at, text_of}
 use Rattle.channel_access.specs.Words.{words, after_word, generator_of}
-use Rattle.channel_bench.proofs.Chains.{IsChain, StandsAsked, asked_append, asked_behind, behind_append, called_append}
-use Rattle.channel_bench.proofs.Chains.{called_behind, chain_parts, last_machine, made_by}
+use Rattle.station_laws.proofs.Chains.{IsChain, StandsAsked, asked_append, asked_behind, behind_append, called_append}
+use Rattle.station_laws.proofs.Chains.{called_behind, chain_parts, last_machine, made_by}
 use Rattle.channel_bench.proofs.CoreRun.{input_of}
 use Rattle.channel_bench.proofs.CoreRun.Usual.{gives}
-use Rattle.channel_bench.proofs.Framed.{framed}
+use Rattle.station_laws.proofs.Framed.{framed}
 use Rattle.channel_bench.proofs.GivesOne.{GivesOne, gives_one, taken}
 use Rattle.channel_bench.proofs.HostsStay.{HasHosts}
-use Rattle.channel_bench.proofs.LinkDid.{is_connect, is_disconnect}
+use Rattle.station_laws.proofs.LinkDid.{is_connect, is_disconnect}
 use Rattle.channel_bench.proofs.LinkNow.{GivenUp, Known, LinkNow, first_machine, link_chain, link_now, links_of}
 use Rattle.channel_bench.proofs.NextSees.{BothSee, noted_step, own_events, own_queue}
 use Rattle.channel_bench.proofs.OwnLinks.{chosen, messages_of}

@@ -15,7 +15,7 @@ use Rattle.link_world.specs.SetUps.{SetUp as LinkSetUp}
 use Rattle.channel_bench.specs.declared.report.SetUp.{SetUp}
 use Rattle.channel_bench.specs.BenchOrder.{octets_in, set_up_of}
 use Rattle.channel_bench.specs.KeepsOrder.{AreGotFrom, GotInOrder, IsGotFrom, got_octets, has_octets}
-use Rattle.channel_bench.specs.SetUpsSeen.{as_seen}
+use Rattle.station_laws.specs.SetUpsSeen.{as_seen}
 
 -- ---- numbers that rise
 

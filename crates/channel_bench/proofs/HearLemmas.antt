@@ -18,7 +18,7 @@ use Rattle.channel_bench.specs.BenchState.{SideState, Near}
 use Rattle.channel_bench.specs.BenchSteps.{GoesOn, IsStep, IsHeardAs, IsHeardAt, AreHeardAt, is_match, match_of}
 use Rattle.channel_bench.specs.BenchSteps.{told_piece, told_pieces, with_matched, with_stray}
 use Rattle.channel_bench.specs.HeldBench.{StandsForCommon, StandsForNear}
-use Rattle.channel_bench.specs.JointRun.Input.{OffAir}
+use Rattle.station_laws.specs.JointRun.Input.{OffAir}
 use Rattle.channel_bench.specs.HostProgram.{ProgramState, told, told_all}
 
 told_pieces_push : (pieces : List Piece) (piece : Piece) (side : SideState)

@@ -13,8 +13,8 @@ use Rattle.channel_bench.specs.declared.side.Side.{Side}
 use Rattle.channel_bench.specs.BenchState.{SideState, Near, ways_of}
 use Rattle.channel_bench.specs.BenchSteps.{IsStep, first_unquiet, told_pieces, trouble_of, with_matched}
 use Rattle.channel_bench.specs.HeldBench.{EarStandsFor, StandsForSide, StandsForNear, StandsForWays}
-use Rattle.channel_bench.specs.InFlight.{BothWays, hearing_at, is_ask, queueing_all}
-use Rattle.channel_bench.specs.JointRun.Input.{OffAir}
+use Rattle.station_laws.specs.InFlight.{BothWays, hearing_at, is_ask, queueing_all}
+use Rattle.station_laws.specs.JointRun.Input.{OffAir}
 use Rattle.channel_bench.proofs.HostSteps.{settles}
 use Rattle.channel_bench.proofs.SideLemmas.{HasSettled, heard_made}
 

@@ -16,11 +16,11 @@ use Rattle.link_machine.specs.Frames.{answer_dm, hear_calling_in, hear_in, hear_
 use Rattle.link_machine.specs.Machine.{Machine, is_wide}
 use Rattle.link_machine.specs.Step.{refusal_of, row, settled, step}
 use Rattle.link_machine.specs.Turn.{Turn, begin}
-use Rattle.channel_bench.proofs.Acts.{asks_when_sent}
+use Rattle.station_laws.proofs.Acts.{asks_when_sent}
 use Rattle.channel_bench.proofs.AsksLittle.{IsDown, settled_down}
-use Rattle.channel_bench.proofs.Calm.{CalmTurn, IsCalmState, calm_step, settled_keeps}
-use Rattle.channel_bench.proofs.Chains.{StandsAsked}
-use Rattle.channel_bench.proofs.LinkKinds.{IsLinkKind}
+use Rattle.station_laws.proofs.Calm.{CalmTurn, IsCalmState, calm_step, settled_keeps}
+use Rattle.station_laws.proofs.Chains.{StandsAsked}
+use Rattle.station_laws.proofs.LinkKinds.{IsLinkKind}
 
 -- an idle link, and one that calls, does not wish to disconnect
 abbrev pub WishesNothing : LinkState → Bool → Type 0

@@ -13,8 +13,8 @@ use Rattle.channel_bench.specs.declared.side.Side.{Side}
 use Rattle.channel_bench.specs.BenchState.{SideState, Near, ways_of}
 use Rattle.channel_bench.specs.BenchSteps.{IsStep, first_unquiet, told_pieces, trouble_of}
 use Rattle.channel_bench.specs.HeldBench.{StandsForSide, StandsForNear, StandsForWays}
-use Rattle.channel_bench.specs.InFlight.{BothWays, queueing_all}
-use Rattle.channel_bench.specs.JointRun.Input.{FromHost, OfClock}
+use Rattle.station_laws.specs.InFlight.{BothWays, queueing_all}
+use Rattle.station_laws.specs.JointRun.Input.{FromHost, OfClock}
 use Rattle.channel_bench.proofs.SideLemmas.{HasSettled, IsSameBesides, host_made, stands_with, tick_made}
 
 -- what a station's frames come to, from the clauses of the call that tells of them

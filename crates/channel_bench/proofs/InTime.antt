@@ -19,20 +19,20 @@ use Rattle.station.specs.Ticks.{air_of}
 use Rattle.channel_bench.specs.declared.matching.SentAt.{SentAt}
 use Rattle.channel_bench.specs.BenchState.{Near, SideState}
 use Rattle.channel_bench.specs.BenchSteps.{IsStep, distance, program_id, told_octets, told_piece, told_pieces}
-use Rattle.channel_bench.specs.InFlight.{Moment, AreMatched, BothWays, IsInFlight, IsMatched, IsMatchedIn, LinkFrame}
-use Rattle.channel_bench.specs.InFlight.{OneWay, after_moment, after_moments, hears_ask, hearing_at, nothing_sent}
-use Rattle.channel_bench.specs.InFlight.{sent_by, steps_in}
-use Rattle.channel_bench.specs.InFlight.Moment.{Steps, Passes}
-use Rattle.channel_bench.specs.JointRun.{Input, Step, at_end, queued_at}
-use Rattle.channel_bench.specs.JointRun.Input.{OffAir, OfClock}
+use Rattle.station_laws.specs.InFlight.{Moment, AreMatched, BothWays, IsInFlight, IsMatched, IsMatchedIn, LinkFrame}
+use Rattle.station_laws.specs.InFlight.{OneWay, after_moment, after_moments, hears_ask, hearing_at, nothing_sent}
+use Rattle.station_laws.specs.InFlight.{sent_by, steps_in}
+use Rattle.station_laws.specs.InFlight.Moment.{Steps, Passes}
+use Rattle.station_laws.specs.JointRun.{Input, Step, at_end, queued_at}
+use Rattle.station_laws.specs.JointRun.Input.{OffAir, OfClock}
 use Rattle.channel_bench.specs.Sounding.{sent_in}
 use Rattle.channel_bench.proofs.ChannelOrder.{octets_of, sent_octets}
-use Rattle.channel_bench.proofs.Framed.{framed, octets_framed, octets_in}
+use Rattle.station_laws.proofs.Framed.{framed, octets_framed, octets_in}
 use Rattle.channel_bench.proofs.NotedRun.{moments_more, steps_more}
 use Rattle.channel_bench.proofs.SentInOrder.{InOrder, sent_at, sent_in_step, sent_more}
 use Rattle.channel_bench.proofs.TowardsLemmas.{IsMatchAt, Rising, counted_within, has_passed, octets_at, passed_counted}
 use Rattle.channel_bench.proofs.TowardsLemmas.{rising_later, rising_more, still_there}
-use Rattle.channel_bench.proofs.Ways.{hearing_one, hearing_none, queued_by, queued_passed, stepped_other, stepped_own}
+use Rattle.station_laws.proofs.Ways.{hearing_one, hearing_none, queued_by, queued_passed, stepped_other, stepped_own}
 
 -- ---- the frames that links have queued, in a run with its matches
 

@@ -23,8 +23,8 @@ use Rattle.station.specs.Registrations.{registrar}
 use Rattle.station.specs.State.{StationState}
 use Rattle.station.specs.Turn.{Turn, in_order}
 use Rattle.channel_bench.specs.HostProgram.{call_at}
-use Rattle.channel_bench.specs.LinkSteps.{LinkStep, anew_steps, by_path_steps, heard_steps, hears_at, key_steps}
-use Rattle.channel_bench.specs.LinkSteps.{link_step, new_steps, path_steps, reading_steps, steps_at, steps_for}
+use Rattle.station_laws.specs.LinkSteps.{LinkStep, anew_steps, by_path_steps, heard_steps, hears_at, key_steps}
+use Rattle.station_laws.specs.LinkSteps.{link_step, new_steps, path_steps, reading_steps, steps_at, steps_for}
 use Rattle.channel_bench.proofs.KeyedSteps.{none_there}
 use Rattle.channel_bench.proofs.OneKey.{HasNoLinks, Keyed, event_keyed, made_keyed}
 use Rattle.channel_bench.proofs.OwnLinks.{IsFromPartner, OwnsAll, chosen}

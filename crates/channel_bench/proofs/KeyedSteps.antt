@@ -29,17 +29,17 @@ use Rattle.station.specs.Ticks.{ticking_at, waits}
 use Rattle.station.specs.Turn.{Act, Turn, capacity, changing, in_order}
 use Rattle.channel_bench.specs.BenchSteps.{program_id}
 use Rattle.channel_bench.specs.HostProgram.{call_at}
-use Rattle.channel_bench.specs.LinkSteps.{LinkStep, call_steps, link_step, made_steps, steps_along, steps_at, steps_for}
-use Rattle.channel_bench.specs.LinkSteps.{ticks_at}
-use Rattle.channel_bench.specs.MatchedLaw.{AsksInRoom, DropsNoAsk}
-use Rattle.channel_bench.proofs.Acts.{asks_when_sent}
+use Rattle.station_laws.specs.LinkSteps.{LinkStep, call_steps, link_step, made_steps, steps_along, steps_at, steps_for}
+use Rattle.station_laws.specs.LinkSteps.{ticks_at}
+use Rattle.station_laws.specs.MatchedLaw.{AsksInRoom, DropsNoAsk}
+use Rattle.station_laws.proofs.Acts.{asks_when_sent}
 use Rattle.channel_bench.proofs.AsksLittle.{connect_few, if_down, sends_none, tick_sends}
 use Rattle.channel_bench.proofs.OneKey.{HasNoLinks, Keyed, all_enter, empty_queue, event_keyed, made_keyed}
 use Rattle.channel_bench.proofs.OwnLinks.{IsOwn, IsOwnPlace, OwnsAll, chosen}
-use Rattle.channel_bench.proofs.Queues.{told_silent}
-use Rattle.channel_bench.proofs.Standing.{calls_chosen}
-use Rattle.channel_bench.proofs.Tables.{each_get, none_at, not_both}
-use Rattle.channel_bench.proofs.ValidCalls.{none_by_position}
+use Rattle.station_laws.proofs.Queues.{told_silent}
+use Rattle.station_laws.proofs.Standing.{calls_chosen}
+use Rattle.station_laws.proofs.Tables.{each_get, none_at, not_both}
+use Rattle.station_laws.proofs.ValidCalls.{none_by_position}
 
 -- ---- frames that find room
 

@@ -10,28 +10,28 @@ use Rattle.link_world.proofs.law.ChangesLaw.{changes_law_holds}
 use Rattle.channel_bench.specs.declared.words.BenchWords.{BenchWords}
 use Rattle.channel_bench.specs.BenchOrder.{IsNoted, first_stations, the_calls}
 use Rattle.channel_bench.specs.BenchState.{config_of, params_of}
-use Rattle.channel_bench.specs.CallerLaw.{BAsksNothing}
-use Rattle.channel_bench.specs.InFlight.{AreMatched, Moment, nothing_sent, steps_in}
-use Rattle.channel_bench.specs.JointRun.{Step, Stations, all_stepped, state_of}
-use Rattle.channel_bench.specs.LinkOfCalls.{first_world, link_at_end, world_of}
-use Rattle.channel_bench.specs.LinkSteps.{LinkStep, steps_of}
-use Rattle.channel_bench.specs.LinksTell.{RunsIn}
-use Rattle.channel_bench.specs.MatchedLaw.{IsEventOfCaller, OnlyACalls, pairs_in}
-use Rattle.channel_bench.specs.RunsTell.{AllToldInOne, runs_behind}
-use Rattle.channel_bench.specs.SetUpsSeen.{IsGivenWhileUp, link_steps_at, set_ups_seen}
-use Rattle.channel_bench.specs.StationsLaw.{IsMachineOf, LinkKeepsOrder, first_chosen}
+use Rattle.station_laws.specs.CallerLaw.{BAsksNothing}
+use Rattle.station_laws.specs.InFlight.{AreMatched, Moment, nothing_sent, steps_in}
+use Rattle.station_laws.specs.JointRun.{Step, Stations, all_stepped, state_of}
+use Rattle.station_laws.specs.LinkOfCalls.{first_world, link_at_end, world_of}
+use Rattle.station_laws.specs.LinkSteps.{LinkStep, steps_of}
+use Rattle.station_laws.specs.LinksTell.{RunsIn}
+use Rattle.station_laws.specs.MatchedLaw.{IsEventOfCaller, OnlyACalls, pairs_in}
+use Rattle.station_laws.specs.RunsTell.{AllToldInOne, runs_behind}
+use Rattle.station_laws.specs.SetUpsSeen.{IsGivenWhileUp, link_steps_at, set_ups_seen}
+use Rattle.station_laws.specs.StationsLaw.{IsMachineOf, LinkKeepsOrder, first_chosen}
 use Rattle.channel_bench.specs.Words.{seed_at}
-use Rattle.channel_bench.proofs.CallerLaws.{events_by}
-use Rattle.channel_bench.proofs.ChainRun.{BIsPassive, EndAsks, RunChain, run_chained}
-use Rattle.channel_bench.proofs.Chains.{AsksInSetUp, HearsWell, IsChain, StandsAsked, StandsCalled, asked_behind}
-use Rattle.channel_bench.proofs.Chains.{called_behind, chain_asked, chain_called, chain_tells, last_machine}
-use Rattle.channel_bench.proofs.LinkTells.{none_idle}
-use Rattle.channel_bench.proofs.MatchedLaws.{matched_law_holds}
-use Rattle.channel_bench.proofs.MatchedOrder.{matched_in_order_holds}
+use Rattle.station_laws.proofs.CallerLaws.{events_by}
+use Rattle.station_laws.proofs.ChainRun.{BIsPassive, EndAsks, RunChain, run_chained}
+use Rattle.station_laws.proofs.Chains.{AsksInSetUp, HearsWell, IsChain, StandsAsked, StandsCalled, asked_behind}
+use Rattle.station_laws.proofs.Chains.{called_behind, chain_asked, chain_called, chain_tells, last_machine}
+use Rattle.station_laws.proofs.LinkTells.{none_idle}
+use Rattle.station_laws.proofs.MatchedLaws.{matched_law_holds}
+use Rattle.station_laws.proofs.MatchedOrder.{matched_in_order_holds}
 use Rattle.channel_bench.proofs.OwnLinks.{chosen}
 use Rattle.channel_bench.proofs.ProgramsAsk.{AskLittle}
-use Rattle.channel_bench.proofs.RoomForAsks.{AsksFindRoom, AsksFindRoomAt}
-use Rattle.channel_bench.proofs.SeenLemmas.{set_ups_law_holds}
+use Rattle.station_laws.proofs.RoomForAsks.{AsksFindRoom, AsksFindRoomAt}
+use Rattle.station_laws.proofs.SeenLemmas.{set_ups_law_holds}
 use Rattle.channel_bench.proofs.Shorts.{GivenShort, GotShort, ShortStep, got_short, steps_given}
 
 -- what is known of a run at a moment

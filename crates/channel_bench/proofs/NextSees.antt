@@ -13,20 +13,20 @@ use Rattle.channel_bench.specs.declared.words.BenchWords.{BenchWords}
 use Rattle.channel_bench.specs.BenchState.{Near, SideState}
 use Rattle.channel_bench.specs.BenchSteps.{IsStep, there_after}
 use Rattle.channel_bench.specs.HostProgram.{ProgramState, told_all}
-use Rattle.channel_bench.specs.InFlight.{Moment, after_moments, hears_ask, nothing_sent, sent_by}
-use Rattle.channel_bench.specs.InFlight.Moment.{Steps}
-use Rattle.channel_bench.specs.JointRun.{IsTurn, Step, Stations, at_end, state_of, with_state}
-use Rattle.channel_bench.specs.LinkSteps.{LinkStep, steps_of, turn_steps}
-use Rattle.channel_bench.specs.LinksTell.{RunsIn}
-use Rattle.channel_bench.specs.RunsTell.{runs_behind}
-use Rattle.channel_bench.specs.SetUpsSeen.{seen_by_all}
-use Rattle.channel_bench.proofs.Chains.{IsChain, asked_behind, behind_append, called_behind, chain_parts, last_machine}
+use Rattle.station_laws.specs.InFlight.{Moment, after_moments, hears_ask, nothing_sent, sent_by}
+use Rattle.station_laws.specs.InFlight.Moment.{Steps}
+use Rattle.station_laws.specs.JointRun.{IsTurn, Step, Stations, at_end, state_of, with_state}
+use Rattle.station_laws.specs.LinkSteps.{LinkStep, steps_of, turn_steps}
+use Rattle.station_laws.specs.LinksTell.{RunsIn}
+use Rattle.station_laws.specs.RunsTell.{runs_behind}
+use Rattle.station_laws.specs.SetUpsSeen.{seen_by_all}
+use Rattle.station_laws.proofs.Chains.{IsChain, asked_behind, behind_append, called_behind, chain_parts, last_machine}
 use Rattle.channel_bench.proofs.CoreRun.{Occurs, Usual, input_of}
 use Rattle.channel_bench.proofs.CoreRun.Usual.{connects, disconnects, gives, hears, joins_kiss, joins_program}
 use Rattle.channel_bench.proofs.CoreRun.Usual.{registers, sets_full, ticks}
-use Rattle.channel_bench.proofs.Framed.{framed}
+use Rattle.station_laws.proofs.Framed.{framed}
 use Rattle.channel_bench.proofs.HostsStay.{HasHosts}
-use Rattle.channel_bench.proofs.LinkDid.{is_connect, is_disconnect}
+use Rattle.station_laws.proofs.LinkDid.{is_connect, is_disconnect}
 use Rattle.channel_bench.proofs.LinkNow.{GivenUp, Known, LinkNow, first_machine, link_chain, link_now, links_of}
 use Rattle.channel_bench.proofs.OwnLinks.{Cause, IsBy, chosen, messages_of}
 use Rattle.channel_bench.proofs.OwnLinks.Cause.{connecting, disconnecting, nothing, others, sending}

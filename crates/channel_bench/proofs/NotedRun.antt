@@ -7,13 +7,13 @@ use Rattle.channel_bench.specs.declared.words.BenchWords.{BenchWords}
 use Rattle.channel_bench.specs.BenchOrder.{IsNoted, first_stations}
 use Rattle.channel_bench.specs.BenchState.{Near}
 use Rattle.channel_bench.specs.BenchSteps.{IsStep, first_unquiet, trouble_of, count_of}
-use Rattle.channel_bench.specs.InFlight.{Moment, BothWays, AreQuietAt, AreQuietThrough, IsQuietIn, after_moment}
-use Rattle.channel_bench.specs.InFlight.{after_moments, hears_ask, hearing_at, is_quiet_at, nothing_sent, queueing_at}
-use Rattle.channel_bench.specs.InFlight.{steps_in}
-use Rattle.channel_bench.specs.InFlight.Moment.{Steps, Passes}
-use Rattle.channel_bench.specs.JointRun.{Input, Step, Stations, IsJointRun, all_stepped, state_of, stepped, with_state}
+use Rattle.station_laws.specs.InFlight.{Moment, BothWays, AreQuietAt, AreQuietThrough, IsQuietIn, after_moment}
+use Rattle.station_laws.specs.InFlight.{after_moments, hears_ask, hearing_at, is_quiet_at, nothing_sent, queueing_at}
+use Rattle.station_laws.specs.InFlight.{steps_in}
+use Rattle.station_laws.specs.InFlight.Moment.{Steps, Passes}
+use Rattle.station_laws.specs.JointRun.{Input, Step, Stations, IsJointRun, all_stepped, state_of, stepped, with_state}
 use Rattle.channel_bench.proofs.CoreRun.{KeptByCore, input_of, told_station}
-use Rattle.channel_bench.proofs.Growing.{all_stepped_more, joint_more}
+use Rattle.station_laws.proofs.Growing.{all_stepped_more, joint_more}
 
 -- ---- moments
 

@@ -22,7 +22,7 @@ use Rattle.station.specs.Registrations.{is_number}
 use Rattle.station.specs.State.{StationState}
 use Rattle.station.specs.Ticks.{waits}
 use Rattle.station.specs.Turn.{Turn, capacity, changing, dropping, entering, queueing}
-use Rattle.channel_bench.proofs.Queues.{link_stepped, octets_of}
+use Rattle.station_laws.proofs.Queues.{link_stepped, octets_of}
 
 -- ---- what is so
 

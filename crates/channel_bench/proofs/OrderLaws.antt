@@ -14,27 +14,27 @@ use Rattle.channel_bench.specs.BenchOrder.{IsNoted, set_up_of, stations_of, step
 use Rattle.channel_bench.specs.BenchState.{BenchState, config_of}
 use Rattle.channel_bench.specs.HostProgram.{ProgramState, set_ups_of}
 use Rattle.channel_bench.specs.KeepsOrder.{GotInOrder, KeepsOrder}
-use Rattle.channel_bench.specs.InFlight.{AreMatched, nothing_sent}
+use Rattle.station_laws.specs.InFlight.{AreMatched, nothing_sent}
 use Rattle.channel_bench.specs.Report.{Report}
 use Rattle.channel_bench.specs.BenchRun.{IsOver}
-use Rattle.channel_bench.specs.LinkOfCalls.{world_of}
-use Rattle.channel_bench.specs.MatchedLaw.{pairs_in}
-use Rattle.channel_bench.specs.SetUpsSeen.{Seen, as_seen, set_ups_seen}
+use Rattle.station_laws.specs.LinkOfCalls.{world_of}
+use Rattle.station_laws.specs.MatchedLaw.{pairs_in}
+use Rattle.station_laws.specs.SetUpsSeen.{Seen, as_seen, set_ups_seen}
 use Rattle.channel_bench.specs.Words.{seed_at}
 use Rattle.channel_bench.proofs.AsksInRoom.{asks_find_room}
 use Rattle.channel_bench.proofs.CoreRun.{core_kept}
 use Rattle.channel_bench.proofs.LinkNow.{GivenUp, links_of, only_a_calls, windows}
 use Rattle.channel_bench.proofs.GotOctets.{octets_in_order, seen_as}
-use Rattle.channel_bench.proofs.MatchedLaws.{matched_law_holds}
-use Rattle.channel_bench.proofs.MatchedOrder.{matched_in_order_holds}
+use Rattle.station_laws.proofs.MatchedLaws.{matched_law_holds}
+use Rattle.station_laws.proofs.MatchedOrder.{matched_in_order_holds}
 use Rattle.channel_bench.proofs.NotedRun.{noted_kept}
 use Rattle.channel_bench.proofs.ProgramsAsk.{AskLittle, asks_kept}
-use Rattle.channel_bench.proofs.RoomForAsks.{AsksFindRoom}
+use Rattle.station_laws.proofs.RoomForAsks.{AsksFindRoom}
 use Rattle.channel_bench.proofs.RunOfParts.{ticks_keep}
 use Rattle.channel_bench.proofs.RunSees.{run_sees}
 use Rattle.channel_bench.proofs.StepSees.{both_ends}
 use Rattle.channel_bench.proofs.TimedRun.{run_in_time}
-use Rattle.channel_bench.proofs.SeenLemmas.{set_ups_law_holds}
+use Rattle.station_laws.proofs.SeenLemmas.{set_ups_law_holds}
 
 -- the set-ups of an end, as its host program saw them
 both_maps : (set_ups : List LinkSetUp) → map set_up_of (map as_seen set_ups) ≡ map seen_as set_ups

@@ -53,19 +53,19 @@ use Rattle.station.specs.Turn.{Act, Turn, capacity, changing, dropping, entering
 use Rattle.channel_bench.specs.BenchOrder.{the_calls}
 use Rattle.channel_bench.specs.BenchSteps.{program_id}
 use Rattle.channel_bench.specs.HostProgram.{call_at}
-use Rattle.channel_bench.specs.LinkOfCalls.{link_at_end}
-use Rattle.channel_bench.specs.LinkSteps.{Choice, LinkStep, anew_steps, by_path_steps, heard_steps, hears_at, key_steps}
-use Rattle.channel_bench.specs.LinkSteps.{link_step, new_steps, path_steps, reading_steps, steps_along, steps_at}
-use Rattle.channel_bench.specs.LinkSteps.{steps_for, tick_steps, ticks_at}
-use Rattle.channel_bench.specs.Owners.{pieces_to}
-use Rattle.channel_bench.specs.RunsTell.{told_in}
-use Rattle.channel_bench.proofs.Addresses.{IsGoodPath, frame_spelled}
-use Rattle.channel_bench.proofs.OwnerLemmas.{owners_are_told}
-use Rattle.channel_bench.proofs.PathStays.{step_stays}
-use Rattle.channel_bench.proofs.Queues.{link_stepped, octets_of}
-use Rattle.channel_bench.proofs.Standing.{calls_chosen}
-use Rattle.channel_bench.proofs.Tables.{each_get, each_set}
-use Rattle.channel_bench.proofs.ValidCalls.{heard_good}
+use Rattle.station_laws.specs.LinkOfCalls.{link_at_end}
+use Rattle.station_laws.specs.LinkSteps.{Choice, LinkStep, anew_steps, by_path_steps, heard_steps, hears_at, key_steps}
+use Rattle.station_laws.specs.LinkSteps.{link_step, new_steps, path_steps, reading_steps, steps_along, steps_at}
+use Rattle.station_laws.specs.LinkSteps.{steps_for, tick_steps, ticks_at}
+use Rattle.station_laws.specs.Owners.{pieces_to}
+use Rattle.station_laws.specs.RunsTell.{told_in}
+use Rattle.station_laws.proofs.Addresses.{IsGoodPath, frame_spelled}
+use Rattle.station_laws.proofs.OwnerLemmas.{owners_are_told}
+use Rattle.station_laws.proofs.PathStays.{step_stays}
+use Rattle.station_laws.proofs.Queues.{link_stepped, octets_of}
+use Rattle.station_laws.proofs.Standing.{calls_chosen}
+use Rattle.station_laws.proofs.Tables.{each_get, each_set}
+use Rattle.station_laws.proofs.ValidCalls.{heard_good}
 
 -- ---- what a station has
 

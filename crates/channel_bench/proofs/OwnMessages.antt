@@ -38,10 +38,10 @@ use Rattle.station.specs.Turn.{Out, Turn, begin, changing, closing}
 use Rattle.channel_bench.specs.BenchSteps.{program_id}
 use Rattle.channel_bench.specs.BenchTick.{kiss_id}
 use Rattle.channel_bench.specs.HostProgram.{call_at, full_duplex_octets, request, request_between}
-use Rattle.channel_bench.specs.JointRun.{IsTurn}
-use Rattle.channel_bench.specs.LinkSteps.{LinkStep, answer_steps, call_steps, data_steps, disconnect_steps}
-use Rattle.channel_bench.specs.LinkSteps.{ending_steps, made_steps, message_steps, octet_steps, octet_steps_by}
-use Rattle.channel_bench.specs.LinkSteps.{sends_at, turn_steps}
+use Rattle.station_laws.specs.JointRun.{IsTurn}
+use Rattle.station_laws.specs.LinkSteps.{LinkStep, answer_steps, call_steps, data_steps, disconnect_steps}
+use Rattle.station_laws.specs.LinkSteps.{ending_steps, made_steps, message_steps, octet_steps, octet_steps_by}
+use Rattle.station_laws.specs.LinkSteps.{sends_at, turn_steps}
 use Rattle.channel_bench.proofs.CoreRun.{Occurs, Usual, input_of}
 use Rattle.channel_bench.proofs.CoreRun.Usual.{connects, disconnects, gives, hears, joins_kiss, joins_program}
 use Rattle.channel_bench.proofs.CoreRun.Usual.{registers, sets_full, ticks}
@@ -54,7 +54,7 @@ use Rattle.channel_bench.proofs.OwnLinks.{own_pieces, piece_to, same_says, says_
 use Rattle.channel_bench.proofs.OwnLinks.Cause.{connecting, disconnecting, nothing, others, sending}
 use Rattle.channel_bench.proofs.ProgramsAsk.{between_written, registers_written}
 use Rattle.channel_bench.proofs.TurnWalks.{ticks_kept}
-use Rattle.channel_bench.proofs.ValidCalls.{along_good, no_or_few, route_valid}
+use Rattle.station_laws.proofs.ValidCalls.{along_good, no_or_few, route_valid}
 
 -- ---- what a step is to the host program
 

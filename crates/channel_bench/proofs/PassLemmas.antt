@@ -7,8 +7,8 @@ use Rattle.channel_bench.specs.declared.run.Run.{Run}
 use Rattle.channel_bench.specs.declared.words.BenchWords.{BenchWords}
 use Rattle.channel_bench.specs.BenchState.{BenchState, SideState, ways_of}
 use Rattle.channel_bench.specs.HeldBench.{StandsForSide, StandsForRun, StandsForWays}
-use Rattle.channel_bench.specs.InFlight.{BothWays, nothing_sent, sent_by, with_front, with_sent_by}
-use Rattle.channel_bench.specs.InFlight.Moment.{Passes}
+use Rattle.station_laws.specs.InFlight.{BothWays, nothing_sent, sent_by, with_front, with_sent_by}
+use Rattle.station_laws.specs.InFlight.Moment.{Passes}
 use Rattle.channel_bench.specs.Sounding.{passed_below, ticked}
 use Rattle.channel_bench.proofs.FlightLemmas.{moments_two}
 

@@ -25,12 +25,12 @@ use Rattle.channel_bench.specs.BenchSteps.{program_id, told_octets, told_piece, 
 use Rattle.channel_bench.specs.HostProgram.{ProgramState, closing, getting, giving, opening, set_ups_of}
 use Rattle.channel_bench.specs.HostProgram.{told as told_message, told_all, with_got as with_got_octets}
 use Rattle.channel_bench.specs.HostProgram.{with_given as with_given_octets}
-use Rattle.channel_bench.specs.LinkSteps.{LinkStep}
-use Rattle.channel_bench.specs.LinksTell.{AreToldInOne, runs_after}
-use Rattle.channel_bench.specs.RunsTell.{AllToldInOne, runs_behind, told_in}
-use Rattle.channel_bench.specs.SetUpsSeen.{Seen, change_last_seen, seen_by, seen_by_all, seen_giving, seen_told}
-use Rattle.channel_bench.specs.SetUpsSeen.{with_given, with_got}
-use Rattle.channel_bench.proofs.Chains.{asked_after, called_after, ended_in, opened_in}
+use Rattle.station_laws.specs.LinkSteps.{LinkStep}
+use Rattle.station_laws.specs.LinksTell.{AreToldInOne, runs_after}
+use Rattle.station_laws.specs.RunsTell.{AllToldInOne, runs_behind, told_in}
+use Rattle.station_laws.specs.SetUpsSeen.{Seen, change_last_seen, seen_by, seen_by_all, seen_giving, seen_told}
+use Rattle.station_laws.specs.SetUpsSeen.{with_given, with_got}
+use Rattle.station_laws.proofs.Chains.{asked_after, called_after, ended_in, opened_in}
 use Rattle.channel_bench.proofs.HostStreams.{IsWhole, one_new, whole_more}
 use Rattle.channel_bench.proofs.OwnLinks.{message_at, messages_by, messages_of, own_pieces, piece_to}
 

@@ -25,12 +25,12 @@ use Rattle.channel_bench.specs.declared.words.BenchWords.{BenchWords}
 use Rattle.channel_bench.specs.BenchState.{Near}
 use Rattle.channel_bench.specs.BenchSteps.{IsStep, program_id}
 use Rattle.channel_bench.specs.BenchTick.{kiss_id}
-use Rattle.channel_bench.specs.CallerLaw.{BAsksNothing}
+use Rattle.station_laws.specs.CallerLaw.{BAsksNothing}
 use Rattle.channel_bench.specs.HostProgram.{call_at, full_duplex_octets, most_octets, request, request_between}
-use Rattle.channel_bench.specs.HostsAsk.{AsksNothing, InputAsksNothing, OctetsAskBy, OctetsAskNothing}
-use Rattle.channel_bench.specs.InFlight.{Moment, steps_in}
-use Rattle.channel_bench.specs.InFlight.Moment.{Steps}
-use Rattle.channel_bench.specs.JointRun.{IsTurn, Step, Stations, state_of, with_state}
+use Rattle.station_laws.specs.HostsAsk.{AsksNothing, InputAsksNothing, OctetsAskBy, OctetsAskNothing}
+use Rattle.station_laws.specs.InFlight.{Moment, steps_in}
+use Rattle.station_laws.specs.InFlight.Moment.{Steps}
+use Rattle.station_laws.specs.JointRun.{IsTurn, Step, Stations, state_of, with_state}
 use Rattle.channel_bench.proofs.CoreRun.{KeptByCore, Occurs, Usual, input_of, told_station}
 use Rattle.channel_bench.proofs.CoreRun.Usual.{joins_kiss, sets_full, joins_program, registers, connects, gives}
 use Rattle.channel_bench.proofs.CoreRun.Usual.{disconnects, hears, ticks}

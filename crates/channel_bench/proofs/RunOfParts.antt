@@ -92,18 +92,3 @@ ticks_keep w holds keep (suc count) bench made calm =
 pub record KeptByAll (w : BenchWords) (holds : BenchState → Type 0) : Type 0 where
   pub new : holds (new_bench w)
   pub keeps : (part : Part) → KeptBy w holds part
-
-each_kept : (w : BenchWords) (holds : BenchState → Type 0) → ((part : Part) → KeptBy w holds part)
-    → (parts : List Part) → Each (KeptBy w holds) parts
-each_kept w holds keep [] = tt
-each_kept w holds keep (part ∷ parts) = (keep part, each_kept w holds keep parts)
-
-pub run_keeps :
-    (w : BenchWords) (holds : BenchState → Type 0) → KeptByAll w holds → (count : ℕ) (bench : BenchState)
-    → AreTicks w count bench → IsCalm bench → holds bench
-run_keeps w holds keep count bench made calm =
-    ticks_keep w holds (record {
-      new = keep.new;
-      begins = each_kept w holds keep.keeps (beginning w);
-      ticks = each_kept w holds keep.keeps each_tick;
-    }) count bench made calm

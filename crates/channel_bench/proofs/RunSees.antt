@@ -22,15 +22,15 @@ use Rattle.channel_bench.specs.BenchTick.{ArePartsMade, IsPart, IsTick, Part, be
 use Rattle.channel_bench.specs.BenchTick.{sets_duplex, sets_full_duplex}
 use Rattle.channel_bench.specs.BenchTick.Part.{Closes, Tells}
 use Rattle.channel_bench.specs.HostProgram.{ProgramState, connect_octets}
-use Rattle.channel_bench.specs.InFlight.Moment.{Steps}
-use Rattle.channel_bench.specs.JointRun.{IsTurn}
-use Rattle.channel_bench.specs.JointRun.Input.{FromHost}
-use Rattle.channel_bench.specs.LinkSteps.{LinkStep, steps_of, turn_steps}
+use Rattle.station_laws.specs.InFlight.Moment.{Steps}
+use Rattle.station_laws.specs.JointRun.{IsTurn}
+use Rattle.station_laws.specs.JointRun.Input.{FromHost}
+use Rattle.station_laws.specs.LinkSteps.{LinkStep, steps_of, turn_steps}
 use Rattle.channel_bench.specs.Sounding.{ticked}
 use Rattle.channel_bench.proofs.BenchSees.{Holds, HoldsNear, Premises, asks_or_calls_holds, at_end_holds, both_of}
 use Rattle.channel_bench.proofs.BenchSees.{closes_hold, front, gives_hold, listens_hold, near_holds, near_there}
 use Rattle.channel_bench.proofs.BenchSees.{new_holds, sounds_hold, ticks_hold}
-use Rattle.channel_bench.proofs.Chains.{called_behind}
+use Rattle.station_laws.proofs.Chains.{called_behind}
 use Rattle.channel_bench.proofs.CoreRun.{Occurs, Usual, input_of}
 use Rattle.channel_bench.proofs.CoreRun.Usual.{connects, disconnects, gives, hears, joins_kiss, joins_program}
 use Rattle.channel_bench.proofs.CoreRun.Usual.{registers, sets_full, ticks}

@@ -24,9 +24,9 @@ use Rattle.channel_bench.specs.BenchState.{Near}
 use Rattle.channel_bench.specs.BenchSteps.{IsStep, program_id}
 use Rattle.channel_bench.specs.BenchTick.{kiss_id}
 use Rattle.channel_bench.specs.HostProgram.{call_at, request, request_between}
-use Rattle.channel_bench.specs.InFlight.{Moment, steps_in}
-use Rattle.channel_bench.specs.JointRun.{Input, IsTurn, Step, Stations, at_end, queued_at, state_of, with_state}
-use Rattle.channel_bench.specs.JointRun.Input.{FromHost, OffAir, OfClock}
+use Rattle.station_laws.specs.InFlight.{Moment, steps_in}
+use Rattle.station_laws.specs.JointRun.{Input, IsTurn, Step, Stations, at_end, queued_at, state_of, with_state}
+use Rattle.station_laws.specs.JointRun.Input.{FromHost, OffAir, OfClock}
 use Rattle.channel_bench.proofs.ChannelOrder.{Fits, fits_more, octets_of, sent_octets, tick_long, tick_sends}
 use Rattle.channel_bench.proofs.CoreRun.{KeptByCore, Occurs, Usual, input_of, told_station}
 use Rattle.channel_bench.proofs.CoreRun.Usual.{joins_kiss, sets_full, joins_program, registers, connects, gives}

@@ -20,11 +20,11 @@ use Rattle.link_world.specs.Recorded.{RecordedEnd}
 use Rattle.link_world.specs.SetUps.{SetUp as LinkSetUp}
 use Rattle.link_world.proofs.law.Each.{each_append}
 use Rattle.channel_bench.specs.HostProgram.{most_octets}
-use Rattle.channel_bench.specs.LinkSteps.{LinkStep}
-use Rattle.channel_bench.specs.LinksTell.{AreToldInOne, runs_after}
-use Rattle.channel_bench.specs.RunsTell.{AllToldInOne, told_in}
-use Rattle.channel_bench.specs.SetUpsSeen.{Seen, as_seen, change_last_seen, last_seen_changed, seen_by, seen_by_all}
-use Rattle.channel_bench.specs.SetUpsSeen.{seen_giving, seen_told, with_given, with_got}
+use Rattle.station_laws.specs.LinkSteps.{LinkStep}
+use Rattle.station_laws.specs.LinksTell.{AreToldInOne, runs_after}
+use Rattle.station_laws.specs.RunsTell.{AllToldInOne, told_in}
+use Rattle.station_laws.specs.SetUpsSeen.{Seen, as_seen, change_last_seen, last_seen_changed, seen_by, seen_by_all}
+use Rattle.station_laws.specs.SetUpsSeen.{seen_giving, seen_told, with_given, with_got}
 use Rattle.channel_bench.proofs.OwnLinks.{message_at, messages_by, messages_of}
 
 abbrev pub IsShort : Packet → Type 0

@@ -20,8 +20,8 @@ use Rattle.channel_bench.specs.BenchState.{SideState, Near, ways_of}
 use Rattle.channel_bench.specs.BenchSteps.{MayCome, IsStep, IsTicking, IsTold, told_pieces, first_unquiet, trouble_of}
 use Rattle.channel_bench.specs.HeldBench.{EarStandsFor, StandsForSide, StandsForCommon, StandsForNear, StandsForWays}
 use Rattle.channel_bench.specs.HostProgram.{ProgramState}
-use Rattle.channel_bench.specs.InFlight.{BothWays, is_ask, hearing_at, queueing_all}
-use Rattle.channel_bench.specs.JointRun.Input.{FromHost, OffAir, OfClock}
+use Rattle.station_laws.specs.InFlight.{BothWays, is_ask, hearing_at, queueing_all}
+use Rattle.station_laws.specs.JointRun.Input.{FromHost, OffAir, OfClock}
 use Rattle.channel_bench.proofs.Loudness.{air_within}
 use Rattle.channel_bench.proofs.StepLemmas.{step_made}
 

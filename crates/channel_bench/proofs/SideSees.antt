@@ -22,14 +22,14 @@ use Rattle.channel_bench.specs.BenchState.{SideState}
 use Rattle.channel_bench.specs.BenchSteps.{told_pieces}
 use Rattle.channel_bench.specs.HostProgram.{ProgramState, closing, getting, opening, set_ups_of, told as told_message}
 use Rattle.channel_bench.specs.HostProgram.{told_all}
-use Rattle.channel_bench.specs.InFlight.{LinkFrame}
-use Rattle.channel_bench.specs.LinkSteps.{LinkStep}
-use Rattle.channel_bench.specs.RunsTell.{runs_behind, told_in}
-use Rattle.channel_bench.specs.SetUpsSeen.{IsGivenWhileUp, Seen, seen_by, seen_by_all}
-use Rattle.channel_bench.proofs.Chains.{AsksInSetUp, asked_after, asked_behind, called_after, called_behind}
-use Rattle.channel_bench.proofs.Framed.{framed}
+use Rattle.station_laws.specs.InFlight.{LinkFrame}
+use Rattle.station_laws.specs.LinkSteps.{LinkStep}
+use Rattle.station_laws.specs.RunsTell.{runs_behind, told_in}
+use Rattle.station_laws.specs.SetUpsSeen.{IsGivenWhileUp, Seen, seen_by, seen_by_all}
+use Rattle.station_laws.proofs.Chains.{AsksInSetUp, asked_after, asked_behind, called_after, called_behind}
+use Rattle.station_laws.proofs.Framed.{framed}
 use Rattle.channel_bench.proofs.HostStreams.{IsWhole}
-use Rattle.channel_bench.proofs.LinkDid.{is_connect, is_disconnect}
+use Rattle.station_laws.proofs.LinkDid.{is_connect, is_disconnect}
 use Rattle.channel_bench.proofs.LinkNow.{GivenUp}
 use Rattle.channel_bench.proofs.OwnLinks.{Cause, IsOwnFrame, OwnsAll, Says, cause_of, messages_of, own_pieces}
 use Rattle.channel_bench.proofs.OwnLinks.Cause.{connecting, disconnecting, sending}
@@ -37,7 +37,7 @@ use Rattle.channel_bench.proofs.OwnMessages.{Replied}
 use Rattle.channel_bench.proofs.ProgramSees.{GaveAll, GivesNothing, Sees, items_asked, items_called, items_of}
 use Rattle.channel_bench.proofs.ProgramSees.{pieces_told, told_items}
 use Rattle.channel_bench.proofs.Shorts.{GivesShort, IsSome, ShortStep}
-use Rattle.channel_bench.proofs.Tables.{not_both}
+use Rattle.station_laws.proofs.Tables.{not_both}
 use Rattle.channel_bench.proofs.ThereStays.{HasProgram, is_there}
 
 -- What holds of a side after these events of its link, of which these frames were queued.

@@ -17,17 +17,17 @@ use Rattle.channel_bench.specs.declared.words.BenchWords.{BenchWords}
 use Rattle.channel_bench.specs.BenchOrder.{IsNoted, the_calls}
 use Rattle.channel_bench.specs.BenchState.{Near, config_of, params_of}
 use Rattle.channel_bench.specs.BenchSteps.{IsStep}
-use Rattle.channel_bench.specs.InFlight.{AreMatched, LinkFrame, Moment, after_moments, nothing_sent, sent_by, steps_in}
-use Rattle.channel_bench.specs.InFlight.Moment.{Steps}
-use Rattle.channel_bench.specs.JointRun.{IsTurn, Step, Stations, state_of, with_state}
-use Rattle.channel_bench.specs.LinkOfCalls.{Calls, first_world, link_at_end}
-use Rattle.channel_bench.specs.LinkSteps.{LinkStep, steps_of, turn_steps}
-use Rattle.channel_bench.specs.MatchedLaw.{pairs_in}
+use Rattle.station_laws.specs.InFlight.{AreMatched, LinkFrame, Moment, after_moments, nothing_sent, sent_by, steps_in}
+use Rattle.station_laws.specs.InFlight.Moment.{Steps}
+use Rattle.station_laws.specs.JointRun.{IsTurn, Step, Stations, state_of, with_state}
+use Rattle.station_laws.specs.LinkOfCalls.{Calls, first_world, link_at_end}
+use Rattle.station_laws.specs.LinkSteps.{LinkStep, steps_of, turn_steps}
+use Rattle.station_laws.specs.MatchedLaw.{pairs_in}
 use Rattle.channel_bench.specs.Words.{seed_at}
 use Rattle.channel_bench.proofs.BenchSees.{matched_front}
-use Rattle.channel_bench.proofs.ChainRun.{RunChain, run_chained}
-use Rattle.channel_bench.proofs.Chains.{AsksInSetUp, IsChain, OfLink, StandsAsked, asked_after, asked_behind}
-use Rattle.channel_bench.proofs.Chains.{asked_step, chain_asked, chain_parts, last_machine, made_like}
+use Rattle.station_laws.proofs.ChainRun.{RunChain, run_chained}
+use Rattle.station_laws.proofs.Chains.{AsksInSetUp, IsChain, OfLink, StandsAsked, asked_after, asked_behind}
+use Rattle.station_laws.proofs.Chains.{asked_step, chain_asked, chain_parts, last_machine, made_like}
 use Rattle.channel_bench.proofs.CoreRun.{Occurs, Usual, input_of, told_station}
 use Rattle.channel_bench.proofs.CoreRun.Usual.{connects, disconnects, gives, hears, joins_kiss, joins_program}
 use Rattle.channel_bench.proofs.CoreRun.Usual.{registers, sets_full, ticks}
@@ -36,17 +36,17 @@ use Rattle.channel_bench.proofs.HearsLittle.{asked_wishes}
 use Rattle.channel_bench.proofs.HostsStay.{HasHosts}
 use Rattle.channel_bench.proofs.KeyedHearing.{Hearing, IsHearing, heard_hears}
 use Rattle.channel_bench.proofs.KeyedSteps.{Finds}
-use Rattle.channel_bench.proofs.LinkDid.{is_disconnect}
+use Rattle.station_laws.proofs.LinkDid.{is_disconnect}
 use Rattle.channel_bench.proofs.LinkNow.{first_machine, links_of}
-use Rattle.channel_bench.proofs.MatchedOrder.{matched_in_order_holds}
+use Rattle.station_laws.proofs.MatchedOrder.{matched_in_order_holds}
 use Rattle.channel_bench.proofs.NextSees.{noted_step, own_events}
 use Rattle.channel_bench.proofs.NotedRun.{noted_kept, steps_more}
 use Rattle.channel_bench.proofs.OneKey.{Keyed}
 use Rattle.channel_bench.proofs.OwnLinks.{IsOwnFrame, OwnsAll, chosen}
 use Rattle.channel_bench.proofs.OwnMessages.{IsHeardFrom}
-use Rattle.channel_bench.proofs.RoomForAsks.{AsksFindRoom, AsksFindRoomAt}
+use Rattle.station_laws.proofs.RoomForAsks.{AsksFindRoom, AsksFindRoomAt}
 use Rattle.channel_bench.proofs.StepSees.{heard_from, matched_last, queue_of, unshown_of}
-use Rattle.channel_bench.proofs.Tables.{not_both}
+use Rattle.station_laws.proofs.Tables.{not_both}
 
 -- ---- what is known
 

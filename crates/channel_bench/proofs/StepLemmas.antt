@@ -7,9 +7,9 @@ use Rattle.channel_bench.specs.declared.side.Side.{Side}
 use Rattle.channel_bench.specs.BenchState.{Near, ways_of}
 use Rattle.channel_bench.specs.BenchSteps.{IsStep, told_pieces, there_after, first_unquiet, trouble_of, stepped_common}
 use Rattle.channel_bench.specs.HeldBench.{StandsForSide, StandsForNear, StandsForWays}
-use Rattle.channel_bench.specs.InFlight.{hears_ask, hearing_at, queueing_all, nothing_sent}
-use Rattle.channel_bench.specs.InFlight.Moment.{Steps}
-use Rattle.channel_bench.specs.JointRun.{Input, IsTurn, HasOctets, Step}
+use Rattle.station_laws.specs.InFlight.{hears_ask, hearing_at, queueing_all, nothing_sent}
+use Rattle.station_laws.specs.InFlight.Moment.{Steps}
+use Rattle.station_laws.specs.JointRun.{Input, IsTurn, HasOctets, Step}
 use Rattle.channel_bench.proofs.FlightLemmas.{moments_more}
 
 -- A step: the station made its turn, the program was told, and the frames joined.

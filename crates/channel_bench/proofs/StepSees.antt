@@ -32,25 +32,25 @@ use Rattle.channel_bench.specs.BenchOrder.{the_calls}
 use Rattle.channel_bench.specs.BenchState.{SideState}
 use Rattle.channel_bench.specs.BenchSteps.{program_id}
 use Rattle.channel_bench.specs.HostProgram.{ProgramState, request_between, told_all}
-use Rattle.channel_bench.specs.InFlight.{AreMatched, BothWays, IsMatched, IsMatchedIn, LinkFrame, Moment, OneWay}
-use Rattle.channel_bench.specs.InFlight.{after_moment, after_moments, hears_ask, nothing_sent, sent_by, steps_in}
-use Rattle.channel_bench.specs.InFlight.Moment.{Steps}
-use Rattle.channel_bench.specs.JointRun.{IsTurn, Step, Stations, at_end}
-use Rattle.channel_bench.specs.JointRun.Input.{OffAir}
-use Rattle.channel_bench.specs.LinkOfCalls.{Calls, link_at_end}
-use Rattle.channel_bench.specs.LinkSteps.{Choice, LinkStep, call_steps, disconnect_steps, link_step, made_steps}
-use Rattle.channel_bench.specs.LinkSteps.{steps_for, steps_of, turn_steps}
-use Rattle.channel_bench.specs.LinksTell.{RunsIn}
-use Rattle.channel_bench.specs.RunsTell.{AllToldInOne, runs_behind, told_in}
-use Rattle.channel_bench.specs.SetUpsSeen.{link_steps_at, seen_by_all}
-use Rattle.channel_bench.proofs.Chains.{AsksInSetUp, HasSetUp, IsChain, StandsCalled, asked_append, asked_behind}
-use Rattle.channel_bench.proofs.Chains.{called_append, called_behind, made_by, made_of, told_append}
+use Rattle.station_laws.specs.InFlight.{AreMatched, BothWays, IsMatched, IsMatchedIn, LinkFrame, Moment, OneWay}
+use Rattle.station_laws.specs.InFlight.{after_moment, after_moments, hears_ask, nothing_sent, sent_by, steps_in}
+use Rattle.station_laws.specs.InFlight.Moment.{Steps}
+use Rattle.station_laws.specs.JointRun.{IsTurn, Step, Stations, at_end}
+use Rattle.station_laws.specs.JointRun.Input.{OffAir}
+use Rattle.station_laws.specs.LinkOfCalls.{Calls, link_at_end}
+use Rattle.station_laws.specs.LinkSteps.{Choice, LinkStep, call_steps, disconnect_steps, link_step, made_steps}
+use Rattle.station_laws.specs.LinkSteps.{steps_for, steps_of, turn_steps}
+use Rattle.station_laws.specs.LinksTell.{RunsIn}
+use Rattle.station_laws.specs.RunsTell.{AllToldInOne, runs_behind, told_in}
+use Rattle.station_laws.specs.SetUpsSeen.{link_steps_at, seen_by_all}
+use Rattle.station_laws.proofs.Chains.{AsksInSetUp, HasSetUp, IsChain, StandsCalled, asked_append, asked_behind}
+use Rattle.station_laws.proofs.Chains.{called_append, called_behind, made_by, made_of, told_append}
 use Rattle.channel_bench.proofs.CoreRun.{Usual, input_of}
 use Rattle.channel_bench.proofs.CoreRun.Usual.{connects, disconnects, gives, hears, joins_kiss, joins_program}
 use Rattle.channel_bench.proofs.CoreRun.Usual.{registers, sets_full, ticks}
-use Rattle.channel_bench.proofs.Framed.{framed}
+use Rattle.station_laws.proofs.Framed.{framed}
 use Rattle.channel_bench.proofs.HostsStay.{HasHosts, IsHosts}
-use Rattle.channel_bench.proofs.LinkDid.{is_connect, is_disconnect}
+use Rattle.station_laws.proofs.LinkDid.{is_connect, is_disconnect}
 use Rattle.channel_bench.proofs.LinkNow.{GivenUp, Known, law_short, link_told, links_of}
 use Rattle.channel_bench.proofs.NotedRun.{moments_more, steps_more}
 use Rattle.channel_bench.proofs.OwnLinks.{IsFromPartner, IsOwnFrame, IsUnshown, chosen, messages_of}
@@ -61,8 +61,8 @@ use Rattle.channel_bench.proofs.ProgramsAsk.{between_written}
 use Rattle.channel_bench.proofs.Shorts.{GotShort, ShortStep, TellsShort, each_slice, steps_short}
 use Rattle.channel_bench.proofs.SideSees.{SideSees, asked_kept, asked_one, called_kept, called_one, each_map}
 use Rattle.channel_bench.proofs.SideSees.{never_asks, seen_append, some_seen}
-use Rattle.channel_bench.proofs.Tables.{not_both}
-use Rattle.channel_bench.proofs.Ways.{queued_by}
+use Rattle.station_laws.proofs.Tables.{not_both}
+use Rattle.station_laws.proofs.Ways.{queued_by}
 
 -- ---- a run with a step more
 
@@ -95,10 +95,6 @@ pub queue_more :
 queue_more x moments step found =
     ap (λ (ways : BothWays). (sent_by x ways).queued) (moments_more moments (Steps step found) nothing_sent)
     ∙ queued_by x step.station (hears_ask step.input) step.after.out.queued found (after_moments moments nothing_sent)
-
-at_own : {T : Type 0} (e : End) (xs : List T) → at_end e e xs ≡ xs
-at_own A xs = refl
-at_own B xs = refl
 
 at_other : {T : Type 0} (e : End) (xs : List T) → at_end (other e) e xs ≡ []
 at_other A xs = refl

@@ -24,8 +24,8 @@ use Rattle.station.specs.Turn.{Turn, begin, changing, closing}
 use Rattle.channel_bench.specs.BenchSteps.{program_id, there_after}
 use Rattle.channel_bench.specs.BenchTick.{kiss_id}
 use Rattle.channel_bench.specs.HostProgram.{call_at, full_duplex_octets, request, request_between}
-use Rattle.channel_bench.specs.JointRun.{Input, IsTurn}
-use Rattle.channel_bench.specs.JointRun.Input.{FromHost}
+use Rattle.station_laws.specs.JointRun.{Input, IsTurn}
+use Rattle.station_laws.specs.JointRun.Input.{FromHost}
 use Rattle.channel_bench.proofs.CoreRun.{Occurs, Usual, input_of}
 use Rattle.channel_bench.proofs.CoreRun.Usual.{connects, disconnects, gives, hears, joins_kiss, joins_program}
 use Rattle.channel_bench.proofs.CoreRun.Usual.{registers, sets_full, ticks}
@@ -33,7 +33,7 @@ use Rattle.channel_bench.proofs.HostsStay.{HasHosts, IsSaid, IsSet, said_by, set
 use Rattle.channel_bench.proofs.HostsStay.IsSaid.{said, unheard}
 use Rattle.channel_bench.proofs.HostsStay.IsSet.{full, unheard as alone}
 use Rattle.channel_bench.proofs.ProgramsAsk.{between_written, registers_written}
-use Rattle.channel_bench.proofs.Tables.{not_both}
+use Rattle.station_laws.proofs.Tables.{not_both}
 use Rattle.channel_bench.proofs.TurnWalks.{Kept, connect_kept, data_kept, disconnect_kept, heard_kept, kept_by_acts}
 use Rattle.channel_bench.proofs.TurnWalks.{register_kept, ticks_kept}
 

@@ -26,9 +26,9 @@ use Rattle.channel_bench.specs.BenchTick.{IsListening, IsPart, IsTick, Part, beg
 use Rattle.channel_bench.specs.BenchTick.{sets_duplex, sets_full_duplex, with_asking, with_calling}
 use Rattle.channel_bench.specs.BenchTick.Part.{Tells, Gives, AsksOrCalls, Ticks, Sounds, Listens, Closes}
 use Rattle.channel_bench.specs.HostProgram.{next_piece}
-use Rattle.channel_bench.specs.InFlight.{AreMatched, BothWays, IsMatchedIn, LinkFrame, Moment, after_moment}
-use Rattle.channel_bench.specs.InFlight.{nothing_sent, sent_by, steps_in}
-use Rattle.channel_bench.specs.InFlight.Moment.{Passes}
+use Rattle.station_laws.specs.InFlight.{AreMatched, BothWays, IsMatchedIn, LinkFrame, Moment, after_moment}
+use Rattle.station_laws.specs.InFlight.{nothing_sent, sent_by, steps_in}
+use Rattle.station_laws.specs.InFlight.Moment.{Passes}
 use Rattle.channel_bench.specs.Sounding.{passed_below, sent_in, sounding, ticked}
 use Rattle.channel_bench.specs.Words.{text_at}
 use Rattle.channel_bench.proofs.ChannelOrder.{octets_of}

@@ -18,9 +18,9 @@ use Rattle.channel_bench.specs.BenchSteps.{AreHeardAt, GoesOn, IsHeardAs, IsHear
 use Rattle.channel_bench.specs.BenchSteps.{with_stray}
 use Rattle.channel_bench.specs.BenchTick.{IsGivenPiece, with_giving}
 use Rattle.channel_bench.specs.HostProgram.{most_octets}
-use Rattle.channel_bench.specs.InFlight.{IsMatched, sent_by, steps_in}
-use Rattle.channel_bench.specs.JointRun.{Stations, state_of, with_state}
-use Rattle.channel_bench.specs.JointRun.Input.{FromHost, OffAir, OfClock}
+use Rattle.station_laws.specs.InFlight.{IsMatched, sent_by, steps_in}
+use Rattle.station_laws.specs.JointRun.{Stations, state_of, with_state}
+use Rattle.station_laws.specs.JointRun.Input.{FromHost, OffAir, OfClock}
 use Rattle.channel_bench.proofs.ChannelOrder.{Fits}
 use Rattle.channel_bench.proofs.CoreRun.{IsToldUsual, Occurs, Usual, heard_calm, input_of, state_there, state_twice}
 use Rattle.channel_bench.proofs.CoreRun.Usual.{gives, hears, ticks}

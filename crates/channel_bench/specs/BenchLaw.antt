@@ -7,7 +7,7 @@ use Rattle.channel_bench.specs.BenchRun.{IsOver}
 use Rattle.channel_bench.specs.BenchState.{BenchState}
 use Rattle.channel_bench.specs.KeepsOrder.{KeepsOrder}
 use Rattle.channel_bench.specs.Report.{Report}
-use Rattle.channel_bench.specs.SetUpsSeen.{AllGivenWhileUp}
+use Rattle.station_laws.specs.SetUpsSeen.{AllGivenWhileUp}
 
 -- The host programs gave packets only while the link was up, and saw its set-ups.
 pub record IsFollowed (bench : BenchState) : Type 0 where

@@ -7,10 +7,10 @@ use Rattle.channel_bench.specs.declared.report.SetUp.{SetUp}
 use Rattle.channel_bench.specs.declared.words.BenchWords.{BenchWords}
 use Rattle.channel_bench.specs.BenchState.{BenchState, config_of, side_at}
 use Rattle.channel_bench.specs.HostProgram.{call_at, set_ups_of}
-use Rattle.channel_bench.specs.InFlight.{Moment, AreQuietThrough, nothing_sent, steps_in}
-use Rattle.channel_bench.specs.JointRun.{Step, Stations, new_stations, IsJointRun, all_stepped}
-use Rattle.channel_bench.specs.LinkOfCalls.{Calls}
-use Rattle.channel_bench.specs.SetUpsSeen.{Seen, set_ups_seen}
+use Rattle.station_laws.specs.InFlight.{Moment, AreQuietThrough, nothing_sent, steps_in}
+use Rattle.station_laws.specs.JointRun.{Step, Stations, new_stations, IsJointRun, all_stepped}
+use Rattle.station_laws.specs.LinkOfCalls.{Calls}
+use Rattle.station_laws.specs.SetUpsSeen.{Seen, set_ups_seen}
 use Rattle.channel_bench.specs.Words.{seed_at}
 
 -- the calls of the two stations

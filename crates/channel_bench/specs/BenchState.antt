@@ -13,7 +13,7 @@ use Rattle.channel_bench.specs.declared.matching.SentAt.{SentAt}
 use Rattle.channel_bench.specs.declared.trouble.Trouble.{Trouble}
 use Rattle.channel_bench.specs.declared.words.BenchWords.{BenchWords}
 use Rattle.channel_bench.specs.HostProgram.{ProgramState, new_program}
-use Rattle.channel_bench.specs.InFlight.{Moment, BothWays, after_moments, nothing_sent}
+use Rattle.station_laws.specs.InFlight.{Moment, BothWays, after_moments, nothing_sent}
 use Rattle.channel_bench.specs.Words.{loss_stream, seed_at}
 use Rattle.channel_access.specs.Words.{generator_of}
 

@@ -20,10 +20,10 @@ use Rattle.channel_bench.specs.declared.trouble.Trouble.{Trouble}
 use Rattle.channel_bench.specs.declared.trouble.Trouble.TheVariants.{Stray, Unquiet}
 use Rattle.channel_bench.specs.BenchState.{SideState, Common, Near, ways_of}
 use Rattle.channel_bench.specs.HostProgram.{told_all}
-use Rattle.channel_bench.specs.InFlight.{BothWays, hears_ask, hearing_at, is_quiet_at, queueing_at}
-use Rattle.channel_bench.specs.InFlight.Moment.{Steps}
-use Rattle.channel_bench.specs.JointRun.{Input, IsTurn, HasOctets, Step}
-use Rattle.channel_bench.specs.JointRun.Input.{FromHost, OffAir, OfClock}
+use Rattle.station_laws.specs.InFlight.{BothWays, hears_ask, hearing_at, is_quiet_at, queueing_at}
+use Rattle.station_laws.specs.InFlight.Moment.{Steps}
+use Rattle.station_laws.specs.JointRun.{Input, IsTurn, HasOctets, Step}
+use Rattle.station_laws.specs.JointRun.Input.{FromHost, OffAir, OfClock}
 
 -- ---- what the host program is sent
 

@@ -13,7 +13,7 @@ use Rattle.channel_bench.specs.BenchState.{SideState, BenchState, Near, AtEnd}
 use Rattle.channel_bench.specs.BenchSteps.{program_id, MayCome, IsStep, IsTold, IsTicking, AreHeardAt, GoesOn}
 use Rattle.channel_bench.specs.HostProgram.{next_piece, giving, has_all, asking, waiting, calling, register_octets}
 use Rattle.channel_bench.specs.HostProgram.{connect_octets, data_octets, disconnect_octets, full_duplex_octets}
-use Rattle.channel_bench.specs.JointRun.Input.{FromHost}
+use Rattle.station_laws.specs.JointRun.Input.{FromHost}
 use Rattle.channel_bench.specs.Sounding.{mark_of, tick_samples, sounding, ticked}
 use Rattle.channel_bench.specs.Words.{text_at}
 

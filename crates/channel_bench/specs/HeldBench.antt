@@ -21,7 +21,7 @@ use Rattle.channel_bench.specs.declared.run.Run.{Run}
 use Rattle.channel_bench.specs.declared.words.BenchWords.{BenchWords}
 use Rattle.channel_bench.specs.BenchState.{SideState, Common, BenchState, Near, ways_of}
 use Rattle.channel_bench.specs.BenchSteps.{GoesOn}
-use Rattle.channel_bench.specs.InFlight.{LinkFrame, OneWay, BothWays, asks, answers}
+use Rattle.station_laws.specs.InFlight.{LinkFrame, OneWay, BothWays, asks, answers}
 use Rattle.channel_bench.specs.BenchRun.{AreTicks, is_over}
 use Rattle.channel_bench.specs.BenchTick.{Part}
 use Rattle.channel_bench.specs.BenchTick.Part.{AsksOrCalls, Closes, Gives, Listens, Sounds, Ticks}

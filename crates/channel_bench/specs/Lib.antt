@@ -1,14 +1,3 @@
-pub mod JointRun
-pub mod LinkSteps
-pub mod HeardInOrder
-pub mod InFlight
-pub mod MatchedLaw
-pub mod HostsAsk
-pub mod CallerLaw
-pub mod SetUpsSeen
-pub mod LinkOfCalls
-pub mod StationsLaw
-pub mod Owners
 pub mod Words
 pub mod Report
 pub mod HostProgram
@@ -18,9 +7,6 @@ pub mod Sounding
 pub mod BenchTick
 pub mod BenchRun
 pub mod HeldBench
-pub mod ProgramsTold
-pub mod LinksTell
-pub mod RunsTell
 pub mod KeepsOrder
 pub mod BenchOrder
 pub mod BenchLaw

@@ -11,7 +11,7 @@ use Rattle.link_world.specs.declared.end.End.TheVariants.{A, B}
 use Rattle.channel_bench.specs.declared.matching.SentAt.{SentAt}
 use Rattle.channel_bench.specs.declared.words.BenchWords.{BenchWords}
 use Rattle.channel_bench.specs.BenchState.{SideState, BenchState, Near, near, with_near}
-use Rattle.channel_bench.specs.InFlight.Moment.{Passes}
+use Rattle.station_laws.specs.InFlight.Moment.{Passes}
 use Rattle.channel_access.specs.Words.{after_word, next_word}
 
 -- the samples of a tick

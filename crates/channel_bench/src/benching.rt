@@ -23,13 +23,21 @@ pub fn bench(alloc: Global, words: BenchWords) -> Result<BenchReport, BenchFault
     ensures order { IfOk result KeepsOrder }
     ensures fault { IfErr result (IsFaultOf words) }
 {
-    let most = most_ticks(words.octets);
     let mut run = Run::new(alloc, words)?;
+    finish(&mut run, words)
+}
+
+/// Makes ticks until the run is over, and says what came to pass.
+fn finish(run: &mut Run, words: BenchWords) -> Result<BenchReport, BenchFault>
+    requires { IsGoing words 0 run.old × AreInRange words }
+    ensures over { IfOk result (IsOver words) }
+    ensures fault { IfErr result (IsFaultOf words) }
+{
+    let most = most_ticks(words.octets);
     for _ in 0..most {
-        advance(&mut run)?;
+        advance(run)?;
         if run.is_over() {
-            let report = run.report()?;
-            return Ok(report);
+            return Ok(run.report()?);
         }
     }
     Err(BenchFault::Spent { ticks: most })

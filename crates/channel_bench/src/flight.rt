@@ -1,7 +1,10 @@
 //! What is in flight between the two stations, as far as one can see who does not know what will be heard.
 ghost use Rattle.std.specs.Prelude.{◌≡◌, ◌+◌, ◌-◌, ◌<◌, ◌^◌, ◌||◌, if◌then◌else◌, drop, IfOk, OnOk, Some, is_some};
 ghost use Rattle.std.specs.List.{list_any};
-ghost use Rattle.channel_bench.specs.InFlight.{OneWay as WayState, BothWays, asks, answers, control_octet, hearing_at, in_flight, is_ask, is_control_of, is_quiet_at, is_quiet_for, is_ua_or_dm, nothing_sent, queueing_all, queueing_at, sent_by, with_front, with_queued, with_sent_by};
+ghost use Rattle.station_laws.specs.InFlight.{OneWay as WayState, BothWays, asks, answers, control_octet, hearing_at};
+ghost use Rattle.station_laws.specs.InFlight.{in_flight, is_ask, is_control_of, is_quiet_at, is_quiet_for, is_ua_or_dm};
+ghost use Rattle.station_laws.specs.InFlight.{nothing_sent, queueing_all, queueing_at, sent_by, with_front};
+ghost use Rattle.station_laws.specs.InFlight.{with_queued, with_sent_by};
 ghost use Rattle.channel_bench.specs.BenchSteps.{first_unquiet, count_of};
 
 use link_world::End;
@@ -263,11 +266,11 @@ fn control_octet(octets: &[u8]) -> Option<u8>
     ensures { result ≡ control_octet octets.now }
 {
     let mut rest = octets;
-    while let Some((octet, behind)) = rest.split_first() {
+    while let Some((octet, after)) = rest.split_first() {
         if *octet % 2 == 1 {
-            return behind.first().copied();
+            return after.first().copied();
         }
-        rest = behind;
+        rest = after;
     }
     None
 }

@@ -1,5 +1,6 @@
 //! Which frame that was sent a heard one is.
-ghost use Rattle.std.specs.Prelude.{◌≡◌, ◌+◌, ◌<◌, ◌≤◌, ℕ, length, drop, position, option_map, count_by, nat_le, IfSome};
+ghost use Rattle.std.specs.Prelude.{◌≡◌, ◌+◌, ◌<◌, ◌≤◌, ℕ, length, drop, position, option_map, count_by, nat_le};
+ghost use Rattle.std.specs.Prelude.{IfSome};
 
 use frame_merge::Candidate;
 use tnc_base::Octets;

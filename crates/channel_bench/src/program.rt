@@ -1,5 +1,6 @@
 //! A host program of the bench: what it knows, by what it did and was told.
-ghost use Rattle.std.specs.Prelude.{◌≡◌, ◌≤◌, nat_lt, if◌then◌else◌, length, take, drop, option_map, IfOk, IfSome, OnOk};
+ghost use Rattle.std.specs.Prelude.{◌≡◌, ◌≤◌, nat_lt, if◌then◌else◌, length, take, drop, option_map, IfOk, IfSome};
+ghost use Rattle.std.specs.Prelude.{OnOk};
 
 use crate::report::SetUp;
 use agwpe_port::AgwMessage;
@@ -52,7 +53,9 @@ impl Model for Program {
 }
 
 impl Program {
-    ghost use Rattle.channel_bench.specs.HostProgram.{new_program, told, told_all, opening, getting, closing, next_piece, giving, has_all, asking, waiting, calling, set_ups_of};
+    ghost use Rattle.channel_bench.specs.HostProgram.{new_program, told, told_all, opening, getting, closing};
+    ghost use Rattle.channel_bench.specs.HostProgram.{next_piece, giving, has_all, asking, waiting, calling};
+    ghost use Rattle.channel_bench.specs.HostProgram.{set_ups_of};
 
     /// No set-up has begun.
     pub(crate) fn new(alloc: Global) -> Program
@@ -148,7 +151,7 @@ impl Program {
         ensures most { IfSome result (λ piece. length piece.now ≤ 256) }
     {
         match &self.running {
-            Some(running) => piece_behind(running.given.len(), text),
+            Some(running) => piece_after(running.given.len(), text),
             None => None,
         }
     }
@@ -219,9 +222,9 @@ impl Program {
         self.calls = false;
     }
 
-    /// All set-ups, in order.
-    pub(crate) fn into_set_ups(mut self) -> Result<Vec<SetUp>, OutOfMemory>
-        ensures { IfOk result (λ set_ups. set_ups.items ≡ set_ups_of self) }
+    /// All set-ups, in order. It then knows of none.
+    pub(crate) fn take_set_ups(&mut self) -> Result<Vec<SetUp>, OutOfMemory>
+        ensures { IfOk result (λ set_ups. set_ups.items ≡ set_ups_of self.old) }
     {
         self.end()?;
         let empty = Vec::new(self.alloc);
@@ -230,7 +233,7 @@ impl Program {
 }
 
 /// The next piece of a text of which so much is given.
-fn piece_behind(given: usize, text: &[u8]) -> Option<&[u8]>
+fn piece_after(given: usize, text: &[u8]) -> Option<&[u8]>
     ensures piece { option_map (λ piece. piece.now) result
         ≡ (if nat_lt given (length text.now) then Some (take 256 (drop given text.now)) else None) }
     ensures most { IfSome result (λ piece. length piece.now ≤ 256) }

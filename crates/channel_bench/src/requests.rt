@@ -3,7 +3,8 @@ ghost use Rattle.std.specs.Prelude.{◌≡◌, ◌≤◌, length, IfOk, [], map}
 ghost use Rattle.agwpe_port.specs.CallField.{call_field};
 ghost use Rattle.agwpe_port.specs.Messages.{spelling};
 ghost use Rattle.link_world.specs.World.{other};
-ghost use Rattle.channel_bench.specs.HostProgram.{call_at, request, request_between, register_octets, connect_octets, data_octets, disconnect_octets, full_duplex_octets};
+ghost use Rattle.channel_bench.specs.HostProgram.{call_at, request, request_between, register_octets, connect_octets};
+ghost use Rattle.channel_bench.specs.HostProgram.{data_octets, disconnect_octets, full_duplex_octets};
 
 use agwpe_port::{AgwMessage, call_text, write_agw};
 use ax25_address::Call;

@@ -7,7 +7,9 @@ ghost use Rattle.station.specs.Held.{IsAdmitted};
 ghost use Rattle.station.specs.declared.host_event.HostEvent.{HostEvent};
 ghost use Rattle.channel_bench.specs.BenchState.{BenchState, SideState, AtEnd, config_of, new_bench};
 ghost use Rattle.channel_bench.specs.BenchSteps.{AreHeardAt, IsTold, IsTicking};
-ghost use Rattle.channel_bench.specs.BenchTick.{AreReady, ArePartsMade, IsAsked, IsAskedOrCalled, IsCalled, IsGiven, IsTick, beginning, each_tick, is_complete, joins, sets_duplex, sets_full_duplex};
+ghost use Rattle.channel_bench.specs.BenchTick.{AreReady, ArePartsMade, IsAsked, IsAskedOrCalled, IsCalled, IsGiven};
+ghost use Rattle.channel_bench.specs.BenchTick.{IsTick, beginning, each_tick, is_complete, joins, sets_duplex};
+ghost use Rattle.channel_bench.specs.BenchTick.{sets_full_duplex};
 ghost use Rattle.channel_bench.specs.Sounding.{reaching, sounding, ticked, with_losses};
 ghost use Rattle.channel_bench.specs.Words.{AreInRange};
 
@@ -63,18 +65,19 @@ struct Ready {
 }
 
 impl Run {
-    ghost use Rattle.channel_bench.specs.HeldBench.{StandsForRun, MovesRun, Unless, acts, hears, sounds, reaching_a, reaching_b, with_both, with_noise_drawn};
+    ghost use Rattle.channel_bench.specs.HeldBench.{StandsForRun, MovesRun, Unless, acts, hears, sounds, reaching_a};
+    ghost use Rattle.channel_bench.specs.HeldBench.{reaching_b, with_both, with_noise_drawn};
 
     /// Before the first tick.
     pub(crate) fn new(alloc: Global, words: BenchWords) -> Result<Run, OutOfMemory>
         ensures stands_for { IfOk result (λ run. StandsForRun run words (new_bench words)) }
         ensures ticks { IfOk result (λ run. run.ticks ≡ 0) }
     {
+        let text_of_a = text(alloc, words.seed, TEXT_OF_A, words.octets)?;
+        let text_of_b = text(alloc, words.seed, TEXT_OF_B, words.octets)?;
         let a = Side::new(alloc, End::A, config_of(&words), words.seed)?;
         let seed = words.seed.wrapping_add(1);
         let b = Side::new(alloc, End::B, config_of(&words), seed)?;
-        let text_of_a = text(alloc, words.seed, TEXT_OF_A, words.octets)?;
-        let text_of_b = text(alloc, words.seed, TEXT_OF_B, words.octets)?;
         Ok(Run {
             alloc,
             words,
@@ -96,25 +99,16 @@ impl Run {
     }
 
     /// What came to pass.
-    pub(crate) fn report(self) -> Result<BenchReport, OutOfMemory>
-        ensures { (w : BenchWords) (bench : BenchState) → StandsForRun self w bench
+    pub(crate) fn report(&mut self) -> Result<BenchReport, OutOfMemory>
+        ensures { (w : BenchWords) (bench : BenchState) → StandsForRun self.old w bench
             → IfOk result (λ report. report ≡ report_of bench) }
     {
-        let Run {
-            a,
-            b,
-            shared,
-            ticks,
-            ..
-        } = self;
-        let of_a = a.into_set_ups()?;
-        let of_b = b.into_set_ups()?;
         Ok(BenchReport {
-            ticks,
-            transmissions: shared.transmissions,
-            lost: shared.lost,
-            a: of_a,
-            b: of_b,
+            ticks: self.ticks,
+            transmissions: self.shared.transmissions,
+            lost: self.shared.lost,
+            a: self.a.program.take_set_ups()?,
+            b: self.b.program.take_set_ups()?,
         })
     }
 

@@ -31,7 +31,7 @@ impl Shared {
     ghost use Rattle.channel_bench.specs.BenchState.{new_common};
     ghost use Rattle.channel_bench.specs.BenchSteps.{first_unquiet, trouble_of};
     ghost use Rattle.channel_bench.specs.HeldBench.{StandsForCommon, StandsForWays};
-    ghost use Rattle.channel_bench.specs.InFlight.{BothWays, queueing_all};
+    ghost use Rattle.station_laws.specs.InFlight.{BothWays, queueing_all};
     ghost use Rattle.channel_bench.specs.Sounding.{is_lost};
     ghost use Rattle.channel_access.specs.Words.{after_word};
 

@@ -1,24 +1,24 @@
 //! A station of the bench, with its host program and what it hears.
-ghost use Rattle.std.specs.Prelude.{◌≡◌, ◌≢◌, ◌==◌, not, filter, ◌+◌, ◌*◌, ◌<◌, ◌≤◌, ◌^◌, ◌↔◌, ℕ, IsTrue, List, [], ◌++◌, length, All, Any, Some, None, IfOk, OnOk};
+ghost use Rattle.std.specs.Prelude.{◌≡◌, ◌≢◌, ◌==◌, not, filter, ◌+◌, ◌*◌, ◌<◌, ◌≤◌, ◌^◌, ◌↔◌, ℕ, IsTrue, List, []};
+ghost use Rattle.std.specs.Prelude.{◌++◌, length, All, Any, Some, None, IfOk, OnOk};
 ghost use Rattle.station.specs.Held.{without_ids};
 ghost use Rattle.std.specs.Bool.{IsFalse};
 ghost use Rattle.hdlc_framer.specs.FrameLength.{HasFrameLength};
 ghost use Rattle.station.specs.declared.host_event.HostEvent.{HostEvent};
 ghost use Rattle.station.specs.declared.host_event.PortKind.{PortKind};
 ghost use Rattle.channel_bench.specs.declared.words.BenchWords.{BenchWords};
-ghost use Rattle.channel_bench.specs.JointRun.Input.{FromHost, OffAir};
+ghost use Rattle.station_laws.specs.JointRun.Input.{FromHost, OffAir};
 ghost use Rattle.channel_bench.specs.BenchState.{SideState, Near, new_side, config_of};
-ghost use Rattle.channel_bench.specs.BenchSteps.{GoesOn, MayCome, IsStep, IsTold, IsTicking, IsHeardAt, AreHeardAt, told_piece, told_pieces, first_unquiet, trouble_of, with_matched};
+ghost use Rattle.channel_bench.specs.BenchSteps.{GoesOn, MayCome, IsStep, IsTold, IsTicking, IsHeardAt, AreHeardAt};
+ghost use Rattle.channel_bench.specs.BenchSteps.{told_piece, told_pieces, first_unquiet, trouble_of, with_matched};
 ghost use Rattle.channel_bench.specs.BenchTick.{AreReady, IsGiven};
 ghost use Rattle.channel_bench.specs.Sounding.{passed_below, sent_in, with_loss, with_samples};
-ghost use Rattle.channel_bench.specs.HostProgram.{set_ups_of};
 ghost use Rattle.channel_bench.specs.Words.{seed_at, text_at};
 
 use crate::ear::Ear;
 use crate::flight::is_ask;
 use crate::matching::SentAt;
 use crate::program::Program;
-use crate::report::SetUp;
 use crate::requests::data;
 use crate::shared::Shared;
 use agwpe_port::{AgwIn, read_messages};
@@ -60,7 +60,7 @@ pub struct Side {
 impl Side {
     ghost use Rattle.station.specs.Held.{IsAdmitted};
     ghost use Rattle.channel_bench.specs.HeldBench.{StandsForSide, StandsForWays, StandsForNear, MovesNear};
-    ghost use Rattle.channel_bench.specs.InFlight.{BothWays, queueing_all};
+    ghost use Rattle.station_laws.specs.InFlight.{BothWays, queueing_all};
 
     /// A station to which nothing came yet.
     pub(crate) fn new(
@@ -310,14 +310,6 @@ impl Side {
         ensures { (end : End) (side : SideState) → StandsForSide end self.now side → result ≡ passed_below side }
     {
         self.matched + SentAt::count_passed(&self.towards[self.matched..], self.ear.mark())
-    }
-
-    /// The set-ups of the host program, in order.
-    pub(crate) fn into_set_ups(self) -> Result<Vec<SetUp>, OutOfMemory>
-        ensures { IfOk result (λ set_ups. set_ups.items ≡ set_ups_of self.program) }
-    {
-        let Side { program, .. } = self;
-        program.into_set_ups()
     }
 
     /// What a step of the station gave: the host program is told, and frames of links join the queue.

@@ -1,64 +1,32 @@
--- The run goes on until it is over, or something ends it, or it has taken too long.
-use Rattle.std.proofs.Common.{◌≡◌, ◌+◌, ◌<◌, ◌^◌, refl, sym, ◌∙◌, subst, arith}
-use Rattle.std.proofs.lemmas.Result.{err_from_is_err_and}
-use Rattle.channel_bench.specs.BenchRun.{AreTicks}
+-- A new run is under way, and what a whole one tells keeps the order.
+use Rattle.std.proofs.Common.{Result, Ok, Err, IfOk, refl, arith}
+use Rattle.channel_bench.specs.declared.words.BenchWords.{BenchWords}
+use Rattle.channel_bench.specs.declared.report.BenchReport.{BenchReport}
+use Rattle.channel_bench.specs.declared.report.BenchFault.{BenchFault}
+use Rattle.channel_bench.specs.BenchRun.{IsOver}
 use Rattle.channel_bench.specs.BenchState.{new_bench}
-use Rattle.channel_bench.specs.HeldBench.{HasMade}
+use Rattle.channel_bench.specs.KeepsOrder.{KeepsOrder}
 use Rattle.channel_bench.proofs.OrderLaws.{bench_law_holds}
 use Rattle.channel_bench.proofs.benching.bench.Goals as goal
 
-pub loop-init : goal.loop-init
-loop-init c = record {
-  made = record {
-    bench = new_bench c.args.words;
-    stands = c.in_ok-run.ensures.stands_for;
-    ticks = refl;
-    no_trouble = refl;
-    few = omega (arith, c.in_ok-run.ensures.ticks);
-  };
-  not_over = refl;
-}
+pub finish-requires : goal.finish-requires
+finish-requires c = (
+  record {
+    made = record {
+      bench = new_bench c.args.words;
+      stands = c.in_ok-run.ensures.stands_for;
+      ticks = refl;
+      no_trouble = refl;
+      few = omega (arith, c.in_ok-run.ensures.ticks);
+    };
+    not_over = refl;
+  },
+  c.requires,
+)
 
-pub advance-requires : goal.advance-requires
-advance-requires c =
-    let few : c.loop.counter < 2 ^ 32 = omega (arith, c.most_ticks-most.ensures, c.loop-test.true, c.requires.octets) in
-    (c.args.words, c.loop.counter, c.loop.invariant, c.requires, few)
+keeps : (w : BenchWords) (told : Result BenchReport BenchFault) → IfOk told (IsOver w) → IfOk told KeepsOrder
+keeps w (Ok report) over = bench_law_holds w report over
+keeps w (Err fault) over = tt
 
-pub loop-preserved : goal.loop-preserved
-loop-preserved c =
-    let made : HasMade c.args.words (c.loop.counter + 1) c.advance.new.run = c.in_ok-advance.ensures.made c.args.words
-    c.loop.counter c.loop.invariant in
-    record { made = made; not_over = sym (c.is_over.ensures c.args.words made.bench made.stands) ∙ c.if-is_over.false }
-
-pub returns-then-is_over-clause-over : goal.returns-then-is_over-clause-over
-returns-then-is_over-clause-over c =
-    let made : HasMade c.args.words (c.loop.counter + 1) c.advance.new.run = c.in_ok-advance.ensures.made c.args.words
-    c.loop.counter c.loop.invariant in
-    record {
-      count = c.loop.counter + 1;
-      bench = made.bench;
-      ticks = made.ticks;
-      no_trouble = made.no_trouble;
-      over = sym (c.is_over.ensures c.args.words made.bench made.stands) ∙ c.if-is_over.true;
-      told = c.in_ok-report.ensures c.args.words made.bench made.stands;
-    }
-
-pub returns-then-is_over-clause-order : goal.returns-then-is_over-clause-order
-returns-then-is_over-clause-order c = bench_law_holds c.args.words _ (returns-then-is_over-clause-over c)
-
-pub returns-clause-fault : goal.returns-clause-fault
-returns-clause-fault c =
-    let going = c.loop.invariant in
-    let made = going.made in
-    let all : c.loop.counter ≡ c.most_ticks-most.result = omega arith in
-    record {
-      most = c.most_ticks-most.ensures;
-      bench = made.bench;
-      made = subst (λ n. AreTicks c.args.words n made.bench) all made.ticks;
-      under_way = record { no_trouble = made.no_trouble; not_over = going.not_over };
-    }
-
-pub returns-in_err-advance-clause-fault : goal.returns-in_err-advance-clause-fault
-returns-in_err-advance-clause-fault c =
-    let p = err_from_is_err_and c.from_residual-in_err-advance.result c.from_residual-in_err-advance.ensures.1 in
-    rw (p.1, p.2) (c.in_err-advance.ensures.fault c.args.words c.loop.counter c.loop.invariant)
+pub returns-clause-order : goal.returns-clause-order
+returns-clause-order c = keeps c.args.words _ c.finish.ensures.over

@@ -1,5 +1,5 @@
 use Rattle.std.proofs.Common.{◌≡◌, length}
-use Rattle.channel_bench.specs.InFlight.{control_octet}
+use Rattle.station_laws.specs.InFlight.{control_octet}
 use Rattle.channel_bench.proofs.flight.control_octet.Given as goal
 
 abbrev pub invariant-loop-octet : goal.invariant-loop-octet

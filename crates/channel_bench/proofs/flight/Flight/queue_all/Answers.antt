@@ -3,7 +3,7 @@ use Rattle.std.proofs.Common.{◌≡◌, ◌+◌, ◌∙◌, ◌++◌, ◌∷◌
 use Rattle.std.proofs.lemmas.List.{take_all, take_more}
 use Rattle.channel_bench.specs.BenchSteps.{first_unquiet}
 use Rattle.channel_bench.specs.HeldBench.{StandsForWays}
-use Rattle.channel_bench.specs.InFlight.{queueing_all}
+use Rattle.station_laws.specs.InFlight.{queueing_all}
 use Rattle.channel_bench.proofs.FlightLemmas.{first_more, queueing_more}
 use Rattle.channel_bench.proofs.flight.Flight.queue_all.Goals as goal
 

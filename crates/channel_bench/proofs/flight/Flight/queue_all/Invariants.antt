@@ -2,7 +2,7 @@
 use Rattle.std.proofs.Common.{◌≡◌, take}
 use Rattle.channel_bench.specs.BenchSteps.{first_unquiet}
 use Rattle.channel_bench.specs.HeldBench.{StandsForWays}
-use Rattle.channel_bench.specs.InFlight.{BothWays, queueing_all}
+use Rattle.station_laws.specs.InFlight.{BothWays, queueing_all}
 use Rattle.channel_bench.proofs.flight.Flight.queue_all.Given as goal
 
 abbrev pub invariant-loop-frame : goal.invariant-loop-frame

@@ -6,7 +6,7 @@ use Rattle.channel_bench.specs.BenchState.{near}
 use Rattle.channel_bench.specs.BenchSteps.{IsStep}
 use Rattle.channel_bench.specs.BenchTick.{Says, with_asking}
 use Rattle.channel_bench.specs.HostProgram.{asking, disconnect_octets, waiting}
-use Rattle.channel_bench.specs.JointRun.Input.{FromHost}
+use Rattle.station_laws.specs.JointRun.Input.{FromHost}
 use Rattle.channel_bench.proofs.RunLemmas.{with_a}
 use Rattle.channel_bench.proofs.SideLemmas.{stands_program}
 use Rattle.channel_bench.proofs.run.Run.ask.Goals as goal

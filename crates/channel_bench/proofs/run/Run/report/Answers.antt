@@ -5,13 +5,12 @@ use Rattle.channel_bench.proofs.run.Run.report.Goals as goal
 
 pub returns : goal.returns
 returns c = λ w bench h.
-    let a = c.in_ok-of_a.ensures ∙ ap set_ups_of h.a.program in
-    let b = c.in_ok-of_b.ensures ∙ ap set_ups_of h.b.program in
+    let a = c.in_ok-take_set_ups.ensures ∙ ap set_ups_of h.a.program in
+    let b = c.in_ok-take_set_ups-2.ensures ∙ ap set_ups_of h.b.program in
     λ i. record {
       ticks = h.ticks i;
       transmissions = h.shared.transmissions i;
       lost = h.shared.lost i;
       a = a i;
-      b = b
-          i;
+      b = b i;
     }

@@ -4,7 +4,7 @@ use Rattle.station.specs.declared.host_event.HostEvent.TheVariants.{Bytes}
 use Rattle.channel_bench.specs.BenchSteps.{IsStep}
 use Rattle.channel_bench.specs.BenchTick.{with_giving}
 use Rattle.channel_bench.specs.HostProgram.{data_octets}
-use Rattle.channel_bench.specs.JointRun.Input.{FromHost}
+use Rattle.station_laws.specs.JointRun.Input.{FromHost}
 use Rattle.channel_bench.proofs.GiveLemmas.{given_no, given_none, given_yes, piece_is, stands_giving}
 use Rattle.channel_bench.proofs.side.Side.give.Goals as goal
 

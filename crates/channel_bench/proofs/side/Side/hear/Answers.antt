@@ -4,7 +4,7 @@ use Rattle.std.specs.Prelude.{is_some, position}
 use Rattle.std.proofs.lemmas.List.{take_rest}
 use Rattle.channel_bench.specs.declared.trouble.Trouble.TheVariants.{Stray}
 use Rattle.channel_bench.specs.BenchSteps.{IsStep, is_match, match_of, with_matched, with_stray}
-use Rattle.channel_bench.specs.JointRun.Input.{OffAir}
+use Rattle.station_laws.specs.JointRun.Input.{OffAir}
 use Rattle.channel_bench.proofs.HearLemmas.{heard_ended, heard_goes_on, match_at, match_made, stray_made, stray_stands}
 use Rattle.channel_bench.proofs.RunLemmas.{none_from}
 use Rattle.channel_bench.proofs.side.Side.hear.Goals as goal

@@ -1,6 +1,0 @@
--- The run is under way.
-use Rattle.channel_bench.specs.HeldBench.{IsGoing}
-use Rattle.channel_bench.proofs.benching.bench.Given as goal
-
-abbrev pub invariant-loop : goal.invariant-loop
-invariant-loop l = IsGoing l.fn.words l.counter l.run

@@ -1,5 +1,0 @@
-use Rattle.channel_bench.proofs.Asking.{hosts_ask_nothing_holds}
-use Rattle.channel_bench.proofs.laws.hosts_ask_nothing.Goals as goal
-
-pub returns : goal.returns
-returns c = hosts_ask_nothing_holds

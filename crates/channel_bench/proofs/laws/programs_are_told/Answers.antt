@@ -1,5 +1,0 @@
-use Rattle.channel_bench.proofs.Pieces.{programs_are_told_holds}
-use Rattle.channel_bench.proofs.laws.programs_are_told.Goals as goal
-
-pub returns : goal.returns
-returns c = programs_are_told_holds

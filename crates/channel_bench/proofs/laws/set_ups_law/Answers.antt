@@ -1,5 +1,0 @@
-use Rattle.channel_bench.proofs.SeenLemmas.{set_ups_law_holds}
-use Rattle.channel_bench.proofs.laws.set_ups_law.Goals as goal
-
-pub returns : goal.returns
-returns c = set_ups_law_holds

@@ -1,6 +1,0 @@
-use Rattle.link_world.proofs.law.ChangesLaw.{changes_law_holds}
-use Rattle.channel_bench.proofs.JointLaw.{stations_law_holds}
-use Rattle.channel_bench.proofs.laws.stations_law.Goals as goal
-
-pub returns : goal.returns
-returns c = stations_law_holds changes_law_holds

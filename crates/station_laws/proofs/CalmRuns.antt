@@ -1,0 +1,138 @@
+-- A step of the station whose hosts never connect nor disconnect: its end stays idle or up, and sends nothing that
+-- asks. None of its own asks is in flight and no answer to one, so each event finds a quiet channel, and by the law no
+-- N(R) is invalid, for which it would call.
+use Rattle.std.proofs.Common.{◌≡◌, ℕ, ◌+◌, Bool, true, List, [], ◌∷◌, ◌++◌, Option, Some, None, refl, sym, ap, ◌∙◌}
+use Rattle.std.proofs.Common.{subst}
+use Rattle.std.specs.List.{AllByRecursion as Each}
+use Rattle.std.proofs.lemmas.List.{append_assoc}
+use Rattle.ax25_address.specs.declared.path.Path.{Path}
+use Rattle.link_machine.specs.declared.state.LinkState.{LinkState}
+use Rattle.link_machine.specs.declared.state.LinkState.TheVariants.{Idle, Calling, Up, Releasing}
+use Rattle.link_machine.specs.Event.{Event as LinkEvent}
+use Rattle.link_machine.specs.Event.Event.{Connect as LinkConnect, Send as LinkSend, Disconnect as LinkDisconnect}
+use Rattle.link_machine.specs.Event.Event.{Hear as LinkHear, Tick as LinkTick}
+use Rattle.link_machine.specs.Machine.{Machine}
+use Rattle.link_world.specs.declared.end.End.TheVariants.{B}
+use Rattle.link_world.specs.Changes.{Change, changed, run_changes, made_in, AreQuiet, hears_valid_in, ChangesAreValid}
+use Rattle.link_world.specs.Changes.Change.{Keeps}
+use Rattle.link_world.specs.Flight.{Tagged}
+use Rattle.link_world.specs.Law.{names_valid, read_names_valid, first_names_valid, reads_valid, hears_valid}
+use Rattle.link_world.specs.Recorded.{RecordedEnd}
+use Rattle.link_world.specs.World.{World, seen_from}
+use Rattle.station_laws.specs.LinkOfCalls.{Pairs, makes, marks_from, event_at_end, changes_by, all_changes_by}
+use Rattle.station_laws.specs.LinkSteps.{LinkStep}
+use Rattle.station_laws.specs.MatchedLaw.{IsOfNoHost}
+use Rattle.station_laws.proofs.Acts.{ReadsFront}
+use Rattle.station_laws.proofs.Along.{makes_near, near_by, AllFollowNear, FollowsNear, by_seen, makes_seen}
+use Rattle.station_laws.proofs.Along.{run_changes-append}
+use Rattle.station_laws.proofs.Calm.{IsCalmState, IsCalm, HearsValid, StaysCalm, calm_step}
+use Rattle.station_laws.proofs.CallerQuiet.{quiet_in}
+use Rattle.station_laws.proofs.Exchanges.{AsksIn, AsksOut, in_made, in_moves}
+use Rattle.station_laws.proofs.NearQuiet.{sends_none}
+use Rattle.station_laws.proofs.QuietRuns.{quiet-append, quiet_by}
+
+-- ---- what is valid
+
+-- the last of a list of changes
+valid_last :
+    (w : World) (first : List Change) (change : Change) → ChangesAreValid w (first ++ change ∷ [])
+    → hears_valid_in change (run_changes w first) ≡ true
+valid_last w [] change valid = valid.0
+valid_last w (next ∷ first) change valid = valid_last (changed w next) first change valid.1
+
+valid_seen :
+    (event : LinkEvent) (ms : List Bool) (w : World) → hears_valid_in (Keeps (event_at_end B event) ms) w ≡ true
+    → hears_valid (event_at_end B event) (seen_from B w) ≡ true
+valid_seen LinkConnect ms w valid = valid
+valid_seen (LinkSend packet) ms w valid = valid
+valid_seen LinkDisconnect ms w valid = valid
+valid_seen (LinkHear frame) ms w valid = valid
+valid_seen (LinkTick waiting) ms w valid = valid
+
+heard_valid :
+    (event : LinkEvent) (x : World) → ReadsFront event x → hears_valid (event_at_end B event) x ≡ true
+    → HearsValid event x.a.end.machine
+heard_valid LinkConnect x reads valid = tt
+heard_valid (LinkSend packet) x reads valid = tt
+heard_valid LinkDisconnect x reads valid = tt
+heard_valid (LinkHear frame) x reads valid =
+    let m = x.a.end.machine in (
+      reads.of_link,
+      λ up. ap (names_valid m) (sym reads.kind) ∙ ap (read_names_valid m) (sym reads.reading)
+          ∙ ap (first_names_valid m) (sym reads.towards) ∙ ap (λ s. reads_valid s m x.a.towards) (sym up) ∙ valid,
+    )
+heard_valid (LinkTick waiting) x reads valid = tt
+
+-- a link that is made is idle
+made_in_calm :
+    (state : LinkState) (path : Path) (r : RecordedEnd) → IsCalmState state → IsCalm r.machine.control
+    → IsCalm (made_in state path r).machine.control
+made_in_calm Idle path r ok calm = record { state = tt; quit = refl }
+made_in_calm Calling path r ok calm = calm
+made_in_calm Up path r ok calm = calm
+made_in_calm Releasing path r ok calm = calm
+
+made_calm :
+    (anew : Option Path) (w : World) → IsCalm w.a.end.machine.control → IsCalm (makes_near anew w).a.end.machine.control
+made_calm None w calm = calm
+made_calm (Some path) w calm = made_in_calm w.a.end.machine.control.state path w.a.end calm.state calm
+
+-- ---- its events
+
+abbrev pub IsPassive : LinkStep → Type 0
+IsPassive step = IsOfNoHost step.event
+
+pub record CalmQuiet (pairs : Pairs) (n : ℕ) (steps : List LinkStep) (w : World) : Type 0 where
+  pub quiet : AreQuiet w (all_changes_by B pairs n steps)
+  pub asks : AsksOut (run_changes w (all_changes_by B pairs n steps))
+  pub calm : IsCalm (run_changes w (all_changes_by B pairs n steps)).b.end.machine.control
+
+pub calm_quiet :
+    (start : World) (law : (changes : List Change) → AreQuiet start changes → ChangesAreValid start changes)
+    (back : List Tagged) (pairs : Pairs) (n : ℕ) (steps : List LinkStep) (so_far : List Change) (w : World)
+    → w ≡ run_changes start so_far → AreQuiet start so_far → IsCalm w.b.end.machine.control → AsksOut w
+    → AllFollowNear B back pairs.at_a n steps (seen_from B w) → Each IsPassive steps → CalmQuiet pairs n steps w
+calm_quiet start law back pairs n [] so_far w is quiet calm asks follows holds =
+    record { quiet = tt; asks = asks; calm = calm }
+calm_quiet start law back pairs n (step ∷ steps) so_far w is quiet calm asks follows holds =
+    let v = seen_from B w in
+    let x = makes_near step.anew v in
+    let y = near_by B pairs.at_a n step v in
+    let event = event_at_end B step.event in
+    let ms = marks_from pairs.at_a (n + step.first) step.joined in
+    let changes = changes_by B pairs n step in
+    let more = all_changes_by B pairs n steps in
+    let next = run_changes w changes in
+    let asked : AsksIn x = in_made step.anew v asks in
+    let quiet_here : AreQuiet w changes = quiet_by B step.event ms step.anew w (quiet_in B step.event x asked) in
+    let quiet_now : AreQuiet start (so_far ++ changes) =
+    quiet-append start so_far changes quiet (subst (λ z. AreQuiet z changes) is quiet_here) in
+    let next_is : next ≡ run_changes start (so_far ++ changes) =
+    ap (λ z. run_changes z changes) is ∙ sym (run_changes-append so_far changes start) in
+    let made : run_changes start (so_far ++ makes B step.anew) ≡ run_changes w (makes B step.anew) =
+    run_changes-append so_far (makes B step.anew) start ∙ ap (λ z. run_changes z (makes B step.anew)) (sym is) in
+    let valid : hears_valid event x ≡ true =
+    subst (λ z. hears_valid event z ≡ true) (ap (seen_from B) made ∙ makes_seen B step.anew w)
+    (valid_seen step.event ms (run_changes start (so_far ++ makes B step.anew))
+    (valid_last start (so_far ++ makes B step.anew) (Keeps event ms)
+    (subst (ChangesAreValid start) (sym (append_assoc so_far (makes B step.anew) (Keeps event ms ∷ [])))
+    (law (so_far ++ changes) quiet_now)))) in
+    let f : FollowsNear B back step x = follows.0 in
+    let stays : StaysCalm step.link.machine step.event =
+    calm_step step.link.machine step.event holds.0
+    (subst (HearsValid step.event) f.machine (heard_valid step.event x f.reads valid))
+    (subst (λ (m : Machine). IsCalm m.control) f.machine (made_calm step.anew v calm)) in
+    let seen : seen_from B next ≡ y = by_seen B pairs n step step.anew w in
+    let asks_next : AsksOut next =
+    subst AsksIn (sym seen) (in_moves B step.event ms x (sends_none B back step v f stays.none) asked) in
+    let calm_next : IsCalm next.b.end.machine.control =
+    subst (λ (m : Machine). IsCalm m.control) (sym (ap (λ (z : World). z.a.end.machine) seen ∙ f.next)) stays.calm in
+    let rest : CalmQuiet pairs n steps next =
+    calm_quiet start law back pairs n steps (so_far ++ changes) next next_is quiet_now calm_next asks_next
+    (subst (AllFollowNear B back pairs.at_a n steps) (sym seen) follows.1) holds.1 in
+    let after : run_changes w (changes ++ more) ≡ run_changes next more = run_changes-append changes more w in
+    record {
+      quiet = quiet-append w changes more quiet_here rest.quiet;
+      asks = subst AsksOut (sym after) rest.asks;
+      calm = subst (λ (z : World). IsCalm z.b.end.machine.control) (sym after) rest.calm;
+    }

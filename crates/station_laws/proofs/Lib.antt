@@ -1,0 +1,53 @@
+pub mod PathStays
+mod Flights
+pub mod Addresses
+pub mod Queues
+pub mod Tables
+pub mod Standing
+pub mod LinkKinds
+pub mod Framed
+mod Controls
+mod Tags
+pub mod Acts
+mod Along
+mod Events
+pub mod ValidCalls
+mod Messages
+mod Readings
+mod Hearing
+mod Runs
+mod JointLaw
+mod Examples
+mod ExampleOrder
+mod MatchedExample
+pub mod OwnerLemmas
+mod Pieces
+mod Asking
+mod Dropping
+pub mod RoomForAsks
+pub mod CallerLaws
+pub mod Growing
+pub mod Ways
+pub mod MatchedOrder
+mod Counts
+mod NearQuiet
+mod Naming
+mod BenchQuiet
+mod StillActs
+mod Sends
+mod LinkAsks
+pub mod Calm
+mod ReadKinds
+mod EndSends
+mod Exchanges
+mod CallerQuiet
+mod QuietRuns
+mod CalmRuns
+mod QuietJoint
+pub mod MatchedLaws
+pub mod SeenLemmas
+pub mod LinkTells
+pub mod LinkDid
+pub mod Chains
+pub mod ChainRun
+mod RunTells

@@ -1,0 +1,71 @@
+-- The law on two stations of which only one calls, over a run with its matches.
+use Rattle.std.proofs.Common.{ℕ, List, [], ◌∷◌, refl, arith}
+use Rattle.std.proofs.lemmas.List.Elements.{recursion_from_All}
+use Rattle.link_world.specs.Changes.{ChangesLaw}
+use Rattle.link_world.specs.Windows.{WindowsFit}
+use Rattle.station.specs.declared.config.Config.{Config}
+use Rattle.station_laws.specs.InFlight.{Moment, AreMatched, AreQuietThrough, nothing_sent, steps_in}
+use Rattle.station_laws.specs.JointRun.{Step, new_stations, IsJointRun}
+use Rattle.station_laws.specs.LinkOfCalls.{Calls, IsQuietLink, link_at_end, path_between, first_world}
+use Rattle.station_laws.specs.LinkSteps.{steps_of}
+use Rattle.station_laws.specs.MatchedLaw.{IsEventOfCaller, OnlyACalls, MatchedLaw, pairs_in}
+use Rattle.station_laws.proofs.JointLaw.{new_side, new_sent, stations_law_holds}
+use Rattle.station_laws.proofs.MatchedOrder.{matched_in_order_holds}
+use Rattle.station_laws.proofs.QuietJoint.{EventsHold, quiet_run}
+
+events_hold : (calls : Calls) (steps : List Step) → OnlyACalls calls steps → EventsHold calls steps
+events_hold calls [] h = tt
+events_hold calls (step ∷ steps) h = (
+  recursion_from_All (IsEventOfCaller step.station) (steps_of (link_at_end calls step.station) step) h.0,
+  events_hold calls steps h.1,
+)
+
+-- the link of two calls is quiet
+quiet_link :
+    (a b : Config) (seed_a seed_b : ℕ) (moments : List Moment) (calls : Calls) → ChangesLaw
+    → WindowsFit a.params b.params
+    → IsJointRun (new_stations a seed_a b seed_b) (steps_in moments) → AreMatched moments nothing_sent
+    → AreQuietThrough moments nothing_sent → OnlyACalls calls (steps_in moments)
+    → IsQuietLink calls (pairs_in moments) a.params b.params (steps_in moments)
+quiet_link a b seed_a seed_b moments calls law fit run matched quiet holds =
+    let order = matched_in_order_holds moments matched in
+    let start = first_world calls a.params b.params in
+    quiet_run calls (pairs_in moments) a.params b.params (new_stations a seed_a b seed_b) [] (steps_in moments)
+    (record { a = 0; b = 0 }) start nothing_sent moments order.0 order.1 (record {
+      full_is = refl;
+      run = run;
+      count_at_a = refl;
+      count_at_b = refl;
+      between = record {
+        near = new_side calls.a calls.b a seed_a calls.a calls.b;
+        far = new_side calls.b calls.a b seed_b calls.b calls.a;
+        out = new_sent calls.a calls.b (pairs_in moments).at_b order.1.rise;
+        back = new_sent calls.b calls.a (pairs_in moments).at_a order.0.rise;
+      };
+      queued_a = refl;
+      queued_b = refl;
+      fits = record { of_a = omega arith; of_b = omega arith };
+      before_a = [];
+      before_b = [];
+      split_a = refl;
+      split_b = refl;
+      past_a = tt;
+      past_b = tt;
+      matched = matched;
+      quiet = quiet;
+      holds = events_hold calls (steps_in moments) holds;
+      asks = record { few = omega arith; up = λ is. refl; unasked = refl; unanswered = refl; marked = tt };
+      start = start;
+      law = λ changes calm. (law (path_between calls.a calls.b) (path_between calls.b calls.a)
+          a.params b.params fit changes calm).numbers;
+      so_far = [];
+      world_is = refl;
+      quiet_so_far = tt;
+      calm = record { state = tt; quit = refl };
+    })
+
+pub matched_law_holds : ChangesLaw → MatchedLaw
+matched_law_holds law a b seed_a seed_b moments run matched quiet fit calls holds =
+    let order = matched_in_order_holds moments matched in
+    stations_law_holds law a b seed_a seed_b (steps_in moments) (pairs_in moments) run order.0 order.1 fit calls
+    (quiet_link a b seed_a seed_b moments calls law fit run matched quiet holds)

@@ -1,0 +1,46 @@
+-- What an event of a link sends to hosts.
+use Rattle.std.proofs.Common.{◌≡◌, ℕ, Bool, true, false, nat_lt, List, [], ◌∷◌, ◌++◌, length, cond, Option, Some, None}
+use Rattle.std.proofs.Common.{refl, sym, ap, ◌∙◌}
+use Rattle.std.proofs.lemmas.List.{append-nil, append_assoc}
+use Rattle.ax25_address.specs.Callsign.{Callsign}
+use Rattle.link_machine.specs.declared.acts.SentFrame.{SentFrame}
+use Rattle.link_machine.specs.declared.acts.Told.{Told}
+use Rattle.link_machine.specs.Step.{step, done_of}
+use Rattle.station.specs.LinkEvents.{settled_link, with_links, telling_one, telling_to, queueing_frame, queueing_frames}
+use Rattle.station.specs.LinkEvents.{event_of}
+use Rattle.station.specs.Turn.{Turn, changing, queueing, entering, dropping, capacity}
+use Rattle.station_laws.specs.Owners.{piece_of, pieces_to, OwnersAreTold}
+
+-- a frame that is queued is nothing to a host
+pub queued_pieces : (link : Option ℕ) (octets : List ℕ) (turn : Turn)
+    → (queueing link octets turn).out.pieces ≡ turn.out.pieces
+queued_pieces link octets turn = go (nat_lt (length turn.now.channel.waiting) capacity)
+  where
+    go : (b : Bool) → (cond b (entering link octets turn) (dropping turn)).out.pieces ≡ turn.out.pieces
+    go true = refl
+    go false = refl
+
+frames_pieces : (key : ℕ) (frames : List SentFrame) (turn : Turn)
+    → (queueing_frames key frames turn).out.pieces ≡ turn.out.pieces
+frames_pieces key [] turn = refl
+frames_pieces key (f ∷ frames) turn =
+    frames_pieces key frames (queueing_frame key f turn) ∙ queued_pieces (Some key) _ turn
+
+told_pieces :
+    (owner : Option ℕ) (local remote : Callsign) (told : List Told) (turn : Turn)
+    → (telling_to owner local remote told turn).out.pieces ≡ turn.out.pieces ++ pieces_to owner local remote told
+told_pieces None local remote [] turn = sym (append-nil turn.out.pieces)
+told_pieces None local remote (item ∷ told) turn = told_pieces None local remote told turn
+told_pieces (Some id) local remote [] turn = sym (append-nil turn.out.pieces)
+told_pieces (Some id) local remote (item ∷ told) turn =
+    told_pieces (Some id) local remote told (telling_one (Some id) local remote item turn)
+    ∙ append_assoc turn.out.pieces (piece_of id local remote item ∷ []) (pieces_to (Some id) local remote told)
+
+pub owners_are_told : OwnersAreTold
+owners_are_told key event link turn at =
+    let stepped = step link.machine event in
+    let placed = changing (with_links (settled_link key link stepped.now)) turn in
+    let done = done_of stepped in
+    ap (λ place. (event_of key event place turn).out.pieces) at
+    ∙ told_pieces link.owner link.local link.remote done.told (queueing_frames key done.frames placed)
+    ∙ ap (λ ps. ps ++ pieces_to link.owner link.local link.remote done.told) (frames_pieces key done.frames placed)

@@ -1,0 +1,14 @@
+pub mod JointRun
+pub mod LinkSteps
+pub mod HeardInOrder
+pub mod InFlight
+pub mod MatchedLaw
+pub mod HostsAsk
+pub mod CallerLaw
+pub mod SetUpsSeen
+pub mod LinkOfCalls
+pub mod StationsLaw
+pub mod Owners
+pub mod ProgramsTold
+pub mod LinksTell
+pub mod RunsTell
