@@ -103,11 +103,11 @@ entries=$(awk '
 ' "$page")
 # The commands of the page, and those of the program.
 commands=$(awk '/^\.SH /{ inside = $2 == "COMMANDS" } /^\.SS / && inside { print $2 }' "$page")
-known=$(sed -n 's/.*Command::new(alloc, "\([a-z]*\)").*/\1/p' crates/tnc_words/src/options.rt)
+known=$(sed -n 's/.*parsed(alloc, "\([a-z]*\)".*/\1/p' crates/tnc_words/src/*_words.rt)
 [ "$(sort <<<"$commands")" = "$(sort <<<"$known")" ] || fault "its commands are" $commands "and the program's" $known
 
 # Each option of the program is on the page.
-options=$(sed -n 's/.*\(flag\|option\|needed\)(alloc, "\([a-z-]*\)").*/--\2/p' crates/tnc_words/src/options.rt | sort -u)
+options=$(grep -o 'Entry::[A-Z][a-z]*("[a-z-]*")' crates/tnc_words/src/options.rt | sed 's/.*"\(.*\)".*/--\1/' | sort -u)
 on_page=$(cut -d '|' -f 2 <<<"$entries" | cut -d ' ' -f 1 | sort -u)
 [ "$options" = "$on_page" ] || fault "its options are" $on_page "and the program's" $options
 

@@ -1,7 +1,7 @@
 -- What clap found for an option.
 use Rattle.std.proofs.Common.{◌≡◌, Bool, true, false, true≢false, ◌&&◌, Option, Some, None, find, refl, ap, ◌∙◌, sym}
 use Rattle.std.proofs.Common.{subst}
-use Rattle.std.specs.Prelude.{option_map, option_and_then, Result, Ok, Err, IfOk, IfSome, IsNone, IsErrAnd, IsErrOf}
+use Rattle.std.specs.Prelude.{option_map, option_and_then, Result, IfOk, IfSome, IsNone, IsErrAnd, IsErrOf}
 use Rattle.std.specs.Prelude.{is_ok, ok_or}
 use Rattle.std.specs.Str.{bytes_eq}
 use Rattle.clap.specs.Matches.{matched_of}
@@ -47,11 +47,6 @@ chosen None r e Q is f h = subst (λ q. IfOk q Q) (sym is) tt
 pub not_chosen : {T E : Type 0} (o : Option T) (r : Result T E) (e f : E) → r ≡ ok_or o e → IsErrOf r f → IsNone o
 not_chosen (Some x) r e f is h = absurd (true≢false (ap is_ok (sym is ∙ h)))
 not_chosen None r e f is h = refl
-
--- what holds of an answer that is there
-pub if_ok : {T E : Type 0} (r : Result T E) {P Q : T → Type 0} → ((x : T) → P x → Q x) → IfOk r P → IfOk r Q
-if_ok (Ok x) f h = f x h
-if_ok (Err e) f h = tt
 
 -- there is no answer
 pub is_none : {T : Type 0} (o : Option T) → o ≡ None → IsNone o

@@ -1,8 +1,7 @@
-pub mod Bounds
 pub mod Found
 pub mod OneNumber
 pub mod OneLink
 pub mod AskedHelp
 pub mod OneCommand
 pub mod NoRate
-pub mod WithRule
+pub mod WithEntries

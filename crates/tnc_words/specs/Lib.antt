@@ -1,4 +1,5 @@
 pub mod Options
+pub mod Entries
 pub mod Numbers
 pub mod Forms
 pub mod Help

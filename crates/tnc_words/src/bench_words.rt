@@ -6,9 +6,9 @@ ghost use Rattle.tnc_words.specs.Commands.{HasBenchOptions, IsBench, first_word}
 
 use crate::command::BenchOptions;
 use crate::fault::WordsFault;
-use crate::number::{Bounds, number_or_default, number_within};
-use crate::options::bench_command;
-use crate::parsing::{has_flag, parsed, text_of};
+use crate::number::{Bounds, number_found, number_given};
+use crate::options::BENCH;
+use crate::parsing::{has_flag, parsed};
 use clap::ArgMatches;
 use std::alloc::Global;
 
@@ -43,7 +43,7 @@ pub(crate) fn read_bench(alloc: Global, words: &[String]) -> Result<BenchOptions
     ensures refused { IsErrOf result WordsFault.Refused
         → (bench : BenchOptions) → ¬ IsBench (map string_bytes words.now) bench }
 {
-    let found = parsed(bench_command(alloc)?, words)?;
+    let found = parsed(alloc, "bench", &BENCH, words)?;
     bench_options(&found).ok_or(WordsFault::Refused)
 }
 
@@ -53,10 +53,10 @@ fn bench_options(found: &ArgMatches) -> Option<BenchOptions>
     ensures none { IsNone result → (bench : BenchOptions) → ¬ HasBenchOptions (rows_of (found_of found.now)) bench }
 {
     Some(BenchOptions {
-        seed: number_within(text_of(found, "seed")?, SEED)?,
-        octets: number_or_default(text_of(found, "octets"), 2000, OCTETS)? as u32,
-        loss: number_or_default(text_of(found, "loss"), 0, LOSS)? as u8,
-        noise: number_or_default(text_of(found, "noise"), 0, NOISE)? as u16,
+        seed: number_given(found, "seed", SEED)?,
+        octets: number_found(found, "octets", 2000, OCTETS)? as u32,
+        loss: number_found(found, "loss", 0, LOSS)? as u8,
+        noise: number_found(found, "noise", 0, NOISE)? as u16,
         full: has_flag(found, "full"),
         wide: has_flag(found, "wide"),
     })

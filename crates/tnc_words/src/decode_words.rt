@@ -12,7 +12,7 @@ use crate::command::{DecodeWords, Receiving, SampleRate};
 use crate::fault::WordsFault;
 use crate::forms::{audio_form, frame_form};
 use crate::number::{Bounds, number_or_default};
-use crate::options::decode_command;
+use crate::options::DECODE;
 use crate::parsing::{has_flag, parsed, text_of};
 use clap::ArgMatches;
 use std::alloc::Global;
@@ -30,7 +30,7 @@ pub(crate) fn read_decode(alloc: Global, words: &[String]) -> Result<DecodeWords
     ensures refused { IsErrOf result WordsFault.Refused
         → (decode : DecodeWords) → ¬ IsDecode (map string_bytes words.now) decode }
 {
-    let found = parsed(decode_command(alloc)?, words)?;
+    let found = parsed(alloc, "decode", &DECODE, words)?;
     decode_options(&found).ok_or(WordsFault::Refused)
 }
 

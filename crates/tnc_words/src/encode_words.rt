@@ -7,9 +7,9 @@ ghost use Rattle.tnc_words.specs.Commands.{HasEncodeOptions, IsEncode, first_wor
 use crate::command::EncodeWords;
 use crate::fault::WordsFault;
 use crate::forms::{audio_form, frame_form, modem};
-use crate::number::{Bounds, number_or_default};
-use crate::options::encode_command;
-use crate::parsing::{has_flag, parsed, text_of};
+use crate::number::{Bounds, number_found};
+use crate::options::ENCODE;
+use crate::parsing::{has_flag, parsed};
 use clap::ArgMatches;
 use std::alloc::Global;
 
@@ -44,7 +44,7 @@ pub(crate) fn read_encode(alloc: Global, words: &[String]) -> Result<EncodeWords
     ensures refused { IsErrOf result WordsFault.Refused
         → (encode : EncodeWords) → ¬ IsEncode (map string_bytes words.now) encode }
 {
-    let found = parsed(encode_command(alloc)?, words)?;
+    let found = parsed(alloc, "encode", &ENCODE, words)?;
     encode_options(&found).ok_or(WordsFault::Refused)
 }
 
@@ -57,10 +57,10 @@ fn encode_options(found: &ArgMatches) -> Option<EncodeWords>
         frames: frame_form(found),
         audio: audio_form(found),
         join: has_flag(found, "join"),
-        opening: number_or_default(text_of(found, "opening"), 75, OPENING)? as u16,
-        closing: number_or_default(text_of(found, "closing"), 2, CLOSING)? as u16,
-        silence: number_or_default(text_of(found, "silence"), 0, SILENCE)? as u32,
-        level: number_or_default(text_of(found, "level"), 10_000, LEVEL)? as u16,
+        opening: number_found(found, "opening", 75, OPENING)? as u16,
+        closing: number_found(found, "closing", 2, CLOSING)? as u16,
+        silence: number_found(found, "silence", 0, SILENCE)? as u32,
+        level: number_found(found, "level", 10_000, LEVEL)? as u16,
         modem: modem(found),
     })
 }

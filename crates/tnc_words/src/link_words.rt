@@ -7,7 +7,7 @@ ghost use Rattle.link_machine.specs.declared.params.Params.{Params};
 ghost use Rattle.link_machine.specs.Params.{HasWindows};
 ghost use Rattle.tnc_words.specs.Links.{HasCall, HasMode, HasParams, SaysParams};
 
-use crate::number::{Bounds, number_or_default};
+use crate::number::{Bounds, number_found};
 use crate::parsing::{has_flag, text_of};
 use ax25_address::Call;
 use clap::ArgMatches;
@@ -20,7 +20,7 @@ const WINDOW: Bounds = Bounds {
     greatest: 255,
 };
 
-/// The parameters of links among what was found. `None` also where a window does not fit its modulus.
+/// The parameters of links among what was found. `None` also if a window does not fit its modulus.
 pub(crate) fn link_params(found: &ArgMatches) -> Option<Params>
     ensures params { IfSome result (HasParams (rows_of (found_of found.now))) }
     ensures none { IsNone result → (params : Params) → ¬ HasParams (rows_of (found_of found.now)) params }
@@ -39,9 +39,9 @@ fn params_said(found: &ArgMatches) -> Option<Params>
 {
     Some(Params {
         mode: mode(text_of(found, "mode"))?,
-        window: number_or_default(text_of(found, "window"), 4, WINDOW)? as u8,
+        window: number_found(found, "window", 4, WINDOW)? as u8,
         wide: has_flag(found, "wide"),
-        wide_window: number_or_default(text_of(found, "wide-window"), 32, WINDOW)? as u8,
+        wide_window: number_found(found, "wide-window", 32, WINDOW)? as u8,
     })
 }
 

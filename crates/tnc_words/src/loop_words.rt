@@ -6,9 +6,9 @@ ghost use Rattle.tnc_words.specs.Commands.{HasLoopOptions, IsLoop, first_word};
 
 use crate::command::LoopWords;
 use crate::fault::WordsFault;
-use crate::number::{Bounds, number_within};
-use crate::options::loop_command;
-use crate::parsing::{has_flag, parsed, text_of};
+use crate::number::{Bounds, number_given};
+use crate::options::LOOP;
+use crate::parsing::{has_flag, parsed};
 use clap::ArgMatches;
 use std::alloc::Global;
 
@@ -31,7 +31,7 @@ pub(crate) fn read_loop(alloc: Global, words: &[String]) -> Result<LoopWords, Wo
     ensures refused { IsErrOf result WordsFault.Refused
         → (run : LoopWords) → ¬ IsLoop (map string_bytes words.now) run }
 {
-    let found = parsed(loop_command(alloc)?, words)?;
+    let found = parsed(alloc, "loop", &LOOP, words)?;
     loop_options(&found).ok_or(WordsFault::Refused)
 }
 
@@ -41,8 +41,8 @@ fn loop_options(found: &ArgMatches) -> Option<LoopWords>
     ensures none { IsNone result → (run : LoopWords) → ¬ HasLoopOptions (rows_of (found_of found.now)) run }
 {
     Some(LoopWords {
-        seed: number_within(text_of(found, "seed")?, SEED)?,
-        frames: number_within(text_of(found, "frames")?, FRAMES)? as u16,
+        seed: number_given(found, "seed", SEED)?,
+        frames: number_given(found, "frames", FRAMES)? as u16,
         rough: has_flag(found, "rough"),
         threads: has_flag(found, "threads"),
     })

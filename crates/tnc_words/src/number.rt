@@ -1,12 +1,41 @@
 //! Numbers among the words.
 ghost use Rattle.std.specs.Prelude.{◌≡◌, ◌<◌, ◌^◌, ℕ, IfSome, IsNone, Some, option_map};
+ghost use Rattle.clap.specs.Words.{first_of, found_of, rows_of};
 ghost use Rattle.tnc_words.specs.Numbers.{GivesNumber, HasNumber, IsNumber};
+
+use crate::parsing::text_of;
+use clap::ArgMatches;
 
 /// The numbers that an option takes.
 #[derive(Clone, Copy)]
 pub(crate) struct Bounds {
     pub least: u64,
     pub greatest: u64,
+}
+
+/// The number that was given for an option, which has no default.
+pub(crate) fn number_given(found: &ArgMatches, name: &str, bounds: Bounds) -> Option<u64>
+    ensures number { IfSome result
+        (GivesNumber (first_of name.now (rows_of (found_of found.now))) bounds.least bounds.greatest) }
+    ensures none { IsNone result → (number : ℕ)
+        → ¬ GivesNumber (first_of name.now (rows_of (found_of found.now))) bounds.least bounds.greatest number }
+{
+    number_within(text_of(found, name)?, bounds)
+}
+
+/// The number of an option among what was found, or the default if it was not given.
+pub(crate) fn number_found(
+    found: &ArgMatches,
+    name: &str,
+    default: u64,
+    bounds: Bounds,
+) -> Option<u64>
+    ensures number { IfSome result
+        (HasNumber (first_of name.now (rows_of (found_of found.now))) default bounds.least bounds.greatest) }
+    ensures none { IsNone result → (number : ℕ)
+        → ¬ HasNumber (first_of name.now (rows_of (found_of found.now))) default bounds.least bounds.greatest number }
+{
+    number_or_default(text_of(found, name), default, bounds)
 }
 
 /// The number of an option: that of its text, or the default if it has none.
@@ -22,7 +51,7 @@ pub(crate) fn number_or_default(text: Option<&str>, default: u64, bounds: Bounds
     number_within(text, bounds)
 }
 
-/// The number of a text, where it is one within bounds.
+/// The number of a text, if it is one within bounds.
 pub(crate) fn number_within(text: &str, bounds: Bounds) -> Option<u64>
     ensures number { IfSome result (GivesNumber (Some text.now) bounds.least bounds.greatest) }
     ensures none { IsNone result → (number : ℕ) → ¬ GivesNumber (Some text.now) bounds.least bounds.greatest number }

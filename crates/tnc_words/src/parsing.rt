@@ -1,18 +1,37 @@
 //! Words by `clap`.
 ghost use Rattle.std.specs.Prelude.{◌≡◌, [], true, IfOk, OnOk, IsErrOf, map, option_map, string_bytes};
-ghost use Rattle.clap.specs.Words.{app_of, fault_of, first_of, found_of, is_simple_and_free, matches_of, rows_of};
+ghost use Rattle.clap.specs.Words.{app_of, fault_of, first_of, found_of, is_simple_and_free, matches_of, new_app};
+ghost use Rattle.clap.specs.Words.{rows_of};
+ghost use Rattle.tnc_words.specs.Entries.{with_entries};
 ghost use Rattle.tnc_words.specs.Options.{is_used};
 
 use crate::fault::WordsFault;
+use crate::options::{Entry, command_of};
 use clap::error::ErrorKind;
 use clap::parser::ValueSource;
 use clap::{ArgMatches, Command};
+use std::alloc::Global;
 
-/// What a command makes of words, of which the first is its name.
+/// What is found in words for a command with the options of a table. The first word is its name.
 pub(crate) fn parsed<'a>(
-    command: Command<'a>,
+    alloc: Global,
+    name: &'a str,
+    entries: &[Entry],
     words: &'a [String],
 ) -> Result<ArgMatches<'a>, WordsFault>
+    requires { is_simple_and_free (with_entries (new_app name.now) entries.now) ≡ true }
+    ensures rows { IfOk result (λ found. rows_of (found_of found)
+        ≡ matches_of (with_entries (new_app name.entry.now) entries.now) (map string_bytes words.entry.now)) }
+    ensures taken { OnOk result
+        (fault_of (with_entries (new_app name.entry.now) entries.now) (map string_bytes words.entry.now) ≡ []) }
+    ensures refused { IsErrOf result WordsFault.Refused
+        → ¬ (fault_of (with_entries (new_app name.entry.now) entries.now) (map string_bytes words.entry.now) ≡ []) }
+{
+    found_by(command_of(alloc, name, entries)?, words)
+}
+
+/// What a command makes of words, of which the first is its name.
+fn found_by<'a>(command: Command<'a>, words: &'a [String]) -> Result<ArgMatches<'a>, WordsFault>
     requires { is_simple_and_free (app_of command) ≡ true }
     ensures rows { IfOk result (λ found. rows_of (found_of found)
         ≡ matches_of (app_of command.entry) (map string_bytes words.entry.now)) }

@@ -7,8 +7,8 @@ ghost use Rattle.tnc_words.specs.Commands.{HasServeOptions, IsServe, first_word}
 use crate::command::ServeOptions;
 use crate::fault::WordsFault;
 use crate::link_words::{call_said, link_params};
-use crate::number::{Bounds, number_or_default, number_within};
-use crate::options::serve_command;
+use crate::number::{Bounds, number_found, number_given};
+use crate::options::SERVE;
 use crate::parsing::{has_flag, parsed, text_of};
 use clap::ArgMatches;
 use std::alloc::Global;
@@ -38,7 +38,7 @@ pub(crate) fn read_serve(alloc: Global, words: &[String]) -> Result<ServeOptions
     ensures refused { IsErrOf result WordsFault.Refused
         → (serve : ServeOptions) → ¬ IsServe (map string_bytes words.now) serve }
 {
-    let found = parsed(serve_command(alloc)?, words)?;
+    let found = parsed(alloc, "serve", &SERVE, words)?;
     match serve_options(&found) {
         Some(serve) => Ok(serve),
         None => Err(WordsFault::Refused),
@@ -51,12 +51,12 @@ fn serve_options(found: &ArgMatches) -> Option<ServeOptions>
     ensures none { IsNone result → (serve : ServeOptions) → ¬ HasServeOptions (rows_of (found_of found.now)) serve }
 {
     Some(ServeOptions {
-        kiss: number_within(text_of(found, "kiss")?, PORT)? as u16,
-        agw: number_within(text_of(found, "agw")?, PORT)? as u16,
-        seed: number_or_default(text_of(found, "seed"), 1, SEED)?,
+        kiss: number_given(found, "kiss", PORT)? as u16,
+        agw: number_given(found, "agw", PORT)? as u16,
+        seed: number_found(found, "seed", 1, SEED)?,
         params: link_params(found)?,
         digi: call_said(text_of(found, "digi"))?,
-        dcd: number_or_default(text_of(found, "dcd"), 3, FLAGS)? as u8,
+        dcd: number_found(found, "dcd", 3, FLAGS)? as u8,
         sensitive: has_flag(found, "sensitive"),
         monitor: has_flag(found, "monitor"),
     })

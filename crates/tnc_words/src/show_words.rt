@@ -10,7 +10,7 @@ ghost use Rattle.tnc_words.specs.Numbers.{HasNumber};
 use crate::command::ShowWords;
 use crate::fault::WordsFault;
 use crate::number::{Bounds, number_or_default};
-use crate::options::show_command;
+use crate::options::SHOW;
 use crate::parsing::{parsed, text_of};
 use ax25_frames::Modulus;
 use clap::ArgMatches;
@@ -29,7 +29,7 @@ pub(crate) fn read_show(alloc: Global, words: &[String]) -> Result<ShowWords, Wo
     ensures refused { IsErrOf result WordsFault.Refused
         → (show : ShowWords) → ¬ IsShow (map string_bytes words.now) show }
 {
-    let found = parsed(show_command(alloc)?, words)?;
+    let found = parsed(alloc, "show", &SHOW, words)?;
     show_options(&found).ok_or(WordsFault::Refused)
 }
 

@@ -1,6 +1,21 @@
-use Rattle.clap.specs.Words.{app_of}
-use Rattle.tnc_words.proofs.Found.{is_simple-free}
+use Rattle.std.proofs.Common.{◌≡◌, [], map, string_bytes, ap, ◌∙◌, subst}
+use Rattle.std.specs.Prelude.{IfOk, OnOk}
+use Rattle.clap.specs.Words.{App, fault_of, found_of, is_simple_and_free, matches_of, rows_of}
 use Rattle.tnc_words.proofs.parsing.parsed.Goals as goal
 
-pub returns-in-Ok-clause-rows : goal.returns-in-Ok-clause-rows
-returns-in-Ok-clause-rows c = (c.in-Ok.ensures.matches (is_simple-free (app_of c.args.command) c.requires)).0
+pub found_by-requires : goal.found_by-requires
+found_by-requires c = ap is_simple_and_free c.in_ok-command_of.ensures ∙ c.requires
+
+pub returns-clause-rows : goal.returns-clause-rows
+returns-clause-rows c = subst (λ (app : App). IfOk c.found_by.result (λ found.
+    rows_of (found_of found) ≡ matches_of app (map string_bytes c.args.words.now))) c.in_ok-command_of.ensures
+    c.found_by.ensures.rows
+
+pub returns-clause-taken : goal.returns-clause-taken
+returns-clause-taken c =
+    subst (λ (app : App). OnOk c.found_by.result (fault_of app (map string_bytes c.args.words.now) ≡ []))
+    c.in_ok-command_of.ensures c.found_by.ensures.taken
+
+pub returns-clause-refused : goal.returns-clause-refused
+returns-clause-refused c = λ refused faultless. c.found_by.ensures.refused refused
+    (ap (λ app. fault_of app (map string_bytes c.args.words.now)) c.in_ok-command_of.ensures ∙ faultless)

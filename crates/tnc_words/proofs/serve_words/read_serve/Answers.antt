@@ -1,5 +1,5 @@
-use Rattle.std.proofs.Common.{◌≡◌, Err, List, map, string_bytes, subst, ap, ◌∙◌, sym}
-use Rattle.clap.specs.Words.{Row, fault_of, matches_of, rows_of, found_of}
+use Rattle.std.proofs.Common.{◌≡◌, Err, List, map, string_bytes, subst, ap, sym}
+use Rattle.clap.specs.Words.{Row, rows_of, found_of}
 use Rattle.tnc_words.specs.Commands.{HasServeOptions}
 use Rattle.tnc_words.specs.Options.{serve_faults, serve_rows}
 use Rattle.tnc_words.proofs.Found.{passed_on, is_none}
@@ -9,19 +9,18 @@ pub returns-in_err-found-clause-refused : goal.returns-in_err-found-clause-refus
 unfolding serve_faults
 returns-in_err-found-clause-refused c = λ refused serve asks.
     c.in_err-found.ensures.refused
-    (ap Err (passed_on c.from_residual-in_err-found.result c.in_err-found.field-0.0 _ refused
-    c.from_residual-in_err-found.ensures.1))
-    (ap (λ app. fault_of app (map string_bytes c.args.words.now)) c.in_ok-serve_command.ensures ∙ asks.taken)
+    (ap Err (passed_on c.from_residual.result c.in_err-found.field-0.0 _ refused
+    c.from_residual.ensures.1))
+    asks.taken
 
 pub returns-in-Some-clause-taken : goal.returns-in-Some-clause-taken
 unfolding serve_faults serve_rows
 returns-in-Some-clause-taken c =
     let words = map string_bytes c.args.words.now in
-    let found : rows_of (found_of c.in_ok-found.found) ≡ serve_rows words =
-    c.in_ok-found.ensures.rows ∙ ap (λ app. matches_of app words) c.in_ok-serve_command.ensures in
+    let found : rows_of (found_of c.in_ok-found.found) ≡ serve_rows words = c.in_ok-found.ensures.rows in
     record {
       named = c.requires;
-      taken = ap (λ app. fault_of app words) (sym c.in_ok-serve_command.ensures) ∙ c.in_ok-found.ensures.taken;
+      taken = c.in_ok-found.ensures.taken;
       options = subst (λ (rows : List Row). HasServeOptions rows c.in-Some.serve) found c.in-Some.ensures.options;
     }
 
@@ -29,7 +28,6 @@ pub returns-clause-refused : goal.returns-clause-refused
 unfolding serve_rows
 returns-clause-refused c = λ refused serve asks.
     let words = map string_bytes c.args.words.now in
-    let found : rows_of (found_of c.in_ok-found.found) ≡ serve_rows words =
-    c.in_ok-found.ensures.rows ∙ ap (λ app. matches_of app words) c.in_ok-serve_command.ensures in
+    let found : rows_of (found_of c.in_ok-found.found) ≡ serve_rows words = c.in_ok-found.ensures.rows in
     c.serve_options.ensures.none (is_none c.serve_options.result c.in-None.is) serve
     (subst (λ (rows : List Row). HasServeOptions rows serve) (sym found) asks.options)

@@ -1,0 +1,8 @@
+-- The options so far are the command's.
+use Rattle.std.proofs.Common.{◌≡◌, take}
+use Rattle.clap.specs.Words.{app_of, new_app}
+use Rattle.tnc_words.specs.Entries.{with_entries}
+use Rattle.tnc_words.proofs.options.command_of.Given as goal
+
+abbrev pub invariant-loop-entry : goal.invariant-loop-entry
+invariant-loop-entry l = app_of l.command ≡ with_entries (new_app l.fn.name) (take l.entry-index l.entries)
