@@ -5,7 +5,7 @@ ghost use Rattle.sample_ring.specs.Ends.{ring_id, writer_ring, reader_ring};
 use crate::publishing::{CELLS, publish};
 use crate::rates::{Rates, Spent};
 use anyhow::ensure;
-use sample_ring::{Got, Reader, Ring};
+use sample_ring::{Got, Reader, Ring, Writer};
 use std::alloc::Global;
 use std::time::CpuClock;
 
@@ -20,12 +20,26 @@ pub fn in_turns<R: CpuClock>(
     samples: u32,
 ) -> anyhow::Result<Rates> {
     let (ring, mut writer, mut readers) = Ring::new(alloc, CELLS, readers)?;
+    take_turns(rt, &ring, &mut writer, readers.as_mut_slice(), samples)
+}
+
+/// Publishes so many samples a block at a time, and lets each reader read each block.
+fn take_turns<R: CpuClock>(
+    rt: &R,
+    ring: &Ring,
+    writer: &mut Writer,
+    readers: &mut [Reader],
+    samples: u32,
+) -> anyhow::Result<Rates>
+    requires writer { writer_ring writer.old ≡ ring_id ring.now }
+    requires readers { All (λ reader. reader_ring reader ≡ ring_id ring.now) readers.old }
+{
     let mut publishes = Spent::nothing();
     let mut reads = Spent::nothing();
     for block in 0..samples.div_ceil(BLOCK) {
         let count = BLOCK.min(samples - block * BLOCK);
-        publishes.add(publish(rt, &ring, &mut writer, count)?);
-        reads.add(read_by_each(rt, &ring, readers.as_mut_slice(), count)?);
+        publishes.add(publish(rt, ring, writer, count)?);
+        reads.add(read_by_each(rt, ring, readers, count)?);
     }
     Ok(Rates { publishes, reads })
 }

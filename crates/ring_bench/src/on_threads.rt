@@ -12,8 +12,8 @@ use std::sync::Wait;
 use std::thread::{self, Threads};
 use std::time::CpuClock;
 
-/// Publishes so many samples as fast as it can, beside readers that read until the end. A read that finds the ring empty,
-/// or samples overwritten, counts as any other.
+/// Publishes so many samples as fast as it can, beside readers that read until the end. A read that finds the ring
+/// empty, or samples overwritten, counts as any other.
 pub fn on_threads<R: Threads + Wait + CpuClock + Sync>(
     rt: &R,
     alloc: Global,

@@ -183,7 +183,7 @@ pub text_sent : (command : Command) (r : Result (Unit {0}) Stop) → (r ≡ Ok t
 text_sent command r (inl is) = subst (λ e. IfErr e (IsStopOfRun command)) (sym is) tt
 text_sent command r (inr is) = subst (λ e. IfErr e (IsStopOfRun command)) (sym is) tt
 
--- what holds however a call ended holds where it ended well
+-- what holds however a call ended holds if it ended well
 pub on_ok : {T E : Type 0} (r : Result T E) {P : Type 0} → P → OnOk r P
 on_ok (Ok x) p = p
 on_ok (Err e) p = tt

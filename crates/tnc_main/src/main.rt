@@ -1,6 +1,6 @@
-//! The program of the modem: it takes the words of a command line and works from one stream of octets to another, and as
-//! a live station also with the hosts that connect to its ports. All that it does is one call over streams and ports that
-//! are handed in, whose contract says what each exit status stands for and which octets are written.
+//! The program of the modem: it takes the words of a command line and works from one stream of octets to another, and
+//! as a live station also with the hosts that connect to its ports. All that it does is one call over streams and ports
+//! that are handed in, whose contract says what each exit status stands for and which octets are written.
 #![tactic(auto)]
 
 #[cfg(test)]

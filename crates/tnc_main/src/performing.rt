@@ -36,7 +36,8 @@ pub(crate) fn perform<R: Threads + Sync, I: Source, O: Sink>(
     ensures end { (octets : List ℕ) → Reads command (I.left input.old) octets
         → OnOk result (Reads command (I.left input.new) []) }
     ensures stops { (octets : List ℕ) → Reads command (I.left input.old) octets
-        → IsErrOf result (Stop.Input InputFault.TooLong) → Reads command (I.left input.new) (drop (input_limit + 1) octets) }
+        → IsErrOf result (Stop.Input InputFault.TooLong)
+        → Reads command (I.left input.new) (drop (input_limit + 1) octets) }
     ensures unread { ReadsNothing command → input.new ≡ input.old }
     ensures written { (octets before : List ℕ) → Reads command (I.left input.old) octets
         → O.written output.old ≡ Some before

@@ -1,5 +1,6 @@
 //! The program as one call: from the words of a command line, over streams that are handed in, to an exit status.
-ghost use Rattle.std.specs.Prelude.{◌≡◌, ◌⊎◌, ◌<◌, ◌≤◌, ◌++◌, IfErr, IsErrAnd, Err, ℕ, List, Some, length, map, string_bytes};
+ghost use Rattle.std.specs.Prelude.{◌≡◌, ◌⊎◌, ◌<◌, ◌≤◌, ◌++◌, IfErr, IsErrAnd, Err, ℕ, List, Some, length, map};
+ghost use Rattle.std.specs.Prelude.{string_bytes};
 ghost use Rattle.tnc_base.specs.Faults.{HasRisen};
 ghost use Rattle.tnc_base.specs.Streams.{WrotePart};
 ghost use Rattle.clean_signal.specs.GoodTransmission.{frames_of};
@@ -58,9 +59,9 @@ use tnc_words::{Command, WordsFault, read_words};
 /// | 8 | A bench was not over in time. The report says after how many ticks. | Loses less, or adds less noise. |
 /// | 10 | A live station could not open its ports. | Ends what listens there, or names other ports. |
 ///
-/// A command that makes one text of its input is a `Job`, and the clauses that speak of a job say all of it. `serve` is a
-/// live command and no job: `served` and `complete_served` speak of it alone. All other clauses hold of both kinds, or say
-/// of which.
+/// A command that makes one text of its input is a `Job`, and the clauses that speak of a job say all of it. `serve` is
+/// a live command and no job: `served` and `complete_served` speak of it alone. All other clauses hold of both kinds,
+/// or say of which.
 pub fn run<
     Rt: Threads + Wait + Net + Sync,
     I: Source + Send,
@@ -77,7 +78,8 @@ pub fn run<
     report: &mut E,
     live: &mut Live<N, W>,
 ) -> u8
-    // what the words may be: if they ask for nothing, nothing is touched but the report, and no port is opened but by serve
+    // what the words may be: if they ask for nothing, nothing is touched but the report, and no port is opened but by
+    // serve
     ensures bad_words { result ≡ 1 → AskNothing (map string_bytes words.now) }
     ensures refused { AskNothing (map string_bytes words.now) → (input.new ≡ input.old) × (output.new ≡ output.old)
         × ((result ≡ 1) ⊎ ((result ≡ 3) ⊎ (result ≡ 5))) }
@@ -88,14 +90,16 @@ pub fn run<
         → Leaves job.command job.octets job.status (I.left input.new) }
     ensures written { (job : Job (map string_bytes words.now) (I.left input.old) result) → (before : List ℕ)
         → O.written output.old ≡ Some before → (text : List ℕ)
-        × Writes job.command job.octets (I.left input.new) job.status text × (O.written output.new ≡ Some (before ++ text)) }
+        × Writes job.command job.octets (I.left input.new) job.status text
+        × (O.written output.new ≡ Some (before ++ text)) }
     ensures unwritten { (command : Command) → Asks (map string_bytes words.now) command → WritesAtEnd command
         → result ≡ 4 → output.new ≡ output.old }
     ensures too_long { (job : Job (map string_bytes words.now) (I.left input.old) result)
         → WritesAtEnd job.command → input_limit < length job.octets → result ≡ 2 → output.new ≡ output.old }
     ensures heard { (job : Job (map string_bytes words.now) (I.left input.old) result) → (decode : DecodeWords)
         → (received : List Received) → (before : List ℕ) → job.command ≡ Command.Decode decode
-        → IsNearlyClean (modem_of decode job.octets) (samples_read decode job.octets) received → O.written output.old ≡ Some before
+        → IsNearlyClean (modem_of decode job.octets) (samples_read decode job.octets) received
+        → O.written output.old ≡ Some before
         → result ≡ 0
         → O.written output.new ≡ Some (before ++ print decode.frames (frames_of (transmissions_of received))) }
     ensures unread { (command : Command) → Asks (map string_bytes words.now) command → ReadsNothing command
@@ -108,8 +112,10 @@ pub fn run<
     ensures served { (options : ServeOptions) → IsServe (map string_bytes words.now) options
         → (status : Status) × (result ≡ code_of status)
         × RunsLive options status (input_by I.left I.faults input.old) (input_by I.left I.faults input.new)
-        (outside_by N.listens N.polls N.sends N.sent N.is_shut N.faults O.written O.faults E.written E.faults live.old.ports output.old report.old)
-        (outside_by N.listens N.polls N.sends N.sent N.is_shut N.faults O.written O.faults E.written E.faults live.new.ports output.new report.new) }
+        (outside_by N.listens N.polls N.sends N.sent N.is_shut N.faults O.written O.faults E.written E.faults
+        live.old.ports output.old report.old)
+        (outside_by N.listens N.polls N.sends N.sent N.is_shut N.faults O.written O.faults E.written E.faults
+        live.new.ports output.new report.new) }
 
     // each status and its cause
     ensures known { (status : Status) × (result ≡ code_of status) }
@@ -174,7 +180,8 @@ fn explained<E: Sink>(alloc: Global, end: Result<(), Stop>, report: &mut E) -> S
     ensures silent { (result ≡ Status.Done) ⊎ ((result ≡ Status.Memory) ⊎ (result ≡ Status.ReadFault))
         → report.new ≡ report.old }
     ensures told { (before : List ℕ) → E.written report.old ≡ Some before
-        → (result ≡ Status.BadInput) ⊎ ((result ≡ Status.Stray) ⊎ ((result ≡ Status.NotQuiet) ⊎ (result ≡ Status.Spent)))
+        → (result ≡ Status.BadInput) ⊎ ((result ≡ Status.Stray)
+        ⊎ ((result ≡ Status.NotQuiet) ⊎ (result ≡ Status.Spent)))
         → IfErr end (λ stop. E.written report.new ≡ Some (before ++ line_of stop)) }
     ensures cut { (before : List ℕ) → E.written report.old ≡ Some before
         → result ≡ Status.WriteFault → IfErr end (λ stop. WrotePart before (line_of stop) (E.written report.new)) }

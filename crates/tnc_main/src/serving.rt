@@ -39,8 +39,10 @@ pub fn serve<
     requires dcd { (1 ≤ words.dcd) × (words.dcd ≤ 8) }
     ensures { (status : Status) × (result ≡ code_of status)
         × Serves words status (input_by I.left I.faults input.old) (input_by I.left I.faults input.new)
-        (outside_by N.listens N.polls N.sends N.sent N.is_shut N.faults O.written O.faults E.written E.faults live.old.ports output.old report.old)
-        (outside_by N.listens N.polls N.sends N.sent N.is_shut N.faults O.written O.faults E.written E.faults live.new.ports output.new report.new) }
+        (outside_by N.listens N.polls N.sends N.sent N.is_shut N.faults O.written O.faults E.written E.faults
+        live.old.ports output.old report.old)
+        (outside_by N.listens N.polls N.sends N.sent N.is_shut N.faults O.written O.faults E.written E.faults
+        live.new.ports output.new report.new) }
 {
     let end = tnc_ports::serve(rt, alloc, words, input, output, report, live);
     tell_end(end, report).code()

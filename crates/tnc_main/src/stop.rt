@@ -8,8 +8,8 @@ use tnc_bench::CommandFault;
 use tnc_forms::{Fault, InputFault};
 use tnc_loop::LoopFault;
 
-/// Why a command that makes one text of its input does not end well. Refused words are none of these, since then nothing
-/// runs.
+/// Why a command that makes one text of its input does not end well. Refused words are none of these, since then
+/// nothing runs.
 #[derive(Debug, Drop)]
 pub(crate) enum Stop {
     /// The input breaks the rules of its form.

@@ -18,6 +18,9 @@ mod live;
 /// A SABM with P from N7LEM to NJ7P: the shortest legal frame.
 const SHORTEST: &str = "9c946ea04040e09c6e988a9a40613f";
 
+/// The report of words that ask for nothing.
+const BAD: &str = "tnc: bad words\n";
+
 /// A bench of no octets.
 const BENCH: &str = "bench --seed=7 --octets=0 --full";
 
@@ -34,6 +37,26 @@ struct Outcome {
     listens: usize,
 }
 
+/// The words of a command line.
+fn split(alloc: Global, words: &str) -> Result<Vec<String>, Fail> {
+    let mut given = Vec::new(alloc);
+    for word in words.split_whitespace() {
+        given.push(String::from_str(alloc, word)?)?;
+    }
+    Ok(given)
+}
+
+/// An input in pieces of seven octets. The number is that of the read that fails.
+fn input_of(alloc: Global, octets: &[u8], read: u64) -> Result<MemSource, Fail> {
+    let failing = [read].to_vec(alloc)?;
+    Ok(MemSource::new(octets.to_vec(alloc)?, 7, failing))
+}
+
+/// An output with room for so many octets. The number is that of the write that fails.
+fn output_of(alloc: Global, room: usize, write: u64) -> Result<MemSink, Fail> {
+    Ok(MemSink::new(alloc, room, [write].to_vec(alloc)?)?)
+}
+
 /// A run over memory whose input comes in pieces of seven octets, and to whose ports no host connects. The numbers are
 /// those of the read, the write, the report and the call of the ports that fail.
 fn run_live<R: Threads + Wait + Net + Sync>(
@@ -43,28 +66,40 @@ fn run_live<R: Threads + Wait + Net + Sync>(
     input: &[u8],
     [read, write, told, call]: [u64; 4],
 ) -> Result<Outcome, Fail> {
-    let mut given = Vec::new(alloc);
-    for word in words.split_whitespace() {
-        given.push(String::from_str(alloc, word)?)?;
-    }
-    let mut input = MemSource::new(input.to_vec(alloc)?, 7, [read].to_vec(alloc)?);
-    let mut output = MemSink::new(alloc, 200_000, [write].to_vec(alloc)?)?;
-    let mut report = MemSink::new(alloc, 200, [told].to_vec(alloc)?)?;
-    let mut live = MemLive::new(alloc, Vec::new(alloc), [call].to_vec(alloc)?);
-    let status = run(
+    let given = split(alloc, words)?;
+    let mut input = input_of(alloc, input, read)?;
+    let mut output = output_of(alloc, 200_000, write)?;
+    let mut report = output_of(alloc, 200, told)?;
+    run_streams(
         rt,
         alloc,
         &given,
         &mut input,
         &mut output,
         &mut report,
-        &mut live,
-    );
+        call,
+    )
+}
+
+/// What comes of these words over these streams. The number is that of the call of the ports that fails.
+fn run_streams<R: Threads + Wait + Net + Sync>(
+    rt: &R,
+    alloc: Global,
+    given: &[String],
+    input: &mut MemSource,
+    output: &mut MemSink,
+    report: &mut MemSink,
+    call: u64,
+) -> Result<Outcome, Fail> {
+    let failing = [call].to_vec(alloc)?;
+    let mut live = MemLive::new(alloc, Vec::new(alloc), failing);
+    let status = run(rt, alloc, given, input, output, report, &mut live);
+    let listens = live.ports.listens().len();
     Ok(Outcome {
         status,
         output: output.written().to_vec(alloc)?,
         report: report.written().to_vec(alloc)?,
-        listens: live.ports.listens().len(),
+        listens,
     })
 }
 
@@ -103,49 +138,60 @@ fn assert_ended<R: Abort>(
     );
 }
 
-// Each row: the words, the input, what fails, the status, how many octets are written, and the report.
-#[test]
-fn each_status_has_its_cause_and_its_line(rt: HostRuntime) -> Result<(), Fail> {
-    let bad = "tnc: bad words\n";
-    for (words, input, failing, end) in [
-        ("decode", "odd", [NEVER; 3], (0, 0, "")),
-        ("decod", "", [0, 0, NEVER], (1, 0, bad)),
-        ("", "", [NEVER; 3], (1, 0, bad)),
-        ("show --modulo 16", "", [NEVER; 3], (1, 0, bad)),
-        ("loop --seed 7", "", [NEVER; 3], (1, 0, bad)),
-        ("decod", "", [NEVER, NEVER, 0], (5, 0, "")),
-        ("decode", "", [0, NEVER, NEVER], (4, 0, "")),
-        ("decode", "12345678", [1, 1, 0], (4, 0, "")),
-        ("encode", SHORTEST, [2, NEVER, NEVER], (4, 0, "")),
-        ("show", SHORTEST, [2, NEVER, NEVER], (4, 0, "")),
-        ("decode", "", [NEVER, 0, NEVER], (5, 0, "")),
-        ("encode", SHORTEST, [NEVER, 0, NEVER], (5, 0, "")),
-        ("encode --wav", SHORTEST, [NEVER, 1, NEVER], (5, 44, "")),
-        ("show", SHORTEST, [NEVER, 0, NEVER], (5, 0, "")),
-        ("encode", "9c9", [NEVER, NEVER, 0], (5, 0, "")),
-    ] {
-        let got = run_failing(&rt, rt.alloc(), words, input.as_bytes(), failing)?;
-        assert_ended(&rt, words, &got, end);
+/// The words, the input, what fails, and the end: the status, how many octets are written, and the report.
+type Row<'a> = (&'a str, &'a str, [u64; 3], (u8, usize, &'a str));
+
+/// Ends the test unless the run of each row ends so.
+fn each_ends<R: Threads + Wait + Net + Sync + Abort>(
+    rt: &R,
+    alloc: Global,
+    rows: &[Row<'_>],
+) -> Result<(), Fail> {
+    for (words, input, failing, end) in rows {
+        let got = run_failing(rt, alloc, words, input.as_bytes(), *failing)?;
+        assert_ended(rt, words, &got, *end);
     }
     Ok(())
 }
 
-// Rows as above: commands that read nothing, and an input without frames.
+/// Runs of each status.
+static STATUSES: [Row<'static>; 15] = [
+    ("decode", "odd", [NEVER; 3], (0, 0, "")),
+    ("decod", "", [0, 0, NEVER], (1, 0, BAD)),
+    ("", "", [NEVER; 3], (1, 0, BAD)),
+    ("show --modulo 16", "", [NEVER; 3], (1, 0, BAD)),
+    ("loop --seed 7", "", [NEVER; 3], (1, 0, BAD)),
+    ("decod", "", [NEVER, NEVER, 0], (5, 0, "")),
+    ("decode", "", [0, NEVER, NEVER], (4, 0, "")),
+    ("decode", "12345678", [1, 1, 0], (4, 0, "")),
+    ("encode", SHORTEST, [2, NEVER, NEVER], (4, 0, "")),
+    ("show", SHORTEST, [2, NEVER, NEVER], (4, 0, "")),
+    ("decode", "", [NEVER, 0, NEVER], (5, 0, "")),
+    ("encode", SHORTEST, [NEVER, 0, NEVER], (5, 0, "")),
+    ("encode --wav", SHORTEST, [NEVER, 1, NEVER], (5, 44, "")),
+    ("show", SHORTEST, [NEVER, 0, NEVER], (5, 0, "")),
+    ("encode", "9c9", [NEVER, NEVER, 0], (5, 0, "")),
+];
+
+#[test]
+fn each_status_has_its_cause_and_its_line(rt: HostRuntime) -> Result<(), Fail> {
+    each_ends(&rt, rt.alloc(), &STATUSES)
+}
+
+/// Runs of commands that read nothing, and of an input without frames.
+static OTHERS: [Row<'static>; 7] = [
+    ("loop --seed=7 --frames=0", "x", [0, 0, NEVER], (5, 0, "")),
+    ("loop --seed=7 --frames=0", "x", [0, NEVER, 0], (0, 47, "")),
+    ("encode", "", [NEVER, 0, 0], (0, 0, "")),
+    ("version", "x", [0, NEVER, 0], (0, 10, "")),
+    ("help loop", "x", [0, 0, NEVER], (5, 0, "")),
+    (BENCH, "x", [0, NEVER, 0], (0, 128, "")),
+    (BENCH, "x", [0, 0, NEVER], (5, 0, "")),
+];
+
 #[test]
 fn other_commands_have_their_statuses_too(rt: HostRuntime) -> Result<(), Fail> {
-    for (words, input, failing, end) in [
-        ("loop --seed=7 --frames=0", "x", [0, 0, NEVER], (5, 0, "")),
-        ("loop --seed=7 --frames=0", "x", [0, NEVER, 0], (0, 47, "")),
-        ("encode", "", [NEVER, 0, 0], (0, 0, "")),
-        ("version", "x", [0, NEVER, 0], (0, 10, "")),
-        ("help loop", "x", [0, 0, NEVER], (5, 0, "")),
-        (BENCH, "x", [0, NEVER, 0], (0, 128, "")),
-        (BENCH, "x", [0, 0, NEVER], (5, 0, "")),
-    ] {
-        let got = run_failing(&rt, rt.alloc(), words, input.as_bytes(), failing)?;
-        assert_ended(&rt, words, &got, end);
-    }
-    Ok(())
+    each_ends(&rt, rt.alloc(), &OTHERS)
 }
 
 #[test]

@@ -1,4 +1,6 @@
 //! Octet lists, the hash, and streams in memory and of std.
+ghost use Rattle.std.specs.Prelude.{◌<◌};
+
 use crate::tests::assertions::assert_equal;
 use std::alloc::Global;
 use std::io::{self, ErrorKind, Read};
@@ -50,10 +52,10 @@ fn writes<K: Sink>(
 #[test]
 fn a_list_keeps_its_octets(rt: HostRuntime) -> Result<(), Fail> {
     let list = Octets::from_slice(rt.alloc(), b"N7LEM")?;
-    let none = Octets::from_slice(rt.alloc(), b"")?;
     assert_equal(&rt, &list.as_slice(), &b"N7LEM".as_slice());
     assert_equal(&rt, &list.clone()?.as_slice(), &b"N7LEM".as_slice());
     assert_equal(&rt, &(list.len(), list.is_empty()), &(5, false));
+    let none = Octets::from_slice(rt.alloc(), b"")?;
     assert_equal(&rt, &(none.len(), none.is_empty()), &(0, true));
     Ok(())
 }
@@ -72,6 +74,18 @@ fn the_hash_is_fnv_1a(rt: HostRuntime) {
     }
 }
 
+/// The same of `12345` in memory, in pieces of so many octets, if the reads of these numbers fail.
+fn six_reads_of_pieces(
+    alloc: Global,
+    piece: usize,
+    failing: &[u64],
+) -> Result<(Vec<u8>, Vec<u8>), Fail>
+    requires { 0 < piece }
+{
+    let mut source = MemSource::new(b"12345".to_vec(alloc)?, piece, failing.to_vec(alloc)?);
+    Ok(six_reads(alloc, &mut source)?)
+}
+
 #[test]
 fn a_source_in_memory_gives_pieces_and_fails_in_mid_stream(rt: HostRuntime) -> Result<(), Fail> {
     let alloc = rt.alloc();
@@ -82,8 +96,7 @@ fn a_source_in_memory_gives_pieces_and_fails_in_mid_stream(rt: HostRuntime) -> R
     ];
     for (piece, failing, want) in table {
         assert!(rt; piece > 0);
-        let mut source = MemSource::new(b"12345".to_vec(alloc)?, piece, failing.to_vec(alloc)?);
-        let (answers, octets) = six_reads(alloc, &mut source)?;
+        let (answers, octets) = six_reads_of_pieces(alloc, piece, failing)?;
         assert_equal(
             &rt,
             &(piece, answers.as_slice(), octets.as_slice()),

@@ -92,8 +92,8 @@ fn record_tone(
     Ok(phase)
 }
 
-/// What is written of an input that comes in pieces of so many octets, and how the command ends, if the source fails the
-/// reads of these numbers.
+/// What is written of an input that comes in pieces of so many octets, and how the command ends, if the source fails
+/// the reads of these numbers.
 fn decoded<R: Abort + Threads + Sync>(
     rt: &R,
     alloc: Global,
@@ -107,6 +107,23 @@ fn decoded<R: Abort + Threads + Sync>(
     let mut output = MemSink::new(alloc, 1000, Vec::new(alloc))?;
     let end = decode(rt, alloc, words, &mut input, &mut output);
     Ok((output.written().to_vec(alloc)?, end))
+}
+
+/// Asserts what is written of an input that comes in pieces of 4095 octets, to its end.
+fn assert_writes<R: Abort + Threads + Sync>(
+    rt: &R,
+    alloc: Global,
+    words: DecodeWords,
+    octets: Vec<u8>,
+    want: &[u8],
+) -> Result<(), Fail> {
+    let (written, end) = decoded(rt, alloc, words, octets, 4095, &[])?;
+    assert_equal(
+        rt,
+        &(words, written.as_slice(), end),
+        &(words, want, Ok(())),
+    );
+    Ok(())
 }
 
 #[test]
@@ -157,12 +174,7 @@ fn samples_at_48000_a_second_give_the_same_line(rt: HostRuntime) -> Result<(), F
     for (words, front) in table {
         let mut octets = front.to_vec(rt.alloc())?;
         record(&mut octets, 5)?;
-        let (written, end) = decoded(&rt, rt.alloc(), words, octets, 4095, &[])?;
-        assert_equal(
-            &rt,
-            &(words, written.as_slice(), end),
-            &(words, LINE, Ok(())),
-        );
+        assert_writes(&rt, rt.alloc(), words, octets, LINE)?;
     }
     Ok(())
 }
@@ -182,19 +194,7 @@ fn all_lanes_hear_a_slow_sender_too(rt: HostRuntime) -> Result<(), Fail> {
         (&slow, WORDS, b""),
     ];
     for (octets, words, want) in table {
-        let (written, end) = decoded(
-            &rt,
-            rt.alloc(),
-            words,
-            octets.to_vec(rt.alloc())?,
-            4095,
-            &[],
-        )?;
-        assert_equal(
-            &rt,
-            &(words, written.as_slice(), end),
-            &(words, want, Ok(())),
-        );
+        assert_writes(&rt, rt.alloc(), words, octets.to_vec(rt.alloc())?, want)?;
     }
     Ok(())
 }

@@ -1,4 +1,5 @@
-//! Frames in several forms and the samples that come of them. Counts of octets and hashes were computed apart from the program.
+//! Frames in several forms and the samples that come of them. Counts of octets and hashes were computed apart from the
+//! program.
 
 use crate::tests::assertions::assert_equal;
 use std::alloc::Global;
@@ -29,8 +30,8 @@ const WORDS: EncodeWords = EncodeWords {
     modem: Modem::Bell202,
 };
 
-/// What is written of an input that comes in pieces of 31 octets, and how the command ends, if the source fails the reads and
-/// the sink the writes of these numbers.
+/// What is written of an input that comes in pieces of 31 octets, and how the command ends, if the source fails the
+/// reads and the sink the writes of these numbers.
 fn encoded(
     rt: &impl Abort,
     alloc: Global,

@@ -13,8 +13,8 @@ fn bad(flaw: LineFlaw, place: usize) -> InputFault {
     InputFault::Line(LineFault { flaw, place })
 }
 
-// The input, how many frames stand before its first bad line, and what is wrong with that one. A frame has two octets at
-// least.
+// The input, how many frames stand before its first bad line, and what is wrong with that one. A frame has two octets
+// at least.
 #[test]
 fn inputs_and_their_first_bad_line(rt: HostRuntime) -> Result<(), Fail> {
     for (input, frames, fault) in [

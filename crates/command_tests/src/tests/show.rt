@@ -2,6 +2,7 @@
 use crate::tests::assertions::assert_equal;
 use ax25_frames::Modulus;
 use std::alloc::Global;
+use std::process::Abort;
 use std::test::Fail;
 use tnc_base::{MemSink, MemSource};
 use tnc_forms::{Fault, InputFault, LineFault, LineFlaw};
@@ -21,6 +22,24 @@ fn shown(
     let mut sink = MemSink::new(alloc, 4096, writes.to_vec(alloc)?)?;
     let end = show(alloc, ShowWords { modulus }, &mut source, &mut sink);
     Ok((sink.written().to_vec(alloc)?, end))
+}
+
+/// Asserts what is written of a whole input, and how the command ends.
+fn assert_shown<R: Abort>(
+    rt: &R,
+    alloc: Global,
+    modulus: Modulus,
+    input: &str,
+    text: &str,
+    end: Result<(), Fault>,
+) -> Result<(), Fail> {
+    let (written, ended) = shown(alloc, modulus, input.as_bytes(), &[], &[])?;
+    assert_equal(
+        rt,
+        &(input, written.as_slice(), ended),
+        &(input, text.as_bytes(), end),
+    );
+    Ok(())
 }
 
 /// A bad line.
@@ -89,13 +108,8 @@ fn inputs_and_their_lines(rt: HostRuntime) -> Result<(), Fail> {
         ("00 \n", "", bad(LineFlaw::OddLine, 0)),
         (" 00\n\n", "", bad(LineFlaw::OddLine, 0)),
     ];
-    for (input, text, end) in table {
-        let (written, ended) = shown(alloc, Modulus::Eight, input.as_bytes(), &[], &[])?;
-        assert_equal(
-            &rt,
-            &(input, written.as_slice(), ended),
-            &(input, text.as_bytes(), end),
-        );
+    for &(input, text, end) in &table {
+        assert_shown(&rt, alloc, Modulus::Eight, input, text, end)?;
     }
     one_text();
     Ok(())
@@ -112,12 +126,7 @@ fn control_fields_of_two_octets(rt: HostRuntime) -> Result<(), Fail> {
         ("9c946ea04040e09c6e988a9a406104\n", "! no control at 15\n"),
         ("9c946ea04040e09c6e988a9a406111\n", "! unknown control 11\n"),
     ] {
-        let (written, ended) = shown(alloc, Modulus::OneTwentyEight, input.as_bytes(), &[], &[])?;
-        assert_equal(
-            &rt,
-            &(input, written.as_slice(), ended),
-            &(input, text.as_bytes(), Ok(())),
-        );
+        assert_shown(&rt, alloc, Modulus::OneTwentyEight, input, text, Ok(()))?;
     }
     Ok(())
 }

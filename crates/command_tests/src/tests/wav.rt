@@ -1,6 +1,7 @@
 //! Files and heads from outside.
 use crate::tests::assertions::assert_equal;
 use std::alloc::{AllocError, Global};
+use std::process::Abort;
 use std::test::Fail;
 use wav_file::{TooLong, WavFault, WavIn, wav_head};
 
@@ -21,8 +22,8 @@ const FRONT: &[u8] = b"RIFF\xff\xff\xff\xffWAVE";
 // A format that is read.
 const FORMAT: &[u8] = b"fmt \x10\0\0\0\x01\0\x01\0\x80\x25\0\0\0\0\0\0\x02\0\x10\0";
 
-// What a reader made of octets: the samples, the first fault with the place of the octet that brought it, how many octets
-// were answered by that fault, and what it thinks of a file that ends there.
+// What a reader made of octets: the samples, the first fault with the place of the octet that brought it, how many
+// octets were answered by that fault, and what it thinks of a file that ends there.
 #[derive(Drop)]
 struct Read {
     samples: Vec<i16>,
@@ -182,6 +183,24 @@ fn a_rate_of_44100_is_named(rt: HostRuntime) {
     assert_equal(&rt, &reader.finish(), &Err(fault));
 }
 
+/// Asserts what is read of a file of these parts, the row of this number.
+fn assert_read<R: Abort>(
+    rt: &R,
+    alloc: Global,
+    number: usize,
+    parts: &[&[u8]],
+    samples: &[i16],
+    end: Result<(), WavFault>,
+) -> Result<(), Fail> {
+    let found = read_all(alloc, &joined(alloc, parts)?)?;
+    assert_equal(
+        rt,
+        &(number, found.samples.as_slice(), found.end),
+        &(number, samples, end),
+    );
+    Ok(())
+}
+
 #[test]
 fn chunks_in_any_order_are_read(rt: HostRuntime) -> Result<(), Fail> {
     let alloc = rt.alloc();
@@ -215,13 +234,8 @@ fn chunks_in_any_order_are_read(rt: HostRuntime) -> Result<(), Fail> {
             cut(49),
         ),
     ];
-    for (number, (parts, samples, end)) in table.into_iter().enumerate() {
-        let found = read_all(alloc, &joined(alloc, parts)?)?;
-        assert_equal(
-            &rt,
-            &(number, found.samples.as_slice(), found.end),
-            &(number, samples, end),
-        );
+    for (number, (parts, samples, end)) in table.iter().enumerate() {
+        assert_read(&rt, alloc, number, parts, samples, *end)?;
     }
     Ok(())
 }

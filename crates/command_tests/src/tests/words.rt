@@ -1,5 +1,7 @@
 //! What words ask for, and which words are refused.
+use crate::tests::assertions::assert_equal;
 use std::alloc::Global;
+use std::process::Abort;
 use std::test::Fail;
 use tnc_words::{Command, WordsFault, read_words};
 
@@ -26,9 +28,17 @@ fn words_of(alloc: Global, front: &str, line: &str) -> Result<Vec<String>, Fail>
     Ok(words)
 }
 
-/// What the words of a line ask for after those of `front`.
-fn asked(alloc: Global, front: &str, line: &str) -> Result<Result<Command, WordsFault>, Fail> {
-    Ok(read_words(alloc, &words_of(alloc, front, line)?))
+/// Asserts what the words of a line ask for after those of `front`.
+fn assert_asked<R: Abort>(
+    rt: &R,
+    alloc: Global,
+    front: &str,
+    line: &str,
+    want: Command,
+) -> Result<(), Fail> {
+    let asked = read_words(alloc, &words_of(alloc, front, line)?);
+    assert_equal(rt, &(line, asked), &(line, Ok(want)));
+    Ok(())
 }
 
 /// Whether the words of a line are refused after those of `front`.

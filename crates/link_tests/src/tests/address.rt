@@ -15,7 +15,7 @@ fn names_are_calls(rt: HostRuntime) -> Result<(), Fail> {
 
 #[test]
 fn names_are_refused(rt: HostRuntime) {
-    for (name, ssid, fault) in [
+    for &(name, ssid, fault) in &[
         ("", 16, CallFault::Empty),
         ("ABCDEFG", 16, CallFault::TooLong),
         ("AB CD", 16, CallFault::BadChar { index: 2 }),
@@ -37,7 +37,7 @@ fn each_ssid_is_read_again(rt: HostRuntime) -> Result<(), Fail> {
 
 #[test]
 fn texts_are_calls(rt: HostRuntime) -> Result<(), Fail> {
-    for (text, again) in [
+    for &(text, again) in &[
         ("n7lem", "N7LEM"),
         ("Relay-0", "RELAY"),
         ("wide2-15", "WIDE2-15"),
@@ -50,7 +50,7 @@ fn texts_are_calls(rt: HostRuntime) -> Result<(), Fail> {
 
 #[test]
 fn texts_are_refused(rt: HostRuntime) {
-    for (text, fault) in [
+    for &(text, fault) in &[
         ("", CallFault::Empty),
         ("-1", CallFault::Empty),
         ("ABCDEFG-16", CallFault::TooLong),

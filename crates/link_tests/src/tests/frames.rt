@@ -4,6 +4,7 @@ use ax25_frames::{
     Frame, FrameFault, Kind, Modulus, is_command, read_frame, text_of, text_of_fault, write_frame,
 };
 use std::alloc::Global;
+use std::process::Abort;
 use std::test::Fail;
 use tnc_base::Octets;
 
@@ -16,13 +17,44 @@ fn shown(alloc: Global, digits: &str, modulus: Modulus) -> Result<String, Fail> 
     })
 }
 
+/// Asserts the line that is printed for octets in hexadecimal.
+fn assert_shown<R: Abort>(
+    rt: &R,
+    alloc: Global,
+    digits: &str,
+    modulus: Modulus,
+    line: &str,
+) -> Result<(), Fail> {
+    let text = shown(alloc, digits, modulus)?;
+    assert_equal(rt, &(digits, text.as_str()), &(digits, line));
+    Ok(())
+}
+
 /// The address of N7LEM to NJ7P as a command.
 const ADDRESS: &str = "9c946ea04040e09c6e988a9a4061";
+
+/// Asserts the line that is printed for what follows that address.
+fn assert_body<R: Abort>(
+    rt: &R,
+    alloc: Global,
+    body: &str,
+    modulus: Modulus,
+    line: &str,
+) -> Result<(), Fail> {
+    let digits = format!(in alloc; "{ADDRESS}{body}")?;
+    assert_shown(rt, alloc, digits.as_str(), modulus, line)
+}
+
+/// Asserts what is printed after the path of a frame with that address.
+fn assert_frame<R: Abort>(rt: &R, alloc: Global, body: &str, line: &str) -> Result<(), Fail> {
+    let wanted = format!(in alloc; "N7LEM>NJ7P {line}")?;
+    assert_body(rt, alloc, body, Modulus::Eight, wanted.as_str())
+}
 
 #[test]
 fn lines_of_frames(rt: HostRuntime) -> Result<(), Fail> {
     let alloc = rt.alloc();
-    for (body, line) in [
+    for (body, line) in &[
         ("3f", "SABM cmd f=1"),
         ("7f", "SABME cmd f=1"),
         ("43", "DISC cmd f=0"),
@@ -40,10 +72,7 @@ fn lines_of_frames(rt: HostRuntime) -> Result<(), Fail> {
         ("03f0", "UI cmd f=0 pid=f0 len=0"),
         ("13ccff", "UI cmd f=1 pid=cc len=1 ff"),
     ] {
-        let digits = format!(in alloc; "{ADDRESS}{body}")?;
-        let wanted = format!(in alloc; "N7LEM>NJ7P {line}")?;
-        let text = shown(alloc, digits.as_str(), Modulus::Eight)?;
-        assert_equal(&rt, &text, &wanted);
+        assert_frame(&rt, alloc, body, line)?;
     }
     Ok(())
 }
@@ -51,7 +80,7 @@ fn lines_of_frames(rt: HostRuntime) -> Result<(), Fail> {
 #[test]
 fn lines_of_extended_frames(rt: HostRuntime) -> Result<(), Fail> {
     let alloc = rt.alloc();
-    for (body, line) in [
+    for (body, line) in &[
         (
             "0407f06869",
             "N7LEM>NJ7P I cmd ns=2 nr=3 p=1 pid=f0 len=2 6869",
@@ -65,9 +94,7 @@ fn lines_of_extended_frames(rt: HostRuntime) -> Result<(), Fail> {
         ("0400", "! no pid at 16"),
         ("010000", "! stray info at 16"),
     ] {
-        let digits = format!(in alloc; "{ADDRESS}{body}")?;
-        let text = shown(alloc, digits.as_str(), Modulus::OneTwentyEight)?;
-        assert_equal(&rt, &(body, text.as_str()), &(body, line));
+        assert_body(&rt, alloc, body, Modulus::OneTwentyEight, line)?;
     }
     Ok(())
 }
@@ -75,7 +102,7 @@ fn lines_of_extended_frames(rt: HostRuntime) -> Result<(), Fail> {
 #[test]
 fn lines_of_faults(rt: HostRuntime) -> Result<(), Fail> {
     let alloc = rt.alloc();
-    for (digits, line) in [
+    for (digits, line) in &[
         ("", "! short at 0"),
         ("9c946ea04040e0", "! short at 7"),
         ("9c946ea04041e0", "! bad character at 5"),
@@ -87,8 +114,7 @@ fn lines_of_faults(rt: HostRuntime) -> Result<(), Fail> {
         ("9c946ea04040e09c6e988a9a40613f00", "! stray info at 15"),
         ("9c946ea04040e09c6e988a9a4061010203", "! stray info at 15"),
     ] {
-        let text = shown(alloc, digits, Modulus::Eight)?;
-        assert_equal(&rt, &(digits, text.as_str()), &(digits, line));
+        assert_shown(&rt, alloc, digits, Modulus::Eight, line)?;
     }
     Ok(())
 }
@@ -100,9 +126,7 @@ fn eleven_addresses_without_an_end(rt: HostRuntime) -> Result<(), Fail> {
     for _ in 0..11 {
         digits.push_str("82404040404060")?;
     }
-    let text = shown(alloc, digits.as_str(), Modulus::Eight)?;
-    assert_equal(&rt, &text.as_str(), &"! no end");
-    Ok(())
+    assert_shown(&rt, alloc, digits.as_str(), Modulus::Eight, "! no end")
 }
 
 #[test]
@@ -128,11 +152,23 @@ fn written(alloc: Global, frame: &Frame) -> Result<Octets, Fail> {
     }
 }
 
-/// Frames on the air, of the recordings of Dire Wolf and minimodem, and their lines. They are written again as they came.
+/// Asserts the line of a command in hexadecimal, and that it is written again as it came.
+fn assert_recorded<R: Abort>(rt: &R, alloc: Global, digits: &str, line: &str) -> Result<(), Fail> {
+    let octets = hex::decode(alloc, digits)?;
+    let frame = read_frame(alloc, &octets, Modulus::Eight)?;
+    let text = text_of(alloc, &frame)?;
+    assert_equal(rt, &(text.as_str(), is_command(&frame)), &(line, true));
+    let again = written(alloc, &frame)?;
+    assert_equal(rt, &again.as_slice(), &octets.as_slice());
+    Ok(())
+}
+
+/// Frames on the air, of the recordings of Dire Wolf and minimodem, and their lines. They are written again as they
+/// came.
 #[test]
 fn frames_of_recordings(rt: HostRuntime) -> Result<(), Fail> {
     let alloc = rt.alloc();
-    for (digits, line) in [
+    for (digits, line) in &[
         (
             "ae84649ea6b4fe98aa72b4b4b4e29c648e9040406103f030303037207365636f6e642e0a",
             "LU9ZZZ-1>WB2OSZ-15,N2GH UI cmd f=0 pid=f0 len=13 30303037207365636f6e642e0a",
@@ -150,15 +186,7 @@ fn frames_of_recordings(rt: HostRuntime) -> Result<(), Fail> {
             "DL1XYZ-7>N7LEM UI cmd f=0 pid=f0 len=5 303030322e",
         ),
     ] {
-        let octets = hex::decode(alloc, digits)?;
-        let frame = read_frame(alloc, &octets, Modulus::Eight)?;
-        let text = text_of(alloc, &frame)?;
-        let again = written(alloc, &frame)?;
-        assert_equal(
-            &rt,
-            &(text.as_str(), is_command(&frame), again.as_slice()),
-            &(line, true, octets.as_slice()),
-        );
+        assert_recorded(&rt, alloc, digits, line)?;
     }
     Ok(())
 }

@@ -5,24 +5,26 @@ ghost use Rattle.selective_reject.specs.Incoming.{IsIncoming};
 use crate::tests::assertions::assert_equal;
 use crate::tests::packets::{is_named, packet};
 use selective_reject::{BadWindow, InStore, Mode, StoreFault, Took, check_window};
+use std::alloc::Global;
+use std::process::Abort;
 use std::test::Fail;
 
 /// A packet that is named by its number comes to a store.
-fn give(rt: &HostRuntime, store: &mut InStore, ns: u8) -> Result<Took, Fail>
+fn give(alloc: Global, store: &mut InStore, ns: u8) -> Result<Took, Fail>
     ensures formed { IsIncoming store.new }
     ensures mode { store.new.mode ≡ store.old.mode }
 {
     let modulus = store.modulus();
-    Ok(store.accept(ns % modulus, packet(rt.alloc(), &[ns])?))
+    Ok(store.accept(ns % modulus, packet(alloc, &[ns])?))
 }
 
 /// What becomes of a packet modulo 8 when others have come before it.
-fn took(rt: &HostRuntime, mode: Mode, window: u8, before: &[u8], ns: u8) -> Result<Took, Fail> {
-    let mut store = InStore::new(rt.alloc(), 8, window, mode)?;
+fn took(alloc: Global, mode: Mode, window: u8, before: &[u8], ns: u8) -> Result<Took, Fail> {
+    let mut store = InStore::new(alloc, 8, window, mode)?;
     for earlier in before {
-        give(rt, &mut store, *earlier)?;
+        give(alloc, &mut store, *earlier)?;
     }
-    give(rt, &mut store, ns)
+    give(alloc, &mut store, ns)
 }
 
 fn verdict(window: u8, good: bool) -> Result<(), BadWindow> {
@@ -82,7 +84,7 @@ fn a_packet_is_taken_by_rej(rt: HostRuntime) -> Result<(), Fail> {
         (7, b"\x00", 1, Took::NotNext),
     ];
     for (window, before, ns, want) in table {
-        let took = took(&rt, Mode::Rej, window, before, ns)?;
+        let took = took(rt.alloc(), Mode::Rej, window, before, ns)?;
         assert_equal(&rt, &(before, ns, took), &(before, ns, want));
     }
     Ok(())
@@ -103,27 +105,27 @@ fn a_packet_is_taken_by_srej(rt: HostRuntime) -> Result<(), Fail> {
         (1, b"", 1, Took::Outside),
     ];
     for (window, before, ns, want) in table {
-        let took = took(&rt, Mode::Srej, window, before, ns)?;
+        let took = took(rt.alloc(), Mode::Srej, window, before, ns)?;
         assert_equal(&rt, &(before, ns, took), &(before, ns, want));
     }
     Ok(())
 }
 
-#[test]
-fn a_store_begins_anew_in_either_modulus(rt: HostRuntime) -> Result<(), Fail> {
-    let alloc = rt.alloc();
-    let mut store = InStore::new(alloc, 8, 4, Mode::Srej)?;
+/// Asserts what a store of modulo 8 takes, then in its widest window of modulo 128, and then modulo 8 by REJ.
+fn assert_begins_anew<R: Abort>(rt: &R, alloc: Global, store: &mut InStore) -> Result<(), Fail>
+    requires { store.old.modulus ≡ 8 }
+{
     let narrow = store.accept(3, packet(alloc, &[3])?);
     store.begin(128, 64, Mode::Srej);
     let begun = (store.modulus(), store.window(), store.mode(), store.vr());
-    assert_equal(&rt, &begun, &(128, 64, Mode::Srej, 0));
+    assert_equal(rt, &begun, &(128, 64, Mode::Srej, 0));
     let within = store.accept(63, packet(alloc, &[63])?);
     store.begin(128, 64, Mode::Srej);
     let beyond = store.accept(64, packet(alloc, &[64])?);
     store.begin(8, 7, Mode::Rej);
     let by_rej = store.accept(3, packet(alloc, &[3])?);
     assert_equal(
-        &rt,
+        rt,
         &(narrow, within, beyond, by_rej),
         &(Took::Stored, Took::Stored, Took::Outside, Took::NotNext),
     );
@@ -131,26 +133,47 @@ fn a_store_begins_anew_in_either_modulus(rt: HostRuntime) -> Result<(), Fail> {
 }
 
 #[test]
+fn a_store_begins_anew_in_either_modulus(rt: HostRuntime) -> Result<(), Fail> {
+    let mut store = InStore::new(rt.alloc(), 8, 4, Mode::Srej)?;
+    assert_begins_anew(&rt, rt.alloc(), &mut store)
+}
+
+/// Asserts that a store with a window of four asks once for what is missing.
+fn assert_asks_once<R: Abort>(rt: &R, alloc: Global, store: &mut InStore) -> Result<(), Fail>
+    requires { store.old.mode ≡ Mode.Srej }
+{
+    assert_equal(rt, &give(alloc, store, 2)?, &Took::Stored);
+    assert_equal(rt, &store.ask(2).as_slice(), &[0, 1].as_slice());
+    assert_equal(rt, &give(alloc, store, 3)?, &Took::Stored);
+    // Those before 3 were asked for or are there, and 4 is not in the window.
+    assert_equal(rt, &store.ask(3).as_slice(), &[].as_slice());
+    assert_equal(rt, &store.ask(4).as_slice(), &[].as_slice());
+    Ok(())
+}
+
+#[test]
 fn what_is_missing_is_asked_for_once(rt: HostRuntime) -> Result<(), Fail> {
     let mut store = InStore::new(rt.alloc(), 8, 4, Mode::Srej)?;
-    assert_equal(&rt, &give(&rt, &mut store, 2)?, &Took::Stored);
-    assert_equal(&rt, &store.ask(2).as_slice(), &[0, 1].as_slice());
-    assert_equal(&rt, &give(&rt, &mut store, 3)?, &Took::Stored);
-    // Those before 3 were asked for or are there, and 4 is not in the window.
-    assert_equal(&rt, &store.ask(3).as_slice(), &[].as_slice());
-    assert_equal(&rt, &store.ask(4).as_slice(), &[].as_slice());
+    assert_asks_once(&rt, rt.alloc(), &mut store)
+}
+
+/// Gives packets to a store that has asked for those before 2, and has that one.
+fn fill_gap<R: Abort>(rt: &R, alloc: Global, store: &mut InStore) -> Result<(), Fail>
+    requires { store.old.mode ≡ Mode.Srej }
+{
+    give(alloc, store, 2)?;
+    store.ask(2);
+    for (ns, want) in [(3, Took::Stored), (1, Took::Stored), (0, Took::Next)] {
+        assert!(*rt; store.take().is_none());
+        assert_equal(rt, &give(alloc, store, ns)?, &want);
+    }
     Ok(())
 }
 
 #[test]
 fn packets_ahead_of_a_gap_are_taken_after_it(rt: HostRuntime) -> Result<(), Fail> {
     let mut store = InStore::new(rt.alloc(), 8, 4, Mode::Srej)?;
-    give(&rt, &mut store, 2)?;
-    store.ask(2);
-    for (ns, want) in [(3, Took::Stored), (1, Took::Stored), (0, Took::Next)] {
-        assert!(rt; store.take().is_none());
-        assert_equal(&rt, &give(&rt, &mut store, ns)?, &want);
-    }
+    fill_gap(&rt, rt.alloc(), &mut store)?;
     for name in 0..4 {
         assert!(rt; is_named(store.take().as_ref(), name));
     }

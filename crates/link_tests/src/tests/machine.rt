@@ -1,5 +1,5 @@
-//! Rows of a link's table, and longer exchanges, as lines of text: what happens, and after a bar what the link does at the
-//! last of that, in frames and in what it tells.
+//! Rows of a link's table, and longer exchanges, as lines of text: what happens, and after a bar what the link does at
+//! the last of that, in frames and in what it tells.
 //!
 //! What happens is a list of words with numbers:
 //!
@@ -7,7 +7,8 @@
 //! - `ticks/300`, with no frame of the link in the queue, and `waits/300`, with one.
 //! - `SABM/1`, and so SABME, DISC, DM, UA: P or F.
 //! - `RR/0/1` is a response with N(R) 0 and F = 1, `RRc/0/1` the command, and so RNR, REJ, SREJ.
-//! - `I/2/0/1` is an I frame of the octet 2 with N(S) 2, N(R) 0 and P = 1, and `hears/3` is I/0/0/0, I/1/0/0 and I/2/0/0.
+//! - `I/2/0/1` is an I frame of the octet 2 with N(S) 2, N(R) 0 and P = 1, and `hears/3` is I/0/0/0, I/1/0/0 and
+//!   I/2/0/0.
 //! - `UI`, `FRMR`, `XID`.
 //! - `look` shows the state and the modulus.
 //!

@@ -81,41 +81,81 @@ fn a_store_is_read_and_counted_from_0_again(rt: HostRuntime) -> Result<(), Fail>
     Ok(())
 }
 
+/// Puts in packets of one octet.
+fn fill<R: Abort>(rt: &R, alloc: Global, store: &mut OutStore, count: usize) -> Result<(), Fail> {
+    for _ in 0..count {
+        let back = store.push(packet(alloc, &[1])?);
+        assert!(*rt; back.is_ok());
+    }
+    Ok(())
+}
+
+/// Asserts that an empty store takes 1024 packets and gives back the next, and takes packets once it is cleared.
+fn assert_full_at_1024<R: Abort>(rt: &R, alloc: Global, store: &mut OutStore) -> Result<(), Fail> {
+    fill(rt, alloc, store, 1024)?;
+    let back = store.push(packet(alloc, &[2])?);
+    assert!(*rt; matches!(&back, Err(packet) if is_named(Some(packet), 2)));
+    assert_equal(rt, &store.len(), &1024);
+    store.clear();
+    assert!(*rt; store.is_empty());
+    let again = store.push(packet(alloc, &[3])?);
+    assert!(*rt; again.is_ok());
+    Ok(())
+}
+
 #[test]
 fn a_store_is_full_at_1024_packets(rt: HostRuntime) -> Result<(), Fail> {
     let mut store = OutStore::new(rt.alloc())?;
-    for _ in 0..1024 {
-        let back = store.push(packet(rt.alloc(), &[1])?);
-        assert!(rt; back.is_ok());
+    assert_full_at_1024(&rt, rt.alloc(), &mut store)
+}
+
+/// A packet goes from a store to the other by its number, and is acknowledged.
+fn pass<R: Abort>(
+    rt: &R,
+    alloc: Global,
+    sender: &mut OutStore,
+    receiver: &mut InStore,
+    name: u8,
+) -> Result<(), Fail> {
+    let (modulus, window) = (receiver.modulus(), receiver.window());
+    assert!(*rt; (modulus == 8 && window == 4) || (modulus == 128 && window == 64));
+    let number = name % modulus;
+    let back = sender.push(packet(alloc, &[name])?);
+    assert!(*rt; back.is_ok() && sender.next(modulus, window) == Some(number));
+    assert!(*rt; is_named(sender.one(modulus, number), name) && receiver.vr() == number);
+    let took = receiver.accept(number, packet(alloc, &[name])?);
+    assert!(*rt; took == Took::Next && is_named(receiver.take().as_ref(), name));
+    let count = sender.acknowledge(modulus, (number + 1) % modulus);
+    assert_equal(rt, &count, &Ok(1));
+    Ok(())
+}
+
+/// Packets of all names go one after the other.
+fn pass_all<R: Abort>(
+    rt: &R,
+    alloc: Global,
+    sender: &mut OutStore,
+    receiver: &mut InStore,
+) -> Result<(), Fail> {
+    for name in 0..=255 {
+        pass(rt, alloc, sender, receiver, name)?;
     }
-    let back = store.push(packet(rt.alloc(), &[2])?);
-    assert!(rt; matches!(&back, Err(packet) if is_named(Some(packet), 2)));
-    assert_equal(&rt, &store.len(), &1024);
-    store.clear();
-    assert!(rt; store.is_empty());
-    let again = store.push(packet(rt.alloc(), &[3])?);
-    assert!(rt; again.is_ok());
+    Ok(())
+}
+
+/// Packets go modulo 8, and then modulo 128 from the same store.
+fn pass_in_both<R: Abort>(rt: &R, alloc: Global, sender: &mut OutStore) -> Result<(), Fail> {
+    for (modulus, window) in [(8, 4), (128, 64)] {
+        assert!(*rt; modulus == 8 || modulus == 128);
+        let mut receiver = InStore::new(alloc, modulus, window, Mode::Srej)?;
+        pass_all(rt, alloc, sender, &mut receiver)?;
+        sender.clear();
+    }
     Ok(())
 }
 
 #[test]
 fn numbers_wrap_round_the_modulus(rt: HostRuntime) -> Result<(), Fail> {
-    let alloc = rt.alloc();
-    let mut sender = OutStore::new(alloc)?;
-    for (modulus, window) in [(8, 4), (128, 64)] {
-        assert!(rt; (modulus == 8 && window == 4) || (modulus == 128 && window == 64));
-        let mut receiver = InStore::new(alloc, modulus, window, Mode::Srej)?;
-        for name in 0..=255 {
-            let number = name % modulus;
-            let back = sender.push(packet(alloc, &[name])?);
-            assert!(rt; back.is_ok() && sender.next(modulus, window) == Some(number));
-            assert!(rt; is_named(sender.one(modulus, number), name) && receiver.vr() == number);
-            let took = receiver.accept(number, packet(alloc, &[name])?);
-            assert!(rt; took == Took::Next && is_named(receiver.take().as_ref(), name));
-            let count = sender.acknowledge(modulus, (number + 1) % modulus);
-            assert_equal(&rt, &count, &Ok(1));
-        }
-        sender.clear();
-    }
-    Ok(())
+    let mut sender = OutStore::new(rt.alloc())?;
+    pass_in_both(&rt, rt.alloc(), &mut sender)
 }

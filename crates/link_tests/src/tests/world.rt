@@ -1,5 +1,5 @@
-//! Exchanges between two real links, A and B, as lines of text: what happens, and after a bar what the end is told at the
-//! last of that, and how many frames are then in flight to A and to B. The rows of `machine` have those frames.
+//! Exchanges between two real links, A and B, as lines of text: what happens, and after a bar what the end is told at
+//! the last of that, and how many frames are then in flight to A and to B. The rows of `machine` have those frames.
 //!
 //! What happens is a list of words: the end, and after a colon `connect`, `send/7` (a packet of the octet 7), `sends/3`
 //! (packets of the octets 0, 1 and 2), `disconnect`, `ticks/300`, `hears/2` (the next two frames), and `loses/0`, the
@@ -172,7 +172,8 @@ fn a_wide_and_a_narrow_call_cross(rt: HostRuntime) -> Result<(), Fail> {
     assert_world(&rt, rt.alloc(), wide, Params::default(), CROSSING)
 }
 
-/// 130 packets modulo 128 by REJ with a window of 127: N(S) 0 to 126 go out, and 127, 0 and 1 once all are acknowledged.
+/// 130 packets modulo 128 by REJ with a window of 127: N(S) 0 to 126 go out, and 127, 0 and 1 once all are
+/// acknowledged.
 const WHOLE_WINDOW: &str = "A:connect B:hears/1 A:hears/1 A:sends/130 | 0 127
 B:hears/127 B:ticks/29 | 0 0
 B:ticks/1 | 1 0

@@ -105,21 +105,34 @@ fn given_and_held<R: Threads + Sync>(
     Ok((given, decoder.held()))
 }
 
+/// Ends the test unless the item of a transmission and silence comes when 18 samples follow its end.
+fn assert_item_comes<R: Abort + Threads + Sync>(
+    rt: &R,
+    decoder: &mut SensitiveDecoder,
+    samples: &[i16],
+) -> Result<(), Fail>
+    requires whole { count samples.now ≡ 1360 }
+    requires begins { decoder.old.position ≡ 0 }
+    requires unfinished { decoder.old.finished ≡ false }
+{
+    let (first, rest) = samples.split_at(1311);
+    let (next, last) = rest.split_at(1);
+    let (given, _) = given_and_held(rt, decoder, first)?;
+    assert_equal(rt, &given, &0);
+    let (given, held) = given_and_held(rt, decoder, next)?;
+    assert_equal(rt, &(given, held > 0), &(1, true));
+    let (given, _) = given_and_held(rt, decoder, last)?;
+    assert_equal(rt, &given, &0);
+    let given = decoder.finish()?.len();
+    assert_equal(rt, &(given, decoder.held()), &(0, 0));
+    Ok(())
+}
+
 #[test]
 fn an_item_comes_when_18_samples_follow_its_end(rt: HostRuntime) -> Result<(), Fail> {
     let mut samples = transmission(&rt, rt.alloc())?;
     samples.extend_from_slice(&[0; SILENCE])?;
     assert!(rt; samples.len() == 1360);
-    let (first, rest) = samples.split_at(1311);
-    let (next, last) = rest.split_at(1);
     let mut decoder = SensitiveDecoder::new(rt.alloc())?;
-    let (given, _) = given_and_held(&rt, &mut decoder, first)?;
-    assert_equal(&rt, &given, &0);
-    let (given, held) = given_and_held(&rt, &mut decoder, next)?;
-    assert_equal(&rt, &(given, held > 0), &(1, true));
-    let (given, _) = given_and_held(&rt, &mut decoder, last)?;
-    assert_equal(&rt, &given, &0);
-    let given = decoder.finish()?.len();
-    assert_equal(&rt, &(given, decoder.held()), &(0, 0));
-    Ok(())
+    assert_item_comes(&rt, &mut decoder, &samples)
 }

@@ -1,5 +1,7 @@
 //! A clean signal, in which no candidate is stray, and how far from its true end a frame is heard.
 
+ghost use Rattle.std.specs.Prelude.{◌<◌, ◌^◌, length as count};
+
 use crate::tests::assertions::assert_equal;
 use crate::tests::worked_signal::{SHORTEST, transmission as worked};
 use afsk_modulator::transmission;
@@ -7,6 +9,7 @@ use clean_signal::{TrueEnd, is_sent};
 use frame_merge::Candidate;
 use slicer_bank::Bank;
 use std::alloc::Global;
+use std::process::Abort;
 use std::test::Fail;
 use tnc_base::{Octets, OutOfMemory};
 
@@ -27,6 +30,22 @@ fn hears(alloc: Global, octets: &[u8], end: u64, ends: &[u64]) -> Result<bool, O
     Ok(is_sent(&sent, &item))
 }
 
+/// Ends the test unless the eight lanes hear three times the frame that is sent, and nothing else.
+fn assert_hears_three<R: Abort>(
+    rt: &R,
+    alloc: Global,
+    samples: &[i16],
+    sent: &TrueEnd,
+) -> Result<(), Fail>
+    requires { count samples.now < 2 ^ 32 }
+{
+    let heard = Bank::new(alloc)?.feed(samples)?;
+    assert_equal(rt, &heard.len(), &3);
+    let sent = std::slice::from_ref(sent);
+    assert!(*rt; heard.iter().all(|item| is_sent(sent, item)));
+    Ok(())
+}
+
 // 162 bits of eight samples: the frame ends with the last of 1296, and three slicers hear it there or just before.
 #[test]
 fn the_shortest_frame_is_heard_and_nothing_is_stray(rt: HostRuntime) -> Result<(), Fail> {
@@ -35,12 +54,8 @@ fn the_shortest_frame_is_heard_and_nothing_is_stray(rt: HostRuntime) -> Result<(
     let samples = transmission(alloc, std::slice::from_ref(&octets), 2, 1)?;
     let worked = worked(&rt, alloc)?;
     assert_equal(&rt, &samples.as_slice(), &worked.as_slice());
-    let heard = Bank::new(alloc)?.feed(&worked)?;
-    assert_equal(&rt, &heard.len(), &3);
     let sent = TrueEnd { end: 1296, octets };
-    let sent = std::slice::from_ref(&sent);
-    assert!(rt; heard.iter().all(|item| is_sent(sent, item)));
-    Ok(())
+    assert_hears_three(&rt, alloc, &worked, &sent)
 }
 
 #[test]

@@ -10,7 +10,8 @@ use std::test::Fail;
 use tnc_base::Octets;
 use wide_input::{WideBank, is_sent_wide};
 
-// After three zeros the streams 3 and 4 have the transmission from their first sample on, and stream 3 is the lower one.
+// After three zeros the streams 3 and 4 have the transmission from their first sample on, and stream 3 is the lower
+// one.
 #[test]
 fn a_transmission_of_repeated_samples_gives_one_item(rt: HostRuntime) -> Result<(), Fail> {
     let sent = transmission(&rt, rt.alloc())?;

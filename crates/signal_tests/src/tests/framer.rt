@@ -1,4 +1,5 @@
-//! The framer against values from outside, and against a slow program that reads the definitions on whole lists of bits.
+//! The framer against values from outside, and against a slow program that reads the definitions on whole lists of
+//! bits.
 mod agreement;
 mod carrier;
 mod definition;

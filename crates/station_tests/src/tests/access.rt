@@ -20,9 +20,9 @@ fn shortest(alloc: Global) -> Result<Octets, Fail>
     Ok(Octets::from_slice(alloc, SHORTEST.as_slice())?)
 }
 
-/// An access in which so many frames wait, each of the link of its number.
-fn access(alloc: Global, seed: u64, frames: u32) -> Result<Access, Fail> {
-    let mut access = Access::new(alloc, seed)?;
+/// An access in which so many frames wait, each of the link of its number. A test that owns a box is proved faster.
+fn access(alloc: Global, seed: u64, frames: u32) -> Result<Box<Access>, Fail> {
+    let mut access = Box::new(alloc, Access::new(alloc, seed)?)?;
     for link in 0..frames {
         let _ = access.queue(Some(link), shortest(alloc)?);
     }
@@ -30,7 +30,7 @@ fn access(alloc: Global, seed: u64, frames: u32) -> Result<Access, Fail> {
 }
 
 /// With two flags before and one after, at once.
-fn quick_access(alloc: Global, frames: u32) -> Result<Access, Fail> {
+fn quick_access(alloc: Global, frames: u32) -> Result<Box<Access>, Fail> {
     let mut access = access(alloc, 1, frames)?;
     for param in [Param::TxDelay(0), Param::TxTail(0), Param::FullDuplex(true)] {
         access.set(param);
@@ -38,25 +38,39 @@ fn quick_access(alloc: Global, frames: u32) -> Result<Access, Fail> {
     Ok(access)
 }
 
+/// A tick while the channel is busy, whose samples go after the others: whether it begins, how many of them had come
+/// when a frame was sent, and whether the frame of link 0 waits.
+fn tick_into(
+    samples: &mut Vec<i16>,
+    access: &mut Access,
+) -> Result<(bool, Option<u8>, bool), Fail> {
+    let air = access.tick(true);
+    samples.extend_from_slice(air.samples.as_slice())?;
+    let after = air.sent.map(|sent| sent.after);
+    Ok((air.began, after, access.waiting(0)))
+}
+
+/// The samples of the shortest frame with its flags.
+fn shortest_transmission(alloc: Global) -> Result<Vec<i16>, Fail> {
+    let mut frames = Vec::new(alloc);
+    frames.push(shortest(alloc)?)?;
+    Ok(transmission(alloc, &frames, 75, 3)?)
+}
+
 // 78 flags and 138 bits are 762 bits, in 64 ticks of 12. The flag after the frame ends with bit 746, the second of
 // tick 63.
 #[test]
 fn the_shortest_frame_is_one_transmission(rt: HostRuntime) -> Result<(), Fail> {
-    let alloc = rt.alloc();
-    let mut access = access(alloc, 1, 1)?;
+    let mut access = access(rt.alloc(), 1, 1)?;
     access.set(Param::FullDuplex(true));
-    let mut samples = Vec::new(alloc);
+    let mut samples = Vec::new(rt.alloc());
     for tick in 1..66_u32 {
-        let air = access.tick(true);
-        let after = air.sent.map(|sent| sent.after);
-        let got = (tick, air.began, after, access.waiting(0));
+        let got = tick_into(&mut samples, &mut access)?;
         let last = if tick == 63 { Some(16) } else { None };
-        assert_equal(&rt, &got, &(tick, tick == 1, last, tick < 63));
-        samples.extend_from_slice(air.samples.as_slice())?;
+        let want = (tick == 1, last, tick < 63);
+        assert_equal(&rt, &(tick, got), &(tick, want));
     }
-    let mut frames = Vec::new(alloc);
-    frames.push(shortest(alloc)?)?;
-    let mut expected = transmission(alloc, &frames, 75, 3)?;
+    let mut expected = shortest_transmission(rt.alloc())?;
     assert_equal(&rt, &expected.len(), &(8 * 762));
     expected.resize(65 * 96, 0)?;
     assert_equal(&rt, &samples, &expected);
@@ -72,28 +86,29 @@ fn the_257th_frame_is_handed_back(rt: HostRuntime) -> Result<(), Fail> {
     Ok(())
 }
 
-// The draws of seed 1 are 145, 116, 87, 211, 86, 121 and 38, of seed 2 102 and 40, of seed 8 56.
+/// Each row: the seed, the persistence, the slot time, the busy tick, and the tick that begins. The draws of seed 1 are
+/// 145, 116, 87, 211, 86, 121 and 38, of seed 2 102 and 40, of seed 8 56.
+const DRAWS: &[(u64, u8, u8, u32, u32)] = &[
+    (8, 63, 2, 0, 1),
+    (8, 56, 2, 0, 1),
+    (2, 63, 2, 0, 4),
+    (2, 102, 2, 0, 1),
+    (2, 101, 2, 0, 4),
+    (2, 63, 0, 0, 2),
+    (2, 63, 2, 2, 3),
+    (8, 63, 2, 1, 2),
+    (1, 63, 1, 0, 13),
+];
+
 #[test]
 fn a_draw_begins_in_a_free_slot(rt: HostRuntime) -> Result<(), Fail> {
-    // seed, persistence, slot time, the busy tick, and the tick that begins
-    let table: [(u64, u8, u8, u32, u32); 9] = [
-        (8, 63, 2, 0, 1),
-        (8, 56, 2, 0, 1),
-        (2, 63, 2, 0, 4),
-        (2, 102, 2, 0, 1),
-        (2, 101, 2, 0, 4),
-        (2, 63, 0, 0, 2),
-        (2, 63, 2, 2, 3),
-        (8, 63, 2, 1, 2),
-        (1, 63, 1, 0, 13),
-    ];
-    for (seed, persist, slot_time, busy, begins) in table {
-        let mut access = access(rt.alloc(), seed, 1)?;
-        access.set(Param::Persist(persist));
-        access.set(Param::SlotTime(slot_time));
-        for tick in 1..begins + 3 {
-            let began = access.tick(tick == busy).began;
-            assert_equal(&rt, &(seed, tick, began), &(seed, tick, tick == begins));
+    for (seed, persist, slot_time, busy, begins) in DRAWS {
+        let mut access = access(rt.alloc(), *seed, 1)?;
+        access.set(Param::Persist(*persist));
+        access.set(Param::SlotTime(*slot_time));
+        for tick in 1..begins.saturating_add(3) {
+            let began = access.tick(tick == *busy).began;
+            assert_equal(&rt, &(*seed, tick, began), &(*seed, tick, tick == *begins));
         }
     }
     Ok(())
@@ -121,27 +136,38 @@ fn eight_frames_are_one_transmission(rt: HostRuntime) -> Result<(), Fail> {
     Ok(())
 }
 
+/// A second frame comes after a tick. Tells how many transmissions begin, and what the last tick sends.
+fn joined(
+    alloc: Global,
+    access: &mut Access,
+    comes: u32,
+    last: u32,
+) -> Result<(u32, Option<u8>), Fail> {
+    let mut began = 0_u32;
+    let mut sent = None;
+    for tick in 1..last.saturating_add(1) {
+        let air = access.tick(true);
+        began = began.saturating_add(u32::from(air.began));
+        sent = air.sent.map(|sent| sent.after);
+        if tick == comes {
+            let _ = access.queue(None, shortest(alloc)?);
+        }
+    }
+    Ok((began, sent))
+}
+
+/// Each row: the tick after which the second frame comes, how many transmissions begin, the tick in which the second
+/// frame is sent, and how many of its samples had come then.
+const JOINED: &[(u32, u32, u32, u8)] = &[(12, 1, 26, 64), (13, 2, 28, 48)];
+
 // The last bit of the first frame is bit 154, in tick 13: what comes after that tick waits for the next transmission.
 #[test]
 fn a_frame_joins_before_the_end_of_the_one_before(rt: HostRuntime) -> Result<(), Fail> {
-    // the tick after which the second frame comes, how many transmissions begin, and when the second frame is sent
-    let table: [(u32, u32, u32, u8); 2] = [(12, 1, 26, 64), (13, 2, 28, 48)];
-    for (comes, transmissions, last, after) in table {
+    for (comes, transmissions, last, after) in JOINED {
         let mut access = quick_access(rt.alloc(), 1)?;
-        let mut began = 0_u32;
-        let mut sent = None;
-        for tick in 1..last + 1 {
-            let air = access.tick(true);
-            if air.began {
-                began = began.saturating_add(1);
-            }
-            sent = air.sent.map(|sent| sent.after);
-            if tick == comes {
-                let _ = access.queue(None, shortest(rt.alloc())?);
-            }
-        }
-        let got = (comes, began, sent, access.len());
-        assert_equal(&rt, &got, &(comes, transmissions, Some(after), 0));
+        let (began, sent) = joined(rt.alloc(), &mut access, *comes, *last)?;
+        let got = (*comes, began, sent, access.len());
+        assert_equal(&rt, &got, &(*comes, *transmissions, Some(*after), 0));
     }
     Ok(())
 }

@@ -3,34 +3,25 @@
 use crate::assert_equal;
 use kiss_port::{KissIn, KissItem, write_kiss};
 use std::alloc::Global;
+use std::slice;
 use std::test::Fail;
 use tnc_base::OutOfMemory;
 
 /// An item as plain values: its name, the port, the command, and the value or the octets.
 type Plain<'a> = (&'static str, u8, u8, &'a [u8]);
 
-fn is_item(item: &KissItem, want: Plain) -> bool {
-    let (name, port, command, octets) = want;
+fn plain(item: &KissItem) -> Plain<'_> {
     match item {
-        KissItem::Frame {
-            port: at,
-            octets: of,
-        } => { name == "frame" && *at == port && command == 0 && of.as_slice() == octets }
+        KissItem::Frame { port, octets } => ("frame", *port, 0, octets.as_slice()),
         KissItem::Set {
-            port: at,
-            command: of,
+            port,
+            command,
             value,
-        } => name == "set" && *at == port && *of == command && octets == [*value].as_slice(),
-        KissItem::Hardware {
-            port: at,
-            octets: of,
-        } => { name == "hardware" && *at == port && command == 6 && of.as_slice() == octets }
-        KissItem::Return => name == "return",
-        KissItem::TooLong { port: at } => name == "long" && *at == port,
-        KissItem::Other {
-            port: at,
-            command: of,
-        } => name == "other" && *at == port && *of == command,
+        } => ("set", *port, *command, slice::from_ref(value)),
+        KissItem::Hardware { port, octets } => ("hardware", *port, 6, octets.as_slice()),
+        KissItem::Return => ("return", 0, 0, b""),
+        KissItem::TooLong { port } => ("long", *port, 0, b""),
+        KissItem::Other { port, command } => ("other", *port, *command, b""),
     }
 }
 
@@ -40,7 +31,7 @@ fn are_items(items: &[(usize, KissItem)], wants: &[(usize, Plain)]) -> bool {
         return false;
     }
     for ((place, item), (end, want)) in items.iter().zip(wants) {
-        if *place != *end || !is_item(item, *want) {
+        if *place != *end || plain(item) != *want {
             return false;
         }
     }
@@ -59,44 +50,43 @@ fn items_of(alloc: Global, stream: &[u8]) -> Result<Vec<(usize, KissItem)>, OutO
     Ok(items)
 }
 
+/// Each row: a stream, and the item that its last octet ends.
+const PIECES: &[(&[u8], Plain<'static>)] = &[
+    (
+        b"\xc0\x00\xdb\xdc\xdb\xdd\xc0",
+        ("frame", 0, 0, b"\xc0\xdb"),
+    ),
+    (
+        b"\xc0\x00\x01\xdb\x41\x02\xc0",
+        ("frame", 0, 0, b"\x01\x02"),
+    ),
+    (b"\xc0\x00\x05\xdb\xc0", ("frame", 0, 0, b"\x05")),
+    (b"\x00\x05\xc0", ("frame", 0, 0, b"\x05")),
+    (b"\xc0\x00\xc0", ("frame", 0, 0, b"")),
+    (b"\xc0\xc0\xc0\x20\x07\xc0", ("frame", 2, 0, b"\x07")),
+    (b"\xc0\xdb\xdc\xdb\xdb\xdc\xc0", ("frame", 12, 0, b"\xdc")),
+    (b"\xdb\xc0\x10\xdc\xdd\xc0", ("frame", 1, 0, b"\xdc\xdd")),
+    (b"\xc0\x01\x32\xc0", ("set", 0, 1, b"\x32")),
+    (b"\xc0\x35\x01\x02\x03\xc0", ("set", 3, 5, b"\x01")),
+    (b"\xc0\x03\xdb\xdd\xc0", ("set", 0, 3, b"\xdb")),
+    (b"\xc0\x03\xc0", ("other", 0, 3, b"")),
+    (b"\xc0\x16\x01\x02\xc0", ("hardware", 1, 6, b"\x01\x02")),
+    (b"\xc0\x06\xc0", ("hardware", 0, 6, b"")),
+    (b"\xc0\x07\x01\xc0", ("other", 0, 7, b"")),
+    (b"\xc0\xfe\x01\xc0", ("other", 15, 14, b"")),
+    (b"\xc0\x0f\x01\xc0", ("other", 0, 15, b"")),
+    (b"\xc0\xff\xc0", ("return", 0, 0, b"")),
+    (b"\xc0\xff\x01\x02\xc0", ("return", 0, 0, b"")),
+    (b"\xc0\xf0\x01\xc0", ("frame", 15, 0, b"\x01")),
+];
+
 #[test]
 fn a_piece_says_one_item(rt: HostRuntime) -> Result<(), Fail> {
-    let table: [(&[u8], Plain); 20] = [
-        (
-            b"\xc0\x00\xdb\xdc\xdb\xdd\xc0",
-            ("frame", 0, 0, b"\xc0\xdb"),
-        ),
-        (
-            b"\xc0\x00\x01\xdb\x41\x02\xc0",
-            ("frame", 0, 0, b"\x01\x02"),
-        ),
-        (b"\xc0\x00\x05\xdb\xc0", ("frame", 0, 0, b"\x05")),
-        (b"\x00\x05\xc0", ("frame", 0, 0, b"\x05")),
-        (b"\xc0\x00\xc0", ("frame", 0, 0, b"")),
-        (b"\xc0\xc0\xc0\x20\x07\xc0", ("frame", 2, 0, b"\x07")),
-        (b"\xc0\xdb\xdc\xdb\xdb\xdc\xc0", ("frame", 12, 0, b"\xdc")),
-        (b"\xdb\xc0\x10\xdc\xdd\xc0", ("frame", 1, 0, b"\xdc\xdd")),
-        (b"\xc0\x01\x32\xc0", ("set", 0, 1, b"\x32")),
-        (b"\xc0\x35\x01\x02\x03\xc0", ("set", 3, 5, b"\x01")),
-        (b"\xc0\x03\xdb\xdd\xc0", ("set", 0, 3, b"\xdb")),
-        (b"\xc0\x03\xc0", ("other", 0, 3, b"")),
-        (b"\xc0\x16\x01\x02\xc0", ("hardware", 1, 6, b"\x01\x02")),
-        (b"\xc0\x06\xc0", ("hardware", 0, 6, b"")),
-        (b"\xc0\x07\x01\xc0", ("other", 0, 7, b"")),
-        (b"\xc0\xfe\x01\xc0", ("other", 15, 14, b"")),
-        (b"\xc0\x0f\x01\xc0", ("other", 0, 15, b"")),
-        (b"\xc0\xff\xc0", ("return", 0, 0, b"")),
-        (b"\xc0\xff\x01\x02\xc0", ("return", 0, 0, b"")),
-        (b"\xc0\xf0\x01\xc0", ("frame", 15, 0, b"\x01")),
-    ];
-    for (number, (stream, want)) in table.into_iter().enumerate() {
+    for (number, (stream, want)) in PIECES.iter().enumerate() {
         let items = items_of(rt.alloc(), stream)?;
         let end = stream.len().saturating_sub(1);
-        assert_equal(
-            &rt,
-            &(number, are_items(&items, &[(end, want)])),
-            &(number, true),
-        );
+        let said = are_items(&items, &[(end, *want)]);
+        assert_equal(&rt, &(number, said), &(number, true));
     }
     Ok(())
 }
@@ -132,46 +122,57 @@ fn a_stream_goes_on_behind_an_item(rt: HostRuntime) -> Result<(), Fail> {
     Ok(())
 }
 
+/// The most octets of a piece.
+const MOST: &[u8] = &[0x41; 1024];
+
+/// Each row: the first octet of a piece, whether one more octet than the most stands after it, and the item.
+const LONGEST: &[(u8, bool, Plain<'static>)] = &[
+    (0x00, false, ("frame", 0, 0, MOST)),
+    (0x00, true, ("long", 0, 0, b"")),
+    (0x26, false, ("hardware", 2, 6, MOST)),
+    (0x26, true, ("long", 2, 0, b"")),
+    (0xff, false, ("return", 0, 0, b"")),
+    (0xff, true, ("long", 15, 0, b"")),
+];
+
+/// The most octets after this one, or one more, and then a frame.
+fn longest(alloc: Global, kind: u8, longer: bool) -> Result<Vec<u8>, Fail> {
+    let mut stream = [kind].to_vec(alloc)?;
+    stream.extend_from_slice(MOST)?;
+    if longer {
+        stream.push(0x41)?;
+    }
+    stream.extend_from_slice(b"\xc0\x00\x05\xc0")?;
+    Ok(stream)
+}
+
 #[test]
 fn more_than_1024_octets_are_too_long(rt: HostRuntime) -> Result<(), Fail> {
-    let alloc = rt.alloc();
-    let most = [0x41; 1024];
-    let table: [(u8, bool, Plain); 6] = [
-        (0x00, false, ("frame", 0, 0, most.as_slice())),
-        (0x00, true, ("long", 0, 0, b"")),
-        (0x26, false, ("hardware", 2, 6, most.as_slice())),
-        (0x26, true, ("long", 2, 0, b"")),
-        (0xff, false, ("return", 0, 0, b"")),
-        (0xff, true, ("long", 15, 0, b"")),
-    ];
-    for (kind, longer, want) in table {
-        let mut stream = [kind].to_vec(alloc)?;
-        stream.extend_from_slice(most.as_slice())?;
-        if longer {
-            stream.push(0x41)?;
-        }
-        stream.push(0xc0)?;
-        stream.extend_from_slice(b"\x00\x05\xc0")?;
-        let end = if longer { 1026 } else { 1025 };
-        let wants = [(end, want), (end + 3, ("frame", 0, 0, b"\x05".as_slice()))];
-        let items = items_of(alloc, &stream)?;
-        assert_equal(&rt, &(kind, are_items(&items, &wants)), &(kind, true));
+    for (kind, longer, want) in LONGEST {
+        let stream = longest(rt.alloc(), *kind, *longer)?;
+        let items = items_of(rt.alloc(), &stream)?;
+        let end = if *longer { 1026 } else { 1025 };
+        let wants = [(end, *want), (end + 3, ("frame", 0, 0, b"\x05".as_slice()))];
+        let said = are_items(&items, &wants);
+        assert_equal(&rt, &(*kind, said), &(*kind, true));
     }
     Ok(())
 }
 
+/// Each row: a port, a command, octets, and the stream that they are written as.
+const WRITTEN: &[(u8, u8, &[u8], &[u8])] = &[
+    (0, 0, b"\xc0\xdb", b"\xc0\x00\xdb\xdc\xdb\xdd\xc0"),
+    (0, 0, b"", b"\xc0\x00\xc0"),
+    (12, 0, b"\xdc", b"\xc0\xdb\xdc\xdc\xc0"),
+    (13, 11, b"\x01\xdd", b"\xc0\xdb\xdd\x01\xdd\xc0"),
+];
+
 #[test]
 fn what_is_written_has_its_escapes(rt: HostRuntime) -> Result<(), Fail> {
-    let table: [(u8, u8, &[u8], &[u8]); 4] = [
-        (0, 0, b"\xc0\xdb", b"\xc0\x00\xdb\xdc\xdb\xdd\xc0"),
-        (0, 0, b"", b"\xc0\x00\xc0"),
-        (12, 0, b"\xdc", b"\xc0\xdb\xdc\xdc\xc0"),
-        (13, 11, b"\x01\xdd", b"\xc0\xdb\xdd\x01\xdd\xc0"),
-    ];
-    for (port, command, octets, want) in table {
-        assert!(rt; port < 16 && command < 16);
-        let stream = write_kiss(rt.alloc(), port, command, octets)?;
-        assert_equal(&rt, &(port, stream.as_slice()), &(port, want));
+    for (port, command, octets, want) in WRITTEN {
+        assert!(rt; *port < 16 && *command < 16);
+        let stream = write_kiss(rt.alloc(), *port, *command, octets)?;
+        assert_equal(&rt, &(*port, stream.as_slice()), &(*port, *want));
     }
     Ok(())
 }

@@ -8,6 +8,7 @@ use link_machine::{NewFault, Params};
 use selective_reject::Mode;
 use station::{Config, Station};
 use std::alloc::Global;
+use std::process::Abort;
 use std::test::Fail;
 
 mod absurd_frames;
@@ -48,7 +49,7 @@ const MODULI: &[(&str, &str, Modulus)] = &[
 ];
 
 /// N7LEM calls NJ7P modulo 128.
-fn wide_call(alloc: Global) -> Result<Desk, Fail> {
+fn wide_call(alloc: Global) -> Result<Box<Desk>, Fail> {
     let params = Params {
         wide: true,
         ..Params::default()
@@ -66,13 +67,24 @@ fn modulus(desk: &Desk, first: &str, second: &str) -> Result<Modulus, Fail> {
     Ok(desk.modulus(&first, &second))
 }
 
+/// Ends the test unless a frame between two calls is read in this modulus.
+fn assert_modulus<R: Abort>(
+    rt: &R,
+    desk: &Desk,
+    (first, second): (&str, &str),
+    want: Modulus,
+) -> Result<(), Fail> {
+    let got = modulus(desk, first, second)?;
+    assert!(*rt; got == want);
+    Ok(())
+}
+
 #[test]
 fn a_frame_is_read_in_the_modulus_of_its_link(rt: HostRuntime) -> Result<(), Fail> {
     let mut desk = wide_call(rt.alloc())?;
     assert_equal(&rt, &desk.frames(), &1);
     for (first, second, want) in MODULI {
-        let got = modulus(&desk, first, second)?;
-        assert!(rt; got == *want);
+        assert_modulus(&rt, &desk, (*first, *second), *want)?;
     }
     Ok(())
 }

@@ -1,13 +1,24 @@
 //! What `encode` sends and `decode` hears.
 use super::{NEVER, SHORTEST, assert_ended, run_failing, run_over};
 use crate::assertions::assert_equal;
+use std::alloc::Global;
+use std::net::Net;
+use std::process::Abort;
+use std::sync::Wait;
 use std::test::Fail;
+use std::thread::Threads;
 
 /// The line of the shortest frame.
 const ONCE: &str = "9c946ea04040e09c6e988a9a40613f\n";
 
 /// The shortest frame in two lines.
 const TWICE: &str = "9c946ea04040e09c6e988a9a40613f\n9c946ea04040e09c6e988a9a40613f\n";
+
+/// A frame with many ones in a row.
+const ONES: &str = "9c946ea04040e09c6e988a9a406103f0ffff00ffffff7e7e\n";
+
+/// The shortest transmission of all frames.
+const JOINED: &str = "encode --join --opening=2 --closing=1";
 
 /// The shortest transmission, with two flags before a frame and one after it.
 const SHORT_FLAGS: &str = "encode --opening 2 --closing=1";
@@ -25,31 +36,44 @@ fn the_shortest_frame_is_the_known_wave(rt: HostRuntime) -> Result<(), Fail> {
     Ok(())
 }
 
-// Each row: the words, the lines, and how many octets are written. What is written is heard again.
+/// The words that send, the words that hear, the lines, and how many octets are written.
+static SOUNDS: [(&str, &str, &str, usize); 9] = [
+    (SHORT_FLAGS, "decode", TWICE, 5184),
+    (JOINED, "decode", TWICE, 4928),
+    ("encode --join --silence=3", "decode", TWICE, 14_406),
+    ("encode", "decode", TWICE, 24_128),
+    ("encode", "decode", ONES, 13_344),
+    ("encode", "decode --sensitive", TWICE, 24_128),
+    ("encode", "decode", "", 0),
+    ("encode --wav", "decode --wav", TWICE, 24_172),
+    ("encode --wav", "decode --wav", "", 44),
+];
+
 #[test]
 fn what_is_sent_is_heard(rt: HostRuntime) -> Result<(), Fail> {
-    let ones = "9c946ea04040e09c6e988a9a406103f0ffff00ffffff7e7e\n";
-    let join = "encode --join --opening=2 --closing=1";
-    for (words, back, lines, octets) in [
-        (SHORT_FLAGS, "decode", TWICE, 5184),
-        (join, "decode", TWICE, 4928),
-        ("encode --join --silence=3", "decode", TWICE, 14_406),
-        ("encode", "decode", TWICE, 24_128),
-        ("encode", "decode", ones, 13_344),
-        ("encode", "decode --sensitive", TWICE, 24_128),
-        ("encode", "decode", "", 0),
-        ("encode --wav", "decode --wav", TWICE, 24_172),
-        ("encode --wav", "decode --wav", "", 44),
-    ] {
-        let sent = run_over(&rt, rt.alloc(), words, lines.as_bytes())?;
-        assert_ended(&rt, words, &sent, (0, octets, ""));
-        let heard = run_over(&rt, rt.alloc(), back, &sent.output)?;
-        assert_equal(
-            &rt,
-            &(words, heard.output.as_slice()),
-            &(words, lines.as_bytes()),
-        );
+    for (words, back, lines, octets) in &SOUNDS {
+        hears_what_it_sends(&rt, rt.alloc(), words, back, lines, *octets)?;
     }
+    Ok(())
+}
+
+/// Sends lines, hears them, and ends the test unless so many octets were written and the lines come back.
+fn hears_what_it_sends<R: Threads + Wait + Net + Sync + Abort>(
+    rt: &R,
+    alloc: Global,
+    words: &str,
+    back: &str,
+    lines: &str,
+    octets: usize,
+) -> Result<(), Fail> {
+    let sent = run_over(rt, alloc, words, lines.as_bytes())?;
+    assert_ended(rt, words, &sent, (0, octets, ""));
+    let heard = run_over(rt, alloc, back, &sent.output)?;
+    assert_equal(
+        rt,
+        &(words, heard.output.as_slice()),
+        &(words, lines.as_bytes()),
+    );
     Ok(())
 }
 
@@ -86,51 +110,67 @@ fn kiss_frames_come_and_go(rt: HostRuntime) -> Result<(), Fail> {
     Ok(())
 }
 
-// Each row: the length of a WAV file of the shortest frame, the octets that are changed from a place on, what is heard, the
-// status, and the report.
+/// The length of a WAV file of the shortest frame, the octets that are changed from a place on, what is heard, the
+/// status, and the report.
+type Cut = (usize, usize, &'static [u8], &'static str, u8, &'static str);
+
+/// WAV files that are cut or changed.
+static CUTS: [Cut; 10] = [
+    (2636, 0, b"", ONCE, 0, ""),
+    (2635, 0, b"", ONCE, 2, "tnc: bad input: truncated at 2635\n"),
+    // A size as a writer into a pipe leaves it.
+    (2636, 41, b"\xf0\xff\x7f", ONCE, 0, ""),
+    (
+        2636,
+        24,
+        b"\x44\xac",
+        "",
+        2,
+        "tnc: bad input: bad format 3 value 44100 at 27\n",
+    ),
+    (
+        2636,
+        22,
+        b"\x02",
+        "",
+        2,
+        "tnc: bad input: bad format 2 value 2 at 23\n",
+    ),
+    (0, 0, b"", "", 2, "tnc: bad input: truncated at 0\n"),
+    (3, 0, b"", "", 2, "tnc: bad input: truncated at 3\n"),
+    (12, 0, b"", "", 2, "tnc: bad input: truncated at 12\n"),
+    (35, 0, b"", "", 2, "tnc: bad input: truncated at 35\n"),
+    (43, 0, b"", "", 2, "tnc: bad input: truncated at 43\n"),
+];
+
 #[test]
 fn a_wav_file_is_heard_up_to_its_fault(rt: HostRuntime) -> Result<(), Fail> {
     let encode = "encode --wav --opening 2 --closing=1";
     let whole = run_over(&rt, rt.alloc(), encode, SHORTEST.as_bytes())?.output;
-    let table: [(usize, usize, &[u8], &str, u8, &str); 10] = [
-        (2636, 0, b"", ONCE, 0, ""),
-        (2635, 0, b"", ONCE, 2, "tnc: bad input: truncated at 2635\n"),
-        // A size as a writer into a pipe leaves it.
-        (2636, 41, b"\xf0\xff\x7f", ONCE, 0, ""),
-        (
-            2636,
-            24,
-            b"\x44\xac",
-            "",
-            2,
-            "tnc: bad input: bad format 3 value 44100 at 27\n",
-        ),
-        (
-            2636,
-            22,
-            b"\x02",
-            "",
-            2,
-            "tnc: bad input: bad format 2 value 2 at 23\n",
-        ),
-        (0, 0, b"", "", 2, "tnc: bad input: truncated at 0\n"),
-        (3, 0, b"", "", 2, "tnc: bad input: truncated at 3\n"),
-        (12, 0, b"", "", 2, "tnc: bad input: truncated at 12\n"),
-        (35, 0, b"", "", 2, "tnc: bad input: truncated at 35\n"),
-        (43, 0, b"", "", 2, "tnc: bad input: truncated at 43\n"),
-    ];
-    for (length, place, octets, lines, status, report) in table {
-        let mut file = whole.to_vec(rt.alloc())?;
-        file.truncate(length);
-        change(&mut file, place, octets);
-        let got = run_over(&rt, rt.alloc(), "decode --wav", &file)?;
-        assert_ended(&rt, report, &got, (status, lines.len(), report));
-        assert_equal(
-            &rt,
-            &(report, got.output.as_slice()),
-            &(report, lines.as_bytes()),
-        );
+    for cut in &CUTS {
+        hears_a_cut_file(&rt, rt.alloc(), &whole, cut)?;
     }
+    Ok(())
+}
+
+/// Hears a file that is cut and changed, and ends the test unless it is heard so.
+fn hears_a_cut_file<R: Threads + Wait + Net + Sync + Abort>(
+    rt: &R,
+    alloc: Global,
+    whole: &[u8],
+    cut: &Cut,
+) -> Result<(), Fail> {
+    let (length, place, octets, lines, status, report) = cut;
+    let mut file = whole.to_vec(alloc)?;
+    file.truncate(*length);
+    change(&mut file, *place, octets);
+    let got = run_over(rt, alloc, "decode --wav", &file)?;
+    assert_ended(rt, report, &got, (*status, lines.len(), report));
+    assert_equal(
+        rt,
+        &(*report, got.output.as_slice()),
+        &(*report, lines.as_bytes()),
+    );
     Ok(())
 }
 

@@ -25,8 +25,8 @@ impl Trial<'_> {
         got.status == status && got.output.len() as u64 == written && got.report.is_empty()
     }
 
-    /// The first read whose failing does not end it with status 4, after the frames that ended before. A read gives seven
-    /// octets.
+    /// The first read whose failing does not end it with status 4, after the frames that ended before. A read gives
+    /// seven octets.
     fn wrong_read<R: Threads + Wait + Net + Sync>(
         &self,
         rt: &R,
@@ -69,7 +69,8 @@ const LINES: &[u8] =
 /// The shortest frame as a KISS frame.
 const ITEM: &[u8] = b"\xc0\0\x9c\x94\x6e\xa0\x40\x40\xe0\x9c\x6e\x98\x8a\x9a\x40\x61\x3f\xc0";
 
-// Each row: the words, and how many octets are written of a line. With --join or --wav nothing is written before the end.
+// Each row: the words, and how many octets are written of a line. With --join or --wav nothing is written before the
+// end.
 #[test]
 fn reads_of_lines_fail(rt: HostRuntime) -> Result<(), Fail> {
     for (words, made) in [
@@ -125,8 +126,8 @@ fn reads_and_writes_of_kiss_frames_fail(rt: HostRuntime) -> Result<(), Fail> {
     Ok(())
 }
 
-// Each row: the words, the read that fails, how many frames had ended before it, and the octets that are written of each.
-// So short a sound is one write.
+// Each row: the words, the read that fails, how many frames had ended before it, and the octets that are written of
+// each. So short a sound is one write.
 #[test]
 fn reads_and_writes_of_sound_fail(rt: HostRuntime) -> Result<(), Fail> {
     let sent = run_over(&rt, rt.alloc(), "encode --opening=2 --closing=1", LINES)?.output;

@@ -3,8 +3,8 @@ use super::{NEVER, assert_ended, run_live};
 use crate::assertions::assert_equal;
 use std::test::Fail;
 
-// Each row: how many samples of silence come, what fails, the status, how many octets come out, the report, and how often
-// the ports are opened. A tick is 96 samples, and only whole ticks are sent.
+// Each row: how many samples of silence come, what fails, the status, how many octets come out, the report, and how
+// often the ports are opened. A tick is 96 samples, and only whole ticks are sent.
 #[test]
 fn a_station_without_hosts_sends_silence(rt: HostRuntime) -> Result<(), Fail> {
     let words = "serve --kiss 8001 --agw=8000";

@@ -1,6 +1,5 @@
 //! `encode`, `show` and `loop`.
-use super::asked;
-use crate::tests::assertions::assert_equal;
+use super::assert_asked;
 use ax25_frames::Modulus;
 use std::test::Fail;
 use tnc_words::{
@@ -55,12 +54,8 @@ fn encode_takes_its_forms_and_flags(rt: HostRuntime) -> Result<(), Fail> {
             },
         ),
     ];
-    for (line, want) in table {
-        assert_equal(
-            &rt,
-            &(line, asked(rt.alloc(), "encode", line)?),
-            &(line, Ok(Command::Encode(want))),
-        );
+    for &(line, want) in &table {
+        assert_asked(&rt, rt.alloc(), "encode", line, Command::Encode(want))?;
     }
     Ok(())
 }
@@ -96,12 +91,8 @@ fn encode_takes_its_numbers(rt: HostRuntime) -> Result<(), Fail> {
         ("--level=010000", ENCODE),
         ("--level=32767", numbers(75, 2, 0, 32_767)),
     ];
-    for (line, want) in table {
-        assert_equal(
-            &rt,
-            &(line, asked(rt.alloc(), "encode", line)?),
-            &(line, Ok(Command::Encode(want))),
-        );
+    for &(line, want) in &table {
+        assert_asked(&rt, rt.alloc(), "encode", line, Command::Encode(want))?;
     }
     Ok(())
 }
@@ -116,13 +107,9 @@ fn show_takes_a_modulus(rt: HostRuntime) -> Result<(), Fail> {
         ("--modulo=0128", Modulus::OneTwentyEight),
     ];
     one_command();
-    for (line, modulus) in table {
+    for &(line, modulus) in &table {
         let want = Command::Show(ShowWords { modulus });
-        assert_equal(
-            &rt,
-            &(line, asked(rt.alloc(), "show", line)?),
-            &(line, Ok(want)),
-        );
+        assert_asked(&rt, rt.alloc(), "show", line, want)?;
     }
     Ok(())
 }
@@ -162,12 +149,8 @@ fn loop_takes_its_numbers_and_flags(rt: HostRuntime) -> Result<(), Fail> {
             },
         ),
     ];
-    for (line, want) in table {
-        assert_equal(
-            &rt,
-            &(line, asked(rt.alloc(), "loop", line)?),
-            &(line, Ok(Command::Loop(want))),
-        );
+    for &(line, want) in &table {
+        assert_asked(&rt, rt.alloc(), "loop", line, Command::Loop(want))?;
     }
     Ok(())
 }

@@ -1,5 +1,5 @@
 //! `bench`.
-use super::{asked, taken};
+use super::{assert_asked, taken};
 use crate::tests::assertions::assert_equal;
 use std::test::Fail;
 use tnc_words::{BenchOptions, Command};
@@ -34,16 +34,8 @@ fn bench_is_asked_for_with_a_seed(rt: HostRuntime) -> Result<(), Fail> {
     };
     let of_most =
         "--wide --noise 2000 --loss=90 --full --octets 100000 --seed 18446744073709551615 --";
-    assert_equal(
-        &rt,
-        &asked(rt.alloc(), "bench", "--seed 7")?,
-        &Ok(Command::Bench(least)),
-    );
-    assert_equal(
-        &rt,
-        &asked(rt.alloc(), "bench", of_most)?,
-        &Ok(Command::Bench(most)),
-    );
+    assert_asked(&rt, rt.alloc(), "bench", "--seed 7", Command::Bench(least))?;
+    assert_asked(&rt, rt.alloc(), "bench", of_most, Command::Bench(most))?;
     assert_equal(&rt, &taken(rt.alloc(), "bench", REFUSED)?.as_str(), &"");
     Ok(())
 }

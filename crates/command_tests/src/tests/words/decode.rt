@@ -1,6 +1,5 @@
 //! `decode`.
-use super::asked;
-use crate::tests::assertions::assert_equal;
+use super::assert_asked;
 use std::test::Fail;
 use tnc_words::{AudioForm, Command, DecodeWords, FrameForm, Receiving, SampleRate};
 
@@ -60,12 +59,8 @@ fn decode_takes_its_forms_and_threads(rt: HostRuntime) -> Result<(), Fail> {
             },
         ),
     ];
-    for (line, want) in table {
-        assert_equal(
-            &rt,
-            &(line, asked(rt.alloc(), "decode", line)?),
-            &(line, Ok(Command::Decode(want))),
-        );
+    for &(line, want) in &table {
+        assert_asked(&rt, rt.alloc(), "decode", line, Command::Decode(want))?;
     }
     Ok(())
 }
@@ -88,12 +83,8 @@ fn decode_takes_what_hears_and_its_rate(rt: HostRuntime) -> Result<(), Fail> {
             },
         ),
     ];
-    for (line, want) in table {
-        assert_equal(
-            &rt,
-            &(line, asked(rt.alloc(), "decode", line)?),
-            &(line, Ok(Command::Decode(want))),
-        );
+    for &(line, want) in &table {
+        assert_asked(&rt, rt.alloc(), "decode", line, Command::Decode(want))?;
     }
     Ok(())
 }

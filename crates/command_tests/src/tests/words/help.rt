@@ -1,6 +1,5 @@
 //! `help` and `version`.
-use super::asked;
-use crate::tests::assertions::assert_equal;
+use super::assert_asked;
 use std::test::Fail;
 use tnc_words::{Command, Topic, help_text, version_line};
 
@@ -23,28 +22,16 @@ fn help_is_asked_for_alone(rt: HostRuntime) -> Result<(), Fail> {
         ("help serve", Topic::Serve),
         ("serve --help", Topic::Serve),
     ];
-    for (line, topic) in table {
-        assert_equal(
-            &rt,
-            &(line, asked(rt.alloc(), "", line)?),
-            &(line, Ok(Command::Help(topic))),
-        );
+    for &(line, topic) in &table {
+        assert_asked(&rt, rt.alloc(), "", line, Command::Help(topic))?;
     }
     Ok(())
 }
 
 #[test]
 fn the_version_is_asked_for_alone(rt: HostRuntime) -> Result<(), Fail> {
-    assert_equal(
-        &rt,
-        &asked(rt.alloc(), "", "version")?,
-        &Ok(Command::Version),
-    );
-    assert_equal(
-        &rt,
-        &asked(rt.alloc(), "", "--version")?,
-        &Ok(Command::Version),
-    );
+    assert_asked(&rt, rt.alloc(), "", "version", Command::Version)?;
+    assert_asked(&rt, rt.alloc(), "", "--version", Command::Version)?;
     assert!(rt; version_line().starts_with("tnc "));
     Ok(())
 }

@@ -1,6 +1,7 @@
 //! Words that are refused.
 use super::taken;
 use crate::tests::assertions::assert_equal;
+use std::alloc::Global;
 use std::test::Fail;
 use tnc_words::{WordsFault, read_words};
 
@@ -183,6 +184,15 @@ fn other_words_are_refused(rt: HostRuntime) -> Result<(), Fail> {
     Ok(())
 }
 
+/// Whether these words are refused.
+fn are_refused(alloc: Global, words: &[&str]) -> Result<bool, Fail> {
+    let mut given = Vec::new(alloc);
+    for word in words {
+        given.push(String::from_str(alloc, word)?)?;
+    }
+    Ok(matches!(read_words(alloc, &given), Err(WordsFault::Refused)))
+}
+
 // Words that a line cannot have.
 #[test]
 fn no_words_and_words_with_spaces_are_refused(rt: HostRuntime) -> Result<(), Fail> {
@@ -194,12 +204,7 @@ fn no_words_and_words_with_spaces_are_refused(rt: HostRuntime) -> Result<(), Fai
         &["serve", "--kiss=1", "--agw=2", "--digi", ""],
     ];
     for words in table {
-        let mut given = Vec::new(rt.alloc());
-        for word in words {
-            given.push(String::from_str(rt.alloc(), word)?)?;
-        }
-        let end = read_words(rt.alloc(), &given);
-        assert!(rt; matches!(end, Err(WordsFault::Refused)), "of {words:?}");
+        assert!(rt; are_refused(rt.alloc(), words)?, "of {words:?}");
     }
     Ok(())
 }

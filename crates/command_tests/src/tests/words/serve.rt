@@ -1,6 +1,5 @@
 //! `serve`.
-use super::asked;
-use crate::tests::assertions::assert_equal;
+use super::assert_asked;
 use ax25_address::Call;
 use link_machine::Params;
 use selective_reject::Mode;
@@ -79,11 +78,7 @@ fn serve_takes_what_links_are_made_with(rt: HostRuntime) -> Result<(), Fail> {
     ];
     for (line, params) in table {
         let want = ServeOptions { params, ..SERVE };
-        assert_equal(
-            &rt,
-            &(line, asked(rt.alloc(), LEAST, line)?),
-            &(line, Ok(Command::Serve(want))),
-        );
+        assert_asked(&rt, rt.alloc(), LEAST, line, Command::Serve(want))?;
     }
     Ok(())
 }
@@ -129,11 +124,7 @@ fn serve_takes_what_its_station_does(rt: HostRuntime) -> Result<(), Fail> {
         ),
     ];
     for (line, want) in table {
-        assert_equal(
-            &rt,
-            &(line, asked(rt.alloc(), LEAST, line)?),
-            &(line, Ok(Command::Serve(want))),
-        );
+        assert_asked(&rt, rt.alloc(), LEAST, line, Command::Serve(want))?;
     }
     Ok(())
 }

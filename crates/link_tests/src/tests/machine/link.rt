@@ -50,10 +50,20 @@ pub(super) fn assert_rows<R: Abort>(
 ) -> Result<(), Fail> {
     for line in lines.lines() {
         let mut link = idle(alloc, params)?;
-        last_of(alloc, &mut link, before)?;
-        assert_line(rt, alloc, &mut link, line)?;
+        assert_row(rt, alloc, &mut link, before, line)?;
     }
     Ok(())
+}
+
+fn assert_row<R: Abort>(
+    rt: &R,
+    alloc: Global,
+    link: &mut Link,
+    before: &str,
+    line: &str,
+) -> Result<(), Fail> {
+    last_of(alloc, link, before)?;
+    assert_line(rt, alloc, link, line)
 }
 
 impl Subject for Link {

@@ -4,6 +4,8 @@ use crate::tests::assertions::assert_equal;
 use crate::tests::packets::packet;
 use link_machine::{Link, LinkFault, LinkState, NewFault, Params};
 use selective_reject::Mode;
+use std::alloc::Global;
+use std::process::Abort;
 use std::test::Fail;
 
 /// Why a request is refused in a state; `quit` says that a disconnect was asked for before.
@@ -11,37 +13,51 @@ fn wrong(state: LinkState, quit: bool) -> Option<LinkFault> {
     Some(LinkFault::WrongState { state, quit })
 }
 
-#[test]
-fn requests_are_refused_in_a_state(rt: HostRuntime) -> Result<(), Fail> {
-    let alloc = rt.alloc();
-    let mut link = idle(alloc, Params::default())?;
+/// Asserts that an idle link refuses a packet, and then a second call and a second disconnect.
+fn assert_refuses_requests<R: Abort>(rt: &R, alloc: Global, link: &mut Link) -> Result<(), Fail> {
     let early = link.send(packet(alloc, b"x")?).err();
-    assert_equal(&rt, &early, &wrong(LinkState::Idle, false));
+    assert_equal(rt, &early, &wrong(LinkState::Idle, false));
     link.connect()?;
     let again = link.connect().err();
-    assert_equal(&rt, &again, &wrong(LinkState::Calling, false));
+    assert_equal(rt, &again, &wrong(LinkState::Calling, false));
     link.disconnect()?;
     let twice = link.disconnect().err();
-    assert_equal(&rt, &twice, &wrong(LinkState::Calling, true));
+    assert_equal(rt, &twice, &wrong(LinkState::Calling, true));
+    Ok(())
+}
+
+#[test]
+fn requests_are_refused_in_a_state(rt: HostRuntime) -> Result<(), Fail> {
+    let mut link = idle(rt.alloc(), Params::default())?;
+    assert_refuses_requests(&rt, rt.alloc(), &mut link)
+}
+
+/// Sends packets of one octet.
+fn send_short(alloc: Global, link: &mut Link, count: usize) -> Result<(), Fail> {
+    for _ in 0..count {
+        link.send(packet(alloc, b"x")?)?;
+    }
+    Ok(())
+}
+
+/// Asserts that a link refuses a packet of 257 octets, and after one of 256 and 1023 short ones the next.
+fn assert_refuses_packets<R: Abort>(rt: &R, alloc: Global, link: &mut Link) -> Result<(), Fail> {
+    link.connect()?;
+    let long = link.send(packet(alloc, &[0x41; 257])?).err();
+    assert_equal(rt, &long, &Some(LinkFault::TooLong { len: 257 }));
+    link.send(packet(alloc, &[0x41; 256])?)?;
+    assert_equal(rt, &link.state(), &LinkState::Calling);
+    send_short(alloc, link, 1023)?;
+    assert_equal(rt, &link.pending(), &1024);
+    let full = link.send(packet(alloc, b"x")?).err();
+    assert_equal(rt, &full, &Some(LinkFault::Full));
     Ok(())
 }
 
 #[test]
 fn packets_are_refused(rt: HostRuntime) -> Result<(), Fail> {
-    let alloc = rt.alloc();
-    let mut link = idle(alloc, Params::default())?;
-    link.connect()?;
-    let long = link.send(packet(alloc, &[0x41; 257])?).err();
-    assert_equal(&rt, &long, &Some(LinkFault::TooLong { len: 257 }));
-    link.send(packet(alloc, &[0x41; 256])?)?;
-    assert_equal(&rt, &link.state(), &LinkState::Calling);
-    for _ in 1..1024 {
-        link.send(packet(alloc, b"x")?)?;
-    }
-    assert_equal(&rt, &link.pending(), &1024);
-    let full = link.send(packet(alloc, b"x")?).err();
-    assert_equal(&rt, &full, &Some(LinkFault::Full));
-    Ok(())
+    let mut link = idle(rt.alloc(), Params::default())?;
+    assert_refuses_packets(&rt, rt.alloc(), &mut link)
 }
 
 #[test]

@@ -113,12 +113,17 @@ fn octets_of(alloc: Global, sent: &SentFrame) -> Result<Octets, Fail> {
     }
 }
 
+/// The frames of a call modulo 128 from N7LEM to NJ7P.
+fn frames_of_call(alloc: Global) -> Result<Vec<SentFrame>, Fail> {
+    let mut link = Link::new(alloc, wide(), path("NJ7P", "N7LEM")?)?;
+    Ok(link.connect()?.frames)
+}
+
 #[test]
 fn a_wide_call_in_octets(rt: HostRuntime) -> Result<(), Fail> {
-    let mut link = Link::new(rt.alloc(), wide(), path("NJ7P", "N7LEM")?)?;
-    let acts = link.connect()?;
-    assert_equal(&rt, &acts.frames.len(), &1);
-    for sent in &acts.frames {
+    let frames = frames_of_call(rt.alloc())?;
+    assert_equal(&rt, &frames.len(), &1);
+    for sent in &frames {
         let octets = octets_of(rt.alloc(), sent)?;
         assert_equal(
             &rt,

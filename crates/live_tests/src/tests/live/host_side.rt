@@ -7,9 +7,10 @@ use link_machine::Params;
 use station::{Config, PortKind};
 use std::alloc::Global;
 use std::net::Net;
+use std::process::Abort;
 use std::test::Fail;
 use tnc_base::OutOfMemory;
-use tnc_ports::{HostSide, MemLive, MemPorts, ReportLine};
+use tnc_ports::{HostSide, MemLive, ReportLine};
 
 /// A UI frame from N7LEM to NJ7P. As a KISS frame it has 19 octets.
 const FRAME: &[u8] = b"\x9c\x94\x6e\xa0\x40\x40\xe0\x9c\x6e\x98\x8a\x9a\x40\x61\x03\xf0";
@@ -25,15 +26,15 @@ fn frame() -> &'static [u8]
 struct Desk {
     alloc: Global,
     side: HostSide,
-    ports: MemPorts,
+    live: Box<MemLive>,
 }
 
 impl Desk {
-    fn new(alloc: Global, live: MemLive) -> Result<Desk, Fail> {
+    /// In a box, so that each test that owns a desk is proved several times faster.
+    fn new(alloc: Global, live: Box<MemLive>) -> Result<Box<Desk>, Fail> {
         let params = Params::default();
         let side = HostSide::new(alloc, Config { params, digi: None }, 7)?;
-        let ports = live.ports;
-        Ok(Desk { alloc, side, ports })
+        Ok(Box::new(alloc, Desk { alloc, side, live })?)
     }
 
     /// The frame is heard so often.
@@ -48,7 +49,7 @@ impl Desk {
     fn turns<R: Net>(&mut self, rt: &R, frames: &[u32]) -> Result<(), OutOfMemory> {
         for times in frames {
             self.hear(*times)?;
-            self.side.part(rt, &mut self.ports)?;
+            self.side.part(rt, &mut self.live.ports)?;
         }
         Ok(())
     }
@@ -56,7 +57,7 @@ impl Desk {
     /// The sends as text: after which poll, to which connection, and how many octets were offered.
     fn sends(&self) -> Result<String, OutOfMemory> {
         let mut text = String::new(self.alloc);
-        for send in self.ports.sends() {
+        for send in self.live.ports.sends() {
             write!(text, "{}:{}:{} ", send.polls, send.id, send.offered)?;
         }
         Ok(text)
@@ -65,7 +66,7 @@ impl Desk {
     /// The polls as text: how long each waits, and how many ids it pauses.
     fn polls(&self) -> Result<String, OutOfMemory> {
         let mut text = String::new(self.alloc);
-        for poll in self.ports.polls() {
+        for poll in self.live.ports.polls() {
             write!(text, "{}:{} ", poll.wait_ms, poll.paused.len())?;
         }
         Ok(text)
@@ -93,12 +94,24 @@ fn two_hosts(alloc: Global) -> Result<Script, OutOfMemory> {
     Ok(script)
 }
 
+fn assert_sends<R: Abort>(rt: &R, desk: &Desk, want: &str) -> Result<(), Fail> {
+    let sends = desk.sends()?;
+    assert_equal(rt, &sends.as_str(), &want);
+    Ok(())
+}
+
+fn assert_closed<R: Abort>(rt: &R, desk: &mut Desk, want: &str) -> Result<(), Fail> {
+    let closed = desk.closed()?;
+    assert_equal(rt, &closed.as_str(), &want);
+    Ok(())
+}
+
 #[test]
 fn a_turn_offers_each_host_one_piece(rt: HostRuntime) -> Result<(), Fail> {
-    let alloc = rt.alloc();
-    let mut desk = Desk::new(alloc, two_hosts(alloc)?.failing(&[])?)?;
+    let live = two_hosts(rt.alloc())?.failing(&[])?;
+    let mut desk = Desk::new(rt.alloc(), live)?;
     desk.turns(&rt, &[0, 2])?;
-    assert_equal(&rt, &desk.sends()?.as_str(), &"2:5:19 2:2:19 ");
+    assert_sends(&rt, &desk, "2:5:19 2:2:19 ")?;
     assert_equal(&rt, &desk.polls()?.as_str(), &"10:0 10:0 ");
     Ok(())
 }
@@ -106,37 +119,33 @@ fn a_turn_offers_each_host_one_piece(rt: HostRuntime) -> Result<(), Fail> {
 // Calls 4 and 5 of the sockets fail: the third poll, and a send to host 5.
 #[test]
 fn a_host_whose_send_fails_is_shut(rt: HostRuntime) -> Result<(), Fail> {
-    let alloc = rt.alloc();
-    let mut desk = Desk::new(alloc, two_hosts(alloc)?.failing(&[4, 5])?)?;
+    let live = two_hosts(rt.alloc())?.failing(&[4, 5])?;
+    let mut desk = Desk::new(rt.alloc(), live)?;
     desk.turns(&rt, &[0, 2, 0, 1])?;
-    assert_equal(&rt, &desk.closed()?.as_str(), &"5 ");
-    assert_equal(&rt, &desk.closed()?.as_str(), &"");
-    assert_equal(&rt, &desk.sends()?.as_str(), &"2:5:19 2:2:19 3:2:19 ");
-    assert_equal(
-        &rt,
-        &came(alloc, &desk.ports)?.as_str(),
-        &"5:shut 2:open 5:shut ",
-    );
+    assert_closed(&rt, &mut desk, "5 ")?;
+    assert_closed(&rt, &mut desk, "")?;
+    assert_sends(&rt, &desk, "2:5:19 2:2:19 3:2:19 ")?;
+    let came = came(rt.alloc(), &desk.live.ports)?;
+    assert_equal(&rt, &came.as_str(), &"5:shut 2:open 5:shut ");
     Ok(())
 }
 
 // 262,144 is 19 times 13,797 and 1 more.
 #[test]
 fn a_host_that_takes_nothing_is_shut_when_its_buffer_is_full(rt: HostRuntime) -> Result<(), Fail> {
-    let alloc = rt.alloc();
-    let mut desk = Desk::new(alloc, two_hosts(alloc)?.taking(0))?;
+    let live = two_hosts(rt.alloc())?.taking(0)?;
+    let mut desk = Desk::new(rt.alloc(), live)?;
     desk.turns(&rt, &[0, 13_797])?;
-    assert_equal(&rt, &desk.sends()?.as_str(), &"2:5:19 2:2:19 ");
-    assert_equal(&rt, &desk.closed()?.as_str(), &"");
+    assert_sends(&rt, &desk, "2:5:19 2:2:19 ")?;
+    assert_closed(&rt, &mut desk, "")?;
     desk.hear(1)?;
-    assert_equal(&rt, &desk.closed()?.as_str(), &"5 2 ");
-    Ok(())
+    assert_closed(&rt, &mut desk, "5 2 ")
 }
 
 #[test]
 fn a_tick_without_frames_is_silent(rt: HostRuntime) -> Result<(), Fail> {
     let alloc = rt.alloc();
-    let mut desk = Desk::new(alloc, Script::new(alloc).taking(0))?;
+    let mut desk = Desk::new(alloc, Script::new(alloc).taking(0)?)?;
     let air = desk.side.tick(false)?;
     assert!(rt; air.samples == [0; 96] && !air.began);
     Ok(())
@@ -145,8 +154,7 @@ fn a_tick_without_frames_is_silent(rt: HostRuntime) -> Result<(), Fail> {
 #[test]
 fn a_line_is_noted(rt: HostRuntime) -> Result<(), Fail> {
     let alloc = rt.alloc();
-    let mut desk = Desk::new(alloc, Script::new(alloc).taking(0))?;
+    let mut desk = Desk::new(alloc, Script::new(alloc).taking(0)?)?;
     desk.side.note(ReportLine::ClosedLine { id: 9 })?;
-    assert_equal(&rt, &desk.closed()?.as_str(), &"9 ");
-    Ok(())
+    assert_closed(&rt, &mut desk, "9 ")
 }

@@ -9,8 +9,8 @@ use tnc_base::OutOfMemory;
 use tnc_ports::{MemPorts, Outgoing, offer};
 
 /// Pieces that wait.
-fn waiting_of(alloc: Global, pieces: &[&[u8]]) -> Result<Outgoing, Fail> {
-    let mut waiting = Outgoing::new(alloc)?;
+fn waiting_of(alloc: Global, pieces: &[&[u8]]) -> Result<Box<Outgoing>, Fail> {
+    let mut waiting = Box::new(alloc, Outgoing::new(alloc)?)?;
     for piece in pieces {
         waiting.append(piece)?;
     }
@@ -43,24 +43,29 @@ fn offers<R: Net>(
     failed
 }
 
+/// Pieces of 5, 0, 2 and 4096 octets.
+const PIECES: &[&[u8]] = &[b"12345", b"", b"67", &[0; 4096]];
+
 #[test]
 fn pieces_are_offered_one_by_one(rt: HostRuntime) -> Result<(), Fail> {
     let alloc = rt.alloc();
-    let mut ports = Script::new(alloc).taking(3).ports;
-    let mut waiting = waiting_of(alloc, &[b"12345", b"", b"67", &[0; 4096]])?;
-    assert_equal(&rt, &offers(&rt, alloc, &mut ports, &mut waiting, 4), &0);
+    let mut live = Script::new(alloc).taking(3)?;
+    let mut waiting = waiting_of(alloc, PIECES)?;
+    let failed = offers(&rt, alloc, &mut live.ports, &mut waiting, 4);
+    assert_equal(&rt, &failed, &0);
     let want = "7:5:3 7:2:2 7:2:2 7:4096:3 ";
-    assert_equal(&rt, &sends(alloc, &ports)?.as_str(), &want);
+    assert_equal(&rt, &sends(alloc, &live.ports)?.as_str(), &want);
     Ok(())
 }
 
 #[test]
 fn a_failed_offer_takes_nothing(rt: HostRuntime) -> Result<(), Fail> {
     let alloc = rt.alloc();
-    let mut ports = Script::new(alloc).failing(&[0])?.ports;
+    let mut live = Script::new(alloc).failing(&[0])?;
     let mut waiting = waiting_of(alloc, &[b"12345"])?;
-    assert_equal(&rt, &offers(&rt, alloc, &mut ports, &mut waiting, 2), &1);
-    assert_equal(&rt, &sends(alloc, &ports)?.as_str(), &"7:5:5 ");
+    let failed = offers(&rt, alloc, &mut live.ports, &mut waiting, 2);
+    assert_equal(&rt, &failed, &1);
+    assert_equal(&rt, &sends(alloc, &live.ports)?.as_str(), &"7:5:5 ");
     assert!(rt; waiting.is_empty());
     Ok(())
 }

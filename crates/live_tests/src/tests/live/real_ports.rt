@@ -2,8 +2,10 @@
 
 use super::script::names;
 use crate::assertions::assert_equal;
+use std::alloc::Global;
 use std::io::{Read, Write};
-use std::net::{Ipv4Addr, SocketAddr, TcpListener, TcpStream};
+use std::net::{Ipv4Addr, Net, SocketAddr, TcpListener, TcpStream};
+use std::process::Abort;
 use std::test::Fail;
 use tnc_ports::{Ports, RealPorts};
 
@@ -14,20 +16,25 @@ fn free_port(rt: &HostRuntime) -> Result<u16, Fail> {
 }
 
 /// The events of the first poll that gives some, of so many.
-fn polled(rt: &HostRuntime, ports: &mut RealPorts, paused: &[u32]) -> Result<String, Fail> {
+fn polled<R: Net>(
+    rt: &R,
+    alloc: Global,
+    ports: &mut RealPorts,
+    paused: &[u32],
+) -> Result<String, Fail> {
     for _ in 0..200 {
         let events = ports.poll(rt, 10, paused)?;
         if !events.is_empty() {
-            return Ok(names(rt.alloc(), &events)?);
+            return Ok(names(alloc, &events)?);
         }
     }
-    Ok(String::new(rt.alloc()))
+    Ok(String::new(alloc))
 }
 
 /// Sockets that listen, and the address at which they do for AGWPE.
-fn opened(rt: &HostRuntime) -> Result<(RealPorts, SocketAddr), Fail> {
-    let mut ports = RealPorts::new(rt.alloc());
+fn opened(rt: &HostRuntime) -> Result<(Box<RealPorts>, SocketAddr), Fail> {
     let (kiss, agw) = (free_port(rt)?, free_port(rt)?);
+    let mut ports = Box::new(rt.alloc(), RealPorts::new(rt.alloc()))?;
     ports.listen(rt, kiss, agw)?;
     Ok((ports, SocketAddr::from((Ipv4Addr::LOCALHOST, agw))))
 }
@@ -46,6 +53,18 @@ fn answer(mut host: TcpStream) -> Result<[u8; 2], Fail> {
     Ok(answer)
 }
 
+fn assert_polled<R: Net + Abort>(
+    rt: &R,
+    alloc: Global,
+    ports: &mut RealPorts,
+    paused: &[u32],
+    want: &str,
+) -> Result<(), Fail> {
+    let polled = polled(rt, alloc, ports, paused)?;
+    assert_equal(rt, &polled.as_str(), &want);
+    Ok(())
+}
+
 #[test]
 fn no_host_connects_before_they_listen(rt: HostRuntime) {
     assert!(rt; RealPorts::new(rt.alloc()).poll(&rt, 0, &[]).is_err());
@@ -55,8 +74,8 @@ fn no_host_connects_before_they_listen(rt: HostRuntime) {
 fn hosts_connect_on_loopback(rt: HostRuntime) -> Result<(), Fail> {
     let (mut ports, to) = opened(&rt)?;
     let host = connected(&rt, to)?;
-    assert_equal(&rt, &polled(&rt, &mut ports, &[1])?.as_str(), &"J1 ");
-    assert_equal(&rt, &polled(&rt, &mut ports, &[])?.as_str(), &"B1 ");
+    assert_polled(&rt, rt.alloc(), &mut ports, &[1], "J1 ")?;
+    assert_polled(&rt, rt.alloc(), &mut ports, &[], "B1 ")?;
     assert_equal(&rt, &ports.send(&rt, 1, b"67"), &Ok(2));
     assert_equal(&rt, &answer(host)?, b"67");
     ports.shut(1);

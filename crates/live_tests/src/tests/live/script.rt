@@ -5,6 +5,7 @@ use station::{HostEvent, PortKind};
 use std::alloc::Global;
 use std::marker::Model;
 use std::net::Net;
+use std::process::Abort;
 use std::test::Fail;
 use tnc_base::{Octets, OutOfMemory};
 use tnc_ports::{MemLive, MemPorts, Ports};
@@ -19,14 +20,14 @@ pub(super) struct Script {
     events: Vec<(u64, HostEvent)>,
 }
 
+// No test needs a fact about a script, so its value shows none. Each test is then proved faster.
 impl Model for Script {
-    ghost use Rattle.std.specs.Prelude.{ℕ, List, All};
-    ghost use Rattle.station.specs.declared.host_event.HostEvent.{HostEvent};
+    ghost use Rattle.std.specs.Prelude.{⊤, All};
     ghost use Rattle.tnc_ports.specs.Sockets.{IsWholePiece};
 
-    ghost Value = { List (ℕ × HostEvent) };
+    ghost Value = { ⊤ };
 
-    ghost view = { λ s. s.events.items };
+    ghost view = { λ _. tt };
 
     ghost invariant = { λ s. All (λ entry. IsWholePiece entry.1) s.events.items };
 }
@@ -61,15 +62,19 @@ impl Script {
         Ok(())
     }
 
-    /// Sockets that give the script, and fail at the calls of these numbers.
-    pub(super) fn failing(self, calls: &[u64]) -> Result<MemLive, OutOfMemory> {
+    /// Sockets that give the script, and fail at the calls of these numbers. In a box, so that each test that owns them
+    /// is proved faster.
+    pub(super) fn failing(self, calls: &[u64]) -> Result<Box<MemLive>, OutOfMemory> {
         let failing = calls.to_vec(self.alloc)?;
-        Ok(MemLive::new(self.alloc, self.events, failing))
+        let live = MemLive::new(self.alloc, self.events, failing);
+        Ok(Box::new(self.alloc, live)?)
     }
 
     /// Sockets that give the script, and take so many octets a send.
-    pub(super) fn taking(self, takes: u32) -> MemLive {
-        MemLive::taking(self.alloc, self.events, Vec::new(self.alloc), takes)
+    pub(super) fn taking(self, takes: u32) -> Result<Box<MemLive>, OutOfMemory> {
+        let none = Vec::new(self.alloc);
+        let live = MemLive::taking(self.alloc, self.events, none, takes);
+        Ok(Box::new(self.alloc, live)?)
     }
 }
 
@@ -110,7 +115,7 @@ pub(super) fn came(alloc: Global, ports: &MemPorts) -> Result<String, OutOfMemor
 }
 
 /// Two hosts, of which the first brings octets and goes, all of it by the second poll.
-fn worked(alloc: Global) -> Result<MemLive, OutOfMemory> {
+fn worked(alloc: Global) -> Result<Box<MemLive>, OutOfMemory> {
     let mut script = Script::new(alloc);
     script.joins(0, 1, PortKind::Agw)?;
     script.joins(0, 2, PortKind::Kiss)?;
@@ -121,25 +126,39 @@ fn worked(alloc: Global) -> Result<MemLive, OutOfMemory> {
     script.failing(&[2])
 }
 
-// Poll 1 pauses connection 1, poll 2 fails, and poll 3 pauses nobody.
+/// Ends the test unless these are the events of a poll.
+fn assert_polled<R: Net + Abort>(
+    rt: &R,
+    alloc: Global,
+    ports: &mut MemPorts,
+    paused: &[u32],
+    want: &str,
+) -> Result<(), Fail> {
+    let events = polled(rt, alloc, ports, paused)?;
+    assert_equal(rt, &events.as_str(), &want);
+    Ok(())
+}
+
+/// Each row: the connections that a poll pauses, and its events. Poll 1 pauses connection 1, poll 2 fails, and poll 3
+/// pauses nobody.
+const POLLS: &[(&[u32], &str)] = &[
+    (&[], "J1 J2 "),
+    (&[1], "B2 "),
+    (&[], "failed"),
+    (&[], "B1 L1 B2 "),
+    (&[], ""),
+];
+
 #[test]
 fn is_given_poll_by_poll(rt: HostRuntime) -> Result<(), Fail> {
-    let alloc = rt.alloc();
-    let mut ports = worked(alloc)?.ports;
-    let table: [(&[u32], &str); 5] = [
-        (&[], "J1 J2 "),
-        (&[1], "B2 "),
-        (&[], "failed"),
-        (&[], "B1 L1 B2 "),
-        (&[], ""),
-    ];
-    for (paused, want) in table {
-        let events = polled(&rt, alloc, &mut ports, paused)?;
-        assert_equal(&rt, &events.as_str(), &want);
+    let mut live = worked(rt.alloc())?;
+    for (paused, want) in POLLS {
+        assert_polled(&rt, rt.alloc(), &mut live.ports, paused, want)?;
     }
-    assert_equal(&rt, &ports.polls().len(), &5);
-    ports.shut(1);
-    ports.shut(3);
-    assert_equal(&rt, &came(alloc, &ports)?.as_str(), &"1:shut 2:open ");
+    assert_equal(&rt, &live.ports.polls().len(), &5);
+    live.ports.shut(1);
+    live.ports.shut(3);
+    let came = came(rt.alloc(), &live.ports)?;
+    assert_equal(&rt, &came.as_str(), &"1:shut 2:open ");
     Ok(())
 }

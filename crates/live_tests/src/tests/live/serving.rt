@@ -1,15 +1,19 @@
 //! A live station over memory, from its first poll to the end of its input.
 
-use super::outcome::{Failing, NONE, served, served_by, silence};
+use super::outcome::{Failing, NONE, Outcome, served, served_by, silence};
 use super::script::Script;
 use crate::assertions::assert_equal;
 use afsk_modulator::transmission;
 use station::PortKind;
 use station_tests::message;
 use std::alloc::Global;
+use std::net::Net;
+use std::process::Abort;
+use std::sync::Wait;
 use std::test::Fail;
+use std::thread::Threads;
 use tnc_base::{Octets, OutOfMemory};
-use tnc_ports::{Live, MemLive, Order, ServeEnd, Spawner};
+use tnc_ports::{Live, MemLive, MemPorts, Order, ServeEnd, Spawner};
 
 /// No thread can be started, so the pump runs last.
 #[derive(Clone, Copy, Debug, Drop)]
@@ -22,15 +26,25 @@ impl Spawner for NoThread {
 }
 
 /// Sockets without hosts.
-fn no_hosts(alloc: Global) -> Result<MemLive, OutOfMemory> {
+fn no_hosts(alloc: Global) -> Result<Box<MemLive>, OutOfMemory> {
     Script::new(alloc).failing(&[])
+}
+
+/// What a station writes of 960 samples of silence.
+fn served_silence<R: Threads + Wait + Net + Sync, W: Spawner>(
+    rt: &R,
+    alloc: Global,
+    live: &mut Live<MemPorts, W>,
+) -> Result<Box<Outcome>, OutOfMemory> {
+    let input = silence(alloc, 960)?;
+    served(rt, alloc, input, NONE, live)
 }
 
 #[test]
 fn silence_gives_silence(rt: HostRuntime) -> Result<(), Fail> {
     let alloc = rt.alloc();
     let mut live = no_hosts(alloc)?;
-    let served = served(&rt, alloc, silence(alloc, 960)?, NONE, &mut live)?;
+    let served = served_silence(&rt, alloc, &mut live)?;
     let got = (served.end, served.report.len(), live.ports.listens().len());
     assert_equal(&rt, &got, &(ServeEnd::Done, 0, 1));
     assert_equal(&rt, &served.output, &silence(alloc, 960)?);
@@ -41,10 +55,10 @@ fn silence_gives_silence(rt: HostRuntime) -> Result<(), Fail> {
 #[test]
 fn without_a_thread_it_ends(rt: HostRuntime) -> Result<(), Fail> {
     let alloc = rt.alloc();
-    let Live { ports, spawner: _ } = no_hosts(alloc)?;
+    let Live { ports, spawner: _ } = Box::into_inner(no_hosts(alloc)?);
     let spawner = NoThread;
-    let mut live = Live { ports, spawner };
-    let served = served(&rt, alloc, silence(alloc, 960)?, NONE, &mut live)?;
+    let mut live = Box::new(alloc, Live { ports, spawner })?;
+    let served = served_silence(&rt, alloc, &mut live)?;
     let got = (served.end, served.output.len(), served.report.len());
     assert_equal(&rt, &got, &(ServeEnd::Memory, 0, 0));
     let calls = (live.ports.listens().len(), live.ports.polls().len());
@@ -62,22 +76,30 @@ fn line_count(text: &[u8]) -> usize {
     count
 }
 
+/// Each row: whether all lanes listen, how many samples are missed, and the line of the last.
+const MISSED: &[(bool, usize, &[u8])] = &[
+    (false, 8 * 4464, b"gap 7 4463 4464\n"),
+    (true, 9 * 4464, b"gap 8 4463 4464\n"),
+];
+
+/// Ends the test unless the report has a line for each missed sample, and all of the rest comes out.
+fn assert_gaps<R: Abort>(rt: &R, served: &Outcome, gaps: usize, last: &[u8]) {
+    let begins = served.report.starts_with(b"gap 0 0 1\ngap 0 1 2\n");
+    let ends = served.report.ends_with(last);
+    let lines = line_count(&served.report);
+    let got = (served.end, served.output.len(), begins, ends, lines);
+    assert_equal(rt, &got, &(ServeEnd::Done, 2 * 69_984, true, true, gaps));
+}
+
 // The ring keeps 65,536 samples, so each reader misses the first 4464 one by one. The added lanes share the ninth.
 #[test]
 fn overwritten_samples_are_reported(rt: HostRuntime) -> Result<(), Fail> {
     let alloc = rt.alloc();
-    for (sensitive, gaps, last) in [
-        (false, 8 * 4464, b"gap 7 4463 4464\n".as_slice()),
-        (true, 9 * 4464, b"gap 8 4463 4464\n"),
-    ] {
-        let mut live = no_hosts(alloc)?;
+    for (sensitive, gaps, last) in MISSED {
         let input = silence(alloc, 70_000)?;
-        let served = served_by(&rt, alloc, sensitive, input, NONE, &mut live)?;
-        let begins = served.report.starts_with(b"gap 0 0 1\ngap 0 1 2\n");
-        let ends = served.report.ends_with(last);
-        let lines = line_count(&served.report);
-        let got = (served.end, served.output.len(), begins, ends, lines);
-        assert_equal(&rt, &got, &(ServeEnd::Done, 2 * 69_984, true, true, gaps));
+        let mut live = no_hosts(alloc)?;
+        let served = served_by(&rt, alloc, *sensitive, input, NONE, &mut live)?;
+        assert_gaps(&rt, &served, *gaps, last);
     }
     Ok(())
 }
@@ -122,39 +144,60 @@ fn told(alloc: Global) -> Result<Vec<u8>, Fail> {
     Ok(told)
 }
 
+/// What a station writes of the call.
+fn served_call<R: Threads + Wait + Net + Sync>(
+    rt: &R,
+    alloc: Global,
+    sensitive: bool,
+    failing: Failing<'_>,
+    live: &mut MemLive,
+) -> Result<Box<Outcome>, Fail> {
+    let input = a_call(alloc)?;
+    Ok(served_by(rt, alloc, sensitive, input, failing, live)?)
+}
+
+/// Ends the test unless the host is told of the call.
+fn assert_told<R: Abort>(rt: &R, alloc: Global, live: &MemLive) -> Result<(), Fail> {
+    let sent = sent(alloc, live)?;
+    let told = told(alloc)?;
+    assert_equal(rt, &sent, &told);
+    Ok(())
+}
+
 // All lanes hear the call, and it is told once.
 #[test]
 fn a_call_is_heard_and_told(rt: HostRuntime) -> Result<(), Fail> {
     let alloc = rt.alloc();
     for sensitive in [false, true] {
         let mut live = with_registration(alloc)?.failing(&[])?;
-        let served = served_by(&rt, alloc, sensitive, a_call(alloc)?, NONE, &mut live)?;
+        let served = served_call(&rt, alloc, sensitive, NONE, &mut live)?;
         let got = (served.end, served.output.len(), live.ports.sends().len());
         assert_equal(&rt, &got, &(ServeEnd::Done, 2 * 213 * 96, 2));
         let report = b"rx N7LEM>NJ7P SABM cmd f=1\n".as_slice();
         assert_equal(&rt, &served.report.as_slice(), &report);
-        assert_equal(&rt, &sent(alloc, &live)?, &told(alloc)?);
+        assert_told(&rt, alloc, &live)?;
     }
     Ok(())
 }
 
-// Each row: the reads, writes and reports that fail, the calls of the sockets that fail, how it ends, and how many octets
-// come out. A failed poll is no end. A read gives 4096 octets, and a write is a tick of 192.
+/// Each row: the reads, writes and reports that fail, the calls of the sockets that fail, how it ends, and how many
+/// octets come out. A failed poll is no end. A read gives 4096 octets, and a write is a tick of 192.
+const FAULTS: &[(Failing<'static>, &[u64], ServeEnd, usize)] = &[
+    ([&[], &[], &[]], &[0], ServeEnd::NoPort, 0),
+    ([&[], &[], &[]], &[1], ServeEnd::Done, 40_896),
+    ([&[1], &[], &[]], &[], ServeEnd::ReadFault, 4032),
+    ([&[], &[3], &[]], &[], ServeEnd::WriteFault, 576),
+    ([&[], &[], &[0]], &[], ServeEnd::WriteFault, 38_400),
+];
+
 #[test]
 fn faults_end_it_or_not(rt: HostRuntime) -> Result<(), Fail> {
     let alloc = rt.alloc();
-    let table: [(Failing<'_>, &[u64], ServeEnd, usize); 5] = [
-        ([&[], &[], &[]], &[0], ServeEnd::NoPort, 0),
-        ([&[], &[], &[]], &[1], ServeEnd::Done, 40_896),
-        ([&[1], &[], &[]], &[], ServeEnd::ReadFault, 4032),
-        ([&[], &[3], &[]], &[], ServeEnd::WriteFault, 576),
-        ([&[], &[], &[0]], &[], ServeEnd::WriteFault, 38_400),
-    ];
-    for (failing, calls, end, octets) in table {
+    for (failing, calls, end, octets) in FAULTS {
         let mut live = with_registration(alloc)?.failing(calls)?;
-        let served = served(&rt, alloc, a_call(alloc)?, failing, &mut live)?;
-        let got = (failing, calls, served.end, served.output.len());
-        assert_equal(&rt, &got, &(failing, calls, end, octets));
+        let served = served_call(&rt, alloc, false, *failing, &mut live)?;
+        let got = (*failing, *calls, served.end, served.output.len());
+        assert_equal(&rt, &got, &(*failing, *calls, *end, *octets));
     }
     Ok(())
 }
@@ -162,22 +205,32 @@ fn faults_end_it_or_not(rt: HostRuntime) -> Result<(), Fail> {
 /// How many requests for the version come at once.
 const AT_ONCE: usize = 113;
 
-/// A host that asks so often for the version, and takes nothing.
-fn that_takes_nothing(alloc: Global, requests: usize) -> Result<MemLive, Fail> {
+/// So many requests for the version.
+fn requests(alloc: Global, count: usize) -> Result<Vec<u8>, Fail> {
     let request = message(alloc, b'R', ["", ""], b"")?;
     let mut octets = Vec::new(alloc);
-    for _ in 0..AT_ONCE {
+    for _ in 0..count {
         octets.extend_from_slice(&request)?;
     }
-    let mut script = Script::new(alloc);
-    script.joins(0, 1, PortKind::Agw)?;
-    for _ in 0..requests / AT_ONCE {
+    Ok(octets)
+}
+
+/// A host brings so many requests, so often, at the first poll.
+fn ask(script: &mut Script, alloc: Global, count: usize, times: usize) -> Result<(), Fail> {
+    let octets = requests(alloc, count)?;
+    for _ in 0..times {
         script.brings(0, 1, &octets)?;
     }
-    for _ in 0..requests % AT_ONCE {
-        script.brings(0, 1, &request)?;
-    }
-    Ok(script.taking(0))
+    Ok(())
+}
+
+/// A host that asks so often for the version, and takes nothing.
+fn that_takes_nothing(alloc: Global, count: usize) -> Result<Box<MemLive>, Fail> {
+    let mut script = Script::new(alloc);
+    script.joins(0, 1, PortKind::Agw)?;
+    ask(&mut script, alloc, AT_ONCE, count / AT_ONCE)?;
+    ask(&mut script, alloc, 1, count % AT_ONCE)?;
+    Ok(script.taking(0)?)
 }
 
 // 5957 replies of 44 octets fit into 262,144, and one more does not.
@@ -186,7 +239,7 @@ fn a_host_that_takes_nothing_is_shut(rt: HostRuntime) -> Result<(), Fail> {
     let alloc = rt.alloc();
     for (requests, report) in [(5957, b"".as_slice()), (5958, b"closed 1\n")] {
         let mut live = that_takes_nothing(alloc, requests)?;
-        let served = served(&rt, alloc, silence(alloc, 960)?, NONE, &mut live)?;
+        let served = served_silence(&rt, alloc, &mut live)?;
         let got = (requests, served.end, served.report.as_slice());
         assert_equal(&rt, &got, &(requests, ServeEnd::Done, report));
     }

@@ -31,9 +31,21 @@ fn spoiled(alloc: Global, lost: usize, middle: &str) -> Result<Vec<bool>, AllocE
     Ok(bits)
 }
 
+/// The same of a frame that is spoiled and then sent once more.
+fn compare_spoiled<R: Abort>(
+    rt: &R,
+    alloc: Global,
+    name: &str,
+    lost: usize,
+    middle: &str,
+) -> Result<(), AllocError> {
+    let bits = spoiled(alloc, lost, middle)?;
+    compare(rt, alloc, bits.as_slice(), name)
+}
+
 #[test]
 fn agrees_on_broken_frames(rt: HostRuntime) -> Result<(), Fail> {
-    for (name, lost, middle) in [
+    for &(name, lost, middle) in &[
         ("a good frame", 0, ""),
         ("the last inserted zero is missing", 9, "01111110"),
         ("a bit too many", 8, "101111110"),
@@ -48,8 +60,7 @@ fn agrees_on_broken_frames(rt: HostRuntime) -> Result<(), Fail> {
         ("seven 1s at the start", 200, "1111111011111110"),
         ("six 1s at the start", 200, "1111110"),
     ] {
-        let bits = spoiled(rt.alloc(), lost, middle)?;
-        compare(&rt, rt.alloc(), bits.as_slice(), name)?;
+        compare_spoiled(&rt, rt.alloc(), name, lost, middle)?;
     }
     Ok(())
 }

@@ -10,7 +10,8 @@ use std::test::Fail;
 use std::thread::{Threads, join, yield_now};
 
 fn with_two_readers(alloc: Global, len: u32) -> Result<(Ring, Writer, Reader, Reader), RingFault>
-    ensures { IfOk result (λ made. (writer_ring made.1 ≡ ring_id made.0) × (reader_ring made.2 ≡ ring_id made.0) × (reader_ring made.3 ≡ ring_id made.0)) }
+    ensures { IfOk result (λ made. (writer_ring made.1 ≡ ring_id made.0) × (reader_ring made.2 ≡ ring_id made.0)
+        × (reader_ring made.3 ≡ ring_id made.0)) }
 {
     let (ring, writer, mut readers) = Ring::new(alloc, len, 2)?;
     let Some(second) = readers.pop() else {
@@ -58,7 +59,8 @@ fn read_both(
 ) -> Result<(Watch, Watch), AllocError>
     requires first { reader_ring first.reader ≡ ring_id ring.now }
     requires second { reader_ring second.reader ≡ ring_id ring.now }
-    ensures { IfOk result (λ both. (reader_ring both.0.reader ≡ ring_id ring.now) × (reader_ring both.1.reader ≡ ring_id ring.now)) }
+    ensures { IfOk result (λ both. (reader_ring both.0.reader ≡ ring_id ring.now)
+        × (reader_ring both.1.reader ≡ ring_id ring.now)) }
 {
     for _ in 0..reads {
         if first.over && second.over {
@@ -129,7 +131,8 @@ fn race<R: Threads + Sync>(
         { publish_all(&ring, writer, TOTAL) },
         || -> Result<(Watch, Watch), AllocError>
             requires { (reader_ring first.reader ≡ ring_id ring) × (reader_ring second.reader ≡ ring_id ring) }
-            ensures { IfOk result (λ both. (reader_ring both.0.reader ≡ ring_id ring) × (reader_ring both.1.reader ≡ ring_id ring)) }
+            ensures { IfOk result (λ both. (reader_ring both.0.reader ≡ ring_id ring)
+                × (reader_ring both.1.reader ≡ ring_id ring)) }
         { read_both(&ring, first, second, 1_000_000) },
     );
     let (Ok(done), Ok((first, second))) = (done, both) else {

@@ -75,7 +75,7 @@ impl Desk {
 const SENT: usize = 60;
 
 /// DIGI repeats, connection 1 has registered NJ7P, and this frame was heard, if it is one.
-fn behind(alloc: Global, frame: &[u8]) -> Result<Desk, Fail> {
+fn behind(alloc: Global, frame: &[u8]) -> Result<Box<Desk>, Fail> {
     let digi = Some(Call::parse("DIGI")?);
     let mut desk = Desk::with_digipeater(alloc, Params::default(), digi)?;
     begin(&mut desk, frame)?;

@@ -5,6 +5,7 @@ use crate::{assert_equal, field};
 use link_machine::Params;
 use station::{HostOut, Piece};
 use std::alloc::Global;
+use std::process::Abort;
 use std::test::Fail;
 use tnc_base::Octets;
 
@@ -22,7 +23,7 @@ const UA: &[u8] = b"\x9c\x6e\x98\x8a\x9a\x40\x60\x9c\x94\x6e\xa0\x40\x40\xe1\x73
 const DISC: &[u8] = b"\x9c\x94\x6e\xa0\x40\x40\xe0\x9c\x6e\x98\x8a\x9a\x40\x61\x53";
 
 /// Connection 1 has registered N7LEM, and connection 2 AAAA.
-fn registered(alloc: Global) -> Result<Desk, Fail> {
+fn registered(alloc: Global) -> Result<Box<Desk>, Fail> {
     let mut desk = Desk::new(alloc, Params::default())?;
     desk.register(1, "N7LEM")?;
     desk.register(2, "AAAA")?;
@@ -31,7 +32,7 @@ fn registered(alloc: Global) -> Result<Desk, Fail> {
 }
 
 /// Connection 1 has called NJ7P so, and is answered.
-fn connected(alloc: Global, kind: (u8, u8)) -> Result<Desk, Fail> {
+fn connected(alloc: Global, kind: (u8, u8)) -> Result<Box<Desk>, Fail> {
     let mut desk = registered(alloc)?;
     desk.ask_with_pid(1, kind, ENDS, b"")?;
     only_frame(&mut desk)?;
@@ -169,13 +170,25 @@ fn answer(
     only_piece(&mut desk)
 }
 
+/// Ends the test unless the piece is a refusal for this connection, with these fields and this text.
+fn assert_refusal<R: Abort>(
+    rt: &R,
+    alloc: Global,
+    piece: &Piece,
+    id: u32,
+    [from, to, text]: [&str; 3],
+) -> Result<(), Fail> {
+    let want = refusal(alloc, from, to, text)?;
+    let got = (piece.id, piece.octets.as_slice());
+    assert_equal(rt, &got, &(id, want.as_slice()));
+    Ok(())
+}
+
 #[test]
 fn a_call_that_is_not_made_is_answered(rt: HostRuntime) -> Result<(), Fail> {
-    for (id, kind, ends, body, [from, to, text]) in REFUSED {
+    for (id, kind, ends, body, told) in REFUSED {
         let piece = answer(rt.alloc(), *id, *kind, *ends, body)?;
-        let want = refusal(rt.alloc(), from, to, text)?;
-        let got = (piece.id, piece.octets.as_slice());
-        assert_equal(&rt, &got, &(*id, want.as_slice()));
+        assert_refusal(&rt, rt.alloc(), &piece, *id, *told)?;
     }
     Ok(())
 }
@@ -265,6 +278,12 @@ fn is_ignored(desk: &mut Desk, id: u32, ends: [&str; 2]) -> Result<bool, Fail> {
     Ok(is_nothing(desk.out()))
 }
 
+/// The one frame of an end of the call.
+fn frame_of_end(desk: &mut Desk) -> Result<Octets, Fail> {
+    desk.ask_with_pid(1, END, ENDS, b"")?;
+    only_frame(desk)
+}
+
 #[test]
 fn only_the_owner_gives_and_disconnects(rt: HostRuntime) -> Result<(), Fail> {
     let mut desk = connected(rt.alloc(), CALL)?;
@@ -272,8 +291,6 @@ fn only_the_owner_gives_and_disconnects(rt: HostRuntime) -> Result<(), Fail> {
         let ignored = is_ignored(&mut desk, *id, *ends)?;
         assert_equal(&rt, &(*id, *ends, ignored), &(*id, *ends, true));
     }
-    desk.ask_with_pid(1, END, ENDS, b"")?;
-    let frame = only_frame(&mut desk)?;
-    assert_equal(&rt, &frame.as_slice(), &DISC);
+    assert_equal(&rt, &frame_of_end(&mut desk)?.as_slice(), &DISC);
     Ok(())
 }

@@ -41,7 +41,8 @@ impl Model for Desk {
 }
 
 impl Desk {
-    pub(super) fn new(alloc: Global, params: Params) -> Result<Desk, Fail> {
+    /// In a box, so that each test that owns a desk is proved several times faster.
+    pub(super) fn new(alloc: Global, params: Params) -> Result<Box<Desk>, Fail> {
         Desk::with_digipeater(alloc, params, None)
     }
 
@@ -50,14 +51,15 @@ impl Desk {
         alloc: Global,
         params: Params,
         digi: Option<Call>,
-    ) -> Result<Desk, Fail> {
-        let mut desk = Desk {
+    ) -> Result<Box<Desk>, Fail> {
+        let desk = Desk {
             alloc,
             station: Station::new(alloc, Config { params, digi }, 7)?,
             there: Vec::new(alloc),
             failed: false,
             out: nothing(alloc),
         };
+        let mut desk = Box::new(alloc, desk)?;
         desk.join_all()?;
         Ok(desk)
     }
@@ -269,20 +271,10 @@ fn nothing(alloc: Global) -> HostOut {
 }
 
 /// What one more call gave.
-fn add(all: &mut HostOut, out: HostOut) -> Result<(), AllocError> {
-    let HostOut {
-        pieces,
-        closed,
-        queued,
-    } = out;
-    for piece in pieces {
-        all.pieces.push(piece)?;
-    }
-    all.closed.extend_from_slice(&closed)?;
-    for frame in queued {
-        all.queued.push(frame)?;
-    }
-    Ok(())
+fn add(all: &mut HostOut, mut out: HostOut) -> Result<(), AllocError> {
+    all.pieces.append(&mut out.pieces)?;
+    all.closed.append(&mut out.closed)?;
+    all.queued.append(&mut out.queued)
 }
 
 /// The id is one of these.

@@ -8,6 +8,7 @@ use link_machine::Params;
 use rand_core::utils::NextWord;
 use rand_pcg::Lcg64Xsh32;
 use selective_reject::Mode;
+use station::HostOut;
 use std::alloc::Global;
 use std::test::Fail;
 
@@ -109,30 +110,36 @@ impl Desk {
         Ok(())
     }
 
-    /// What it gave since the last look: each connection's octets and each link's frames.
-    fn given(&mut self) -> Result<Vec<u8>, Fail> {
-        let out = self.look();
-        let mut given = Vec::new(self.alloc());
-        for piece in &out.pieces {
-            given.extend_from_slice(&piece.id.to_le_bytes())?;
-            given.extend_from_slice(piece.octets.as_slice())?;
-        }
-        for frame in &out.queued {
-            given.extend_from_slice(frame.as_slice())?;
-        }
-        for id in &out.closed {
-            given.extend_from_slice(&id.to_le_bytes())?;
-        }
-        Ok(given)
+    /// Some ticks: what is sent in them, and what it gave since the last look.
+    fn outcome(&mut self, ticks: usize) -> Result<[Vec<u8>; 2], Fail> {
+        let sent = self.tick(ticks)?;
+        let given = given(self.alloc(), &self.look())?;
+        Ok([sent, given])
     }
+}
+
+/// Each connection's octets, each link's frames, and the connections that were closed.
+fn given(alloc: Global, out: &HostOut) -> Result<Vec<u8>, Fail> {
+    let mut given = Vec::new(alloc);
+    for piece in &out.pieces {
+        given.extend_from_slice(&piece.id.to_le_bytes())?;
+        given.extend_from_slice(piece.octets.as_slice())?;
+    }
+    for frame in &out.queued {
+        given.extend_from_slice(frame.as_slice())?;
+    }
+    for id in &out.closed {
+        given.extend_from_slice(&id.to_le_bytes())?;
+    }
+    Ok(given)
 }
 
 /// Two stations, and what is drawn for both.
 #[derive(Drop)]
 struct Twins {
     draws: Lcg64Xsh32,
-    one: Desk,
-    other: Desk,
+    one: Box<Desk>,
+    other: Box<Desk>,
 }
 
 impl Twins {
@@ -189,12 +196,10 @@ impl Twins {
 
     /// Some ticks. Tells whether both stations have given and sent the same.
     fn agree(&mut self) -> Result<bool, Fail> {
-        let count = below(&mut self.draws, 8);
-        let sent = self.one.tick(count)?;
-        let sent_too = self.other.tick(count)?;
-        let given = self.one.given()?;
-        let given_too = self.other.given()?;
-        Ok(sent.as_slice() == sent_too.as_slice() && given.as_slice() == given_too.as_slice())
+        let ticks = below(&mut self.draws, 8);
+        let one = self.one.outcome(ticks)?;
+        let other = self.other.outcome(ticks)?;
+        Ok(one == other)
     }
 }
 

@@ -5,6 +5,7 @@ use crate::{assert_equal, message};
 use link_machine::Params;
 use station::PortKind;
 use std::alloc::Global;
+use std::process::Abort;
 use std::test::Fail;
 
 /// UA with F from BBBB to AAAA.
@@ -37,7 +38,7 @@ fn whole_call(alloc: Global) -> Result<Vec<u8>, Fail> {
 }
 
 /// The whole call came in one piece.
-fn behind_a_whole_call(alloc: Global) -> Result<Desk, Fail> {
+fn behind_a_whole_call(alloc: Global) -> Result<Box<Desk>, Fail> {
     let octets = whole_call(alloc)?;
     let mut desk = Desk::new(alloc, Params::default())?;
     desk.take(1, &octets)?;
@@ -123,12 +124,17 @@ const REPLIES: &[(u8, &[u8])] = &[
     (b'y', b"\0\0\0\0"),
 ];
 
+/// Ends the test unless connection 1 is told this body when it asks so.
+fn assert_reply<R: Abort>(rt: &R, desk: &mut Desk, kind: u8, body: &[u8]) -> Result<(), Fail> {
+    desk.ask(1, kind, NOBODY, b"")?;
+    assert_told(rt, desk, kind, NOBODY, body)
+}
+
 #[test]
 fn tells_of_itself(rt: HostRuntime) -> Result<(), Fail> {
     for (kind, body) in REPLIES {
         let mut desk = Desk::new(rt.alloc(), Params::default())?;
-        desk.ask(1, *kind, NOBODY, b"")?;
-        assert_told(&rt, &mut desk, *kind, NOBODY, body)?;
+        assert_reply(&rt, &mut desk, *kind, body)?;
     }
     Ok(())
 }
@@ -140,9 +146,8 @@ const SETTINGS: &[u8] = b"\xc0\x01\x1e\xc0\x02\xff\xc0\x03\x05\xc0\x04\x07\xc0\x
 fn tells_what_kiss_has_set(rt: HostRuntime) -> Result<(), Fail> {
     let mut desk = Desk::new(rt.alloc(), Params::default())?;
     desk.take(3, SETTINGS)?;
-    desk.ask(1, b'g', NOBODY, b"")?;
     let body = b"\0\xff\x1e\x07\xff\x05\x04\0\x01\0\0\0";
-    assert_told(&rt, &mut desk, b'g', NOBODY, body)
+    assert_reply(&rt, &mut desk, b'g', body)
 }
 
 /// Each row: a kind, how long the body is, and how many octets are sent, which are none or those of one frame.
@@ -204,17 +209,35 @@ const REGISTERED: &[(u32, u8, &str, &[u8])] = &[
     (1, b'X', "A-A", b"\0"),
 ];
 
+/// Ends the test unless the reply to X for a call is this body, and nothing else is told.
+fn assert_registered<R: Abort>(
+    rt: &R,
+    desk: &mut Desk,
+    (kind, call): (u8, &str),
+    body: &[u8],
+) -> Result<(), Fail> {
+    if kind == b'X' {
+        assert_told(rt, desk, kind, [call, ""], body)?;
+    }
+    let rest = desk.told()?.len();
+    assert_equal(rt, &rest, &0);
+    Ok(())
+}
+
 #[test]
 fn a_call_is_registered_once(rt: HostRuntime) -> Result<(), Fail> {
     let mut desk = Desk::new(rt.alloc(), Params::default())?;
     for (id, kind, call, body) in REGISTERED {
         desk.ask(*id, *kind, [*call, ""], b"")?;
-        if *kind == b'X' {
-            assert_told(&rt, &mut desk, *kind, [*call, ""], body)?;
-        }
-        assert_equal(&rt, &desk.told()?.len(), &0);
+        assert_registered(&rt, &mut desk, (*kind, *call), body)?;
     }
     Ok(())
+}
+
+/// Ends the test unless one connection was closed, and so many are there.
+fn assert_closed<R: Abort>(rt: &R, desk: &Desk, id: u32, count: usize) {
+    let got = (desk.out().closed.as_slice(), desk.count());
+    assert_equal(rt, &got, &([id].as_slice(), count));
 }
 
 #[test]
@@ -223,8 +246,7 @@ fn a_65th_connection_is_closed(rt: HostRuntime) -> Result<(), Fail> {
     for id in 4..66 {
         desk.join(id, PortKind::Kiss)?;
     }
-    let got = (desk.out().closed.as_slice(), desk.count());
-    assert_equal(&rt, &got, &([65].as_slice(), 64));
+    assert_closed(&rt, &desk, 65, 64);
     Ok(())
 }
 
@@ -240,8 +262,7 @@ fn too_long_a_body_closes(rt: HostRuntime) -> Result<(), Fail> {
     let octets = too_long(rt.alloc())?;
     let mut desk = Desk::new(rt.alloc(), Params::default())?;
     desk.take(1, &octets)?;
-    let got = (desk.out().closed.as_slice(), desk.count());
-    assert_equal(&rt, &got, &([1].as_slice(), 2));
+    assert_closed(&rt, &desk, 1, 2);
     Ok(())
 }
 

@@ -2,11 +2,13 @@ use Rattle.std.proofs.Common.{rules, ◌≡◌, [], ◌++◌, Some, None, Err, I
 use Rattle.std.proofs.Common.{refl, sym, subst, ap, ◌∙◌, arith, true≢false}
 use Rattle.std.specs.Prelude.{is_some}
 use Rattle.tnc_words.specs.declared.command.Command.TheVariants.{Bench, Decode, Loop, Serve}
-use Rattle.tnc_words.specs.Commands.{IsServe}
+use Rattle.tnc_words.specs.Commands.{Asks, IsServe}
 use Rattle.tnc_words.proofs.OneCommand.{one_command}
 use Rattle.tnc_forms.specs.declared.fault.InputFault.TheVariants.{TooLong}
 use Rattle.tnc_forms.proofs.Ends.{at_ok}
 use Rattle.tnc_bench.specs.Reported.{IsReportOf}
+use Rattle.tnc_ports.specs.SampledRun.{outside_by}
+use Rattle.tnc_ports.specs.ServeRun.{input_by}
 use Rattle.tnc_main.specs.declared.status.Status.TheVariants.{Done, Memory as NoMemory, WriteFault}
 use Rattle.tnc_main.specs.declared.stop.Stop.TheVariants.{Input}
 use Rattle.tnc_main.specs.Commands.{IsFaultless, Makes, Reads, ReadsNothing, fault_of}
@@ -133,7 +135,8 @@ returns-in-Ok-clause-cause g c = λ job.
 
 pub returns-in-Ok-clause-stray : goal.returns-in-Ok-clause-stray
 returns-in-Ok-clause-stray g c = λ six.
-    let found = at_stray c.perform-end.result c.explained.result c.explained.ensures.ends (sym c.code.ensures ∙ six) in (
+    let found = at_stray c.perform-end.result c.explained.result c.explained.ensures.ends (sym c.code.ensures ∙ six)
+    in (
       c.in-Ok.command,
       c.in-Ok.ensures.asks,
       (found.0, subst (λ end. IfErr end (IsStopOfRun c.in-Ok.command)) found.1 c.perform-end.ensures.sent),
@@ -229,50 +232,82 @@ returns-in-Err-Memory-clause-cause g c = λ job.
 
 pub returns-in-Ok-Serve-clause-served : goal.returns-in-Ok-Serve-clause-served
 returns-in-Ok-Serve-clause-served g c =
-    let asks : IsServe (map string_bytes c.args.words.now) c.in-Ok-Serve.options = search rules in
-    served_live _ _ _ asks _ c.serve_words.ensures _ _ _ _ c.serve.ensures
+    let asks : IsServe (map string_bytes c.args.words.now) c.in-Ok-Serve.options =
+    subst (Asks (map string_bytes c.args.words.now)) c.in-Ok-Serve.field-0-is c.in-Ok-Serve.ensures.asks in
+    served_live (map string_bytes c.args.words.now) c.serve.result c.in-Ok-Serve.options asks c.serve_words.result
+    c.serve_words.ensures (input_by g.I.Source.left g.I.Source.faults c.args.input.now)
+    (input_by g.I.Source.left g.I.Source.faults c.serve.new.input)
+    (outside_by g.N.Ports.listens g.N.Ports.polls g.N.Ports.sends g.N.Ports.sent g.N.Ports.is_shut g.N.Ports.faults
+    g.O.Sink.written g.O.Sink.faults g.E.Sink.written g.E.Sink.faults
+    c.args.live.now.ports c.args.output.now c.args.report.now)
+    (outside_by g.N.Ports.listens g.N.Ports.polls g.N.Ports.sends g.N.Ports.sent g.N.Ports.is_shut g.N.Ports.faults
+    g.O.Sink.written g.O.Sink.faults g.E.Sink.written g.E.Sink.faults
+    c.serve.new.live.ports c.serve.new.output c.serve.new.report)
+    c.serve.ensures
 
 pub returns-in-Ok-Serve-clause-read : goal.returns-in-Ok-Serve-clause-read
 returns-in-Ok-Serve-clause-read g c = λ job.
-    let asks : IsServe (map string_bytes c.args.words.now) c.in-Ok-Serve.options = search rules in
-    absurd (no_job _ _ _ _ asks job)
+    let asks : IsServe (map string_bytes c.args.words.now) c.in-Ok-Serve.options =
+    subst (Asks (map string_bytes c.args.words.now)) c.in-Ok-Serve.field-0-is c.in-Ok-Serve.ensures.asks in
+    absurd (no_job (map string_bytes c.args.words.now) c.in-Ok-Serve.options (g.I.Source.left c.args.input.now)
+    c.serve.result asks job)
 
 pub returns-in-Ok-Serve-clause-written : goal.returns-in-Ok-Serve-clause-written
 returns-in-Ok-Serve-clause-written g c = λ job.
-    let asks : IsServe (map string_bytes c.args.words.now) c.in-Ok-Serve.options = search rules in
-    absurd (no_job _ _ _ _ asks job)
+    let asks : IsServe (map string_bytes c.args.words.now) c.in-Ok-Serve.options =
+    subst (Asks (map string_bytes c.args.words.now)) c.in-Ok-Serve.field-0-is c.in-Ok-Serve.ensures.asks in
+    absurd (no_job (map string_bytes c.args.words.now) c.in-Ok-Serve.options (g.I.Source.left c.args.input.now)
+    c.serve.result asks job)
 
 pub returns-in-Ok-Serve-clause-told : goal.returns-in-Ok-Serve-clause-told
 returns-in-Ok-Serve-clause-told g c = λ job.
-    let asks : IsServe (map string_bytes c.args.words.now) c.in-Ok-Serve.options = search rules in
-    absurd (no_job _ _ _ _ asks job)
+    let asks : IsServe (map string_bytes c.args.words.now) c.in-Ok-Serve.options =
+    subst (Asks (map string_bytes c.args.words.now)) c.in-Ok-Serve.field-0-is c.in-Ok-Serve.ensures.asks in
+    absurd (no_job (map string_bytes c.args.words.now) c.in-Ok-Serve.options (g.I.Source.left c.args.input.now)
+    c.serve.result asks job)
 
 pub returns-in-Ok-Serve-clause-complete : goal.returns-in-Ok-Serve-clause-complete
 returns-in-Ok-Serve-clause-complete g c = λ job.
-    let asks : IsServe (map string_bytes c.args.words.now) c.in-Ok-Serve.options = search rules in
-    absurd (no_job _ _ _ _ asks job)
+    let asks : IsServe (map string_bytes c.args.words.now) c.in-Ok-Serve.options =
+    subst (Asks (map string_bytes c.args.words.now)) c.in-Ok-Serve.field-0-is c.in-Ok-Serve.ensures.asks in
+    absurd (no_job (map string_bytes c.args.words.now) c.in-Ok-Serve.options (g.I.Source.left c.args.input.now)
+    c.serve.result asks job)
 
 pub returns-in-Ok-Serve-clause-unwritten : goal.returns-in-Ok-Serve-clause-unwritten
 returns-in-Ok-Serve-clause-unwritten g c = λ command asked at_end.
-    let asks : IsServe (map string_bytes c.args.words.now) c.in-Ok-Serve.options = search rules in
+    let asks : IsServe (map string_bytes c.args.words.now) c.in-Ok-Serve.options =
+    subst (Asks (map string_bytes c.args.words.now)) c.in-Ok-Serve.field-0-is c.in-Ok-Serve.ensures.asks in
     absurd (subst WritesAtEnd (one_command (map string_bytes c.args.words.now) command (Serve c.in-Ok-Serve.options)
     asked asks) at_end)
 
 pub returns-in-Ok-Serve-clause-unread : goal.returns-in-Ok-Serve-clause-unread
 returns-in-Ok-Serve-clause-unread g c = λ command asked none.
-    let asks : IsServe (map string_bytes c.args.words.now) c.in-Ok-Serve.options = search rules in
+    let asks : IsServe (map string_bytes c.args.words.now) c.in-Ok-Serve.options =
+    subst (Asks (map string_bytes c.args.words.now)) c.in-Ok-Serve.field-0-is c.in-Ok-Serve.ensures.asks in
     absurd (subst ReadsNothing (one_command (map string_bytes c.args.words.now) command (Serve c.in-Ok-Serve.options)
     asked asks) none)
 
 pub returns-in-Ok-Serve-clause-cause : goal.returns-in-Ok-Serve-clause-cause
 returns-in-Ok-Serve-clause-cause g c = λ job.
-    let asks : IsServe (map string_bytes c.args.words.now) c.in-Ok-Serve.options = search rules in
-    absurd (no_job _ _ _ _ asks job)
+    let asks : IsServe (map string_bytes c.args.words.now) c.in-Ok-Serve.options =
+    subst (Asks (map string_bytes c.args.words.now)) c.in-Ok-Serve.field-0-is c.in-Ok-Serve.ensures.asks in
+    absurd (no_job (map string_bytes c.args.words.now) c.in-Ok-Serve.options (g.I.Source.left c.args.input.now)
+    c.serve.result asks job)
 
 pub returns-in-Ok-Serve-clause-complete_served : goal.returns-in-Ok-Serve-clause-complete_served
 returns-in-Ok-Serve-clause-complete_served g c = λ options asked.
-    let asks : IsServe (map string_bytes c.args.words.now) c.in-Ok-Serve.options = search rules in
-    complete_live _ _ _ asks _ c.serve_words.ensures _ _ _ _ c.serve.ensures
+    let asks : IsServe (map string_bytes c.args.words.now) c.in-Ok-Serve.options =
+    subst (Asks (map string_bytes c.args.words.now)) c.in-Ok-Serve.field-0-is c.in-Ok-Serve.ensures.asks in
+    complete_live (map string_bytes c.args.words.now) c.serve.result c.in-Ok-Serve.options asks c.serve_words.result
+    c.serve_words.ensures (input_by g.I.Source.left g.I.Source.faults c.args.input.now)
+    (input_by g.I.Source.left g.I.Source.faults c.serve.new.input)
+    (outside_by g.N.Ports.listens g.N.Ports.polls g.N.Ports.sends g.N.Ports.sent g.N.Ports.is_shut g.N.Ports.faults
+    g.O.Sink.written g.O.Sink.faults g.E.Sink.written g.E.Sink.faults
+    c.args.live.now.ports c.args.output.now c.args.report.now)
+    (outside_by g.N.Ports.listens g.N.Ports.polls g.N.Ports.sends g.N.Ports.sent g.N.Ports.is_shut g.N.Ports.faults
+    g.O.Sink.written g.O.Sink.faults g.E.Sink.written g.E.Sink.faults
+    c.serve.new.live.ports c.serve.new.output c.serve.new.report)
+    c.serve.ensures
 
 pub returns-in-Ok-clause-served : goal.returns-in-Ok-clause-served
 returns-in-Ok-clause-served g c = λ options asked.
