@@ -41,7 +41,7 @@ rest_le : (count most : ℕ) (stream : List ℕ) → 36 ≤ length stream → le
     → length (drop count (drop 36 stream)) ≤ most
 rest_le count most stream whole fits = omega (arith, length-drop count (drop 36 stream), length-drop 36 stream)
 
--- so the most does not matter where it is enough
+-- so the most does not matter if it is enough
 enough : (m n : ℕ) (stream : List ℕ) → length stream ≤ m → length stream ≤ n
     → reading_upto m stream ≡ reading_upto n stream
 enough zero zero stream first second = refl

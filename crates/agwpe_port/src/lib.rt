@@ -1,7 +1,7 @@
-//! Messages between a host and the program on a stream of octets, after the AGWPE TCP/IP socket interface (G. Rossopoulos,
-//! SV2AGW): a header of 36 octets, and as many octets of body as it tells. A reader takes the octets one by one and gives
-//! each message at its last octet, however the stream is cut into calls, and refuses a length over 4096 exactly at the last
-//! octet of its header. What `write_agw` writes is read as the one message handed in.
+//! Messages between a host and the program on a stream of octets, after the AGWPE TCP/IP socket interface (G.
+//! Rossopoulos, SV2AGW): a header of 36 octets, and as many octets of body as it tells. A reader takes the octets one
+//! by one and gives each message at its last octet, however the stream is cut into calls, and refuses a length over
+//! 4096 exactly at the last octet of its header. What `write_agw` writes is read as the one message handed in.
 #![tactic(auto)]
 
 mod call_field;

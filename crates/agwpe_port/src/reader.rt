@@ -1,6 +1,7 @@
 // A stream of messages as its octets come.
 
-ghost use Rattle.std.specs.Prelude.{◌≡◌, ◌≢◌, ◌<◌, ℕ, List, [], ◌∷◌, ◌++◌, length, OnOk, OnErr, IfOk, Err, MatchResult, None};
+ghost use Rattle.std.specs.Prelude.{◌≡◌, ◌≢◌, ◌<◌, ℕ, List, [], ◌∷◌, ◌++◌, length, OnOk, OnErr, IfOk, Err, MatchResult};
+ghost use Rattle.std.specs.Prelude.{None};
 ghost use Rattle.agwpe_port.specs.Answer.{answer_of};
 
 use crate::fault::AgwFault;
@@ -48,8 +49,8 @@ impl AgwIn {
         }
     }
 
-    /// Takes the next octet, and gives the message that ends with it. If memory is wanted and not given, the octet is not
-    /// taken.
+    /// Takes the next octet, and gives the message that ends with it. If memory is wanted and not given, the octet is
+    /// not taken.
     pub fn push(&mut self, octet: u8) -> Result<Option<AgwMessage>, AgwFault>
         ensures stands_for { (stream : List ℕ) → StandsFor self.old stream → result ≢ Err Memory
             → StandsFor self.new (stream ++ octet ∷ []) }

@@ -8,13 +8,14 @@ use byteorder::{ByteOrder, LittleEndian};
 use std::alloc::Global;
 use tnc_base::{Octets, OutOfMemory};
 
-/// The octets of a message. Those of its header that are reserved, and the user number, are zero. Fails only for want of
-/// memory.
+/// The octets of a message. Those of its header that are reserved, and the user number, are zero. Fails only for want
+/// of memory.
 pub fn write_agw(alloc: Global, message: &AgwMessage) -> Result<Octets, OutOfMemory>
     requires { length message.now.body ≤ 4096 }
     ensures spelled { IfOk result (λ stream. stream ≡ spelling message.now) }
     // They are this one message, whatever follows.
-    ensures read { IfOk result (λ stream. (more : List ℕ) → messages_in (stream ++ more) ≡ message.now ∷ messages_in more) }
+    ensures read { IfOk result (λ stream. (more : List ℕ) → messages_in (stream ++ more)
+        ≡ message.now ∷ messages_in more) }
     ensures goes_on { IfOk result (λ stream. (more : List ℕ) → bad_length_in (stream ++ more) ≡ bad_length_in more) }
 {
     let octets = spell(alloc, message)?;

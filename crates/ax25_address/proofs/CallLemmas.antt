@@ -59,7 +59,7 @@ IsFaultOf-same name P BadSsid TooLong h g = absurd (omega (arith, h.0.longest))
 IsFaultOf-same name P BadSsid (BadChar j) h g = absurd (good_is_not_bad name j h.0 g.1)
 IsFaultOf-same name P BadSsid BadSsid h g = refl
 
--- and none where it is one and its SSID is not bad
+-- and none if it is one and its SSID is not bad
 pub name_has_no_fault : (name : List ℕ) (P : Type 0) (fault : CallFault) → IsName name → (P → ⊥)
     → IsFaultOf name P fault → ⊥
 name_has_no_fault name P Empty h good g = let n : length name ≡ 0 = ap length g in omega (arith, h.shortest)

@@ -1,8 +1,10 @@
 //! A station's call and its text.
-ghost use Rattle.std.specs.Prelude.{◌≡◌, ℕ, ◌+◌, ◌<◌, ◌≤◌, ◌↔◌, [], ◌∷◌, length, take, map, IsTrue, IsOk, IfOk, IfErr, Ok, Err, Some, IfSome, ◌++◌, slice_index};
+ghost use Rattle.std.specs.Prelude.{◌≡◌, ℕ, ◌+◌, ◌<◌, ◌≤◌, ◌↔◌, [], ◌∷◌, length, take, map, IsTrue, IsOk, IfOk, IfErr};
+ghost use Rattle.std.specs.Prelude.{Ok, Err, Some, IfSome, ◌++◌, slice_index};
 ghost use Rattle.ax25_address.specs.Callsign.{Callsign, IsName, IsCall, IsCallCharacter, padded};
 ghost use Rattle.ax25_address.specs.Held.{IsHeld};
-ghost use Rattle.ax25_address.specs.CallText.{text_of_call, IsCallText, IsFaultOf, TellsSsid, TellsNoSsid, name_part, ssid_part, ssid_suffix, dash_place};
+ghost use Rattle.ax25_address.specs.CallText.{text_of_call, IsCallText, IsFaultOf, TellsSsid, TellsNoSsid, name_part};
+ghost use Rattle.ax25_address.specs.CallText.{ssid_part, ssid_suffix, dash_place};
 ghost use Rattle.ax25_address.specs.declared.call.CallFault.{CallFault};
 ghost use Rattle.std.specs.Char.{to_ascii_uppercase};
 ghost use Rattle.arrayvec.specs.ArrayString.{array_string_len};

@@ -1,5 +1,6 @@
 //! One address field: seven octets that stand for a call.
-ghost use Rattle.std.specs.Prelude.{◌≡◌, ℕ, ◌+◌, ◌*◌, ◌%◌, ◌<◌, ◌≤◌, ◌↔◌, [], ◌∷◌, ◌++◌, length, take, drop, map, IsTrue, IfOk, OnOk, IfErr};
+ghost use Rattle.std.specs.Prelude.{◌≡◌, ℕ, ◌+◌, ◌*◌, ◌%◌, ◌<◌, ◌≤◌, ◌↔◌, [], ◌∷◌, ◌++◌, length, take, drop, map};
+ghost use Rattle.std.specs.Prelude.{IsTrue, IfOk, OnOk, IfErr};
 ghost use Rattle.ax25_address.specs.Callsign.{IsCallCharacter, IsCall, padded};
 ghost use Rattle.ax25_address.specs.AddressField.{IsField, field_octets};
 ghost use Rattle.ax25_address.specs.FramePath.{field_at};

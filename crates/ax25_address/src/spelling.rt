@@ -1,6 +1,8 @@
 //! A path read from octets, and written as octets.
-ghost use Rattle.std.specs.Prelude.{◌≡◌, ℕ, List, ◌+◌, ◌*◌, ◌<◌, ◌≤◌, ◌==◌, ◌↔◌, [], ◌∷◌, ◌++◌, length, take, drop, map, IsTrue, IfOk, IfErr, OnOk, Ok, Err};
-ghost use Rattle.ax25_address.specs.FramePath.{IsPath, BeginsWithPath, IsWrittenPath, field_at, source_bit, destination_bit};
+ghost use Rattle.std.specs.Prelude.{◌≡◌, ℕ, List, ◌+◌, ◌*◌, ◌<◌, ◌≤◌, ◌==◌, ◌↔◌, [], ◌∷◌, ◌++◌, length, take, drop};
+ghost use Rattle.std.specs.Prelude.{map, IsTrue, IfOk, IfErr, OnOk, Ok, Err};
+ghost use Rattle.ax25_address.specs.FramePath.{IsPath, BeginsWithPath, IsWrittenPath, field_at, source_bit};
+ghost use Rattle.ax25_address.specs.FramePath.{destination_bit};
 ghost use Rattle.ax25_address.specs.PathFault.{ShowsFault, GoesOnFor};
 ghost use Rattle.ax25_address.specs.Repeaters.{AreRepeaters};
 ghost use Rattle.arrayvec.specs.ArrayVec.{array_vec_len};

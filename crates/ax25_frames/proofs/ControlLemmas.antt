@@ -146,7 +146,8 @@ control_same OneTwentyEight (Super v nr p) (Info ms mr q) x y h g e = let o = tw
     absurd (omega (arith, o.0))
 control_same OneTwentyEight (Super v nr p) (Super w mr q) x y h g e =
     let o = two_octets _ _ _ _ x y e in (
-      super_same v w nr mr p q (supervisory_same v w (omega (arith, o.0))) (omega (arith, o.1, bit_small p, bit_small q))
+      super_same v w nr mr p q (supervisory_same v w (omega (arith, o.0)))
+          (omega (arith, o.1, bit_small p, bit_small q))
           (bit_same p q (omega (arith, o.1, bit_small p, bit_small q))),
       o.2,
     )

@@ -1,7 +1,11 @@
 //! A frame or a fault as one line of text.
-ghost use Rattle.std.specs.Prelude.{◌≡◌, ℕ, ◌++◌, [], ◌∷◌, codes, decimal, flat_map, string_bytes, IfOk, OnOk, if◌then◌else◌};
+ghost use Rattle.std.specs.Prelude.{◌≡◌, ℕ, ◌++◌, [], ◌∷◌, codes, decimal, flat_map, string_bytes, IfOk, OnOk};
+ghost use Rattle.std.specs.Prelude.{if◌then◌else◌};
 ghost use Rattle.ax25_address.specs.AddressField.{bit};
-ghost use Rattle.ax25_frames.specs.FrameText.{text_of_frame, text_of_frame_fault, address_fault_text, path_text, hop_text, kind_text, is_command_of, has_command_bits, sets_up_or_ends, exchanges_or_tests, role_word, information_text, supervisory_name, setup_name, other_name};
+ghost use Rattle.ax25_frames.specs.FrameText.{text_of_frame, text_of_frame_fault, address_fault_text, path_text};
+ghost use Rattle.ax25_frames.specs.FrameText.{hop_text, kind_text, is_command_of, has_command_bits, sets_up_or_ends};
+ghost use Rattle.ax25_frames.specs.FrameText.{exchanges_or_tests, role_word, information_text, supervisory_name};
+ghost use Rattle.ax25_frames.specs.FrameText.{setup_name, other_name};
 ghost use Rattle.ax25_frames.specs.declared.frame.Kind.TheVariants.{Info, Super, Setup, Ui, Other};
 ghost use Rattle.hex.specs.Hex.{encode_lower};
 

@@ -356,7 +356,7 @@ module _ (s : Sending) (waiting : List WaitingFrame) (t : OnAir) (g : Goes s wai
       ap (λ n. 12 * n) (sym (ticks-decided (bits_then t) waiting t)) in
       at_end.is_sent ∙ ap (λ n. sent_at n (bits_then t) decided_then) ticks
 
-  -- where something is left
+  -- if something is left
   goes_on : stage_over run.sending.stage ≡ false
       → Goes run.sending run.waiting (record then_on_air { ticks = then_on_air.ticks + 1 })
   goes_on goes =

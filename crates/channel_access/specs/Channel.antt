@@ -76,7 +76,7 @@ abbrev pub with_decision : Decision → Channel → Channel
 with_decision d channel =
     record channel { slot = d.slot; generator = d.generator; air = if d.begins then Some (begun channel) else None }
 
--- the channel with the decision of a tick, where it is at rest
+-- the channel with the decision of a tick, if it is at rest
 abbrev pub after_rules : Bool → Channel → Channel
 after_rules busy channel = if is_none channel.air then with_decision (decision busy channel) channel else channel
 

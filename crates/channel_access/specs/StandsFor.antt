@@ -81,7 +81,7 @@ Stands (Following left false) (front ∷ others) t sent = InFlag left front [] t
 Stands (Closing left) waiting t sent = InClosing left t sent
 Stands Over waiting t sent = IsSent t sent
 
--- so many bits were to be sent, and all of them were where something is left
+-- so many bits were to be sent, and all of them were if something is left
 abbrev pub Counts : Stage → ℕ → List Bool → Type 0
 Counts Over total sent = length sent ≤ total
 Counts _ total sent = length sent ≡ total

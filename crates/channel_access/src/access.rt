@@ -44,8 +44,10 @@ impl Model for Access {
 }
 
 impl Access {
-    ghost use Rattle.channel_access.specs.Channel.{Channel, new_channel, with_frame, with_setting, decision, air_tick, after_tick, Takes};
-    ghost use Rattle.channel_access.specs.HeldTick.{channel_of, with_held_decision, held_samples, held_sent, after_held_send, held_tick, after_held_tick};
+    ghost use Rattle.channel_access.specs.Channel.{Channel, new_channel, with_frame, with_setting, decision, air_tick};
+    ghost use Rattle.channel_access.specs.Channel.{after_tick, Takes};
+    ghost use Rattle.channel_access.specs.HeldTick.{channel_of, with_held_decision, held_samples, held_sent};
+    ghost use Rattle.channel_access.specs.HeldTick.{after_held_send, held_tick, after_held_tick};
     ghost use Rattle.channel_access.specs.StandsFor.{StandsFor};
 
     /// No frame waits, and the parameters are the defaults: TXDELAY 50, P 63, slot time 10, TXtail 2, half duplex. The

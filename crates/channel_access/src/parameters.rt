@@ -7,7 +7,7 @@ ghost use Rattle.channel_access.specs.Parameters.{default_parameters, with_param
 pub enum Param {
     /// TXDELAY: how long flags are sent before the first frame.
     TxDelay(u8),
-    /// P: a draw from 0 to 255 begins a transmission where it is at most this.
+    /// P: a draw from 0 to 255 begins a transmission if it is at most this.
     Persist(u8),
     /// The slot time: how long a transmission waits after a draw that began none.
     SlotTime(u8),

@@ -1,5 +1,6 @@
 //! The frames that wait to be sent.
-ghost use Rattle.std.specs.Prelude.{◌≡◌, ◌≤◌, ◌<◌, ◌↔◌, List, [], ◌∷◌, ◌++◌, length, drop, Ok, IfOk, OnOk, IfErr, IsErr, IfSome, IsTrue, option_map, slice_get};
+ghost use Rattle.std.specs.Prelude.{◌≡◌, ◌≤◌, ◌<◌, ◌↔◌, List, [], ◌∷◌, ◌++◌, length, drop, Ok, IfOk, OnOk, IfErr};
+ghost use Rattle.std.specs.Prelude.{IsErr, IfSome, IsTrue, option_map, slice_get};
 ghost use Rattle.std.specs.Option.{option_copied};
 ghost use Rattle.channel_access.specs.Waiting.{WaitingFrame, IsWaiting};
 ghost use Rattle.hdlc_framer.specs.FrameLength.{HasFrameLength};

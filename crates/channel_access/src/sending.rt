@@ -1,6 +1,8 @@
 //! A transmission under way, bit by bit.
 ghost use Rattle.std.specs.Prelude.{◌≡◌, ◌+◌, ◌*◌, ◌<◌, ◌≤◌, ◌++◌, Some, None, take};
-ghost use Rattle.channel_access.specs.Held.{step_of, with_step, behind_bit, behind_opening, behind_closing, front_begins, front_step, flag_step, followed, other_closing, flag_bit, stage_over, window_of, sent_with, with_bits, tick_start, new_sending};
+ghost use Rattle.channel_access.specs.Held.{step_of, with_step, behind_bit, behind_opening, behind_closing};
+ghost use Rattle.channel_access.specs.Held.{front_begins, front_step, flag_step, followed, other_closing, flag_bit};
+ghost use Rattle.channel_access.specs.Held.{stage_over, window_of, sent_with, with_bits, tick_start, new_sending};
 
 use crate::air_tick::{SAMPLES, Sent};
 use crate::frame_bits::FrameBits;

@@ -30,7 +30,7 @@ all_append : {X : Type 0} (P : X → Type 0) (xs ys : List X) → AllByRecursion
 all_append P [] ys h k = k
 all_append P (x ∷ xs) ys h k = (h.0, all_append P xs ys h.1 k)
 
--- a frame is found where samples carry it and the flags before and after it
+-- a frame is found if samples carry it and the flags before and after it
 abbrev FindsFrame : ℕ → (List ℤ → TrueEnd → Type 0) → (List Tone → List ℤ → Type 0) → Type 0
 FindsFrame size found carries =
     (p part rest : List ℤ) (octets : List ℕ) (mid post : List Bool) → IsFrame octets

@@ -20,7 +20,8 @@ impl Candidate {
     ghost use Rattle.frame_merge.specs.Order.{standing};
     ghost use Rattle.frame_merge.specs.Merged.{repeats};
 
-    /// True if this candidate does not stand after `other`: it ends earlier, or at the same sample and at no higher offset.
+    /// True if this candidate does not stand after `other`: it ends earlier, or at the same sample and at no higher
+    /// offset.
     pub(crate) fn is_not_after(&self, other: &Candidate) -> bool
         ensures { result ≡ nat_le (standing self.now) (standing other.now) }
     {

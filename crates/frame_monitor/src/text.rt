@@ -2,7 +2,8 @@
 ghost use Rattle.std.specs.Prelude.{◌≡◌, ◌++◌, [], ◌∷◌, List, length, codes, string_bytes, IfOk, OnOk};
 ghost use Rattle.std.specs.List.{list_any};
 ghost use Rattle.ax25_frames.specs.FrameOctets.{information_of};
-ghost use Rattle.frame_monitor.specs.MonitorText.{head_text, information_text, monitor_text, path_text, repeaters_text, star};
+ghost use Rattle.frame_monitor.specs.MonitorText.{head_text, information_text, monitor_text, path_text, repeaters_text};
+ghost use Rattle.frame_monitor.specs.MonitorText.{star};
 
 use crate::clock::clock;
 use crate::description::description;

@@ -198,7 +198,8 @@ divide-quotient (suc steps) (false ∷ p) size =
     let rest = divide-quotient steps p (omega arith) in
     (false ∷ rest.0, ap suc rest.1, ap (λ xs. false ∷ xs) rest.2)
 divide-quotient (suc steps) (true ∷ p) size =
-    let rest = divide-quotient steps (add_front generator_rest p) (omega (arith, length-add_front generator_rest p)) in (
+    let rest = divide-quotient steps (add_front generator_rest p)
+    (omega (arith, length-add_front generator_rest p)) in (
       true ∷ rest.0,
       ap suc rest.1,
       ap (λ xs. true ∷ xs) (sym (add_front-twice generator_rest p) ∙ ap (add_front generator_rest) rest.2

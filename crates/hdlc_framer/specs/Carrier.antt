@@ -4,8 +4,7 @@ use Rattle.std.specs.Prelude.{ℕ, zero, suc, ◌+◌, ◌-◌, ◌<◌, ◌≤�
 use Rattle.hdlc_framer.specs.Frames.{EndsFlag, EndsAbort}
 
 -- So many flags in a row end with the last bit. Two in a row share a 0, so that the first ends 7 bits before the
--- second, or
--- follow one another at once, so that it ends 8 bits before.
+-- second, or follow one another at once, so that it ends 8 bits before.
 abbrev pub EndsFlags : ℕ → List Bool → Type 0
 EndsFlags zero bits = ⊤
 EndsFlags (suc zero) bits = EndsFlag bits

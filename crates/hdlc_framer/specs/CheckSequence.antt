@@ -21,7 +21,7 @@ generator_rest =
     false ∷ false ∷ false ∷ true ∷ false ∷ false ∷ false ∷ false ∷ false ∷ false ∷ true ∷ false ∷ false ∷ false ∷ false
     ∷ true ∷ []
 
--- Long division: each step takes the highest power away, and where its coefficient is 1 the generator is added.
+-- Long division: each step takes the highest power away, and if its coefficient is 1 the generator is added.
 abbrev pub divide : ℕ → List Bool → List Bool
 divide zero p = p
 divide (suc steps) [] = []

@@ -85,7 +85,8 @@ impl Carrier {
         }
     }
 
-    // The flags in a row that end with a flag: it shares a 0 with the one before, or follows it at once, or is the first.
+    // The flags in a row that end with a flag: it shares a 0 with the one before, or follows it at once, or is the
+    // first.
     fn row(&self) -> u8
         ensures value { result ≡ row_with self.now }
         ensures most { result ≤ 8 }

@@ -38,8 +38,8 @@ impl Deframer {
         Deframer::listening(1)
     }
 
-    /// The same, but it is busy only from so many flags in a row on, 1 to 8: chance makes a single flag of noise often, and
-    /// three in a row seldom.
+    /// The same, but it is busy only from so many flags in a row on, 1 to 8: chance makes a single flag of noise often,
+    /// and three in a row seldom.
     pub fn listening(flags: u8) -> Self
         requires { (1 ≤ flags) × (flags ≤ 8) }
         ensures stands_for { StandsFor result [] }

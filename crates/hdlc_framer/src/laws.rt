@@ -30,8 +30,8 @@ pub fn remainder_is_of_division()
         → (IsRemainder p r ↔ (r ≡ remainder p)) }
 {}
 
-/// A carrier of one flag is held exactly if a flag has come and, since the last one, neither seven 1s in a row nor 10,000
-/// bits.
+/// A carrier of one flag is held exactly if a flag has come and, since the last one, neither seven 1s in a row nor
+/// 10,000 bits.
 pub fn one_flag_makes_busy()
     ensures { (bits : List Bool) → HoldsCarrier 1 bits ↔ IsBusy bits }
 {}

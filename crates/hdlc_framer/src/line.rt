@@ -23,7 +23,12 @@ impl Model for LineState {
 
     ghost Value = { Line };
 
-    ghost view = { λ s. record { ones = s.ones; after_zero = s.after_zero; content = if s.active then Some s.content else None } };
+    ghost view = { λ s. record {
+      ones = s.ones;
+      after_zero = s.after_zero;
+      content = if s.active then Some s.content
+          else None;
+    } };
 
     ghost invariant = { λ s. s.ones ≤ 7 };
 }
@@ -108,7 +113,7 @@ impl LineState {
         self.after_zero = true;
     }
 
-    // Keeps a bit of the content, or gives the content up where it is too long for a frame.
+    // Keeps a bit of the content, or gives the content up if it is too long for a frame.
     fn take(&mut self, bit: bool)
         ensures { self.new ≡ record self.old { content = longer self.old.content bit } }
     {

@@ -60,7 +60,8 @@ impl Bank {
     /// Takes one sample, and gives the candidate that ends with it, if one does.
     pub(crate) fn push(&mut self, sample: i16) -> Result<Option<Candidate>, OutOfMemory>
         requires { self.old.position + 1 < 2 ^ 48 }
-        ensures heard { IfOk result (λ heard. (x : List ℤ) → BankStandsFor self.old x → BankStandsFor self.new (x ++ sample ∷ [])
+        ensures heard { IfOk result (λ heard. (x : List ℤ) → BankStandsFor self.old x
+            → BankStandsFor self.new (x ++ sample ∷ [])
             × AreCandidatesAfter (length x) (x ++ sample ∷ []) (option_to_list heard)) }
         ensures bounds { IfOk result (λ heard. IfSome heard CanBePut) }
         ensures position { self.new.position ≡ self.old.position + 1 }
@@ -95,7 +96,8 @@ fn hear(
     tone: Tone,
 ) -> Result<Option<Candidate>, OutOfMemory>
     requires { offset < 32 }
-    ensures stands_for { (tones : List Tone) → ToneLaneStandsFor lane.old tones → ToneLaneStandsFor lane.new (tones ++ tone ∷ []) }
+    ensures stands_for { (tones : List Tone) → ToneLaneStandsFor lane.old tones
+        → ToneLaneStandsFor lane.new (tones ++ tone ∷ []) }
     ensures heard { IfOk result (λ heard. (tones : List Tone) → ToneLaneStandsFor lane.old tones
         → IsHeard offset at (bits_of (tones ++ tone ∷ [])) heard) }
     ensures bounds { IfOk result (λ heard. IfSome heard CanBePut) }

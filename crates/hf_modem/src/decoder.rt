@@ -30,7 +30,13 @@ impl Model for HfDecoder {
 
     ghost Value = { HeldDecoder };
 
-    ghost view = { λ s. record { bank = s.bank; merger = s.merger; position = s.progress.position; finished = s.progress.finished; spent = s.progress.spent } };
+    ghost view = { λ s. record {
+      bank = s.bank;
+      merger = s.merger;
+      position = s.progress.position;
+      finished = s.progress.finished;
+      spent = s.progress.spent;
+    } };
 
     ghost invariant = { λ s. s.progress.spent ≡ false → s.progress.finished ≡ false
         → (s.bank.position ≡ s.progress.position) × (s.merger.marks ≡ replicate 32 (s.progress.position / 4)) };

@@ -7,7 +7,8 @@ ghost use Rattle.hf_modem.specs.MergedItems.{AreMerged, AreMergedBetween};
 
 /// Samples have one list of candidates.
 pub fn one_list_of_hf_candidates()
-    ensures { (x : List ℤ) (items others : List Candidate) → AreCandidates x items → AreCandidates x others → items ≡ others }
+    ensures { (x : List ℤ) (items others : List Candidate) → AreCandidates x items → AreCandidates x others → items
+        ≡ others }
 {}
 
 /// All samples have a list of candidates, so what is said of their candidates is always said of some.
@@ -25,5 +26,6 @@ pub fn hf_items_join()
 
 /// The items whose end is at most a quarter of the number of samples are all.
 pub fn hf_items_are_all()
-    ensures { (x : List ℤ) (items : List Candidate) → AreMergedBetween 0 (length x / 4 + 1) x items → AreMerged x items }
+    ensures { (x : List ℤ) (items : List Candidate) → AreMergedBetween 0 (length x / 4 + 1) x items
+        → AreMerged x items }
 {}

@@ -1,5 +1,6 @@
 //! Frames as the samples of one transmission.
-ghost use Rattle.std.specs.Prelude.{◌≡◌, ℕ, ◌+◌, ◌*◌, ◌%◌, ◌<◌, ◌≤◌, ◌↔◌, List, ℤ, All, IfOk, OnOk, IsErrOf, unsigned_abs};
+ghost use Rattle.std.specs.Prelude.{◌≡◌, ℕ, ◌+◌, ◌*◌, ◌%◌, ◌<◌, ◌≤◌, ◌↔◌, List, ℤ, All, IfOk, OnOk, IsErrOf};
+ghost use Rattle.std.specs.Prelude.{unsigned_abs};
 ghost use Rattle.nrzi_bits.specs.Line.{line};
 ghost use Rattle.tone_table.specs.Sine.{wave_sample};
 ghost use Rattle.afsk_modulator.specs.Level.{sample_at, at_level};

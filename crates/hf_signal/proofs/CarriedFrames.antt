@@ -23,7 +23,7 @@ use Rattle.clean_signal.proofs.FoundFrames.{all_found_by}
 abbrev pub IsFound : List ℤ → TrueEnd → Type 0
 IsFound x sent = (offset : ℕ) × IsCandidate x (candidate_at sent.end offset sent.octets)
 
--- where windows carry a frame and the flags before and after it, the frame is a candidate
+-- if windows carry a frame and the flags before and after it, the frame is a candidate
 frame_found : (p part rest : List ℤ) (octets : List ℕ) (mid post : List Bool) → IsFrame octets
     → Carries (line (flag ++ (upto mid octets ++ post))) part
     → IsFound (p ++ (part ++ rest))

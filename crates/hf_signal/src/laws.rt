@@ -40,7 +40,8 @@ pub fn hf_near_frames()
 
 /// So does the signal itself at any level from 10 on.
 pub fn hf_level_frames()
-    ensures { (level : ℕ) (sent : List Transmission) → IsLevel level → All IsTransmission sent → NoStray sent (hf_signal level sent)
+    ensures { (level : ℕ) (sent : List Transmission) → IsLevel level → All IsTransmission sent
+        → NoStray sent (hf_signal level sent)
         → MergesTo (frames_of sent) (hf_signal level sent) }
 {}
 
@@ -48,12 +49,14 @@ pub fn hf_level_frames()
 pub fn hf_sent_is_near()
     ensures transmission { (level : ℕ) (frames : List (List ℕ)) (opening closing : ℕ) → 10 ≤ level
         → IsNear level (wave (line (body frames opening closing))) (hf_transmission level frames opening closing) }
-    ensures signal { (level : ℕ) (sent : List Transmission) → 10 ≤ level → IsNearAll (sent_at level sent) (hf_signal level sent) }
+    ensures signal { (level : ℕ) (sent : List Transmission) → 10 ≤ level
+        → IsNearAll (sent_at level sent) (hf_signal level sent) }
 {}
 
 /// So do any samples that carry the transmissions, whatever stands between and after them.
 pub fn hf_carried_frames()
-    ensures { (sent : List Transmission) (x : List ℤ) → All IsTransmission sent → CarriesAll sent x → NoStray sent x → MergesTo (frames_of sent) x }
+    ensures { (sent : List Transmission) (x : List ℤ) → All IsTransmission sent → CarriesAll sent x → NoStray sent x
+        → MergesTo (frames_of sent) x }
 {}
 
 /// Checking all candidates of the samples is enough.

@@ -48,8 +48,8 @@ impl KissIn {
         }
     }
 
-    /// Takes the next octet, and gives the item that ends with it. Fails only for want of memory, and has then not taken
-    /// the octet.
+    /// Takes the next octet, and gives the item that ends with it. Fails only for want of memory, and has then not
+    /// taken the octet.
     pub fn push(&mut self, octet: u8) -> Result<Option<KissItem>, OutOfMemory>
         ensures stands_for { (stream : List ℕ) → StandsFor self.old stream
             → OnOk result (StandsFor self.new (stream ++ octet ∷ [])) }

@@ -6,7 +6,7 @@ use Rattle.link_machine.specs.declared.machine.Machine.{Machine as Held}
 use Rattle.link_machine.specs.Done.{Done}
 use Rattle.link_machine.specs.Machine.{Machine}
 use Rattle.link_machine.specs.Sent.{sent_frames}
-use Rattle.link_machine.specs.Turn.{Turn, Act, begin}
+use Rattle.link_machine.specs.Turn.{Turn, begin}
 use Rattle.tnc_base.specs.declared.fault.OutOfMemory.{OutOfMemory}
 use Rattle.std.proofs.Common.{nat_lt, None}
 use Rattle.std.proofs.lemmas.Bool.{le-ltb, lt-leb}
@@ -26,7 +26,6 @@ use Rattle.link_machine.specs.declared.acts.SentFrame.{SentFrame}
 use Rattle.std.specs.Prelude.{is_some}
 use Rattle.std.proofs.Common.{Some}
 use Rattle.link_machine.specs.Held.{IsWhole, Holds, Made, Makes}
-use Rattle.link_machine.proofs.Events.{holds_itself, itself, whole_of}
 
 -- what holds if a call did not fail
 pub on_ok : {A E : Type 0} (r : Result A E) (P : Type 0) → (IsErr r → ⊥) → OnOk r P → P
@@ -55,13 +54,6 @@ answers_right behind m event done free h =
 
 pub holds_of : (held : Held) (m : Machine) → IsWhole held → StandsFor held m → Holds held m
 holds_of held m whole h = record { stands = h; formed = whole.link; next = whole.next }
-
-pub whole_behind : (act : Act) (before behind : Held) (result : Result Done OutOfMemory)
-    → Makes act before behind result → IsWhole before → IsWhole behind
-whole_behind act before behind (Ok done) makes whole =
-    whole_of behind _ (makes (itself before) (holds_itself before whole)).holds
-whole_behind act before behind (Err fault) makes whole = let P : Held
-    → Type 0 = λ x. IsWhole x in subst P (sym makes) whole
 
 -- what a call answers, if its event is never refused
 pub answers_all :

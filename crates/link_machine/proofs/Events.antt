@@ -37,7 +37,7 @@ use Rattle.std.specs.Prelude.{not}
 use Rattle.std.proofs.lemmas.Bool.{cond-true, cond-false}
 use Rattle.link_machine.specs.Step.{settle_in, settled}
 use Rattle.link_machine.specs.Room.{HasRoom}
-use Rattle.link_machine.specs.Held.{IsWhole, Holds, Shows, Made, Makes, hear_numbered, outgoing_behind, frames_to_close}
+use Rattle.link_machine.specs.Held.{IsWhole, Holds, Shows, Made, Makes, hear_numbered, outgoing_behind}
 use Rattle.link_machine.proofs.PacketLemmas.{in_window_behind, in_order as in_number_order}
 
 abbrev pub is_up : LinkState → Bool
@@ -115,14 +115,6 @@ pub made_unsettled :
 made_unsettled held room t done h off frames told =
     let P : Turn → Type 0 = λ x. Made x held done in
     subst P (sym (unsettled t off)) (made held room t done h frames told)
-
--- closing sends at most one frame
-pub close_at_most_1 : (held : Held) → frames_to_close held ≤ 1
-close_at_most_1 held = at_most held.control.quit
-  where
-    at_most : (b : Bool) → (if b then 1 else 0) ≤ 1
-    at_most true = omega arith
-    at_most false = omega arith
 
 window_eq :
     (k l l' a a' b b' : ℕ) (packets : List Packet) → l ≡ l' → a ≡ a' → b ≡ b'
@@ -391,10 +383,6 @@ settled_open modulus flag t =
 
 idle_is : (t : Turn) → t.now.control.state ≡ Idle → is_up t.now.control.state ≡ false
 idle_is t e = ap is_up e
-
-by_flag : (b : Bool) (x y : Turn) → settled x ≡ x → settled y ≡ y → settled (if b then x else y) ≡ (if b then x else y)
-by_flag true x y e f = e
-by_flag false x y e f = f
 
 pub settled_idle : (command : Bool) (kind : Kind) (t : Turn) → t.now.control.state ≡ Idle
     → settled (hear_idle command kind t) ≡ hear_idle command kind t

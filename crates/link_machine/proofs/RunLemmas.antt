@@ -30,10 +30,6 @@ pub run_of_full : (ps : List Place) (packet : Packet) → packet_at ps 0 ≡ Som
 run_of_full [] packet h = absurd (false≢true (ap is_some h))
 run_of_full (p ∷ ps) packet h = ap (λ o. before_gap o (run ps)) h
 
-pub run_of_empty : (ps : List Place) → packet_at ps 0 ≡ None → run ps ≡ []
-run_of_empty [] h = refl
-run_of_empty (p ∷ ps) h = ap (λ o. before_gap o (run ps)) h
-
 -- a packet that comes at the first place
 pub run_with_next : (ps : List Place) (packet : Packet) → 1 ≤ length ps
     → run (with_packet ps 0 packet) ≡ packet ∷ run (drop 1 ps)
@@ -112,27 +108,6 @@ moved_one_more before behind store packet so take places there =
           (take (moved_on so.count store) so.stands);
       left = omega (arith, ap length same);
     }
-
-empty_by : (i : Incoming) (b : Bool) → b ≡ false
-    → (if b then record i { vr = i.vr + 1; places = drop 1 i.places ++ empty_place ∷ [] } else i) ≡ i
-empty_by i true e = absurd (false≢true (sym e))
-empty_by i false e = refl
-
--- no packet is there: the run has ended
-pub moved_all :
-    (before behind store : Incoming) → MovedSome before store
-    → ((s : Incoming) → StandsForIncoming before s → StandsForIncoming behind (after_take s))
-    → packet_at before.places 0 ≡ None → StandsForIncoming behind (moved_on (length (run store.places)) store)
-moved_all before behind store so take none =
-    let ended : length (run before.places) ≡ 0 = ap length (run_of_empty before.places none) in
-    let left = so.left in
-    let count : so.count ≡ length (run store.places) = omega arith in
-    let empty : is_full (moved_on so.count store).places 0 ≡ false = ap (λ ps. is_full ps 0) (sym so.stands.places)
-    ∙ ap is_some none in
-    let P : Incoming → Type 0 = λ s. StandsForIncoming behind s in
-    let Q : ℕ → Type 0 = λ n. StandsForIncoming behind (moved_on n store) in
-    subst Q count (subst P (empty_by (moved_on so.count store) (is_full (moved_on so.count store).places 0) empty)
-    (take (moved_on so.count store) so.stands))
 
 places_by : (i : Incoming) (b : Bool) → b ≡ true
     → (if b then record i { vr = i.vr + 1; places = drop 1 i.places ++ empty_place ∷ [] } else i).places

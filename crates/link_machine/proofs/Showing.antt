@@ -6,13 +6,12 @@ use Rattle.selective_reject.specs.Incoming.{Incoming, IsIncoming, StandsForIncom
 use Rattle.selective_reject.specs.declared.packet.Packet.{Packet}
 use Rattle.link_machine.specs.Acts.{moved_on, give}
 use Rattle.link_machine.specs.declared.acts.Told.TheVariants.{Given}
-use Rattle.link_machine.specs.declared.acts.Told.{Told}
 use Rattle.link_machine.specs.declared.control.Control.{Control}
 use Rattle.link_machine.specs.declared.machine.Machine.{Machine as Held}
 use Rattle.link_machine.specs.declared.room.Room.{Room}
 use Rattle.link_machine.specs.Machine.{Machine, fresh, emptied, in_modulus}
 use Rattle.link_machine.specs.Sent.{Sent, sent_in, sent_frame, sent_frames}
-use Rattle.link_machine.specs.Turn.{Turn, changing, setting, sending, telling}
+use Rattle.link_machine.specs.Turn.{Turn, changing, setting, sending}
 use Rattle.link_machine.specs.Held.{IsReady, Holds, Shows}
 
 -- only the variables change
@@ -79,17 +78,6 @@ shows_sending x held room behind t h frames told = record {
       h.holds.stands.incoming.modulus
       ∙ sym (map-append (sent_frame t.now.path) t.sent (sent_in t.now.incoming.modulus x ∷ []));
   told = ap (λ v. v.items) told ∙ h.told;
-}
-
--- the layer above is told
-pub shows_telling :
-    (x : Told) (held : Held) (room behind : Room) (t : Turn) → Shows held room t
-    → behind.told.items ≡ room.told.items ++ x ∷ [] → behind.frames ≡ room.frames
-    → Shows held behind (telling x t)
-shows_telling x held room behind t h told frames = record {
-  holds = h.holds;
-  frames = ap (λ v. v.items) frames ∙ h.frames;
-  told = told ∙ ap (λ xs. xs ++ x ∷ []) h.told;
 }
 
 -- the same of a turn

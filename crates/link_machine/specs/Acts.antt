@@ -26,7 +26,7 @@ running ticks None = Some ticks
 running ticks (Some left) = Some left
 
 -- The packets below a number are acknowledged. If at least one is and no poll awaits its answer, the retries
--- begin anew, and T1 runs exactly where something that was sent is still not acknowledged.
+-- begin anew, and T1 runs exactly if something that was sent is still not acknowledged.
 abbrev pub timed_anew : Bool → Control → Control
 timed_anew all c = if all then record c { rc = 0; t1 = None; t3 = Some t3_ticks }
     else record c { rc = 0; t1 = Some t1_ticks }

@@ -28,7 +28,7 @@ row Disconnect = setting quitting
 row (Hear frame) = hear (is_command_of frame.path.role frame.kind) frame.kind
 row (Tick waiting) = tick waiting
 
--- an event that leaves the link up ends with what can be sent, and then, where it is time, with the release
+-- an event that leaves the link up ends with what can be sent, and then, if it is time, with the release
 abbrev pub settle_in : LinkState → Act
 settle_in Idle = nothing
 settle_in Calling = nothing

@@ -95,7 +95,7 @@ tick_t3_of (Some left) turn =
 abbrev pub tick_t3 : Act
 tick_t3 turn = tick_t3_of turn.now.control.t3 turn
 
--- a tick of T1, which stands still while a frame of the link waits to be sent; where it is off, one of T3
+-- a tick of T1, which stands still while a frame of the link waits to be sent; if it is off, one of T3
 abbrev pub tick_t1_of : Option ℕ → Bool → Act
 tick_t1_of None waiting turn = tick_t3 turn
 tick_t1_of (Some left) true turn = turn

@@ -1,7 +1,8 @@
 //! The variables of a link apart from its numbers and packets.
 ghost use Rattle.std.specs.Prelude.{◌≡◌, ◌<◌, ◌&&◌, Bool};
 ghost use Rattle.link_machine.specs.Machine.{fresh_control, in_state, idle_control};
-ghost use Rattle.link_machine.specs.Acts.{timed_by, nothing_due, behind_poll, polling, awaiting, releasing, calling, owing, watching};
+ghost use Rattle.link_machine.specs.Acts.{timed_by, nothing_due, behind_poll, polling, awaiting, releasing, calling};
+ghost use Rattle.link_machine.specs.Acts.{owing, watching};
 ghost use Rattle.link_machine.specs.Frames.{stopped_t1, stopped, unretried_call};
 ghost use Rattle.link_machine.specs.Requests.{has_link, is_closed};
 ghost use Rattle.link_machine.specs.Ticks.{retried, is_spent, unretried};
@@ -20,8 +21,8 @@ const T3: u16 = 3000;
 /// The most retries, N2.
 const MOST_RETRIES: u8 = 10;
 
-/// The state of a link, its conditions, its retry count and its timers (AX.25 2.2 section 6.7.1). A timer is off, or has
-/// so many ticks left.
+/// The state of a link, its conditions, its retry count and its timers (AX.25 2.2 section 6.7.1). A timer is off, or
+/// has so many ticks left.
 #[derive(Clone, Copy, Debug, PartialEq, Eq)]
 pub struct Control {
     /// The state.

@@ -34,7 +34,8 @@ impl Machine {
     /// How many of the packets that are left then were sent already, once so many more are acknowledged and V(S) has
     /// perhaps gone back to V(A).
     fn sent_behind(&self, acknowledged: u8, goes_back: bool) -> usize
-        ensures { let behind = outgoing_behind acknowledged goes_back self.now.outgoing in result ≡ behind.vs - behind.va }
+        ensures { let behind = outgoing_behind acknowledged goes_back self.now.outgoing in result
+            ≡ behind.vs - behind.va }
     {
         if goes_back {
             return 0;
@@ -50,7 +51,8 @@ impl Machine {
         goes_back: bool,
     ) -> Result<VecDeque<Packet>, OutOfMemory>
         requires { acknowledged ≤ length self.now.outgoing.packets }
-        ensures { IfOk result (λ packets. packets.items ≡ in_window self.now.incoming.window (outgoing_behind acknowledged goes_back self.now.outgoing)) }
+        ensures { IfOk result (λ packets. packets.items
+            ≡ in_window self.now.incoming.window (outgoing_behind acknowledged goes_back self.now.outgoing)) }
     {
         let first = usize::from(acknowledged);
         let most = (self.outgoing.len() - first).min(usize::from(self.incoming.window()));
@@ -69,7 +71,8 @@ impl Machine {
         place: usize,
         packets: &mut VecDeque<Packet>,
     ) -> Result<(), OutOfMemory>
-        ensures { OnOk result (packets.new.items ≡ packets.old.items ++ option_to_list (slice_get self.now.outgoing.packets place)) }
+        ensures { OnOk result (packets.new.items
+            ≡ packets.old.items ++ option_to_list (slice_get self.now.outgoing.packets place)) }
     {
         if let Some(packet) = self.outgoing.packet(place) {
             packets.push_back(copy_of(alloc, packet)?)?;
@@ -116,7 +119,8 @@ impl Machine {
         requires formed { IsLink self.old }
         requires room { length packets.items ≤ frames_left room.old }
         ensures shows { (t : Turn) → Shows self.old room.old t
-            → packets.items ≡ in_window t.now.incoming.window t.now.outgoing → Shows self.new room.new (sending_packets packets.items t) }
+            → packets.items ≡ in_window t.now.incoming.window t.now.outgoing
+            → Shows self.new room.new (sending_packets packets.items t) }
         ensures uses { Uses room.old room.new (length packets.items) 0 }
         ensures control { self.new.control ≡ self.old.control }
     {

@@ -24,7 +24,8 @@ impl Machine {
     pub(crate) fn hear(&mut self, alloc: Global, frame: &Frame) -> Result<Acts, OutOfMemory>
         requires formed { IsWhole self.old }
         requires numbers { IsNumbered (modulus_named self.old.incoming.modulus) (control_of frame.now.kind) }
-        ensures { Makes (hear (is_command_of frame.now.path.role frame.now.kind) frame.now.kind) self.old self.new result }
+        ensures { Makes (hear
+            (is_command_of frame.now.path.role frame.now.kind) frame.now.kind) self.old self.new result }
     {
         let command = is_command(frame);
         match self.control.state {

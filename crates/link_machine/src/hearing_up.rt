@@ -1,4 +1,4 @@
-//! The frames that a link hears where it is up.
+//! The frames that a link hears while it is up.
 ghost use Rattle.std.specs.Prelude.{◌≡◌, ℕ, ◌+◌, ◌≤◌, ◌<◌, ◌&&◌, not, true, Bool};
 ghost use Rattle.link_machine.specs.declared.state.LinkState.TheVariants.{Up};
 ghost use Rattle.std.specs.Prelude.{if◌then◌else◌};
@@ -10,7 +10,8 @@ ghost use Rattle.std.specs.Prelude.{◌%◌, ◌||◌, Ok, IfOk};
 ghost use Rattle.std.specs.Option.{option_to_list};
 ghost use Rattle.selective_reject.specs.Outgoing.{acknowledgement, sent_packet};
 ghost use Rattle.link_machine.specs.Acts.{reset, send_again, sent_packet as asked_packets};
-ghost use Rattle.link_machine.specs.Frames.{open_again, end_by_disc, end_by_dm, hear_rr, hear_rnr, hear_rej, hear_srej, hear_supervisory, acknowledged_by_srej, hear_info, hear_up};
+ghost use Rattle.link_machine.specs.Frames.{open_again, end_by_disc, end_by_dm, hear_rr, hear_rnr, hear_rej, hear_srej};
+ghost use Rattle.link_machine.specs.Frames.{hear_supervisory, acknowledged_by_srej, hear_info, hear_up};
 ghost use Rattle.link_machine.specs.Room.{frames_left, told_left, Uses};
 ghost use Rattle.link_machine.specs.Held.{IsLink, IsWhole, Holds, Shows, Makes, hear_numbered, hear_supervisory_of};
 
@@ -311,7 +312,8 @@ impl Machine {
     )
         requires number { nr < self.old.incoming.modulus }
         requires room { 2 ≤ frames_left room.old }
-        ensures shows { (t : Turn) → Shows self.old room.old t → is_valid nr t.now ≡ true → again ≡ sent_packet self.old.incoming.modulus nr self.old.outgoing
+        ensures shows { (t : Turn) → Shows self.old room.old t → is_valid nr t.now ≡ true → again
+            ≡ sent_packet self.old.incoming.modulus nr self.old.outgoing
             → Shows self.new room.new (hear_srej (named nr t.now) flag asks answers t) }
         ensures uses { Uses room.old room.new 2 0 }
     {
@@ -325,7 +327,8 @@ impl Machine {
     /// SREJ acknowledges with P/F = 1 alone.
     fn acknowledge_by_srej(&mut self, nr: u8, flag: bool)
         requires { nr < self.old.incoming.modulus }
-        ensures { (m : State) → Holds self.old m → is_valid nr m ≡ true → Holds self.new (acknowledged_by_srej (named nr m) flag m) }
+        ensures { (m : State) → Holds self.old m → is_valid nr m ≡ true
+            → Holds self.new (acknowledged_by_srej (named nr m) flag m) }
     {
         if flag {
             self.acknowledge(nr);
@@ -335,7 +338,8 @@ impl Machine {
     /// Sends again the I frame that an SREJ asks for, if it was sent.
     fn send_again(&mut self, room: &mut Room, nr: u8, again: Option<Packet>)
         requires { 1 ≤ frames_left room.old }
-        ensures shows { (t : Turn) (n : ℕ) → Shows self.old room.old t → nr ≡ n % self.old.incoming.modulus → t.now.outgoing.va ≤ n
+        ensures shows { (t : Turn) (n : ℕ) → Shows self.old room.old t → nr ≡ n % self.old.incoming.modulus
+            → t.now.outgoing.va ≤ n
             → option_to_list again ≡ asked_packets n t.now.outgoing → Shows self.new room.new (send_again n t) }
         ensures uses { Uses room.old room.new 1 0 }
     {
@@ -362,7 +366,8 @@ impl Machine {
         requires formed { IsWhole self.old }
         requires send_number { ns < self.old.incoming.modulus }
         requires receive_number { nr < self.old.incoming.modulus }
-        ensures { Makes (hear_numbered nr (λ n. hear_info n ns flag (record { pid = pid; octets = octets.now }))) self.old self.new result }
+        ensures { Makes (hear_numbered nr (λ n. hear_info n ns flag
+            (record { pid = pid; octets = octets.now }))) self.old self.new result }
     {
         let Ok(count) = self.outgoing.acknowledgement(self.incoming.modulus(), nr) else {
             return self.hear_error(alloc);

@@ -1,7 +1,7 @@
-//! One link of AX.25 2.2 (sections 4, 6), modulo 8 or 128, as a machine without a clock of its own. Each call is one event:
-//! a request of the layer above, a frame heard or a tick of 10 ms. It answers the frames that are sent, each with its
-//! modulus, and what the layer above is told. Lost I frames are asked for again by REJ or by SREJ. Every call makes exactly
-//! the step of the link's table, and one that is refused or finds no memory changes nothing.
+//! One link of AX.25 2.2 (sections 4, 6), modulo 8 or 128, as a machine without a clock of its own. Each call is one
+//! event: a request of the layer above, a frame heard or a tick of 10 ms. It answers the frames that are sent, each
+//! with its modulus, and what the layer above is told. Lost I frames are asked for again by REJ or by SREJ. Every call
+//! makes exactly the step of the link's table, and one that is refused or finds no memory changes nothing.
 //!
 //! ```text
 //! A call                        A                         B
@@ -44,13 +44,14 @@
 //! - FRMR is never sent. A frame with an invalid N(R), or an FRMR, ends the set-up, and this side calls anew
 //!   (section 6.5).
 //! - RNR is never sent.
-//! - Every link answers SABM and SABME, and takes the modulus of the one that it hears; `wide` says how it calls itself.
-//!   FRMR in reply to SABME brings SABM, with all retries anew (section 6.3.1).
-//! - While a wide call is under way SABM is passed over: the other side hears the SABME, and answers it by DM or FRMR. SABME
-//!   is answered by DM while a call modulo 8 is under way.
+//! - Every link answers SABM and SABME, and takes the modulus of the one that it hears; `wide` says how it calls
+//!   itself. FRMR in reply to SABME brings SABM, with all retries anew (section 6.3.1).
+//! - While a wide call is under way SABM is passed over: the other side hears the SABME, and answers it by DM or FRMR.
+//!   SABME is answered by DM while a call modulo 8 is under way.
 //! - A link that is not there counts modulo 8. The frame that ends a set-up is written in the modulus of that set-up.
 //! - A packet that is given while the call is under way belongs to the set-up that follows.
-//! - T1 stands still while a frame of the link waits in the transmit queue, since no answer can be expected (section 6.7.1).
+//! - T1 stands still while a frame of the link waits in the transmit queue, since no answer can be expected (section
+//!   6.7.1).
 #![tactic(auto)]
 
 mod acts;

@@ -1,5 +1,6 @@
 //! A link, as the layer above sees it.
-ghost use Rattle.std.specs.Prelude.{◌≡◌, ℕ, ◌<◌, ◌⊎◌, ◌↔◌, true, Bool, Ok, Err, Some, OnOk, OnErr, IfOk, IfErr, All, length};
+ghost use Rattle.std.specs.Prelude.{◌≡◌, ℕ, ◌<◌, ◌⊎◌, ◌↔◌, true, Bool, Ok, Err, Some, OnOk, OnErr, IfOk, IfErr, All};
+ghost use Rattle.std.specs.Prelude.{length};
 ghost use Rattle.std.specs.Result.{IsErrOf};
 
 use crate::acts::Acts;
@@ -51,9 +52,9 @@ impl Link {
     ghost use Rattle.link_machine.specs.StandsFor.{StandsFor};
     ghost use Rattle.link_machine.specs.declared.fault.LinkFault.{LinkFault};
 
-    /// An idle link on a path, which goes from this station to the other. It takes its memory from `alloc`, now the places
-    /// of its packets in both moduli, and later for what it answers. Refuses the first of `window` and `wide_window` that
-    /// does not fit its modulus.
+    /// An idle link on a path, which goes from this station to the other. It takes its memory from `alloc`, now the
+    /// places of its packets in both moduli, and later for what it answers. Refuses the first of `window` and
+    /// `wide_window` that does not fit its modulus.
     pub fn new(alloc: Global, params: Params, path: Path) -> Result<Link, NewFault>
         ensures stands_for { IfOk result (λ link. StandsFor link (new_machine path params)) }
         ensures windows { OnOk result (HasWindows params) }
@@ -79,9 +80,12 @@ impl Link {
     /// Calls the other station. Refused if there is a link already.
     pub fn connect(&mut self) -> Result<Acts, LinkFault>
         ensures step { (m : State) → StandsFor self.old m → IfOk result (λ acts. acts ≡ done_of (step m Connect)) }
-        ensures stands_for { (m : State) → StandsFor self.old m → OnOk result (StandsFor self.new (step m Connect).now) }
-        ensures refused { (fault : LinkFault) → refusal self.old.control (length self.old.outgoing.packets) Connect ≡ Some fault → result ≡ Err fault }
-        ensures fault { IfErr result (λ fault. (fault ≡ LinkFault.Memory) ⊎ (refusal self.old.control (length self.old.outgoing.packets) Connect ≡ Some fault)) }
+        ensures stands_for { (m : State) → StandsFor self.old m
+            → OnOk result (StandsFor self.new (step m Connect).now) }
+        ensures refused { (fault : LinkFault) → refusal self.old.control (length self.old.outgoing.packets) Connect
+            ≡ Some fault → result ≡ Err fault }
+        ensures fault { IfErr result (λ fault. (fault
+            ≡ LinkFault.Memory) ⊎ (refusal self.old.control (length self.old.outgoing.packets) Connect ≡ Some fault)) }
         ensures writable { IfOk result (λ acts. All IsWritable acts.frames) }
         ensures unchanged { OnErr result (self.new ≡ self.old) }
     {
@@ -95,10 +99,16 @@ impl Link {
     /// Gives a packet of at most 256 octets to be sent. Refused if there is no link or a disconnect was asked for, if
     /// 1024 packets wait, and if the packet is too long.
     pub fn send(&mut self, packet: Packet) -> Result<Acts, LinkFault>
-        ensures step { (m : State) → StandsFor self.old m → IfOk result (λ acts. acts ≡ done_of (step m (Send packet))) }
-        ensures stands_for { (m : State) → StandsFor self.old m → OnOk result (StandsFor self.new (step m (Send packet)).now) }
-        ensures refused { (fault : LinkFault) → refusal self.old.control (length self.old.outgoing.packets) (Send packet) ≡ Some fault → result ≡ Err fault }
-        ensures fault { IfErr result (λ fault. (fault ≡ LinkFault.Memory) ⊎ (refusal self.old.control (length self.old.outgoing.packets) (Send packet) ≡ Some fault)) }
+        ensures step { (m : State) → StandsFor self.old m → IfOk result (λ acts. acts
+            ≡ done_of (step m (Send packet))) }
+        ensures stands_for { (m : State) → StandsFor self.old m
+            → OnOk result (StandsFor self.new (step m (Send packet)).now) }
+        ensures refused { (fault : LinkFault)
+            → refusal self.old.control (length self.old.outgoing.packets) (Send packet) ≡ Some fault → result
+            ≡ Err fault }
+        ensures fault { IfErr result (λ fault. (fault
+            ≡ LinkFault.Memory) ⊎ (refusal self.old.control (length self.old.outgoing.packets) (Send packet)
+            ≡ Some fault)) }
         ensures writable { IfOk result (λ acts. All IsWritable acts.frames) }
         ensures unchanged { OnErr result (self.new ≡ self.old) }
     {
@@ -120,9 +130,13 @@ impl Link {
     /// asked for before.
     pub fn disconnect(&mut self) -> Result<Acts, LinkFault>
         ensures step { (m : State) → StandsFor self.old m → IfOk result (λ acts. acts ≡ done_of (step m Disconnect)) }
-        ensures stands_for { (m : State) → StandsFor self.old m → OnOk result (StandsFor self.new (step m Disconnect).now) }
-        ensures refused { (fault : LinkFault) → refusal self.old.control (length self.old.outgoing.packets) Disconnect ≡ Some fault → result ≡ Err fault }
-        ensures fault { IfErr result (λ fault. (fault ≡ LinkFault.Memory) ⊎ (refusal self.old.control (length self.old.outgoing.packets) Disconnect ≡ Some fault)) }
+        ensures stands_for { (m : State) → StandsFor self.old m
+            → OnOk result (StandsFor self.new (step m Disconnect).now) }
+        ensures refused { (fault : LinkFault) → refusal self.old.control (length self.old.outgoing.packets) Disconnect
+            ≡ Some fault → result ≡ Err fault }
+        ensures fault { IfErr result (λ fault. (fault
+            ≡ LinkFault.Memory) ⊎ (refusal self.old.control (length self.old.outgoing.packets) Disconnect
+            ≡ Some fault)) }
         ensures writable { IfOk result (λ acts. All IsWritable acts.frames) }
         ensures unchanged { OnErr result (self.new ≡ self.old) }
     {
@@ -133,12 +147,14 @@ impl Link {
         Ok(acts)
     }
 
-    /// Hears a frame from the other station, whose numbers are below the link's modulus, as [`ax25_frames::read_frame`] in
-    /// that modulus gives it.
+    /// Hears a frame from the other station, whose numbers are below the link's modulus, as [`ax25_frames::read_frame`]
+    /// in that modulus gives it.
     pub fn frame(&mut self, frame: &Frame) -> Result<Acts, OutOfMemory>
         requires { IsNumbered (modulus_named self.old.incoming.modulus) (control_of frame.now.kind) }
-        ensures step { (m : State) → StandsFor self.old m → IfOk result (λ acts. acts ≡ done_of (step m (Hear frame.now))) }
-        ensures stands_for { (m : State) → StandsFor self.old m → OnOk result (StandsFor self.new (step m (Hear frame.now)).now) }
+        ensures step { (m : State) → StandsFor self.old m → IfOk result (λ acts. acts
+            ≡ done_of (step m (Hear frame.now))) }
+        ensures stands_for { (m : State) → StandsFor self.old m
+            → OnOk result (StandsFor self.new (step m (Hear frame.now)).now) }
         ensures writable { IfOk result (λ acts. All IsWritable acts.frames) }
         ensures unchanged { OnErr result (self.new ≡ self.old) }
     {
@@ -147,8 +163,10 @@ impl Link {
 
     /// A tick of 10 ms. `waiting` says that a frame of this link waits in the transmit queue.
     pub fn tick(&mut self, waiting: bool) -> Result<Acts, OutOfMemory>
-        ensures step { (m : State) → StandsFor self.old m → IfOk result (λ acts. acts ≡ done_of (step m (Tick waiting))) }
-        ensures stands_for { (m : State) → StandsFor self.old m → OnOk result (StandsFor self.new (step m (Tick waiting)).now) }
+        ensures step { (m : State) → StandsFor self.old m → IfOk result (λ acts. acts
+            ≡ done_of (step m (Tick waiting))) }
+        ensures stands_for { (m : State) → StandsFor self.old m
+            → OnOk result (StandsFor self.new (step m (Tick waiting)).now) }
         ensures writable { IfOk result (λ acts. All IsWritable acts.frames) }
         ensures unchanged { OnErr result (self.new ≡ self.old) }
     {

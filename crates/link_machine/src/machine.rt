@@ -5,7 +5,8 @@ ghost use Rattle.ax25_frames.specs.ControlField.{numbers};
 ghost use Rattle.selective_reject.specs.Numbers.{IsModulus};
 ghost use Rattle.link_machine.specs.Params.{HasWindows, IsRefusedWindow};
 ghost use Rattle.link_machine.specs.StandsFor.{StandsFor};
-ghost use Rattle.link_machine.specs.Machine.{Machine as State, fresh, emptied, in_modulus, narrowed, unquit, is_valid, named, modulus_named, new_machine};
+ghost use Rattle.link_machine.specs.Machine.{Machine as State, fresh, emptied, in_modulus, narrowed, unquit, is_valid};
+ghost use Rattle.link_machine.specs.Machine.{named, modulus_named, new_machine};
 ghost use Rattle.link_machine.specs.Turn.{Turn, changing};
 ghost use Rattle.link_machine.specs.Acts.{acknowledged, gone_back, recover};
 ghost use Rattle.link_machine.specs.Held.{IsLink, IsWhole, Holds, Shows};
@@ -133,8 +134,8 @@ impl Machine {
         self.count_in(Modulus::Eight);
     }
 
-    /// The numbers, conditions and timers of a set-up that begins. What was given to be sent stays, and so do the modulus
-    /// and a wish to disconnect.
+    /// The numbers, conditions and timers of a set-up that begins. What was given to be sent stays, and so do the
+    /// modulus and a wish to disconnect.
     pub(crate) fn begin(&mut self)
         ensures { (m : State) → Holds self.old m → Holds self.new (fresh m) }
     {
@@ -155,7 +156,8 @@ impl Machine {
     /// Takes a valid N(R) as an acknowledgement.
     pub(crate) fn acknowledge(&mut self, nr: u8)
         requires { nr < self.old.incoming.modulus }
-        ensures holds { (m : State) → Holds self.old m → is_valid nr m ≡ true → Holds self.new (acknowledged (named nr m) m) }
+        ensures holds { (m : State) → Holds self.old m → is_valid nr m ≡ true
+            → Holds self.new (acknowledged (named nr m) m) }
         ensures formed { IsLink self.old → IsLink self.new }
         ensures incoming { self.new.incoming ≡ self.old.incoming }
     {

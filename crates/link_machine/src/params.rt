@@ -9,8 +9,8 @@ use ax25_frames::Modulus;
 use selective_reject::{BadWindow, Mode, check_window};
 use std::marker::Model;
 
-/// How a link asks for lost frames, how many I frames it has under way, and whether it calls modulo 8 or 128. It answers
-/// both kinds of call.
+/// How a link asks for lost frames, how many I frames it has under way, and whether it calls modulo 8 or 128. It
+/// answers both kinds of call.
 #[derive(Clone, Copy, Debug, PartialEq, Eq)]
 pub struct Params {
     /// REJ or SREJ.
@@ -59,7 +59,8 @@ impl FittingParams {
     pub(crate) fn check(params: Params) -> Result<FittingParams, BadWindow>
         ensures params { IfOk result (λ fitting. fitting ≡ params) }
         ensures windows { OnOk result (HasWindows params) }
-        ensures bad_window { (window : ℕ) → IsErrOf result (record { window = window }) ↔ IsRefusedWindow params window }
+        ensures bad_window { (window : ℕ) → IsErrOf result (record { window = window })
+            ↔ IsRefusedWindow params window }
     {
         check_window(8, params.window, params.mode)?;
         check_window(128, params.wide_window, params.mode)?;

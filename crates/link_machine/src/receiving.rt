@@ -1,5 +1,6 @@
 //! How packets come in.
-ghost use Rattle.std.specs.Prelude.{◌≡◌, ℕ, ◌+◌, ◌%◌, ◌≤◌, ◌<◌, ◌==◌, true, false, Bool, [], ◌∷◌, ◌++◌, length, map, if◌then◌else◌};
+ghost use Rattle.std.specs.Prelude.{◌≡◌, ℕ, ◌+◌, ◌%◌, ◌≤◌, ◌<◌, ◌==◌, true, false, Bool, [], ◌∷◌, ◌++◌, length, map};
+ghost use Rattle.std.specs.Prelude.{if◌then◌else◌};
 ghost use Rattle.std.specs.Option.{option_to_list};
 ghost use Rattle.selective_reject.specs.Incoming.{Incoming, IsIncoming, StandsForIncoming, taken, after_take};
 ghost use Rattle.selective_reject.specs.Places.{is_full};
@@ -17,12 +18,13 @@ use ax25_address::Role;
 use ax25_frames::{Kind, S};
 use selective_reject::{InStore, Mode, Packet, Took};
 
-/// Gives the packet with number V(R), where it is there.
+/// Gives the packet with number V(R), if it is there.
 fn give_next(incoming: &mut InStore, room: &mut Room)
     requires { 1 ≤ told_left room.old }
     ensures told { room.new.told.items ≡ room.old.told.items ++ map Told.Given (option_to_list (taken incoming.old)) }
     ensures frames { room.new.frames ≡ room.old.frames }
-    ensures stands_for { (store : Incoming) → StandsForIncoming incoming.old store → StandsForIncoming incoming.new (after_take store) }
+    ensures stands_for { (store : Incoming) → StandsForIncoming incoming.old store
+        → StandsForIncoming incoming.new (after_take store) }
     ensures formed { IsIncoming incoming.new }
     ensures uses { Uses room.old room.new 0 1 }
 {
@@ -49,12 +51,13 @@ fn give_run(incoming: &mut InStore, room: &mut Room)
 }
 
 impl Machine {
-    /// Takes an I frame by REJ: gives its packet where it is the next, and tells whether it is.
+    /// Takes an I frame by REJ: gives its packet if it is the next, and tells whether it is.
     fn receive_in_sequence(&mut self, room: &mut Room, ns: u8, packet: Packet) -> bool
         requires formed { IsLink self.old }
         requires number { ns < self.old.incoming.modulus }
         requires room { 1 ≤ told_left room.old }
-        ensures next { (t : Turn) → Shows self.old room.old t → t.now.incoming.mode ≡ Mode.Rej → result ≡ (ahead_of_vr ns t.now == 0) }
+        ensures next { (t : Turn) → Shows self.old room.old t → t.now.incoming.mode ≡ Mode.Rej → result
+            ≡ (ahead_of_vr ns t.now == 0) }
         ensures shows { (t : Turn) → Shows self.old room.old t → t.now.incoming.mode ≡ Mode.Rej
             → Shows self.new room.new (if result then give (packet ∷ []) t else t) }
         ensures uses { Uses room.old room.new 0 1 }
@@ -91,7 +94,8 @@ impl Machine {
     /// Asks by REJ for the frame that is missing, unless that was done.
     fn refuse_out_of_sequence(&mut self, room: &mut Room, flag: bool)
         requires { 1 ≤ frames_left room.old }
-        ensures shows { (t : Turn) → Shows self.old room.old t → Shows self.new room.new (refuse_out_of_sequence flag t) }
+        ensures shows { (t : Turn) → Shows self.old room.old t
+            → Shows self.new room.new (refuse_out_of_sequence flag t) }
         ensures uses { Uses room.old room.new 1 0 }
     {
         let asked = self.control.rej;
@@ -143,7 +147,7 @@ impl Machine {
         self.send_srejs(room, numbers.as_slice());
     }
 
-    /// Takes an I frame by SREJ: gives its packet where it is the next, with those that follow, or stores it and asks for
+    /// Takes an I frame by SREJ: gives its packet if it is the next, with those that follow, or stores it and asks for
     /// what is missing before it.
     fn receive_selected(&mut self, room: &mut Room, ns: u8, packet: Packet)
         requires formed { IsLink self.old }
@@ -169,7 +173,8 @@ impl Machine {
         requires number { ns < self.old.incoming.modulus }
         requires frames { self.old.incoming.window + 1 ≤ frames_left room.old }
         requires told { self.old.incoming.window ≤ told_left room.old }
-        ensures shows { (t : Turn) → Shows self.old room.old t → Shows self.new room.new (hear_info_by_srej ns flag packet t) }
+        ensures shows { (t : Turn) → Shows self.old room.old t
+            → Shows self.new room.new (hear_info_by_srej ns flag packet t) }
         ensures uses { Uses room.old room.new (self.old.incoming.window + 1) self.old.incoming.window }
     {
         self.receive_selected(room, ns, packet);

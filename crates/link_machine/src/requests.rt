@@ -42,7 +42,8 @@ impl Machine {
     /// Copies of the packets that may go out once one more waits.
     fn copies_with(&self, alloc: Global, packet: &Packet) -> Result<VecDeque<Packet>, OutOfMemory>
         requires { IsWhole self.now }
-        ensures { IfOk result (λ packets. packets.items ≡ in_window self.now.incoming.window (after_push packet.now self.now.outgoing)) }
+        ensures { IfOk result (λ packets. packets.items
+            ≡ in_window self.now.incoming.window (after_push packet.now self.now.outgoing)) }
     {
         let mut packets = self.copies_to_send(alloc, 0, false)?;
         if self.outgoing.len() < usize::from(self.incoming.window()) {

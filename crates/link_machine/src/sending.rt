@@ -52,7 +52,8 @@ impl Machine {
     /// Sends SABM, SABME, DISC, UA or DM.
     pub(crate) fn send_setup(&self, room: &mut Room, which: U, flag: bool)
         requires { 1 ≤ frames_left room.old }
-        ensures shows { (t : Turn) → Shows self.now room.old t → Shows self.now room.new (sending (SetupSent which flag) t) }
+        ensures shows { (t : Turn) → Shows self.now room.old t
+            → Shows self.now room.new (sending (SetupSent which flag) t) }
         ensures uses { Uses room.old room.new 1 0 }
     {
         let role = role_of(sets_up_or_ends(which));

@@ -5,7 +5,8 @@ ghost use Rattle.link_machine.specs.Turn.{Turn};
 ghost use Rattle.ax25_frames.specs.ControlField.{numbers};
 ghost use Rattle.link_machine.specs.Acts.{calling_frame, send_call, call, reset, release};
 ghost use Rattle.link_machine.specs.Requests.{connect};
-ghost use Rattle.link_machine.specs.Frames.{stopped_t1, stopped, call_narrow, end_call, leave, open_called, open_answered, open_again, end_by_disc, end_by_dm};
+ghost use Rattle.link_machine.specs.Frames.{stopped_t1, stopped, call_narrow, end_call, leave, open_called};
+ghost use Rattle.link_machine.specs.Frames.{open_answered, open_again, end_by_disc, end_by_dm};
 ghost use Rattle.link_machine.specs.Room.{frames_left, told_left, Uses};
 ghost use Rattle.link_machine.specs.Held.{Shows};
 ghost use Rattle.link_machine.specs.declared.room.Room.{Room as AnyRoom};
@@ -116,7 +117,8 @@ impl Machine {
     pub(crate) fn open_called(&mut self, room: &mut Room, modulus: Modulus, flag: bool)
         requires frames { 1 ≤ frames_left room.old }
         requires told { 1 ≤ told_left room.old }
-        ensures shows { (t : Turn) → Shows self.old room.old t → Shows self.new room.new (open_called (numbers modulus) flag t) }
+        ensures shows { (t : Turn) → Shows self.old room.old t
+            → Shows self.new room.new (open_called (numbers modulus) flag t) }
         ensures uses { Uses room.old room.new 1 1 }
     {
         self.begin();
@@ -142,7 +144,8 @@ impl Machine {
     pub(crate) fn open_again(&mut self, room: &mut Room, modulus: Modulus, flag: bool)
         requires frames { 1 ≤ frames_left room.old }
         requires told { 2 ≤ told_left room.old }
-        ensures shows { (t : Turn) → Shows self.old room.old t → Shows self.new room.new (open_again (numbers modulus) flag t) }
+        ensures shows { (t : Turn) → Shows self.old room.old t
+            → Shows self.new room.new (open_again (numbers modulus) flag t) }
         ensures uses { Uses room.old room.new 1 2 }
     {
         self.tell(room, Told::Ended { why: Why::Reset });

@@ -2,7 +2,8 @@
 ghost use Rattle.std.specs.Prelude.{◌≡◌, ℕ, ◌+◌, ◌≤◌, ◌<◌, Bool, IsTrue};
 ghost use Rattle.link_machine.specs.declared.state.LinkState.TheVariants.{Idle};
 ghost use Rattle.link_machine.specs.Turn.{Turn};
-ghost use Rattle.link_machine.specs.Ticks.{t2_out, call_again, poll_again, release_again, t1_out, t3_out, tick_t2, tick_t3, tick_t1, tick};
+ghost use Rattle.link_machine.specs.Ticks.{t2_out, call_again, poll_again, release_again, t1_out, t3_out, tick_t2};
+ghost use Rattle.link_machine.specs.Ticks.{tick_t3, tick_t1, tick};
 ghost use Rattle.link_machine.specs.Room.{frames_left, told_left, Uses};
 ghost use Rattle.link_machine.specs.Held.{IsLink, IsWhole, Shows, Makes};
 ghost use Rattle.link_machine.specs.Timers.{outs, out_of, quits};
@@ -78,7 +79,8 @@ impl Machine {
     /// T2 runs out: what is due is sent.
     fn t2_out(&mut self, room: &mut Room)
         requires { 1 ≤ frames_left room.old }
-        ensures shows { (t : Turn) → Shows self.old room.old t → Shows self.new room.new (t2_out t.now.control.state t) }
+        ensures shows { (t : Turn) → Shows self.old room.old t
+            → Shows self.new room.new (t2_out t.now.control.state t) }
         ensures uses { Uses room.old room.new 1 0 }
         ensures quit { quits self.new.control ≤ quits self.old.control }
         ensures others { (self.new.control.t1 ≡ self.old.control.t1) × (self.new.control.t3 ≡ self.old.control.t3) }
@@ -93,7 +95,8 @@ impl Machine {
         requires frames { out_of self.old.control.t1 + out_of self.old.control.t3 ≤ frames_left room.old }
         requires told { out_of self.old.control.t1 + out_of self.old.control.t3 ≤ told_left room.old }
         ensures shows { (t : Turn) → Shows self.old room.old t → Shows self.new room.new (tick_t1 waiting t) }
-        ensures uses { let most = out_of self.old.control.t1 + out_of self.old.control.t3 in Uses room.old room.new most most }
+        ensures uses { let most = out_of self.old.control.t1 + out_of self.old.control.t3
+            in Uses room.old room.new most most }
         ensures quit { quits self.new.control ≤ quits self.old.control }
     {
         let Some(left) = self.control.t1 else {
@@ -114,7 +117,8 @@ impl Machine {
     fn t1_out(&mut self, room: &mut Room)
         requires frames { 1 ≤ frames_left room.old }
         requires told { 1 ≤ told_left room.old }
-        ensures shows { (t : Turn) → Shows self.old room.old t → Shows self.new room.new (t1_out t.now.control.state t) }
+        ensures shows { (t : Turn) → Shows self.old room.old t
+            → Shows self.new room.new (t1_out t.now.control.state t) }
         ensures uses { Uses room.old room.new 1 1 }
         ensures quit { quits self.new.control ≤ quits self.old.control }
     {
@@ -193,7 +197,8 @@ impl Machine {
     /// T3 runs out: a side that was silent is polled.
     fn t3_out(&mut self, room: &mut Room)
         requires { 1 ≤ frames_left room.old }
-        ensures shows { (t : Turn) → Shows self.old room.old t → Shows self.new room.new (t3_out t.now.control.state t) }
+        ensures shows { (t : Turn) → Shows self.old room.old t
+            → Shows self.new room.new (t3_out t.now.control.state t) }
         ensures uses { Uses room.old room.new 1 0 }
         ensures quit { quits self.new.control ≤ quits self.old.control }
     {

@@ -96,11 +96,3 @@ far_formed event on_ask near_old near far_old far done h k steps same towards = 
       (All-append CanFly far_old.towards.items (map (flying on_ask) done.frames) k.frames
       (frames_written event on_ask near_old.link near.link done h.link steps));
 }
-
--- a side with the same link and the same frames
-pub same_side : (old new : HeldSide) → IsSide old → new.link ≡ old.link → new.towards.items ≡ old.towards.items →
-    IsSide new
-same_side old new h link towards = record {
-  link = subst IsRunning (sym link) h.link;
-  frames = subst (All CanFly) (sym towards) h.frames;
-}

@@ -184,7 +184,7 @@ hear_info_by_rej_keeps ns flag packet = λ t low.
     (either (ahead_of_vr ns t.now == 0) t (take_in_sequence flag packet t) (refuse_out_of_sequence flag t)
     (take_in_sequence_keeps flag packet t low) (refuse_out_of_sequence_keeps flag t low))
 
--- a packet is stored only where it is in the window
+-- a packet is stored only if it is in the window
 store_and_ask : (ahead : ℕ) (packet : Packet) (b full : Bool) (t : Turn) → IsCounting t.now
     → GoesOn t (if b && full then in_order (changing (stored ahead packet) ∷ ask ahead ∷ []) t else t)
 store_and_ask ahead packet true true t low =

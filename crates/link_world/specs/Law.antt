@@ -16,7 +16,7 @@ use Rattle.link_world.specs.Quiet.{IsQuietRun}
 use Rattle.link_world.specs.Windows.{WindowsFit}
 use Rattle.link_world.specs.Origin.{GotInOrder}
 
--- an I or S frame has an N(R) that is valid where it is heard
+-- an I or S frame has an N(R) that is valid when it is heard
 abbrev pub names_valid : Machine → Kind → Bool
 names_valid m (Info ns nr flag pid octets) = is_valid nr m
 names_valid m (Super which nr flag) = is_valid nr m

@@ -40,7 +40,7 @@ read_narrow (Setup which flag) = Some (Setup which flag)
 read_narrow (Ui flag pid octets) = Some (Ui flag pid octets)
 read_narrow (Other which flag octets) = Some (Other which flag octets)
 
--- what a frame is read as, where it is written in the first modulus and read in the second
+-- what a frame is read as, if it is written in the first modulus and read in the second
 abbrev pub kind_read : (written read : Modulus) → Kind → Option Kind
 kind_read Eight Eight kind = Some kind
 kind_read Eight OneTwentyEight kind = read_wide kind

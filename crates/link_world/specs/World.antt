@@ -49,7 +49,7 @@ end_of (Tick end waiting) = end
 end_of (Hear end) = end
 end_of (Lose end index) = end
 
--- a frame as a link in a modulus reads it, where it does not refuse it
+-- a frame as a link in a modulus reads it, if it does not refuse it
 abbrev pub read_in : ℕ → Tagged → Option Frame
 read_in modulus f = frame_read (modulus_named f.modulus) (modulus_named modulus) f.frame
 

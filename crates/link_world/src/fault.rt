@@ -16,8 +16,8 @@ pub enum WorldFault {
     /// The link refuses the request, for another cause than memory.
     #[error("refused by the link: {0}")]
     Link(LinkFault),
-    /// SABM, SABME or DISC would be sent while an earlier one of that end, or an answer to one, is in flight. The world has
-    /// stopped: every later event is refused so.
+    /// SABM, SABME or DISC would be sent while an earlier one of that end, or an answer to one, is in flight. The world
+    /// has stopped: every later event is refused so.
     #[error("event {index} enters a channel that is not quiet")]
     NotQuiet {
         /// The number of the event, all calls counted from 1.

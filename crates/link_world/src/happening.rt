@@ -4,7 +4,8 @@ ghost use Rattle.link_world.specs.declared.event.Event.TheVariants.{Hear, Lose};
 ghost use Rattle.link_world.specs.declared.end.End.{End as AnyEnd};
 ghost use Rattle.link_world.specs.World.{World as State, end_of};
 ghost use Rattle.link_world.specs.Faults.{is_there};
-ghost use Rattle.link_world.specs.Held.{event_of, side_at, IsSide, AreSides, StandForBoth, MadeStep, IsRefusal, IsKept, MadeStepOf, IsRefusalOf, Flew, Stayed, asking_frames};
+ghost use Rattle.link_world.specs.Held.{event_of, side_at, IsSide, AreSides, StandForBoth, MadeStep, IsRefusal, IsKept};
+ghost use Rattle.link_world.specs.Held.{MadeStepOf, IsRefusalOf, Flew, Stayed, asking_frames};
 
 use crate::end::End;
 use crate::event::Event;
@@ -65,7 +66,8 @@ fn happen_near(
     }
 }
 
-/// Lets the end's link take a request or a tick. A copy takes it, and becomes the link once its frames are on their way.
+/// Lets the end's link take a request or a tick. A copy takes it, and becomes the link once its frames are on their
+/// way.
 fn take(
     near: &mut Side,
     far: &mut Side,
@@ -110,8 +112,8 @@ fn lose(
     Ok(Vec::new(alloc))
 }
 
-/// Lets the end hear the frame at the front, as its link reads it; one that it refuses is passed over. A copy of the link
-/// hears it, and becomes the link once its frames are on their way.
+/// Lets the end hear the frame at the front, as its link reads it; one that it refuses is passed over. A copy of the
+/// link hears it, and becomes the link once its frames are on their way.
 fn hear(
     alloc: Global,
     near: &mut Side,
@@ -142,8 +144,8 @@ fn hear(
     Ok(told)
 }
 
-/// Sends what a link sent on its way to `far`, if `heard` of the frames towards `near` were heard. A SABM, SABME or DISC
-/// is refused unless it is alone.
+/// Sends what a link sent on its way to `far`, if `heard` of the frames towards `near` were heard. A SABM, SABME or
+/// DISC is refused unless it is alone.
 fn deliver(
     near: &Side,
     far: &mut Side,

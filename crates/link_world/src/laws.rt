@@ -14,19 +14,20 @@ pub fn tags_do_not_matter()
     ensures { (w : World) (event : Event) → untagged (step w event) ≡ untagged_step (untagged w) event }
 {}
 
-/// The law of two links. In every run of events from a new world whose windows fit each other, in which each SABM and DISC
-/// enters a quiet channel and an idle end hears a SABM only when no SABM or DISC of its own is in flight: what each set-up
-/// of an end got is, packet for packet and in order, a prefix of what the other end was given in one set-up of its own, its
-/// origin; origins rise strictly; a set-up acts on frames of one set-up alone; and no link that is up hears an invalid N(R).
-/// So nothing is made up, doubled or put in another order, whatever is lost. That anything arrives is not said.
+/// The law of two links. In every run of events from a new world whose windows fit each other, in which each SABM and
+/// DISC enters a quiet channel and an idle end hears a SABM only when no SABM or DISC of its own is in flight: what
+/// each set-up of an end got is, packet for packet and in order, a prefix of what the other end was given in one set-up
+/// of its own, its origin; origins rise strictly; a set-up acts on frames of one set-up alone; and no link that is up
+/// hears an invalid N(R). So nothing is made up, doubled or put in another order, whatever is lost. That anything
+/// arrives is not said.
 pub fn prefix_law()
     ensures { PrefixLaw }
 {}
 
-/// The same law of two links that come and go, as two stations have them: while an end is idle its link may be made anew on
-/// any path, and any of the frames that an event sends may be lost as they are sent. Each SABM and DISC still has to enter
-/// a quiet channel, also one that is then lost. If nothing but events happens, the run is the run of the world, and it is
-/// quiet if that is.
+/// The same law of two links that come and go, as two stations have them: while an end is idle its link may be made
+/// anew on any path, and any of the frames that an event sends may be lost as they are sent. Each SABM and DISC still
+/// has to enter a quiet channel, also one that is then lost. If nothing but events happens, the run is the run of the
+/// world, and it is quiet if that is.
 pub fn changes_law()
     ensures law { ChangesLaw }
     ensures run_of_events { (w : World) (events : List Event) → run_changes w (map Happens events) ≡ run w events }

@@ -1,5 +1,6 @@
 //! An end's link with the frames in flight towards it.
-ghost use Rattle.std.specs.Prelude.{◌≡◌, ℕ, ◌+◌, ◌≤◌, ◌↔◌, ◌++◌, [], ◌⊎◌, true, false, map, drop, length, IfOk, IfErr, OnOk, OnErr};
+ghost use Rattle.std.specs.Prelude.{◌≡◌, ℕ, ◌+◌, ◌≤◌, ◌↔◌, ◌++◌, [], ◌⊎◌, true, false, map, drop, length, IfOk, IfErr};
+ghost use Rattle.std.specs.Prelude.{OnOk, OnErr};
 ghost use Rattle.std.specs.Result.{IsErrOf};
 ghost use Rattle.std.specs.VecDeque.{deque_len, deque_capacity};
 ghost use Rattle.link_machine.specs.Params.{IsRefusedWindow};

@@ -1,5 +1,6 @@
 //! Two links and the frames in flight between them.
-ghost use Rattle.std.specs.Prelude.{◌≡◌, ℕ, ◌+◌, ◌-◌, ◌^◌, ◌⊎◌, ◌↔◌, ◌≤◌, min, length, false, Ok, Err, Some, None, IfOk, IfErr, OnOk, OnErr};
+ghost use Rattle.std.specs.Prelude.{◌≡◌, ℕ, ◌+◌, ◌-◌, ◌^◌, ◌⊎◌, ◌↔◌, ◌≤◌, min, length, false, Ok, Err, Some, None};
+ghost use Rattle.std.specs.Prelude.{IfOk, IfErr, OnOk, OnErr};
 ghost use Rattle.std.specs.Result.{IsErrOf};
 ghost use Rattle.link_machine.specs.Params.{HasWindows, IsRefusedWindow};
 ghost use Rattle.link_world.specs.Held.{stop_of};
@@ -44,7 +45,7 @@ impl World {
     ghost use Rattle.link_world.specs.StandsFor.{StandsFor};
     ghost use Rattle.link_world.specs.declared.fault.WorldFault.{WorldFault};
 
-    /// Two idle links, and nothing in flight. Refused where a window is 0, over 7 with REJ or over 4 with SREJ (AX.25
+    /// Two idle links, and nothing in flight. Refused if a window is 0, over 7 with REJ or over 4 with SREJ (AX.25
     /// 2.2 section 6.4); that of A is told first.
     pub fn new(alloc: Global, a: Params, b: Params) -> Result<World, NewFault>
         ensures stands_for { IfOk result (λ world. StandsFor world (first_world a b)) }

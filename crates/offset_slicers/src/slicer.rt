@@ -7,8 +7,8 @@ use crate::decision::decide;
 use nrzi_bits::NrziIn;
 use std::marker::Model;
 
-/// The bits of one offset in a stretch of samples, the first of which begins at position 0. It stands for all samples of
-/// the stretch so far, keeps those of the window under way alone, and gives one bit for each whole window.
+/// The bits of one offset in a stretch of samples, the first of which begins at position 0. It stands for all samples
+/// of the stretch so far, keeps those of the window under way alone, and gives one bit for each whole window.
 #[derive(Debug, Drop)]
 pub struct Slicer {
     offset: u64,
@@ -73,8 +73,8 @@ impl Slicer {
         Some(self.line.step(decide(&self.window)))
     }
 
-    /// Begins a new stretch at `to`, as if no sample had come before: the line stands at mark, and the next window is the
-    /// first of this offset that begins at `to` or later.
+    /// Begins a new stretch at `to`, as if no sample had come before: the line stands at mark, and the next window is
+    /// the first of this offset that begins at `to` or later.
     pub fn skip(&mut self, to: u64)
         requires { (self.old.position ≤ to) × (to ≤ 2 ^ 48) }
         ensures stands_for { StandsFor self.new to [] }

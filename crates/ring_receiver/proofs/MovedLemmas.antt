@@ -15,11 +15,6 @@ pub record HasMoved (begin : ℕ) (before found all items left : List Candidate)
   pub parts : items ++ left ≡ all
   pub counted : length left ≡ count
 
-pub moved_none : (begin : ℕ) (before all left : List Candidate) (count : ℕ) → left ≡ all → length left ≡ count
-    → HasMoved begin before before all [] left count
-moved_none begin before all left count is counted =
-    record { is = sym (append-nil before); parts = is; counted = counted }
-
 pub moved_more : (begin : ℕ) (before found found' all items left rest : List Candidate) (count less : ℕ)
     (item : Candidate) → HasMoved begin before found all items left count → left ≡ item ∷ rest → less + 1 ≡ count
     → found' ≡ found ++ moved begin item ∷ [] → HasMoved begin before found' all (items ++ item ∷ []) rest less

@@ -304,8 +304,3 @@ marks_added old added was position many step forward lane low most =
     ∙ get_or-append-add (positions_of_bank old) (replicate 15 mark) (lane - 8) 0
     ∙ get_or-replicate 15 (lane - 8) mark 0 (omega arith) in
     omega arith
-
--- the marks of the eight lanes alone
-pub marks_alone : (old : HeldRingBank) (was : HeldMerger) → length (readers_of_bank old) ≡ 8
-    → AreInStep old None was → length was.marks ≡ 8
-marks_alone old was many step = ap length step.marks ∙ length-map (readers_of_bank old) position_of ∙ many

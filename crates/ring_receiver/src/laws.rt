@@ -10,7 +10,8 @@ ghost use Rattle.ring_receiver.specs.HeardByAll.{AreDueBy};
 /// all the rest once the ring has ended.
 pub fn eight_lanes_alone()
     ensures merged { (before now : List (List Got)) (items : List Candidate)
-        → AreDueBy false false before now items ↔ AreMergedOnRing (least_position before) (least_position now) now items }
+        → AreDueBy false false before now items
+        ↔ AreMergedOnRing (least_position before) (least_position now) now items }
     ensures rest { (before now : List (List Got)) (items : List Candidate)
         → AreDueBy false true before now items ↔ AreRestOnRing (least_position before) now items }
 {}

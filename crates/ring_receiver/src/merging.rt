@@ -1,6 +1,7 @@
 //! From what all lanes bring turn by turn to the items that are due.
 
-ghost use Rattle.std.specs.Prelude.{◌≡◌, ℕ, ◌-◌, ◌^◌, ◌<◌, ◌≤◌, List, ◌++◌, length, replicate, slice_index, true, false, IfOk, OnOk};
+ghost use Rattle.std.specs.Prelude.{◌≡◌, ℕ, ◌-◌, ◌^◌, ◌<◌, ◌≤◌, List, ◌++◌, length, replicate, slice_index, true};
+ghost use Rattle.std.specs.Prelude.{false, IfOk, OnOk};
 ghost use Rattle.std.specs.List.{All};
 ghost use Rattle.sample_ring.specs.declared.got.Got.{Got};
 ghost use Rattle.frame_merge.specs.declared.candidate.Candidate.{Candidate};

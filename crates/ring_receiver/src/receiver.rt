@@ -51,7 +51,8 @@ impl Model for RingReceiver {
 }
 
 impl RingReceiver {
-    ghost use Rattle.std.specs.Prelude.{ℕ, ◌≤◌, ◌↔◌, [], length, replicate, true, false, IfOk, OnOk, OnErr, IsErr, IsTrue};
+    ghost use Rattle.std.specs.Prelude.{ℕ, ◌≤◌, ◌↔◌, [], length, replicate, true, false, IfOk, OnOk, OnErr, IsErr};
+    ghost use Rattle.std.specs.Prelude.{IsTrue};
     ghost use Rattle.std.specs.List.{All};
     ghost use Rattle.hdlc_framer.specs.FrameLength.{HasFrameLength};
     ghost use Rattle.sample_ring.specs.Ends.{ring_id, ring_len, reader_ring, IsNew};

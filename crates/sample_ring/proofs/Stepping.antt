@@ -70,7 +70,8 @@ look len slots id me i lives calm place s r deep at small =
     let room : length r.published < 2 ^ 48 - 1 = r.room in
     let tells : TellsCell len r.published (v.track.at % len) word =
     subst (λ (j : ℕ). TellsCell len r.published j word) place (r.cells i (omega arith)) in
-    let found : Finds len r.published v.track.at word = finds len r.published v.track.at word r.positive within tells in (
+    let found : Finds len r.published v.track.at word
+    = finds len r.published v.track.at word r.positive within tells in (
       looked_view v word,
       keeps,
       tt,

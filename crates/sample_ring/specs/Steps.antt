@@ -16,8 +16,7 @@ abbrev pub ended : Step (Unit {0}) → Me (Unit {0}) View → ℕ → Me (Unit {
 ended step me word after = after ≡ (record me.0 { ended = true }, me.1)
 
 -- What a reader may reckon with after a load of its cell: the position has room, a cell that was overwritten is at
--- least a
--- whole ring ahead, and in an empty one no more was published than the reader's position.
+-- least a whole ring ahead, and in an empty one no more was published than the reader's position.
 pub record Tells (v : View) (cell : ℕ) : Type 0 where
   pub room : v.track.at < 2 ^ 48 - 1
   pub overwritten : v.track.at + 1 < lap_of cell → v.track.at + v.len < lap_of cell

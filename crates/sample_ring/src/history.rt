@@ -21,7 +21,8 @@ pub struct History {
 }
 
 impl History {
-    ghost use Rattle.sample_ring.specs.Ends.{ring_id, ring_len, history_ring, reader_ring, record_of, listed, records_of};
+    ghost use Rattle.sample_ring.specs.Ends.{ring_id, ring_len, history_ring, reader_ring, record_of, listed};
+    ghost use Rattle.sample_ring.specs.Ends.{records_of};
     ghost use Rattle.sample_ring.specs.Record.{StandsIn};
 
     /// How many samples were published.

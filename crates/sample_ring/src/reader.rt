@@ -22,7 +22,8 @@ pub struct Reader {
 }
 
 impl Reader {
-    ghost use Rattle.sample_ring.specs.Ends.{ring_id, ring_len, reader_ring, note_ring, position_of, known_by, reads_of, count_of, AddsRead, GoesForward};
+    ghost use Rattle.sample_ring.specs.Ends.{ring_id, ring_len, reader_ring, note_ring, position_of, known_by};
+    ghost use Rattle.sample_ring.specs.Ends.{reads_of, count_of, AddsRead, GoesForward};
     ghost use Rattle.sample_ring.specs.Record.{next};
 
     /// Reads at the next position, by one load of its cell and, if that is not yet written, one of the end word.

@@ -43,7 +43,8 @@ pub struct Ring {
 }
 
 impl Ring {
-    ghost use Rattle.sample_ring.specs.Ends.{ring_id, ring_len, writer_ring, done_ring, reader_ring, published_by, all_published, record_of, listed, records_of, IsNew};
+    ghost use Rattle.sample_ring.specs.Ends.{ring_id, ring_len, writer_ring, done_ring, reader_ring, published_by};
+    ghost use Rattle.sample_ring.specs.Ends.{all_published, record_of, listed, records_of, IsNew};
     ghost use Rattle.sample_ring.specs.Record.{StandsIn};
 
     /// A ring of `len` cells with nothing published, its writer, and its readers at position 0.
@@ -53,10 +54,12 @@ impl Ring {
         readers: u8,
     ) -> Result<(Ring, Writer, Vec<Reader>), RingFault>
         ensures bad_len { (n : ℕ) → IsErrOf result (RingFault.BadLen n) ↔ ((n ≡ len) × ((len ≡ 0) ⊎ (1048576 < len))) }
-        ensures bad_readers { (n : ℕ) → IsErrOf result (RingFault.BadReaders n) ↔ ((n ≡ readers) × (0 < len) × (len ≤ 1048576) × ((readers ≡ 0) ⊎ (64 < readers))) }
+        ensures bad_readers { (n : ℕ) → IsErrOf result (RingFault.BadReaders n)
+            ↔ ((n ≡ readers) × (0 < len) × (len ≤ 1048576) × ((readers ≡ 0) ⊎ (64 < readers))) }
         ensures len { IfOk result (λ made. ring_len made.0 ≡ len) }
         ensures writer { IfOk result (λ made. (writer_ring made.1 ≡ ring_id made.0) × (published_by made.1 ≡ [])) }
-        ensures readers { IfOk result (λ made. (length made.2.items ≡ readers) × All (λ reader. (reader_ring reader ≡ ring_id made.0) × IsNew reader) made.2.items) }
+        ensures readers { IfOk result (λ made. (length made.2.items ≡ readers)
+            × All (λ reader. (reader_ring reader ≡ ring_id made.0) × IsNew reader) made.2.items) }
     {
         if len == 0 || len > MOST_CELLS {
             return Err(RingFault::BadLen { len });
@@ -79,7 +82,8 @@ impl Ring {
         requires { (0 < len) × (len ≤ 1048576) }
         ensures len { IfOk result (λ made. ring_len made.0 ≡ len) }
         ensures writer { IfOk result (λ made. (writer_ring made.1 ≡ ring_id made.0) × (published_by made.1 ≡ [])) }
-        ensures readers { IfOk result (λ made. (length made.2.items ≡ readers) × All (λ reader. (reader_ring reader ≡ ring_id made.0) × IsNew reader) made.2.items) }
+        ensures readers { IfOk result (λ made. (length made.2.items ≡ readers)
+            × All (λ reader. (reader_ring reader ≡ ring_id made.0) × IsNew reader) made.2.items) }
     {
         let words = vec![in alloc; 0; len + 1]?;
         let (table, seat) = Table::of_words(alloc, words.as_slice(), &len)?;
@@ -89,8 +93,8 @@ impl Ring {
         Ok((ring, writer, ends))
     }
 
-    /// Takes the ring apart, once its writer has ended. The history has the whole list that was published, and the record
-    /// of each reader that is handed in, in their order; each of these records stands in the list.
+    /// Takes the ring apart, once its writer has ended. The history has the whole list that was published, and the
+    /// record of each reader that is handed in, in their order; each of these records stands in the list.
     pub fn close(self, done: WriterDone, readers: Vec<Reader>) -> History
         requires done { done_ring done ≡ ring_id self }
         requires readers { All (λ reader. reader_ring reader ≡ ring_id self) readers.items }

@@ -1,5 +1,6 @@
 //! The writer: the one end of a ring that publishes.
-ghost use Rattle.std.specs.Prelude.{◌≡◌, ℕ, ◌+◌, ◌-◌, ◌^◌, ◌<◌, ◌↔◌, true, false, [], ◌∷◌, ◌++◌, length, OnOk, OnErr, IfOk, IsErr};
+ghost use Rattle.std.specs.Prelude.{◌≡◌, ℕ, ◌+◌, ◌-◌, ◌^◌, ◌<◌, ◌↔◌, true, false, [], ◌∷◌, ◌++◌, length, OnOk, OnErr};
+ghost use Rattle.std.specs.Prelude.{IfOk, IsErr};
 ghost use Rattle.std.specs.List.{All};
 
 use crate::cell::word_at;
@@ -50,7 +51,8 @@ pub struct WriterDone {
 pub struct RingEnd;
 
 impl Writer {
-    ghost use Rattle.sample_ring.specs.Ends.{ring_id, writer_ring, done_ring, note_ring, reader_ring, published_by, all_published, count_of, IsNew};
+    ghost use Rattle.sample_ring.specs.Ends.{ring_id, writer_ring, done_ring, note_ring, reader_ring, published_by};
+    ghost use Rattle.sample_ring.specs.Ends.{all_published, count_of, IsNew};
 
     /// Appends one sample, by one store. It never waits. After a refusal nothing has changed.
     pub fn publish(&mut self, ring: &Ring, sample: i16) -> Result<(), RingEnd>
@@ -102,7 +104,8 @@ impl Writer {
     ) -> Result<Vec<Reader>, AllocError>
         requires ring { writer_ring self.old ≡ ring_id ring.now }
         requires nothing { published_by self.old ≡ [] }
-        ensures readers { IfOk result (λ ends. (length ends.items ≡ count) × All (λ reader. (reader_ring reader ≡ ring_id ring.now) × IsNew reader) ends.items) }
+        ensures readers { IfOk result (λ ends. (length ends.items ≡ count)
+            × All (λ reader. (reader_ring reader ≡ ring_id ring.now) × IsNew reader) ends.items) }
         ensures ring { writer_ring self.new ≡ writer_ring self.old }
         ensures same { published_by self.new ≡ [] }
     {

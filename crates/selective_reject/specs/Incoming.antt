@@ -23,7 +23,7 @@ abbrev pub empty_incoming : ℕ → ℕ → Mode → Incoming
 empty_incoming modulus window mode =
     record { modulus = modulus; window = window; mode = mode; vr = 0; places = replicate window empty_place }
 
--- what becomes of a packet that is so far ahead of vr, where its place is full or not
+-- what becomes of a packet that is so far ahead of vr, whether its place is full or not
 abbrev pub taking_by : Mode → ℕ → ℕ → Bool → Took
 taking_by Rej window distance full = if distance == 0 then (if full then Again else Next) else NotNext
 taking_by Srej window distance full =
@@ -52,7 +52,7 @@ took store ns = taking store (ahead store.modulus store.vr ns)
 abbrev pub after_accept : Incoming → ℕ → Packet → Incoming
 after_accept store ns packet = after_taking store (ahead store.modulus store.vr ns) packet
 
--- the next packet in sequence, where it is there; its place goes, and one further ahead comes
+-- the next packet in sequence, if it is there; its place goes, and one further ahead comes
 abbrev pub taken : Incoming → Option Packet
 taken store = packet_at store.places 0
 
@@ -61,7 +61,7 @@ after_take store =
     if is_full store.places 0 then record store { vr = store.vr + 1; places = drop 1 store.places ++ empty_place ∷ [] }
     else store
 
--- how many places from vr on stand before the number: none where it is not in the window
+-- how many places from vr on stand before the number: none if it is not in the window
 abbrev pub before_number : Incoming → ℕ → ℕ
 before_number store ns =
     let distance = ahead store.modulus store.vr ns in if nat_lt distance store.window then distance else 0

@@ -4,7 +4,9 @@ ghost use Rattle.std.specs.Prelude.{◌≡◌, ℕ, ◌+◌, ◌%◌, ◌<◌, �
 ghost use Rattle.std.specs.Result.{IsErrOf};
 ghost use Rattle.selective_reject.specs.Numbers.{IsModulus, ahead};
 ghost use Rattle.selective_reject.specs.Window.{IsWindow, IsBadWindow, AreFitting};
-ghost use Rattle.selective_reject.specs.Incoming.{Incoming, IsIncoming, StandsForIncoming, empty_incoming, reduced_incoming, took, taking, keeps, after_accept, taken, after_take, before_number, numbers_to_ask, after_ask};
+ghost use Rattle.selective_reject.specs.Incoming.{Incoming, IsIncoming, StandsForIncoming, empty_incoming};
+ghost use Rattle.selective_reject.specs.Incoming.{reduced_incoming, took, taking, keeps, after_accept, taken};
+ghost use Rattle.selective_reject.specs.Incoming.{after_take, before_number, numbers_to_ask, after_ask};
 ghost use Rattle.selective_reject.specs.TrueNumbers.{IsInReach, took_truly, after_accept_truly};
 
 use crate::number::ahead;
@@ -77,8 +79,8 @@ impl Model for InStore {
 }
 
 impl InStore {
-    /// An empty store, with V(R) 0. The places of every window are taken here, so [`InStore::begin`] finds its own. Refuses
-    /// the windows that [`check_window`] refuses, and else fails only for want of memory.
+    /// An empty store, with V(R) 0. The places of every window are taken here, so [`InStore::begin`] finds its own.
+    /// Refuses the windows that [`check_window`] refuses, and else fails only for want of memory.
     pub fn new(alloc: Global, modulus: u8, window: u8, mode: Mode) -> Result<InStore, StoreFault>
         requires { IsModulus modulus }
         ensures empty { IfOk result (λ store. store ≡ empty_incoming modulus window mode) }
@@ -170,7 +172,7 @@ impl InStore {
         self.places.clear(window);
     }
 
-    /// The packet with number V(R), where it is there; V(R) then rises by one.
+    /// The packet with number V(R), if it is there; V(R) then rises by one.
     pub fn take(&mut self) -> Option<Packet>
         ensures packet { result ≡ taken self.old }
         ensures store { self.new ≡ reduced_incoming (after_take self.old) }
@@ -200,7 +202,7 @@ impl InStore {
         self.places.ask_first(count, self.vr, self.modulus)
     }
 
-    /// How many places from V(R) on stand before that of `ns`: none where it is not in the window.
+    /// How many places from V(R) on stand before that of `ns`: none if it is not in the window.
     fn before_number(&self, ns: u8) -> u8
         requires { ns < self.now.modulus }
         ensures count { result ≡ before_number self.now ns }

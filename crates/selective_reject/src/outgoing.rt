@@ -1,9 +1,13 @@
 //! What was given to be sent and is not acknowledged.
 
-ghost use Rattle.std.specs.Prelude.{◌≡◌, ℕ, ◌+◌, ◌-◌, ◌%◌, ◌<◌, ◌≤◌, ◌↔◌, ◌==◌, length, slice_get, nat_lt, Ok, OnOk, IfOk, IfErr, IfSome, IsErr, if◌then◌else◌};
+ghost use Rattle.std.specs.Prelude.{◌≡◌, ℕ, ◌+◌, ◌-◌, ◌%◌, ◌<◌, ◌≤◌, ◌↔◌, ◌==◌, length, slice_get, nat_lt, Ok, OnOk};
+ghost use Rattle.std.specs.Prelude.{IfOk, IfErr, IfSome, IsErr, if◌then◌else◌};
 ghost use Rattle.std.specs.Option.{option_copied};
 ghost use Rattle.selective_reject.specs.Numbers.{IsModulus};
-ghost use Rattle.selective_reject.specs.Outgoing.{Outgoing, IsOutgoing, StandsForOutgoing, empty_outgoing, reduced_outgoing, after_push, number_to_send, after_next, acknowledgement, after_acknowledge, acknowledged, back, restarted, sent_packet};
+ghost use Rattle.selective_reject.specs.Outgoing.{Outgoing, IsOutgoing, StandsForOutgoing, empty_outgoing};
+ghost use Rattle.selective_reject.specs.Outgoing.{reduced_outgoing, after_push, number_to_send, after_next};
+ghost use Rattle.selective_reject.specs.Outgoing.{acknowledgement, after_acknowledge, acknowledged, back, restarted};
+ghost use Rattle.selective_reject.specs.Outgoing.{sent_packet};
 
 use crate::number::ahead;
 use crate::packet::Packet;
@@ -188,7 +192,7 @@ impl OutStore {
         self.packets.is_empty()
     }
 
-    /// True where some packet was sent and is not acknowledged: V(A) is below the greatest V(S) so far.
+    /// True if some packet was sent and is not acknowledged: V(A) is below the greatest V(S) so far.
     pub fn is_waiting(&self) -> bool
         ensures waiting { result ≡ nat_lt self.now.va self.now.top }
         ensures stands_for { (store : Outgoing) → StandsForOutgoing self.now store

@@ -2,7 +2,8 @@
 
 ghost use Rattle.std.specs.Prelude.{◌≡◌, ◌+◌, ◌%◌, ◌<◌, ◌≤◌, true, [], ◌∷◌, ◌++◌, length, map, drop, replicate, IfOk};
 ghost use Rattle.selective_reject.specs.Numbers.{IsModulus};
-ghost use Rattle.selective_reject.specs.Places.{empty_place, filled_place, asked_place, misses, is_full, is_missing, packet_at, with_packet, with_asked, missing, asked};
+ghost use Rattle.selective_reject.specs.Places.{empty_place, filled_place, asked_place, misses, is_full, is_missing};
+ghost use Rattle.selective_reject.specs.Places.{packet_at, with_packet, with_asked, missing, asked};
 
 use crate::packet::Packet;
 use arrayvec::ArrayVec;

@@ -84,20 +84,6 @@ pub adds_none : (Of : ℕ → ℕ → Type 0) (x : List ℤ) (before : List Cand
     → AddsWhere Of x before before
 adds_none Of x before never = record { heard = []; found = sym (append-nil before); are = where_none Of x never }
 
--- the same of another kind
-pub adds_same : (A C : ℕ → ℕ → Type 0) (x : List ℤ) (before after : List Candidate) → AddsWhere A x before after
-    → ((p l : ℕ) → A p l → C p l) → ((p l : ℕ) → C p l → A p l)
-    → AddsWhere C x before after
-adds_same A C x before after a to from = record {
-  heard = a.heard;
-  found = a.found;
-  are = record {
-    each = λ k d l. let e = a.are.each k d l in (e.0, to e.0 (get_or a.heard k d).offset e.1, e.2);
-    whole = λ item place of ends. a.are.whole item place (from place item.offset of) ends;
-    apart = a.are.apart;
-  };
-}
-
 -- one frame of one lane at one place
 pub adds_one : (x : List ℤ) (place lane : ℕ) (before after : List Candidate) (item : Candidate)
     → after ≡ before ++ item ∷ [] → item.offset ≡ lane → EndsAtPlace x item place

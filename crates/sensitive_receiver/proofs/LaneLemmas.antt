@@ -42,7 +42,7 @@ lane_tones-read x lane place reads =
     (one_passes (is_read_at x lane) place true reads))
     ∙ map-append (tone_read x lane) (filter (is_read_at x lane) (range_with_len 0 place)) (place ∷ [])
 
--- where it does not
+-- if it does not
 pub lane_tones-not : (x : List ℤ) (lane place : ℕ) → is_read_at x lane place ≡ false
     → lane_tones x lane (place + 1) ≡ lane_tones x lane place
 unfolding lane_tones

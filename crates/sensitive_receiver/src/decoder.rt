@@ -1,6 +1,7 @@
 //! The decoder: samples in blocks in, each frame that some of the 23 lanes hears in them once and in order out.
 
-ghost use Rattle.std.specs.Prelude.{◌≡◌, ◌+◌, ◌<◌, ◌≤◌, ◌^◌, ℤ, List, [], ◌++◌, length, replicate, true, false, IfOk, OnOk, OnErr};
+ghost use Rattle.std.specs.Prelude.{◌≡◌, ◌+◌, ◌<◌, ◌≤◌, ◌^◌, ℤ, List, [], ◌++◌, length, replicate, true, false, IfOk};
+ghost use Rattle.std.specs.Prelude.{OnOk, OnErr};
 ghost use Rattle.std.specs.List.{All};
 ghost use Rattle.slicer_bank.specs.Candidates.{AreCandidatesBehind};
 ghost use Rattle.slicer_bank.specs.Held.{HeldBank, StandsFor as BankStandsFor};
@@ -47,7 +48,8 @@ impl Model for SensitiveDecoder {
       spent = s.progress.spent;
     } };
 
-    ghost invariant = { λ s. s.progress.spent ≡ false → s.progress.finished ≡ false → (s.bank.position ≡ s.progress.position)
+    ghost invariant = { λ s. s.progress.spent ≡ false → s.progress.finished ≡ false
+        → (s.bank.position ≡ s.progress.position)
         × (s.added.position ≡ s.progress.position) × (s.merger.marks ≡ replicate 23 (settled s.progress.position)) };
 }
 

@@ -16,9 +16,6 @@ pub record AreFresh (flags n : ℕ) (lanes : List HeldLane) : Type 0 where
   pub each : (k : ℕ) (d : HeldLane) → k < n → LaneStandsFor (get_or lanes k d) []
   pub asks : All (AsksFor flags) lanes
 
-pub fresh_none : (flags : ℕ) → AreFresh flags 0 []
-fresh_none flags = record { count = omega arith; each = λ k d l. absurd (omega arith); asks = All-nil (AsksFor flags) }
-
 pub fresh_more : (flags n : ℕ) (lanes : List HeldLane) (lane : HeldLane) → AreFresh flags n lanes
     → LaneStandsFor lane [] → AsksFor flags lane → AreFresh flags (n + 1) (lanes ++ lane ∷ [])
 fresh_more flags n lanes lane h stands asks = record {

@@ -1,5 +1,5 @@
 -- The marks of lanes set one after another.
-use Rattle.std.proofs.Common.{◌≡◌, ℕ, ◌+◌, ◌<◌, ◌≤◌, List, length, get_or, set, refl, ap, sym, ◌∙◌, arith, inl, inr}
+use Rattle.std.proofs.Common.{◌≡◌, ℕ, ◌+◌, ◌<◌, ◌≤◌, List, length, get_or, set, ap, sym, ◌∙◌, arith, inl, inr}
 use Rattle.std.proofs.Common.{get_or-set_same, get_or-set_other}
 use Rattle.std.proofs.lemmas.Bool.{cases_eq}
 use Rattle.std.proofs.lemmas.List.{length-set}
@@ -13,15 +13,6 @@ pub record HasMarked (lanes : ℕ) (initial now : Held) (positions : List ℕ) (
   pub done : (k : ℕ) → k < n → get_or now.marks k 0 ≡ get_or positions k 0
   pub rest : (k : ℕ) → n ≤ k → get_or now.marks k 0 ≡ get_or initial.marks k 0
   pub stands_for : (puts given : List Candidate) → StandsFor initial puts given → StandsFor now puts given
-
-pub has_marked_none : (lanes : ℕ) (initial : Held) (positions : List ℕ) → length initial.marks ≡ lanes
-    → HasMarked lanes initial initial positions 0
-has_marked_none lanes initial positions size = record {
-  size = size;
-  done = λ k l. absurd (omega arith);
-  rest = λ k l. refl;
-  stands_for = λ puts given h. h;
-}
 
 pub has_marked_more : (lanes : ℕ) (initial was now : Held) (positions : List ℕ) (n position : ℕ)
     → HasMarked lanes initial was positions n → n < lanes → position ≡ get_or positions n 0

@@ -1,12 +1,11 @@
 -- Candidates put into a merger, one after another.
 use Rattle.std.proofs.Common.{◌≡◌, ℕ, ◌+◌, ◌<◌, List, [], ◌∷◌, ◌++◌, length, get_or, append_assoc, sym, subst, ◌∙◌, ap}
-use Rattle.std.proofs.Common.{arith, inl, inr, refl, length-append, ℤ}
-use Rattle.std.specs.List.{All, AllPairs}
+use Rattle.std.proofs.Common.{arith, inl, inr, length-append, ℤ}
+use Rattle.std.specs.List.{AllPairs}
 use Rattle.std.specs.List.Sorted.{IsNonDecreasingBy}
 use Rattle.std.proofs.lemmas.Bool.{cases_eq}
 use Rattle.std.proofs.lemmas.List.{append-nil, nil_from_length}
 use Rattle.std.proofs.Math.Seq.{get_or-append_seam}
-use Rattle.slicer_bank.specs.Merging.{CanBePut}
 use Rattle.frame_merge.specs.declared.candidate.Candidate.{Candidate}
 use Rattle.frame_merge.specs.Held.{Held, StandsFor}
 use Rattle.frame_merge.specs.Order.{standing, in_order, IsInOrder}
@@ -19,15 +18,6 @@ pub record HasPut (initial now : Held) (all items left : List Candidate) (count 
   pub stands_for : (puts given : List Candidate) → StandsFor initial puts given → StandsFor now (puts ++ items) given
   pub parts : items ++ left ≡ all
   pub counted : length left ≡ count
-
-pub has_put_none : (initial : Held) (all left : List Candidate) (count : ℕ) → left ≡ all → length left ≡ count
-    → HasPut initial initial all [] left count
-has_put_none initial all left count is counted = record {
-  marks = refl;
-  stands_for = λ puts given h. subst (λ t. StandsFor initial t given) (sym (append-nil puts)) h;
-  parts = is;
-  counted = counted;
-}
 
 pub has_put_more : (initial was now : Held) (all items left rest : List Candidate) (count less : ℕ) (item : Candidate)
     → HasPut initial was all items left count
@@ -48,16 +38,6 @@ pub has_put_all : (initial now : Held) (all items left : List Candidate) (count 
 has_put_all initial now all items left count h none =
     let empty : left ≡ [] = nil_from_length left (h.counted ∙ none) in
     sym (append-nil items) ∙ ap (λ t. items ++ t) (sym empty) ∙ h.parts
-
--- what may be put into a merger with nothing marked
-pub next_can_be_put : (initial now : Held) (all items left rest : List Candidate) (count : ℕ) (item : Candidate)
-    → HasPut initial now all items left count → left ≡ item ∷ rest → All CanBePut all → CanBePut item
-next_can_be_put initial now all items left rest count item h is each =
-    let whole : items ++ item ∷ rest ≡ all = ap (λ t. items ++ t) (sym is) ∙ h.parts in
-    let within : length items < length all = (let l : length (items ++ item ∷ rest) ≡ length all = ap length whole in
-    let m = length-append items (item ∷ rest) in omega arith) in
-    subst CanBePut (ap (λ t. get_or t (length items) item) (sym whole) ∙ get_or-append_seam items item rest item)
-    (each (length items) item within)
 
 -- a list that strictly rises is in order
 pub rising_strictly : (items : List Candidate) → AllPairs (λ item later. standing item < standing later) items

@@ -1,8 +1,6 @@
 -- Which of eight lanes that read a ring hold a carrier.
-use Rattle.std.proofs.Common.{◌≡◌, ℕ, ◌+◌, ◌<◌, List, [], ◌∷◌, zero, suc, refl, ap, sym, ◌∙◌, arith, subst, length, inl}
-use Rattle.std.proofs.Common.{inr}
+use Rattle.std.proofs.Common.{◌≡◌, ℕ, ◌<◌, List, [], ◌∷◌, ap, sym, ◌∙◌, arith, subst, length}
 use Rattle.std.specs.Prelude.{slice_index_or}
-use Rattle.std.proofs.lemmas.Bool.{cases_lt}
 use Rattle.std.proofs.lemmas.List.{get_or-map, length-map}
 use Rattle.hdlc_framer.specs.Carrier.{HoldsCarrier}
 use Rattle.hdlc_framer.specs.Held.{flags_asked}
@@ -82,16 +80,3 @@ pub none_busy : (lanes : List RingLane) → length lanes ≡ 8 → NoneBusy lane
     → LanesListen len flags lanes → IsBusyOnRing flags (answers_by len lanes) → ⊥
 none_busy lanes eight none len flags h busy = busy_not_none lanes (some_lane lanes (omega arith))
     eight none len flags h busy
-
-pub busy_more : (lanes : List RingLane) (count : ℕ) (lane : RingLane) → NoneBusy lanes count
-    → lane ≡ slice_index_or lanes count lane → HoldsNone lane → count < length lanes → NoneBusy lanes (count + 1)
-busy_more lanes count lane none is quiet l k d lt = elim (cases_lt k count) [
-  | inl le ↦ none k d le
-  | inr ge ↦ let e : count ≡ k = omega arith in subst HoldsNone (is ∙ same lanes count lane d l
-      ∙ ap (λ i. slice_index_or lanes i d) e) quiet
-]
-  where
-    same : (xs : List RingLane) (i : ℕ) (a b : RingLane) → i < length xs → slice_index_or xs i a ≡ slice_index_or xs i b
-    same [] i a b l = absurd (omega arith)
-    same (x ∷ xs) zero a b l = refl
-    same (x ∷ xs) (suc i) a b l = same xs i a b (omega arith)

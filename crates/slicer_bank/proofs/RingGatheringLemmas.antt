@@ -11,7 +11,7 @@ use Rattle.frame_merge.specs.declared.candidate.Candidate.{Candidate}
 use Rattle.slicer_bank.specs.declared.advance.LaneGap.{LaneGap}
 use Rattle.slicer_bank.specs.declared.ring_lane.RingLane.{RingLane}
 use Rattle.slicer_bank.specs.RingJobs.{IsTaken, IsAlike, IsGathered}
-use Rattle.slicer_bank.proofs.GatheringLemmas.{Visited, visited_none, visited_here, visited_more, alike_more}
+use Rattle.slicer_bank.proofs.GatheringLemmas.{Visited, visited_here, visited_more, alike_more}
 use Rattle.slicer_bank.proofs.GatheringLemmas.{found_more, all_visited, same_list, some_of}
 
 abbrev pub found_by : RingLane → List Candidate
@@ -37,18 +37,6 @@ pub record HaveGiven (old now : List RingLane) (n : ℕ) (positions : List ℕ) 
   pub over : ended ≡ list_all ended_by (take n old)
   pub room : length positions ≡ 8
   pub stand : (k : ℕ) (d : RingLane) → k < n → get_or positions k 0 ≡ position_of (get_or old k d).reader
-
-pub given_none : (lanes : List RingLane) (positions : List ℕ) → length lanes ≡ 8 → length positions ≡ 8
-    → HaveGiven lanes lanes 0 positions [] [] true
-given_none lanes positions eight room = record {
-  visited = visited_none GaveAll lanes eight;
-  alike = λ k d l. record { reader = refl; lane = refl; ended = refl; spent = refl };
-  found = refl;
-  told = refl;
-  over = refl;
-  room = room;
-  stand = λ k d l. absurd (omega arith);
-}
 
 pub given_more : (old now : List RingLane) (n : ℕ) (positions : List ℕ) (candidates candidates' : List Candidate)
     (gaps gaps' : List LaneGap) (ended ended' : Bool) (was lane : RingLane) (position : ℕ)

@@ -1,10 +1,10 @@
 -- The last seven of samples, the windows that follow them, and the last seven of more samples.
-use Rattle.std.proofs.Common.{◌≡◌, ℕ, ◌+◌, ◌-◌, ◌*◌, ◌<◌, ◌≤◌, ℤ, pos, List, [], ◌∷◌, ◌++◌, length, get_or, take, drop}
+use Rattle.std.proofs.Common.{◌≡◌, ℕ, ◌+◌, ◌-◌, ◌*◌, ◌<◌, ◌≤◌, ℤ, pos, List, [], ◌∷◌, ◌++◌, length, take, drop}
 use Rattle.std.proofs.Common.{ap, sym, ◌∙◌, arith, append_assoc, length-append, length-drop}
 use borrow.Rule.Slice.PartMut.{put_mid}
 use Rattle.std.proofs.Math.Seq.{drop-append-add, take-add, take-append_seam}
 use Rattle.std.proofs.lemmas.Slice.{take-put_mid}
-use Rattle.std.proofs.lemmas.List.{drop-append-le, drop-drop, drop-take, take_more, take_all, length-take-le}
+use Rattle.std.proofs.lemmas.List.{drop-append-le, drop-drop, drop-take, take_all, length-take-le}
 use Rattle.std.proofs.lemmas.List.{length-replicate, length_push}
 use Rattle.offset_slicers.specs.Decision.{tone_of}
 use Rattle.offset_slicers.specs.Windows.{window_at, windows_in, tones_at}
@@ -56,29 +56,6 @@ tones_at-seven offset k x sample ends small =
     = window_is offset x sample (windows_in offset (length x)) at inside short
     ∙ ap (λ l. l ++ sample ∷ []) (sym (last_seven_whole x (omega arith))) in
     tones_at-push_one offset x sample (omega arith) ∙ ap (λ w. tones_at offset x ++ tone_of w ∷ []) window
-
--- the windows of a piece that begins with the last seven samples: each is the last seven of the samples before it, and
--- one
-pub window_of_piece : (x piece : List ℤ) (index : ℕ) (d : ℤ) → take 7 piece ≡ last_seven x → index + 8 ≤ length piece
-    → take 8 (drop index piece) ≡ last_seven (x ++ take index (drop 7 piece)) ++ get_or (drop 7 piece) index d ∷ []
-window_of_piece x piece index d first inside =
-    let rest : List ℤ = drop 7 piece in
-    let y : List ℤ = take index rest in
-    let one : List ℤ = get_or rest index d ∷ [] in
-    let n : length y ≡ index = length-take-le index rest (omega (arith, length-drop 7 piece)) in
-    let seven : length (take 7 piece) ≡ 7 = length-take-le 7 piece (omega arith) in
-    let begins : index ≤ length (take 7 piece ++ y) = omega (arith, length-append (take 7 piece) y) in
-    let sum : index + 8 ≡ 7 + (index + 1) = omega arith in
-    let last : last_seven (x ++ y) ≡ drop index (take 7 piece ++ y)
-    = last_seven-append x y ∙ ap (λ m. drop m (last_seven x ++ y)) n ∙ ap (λ l. drop index (l ++ y)) (sym first) in
-    let whole : take (index + 8) piece ≡ (take 7 piece ++ y) ++ one
-    = ap (λ m. take m piece) sum ∙ take-add 7 (index + 1) piece
-    ∙ ap (λ l. take 7 piece ++ l) (take_more rest index d (omega (arith, length-drop 7 piece)))
-    ∙ sym (append_assoc (take 7 piece) y one) in
-    sym (drop-take index 8 piece)
-    ∙ ap (drop index) whole
-    ∙ drop-append-le index (take 7 piece ++ y) one begins
-    ∙ ap (λ l. l ++ one) (sym last)
 
 -- after a block of fewer than seven samples: the end of the seven before it and the block
 pub seven_behind_short : (x block bridge : List ℤ) → take (7 + length block) bridge ≡ last_seven x ++ block

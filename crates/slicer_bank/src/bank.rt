@@ -1,6 +1,7 @@
 //! The bank of eight lanes.
 
-ghost use Rattle.std.specs.Prelude.{◌≡◌, ◌↔◌, ◌+◌, ◌<◌, ◌≤◌, ◌^◌, ℤ, List, [], ◌++◌, length, true, false, IfOk, OnOk, OnErr, IsErr, IsTrue};
+ghost use Rattle.std.specs.Prelude.{◌≡◌, ◌↔◌, ◌+◌, ◌<◌, ◌≤◌, ◌^◌, ℤ, List, [], ◌++◌, length, true, false, IfOk, OnOk};
+ghost use Rattle.std.specs.Prelude.{OnErr, IsErr, IsTrue};
 ghost use Rattle.std.specs.List.{All};
 ghost use Rattle.slicer_bank.specs.Busy.{HearsCarrier};
 ghost use Rattle.slicer_bank.specs.Held.{StandsFor};
@@ -33,7 +34,13 @@ impl Model for Bank {
 
     ghost Value = { HeldBank };
 
-    ghost view = { λ s. record { lanes = s.lanes.items; recent = s.recent; position = s.position; flags = s.flags; spent = s.spent } };
+    ghost view = { λ s. record {
+      lanes = s.lanes.items;
+      recent = s.recent;
+      position = s.position;
+      flags = s.flags;
+      spent = s.spent;
+    } };
 
     ghost invariant = { λ s. length s.lanes.items ≡ 8 };
 }
@@ -48,8 +55,8 @@ impl Bank {
         Bank::listening(alloc, 1)
     }
 
-    /// The same, but it is busy only from so many flags in a row on, 1 to 8: chance makes a single flag of noise often, and
-    /// three in a row seldom.
+    /// The same, but it is busy only from so many flags in a row on, 1 to 8: chance makes a single flag of noise often,
+    /// and three in a row seldom.
     pub fn listening(alloc: Global, flags: u8) -> Result<Bank, OutOfMemory>
         requires { (1 ≤ flags) × (flags ≤ 8) }
         ensures stands_for { IfOk result (λ bank. StandsFor bank []) }
@@ -89,8 +96,9 @@ impl Bank {
         self.settle(heard, block.len())
     }
 
-    /// Does what [`Bank::feed`] does, with the lanes on two threads: one is started beside the caller's. The gate is told
-    /// once as the job of each lane starts. Each call starts a thread, so blocks of some thousand samples pay best.
+    /// Does what [`Bank::feed`] does, with the lanes on two threads: one is started beside the caller's. The gate is
+    /// told once as the job of each lane starts. Each call starts a thread, so blocks of some thousand samples pay
+    /// best.
     pub fn feed_threads<R: Threads + Sync, G: Gate>(
         &mut self,
         rt: &R,
@@ -120,8 +128,8 @@ impl Bank {
         self.settle(heard, block.len())
     }
 
-    /// Whether another station is heard: in some lane so many flags in a row have come as the bank listens for, and since
-    /// then neither seven 1s in a row nor 10,000 bits without a flag.
+    /// Whether another station is heard: in some lane so many flags in a row have come as the bank listens for, and
+    /// since then neither seven 1s in a row nor 10,000 bits without a flag.
     pub fn busy(&self) -> bool
         ensures { (x : List ℤ) → StandsFor self.now x → (IsTrue result ↔ HearsCarrier self.now.flags x) }
     {

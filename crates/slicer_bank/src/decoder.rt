@@ -1,6 +1,7 @@
 //! The decoder: samples in blocks in, each frame that is heard in them once and in order out.
 
-ghost use Rattle.std.specs.Prelude.{◌≡◌, ◌+◌, ◌<◌, ◌≤◌, ◌^◌, ℤ, List, [], ◌++◌, length, replicate, true, false, IfOk, OnOk, OnErr};
+ghost use Rattle.std.specs.Prelude.{◌≡◌, ◌+◌, ◌<◌, ◌≤◌, ◌^◌, ℤ, List, [], ◌++◌, length, replicate, true, false, IfOk};
+ghost use Rattle.std.specs.Prelude.{OnOk, OnErr};
 ghost use Rattle.std.specs.List.{All};
 ghost use Rattle.slicer_bank.specs.Candidates.{AreCandidatesBehind};
 ghost use Rattle.slicer_bank.specs.Held.{HeldBank, StandsFor as BankStandsFor};
@@ -19,8 +20,9 @@ use std::marker::Model;
 use std::thread::Threads;
 use tnc_base::OutOfMemory;
 
-/// A [`Bank`] and a [`Merger`]: `new`, then `block` for each block of samples, then `finish`. It keeps what can still be
-/// given or repeated, and no samples but the last seven. After want of memory it is spent: no later call gives items.
+/// A [`Bank`] and a [`Merger`]: `new`, then `block` for each block of samples, then `finish`. It keeps what can still
+/// be given or repeated, and no samples but the last seven. After want of memory it is spent: no later call gives
+/// items.
 #[derive(Drop)]
 pub struct Decoder {
     alloc: Global,
@@ -35,7 +37,13 @@ impl Model for Decoder {
 
     ghost Value = { HeldDecoder };
 
-    ghost view = { λ s. record { bank = s.bank; merger = s.merger; position = s.progress.position; finished = s.progress.finished; spent = s.progress.spent } };
+    ghost view = { λ s. record {
+      bank = s.bank;
+      merger = s.merger;
+      position = s.progress.position;
+      finished = s.progress.finished;
+      spent = s.progress.spent;
+    } };
 
     ghost invariant = { λ s. s.progress.spent ≡ false → s.progress.finished ≡ false
         → (s.bank.position ≡ s.progress.position) × (s.merger.marks ≡ replicate 8 s.progress.position) };
@@ -89,8 +97,8 @@ impl Decoder {
         self.settle(found, block.len())
     }
 
-    /// Gives the items that a block of `count` samples settles, in which the bank found these candidates. The decoder is
-    /// spent until then.
+    /// Gives the items that a block of `count` samples settles, in which the bank found these candidates. The decoder
+    /// is spent until then.
     fn settle(&mut self, found: Vec<Candidate>, count: usize) -> Result<Vec<Candidate>, OutOfMemory>
         requires room { self.old.position + count < 2 ^ 48 }
         requires items { All CanBePut found.items }
@@ -99,7 +107,8 @@ impl Decoder {
         requires bank { self.old.bank.position ≡ self.old.position + count }
         ensures given { IfOk result (λ items. (before : HeldBank) (x y : List ℤ) → self.old.finished ≡ false
             → length x ≡ self.old.position → length y ≡ count
-            → (BankStandsFor before x → BankStandsFor self.old.bank (x ++ y) × AreCandidatesBehind (length x) (x ++ y) found.items)
+            → (BankStandsFor before x → BankStandsFor self.old.bank (x ++ y)
+            × AreCandidatesBehind (length x) (x ++ y) found.items)
             → HaveTaken before self.old.merger x
             → StandsFor self.new (x ++ y) × AreMergedBetween (length x) (length (x ++ y)) (x ++ y) items.items) }
         ensures position { OnOk result (self.new.position ≡ self.old.position + count) }
@@ -116,7 +125,8 @@ impl Decoder {
     pub fn finish(&mut self) -> Result<Vec<Candidate>, OutOfMemory>
         ensures rest { IfOk result (λ items. (x : List ℤ) → length x < 2 ^ 48 → StandsFor self.old x
             → AreMergedBetween (length x) (length x + 1) x items.items) }
-        ensures nothing_held { OnOk result ((x : List ℤ) → length x < 2 ^ 48 → StandsFor self.old x → length self.new.merger.items ≡ 0) }
+        ensures nothing_held { OnOk result ((x : List ℤ) → length x < 2 ^ 48 → StandsFor self.old x
+            → length self.new.merger.items ≡ 0) }
         ensures progress { Finishes (progress self.old) (progress self.new) result }
     {
         self.progress.finish(self.alloc, &mut self.merger)

@@ -78,10 +78,12 @@ fn hear_in_turn(alloc: Global, lanes: &mut [Lane], recent: &[i16; 7], position: 
     requires room { position + length block.now < 2 ^ 48 }
     ensures lanes { length lanes.new ≡ 8 }
     ensures heard { (offset : ℕ) (d : _) → offset < 8
-        → HearsAlone offset position recent.now block.now (slice_index_or lanes.old offset d) (slice_index_or lanes.new offset d) }
+        → HearsAlone offset position recent.now block.now (slice_index_or lanes.old offset d)
+        (slice_index_or lanes.new offset d) }
     ensures bounds { LanesKeepFit lanes.new }
     ensures asks { (offset : ℕ) (d : _) → offset < 8
-        → flags_asked (slice_index_or lanes.new offset d).deframer ≡ flags_asked (slice_index_or lanes.old offset d).deframer }
+        → flags_asked (slice_index_or lanes.new offset d).deframer
+        ≡ flags_asked (slice_index_or lanes.old offset d).deframer }
 {
     for offset in 0..8u8 {
         let lane = &mut lanes[usize::from(offset)];
@@ -103,10 +105,12 @@ fn hear_on_threads<R: Threads + Sync, G: Gate>(
     requires room { position + length block.now < 2 ^ 48 }
     ensures lanes { length lanes.new ≡ 8 }
     ensures heard { (offset : ℕ) (d : _) → offset < 8
-        → HearsAlone offset position recent.now block.now (slice_index_or lanes.old offset d) (slice_index_or lanes.new offset d) }
+        → HearsAlone offset position recent.now block.now (slice_index_or lanes.old offset d)
+        (slice_index_or lanes.new offset d) }
     ensures bounds { LanesKeepFit lanes.new }
     ensures asks { (offset : ℕ) (d : _) → offset < 8
-        → flags_asked (slice_index_or lanes.new offset d).deframer ≡ flags_asked (slice_index_or lanes.old offset d).deframer }
+        → flags_asked (slice_index_or lanes.new offset d).deframer
+        ≡ flags_asked (slice_index_or lanes.old offset d).deframer }
 {
     thread::for_each_mut(
         rt,
@@ -125,13 +129,16 @@ fn hear_on_threads<R: Threads + Sync, G: Gate>(
     );
 }
 
-/// What the lanes heard, as one list in order. Each sample ends the window of one lane, so the ends alone say the order.
+/// What the lanes heard, as one list in order. Each sample ends the window of one lane, so the ends alone say the
+/// order.
 fn gather(alloc: Global, lanes: &mut [Lane]) -> Result<Vec<Candidate>, OutOfMemory>
     requires lanes { length lanes.old ≡ 8 }
     ensures lanes { length lanes.new ≡ 8 }
     ensures alike { OnOk result (LanesAreAlike lanes.new lanes.old) }
-    ensures kept { OnOk result ((offset : ℕ) (d : _) → offset < 8 → (items : List Candidate) × ((slice_index_or lanes.old offset d).heard ≡ Some items)) }
-    ensures found { IfOk result (λ found. (position : ℕ) (x : List ℤ) → LanesKeep position x lanes.old → AreCandidatesBehind position x found.items) }
+    ensures kept { OnOk result ((offset : ℕ) (d : _) → offset < 8 → (items : List Candidate)
+        × ((slice_index_or lanes.old offset d).heard ≡ Some items)) }
+    ensures found { IfOk result (λ found. (position : ℕ) (x : List ℤ) → LanesKeep position x lanes.old
+        → AreCandidatesBehind position x found.items) }
     ensures bounds { IfOk result (λ found. LanesKeepFit lanes.old → All CanBePut found.items) }
 {
     let mut found = Vec::new(alloc);

@@ -15,8 +15,8 @@ use frame_merge::Candidate;
 use std::alloc::Global;
 use tnc_base::OutOfMemory;
 
-/// Gives the lane of an offset, which has taken `position` samples with `recent` as the last seven, a block. What it hears
-/// in it is left in the lane.
+/// Gives the lane of an offset, which has taken `position` samples with `recent` as the last seven, a block. What it
+/// hears in it is left in the lane.
 pub(crate) fn hear_alone(
     alloc: Global,
     lane: &mut Lane,
@@ -49,7 +49,8 @@ fn hear_lane(
     ensures heard { IfOk result (λ heard. (x : List ℤ) → length x ≡ position
         → recent.now ≡ last_seven x → LaneStandsFor lane.old (tones_at offset x)
         → LaneStandsFor lane.new (tones_at offset (x ++ block.now))
-        × AreOfWindows offset (windows_in offset position) (windows_in offset (length (x ++ block.now))) (x ++ block.now) heard.items) }
+        × AreOfWindows offset (windows_in offset position) (windows_in offset (length (x ++ block.now))) (x
+        ++ block.now) heard.items) }
     ensures bounds { IfOk result (λ heard. All CanBePut heard.items) }
     ensures asks { flags_asked lane.new.deframer ≡ flags_asked lane.old.deframer }
 {
@@ -71,8 +72,8 @@ fn hear_lane(
     Ok(heard)
 }
 
-/// Gives the lane of an offset, which has taken `position` samples, its own windows of a piece that begins with the last
-/// seven of these, and adds what it hears to `found`.
+/// Gives the lane of an offset, which has taken `position` samples, its own windows of a piece that begins with the
+/// last seven of these, and adds what it hears to `found`.
 fn hear_own(
     alloc: Global,
     lane: &mut Lane,
@@ -84,7 +85,8 @@ fn hear_own(
     requires lane { offset < 8 }
     requires seven { 7 ≤ length piece.now }
     requires room { position + length piece.now < 2 ^ 49 }
-    ensures found { OnOk result (LaneHears offset position (take 7 piece.now) (drop 7 piece.now) lane.old lane.new found.old.items found.new.items) }
+    ensures found { OnOk result (LaneHears offset position (take 7 piece.now)
+        (drop 7 piece.now) lane.old lane.new found.old.items found.new.items) }
     ensures bounds { OnOk result (All CanBePut found.old.items → All CanBePut found.new.items) }
     ensures asks { flags_asked lane.new.deframer ≡ flags_asked lane.old.deframer }
 {

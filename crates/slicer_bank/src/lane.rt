@@ -22,8 +22,8 @@ use tnc_base::OutOfMemory;
 /// One lane for each offset of a bit.
 pub(crate) const LANES: u64 = 8;
 
-/// The lane of the tones of the windows of one offset. A job on a thread of its own leaves in `heard` what the lane heard,
-/// or `None` if memory ran out.
+/// The lane of the tones of the windows of one offset. A job on a thread of its own leaves in `heard` what the lane
+/// heard, or `None` if memory ran out.
 #[derive(Drop)]
 pub(crate) struct Lane {
     tones: ToneLane,
@@ -36,7 +36,12 @@ impl Model for Lane {
 
     ghost Value = { HeldLane };
 
-    ghost view = { λ s. record { before = s.tones.before; deframer = s.tones.deframer; heard = option_map (λ v. v.items) s.heard } };
+    ghost view = { λ s. record {
+      before = s.tones.before;
+      deframer = s.tones.deframer;
+      heard = option_map
+          (λ v. v.items) s.heard;
+    } };
 }
 
 impl Lane {

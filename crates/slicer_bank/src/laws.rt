@@ -7,18 +7,23 @@ ghost use Rattle.slicer_bank.specs.MergedItems.{AreMerged, AreMergedBetween};
 
 /// Samples have one list of candidates.
 pub fn one_list_of_candidates()
-    ensures { (x : List ℤ) (items others : List Candidate) → AreCandidates x items → AreCandidates x others → items ≡ others }
+    ensures { (x : List ℤ) (items others : List Candidate) → AreCandidates x items → AreCandidates x others → items
+        ≡ others }
 {}
 
 /// The candidates of a block that follow those of the samples before it are, with them, those of all samples.
 pub fn blocks_join()
-    ensures { (x block : List ℤ) (items found : List Candidate) → AreCandidates x items → AreCandidatesBehind (length x) (x ++ block) found → AreCandidates (x ++ block) (items ++ found) }
+    ensures { (x block : List ℤ) (items found : List Candidate) → AreCandidates x items
+        → AreCandidatesBehind (length x) (x ++ block) found → AreCandidates (x ++ block) (items ++ found) }
 {}
 
-/// The items of samples that end below a position, and the next ones, which more samples gave, are those of all samples.
+/// The items of samples that end below a position, and the next ones, which more samples gave, are those of all
+/// samples.
 pub fn items_join()
-    ensures { (from middle to : ℕ) (x y : List ℤ) (items more : List Candidate) → from ≤ middle → middle ≤ to → middle ≤ length x
-        → AreMergedBetween from middle x items → AreMergedBetween middle to (x ++ y) more → AreMergedBetween from to (x ++ y) (items ++ more) }
+    ensures { (from middle to : ℕ) (x y : List ℤ) (items more : List Candidate) → from ≤ middle → middle ≤ to
+        → middle ≤ length x
+        → AreMergedBetween from middle x items → AreMergedBetween middle to (x ++ y) more
+        → AreMergedBetween from to (x ++ y) (items ++ more) }
 {}
 
 /// The items that end up to the number of samples are all.

@@ -31,8 +31,8 @@ pub fn merge(alloc: Global, candidates: Vec<Candidate>) -> Result<Vec<Candidate>
     merger.take_ready()
 }
 
-/// Gives what a bank heard in a block of `count` samples to a merger whose lanes are marked at `position`, where the block
-/// began. Tells the items that are settled by the block.
+/// Gives what a bank heard in a block of `count` samples to a merger whose lanes are marked at `position`, where the
+/// block began. Tells the items that are settled by the block.
 pub(crate) fn merge_block(
     merger: &mut Merger,
     position: u64,
@@ -42,7 +42,8 @@ pub(crate) fn merge_block(
     requires room { position + count < 2 ^ 48 }
     requires items { All CanBePut found.items }
     requires marks { merger.old.marks ≡ replicate 8 position }
-    ensures given { IfOk result (λ ready. (before after : HeldBank) (x y : List ℤ) → length x ≡ position → length y ≡ count
+    ensures given { IfOk result (λ ready. (before after : HeldBank) (x y : List ℤ) → length x ≡ position → length y
+        ≡ count
         → (BankStandsFor before x → BankStandsFor after (x ++ y) × AreCandidatesBehind (length x) (x ++ y) found.items)
         → HaveTaken before merger.old x
         → HaveTaken after merger.new (x ++ y) × AreMergedBetween (length x) (length (x ++ y)) (x ++ y) ready.items) }
@@ -58,7 +59,8 @@ pub(crate) fn merge_block(
 pub(crate) fn put_all(merger: &mut Merger, items: Vec<Candidate>) -> Result<(), OutOfMemory>
     requires marks { length merger.old.marks ≡ 8 }
     requires items { All CanBePut items.items }
-    ensures stands_for { OnOk result ((puts given : List Candidate) → StandsFor merger.old puts given → StandsFor merger.new (puts ++ items.items) given) }
+    ensures stands_for { OnOk result ((puts given : List Candidate) → StandsFor merger.old puts given
+        → StandsFor merger.new (puts ++ items.items) given) }
     ensures marks { merger.new.marks ≡ merger.old.marks }
 {
     for item in items {

@@ -33,11 +33,13 @@ impl Model for RingBank {
 
     ghost view = { λ s. record { lanes = s.lanes.items; flags = s.flags; spent = s.spent } };
 
-    ghost invariant = { λ s. (length s.lanes.items ≡ 8) × (s.room.items ≡ []) × (8 ≤ vec_capacity s.room) × AreInPlace s.lanes.items × (s.spent ≡ false → All IsTaken s.lanes.items) };
+    ghost invariant = { λ s. (length s.lanes.items ≡ 8) × (s.room.items ≡ []) × (8 ≤ vec_capacity s.room)
+        × AreInPlace s.lanes.items × (s.spent ≡ false → All IsTaken s.lanes.items) };
 }
 
 impl RingBank {
-    ghost use Rattle.std.specs.Prelude.{◌≡◌, ℕ, ◌+◌, ◌<◌, ◌≤◌, ◌↔◌, List, [], length, map, replicate, slice_index, true, IfOk, OnOk, OnErr, IsErr, IsTrue};
+    ghost use Rattle.std.specs.Prelude.{◌≡◌, ℕ, ◌+◌, ◌<◌, ◌≤◌, ◌↔◌, List, [], length, map, replicate, slice_index};
+    ghost use Rattle.std.specs.Prelude.{true, IfOk, OnOk, OnErr, IsErr, IsTrue};
     ghost use Rattle.std.specs.List.{All};
     ghost use Rattle.sample_ring.specs.Ends.{ring_id, ring_len, reader_ring, IsNew};
     ghost use Rattle.slicer_bank.specs.Merging.{CanBePut};
@@ -82,8 +84,8 @@ impl RingBank {
         })
     }
 
-    /// Each lane reads until the ring is empty or has ended, or 9600 times. Two threads share the lanes, and `gate` is told
-    /// as the job of each lane starts.
+    /// Each lane reads until the ring is empty or has ended, or 9600 times. Two threads share the lanes, and `gate` is
+    /// told as the job of each lane starts.
     pub fn advance<R: Threads + Sync, G: Gate>(
         &mut self,
         rt: &R,
@@ -94,10 +96,12 @@ impl RingBank {
         ensures ring { All (λ reader. reader_ring reader ≡ ring_id ring.now) (readers_in self.new) }
         ensures eight { length (readers_in self.new) ≡ 8 }
         ensures grown { AreGrown (records_in self.old) (records_in self.new) }
-        ensures turn { IfOk result (λ advance. IsTurn (answers_in (ring_len ring.now) self.old) (answers_in (ring_len ring.now) self.new) advance.gaps.items advance.ended) }
+        ensures turn { IfOk result (λ advance. IsTurn (answers_in (ring_len ring.now) self.old) (answers_in
+            (ring_len ring.now) self.new) advance.gaps.items advance.ended) }
         ensures listens { OnOk result (Listens (ring_len ring.now) self.old → Listens (ring_len ring.now) self.new) }
         ensures heard { IfOk result (λ advance. Listens (ring_len ring.now) self.old
-            → BringsOnRing (answers_in (ring_len ring.now) self.old) (answers_in (ring_len ring.now) self.new) advance.positions advance.candidates.items) }
+            → BringsOnRing (answers_in (ring_len ring.now) self.old)
+            (answers_in (ring_len ring.now) self.new) advance.positions advance.candidates.items) }
         ensures positions { IfOk result (λ advance. advance.positions ≡ positions_in self.new) }
         ensures forward { OnOk result (AreForward (positions_in self.old) (positions_in self.new)) }
         ensures bounds { IfOk result (λ advance. All CanBePut advance.candidates.items) }
@@ -120,7 +124,8 @@ impl RingBank {
 
     /// Whether another station is heard: some lane holds a carrier.
     pub fn busy(&self) -> bool
-        ensures { (len : ℕ) → Listens len self.now → IsTrue result ↔ IsBusyOnRing self.now.flags (answers_in len self.now) }
+        ensures { (len : ℕ) → Listens len self.now → IsTrue result
+            ↔ IsBusyOnRing self.now.flags (answers_in len self.now) }
     {
         is_some_busy(&self.lanes)
     }

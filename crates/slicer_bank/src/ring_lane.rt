@@ -56,8 +56,8 @@ impl RingLane {
         }
     }
 
-    /// Makes a turn of reading: until the ring is empty or has ended, or as often as a lane reads in a turn. Want of memory
-    /// ends it and is kept. What an earlier turn found must be taken.
+    /// Makes a turn of reading: until the ring is empty or has ended, or as often as a lane reads in a turn. Want of
+    /// memory ends it and is kept. What an earlier turn found must be taken.
     pub(crate) fn advance(&mut self, alloc: Global, ring: &Ring)
         requires ring { reader_ring self.old.reader ≡ ring_id ring.now }
         requires taken { (self.old.found.items ≡ []) × (self.old.gaps.items ≡ []) }
@@ -112,7 +112,8 @@ impl RingLane {
         requires ring { reader_ring self.old.reader ≡ ring_id ring.now }
         ensures stays { StaysLane self.old self.new }
         ensures grown { (entry : Entry) × (reads_of self.new.reader ≡ reads_of self.old.reader ++ entry ∷ []) }
-        ensures took { IfOk result (λ on. (got : Got) × (on ≡ reads_on got) × TookAnswer (ring_len ring.now) self.old self.new got) }
+        ensures took { IfOk result (λ on. (got : Got) × (on ≡ reads_on got)
+            × TookAnswer (ring_len ring.now) self.old self.new got) }
         ensures spent { self.new.spent ≡ self.old.spent }
     {
         let got = self.reader.read(ring);

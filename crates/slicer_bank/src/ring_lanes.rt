@@ -1,6 +1,7 @@
 //! The eight lanes of a bank that reads a ring.
 
-ghost use Rattle.std.specs.Prelude.{◌≡◌, ℕ, ◌≤◌, ◌<◌, ◌↔◌, List, [], length, false, IfOk, OnOk, OnErr, IsTrue, slice_index_or, vec_capacity};
+ghost use Rattle.std.specs.Prelude.{◌≡◌, ℕ, ◌≤◌, ◌<◌, ◌↔◌, List, [], length, false, IfOk, OnOk, OnErr, IsTrue};
+ghost use Rattle.std.specs.Prelude.{slice_index_or, vec_capacity};
 ghost use Rattle.std.specs.List.{All};
 ghost use Rattle.sample_ring.specs.Ends.{IsNew, ring_id, ring_len};
 ghost use Rattle.slicer_bank.specs.declared.ring_lane.RingLane.{RingLane};
@@ -54,7 +55,8 @@ pub(crate) fn advance_each<R: Threads + Sync, G: Gate>(
     requires lanes { length lanes.old ≡ 8 }
     requires ready { All (λ lane. IsReady (ring_id ring.now) lane.lane.offset lane) lanes.old }
     ensures lanes { length lanes.new ≡ 8 }
-    ensures advanced { (k : ℕ) (d : RingLane) → k < 8 → Advanced (ring_len ring.now) (slice_index_or lanes.old k d) (slice_index_or lanes.new k d) }
+    ensures advanced { (k : ℕ) (d : RingLane) → k < 8
+        → Advanced (ring_len ring.now) (slice_index_or lanes.old k d) (slice_index_or lanes.new k d) }
 {
     thread::for_each_mut(
         rt,
@@ -70,14 +72,16 @@ pub(crate) fn advance_each<R: Threads + Sync, G: Gate>(
     );
 }
 
-/// What the lanes found in a turn, in order: each of them hears at ends of its own, so the ends alone say the order. If one
-/// of them wanted memory, so does this.
+/// What the lanes found in a turn, in order: each of them hears at ends of its own, so the ends alone say the order. If
+/// one of them wanted memory, so does this.
 pub(crate) fn gather(alloc: Global, lanes: &mut [RingLane]) -> Result<Advance, OutOfMemory>
     requires lanes { length lanes.old ≡ 8 }
     ensures lanes { length lanes.new ≡ 8 }
-    ensures alike { (k : ℕ) (d : RingLane) → k < 8 → IsAlike (slice_index_or lanes.old k d) (slice_index_or lanes.new k d) }
+    ensures alike { (k : ℕ) (d : RingLane) → k < 8
+        → IsAlike (slice_index_or lanes.old k d) (slice_index_or lanes.new k d) }
     ensures taken { OnOk result (All IsTaken lanes.new) }
-    ensures gathered { IfOk result (λ advance. IsGathered lanes.old advance.positions advance.candidates.items advance.gaps.items advance.ended) }
+    ensures gathered { IfOk result
+        (λ advance. IsGathered lanes.old advance.positions advance.candidates.items advance.gaps.items advance.ended) }
 {
     let mut candidates = Vec::new(alloc);
     let mut gaps = Vec::new(alloc);

@@ -1,6 +1,7 @@
 //! From what the lanes of a ring bring turn by turn to the items that a station hears, each once and in order.
 
-ghost use Rattle.std.specs.Prelude.{◌≡◌, ℕ, ◌-◌, ◌^◌, ◌<◌, ◌≤◌, List, [], length, replicate, slice_index, true, false, IfOk, OnOk};
+ghost use Rattle.std.specs.Prelude.{◌≡◌, ℕ, ◌-◌, ◌^◌, ◌<◌, ◌≤◌, List, [], length, replicate, slice_index, true, false};
+ghost use Rattle.std.specs.Prelude.{IfOk, OnOk};
 ghost use Rattle.std.specs.List.{All};
 ghost use Rattle.sample_ring.specs.declared.got.Got.{Got};
 ghost use Rattle.frame_merge.specs.Held.{Held, StandsFor, least};
@@ -14,8 +15,8 @@ use crate::merging::put_all;
 use frame_merge::{Candidate, Merger};
 use tnc_base::OutOfMemory;
 
-/// Puts the candidates of a turn into the merger, marks each lane at its position, and takes the items that are settled:
-/// those that end below the least position, or all that are left if the ring has ended.
+/// Puts the candidates of a turn into the merger, marks each lane at its position, and takes the items that are
+/// settled: those that end below the least position, or all that are left if the ring has ended.
 pub fn merge_advance(
     merger: &mut Merger,
     candidates: Vec<Candidate>,
@@ -45,7 +46,8 @@ fn mark_each(merger: &mut Merger, positions: &[u64; 8], ended: bool)
     requires positions { (lane : ℕ) → lane < 8 → slice_index merger.old.marks lane ≤ slice_index positions.now lane }
     ensures marks { ended ≡ false → merger.new.marks ≡ positions.now }
     ensures least { ended ≡ true → least merger.new.marks ≡ 2 ^ 64 - 1 }
-    ensures stands_for { (puts given : List Candidate) → StandsFor merger.old puts given → StandsFor merger.new puts given }
+    ensures stands_for { (puts given : List Candidate) → StandsFor merger.old puts given
+        → StandsFor merger.new puts given }
 {
     if ended {
         merger.finish();
@@ -56,8 +58,9 @@ fn mark_each(merger: &mut Merger, positions: &[u64; 8], ended: bool)
     }
 }
 
-/// A merger of eight lanes that has taken nothing has merged what lanes heard that have read nothing. A law is the contract
-/// of a function that does nothing.
+/// A merger of eight lanes that has taken nothing has merged what lanes heard that have read nothing. A law is the
+/// contract of a function that does nothing.
 pub fn nothing_is_merged()
-    ensures { (merger : Held) → merger.marks ≡ replicate 8 0 → StandsFor merger [] [] → HasMerged merger (replicate 8 []) }
+    ensures { (merger : Held) → merger.marks ≡ replicate 8 0 → StandsFor merger [] []
+        → HasMerged merger (replicate 8 []) }
 {}

@@ -32,12 +32,16 @@ pub(crate) fn make_turn<R: Threads + Sync, G: Gate>(
     ensures stay { LanesStay (ring_id ring.now) lanes.new }
     ensures grown { AreGrown (map record_of (readers_of lanes.old)) (map record_of (readers_of lanes.new)) }
     ensures ready { OnOk result (LanesAreReady (ring_id ring.now) lanes.new) }
-    ensures turn { IfOk result (λ advance. IsTurn (answers_by (ring_len ring.now) lanes.old) (answers_by (ring_len ring.now) lanes.new) advance.gaps.items advance.ended) }
-    ensures listen { OnOk result ((flags : ℕ) → LanesListen (ring_len ring.now) flags lanes.old → LanesListen (ring_len ring.now) flags lanes.new) }
+    ensures turn { IfOk result (λ advance. IsTurn (answers_by (ring_len ring.now) lanes.old) (answers_by
+        (ring_len ring.now) lanes.new) advance.gaps.items advance.ended) }
+    ensures listen { OnOk result ((flags : ℕ) → LanesListen (ring_len ring.now) flags lanes.old
+        → LanesListen (ring_len ring.now) flags lanes.new) }
     ensures heard { IfOk result (λ advance. (flags : ℕ) → LanesListen (ring_len ring.now) flags lanes.old
-        → BringsOnRing (answers_by (ring_len ring.now) lanes.old) (answers_by (ring_len ring.now) lanes.new) advance.positions advance.candidates.items) }
+        → BringsOnRing (answers_by (ring_len ring.now) lanes.old)
+        (answers_by (ring_len ring.now) lanes.new) advance.positions advance.candidates.items) }
     ensures positions { IfOk result (λ advance. advance.positions ≡ map position_of (readers_of lanes.new)) }
-    ensures forward { OnOk result (AreForward (map position_of (readers_of lanes.old)) (map position_of (readers_of lanes.new))) }
+    ensures forward { OnOk result (AreForward (map position_of (readers_of lanes.old)) (map position_of
+        (readers_of lanes.new))) }
     ensures bounds { IfOk result (λ advance. All CanBePut advance.candidates.items) }
     ensures past { IfOk result (λ advance. ArePast (map position_of (readers_of lanes.old)) advance.candidates.items) }
 {

@@ -19,7 +19,8 @@ pub(crate) fn hear(
     found: &mut Vec<Candidate>,
 ) -> Result<(), OutOfMemory>
     requires { lane.old.slicer.position < 2 ^ 48 }
-    ensures stands_for { (s : Stretch) → StretchStandsFor lane.old s → StretchStandsFor lane.new (with_sample s sample) }
+    ensures stands_for { (s : Stretch) → StretchStandsFor lane.old s
+        → StretchStandsFor lane.new (with_sample s sample) }
     ensures found { OnOk result (HearsSample lane.old sample end found.old.items found.new.items) }
     ensures offset { lane.new.offset ≡ lane.old.offset }
     ensures flags { flags_asked lane.new.deframer ≡ flags_asked lane.old.deframer }

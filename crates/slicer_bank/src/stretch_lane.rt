@@ -41,11 +41,13 @@ impl StretchLane {
     /// Takes the next sample, and says whether a frame ends with it.
     pub(crate) fn push(&mut self, sample: i16) -> bool
         requires { self.old.slicer.position < 2 ^ 48 }
-        ensures stands_for { (s : Stretch) → StretchStandsFor self.old s → StretchStandsFor self.new (with_sample s sample) }
+        ensures stands_for { (s : Stretch) → StretchStandsFor self.old s
+            → StretchStandsFor self.new (with_sample s sample) }
         ensures holds { result ≡ true → (octets : List ℕ) × IsFrame octets × HoldsFrame self.new.deframer octets }
         ensures heard { (s : Stretch) → StretchStandsFor self.old s → result ≡ true
             → (octets : List ℕ) × EndsLast self.old.offset (with_sample s sample) octets }
-        ensures frame { (s : Stretch) (octets : List ℕ) → StretchStandsFor self.old s → EndsLast self.old.offset (with_sample s sample) octets
+        ensures frame { (s : Stretch) (octets : List ℕ) → StretchStandsFor self.old s
+            → EndsLast self.old.offset (with_sample s sample) octets
             → (result ≡ true) × HoldsFrame self.new.deframer octets }
         ensures offset { self.new.offset ≡ self.old.offset }
         ensures flags { flags_asked self.new.deframer ≡ flags_asked self.old.deframer }

@@ -73,11 +73,3 @@ ids_closed id ids closed others is =
     sym (ap (λ gone. without_ids gone (ids ++ id ∷ [])) is ∙ filter-append (λ other. not (other == id)) ids (id ∷ [])
     ∙ ap (λ xs. xs ++ filter (λ other. not (other == id)) (id ∷ [])) (filter_others id ids others)
     ∙ ap (λ xs. ids ++ xs) (filter_itself id) ∙ append-nil ids)
-
--- if no connection has an id, it is none of the ids
-pub others_held : (id : ℕ) (items : List HeldConnection) → All (λ connection. connection.id ≢ id) items
-    → All (λ other. other ≢ id) (map (λ (connection : HeldConnection). connection.id) items)
-others_held id [] others k d within = absurd (omega (arith, within))
-others_held id (x ∷ xs) others zero d within = others 0 x (omega arith)
-others_held id (x ∷ xs) others (suc k) d within = others_held id xs (λ j e less. others (suc j) e (omega (arith, less)))
-    k d (omega (arith, within))

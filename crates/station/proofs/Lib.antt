@@ -22,6 +22,5 @@ mod CallLemmas
 mod RouteLemmas
 mod TakeLemmas
 mod AnswerLemmas
-mod ReaderLemmas
 mod TakenLemmas
 mod PendingLemmas

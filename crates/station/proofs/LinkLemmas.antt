@@ -35,7 +35,7 @@ is_memory Full = false
 is_memory (TooLong len) = false
 is_memory Memory = true
 
--- what a fault of a link is, where it is not want of memory
+-- what a fault of a link is, if it is not want of memory
 refused_by : (held : Held) (event : Event) (fault : LinkFault) → is_memory fault ≡ false
     → ((fault ≡ Memory) ⊎ (refusal held.control (length held.outgoing.packets) event ≡ Some fault))
     → refusal held.control (length held.outgoing.packets) event ≡ Some fault

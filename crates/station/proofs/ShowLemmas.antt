@@ -1,6 +1,9 @@
 -- A station after what it shows to a connection.
-use Rattle.std.specs.Prelude.{◌≡◌, ℕ, List, [], ◌∷◌, map, refl}
-use Rattle.std.proofs.Common.{◌∙◌, ap}
+use Rattle.std.specs.Prelude.{◌≡◌, ℕ, List, [], ◌∷◌, map, Option, Some, false, refl}
+use Rattle.std.proofs.Common.{◌∙◌, ap, subst}
+use Rattle.ax25_address.specs.declared.path.Path.{Path}
+use Rattle.ax25_frames.specs.declared.frame.Frame.{Frame}
+use Rattle.agwpe_port.specs.CallField.{call_field}
 use Rattle.station.specs.declared.connection.Connection.{Connection as HeldConnection}
 use Rattle.station.specs.declared.connection.Reader.{Reader}
 use Rattle.station.specs.declared.connection.Reader.TheVariants.{KissReader, AgwReader}
@@ -8,8 +11,11 @@ use Rattle.station.specs.declared.host_event.PortKind.{PortKind}
 use Rattle.station.specs.declared.host_event.PortKind.TheVariants.{Kiss, Agw}
 use Rattle.station.specs.declared.parts.Parts.{Parts}
 use Rattle.station.specs.Connections.{Connection}
-use Rattle.station.specs.Heard.{showing, showing_to, with_shown}
+use Rattle.station.specs.Heard.{IsReadAs, showing, showing_to, shown_to_hosts, with_shown}
 use Rattle.station.specs.HeldConnections.{kind_of}
+use Rattle.station.specs.Monitored.{heard_modulus}
+use Rattle.station.specs.Monitoring.{monitoring}
+use Rattle.station.specs.State.{StationState}
 use Rattle.station.specs.StandsFor.{Reads, Shows, StandsForConnection}
 use Rattle.station.specs.Turn.{Out, Turn, in_order}
 
@@ -43,3 +49,21 @@ shown_to_each from to octets (connection ∷ connections) turn =
 -- what is shown changes no station
 pub same_station : (from to octets : List ℕ) (turn : Turn) → (showing from to octets turn).now ≡ turn.now
 same_station from to octets turn = shown_to_each from to octets turn.now.connections turn
+
+-- a frame of a path that is shown raw, and then to those that monitor, is shown to hosts
+pub shown_along : (parts : Parts) (raw all : Out) (path : Path) (from to octets : List ℕ) (turn : Turn)
+    → from ≡ call_field path.source → to ≡ call_field path.dest → Shows parts raw (showing from to octets turn)
+    → ((shown : Turn) → Shows parts raw shown → (frame : Option Frame)
+    × IsReadAs (heard_modulus (Some path) shown.now.links) octets frame
+    × Shows parts all (monitoring false shown.now.ticks frame shown))
+    → (frame : Option Frame) × IsReadAs (heard_modulus (Some path) turn.now.links) octets frame
+    × Shows parts all (shown_to_hosts (Some path) octets frame turn)
+shown_along parts raw all path from to octets turn from_is to_is shows monitors =
+    let shown : Turn = showing (call_field path.source) (call_field path.dest) octets turn in
+    let told = monitors shown (subst (λ call. Shows parts raw (showing call (call_field path.dest) octets turn)) from_is
+    (subst (λ call. Shows parts raw (showing from call octets turn)) to_is shows)) in
+    let station : shown.now ≡ turn.now = same_station (call_field path.source) (call_field path.dest) octets turn in (
+      told.0,
+      subst (λ (s : StationState). IsReadAs (heard_modulus (Some path) s.links) octets told.0) station told.1,
+      subst (λ (s : StationState). Shows parts all (monitoring false s.ticks told.0 shown)) station told.2,
+    )

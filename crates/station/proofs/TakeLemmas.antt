@@ -75,7 +75,7 @@ stands_here held connections k here d h within is =
     subst (λ (item : HeldConnection). StandsForConnection item (get_or connections k d)) (sym is)
     (AllZip-at StandsForConnection held connections k here d h within)
 
--- and still does where it is turned
+-- and still does when it is turned
 pub stands_turned : (here new : HeldConnection) (connection : Connection) → StandsForConnection here connection
     → new ≡ record { id = here.id; raw = not here.raw; monitors = here.monitors; reader = here.reader }
     → StandsForConnection new (turned_raw connection)

@@ -66,7 +66,7 @@ destination_field (Some path) = call_field path.dest
 abbrev pub waits_for_repeater : Path → Bool
 waits_for_repeater path = list_any (λ hop. not hop.done) path.repeaters.items
 
--- the frame is queued as the station repeats it, where it is the station's turn
+-- the frame is queued as the station repeats it, if it is the station's turn
 abbrev pub IsRepeatedFor : Option Callsign → List ℕ → Turn → Turn → Type 0
 IsRepeatedFor None octets before after = after ≡ before
 IsRepeatedFor (Some call) octets before after =

@@ -19,7 +19,7 @@ without_host id s = record s {
 abbrev pub without_owner : Link → Link
 without_owner link = record link { owner = None }
 
--- the link of a key is given up, where it is the connection's
+-- the link of a key is given up, if it is the connection's
 abbrev pub giving_up_link : ℕ → ℕ → Option Link → Act
 giving_up_link id key None turn = turn
 giving_up_link id key (Some link) turn =

@@ -45,7 +45,7 @@ sending id octets turn = record turn { out = with_piece id octets turn.out }
 abbrev pub closing : ℕ → Act
 closing id turn = record turn { out = record turn.out { closed = turn.out.closed ++ id ∷ [] } }
 
--- a frame is told of where it is a link's
+-- a frame is told of if it is a link's
 abbrev pub told_of : Option ℕ → List ℕ → List (List ℕ)
 told_of None octets = []
 told_of (Some key) octets = octets ∷ []

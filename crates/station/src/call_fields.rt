@@ -7,7 +7,7 @@ use agwpe_port::call_text;
 use ax25_address::Call;
 use std::str;
 
-/// The call of a field, where it is one.
+/// The call of a field, if it is one.
 pub(crate) fn call_in(field: &[u8]) -> Option<Call>
     ensures { result ≡ call_in field.now }
 {

@@ -1,5 +1,6 @@
 //! Hosts call: a message of kind C, v or c makes a link and calls along it, or is answered with d.
-ghost use Rattle.std.specs.Prelude.{◌≡◌, ◌<◌, ◌==◌, if◌then◌else◌, [], count_by, is_some, IfOk, OnOk, IsTrue, Some, option_map};
+ghost use Rattle.std.specs.Prelude.{◌≡◌, ◌<◌, ◌==◌, if◌then◌else◌, [], count_by, is_some, IfOk, OnOk, IsTrue, Some};
+ghost use Rattle.std.specs.Prelude.{option_map};
 ghost use Rattle.agwpe_port.specs.Messages.{spelling};
 ghost use Rattle.station.specs.AgwKinds.{connect_via_kind};
 ghost use Rattle.station.specs.AgwRequests.{IsCall, IsCallMade, called_pid, called_route, may_call, refused_reply};

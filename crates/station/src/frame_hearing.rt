@@ -1,12 +1,14 @@
 //! A frame that is heard.
-ghost use Rattle.std.specs.Prelude.{◌&&◌, nat_lt, count_by, is_some, ◌≡◌, ℕ, ◌<◌, ◌↔◌, not, Some, None, OnOk, IfOk, IsTrue};
+ghost use Rattle.std.specs.Prelude.{◌&&◌, nat_lt, count_by, is_some, ◌≡◌, ℕ, ◌<◌, ◌↔◌, not, Some, None, OnOk, IfOk};
+ghost use Rattle.std.specs.Prelude.{IsTrue};
 ghost use Rattle.ax25_address.specs.FramePath.{BeginsWithPath, way_back};
 ghost use Rattle.ax25_address.specs.declared.path.Role.TheVariants.{Command};
 ghost use Rattle.ax25_frames.specs.ControlField.{IsNumbered};
 ghost use Rattle.ax25_frames.specs.FrameOctets.{control_of};
 ghost use Rattle.ax25_frames.specs.declared.frame.Modulus.TheVariants.{Eight};
 ghost use Rattle.hdlc_framer.specs.FrameLength.{HasFrameLength};
-ghost use Rattle.station.specs.Heard.{IsReadAs, IsHeard, IsRepeatedFor, AreOctetsHeard, AreHeardAt, IsHeardAnew, waits_for_repeater, makes_link, is_command_to_set_up};
+ghost use Rattle.station.specs.Heard.{IsReadAs, IsHeard, IsRepeatedFor, AreOctetsHeard, AreHeardAt, IsHeardAnew};
+ghost use Rattle.station.specs.Heard.{waits_for_repeater, makes_link, is_command_to_set_up};
 ghost use Rattle.station.specs.Held.{ids_in};
 ghost use Rattle.station.specs.Registrations.{registrar};
 ghost use Rattle.station.specs.HeldFrames.{IsUnread};
@@ -71,7 +73,7 @@ impl Parts {
         }
     }
 
-    /// Queues a frame as the station repeats it, where it is the station's turn.
+    /// Queues a frame as the station repeats it, if it is the station's turn.
     fn repeat(&mut self, alloc: Global, out: &mut HostOut, octets: &[u8]) -> Result<(), OutOfMemory>
         requires { HasFrameLength octets.now }
         ensures repeated { (turn : Turn) → Shows self.old out.old turn → OnOk result ((behind : Turn)

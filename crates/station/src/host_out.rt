@@ -70,7 +70,7 @@ impl HostOut {
         Ok(())
     }
 
-    /// Tells of a frame that joins the transmit queue, where it is a link's.
+    /// Tells of a frame that joins the transmit queue, if it is a link's.
     pub(crate) fn tell_queued(
         &mut self,
         alloc: Global,

@@ -45,7 +45,7 @@ impl Parts {
         Ok(())
     }
 
-    /// Gives up the link of a key, where it is the connection's: it has no owner from then on, and is disconnected.
+    /// Gives up the link of a key, if it is the connection's: it has no owner from then on, and is disconnected.
     fn give_up(
         &mut self,
         alloc: Global,

@@ -1,5 +1,6 @@
 //! The links by their keys.
-ghost use Rattle.std.specs.Prelude.{◌≡◌, ℕ, ◌<◌, ◌≤◌, ◌↔◌, List, [], All, IfOk, OnOk, IfSome, IsTrue, replicate, position, count_by, is_some, nat_lt, slice_set, Some, None};
+ghost use Rattle.std.specs.Prelude.{◌≡◌, ℕ, ◌<◌, ◌≤◌, ◌↔◌, List, [], All, IfOk, OnOk, IfSome, IsTrue, replicate};
+ghost use Rattle.std.specs.Prelude.{position, count_by, is_some, nat_lt, slice_set, Some, None};
 ghost use Rattle.std.specs.Option.{option_copied, option_or};
 ghost use Rattle.link_machine.specs.Step.{step, done_of};
 ghost use Rattle.station.specs.HasFew.{HasFew};
@@ -176,7 +177,7 @@ impl LinkTable {
         link.disown();
     }
 
-    /// Removes the link of a key where it is idle.
+    /// Removes the link of a key if it is idle.
     pub(crate) fn settle(&mut self, key: u32)
         ensures { (link : Link) → HasAt key self.old link
             → self.new ≡ settled_at key self.old link.machine.control.state }

@@ -21,7 +21,7 @@ use tnc_base::OutOfMemory;
 /// The PID of data that no layer 3 has.
 pub(crate) const NO_LAYER_3: u8 = 0xf0;
 
-/// The PID, or another where it is 0.
+/// The PID, or another if it is 0.
 pub(crate) fn pid_or(other: u8, pid: u8) -> u8
     ensures { result ≡ pid_or other pid }
 {

@@ -19,7 +19,7 @@ use std::alloc::Global;
 use tnc_base::OutOfMemory;
 
 impl Parts {
-    /// X: registers the call of a field, where it is one that no other connection has.
+    /// X: registers the call of a field, if it is one that no other connection has.
     pub(crate) fn register(
         &mut self,
         alloc: Global,

@@ -2,7 +2,8 @@
 ghost use Rattle.std.specs.Prelude.{◌≡◌, ◌≤◌, length, IfOk, OnOk};
 ghost use Rattle.byteorder.specs.Endian.{little_bytes};
 ghost use Rattle.agwpe_port.specs.Messages.{spelling};
-ghost use Rattle.station.specs.AgwRequests.{capabilities_of, capabilities_reply, pending_in, pending_reply, ports_reply, replying, version_reply, waiting_reply};
+ghost use Rattle.station.specs.AgwRequests.{capabilities_of, capabilities_reply, pending_in, pending_reply};
+ghost use Rattle.station.specs.AgwRequests.{ports_reply, replying, version_reply, waiting_reply};
 ghost use Rattle.station.specs.HostMessages.{to_host, no_call};
 ghost use Rattle.station.specs.Links.{Links};
 ghost use Rattle.station.specs.State.{StationState};

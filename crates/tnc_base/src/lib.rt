@@ -1,5 +1,5 @@
 //! What every part of the modem stands on at its outer edge: octet lists, the hash that summaries print, and the
-//! streams that octets come from and go to. A stream counts its faults, and where it tells its octets, each read and
+//! streams that octets come from and go to. A stream counts its faults, and if it tells its octets, each read and
 //! write says exactly which of them it moved.
 #![tactic(auto)]
 

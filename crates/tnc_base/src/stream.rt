@@ -17,7 +17,8 @@ pub trait Source {
     /// How often a read has failed.
     ghost faults: { Self → ℕ };
 
-    /// Puts the next octets at the front of `buffer` and answers how many. 0 with a nonempty buffer is the end of input.
+    /// Puts the next octets at the front of `buffer` and answers how many. 0 with a nonempty buffer is the end of
+    /// input.
     fn read(&mut self, buffer: &mut [u8]) -> Result<usize, Failed>
         ensures bound { IfOk result (λ count. count ≤ length buffer.new) }
         ensures gives { (octets : List ℕ) → left self.old ≡ Some octets

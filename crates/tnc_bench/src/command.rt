@@ -14,8 +14,8 @@ use std::alloc::Global;
 use tnc_base::Sink;
 use tnc_words::BenchOptions;
 
-/// Runs the two stations that the options ask for, and writes the report of the run when it is over. If something ends the
-/// run before, that is the fault, and nothing is written.
+/// Runs the two stations that the options ask for, and writes the report of the run when it is over. If something ends
+/// the run before, that is the fault, and nothing is written.
 pub fn bench<O: Sink>(
     alloc: Global,
     options: BenchOptions,
@@ -28,7 +28,8 @@ pub fn bench<O: Sink>(
     ensures faultless { OnOk result (O.faults output.new ≡ O.faults output.old) }
 
     // what ended the run before it was over
-    ensures fault { (fault : BenchFault) → IsErrOf result (CommandFault.Run fault) → IsFaultOf (words_of options) fault }
+    ensures fault { (fault : BenchFault) → IsErrOf result (CommandFault.Run fault)
+        → IsFaultOf (words_of options) fault }
     ensures unwritten { (fault : BenchFault) → IsErrOf result (CommandFault.Run fault) → output.new ≡ output.old }
 
     // a write that failed, and what stands after it

@@ -52,13 +52,6 @@ abbrev pub TakesPcm : Option ℕ → Option ℕ → List ℕ → List ℤ → Ty
 TakesPcm low now octets found = (before : List ℕ) → low ≡ odd_octet before
     → (now ≡ odd_octet (before ++ octets)) × (samples (before ++ octets) ≡ samples before ++ found)
 
-pub pcm_none : (low : Option ℕ) → TakesPcm low low [] []
-pcm_none low before e = (
-  e ∙ ap odd_octet (sym (append-nil before)),
-  ap samples (append-nil before)
-      ∙ sym (append-nil (samples before)),
-)
-
 -- as the code has it: with the samples that were found before and those that it appends
 pub even_given : (octets : List ℕ) (low now : Option ℕ) (was found : List ℤ) → low ≡ None → now ≡ odd_octet octets
     → found ≡ was ++ samples octets → was ≡ [] → TakesPcm low now octets found
@@ -87,14 +80,6 @@ pub record PairsOn (octets rest : List ℕ) (was found : List ℤ) : Type 0 wher
   pub samples : found ++ samples rest ≡ was ++ samples octets
   pub odd : odd_octet rest ≡ odd_octet octets
   pub few : length found + length rest ≤ length was + length octets
-
--- it is audio
-pub pcm_takes : (low now : Option ℕ) (octets : List ℕ) (found : List ℤ) → TakesPcm low now octets found
-    → (rates : Rates) (form : AudioForm) (before : List ℕ) → HasTakenAt rates form (Pcm low) before
-    → HasTakenAt rates form (Pcm now) (before ++ octets)
-    × (samples_at rates form (before ++ octets) ≡ samples_at rates form before ++ found)
-pcm_takes low now octets found takes rates Raw before h = takes before h
-pcm_takes low now octets found takes rates Wav before h = absurd h
 
 -- ---- a WAV file
 
@@ -128,20 +113,6 @@ module _ (rates : Rates) (form : AudioForm) (before : List ℕ) (octet : ℕ) (f
           → stopping_fault_at rates form (before ++ octet ∷ []) ≡ Some (BadWav fault)
       by_form Raw h = absurd h
       by_form Wav h = ap (option_map BadWav) (shows before h.0 ∙ ap result_err is)
-
--- what ends here
-pub pcm_verdict : (rates : Rates) (form : AudioForm) (octets : List ℕ) (low : Option ℕ)
-    → HasTakenAt rates form (Pcm low) octets → form_fault_at rates form octets ≡ None
-pcm_verdict rates Raw octets low h = refl
-pcm_verdict rates Wav octets low h = absurd h
-
-pub file_verdict : (rates : Rates) (form : AudioForm) (octets : List ℕ) (file : HeldFile)
-    (verdict : Result (Unit {0}) WavFault)
-    → ((octets : List ℕ) → FileStandsFor rates file octets → verdict ≡ verdict_of rates octets)
-    → HasTakenAt rates form (File file) octets
-    → fault_in_verdict verdict ≡ form_fault_at rates form octets
-file_verdict rates Raw octets file verdict is h = absurd h
-file_verdict rates Wav octets file verdict is h = ap fault_in_verdict (is octets h.0)
 
 -- ---- faults
 

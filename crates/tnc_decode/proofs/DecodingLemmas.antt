@@ -150,7 +150,8 @@ module _ (words : DecodeWords) (whole : List ℕ) (left : Option (List ℕ)) (re
             text piece_read.parts cut.audio cut.settled d in
             let behind : WrotePart before (p.text ++ cut.more) now =
             wrote_behind before p.text cut.more now (cut.written (before ++ p.text) (p.written before w)) in
-            subst (λ t. WrotePart before t now) (sym first.1) (wrote_front before (p.text ++ cut.more) first.0 now behind)
+            subst (λ t. WrotePart before t now) (sym first.1)
+            (wrote_front before (p.text ++ cut.more) first.0 now behind)
 
   -- ---- the end of the input
 

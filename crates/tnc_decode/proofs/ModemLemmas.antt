@@ -24,7 +24,7 @@ use Rattle.sensitive_receiver.proofs.MergedLemmas.{one_list as one_sensitive, ri
 use Rattle.sensitive_receiver.proofs.MergedLemmas.{below_still as sensitive_still}
 use Rattle.sensitive_receiver.proofs.SomeList.{some_list as some_sensitive}
 use Rattle.wide_input.specs.Streams.{least_count}
-use Rattle.wide_input.specs.MergedItems.{AreWideMergedBetween, AreWideRest}
+use Rattle.wide_input.specs.MergedItems.{AreWideMergedBetween}
 use Rattle.wide_input.proofs.StreamLemmas.{least_count-is}
 use Rattle.wide_input.proofs.WideSteps.{no_wide, rising_wide}
 use Rattle.wide_input.proofs.WideMerged.{one_wide, some_wide, below_still}
@@ -67,12 +67,6 @@ rising_heard Plain x items are = merged-rising (λ y. y.end) [] items (rising_en
 rising_heard Wide x items are = rising_wide x items are
 rising_heard Sensitive x items are = rising_sensitive x items are
 rising_heard ShortWave x items are = merged-rising (λ y. y.end) [] items (rising_ends items (hf_in_order x items are))
-
-pub none_settled : (modem : Modem) → settled_count modem [] ≡ 0
-none_settled Plain = refl
-none_settled Wide = refl
-none_settled Sensitive = refl
-none_settled ShortWave = refl
 
 -- more samples settle no less, and no more than they are
 pub settled_rises : (modem : Modem) (x y : List ℤ) → (settled_count modem x ≤ settled_count modem (x ++ y))
@@ -132,10 +126,6 @@ rest_plain x items h =
           (below_between n (n + 1) zs (omega arith) rises ∙ whole ∙ sym (below_then_rest n zs rises));
     }
 
-pub rest_wide : (x : List ℤ) (items : List Candidate) → AreWideRest (least_count x) x items
-    → AreGivenRest Wide (least_count x) x items
-rest_wide x items h = record { candidates = h.candidates; are = h.are; is = h.is }
-
 -- so each decoder, by its modem
 pub plain_block : (old new : HeldDecoder) (block : List ℤ) (items : List Candidate)
     → ((x : List ℤ) → DecoderStandsFor old x → DecoderStandsFor new (x ++ block)
@@ -169,15 +159,6 @@ plain_finish old items room rest Plain x h = rest_plain x items (rest x (let cou
 plain_finish old items room rest Wide x h = absurd h
 plain_finish old items room rest Sensitive x h = absurd h
 plain_finish old items room rest ShortWave x h = absurd h
-
-pub wide_finish : (old : HeldWide) (items : List Candidate)
-    → ((x : List ℤ) → BankStandsFor old x → AreWideRest (least_count x) x items)
-    → (modem : Modem) (x : List ℤ) → HasDecoded modem (WideDecoder old) x
-    → AreGivenRest modem (settled_count modem x) x items
-wide_finish old items rest Plain x h = absurd h
-wide_finish old items rest Sensitive x h = absurd h
-wide_finish old items rest ShortWave x h = absurd h
-wide_finish old items rest Wide x h = rest_wide x items (rest x h)
 
 pub given_short_wave : (from to : ℕ) (x : List ℤ) (items : List Candidate) → AreHfMergedBetween from to x items
     → AreGivenBetween ShortWave from to x items

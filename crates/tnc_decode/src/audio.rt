@@ -61,11 +61,13 @@ impl Audio {
 
     /// Takes the next octets, and puts the samples that end in them in place of those in `samples`.
     pub(crate) fn take(&mut self, octets: &[u8], samples: &mut Vec<i16>) -> Result<(), Fault>
-        ensures takes { OnOk result ((rates : Rates) (form : AudioForm) (before : List ℕ) → HasTakenAt rates form self.old before
+        ensures takes { OnOk result ((rates : Rates) (form : AudioForm) (before : List ℕ)
+            → HasTakenAt rates form self.old before
             → HasTakenAt rates form self.new (before ++ octets.now)
             × (samples_at rates form (before ++ octets.now) ≡ samples_at rates form before ++ samples.new.items)) }
         ensures count { OnOk result (length samples.new.items ≤ length octets.now) }
-        ensures stops { (fault : InputFault) (rates : Rates) (form : AudioForm) (before : List ℕ) → IsErrOf result (Fault.Input fault)
+        ensures stops { (fault : InputFault) (rates : Rates) (form : AudioForm) (before : List ℕ)
+            → IsErrOf result (Fault.Input fault)
             → HasTakenAt rates form self.old before → stopping_fault_at rates form (before ++ octets.now) ≡ Some fault }
         ensures read { ¬ IsErrOf result Fault.Read }
         ensures write { ¬ IsErrOf result Fault.Write }
@@ -82,7 +84,8 @@ impl Audio {
 
     /// What is wrong with an input that ends here. Of raw PCM nothing is.
     pub(crate) fn verdict(&self) -> Option<InputFault>
-        ensures { (rates : Rates) (form : AudioForm) (octets : List ℕ) → HasTakenAt rates form self.now octets → result ≡ form_fault_at rates form octets }
+        ensures { (rates : Rates) (form : AudioForm) (octets : List ℕ) → HasTakenAt rates form self.now octets → result
+            ≡ form_fault_at rates form octets }
     {
         match self {
             Audio::Pcm(_) => None,
@@ -108,7 +111,8 @@ fn new_file(receiving: Receiving) -> WavIn
 fn take_pcm(low: &mut Option<u8>, octets: &[u8], samples: &mut Vec<i16>) -> Result<(), OutOfMemory>
     requires { samples.old.items ≡ [] }
     ensures takes { OnOk result ((before : List ℕ) → low.old ≡ odd_octet before
-        → (low.new ≡ odd_octet (before ++ octets.now)) × (samples_in_pairs (before ++ octets.now) ≡ samples_in_pairs before ++ samples.new.items)) }
+        → (low.new ≡ odd_octet (before ++ octets.now)) × (samples_in_pairs (before ++ octets.now)
+        ≡ samples_in_pairs before ++ samples.new.items)) }
     ensures count { OnOk result (length samples.new.items ≤ length octets.now) }
 {
     *low = match (*low, octets) {
@@ -140,12 +144,15 @@ fn take_pairs(octets: &[u8], samples: &mut Vec<i16>) -> Result<Option<u8>, OutOf
 /// Takes the next octets of a WAV file.
 fn take_file(file: &mut WavIn, octets: &[u8], samples: &mut Vec<i16>) -> Result<(), Fault>
     requires { samples.old.items ≡ [] }
-    ensures takes { OnOk result ((rates : Rates) (form : AudioForm) (before : List ℕ) → HasTakenAt rates form (Audio.File file.old) before
+    ensures takes { OnOk result ((rates : Rates) (form : AudioForm) (before : List ℕ)
+        → HasTakenAt rates form (Audio.File file.old) before
         → HasTakenAt rates form (Audio.File file.new) (before ++ octets.now)
         × (samples_at rates form (before ++ octets.now) ≡ samples_at rates form before ++ samples.new.items)) }
     ensures count { OnOk result (length samples.new.items ≤ length octets.now) }
-    ensures stops { (fault : InputFault) (rates : Rates) (form : AudioForm) (before : List ℕ) → IsErrOf result (Fault.Input fault)
-        → HasTakenAt rates form (Audio.File file.old) before → stopping_fault_at rates form (before ++ octets.now) ≡ Some fault }
+    ensures stops { (fault : InputFault) (rates : Rates) (form : AudioForm) (before : List ℕ)
+        → IsErrOf result (Fault.Input fault)
+        → HasTakenAt rates form (Audio.File file.old) before → stopping_fault_at rates form (before ++ octets.now)
+        ≡ Some fault }
     ensures read { ¬ IsErrOf result Fault.Read }
     ensures write { ¬ IsErrOf result Fault.Write }
 {
@@ -157,14 +164,18 @@ fn take_file(file: &mut WavIn, octets: &[u8], samples: &mut Vec<i16>) -> Result<
 
 /// Takes the next octet of a WAV file, and appends the sample that ends with it.
 fn take_one(file: &mut WavIn, octet: u8, samples: &mut Vec<i16>) -> Result<(), Fault>
-    ensures takes { OnOk result ((rates : Rates) (form : AudioForm) (before : List ℕ) → HasTakenAt rates form (Audio.File file.old) before
+    ensures takes { OnOk result ((rates : Rates) (form : AudioForm) (before : List ℕ)
+        → HasTakenAt rates form (Audio.File file.old) before
         → HasTakenAt rates form (Audio.File file.new) (before ++ octet ∷ [])) }
-    ensures samples { OnOk result ((rates : Rates) (form : AudioForm) (before : List ℕ) (front : List ℤ) → HasTakenAt rates form (Audio.File file.old) before
+    ensures samples { OnOk result ((rates : Rates) (form : AudioForm) (before : List ℕ) (front : List ℤ)
+        → HasTakenAt rates form (Audio.File file.old) before
         → samples_at rates form before ≡ front ++ samples.old.items
         → samples_at rates form (before ++ octet ∷ []) ≡ front ++ samples.new.items) }
     ensures count { OnOk result (length samples.new.items ≤ length samples.old.items + 1) }
-    ensures stops { (fault : InputFault) (rates : Rates) (form : AudioForm) (before : List ℕ) → IsErrOf result (Fault.Input fault)
-        → HasTakenAt rates form (Audio.File file.old) before → stopping_fault_at rates form (before ++ octet ∷ []) ≡ Some fault }
+    ensures stops { (fault : InputFault) (rates : Rates) (form : AudioForm) (before : List ℕ)
+        → IsErrOf result (Fault.Input fault)
+        → HasTakenAt rates form (Audio.File file.old) before → stopping_fault_at rates form (before ++ octet ∷ [])
+        ≡ Some fault }
     ensures read { ¬ IsErrOf result Fault.Read }
     ensures write { ¬ IsErrOf result Fault.Write }
 {

@@ -62,7 +62,8 @@ impl Decoders {
         requires unfinished { finished_of self.old ≡ false }
         ensures given { IfOk result (λ items. (modem : Modem) (x : List ℤ) → HasDecoded modem self.old x
             → HasDecoded modem self.new (x ++ block.now)
-            × AreGivenBetween modem (settled_count modem x) (settled_count modem (x ++ block.now)) (x ++ block.now) items.items) }
+            × AreGivenBetween modem (settled_count modem x) (settled_count modem (x ++ block.now)) (x
+            ++ block.now) items.items) }
         ensures position { IfOk result (λ items. position_of self.new ≡ position_of self.old + length block.now) }
         ensures unfinished { finished_of self.new ≡ false }
     {

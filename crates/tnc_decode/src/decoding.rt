@@ -1,5 +1,6 @@
 //! The word decode: from audio to the frames that are heard in it, block after block.
-ghost use Rattle.std.specs.Prelude.{◌≡◌, ◌≤◌, ◌<◌, ◌+◌, ◌++◌, List, ℕ, Some, None, Err, [], length, drop, OnOk, OnErr, IsErrOf, ◌⊎◌};
+ghost use Rattle.std.specs.Prelude.{◌≡◌, ◌≤◌, ◌<◌, ◌+◌, ◌++◌, List, ℕ, Some, None, Err, [], length, drop, OnOk, OnErr};
+ghost use Rattle.std.specs.Prelude.{IsErrOf, ◌⊎◌};
 ghost use Rattle.tnc_base.specs.Faults.{HasRisen};
 ghost use Rattle.tnc_base.specs.Streams.{WrotePart};
 ghost use Rattle.tnc_forms.specs.declared.fault.InputFault.{InputFault};
@@ -22,8 +23,8 @@ use tnc_words::DecodeWords;
 const INPUT_LIMIT: u64 = 1 << 40;
 
 /// Reads the input in blocks, and writes the frames that each block settles. Keeps one block and the decoder, however
-/// long the input is. A fault of a WAV file's head ends the reading; a file that is cut short is heard to its end. If the
-/// words ask for threads, the lanes of the decoder work on two, and all that is written is the same.
+/// long the input is. A fault of a WAV file's head ends the reading; a file that is cut short is heard to its end. If
+/// the words ask for threads, the lanes of the decoder work on two, and all that is written is the same.
 pub fn decode<R: Threads + Sync, I: Source, O: Sink>(
     rt: &R,
     alloc: Global,
@@ -39,7 +40,8 @@ pub fn decode<R: Threads + Sync, I: Source, O: Sink>(
     ensures decoded { (octets before : List ℕ) → I.left input.old ≡ Some octets
         → O.written output.old ≡ Some before
         → OnOk result ((text : List ℕ) × IsDecoded words octets text × (O.written output.new ≡ Some (before ++ text))) }
-    ensures faultless { OnOk result ((I.faults input.new ≡ I.faults input.old) × (O.faults output.new ≡ O.faults output.old)) }
+    ensures faultless { OnOk result ((I.faults input.new ≡ I.faults input.old)
+        × (O.faults output.new ≡ O.faults output.old)) }
 
     // what is wrong with the input, and what was written before that is told
     ensures bad { (octets : List ℕ) → (fault : InputFault) → I.left input.old ≡ Some octets
@@ -58,11 +60,13 @@ pub fn decode<R: Threads + Sync, I: Source, O: Sink>(
         × (O.written output.new ≡ Some (before ++ text)) }
     ensures most { (octets before : List ℕ) → I.left input.old ≡ Some octets → O.written output.old ≡ Some before
         → IsErrOf result Fault.Write
-        → (read : List ℕ) × WereRead octets (I.left input.new) read × WroteMost words read before (O.written output.new) }
+        → (read : List ℕ) × WereRead octets (I.left input.new) read
+        × WroteMost words read before (O.written output.new) }
     ensures part { (octets before : List ℕ) → I.left input.old ≡ Some octets → O.written output.old ≡ Some before
         → result ≡ Err Fault.Memory
         → (read front rest text more : List ℕ) × WereRead octets (I.left input.new) read × (read ≡ front ++ rest)
-        × IsSettled words front text × IsDecoded words read (text ++ more) × (O.written output.new ≡ Some (before ++ text)) }
+        × IsSettled words front text × IsDecoded words read (text ++ more)
+        × (O.written output.new ≡ Some (before ++ text)) }
     ensures cut { (octets before text : List ℕ) → I.left input.old ≡ Some octets
         → O.written output.old ≡ Some before → IsDecoded words octets text
         → OnErr result (WrotePart before text (O.written output.new)) }
@@ -82,7 +86,8 @@ fn decode_blocks<R: Threads + Sync, I: Source, O: Sink>(
 ) -> Result<(), Fault>
     ensures ended { (octets : List ℕ) → I.left input.old ≡ Some octets
         → IsEnded words octets (I.left input.new) (O.written output.old) (O.written output.new) result }
-    ensures faultless { OnOk result ((I.faults input.new ≡ I.faults input.old) × (O.faults output.new ≡ O.faults output.old)) }
+    ensures faultless { OnOk result ((I.faults input.new ≡ I.faults input.old)
+        × (O.faults output.new ≡ O.faults output.old)) }
     ensures read { IsErrOf result Fault.Read → HasRisen (I.faults input.old) (I.faults input.new) }
     ensures write { IsErrOf result Fault.Write → HasRisen (O.faults output.old) (O.faults output.new) }
 {

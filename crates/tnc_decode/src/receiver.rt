@@ -1,5 +1,6 @@
 //! The receiver: octets of an input in, the frames that are heard in them out.
-ghost use Rattle.std.specs.Prelude.{◌≡◌, ◌≤◌, ◌<◌, ◌+◌, ◌^◌, ◌++◌, ◌⊎◌, List, ℕ, ℤ, [], Some, Err, false, length, IsOk, IfOk, OnOk, IsErrOf};
+ghost use Rattle.std.specs.Prelude.{◌≡◌, ◌≤◌, ◌<◌, ◌+◌, ◌^◌, ◌++◌, ◌⊎◌, List, ℕ, ℤ, [], Some, Err, false, length, IsOk};
+ghost use Rattle.std.specs.Prelude.{IfOk, OnOk, IsErrOf};
 ghost use Rattle.tnc_base.specs.Faults.{HasRisen};
 ghost use Rattle.tnc_base.specs.Streams.{WrotePart};
 ghost use Rattle.frame_merge.specs.Merged.{candidate_frames};
@@ -70,14 +71,17 @@ impl Receiver {
         ensures heard { OnOk result ((words : DecodeWords) (before text : List ℕ) → HasHeard self.old words before text
             → (more : List ℕ) × HasHeard self.new words (before ++ octets.now) (text ++ more)
             × ((was : List ℕ) → O.written output.old ≡ Some was → O.written output.new ≡ Some (was ++ more))) }
-        ensures position { OnOk result (position_of self.new.decoder ≤ position_of self.old.decoder + length octets.now) }
+        ensures position { OnOk result (position_of self.new.decoder ≤ position_of self.old.decoder
+            + length octets.now) }
         ensures unfinished { OnOk result (finished_of self.new.decoder ≡ false) }
         ensures later { O.faults output.old ≤ O.faults output.new }
         ensures faultless { OnOk result (O.faults output.new ≡ O.faults output.old) }
 
-        ensures stops { (fault : InputFault) (words : DecodeWords) (before text : List ℕ) → IsErrOf result (Fault.Input fault)
+        ensures stops { (fault : InputFault) (words : DecodeWords) (before text : List ℕ)
+            → IsErrOf result (Fault.Input fault)
             → HasHeard self.old words before text → stopping_fault words (before ++ octets.now) ≡ Some fault }
-        ensures cut { (words : DecodeWords) (before text : List ℕ) → IsErrOf result Fault.Write → HasHeard self.old words before text
+        ensures cut { (words : DecodeWords) (before text : List ℕ) → IsErrOf result Fault.Write
+            → HasHeard self.old words before text
             → CutShort self.new words before octets.now text (O.written output.old) (O.written output.new) }
         ensures write { IsErrOf result Fault.Write → HasRisen (O.faults output.old) (O.faults output.new) }
         ensures unwritten { (result ≡ Err Fault.Memory) ⊎ ((fault : InputFault) × (result ≡ Err (Fault.Input fault)))
@@ -104,9 +108,11 @@ impl Receiver {
         ensures later { O.faults output.old ≤ O.faults output.new }
         ensures faultless { OnOk result (O.faults output.new ≡ O.faults output.old) }
 
-        ensures bad { (fault : InputFault) (words : DecodeWords) (octets text : List ℕ) → IsErrOf result (Fault.Input fault)
+        ensures bad { (fault : InputFault) (words : DecodeWords) (octets text : List ℕ)
+            → IsErrOf result (Fault.Input fault)
             → HasHeard self.old words octets text → form_fault words octets ≡ Some fault }
-        ensures cut { (words : DecodeWords) (octets text : List ℕ) → IsErrOf result Fault.Write → HasHeard self.old words octets text
+        ensures cut { (words : DecodeWords) (octets text : List ℕ) → IsErrOf result Fault.Write
+            → HasHeard self.old words octets text
             → (more : List ℕ) × IsDecoded words octets (text ++ more)
             × ((was : List ℕ) → O.written output.old ≡ Some was → WrotePart was more (O.written output.new)) }
         ensures write { IsErrOf result Fault.Write → HasRisen (O.faults output.old) (O.faults output.new) }

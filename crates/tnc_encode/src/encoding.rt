@@ -1,5 +1,6 @@
 //! The word encode: from frames to audio.
-ghost use Rattle.std.specs.Prelude.{◌≡◌, ◌≢◌, ◌≤◌, ◌<◌, ◌+◌, ◌++◌, ◌⊎◌, List, ℕ, Some, None, [], true, false, length, take, drop, OnOk, OnErr, IsErrOf};
+ghost use Rattle.std.specs.Prelude.{◌≡◌, ◌≢◌, ◌≤◌, ◌<◌, ◌+◌, ◌++◌, ◌⊎◌, List, ℕ, Some, None, [], true, false, length};
+ghost use Rattle.std.specs.Prelude.{take, drop, OnOk, OnErr, IsErrOf};
 ghost use Rattle.tnc_base.specs.Faults.{HasRisen};
 ghost use Rattle.tnc_base.specs.Streams.{WrotePart};
 ghost use Rattle.afsk_modulator.specs.Modulation.{IsLevel};
@@ -7,9 +8,12 @@ ghost use Rattle.tnc_forms.specs.declared.fault.InputFault.{InputFault};
 ghost use Rattle.tnc_forms.specs.Pcm.{pcm};
 ghost use Rattle.tnc_forms.specs.Reading.{input_limit, piece_limit};
 ghost use Rattle.tnc_forms.specs.Taken.{WereRead};
-ghost use Rattle.tnc_encode.specs.Encoded.{encode_fault, encoded, encoded_before, encoded_so_far, fault_of_whole, keeps_frames, length_fault, samples_at_once, signal_of, written_as, written_before};
+ghost use Rattle.tnc_encode.specs.Encoded.{encode_fault, encoded, encoded_before, encoded_so_far, fault_of_whole};
+ghost use Rattle.tnc_encode.specs.Encoded.{keeps_frames, length_fault, samples_at_once, signal_of, written_as};
+ghost use Rattle.tnc_encode.specs.Encoded.{written_before};
 ghost use Rattle.tnc_encode.specs.Frames.{form_fault_so_far};
-ghost use Rattle.tnc_encode.specs.Writing.{CanBeSent, CanSend, CountsFaults, CountsWrites, EncodesWhole, FailsInWriting, Writes};
+ghost use Rattle.tnc_encode.specs.Writing.{CanBeSent, CanSend, CountsFaults, CountsWrites, EncodesWhole};
+ghost use Rattle.tnc_encode.specs.Writing.{FailsInWriting, Writes};
 
 use crate::counting::{count_samples, head};
 use crate::frames::read_frames;
@@ -21,9 +25,9 @@ use tnc_base::{Octets, Sink, Source};
 use tnc_forms::{Fault, InputFault, read_all, write_pcm};
 use tnc_words::{AudioForm, EncodeWords};
 
-/// Sends the frames of the input. Each frame is sent as it comes, in bounded memory, but for one transmission of all frames
-/// and for a WAV file: then the input is read to its end first. If a line is bad, the frames before it are sent as raw
-/// PCM, or no WAV file is written.
+/// Sends the frames of the input. Each frame is sent as it comes, in bounded memory, but for one transmission of all
+/// frames and for a WAV file: then the input is read to its end first. If a line is bad, the frames before it are sent
+/// as raw PCM, or no WAV file is written.
 #[tactic(auto, unfolding(crate::specs::Encoded::encode_fault))]
 pub fn encode<I: Source, O: Sink>(
     alloc: Global,
@@ -43,7 +47,8 @@ pub fn encode<I: Source, O: Sink>(
     ensures encoded { (octets before : List ℕ) → I.left input.old ≡ Some octets
         → O.written output.old ≡ Some before
         → OnOk result (O.written output.new ≡ Some (before ++ encoded words octets)) }
-    ensures faultless { OnOk result ((I.faults input.new ≡ I.faults input.old) × (O.faults output.new ≡ O.faults output.old)) }
+    ensures faultless { OnOk result ((I.faults input.new ≡ I.faults input.old)
+        × (O.faults output.new ≡ O.faults output.old)) }
 
     // what is wrong with the input, and what was written before that is told
     ensures bad { (octets : List ℕ) → (fault : InputFault) → I.left input.old ≡ Some octets
@@ -112,7 +117,8 @@ fn encode_whole<I: Source, O: Sink>(
         → EncodesWhole words octets (I.left input.new) (O.written output.old) (O.written output.new) result }
     ensures counts { CountsFaults (I.faults input.old) (I.faults input.new)
         (O.faults output.old) (O.faults output.new) result }
-    ensures unwritten { (result ≡ Err (Fault.Input InputFault.TooLong)) ⊎ (result ≡ Err Fault.Read) → output.new ≡ output.old }
+    ensures unwritten { (result ≡ Err (Fault.Input InputFault.TooLong)) ⊎ (result ≡ Err Fault.Read) → output.new
+        ≡ output.old }
 {
     let octets = read_all(alloc, input)?;
     encode_octets(alloc, words, &octets, output)

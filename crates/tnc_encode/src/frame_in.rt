@@ -1,5 +1,6 @@
 //! Frames as their octets come, in their two forms.
-ghost use Rattle.std.specs.Prelude.{◌≡◌, ◌≤◌, ◌<◌, ◌+◌, ◌^◌, ◌++◌, [], ℕ, List, Some, None, length, take, IfOk, IfSome, OnOk, IsErrOf};
+ghost use Rattle.std.specs.Prelude.{◌≡◌, ◌≤◌, ◌<◌, ◌+◌, ◌^◌, ◌++◌, [], ℕ, List, Some, None, length, take, IfOk, IfSome};
+ghost use Rattle.std.specs.Prelude.{OnOk, IsErrOf};
 ghost use Rattle.std.specs.Option.{option_to_list};
 ghost use Rattle.hdlc_framer.specs.FrameLength.{IsBadLength};
 ghost use Rattle.tnc_forms.specs.declared.fault.InputFault.{InputFault};
@@ -37,8 +38,8 @@ impl FrameIn {
         }
     }
 
-    /// Takes the next octets up to the end of a line or of a piece of KISS, or fewer. Gives how many, and the frame that
-    /// ended.
+    /// Takes the next octets up to the end of a line or of a piece of KISS, or fewer. Gives how many, and the frame
+    /// that ended.
     pub(crate) fn take(&mut self, octets: &[u8]) -> Result<(usize, Option<Octets>), Fault>
         requires reader { IsReader self.old }
         requires room { position self.old + length octets.now < 2 ^ 64 }

@@ -80,7 +80,7 @@ pub(crate) fn frame_of_item(item: Option<KissItem>) -> Option<Octets>
     }
 }
 
-/// The frame of an item, where it is data on port 0 and has the length of a frame.
+/// The frame of an item, if it is data on port 0 and has the length of a frame.
 fn frame_to_send(item: KissItem) -> Option<Octets>
     ensures { result ≡ frame_of item }
 {

@@ -1,5 +1,6 @@
 //! Frames that are sent as they come, each a transmission of its own, as raw PCM.
-ghost use Rattle.std.specs.Prelude.{◌≡◌, ◌≤◌, ◌<◌, ◌+◌, ◌^◌, ◌++◌, List, ℕ, Some, None, Ok, Err, [], false, length, IfSome, OnOk, OnErr, IsErrOf};
+ghost use Rattle.std.specs.Prelude.{◌≡◌, ◌≤◌, ◌<◌, ◌+◌, ◌^◌, ◌++◌, List, ℕ, Some, None, Ok, Err, [], false, length};
+ghost use Rattle.std.specs.Prelude.{IfSome, OnOk, OnErr, IsErrOf};
 ghost use Rattle.std.specs.Option.{option_to_list};
 ghost use Rattle.hdlc_framer.specs.FrameLength.{IsBadLength};
 ghost use Rattle.tnc_forms.specs.declared.fault.InputFault.{InputFault};
@@ -16,8 +17,8 @@ use tnc_base::{Octets, Sink, Source};
 use tnc_forms::{Fault, PIECE, read_piece};
 use tnc_words::EncodeWords;
 
-/// Reads the input piece by piece, and sends each frame that ends in a piece before it reads on. Keeps one piece, the part
-/// of one line or KISS item, and one transmission.
+/// Reads the input piece by piece, and sends each frame that ends in a piece before it reads on. Keeps one piece, the
+/// part of one line or KISS item, and one transmission.
 pub(crate) fn encode_pieces<I: Source, O: Sink>(
     alloc: Global,
     words: EncodeWords,
@@ -26,7 +27,8 @@ pub(crate) fn encode_pieces<I: Source, O: Sink>(
 ) -> Result<(), Fault>
     requires words { CanSend words }
     requires apart { words.join ≡ false }
-    ensures ended { (octets : List ℕ) → I.left input.old ≡ Some octets → IsEnded (IsSignal words) (form_of words.frames) octets
+    ensures ended { (octets : List ℕ) → I.left input.old ≡ Some octets
+        → IsEnded (IsSignal words) (form_of words.frames) octets
         (I.left input.new) (O.written output.old) (O.written output.new) result }
     ensures counts { CountsFaults (I.faults input.old) (I.faults input.new)
         (O.faults output.old) (O.faults output.new) result }
@@ -57,7 +59,8 @@ fn send_piece<O: Sink>(
     requires reader { IsReader frames.old }
     requires room { position frames.old + length octets.now < 2 ^ 64 }
     ensures sent { (form : FrameForm) (before : List ℕ) → HasTaken form frames.old before
-        → IsTaken (IsSignal words) (form_of form) before octets.now (O.written output.old) (O.written output.new) result }
+        → IsTaken (IsSignal words) (form_of form) before octets.now (O.written output.old)
+        (O.written output.new) result }
     ensures taken { (form : FrameForm) (before : List ℕ) → HasTaken form frames.old before
         → OnOk result (HasTaken form frames.new (before ++ octets.now)) }
     ensures reader { OnOk result (IsReader frames.new) }
@@ -105,7 +108,8 @@ fn send_frame<O: Sink>(
     requires words { CanSend words }
     requires apart { words.join ≡ false }
     requires length { IfSome frame (λ octets. ¬ IsBadLength octets) }
-    ensures sent { OnOk result (WroteFrames (IsSignal words) (option_to_list frame) (O.written output.old) (O.written output.new)) }
+    ensures sent { OnOk result (WroteFrames (IsSignal words) (option_to_list frame) (O.written output.old)
+        (O.written output.new)) }
     ensures cut { IsErrOf result Fault.Write
         → WroteSome (IsSignal words) (option_to_list frame) (O.written output.old) (O.written output.new) }
     ensures unwritten { IsErrOf result Fault.Memory → output.new ≡ output.old }

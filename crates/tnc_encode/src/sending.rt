@@ -26,7 +26,7 @@ pub(crate) fn samples_at_once(
     let mut samples = Vec::new(alloc);
     samples.resize(words.silence as usize, 0)?;
     match transmission(alloc, words, frames) {
-        Ok(behind) => samples.extend_from_slice(&behind)?,
+        Ok(sent) => samples.extend_from_slice(&sent)?,
         Err(ModFault::Memory) => return Err(OutOfMemory),
         Err(ModFault::FewFlags) => unreachable!(),
         Err(ModFault::BadLength { .. }) => unreachable!(),

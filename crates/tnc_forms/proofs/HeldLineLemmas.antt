@@ -1,6 +1,6 @@
 -- A reader of lines takes more octets.
 use Rattle.std.proofs.Common.{◌≡◌, ℕ, ◌+◌, ◌<◌, ◌≤◌, true, List, [], ◌∷◌, ◌++◌, length, length-append, append_assoc}
-use Rattle.std.proofs.Common.{Some, None, refl, sym, ap, ◌∙◌, arith, lt-ltb, le-ltb}
+use Rattle.std.proofs.Common.{Some, None, sym, ap, ◌∙◌, arith, lt-ltb, le-ltb}
 use Rattle.std.specs.Prelude.{if◌then◌else◌}
 use Rattle.std.specs.Option.{option_to_list}
 use Rattle.std.specs.Str.Lines.{strip_carriage_return}
@@ -9,7 +9,7 @@ use Rattle.tnc_forms.specs.declared.fault.InputFault.{InputFault}
 use Rattle.tnc_forms.specs.declared.fault.InputFault.TheVariants.{Line as BadLine}
 use Rattle.tnc_forms.specs.declared.line_fault.LineFlaw.TheVariants.{LongLine}
 use Rattle.tnc_forms.specs.Faults.{fault_in_line, hex_fault}
-use Rattle.tnc_forms.specs.HeldLine.{HeldLine, StandsFor, new_line}
+use Rattle.tnc_forms.specs.HeldLine.{HeldLine, StandsFor}
 use Rattle.tnc_forms.specs.HexFrames.{fault_of, fault_of_lines, frame_of, frames_in_lines, frames_of_lines, line_fault}
 use Rattle.tnc_forms.specs.HexLines.{Line, ended_of, is_line_feed, lines_from, lines_of, parts_of}
 use Rattle.tnc_forms.specs.LinesSoFar.{fault_so_far, frames_so_far, known_of}
@@ -17,16 +17,6 @@ use Rattle.tnc_forms.proofs.CutLemmas.{IsInside, ended_now, ended_of_more, first
 use Rattle.tnc_forms.proofs.CutLemmas.{known_now, known_of_more, lines_ended, lines_now, strip_size}
 use Rattle.tnc_forms.proofs.SoFarLemmas.{fault_join, fault_some, frames_join, line_fault_at, long_fault, one_bad}
 use Rattle.tnc_forms.proofs.SoFarLemmas.{one_fault, one_frame}
-
-pub stands_new : (least : ℕ) → StandsFor (new_line least) []
-stands_new least = record {
-  ended = [];
-  cut = λ more. refl;
-  inside = inside_none;
-  good = refl;
-  short = omega arith;
-  count = refl;
-}
 
 module _ (held : HeldLine) (octets : List ℕ) (h : StandsFor held octets) where
   -- the line that has not ended

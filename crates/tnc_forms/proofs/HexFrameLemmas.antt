@@ -152,13 +152,3 @@ module _ (least : ℕ) (input : List ℕ) (frames : List (List ℕ)) (place next
         (lines_behind input next) flaw offset is) ∙ h.fault_so_far,
     subst (IsWithin least text) is (text_of-within least text),
   )
-
--- and no line more
-pub read_end : (least : ℕ) (input : List ℕ) (frames : List (List ℕ)) (place : Option ℕ)
-    → HasReadLines least input frames place → place ≡ None
-    → (frames ≡ frames_in_lines least input) × (None ≡ line_fault least input)
-read_end least input frames place h done = (
-  sym (append-nil frames) ∙ ap (λ p. frames ++ frames_of_lines least (lines_behind input p)) (sym done)
-      ∙ h.frames_so_far,
-  ap (λ p. fault_of_lines least (lines_behind input p)) (sym done) ∙ h.fault_so_far,
-)

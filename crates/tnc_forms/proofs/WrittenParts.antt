@@ -1,6 +1,5 @@
 -- First parts of a text that were written.
-use Rattle.std.proofs.Common.{◌≡◌, ℕ, List, [], ◌++◌, Option, Some, Result, Ok, Err, append_assoc, refl, sym, ap, ◌∙◌}
-use Rattle.std.specs.Prelude.{OnOk, OnErr}
+use Rattle.std.proofs.Common.{◌≡◌, ℕ, List, [], ◌++◌, Option, Some, append_assoc, refl, sym, ap, ◌∙◌}
 use Rattle.std.proofs.lemmas.List.{append-nil}
 use Rattle.tnc_base.specs.Streams.{WrotePart}
 
@@ -27,10 +26,3 @@ wrote_behind before front text now (part, rest, parts, is) = (
   ap (λ xs. front ++ xs) parts ∙ sym (append_assoc front part rest),
   is ∙ ap Some (append_assoc before front part),
 )
-
--- all of a text or a first part of it was written
-pub wrote_part : {T E : Type 0} (r : Result T E) (before text : List ℕ) (now : Option (List ℕ))
-    → OnOk r (now ≡ Some (before ++ text))
-    → OnErr r (WrotePart before text now) → WrotePart before text now
-wrote_part (Ok x) before text now whole part = wrote_all before text now whole
-wrote_part (Err e) before text now whole part = part

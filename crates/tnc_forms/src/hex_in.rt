@@ -1,5 +1,6 @@
 //! Lines of hexadecimal digits as their octets come.
-ghost use Rattle.std.specs.Prelude.{◌≡◌, ◌≤◌, ◌<◌, ◌+◌, ◌^◌, ◌++◌, [], ℕ, List, Some, None, length, take, IfOk, IfSome, OnOk, IsErrOf};
+ghost use Rattle.std.specs.Prelude.{◌≡◌, ◌≤◌, ◌<◌, ◌+◌, ◌^◌, ◌++◌, [], ℕ, List, Some, None, length, take, IfOk, IfSome};
+ghost use Rattle.std.specs.Prelude.{OnOk, IsErrOf};
 ghost use Rattle.std.specs.Option.{option_to_list};
 ghost use Rattle.std.specs.Str.Lines.{strip_carriage_return};
 ghost use Rattle.tnc_forms.specs.declared.fault.InputFault.{InputFault};
@@ -56,9 +57,9 @@ impl HexIn {
         }
     }
 
-    /// Takes the next octets up to the end of the line, or all of them if it does not end in them. Gives how many, and the
-    /// frame of the line that ended. A line with too many octets is refused before it ends. After a refusal the reader is
-    /// of no more use.
+    /// Takes the next octets up to the end of the line, or all of them if it does not end in them. Gives how many, and
+    /// the frame of the line that ended. A line with too many octets is refused before it ends. After a refusal the
+    /// reader is of no more use.
     pub fn take(&mut self, octets: &[u8]) -> Result<(usize, Option<Octets>), Fault>
         requires room { position_of self.old + length octets.now < 2 ^ 64 }
         ensures count { IfOk result (λ taken. (taken.0 ≤ length octets.now) × (0 < length octets.now → 0 < taken.0)) }
@@ -70,7 +71,8 @@ impl HexIn {
         ensures frame { (before : List ℕ) → StandsFor self.old before
             → IfOk result (λ taken. frames_so_far self.old.least (before ++ take taken.0 octets.now)
             ≡ frames_so_far self.old.least before ++ option_to_list taken.1) }
-        ensures bad { (before : List ℕ) → (fault : InputFault) → StandsFor self.old before → IsErrOf result (Fault.Input fault)
+        ensures bad { (before : List ℕ) → (fault : InputFault) → StandsFor self.old before
+            → IsErrOf result (Fault.Input fault)
             → (fault_so_far self.old.least (before ++ octets.now) ≡ Some fault)
             × (frames_so_far self.old.least (before ++ octets.now) ≡ frames_so_far self.old.least before) }
         ensures read { ¬ IsErrOf result Fault.Read }
@@ -93,9 +95,12 @@ impl HexIn {
         requires room { position_of self.now < 2 ^ 64 }
         ensures size { IfOk result (λ frame. IfSome frame (HasGoodLength self.now.least)) }
         ensures frame { (octets : List ℕ) → StandsFor self.now octets
-            → IfOk result (λ frame. frames_in_lines self.now.least octets ≡ frames_so_far self.now.least octets ++ option_to_list frame) }
-        ensures good { (octets : List ℕ) → StandsFor self.now octets → OnOk result (hex_fault self.now.least octets ≡ None) }
-        ensures bad { (octets : List ℕ) → (fault : InputFault) → StandsFor self.now octets → IsErrOf result (Fault.Input fault)
+            → IfOk result (λ frame. frames_in_lines self.now.least octets
+            ≡ frames_so_far self.now.least octets ++ option_to_list frame) }
+        ensures good { (octets : List ℕ) → StandsFor self.now octets
+            → OnOk result (hex_fault self.now.least octets ≡ None) }
+        ensures bad { (octets : List ℕ) → (fault : InputFault) → StandsFor self.now octets
+            → IsErrOf result (Fault.Input fault)
             → (hex_fault self.now.least octets ≡ Some fault)
             × (frames_in_lines self.now.least octets ≡ frames_so_far self.now.least octets) }
         ensures read { ¬ IsErrOf result Fault.Read }
@@ -108,14 +113,24 @@ impl HexIn {
     fn end_line(&mut self, octets: &[u8]) -> Result<Option<Octets>, Fault>
         requires room { position_of self.old + length octets.now + 1 < 2 ^ 64 }
         ensures ended { OnOk result (self.new
-            ≡ record { least = self.old.least; place = self.old.place + length (self.old.part ++ octets.now) + 1; part = [] }) }
+            ≡ record {
+              least = self.old.least;
+              place = self.old.place + length (self.old.part ++ octets.now)
+                  + 1;
+              part = [];
+            }) }
         ensures size { IfOk result (λ frame. IfSome frame (HasGoodLength self.old.least)) }
         ensures frame { IfOk result (λ frame. frame
-            ≡ frame_of self.old.least (record { place = self.old.place; text = strip_carriage_return (self.old.part ++ octets.now) })) }
+            ≡ frame_of self.old.least (record {
+              place = self.old.place;
+              text = strip_carriage_return (self.old.part
+                  ++ octets.now);
+            })) }
         ensures good { OnOk result (fault_of self.old.least
             (record { place = self.old.place; text = strip_carriage_return (self.old.part ++ octets.now) }) ≡ None) }
         ensures bad { (fault : InputFault) → IsErrOf result (Fault.Input fault) → fault_in_line (fault_of self.old.least
-            (record { place = self.old.place; text = strip_carriage_return (self.old.part ++ octets.now) })) ≡ Some fault }
+            (record { place = self.old.place; text = strip_carriage_return (self.old.part ++ octets.now) }))
+            ≡ Some fault }
         ensures read { ¬ IsErrOf result Fault.Read }
         ensures write { ¬ IsErrOf result Fault.Write }
     {

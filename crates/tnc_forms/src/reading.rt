@@ -1,5 +1,6 @@
 //! An input read whole, or piece by piece.
-ghost use Rattle.std.specs.Prelude.{◌≡◌, ◌≤◌, ◌+◌, ◌<◌, ◌++◌, List, ℕ, Some, [], length, take, drop, IfOk, OnOk, IsErrOf};
+ghost use Rattle.std.specs.Prelude.{◌≡◌, ◌≤◌, ◌+◌, ◌<◌, ◌++◌, List, ℕ, Some, [], length, take, drop, IfOk, OnOk};
+ghost use Rattle.std.specs.Prelude.{IsErrOf};
 ghost use Rattle.tnc_base.specs.Faults.{HasRisen};
 ghost use Rattle.tnc_forms.specs.declared.fault.InputFault.{InputFault};
 ghost use Rattle.tnc_forms.specs.Reading.{input_limit};
@@ -46,16 +47,18 @@ pub fn read_all<I: Source>(alloc: Global, input: &mut I) -> Result<Vec<u8>, Faul
     Err(Fault::Input(InputFault::TooLong))
 }
 
-/// Reads the next octets of an input of which so many have come, and answers how many: 0 at its end. Refuses an octet past
-/// the 2^40th.
+/// Reads the next octets of an input of which so many have come, and answers how many: 0 at its end. Refuses an octet
+/// past the 2^40th.
 pub fn read_piece<I: Source>(input: &mut I, total: usize, buffer: &mut [u8]) -> Result<usize, Fault>
     requires few { total ≤ input_limit }
     requires room { 0 < length buffer.old }
     ensures piece { (octets : List ℕ) → I.left input.old ≡ Some octets
-        → IfOk result (λ count. (rest : List ℕ) × (octets ≡ take count buffer.new ++ rest) × (I.left input.new ≡ Some rest)
+        → IfOk result (λ count. (rest : List ℕ) × (octets ≡ take count buffer.new ++ rest)
+        × (I.left input.new ≡ Some rest)
         × (count ≡ 0 → rest ≡ [])) }
     ensures bound { IfOk result (λ count. (count ≤ length buffer.new) × (total + count ≤ input_limit)) }
-    ensures too_long { (octets : List ℕ) → I.left input.old ≡ Some octets → IsErrOf result (Fault.Input InputFault.TooLong)
+    ensures too_long { (octets : List ℕ) → I.left input.old ≡ Some octets
+        → IsErrOf result (Fault.Input InputFault.TooLong)
         → (total ≡ input_limit) × (0 < length octets) × (I.left input.new ≡ Some (drop 1 octets)) }
     ensures kept { IsErrOf result Fault.Read → I.left input.new ≡ I.left input.old }
     ensures later { I.faults input.old ≤ I.faults input.new }

@@ -12,7 +12,8 @@ pub fn good_transmissions()
     ensures { (words : LoopWords) → All IsTransmission (drawn words) }
 {}
 
-/// What is heard is near what was drawn, also with `rough`: each sample of a transmission is within a tenth of its level.
+/// What is heard is near what was drawn, also with `rough`: each sample of a transmission is within a tenth of its
+/// level.
 pub fn heard_is_near()
     ensures received { (words : LoopWords) → All IsReceived (received_drawn words) }
     ensures near { (words : LoopWords) → IsNearAll (received_drawn words) (samples_drawn words) }

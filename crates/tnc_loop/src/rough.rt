@@ -4,7 +4,8 @@ ghost use Rattle.afsk_modulator.specs.Modulation.{IsBitPhase, IsLevel};
 ghost use Rattle.afsk_modulator.specs.Transmission.{transmission_at};
 ghost use Rattle.tnc_loop.specs.Words.{behind, word_at};
 ghost use Rattle.channel_access.specs.Words.{words};
-ghost use Rattle.tnc_loop.specs.Rough.{behind_rough, error_of, level_drawn, most_error, noise_of, phase_drawn, rough_samples, with_errors};
+ghost use Rattle.tnc_loop.specs.Rough.{behind_rough, error_of, level_drawn, most_error, noise_of, phase_drawn};
+ghost use Rattle.tnc_loop.specs.Rough.{rough_samples, with_errors};
 ghost use Rattle.tnc_loop.specs.Held.{drawn_as, IsGood};
 
 use crate::drawing::{Drawn, below};

@@ -72,7 +72,8 @@ fn samples_heard(
     generator: &mut Lcg64Xsh32,
 ) -> Result<Vec<i16>, OutOfMemory>
     requires { IsGood drawn.now }
-    ensures samples { IfOk result (λ samples. samples.items ≡ (heard_of rough (drawn_as drawn.now) generator.old).samples) }
+    ensures samples { IfOk result (λ samples. samples.items
+        ≡ (heard_of rough (drawn_as drawn.now) generator.old).samples) }
     ensures behind { OnOk result (generator.new ≡ behind_heard rough (drawn_as drawn.now) generator.old) }
 {
     if rough {

@@ -25,20 +25,6 @@ offered_nothing t = record {
   failed = λ some. absurd (some refl);
 }
 
--- nothing more was sent
-pub offered_still : (offers : List Offer) (failing : List ℕ) (t a b : Told) → AreOffered offers failing t a
-    → b.polls ≡ a.polls → b.sends ≡ a.sends → ((id : ℕ) → b.sent id ≡ a.sent id)
-    → ((id : ℕ) → b.is_shut id ≡ a.is_shut id) → a.faults ≤ b.faults
-    → AreOffered offers failing t b
-offered_still offers failing t a b before polled sends sent shut later = record {
-  polled = polled ∙ before.polled;
-  sends = λ polls sofar p s. sends ∙ before.sends polls sofar p s;
-  sent = λ id octets s. sent id ∙ before.sent id octets s;
-  shut = λ id. shut id ∙ before.shut id;
-  later = let e = before.later in omega (arith, later);
-  failed = λ some. risen_later t.faults t.faults a.faults b.faults (omega arith) (before.failed some) later;
-}
-
 pub unasked : (t : Told) → AreUnasked t t
 unasked t = record { polled = refl; sends = refl; sent = λ id. refl; shut = λ id. refl; later = omega arith }
 

@@ -1,8 +1,9 @@
 -- What a step says, piece by piece.
 use Rattle.std.specs.Prelude.{◌≡◌, ℕ, ◌+◌, ◌<◌, ◌≤◌, ◌==◌, ◌||◌, Bool, true, false, List, [], ◌∷◌, ◌++◌, length, take}
-use Rattle.std.specs.Prelude.{All, Some, None, refl}
+use Rattle.std.specs.Prelude.{All, Some, refl}
 use Rattle.std.specs.List.{list_any}
-use Rattle.std.proofs.Common.{sym, ◌∙◌, ap, subst, arith, inl, inr, get_or}
+use Rattle.std.specs.Vec.{with_item}
+use Rattle.std.proofs.Common.{sym, ◌∙◌, ap, subst, arith, inl, inr, get_or, set}
 use Rattle.std.proofs.lemmas.Bool.{eqb-true, cond-true, cond-false, or_cases, true≢false, false_from_ne_true, le-leb}
 use Rattle.std.proofs.lemmas.Bool.{lt-leb}
 use Rattle.std.proofs.lemmas.List.{take_more}
@@ -13,8 +14,8 @@ use Rattle.tnc_ports.specs.declared.host_parts.HostParts.{HostParts}
 use Rattle.tnc_ports.specs.declared.line.Line.{Line}
 use Rattle.tnc_ports.specs.declared.report_line.ReportLine.{ReportLine}
 use Rattle.tnc_ports.specs.HeldHosts.{AreParts, Moves, Narrows, is_named}
-use Rattle.tnc_ports.specs.Hosts.{Hosts, without, closing, cutting, appending, appending_one, appending_to, closing_all}
-use Rattle.tnc_ports.specs.Hosts.{closing_one, waiting_too, with_waiting, fits, line_of, is_line_of, is_among, is_there}
+use Rattle.tnc_ports.specs.Hosts.{Hosts, cutting, appending, appending_one, appending_to, closing_all}
+use Rattle.tnc_ports.specs.Hosts.{closing_one, waiting_too, with_waiting, fits, line_of, is_line_of, is_among}
 use Rattle.tnc_ports.specs.IdRanges.{is_within}
 use Rattle.tnc_ports.specs.Waiting.{most_octets, octets_of, with_piece}
 use Rattle.tnc_ports.proofs.LineLemmas.{waiting_names, waiting_length, waiting_same}
@@ -39,27 +40,7 @@ append_more closed pieces i d a b c within first second =
     ∙ appending-snoc closed (take i pieces) (get_or pieces i d) hosts))
     (moves_then (appending closed (take i pieces)) (appending_one closed (get_or pieces i d)) a b c first second)
 
-pub dropped_one : (closed : List ℕ) (piece : Piece) (a : HostParts) → is_among piece.id closed ≡ true
-    → Moves (appending_one closed piece) a a
-dropped_one closed piece a holds = λ printed hosts h.
-    subst (AreParts a printed) (sym (cond-true (is_among piece.id closed) hosts
-    (appending_to (line_of piece.id hosts.lines) piece hosts) holds)) h
-
-pub appended_one : (closed : List ℕ) (piece : Piece) (a b : HostParts) → is_among piece.id closed ≡ false
-    → Moves (λ hosts. appending_to (line_of piece.id hosts.lines) piece hosts) a b
-    → Moves (appending_one closed piece) a b
-appended_one closed piece a b fails moves = λ printed hosts h.
-    subst (AreParts b printed) (sym (cond-false (is_among piece.id closed) hosts
-    (appending_to (line_of piece.id hosts.lines) piece hosts) fails)) (moves printed hosts h)
-
 -- ---- one piece
-
--- for nobody
-pub append_nowhere : (piece : Piece) (a : HostParts) → line_of piece.id a.lines.items ≡ None
-    → Moves (λ hosts. appending_to (line_of piece.id hosts.lines) piece hosts) a a
-append_nowhere piece a none = λ printed hosts h.
-    subst (AreParts a printed) (sym (ap (λ line. appending_to line piece hosts) (ap (line_of piece.id) h.lines ∙ none)))
-    h
 
 -- the lines are as they were but for what waits
 pub record Waits (id : ℕ) (waiting : List (List ℕ)) (a b : HostParts) : Type 0 where
@@ -96,6 +77,40 @@ waits_narrows id waiting a b s = record {
       let lines = ap length s.lines ∙ waiting_length id waiting a.lines.items in
       let leaving = ap (λ ids. length ids.items) s.leaving in
       omega arith;
+}
+
+-- the line of a connection stands at a place, so what is put there waits for that connection
+pub record IsLineAt (id at : ℕ) (line : Line) (lines : List Line) : Type 0 where
+  pub found : line_of id lines ≡ Some line
+  pub same : line.id ≡ id
+  pub written : (waiting : List (List ℕ)) → set lines at (record { id = line.id; waiting = waiting })
+      ≡ with_waiting id waiting lines
+
+pub stands_at : (id at : ℕ) (line : Line) (seen lines : List Line) → seen ≡ lines → line ≡ get_or lines at line
+    → line_of id seen ≡ Some (get_or seen at line) → (get_or seen at line).id ≡ id
+    → ((waiting : List (List ℕ)) → with_waiting id waiting seen
+    ≡ set seen at (record (get_or seen at line) { waiting = waiting }))
+    → IsLineAt id at line lines
+stands_at id at line seen lines is value found same written =
+    let one : line ≡ get_or seen at line = value ∙ ap (λ ls. get_or ls at line) (sym is) in
+    subst (IsLineAt id at line) is (record {
+      found = found ∙ ap (λ (l : Line). Some l) (sym one);
+      same = ap (λ (l : Line). l.id) one ∙ same;
+      written = λ waiting. ap (λ (l : Line). set seen at (record { id = l.id; waiting = waiting })) one
+          ∙ sym (written waiting);
+    })
+
+pub waits_at : (id at : ℕ) (line : Line) (now waiting : List (List ℕ)) (a : HostParts)
+    → IsLineAt id at line a.lines.items → now ≡ waiting
+    → Waits id waiting a (record a { lines = with_item a.lines at (record { id = line.id; waiting = now }) })
+waits_at id at line now waiting a there is = record {
+  station = refl;
+  came = refl;
+  lines = there.written now ∙ ap (λ ws. with_waiting id ws a.lines.items) is;
+  untaken = refl;
+  report = refl;
+  to_shut = refl;
+  leaving = refl;
 }
 
 -- it fits
@@ -159,22 +174,6 @@ close_more ids i a b c within first second =
     (λ hosts. sym (ap (λ some. closing_all some hosts) (take_more ids i 0 within)
     ∙ closing_all-snoc (take i ids) (get_or ids i 0) hosts))
     (moves_then (closing_all (take i ids)) (closing_one (get_or ids i 0)) a b c first second)
-
-there_same : (id : ℕ) (a : HostParts) (hosts : Hosts) (b : Bool) → hosts.lines ≡ a.lines.items
-    → list_any (is_line_of id) a.lines.items ≡ b → is_there id hosts ≡ b
-there_same id a hosts b lines is = ap (λ all. list_any (is_line_of id) all) lines ∙ is
-
-pub closes_there : (id : ℕ) (a b : HostParts) → list_any (is_line_of id) a.lines.items ≡ true → Moves (closing id) a b
-    → Moves (closing_one id) a b
-closes_there id a b there moves = λ printed hosts h.
-    subst (AreParts b printed) (sym (cond-true (is_there id hosts) (closing id hosts) (without id hosts)
-    (there_same id a hosts true h.lines there))) (moves printed hosts h)
-
-pub closes_nobody : (id : ℕ) (a b : HostParts) → list_any (is_line_of id) a.lines.items ≡ false → Moves (without id) a b
-    → Moves (closing_one id) a b
-closes_nobody id a b there moves = λ printed hosts h.
-    subst (AreParts b printed) (sym (cond-false (is_there id hosts) (closing id hosts) (without id hosts)
-    (there_same id a hosts false h.lines there))) (moves printed hosts h)
 
 or_nothing : (b : Bool) → (b || false) ≡ b
 or_nothing true = refl

@@ -1,5 +1,5 @@
 -- The station is told of the connections that were shut, one after another.
-use Rattle.std.specs.Prelude.{◌≡◌, ℕ, zero, suc, ◌==◌, true, List, [], ◌∷◌, drop, Some, None, refl}
+use Rattle.std.specs.Prelude.{◌≡◌, ℕ, suc, ◌==◌, true, List, [], ◌∷◌, drop, Some}
 use Rattle.std.specs.List.{list_any, slice_get}
 use Rattle.std.proofs.Common.{◌∙◌, ap}
 use Rattle.std.proofs.lemmas.Bool.{or_left, or_right}
@@ -8,7 +8,7 @@ use Rattle.station.specs.Host.{IsHostTurn}
 use Rattle.tnc_ports.specs.declared.host_parts.HostParts.{HostParts}
 use Rattle.tnc_ports.specs.declared.report_line.ReportLine.{ReportLine}
 use Rattle.tnc_ports.specs.HeldHosts.{AreParts, Moves, MovesBy, IsKnown, is_known}
-use Rattle.tnc_ports.specs.Hosts.{Hosts, without, is_line_of, is_among, IsDelivered, HaveLeft, AllHaveLeft}
+use Rattle.tnc_ports.specs.Hosts.{Hosts, without, is_line_of, is_among, IsDelivered, HaveLeft}
 use Rattle.tnc_ports.proofs.NamedLemmas.{itself}
 
 -- whatever hosts the first parts stand for, the station was told of some that left
@@ -17,9 +17,6 @@ SomeLeft a b =
     (printed : List ReportLine) (hosts : Hosts) → AreParts a printed hosts
     → (count : ℕ) × (next : Hosts) × HaveLeft count hosts next × AreParts b printed next
 
-pub nobody_left : (a : HostParts) → SomeLeft a a
-nobody_left a = λ printed hosts h. (zero, hosts, refl, h)
-
 pub one_left : (id : ℕ) (others : List ℕ) (a b c d : HostParts) → SomeLeft a b → b.leaving.items ≡ id ∷ others
     → Moves (without id) b c → MovesBy (IsDelivered (IsHostTurn (Left id))) c d → SomeLeft a d
 one_left id others a b c d some first forgets tells = λ printed hosts h.
@@ -27,18 +24,9 @@ one_left id others a b c d some first forgets tells = λ printed hosts h.
     let t = tells printed (without id s.1) (forgets printed s.1 s.3) in
     (suc s.0, t.0, (s.1, s.2, record { id = id; others = others; first = s.3.leaving ∙ first; told = t.1 }), t.2)
 
-pub all_left : (a b : HostParts) → SomeLeft a b → b.leaving.items ≡ [] → MovesBy AllHaveLeft a b
-all_left a b some none = λ printed hosts h.
-    let s = some printed hosts h in
-    (s.1, record { count = s.0; have_left = s.2; nobody_more = s.3.leaving ∙ none }, s.3)
-
 pub first_of : (ids : List ℕ) (id : ℕ) → slice_get ids 0 ≡ Some id → ids ≡ id ∷ drop 1 ids
 first_of [] id is = absurd (cc)
 first_of (one ∷ ids) id is = let same : one ≡ id = cc in ap (λ n. n ∷ ids) same
-
-pub no_first : (ids : List ℕ) → slice_get ids 0 ≡ None → ids ≡ []
-no_first [] is = refl
-no_first (one ∷ ids) is = absurd (cc)
 
 pub first_among : (ids others : List ℕ) (id : ℕ) → ids ≡ id ∷ others → is_among id ids ≡ true
 first_among ids others id is = ap (is_among id) is ∙ or_left (id == id) (is_among id others) (itself id)

@@ -2,8 +2,8 @@
 use Rattle.std.specs.Prelude.{◌≡◌, ℕ, zero, suc, ◌<◌, ◌≤◌, ◌==◌, ◌||◌, Bool, true, false, List, [], ◌∷◌, length, take}
 use Rattle.std.specs.Prelude.{cond, Option, Some, None, refl}
 use Rattle.std.specs.List.{list_any}
-use Rattle.std.proofs.Common.{sym, ◌∙◌, ap, arith, get_or, set}
-use Rattle.std.proofs.lemmas.Bool.{cond-true, cond-false, eqb-true, eq-eqb, ne_eqb}
+use Rattle.std.proofs.Common.{◌≢◌, sym, ◌∙◌, ap, arith, get_or, set, subst}
+use Rattle.std.proofs.lemmas.Bool.{cond-true, cond-false, eqb-true, eq-eqb, ne_eqb, true≢false}
 use Rattle.tnc_ports.specs.declared.line.Line.{Line}
 use Rattle.tnc_ports.specs.Hosts.{is_line_of, line_of, with_waiting}
 
@@ -111,3 +111,13 @@ pub get_or_any : {A : Type 0} (xs : List A) (i : ℕ) (a b : A) → i < length x
 get_or_any [] i a b within = absurd (omega arith)
 get_or_any (x ∷ xs) zero a b within = refl
 get_or_any (x ∷ xs) (suc i) a b within = get_or_any xs i a b (omega (arith, within))
+
+-- the line at a place has octets that wait, as a look at that place told
+pub some_wait : (at : ℕ) (line looked : Line) (seen lines : List Line) → seen ≡ lines → at < length seen
+    → line ≡ get_or lines at line → looked ≡ get_or lines at looked → (length looked.waiting == 0) ≡ false
+    → line.waiting ≢ []
+some_wait at line looked seen lines is within value look some = λ nothing.
+    let there : at < length lines = subst (λ ls. at < length ls) is within in
+    let one : looked ≡ line = look ∙ get_or_any lines at looked line there ∙ sym value in
+    true≢false (sym (eq-eqb (length looked.waiting) 0 (ap (λ (l : Line). length l.waiting) one ∙ ap length nothing))
+    ∙ some)

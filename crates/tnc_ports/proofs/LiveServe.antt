@@ -20,7 +20,6 @@ use Rattle.slicer_bank.specs.RingLanes.{answers_of}
 use Rattle.slicer_bank.specs.RingTurns.{MeetsEnd}
 use Rattle.ring_receiver.specs.HeldReceiver.{HeldReceiver, answers_in, Hears}
 use Rattle.ring_receiver.specs.Readers.{readers_wanted}
-use Rattle.tnc_base.specs.Faults.{HasRisen}
 use Rattle.tnc_ports.specs.declared.looping.LoopEnd.{LoopEnd}
 use Rattle.tnc_ports.specs.declared.looping.LoopEnd.TheVariants.{Done as LoopDone, Memory, WriteFault as LoopFault}
 use Rattle.std.proofs.lemmas.Bool.{false≢true}
@@ -36,19 +35,12 @@ use Rattle.tnc_ports.specs.HeldHosts.{StandsFor}
 use Rattle.tnc_ports.specs.Hosts.{new_hosts}
 use Rattle.tnc_ports.specs.SampledHeld.{StandsForLive}
 use Rattle.tnc_ports.specs.SampledRun.{Outside, IsCutInReading, IsCutRun, IsLooped, AllIsWritten}
-use Rattle.tnc_ports.specs.ServeRun.{InputSide, ReadFaults, ring_cells, answers_of_record, LanesStandIn, end_of}
+use Rattle.tnc_ports.specs.ServeRun.{InputSide, ring_cells, answers_of_record, LanesStandIn, end_of}
 use Rattle.tnc_ports.specs.ServeRun.{OnlyListens, HasOpened, HasServed, IsServed}
 use Rattle.tnc_ports.specs.SampledPump.{IsClosed}
 use Rattle.tnc_ports.proofs.LiveAccounts.{are_sent, are_shut}
 use Rattle.tnc_ports.proofs.LiveServed.{served_cut}
 use Rattle.tnc_ports.proofs.LiveTold.{tells_nothing}
-
-pub read_faults : (end : PumpEnd) (before after : InputSide) → (end ≡ ReadFault → HasRisen before.faults after.faults)
-    → (end ≢ ReadFault → after.faults ≡ before.faults) → ReadFaults end before after
-read_faults InputEnd before after h g = g (λ e. cc e)
-read_faults ReadFault before after h g = h refl
-read_faults TooLong before after h g = g (λ e. cc e)
-read_faults NotBegun before after h g = g (λ e. cc e)
 
 -- ---- before the first turn
 

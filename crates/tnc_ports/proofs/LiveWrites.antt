@@ -1,6 +1,6 @@
 -- What is written step by step is written in one.
 use Rattle.std.specs.Prelude.{Bool, true, false, Some, Result, Ok, Err, is_err, OnOk, OnErr}
-use Rattle.std.proofs.Common.{◌≡◌, ℕ, ◌≤◌, List, [], ◌++◌, refl, sym, ap, subst, inl, inr, ◌∙◌, arith, append_assoc}
+use Rattle.std.proofs.Common.{◌≡◌, ℕ, List, [], ◌++◌, refl, sym, ap, subst, inl, inr, ◌∙◌, append_assoc}
 use Rattle.std.proofs.lemmas.List.{append-nil}
 use Rattle.std.proofs.lemmas.Bool.{false≢true}
 use Rattle.std.proofs.lemmas.Grind.{flat_map-append}
@@ -82,9 +82,6 @@ report_puts f f' text o r r' h = go f (put_none f o)
 
     go : (g : Bool) → Puts f f [] o o → PutsBoth f f' [] text o o r r'
     go g n = both_puts f f f' [] text o o r r' n h
-
-risen_later : (a b c : ℕ) → HasRisen a b → b ≤ c → HasRisen a c
-risen_later a b c h le = omega arith
 
 -- one after the other
 pub both_both : (f m f' : Bool) (a b t u : List ℕ) (o o' o'' r r' r'' : Stream) → PutsBoth f m a t o o' r r'

@@ -1,5 +1,5 @@
 -- What the parts stand for, step by step.
-use Rattle.std.specs.Prelude.{◌≡◌, ℕ, suc, ◌≤◌, ◌==◌, ◌&&◌, ◌||◌, Bool, true, false, not, List, length, filter, All}
+use Rattle.std.specs.Prelude.{◌≡◌, ℕ, ◌≤◌, ◌==◌, ◌&&◌, ◌||◌, Bool, true, false, not, List, length, filter, All}
 use Rattle.std.specs.Prelude.{refl}
 use Rattle.std.specs.List.{list_any}
 use Rattle.std.proofs.Common.{sym, ◌∙◌, ap, subst, arith, inl, inr}
@@ -13,15 +13,12 @@ use Rattle.tnc_ports.specs.declared.host_parts.HostParts.{HostParts}
 use Rattle.tnc_ports.specs.declared.report_line.ReportLine.{ReportLine}
 use Rattle.tnc_ports.specs.HeldHosts.{AreParts, Moves, MovesBy, Narrows, IsKnown, IsKnownBefore, IsAtRest, is_named}
 use Rattle.tnc_ports.specs.HeldHosts.{joins, leaves}
-use Rattle.tnc_ports.specs.Hosts.{Hosts, delivering, is_line_of, is_among, IsDelivered, IsStep, HaveLeft, FirstHasLeft}
+use Rattle.tnc_ports.specs.Hosts.{Hosts, delivering, is_line_of, is_among, IsDelivered, IsStep}
 use Rattle.tnc_ports.specs.Hosts.{AllHaveLeft}
 use Rattle.tnc_ports.specs.IdRanges.{is_within}
 use Rattle.tnc_ports.proofs.NamedLemmas.{lines_without, ids_without, still_known, was_known}
 
 -- ---- one after another
-
-pub moves_not : (parts : HostParts) → Moves (λ hosts. hosts) parts parts
-moves_not parts = λ printed hosts h. h
 
 pub moves_then : (f g : Hosts → Hosts) (a b c : HostParts) → Moves f a b → Moves g b c
     → Moves (λ hosts. g (f hosts)) a c
@@ -31,15 +28,6 @@ pub moves_as : (f g : Hosts → Hosts) (a b : HostParts) → ((hosts : Hosts) �
     → Moves g a b
 moves_as f g a b same moves = λ printed hosts h. subst (λ next. AreParts b printed next) (same hosts)
     (moves printed hosts h)
-
-pub narrows_not : (parts : HostParts) → Narrows parts parts
-narrows_not parts = record {
-  station = refl;
-  came = refl;
-  named = λ id named. named;
-  pieces = λ pieces. pieces;
-  lighter = omega arith;
-}
 
 pub narrows_then : (a b c : HostParts) → Narrows a b → Narrows b c → Narrows a c
 narrows_then a b c first second = record {
@@ -139,9 +127,6 @@ known_after event closed a b c before came lines leaving untaken ids narrows gon
     }
 
 -- ---- the connections that were shut
-
-pub one_more_left : (count : ℕ) (a b c : Hosts) → HaveLeft count a b → FirstHasLeft b c → HaveLeft (suc count) a c
-one_more_left count a b c left first = (b, left, first)
 
 pub stepped : (step : Turn → Turn → Type 0) (a b c : HostParts) → MovesBy (IsDelivered step) a b
     → MovesBy AllHaveLeft b c → MovesBy (IsStep step) a c

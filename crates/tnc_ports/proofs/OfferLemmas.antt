@@ -1,6 +1,6 @@
 -- What connections are offered, one after another.
 use Rattle.std.specs.Prelude.{◌≡◌, ◌≢◌, ℕ, ◌+◌, ◌<◌, ◌≤◌, ◌==◌, ◌||◌, Bool, true, false, List, [], ◌∷◌, ◌++◌, length}
-use Rattle.std.specs.Prelude.{take, Option, Some, None, refl}
+use Rattle.std.specs.Prelude.{take, Option, Some, refl}
 use Rattle.std.proofs.Common.{sym, ◌∙◌, ap, subst, arith, inl, inr, get_or}
 use Rattle.std.proofs.lemmas.Bool.{eqb-true, eq-eqb, cases_Bool, false≢true, true≢false}
 use Rattle.std.proofs.lemmas.List.{take_more}
@@ -31,21 +31,6 @@ OffersTo id a t b u =
 as_offered : (id : ℕ) (line : Option Line) (before next : Offering) → line_of id before.hosts.lines ≡ line
     → IsOfferedTo line before next → IsOffered id before next
 as_offered id line before next is offered = subst (λ l. IsOfferedTo l before next) (sym is) offered
-
--- it is not there
-pub offers_nobody : (id : ℕ) (a : HostParts) (t : Told) → line_of id a.lines.items ≡ None → OffersTo id a t a t
-offers_nobody id a t none = λ printed before start h sent. (
-  before,
-  as_offered id None before before (ap (line_of id) h.lines ∙ none) refl,
-  h,
-  sent,
-)
-
--- nothing waits
-pub offers_nothing : (id : ℕ) (line : Line) (a : HostParts) (t : Told) → line_of id a.lines.items ≡ Some line
-    → line.waiting ≡ [] → OffersTo id a t a t
-offers_nothing id line a t found nothing = λ printed before start h sent.
-    (before, as_offered id (Some line) before before (ap (line_of id) h.lines ∙ found) (inl (nothing, refl)), h, sent)
 
 -- what was sent so far is told by the definitions alone
 with_sent : (a : HostParts) (printed : List ReportLine) (hosts : Hosts) (sent : List Piece) → AreParts a printed hosts
@@ -150,9 +135,6 @@ offers_more ids i a b c t u v within first second = λ printed before h was.
       two.2,
       two.3,
     )
-
-pub offers_none : (a : HostParts) (t : Told) → OffersAll [] a t a t
-offers_none a t = λ printed before h was. (before, refl, h, was)
 
 -- ---- the sockets are told who is shut
 

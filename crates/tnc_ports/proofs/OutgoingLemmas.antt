@@ -117,6 +117,28 @@ pub front_long : (lens octets : List ℕ) (pieces : List (List ℕ)) → sum len
 front_long lens octets pieces all view =
     ap length (front_is lens octets pieces view) ∙ length-take-le (front_len lens) octets (front_within lens octets all)
 
+-- octets at the front are taken off, at most those of the front piece
+pub record Drops (count front : ℕ) (lens octets left : List ℕ) : Type 0 where
+  pub front_is : front ≡ front_len lens
+  pub within : front_len lens ≤ length octets
+  pub asked : count ≤ front_len lens
+  pub left_is : left ≡ drop count octets
+
+pub drops : (count front counted : ℕ) (lens octets left : List ℕ) (pieces : List (List ℕ)) → sum lens ≡ length octets
+    → cut lens octets ≡ pieces → front ≡ length (front_of pieces) → count ≤ length (front_of pieces)
+    → counted ≡ length octets → left ≡ drop (length octets - (counted - count)) octets
+    → Drops count front lens octets left
+drops count front counted lens octets left pieces all view is asked counts left_is =
+    let long : length (front_of pieces) ≡ front_len lens = front_long lens octets pieces all view in
+    let within : front_len lens ≤ length octets = front_within lens octets all in
+    let place : length octets - (counted - count) ≡ count = omega arith in
+    record {
+      front_is = is ∙ long;
+      within = within;
+      asked = omega arith;
+      left_is = left_is ∙ ap (λ n. drop n octets) place;
+    }
+
 pub all_sent_sum : (lens octets : List ℕ) → sum lens ≡ length octets
     → sum (drop 1 lens) ≡ length (drop (front_len lens) octets)
 all_sent_sum [] octets all = all

@@ -1,11 +1,11 @@
 -- An input that is pumped read by read.
 use Rattle.std.specs.Prelude.{◌≡◌, ℕ, ℤ, Some, ◌≤◌, ◌<◌, ◌+◌, ◌*◌, List, [], ◌∷◌, ◌++◌, length, take, drop, Option}
-use Rattle.std.specs.Prelude.{None, refl}
+use Rattle.std.specs.Prelude.{None}
 use Rattle.std.proofs.Common.{sym, ap, ◌∙◌, append_assoc, arith, get_or, subst}
 use Rattle.std.proofs.lemmas.List.{take-append-drop, take_more, append-nil, length-append, length-take-le}
 use Rattle.tnc_base.specs.Streams.{Gives}
 use Rattle.wav_file.specs.Samples.{samples, sample_of}
-use Rattle.tnc_ports.specs.declared.pumping.PumpEnd.TheVariants.{InputEnd, ReadFault, TooLong, NotBegun}
+use Rattle.tnc_ports.specs.declared.pumping.PumpEnd.TheVariants.{InputEnd, ReadFault, TooLong}
 use Rattle.tnc_ports.specs.OddOctet.{odd_octet, odd_after, count_of, ended}
 use Rattle.tnc_ports.specs.Pumped.{IsPumped, most_input}
 use Rattle.tnc_ports.proofs.PairLemmas.{samples-snoc, odd-snoc}
@@ -126,29 +126,4 @@ pumped_too_much whole left published low total h long = record {
   left_over = h.left_over;
   samples_read = h.samples_read;
   stop = h.counted ∙ long;
-}
-
--- nothing is read by a pump that has not begun
-pub pumped_none : (whole : List ℕ) (left : Option (List ℕ)) (published : List ℤ) → left ≡ Some whole → published ≡ []
-    → IsPumped whole left published NotBegun
-pumped_none whole left published left_over empty = record {
-  read = [];
-  rest = whole;
-  parts = refl;
-  left_over = left_over;
-  samples_read = empty;
-  stop = refl;
-}
-
--- nothing is read yet
-pub pumped_nothing : (whole : List ℕ) (left : Option (List ℕ)) (published : List ℤ) → left ≡ Some whole → published ≡ []
-    → HasPumped whole left published None 0
-pumped_nothing whole left published left_over empty = record {
-  read = [];
-  rest = whole;
-  parts = refl;
-  left_over = left_over;
-  samples_read = empty;
-  odd = refl;
-  counted = refl;
 }

@@ -51,23 +51,6 @@ one_other closed piece hosts id differs = elim (cases_Bool (is_among piece.id cl
       ∙ to_other (line_of piece.id hosts.lines) piece hosts id refl differs
 ]
 
--- a piece for one that the step closes is dropped
-one_closed : (closed : List ℕ) (piece : Piece) (hosts : Hosts) (id : ℕ) → is_among id closed ≡ true
-    → line_of id (appending_one closed piece hosts).lines ≡ line_of id hosts.lines
-one_closed closed piece hosts id among = elim (cases_Bool (piece.id == id)) [
-  | inl is ↦
-      ap (λ (h : Hosts). line_of id h.lines)
-      (cond-true (is_among piece.id closed) hosts (appending_to (line_of piece.id hosts.lines) piece hosts)
-      (ap (λ n. is_among n closed) (eqb-true piece.id id is) ∙ among))
-  | inr isnt ↦ one_other closed piece hosts id (λ same. true≢false (sym (eq-eqb piece.id id same) ∙ isnt))
-]
-
-all_closed : (closed : List ℕ) (pieces : List Piece) (hosts : Hosts) (id : ℕ) → is_among id closed ≡ true
-    → line_of id (appending closed pieces hosts).lines ≡ line_of id hosts.lines
-all_closed closed [] hosts id among = refl
-all_closed closed (piece ∷ pieces) hosts id among = all_closed closed pieces (appending_one closed piece hosts) id among
-    ∙ one_closed closed piece hosts id among
-
 -- ---- a piece for the connection
 
 -- one for a connection that is there, and that the step does not close

@@ -1,21 +1,19 @@
 -- What comes from connections, one after another.
-use Rattle.std.specs.Prelude.{◌≡◌, ℕ, zero, suc, ◌≤◌, ◌==◌, ◌||◌, Bool, true, false, List, [], ◌∷◌, ◌++◌, length, All}
+use Rattle.std.specs.Prelude.{◌≡◌, ℕ, ◌==◌, ◌||◌, Bool, true, false, List, [], ◌∷◌, ◌++◌, length}
 use Rattle.std.specs.Prelude.{refl}
 use Rattle.std.specs.List.{list_any}
 use Rattle.std.proofs.Common.{sym, ◌∙◌, ap, subst, arith, inl, inr}
-use Rattle.std.proofs.lemmas.Bool.{eqb-true, or_left, or_right, false≢true, true≢false, false_from_ne_true}
+use Rattle.std.proofs.lemmas.Bool.{eqb-true, or_left, false≢true, true≢false}
 use Rattle.std.proofs.lemmas.List.{append-nil}
 use Rattle.std.proofs.lemmas.List.Elements.{All-append}
 use Rattle.std.proofs.lemmas.List.Folds.{list_any-append}
 use Rattle.station.specs.declared.host_event.HostEvent.TheVariants.{Joined, Bytes, Left}
 use Rattle.station.specs.declared.host_event.PortKind.{PortKind}
 use Rattle.station.specs.StandsFor.{StandsFor as StandsForStation}
-use Rattle.station.specs.Held.{ids_of}
 use Rattle.station.specs.Host.{IsHostTurn}
 use Rattle.tnc_ports.specs.declared.host_parts.HostParts.{HostParts}
 use Rattle.tnc_ports.specs.declared.report_line.ReportLine.{ReportLine}
-use Rattle.tnc_ports.specs.declared.untaken.Untaken.{Untaken}
-use Rattle.tnc_ports.specs.HeldHosts.{AreParts, Moves, MovesBy, IsKnown, IsKnownBefore, IsAtRest, is_named, is_known}
+use Rattle.tnc_ports.specs.HeldHosts.{AreParts, Moves, MovesBy, IsKnown, is_known}
 use Rattle.tnc_ports.specs.Hosts.{Hosts, without, was_there, is_line_of, is_among, IsStep}
 use Rattle.tnc_ports.specs.HostTurns.{InOrder, HasToWait, AreTaken, HasJoined, HasLeft, holding, joining}
 use Rattle.tnc_ports.specs.IdRanges.{is_within}
@@ -26,14 +24,6 @@ in_order-snoc step [] x a b c run one = (c, subst (λ s. step x s c) run one, re
 in_order-snoc step (y ∷ xs) x a b c run one = (run.0, run.1, in_order-snoc step xs x run.0 b c run.2 one)
 
 -- ---- octets
-
-pub passed_over : (id : ℕ) (octets : List ℕ) (a : HostParts) → list_any (is_line_of id) a.lines.items ≡ false
-    → MovesBy (AreTaken id octets) a a
-passed_over id octets a nobody = λ printed hosts h. (
-  hosts,
-  inl (ap (list_any (is_line_of id)) h.lines ∙ nobody, refl),
-  h,
-)
 
 -- the parts with octets that wait
 pub record Holds (id : ℕ) (octets : List ℕ) (a b : HostParts) : Type 0 where
@@ -62,45 +52,12 @@ holds_on id octets a b there waits s = λ printed hosts h. (
   },
 )
 
-only : {X : Type 0} (P : X → Type 0) (x : X) → P x → All P (x ∷ [])
-only P x p zero d within = p
-only P x p (suc k) d within = absurd (omega (arith, within))
-
-pub holds_at_rest : (id : ℕ) (octets : List ℕ) (a b : HostParts) → length octets ≤ 4096 → Holds id octets a b
-    → IsAtRest a → IsAtRest b
-holds_at_rest id octets a b few s rest = record {
-  known = record {
-    known = λ other named.
-        ap (λ station. is_among other (ids_of station)) s.station
-        ∙ rest.known.known other
-        (sym (ap (λ lines. list_any (is_line_of other) lines.items || is_among other b.leaving.items) s.lines
-        ∙ ap (λ ids. list_any (is_line_of other) a.lines.items || is_among other ids.items) s.leaving) ∙ named);
-    came = λ other known. ap (λ ranges. is_within other ranges.items) s.came
-        ∙ rest.known.came other (sym (ap (λ station. is_among other (ids_of station)) s.station) ∙ known);
-    pieces = subst (All (λ one. length one.octets ≤ 4096)) (sym s.untaken)
-        (All-append (λ (one : Untaken). length one.octets ≤ 4096) a.untaken.items
-        ((record { id = id; octets = octets }) ∷ []) rest.known.pieces
-        (only (λ (one : Untaken). length one.octets ≤ 4096) (record { id = id; octets = octets }) few));
-  };
-  nobody_leaves = ap (λ ids. ids.items) s.leaving ∙ rest.nobody_leaves;
-}
-
 pub takes_now : (id : ℕ) (octets : List ℕ) (a b : HostParts) → list_any (is_line_of id) a.lines.items ≡ true
     → ((printed : List ReportLine) (hosts : Hosts) → AreParts a printed hosts → ¬ HasToWait id hosts)
     → MovesBy (IsStep (IsHostTurn (Bytes id octets))) a b → MovesBy (AreTaken id octets) a b
 takes_now id octets a b there goes moves = λ printed hosts h.
     let m = moves printed hosts h in
     (m.0, inr (inr (ap (list_any (is_line_of id)) h.lines ∙ there, goes printed hosts h, m.1)), m.2)
-
--- what is known before octets are given
-pub known_bytes : (id : ℕ) (octets : List ℕ) (a : HostParts) → IsKnown a → IsKnownBefore (Bytes id octets) a
-known_bytes id octets a known = record {
-  known = λ other named joins_not. known.known other named;
-  came = known.came;
-  joined = λ other holds. absurd (false≢true holds);
-  left = λ other holds. absurd (false≢true holds);
-  pieces = known.pieces;
-}
 
 -- who is there is known
 pub there_known : (id : ℕ) (a : HostParts) → IsKnown a → list_any (is_line_of id) a.lines.items ≡ true
@@ -110,9 +67,6 @@ there_known id a known there = known.known id (or_left (list_any (is_line_of id)
 
 -- ---- a connection leaves
 
-pub left_nobody : (id : ℕ) (a : HostParts) → list_any (is_line_of id) a.lines.items ≡ false → MovesBy (HasLeft id) a a
-left_nobody id a nobody = λ printed hosts h. (hosts, inl (ap (list_any (is_line_of id)) h.lines ∙ nobody, refl), h)
-
 pub left_there : (id : ℕ) (a b c : HostParts) → list_any (is_line_of id) a.lines.items ≡ true → Moves (without id) a b
     → MovesBy (IsStep (IsHostTurn (Left id))) b c → MovesBy (HasLeft id) a c
 left_there id a b c there first second = λ printed hosts h.
@@ -120,10 +74,6 @@ left_there id a b c there first second = λ printed hosts h.
     (m.0, inr (ap (list_any (is_line_of id)) h.lines ∙ there, m.1), m.2)
 
 -- ---- a connection joins
-
-pub joined_before : (id : ℕ) (kind : PortKind) (a : HostParts) → is_within id a.came.items ≡ true
-    → MovesBy (HasJoined id kind) a a
-joined_before id kind a was = λ printed hosts h. (hosts, inl (sym (h.came id) ∙ was, refl), h)
 
 -- the parts with the new connection
 pub record JoinsParts (id : ℕ) (a b : HostParts) : Type 0 where
@@ -159,51 +109,7 @@ joined_anew id kind a b c new s second = λ printed hosts h.
     let m = second printed (joining id hosts) (joins_moves id a b s printed hosts h) in
     (m.0, inr (sym (h.came id) ∙ new, m.1), m.2)
 
--- one who did not come before is not known
-pub new_unknown : (id : ℕ) (a : HostParts) → IsKnown a → is_within id a.came.items ≡ false → is_known id a ≡ false
-new_unknown id a known new = false_from_ne_true (is_known id a) (λ holds. true≢false (sym (known.came id holds) ∙ new))
-
-pub known_joining : (id : ℕ) (kind : PortKind) (a b : HostParts) → IsAtRest a → JoinsParts id a b
-    → IsKnownBefore (Joined id kind) b
-known_joining id kind a b rest s = record {
-  known = λ other named not_new.
-      let either : ((list_any (is_line_of other) a.lines.items || ((id == other) || false))
-      || is_among other a.leaving.items) ≡ true =
-      sym (ap (λ lines. list_any (is_line_of other) lines || is_among other b.leaving.items) s.lines
-      ∙ ap (λ t. t || is_among other b.leaving.items) (list_any-append (is_line_of other) a.lines.items
-      ((record { id = id; waiting = [] }) ∷ []))
-      ∙ ap (λ ids. (list_any (is_line_of other) a.lines.items || ((id == other) || false)) || is_among other ids.items)
-      s.leaving) ∙ named in
-      let was : is_named other a ≡ true =
-      sym (ap (λ t. (list_any (is_line_of other) a.lines.items || t) || is_among other a.leaving.items)
-      (or_nothing (id == other) ∙ not_new)
-      ∙ ap (λ t. t || is_among other a.leaving.items) (or_nothing (list_any (is_line_of other) a.lines.items)))
-      ∙ either in
-      ap (λ station. is_among other (ids_of station)) s.station ∙ rest.known.known other was;
-  came = λ other known. s.came other ∙ or_left (is_within other a.came.items) (id == other)
-      (rest.known.came other (sym (ap (λ station. is_among other (ids_of station)) s.station) ∙ known));
-  joined = λ other holds. s.came other ∙ or_right (is_within other a.came.items) (id == other) holds;
-  left = λ other holds. absurd (false≢true holds);
-  pieces = subst (λ all. All (λ one. length one.octets ≤ 4096) all.items) (sym s.untaken) rest.known.pieces;
-}
-
--- what is known before the station is told that a connection left
-pub known_leaving : (id : ℕ) (a b : HostParts) → IsKnown a → b.station ≡ a.station → b.came ≡ a.came
-    → ((other : ℕ) → is_named other b ≡ true → is_named other a ≡ true)
-    → All (λ one. length one.octets ≤ 4096) b.untaken.items → is_named id b ≡ false → IsKnownBefore (Left id) b
-known_leaving id a b known station came names pieces gone = record {
-  known = λ other named joins_not. ap (λ s. is_among other (ids_of s)) station ∙ known.known other (names other named);
-  came = λ other is. ap (λ ranges. is_within other ranges.items) came
-      ∙ known.came other (sym (ap (λ s. is_among other (ids_of s)) station) ∙ is);
-  joined = λ other holds. absurd (false≢true holds);
-  left = λ other holds. subst (λ n. is_named n b ≡ false) (eqb-true id other holds) gone;
-  pieces = pieces;
-}
-
 -- ---- one after another
-
-pub runs_none : {A : Type 0} (step : A → Hosts → Hosts → Type 0) (a : HostParts) → MovesBy (InOrder step []) a a
-runs_none step a = λ printed hosts h. (hosts, refl, h)
 
 pub runs_more : {A : Type 0} (step : A → Hosts → Hosts → Type 0) (xs : List A) (x : A) (a b c : HostParts)
     → MovesBy (InOrder step xs) a b → MovesBy (step x) b c → MovesBy (InOrder step (xs ++ x ∷ [])) a c
@@ -224,21 +130,6 @@ put_aside a b printed hosts station came lines report to_shut leaving none h = r
   report = h.report ∙ ap (λ all. printed ++ all.items) (sym report);
   to_shut = h.to_shut ∙ ap (λ ids. ids.items) (sym to_shut);
   leaving = h.leaving ∙ ap (λ ids. ids.items) (sym leaving);
-}
-
-pub aside_at_rest : (a b : HostParts) → b.station ≡ a.station → b.came ≡ a.came → b.lines ≡ a.lines
-    → b.leaving ≡ a.leaving → b.untaken.items ≡ [] → IsAtRest a → IsAtRest b
-aside_at_rest a b station came lines leaving none rest = record {
-  known = record {
-    known = λ other named.
-        ap (λ s. is_among other (ids_of s)) station
-        ∙ rest.known.known other (sym (ap (λ ls. list_any (is_line_of other) ls.items || is_among other b.leaving.items)
-        lines ∙ ap (λ ids. list_any (is_line_of other) a.lines.items || is_among other ids.items) leaving) ∙ named);
-    came = λ other known. ap (λ ranges. is_within other ranges.items) came
-        ∙ rest.known.came other (sym (ap (λ s. is_among other (ids_of s)) station) ∙ known);
-    pieces = subst (All (λ one. length one.octets ≤ 4096)) (sym none) (λ k d within. absurd (omega (arith, within)));
-  };
-  nobody_leaves = ap (λ ids. ids.items) leaving ∙ rest.nobody_leaves;
 }
 
 pub whole_list : {A : Type 0} (all yielded rest : List A) → all ≡ yielded ++ rest → length rest ≡ 0 → yielded ≡ all

@@ -1,4 +1,4 @@
--- The octet that is left over where octets are taken in pairs. The pump keeps it between two reads; no public clause
+-- The octet that is left over when octets are taken in pairs. The pump keeps it between two reads; no public clause
 -- cites it.
 use Rattle.std.specs.Prelude.{ℕ, ℤ, List, [], ◌∷◌, Option, Some, None}
 use Rattle.wav_file.specs.Samples.{sample_of}

@@ -1,7 +1,8 @@
 //! What a step of the station says to connections.
 ghost use Rattle.std.specs.Prelude.{◌≡◌, false, true, ℕ, OnOk};
 ghost use Rattle.tnc_ports.specs.HeldHosts.{Moves, Narrows, is_named};
-ghost use Rattle.tnc_ports.specs.Hosts.{appending, appending_one, appending_to, closing_all, closing_one, delivering, is_among, line_of};
+ghost use Rattle.tnc_ports.specs.Hosts.{appending, appending_one, appending_to, closing_all, closing_one, delivering};
+ghost use Rattle.tnc_ports.specs.Hosts.{is_among, line_of};
 
 use crate::host_parts::HostParts;
 use crate::lines::{is_among, is_there, place_of};

@@ -33,8 +33,9 @@ use std::mem;
 use std::net::Net;
 use tnc_base::OutOfMemory;
 
-/// The station and its hosts. It stands for the hosts that the calls so far have made, until one of them answers want of
-/// memory. Of what was appended for each connection a first part was sent, and the rest waits as long as it is there.
+/// The station and its hosts. It stands for the hosts that the calls so far have made, until one of them answers want
+/// of memory. Of what was appended for each connection a first part was sent, and the rest waits as long as it is
+/// there.
 #[derive(Drop)]
 pub struct HostSide {
     alloc: Global,
@@ -82,7 +83,8 @@ impl HostSide {
     /// A frame of 15 to 1024 octets is heard. Fails only for want of memory, and is then spent.
     pub fn hear(&mut self, octets: &[u8]) -> Result<(), OutOfMemory>
         requires { HasFrameLength octets.now }
-        ensures step { (hosts : Hosts) (printed : List ReportLine) → StandsFor self.old printed hosts → IfOk result (λ _.
+        ensures step { (hosts : Hosts) (printed : List ReportLine) → StandsFor self.old printed hosts
+            → IfOk result (λ _.
             (next : Hosts) × IsHeardStep octets.now hosts next × StandsFor self.new printed next) }
         ensures spent { OnErr result (self.new.spent ≡ true) }
         ensures stays_spent { self.old.spent ≡ true → IsErr result }
@@ -98,7 +100,8 @@ impl HostSide {
 
     /// A tick of 10 ms, and what is on the air in it. Fails only for want of memory, and is then spent.
     pub fn tick(&mut self, busy: bool) -> Result<AirTick, OutOfMemory>
-        ensures step { (hosts : Hosts) (printed : List ReportLine) → StandsFor self.old printed hosts → IfOk result (λ air.
+        ensures step { (hosts : Hosts) (printed : List ReportLine) → StandsFor self.old printed hosts
+            → IfOk result (λ air.
             (next : Hosts) × IsTickStep busy air hosts next × StandsFor self.new printed next) }
         ensures spent { OnErr result (self.new.spent ≡ true) }
         ensures stays_spent { self.old.spent ≡ true → IsErr result }
@@ -117,13 +120,16 @@ impl HostSide {
     /// told of each connection that was shut since the last part. Fails only for want of memory, and is then spent; the
     /// part is cut short then, before the poll, after it, or between two connections.
     pub fn part<R: Net, N: Ports>(&mut self, rt: &R, ports: &mut N) -> Result<(), OutOfMemory>
-        ensures part { (hosts : Hosts) (printed : List ReportLine) → StandsFor self.old printed hosts → IfOk result (λ _.
+        ensures part { (hosts : Hosts) (printed : List ReportLine) → StandsFor self.old printed hosts
+            → IfOk result (λ _.
             (asked : Asked) × (next : Hosts) × IsHostPart asked hosts next × StandsFor self.new printed next
             × ((id : ℕ) → octets_for id next.sent ≡ octets_for id hosts.sent ++ taken_of id asked.offers)
             × IsAsked asked (told_by N.polls N.sends N.sent N.is_shut N.faults ports.old)
             (told_by N.polls N.sends N.sent N.is_shut N.faults ports.new)) }
-        ensures cut { (hosts : Hosts) (printed : List ReportLine) → StandsFor self.old printed hosts → OnErr result (HasCutPart hosts
-            (told_by N.polls N.sends N.sent N.is_shut N.faults ports.old) (told_by N.polls N.sends N.sent N.is_shut N.faults ports.new)) }
+        ensures cut { (hosts : Hosts) (printed : List ReportLine) → StandsFor self.old printed hosts
+            → OnErr result (HasCutPart hosts
+            (told_by N.polls N.sends N.sent N.is_shut N.faults ports.old)
+            (told_by N.polls N.sends N.sent N.is_shut N.faults ports.new)) }
         ensures listens { N.listens ports.new ≡ N.listens ports.old }
         ensures later { N.faults ports.old ≤ N.faults ports.new }
         ensures spent { OnErr result (self.new.spent ≡ true) }

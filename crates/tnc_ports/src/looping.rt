@@ -29,8 +29,8 @@ pub enum LoopEnd {
     WriteFault,
 }
 
-/// Makes turn after turn until every reader has met the end of the ring, or memory is wanted. It may wait for the ring's
-/// writer.
+/// Makes turn after turn until every reader has met the end of the ring, or memory is wanted. It may wait for the
+/// ring's writer.
 pub fn station_loop<R: Threads + Wait + Net + Sync, O: Sink, E: Sink, N: Ports>(
     rt: &R,
     alloc: Global,
@@ -45,8 +45,10 @@ pub fn station_loop<R: Threads + Wait + Net + Sync, O: Sink, E: Sink, N: Ports>(
     requires fresh { IsFresh words.now ring.now receiver.old }
     ensures readers { All (λ reader. reader_ring reader ≡ ring_id ring.now) (readers_in receiver.new) }
     ensures looped { IsLooped words.now result (answers_in (ring_len ring.now) receiver.new)
-        (outside_by N.listens N.polls N.sends N.sent N.is_shut N.faults O.written O.faults E.written E.faults ports.old output.old report.old)
-        (outside_by N.listens N.polls N.sends N.sent N.is_shut N.faults O.written O.faults E.written E.faults ports.new output.new report.new) }
+        (outside_by N.listens N.polls N.sends N.sent N.is_shut N.faults O.written O.faults E.written E.faults
+        ports.old output.old report.old)
+        (outside_by N.listens N.polls N.sends N.sent N.is_shut N.faults O.written O.faults E.written E.faults
+        ports.new output.new report.new) }
 {
     let Ok(hosts) = HostSide::new(alloc, words.config, words.seed) else {
         return LoopEnd::Memory;

@@ -3,10 +3,13 @@
 //! An event of the script is due at the poll of its number. Octets of a paused connection wait, and so does all that
 //! comes of that connection after them, until a poll that does not pause it. What is due at a poll that fails is given
 //! at the next one.
-ghost use Rattle.std.specs.Prelude.{◌≡◌, ◌≢◌, ℕ, ◌≤◌, ◌<◌, ◌+◌, ◌^◌, ◌↔◌, ◌-◌, Bool, true, false, List, Some, [], ◌∷◌, ◌++◌, All, Contains, length, take, map, min, if◌then◌else◌, IfOk, OnOk, OnErr, IsErr, IsErrOf, IsTrue};
+ghost use Rattle.std.specs.Prelude.{◌≡◌, ◌≢◌, ℕ, ◌≤◌, ◌<◌, ◌+◌, ◌^◌, ◌↔◌, ◌-◌, Bool, true, false, List, Some, [], ◌∷◌};
+ghost use Rattle.std.specs.Prelude.{◌++◌, All, Contains, length, take, map, min, if◌then◌else◌, IfOk, OnOk, OnErr};
+ghost use Rattle.std.specs.Prelude.{IsErr, IsErrOf, IsTrue};
 ghost use Rattle.tnc_base.specs.Faults.{next_count, HasRisen};
 ghost use Rattle.tnc_ports.specs.Sockets.{Poll, Send, MayCome, IsWholePiece, has_come};
-ghost use Rattle.tnc_ports.specs.Scripts.{PortsView, new_ports, due, waiting_of, given_of, joined_in, was_shut, shut_one, with_shut, sent_to, as_told};
+ghost use Rattle.tnc_ports.specs.Scripts.{PortsView, new_ports, due, waiting_of, given_of, joined_in, was_shut};
+ghost use Rattle.tnc_ports.specs.Scripts.{shut_one, with_shut, sent_to, as_told};
 
 use crate::ports::{PollFault, Ports};
 use crate::records::{Came, Listen, PollRecord, Taken};

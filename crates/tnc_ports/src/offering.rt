@@ -72,7 +72,8 @@ impl HostParts {
             × AreOffered next.offers next.failed start (told_by N.polls N.sends N.sent N.is_shut N.faults ports.new)) }
         ensures cut { (offers : List Offer) (failing : List ℕ) (start : Told)
             → AreOffered offers failing start (told_by N.polls N.sends N.sent N.is_shut N.faults ports.old)
-            → OnErr result (AreOffered offers failing start (told_by N.polls N.sends N.sent N.is_shut N.faults ports.new)) }
+            → OnErr result (AreOffered offers failing start
+            (told_by N.polls N.sends N.sent N.is_shut N.faults ports.new)) }
         ensures rest { OnOk result (IsAtRest self.new) }
         ensures listens { N.listens ports.new ≡ N.listens ports.old }
         ensures later { N.faults ports.old ≤ N.faults ports.new }

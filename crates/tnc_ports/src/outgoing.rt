@@ -4,7 +4,8 @@
 //! borders of the pieces that it is to be sent: it offers the rest of the front piece, and no octet of the next one.
 //! The octets stand in a ring that is taken when the connection joins, so a host that stops reading takes no more
 //! memory than one that goes on.
-ghost use Rattle.std.specs.Prelude.{◌≡◌, ℕ, ◌+◌, ◌<◌, ◌≤◌, ◌↔◌, ◌++◌, ◌==◌, [], length, take, IfOk, OnOk, OnErr, IsErrOf};
+ghost use Rattle.std.specs.Prelude.{◌≡◌, ℕ, ◌+◌, ◌<◌, ◌≤◌, ◌↔◌, ◌++◌, ◌==◌, [], length, take, IfOk, OnOk, OnErr};
+ghost use Rattle.std.specs.Prelude.{IsErrOf};
 ghost use Rattle.tnc_ports.specs.Waiting.{most_octets, octets_of, with_piece, front_of, after_sending};
 
 use circular_buffer::HeapCircularBuffer;

@@ -3,7 +3,8 @@
 //! The calls are made in this order: `listen`, and then in each turn one `poll` and the `send`s. Like a stream, the
 //! sockets count their faults, so that nobody can blame them for a failure of its own, and they tell what was done
 //! with them if they know it. A contract on code that works with them can then say what it does to each connection.
-ghost use Rattle.std.specs.Prelude.{◌≡◌, ◌≢◌, ℕ, ◌≤◌, ◌<◌, Bool, true, List, Option, Some, [], ◌∷◌, ◌++◌, All, length, take, IfOk, OnOk, OnErr, IsErrOf};
+ghost use Rattle.std.specs.Prelude.{◌≡◌, ◌≢◌, ℕ, ◌≤◌, ◌<◌, Bool, true, List, Option, Some, [], ◌∷◌, ◌++◌, All, length};
+ghost use Rattle.std.specs.Prelude.{take, IfOk, OnOk, OnErr, IsErrOf};
 ghost use Rattle.tnc_base.specs.Faults.{HasRisen};
 ghost use Rattle.tnc_ports.specs.declared.records.Listen.{Listen};
 ghost use Rattle.tnc_ports.specs.Sockets.{Poll, Send, MayCome, has_come};
@@ -76,7 +77,8 @@ pub trait Ports {
     ) -> Result<Vec<HostEvent>, PollFault>
         ensures events { IfOk result (λ events. All (MayCome paused.now) events.items) }
         ensures polled { (before : List Poll) → polls self.old ≡ Some before → IfOk result (λ events.
-            polls self.new ≡ Some (before ++ (record { wait = wait_ms; paused = paused.now; events = events.items }) ∷ [])) }
+            polls self.new ≡ Some (before
+            ++ (record { wait = wait_ms; paused = paused.now; events = events.items }) ∷ [])) }
         ensures failed_poll { (before : List Poll) → polls self.old ≡ Some before → IsErrOf result PollFault.Failed
             → polls self.new ≡ Some (before ++ (record { wait = wait_ms; paused = paused.now; events = [] }) ∷ []) }
         ensures memory { IsErrOf result PollFault.Memory → polls self.new ≡ polls self.old }
@@ -87,8 +89,8 @@ pub trait Ports {
         ensures later { faults self.old ≤ faults self.new }
         ensures failed { IsErrOf result PollFault.Failed → HasRisen (faults self.old) (faults self.new) };
 
-    /// Sends a first part of the octets and answers its length. 0 of some octets means that the connection takes nothing
-    /// now.
+    /// Sends a first part of the octets and answers its length. 0 of some octets means that the connection takes
+    /// nothing now.
     fn send<R: Net>(&mut self, rt: &R, id: u32, octets: &[u8]) -> Result<usize, Failed>
         ensures bound { IfOk result (λ count. count ≤ length octets.now) }
         ensures sent { (before : List ℕ) → sent self.old id ≡ Some before

@@ -1,5 +1,6 @@
 //! The pump: it carries the samples of the input into the ring, while the station's turns read them there.
-ghost use Rattle.std.specs.Prelude.{◌≡◌, ◌≢◌, ◌≤◌, ◌<◌, ◌+◌, ◌-◌, ◌*◌, ◌^◌, ℕ, List, Some, [], ◌++◌, length, option_map};
+ghost use Rattle.std.specs.Prelude.{◌≡◌, ◌≢◌, ◌≤◌, ◌<◌, ◌+◌, ◌-◌, ◌*◌, ◌^◌, ℕ, List, Some, [], ◌++◌, length};
+ghost use Rattle.std.specs.Prelude.{option_map};
 ghost use Rattle.sample_ring.specs.Ends.{ring_id, writer_ring, done_ring, published_by, all_published};
 ghost use Rattle.tnc_base.specs.Faults.{HasRisen};
 ghost use Rattle.wav_file.specs.Samples.{samples, sample_of};

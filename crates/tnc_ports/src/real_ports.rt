@@ -348,7 +348,7 @@ fn take_piece(
     Ok(())
 }
 
-/// Writes what the connection takes now, or `None` where it is gone or fails.
+/// Writes what the connection takes now, or `None` if it is gone or fails.
 fn write(sockets: &mut [Socket], id: u32, octets: &[u8]) -> Option<usize>
     ensures { IfSome result (λ count. count ≤ length octets.now) }
 {

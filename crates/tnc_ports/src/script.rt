@@ -2,7 +2,8 @@
 ghost use Rattle.std.specs.Prelude.{◌≡◌, ◌++◌, [], ◌∷◌, IfOk, OnOk, if◌then◌else◌};
 ghost use Rattle.std.specs.List.{list_any};
 ghost use Rattle.tnc_ports.specs.Sockets.{id_of, is_octets_of, is_joining_of};
-ghost use Rattle.tnc_ports.specs.Scripts.{scripted_for, is_paused, has_to_wait, waiting_of, given_of, due_of, joined_of, joined_in};
+ghost use Rattle.tnc_ports.specs.Scripts.{scripted_for, is_paused, has_to_wait, waiting_of, given_of, due_of};
+ghost use Rattle.tnc_ports.specs.Scripts.{joined_of, joined_in};
 
 use crate::records::{Came, copies, copy};
 use station::HostEvent;

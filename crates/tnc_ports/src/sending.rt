@@ -63,7 +63,8 @@ pub fn offer<R: Net, N: Ports>(
           offered = length (front_of waiting.old);
           took = count;
         }) ∷ [])) }
-    ensures refused { OnErr result ((N.sent ports.new id ≡ N.sent ports.old id) × (N.sends ports.new ≡ N.sends ports.old)) }
+    ensures refused { OnErr result ((N.sent ports.new id ≡ N.sent ports.old id)
+        × (N.sends ports.new ≡ N.sends ports.old)) }
     ensures listens { N.listens ports.new ≡ N.listens ports.old }
     ensures polls { N.polls ports.new ≡ N.polls ports.old }
     ensures shut { (other : ℕ) → N.is_shut ports.new other ≡ N.is_shut ports.old other }
@@ -94,7 +95,8 @@ fn send_front<R: Net, N: Ports>(
           offered = length (front_of waiting.now);
           took = count;
         }) ∷ [])) }
-    ensures refused { OnErr result ((N.sent ports.new id ≡ N.sent ports.old id) × (N.sends ports.new ≡ N.sends ports.old)) }
+    ensures refused { OnErr result ((N.sent ports.new id ≡ N.sent ports.old id)
+        × (N.sends ports.new ≡ N.sends ports.old)) }
     ensures listens { N.listens ports.new ≡ N.listens ports.old }
     ensures polls { N.polls ports.new ≡ N.polls ports.old }
     ensures shut { (other : ℕ) → N.is_shut ports.new other ≡ N.is_shut ports.old other }

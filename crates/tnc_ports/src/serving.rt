@@ -2,7 +2,8 @@
 ghost use Rattle.std.specs.Prelude.{◌≡◌, ℕ, List, [], ◌≤◌, Some, All};
 ghost use Rattle.std.specs.Thread.{IsSync};
 ghost use Rattle.link_machine.specs.Params.{IsRefusedWindow};
-ghost use Rattle.sample_ring.specs.Ends.{ring_id, ring_len, reader_ring, writer_ring, done_ring, published_by, all_published};
+ghost use Rattle.sample_ring.specs.Ends.{ring_id, ring_len, reader_ring, writer_ring, done_ring, published_by};
+ghost use Rattle.sample_ring.specs.Ends.{all_published};
 ghost use Rattle.ring_receiver.specs.HeldReceiver.{readers_in, answers_in};
 ghost use Rattle.tnc_ports.specs.FreshReceiver.{IsFresh};
 ghost use Rattle.tnc_ports.specs.Pumped.{IsPumped};
@@ -76,8 +77,10 @@ pub fn serve<
     requires window { (window : ℕ) → ¬ IsRefusedWindow words.config.params window }
     requires dcd { (1 ≤ words.dcd) × (words.dcd ≤ 8) }
     ensures { IsServed words result (input_by I.left I.faults input.old) (input_by I.left I.faults input.new)
-        (outside_by N.listens N.polls N.sends N.sent N.is_shut N.faults O.written O.faults E.written E.faults live.old.ports output.old report.old)
-        (outside_by N.listens N.polls N.sends N.sent N.is_shut N.faults O.written O.faults E.written E.faults live.new.ports output.new report.new) }
+        (outside_by N.listens N.polls N.sends N.sent N.is_shut N.faults O.written O.faults E.written E.faults
+        live.old.ports output.old report.old)
+        (outside_by N.listens N.polls N.sends N.sent N.is_shut N.faults O.written O.faults E.written E.faults
+        live.new.ports output.new report.new) }
 {
     let Live { ports, spawner } = live;
     if ports.listen(rt, words.kiss, words.agw).is_err() {
@@ -137,11 +140,14 @@ fn run_beside<
     requires window { (window : ℕ) → ¬ IsRefusedWindow words.now.config.params window }
     requires writing { IsWriting ring.now pumping.old }
     requires fresh { IsFresh words.now ring.now receiver.old }
-    ensures pumped { HasPumped ring.now pumping.new (input_by I.left I.faults input.old) (input_by I.left I.faults input.new) }
+    ensures pumped { HasPumped ring.now pumping.new (input_by I.left I.faults input.old)
+        (input_by I.left I.faults input.new) }
     ensures readers { All (λ reader. reader_ring reader ≡ ring_id ring.now) (readers_in receiver.new) }
     ensures looped { IsLooped words.now end.new (answers_in (ring_len ring.now) receiver.new)
-        (outside_by N.listens N.polls N.sends N.sent N.is_shut N.faults O.written O.faults E.written E.faults ports.old output.old report.old)
-        (outside_by N.listens N.polls N.sends N.sent N.is_shut N.faults O.written O.faults E.written E.faults ports.new output.new report.new) }
+        (outside_by N.listens N.polls N.sends N.sent N.is_shut N.faults O.written O.faults E.written E.faults
+        ports.old output.old report.old)
+        (outside_by N.listens N.polls N.sends N.sent N.is_shut N.faults O.written O.faults E.written E.faults
+        ports.new output.new report.new) }
 {
     spawner.beside(
         rt,
@@ -152,8 +158,10 @@ fn run_beside<
                 × IsFresh words.now ring.now receiver.now }
             ensures { All (λ reader. reader_ring reader ≡ ring_id ring.entry.now) (readers_in receiver.exit.now)
                 × IsLooped words.entry.now end.exit.now (answers_in (ring_len ring.entry.now) receiver.exit.now)
-                (outside_by N.listens N.polls N.sends N.sent N.is_shut N.faults O.written O.faults E.written E.faults ports.entry.now output.entry.now report.entry.now)
-                (outside_by N.listens N.polls N.sends N.sent N.is_shut N.faults O.written O.faults E.written E.faults ports.exit.now output.exit.now report.exit.now) }
+                (outside_by N.listens N.polls N.sends N.sent N.is_shut N.faults O.written O.faults E.written E.faults
+                ports.entry.now output.entry.now report.entry.now)
+                (outside_by N.listens N.polls N.sends N.sent N.is_shut N.faults O.written O.faults E.written E.faults
+                ports.exit.now output.exit.now report.exit.now) }
         {
             *end = turns(
                 rt, alloc, words, ring, receiver, output, report, ports, start,
@@ -178,8 +186,10 @@ fn turns<R: Threads + Wait + Net + Sync, O: Sink, E: Sink, N: Ports>(
     requires fresh { IsFresh words.now ring.now receiver.old }
     ensures readers { All (λ reader. reader_ring reader ≡ ring_id ring.now) (readers_in receiver.new) }
     ensures looped { IsLooped words.now result (answers_in (ring_len ring.now) receiver.new)
-        (outside_by N.listens N.polls N.sends N.sent N.is_shut N.faults O.written O.faults E.written E.faults ports.old output.old report.old)
-        (outside_by N.listens N.polls N.sends N.sent N.is_shut N.faults O.written O.faults E.written E.faults ports.new output.new report.new) }
+        (outside_by N.listens N.polls N.sends N.sent N.is_shut N.faults O.written O.faults E.written E.faults
+        ports.old output.old report.old)
+        (outside_by N.listens N.polls N.sends N.sent N.is_shut N.faults O.written O.faults E.written E.faults
+        ports.new output.new report.new) }
 {
     if !start.wait(rt) {
         return LoopEnd::Memory;

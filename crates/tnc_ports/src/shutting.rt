@@ -17,7 +17,8 @@ impl HostParts {
         ensures narrows { Narrows self.old self.new }
         ensures gone { is_named id self.new ≡ false }
         ensures one_less { is_among id self.old.leaving.items ≡ true → weight self.new + 1 ≤ weight self.old }
-        ensures two_less { list_any (is_line_of id) self.old.lines.items ≡ true → weight self.new + 2 ≤ weight self.old }
+        ensures two_less { list_any (is_line_of id) self.old.lines.items ≡ true
+            → weight self.new + 2 ≤ weight self.old }
     {
         remove_line(id, &mut self.lines);
         remove_untaken(id, &mut self.untaken);

@@ -55,7 +55,8 @@ impl HostParts {
     pub(crate) fn cut_off(&mut self, id: u32) -> Result<(), OutOfMemory>
         requires there { list_any (is_line_of id) self.old.lines.items ≡ true }
         requires rest { IsAtRest self.old }
-        ensures moves { OnOk result (MovesBy (λ before after. AllHaveLeft (cutting id before) after) self.old self.new) }
+        ensures moves { OnOk result (MovesBy (λ before after. AllHaveLeft
+            (cutting id before) after) self.old self.new) }
         ensures rest { OnOk result (IsAtRest self.new) }
     {
         self.cut(id)?;

@@ -3,7 +3,8 @@
 //! Each step writes what it has to say once nothing of it can fail any more. So if memory is wanted, no line and no
 //! sample is written of a step that did not come to its end.
 
-ghost use Rattle.std.specs.Prelude.{◌≡◌, ℕ, ◌+◌, ◌-◌, ◌*◌, ◌/◌, ◌^◌, ◌<◌, ◌≤◌, Bool, true, false, List, Option, Some, None, map, All, IfOk, OnOk, OnErr};
+ghost use Rattle.std.specs.Prelude.{◌≡◌, ℕ, ◌+◌, ◌-◌, ◌*◌, ◌/◌, ◌^◌, ◌<◌, ◌≤◌, Bool, true, false, List, Option, Some};
+ghost use Rattle.std.specs.Prelude.{None, map, All, IfOk, OnOk, OnErr};
 ghost use Rattle.hdlc_framer.specs.FrameLength.{HasFrameLength};
 ghost use Rattle.ax25_address.specs.declared.path.Path.{Path};
 ghost use Rattle.sample_ring.specs.Ends.{ring_id, ring_len, reader_ring};
@@ -55,7 +56,8 @@ pub(crate) struct Turning {
 }
 
 impl Turning {
-    ghost use Rattle.tnc_ports.specs.SampledHeld.{Keeps, StandsForLive, HearsFrame, HearsFrames, HearsSome, Ticks, TicksAll, ServesAll, Reads, Turns, IsCutOff};
+    ghost use Rattle.tnc_ports.specs.SampledHeld.{Keeps, StandsForLive, HearsFrame, HearsFrames, HearsSome, Ticks};
+    ghost use Rattle.tnc_ports.specs.SampledHeld.{TicksAll, ServesAll, Reads, Turns, IsCutOff};
 
     /// Makes a turn, and answers whether every reader has met the end of the ring.
     pub(crate) fn turn<R: Threads + Net + Sync, O: Sink, E: Sink, N: Ports>(
@@ -74,12 +76,14 @@ impl Turning {
             → IfOk result (λ ended. Turns ended self.old self.new (ring_len ring.now) receiver.new live
             (stream_of O.written O.faults output.old) (stream_of O.written O.faults output.new)
             (stream_of E.written E.faults report.old) (stream_of E.written E.faults report.new)
-            (told_by N.polls N.sends N.sent N.is_shut N.faults ports.old) (told_by N.polls N.sends N.sent N.is_shut N.faults ports.new)) }
+            (told_by N.polls N.sends N.sent N.is_shut N.faults ports.old)
+            (told_by N.polls N.sends N.sent N.is_shut N.faults ports.new)) }
         ensures cut { (live : Live) → StandsForLive self.old (ring_len ring.now) receiver.old live
             → OnErr result (IsCutOff self.old self.new (ring_len ring.now) receiver.new live
             (stream_of O.written O.faults output.old) (stream_of O.written O.faults output.new)
             (stream_of E.written E.faults report.old) (stream_of E.written E.faults report.new)
-            (told_by N.polls N.sends N.sent N.is_shut N.faults ports.old) (told_by N.polls N.sends N.sent N.is_shut N.faults ports.new)) }
+            (told_by N.polls N.sends N.sent N.is_shut N.faults ports.old)
+            (told_by N.polls N.sends N.sent N.is_shut N.faults ports.new)) }
         ensures words { self.new.words ≡ self.old.words }
         ensures readers { All (λ reader. reader_ring reader ≡ ring_id ring.now) (readers_in receiver.new) }
         ensures flags { receiver.new.flags ≡ receiver.old.flags }
@@ -104,12 +108,15 @@ impl Turning {
         requires stands { (live : Live) × StandsForLive self.old (ring_len ring.now) receiver.old live }
         requires readers { All (λ reader. reader_ring reader ≡ ring_id ring.now) (readers_in receiver.old) }
         ensures reads { (live : Live) → StandsForLive self.old (ring_len ring.now) receiver.old live
-            → IfOk result (λ heard. Reads heard.ended heard.least heard.items.items self.old self.new (ring_len ring.now) receiver.new live
+            → IfOk result (λ heard. Reads heard.ended heard.least heard.items.items self.old self.new
+            (ring_len ring.now) receiver.new live
             (stream_of E.written E.faults report.old) (stream_of E.written E.faults report.new)) }
         ensures cut { (live : Live) → StandsForLive self.old (ring_len ring.now) receiver.old live
-            → OnErr result (IsCutInReading self.old.words live (record live { lanes = answers_in (ring_len ring.now) receiver.new })) }
+            → OnErr result (IsCutInReading self.old.words live
+            (record live { lanes = answers_in (ring_len ring.now) receiver.new })) }
         ensures unwritten { OnErr result ((report.new ≡ report.old) × (self.new.failed ≡ self.old.failed)) }
-        ensures rest { (self.new.words ≡ self.old.words) × (self.new.hosts ≡ self.old.hosts) × (self.new.ticks ≡ self.old.ticks) }
+        ensures rest { (self.new.words ≡ self.old.words) × (self.new.hosts ≡ self.old.hosts)
+            × (self.new.ticks ≡ self.old.ticks) }
         ensures lengths { IfOk result (λ heard. All (λ item. HasFrameLength item.octets) heard.items.items) }
         ensures readers { All (λ reader. reader_ring reader ≡ ring_id ring.now) (readers_in receiver.new) }
         ensures flags { receiver.new.flags ≡ receiver.old.flags }
@@ -125,9 +132,11 @@ impl Turning {
     fn hear_all<E: Sink>(&mut self, report: &mut E, items: &[Candidate]) -> Result<(), OutOfMemory>
         requires { All (λ item. HasFrameLength item.octets) items.now }
         ensures heard { (hosts : Hosts) → Keeps self.old.hosts hosts
-            → OnOk result (HearsFrames items.now self.old self.new hosts (stream_of E.written E.faults report.old) (stream_of E.written E.faults report.new)) }
+            → OnOk result (HearsFrames items.now self.old self.new hosts (stream_of E.written E.faults report.old)
+            (stream_of E.written E.faults report.new)) }
         ensures cut { (hosts : Hosts) → Keeps self.old.hosts hosts
-            → OnErr result (HearsSome items.now self.old self.new hosts (stream_of E.written E.faults report.old) (stream_of E.written E.faults report.new)) }
+            → OnErr result (HearsSome items.now self.old self.new hosts (stream_of E.written E.faults report.old)
+            (stream_of E.written E.faults report.new)) }
         ensures rest { (self.new.words ≡ self.old.words) × (self.new.ticks ≡ self.old.ticks) }
     {
         for item in items {
@@ -140,7 +149,8 @@ impl Turning {
     fn hear<E: Sink>(&mut self, report: &mut E, octets: &[u8]) -> Result<(), OutOfMemory>
         requires { HasFrameLength octets.now }
         ensures heard { (hosts : Hosts) → Keeps self.old.hosts hosts
-            → OnOk result (HearsFrame octets.now self.old self.new hosts (stream_of E.written E.faults report.old) (stream_of E.written E.faults report.new)) }
+            → OnOk result (HearsFrame octets.now self.old self.new hosts (stream_of E.written E.faults report.old)
+            (stream_of E.written E.faults report.new)) }
         ensures unwritten { OnErr result ((report.new ≡ report.old) × (self.new.failed ≡ self.old.failed)) }
         ensures rest { (self.new.words ≡ self.old.words) × (self.new.ticks ≡ self.old.ticks) }
     {
@@ -189,7 +199,8 @@ impl Turning {
             → OnOk result (TicksAll busy 1 self.old self.new live
             (stream_of O.written O.faults output.old) (stream_of O.written O.faults output.new)
             (stream_of E.written E.faults report.old) (stream_of E.written E.faults report.new)) }
-        ensures unwritten { OnErr result ((output.new ≡ output.old) × (report.new ≡ report.old) × (self.new.failed ≡ self.old.failed)) }
+        ensures unwritten { OnErr result ((output.new ≡ output.old) × (report.new ≡ report.old)
+            × (self.new.failed ≡ self.old.failed)) }
         ensures count { OnOk result (self.new.ticks ≡ tick + 1) }
         ensures rest { self.new.words ≡ self.old.words }
     {
@@ -213,9 +224,11 @@ impl Turning {
         ensures served { (hosts : Hosts) → Keeps self.old.hosts hosts
             → OnOk result (ServesAll self.old self.new hosts
             (stream_of E.written E.faults report.old) (stream_of E.written E.faults report.new)
-            (told_by N.polls N.sends N.sent N.is_shut N.faults ports.old) (told_by N.polls N.sends N.sent N.is_shut N.faults ports.new)) }
+            (told_by N.polls N.sends N.sent N.is_shut N.faults ports.old)
+            (told_by N.polls N.sends N.sent N.is_shut N.faults ports.new)) }
         ensures cut { (hosts : Hosts) → Keeps self.old.hosts hosts → OnErr result (HasCutPart hosts
-            (told_by N.polls N.sends N.sent N.is_shut N.faults ports.old) (told_by N.polls N.sends N.sent N.is_shut N.faults ports.new)) }
+            (told_by N.polls N.sends N.sent N.is_shut N.faults ports.old)
+            (told_by N.polls N.sends N.sent N.is_shut N.faults ports.new)) }
         ensures unwritten { OnErr result ((report.new ≡ report.old) × (self.new.failed ≡ self.old.failed)) }
         ensures rest { (self.new.words ≡ self.old.words) × (self.new.ticks ≡ self.old.ticks) }
         ensures listens { N.listens ports.new ≡ N.listens ports.old }
@@ -231,7 +244,8 @@ impl Turning {
     /// The line of a frame that is heard, if a monitor asks for it.
     fn received_lines(&self, octets: &[u8]) -> Result<Vec<ReportLine>, OutOfMemory>
         ensures { (hosts : Hosts) (printed : List ReportLine) → StandsFor self.now.hosts printed hosts
-            → IfOk result (λ lines. AreReceivedLines self.now.words.monitor octets.now hosts.station.links lines.items) }
+            → IfOk result (λ lines. AreReceivedLines self.now.words.monitor
+            octets.now hosts.station.links lines.items) }
     {
         let mut lines = Vec::new(self.alloc);
         if !self.words.monitor {

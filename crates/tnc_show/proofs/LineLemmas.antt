@@ -18,12 +18,6 @@ use Rattle.ax25_frames.proofs.Outcomes.{IsOneKind-outcome}
 use Rattle.tnc_forms.proofs.StreamingLemmas.{IsJoined}
 use Rattle.tnc_show.specs.Shown.{IsLineOf, IsTextOf, ended}
 
-ok : Frame → Reading
-ok frame = Ok frame
-
-err : FrameFault → Reading
-err fault = Err fault
-
 -- a frame is the only reading of its octets
 one_frame : (modulus : Modulus) (octets : List ℕ) (frame : Frame) → IsFrame frame modulus octets
     → IsOneFrame modulus octets (Ok frame)

@@ -16,21 +16,6 @@ use Rattle.tnc_show.specs.HeldShow.{HasTaken, IsTextOfMore, TookFront}
 use Rattle.tnc_show.specs.Shown.{IsTextOf}
 use Rattle.tnc_show.proofs.LineLemmas.{texts_join}
 
-no_more : (modulus : Modulus) (before text : List ℕ) → text ≡ [] → IsTextOfMore modulus before [] text
-no_more modulus before text none = record {
-  frames = [];
-  known = ap (frames_so_far 0) (append-nil before) ∙ sym (append-nil (frames_so_far 0 before));
-  is = subst (IsTextOf modulus []) (sym none) (texts_join modulus).none;
-}
-
-pub took_none : (modulus : Modulus) (held : HeldLine) (octets text : List ℕ) → text ≡ []
-    → TookFront modulus held octets octets text held
-took_none modulus held octets text none = record {
-  front = [];
-  parts = refl;
-  each = λ before h. (subst (StandsFor held) (sym (append-nil before)) h, no_more modulus before text none);
-}
-
 module _ (modulus : Modulus) (was now : HeldLine) (octets rest text : List ℕ)
     (t : TookFront modulus was octets rest text now) (least : now.least ≡ 0) where
   -- some octets more, and the frame that ends with them

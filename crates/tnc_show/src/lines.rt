@@ -25,7 +25,8 @@ pub(crate) fn take_lines(
     requires least { lines.old.least ≡ 0 }
     ensures taken { (before : List ℕ) → StandsFor lines.old before
         → IfOk result (λ fault. HasTaken modulus before octets.now text.new.items lines.new fault) }
-    ensures position { IfOk result (λ fault. fault ≡ None → position_of lines.new ≡ position_of lines.old + length octets.now) }
+    ensures position { IfOk result (λ fault. fault ≡ None → position_of lines.new
+        ≡ position_of lines.old + length octets.now) }
     ensures least { IfOk result (λ fault. fault ≡ None → lines.new.least ≡ 0) }
 {
     text.clear();

@@ -1,5 +1,6 @@
 //! The word show: from frames to their lines of text, piece after piece.
-ghost use Rattle.std.specs.Prelude.{◌≡◌, ◌≤◌, ◌<◌, ◌+◌, ◌^◌, ◌++◌, List, ℕ, Some, None, Ok, Err, [], length, drop, take, IfErr, OnOk, OnErr, IsErrOf};
+ghost use Rattle.std.specs.Prelude.{◌≡◌, ◌≤◌, ◌<◌, ◌+◌, ◌^◌, ◌++◌, List, ℕ, Some, None, Ok, Err, [], length, drop};
+ghost use Rattle.std.specs.Prelude.{take, IfErr, OnOk, OnErr, IsErrOf};
 ghost use Rattle.tnc_base.specs.Faults.{HasRisen};
 ghost use Rattle.tnc_base.specs.Streams.{WrotePart};
 ghost use Rattle.tnc_forms.specs.declared.fault.InputFault.{InputFault};
@@ -17,9 +18,9 @@ use tnc_base::{Sink, Source};
 use tnc_forms::{Fault, HexIn, InputFault, PIECE, read_piece};
 use tnc_words::ShowWords;
 
-/// Reads the input piece by piece, and writes the lines of text of the frames that end in a piece before it reads on. Keeps
-/// one piece, its text and the part of one line, however long the input is. Octets that are no frame have a line too, which
-/// names their fault. If a line of the input is bad, the lines before it are shown, and it is told.
+/// Reads the input piece by piece, and writes the lines of text of the frames that end in a piece before it reads on.
+/// Keeps one piece, its text and the part of one line, however long the input is. Octets that are no frame have a line
+/// too, which names their fault. If a line of the input is bad, the lines before it are shown, and it is told.
 pub fn show<I: Source, O: Sink>(
     alloc: Global,
     words: ShowWords,
@@ -34,7 +35,8 @@ pub fn show<I: Source, O: Sink>(
     ensures shown { (octets before : List ℕ) → I.left input.old ≡ Some octets
         → O.written output.old ≡ Some before
         → OnOk result ((text : List ℕ) × IsShown words octets text × (O.written output.new ≡ Some (before ++ text))) }
-    ensures faultless { OnOk result ((I.faults input.new ≡ I.faults input.old) × (O.faults output.new ≡ O.faults output.old)) }
+    ensures faultless { OnOk result ((I.faults input.new ≡ I.faults input.old)
+        × (O.faults output.new ≡ O.faults output.old)) }
 
     // what is wrong with the input, and what was written before that is told
     ensures bad { (octets : List ℕ) → (fault : InputFault) → I.left input.old ≡ Some octets
@@ -65,7 +67,8 @@ pub fn show<I: Source, O: Sink>(
         × (length rest ≤ piece_limit) × IsShownSoFar words front text × IsShownPart words read (text ++ more)
         × (O.written output.new ≡ Some (before ++ (text ++ more))) }
     ensures cut { (octets before : List ℕ) → I.left input.old ≡ Some octets → O.written output.old ≡ Some before
-        → OnErr result ((part : List ℕ) × IsShownPart words octets part × (O.written output.new ≡ Some (before ++ part))) }
+        → OnErr result ((part : List ℕ) × IsShownPart words octets part
+        × (O.written output.new ≡ Some (before ++ part))) }
     ensures read { IsErrOf result Fault.Read → HasRisen (I.faults input.old) (I.faults input.new) }
     ensures write { IsErrOf result Fault.Write → HasRisen (O.faults output.old) (O.faults output.new) }
 {
@@ -79,9 +82,11 @@ fn show_pieces<I: Source, O: Sink>(
     input: &mut I,
     output: &mut O,
 ) -> Result<(), Fault>
-    ensures ended { (octets : List ℕ) → I.left input.old ≡ Some octets → IsEnded (IsTextOf modulus) (lines_form 0) octets
+    ensures ended { (octets : List ℕ) → I.left input.old ≡ Some octets
+        → IsEnded (IsTextOf modulus) (lines_form 0) octets
         (I.left input.new) (O.written output.old) (O.written output.new) result }
-    ensures faultless { OnOk result ((I.faults input.new ≡ I.faults input.old) × (O.faults output.new ≡ O.faults output.old)) }
+    ensures faultless { OnOk result ((I.faults input.new ≡ I.faults input.old)
+        × (O.faults output.new ≡ O.faults output.old)) }
     ensures read { IsErrOf result Fault.Read → HasRisen (I.faults input.old) (I.faults input.new) }
     ensures write { IsErrOf result Fault.Write → HasRisen (O.faults output.old) (O.faults output.new) }
 {
@@ -118,8 +123,10 @@ fn show_piece<O: Sink>(
     requires room { position_of lines.old + length octets.now < 2 ^ 64 }
     requires least { lines.old.least ≡ 0 }
     ensures taken { (before : List ℕ) → StandsFor lines.old before
-        → IsTaken (IsTextOf modulus) (lines_form 0) before octets.now (O.written output.old) (O.written output.new) result }
-    ensures stands_for { (before : List ℕ) → StandsFor lines.old before → OnOk result (StandsFor lines.new (before ++ octets.now)) }
+        → IsTaken (IsTextOf modulus) (lines_form 0) before octets.now (O.written output.old)
+        (O.written output.new) result }
+    ensures stands_for { (before : List ℕ) → StandsFor lines.old before
+        → OnOk result (StandsFor lines.new (before ++ octets.now)) }
     ensures position { OnOk result (position_of lines.new ≡ position_of lines.old + length octets.now) }
     ensures least { OnOk result (lines.new.least ≡ 0) }
     ensures faultless { OnOk result (O.faults output.new ≡ O.faults output.old) }

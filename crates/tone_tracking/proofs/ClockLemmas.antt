@@ -23,7 +23,7 @@ next_pulled pull clock tone phase now rate changed same is_phase is_rate =
     ∙ ap (λ b. if b then rate_pulled pull (phase_next clock) clock.rate else clock.rate) (sym changed) in
     λ i. record { phase = now_is i; rate = rate_is i; before = tone }
 
--- where it does not
+-- if it does not
 pub next_same : (pull : Pull) (clock : Clock) (tone : Tone) (phase : ℤ) → changes clock.before tone ≡ false
     → phase ≡ phase_next clock
     → clock_of phase clock.rate tone ≡ next_clock pull clock tone

@@ -124,7 +124,8 @@ pub four_small : (most : ℕ) (a b c d : ℤ) → unsigned_abs a ≤ most → un
 four_small most a b c d one two three four = record { four = refl; small = all_four most a b c d one two three four }
 
 -- a lane of small ones
-pub lane_small : (most : ℕ) (xs : List ℤ) → AreSmall most xs → (k : ℕ) → k < 4 → unsigned_abs (get_or xs k (pos 0)) ≤ most
+pub lane_small : (most : ℕ) (xs : List ℤ) → AreSmall most xs → (k : ℕ) → k < 4
+    → unsigned_abs (get_or xs k (pos 0)) ≤ most
 lane_small most xs are k below = are.small k (pos 0) (omega (arith, are.four))
 
 pub smaller : (xs : List ℤ) → AreSmall 40000000 xs → AreSmall 80000000 xs

@@ -4,12 +4,11 @@ use Rattle.std.proofs.Common.{neg_ℤ, ap, ◌∙◌, arith}
 use Rattle.std.proofs.lemmas.Int.{ints, unsigned_abs-mul}
 use Rattle.std.proofs.Math.Nat.{mul-le-mul_right, mul-le-mul_left}
 use Rattle.std.proofs.Math.IntN.{*ℤ_comm, +ℤ_invr, zero-*ℤ, pos-*ℤ-pos, negsuc-*ℤ-negsuc}
-use Rattle.std.specs.Int.{int_div_euclid}
 use Rattle.offset_slicers.proofs.IntegerLemmas.{mul-add_left, mul-add_right}
 use Rattle.tone_table.specs.declared.tone.Tone.{Tone}
 use Rattle.tone_table.specs.declared.tone.Tone.TheVariants.{Mark, Space}
 use Rattle.tone_tracking.specs.declared.phasor.Phasor.{Phasor}
-use Rattle.tone_tracking.specs.Phasors.{IsWithin, none, plus, turn, turn_back, size, three_quarters}
+use Rattle.tone_tracking.specs.Phasors.{IsWithin, none, plus, turn, turn_back, size}
 
 -- phasors with the same parts are the same
 pub phasor_is : (p q : Phasor) → p.a ≡ q.a → p.b ≡ q.b → p ≡ q
@@ -40,19 +39,6 @@ within_turn_back m Space p h =
 pub record IsFloor (q z : ℤ) (d : ℕ) : Type 0 where
   pub least : (pos d *ℤ q) ≤ℤ z
   pub most : z ≤ℤ ((pos d *ℤ q +ℤ pos d) -ℤ pos 1)
-
-pub floor_4 : (z : ℤ) → IsFloor (int_div_euclid z (pos 4)) z 4
-floor_4 (pos n) = record { least = omega (arith, ints); most = omega (arith, ints) }
-floor_4 (negsuc n) = record { least = omega (arith, ints); most = omega (arith, ints) }
-
--- what is kept of a phasor, and a unit and a half
-pub within_three_quarters : (m n : ℕ) (p : Phasor) → IsWithin m p → 3 * m + 6 ≤ 4 * n → IsWithin n (three_quarters p)
-within_three_quarters m n p h le =
-    let a = h.first in let b = h.second in let c = h.both in
-    let x = floor_4 (pos 3 *ℤ p.a) in
-    let y = floor_4 (pos 3 *ℤ p.b) in
-    let x1 = x.least in let x2 = x.most in let y1 = y.least in let y2 = y.most in
-    record { first = omega (arith, ints); second = omega (arith, ints); both = omega (arith, ints) }
 
 -- the product of two parts that are not above a bound
 pub product_bound : (m : ℕ) (a b : ℤ) → unsigned_abs a ≤ m → unsigned_abs b ≤ m → unsigned_abs (a *ℤ b) ≤ m * m

@@ -1,12 +1,13 @@
 //! A clock in step with the sender's bits.
 //!
-//! A line changes its tone only between bits, so the places of the changes tell where bits begin and end. The clock's phase
-//! advances with each place by about an eighth of a bit. At a change it ought to be 0; a part of what it is instead is
-//! taken from the phase, and a smaller part from the rate, as a phase-locked loop of the second order does.
+//! A line changes its tone only between bits, so the places of the changes tell where bits begin and end. The clock's
+//! phase advances with each place by about an eighth of a bit. At a change it ought to be 0; a part of what it is
+//! instead is taken from the phase, and a smaller part from the rate, as a phase-locked loop of the second order does.
 
 ghost use Rattle.std.specs.Prelude.{◌≡◌, ℕ, ◌+◌, pos, negsuc, ◌≤ℤ◌, ◌<ℤ◌, ◌-ℤ◌, int_le, if◌then◌else◌};
 ghost use Rattle.tone_table.specs.declared.tone.Tone.{Tone};
-ghost use Rattle.tone_tracking.specs.Clock.{changes, clock_after, next_clock, reads, phase_pulled, rate_correction, rate_pulled};
+ghost use Rattle.tone_tracking.specs.Clock.{changes, clock_after, next_clock, reads, phase_pulled, rate_correction};
+ghost use Rattle.tone_tracking.specs.Clock.{rate_pulled};
 
 use std::marker::Model;
 use tone_table::Tone;
@@ -44,7 +45,8 @@ impl Model for BitClock {
 
     ghost view = { λ s. (s.pull, record { phase = s.phase; rate = s.rate; before = s.before }) };
 
-    ghost invariant = { λ s. (negsuc 524287 ≤ℤ s.phase) × (s.phase <ℤ pos 524288) × (pos 124928 ≤ℤ s.rate) × (s.rate ≤ℤ pos 137216) };
+    ghost invariant = { λ s. (negsuc 524287 ≤ℤ s.phase) × (s.phase <ℤ pos 524288) × (pos 124928 ≤ℤ s.rate)
+        × (s.rate ≤ℤ pos 137216) };
 }
 
 impl BitClock {
@@ -66,7 +68,8 @@ impl BitClock {
         ensures pull { self.new.0 ≡ self.old.0 }
         ensures next { self.new.1 ≡ next_clock self.old.0 self.old.1 tone }
         ensures reading { result ≡ reads self.old.1 }
-        ensures stands_for { (tones : ℕ → Tone) (place : ℕ) → self.old.1 ≡ clock_after self.old.0 tones place → tone ≡ tones place
+        ensures stands_for { (tones : ℕ → Tone) (place : ℕ) → self.old.1 ≡ clock_after self.old.0 tones place → tone
+            ≡ tones place
             → self.new.1 ≡ clock_after self.old.0 tones (place + 1) }
     {
         let ahead = self.phase + self.rate;

@@ -1,8 +1,8 @@
 //! The decision of one window.
 //!
-//! A window is as loud as a tone as the largest sum in phase can be that has it as that tone: the past, as it was decided,
-//! the window's own correlation, and what the windows ahead add with any tones. It is decided as the tone as which it is
-//! louder.
+//! A window is as loud as a tone as the largest sum in phase can be that has it as that tone: the past, as it was
+//! decided, the window's own correlation, and what the windows ahead add with any tones. It is decided as the tone as
+//! which it is louder.
 
 ghost use Rattle.std.specs.Prelude.{◌≡◌, [], ◌∷◌, int_le, if◌then◌else◌};
 ghost use Rattle.tone_table.specs.declared.tone.Tone.TheVariants.{Mark, Space};
@@ -94,8 +94,8 @@ fn louder(mark: i64, space: i64) -> Tone
     }
 }
 
-/// The past one window on: what was decided at a window, and what is kept of the past there, as they stand in phase at the
-/// next one.
+/// The past one window on: what was decided at a window, and what is kept of the past there, as they stand in phase at
+/// the next one.
 pub(crate) fn pass(reach: Reach, tone: Tone, now: &Correlations, past: Phasor) -> Phasor
     requires past { IsWithin 200000000 past }
     requires now { AreWithin now.now }

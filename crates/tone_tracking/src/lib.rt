@@ -1,11 +1,12 @@
-//! Tones of Bell 202 decided in phase, and a clock that follows the sender's (1200 and 2200 Hz at 9600 samples a second).
+//! Tones of Bell 202 decided in phase, and a clock that follows the sender's (1200 and 2200 Hz at 9600 samples a
+//! second).
 //!
-//! A correlator that looks at one bit alone forgets what it knows of the phase. The phase of a Bell 202 line runs on, so
-//! several windows of eight samples can be summed in phase: mark runs one whole cycle in a window and space 11/6, so from
-//! a window to the next the phase has turned by a whole number of sixths. A [`ToneTracker`] decides each window together
-//! with what was decided before it and with the windows after it, whatever tones these have. A [`BitClock`] watches
-//! where the tones change, and says where bits are to be read. What is promised: tones and readings are exactly those of
-//! the definitions over all samples so far, however these were cut, and no sum overflows on any samples.
+//! A correlator that looks at one bit alone forgets what it knows of the phase. The phase of a Bell 202 line runs on,
+//! so several windows of eight samples can be summed in phase: mark runs one whole cycle in a window and space 11/6, so
+//! from a window to the next the phase has turned by a whole number of sixths. A [`ToneTracker`] decides each window
+//! together with what was decided before it and with the windows after it, whatever tones these have. A [`BitClock`]
+//! watches where the tones change, and says where bits are to be read. What is promised: tones and readings are exactly
+//! those of the definitions over all samples so far, however these were cut, and no sum overflows on any samples.
 #![tactic(auto)]
 
 mod bit_clock;

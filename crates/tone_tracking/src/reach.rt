@@ -3,7 +3,7 @@
 pub enum Reach {
     /// Three: the last one as it was decided, this one, and the next one with either tone.
     Near,
-    /// All that were decided, each with three quarters of the weight of the one after it, this one, and the next two with
-    /// any tones.
+    /// All that were decided, each with three quarters of the weight of the one after it, this one, and the next two
+    /// with any tones.
     Far,
 }

@@ -33,9 +33,16 @@ impl Model for ToneLists {
 
     ghost Value = { HeldLists };
 
-    ghost view = { λ s. record { count = s.count; samples = s.samples; recent = s.recent; near = s.near; far = s.far } };
+    ghost view = { λ s. record {
+      count = s.count;
+      samples = s.samples;
+      recent = s.recent;
+      near = s.near;
+      far = s.far;
+    } };
 
-    ghost invariant = { λ s. All AreWithin s.recent × (s.near.reach ≡ Near) × (s.far.reach ≡ Far) × (s.near.place ≡ places_in s.count) × (s.far.place ≡ places_in s.count) };
+    ghost invariant = { λ s. All AreWithin s.recent × (s.near.reach ≡ Near) × (s.far.reach ≡ Far)
+        × (s.near.place ≡ places_in s.count) × (s.far.place ≡ places_in s.count) };
 }
 
 impl ToneLists {
@@ -85,7 +92,8 @@ impl ToneLists {
     pub fn tone_before(&self, reach: Reach, back: u8) -> Tone
         requires back { back < 32 }
         requires room { self.now.count < 2 ^ 49 }
-        ensures { (x : List ℤ) → HasTaken self.now x → result ≡ tone_before (heard reach x) (places_in self.now.count) back }
+        ensures { (x : List ℤ) → HasTaken self.now x → result
+            ≡ tone_before (heard reach x) (places_in self.now.count) back }
     {
         match reach {
             Reach::Near => self.near.tone_before(back),

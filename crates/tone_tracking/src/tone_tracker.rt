@@ -50,9 +50,9 @@ impl ToneTracker {
         }
     }
 
-    /// Decides the window at the next place, by its correlations and those of the windows eight and sixteen samples later.
-    /// The reach is the tracker's own: one that is known when the program is built makes the decision about a quarter
-    /// faster.
+    /// Decides the window at the next place, by its correlations and those of the windows eight and sixteen samples
+    /// later. The reach is the tracker's own: one that is known when the program is built makes the decision about a
+    /// quarter faster.
     pub fn decide(
         &mut self,
         reach: Reach,
@@ -65,8 +65,10 @@ impl ToneTracker {
         requires next { AreWithin next.now }
         requires later { AreWithin later.now }
         requires room { self.old.place < 2 ^ 48 }
-        ensures stands_for { (windows : ℕ → Correlations) → StandsFor self.old windows → now.now ≡ windows self.old.place
-            → next.now ≡ windows (self.old.place + 8) → later.now ≡ windows (self.old.place + 16) → StandsFor self.new windows }
+        ensures stands_for { (windows : ℕ → Correlations) → StandsFor self.old windows → now.now
+            ≡ windows self.old.place
+            → next.now ≡ windows (self.old.place + 8) → later.now ≡ windows (self.old.place + 16)
+            → StandsFor self.new windows }
         ensures tone { (windows : ℕ → Correlations) → StandsFor self.old windows → now.now ≡ windows self.old.place
             → next.now ≡ windows (self.old.place + 8) → later.now ≡ windows (self.old.place + 16)
             → result ≡ tone_at self.old.reach windows self.old.place }

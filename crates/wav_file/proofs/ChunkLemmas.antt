@@ -25,7 +25,7 @@ rest_le : (skip most : ℕ) (octets : List ℕ) → 8 ≤ length octets → leng
     → length (drop skip (drop 8 octets)) ≤ most
 rest_le skip most octets whole fits = omega (arith, length-drop skip (drop 8 octets), length-drop 8 octets)
 
--- so the most does not matter where it is enough
+-- so the most does not matter if it is enough
 enough : (m n place : ℕ) (octets : List ℕ) → length octets ≤ m → length octets ≤ n
     → chunks_upto m place octets ≡ chunks_upto n place octets
 enough zero zero place octets first second = refl

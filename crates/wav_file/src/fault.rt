@@ -11,8 +11,8 @@ pub enum WavFault {
     /// The octet at `at` is the first that is not as in `WAVE`.
     #[error("not wave at {at}")]
     NotWave { at: u64 },
-    /// A `data` chunk comes before the format, or the format has fewer than 16 octets. The last octet of that size is at
-    /// `at`.
+    /// A `data` chunk comes before the format, or the format has fewer than 16 octets. The last octet of that size is
+    /// at `at`.
     #[error("no format at {at}")]
     NoFormat { at: u64 },
     /// The format's field, counted from 1, is not what is read. Its last octet is at `at`.

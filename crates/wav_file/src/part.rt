@@ -25,8 +25,8 @@ const FORMAT_SIZE: u32 = 16;
 pub enum Part {
     // The twelve octets before the first chunk.
     Head,
-    // So many octets to be skipped, and then a chunk's head, which its own octets have not ended yet. The rate is that of
-    // the format, which was read or not.
+    // So many octets to be skipped, and then a chunk's head, which its own octets have not ended yet. The rate is that
+    // of the format, which was read or not.
     Chunk {
         rate: Option<u32>,
         skip: u64,
@@ -51,7 +51,8 @@ pub enum Part {
 }
 
 impl Part {
-    ghost use Rattle.wav_file.specs.Held.{after_head, after_chunk_head, after_field, after_data, data_begun, format_begun, answer_of, fault_of_part, rate_of_part, whole_of_part};
+    ghost use Rattle.wav_file.specs.Held.{after_head, after_chunk_head, after_field, after_data, data_begun};
+    ghost use Rattle.wav_file.specs.Held.{format_begun, answer_of, fault_of_part, rate_of_part, whole_of_part};
     ghost use Rattle.wav_file.specs.Reading.{verdict_on};
 
     // After an octet of the first twelve.

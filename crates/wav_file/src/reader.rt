@@ -64,8 +64,8 @@ impl WavIn {
         }
     }
 
-    /// Takes the next octet, and gives the sample that ends with it. A fault comes exactly at the octet at which it shows,
-    /// and from then on at each later one.
+    /// Takes the next octet, and gives the sample that ends with it. A fault comes exactly at the octet at which it
+    /// shows, and from then on at each later one.
     pub fn push(&mut self, octet: u8) -> Result<Option<i16>, WavFault>
         ensures stands_for { (rates : Rates) (octets : List ℕ) → StandsFor rates self.old octets
             → StandsFor rates self.new (octets ++ octet ∷ []) }
@@ -80,16 +80,17 @@ impl WavIn {
         self.part.answer(sample)
     }
 
-    /// Whether a file that ends here is whole: the fault that showed, or `Truncated` exactly when the file ends before its
-    /// data does.
+    /// Whether a file that ends here is whole: the fault that showed, or `Truncated` exactly when the file ends before
+    /// its data does.
     pub fn finish(&self) -> Result<(), WavFault>
-        ensures { (rates : Rates) (octets : List ℕ) → StandsFor rates self.now octets → result ≡ verdict_of rates octets }
+        ensures { (rates : Rates) (octets : List ℕ) → StandsFor rates self.now octets → result
+            ≡ verdict_of rates octets }
     {
         self.part.verdict(self.position)
     }
 
-    /// How many samples a second the file has: 9600, or 48,000 if the reader takes that. `None` exactly until the sixteen
-    /// octets of the format were read.
+    /// How many samples a second the file has: 9600, or 48,000 if the reader takes that. `None` exactly until the
+    /// sixteen octets of the format were read.
     pub fn rate(&self) -> Option<u32>
         ensures { (rates : Rates) (octets : List ℕ) → StandsFor rates self.now octets → result ≡ rate_in rates octets }
     {

@@ -118,7 +118,7 @@ stream-place zero (sample ∷ x) (suc k) d l = stream-place 4 x k d (omega arith
 stream-place (suc skipped) (sample ∷ x) k d l = stream-place skipped x k d l
     ∙ ap (λ n. get_or (sample ∷ x) n d) (let e : suc (5 * k + skipped) ≡ 5 * k + suc skipped = omega arith in e)
 
--- a part of a block has room where the block has it, and ends where the block ends at most
+-- a part of a block has room if the block has it, and ends where the block ends at most
 pub part_fits : (inside outside part whole : ℕ) → inside ≡ outside → part ≤ whole → outside + whole < 2 ^ 48
     → inside + part < 2 ^ 48
 part_fits inside outside part whole same few room = omega arith

@@ -1,6 +1,6 @@
 -- Streams that are visited one after another.
 use Rattle.std.proofs.Common.{◌≡◌, ℕ, ◌+◌, ◌<◌, ◌≤◌, ℤ, List, [], ◌∷◌, ◌++◌, Some, map, take, drop, replicate}
-use Rattle.std.proofs.Common.{append-nil, length, get_or, set, refl, ap, sym, ◌∙◌, arith, subst, inl, inr}
+use Rattle.std.proofs.Common.{append-nil, length, get_or, set, ap, sym, ◌∙◌, arith, subst, inl, inr}
 use Rattle.std.proofs.Common.{get_or-set_same, get_or-set_other}
 use Rattle.std.specs.List.{All}
 use Rattle.std.proofs.lemmas.Bool.{cases_eq, cases_lt}
@@ -27,9 +27,6 @@ pub record Visited {X : Type 0} (Did : X → X → Type 0) (old now : List X) (n
   pub size : length now ≡ length old
   pub done : (k : ℕ) (d : X) → k < n → Did (get_or old k d) (get_or now k d)
   pub rest : (k : ℕ) (d : X) → n ≤ k → get_or now k d ≡ get_or old k d
-
-pub visited_none : {X : Type 0} (Did : X → X → Type 0) (streams : List X) → Visited Did streams streams 0
-visited_none Did streams = record { size = refl; done = λ k d l. absurd (omega arith); rest = λ k d le. refl }
 
 -- the next stream is as it was
 pub visited_here : {X : Type 0} (Did : X → X → Type 0) (old now : List X) (n : ℕ) (was d : X) → Visited Did old now n

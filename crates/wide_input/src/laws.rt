@@ -19,7 +19,8 @@ pub fn streams_by_place()
 
 /// Samples have one list of wide candidates.
 pub fn one_list_of_wide_candidates()
-    ensures { (x : List ℤ) (items others : List Candidate) → AreWideCandidates x items → AreWideCandidates x others → items ≡ others }
+    ensures { (x : List ℤ) (items others : List Candidate) → AreWideCandidates x items → AreWideCandidates x others
+        → items ≡ others }
 {}
 
 /// All samples have a list of wide candidates, so what is said of their candidates is always said of some.
@@ -27,8 +28,8 @@ pub fn some_list_of_wide_candidates()
     ensures { (x : List ℤ) → (items : List Candidate) × AreWideCandidates x items }
 {}
 
-/// Samples of which one stream is near a signal give the frames that were sent, each once, in order, if no wide candidate
-/// is stray.
+/// Samples of which one stream is near a signal give the frames that were sent, each once, in order, if no wide
+/// candidate is stray.
 pub fn near_stream_frames()
     ensures { (r : ℕ) (received : List Received) (x : List ℤ) → r < 5 → All IsReceived received
         → IsNearAll received (stream r x) → NoWideStray r (transmissions_of received) x

@@ -1,9 +1,9 @@
 //! Reception at 48,000 samples a second, which sound cards use: each fifth sample, from one of the first five on, is a
 //! stream of 9600 a second.
 //!
-//! A [`WideBank`] has a bank of eight lanes for each of the five streams. What the forty lanes hear is merged by the place
-//! where it ends, so each frame comes once, in order. The items of all samples are a definition over their list: it does
-//! not matter in which blocks the samples came.
+//! A [`WideBank`] has a bank of eight lanes for each of the five streams. What the forty lanes hear is merged by the
+//! place where it ends, so each frame comes once, in order. The items of all samples are a definition over their list:
+//! it does not matter in which blocks the samples came.
 #![tactic(auto)]
 
 mod laws;

@@ -11,9 +11,9 @@ use frame_merge::Candidate;
 /// A bit is forty samples of all streams, and the streams stand up to four apart.
 const NEAR: u64 = 36;
 
-/// True if `item` is one of the frames that were sent in the stream of a number, whose true ends there are `ends`: it has
-/// the octets of one, and ends less than 36 samples of all streams before or after its true end. A candidate of which this
-/// is false is stray.
+/// True if `item` is one of the frames that were sent in the stream of a number, whose true ends there are `ends`: it
+/// has the octets of one, and ends less than 36 samples of all streams before or after its true end. A candidate of
+/// which this is false is stray.
 pub fn is_sent_wide(number: u8, ends: &[TrueEnd], item: &Candidate) -> bool
     requires number { number < 5 }
     requires lane { item.now.offset < 40 }
@@ -28,7 +28,8 @@ pub fn is_sent_wide(number: u8, ends: &[TrueEnd], item: &Candidate) -> bool
 fn is_near(number: u8, item: &Candidate, end: u64) -> bool
     requires number { number < 5 }
     requires lane { item.now.offset < 40 }
-    ensures { result ≡ (nat_lt (wide_end item.now) (wide_place number end + 36) && nat_lt (wide_place number end) (wide_end item.now + 36)) }
+    ensures { result ≡ (nat_lt (wide_end item.now) (wide_place number end
+        + 36) && nat_lt (wide_place number end) (wide_end item.now + 36)) }
 {
     let apart = item.end.abs_diff(end);
     if apart > u64::from(OFFSETS) {

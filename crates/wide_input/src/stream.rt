@@ -89,8 +89,8 @@ impl Stream {
     }
 }
 
-/// Appends every fifth sample of a block, after so many that are skipped, and tells how many are to be skipped before the
-/// next one.
+/// Appends every fifth sample of a block, after so many that are skipped, and tells how many are to be skipped before
+/// the next one.
 fn take_part(skipped: u8, block: &[i16], part: &mut Vec<i16>) -> Result<u8, OutOfMemory>
     ensures part { OnOk result (part.new.items ≡ part.old.items ++ stream skipped block.now) }
     ensures skipped { IfOk result (λ left. left ≡ next_skipped skipped block.now) }

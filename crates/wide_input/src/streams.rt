@@ -1,6 +1,7 @@
 //! The five streams over a block: each hears its part by itself, so they can work one after another, or on threads.
 
-ghost use Rattle.std.specs.Prelude.{◌≡◌, ◌+◌, ◌<◌, ◌≤◌, ◌^◌, ◌/◌, ℕ, ℤ, List, [], ◌++◌, length, map, replicate, IfOk, OnOk, slice_index_or};
+ghost use Rattle.std.specs.Prelude.{◌≡◌, ◌+◌, ◌<◌, ◌≤◌, ◌^◌, ◌/◌, ℕ, ℤ, List, [], ◌++◌, length, map, replicate, IfOk};
+ghost use Rattle.std.specs.Prelude.{OnOk, slice_index_or};
 ghost use Rattle.std.specs.List.{All};
 ghost use Rattle.frame_merge.specs.declared.candidate.Candidate.{Candidate};
 ghost use Rattle.frame_merge.specs.Held.{StandsFor as MergerStandsFor};
@@ -8,7 +9,8 @@ ghost use Rattle.slicer_bank.specs.Merging.{CanBePut};
 ghost use Rattle.wide_input.specs.Candidates.{in_stream};
 ghost use Rattle.wide_input.specs.Streams.{least_count};
 ghost use Rattle.wide_input.specs.MergedItems.{AreWideMergedBetween};
-ghost use Rattle.wide_input.specs.Held.{HeldStream, HearsBlock, KeepsFit, StreamsStandFor, AreAlike, HaveTaken, HasFound, found_by, brought};
+ghost use Rattle.wide_input.specs.Held.{HeldStream, HearsBlock, KeepsFit, StreamsStandFor, AreAlike, HaveTaken};
+ghost use Rattle.wide_input.specs.Held.{HasFound, found_by, brought};
 
 use crate::stream::{STREAMS, Stream};
 use frame_merge::{Candidate, Merger};

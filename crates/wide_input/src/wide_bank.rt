@@ -1,6 +1,7 @@
 //! The wide bank: samples at 48,000 a second in blocks in, each frame that is heard in them once and in order out.
 
-ghost use Rattle.std.specs.Prelude.{◌≡◌, ◌+◌, ◌<◌, ◌≤◌, ◌^◌, ◌/◌, ℕ, ℤ, List, [], ◌++◌, length, replicate, true, false, IfOk, OnOk, OnErr, slice_index_or};
+ghost use Rattle.std.specs.Prelude.{◌≡◌, ◌+◌, ◌<◌, ◌≤◌, ◌^◌, ◌/◌, ℕ, ℤ, List, [], ◌++◌, length, replicate, true, false};
+ghost use Rattle.std.specs.Prelude.{IfOk, OnOk, OnErr, slice_index_or};
 ghost use Rattle.std.specs.List.{All};
 ghost use Rattle.slicer_bank.specs.Progress.{Finishes, TakesBlock};
 ghost use Rattle.wide_input.specs.Streams.{least_count};
@@ -17,8 +18,8 @@ use std::thread::Threads;
 use tnc_base::OutOfMemory;
 
 /// Five streams of eight lanes each, and a merger of the forty: `new`, then `block` for each block of samples, then
-/// `finish`. It keeps what can still be given or repeated, and no samples but the last seven of each stream. After want of
-/// memory it is spent: no later call gives items.
+/// `finish`. It keeps what can still be given or repeated, and no samples but the last seven of each stream. After want
+/// of memory it is spent: no later call gives items.
 ///
 /// The `end` of an item counts the samples of its stream, and its `offset` is its lane: stream r has the lanes 8r to
 /// 8r + 7.
@@ -36,7 +37,13 @@ impl Model for WideBank {
 
     ghost Value = { HeldWide };
 
-    ghost view = { λ s. record { streams = s.streams.items; merger = s.merger; position = s.progress.position; finished = s.progress.finished; spent = s.progress.spent } };
+    ghost view = { λ s. record {
+      streams = s.streams.items;
+      merger = s.merger;
+      position = s.progress.position;
+      finished = s.progress.finished;
+      spent = s.progress.spent;
+    } };
 
     ghost invariant = { λ s. (length s.streams.items ≡ 5)
         × (s.progress.spent ≡ false → s.progress.finished ≡ false
@@ -59,8 +66,8 @@ impl WideBank {
         })
     }
 
-    /// Takes a block of samples, and gives the items not given before that end below the number of samples that the least
-    /// stream has so far.
+    /// Takes a block of samples, and gives the items not given before that end below the number of samples that the
+    /// least stream has so far.
     pub fn block(&mut self, block: &[i16]) -> Result<Vec<Candidate>, OutOfMemory>
         requires few { length block.now ≤ 2048 }
         requires room { self.old.position + length block.now < 2 ^ 48 }
@@ -74,8 +81,8 @@ impl WideBank {
         self.settle(block.len())
     }
 
-    /// Does what [`WideBank::block`] does, with the streams on two threads: one is started beside the caller's. The gate is
-    /// told once of each of the forty lanes, those of a stream as the job of the stream starts.
+    /// Does what [`WideBank::block`] does, with the streams on two threads: one is started beside the caller's. The
+    /// gate is told once of each of the forty lanes, those of a stream as the job of the stream starts.
     pub fn block_threads<R: Threads + Sync, G: Gate>(
         &mut self,
         rt: &R,
@@ -121,7 +128,8 @@ impl WideBank {
 
     /// Gives the rest of the items: the samples have ended.
     pub fn finish(&mut self) -> Result<Vec<Candidate>, OutOfMemory>
-        ensures rest { IfOk result (λ items. (x : List ℤ) → StandsFor self.old x → AreWideRest (least_count x) x items.items) }
+        ensures rest { IfOk result (λ items. (x : List ℤ) → StandsFor self.old x
+            → AreWideRest (least_count x) x items.items) }
         ensures progress { Finishes (progress self.old) (progress self.new) result }
     {
         self.progress.finish(self.alloc, &mut self.merger)

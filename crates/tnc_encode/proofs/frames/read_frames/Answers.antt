@@ -9,4 +9,5 @@ returns-in_ok-lines-in-Hex-clause-lengths c =
 
 pub returns-in_ok-read_kiss_frames-in-Kiss-clause-lengths : goal.returns-in_ok-read_kiss_frames-in-Kiss-clause-lengths
 returns-in_ok-read_kiss_frames-in-Kiss-clause-lengths c =
-    subst (All IsSendable) (sym c.in_ok-read_kiss_frames-in-Kiss.ensures) (frames_of_input-sendable Kiss c.args.octets.now)
+    subst (All IsSendable) (sym c.in_ok-read_kiss_frames-in-Kiss.ensures)
+    (frames_of_input-sendable Kiss c.args.octets.now)

@@ -1,5 +1,6 @@
 use Rattle.std.proofs.Common.{◌≡◌, ℕ, ◌+◌, ◌*◌, ◌<◌, ◌≤◌, ℤ, pos, negsuc, ◌+ℤ◌, ◌-ℤ◌, neg_ℤ, List, [], ◌∷◌, length}
-use Rattle.std.proofs.Common.{map, get_or, unsigned_abs, to_z, of_z, w32, w64, FitsSigned, refl, sym, subst, ap, ◌∙◌, arith}
+use Rattle.std.proofs.Common.{map, get_or, unsigned_abs, to_z, of_z, w32, w64, FitsSigned, refl, sym, subst, ap, ◌∙◌}
+use Rattle.std.proofs.Common.{arith}
 use Rattle.std.proofs.lemmas.Int.{ints}
 use Rattle.std.specs.List.{All}
 use Rattle.tone_table.specs.declared.tone.Tone.TheVariants.{Mark, Space}
@@ -59,7 +60,8 @@ module _ (window weights : List ℤ) (small : (k : ℕ) → k < 8 → unsigned_a
       ≤ ((size 0 + size 1) + (size 2 + size 3)) + ((size 4 + size 5) + (size 6 + size 7))
   in_halves_small =
       let f = product_of window weights in
-      two_small_sum ((f 0 +ℤ f 1) +ℤ (f 2 +ℤ f 3)) ((f 4 +ℤ f 5) +ℤ (f 6 +ℤ f 7)) ((size 0 + size 1) + (size 2 + size 3))
+      two_small_sum ((f 0 +ℤ f 1) +ℤ (f 2 +ℤ f 3)) ((f 4 +ℤ f 5) +ℤ (f 6 +ℤ f 7))
+      ((size 0 + size 1) + (size 2 + size 3))
       ((size 4 + size 5) + (size 6 + size 7))
       (four_small_sum (f 0) (f 1) (f 2) (f 3) (size 0) (size 1) (size 2) (size 3) (product_small 0 (omega arith))
       (product_small 1 (omega arith)) (product_small 2 (omega arith)) (product_small 3 (omega arith)))
@@ -82,8 +84,10 @@ module _ (window : List ℤ) (long : length window ≡ 8) (small : All (λ sampl
 
   -- each of the four is small
   of_table : (weights : List ℤ) → (n : ℕ)
-      → ((size window weights each 0 + size window weights each 1) + (size window weights each 2 + size window weights each 3))
-      + ((size window weights each 4 + size window weights each 5) + (size window weights each 6 + size window weights each 7)) ≡ n
+      → ((size window weights each 0 + size window weights each 1)
+      + (size window weights each 2 + size window weights each 3))
+      + ((size window weights each 4 + size window weights each 5)
+      + (size window weights each 6 + size window weights each 7)) ≡ n
       → n ≤ 19660800 → unsigned_abs (in_halves (product_of window weights)) ≤ 19660800
   of_table weights n is most = omega (arith, in_halves_small window weights each, is, most)
 
@@ -181,7 +185,8 @@ pub overflow_sub-sums : goal.overflow_sub-sums
 overflow_sub-sums c =
     let s = c.widened-samples in
     let x = s.result in
-    let is = sums_are x s.ensures.length s.ensures.bound c.half_sums-mark.result c.half_sums-space.result c.in_pairs.result
+    let is = sums_are x s.ensures.length s.ensures.bound c.half_sums-mark.result c.half_sums-space.result
+    c.in_pairs.result
     c.half_sums-mark.ensures.bound c.half_sums-space.ensures.bound c.half_sums-mark.ensures.sums
     c.half_sums-space.ensures.sums c.in_pairs.ensures in
     turn_fits (in_halves (product_of x mark_at)) _ (second x s.ensures.length s.ensures.bound)
@@ -191,7 +196,8 @@ pub overflow_sub-sums-2 : goal.overflow_sub-sums-2
 overflow_sub-sums-2 c =
     let s = c.widened-samples in
     let x = s.result in
-    let is = sums_are x s.ensures.length s.ensures.bound c.half_sums-mark.result c.half_sums-space.result c.in_pairs.result
+    let is = sums_are x s.ensures.length s.ensures.bound c.half_sums-mark.result c.half_sums-space.result
+    c.in_pairs.result
     c.half_sums-mark.ensures.bound c.half_sums-space.ensures.bound c.half_sums-mark.ensures.sums
     c.half_sums-space.ensures.sums c.in_pairs.ensures in
     turn_fits (in_halves (product_of x space_at)) _ (fourth x s.ensures.length s.ensures.bound)
@@ -208,13 +214,17 @@ returns-clause-sums c =
     let is = sums_are x l b c.half_sums-mark.result c.half_sums-space.result c.in_pairs.result
     c.half_sums-mark.ensures.bound c.half_sums-space.ensures.bound c.half_sums-mark.ensures.sums
     c.half_sums-space.ensures.sums c.in_pairs.ensures in
-    let mark_a = kept (in_halves (product_of x mark_on)) _ _ (first x l b) (ap (λ xs. get_or xs 0 (pos 0)) is) c.from.ensures
+    let mark_a = kept (in_halves (product_of x mark_on)) _ _ (first x l b) (ap (λ xs. get_or xs 0 (pos 0)) is)
+    c.from.ensures
     ∙ of_window x w mark_on s.ensures.lanes ∙ sum-product_at Mark 8 w mark_on refl in
-    let mark_b = turned (in_halves (product_of x mark_at)) _ _ (second x l b) (ap (λ xs. get_or xs 1 (pos 0)) is) c.from-2.ensures
+    let mark_b = turned (in_halves (product_of x mark_at)) _ _ (second x l b) (ap (λ xs. get_or xs 1 (pos 0)) is)
+    c.from-2.ensures
     ∙ ap neg_ℤ (of_window x w mark_at s.ensures.lanes ∙ sum-product_at Mark 0 w mark_at refl) in
-    let space_a = kept (in_halves (product_of x space_on)) _ _ (third x l b) (ap (λ xs. get_or xs 2 (pos 0)) is) c.from-3.ensures
+    let space_a = kept (in_halves (product_of x space_on)) _ _ (third x l b) (ap (λ xs. get_or xs 2 (pos 0)) is)
+    c.from-3.ensures
     ∙ of_window x w space_on s.ensures.lanes ∙ sum-product_at Space 8 w space_on refl in
-    let space_b = turned (in_halves (product_of x space_at)) _ _ (fourth x l b) (ap (λ xs. get_or xs 3 (pos 0)) is) c.from-4.ensures
+    let space_b = turned (in_halves (product_of x space_at)) _ _ (fourth x l b) (ap (λ xs. get_or xs 3 (pos 0)) is)
+    c.from-4.ensures
     ∙ ap neg_ℤ (of_window x w space_at s.ensures.lanes ∙ sum-product_at Space 0 w space_at refl) in
     λ i. record { mark = record { a = mark_a i; b = mark_b i }; space = record { a = space_a i; b = space_b i } }
 
@@ -228,10 +238,15 @@ returns-clause-bound c =
     c.half_sums-mark.ensures.bound c.half_sums-space.ensures.bound c.half_sums-mark.ensures.sums
     c.half_sums-space.ensures.sums c.in_pairs.ensures in
     record {
-      mark = within (in_halves (product_of x mark_on)) (in_halves (product_of x mark_at)) _ _ (first x l b) (second x l b)
+      mark = within (in_halves (product_of x mark_on)) (in_halves (product_of x mark_at)) _ _ (first x l b)
+          (second x l b)
           (kept (in_halves (product_of x mark_on)) _ _ (first x l b) (ap (λ xs. get_or xs 0 (pos 0)) is) c.from.ensures)
-          (turned (in_halves (product_of x mark_at)) _ _ (second x l b) (ap (λ xs. get_or xs 1 (pos 0)) is) c.from-2.ensures);
-      space = within (in_halves (product_of x space_on)) (in_halves (product_of x space_at)) _ _ (third x l b) (fourth x l b)
-          (kept (in_halves (product_of x space_on)) _ _ (third x l b) (ap (λ xs. get_or xs 2 (pos 0)) is) c.from-3.ensures)
-          (turned (in_halves (product_of x space_at)) _ _ (fourth x l b) (ap (λ xs. get_or xs 3 (pos 0)) is) c.from-4.ensures);
+          (turned (in_halves (product_of x mark_at)) _ _ (second x l b) (ap (λ xs. get_or xs 1 (pos 0)) is)
+          c.from-2.ensures);
+      space = within (in_halves (product_of x space_on)) (in_halves (product_of x space_at)) _ _ (third x l b)
+          (fourth x l b)
+          (kept (in_halves (product_of x space_on)) _ _ (third x l b) (ap (λ xs. get_or xs 2 (pos 0)) is)
+          c.from-3.ensures)
+          (turned (in_halves (product_of x space_at)) _ _ (fourth x l b) (ap (λ xs. get_or xs 3 (pos 0)) is)
+          c.from-4.ensures);
     }

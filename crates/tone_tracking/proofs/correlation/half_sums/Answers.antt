@@ -8,7 +8,8 @@ use Rattle.tone_tracking.proofs.correlation.half_sums.Goals as goal
 pairs_passed : (xs : List ℤ) → AreSmall 40000000 xs → map (to_z w32) (map (of_z w32) xs) ≡ xs
 pairs_passed xs are = passed_below 40000000 (omega arith) xs are.small
 
-samples_passed : (xs : List ℤ) → All (λ sample. unsigned_abs sample ≤ 32768) xs → map (to_z w32) (map (of_z w32) xs) ≡ xs
+samples_passed : (xs : List ℤ) → All (λ sample. unsigned_abs sample ≤ 32768) xs
+    → map (to_z w32) (map (of_z w32) xs) ≡ xs
 samples_passed xs small = passed_below 32768 (omega arith) xs small
 
 pub pairs_of_products-requires-clause-samples : goal.pairs_of_products-requires-clause-samples
@@ -47,7 +48,8 @@ unpassed samples on at first second result small first_small second_small first_
     = is ∙ (λ i. in_pairs (pairs_passed first first_small i) (pairs_passed second second_small i)) in
     let bound : AreSmall 80000000 result
     = subst (AreSmall 80000000) (sym same) (in_pairs-small first second first_small second_small) in
-    let gone : map (to_z w32) (map (of_z w32) result) ≡ result = passed_below 80000000 (omega arith) result bound.small in
+    let gone : map (to_z w32) (map (of_z w32) result) ≡ result
+    = passed_below 80000000 (omega arith) result bound.small in
     let one : first ≡ pairs_of_products samples on = first_is ∙ ap (λ xs. pairs_of_products xs on) came in
     let two : second ≡ pairs_of_products samples at = second_is ∙ ap (λ xs. pairs_of_products xs at) came in
     (gone ∙ same ∙ (λ i. in_pairs (one i) (two i)), subst (AreSmall 80000000) (sym gone) bound)

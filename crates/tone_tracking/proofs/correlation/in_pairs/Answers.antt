@@ -26,13 +26,17 @@ returns c =
     let ys = c.args.second in
     let x = lane_small 80000000 xs c.requires.first in
     let y = lane_small 80000000 ys c.requires.second in
-    let one : lane (lane (get_or xs 0 (pos 0)) +ℤ lane (get_or xs 1 (pos 0))) ≡ get_or xs 0 (pos 0) +ℤ get_or xs 1 (pos 0)
+    let one : lane (lane (get_or xs 0 (pos 0)) +ℤ lane (get_or xs 1 (pos 0)))
+    ≡ get_or xs 0 (pos 0) +ℤ get_or xs 1 (pos 0)
     = sum_is (get_or xs 0 (pos 0)) (get_or xs 1 (pos 0)) (x 0 (omega arith)) (x 1 (omega arith)) in
-    let two : lane (lane (get_or xs 2 (pos 0)) +ℤ lane (get_or xs 3 (pos 0))) ≡ get_or xs 2 (pos 0) +ℤ get_or xs 3 (pos 0)
+    let two : lane (lane (get_or xs 2 (pos 0)) +ℤ lane (get_or xs 3 (pos 0)))
+    ≡ get_or xs 2 (pos 0) +ℤ get_or xs 3 (pos 0)
     = sum_is (get_or xs 2 (pos 0)) (get_or xs 3 (pos 0)) (x 2 (omega arith)) (x 3 (omega arith)) in
-    let three : lane (lane (get_or ys 0 (pos 0)) +ℤ lane (get_or ys 1 (pos 0))) ≡ get_or ys 0 (pos 0) +ℤ get_or ys 1 (pos 0)
+    let three : lane (lane (get_or ys 0 (pos 0)) +ℤ lane (get_or ys 1 (pos 0)))
+    ≡ get_or ys 0 (pos 0) +ℤ get_or ys 1 (pos 0)
     = sum_is (get_or ys 0 (pos 0)) (get_or ys 1 (pos 0)) (y 0 (omega arith)) (y 1 (omega arith)) in
-    let four : lane (lane (get_or ys 2 (pos 0)) +ℤ lane (get_or ys 3 (pos 0))) ≡ get_or ys 2 (pos 0) +ℤ get_or ys 3 (pos 0)
+    let four : lane (lane (get_or ys 2 (pos 0)) +ℤ lane (get_or ys 3 (pos 0)))
+    ≡ get_or ys 2 (pos 0) +ℤ get_or ys 3 (pos 0)
     = sum_is (get_or ys 2 (pos 0)) (get_or ys 3 (pos 0)) (y 2 (omega arith)) (y 3 (omega arith)) in
     rw (four_items xs c.requires.first.four, four_items ys c.requires.second.four)
     (λ i. one i ∷ two i ∷ three i ∷ four i ∷ [])

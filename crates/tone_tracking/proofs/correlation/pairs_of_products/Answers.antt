@@ -20,18 +20,21 @@ module _ (samples weights : List ℤ) (small : (k : ℕ) → k < 8 → unsigned_
 
   pair_fits_at : (k : ℕ) → k < 7 → FitsSigned w32 (lane (product (x k) (w k)) +ℤ lane (product (x (k + 1)) (w (k + 1))))
   pair_fits_at k below =
-      pair_fits (x k) (w k) (x (k + 1)) (w (k + 1)) (small k (omega arith)) (light k (omega arith)) (small (k + 1) (omega arith))
+      pair_fits (x k) (w k) (x (k + 1)) (w (k + 1)) (small k (omega arith)) (light k (omega arith))
+      (small (k + 1) (omega arith))
       (light (k + 1) (omega arith))
 
   pair_is_at : (k : ℕ) → k < 7
       → lane (lane (product (x k) (w k)) +ℤ lane (product (x (k + 1)) (w (k + 1)))) ≡ product_pair samples weights k
   pair_is_at k below =
-      pair_is (x k) (w k) (x (k + 1)) (w (k + 1)) (small k (omega arith)) (light k (omega arith)) (small (k + 1) (omega arith))
+      pair_is (x k) (w k) (x (k + 1)) (w (k + 1)) (small k (omega arith)) (light k (omega arith))
+      (small (k + 1) (omega arith))
       (light (k + 1) (omega arith))
 
   pair_small_at : (k : ℕ) → k < 7 → unsigned_abs (product_pair samples weights k) ≤ 40000000
   pair_small_at k below =
-      pair_small (x k) (w k) (x (k + 1)) (w (k + 1)) (small k (omega arith)) (light k (omega arith)) (small (k + 1) (omega arith))
+      pair_small (x k) (w k) (x (k + 1)) (w (k + 1)) (small k (omega arith)) (light k (omega arith))
+      (small (k + 1) (omega arith))
       (light (k + 1) (omega arith))
 
   pairs_small : AreSmall 40000000 (pairs_of_products samples weights)
@@ -51,8 +54,25 @@ overflow_mul-products c =
     let light : (k : ℕ) → k < 8 → unsigned_abs (get_or weights k (pos 0)) ≤ 600
     = λ k below. omega (arith, get_or-le-sum_by unsigned_abs weights k (pos 0) (omega arith), c.requires.weights) in
     let fits = fits_at samples weights small light in
-    rw (eight_items samples long, eight_items weights wide)
-    (fits 0 (omega arith), (fits 1 (omega arith), (fits 2 (omega arith), (fits 3 (omega arith), (fits 4 (omega arith), (fits 5 (omega arith), (fits 6 (omega arith), (fits 7 (omega arith), tt))))))))
+    rw (eight_items samples long, eight_items weights wide) (
+      fits 0 (omega arith),
+      (
+        fits 1 (omega arith),
+        (
+          fits 2 (omega arith),
+          (
+            fits 3 (omega arith),
+            (
+              fits 4 (omega arith),
+              (
+                fits 5 (omega arith),
+                (fits 6 (omega arith), (fits 7 (omega arith), tt)),
+              ),
+            ),
+          ),
+        ),
+      ),
+    )
 
 pub overflow_add-result : goal.overflow_add-result
 overflow_add-result c =

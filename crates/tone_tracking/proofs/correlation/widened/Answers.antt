@@ -1,5 +1,7 @@
-use Rattle.std.proofs.Common.{rules, ◌≡◌, ℕ, ◌+◌, ◌<◌, ◌≤◌, ℤ, pos, List, [], ◌∷◌, length, map, get_or, slice_set, unsigned_abs}
-use Rattle.std.proofs.Common.{w32, to_z, of_z, FitsSigned, arith, sym, subst, ap, ◌∙◌, inl, inr, get_or-set_same, get_or-set_other}
+use Rattle.std.proofs.Common.{rules, ◌≡◌, ℕ, ◌+◌, ◌<◌, ◌≤◌, ℤ, pos, List, [], ◌∷◌, length, map, get_or, slice_set}
+use Rattle.std.proofs.Common.{unsigned_abs}
+use Rattle.std.proofs.Common.{w32, to_z, of_z, FitsSigned, arith, sym, subst, ap, ◌∙◌, inl, inr, get_or-set_same}
+use Rattle.std.proofs.Common.{get_or-set_other}
 use Rattle.std.proofs.lemmas.List.{length-set}
 use Rattle.std.proofs.lemmas.Bool.{cases_eq}
 use Rattle.std.proofs.lemmas.Int.{ints, to_z-of_z}
@@ -47,7 +49,8 @@ loop-i-preserved c =
     let fits : FitsSigned w16 (get_or window i (pos 0)) = search rules in
     let wide : FitsSigned w32 (get_or window i (pos 0)) = omega (arith, ints) in
     let value : z ≡ get_or window i (pos 0)
-    = ap lane (c.from.ensures ∙ to_z-of_z w16 (get_or window i (pos 0)) fits) ∙ to_z-of_z w32 (get_or window i (pos 0)) wide in
+    = ap lane (c.from.ensures ∙ to_z-of_z w16 (get_or window i (pos 0)) fits) ∙ to_z-of_z w32 (get_or window i (pos 0))
+    wide in
     let inside : i < length xs = omega (arith, c.loop-i.invariant.long, c.loop-i-test.true) in
     let same = one_more xs window i z inside value c.loop-i.invariant.same in
     let small : unsigned_abs (get_or window i (pos 0)) ≤ 32768 = omega (arith, ints) in

@@ -22,7 +22,8 @@ returns-clause-given c =
     → StandsFor c.settle.new.self (x ++ block) × AreMergedBetween (settled (length x)) (settled (length (x ++ block)))
     (x ++ block) items.items) in
     subst P c.self.view_is (IfOk-weaker c.settle.result
-    (λ items. (before : HeldBank) (x : List ℤ) → c.begin.new.self.finished ≡ false → length x ≡ c.begin.new.self.position
+    (λ items. (before : HeldBank) (x : List ℤ) → c.begin.new.self.finished ≡ false
+    → length x ≡ c.begin.new.self.position
     → (BankStandsFor before x → BankStandsFor c.feed.new.self (x ++ block) × AreCandidatesBehind (length x)
     (x ++ block) c.in_ok-found.found.items)
     → HaveTaken before c.self.inside.added c.self.inside.merger x

@@ -13,7 +13,8 @@ use Rattle.sensitive_receiver.proofs.decoder.SensitiveDecoder.finish.Goals as go
 pub returns-clause-rest : goal.returns-clause-rest
 returns-clause-rest c =
     let was = c.self.inside in
-    let P : HeldDecoder → Type 0 = λ old. IfOk c.finish.result (λ items. (x : List ℤ) → length x < 2 ^ 48 → StandsFor old x
+    let P : HeldDecoder → Type 0 = λ old. IfOk c.finish.result (λ items. (x : List ℤ) → length x < 2 ^ 48
+    → StandsFor old x
     → AreMergedBetween (settled (length x)) (length x + 1) x items.items) in
     subst P c.self.view_is (IfOk-weaker c.finish.result
     (λ items. was.progress.finished ≡ false → (puts given : List Candidate) → MergerStandsFor was.merger puts given

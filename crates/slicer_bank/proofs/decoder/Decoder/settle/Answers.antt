@@ -26,7 +26,8 @@ returns-clause-given c =
         spent = c.take.ensures.spent;
         finished = c.take.ensures.finished ∙ unfinished;
         count = c.take.ensures.position
-            ∙ sym (length-append x y ∙ ap (λ n. n + length y) size ∙ ap (λ n. c.self.inside.progress.position + n) more);
+            ∙ sym (length-append x y ∙ ap (λ n. n + length y) size
+            ∙ ap (λ n. c.self.inside.progress.position + n) more);
         taken = taken.0;
       },
       taken.1,

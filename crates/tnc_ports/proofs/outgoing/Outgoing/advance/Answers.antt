@@ -1,7 +1,7 @@
 use Rattle.std.proofs.Common.{◌≡◌, ◌<◌, ◌≤◌, ◌-◌, ℕ, List, length, drop, set, sum, sym, ap, subst, ◌∙◌, arith, All}
 use Rattle.std.proofs.lemmas.List.{length-drop}
-use Rattle.tnc_ports.specs.Waiting.{front_of, octets_of, cut, most_octets}
-use Rattle.tnc_ports.proofs.OutgoingLemmas.{front_len, front_long, front_within, all_sent_sum, part_sent, part_sent_sum}
+use Rattle.tnc_ports.specs.Waiting.{octets_of, cut, most_octets}
+use Rattle.tnc_ports.proofs.OutgoingLemmas.{front_len, drops, all_sent_sum, part_sent, part_sent_sum}
 use Rattle.tnc_ports.proofs.OutgoingLemmas.{positive_rest, octets_split, octets_of-cut, whole_of}
 use Rattle.tnc_ports.proofs.outgoing.Outgoing.advance.Goals as goal
 
@@ -9,22 +9,17 @@ pub invariant_of-self : goal.invariant_of-self
 invariant_of-self c =
     let lens : List ℕ = c.self.inside.lens.items in
     let octets : List ℕ = c.self.inside.octets.items in
-    let all : sum lens ≡ length octets = c.self.invariant.0 in
-    let long : length (front_of c.args.self.now) ≡ front_len lens =
-    front_long lens octets c.args.self.now all c.self.view_is in
-    let len_is : c.front_len-len.result ≡ front_len lens = c.front_len-len.ensures ∙ long in
-    let within : front_len lens ≤ length octets = front_within lens octets all in
-    let asked : c.args.count ≤ length (front_of c.args.self.now) = c.requires in
-    let counted : c.len.result ≡ length octets = c.len.ensures.len in
-    let place : length octets - (c.len.result - c.args.count) ≡ c.args.count = omega arith in
-    let left : c.truncate_front.new.self.items ≡ drop c.args.count octets = ap (λ b. b.items) c.truncate_front.ensures
-    ∙ ap (λ n. drop n octets) place in
-    let whole : c.args.count ≡ front_len lens = c.if-count-len.true ∙ len_is in
-    let fewer : length c.truncate_front.new.self.items ≡ length octets - c.args.count = ap length left
+    let all = c.self.invariant.0 in
+    let s = drops c.args.count c.front_len-len.result c.len.result lens octets c.truncate_front.new.self.items
+    c.args.self.now all c.self.view_is c.front_len-len.ensures c.requires c.len.ensures.len
+    (ap (λ b. b.items) c.truncate_front.ensures) in
+    let within = s.within in
+    let asked = s.asked in
+    let fewer : length c.truncate_front.new.self.items ≡ length octets - c.args.count = ap length s.left_is
     ∙ length-drop c.args.count octets in
     let most : length octets ≤ most_octets = c.self.invariant.3 in (
-      ap sum c.pop_front.ensures.rest ∙ all_sent_sum lens octets all ∙ ap (λ n. length (drop n octets)) (sym whole)
-          ∙ ap length (sym left),
+      ap sum c.pop_front.ensures.rest ∙ all_sent_sum lens octets all
+          ∙ ap (λ n. length (drop n octets)) (sym (c.if-count-len.true ∙ s.front_is)) ∙ ap length (sym s.left_is),
       subst (All (λ len. 0 < len)) (sym c.pop_front.ensures.rest) (positive_rest lens c.self.invariant.1),
       ap (λ b. b.capacity) c.truncate_front.ensures ∙ c.self.invariant.2,
       omega arith,
@@ -34,41 +29,33 @@ pub returns-in-Some-clause-sent : goal.returns-in-Some-clause-sent
 returns-in-Some-clause-sent c =
     let lens : List ℕ = c.self.inside.lens.items in
     let octets : List ℕ = c.self.inside.octets.items in
-    let all : sum lens ≡ length octets = c.self.invariant.0 in
-    let long : length (front_of c.args.self.now) ≡ front_len lens =
-    front_long lens octets c.args.self.now all c.self.view_is in
-    let len_is : c.front_len-len.result ≡ front_len lens = c.front_len-len.ensures ∙ long in
-    let within : front_len lens ≤ length octets = front_within lens octets all in
-    let asked : c.args.count ≤ length (front_of c.args.self.now) = c.requires in
-    let counted : c.len.result ≡ length octets = c.len.ensures.len in
-    let place : length octets - (c.len.result - c.args.count) ≡ c.args.count = omega arith in
-    let left : c.truncate_front.new.self.items ≡ drop c.args.count octets = ap (λ b. b.items) c.truncate_front.ensures
-    ∙ ap (λ n. drop n octets) place in
+    let all = c.self.invariant.0 in
+    let s = drops c.args.count c.front_len-len.result c.len.result lens octets c.truncate_front.new.self.items
+    c.args.self.now all c.self.view_is c.front_len-len.ensures c.requires c.len.ensures.len
+    (ap (λ b. b.items) c.truncate_front.ensures) in
+    let asked = s.asked in
+    let is = s.front_is in
     let differs = c.if-count-len.false in
     let part : c.args.count < front_len lens = omega arith in
-    ap (λ n. cut (set lens 0 (n - c.args.count)) c.truncate_front.new.self.items) len_is
-    ∙ ap (cut (set lens 0 (front_len lens - c.args.count))) left
+    ap (λ n. cut (set lens 0 (n - c.args.count)) c.truncate_front.new.self.items) is
+    ∙ ap (cut (set lens 0 (front_len lens - c.args.count))) s.left_is
     ∙ part_sent c.args.count lens octets c.args.self.now part all c.self.view_is
 
 pub returns-in-Some-clause-octets : goal.returns-in-Some-clause-octets
 returns-in-Some-clause-octets c =
     let lens : List ℕ = c.self.inside.lens.items in
     let octets : List ℕ = c.self.inside.octets.items in
-    let all : sum lens ≡ length octets = c.self.invariant.0 in
-    let long : length (front_of c.args.self.now) ≡ front_len lens =
-    front_long lens octets c.args.self.now all c.self.view_is in
-    let len_is : c.front_len-len.result ≡ front_len lens = c.front_len-len.ensures ∙ long in
-    let within : front_len lens ≤ length octets = front_within lens octets all in
-    let asked : c.args.count ≤ length (front_of c.args.self.now) = c.requires in
-    let counted : c.len.result ≡ length octets = c.len.ensures.len in
-    let place : length octets - (c.len.result - c.args.count) ≡ c.args.count = omega arith in
-    let left : c.truncate_front.new.self.items ≡ drop c.args.count octets = ap (λ b. b.items) c.truncate_front.ensures
-    ∙ ap (λ n. drop n octets) place in
+    let all = c.self.invariant.0 in
+    let s = drops c.args.count c.front_len-len.result c.len.result lens octets c.truncate_front.new.self.items
+    c.args.self.now all c.self.view_is c.front_len-len.ensures c.requires c.len.ensures.len
+    (ap (λ b. b.items) c.truncate_front.ensures) in
+    let asked = s.asked in
+    let is = s.front_is in
     let differs = c.if-count-len.false in
     let part : c.args.count < front_len lens = omega arith in
     octets_split c.args.self.now (cut (set lens 0 (c.front_len-len.result - c.args.count))
     c.truncate_front.new.self.items) octets c.args.count (whole_of lens octets c.args.self.now all c.self.view_is)
-    (ap (λ n. octets_of (cut (set lens 0 (n - c.args.count)) c.truncate_front.new.self.items)) len_is
-    ∙ ap (λ o. octets_of (cut (set lens 0 (front_len lens - c.args.count)) o)) left
+    (ap (λ n. octets_of (cut (set lens 0 (n - c.args.count)) c.truncate_front.new.self.items)) is
+    ∙ ap (λ o. octets_of (cut (set lens 0 (front_len lens - c.args.count)) o)) s.left_is
     ∙ octets_of-cut (set lens 0 (front_len lens - c.args.count)) (drop c.args.count octets)
     (part_sent_sum c.args.count lens octets part all))

@@ -11,15 +11,16 @@ pub merge_found-requires-clause-marks : goal.merge_found-requires-clause-marks
 merge_found-requires-clause-marks c =
     let marks = subst (λ (h : HeldWide). h.merger.marks ≡ replicate 40 (h.position / 5)) (sym c.self.view_is)
     c.requires.marks in
-    all_marks 40 (c.self.inside.progress.position / 5) ((c.self.inside.progress.position + c.args.count) / 5) c.self.inside.merger.marks
+    all_marks 40 (c.self.inside.progress.position / 5) ((c.self.inside.progress.position + c.args.count) / 5)
+    c.self.inside.merger.marks
     (omega arith) marks
 
 pub invariant_of-self-2 : goal.invariant_of-self-2
 invariant_of-self-2 c =
     let new : List HeldStream = c.merge_found.new.streams in
     let full : c.self.inside.streams.len ≡ length new = sym (c.merge_found.auto.streams ∙ c.deref_mut.ensures.len) in
-    let lent : List HeldStream = take c.self.inside.streams.len (new ++ drop (length new) c.self.inside.streams.items)
-    in
+    let lent : List HeldStream
+    = take c.self.inside.streams.len (new ++ drop (length new) c.self.inside.streams.items) in
     let back : lent ≡ new = given_back c.self.inside.streams.len new c.self.inside.streams.items full in
     let most : ℕ = c.self.inside.progress.position + c.args.count in
     let P : HeldStream → Type 0 = λ held. held.bank.position ≤ most in
@@ -39,8 +40,8 @@ pub returns-clause-given : goal.returns-clause-given
 returns-clause-given c =
     let new : List HeldStream = c.merge_found.new.streams in
     let full : c.self.inside.streams.len ≡ length new = sym (c.merge_found.auto.streams ∙ c.deref_mut.ensures.len) in
-    let lent : List HeldStream = take c.self.inside.streams.len (new ++ drop (length new) c.self.inside.streams.items)
-    in
+    let lent : List HeldStream
+    = take c.self.inside.streams.len (new ++ drop (length new) c.self.inside.streams.items) in
     let back : lent ≡ new = given_back c.self.inside.streams.len new c.self.inside.streams.items full in
     let now : HeldWide
     = record {
