@@ -71,12 +71,9 @@ impl ReceiverOnRing {
         samples: &[i16],
     ) -> Result<Vec<(u64, u8)>, OutOfMemory> {
         let mut places = Vec::new(alloc);
-        let mut rest = samples;
-        while !rest.is_empty() {
-            let (piece, after) = rest.split_at(rest.len().min(48));
+        for piece in samples.chunks(48) {
             self.publish(rt, piece);
             note(rt, &mut places, self.turn(rt)?.items)?;
-            rest = after;
         }
         Ok(places)
     }

@@ -78,13 +78,10 @@ impl BankOnRing {
         samples: &[i16],
     ) -> Result<Vec<(u64, u8)>, OutOfMemory> {
         let mut places = Vec::new(alloc);
-        let mut rest = samples;
-        while !rest.is_empty() {
-            let (piece, after) = rest.split_at(rest.len().min(48));
+        for piece in samples.chunks(48) {
             self.publish(rt, piece);
             let advance = self.turn(rt, &OpenGate)?;
             note(rt, &mut places, advance.candidates)?;
-            rest = after;
         }
         Ok(places)
     }
