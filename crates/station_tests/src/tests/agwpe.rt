@@ -169,7 +169,7 @@ const FAILED: &[(&[u8], u32)] = &[
 ];
 
 /// A reader to which a header with such a length has come.
-fn behind_header(alloc: Global, length: &[u8]) -> Result<Box<AgwIn>, Fail> {
+fn after_header(alloc: Global, length: &[u8]) -> Result<Box<AgwIn>, Fail> {
     let stream = header(alloc, length)?;
     let mut reader = Box::new(alloc, AgwIn::new(alloc))?;
     for octet in &stream {
@@ -181,7 +181,7 @@ fn behind_header(alloc: Global, length: &[u8]) -> Result<Box<AgwIn>, Fail> {
 #[test]
 fn a_stream_that_failed_stays_so(rt: HostRuntime) -> Result<(), Fail> {
     for (length, len) in FAILED {
-        let mut reader = behind_header(rt.alloc(), length)?;
+        let mut reader = after_header(rt.alloc(), length)?;
         for octet in DATA {
             let answer = reader.push(*octet).err();
             assert_equal(&rt, &answer, &Some(AgwFault::Failed { len: *len }));

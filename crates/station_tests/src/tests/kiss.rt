@@ -107,7 +107,7 @@ fn nothing_between_two_ends_says_nothing(rt: HostRuntime) -> Result<(), Fail> {
 }
 
 #[test]
-fn a_stream_goes_on_behind_an_item(rt: HostRuntime) -> Result<(), Fail> {
+fn a_stream_goes_on_after_an_item(rt: HostRuntime) -> Result<(), Fail> {
     let items = items_of(
         rt.alloc(),
         b"\xc0\x00\x01\xc0\x01\x02\xc0\xff\xc0\x00\x03\xc0",

@@ -75,7 +75,7 @@ impl Desk {
 const SENT: usize = 60;
 
 /// DIGI repeats, connection 1 has registered NJ7P, and this frame was heard, if it is one.
-fn behind(alloc: Global, frame: &[u8]) -> Result<Box<Desk>, Fail> {
+fn desk_after(alloc: Global, frame: &[u8]) -> Result<Box<Desk>, Fail> {
     let digi = Some(Call::parse("DIGI")?);
     let mut desk = Desk::with_digipeater(alloc, Params::default(), digi)?;
     begin(&mut desk, frame)?;
@@ -91,9 +91,9 @@ fn begin(desk: &mut Desk, frame: &[u8]) -> Result<(), Fail> {
     Ok(())
 }
 
-/// What is sent for a frame behind another, the kinds that the host is told, and the number of links.
+/// What is sent for a frame after another, the kinds that the host is told, and the number of links.
 fn outcome(alloc: Global, before: &[u8], heard: &[u8]) -> Result<(Vec<u8>, Vec<u8>, usize), Fail> {
-    let mut desk = behind(alloc, before)?;
+    let mut desk = desk_after(alloc, before)?;
     desk.hear(heard)?;
     let sent = desk.tick(SENT)?;
     let told = desk.kinds()?;
@@ -159,7 +159,7 @@ fn answer_64(desk: &mut Desk) -> Result<Vec<u8>, Fail> {
 // The 64 calls are still there when they are answered.
 #[test]
 fn a_65th_link_is_not_made_for_a_frame(rt: HostRuntime) -> Result<(), Fail> {
-    let mut desk = behind(rt.alloc(), b"")?;
+    let mut desk = desk_after(rt.alloc(), b"")?;
     let called = call_64(&mut desk)?;
     desk.hear(SABM)?;
     let heard = desk.frames();

@@ -246,7 +246,7 @@ const PIDS: &[((u8, u8), u8, u8)] = &[
     ((b'c', 0), 0, 0xf0),
 ];
 
-/// The PID of the frame of data with a PID, behind a call.
+/// The PID of the frame of data with a PID, after a call.
 fn pid_of(alloc: Global, call: (u8, u8), pid: u8) -> Result<Option<u8>, Fail> {
     let mut desk = connected(alloc, call)?;
     desk.ask_with_pid(1, (b'D', pid), ENDS, b"A")?;

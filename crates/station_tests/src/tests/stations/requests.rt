@@ -38,7 +38,7 @@ fn whole_call(alloc: Global) -> Result<Vec<u8>, Fail> {
 }
 
 /// The whole call came in one piece.
-fn behind_a_whole_call(alloc: Global) -> Result<Box<Desk>, Fail> {
+fn after_a_whole_call(alloc: Global) -> Result<Box<Desk>, Fail> {
     let octets = whole_call(alloc)?;
     let mut desk = Desk::new(alloc, Params::default())?;
     desk.take(1, &octets)?;
@@ -56,7 +56,7 @@ const LENS: &[(&[u8], &[usize])] = &[(b"", &[15]), (UA, &[272, 272, 104]), (RR, 
 
 #[test]
 fn a_whole_call_in_one_piece(rt: HostRuntime) -> Result<(), Fail> {
-    let mut desk = behind_a_whole_call(rt.alloc())?;
+    let mut desk = after_a_whole_call(rt.alloc())?;
     for (frame, want) in LENS {
         let lens = lens_after(&mut desk, frame)?;
         assert_equal(&rt, &lens.as_slice(), want);
@@ -89,7 +89,7 @@ const TOLD: &[(&[&[u8]], (u8, [&str; 2], &[u8]))] = &[
 
 #[test]
 fn tells_how_a_whole_call_goes(rt: HostRuntime) -> Result<(), Fail> {
-    let mut desk = behind_a_whole_call(rt.alloc())?;
+    let mut desk = after_a_whole_call(rt.alloc())?;
     for (frames, told) in TOLD {
         let tells = tells_after(&mut desk, frames, *told)?;
         assert_equal(&rt, &(told.0, tells), &(told.0, true));
@@ -306,7 +306,7 @@ const COUNTS: &[(u32, [&str; 2], u8)] = &[(1, ENDS, 3), (2, ENDS, 3), (1, BACK, 
 
 #[test]
 fn counts_the_packets_of_two_calls(rt: HostRuntime) -> Result<(), Fail> {
-    let mut desk = behind_a_whole_call(rt.alloc())?;
+    let mut desk = after_a_whole_call(rt.alloc())?;
     desk.told()?;
     for (id, ends, count) in COUNTS {
         desk.ask(*id, b'Y', *ends, b"")?;
