@@ -438,9 +438,11 @@ if has python3; then
     check "two stations by SREJ, a fifth of the transmissions lost" stations_agree --mode srej --loss 20
     check "two stations modulo 128, half duplex, some lost" stations_agree --wide --half --loss 10
     check "hosts that send each message" scripts/check_hosts.py --tnc "$tnc"
+    check "the ports are those of 127.0.0.1 alone" scripts/check_sockets.py --tnc "$tnc"
 else
     skip "two stations" python3
     skip "hosts that send each message" python3
+    skip "the ports are those of 127.0.0.1 alone" python3
 fi
 
 # Words that are refused, and streams that fail.
@@ -462,9 +464,11 @@ done
 check "the manual page and the program agree" scripts/check_manual.sh "$tnc"
 if has python3; then
     check "the documents show what the program prints" scripts/check_readme.py "$tnc"
+    check "the files to believe are those that the contracts name" scripts/trust_table.py --check
     check "scores within their bounds" scripts/scores.py --check --tnc "$tnc"
 else
     skip "the documents show what the program prints" python3
+    skip "the files to believe are those that the contracts name" python3
     skip "scores within their bounds" python3
 fi
 
